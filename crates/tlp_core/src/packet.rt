@@ -1,0 +1,91 @@
+//! A packet as a value.
+//!
+//! Every [`Tlp`] is a packet of the grammar: its body fits its kind, its payload has 4 times as
+//! many bytes as its Length says, its byte enables keep section 2.2.5 and its address is aligned.
+//! A literal proves that where it is made.
+
+use arrayvec::ArrayVec;
+use std::marker::Model;
+
+/// Max_Payload_Size, in bytes.
+pub const MAX_PAYLOAD: usize = 128;
+
+/// What a packet asks or answers (section 2.2.1, Fmt and Type), whatever the size of its header.
+#[derive(Clone, Copy, Debug, PartialEq, Eq)]
+pub enum Kind {
+    /// MRd.
+    MemoryRead,
+    /// MWr, the only posted kind.
+    MemoryWrite,
+    FetchAdd,
+    Swap,
+    /// Compare and swap.
+    Cas,
+    /// Cpl, without data.
+    Completion,
+    /// CplD.
+    CompletionData,
+}
+
+/// Completion Status (section 2.2.9).
+#[derive(Clone, Copy, Debug, PartialEq, Eq)]
+pub enum Status {
+    /// SC.
+    Success,
+    /// UR.
+    Unsupported,
+    /// CA.
+    Aborted,
+}
+
+/// What only requests or only completions have.
+#[derive(Clone, Copy, Debug, PartialEq, Eq)]
+pub enum Body {
+    Request {
+        /// A multiple of 4.
+        address: u64,
+        /// First DW BE, in the low 4 bits; 0 in an AtomicOp.
+        first: u8,
+        /// Last DW BE, in the low 4 bits; 0 in an AtomicOp.
+        last: u8,
+    },
+    Completion {
+        /// Completer ID.
+        completer: u16,
+        status: Status,
+        /// Byte Count, 1 to 4096.
+        byte_count: u16,
+        /// Lower Address, 7 bits.
+        lower: u8,
+    },
+}
+
+/// A packet of the grammar.
+#[derive(Clone, Debug, PartialEq, Drop)]
+pub struct Tlp {
+    pub kind: Kind,
+    /// Traffic Class, 0 to 7.
+    pub tc: u8,
+    /// Attributes, 0 to 7: IDO 4, RO 2, NS 1.
+    pub attr: u8,
+    /// Length in DW, 1 to 1024; 0 in a completion without data.
+    pub length: u16,
+    /// Requester ID.
+    pub requester: u16,
+    pub tag: u8,
+    pub body: Body,
+    /// In rising address order.
+    pub payload: ArrayVec<u8, 128>,
+}
+
+impl Model for Tlp {
+    ghost use Rattle.tlp_core.specs.Packet.{Packet, IsPacket};
+
+    ghost Value = { Packet };
+
+    ghost view = { λ t. record { kind = t.kind; tc = t.tc; attr = t.attr; length = t.length; requester = t.requester; tag = t.tag; body = t.body; payload = t.payload.items } };
+
+    ghost invariant = { λ t. IsPacket (record { kind = t.kind; tc = t.tc; attr = t.attr; length = t.length; requester = t.requester; tag = t.tag; body = t.body; payload = t.payload.items }) };
+
+    ghost inverse = { λ p. record { kind = p.kind; tc = p.tc; attr = p.attr; length = p.length; requester = p.requester; tag = p.tag; body = p.body; payload = record { items = p.payload } } };
+}
