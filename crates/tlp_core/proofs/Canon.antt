@@ -1,5 +1,5 @@
 -- The canonical bytes spell their packet.
-use Rattle.std.proofs.Common.{◌≡◌, ℕ, ◌+◌, ◌-◌, ◌*◌, ◌/◌, ◌%◌, ◌^◌, ◌<◌, ◌≤◌, Bool, true, false, cond, eqb, List, [], ◌∷◌, ◌++◌, length, drop, Option, Some, None, refl, sym, ap, subst, ◌∙◌, inl, inr, arith, slice_index}
+use Rattle.std.proofs.Common.{◌≡◌, ℕ, ◌+◌, ◌*◌, ◌/◌, ◌%◌, ◌^◌, ◌<◌, ◌≤◌, Bool, true, false, List, [], ◌∷◌, ◌++◌, length, drop, Some, refl, sym, ap, subst, ◌∙◌, inl, inr, arith, slice_index}
 use Rattle.std.specs.Prelude.{nat_lt, ◌==◌}
 use Rattle.std.proofs.lemmas.Bool.Decides.{nat_tests}
 use Rattle.byteorder.specs.Endian.{big_number, big_bytes}
@@ -10,9 +10,9 @@ use Rattle.tlp_core.specs.declared.packet.Body.{Body}
 use Rattle.tlp_core.specs.declared.packet.Body.TheVariants as bodies
 use Rattle.tlp_core.specs.declared.packet.Status.{Status}
 use Rattle.tlp_core.specs.declared.packet.Status.TheVariants as statuses
-use Rattle.tlp_core.specs.Bits.{bits, has_bit}
-use Rattle.tlp_core.specs.Packet.{Packet, IsPacket, FitsKind, IsMemoryAccess, IsOneOperand, IsTwoOperands, IsBodyInRange, FitsFields}
-use Rattle.tlp_core.specs.Layout.{kind_of, or_all, header_length, dw_count, address_of, status_of, status_code, request_at, atomic_at, completion_at, body_at, length_at, requester_place, short_code, code_of, rest_of_header, canonical, Spells, AreReservedZero}
+use Rattle.tlp_core.specs.Bits.{bits}
+use Rattle.tlp_core.specs.Packet.{Packet, IsPacket, FitsKind, IsOneOperand, IsTwoOperands, IsBodyInRange, FitsFields}
+use Rattle.tlp_core.specs.Layout.{kind_of, or_all, header_length, dw_count, address_of, status_of, status_code, request_at, atomic_at, completion_at, body_at, length_at, requester_place, short_code, canonical, Spells, AreReservedZero}
 
 zero_bit : (n : ℕ) → n ≡ 0 → (n == 1) ≡ false
 zero_bit n e = rw e refl

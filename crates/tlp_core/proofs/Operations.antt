@@ -1,10 +1,7 @@
 -- The operation of a packet has no fault.
-use Rattle.std.proofs.Common.{◌≡◌, ℕ, ◌+◌, ◌-◌, ◌*◌, ◌/◌, ◌%◌, ◌^◌, ◌<◌, ◌≤◌, Bool, true, false, cond, List, [], ◌∷◌, length, take, drop, Option, Some, None, refl, sym, ap, subst, ◌∙◌, inl, inr, arith, slice_index, length-drop, ◌⊎◌}
-use Rattle.std.specs.Prelude.{not, ◌&&◌, ◌||◌, ◌==◌, if◌then◌else◌, nat_lt, find, IsTrue}
+use Rattle.std.proofs.Common.{◌≡◌, ℕ, ◌*◌, ◌%◌, ◌^◌, ◌<◌, Bool, false, None, refl, sym, subst, inl, inr, arith, ◌⊎◌}
+use Rattle.std.specs.Prelude.{not, ◌||◌, ◌==◌, nat_lt}
 use Rattle.std.proofs.lemmas.Bool.Decides.{nat_tests}
-use Rattle.std.proofs.lemmas.List.{get_or-drop, take_all}
-use Rattle.byteorder.specs.Endian.{little_number}
-use Rattle.byteorder.specs.Numbers.{little_from-lt}
 use Rattle.tlp_core.specs.declared.packet.Kind.{Kind}
 use Rattle.tlp_core.specs.declared.packet.Kind.TheVariants as kinds
 use Rattle.tlp_core.specs.declared.packet.Body.{Body}
@@ -12,13 +9,8 @@ use Rattle.tlp_core.specs.declared.packet.Body.TheVariants as bodies
 use Rattle.tlp_core.specs.declared.operation.Op.{Op}
 use Rattle.tlp_core.specs.declared.operation.Op.TheVariants as ops
 use Rattle.tlp_core.specs.declared.operation.Width.{Width}
-use Rattle.tlp_core.specs.declared.operation.Width.TheVariants as widths
-use Rattle.tlp_core.specs.declared.fault.TlpFault.{TlpFault}
-use Rattle.tlp_core.specs.declared.fault.TlpFault.TheVariants as faults
-use Rattle.tlp_core.specs.Bits.{IsBytes}
-use Rattle.tlp_core.specs.Enables.{are_enables}
-use Rattle.tlp_core.specs.Packet.{Packet, IsPacket, FitsKind, IsMemoryAccess, IsOneOperand, IsTwoOperands}
-use Rattle.tlp_core.specs.Operation.{op_of, op_at, op_fault, op_holds, width_of, size_of, fits, wrong_length, wrong_enables, wrong_operand, wrong_address}
+use Rattle.tlp_core.specs.Packet.{FitsKind}
+use Rattle.tlp_core.specs.Operation.{op_fault, width_of, fits, wrong_length, wrong_enables, wrong_operand, wrong_address}
 
 -- the four tests of an operation
 record HasNone (op : Op) : Type 0 where

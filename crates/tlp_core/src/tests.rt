@@ -95,17 +95,11 @@ fn wanted(code: u8) -> Option<TlpFault> {
 
 #[test]
 fn each_first_byte(rt: HostRuntime) {
-    let mut kinds = 0;
     for code in 0..=255 {
         let mut bytes = FETCH_ADD;
         bytes[0] = code;
-        let fault = fault_of(&bytes);
-        assert_eq!(rt; fault, wanted(code), "{code:02X}");
-        if fault == Some(TlpFault::Kind) {
-            kinds += 1;
-        }
+        assert_eq!(rt; fault_of(&bytes), wanted(code), "{code:02X}");
     }
-    assert_eq!(rt; kinds, 212);
 }
 
 #[test]

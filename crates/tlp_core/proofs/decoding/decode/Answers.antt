@@ -1,10 +1,9 @@
-use Rattle.std.proofs.Common.{◌≡◌, ◌≤◌, ◌-◌, ◌*◌, ◌+◌, List, ℕ, length, take, drop, Some, None, Err, Ok, refl, sym, ap, subst, ◌∙◌, arith, length-drop, length-take}
-use Rattle.std.specs.Prelude.{IfErr, slice_index}
+use Rattle.std.proofs.Common.{◌*◌, ◌+◌, Err, Ok, sym, ap, ◌∙◌, arith}
+use Rattle.std.specs.Prelude.{slice_index}
 use Rattle.std.proofs.lemmas.Result.{err_from_is_err_and}
 use Rattle.tlp_core.specs.Layout.{Spells}
-use Rattle.tlp_core.specs.Packet.{Packet, IsPacket}
 use Rattle.tlp_core.specs.Faults.{holds, header_faults, kind_faults}
-use Rattle.tlp_core.proofs.Grammar.{made, one_value, none_spelled, find_within, find_after, made_of, payload_fits, payload_length, payload_whole, reading_fault, reading_spelled}
+use Rattle.tlp_core.proofs.Grammar.{made, one_value, none_spelled, find_within, find_after, made_of, payload_fits, payload_length, reading_fault, reading_spelled}
 use Rattle.tlp_core.proofs.decoding.decode.Goals as goal
 
 pub returns-in_err-kind-clause-fault : goal.returns-in_err-kind-clause-fault

@@ -1,5 +1,5 @@
-use Rattle.std.proofs.Common.{◌<◌, ℕ, subst}
-use Rattle.tlp_core.specs.Packet.{Packet, IsPacket, IsBodyInRange}
+use Rattle.std.proofs.Common.{subst}
+use Rattle.tlp_core.specs.Packet.{Packet}
 use Rattle.tlp_core.specs.Layout.{canonical, Spells}
 use Rattle.tlp_core.proofs.Canon.{canon_spells}
 use Rattle.tlp_core.proofs.encoding.encode.Goals as goal

@@ -1,4 +1,4 @@
-use Rattle.std.proofs.Common.{◌≡◌, ◌<◌, ◌^◌, subst, sym, arith}
+use Rattle.std.proofs.Common.{◌<◌, ◌^◌, subst, sym, arith}
 use Rattle.byteorder.specs.Numbers.{little_from-lt}
 use Rattle.tlp_core.proofs.operation.operand_at.Goals as goal
 
