@@ -1,0 +1,36 @@
+-- The history of a memory: the requests that acted, in order.
+use Rattle.std.specs.Prelude.{ℕ, ◌≡◌, List, take, fold, replicate, Option, option_map, slice_get}
+use Rattle.seq_memory.specs.declared.Entry.{Entry}
+use Rattle.seq_memory.specs.declared.Reply.{Reply}
+use Rattle.seq_memory.specs.Limits.{IsSize, IsBase, IsBlock}
+use Rattle.seq_memory.specs.Step.{after, answer}
+
+-- the bytes after all entries, which began as zeros
+unfoldable pub contents : ℕ → ℕ → ℕ → List Entry → List ℕ
+contents block base size entries = fold (λ m e. after block base m e.op) (replicate size 0) entries
+
+-- the bytes before the entry at place p
+abbrev pub contents_at : ℕ → ℕ → ℕ → List Entry → ℕ → List ℕ
+contents_at block base size entries p = contents block base size (take p entries)
+
+-- the reply to the entry at place p, by the bytes before it; none past the end
+abbrev pub reply_at : ℕ → ℕ → ℕ → List Entry → ℕ → Option Reply
+reply_at block base size entries p =
+    option_map (λ e. answer block base (contents_at block base size entries p) e.op) (slice_get entries p)
+
+-- a memory as contracts see it
+pub record State : Type 0 where
+  pub base : ℕ
+  pub size : ℕ
+  pub block : ℕ
+  pub entries : List Entry
+
+abbrev pub bytes_of : State → List ℕ
+bytes_of s = contents s.block s.base s.size s.entries
+
+-- the limits, and the bytes that the history makes
+pub record IsMemory (s : State) (bytes : List ℕ) : Type 0 where
+  pub in_size : IsSize s.size
+  pub in_base : IsBase s.base s.size
+  pub in_block : IsBlock s.block
+  pub made : bytes ≡ bytes_of s

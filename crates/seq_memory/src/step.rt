@@ -1,0 +1,171 @@
+//! One operation on the bytes.
+ghost use Rattle.std.specs.Prelude.{◌≡◌, ◌*◌, ◌/◌, ◌^◌, ◌<◌, ◌≤◌, ◌%◌, None, if◌then◌else◌, length, replicate};
+ghost use Rattle.byteorder.specs.Endian.{little_number, little_bytes};
+ghost use Rattle.arrayvec.specs.ArrayVec.{array_vec_len};
+ghost use Rattle.tlp_core.specs.Operation.{size_of, count_of, op_fault};
+ghost use Rattle.tlp_core.specs.Enables.{enables, dw_enables};
+ghost use Rattle.atomic_op.specs.NewValue.{FitsWidth};
+ghost use Rattle.seq_memory.specs.Limits.{IsBlock};
+ghost use Rattle.seq_memory.specs.Step.{merged, changed, place_after, read_back, after, answer, IsSizedFor};
+
+use crate::place::refusal_of;
+use crate::{Refusal, Reply};
+use arrayvec::ArrayVec;
+use atomic_op::{AtomicOp, apply};
+use byteorder::{ByteOrder, LittleEndian};
+use tlp_core::{Op, Width};
+
+/// The number in the first bytes.
+fn number_at(bytes: &[u8], width: Width) -> u128
+    requires { size_of width ≤ length bytes.now }
+    ensures value { result ≡ little_number (size_of width) bytes.now }
+    ensures range { result < 2 ^ (8 * size_of width) }
+{
+    match width {
+        Width::Four => u128::from(LittleEndian::read_u32(bytes)),
+        Width::Eight => u128::from(LittleEndian::read_u64(bytes)),
+        Width::Sixteen => LittleEndian::read_u128(bytes),
+    }
+}
+
+/// Writes the number into the place.
+fn put_number(place: &mut [u8], width: Width, number: u128)
+    requires size { length place.old ≡ size_of width }
+    requires range { number < 2 ^ (8 * size_of width) }
+    ensures { place.new ≡ little_bytes (size_of width) number }
+{
+    match width {
+        Width::Four => LittleEndian::write_u32(place, number as u32),
+        Width::Eight => LittleEndian::write_u64(place, number as u64),
+        Width::Sixteen => LittleEndian::write_u128(place, number),
+    }
+}
+
+/// The bytes as data.
+fn copy_of(bytes: &[u8]) -> ArrayVec<u8, 128>
+    requires { length bytes.now ≤ 128 }
+    ensures items { result.items ≡ bytes.now }
+    ensures len { array_vec_len result ≡ length bytes.now }
+{
+    let mut copy = ArrayVec::new();
+    let _ = copy.try_extend_from_slice(bytes);
+    copy
+}
+
+/// Does an AtomicOp at its place, and gives the bytes that were there.
+fn change(place: &mut [u8], width: Width, op: AtomicOp) -> ArrayVec<u8, 128>
+    requires size { length place.old ≡ size_of width }
+    requires operands { FitsWidth op width }
+    ensures place { place.new ≡ changed width op place.old }
+    ensures old { result.items ≡ place.old }
+    ensures len { array_vec_len result ≡ size_of width }
+{
+    let old = copy_of(place);
+    let value = apply(op, number_at(place, width), width);
+    put_number(place, width, value);
+    old
+}
+
+fn chosen(flag: bool, yes: u8, no: u8) -> u8
+    ensures { result ≡ (if flag then yes else no) }
+{
+    if flag { yes } else { no }
+}
+
+/// Puts the enabled bytes of a new DW over an old one.
+fn merge_dw(old: &mut [u8], new: &[u8], enables: u8)
+    requires old { length old.old ≡ 4 }
+    requires new { length new.now ≡ 4 }
+    ensures { old.new ≡ merged (dw_enables enables) new.now old.old }
+{
+    old[0] = chosen(enables % 2 == 1, new[0], old[0]);
+    old[1] = chosen(enables / 2 % 2 == 1, new[1], old[1]);
+    old[2] = chosen(enables / 4 % 2 == 1, new[2], old[2]);
+    old[3] = chosen(enables / 8 % 2 == 1, new[3], old[3]);
+}
+
+/// Puts the enabled bytes of new DW over as many old ones.
+fn merge(old: &mut [u8], new: &[u8], first: u8, last: u8)
+    requires same { length old.old ≡ length new.now }
+    requires some { 4 ≤ length new.now }
+    requires whole { length new.now % 4 ≡ 0 }
+    ensures { old.new ≡ merged (enables (length new.now / 4) first last) new.now old.old }
+{
+    let end = new.len() - 4;
+    if end == 0 {
+        merge_dw(old, new, first);
+        return;
+    }
+    merge_dw(&mut old[..4], &new[..4], first);
+    old[4..end].copy_from_slice(&new[4..end]);
+    merge_dw(&mut old[end..], &new[end..], last);
+}
+
+const ZEROS: [u8; 128] = [0; 128];
+
+/// The bytes of a read.
+fn read(place: &[u8], first: u8, last: u8) -> ArrayVec<u8, 128>
+    requires some { 4 ≤ length place.now }
+    requires few { length place.now ≤ 128 }
+    requires whole { length place.now % 4 ≡ 0 }
+    ensures items { result.items ≡ merged (enables (length place.now / 4) first last) place.now (replicate (length place.now) 0) }
+    ensures len { array_vec_len result ≡ length place.now }
+{
+    let mut data = copy_of(&ZEROS[..place.len()]);
+    merge(data.as_mut_slice(), place, first, last);
+    data
+}
+
+/// A served operation at its place.
+fn serve(place: &mut [u8], op: &Op) -> Reply
+    requires sound { op_fault op.now ≡ None }
+    requires size { length place.old ≡ count_of op.now }
+    requires few { length place.old ≤ 128 }
+    ensures place { place.new ≡ place_after op.now place.old }
+    ensures reply { result ≡ read_back op.now place.old }
+    ensures size { IsSizedFor op.now result }
+{
+    match op {
+        Op::Read { first, last, .. } => Reply::Data(read(place, *first, *last)),
+        Op::Write {
+            first,
+            last,
+            bytes,
+            ..
+        } => {
+            merge(place, bytes, *first, *last);
+            Reply::Done
+        }
+        Op::FetchAdd { width, operand, .. } => {
+            Reply::Data(change(place, *width, AtomicOp::FetchAdd(*operand)))
+        }
+        Op::Swap { width, operand, .. } => {
+            Reply::Data(change(place, *width, AtomicOp::Swap(*operand)))
+        }
+        Op::Cas {
+            width,
+            compare,
+            swap,
+            ..
+        } => Reply::Data(change(place, *width, AtomicOp::Cas(*compare, *swap))),
+    }
+}
+
+/// One step of the sequential memory whose bytes begin at `base`: does the operation on `bytes` if
+/// it is served, by blocks of `block` bytes, and answers it. Takes no memory.
+pub fn perform(base: u64, block: u16, bytes: &mut [u8], op: &Op) -> Reply
+    requires { IsBlock block }
+    ensures bytes { bytes.new ≡ after block base bytes.old op.now }
+    ensures reply { result ≡ answer block base bytes.old op.now }
+    ensures size { IsSizedFor op.now result }
+{
+    match refusal_of(base, block, bytes.len(), op) {
+        Some(Refusal::Aborted) => Reply::Aborted,
+        Some(Refusal::Unsupported) => Reply::Unsupported,
+        None => {
+            let from = (op.address() - base) as usize;
+            let count = op.size() as usize;
+            serve(&mut bytes[from..from + count], op)
+        }
+    }
+}
