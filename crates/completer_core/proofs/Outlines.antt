@@ -1,0 +1,94 @@
+-- The completion's kind and the size of its payload, from the memory's refusal alone.
+use Rattle.std.proofs.Common.{◌≡◌, ℕ, suc, ◌+◌, ◌-◌, ◌*◌, ◌≤◌, Bool, true, false, cond, List, [], ◌∷◌, length, drop, Option, Some, None, refl, sym, ap, ◌∙◌, arith, length-drop, length-take}
+use Rattle.std.specs.Prelude.{◌||◌, ◌==◌, nat_lt, replicate, option_map, option_and_then}
+use Rattle.std.proofs.lemmas.Bool.Decides.{nat_tests}
+use Rattle.std.proofs.lemmas.List.{length-replicate}
+use Rattle.tlp_core.specs.declared.operation.Op.{Op}
+use Rattle.tlp_core.specs.declared.operation.Op.TheVariants as ops
+use Rattle.tlp_core.specs.declared.packet.Kind.{Kind}
+use Rattle.tlp_core.specs.declared.packet.Kind.TheVariants as kinds
+use Rattle.tlp_core.specs.declared.packet.Body.{Body}
+use Rattle.tlp_core.specs.declared.packet.Body.TheVariants as bodies
+use Rattle.tlp_core.specs.declared.fault.TlpFault.{TlpFault}
+use Rattle.tlp_core.specs.declared.fault.TlpFault.TheVariants as faults
+use Rattle.tlp_core.specs.Enables.{enables}
+use Rattle.tlp_core.specs.Packet.{Packet}
+use Rattle.tlp_core.specs.Operation.{op_of, op_at, op_fault, is_posted, address_of, count_of}
+use Rattle.seq_memory.specs.declared.Refusal.{Refusal}
+use Rattle.seq_memory.specs.declared.Refusal.TheVariants as refusals
+use Rattle.seq_memory.specs.declared.Reply.{Reply}
+use Rattle.seq_memory.specs.Step.{is_inside, refusal, answer, answer_by, read_back, merged, bytes_at, data_of}
+use Rattle.seq_memory.specs.History.{State, bytes_of}
+use Rattle.completer_core.specs.Completion.{completion_of, completion_for, unless_posted}
+use Rattle.completer_core.proofs.Spans.{length_by, one_or_more}
+use Rattle.completer_core.specs.Serving.{completion_to, outline_of}
+
+-- only a write's operation is posted
+wrote : (a f l : ℕ) (b : List ℕ) (op : Op) → ◌≡◌ {A = Option Op} (Some (ops.Write a f l (record { items = b }))) (Some op) → is_posted op ≡ false → ⊥
+wrote a f l b (ops.Write a' f' l' b') e p = cc
+wrote a f l b (ops.Read a' dw f' l') e p = cc
+wrote a f l b (ops.FetchAdd a' w x) e p = cc
+wrote a f l b (ops.Swap a' w x) e p = cc
+wrote a f l b (ops.Cas a' w x y) e p = cc
+
+kind_not_write : (k : Kind) (body : Body) (dw : ℕ) (b : List ℕ) (op : Op) (c : Option Packet) → op_at k body dw b ≡ Some op → is_posted op ≡ false → unless_posted k c ≡ c
+kind_not_write kinds.MemoryRead body dw b op c e p = refl
+kind_not_write kinds.MemoryWrite (bodies.Request a f l) dw b op c e p = absurd (wrote a f l b op e p)
+kind_not_write kinds.MemoryWrite (bodies.Completion i s n lower) dw b op c e p = absurd cc
+kind_not_write kinds.FetchAdd body dw b op c e p = refl
+kind_not_write kinds.Swap body dw b op c e p = refl
+kind_not_write kinds.Cas body dw b op c e p = refl
+kind_not_write kinds.Completion body dw b op c e p = refl
+kind_not_write kinds.CompletionData body dw b op c e p = refl
+
+length_at : (m : List ℕ) (i n : ℕ) → i + n ≤ length m → length (bytes_at m i n) ≡ n
+length_at m i n h = omega (arith, length-take n (drop i m), length-drop i m, h)
+
+length_merged : (es : List Bool) (xs ys : List ℕ) → length xs ≡ length es → length ys ≡ length es → length (merged es xs ys) ≡ length es
+length_merged [] xs ys e1 e2 = refl
+length_merged (e ∷ es) [] ys e1 e2 = absurd (omega (arith, e1))
+length_merged (e ∷ es) (x ∷ xs) [] e1 e2 = absurd (omega (arith, e2))
+length_merged (e ∷ es) (x ∷ xs) (y ∷ ys) e1 e2 = ap suc (length_merged es xs ys (omega (arith, e1)) (omega (arith, e2)))
+
+-- a reply with so many bytes of data
+record IsData (r : Reply) (n : ℕ) : Type 0 where
+  pub bytes : List ℕ
+  pub is : r ≡ data_of bytes
+  pub size : length bytes ≡ n
+
+some_dw : (dw : ℕ) (rest : Option TlpFault) → cond ((dw == 0) || nat_lt 1024 dw) (Some faults.LengthMismatch) rest ≡ None → 1 ≤ dw
+some_dw dw rest e = grind (arith, nat_tests)
+
+-- what a served operation that is not posted answers
+data_read : (op : Op) (old : List ℕ) → op_fault op ≡ None → is_posted op ≡ false → length old ≡ count_of op → IsData (read_back op old) (count_of op)
+data_read (ops.Read a dw f l) old sound p e =
+    let n = length_by dw f l (one_or_more dw (some_dw dw _ sound)) in
+    record { bytes = merged (enables dw f l) old (replicate (4 * dw) 0); is = refl; size = length_merged (enables dw f l) old (replicate (4 * dw) 0) (e ∙ sym n) (length-replicate (4 * dw) 0 ∙ sym n) ∙ n }
+data_read (ops.Write a f l bytes) old sound p e = absurd cc
+data_read (ops.FetchAdd a w x) old sound p e = record { bytes = old; is = refl; size = e }
+data_read (ops.Swap a w x) old sound p e = record { bytes = old; is = refl; size = e }
+data_read (ops.Cas a w x y) old sound p e = record { bytes = old; is = refl; size = e }
+
+not_refused : (a b : Bool) → ◌≡◌ {A = Option Refusal} (cond a (Some refusals.Aborted) (cond b None (Some refusals.Unsupported))) None → b ≡ true
+not_refused true b e = absurd cc
+not_refused false true e = refl
+not_refused false false e = absurd cc
+
+bounds : (base size address count : ℕ) → is_inside base size address count ≡ true → (address - base) + count ≤ size
+bounds base size address count e = grind (arith, nat_tests)
+
+inside : (block base size : ℕ) (op : Op) → refusal block base size op ≡ None → (address_of op - base) + count_of op ≤ size
+inside block base size op e = bounds base size (address_of op) (count_of op) (not_refused _ _ e)
+
+outline_carried : (t : Packet) (r : Reply) (n : ℕ) → ((c : Option Packet) → unless_posted t.kind c ≡ c) → IsData r n → option_map outline_of (completion_of t r) ≡ Some (record { kind = kinds.CompletionData; payload = n })
+outline_carried t r n same d = rw d.is (ap (option_map outline_of) (same (completion_for t (data_of d.bytes))) ∙ ap (λ n. Some (record { kind = kinds.CompletionData; payload = n })) d.size)
+
+pub served_outline : (s : State) (t : Packet) (op : Op) → op_of t ≡ Some op → op_fault op ≡ None → is_posted op ≡ false → refusal s.block s.base s.size op ≡ None → length (bytes_of s) ≡ s.size → option_map outline_of (completion_to s t) ≡ Some (record { kind = kinds.CompletionData; payload = count_of op })
+served_outline s t op e sound p served size =
+    let m = bytes_of s in
+    let old = bytes_at m (address_of op - s.base) (count_of op) in
+    let r' : refusal s.block s.base (length m) op ≡ None = rw size served in
+    let given : answer s.block s.base m op ≡ read_back op old = ap (λ r. answer_by r (read_back op old)) r' in
+    let fits : length old ≡ count_of op = length_at m (address_of op - s.base) (count_of op) (rw size (inside s.block s.base s.size op served)) in
+    let asked : completion_to s t ≡ completion_of t (answer s.block s.base m op) = ap (option_and_then (λ op. completion_of t (answer s.block s.base m op))) e in
+    ap (option_map outline_of) (asked ∙ ap (completion_of t) given) ∙ outline_carried t (read_back op old) (count_of op) (λ c. kind_not_write t.kind t.body t.length t.payload op c e p) (data_read op old sound p fits)

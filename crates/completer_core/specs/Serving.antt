@@ -1,0 +1,31 @@
+-- A request is served: one step of the memory, one entry, and one completion or none.
+use Rattle.std.specs.Prelude.{ℕ, ◌/◌, [], ◌∷◌, ◌++◌, length, Option, option_and_then}
+use Rattle.std.specs.Option.{option_map_or}
+use Rattle.tlp_core.specs.declared.operation.Op.{Op}
+use Rattle.tlp_core.specs.Packet.{Packet}
+use Rattle.tlp_core.specs.Operation.{op_of}
+use Rattle.seq_memory.specs.declared.Entry.{Entry}
+use Rattle.seq_memory.specs.Step.{answer}
+use Rattle.seq_memory.specs.History.{State, bytes_of}
+use Rattle.completer_core.specs.declared.Outline.{Outline}
+use Rattle.completer_core.specs.Completion.{completion_of}
+
+-- the entry of a request: its requester is the port of its Requester ID
+abbrev pub entry_of : Packet → ℕ → Op → Entry
+entry_of t number op = record { requester = t.requester / 256; number = number; op = op }
+
+-- the history with one more entry
+abbrev pub with_entry : State → Entry → State
+with_entry s e = record s { entries = s.entries ++ e ∷ [] }
+
+-- the memory after the request with that number; a packet that asks for nothing changes nothing
+abbrev pub after_serving : State → Packet → ℕ → State
+after_serving s t number = option_map_or (λ op. with_entry s (entry_of t number op)) (op_of t) s
+
+-- the completion of the request, which carries the memory's reply
+abbrev pub completion_to : State → Packet → Option Packet
+completion_to s t = option_and_then (λ op. completion_of t (answer s.block s.base (bytes_of s) op)) (op_of t)
+
+-- a completion but for the contents of its payload
+abbrev pub outline_of : Packet → Outline
+outline_of c = record { kind = c.kind; payload = length c.payload }

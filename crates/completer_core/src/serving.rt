@@ -1,0 +1,52 @@
+//! Requests at the memory.
+ghost use Rattle.std.specs.Prelude.{◌≡◌, IfOk, OnOk, OnErr, option_map};
+ghost use Rattle.completer_core.specs.Serving.{after_serving, completion_to, outline_of};
+
+use crate::Outline;
+use crate::completion::completion_with;
+use seq_memory::{Entry, Memory, Refusal};
+use std::alloc::AllocError;
+use tlp_core::{Kind, Tlp, op_of};
+
+/// Lets the request act on the memory under that number, and gives its completion; none for a
+/// posted write. A request that is aborted or unsupported changes no byte, and stands in the
+/// history all the same. Fails only where the history can't grow, and then changes nothing; a
+/// completion in place of a request does nothing.
+pub fn serve(memory: &mut Memory, request: &Tlp, number: u32) -> Result<Option<Tlp>, AllocError>
+    ensures memory { OnOk result (memory.new ≡ after_serving memory.old request.now number) }
+    ensures completion { IfOk result (λ c. c ≡ completion_to memory.old request.now) }
+    ensures err { OnErr result (memory.new ≡ memory.old) }
+{
+    let Some(op) = op_of(request) else {
+        return Ok(None);
+    };
+    let requester = (request.requester / 256) as u8;
+    let reply = memory.act(Entry {
+        requester,
+        number,
+        op,
+    })?;
+    Ok(completion_with(request, reply))
+}
+
+/// What the request's completion would be, if it acted now; none for a posted write. Takes no
+/// memory.
+pub fn shape(memory: &Memory, request: &Tlp) -> Option<Outline>
+    ensures { result ≡ option_map outline_of (completion_to memory.now request.now) }
+{
+    let op = op_of(request)?;
+    if op.is_posted() {
+        return None;
+    }
+    let _size = memory.bytes().len();
+    Some(match memory.refusal(&op) {
+        None => Outline {
+            kind: Kind::CompletionData,
+            payload: op.size() as u16,
+        },
+        Some(Refusal::Aborted | Refusal::Unsupported) => Outline {
+            kind: Kind::Completion,
+            payload: 0,
+        },
+    })
+}
