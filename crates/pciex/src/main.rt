@@ -7,6 +7,8 @@ mod fault;
 mod options;
 mod output;
 mod responder;
+#[cfg(test)]
+mod tests;
 mod text;
 mod tlp;
 
