@@ -3,3 +3,4 @@ pub mod LineLemmas
 pub mod TextLemmas
 pub mod GrammarLemmas
 pub mod RequestLemmas
+pub mod RequestsAsked

@@ -1,5 +1,5 @@
 -- What a subcommand makes of its input, line by line.
-use Rattle.std.specs.Prelude.{◌≡◌, ℕ, List, [], ◌++◌, Bool, nat_lt, if◌then◌else◌, length, fold, Option, IfSome}
+use Rattle.std.specs.Prelude.{◌≡◌, ◌⊎◌, ℕ, List, [], ◌++◌, Bool, nat_lt, if◌then◌else◌, length, fold, Option, IfSome}
 use Rattle.std.specs.Io.KnownBytes.{Appends, Consumes, IsAtEnd}
 use Rattle.pciex.specs.Lines.{lines_of, bare, said}
 
@@ -71,3 +71,7 @@ pub record IsPart {S : Type 0} (run : List ℕ → Run S) (input rest out out' :
   pub written : Appends out out' done
   pub begins : IsBeginning done (run read).text
   pub begins_all : IfSome input (λ all. IsBeginning done (run all).text)
+
+-- the whole output was written, and the exit status is the run's; or a beginning of it, and the exit status is 1
+abbrev pub IsRun : {S : Type 0} → (List ℕ → Run S) → Option (List ℕ) → Option (List ℕ) → Option (List ℕ) → Option (List ℕ) → ℕ → Type 0
+IsRun run input rest out out' exit = IsWhole run input rest out out' exit ⊎ ((exit ≡ 1) × IsPart run input rest out out')

@@ -1,5 +1,10 @@
 //! The program, over any streams.
-ghost use Rattle.std.specs.Prelude.{◌≡◌};
+ghost use Rattle.std.specs.Prelude.{◌≡◌, ℕ, map, true};
+ghost use Rattle.clap.specs.Words.{kind_of, subcommand_of, takes};
+ghost use Rattle.pciex.specs.Faults.{IsMemoryFault};
+ghost use Rattle.pciex.specs.Options.{the_app, Asks};
+ghost use Rattle.pciex.specs.Run.{IsRun};
+ghost use Rattle.pciex.specs.Tlp.{out_tlp};
 
 use crate::fault::EngineFault;
 use crate::options::{Request, RequestFault, options};
@@ -19,7 +24,10 @@ fn stopped<E: Write>(fault: EngineFault, errors: &mut E) -> u8
 
 /// Tells what `clap` says of the words, and gives the exit status: a text that was asked for goes
 /// to standard output, and any other to standard error.
-fn told<W: Write, E: Write>(error: &clap::Error, writer: &mut W, errors: &mut E) -> u8 {
+fn told<W: Write, E: Write>(error: &clap::Error, writer: &mut W, errors: &mut E) -> u8
+    ensures status { kind_of error.now ≡ ErrorKind.OutOfMemory → result ≡ 1 }
+    ensures same { kind_of error.now ≡ ErrorKind.OutOfMemory → W.contents writer.new ≡ W.contents writer.old }
+{
     if error.kind() == ErrorKind::OutOfMemory {
         return stopped(EngineFault::Memory, errors);
     }
@@ -33,6 +41,20 @@ fn told<W: Write, E: Write>(error: &clap::Error, writer: &mut W, errors: &mut E)
     }
 }
 
+/// Tells why the words ask for nothing, and gives the exit status for that.
+fn refused<W: Write, E: Write>(fault: &RequestFault, writer: &mut W, errors: &mut E) -> u8
+    ensures status { IsMemoryFault fault.now → result ≡ 1 }
+    ensures same { IsMemoryFault fault.now → W.contents writer.new ≡ W.contents writer.old }
+{
+    match fault {
+        RequestFault::Words(error) => told(error, writer, errors),
+        RequestFault::Range => {
+            let _ = writeln!(errors, "pciex: options");
+            2
+        }
+    }
+}
+
 /// Does what the words of the command line ask for, the program's name before them, and gives the
 /// exit status: 0 done; 1 a fault was told, or reading, writing or memory failed; 2 the words ask
 /// for nothing.
@@ -42,7 +64,12 @@ pub fn command<S: AsStr, R: Read, W: Write, E: Write>(
     reader: &mut R,
     writer: &mut W,
     errors: &mut E,
-) -> u8 {
+) -> u8
+    // Words that `clap` takes and that ask for `tlp` over a memory have its run.
+    ensures tlp { (base size block : ℕ) → takes the_app (map S.text words.now) ≡ true
+        → Asks (subcommand_of the_app (map S.text words.now)) (Request.Tlp base size block)
+        → IsRun (out_tlp base size block) (R.remaining reader.old) (R.remaining reader.new) (W.contents writer.old) (W.contents writer.new) result }
+{
     match options(alloc, words) {
         Ok(Request::Tlp { base, size, block }) => {
             match run_tlp(alloc, base, size, block, reader, writer) {
@@ -50,10 +77,6 @@ pub fn command<S: AsStr, R: Read, W: Write, E: Write>(
                 Err(fault) => stopped(fault, errors),
             }
         }
-        Err(RequestFault::Words(error)) => told(&error, writer, errors),
-        Err(RequestFault::Range) => {
-            let _ = writeln!(errors, "pciex: options");
-            2
-        }
+        Err(fault) => refused(&fault, writer, errors),
     }
 }

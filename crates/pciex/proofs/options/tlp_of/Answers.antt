@@ -4,19 +4,12 @@ use Rattle.clap.proofs.WalkLemmas.{first_value-rows}
 use Rattle.pciex.specs.Options.{WritesBase, WritesNumber, IsMemory, Asks}
 use Rattle.pciex.specs.declared.options.Request.{Request}
 use Rattle.pciex.specs.declared.options.Request.TheVariants.{Tlp}
+use Rattle.pciex.proofs.RequestsAsked.{same_base, same_number}
 use Rattle.pciex.proofs.options.tlp_of.Goals as goal
 
 if_none : {T P : Type 0} (o : Option T) → P → IfNone o P
 if_none None p = p
 if_none (Some x) p = tt
-
-same_base : (t : Option Text) (a b : ℕ) → WritesBase t a → WritesBase t b → a ≡ b
-same_base None a b h k = h ∙ sym k
-same_base (Some t) a b h k = h.2 ∙ sym k.2
-
-same_number : (default : ℕ) (t : Option Text) (a b : ℕ) → WritesNumber default t a → WritesNumber default t b → a ≡ b
-same_number default None a b h k = h ∙ sym k
-same_number default (Some t) a b h k = h.1 ∙ sym k.1
 
 -- the numbers of a memory fit their types
 base_fits : (base size block : ℕ) → IsMemory base size block → base < 2 ^ 64
