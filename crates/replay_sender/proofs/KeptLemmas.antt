@@ -1,5 +1,5 @@
 -- Each call keeps the last accepted packets, and so does every list of calls.
-use Rattle.std.proofs.Common.{◌≡◌, ℕ, ◌+◌, ◌-◌, ◌%◌, ◌<◌, ◌≤◌, Bool, true, false, List, [], ◌∷◌, ◌++◌, length, take, drop, Option, Some, None, refl, sym, ap, subst, ◌∙◌, arith, append_assoc, length-append, length-drop, length-take}
+use Rattle.std.proofs.Common.{◌≡◌, ℕ, ◌+◌, ◌-◌, ◌%◌, ◌<◌, ◌≤◌, Bool, true, false, List, [], ◌∷◌, ◌++◌, length, take, drop, Option, Some, None, refl, sym, ap, ◌∙◌, arith, append_assoc, length-append, length-drop, length-take}
 use Rattle.std.specs.Prelude.{if◌then◌else◌, ◌==◌, nat_lt, nat_le, slice_get}
 use Rattle.std.specs.Option.{option_map}
 use Rattle.std.proofs.lemmas.Bool.Decides.{nat_tests}
@@ -7,7 +7,7 @@ use Rattle.std.proofs.lemmas.List.{append-nil, take-append-drop, get_or-append-a
 use Rattle.std.proofs.lemmas.Option.{slice_get_within, slice_get-get_or, get_or_from_slice_get}
 use Rattle.seq12.specs.Numbers.{distance_of}
 use Rattle.replay_sender.specs.Carried.{Carried}
-use Rattle.replay_sender.specs.Sending.{Sending, fresh, number_at, next_number, next_item, sent_from, with_accepted, with_reserved, after_transmit, is_outstanding, acknowledged, from_oldest, trained, after_ack, after_nak}
+use Rattle.replay_sender.specs.Sending.{Sending, fresh, number_at, next_number, sent_from, with_accepted, with_reserved, after_transmit, is_outstanding, acknowledged, from_oldest, trained}
 use Rattle.replay_sender.specs.Runs.{Call, Accept, Reserve, Transmit, Ack, Nak, Timer, Retrained, IsCall, AreCalls, after_call, accepted_by, after_calls, accepted_in, KeepsTheLast}
 
 -- ---- numbers

@@ -1,7 +1,7 @@
 -- Lists of calls of a sender, and what holds of every one.
 use Rattle.std.specs.Prelude.{◌≡◌, ℕ, ◌+◌, ◌%◌, ◌<◌, ◌≤◌, nat_lt, if◌then◌else◌, List, [], ◌∷◌, ◌++◌, length}
 use Rattle.replay_sender.specs.Carried.{Carried}
-use Rattle.replay_sender.specs.Sending.{Sending, fresh, with_accepted, with_reserved, after_transmit, after_ack, after_nak, from_oldest, trained}
+use Rattle.replay_sender.specs.Sending.{Sending, with_accepted, with_reserved, after_transmit, after_ack, after_nak, from_oldest, trained}
 
 -- a call of a sender; one that is refused for want of memory changes nothing and is left out
 pub data Call : Type 0 where

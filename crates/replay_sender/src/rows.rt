@@ -75,6 +75,7 @@ fn fourth_replay_stops(rt: HostRuntime) -> Result<(), Fail> {
         assert_eq!(rt; sender.timer(), 1);
     }
     assert!(rt; sender.stopped());
+    assert!(rt; !sender.can_transmit());
     assert_eq!(rt; send(&mut sender, 1), 0);
     assert!(rt; sender.retrained());
     assert!(rt; !sender.retrained());

@@ -1,5 +1,5 @@
 //! The sender: numbers, replay buffer, sending place and replay counter.
-ghost use Rattle.std.specs.Prelude.{◌≡◌, ℕ, ◌+◌, ◌-◌, ◌%◌, ◌<◌, ◌≤◌, ◌↔◌, List, [], length, drop, IsTrue, IsOk, IfOk, OnOk, OnErr};
+ghost use Rattle.std.specs.Prelude.{◌≡◌, ℕ, ◌+◌, ◌-◌, ◌%◌, ◌<◌, ◌≤◌, ◌↔◌, List, [], length, drop, is_some, IsTrue, IsOk, IfOk, OnOk, OnErr};
 ghost use Rattle.std.specs.VecDeque.{deque_len, deque_capacity};
 
 use crate::cargo::Cargo;
@@ -16,7 +16,7 @@ pub const WINDOW: usize = 2047;
 const LAST_REPLAY: u8 = 3;
 
 /// The transmitter's side of a link: packets that aren't acknowledged, and which of them is sent next.
-#[derive(Drop)]
+#[derive(Debug, Drop)]
 pub struct Sender {
     acked: Seq12,
     kept: VecDeque<Cargo>,
@@ -52,7 +52,7 @@ fn drop_front(items: &mut VecDeque<Cargo>, count: usize)
 }
 
 impl Sender {
-    ghost use Rattle.replay_sender.specs.Sending.{fresh, next_number, with_accepted, with_reserved, sent_from, after_transmit, ack_answer, after_ack, after_nak, from_oldest, trained};
+    ghost use Rattle.replay_sender.specs.Sending.{fresh, next_number, with_accepted, with_reserved, next_item, sent_from, after_transmit, ack_answer, after_ack, after_nak, from_oldest, trained};
 
     /// NEXT_TRANSMIT_SEQ is 000h, ACKD_SEQ is FFFh. It allocates nothing.
     pub fn new(alloc: Global) -> Sender
@@ -139,13 +139,20 @@ impl Sender {
         Ok(number)
     }
 
+    /// Whether the next `transmit` gives a packet.
+    pub fn can_transmit(&self) -> bool
+        ensures { result ≡ is_some (next_item self.now) }
+    {
+        !self.stopped && self.place < self.kept.len()
+    }
+
     /// A copy of the packet at the place, under its number, and the place moves on. None where all were sent, and
     /// while the sender is stopped. It takes no memory.
     pub fn transmit(&mut self) -> Option<(Seq12, Cargo)>
         ensures packet { result ≡ sent_from self.old }
         ensures state { self.new ≡ after_transmit self.old }
     {
-        if self.stopped || self.place >= self.kept.len() {
+        if !self.can_transmit() {
             return None;
         }
         let cargo = self.kept[self.place].copied();
