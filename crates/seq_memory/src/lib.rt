@@ -10,6 +10,7 @@
 //! are little-endian.
 #![tactic(auto)]
 
+pub mod laws;
 mod limits;
 mod memory;
 mod place;
