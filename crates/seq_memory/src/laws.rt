@@ -9,14 +9,16 @@ ghost use Rattle.tlp_core.specs.Operation.{size_of, address_of, count_of};
 ghost use Rattle.seq_memory.specs.declared.Entry.{Entry};
 ghost use Rattle.seq_memory.specs.declared.Refusal.{Refusal};
 ghost use Rattle.seq_memory.specs.Limits.{IsBlock};
-ghost use Rattle.seq_memory.specs.Step.{refusal, after, answer, bytes_at, data_of};
+ghost use Rattle.seq_memory.specs.Step.{refusal, after, answer, bytes_at, place_after, data_of};
 ghost use Rattle.seq_memory.specs.History.{contents, contents_at, reply_at};
 
-/// An operation changes no byte outside its place, and no number of bytes.
-#[tactic(auto, using(crate::proofs::Steps::others_kept, crate::proofs::Steps::size_kept))]
+/// An operation changes no byte outside its place and not their number, and a served one leaves at
+/// its place what it makes of the bytes that were there.
+#[tactic(auto, using(crate::proofs::Steps::others_kept, crate::proofs::Steps::size_kept, crate::proofs::Steps::place_is))]
 pub fn only_the_place_changes()
     ensures others { (block base k : ℕ) (m : List ℕ) (op : Op) → (base + k < address_of op) ⊎ (address_of op + count_of op ≤ base + k) → slice_index (after block base m op) k ≡ slice_index m k }
     ensures size { (block base : ℕ) (m : List ℕ) (op : Op) → length (after block base m op) ≡ length m }
+    ensures place { (block base : ℕ) (m : List ℕ) (op : Op) → refusal block base (length m) op ≡ None → bytes_at (after block base m op) (address_of op - base) (count_of op) ≡ place_after op (bytes_at m (address_of op - base) (count_of op)) }
 {}
 
 /// An operation that is not served changes nothing, and neither does a read.
