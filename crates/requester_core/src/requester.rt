@@ -218,12 +218,12 @@ fn no_tags() -> [Option<Open>; 256]
 }
 
 /// The lowest free tag, where none below `from` is free.
-fn free_from(open: &[Option<Open>], from: usize) -> usize
-    requires { from ≤ lowest_free open.now }
-    ensures { result ≡ lowest_free open.now }
+fn free_from(tags: &[Option<Open>], from: usize) -> usize
+    requires { from ≤ lowest_free tags.now }
+    ensures { result ≡ lowest_free tags.now }
 {
     let mut place = from;
-    while place < open.len() && open[place].is_some() {
+    while place < tags.len() && tags[place].is_some() {
         place += 1;
     }
     place
