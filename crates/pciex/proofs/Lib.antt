@@ -1,0 +1,5 @@
+pub mod KnownLemmas
+pub mod LineLemmas
+pub mod TextLemmas
+pub mod GrammarLemmas
+pub mod RequestLemmas

@@ -1,0 +1,115 @@
+-- Laws of the texts.
+use Rattle.std.proofs.Common.{◌≡◌, ℕ, zero, suc, ◌+◌, ◌/◌, ◌%◌, List, [], ◌∷◌, ◌++◌, ◌<◌, ◌≤◌, ◌==◌, Bool, true, ◌&&◌, length, take, drop, map, slice_index, refl, arith, inl, inr, lit≤, ◌^◌}
+use Rattle.std.proofs.lemmas.Bool.{and_parts, cases_lt, eqb-true}
+use Rattle.std.specs.Char.{to_ascii_uppercase}
+use Rattle.std.specs.Fmt.{decimal}
+use Rattle.std.proofs.lemmas.Fmt.{decimal_digit, decimal_step}
+use Rattle.hex.specs.Hex.{encode_with, encode_upper, encode_lower, upper_digits, lower_digits, decode_of, decode_sized, IsBytes}
+use Rattle.tlp_core.specs.declared.fault.TlpFault.{TlpFault}
+use Rattle.tlp_core.specs.declared.fault.TlpFault.TheVariants as faults
+use Rattle.tlp_core.specs.Fault.{number_of, name_of}
+use Rattle.pciex.specs.Tlp.{spaced}
+
+-- more than eight digits: a group, a space, and the groups of the rest
+pub spaced-more : (xs : List ℕ) → 8 < length xs → spaced xs ≡ take 8 xs ++ 32 ∷ spaced (drop 8 xs)
+unfolding spaced
+spaced-more [] h = absurd (omega arith)
+spaced-more (a ∷ []) h = absurd (omega arith)
+spaced-more (a ∷ b ∷ []) h = absurd (omega arith)
+spaced-more (a ∷ b ∷ c ∷ []) h = absurd (omega arith)
+spaced-more (a ∷ b ∷ c ∷ d ∷ []) h = absurd (omega arith)
+spaced-more (a ∷ b ∷ c ∷ d ∷ e ∷ []) h = absurd (omega arith)
+spaced-more (a ∷ b ∷ c ∷ d ∷ e ∷ f ∷ []) h = absurd (omega arith)
+spaced-more (a ∷ b ∷ c ∷ d ∷ e ∷ f ∷ g ∷ []) h = absurd (omega arith)
+spaced-more (a ∷ b ∷ c ∷ d ∷ e ∷ f ∷ g ∷ h ∷ []) lt = absurd (omega arith)
+spaced-more (a ∷ b ∷ c ∷ d ∷ e ∷ f ∷ g ∷ h ∷ i ∷ rest) lt = refl
+
+-- eight digits at most: one group
+pub spaced-last : (xs : List ℕ) → length xs ≤ 8 → spaced xs ≡ xs
+unfolding spaced
+spaced-last [] h = refl
+spaced-last (a ∷ []) h = refl
+spaced-last (a ∷ b ∷ []) h = refl
+spaced-last (a ∷ b ∷ c ∷ []) h = refl
+spaced-last (a ∷ b ∷ c ∷ d ∷ []) h = refl
+spaced-last (a ∷ b ∷ c ∷ d ∷ e ∷ []) h = refl
+spaced-last (a ∷ b ∷ c ∷ d ∷ e ∷ f ∷ []) h = refl
+spaced-last (a ∷ b ∷ c ∷ d ∷ e ∷ f ∷ g ∷ []) h = refl
+spaced-last (a ∷ b ∷ c ∷ d ∷ e ∷ f ∷ g ∷ h ∷ []) lt = refl
+spaced-last (a ∷ b ∷ c ∷ d ∷ e ∷ f ∷ g ∷ h ∷ i ∷ rest) lt = absurd (omega arith)
+
+-- the test that the first n digits have these capitals
+abbrev have_capitals : ℕ → Bool
+have_capitals zero = true
+have_capitals (suc n) = (to_ascii_uppercase (slice_index lower_digits n) == slice_index upper_digits n) && have_capitals n
+
+capital-at : (n k : ℕ) → have_capitals n ≡ true → k < n → to_ascii_uppercase (slice_index lower_digits k) ≡ slice_index upper_digits k
+capital-at zero k h lt = absurd (omega arith)
+capital-at (suc n) k h lt =
+    let parts = and_parts (to_ascii_uppercase (slice_index lower_digits n) == slice_index upper_digits n) (have_capitals n) h in
+    elim (cases_lt k n) [
+      | inl below ↦ capital-at n k parts.1 below
+      | inr top ↦
+          let e : k ≡ n = omega arith in
+          rw e (eqb-true (to_ascii_uppercase (slice_index lower_digits n)) (slice_index upper_digits n) parts.0)
+    ]
+
+capital : (k : ℕ) → k < 16 → to_ascii_uppercase (slice_index lower_digits k) ≡ slice_index upper_digits k
+capital k lt = capital-at 16 k refl lt
+
+-- capitals of digits are the digits in capitals
+pub capitals-encode : (bytes : List ℕ) → IsBytes bytes → map to_ascii_uppercase (encode_lower bytes) ≡ encode_upper bytes
+unfolding encode_with
+capitals-encode [] h = refl
+capitals-encode (b ∷ bytes) h =
+    let fits : b < 256 = h 0 in
+    rw (capital (b / 16) (omega arith), capital (b % 16) (omega arith), capitals-encode bytes (λ k. h (suc k))) refl
+
+-- decoding into half as many bytes is decoding
+pub decode_sized-half : (text : List ℕ) → decode_sized text (length text / 2) ≡ decode_of text
+decode_sized-half text = grind arith
+
+-- a number of two digits
+pub decimal-two : (n : ℕ) → 10 ≤ n → n < 100 → decimal n ≡ (48 + n / 10) ∷ (48 + n % 10) ∷ []
+decimal-two n more small =
+    let tens : n / 10 < 10 = omega arith in
+    let fits : n < 2 ^ 64 = omega arith in
+    rw (decimal_step n more fits, decimal_digit (n / 10) tens) refl
+
+pub decimal-one : (n : ℕ) → n < 10 → decimal n ≡ (48 + n % 10) ∷ []
+decimal-one n small =
+    let same : n % 10 ≡ n = omega arith in
+    rw same (decimal_digit n small)
+
+-- how long the texts of a fault are
+pub number-small : (f : TlpFault) → number_of f < 100
+number-small faults.Short = omega arith
+number-small faults.Prefix = omega arith
+number-small faults.Kind = omega arith
+number-small faults.TenBitTag = omega arith
+number-small faults.Hints = omega arith
+number-small faults.Digest = omega arith
+number-small faults.Poisoned = omega arith
+number-small faults.Translated = omega arith
+number-small faults.LengthMismatch = omega arith
+number-small faults.PayloadTooLong = omega arith
+number-small faults.ByteEnables = omega arith
+number-small faults.OperandSize = omega arith
+number-small faults.Unaligned = omega arith
+
+pub name-short : (f : TlpFault) → length (name_of f) ≤ 14
+name-short faults.Short = lit≤ tt
+name-short faults.Prefix = lit≤ tt
+name-short faults.Kind = lit≤ tt
+name-short faults.TenBitTag = lit≤ tt
+name-short faults.Hints = lit≤ tt
+name-short faults.Digest = lit≤ tt
+name-short faults.Poisoned = lit≤ tt
+name-short faults.Translated = lit≤ tt
+name-short faults.LengthMismatch = lit≤ tt
+name-short faults.PayloadTooLong = lit≤ tt
+name-short faults.ByteEnables = lit≤ tt
+name-short faults.OperandSize = lit≤ tt
+name-short faults.Unaligned = lit≤ tt
+
+pub ruleset text_rules = (spaced-more, spaced-last, capitals-encode, decode_sized-half, decimal-one, decimal-two, number-small, name-short)

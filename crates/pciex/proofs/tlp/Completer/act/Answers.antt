@@ -1,0 +1,18 @@
+use Rattle.std.proofs.Common.{◌≡◌, ◌∙◌, ◌<◌, ◌/◌, length, ap, sym, subst, arith}
+use Rattle.tlp_core.specs.Packet.{Packet, IsPacket}
+use Rattle.seq_memory.specs.History.{State}
+use Rattle.pciex.specs.Tlp.{count_of}
+use Rattle.pciex.proofs.RequestLemmas.{counted}
+use Rattle.pciex.proofs.tlp.Completer.act.Goals as goal
+
+pub invariant_of-self-2 : goal.invariant_of-self-2
+invariant_of-self-2 c = λ port lt.
+    let t = c.args.request.now in
+    let view : c.self.inside.memory ≡ c.args.self.now = c.self.view_is in
+    let packet : IsPacket t = subst IsPacket c.request.view_is c.request.invariant in
+    let own : c.from.result ≡ t.requester / 256 = c.from.ensures ∙ ap (λ (p : Packet). p.requester / 256) c.request.view_is in
+    let number : c.args.number ≡ count_of c.self.inside.memory.entries (t.requester / 256) =
+    c.requires.number ∙ ap (λ (s : State). count_of s.entries (t.requester / 256)) (sym view) in
+    let fits : c.from.result < length c.self.inside.counts = omega (arith, c.self.told, c.from.ensures) in
+    counted c.self.inside.memory t c.args.number c.from.result c.self.inside.counts packet c.requires.request own fits number port (c.self.invariant port lt)
+    ∙ ap (λ (s : State). count_of s.entries port) (sym c.in_ok-completion.ensures.memory)

@@ -1,0 +1,9 @@
+use Rattle.std.proofs.Common.{◌∙◌, sym, refl}
+use Rattle.std.proofs.lemmas.Result.{IfOk-weaker}
+use Rattle.pciex.proofs.RequestLemmas.{numbers-used}
+use Rattle.pciex.proofs.tlp.Completer.answer_request.Goals as goal
+
+pub returns-then-number-clause-ok : goal.returns-then-number-clause-ok
+returns-then-number-clause-ok c =
+    let used = numbers-used c.args.self.now c.args.request.now _ (sym c.count-number.ensures ∙ c.if-number.true) in
+    IfOk-weaker c.tell.result _ _ (λ told h. rw used (record { state = refl; text = h.1; is_fault = h.0 })) c.tell.ensures.ok

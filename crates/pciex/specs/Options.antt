@@ -1,0 +1,51 @@
+-- What the words of a command line ask for.
+use Rattle.std.specs.Prelude.{◌≡◌, ◌≤◌, ℕ, true, List, length, Option, Some, None, codes}
+use Rattle.std.specs.Str.Parse.{IsNumeral, digits_value}
+use Rattle.clap.specs.Words.{App, Row, Rule, Text, first_of, new_app, new_rule, with_rule, with_subcommand}
+use Rattle.seq_memory.specs.Limits.{IsSize, IsBase, IsBlock}
+use Rattle.pciex.specs.declared.options.Request.{Request}
+use Rattle.pciex.specs.declared.options.Request.TheVariants.{Tlp}
+
+-- an option with a value
+abbrev pub option : Text → Rule
+option name = record (new_rule name) { long = Some name; value_names = 1 }
+
+abbrev pub tlp_app : App
+tlp_app = with_rule (with_rule (with_rule (new_app (codes "tlp")) (option (codes "base"))) (option (codes "size"))) (option (codes "block"))
+
+abbrev pub top_app : App
+top_app = record (new_app (codes "pciex")) {
+  top = record ((new_app (codes "pciex")).top) { has_version = true; subcommand_required = true; disable_help_subcommand = true };
+}
+
+-- the grammar of the command line
+unfoldable pub the_app : App
+the_app = with_subcommand top_app tlp_app.top
+
+-- a base is written in 1 to 16 hexadecimal digits, and is 0 where none is given
+abbrev pub WritesBase : Option Text → ℕ → Type 0
+WritesBase None base = base ≡ 0
+WritesBase (Some text) base = (length text ≤ 16) × IsNumeral 16 text × (base ≡ digits_value 16 text)
+
+-- a number is written in decimal digits, and is the default where none is given
+abbrev pub WritesNumber : ℕ → Option Text → ℕ → Type 0
+WritesNumber default None n = n ≡ default
+WritesNumber default (Some text) n = IsNumeral 10 text × (n ≡ digits_value 10 text)
+
+-- the memories that there can be
+pub record IsMemory (base size block : ℕ) : Type 0 where
+  pub in_size : IsSize size
+  pub in_base : IsBase base size
+  pub in_block : IsBlock block
+
+-- the values of `tlp` ask for this memory
+pub record AsksTlp (rows : List Row) (base size block : ℕ) : Type 0 where
+  pub base_read : WritesBase (first_of (codes "base") rows) base
+  pub size_read : WritesNumber 4096 (first_of (codes "size") rows) size
+  pub block_read : WritesNumber 64 (first_of (codes "block") rows) block
+  pub memory : IsMemory base size block
+
+-- the subcommand with its values asks for this
+abbrev pub Asks : Option (Text × List Row) → Request → Type 0
+Asks None request = ⊥
+Asks (Some p) (Tlp base size block) = (p.0 ≡ codes "tlp") × AsksTlp p.1 base size block

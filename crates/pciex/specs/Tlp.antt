@@ -1,0 +1,85 @@
+-- What `tlp` answers to a line of its input.
+use Rattle.std.specs.Prelude.{ℕ, ◌/◌, List, [], ◌∷◌, ◌++◌, ◌==◌, if◌then◌else◌, true, false, not, count_by, filter, codes, Option, Some, None, Result, Ok, Err}
+use Rattle.std.specs.Fmt.{decimal}
+use Rattle.hex.specs.Hex.{decode_of, encode_upper}
+use Rattle.hex.specs.declared.error.FromHexError.{FromHexError}
+use Rattle.tlp_core.specs.declared.fault.TlpFault.{TlpFault}
+use Rattle.tlp_core.specs.Fault.{number_of, name_of}
+use Rattle.tlp_core.specs.Packet.{Packet}
+use Rattle.tlp_core.specs.Layout.{canonical}
+use Rattle.tlp_core.specs.Faults.{reading}
+use Rattle.tlp_core.specs.Operation.{is_completion}
+use Rattle.seq_memory.specs.declared.Entry.{Entry}
+use Rattle.seq_memory.specs.History.{State}
+use Rattle.completer_core.specs.Serving.{after_serving, completion_to}
+use Rattle.pciex.specs.Run.{Answer, Responses, Run, run_of}
+
+-- ---- texts
+
+-- digits in groups of eight, with a space between each two
+unfoldable pub spaced : List ℕ → List ℕ
+spaced (a ∷ b ∷ c ∷ d ∷ e ∷ f ∷ g ∷ h ∷ i ∷ rest) = (a ∷ b ∷ c ∷ d ∷ e ∷ f ∷ g ∷ h ∷ []) ++ 32 ∷ spaced (i ∷ rest)
+spaced digits = digits
+
+-- the bytes of the completion, in capitals in groups of four bytes; `-` where there is none
+abbrev pub completion_text : Option Packet → List ℕ
+completion_text None = codes "-"
+completion_text (Some t) = spaced (encode_upper (canonical t))
+
+abbrev pub fault_text : TlpFault → List ℕ
+fault_text f = codes "fault " ++ decimal (number_of f) ++ 32 ∷ name_of f
+
+-- spaces are ignored
+abbrev pub digits_of : List ℕ → List ℕ
+digits_of line = filter (λ b. not (b == 32)) line
+
+-- ---- answers
+
+-- the memory stays, and a line tells the fault
+abbrev pub fault : State → List ℕ → Answer State
+fault s text = record { state = s; text = text ++ 10 ∷ []; is_fault = true }
+
+-- nothing is done, and nothing written
+abbrev pub nothing : State → Answer State
+nothing s = record { state = s; text = []; is_fault = false }
+
+-- how many requests of the requester at that port the history has
+abbrev pub count_of : List Entry → ℕ → ℕ
+count_of history port = count_by (λ e. e.requester == port) history
+
+-- a request acts under the number of its requester's earlier ones: that has to be below 2^32 - 1
+abbrev pub answer_request : State → Packet → ℕ → Answer State
+answer_request s t number =
+    if number == 4294967295 then fault s (codes "fault numbers")
+    else record { state = after_serving s t number; text = completion_text (completion_to s t) ++ 10 ∷ []; is_fault = false }
+
+abbrev pub answer_packet : State → Packet → Answer State
+answer_packet s t =
+    if is_completion t.kind then fault s (codes "fault completion")
+    else answer_request s t (count_of s.entries (t.requester / 256))
+
+abbrev pub answer_reading : State → Result Packet TlpFault → Answer State
+answer_reading s (Err f) = fault s (fault_text f)
+answer_reading s (Ok t) = answer_packet s t
+
+abbrev pub answer_bytes : State → Result (List ℕ) FromHexError → Answer State
+answer_bytes s (Err e) = fault s (codes "fault hex")
+answer_bytes s (Ok bytes) = answer_reading s (reading bytes)
+
+-- an empty line, and one that begins with `#`, is skipped
+abbrev pub answer_line : State → List ℕ → Answer State
+answer_line s [] = nothing s
+answer_line s (first ∷ rest) = if first == 35 then nothing s else answer_bytes s (decode_of (digits_of (first ∷ rest)))
+
+abbrev pub tlp_responses : Responses State
+tlp_responses = record { on_line = answer_line; on_long_line = λ s. fault s (codes "fault line"); on_end = nothing }
+
+-- ---- runs
+
+-- a memory of zeros with an empty history
+abbrev pub new_state : ℕ → ℕ → ℕ → State
+new_state base size block = record { base = base; size = size; block = block; entries = [] }
+
+-- the whole run of `tlp` on an input
+abbrev pub out_tlp : ℕ → ℕ → ℕ → List ℕ → Run State
+out_tlp base size block input = run_of tlp_responses (new_state base size block) input

@@ -1,0 +1,179 @@
+//! The command line.
+ghost use Rattle.std.specs.Prelude.{◌≡◌, ◌^◌, ◌<◌, ℕ, IfOk, IfErr, IsTrue, ◌↔◌, IfSome, IfNone, map, option_map, true, false, codes, Some};
+ghost use Rattle.clap.specs.Words.{app_of, kind_of, subcommand_of, subcommand_rows_of, has_subcommand, takes, rows_of, found_of};
+ghost use Rattle.clap.specs.Walk.{rule_of};
+ghost use Rattle.clap.specs.declared.builder.Command.TheViews.{out-Command};
+ghost use Rattle.pciex.specs.declared.options.Request.{Request};
+ghost use Rattle.pciex.specs.Faults.{WordsFault, RangeFault};
+ghost use Rattle.pciex.specs.Options.{the_app, tlp_app, option, IsMemory, WritesBase, WritesNumber, Asks};
+
+use clap::error::ErrorKind;
+use clap::{Arg, ArgMatches, Command};
+use seq_memory::{is_base, is_block, is_size};
+use std::alloc::{AllocError, Global};
+use std::convert::AsStr;
+
+const ABOUT: &str =
+    "A shared memory device on a PCI Express fabric. Each subcommand reads lines from standard input and answers on standard output. The exit status is 0 if all went well, 1 if a fault was told, and 2 if the words of the command line are wrong.";
+
+const TLP_ABOUT: &str =
+    "Answers memory requests and AtomicOps with their completions. Each line of the input has the bytes of one TLP in hexadecimal digits; spaces, empty lines and lines that begin with '#' are ignored. Each answer is a line: the completion, '-' for a posted write, or 'fault' and what is wrong.";
+
+const BASE_HELP: &str =
+    "The first address of the memory, in 1 to 16 hexadecimal digits. It is a multiple of 80 (128 in decimal), and the memory ends at 2^64 or before. The default is 0.";
+
+const SIZE_HELP: &str =
+    "The number of bytes of the memory, in decimal. It is a multiple of 128 from 128 to 1048576. The default is 4096.";
+
+const BLOCK_HELP: &str =
+    "The number of bytes of a block, 64 or 128. An access that crosses the bounds of a naturally aligned block is aborted. The default is 64.";
+
+/// What the words ask for.
+#[derive(Clone, Copy, Debug, PartialEq, Eq)]
+pub enum Request {
+    /// The subcommand `tlp`, over a memory of these limits.
+    Tlp { base: u64, size: usize, block: u16 },
+}
+
+/// Why the words ask for nothing.
+#[derive(Debug, Drop)]
+pub enum RequestFault {
+    /// What `clap` says of the words, also a text that was asked for, and want of memory.
+    Words(clap::Error),
+    /// A base, size or block that is no number, or that no memory has.
+    Range,
+}
+
+/// An option with a value.
+fn option_of<'a>(alloc: Global, name: &'a str, value: &'a str, help: &'a str) -> Arg<'a>
+    ensures rule { rule_of result ≡ option name.entry.now }
+    ensures local { result.global ≡ false }
+{
+    Arg::new(alloc, name)
+        .long(name)
+        .value_name(value)
+        .help(help)
+}
+
+/// The subcommand `tlp`.
+fn tlp_command<'a>(alloc: Global) -> Result<Command<'a>, AllocError>
+    ensures app { IfOk result (λ c. app_of c ≡ tlp_app) }
+    ensures globals { IfOk result (λ c. (out-Command c).has_globals ≡ false) }
+{
+    let base = option_of(alloc, "base", "ADDRESS", BASE_HELP);
+    let size = option_of(alloc, "size", "BYTES", SIZE_HELP);
+    let block = option_of(alloc, "block", "BYTES", BLOCK_HELP);
+    let tlp = Command::new(alloc, "tlp").about(TLP_ABOUT);
+    tlp.arg(base)?.arg(size)?.arg(block)
+}
+
+/// The command line's grammar.
+fn grammar<'a>(alloc: Global) -> Result<Command<'a>, AllocError>
+    ensures app { IfOk result (λ c. app_of c ≡ the_app) }
+    ensures globals { IfOk result (λ c. (out-Command c).has_globals ≡ false) }
+{
+    let tlp = tlp_command(alloc)?;
+    let top = Command::new(alloc, "pciex")
+        .about(ABOUT)
+        .version("0.1.0")
+        .subcommand_required(true)
+        .disable_help_subcommand(true);
+    top.subcommand(tlp)
+}
+
+/// What the words match.
+fn matches_of<'a, S: AsStr>(alloc: Global, words: &'a [S]) -> Result<ArgMatches<'a>, clap::Error>
+    ensures there { IfOk result (λ m. has_subcommand m ≡ true) }
+    ensures rows { IfOk result (λ m. subcommand_rows_of m ≡ subcommand_of the_app (map S.text words.now)) }
+    ensures err { IfErr result (λ e. takes the_app (map S.text words.now) ≡ true → kind_of e ≡ ErrorKind.OutOfMemory) }
+{
+    let command = grammar(alloc)?;
+    command.try_get_matches_from(words)
+}
+
+/// A base as it is written.
+fn base_of(text: Option<&str>) -> Option<u64>
+    ensures some { IfSome result (WritesBase (option_map (λ t. t.now) text.entry)) }
+    ensures none { IfNone result ((n : ℕ) → n < 2 ^ 64 → WritesBase (option_map (λ t. t.now) text.entry) n → ⊥) }
+{
+    let Some(text) = text else {
+        return Some(0);
+    };
+    if text.len() > 16 || text.as_bytes().starts_with(b"+") {
+        return None;
+    }
+    u64::from_str_radix(text, 16).ok()
+}
+
+/// A size as it is written.
+fn size_of(text: Option<&str>) -> Option<usize>
+    ensures some { IfSome result (WritesNumber 4096 (option_map (λ t. t.now) text.entry)) }
+    ensures none { IfNone result ((n : ℕ) → n < 2 ^ 64 → WritesNumber 4096 (option_map (λ t. t.now) text.entry) n → ⊥) }
+{
+    let Some(text) = text else {
+        return Some(4096);
+    };
+    if text.as_bytes().starts_with(b"+") {
+        return None;
+    }
+    text.parse().ok()
+}
+
+/// A block as it is written.
+fn block_of(text: Option<&str>) -> Option<u16>
+    ensures some { IfSome result (WritesNumber 64 (option_map (λ t. t.now) text.entry)) }
+    ensures none { IfNone result ((n : ℕ) → n < 2 ^ 16 → WritesNumber 64 (option_map (λ t. t.now) text.entry) n → ⊥) }
+{
+    let Some(text) = text else {
+        return Some(64);
+    };
+    if text.as_bytes().starts_with(b"+") {
+        return None;
+    }
+    text.parse().ok()
+}
+
+/// Whether there can be such a memory.
+fn is_memory(base: u64, size: usize, block: u16) -> bool
+    ensures { IsTrue result ↔ IsMemory base size block }
+{
+    is_size(size) && is_base(base, size) && is_block(block)
+}
+
+/// What the values of `tlp` ask for.
+fn tlp_of(tlp: &ArgMatches<'_>) -> Option<Request>
+    ensures some { IfSome result (Asks (Some (codes "tlp", rows_of (found_of tlp.now)))) }
+    ensures none { IfNone result ((r : Request) → Asks (Some (codes "tlp", rows_of (found_of tlp.now))) r → ⊥) }
+{
+    let base = base_of(tlp.get_str("base"))?;
+    let size = size_of(tlp.get_str("size"))?;
+    let block = block_of(tlp.get_str("block"))?;
+    if !is_memory(base, size, block) {
+        return None;
+    }
+    Some(Request::Tlp { base, size, block })
+}
+
+/// What the words of a command line ask for, the program's name before them.
+pub fn options<'a, S: AsStr>(alloc: Global, words: &'a [S]) -> Result<Request, RequestFault>
+    // What the words ask for.
+    ensures ok { IfOk result (Asks (subcommand_of the_app (map S.text words.now))) }
+
+    // The parser's fault comes only at words that it doesn't take, but for memory.
+    ensures words { IfErr result (WordsFault (λ e. takes the_app (map S.text words.now) ≡ true → kind_of e ≡ ErrorKind.OutOfMemory)) }
+
+    // And that of a range only at values that ask for nothing.
+    ensures range { IfErr result (RangeFault ((r : Request) → Asks (subcommand_of the_app (map S.text words.now)) r → ⊥)) }
+{
+    let matches = match matches_of(alloc, words) {
+        Ok(matches) => matches,
+        Err(e) => return Err(RequestFault::Words(e)),
+    };
+    let Some(tlp) = matches.subcommand_matches("tlp") else {
+        return Err(RequestFault::Range);
+    };
+    match tlp_of(tlp) {
+        Some(request) => Ok(request),
+        None => Err(RequestFault::Range),
+    }
+}
