@@ -1,0 +1,5 @@
+use Rattle.lane_core.proofs.Whole.{whole_numbers, unused}
+use Rattle.lane_core.proofs.laws.credits_are_whole_numbers.Goals as goal
+
+pub returns : goal.returns
+returns c = record { whole = whole_numbers; unused = unused }
