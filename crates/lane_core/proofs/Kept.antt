@@ -48,6 +48,10 @@ pub when_ok : {A E P : Type 0} (r : Result A E) → IsOk r → OnOk r P → P
 when_ok (Ok a) i h = h
 when_ok (Err e) i h = cc
 
+pub of_ok : {A E P : Type 0} (r : Result A E) (a : A) → r ≡ Ok a → OnOk r P → P
+of_ok (Ok b) a e h = h
+of_ok (Err x) a e h = cc
+
 pub both_or : {A E X Y : Type 0} (P : X → Y → Type 0) (r : Result A E) (x ok err : X) (y fine bad : Y) →
     OnOk r (x ≡ ok) → OnOk r (y ≡ fine) → OnErr r (x ≡ err) → OnErr r (y ≡ bad) → P ok fine → P err bad → P x y
 both_or P (Ok a) x ok err y fine bad h h' k k' p q = subst (λ x'. P x' y) (sym h) (subst (λ y'. P ok y') (sym h') p)
@@ -284,7 +288,7 @@ accepts_when e fate (Err x) new wire k answer ok w h = cc
 pub when_entered : {A : Type 0} (e : Ends) (t : Packet) (mark : ℕ) (r : Result A LaneRefusal) (new : Outgoing) →
     (r ≡ Err (NoCredits (need_of t).class)) ↔ (gate_covers e.sender.gate (need_of t) ≡ false) →
     (r ≡ Err WindowFull) ↔ (IsTrue (gate_covers e.sender.gate (need_of t)) × 2047 ≤ length e.sender.sending.kept) →
-    OnOk r (new ≡ entered e.sender t mark) → Spells (canonical t) t → IsRight e →
+    OnOk r (new ≡ entered e.sender t mark) → OnOk r (Spells (canonical t) t) → IsRight e →
     OnOk r (content (record e { sender = new }) ≡ content e ++ (t, mark) ∷ [])
 when_entered e t mark (Ok a) new n f ok s k = rw ok (content_entered e t mark (may (Ok a) a e.sender (need_of t) refl n f) s k)
 when_entered e t mark (Err x) new n f ok s k = tt

@@ -1,5 +1,5 @@
 -- The credits of a lane in whole numbers.
-use Rattle.std.proofs.Common.{◌≡◌, ◌↔◌, ℕ, zero, suc, ◌+◌, ◌-◌, ◌<◌, ◌≤◌, Bool, true, false, IsTrue, List, [], ◌∷◌, ◌++◌, refl, sym, ◌∙◌, ap, subst, arith}
+use Rattle.std.proofs.Common.{◌≡◌, ◌↔◌, ℕ, zero, suc, ◌+◌, ◌-◌, ◌<◌, ◌≤◌, Bool, true, false, IsTrue, List, [], ◌∷◌, ◌++◌, refl, sym, ◌∙◌, ap, subst, arith, Result, Err}
 use Rattle.dllp_core.specs.declared.packet.Class.{Class}
 use Rattle.fc_credit.specs.declared.needs.Need.{Need}
 use Rattle.fc_credit.specs.declared.limits.LaneCredits.{LaneCredits}
@@ -11,6 +11,11 @@ use Rattle.fc_credit.proofs.Runs.{first_small, account, whole}
 use Rattle.lane_core.specs.Steps.{Ends, new_lane}
 use Rattle.lane_core.specs.Calls.{Call, AreCalls, after_calls, on_the_way}
 use Rattle.lane_core.specs.Credit.{needs_of, direction_of, events_in, numbers_of, HasRoom}
+use Rattle.tlp_core.specs.Packet.{Packet}
+use Rattle.fc_credit.specs.Needs.{need_of}
+use Rattle.fc_credit.proofs.Packets.{one_header}
+use Rattle.lane_core.specs.declared.packet.LaneRefusal.{LaneRefusal}
+use Rattle.lane_core.specs.declared.packet.LaneRefusal.TheVariants.{NoCredits}
 use Rattle.lane_core.proofs.Directions.{lane_direction}
 
 pub whole_numbers : (credits : LaneCredits) (calls : List Call) (c : Class) (p : _) → IsInLimits credits → AreCalls calls → 0 < first_of c p credits →
@@ -49,3 +54,21 @@ room credits calls need l k h u = (
     by_first p (suc first) e r =
         let finite : 0 < first_of need.class p credits = omega (arith, e) in
         ((whole_numbers credits calls need.class p l k finite).room (pick p need.header need.units) (small p need.header need.units h u)).1 (r finite)
+
+-- a call refuses for want of credits exactly where there is no room
+
+turned : (b : Bool) (R : Type 0) → IsTrue b ↔ R → (b ≡ false) ↔ (¬ R)
+turned true R h = (λ e. cc, λ n. absurd (n (h.0 refl)))
+turned false R h = (λ e r. let t : IsTrue false = h.1 r in cc, λ n. refl)
+
+pub no_room : {A : Type 0} (r : Result A LaneRefusal) (e : Ends) (need : Need) → (r ≡ Err (NoCredits need.class)) ↔ (gate_covers e.sender.gate need ≡ false) →
+    need.header ≤ 127 → need.units ≤ 2047 → (credits : LaneCredits) (calls : List Call) → IsInLimits credits → AreCalls calls → after_calls (new_lane credits) calls ≡ e →
+    (r ≡ Err (NoCredits need.class)) ↔ (¬ HasRoom credits (numbers_of credits calls) need)
+no_room r e need n h u credits calls l k q =
+    let gate : IsTrue (gate_covers e.sender.gate need) ↔ HasRoom credits (numbers_of credits calls) need =
+    subst (λ (m : Ends). IsTrue (gate_covers m.sender.gate need) ↔ HasRoom credits (numbers_of credits calls) need) q (room credits calls need l k h u) in
+    let turn = turned (gate_covers e.sender.gate need) (HasRoom credits (numbers_of credits calls) need) gate in
+    (λ x. turn.0 (n.0 x), λ x. n.1 (turn.1 x))
+
+pub header_small : (t : Packet) → (need_of t).header ≤ 127
+header_small t = omega (arith, one_header t)

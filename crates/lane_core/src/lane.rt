@@ -41,7 +41,9 @@ impl Lane {
     ghost use Rattle.fc_credit.specs.Credits.{gate_covers};
     ghost use Rattle.vc_queue.specs.Queue.{Item, is_takeable};
     ghost use Rattle.lane_core.specs.Steps.{new_lane, entered, with_room, transmitted, delivered, dllp_of, dllp_seen, after_take};
-    ghost use Rattle.lane_core.specs.Calls.{Transmit, Deliver, SendDllp, DeliverDllp, Timer, Retrained, happens, content, AcceptsFirst, IsRight};
+    ghost use Rattle.fc_credit.specs.declared.limits.LaneCredits.{LaneCredits};
+    ghost use Rattle.lane_core.specs.Calls.{Call, Transmit, Deliver, SendDllp, DeliverDllp, Timer, Retrained, AreCalls, after_calls, happens, content, AcceptsFirst, IsRight};
+    ghost use Rattle.lane_core.specs.Credit.{numbers_of, HasRoom};
 
     /// A lane whose receiver advertised these credits. It allocates nothing.
     pub fn new(credits: LaneCredits, alloc: Global) -> Lane
@@ -59,6 +61,8 @@ impl Lane {
     /// Keeps room for one packet of this need: after Ok, the next `enter` of that need is accepted and takes no memory.
     pub fn make_room(&mut self, need: Need) -> Result<(), LaneRefusal>
         ensures no_credits { (result ≡ Err (LaneRefusal.NoCredits need.class)) ↔ (gate_covers self.old.sender.gate need ≡ false) }
+        ensures no_room { need.header ≤ 127 → need.units ≤ 2047 → (credits : LaneCredits) (calls : List Call) → IsInLimits credits → AreCalls calls → after_calls (new_lane credits) calls ≡ self.old →
+            (result ≡ Err (LaneRefusal.NoCredits need.class)) ↔ (¬ HasRoom credits (numbers_of credits calls) need) }
         ensures full { (result ≡ Err LaneRefusal.WindowFull) ↔ (IsTrue (gate_covers self.old.sender.gate need) × (2047 ≤ length self.old.sender.sending.kept)) }
         ensures errors { IfErr result (λ refusal. (refusal ≡ LaneRefusal.NoCredits need.class) ⊎ (refusal ≡ LaneRefusal.WindowFull) ⊎ (refusal ≡ LaneRefusal.Memory)) }
         ensures made { IsTrue self.old.sender.sending.reserved → IsTrue (gate_covers self.old.sender.gate need) → length self.old.sender.sending.kept < 2047 → IsOk result }
@@ -72,6 +76,8 @@ impl Lane {
     /// Takes a packet with its mark as the last, under the next sequence number.
     pub fn enter(&mut self, tlp: &Tlp, mark: u32) -> Result<Seq12, LaneRefusal>
         ensures no_credits { (result ≡ Err (LaneRefusal.NoCredits (need tlp.now).class)) ↔ (gate_covers self.old.sender.gate (need tlp.now) ≡ false) }
+        ensures no_room { (credits : LaneCredits) (calls : List Call) → IsInLimits credits → AreCalls calls → after_calls (new_lane credits) calls ≡ self.old →
+            (result ≡ Err (LaneRefusal.NoCredits (need tlp.now).class)) ↔ (¬ HasRoom credits (numbers_of credits calls) (need tlp.now)) }
         ensures full { (result ≡ Err LaneRefusal.WindowFull) ↔ (IsTrue (gate_covers self.old.sender.gate (need tlp.now)) × (2047 ≤ length self.old.sender.sending.kept)) }
         ensures errors { IfErr result (λ refusal. (refusal ≡ LaneRefusal.NoCredits (need tlp.now).class) ⊎ (refusal ≡ LaneRefusal.WindowFull) ⊎ (refusal ≡ LaneRefusal.Memory)) }
         ensures room_was_made { IsTrue self.old.sender.sending.reserved → IsTrue (gate_covers self.old.sender.gate (need tlp.now)) → length self.old.sender.sending.kept < 2047 → IsOk result }

@@ -111,9 +111,10 @@ fn send(lane: &mut Lane, kind: DllpKind) -> Result<[u8; 4], Fail> {
     }
 }
 
-/// The oldest DLLP is delivered.
-fn tell(lane: &mut Lane, fate: Fate) -> Result<Option<DllpSeen>, Fail> {
-    Ok(lane.deliver_dllp(fate)?)
+/// The oldest DLLP is delivered; whether it took effect.
+fn took(lane: &mut Lane, fate: Fate) -> Result<bool, Fail> {
+    let seen = lane.deliver_dllp(fate)?;
+    Ok(matches!(seen, Some(DllpSeen::Took(_))))
 }
 
 /// The packet of the first place is taken; its mark, if it was takeable.
@@ -151,7 +152,7 @@ fn three_windows(rt: HostRuntime) -> Result<(), Fail> {
         assert!(rt; transmit_window(&mut lane)?);
         assert!(rt; deliver_window(&mut lane, Reception::Accept)?);
         assert_eq!(rt; send(&mut lane, DllpKind::Answer)?, ack);
-        assert!(rt; tell(&mut lane, Fate::Good)?.is_some());
+        assert!(rt; took(&mut lane, Fate::Good)?);
         assert_eq!(rt; take_all(&mut lane), 2047);
         assert!(rt; lane.quiet());
     }
@@ -171,7 +172,7 @@ fn a_window_again(rt: HostRuntime) -> Result<(), Fail> {
         send(&mut lane, DllpKind::Answer)?,
         [0x00, 0x00, 0x07, 0xFE]
     );
-    assert!(rt; tell(&mut lane, Fate::Good)?.is_some());
+    assert!(rt; took(&mut lane, Fate::Good)?);
     assert!(rt; enter_window(&mut lane, &tlp, 0x7FF)?);
     assert!(rt; transmit_window(&mut lane)?);
     assert!(rt; deliver_window(&mut lane, Reception::Duplicate)?);
@@ -201,7 +202,7 @@ fn a_nak(rt: HostRuntime) -> Result<(), Fail> {
         send(&mut lane, DllpKind::Answer)?,
         [0x10, 0x00, 0x00, 0x00]
     );
-    assert!(rt; tell(&mut lane, Fate::Good)? != Some(DllpSeen::Gone));
+    assert!(rt; took(&mut lane, Fate::Good)?);
     for number in 1..3 {
         assert_eq!(rt; transmit(&mut lane)?, Some(number));
         assert_eq!(rt;
@@ -233,14 +234,14 @@ fn pass_one(lane: &mut Lane, tlp: &Tlp, lose: bool) -> Result<Option<[u8; 4]>, F
     let passed = put_through(lane)? == Some(Arrival::Answered(Reception::Accept));
     let waits = enters(lane, tlp) == refused && take_first(lane) == Some(0);
     let _ack = send(lane, DllpKind::Answer)?;
-    let acked = tell(lane, Fate::Good)?.is_some();
+    let acked = took(lane, Fate::Good)?;
     if lose {
         let _update = send(lane, DllpKind::Update(Class::Posted))?;
-        let _gone = tell(lane, Fate::Lost)?;
+        let _gone = took(lane, Fate::Lost)?;
     }
     let update = send(lane, DllpKind::Update(Class::Posted))?;
     let waits = waits && enters(lane, tlp) == refused;
-    let told = tell(lane, Fate::Good)?.is_some();
+    let told = took(lane, Fate::Good)?;
     if first && passed && waits && acked && told {
         Ok(Some(update))
     } else {
@@ -266,5 +267,121 @@ fn credits_of_one_write(rt: HostRuntime) -> Result<(), Fail> {
         );
         assert!(rt; enters(&mut lane, &tlp).is_ok());
     }
+    Ok(())
+}
+
+/// What becomes of the packet or DLLP of this count: a half is lost, a third fails its check.
+fn fate(count: u64) -> Fate {
+    let z = count % 65536 * 40503 % 65536;
+    if z < 65536 / 2 {
+        Fate::Lost
+    } else if z >= 65536 - 65536 / 3 {
+        Fate::Failed
+    } else {
+        Fate::Good
+    }
+}
+
+/// A lane under the storm, and what was counted.
+#[derive(Drop)]
+struct Storm {
+    lane: Lane,
+    packets: u64,
+    dllps: u64,
+    entered: u32,
+    taken: u32,
+    in_order: bool,
+}
+
+impl Storm {
+    /// The next write enters, if it may.
+    fn enter(&mut self) -> Result<(), Fail> {
+        if self.entered < WRITES {
+            let tlp = write_of(self.entered)?;
+            if self.lane.enter(&tlp, self.entered).is_ok() {
+                self.entered = self.entered.saturating_add(1);
+            }
+        }
+        Ok(())
+    }
+
+    /// What was accepted is taken, and is the next of the entered ones.
+    fn take(&mut self) -> Result<(), Fail> {
+        if self.lane.takeable(0) {
+            let (tlp, mark) = self.lane.take(0);
+            self.in_order = self.in_order && mark == self.taken && tlp == write_of(self.taken)?;
+            self.taken = self.taken.saturating_add(1);
+        }
+        Ok(())
+    }
+
+    /// The oldest packet is delivered, under its fate; whether there was one.
+    fn deliver(&mut self) -> Result<bool, Fail> {
+        let arrival = deliver(&mut self.lane, fate(self.packets))?;
+        if arrival.is_some() {
+            self.packets = self.packets.saturating_add(1);
+        }
+        if arrival == Some(Arrival::Answered(Reception::Accept)) {
+            self.take()?;
+        }
+        Ok(arrival.is_some())
+    }
+
+    /// A DLLP of this kind is sent, and the oldest is delivered, under its fate.
+    fn send(&mut self, kind: DllpKind) -> Result<(), Fail> {
+        let _sent = self.lane.send_dllp(kind)?;
+        let _took = took(&mut self.lane, fate(self.dllps))?;
+        self.dllps = self.dllps.saturating_add(1);
+        Ok(())
+    }
+
+    /// The packet that is next is sent, or the stopped sender retrained; whether a packet was.
+    fn transmit(&mut self) -> Result<bool, Fail> {
+        let sent = transmit(&mut self.lane)?.is_some();
+        if !sent {
+            let _was_stopped = self.lane.retrained();
+        }
+        Ok(sent)
+    }
+
+    /// Eight calls of the lane at most.
+    fn round(&mut self, class: Class) -> Result<(), Fail> {
+        self.enter()?;
+        let sent = self.transmit()?;
+        let delivered = self.deliver()?;
+        self.send(DllpKind::Answer)?;
+        self.send(DllpKind::Update(class))?;
+        if !sent && !delivered {
+            let _moved = self.lane.timer();
+        }
+        Ok(())
+    }
+}
+
+/// The writes of the storm.
+const WRITES: u32 = 100;
+
+/// The most rounds, of eight calls.
+const ROUNDS: u32 = 12_500_000;
+
+#[test]
+fn a_storm(rt: HostRuntime) -> Result<(), Fail> {
+    let mut storm = Storm {
+        lane: Lane::new(LaneCredits::DEFAULT, rt.alloc()),
+        packets: 1,
+        dllps: 1,
+        entered: 0,
+        taken: 0,
+        in_order: true,
+    };
+    let classes = [Class::Posted, Class::NonPosted, Class::Completion];
+    for round in 0..ROUNDS {
+        if storm.taken == WRITES {
+            break;
+        }
+        storm.round(classes[round as usize % 3])?;
+    }
+    assert_eq!(rt; storm.taken, WRITES);
+    assert!(rt; storm.in_order && storm.lane.quiet());
     Ok(())
 }

@@ -86,14 +86,17 @@ impl SenderEnd {
         ensures number { IfOk result (λ number. number ≡ next_number self.old.sending) }
         ensures ok { OnOk result (self.new ≡ entered self.old tlp.now mark) }
         ensures err { OnErr result (self.new ≡ self.old) }
-        ensures spelled { Spells (canonical tlp.now) tlp.now }
+        ensures spelled { OnOk result (Spells (canonical tlp.now) tlp.now) }
+        ensures small { (need tlp.now).units ≤ 8 }
     {
-        let cargo = cargo_of(tlp, mark);
         let need = need_of(tlp);
         if !self.gate.fits(need) {
             return Err(LaneRefusal::NoCredits(need.class));
         }
-        match self.sender.accept(cargo) {
+        if self.sender.is_full() {
+            return Err(LaneRefusal::WindowFull);
+        }
+        match self.sender.accept(cargo_of(tlp, mark)) {
             Ok(number) => {
                 self.gate.consume(need);
                 Ok(number)
