@@ -57,7 +57,7 @@ packet_small t k =
 
 -- Enter
 
-goes : (gate : CreditGate) (t : Packet) → IsPacket t → gate_covers gate (need_of t) ≡ true → may_go gate (need_of t) ≡ true
+pub goes : (gate : CreditGate) (t : Packet) → IsPacket t → gate_covers gate (need_of t) ≡ true → may_go gate (need_of t) ≡ true
 goes gate t k c = rw (packet_small t k, c) refl
 
 consumed : (d : Direction) (need : Need) (b : Bool) → b ≡ true → consumed_if b d need ≡ consumed_if true d need
@@ -140,7 +140,7 @@ dllp_direction s f (Nak number ∷ ds) r Lost k = refl
 
 -- Take
 
-need_there : (queue : List Item) (place : ℕ) → slice_get (needs_of queue) place ≡ option_map (λ (item : Item). need_of item.0) (slice_get queue place)
+pub need_there : (queue : List Item) (place : ℕ) → slice_get (needs_of queue) place ≡ option_map (λ (item : Item). need_of item.0) (slice_get queue place)
 need_there queue place = slice_get-map (λ (item : Item). need_of item.0) queue place
 
 needs_left : (queue : List Item) (place : ℕ) → needs_of (remove queue place) ≡ remove (needs_of queue) place

@@ -7,3 +7,4 @@ pub mod Sound
 pub mod Directions
 pub mod Kept
 pub mod Whole
+pub mod Sums

@@ -15,7 +15,7 @@ ghost use Rattle.lane_core.specs.declared.packet.WirePacket.{WirePacket};
 ghost use Rattle.lane_core.specs.declared.packet.Arrival.TheVariants.{Answered};
 ghost use Rattle.lane_core.specs.Content.{cargo_of, item_of, IsSpelled, wire_bytes};
 ghost use Rattle.lane_core.specs.Steps.{Ends, new_lane, delivered, dllp_seen};
-ghost use Rattle.lane_core.specs.Calls.{Call, Deliver, IsCall, AreCalls, happens, entered_by, accepted_by, after_calls, entered_in, accepted_in, IsPrefixOf, on_the_way, content, content_after, IsRightWith, IsRight, AcceptsFirst};
+ghost use Rattle.lane_core.specs.Calls.{Call, Deliver, IsCall, AreCalls, happens, entered_by, accepted_by, after_calls, entered_in, accepted_in, taken_in, IsPrefixOf, on_the_way, content, content_after, IsRightWith, IsRight, AcceptsFirst};
 ghost use Rattle.lane_core.specs.Credit.{needs_of, numbers_of, HasRoom};
 
 /// Each call keeps four ends right together, with their credits. `Enter` adds to the end of the content, `Take` removes
@@ -64,11 +64,16 @@ pub fn wire_bytes_tell_the_packet()
     ensures zero_bits { (p : WirePacket) → p.number < 4096 → p.number / 256 < 16 }
 {}
 
-/// Whatever calls come and however often the counters wrap, whole numbers stand behind those of a new lane: for each
-/// finite counter what was used is at most what is known, and that at most what was given; what was given less what was
+/// Whatever calls come and however often the counters wrap, whole numbers stand behind those of a new lane. What was used
+/// is what the entered packets need, what was given is the first value and what the taken packets need, and known is the
+/// last given value that reached the gate. For each finite counter what was used is at most what is known, and that at most what was given; what was given less what was
 /// used, with the units of the content, is the first value, so the queue is within its credits; and unused credit is at
 /// most 127 header and 2047 data units.
 pub fn credits_are_whole_numbers()
+    ensures used { (credits : LaneCredits) (calls : List Call) (c : Class) (p : _) → AreCalls calls →
+        (numbers_of credits calls c p).used ≡ demand c p (needs_of (entered_in (new_lane credits) calls)) }
+    ensures given { (credits : LaneCredits) (calls : List Call) (c : Class) (p : _) → AreCalls calls →
+        (numbers_of credits calls c p).given ≡ first_of c p credits + demand c p (needs_of (taken_in (new_lane credits) calls)) }
     ensures whole { (credits : LaneCredits) (calls : List Call) (c : Class) (p : _) → IsInLimits credits → AreCalls calls → 0 < first_of c p credits →
         IsBalanced p (first_of c p credits) (allowance c p (after_calls (new_lane credits) calls).sender.gate) (grant c p (after_calls (new_lane credits) calls).receiver.ledger)
         (numbers_of credits calls c p) (demand c p (needs_of (after_calls (new_lane credits) calls).receiver.queue)) (demand c p (needs_of (on_the_way (after_calls (new_lane credits) calls)))) }

@@ -359,7 +359,7 @@ impl Storm {
 }
 
 /// The writes of the storm.
-const WRITES: u32 = 100;
+const WRITES: u32 = 1_000;
 
 /// The most rounds, of eight calls.
 const ROUNDS: u32 = 12_500_000;

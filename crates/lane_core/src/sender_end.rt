@@ -67,7 +67,8 @@ impl SenderEnd {
         ensures ok { OnOk result (self.new ≡ with_room self.old) }
         ensures err { OnErr result (self.new ≡ self.old) }
     {
-        if !self.gate.fits(need) {
+        let is_covered = self.gate.fits(need);
+        if !is_covered {
             return Err(LaneRefusal::NoCredits(need.class));
         }
         match self.sender.reserve() {
