@@ -1,0 +1,28 @@
+//! The check, pass by pass.
+ghost use Rattle.std.specs.Prelude.{◌≡◌, None, OnOk, IfErr};
+ghost use Rattle.seq_memory.specs.Limits.{IsBlock};
+ghost use Rattle.history_check.specs.Flaws.{first_flaw, Tells};
+ghost use Rattle.history_check.specs.Claim.{claim_of};
+
+use crate::flaws::{Flaw, NO_MEMORY};
+use crate::{Trace, acting, answers, index, replay};
+use seq_memory::Entry;
+use std::alloc::Global;
+
+/// Whether the history explains the trace, and else the first flaw.
+pub fn check(alloc: Global, trace: &Trace, history: &[Entry]) -> Result<(), Flaw>
+    requires { IsBlock trace.now.block }
+    ensures ok { OnOk result (first_flaw (claim_of trace.now history.now) ≡ None) }
+    ensures err { IfErr result (Tells (first_flaw (claim_of trace.now history.now))) }
+{
+    let records = trace.records.as_slice();
+    let index = index::index_of(alloc, records)?;
+    let points = acting::act(alloc, &index, records, history)?;
+    let Ok(floors) = answers::floors(alloc, &index, &points, records) else {
+        return Err(NO_MEMORY);
+    };
+    let Ok(replies) = replay::replay(alloc, trace.block, trace.base, trace.size, history) else {
+        return Err(NO_MEMORY);
+    };
+    answers::answer(alloc, &index, records, &points, &floors, &replies)
+}
