@@ -6,3 +6,7 @@ pub mod Judged
 pub mod Replies
 pub mod Verdicts
 pub mod Linked
+pub mod Lists
+pub mod Same
+pub mod LegalLaw
+pub mod LinearLaw

@@ -1,23 +1,12 @@
-use Rattle.std.proofs.Common.{rules, ◌≡◌, None, ap, sym, ◌∙◌, refl, List}
-use Rattle.history_check.specs.Flaws.{first_flaw, Tells}
 use Rattle.history_check.specs.Claim.{claim_of}
-use Rattle.history_check.proofs.Verdicts.{on_ok, if_err, tables_are, all_clean, last_tells}
+use Rattle.history_check.proofs.Verdicts.{on_ok, if_err}
+use Rattle.history_check.proofs.LinearLaw.{explains_from, refutes}
 use Rattle.history_check.proofs.checking.check.Goals as goal
 
-pub returns-clause-ok : goal.returns-clause-ok
-returns-clause-ok c =
-    let x = claim_of c.args.trace.now c.args.history.now in
-    let rs = c.as_slice-records.result.now in
-    let same = sym c.as_slice-records.ensures.value in
-    let tables = tables_are x rs c.in_ok-index.index c.deref.result.now c.deref-2.result.now c.in_ok-points.points.items c.in-Ok.floors.items c.deref-3.result.now c.in-Ok-replay.replies.items c.deref-4.result.now
-    same c.in_ok-index.ensures.index c.in_ok-points.ensures.points c.deref.ensures.value c.deref-2.ensures.value c.in-Ok.ensures c.deref-3.ensures.value c.in-Ok-replay.ensures c.deref-4.ensures.value in
-    on_ok c.answer.result (λ clean. all_clean x rs same c.in_ok-index.ensures.ok c.in_ok-points.ensures.ok (clean x tables)) c.answer.ensures.ok
+pub returns-clause-explained : goal.returns-clause-explained
+returns-clause-explained c =
+    on_ok c.first_flaw_of.result (explains_from (claim_of c.args.trace.now c.args.history.now)) c.first_flaw_of.ensures.ok
 
-pub returns-clause-err : goal.returns-clause-err
-returns-clause-err c =
-    let x = claim_of c.args.trace.now c.args.history.now in
-    let rs = c.as_slice-records.result.now in
-    let same = sym c.as_slice-records.ensures.value in
-    let tables = tables_are x rs c.in_ok-index.index c.deref.result.now c.deref-2.result.now c.in_ok-points.points.items c.in-Ok.floors.items c.deref-3.result.now c.in-Ok-replay.replies.items c.deref-4.result.now
-    same c.in_ok-index.ensures.index c.in_ok-points.ensures.points c.deref.ensures.value c.deref-2.ensures.value c.in-Ok.ensures c.deref-3.ensures.value c.in-Ok-replay.ensures c.deref-4.ensures.value in
-    if_err c.answer.result (λ f t. last_tells x rs f same c.in_ok-index.ensures.ok c.in_ok-points.ensures.ok (t x tables)) c.answer.ensures.err
+pub returns-clause-unexplained : goal.returns-clause-unexplained
+returns-clause-unexplained c =
+    if_err c.first_flaw_of.result (refutes (claim_of c.args.trace.now c.args.history.now)) c.first_flaw_of.ensures.err
