@@ -1,5 +1,5 @@
 -- The history's entries, one by one.
-use Rattle.std.proofs.Common.{◌≡◌, ℕ, zero, suc, ◌+◌, ◌<◌, ◌≤◌, Bool, true, false, cond, List, [], ◌∷◌, ◌++◌, length, take, set, get_or, Option, Some, None, refl, sym, ap, subst, ◌∙◌, ◌⊎◌, inl, inr, arith}
+use Rattle.std.proofs.Common.{◌≡◌, ℕ, zero, suc, ◌+◌, ◌<◌, ◌≤◌, Bool, true, false, cond, List, [], ◌∷◌, ◌++◌, length, take, set, get_or, Option, Some, None, refl, sym, ap, subst, ◌∙◌, inl, inr, arith}
 use Rattle.std.specs.Prelude.{slice_get, option_map, ◌==◌, ◌&&◌, not, is_some, is_none, replicate}
 use Rattle.std.specs.Option.{option_or}
 use Rattle.std.proofs.lemmas.Bool.{cases_eq, cases_lt, cases_Bool, eqb-true, eq-eqb, and_parts}
@@ -8,12 +8,11 @@ use Rattle.std.proofs.lemmas.Option.{slice_get_within, get_or_from_slice_get, sl
 use Rattle.seq_memory.specs.declared.Entry.{Entry}
 use Rattle.history_check.specs.declared.Record.{Record}
 use Rattle.history_check.specs.declared.Record.TheVariants as records
-use Rattle.history_check.specs.declared.flaws.FlawKind.{FlawKind}
 use Rattle.history_check.specs.declared.flaws.FlawKind.TheVariants as flaws
 use Rattle.history_check.specs.Trace.{is_request}
 use Rattle.history_check.specs.Flaws.{first_place, is_sub, sub_place, place_of, option_bind, some_and, at_place, submits, submits_write, misses, is_stranger, entry_flaw, entry_at, any_below}
 use Rattle.history_check.specs.Lookup.{IsIndex, ArePoints, place_in, point_in, when, submitted_in, missing_in}
-use Rattle.history_check.proofs.Firsts.{first_place-push, or_none, any_below-all, any_below-one}
+use Rattle.history_check.proofs.Firsts.{first_place-push, or_none, any_below-all}
 
 -- ---- a submission is looked up
 

@@ -1,13 +1,10 @@
 -- No flaw at a submission or an entry: the trace is numbered and the history legal.
-use Rattle.std.proofs.Common.{◌≡◌, ℕ, zero, suc, ◌+◌, ◌<◌, ◌≤◌, Bool, true, false, cond, List, [], ◌∷◌, length, take, Option, Some, None, refl, sym, ap, subst, ◌∙◌, ◌⊎◌, inl, inr, arith}
-use Rattle.std.specs.Prelude.{slice_get, ◌==◌, ◌&&◌, not, is_some, is_none, if◌then◌else◌}
-use Rattle.std.specs.List.{list_any}
-use Rattle.std.specs.Option.{option_or}
+use Rattle.std.proofs.Common.{◌≡◌, ℕ, zero, suc, ◌<◌, Bool, true, false, List, [], ◌∷◌, length, take, Option, Some, None, refl, sym, ap, subst, ◌∙◌, inl, inr, arith}
+use Rattle.std.specs.Prelude.{slice_get, ◌&&◌, not, is_some, is_none, if◌then◌else◌}
 use Rattle.std.proofs.lemmas.Bool.{cases_Bool, cases_eq, ne_eqb}
 use Rattle.std.proofs.lemmas.List.{take_all}
 use Rattle.std.proofs.lemmas.Option.{slice_get_within, same_Some}
 use Rattle.tlp_core.specs.declared.operation.Op.{Op}
-use Rattle.tlp_core.specs.declared.operation.Op.TheVariants as ops
 use Rattle.tlp_core.specs.Operation.{is_posted}
 use Rattle.seq_memory.specs.declared.Entry.{Entry}
 use Rattle.history_check.specs.declared.Record.{Record}
@@ -15,7 +12,7 @@ use Rattle.history_check.specs.declared.Record.TheVariants as records
 use Rattle.history_check.specs.declared.flaws.FlawKind.{FlawKind}
 use Rattle.history_check.specs.declared.flaws.FlawKind.TheVariants as flaws
 use Rattle.history_check.specs.Trace.{submissions, IsNumbered, stands, is_request, IsLawful, IsLegal}
-use Rattle.history_check.specs.Flaws.{option_bind, some_and, at_place, first_at, any_below, numbering_at, numbering_flaw, is_numbered, entry_at, entry_flaw, is_stranger, misses, submits, submits_write, same_op, sub_place, place_of}
+use Rattle.history_check.specs.Flaws.{option_bind, some_and, at_place, first_at, any_below, numbering_at, numbering_flaw, entry_at, entry_flaw, is_stranger, misses, submits, submits_write, same_op, sub_place, place_of}
 use Rattle.history_check.proofs.Firsts.{first_at-below, any_below-all, any_below-one}
 use Rattle.history_check.proofs.Linked.{op_in, op_at, linked_all, number_passes}
 use Rattle.history_check.proofs.Lists.{clash, first_is_any}

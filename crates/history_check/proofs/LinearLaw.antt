@@ -1,27 +1,27 @@
 -- No flaw at an answer: the trace is linear in the history.
-use Rattle.std.proofs.Common.{◌≡◌, ℕ, zero, suc, ◌+◌, ◌<◌, ◌≤◌, Bool, true, false, cond, List, [], ◌∷◌, length, take, Option, Some, None, refl, sym, ap, subst, ◌∙◌, ◌⊎◌, inl, inr, arith}
+use Rattle.std.proofs.Common.{◌≡◌, ℕ, ◌<◌, ◌≤◌, Bool, true, false, List, length, take, Option, Some, None, refl, sym, ap, ◌∙◌, arith}
 use Rattle.std.specs.Prelude.{slice_get, ◌==◌, ◌&&◌, not, nat_lt, nat_le, if◌then◌else◌}
 use Rattle.std.specs.List.{list_any}
 use Rattle.std.specs.Option.{option_or}
-use Rattle.std.proofs.lemmas.Bool.{cases_Bool, cases_lt, eqb-true, eq-eqb, and_parts, and_from, ltb-true, ltb-false, lt-ltb, le-ltb, leb-true, leb-false, le-leb, lt-leb}
+use Rattle.std.proofs.lemmas.Bool.{eqb-true, eq-eqb, and_parts, ltb-true, ltb-false, lt-ltb, le-ltb, leb-true, leb-false, lt-leb}
 use Rattle.std.proofs.lemmas.Option.{slice_get_within, same_Some, none-some}
 use Rattle.tlp_core.specs.declared.operation.Op.{Op}
 use Rattle.tlp_core.specs.Operation.{is_posted}
 use Rattle.seq_memory.specs.declared.Entry.{Entry}
 use Rattle.seq_memory.specs.declared.Reply.{Reply}
-use Rattle.seq_memory.specs.History.{State, reply_at}
+use Rattle.seq_memory.specs.History.{reply_at}
 use Rattle.history_check.specs.declared.Record.{Record}
 use Rattle.history_check.specs.declared.Record.TheVariants as records
 use Rattle.history_check.specs.declared.flaws.Flaw.{Flaw}
 use Rattle.history_check.specs.declared.flaws.FlawKind.{FlawKind}
 use Rattle.history_check.specs.declared.flaws.FlawKind.TheVariants as flaws
 use Rattle.history_check.specs.Claim.{Claim}
-use Rattle.history_check.specs.Trace.{submissions, IsNumbered, answers_to, stands, is_request, IsLegal, IsExplained, IsLinear, Explains}
+use Rattle.history_check.specs.Trace.{submissions, IsNumbered, answers_to, is_request, IsLegal, IsExplained, Explains}
 use Rattle.history_check.specs.Flaws.{option_bind, some_and, at_place, first_flaw, first_at, numbering_at, entry_at, answer_at, answer_flaw, asked_flaw, point_flaw, acted_flaw, had_later, asks, moment, same_reply, is_sub, sub_place, place_of, Tells}
 use Rattle.history_check.proofs.Entries.{passes}
 use Rattle.history_check.proofs.Firsts.{first_at-below}
 use Rattle.history_check.proofs.Linked.{op_in, op_at, linked_all}
-use Rattle.history_check.proofs.Lists.{clash, take_at, at_take, one_passes, none_passes, passing, no_one, first_of_any, first_is, first_there, first_below, first_above}
+use Rattle.history_check.proofs.Lists.{take_at, at_take, none_passes, passing, no_one, first_of_any, first_is, first_there, first_below, first_above}
 use Rattle.history_check.proofs.LegalLaw.{Linked, linked, first_at-all, on_list, numbered_from, numbered_to, legal_from, legal_to}
 use Rattle.history_check.proofs.Same.{reply_same, reply_refl}
 

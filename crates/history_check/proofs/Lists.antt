@@ -1,10 +1,10 @@
 -- Tests on lists: where the first stands that passes, and whether one passes.
-use Rattle.std.proofs.Common.{◌≡◌, ℕ, zero, suc, ◌+◌, ◌<◌, ◌≤◌, Bool, true, false, cond, List, [], ◌∷◌, length, take, Option, Some, None, refl, sym, ap, subst, ◌∙◌, ◌⊎◌, inl, inr, arith}
+use Rattle.std.proofs.Common.{◌≡◌, ℕ, zero, suc, ◌+◌, ◌<◌, Bool, true, false, cond, List, [], ◌∷◌, take, Option, Some, None, refl, sym, ap, ◌∙◌, inl, inr, arith}
 use Rattle.std.specs.Prelude.{slice_get, option_map, ◌||◌, is_some}
 use Rattle.std.specs.List.{list_any}
 use Rattle.std.proofs.lemmas.Bool.{cases_Bool, cases_lt}
 use Rattle.std.proofs.lemmas.Option.{same_Some}
-use Rattle.history_check.specs.Flaws.{first_place, some_and, at_place}
+use Rattle.history_check.specs.Flaws.{first_place, some_and}
 use Rattle.history_check.proofs.Entries.{passes, present}
 
 pub clash : {b : Bool} → b ≡ true → b ≡ false → ⊥

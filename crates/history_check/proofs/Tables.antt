@@ -1,9 +1,9 @@
 -- The tables as the records and the history go on.
-use Rattle.std.proofs.Common.{◌≡◌, ℕ, zero, suc, ◌+◌, ◌<◌, ◌≤◌, Bool, true, false, cond, List, [], ◌∷◌, ◌++◌, length, take, set, get_or, map, Option, Some, None, refl, sym, ap, subst, ◌∙◌, ◌⊎◌, inl, inr, add-one, arith, length-append}
-use Rattle.std.specs.Prelude.{slice_get, option_map, ◌==◌, ◌&&◌, filter_map, replicate}
+use Rattle.std.proofs.Common.{◌≡◌, ℕ, ◌+◌, ◌<◌, Bool, cond, List, [], ◌∷◌, ◌++◌, length, take, set, get_or, Option, Some, None, refl, sym, ap, subst, ◌∙◌, inl, inr, arith, length-append}
+use Rattle.std.specs.Prelude.{slice_get, ◌==◌, ◌&&◌, filter_map, replicate}
 use Rattle.std.specs.Option.{option_or}
-use Rattle.std.proofs.lemmas.Bool.{cases_eq, eq-eqb, ne_eqb, cases_Bool}
-use Rattle.std.proofs.lemmas.List.{length-set, get_or-set_same, get_or-set_other, map-set, get_or-map, get_or-replicate, length-replicate, map-append, replicate_more, take_more, length-take-le}
+use Rattle.std.proofs.lemmas.Bool.{cases_eq, eq-eqb, ne_eqb}
+use Rattle.std.proofs.lemmas.List.{length-set, get_or-set_same, get_or-set_other, get_or-replicate, length-replicate, replicate_more, take_more, length-take-le}
 use Rattle.std.proofs.lemmas.Option.{slice_get_within, get_or_from_slice_get, slice_get_read}
 use Rattle.history_check.specs.declared.flaws.FlawKind.{FlawKind}
 use Rattle.history_check.specs.declared.flaws.FlawKind.TheVariants as flaws
@@ -13,7 +13,7 @@ use Rattle.seq_memory.specs.declared.Reply.{Reply}
 use Rattle.history_check.specs.declared.Record.{Record}
 use Rattle.history_check.specs.declared.Record.TheVariants as records
 use Rattle.history_check.specs.Trace.{submission, submissions}
-use Rattle.history_check.specs.Flaws.{first_place, is_sub, sub_place, numbering_at, numbering_flaw, option_bind}
+use Rattle.history_check.specs.Flaws.{is_sub, sub_place, numbering_at, numbering_flaw, option_bind}
 use Rattle.history_check.specs.Lookup.{IsIndex, place_in}
 use Rattle.history_check.proofs.Firsts.{first_place-push, slice_get-push, or_none}
 

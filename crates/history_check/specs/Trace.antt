@@ -1,5 +1,5 @@
 -- Traces, the histories that are legal for their submissions, and when a trace is linear in one.
-use Rattle.std.specs.Prelude.{ℕ, ◌≡◌, ◌+◌, ◌<◌, ◌≤◌, ◌&&◌, ◌==◌, Bool, true, false, cond, if◌then◌else◌, List, [], ◌∷◌, length, take, filter_map, slice_get, Option, Some, None, option_map}
+use Rattle.std.specs.Prelude.{ℕ, ◌≡◌, ◌<◌, ◌≤◌, ◌&&◌, ◌==◌, Bool, true, false, if◌then◌else◌, List, length, take, filter_map, slice_get, Option, Some, None}
 use Rattle.std.specs.List.{list_any}
 use Rattle.tlp_core.specs.declared.operation.Op.{Op}
 use Rattle.tlp_core.specs.Operation.{is_posted}

@@ -16,6 +16,8 @@ mod checking;
 mod flaws;
 mod index;
 mod replay;
+#[cfg(test)]
+mod tests;
 
 pub use checking::check;
 pub use flaws::{Flaw, FlawKind};

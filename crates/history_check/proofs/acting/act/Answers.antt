@@ -1,9 +1,8 @@
-use Rattle.std.proofs.Common.{rules, ℕ, ◌≡◌, ◌<◌, ◌≤◌, length, take, get_or, Some, None, ap, sym, ◌∙◌, refl, arith, List, false}
-use Rattle.std.specs.Prelude.{is_some, replicate, slice_get}
+use Rattle.std.proofs.Common.{ℕ, ◌≡◌, ◌<◌, ◌≤◌, length, take, get_or, ap, sym, ◌∙◌, refl, arith, List, false}
+use Rattle.std.specs.Prelude.{is_some}
 use Rattle.std.proofs.lemmas.Option.{slice_get_within}
 use Rattle.std.proofs.lemmas.List.{length-replicate, get_or-replicate, length-set}
-use Rattle.history_check.specs.Flaws.{place_of, first_at, entry_at, misses}
-use Rattle.history_check.specs.Lookup.{ArePoints}
+use Rattle.history_check.specs.Flaws.{entry_at, misses}
 use Rattle.history_check.proofs.Firsts.{first_at-none, first_at-more, first_at-found, any_below-one, tells}
 use Rattle.history_check.proofs.Tables.{read_at}
 use Rattle.history_check.proofs.Entries.{stranger, no_stranger, entry-stranger, entry-twice, entry-order, entry-good, read_point, read_settled, missed, settled_all, settled_next, points_next, points_none, nothing_there}

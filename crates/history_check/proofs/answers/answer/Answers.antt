@@ -1,10 +1,9 @@
-use Rattle.std.proofs.Common.{rules, ℕ, ◌≡◌, ◌+◌, ◌<◌, length, take, Option, None, Some, false, true, ap, sym, ◌∙◌, refl, subst, arith, List, Bool, Vec, Global}
-use Rattle.std.specs.Prelude.{replicate, IfSome}
+use Rattle.std.proofs.Common.{◌≡◌, ◌+◌, ◌<◌, length, take, Option, ap, sym, ◌∙◌, refl, subst, arith, List, Bool, Vec, Global}
+use Rattle.std.specs.Prelude.{IfSome}
 use Rattle.history_check.specs.declared.flaws.FlawKind.{FlawKind}
 use Rattle.history_check.specs.declared.flaws.FlawKind.TheVariants as flaws
-use Rattle.history_check.specs.Flaws.{first_at, answer_at}
-use Rattle.history_check.specs.Claim.{Claim}
-use Rattle.history_check.specs.Lookup.{AreAnswered, Tables, judged}
+use Rattle.history_check.specs.Flaws.{answer_at}
+use Rattle.history_check.specs.Lookup.{AreAnswered, judged}
 use Rattle.history_check.proofs.Firsts.{first_at-none, first_at-more, first_at-found, tells}
 use Rattle.history_check.proofs.Tables.{read_at}
 use Rattle.history_check.proofs.Floors.{answered_none}

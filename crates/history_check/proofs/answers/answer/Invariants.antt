@@ -1,4 +1,4 @@
-use Rattle.std.proofs.Common.{ℕ, ◌≡◌, take, None}
+use Rattle.std.proofs.Common.{◌≡◌, take, None}
 use Rattle.history_check.specs.Flaws.{first_at, answer_at}
 use Rattle.history_check.specs.Claim.{Claim}
 use Rattle.history_check.specs.Lookup.{AreAnswered, Tables}

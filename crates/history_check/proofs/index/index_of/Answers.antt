@@ -1,6 +1,6 @@
-use Rattle.std.proofs.Common.{rules, ◌≡◌, ◌++◌, ◌∷◌, [], length, take, set, get_or, None, Some, ℕ, ◌+◌, ◌<◌, ap, sym, ◌∙◌, refl, arith, List, subst}
-use Rattle.history_check.specs.Flaws.{first_at, numbering_at, Tells}
-use Rattle.history_check.specs.Lookup.{IsIndex, place_in}
+use Rattle.std.proofs.Common.{◌≡◌, [], length, take, get_or, ℕ, ◌+◌, ◌<◌, sym, ◌∙◌, arith, List, subst}
+use Rattle.history_check.specs.Flaws.{numbering_at}
+use Rattle.history_check.specs.Lookup.{IsIndex}
 use Rattle.history_check.proofs.Firsts.{first_at-none, first_at-more, first_at-found, tells}
 use Rattle.history_check.proofs.Tables.{read_at, numbering-good, numbering-bad, numbering-ans, indexed_next_sub, indexed_next_ans}
 use Rattle.history_check.proofs.index.index_of.Goals.{in-Sub+else-count-number+in-Ok-add, in_default-records}

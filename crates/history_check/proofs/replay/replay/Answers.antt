@@ -1,5 +1,4 @@
-use Rattle.std.proofs.Common.{rules, ℕ, ◌≡◌, ◌+◌, ◌<◌, ◌++◌, length, take, drop, get_or, ap, sym, ◌∙◌, refl, arith, List}
-use Rattle.std.specs.Prelude.{replicate}
+use Rattle.std.proofs.Common.{rules, ℕ, ◌≡◌, ◌+◌, ◌++◌, length, take, drop, get_or, ap, sym, ◌∙◌, arith, List}
 use Rattle.std.proofs.lemmas.List.{length-replicate, drop_all, take_all, append-nil, length_push}
 use Rattle.std.proofs.lemmas.Option.{slice_get-get_or}
 use Rattle.history_check.proofs.Replies.{contents_none, contents_next, replies_next, replies_all}
