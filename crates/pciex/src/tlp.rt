@@ -10,7 +10,7 @@ ghost use Rattle.pciex.specs.Tlp.{new_state, out_tlp, answer_request, answer_pac
 use crate::engine::run;
 use crate::fault::EngineFault;
 use crate::responder::Responder;
-use crate::text::{put_digits, put_fault, put_packet, read_digits};
+use crate::text::{HexLine, put_fault, put_packet};
 use arrayvec::ArrayVec;
 use completer_core::serve;
 use seq_memory::Memory;
@@ -21,13 +21,13 @@ use tlp_core::{Kind, Tlp, TlpFault, decode};
 
 /// A memory, and how many requests of each requester it has acted on.
 #[derive(Drop)]
-struct Completer {
+struct Device {
     memory: Memory,
     /// By port.
     counts: [u32; 256],
 }
 
-impl Model for Completer {
+impl Model for Device {
     ghost use Rattle.std.specs.Prelude.{◌≡◌, ◌<◌, ℕ, slice_index};
     ghost use Rattle.seq_memory.specs.History.{State};
     ghost use Rattle.pciex.specs.Tlp.{count_of};
@@ -37,6 +37,29 @@ impl Model for Completer {
     ghost view = { λ c. c.memory };
 
     ghost invariant = { λ c. (port : ℕ) → port < 256 → slice_index c.counts port ≡ count_of c.memory.entries port };
+}
+
+/// Room for an answer, used again and again: what it holds does not count.
+#[derive(Drop)]
+struct Room {
+    digits: [u8; 288],
+    text: ArrayVec<u8, 325>,
+}
+
+/// A device that is asked line by line.
+#[derive(Drop)]
+struct Completer {
+    device: Device,
+    line: HexLine,
+    room: Room,
+}
+
+impl Model for Completer {
+    ghost use Rattle.seq_memory.specs.History.{State};
+
+    ghost Value = { State };
+
+    ghost view = { λ c. c.device };
 }
 
 /// No request of any requester.
@@ -67,7 +90,11 @@ fn tell_fault(fault: TlpFault, out: &mut Vec<u8>) -> Result<bool, AllocError>
 }
 
 /// Adds the line of a completion, or of a posted write.
-fn tell_completion(completion: &Option<Tlp>, out: &mut Vec<u8>) -> Result<bool, AllocError>
+fn tell_completion(
+    completion: &Option<Tlp>,
+    room: &mut Room,
+    out: &mut Vec<u8>,
+) -> Result<bool, AllocError>
     ensures ok { IfOk result (λ told. (told ≡ false) × (out.new.items ≡ out.old.items ++ (completion_text completion.now ++ 10 ∷ []))) }
     ensures err { OnErr result (out.new.items ≡ out.old.items) }
 {
@@ -75,15 +102,15 @@ fn tell_completion(completion: &Option<Tlp>, out: &mut Vec<u8>) -> Result<bool, 
         out.extend_from_slice(b"-\n")?;
         return Ok(false);
     };
-    let mut text = ArrayVec::new();
-    put_packet(completion, &mut text);
-    text.push(b'\n');
-    out.extend_from_slice(text.as_slice())?;
+    room.text.clear();
+    put_packet(completion, &mut room.digits, &mut room.text);
+    room.text.push(b'\n');
+    out.extend_from_slice(room.text.as_slice())?;
     Ok(false)
 }
 
-impl Completer {
-    fn new(alloc: Global, base: u64, size: usize, block: u16) -> Result<Completer, AllocError>
+impl Device {
+    fn new(alloc: Global, base: u64, size: usize, block: u16) -> Result<Device, AllocError>
         requires size { IsSize size }
         requires base { IsBase base size }
         requires block { IsBlock block }
@@ -91,7 +118,7 @@ impl Completer {
     {
         let memory = Memory::new(alloc, base, size, block)?;
         let counts = no_counts();
-        Ok(Completer { memory, counts })
+        Ok(Device { memory, counts })
     }
 
     /// How many requests of the request's requester the memory has acted on.
@@ -116,7 +143,12 @@ impl Completer {
     }
 
     /// Answers a request.
-    fn answer_request(&mut self, request: &Tlp, out: &mut Vec<u8>) -> Result<bool, AllocError>
+    fn answer_request(
+        &mut self,
+        request: &Tlp,
+        room: &mut Room,
+        out: &mut Vec<u8>,
+    ) -> Result<bool, AllocError>
         requires { is_completion request.now.kind ≡ false }
         ensures ok { IfOk result (λ told. IsAnswer self.new out.old.items out.new.items told (answer_request self.old request.now (count_of self.old.entries (request.now.requester / 256)))) }
         ensures err { OnErr result (out.new.items ≡ out.old.items) }
@@ -126,29 +158,56 @@ impl Completer {
             return tell(b"fault numbers\n", out);
         }
         let completion = self.act(request, number)?;
-        tell_completion(&completion, out)
+        tell_completion(&completion, room, out)
     }
 
     /// Answers a packet.
-    fn answer_packet(&mut self, packet: &Tlp, out: &mut Vec<u8>) -> Result<bool, AllocError>
+    fn answer_packet(
+        &mut self,
+        packet: &Tlp,
+        room: &mut Room,
+        out: &mut Vec<u8>,
+    ) -> Result<bool, AllocError>
         ensures ok { IfOk result (λ told. IsAnswer self.new out.old.items out.new.items told (answer_packet self.old packet.now)) }
         ensures err { OnErr result (out.new.items ≡ out.old.items) }
     {
         match packet.kind {
             Kind::Completion | Kind::CompletionData => tell(b"fault completion\n", out),
-            _ => self.answer_request(packet, out),
+            _ => self.answer_request(packet, room, out),
         }
     }
 
     /// Answers the bytes of a line.
-    fn answer_bytes(&mut self, bytes: &[u8], out: &mut Vec<u8>) -> Result<bool, AllocError>
+    fn answer_bytes(
+        &mut self,
+        bytes: &[u8],
+        room: &mut Room,
+        out: &mut Vec<u8>,
+    ) -> Result<bool, AllocError>
         ensures ok { IfOk result (λ told. IsAnswer self.new out.old.items out.new.items told (answer_reading self.old (reading bytes.now))) }
         ensures err { OnErr result (out.new.items ≡ out.old.items) }
     {
         match decode(bytes) {
-            Ok(packet) => self.answer_packet(&packet, out),
+            Ok(packet) => self.answer_packet(&packet, room, out),
             Err(fault) => tell_fault(fault, out),
         }
+    }
+}
+
+impl Completer {
+    fn new(alloc: Global, base: u64, size: usize, block: u16) -> Result<Completer, AllocError>
+        requires size { IsSize size }
+        requires base { IsBase base size }
+        requires block { IsBlock block }
+        ensures { IfOk result (λ c. c ≡ new_state base size block) }
+    {
+        let device = Device::new(alloc, base, size, block)?;
+        let room = Room {
+            digits: [0; 288],
+            text: ArrayVec::new(),
+        };
+        let line = HexLine::new();
+        Ok(Completer { device, line, room })
     }
 }
 
@@ -161,14 +220,11 @@ impl Responder for Completer {
         if line.is_empty() || line[0] == b'#' {
             return Ok(false);
         }
-        let mut digits = ArrayVec::new();
-        put_digits(line, &mut digits);
-        let mut room = [0u8; 256];
-        let bytes = &mut room[..digits.len() / 2];
-        if !read_digits(digits.as_slice(), bytes) {
+        if !self.line.read(line) {
             return tell(b"fault hex\n", out);
         }
-        self.answer_bytes(bytes, out)
+        self.device
+            .answer_bytes(self.line.bytes(), &mut self.room, out)
     }
 
     fn on_long_line(&mut self, out: &mut Vec<u8>) -> Result<bool, AllocError> {

@@ -1,7 +1,7 @@
 use Rattle.std.proofs.Common.{◌∙◌, sym, refl}
 use Rattle.std.proofs.lemmas.Result.{IfOk-weaker}
 use Rattle.pciex.proofs.RequestLemmas.{numbers-used}
-use Rattle.pciex.proofs.tlp.Completer.answer_request.Goals as goal
+use Rattle.pciex.proofs.tlp.Device.answer_request.Goals as goal
 
 pub returns-then-number-clause-ok : goal.returns-then-number-clause-ok
 returns-then-number-clause-ok c =

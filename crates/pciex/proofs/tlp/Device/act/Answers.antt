@@ -3,7 +3,7 @@ use Rattle.tlp_core.specs.Packet.{Packet, IsPacket}
 use Rattle.seq_memory.specs.History.{State}
 use Rattle.pciex.specs.Tlp.{count_of}
 use Rattle.pciex.proofs.RequestLemmas.{counted}
-use Rattle.pciex.proofs.tlp.Completer.act.Goals as goal
+use Rattle.pciex.proofs.tlp.Device.act.Goals as goal
 
 pub invariant_of-self-2 : goal.invariant_of-self-2
 invariant_of-self-2 c = λ port lt.
