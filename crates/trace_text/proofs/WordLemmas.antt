@@ -1,9 +1,8 @@
 -- Words, one after the other.
-use Rattle.std.proofs.Common.{◌≡◌, ℕ, zero, suc, ◌<◌, ◌≤◌, Bool, true, false, cond, List, [], ◌∷◌, length, take, drop, get_or, Option, Some, None, refl, sym, ap, subst, ◌∙◌, ◌⊎◌, inl, inr, arith}
-use Rattle.std.specs.Prelude.{◌==◌, option_map}
+use Rattle.std.proofs.Common.{◌≡◌, ℕ, zero, suc, ◌<◌, ◌≤◌, true, false, List, [], ◌∷◌, length, take, drop, get_or, refl, sym, ap, ◌∙◌, inl, inr, arith}
+use Rattle.std.specs.Prelude.{◌==◌}
 use Rattle.std.proofs.lemmas.Bool.{cases_Bool, ne_eqb}
-use Rattle.std.specs.List.{slice_split}
-use Rattle.trace_text.specs.Words.{words, words_behind, is_space, then_with, first_field, field, has_ended}
+use Rattle.trace_text.specs.Words.{words, words_behind, is_space, has_ended}
 
 pub cut_is : (line : List ℕ) (at : ℕ) → at ≤ length line → ((k : ℕ) → k < at → is_space (get_or line k 0) ≡ false) → (at < length line → is_space (get_or line at 0) ≡ true) → words line ≡ take at line ∷ words_behind (drop at line)
 cut_is [] zero l none stop = refl

@@ -1,4 +1,4 @@
-use Rattle.std.proofs.Common.{◌≡◌, ℕ, ◌≤◌, drop}
+use Rattle.std.proofs.Common.{◌≡◌, ◌≤◌, drop}
 use Rattle.trace_text.specs.Numbers.{numeral_after}
 use Rattle.trace_text.proofs.fields.value.Given as goal
 
