@@ -44,12 +44,12 @@ use Rattle.fabric_laws.proofs.Requests.{IsReady, ready, opened_is, IsFinished, f
 
 -- ---- parts at their places
 
-get_is : {X : Type 0} (xs : List X) (i : ℕ) (x d : X) → slice_get xs i ≡ Some x → get_or xs i d ≡ x
+pub get_is : {X : Type 0} (xs : List X) (i : ℕ) (x d : X) → slice_get xs i ≡ Some x → get_or xs i d ≡ x
 get_is [] i x d e = absurd (cc)
 get_is (y ∷ xs) zero x d e = cc
 get_is (y ∷ xs) (suc i) x d e = get_is xs i x d e
 
-get_items : (ls : List Ends) (i : ℕ) (l : Ends) → slice_get ls i ≡ Some l → get_or (map items ls) i [] ≡ items l
+pub get_items : (ls : List Ends) (i : ℕ) (l : Ends) → slice_get ls i ≡ Some l → get_or (map items ls) i [] ≡ items l
 get_items [] i l e = absurd (cc)
 get_items (m ∷ ls) zero l e = let is : m ≡ l = cc in ap items is
 get_items (m ∷ ls) (suc i) l e = get_items ls i l e
@@ -95,7 +95,7 @@ first_at earlier [] n x e = absurd (cc)
 first_at earlier (y ∷ q) zero x e = let is : y ≡ x = cc in ap (λ (z : Packet × ℕ). passes_each z.0 earlier) is
 first_at earlier (y ∷ q) (suc n) x e = first_at earlier q n x e
 
-split : (xs ys : List (Packet × ℕ)) (n : ℕ) (x : Packet × ℕ) → slice_get xs n ≡ Some x → (behind : List (Packet × ℕ)) × (xs ++ ys ≡ take n xs ++ x ∷ behind) × (remove (xs ++ ys) n ≡ take n xs ++ behind)
+pub split : (xs ys : List (Packet × ℕ)) (n : ℕ) (x : Packet × ℕ) → slice_get xs n ≡ Some x → (behind : List (Packet × ℕ)) × (xs ++ ys ≡ take n xs ++ x ∷ behind) × (remove (xs ++ ys) n ≡ take n xs ++ behind)
 split [] ys n x e = absurd (cc)
 split (y ∷ xs) ys zero x e = let is : y ≡ x = cc in (xs ++ ys, ap (λ (z : Packet × ℕ). z ∷ (xs ++ ys)) is, refl)
 split (y ∷ xs) ys (suc n) x e = let (b, was, now) = split xs ys n x e in (b, ap (λ (l : List (Packet × ℕ)). y ∷ l) was, ap (λ (l : List (Packet × ℕ)). y ∷ l) now)
@@ -111,7 +111,7 @@ taken_items e place t mark e' h =
       passes = all_passed t (take place e.receiver.queue) (sym (first_at (take place e.receiver.queue) e.receiver.queue place (t, mark) h.item) ∙ h.takeable);
     }
 
-head_is : (q way : List (Packet × ℕ)) (x : Packet × ℕ) → slice_get q 0 ≡ Some x → q ++ way ≡ x ∷ remove (q ++ way) 0
+pub head_is : (q way : List (Packet × ℕ)) (x : Packet × ℕ) → slice_get q 0 ≡ Some x → q ++ way ≡ x ∷ remove (q ++ way) 0
 head_is [] way x e = absurd (cc)
 head_is (y ∷ q) way x e = let is : y ≡ x = cc in ap (λ (z : Packet × ℕ). z ∷ (q ++ way)) is
 

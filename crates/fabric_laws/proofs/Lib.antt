@@ -16,3 +16,4 @@ pub mod Expected
 pub mod Packets
 pub mod Requests
 pub mod Events
+pub mod Routed

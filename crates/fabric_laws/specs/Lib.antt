@@ -8,3 +8,4 @@ pub mod Packets
 pub mod Fabric
 pub mod Events
 pub mod Expected
+pub mod Routed

@@ -1,8 +1,10 @@
 //! What holds of a fabric whatever steps it takes.
-ghost use Rattle.std.specs.Prelude.{◌≡◌, ◌≢◌, ◌<◌, ℕ, suc, Some, List, [], ◌∷◌, ◌++◌, length};
+ghost use Rattle.std.specs.Prelude.{◌≡◌, ◌≢◌, ◌<◌, ℕ, suc, Some, Ok, List, [], ◌∷◌, ◌++◌, length, slice_get};
 ghost use Rattle.tlp_core.specs.declared.operation.Op.{Op};
 ghost use Rattle.seq_memory.specs.declared.Entry.{Entry};
 ghost use Rattle.requester_core.specs.declared.requester.Answer.{Answer};
+ghost use Rattle.tlp_core.specs.Packet.{Packet};
+ghost use Rattle.requester_core.specs.Requesting.{Requesting, finished};
 ghost use Rattle.lane_core.specs.Steps.{Ends};
 ghost use Rattle.lane_core.specs.Calls.{content};
 ghost use Rattle.history_check.specs.declared.Record.{Record};
@@ -12,8 +14,9 @@ ghost use Rattle.fabric_laws.specs.Whole.{Whole, Item, memory_of, up_of, down_of
 ghost use Rattle.fabric_laws.specs.Sound.{Sound, times};
 ghost use Rattle.fabric_laws.specs.Trace.{Belongs};
 ghost use Rattle.fabric_laws.specs.Steps.{Step, Run};
-ghost use Rattle.fabric_laws.specs.New.{IsNew};
+ghost use Rattle.fabric_laws.specs.New.{IsNew, IsNewFabric};
 ghost use Rattle.fabric_laws.specs.Expected.{IsExpected};
+ghost use Rattle.fabric_laws.specs.Routed.{HasPort, IsRouted};
 ghost use Rattle.fabric_laws.specs.Fabric.{Fabric, whole_of};
 ghost use Rattle.fabric_laws.specs.Events.{IsSubmitted, IsForwarded, IsServed, IsReturned, IsCollected, IsLinked};
 
@@ -34,6 +37,13 @@ pub fn the_trace_belongs()
     ensures sound { (p p' : Whole) (rs : List Record) → Sound p → Run p p' rs → Sound p' }
     ensures begins { (p p' : Whole) (rs : List Record) → Sound p → Run p p' rs → (new : List Entry) × (p'.history ≡ p.history ++ new) }
     ensures explained { (p : Whole) (rs : List Record) → Sound p → Belongs p rs → Explains (record { memory = memory_of p; records = rs }) }
+{}
+
+/// A new fabric by its parts is new as a whole, and its packets, of which there are none, have their
+/// ports.
+pub fn new_parts_make_a_new_fabric()
+    ensures whole { (f : Fabric) → IsNewFabric f → IsNew (whole_of f) }
+    ensures routed { (f : Fabric) → IsNewFabric f → IsRouted f }
 {}
 
 /// Each event on the real parts, the packets in the lanes and the tag tables of the requesters, is
@@ -61,7 +71,26 @@ pub fn quiet_is_all_acted()
     ensures answered { (p : Whole) (i t k : ℕ) → Sound p → p.inward ≡ [] → up_of p i ≡ [] → p.outward ≡ [] → down_of p i ≡ [] → open_at (requester_of p i) t ≢ Some k }
 {}
 
-/// What a requester of a sound fabric collects is a completion that it expects.
-pub fn what_is_collected_is_expected()
-    ensures { (p : Whole) (i : ℕ) (c : Item) (rest : List Item) → Sound p → down_of p i ≡ c ∷ rest → IsExpected i (requester_of p i) c }
+/// Each event keeps every packet's Requester ID that of a port of the fabric, and the completions of
+/// the form that their requesters expect.
+pub fn packets_keep_their_ports()
+    ensures submitted { (f f' : Fabric) (i : ℕ) (op : Op) → IsRouted f → IsSubmitted f i op f' → IsRouted f' }
+    ensures forwarded { (f f' : Fabric) (i place : ℕ) → IsRouted f → IsForwarded f i place f' → IsRouted f' }
+    ensures served { (f f' : Fabric) (place : ℕ) → IsRouted f → IsServed f place f' → IsRouted f' }
+    ensures returned { (f f' : Fabric) (i place : ℕ) → IsRouted f → IsReturned f i place f' → IsRouted f' }
+    ensures collected { (f f' : Fabric) (i : ℕ) (a : Answer) → IsRouted f → IsCollected f i a f' → IsRouted f' }
+    ensures up { (f : Fabric) (i : ℕ) (lanes : List Ends) → IsRouted f → IsLinked f.up i lanes → IsRouted (record f { up = lanes }) }
+    ensures down { (f : Fabric) (i : ℕ) (lanes : List Ends) → IsRouted f → IsLinked f.down i lanes → IsRouted (record f { down = lanes }) }
+    ensures inward { (f : Fabric) (lane : Ends) → IsRouted f → content lane ≡ content f.inward → IsRouted (record f { inward = lane }) }
+    ensures outward { (f : Fabric) (lane : Ends) → IsRouted f → content lane ≡ content f.outward → IsRouted (record f { outward = lane }) }
+{}
+
+/// What a requester of a sound fabric collects is a completion that it expects, so it is never
+/// refused; and every completion on its way back has a port to go to.
+pub fn no_completion_is_strange()
+    ensures expected { (p : Whole) (i : ℕ) (c : Item) (rest : List Item) → Sound p → down_of p i ≡ c ∷ rest → IsExpected i (requester_of p i) c }
+    ensures finished { (f : Fabric) (i mark : ℕ) (q : Requesting) (lane : Ends) (t : Packet) → Sound (whole_of f) → IsRouted f →
+        slice_get f.requesters i ≡ Some q → slice_get f.down i ≡ Some lane → slice_get lane.receiver.queue 0 ≡ Some (t, mark) →
+        (a : Answer) × (finished q t ≡ Ok a) }
+    ensures routed { (f : Fabric) (place mark : ℕ) (t : Packet) → IsRouted f → slice_get (content f.outward) place ≡ Some (t, mark) → HasPort (length f.requesters) t }
 {}
