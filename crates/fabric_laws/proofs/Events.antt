@@ -235,7 +235,7 @@ written kinds.Cas (bodies.Completion i s n l) dw bytes op c e p = absurd (cc)
 written kinds.Completion b dw bytes op c e p = absurd (cc)
 written kinds.CompletionData b dw bytes op c e p = absurd (cc)
 
-asked : (k : Kind) (b : Body) (dw : ℕ) (bytes : List ℕ) (op : Op) (c : Option Packet) → op_at k b dw bytes ≡ Some op → is_posted op ≡ false → unless_posted k c ≡ c
+pub asked : (k : Kind) (b : Body) (dw : ℕ) (bytes : List ℕ) (op : Op) (c : Option Packet) → op_at k b dw bytes ≡ Some op → is_posted op ≡ false → unless_posted k c ≡ c
 asked kinds.MemoryWrite (bodies.Request a f l) dw bytes op c e p = absurd (let is : _ ≡ op = some_is e in let n : true ≡ false = ap is_posted is ∙ p in cc)
   where
     some_is : {x y : Op} → Some x ≡ Some y → x ≡ y
@@ -278,7 +278,7 @@ sized_as op replies.Done h = tt
 sized_as op replies.Unsupported h = tt
 sized_as op replies.Aborted h = tt
 
-module _ (f : Fabric) (place : ℕ) (f' : Fabric) (e : IsServed f place f') where
+module _ (f : Fabric) (place : ℕ) (f' : Fabric) (e : IsServed f place f') (is_sized : IsSizedFor e.op (answer f.memory.block f.memory.base (bytes_of f.memory) e.op)) where
   abbrev g : Rattle.fabric_laws.specs.Whole.Shape
   g = (whole_of f).shape
 
@@ -317,7 +317,7 @@ module _ (f : Fabric) (place : ℕ) (f' : Fabric) (e : IsServed f place f') wher
     item = x;
     rest = items e.lane_after;
     taken = taken_items f.inward place e.packet e.mark e.lane_after e.taken;
-    sized = subst (λ (o : Op). FitsSize (count_of o) (reply_of g h o)) (sym op_is) (unfold reply_of in sized_as e.op _ e.sized);
+    sized = subst (λ (o : Op). FitsSize (count_of o) (reply_of g h o)) (sym op_is) (unfold reply_of in sized_as e.op _ is_sized);
     now = ap whole_of e.now ∙ (ap (λ (m : State). whole_of (record f { memory = m; inward = e.lane_after; outward = e.completion_lane })) grows
         ∙ (λ k. record (whole_of f) { history = h ++ record { requester = e.packet.requester / 256; number = e.mark; op = sym op_is k } ∷ []; inward = items e.lane_after; outward = lane_now k }));
   }) refl

@@ -16,4 +16,5 @@ pub mod Expected
 pub mod Packets
 pub mod Requests
 pub mod Events
+pub mod Sized
 pub mod Routed

@@ -3,8 +3,6 @@ use Rattle.std.specs.Prelude.{ℕ, ◌≡◌, ◌/◌, suc, true, List, [], ◌�
 use Rattle.tlp_core.specs.declared.operation.Op.{Op}
 use Rattle.tlp_core.specs.Packet.{Packet}
 use Rattle.tlp_core.specs.Operation.{op_of}
-use Rattle.seq_memory.specs.Step.{answer, IsSizedFor}
-use Rattle.seq_memory.specs.History.{bytes_of}
 use Rattle.completer_core.specs.Serving.{completion_to, after_serving}
 use Rattle.requester_core.specs.declared.requester.Answer.{Answer}
 use Rattle.requester_core.specs.Requesting.{Requesting, prepared, after_opened, finished, after_finish, IsSound}
@@ -68,7 +66,6 @@ pub record IsServed (f : Fabric) (place : ℕ) (f' : Fabric) : Type 0 where
   pub mark : ℕ
   pub op : Op
   pub asks : op_of packet ≡ Some op
-  pub sized : IsSizedFor op (answer f.memory.block f.memory.base (bytes_of f.memory) op)
   pub taken : IsTakenAt f.inward place packet mark lane_after
   pub entered : content completion_lane ≡ content f.outward ++ are_entered (completion_to f.memory packet) mark
   pub now : f' ≡ record f { memory = after_serving f.memory packet mark; inward = lane_after; outward = completion_lane }

@@ -20,6 +20,9 @@ ghost use Rattle.fabric_laws.specs.Routed.{HasPort, IsRouted};
 ghost use Rattle.fabric_laws.specs.Fabric.{Fabric, whole_of};
 ghost use Rattle.fabric_laws.specs.Events.{IsSubmitted, IsForwarded, IsServed, IsReturned, IsCollected, IsLinked};
 
+use completer_core::laws::a_served_completion_has_its_length;
+use seq_memory::laws::history_grows_by_steps;
+
 /// A new fabric is sound, and each step keeps it so: a submission, a request that goes from its
 /// requester's lane to the memory's, one that acts on the memory, a completion that goes back, one
 /// that is collected, and a call of a link, which moves nothing.
@@ -54,7 +57,10 @@ pub fn each_event_is_a_step()
     ensures served { (f f' : Fabric) (place : ℕ) → IsServed f place f' → Step (whole_of f) (whole_of f') [] }
     ensures returned { (f f' : Fabric) (i place : ℕ) → IsReturned f i place f' → Step (whole_of f) (whole_of f') [] }
     ensures collected { (f f' : Fabric) (i : ℕ) (a : Answer) → IsCollected f i a f' → Step (whole_of f) (whole_of f') (Ans (suc i) a.number a.reply (length f.memory.entries) ∷ []) }
-{}
+{
+    a_served_completion_has_its_length();
+    history_grows_by_steps();
+}
 
 /// A call of a link, which leaves what its lane holds, is a step that leaves the whole.
 pub fn each_link_call_is_a_step()
