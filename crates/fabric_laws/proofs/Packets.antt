@@ -47,7 +47,7 @@ carries t c mark replies.Aborted e = let P : Packet → Type 0 = λ x. item_of x
     some_is : {x y : Packet} → Some x ≡ Some y → x ≡ y
     some_is h = cc
 
-not_written : (k : Kind) (o : Option Packet) (c : Packet) → unless_posted k o ≡ Some c → o ≡ Some c
+pub not_written : (k : Kind) (o : Option Packet) (c : Packet) → unless_posted k o ≡ Some c → o ≡ Some c
 not_written kinds.MemoryWrite o c e = absurd (cc)
 not_written kinds.MemoryRead o c e = e
 not_written kinds.FetchAdd o c e = e

@@ -1,8 +1,6 @@
 -- Counts and places.
-use Rattle.std.proofs.Common.{◌≡◌, ℕ, zero, suc, ◌+◌, ◌<◌, ◌≤◌, Bool, true, false, List, [], ◌∷◌, length, take, refl, ap, ◌∙◌, subst, arith, inl, inr, ◌⊎◌, ⊎_elim, Some}
-use Rattle.std.specs.Prelude.{slice_get, position, nat_lt}
-use Rattle.std.specs.List.{position_or_len}
-use Rattle.std.proofs.lemmas.Bool.Decides.{nat_tests}
+use Rattle.std.proofs.Common.{◌≡◌, ℕ, zero, suc, ◌+◌, ◌<◌, ◌≤◌, Bool, true, false, List, [], ◌∷◌, take, refl, ap, ◌∙◌, subst, arith, inl, inr, ◌⊎◌, ⊎_elim, Some}
+use Rattle.std.specs.Prelude.{slice_get}
 use Rattle.fabric_laws.specs.Lists.{Each, Pairs, one_if, count}
 
 test : (b : Bool) → (b ≡ true) ⊎ (b ≡ false)
@@ -22,28 +20,6 @@ count_take_above p [] n m x e h l = absurd (cc)
 count_take_above p (y ∷ xs) n zero x e h l = absurd (omega arith)
 count_take_above p (y ∷ xs) zero (suc m) x e h l = let s : p y ≡ true = (let s : y ≡ x = cc in ap p s ∙ h) in rw s (omega arith)
 count_take_above p (y ∷ xs) (suc n) (suc m) x e h l = let r : 1 ≤ count p (take m xs) = count_take_above p xs n m x e h (omega arith) in omega arith
-
-pub first_is : {X : Type 0} (p : X → Bool) (xs : List X) (n : ℕ) (x : X) → slice_get xs n ≡ Some x → p x ≡ true → count p (take n xs) ≡ 0 → position_or_len p xs ≡ n
-unfolding count
-first_is p [] n x e h z = absurd (cc)
-first_is p (y ∷ xs) zero x e h z = let s : p y ≡ true = (let s : y ≡ x = cc in ap p s ∙ h) in rw s refl
-first_is p (y ∷ xs) (suc n) x e h z = ⊎_elim
-    (λ (t : p y ≡ true). absurd (let k : one_if (p y) ≡ 1 = ap one_if t in omega arith))
-    (λ (t : p y ≡ false). let r : position_or_len p xs ≡ n = first_is p xs n x e h (omega arith) in rw t (omega arith))
-    (test (p y))
-
-pub first_below : {X : Type 0} (p : X → Bool) (xs : List X) (n : ℕ) → 1 ≤ count p (take n xs) → (position_or_len p xs < n) × (position_or_len p xs < length xs)
-unfolding count
-first_below p [] zero h = absurd (omega arith)
-first_below p [] (suc n) h = absurd (omega arith)
-first_below p (y ∷ xs) zero h = absurd (omega arith)
-first_below p (y ∷ xs) (suc n) h = ⊎_elim
-    (λ (t : p y ≡ true). rw t (omega arith, omega arith))
-    (λ (t : p y ≡ false). let k : one_if (p y) ≡ 0 = ap one_if t in let r : (position_or_len p xs < n) × (position_or_len p xs < length xs) = first_below p xs n (omega arith) in rw t (omega arith, omega arith))
-    (test (p y))
-
-pub position_is : {X : Type 0} (p : X → Bool) (xs : List X) → position_or_len p xs < length xs → position p xs ≡ Some (position_or_len p xs)
-position_is p xs h = let t : nat_lt (position_or_len p xs) (length xs) ≡ true = grind (arith, nat_tests) in rw t refl
 
 pub found : {X : Type 0} (A P : X → Type 0) (p : X → Bool) (xs : List X) → 1 ≤ count p xs → Each A xs → Each P xs → (y : X) × A y × P y × (p y ≡ true)
 unfolding count
