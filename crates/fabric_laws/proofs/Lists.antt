@@ -1,5 +1,5 @@
 -- Lemmas on the facts of lists.
-use Rattle.std.proofs.Common.{◌≡◌, ℕ, zero, suc, ◌+◌, ◌<◌, ◌≤◌, Bool, true, false, List, [], ◌∷◌, ◌++◌, length, take, map, refl, sym, ap, ◌∙◌, subst, arith, Some, append_assoc}
+use Rattle.std.proofs.Common.{◌≡◌, ℕ, zero, suc, ◌+◌, ◌<◌, ◌≤◌, Bool, true, List, [], ◌∷◌, ◌++◌, length, take, map, refl, sym, ap, ◌∙◌, subst, arith, Some, append_assoc}
 use Rattle.std.specs.Prelude.{slice_get}
 use Rattle.fabric_laws.specs.Lists.{Each, Pairs, one_if, count}
 
@@ -22,10 +22,6 @@ each_join P Q R (x ∷ xs) f a b = (f x a.0 b.0, each_join P Q R xs f a.1 b.1)
 pub each_always : {X : Type 0} (P : X → Type 0) (xs : List X) → ((x : X) → P x) → Each P xs
 each_always P [] f = tt
 each_always P (x ∷ xs) f = (f x, each_always P xs f)
-
-pub each_map : {X Y : Type 0} (P : Y → Type 0) (f : X → Y) (xs : List X) → Each (λ x. P (f x)) xs → Each P (map f xs)
-each_map P f [] a = tt
-each_map P f (x ∷ xs) a = (a.0, each_map P f xs a.1)
 
 pub each_unmap : {X Y : Type 0} (P : Y → Type 0) (f : X → Y) (xs : List X) → Each P (map f xs) → Each (λ x. P (f x)) xs
 each_unmap P f [] a = tt
@@ -84,11 +80,6 @@ pub count_insert : {X : Type 0} (p : X → Bool) (xs ys : List X) (x : X) → co
 unfolding count
 count_insert p [] ys x = refl
 count_insert p (z ∷ xs) ys x = let r : count p (xs ++ x ∷ ys) ≡ one_if (p x) + count p (xs ++ ys) = count_insert p xs ys x in omega arith
-
-pub count_none : {X : Type 0} (p : X → Bool) (xs : List X) → Each (λ x. p x ≡ false) xs → count p xs ≡ 0
-unfolding count
-count_none p [] a = refl
-count_none p (x ∷ xs) a = let r : count p xs ≡ 0 = count_none p xs a.1 in rw a.0 (omega arith)
 
 -- an element that passes is counted
 pub count_at : {X : Type 0} (p : X → Bool) (xs : List X) (n : ℕ) (x : X) → slice_get xs n ≡ Some x → p x ≡ true → 1 ≤ count p xs

@@ -1,6 +1,6 @@
 -- Each event keeps the Requester IDs and the forms of the completions, and what is collected is finished.
 use Rattle.std.proofs.Common.{◌≡◌, ℕ, zero, suc, ◌*◌, ◌/◌, Bool, true, List, [], ◌∷◌, ◌++◌, length, map, get_or, refl, sym, ap, ◌∙◌, subst, arith, Option, Some, None, eq-eqb}
-use Rattle.std.specs.Prelude.{replicate, slice_get, slice_set, remove, if◌then◌else◌, option_and_then, option_map, Result, Ok, Err}
+use Rattle.std.specs.Prelude.{is_some, replicate, slice_get, slice_set, remove, if◌then◌else◌, option_and_then, option_map, Result, Ok, Err}
 use Rattle.std.proofs.lemmas.List.{length-set}
 use Rattle.tlp_core.specs.declared.operation.Op.{Op}
 use Rattle.tlp_core.specs.declared.packet.Kind.{Kind}
@@ -9,7 +9,7 @@ use Rattle.tlp_core.specs.declared.packet.Body.{Body}
 use Rattle.tlp_core.specs.declared.packet.Body.TheVariants as bodies
 use Rattle.tlp_core.specs.declared.packet.Status.TheVariants as statuses
 use Rattle.tlp_core.specs.Packet.{Packet}
-use Rattle.tlp_core.specs.Operation.{is_completion}
+use Rattle.tlp_core.specs.Operation.{op_of, is_completion}
 use Rattle.seq_memory.specs.declared.Reply.{Reply}
 use Rattle.seq_memory.specs.declared.Reply.TheVariants as replies
 use Rattle.seq_memory.specs.Step.{answer}
@@ -68,7 +68,7 @@ submit_routed f i op f' r e = subst IsRouted (sym e.now) (record {
   ports = kept_set (λ j (q : Requesting). q.port ≡ suc j) f.requesters i (after_opened e.requester e.request) r.ports e.own_port;
   up = subst (λ n. (j : ℕ) (l : Ends) → slice_get (slice_set f.up i e.lane_after) j ≡ Some l → HoldsRequests n l) (sym same)
       (kept_set (λ j. HoldsRequests (length f.requesters)) f.up i e.lane_after r.up
-      (entered_keeps (λ (x : Packet × ℕ). HasPort (length f.requesters) x.0) e.lane e.request e.number e.lane_after e.entered (r.up i e.lane e.has_lane) port));
+      (entered_keeps (λ (x : Packet × ℕ). HasPort (length f.requesters) x.0 × (is_some (op_of x.0) ≡ true)) e.lane e.request e.number e.lane_after e.entered (r.up i e.lane e.has_lane) (port, ap is_some e.asks)));
   inward = subst (λ n. HoldsRequests n f.inward) (sym same) r.inward;
   outward = subst (λ n. HoldsCompletions n f.outward) (sym same) r.outward;
   down = subst (λ n. (j : ℕ) (l : Ends) → slice_get f.down j ≡ Some l → HoldsCompletions n l) (sym same) r.down;
@@ -85,11 +85,11 @@ submit_routed f i op f' r e = subst IsRouted (sym e.now) (record {
 
 pub forward_routed : (f : Fabric) (i place : ℕ) (f' : Fabric) → IsRouted f → IsForwarded f i place f' → IsRouted f'
 forward_routed f i place f' r e =
-    let t = taken_keeps (λ (x : Packet × ℕ). HasPort (length f.requesters) x.0) e.lane place e.packet e.mark e.lane_after e.taken (r.up i e.lane e.has_lane) in
+    let t = taken_keeps (λ (x : Packet × ℕ). HasPort (length f.requesters) x.0 × (is_some (op_of x.0) ≡ true)) e.lane place e.packet e.mark e.lane_after e.taken (r.up i e.lane e.has_lane) in
     subst IsRouted (sym e.now) (record {
       ports = r.ports;
       up = kept_set (λ j. HoldsRequests (length f.requesters)) f.up i e.lane_after r.up t.1;
-      inward = entered_keeps (λ (x : Packet × ℕ). HasPort (length f.requesters) x.0) f.inward e.packet e.mark e.memory_lane e.entered r.inward t.0;
+      inward = entered_keeps (λ (x : Packet × ℕ). HasPort (length f.requesters) x.0 × (is_some (op_of x.0) ≡ true)) f.inward e.packet e.mark e.memory_lane e.entered r.inward t.0;
       outward = r.outward;
       down = r.down;
     })
@@ -147,7 +147,7 @@ entered_fit n t r mark p (Some c) e = (made_for n t c r p (not_written t.kind (c
 
 pub serve_routed : (f : Fabric) (place : ℕ) (f' : Fabric) → IsRouted f → IsServed f place f' → IsRouted f'
 serve_routed f place f' r e =
-    let t = taken_keeps (λ (x : Packet × ℕ). HasPort (length f.requesters) x.0) f.inward place e.packet e.mark e.lane_after e.taken r.inward in
+    let t = taken_keeps (λ (x : Packet × ℕ). HasPort (length f.requesters) x.0 × (is_some (op_of x.0) ≡ true)) f.inward place e.packet e.mark e.lane_after e.taken r.inward in
     let made : completion_to f.memory e.packet ≡ completion_of e.packet (answer f.memory.block f.memory.base (bytes_of f.memory) e.op) =
     ap (λ (o : Option Op). option_and_then (λ p. completion_of e.packet (answer f.memory.block f.memory.base (bytes_of f.memory) p)) o) e.asks in
     subst IsRouted (sym e.now) (record {
@@ -156,7 +156,7 @@ serve_routed f place f' r e =
       inward = t.1;
       outward = subst (Each (λ (x : Packet × ℕ). HasPort (length f.requesters) x.0 × FitsStatus x.0.kind x.0.body)) (sym e.entered)
           (each_append (λ (x : Packet × ℕ). HasPort (length f.requesters) x.0 × FitsStatus x.0.kind x.0.body) (content f.outward) (are_entered (completion_to f.memory e.packet) e.mark) r.outward
-          (entered_fit (length f.requesters) e.packet (answer f.memory.block f.memory.base (bytes_of f.memory) e.op) e.mark t.0 (completion_to f.memory e.packet) (sym made)));
+          (entered_fit (length f.requesters) e.packet (answer f.memory.block f.memory.base (bytes_of f.memory) e.op) e.mark t.0.0 (completion_to f.memory e.packet) (sym made)));
       down = r.down;
     })
 
@@ -214,7 +214,7 @@ finishes f i q l t mark s r has_q has_l first =
 pub linked_up : (f : Fabric) (i : ℕ) (lanes : List Ends) → IsRouted f → IsLinked f.up i lanes → IsRouted (record f { up = lanes })
 linked_up f i lanes r e = subst (λ (l : List Ends). IsRouted (record f { up = l })) (sym e.now) (record {
   ports = r.ports;
-  up = kept_set (λ j. HoldsRequests (length f.requesters)) f.up i e.lane_after r.up (subst (Each (λ (x : Packet × ℕ). HasPort (length f.requesters) x.0)) (sym e.kept) (r.up i e.lane e.has_lane));
+  up = kept_set (λ j. HoldsRequests (length f.requesters)) f.up i e.lane_after r.up (subst (Each (λ (x : Packet × ℕ). HasPort (length f.requesters) x.0 × (is_some (op_of x.0) ≡ true))) (sym e.kept) (r.up i e.lane e.has_lane));
   inward = r.inward;
   outward = r.outward;
   down = r.down;
@@ -230,7 +230,7 @@ linked_down f i lanes r e = subst (λ (l : List Ends). IsRouted (record f { down
 })
 
 pub linked_in : (f : Fabric) (lane : Ends) → IsRouted f → content lane ≡ content f.inward → IsRouted (record f { inward = lane })
-linked_in f lane r e = record { ports = r.ports; up = r.up; inward = subst (Each (λ (x : Packet × ℕ). HasPort (length f.requesters) x.0)) (sym e) r.inward; outward = r.outward; down = r.down }
+linked_in f lane r e = record { ports = r.ports; up = r.up; inward = subst (Each (λ (x : Packet × ℕ). HasPort (length f.requesters) x.0 × (is_some (op_of x.0) ≡ true))) (sym e) r.inward; outward = r.outward; down = r.down }
 
 pub linked_out : (f : Fabric) (lane : Ends) → IsRouted f → content lane ≡ content f.outward → IsRouted (record f { outward = lane })
 linked_out f lane r e = record { ports = r.ports; up = r.up; inward = r.inward; outward = subst (Each (λ (x : Packet × ℕ). HasPort (length f.requesters) x.0 × FitsStatus x.0.kind x.0.body)) (sym e) r.outward; down = r.down }
@@ -279,8 +279,8 @@ new_whole f n = record {
 pub new_routed : (f : Fabric) → IsNewFabric f → IsRouted f
 new_routed f n = record {
   ports = λ i q e. ap (λ (q : Requesting). q.port) (n.requesters i q e);
-  up = λ i e at. subst (Each (λ (x : Packet × ℕ). HasPort (length f.requesters) x.0)) (sym (n.up i e at)) tt;
-  inward = subst (Each (λ (x : Packet × ℕ). HasPort (length f.requesters) x.0)) (sym n.inward) tt;
+  up = λ i e at. subst (Each (λ (x : Packet × ℕ). HasPort (length f.requesters) x.0 × (is_some (op_of x.0) ≡ true))) (sym (n.up i e at)) tt;
+  inward = subst (Each (λ (x : Packet × ℕ). HasPort (length f.requesters) x.0 × (is_some (op_of x.0) ≡ true))) (sym n.inward) tt;
   outward = subst (Each (λ (x : Packet × ℕ). HasPort (length f.requesters) x.0 × FitsStatus x.0.kind x.0.body)) (sym n.outward) tt;
   down = λ i e at. subst (Each (λ (x : Packet × ℕ). HasPort (length f.requesters) x.0 × FitsStatus x.0.kind x.0.body)) (sym (n.down i e at)) tt;
 }

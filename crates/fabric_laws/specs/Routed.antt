@@ -1,11 +1,12 @@
 -- The Requester IDs of the packets in the lanes, and the forms of the completions.
-use Rattle.std.specs.Prelude.{ℕ, ◌≡◌, ◌*◌, ◌<◌, suc, length, slice_get, Some}
+use Rattle.std.specs.Prelude.{ℕ, ◌≡◌, ◌*◌, ◌<◌, suc, length, slice_get, Some, is_some, true}
 use Rattle.tlp_core.specs.declared.packet.Kind.{Kind}
 use Rattle.tlp_core.specs.declared.packet.Kind.TheVariants as kinds
 use Rattle.tlp_core.specs.declared.packet.Body.{Body}
 use Rattle.tlp_core.specs.declared.packet.Body.TheVariants as bodies
 use Rattle.tlp_core.specs.declared.packet.Status.TheVariants as statuses
 use Rattle.tlp_core.specs.Packet.{Packet}
+use Rattle.tlp_core.specs.Operation.{op_of}
 use Rattle.lane_core.specs.Steps.{Ends}
 use Rattle.lane_core.specs.Calls.{content}
 use Rattle.fabric_laws.specs.Lists.{Each}
@@ -25,9 +26,11 @@ FitsStatus kinds.Completion (bodies.Completion c statuses.Unsupported n l) = Uni
 FitsStatus kinds.Completion (bodies.Completion c statuses.Aborted n l) = Unit {0}
 FitsStatus _ _ = ⊥
 
+-- requests of ports 1 to n, each for an operation
 abbrev pub HoldsRequests : ℕ → Ends → Type 0
-HoldsRequests n e = Each (λ x. HasPort n x.0) (content e)
+HoldsRequests n e = Each (λ x. HasPort n x.0 × (is_some (op_of x.0) ≡ true)) (content e)
 
+-- completions for ports 1 to n
 abbrev pub HoldsCompletions : ℕ → Ends → Type 0
 HoldsCompletions n e = Each (λ x. HasPort n x.0 × FitsStatus x.0.kind x.0.body) (content e)
 

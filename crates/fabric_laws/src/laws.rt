@@ -1,9 +1,10 @@
 //! What holds of a fabric whatever steps it takes.
-ghost use Rattle.std.specs.Prelude.{◌≡◌, ◌≢◌, ◌<◌, ℕ, suc, Some, Ok, List, [], ◌∷◌, ◌++◌, length, slice_get};
+ghost use Rattle.std.specs.Prelude.{◌≡◌, ◌≢◌, ◌<◌, ℕ, suc, Some, Ok, List, [], ◌∷◌, ◌++◌, length, slice_get, is_some, true};
 ghost use Rattle.tlp_core.specs.declared.operation.Op.{Op};
 ghost use Rattle.seq_memory.specs.declared.Entry.{Entry};
 ghost use Rattle.requester_core.specs.declared.requester.Answer.{Answer};
 ghost use Rattle.tlp_core.specs.Packet.{Packet};
+ghost use Rattle.tlp_core.specs.Operation.{op_of};
 ghost use Rattle.requester_core.specs.Requesting.{Requesting, finished};
 ghost use Rattle.lane_core.specs.Steps.{Ends};
 ghost use Rattle.lane_core.specs.Calls.{content};
@@ -77,9 +78,10 @@ pub fn quiet_is_all_acted()
     ensures answered { (p : Whole) (i t k : ℕ) → Sound p → p.inward ≡ [] → up_of p i ≡ [] → p.outward ≡ [] → down_of p i ≡ [] → open_at (requester_of p i) t ≢ Some k }
 {}
 
-/// Each event keeps every packet's Requester ID that of a port of the fabric, and the completions of
-/// the form that their requesters expect.
+/// Each event keeps every packet's Requester ID that of a port of the fabric, the requests such that
+/// each asks for an operation, and the completions of the form that their requesters expect.
 pub fn packets_keep_their_ports()
+    ensures asks { (f : Fabric) (place mark : ℕ) (t : Packet) → IsRouted f → slice_get (content f.inward) place ≡ Some (t, mark) → is_some (op_of t) ≡ true }
     ensures submitted { (f f' : Fabric) (i : ℕ) (op : Op) → IsRouted f → IsSubmitted f i op f' → IsRouted f' }
     ensures forwarded { (f f' : Fabric) (i place : ℕ) → IsRouted f → IsForwarded f i place f' → IsRouted f' }
     ensures served { (f f' : Fabric) (place : ℕ) → IsRouted f → IsServed f place f' → IsRouted f' }
