@@ -1,10 +1,13 @@
 -- The completion's kind and the size of its payload, from the memory's refusal alone.
-use Rattle.std.proofs.Common.{◌≡◌, ℕ, suc, ◌+◌, ◌-◌, ◌*◌, ◌≤◌, Bool, true, false, cond, List, [], ◌∷◌, length, drop, Option, Some, None, refl, sym, ap, ◌∙◌, arith, length-drop, length-take}
-use Rattle.std.specs.Prelude.{◌||◌, ◌==◌, nat_lt, replicate, option_map, option_and_then}
+use Rattle.std.proofs.Common.{◌≡◌, ℕ, suc, ◌+◌, ◌-◌, ◌*◌, ◌/◌, ◌≤◌, Bool, true, false, cond, List, [], ◌∷◌, length, drop, Option, Some, None, refl, sym, ap, ◌∙◌, arith, length-drop, length-take}
+use Rattle.std.specs.Prelude.{◌||◌, ◌==◌, nat_lt, replicate, option_map, option_and_then, IsSomeAnd}
 use Rattle.std.proofs.lemmas.Bool.Decides.{nat_tests}
 use Rattle.std.proofs.lemmas.List.{length-replicate}
 use Rattle.tlp_core.specs.declared.operation.Op.{Op}
 use Rattle.tlp_core.specs.declared.operation.Op.TheVariants as ops
+use Rattle.tlp_core.specs.declared.operation.Width.{Width}
+use Rattle.tlp_core.specs.declared.operation.Width.TheVariants as widths
+use Rattle.tlp_core.specs.declared.packet.Status.TheVariants as statuses
 use Rattle.tlp_core.specs.declared.packet.Kind.{Kind}
 use Rattle.tlp_core.specs.declared.packet.Kind.TheVariants as kinds
 use Rattle.tlp_core.specs.declared.packet.Body.{Body}
@@ -13,13 +16,13 @@ use Rattle.tlp_core.specs.declared.fault.TlpFault.{TlpFault}
 use Rattle.tlp_core.specs.declared.fault.TlpFault.TheVariants as faults
 use Rattle.tlp_core.specs.Enables.{enables}
 use Rattle.tlp_core.specs.Packet.{Packet}
-use Rattle.tlp_core.specs.Operation.{op_of, op_at, op_fault, is_posted, address_of, count_of}
+use Rattle.tlp_core.specs.Operation.{op_of, op_at, op_fault, is_posted, address_of, count_of, size_of}
 use Rattle.seq_memory.specs.declared.Refusal.{Refusal}
 use Rattle.seq_memory.specs.declared.Refusal.TheVariants as refusals
 use Rattle.seq_memory.specs.declared.Reply.{Reply}
 use Rattle.seq_memory.specs.Step.{is_inside, refusal, answer, answer_by, read_back, merged, bytes_at, data_of}
 use Rattle.seq_memory.specs.History.{State, bytes_of}
-use Rattle.completer_core.specs.Completion.{completion_of, completion_for, unless_posted}
+use Rattle.completer_core.specs.Completion.{completion, completion_of, completion_for, unless_posted}
 use Rattle.completer_core.proofs.Spans.{length_by, one_or_more}
 use Rattle.completer_core.specs.Serving.{completion_to, outline_of}
 
@@ -83,12 +86,42 @@ inside block base size op e = bounds base size (address_of op) (count_of op) (no
 outline_carried : (t : Packet) (r : Reply) (n : ℕ) → ((c : Option Packet) → unless_posted t.kind c ≡ c) → IsData r n → option_map outline_of (completion_of t r) ≡ Some (record { kind = kinds.CompletionData; payload = n })
 outline_carried t r n same d = rw d.is (ap (option_map outline_of) (same (completion_for t (data_of d.bytes))) ∙ ap (λ n. Some (record { kind = kinds.CompletionData; payload = n })) d.size)
 
-pub served_outline : (s : State) (t : Packet) (op : Op) → op_of t ≡ Some op → op_fault op ≡ None → is_posted op ≡ false → refusal s.block s.base s.size op ≡ None → length (bytes_of s) ≡ s.size → option_map outline_of (completion_to s t) ≡ Some (record { kind = kinds.CompletionData; payload = count_of op })
-served_outline s t op e sound p served size =
+-- what a served request that is not posted is answered
+served_data : (s : State) (op : Op) → op_fault op ≡ None → is_posted op ≡ false → refusal s.block s.base s.size op ≡ None → length (bytes_of s) ≡ s.size → IsData (answer s.block s.base (bytes_of s) op) (count_of op)
+served_data s op sound p served size =
     let m = bytes_of s in
     let old = bytes_at m (address_of op - s.base) (count_of op) in
     let r' : refusal s.block s.base (length m) op ≡ None = rw size served in
     let given : answer s.block s.base m op ≡ read_back op old = ap (λ r. answer_by r (read_back op old)) r' in
     let fits : length old ≡ count_of op = length_at m (address_of op - s.base) (count_of op) (rw size (inside s.block s.base s.size op served)) in
-    let asked : completion_to s t ≡ completion_of t (answer s.block s.base m op) = ap (option_and_then (λ op. completion_of t (answer s.block s.base m op))) e in
-    ap (option_map outline_of) (asked ∙ ap (completion_of t) given) ∙ outline_carried t (read_back op old) (count_of op) (λ c. kind_not_write t.kind t.body t.length t.payload op c e p) (data_read op old sound p fits)
+    let d = data_read op old sound p fits in
+    record { bytes = d.bytes; is = given ∙ d.is; size = d.size }
+
+asked : (s : State) (t : Packet) (op : Op) → op_of t ≡ Some op → completion_to s t ≡ completion_of t (answer s.block s.base (bytes_of s) op)
+asked s t op e = ap (option_and_then (λ op. completion_of t (answer s.block s.base (bytes_of s) op))) e
+
+pub served_outline : (s : State) (t : Packet) (op : Op) → op_of t ≡ Some op → op_fault op ≡ None → is_posted op ≡ false → refusal s.block s.base s.size op ≡ None → length (bytes_of s) ≡ s.size → option_map outline_of (completion_to s t) ≡ Some (record { kind = kinds.CompletionData; payload = count_of op })
+served_outline s t op e sound p served size =
+    ap (option_map outline_of) (asked s t op e)
+    ∙ outline_carried t (answer s.block s.base (bytes_of s) op) (count_of op) (λ c. kind_not_write t.kind t.body t.length t.payload op c e p) (served_data s op sound p served size)
+
+whole_size : (w : Width) → 4 * (size_of w / 4) ≡ size_of w
+whole_size widths.Four = refl
+whole_size widths.Eight = refl
+whole_size widths.Sixteen = refl
+
+quarters : (op : Op) → is_posted op ≡ false → 4 * (count_of op / 4) ≡ count_of op
+quarters (ops.Read a dw f l) p = omega arith
+quarters (ops.Write a f l bytes) p = absurd cc
+quarters (ops.FetchAdd a w x) p = whole_size w
+quarters (ops.Swap a w x) p = whole_size w
+quarters (ops.Cas a w x y) p = whole_size w
+
+-- the completion of a served request: its data, and a Length that counts it
+pub served_completion : (s : State) (t : Packet) (op : Op) → op_of t ≡ Some op → op_fault op ≡ None → is_posted op ≡ false → refusal s.block s.base s.size op ≡ None → length (bytes_of s) ≡ s.size → IsSomeAnd (completion_to s t) (λ c. (length c.payload ≡ count_of op) × (4 * c.length ≡ length c.payload))
+served_completion s t op e sound p served size =
+    let d = served_data s op sound p served size in
+    let is : completion_to s t ≡ Some (completion t kinds.CompletionData statuses.Success d.bytes) =
+    asked s t op e ∙ ap (completion_of t) d.is ∙ kind_not_write t.kind t.body t.length t.payload op (completion_for t (data_of d.bytes)) e p in
+    let counts : 4 * (length d.bytes / 4) ≡ length d.bytes = rw d.size (quarters op p) in
+    rw is (d.size, counts)

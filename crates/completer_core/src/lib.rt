@@ -3,6 +3,7 @@
 #![tactic(auto)]
 
 mod completion;
+pub mod laws;
 mod serving;
 mod span;
 #[cfg(test)]

@@ -38,7 +38,6 @@ pub fn shape(memory: &Memory, request: &Tlp) -> Option<Outline>
     if op.is_posted() {
         return None;
     }
-    let _size = memory.bytes().len();
     Some(match memory.refusal(&op) {
         None => Outline {
             kind: Kind::CompletionData,

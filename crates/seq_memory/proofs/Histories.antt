@@ -1,13 +1,15 @@
 -- A memory after one more entry.
-use Rattle.std.proofs.Common.{◌≡◌, ℕ, ◌-◌, List, [], ◌∷◌, ◌++◌, length, take, drop, get_or, refl, sym, ap, ◌∙◌, arith, length-append}
-use Rattle.std.specs.Prelude.{replicate}
-use Rattle.std.proofs.lemmas.List.{append-nil, drop_all, take_all, get_or_at}
+use Rattle.std.proofs.Common.{◌≡◌, ℕ, zero, suc, ◌+◌, ◌-◌, ◌<◌, ◌≤◌, List, [], ◌∷◌, ◌++◌, length, take, drop, get_or, Some, None, refl, sym, ap, ◌∙◌, arith, length-append}
+use Rattle.std.specs.Prelude.{fold, replicate, option_map, slice_get}
+use Rattle.std.proofs.lemmas.List.{append-nil, drop_all, take_all, take_at, take_more, take-append-le, get_or_at, length-replicate}
+use Rattle.std.proofs.lemmas.Option.{slice_get_within, slice_get_past, get_or_from_slice_get}
 use Rattle.std.proofs.lemmas.List.Sums.{fold-append}
 use Rattle.tlp_core.specs.declared.operation.Op.{Op}
 use Rattle.seq_memory.specs.declared.Entry.{Entry}
-use Rattle.seq_memory.specs.Step.{after}
+use Rattle.seq_memory.specs.Step.{after, answer}
 use Rattle.seq_memory.specs.Limits.{IsSize, IsBase, IsBlock}
-use Rattle.seq_memory.specs.History.{contents, IsMemory}
+use Rattle.seq_memory.specs.History.{contents, contents_at, reply_at, IsMemory}
+use Rattle.seq_memory.proofs.Steps.{size_kept}
 
 pub contents-none : (block base size : ℕ) → contents block base size [] ≡ replicate size 0
 unfolding contents
@@ -42,3 +44,40 @@ pub begins : (base size block : ℕ) (items : List ℕ) (es : List Entry) → it
     → IsMemory (record { base = base; size = length items; block = block; entries = es }) items
 begins base size block items es zeros len none in_size in_base in_block =
     rw (len, none) (record { in_size = in_size; in_base = in_base; in_block = in_block; made = zeros ∙ sym (contents-none block base size) })
+
+-- ---- laws of histories
+
+size_folded : (block base : ℕ) (m : List ℕ) (es : List Entry) → length (fold (λ m e. after block base m e.op) m es) ≡ length m
+size_folded block base m [] = refl
+size_folded block base m (e ∷ es) = size_folded block base (after block base m e.op) es ∙ size_kept block base m e.op
+
+pub contents-size : (block base size : ℕ) (es : List Entry) → length (contents block base size es) ≡ size
+unfolding contents
+contents-size block base size es = size_folded block base (replicate size 0) es ∙ length-replicate size 0
+
+get_left : (xs ys : List Entry) (k : ℕ) → k < length xs → slice_get (xs ++ ys) k ≡ slice_get xs k
+get_left [] ys k h = absurd (omega arith)
+get_left (x ∷ xs) ys zero h = refl
+get_left (x ∷ xs) ys (suc k) h = get_left xs ys k (omega (arith, h))
+
+get_seam : (xs : List Entry) (y : Entry) (ys : List Entry) → slice_get (xs ++ y ∷ ys) (length xs) ≡ Some y
+get_seam [] y ys = refl
+get_seam (x ∷ xs) y ys = get_seam xs y ys
+
+pub contents-at : (block base size : ℕ) (es : List Entry) (p : ℕ) (e : Entry) → slice_get es p ≡ Some e → contents_at block base size es (p + 1) ≡ after block base (contents_at block base size es p) e.op
+contents-at block base size es p e at =
+    let one_more : take (p + 1) es ≡ take p es ++ e ∷ [] = take_more es p e (slice_get_within es p e at) ∙ ap (λ x. take p es ++ x ∷ []) (get_or_from_slice_get es p e e at) in
+    ap (contents block base size) one_more ∙ contents-push block base size (take p es) e
+
+pub reply-before : (block base size : ℕ) (es fs : List Entry) (p : ℕ) → p < length es → reply_at block base size (es ++ fs) p ≡ reply_at block base size es p
+reply-before block base size es fs p h =
+    ap (option_map (λ (e : Entry). answer block base (contents_at block base size (es ++ fs) p) e.op)) (get_left es fs p h)
+    ∙ ap (λ (hs : List Entry). option_map (λ (e : Entry). answer block base (contents block base size hs) e.op) (slice_get es p)) (take-append-le p es fs (omega (arith, h)))
+
+pub reply-seam : (block base size : ℕ) (es : List Entry) (e : Entry) (fs : List Entry) → reply_at block base size (es ++ e ∷ fs) (length es) ≡ Some (answer block base (contents block base size es) e.op)
+reply-seam block base size es e fs =
+    ap (option_map (λ (x : Entry). answer block base (contents_at block base size (es ++ e ∷ fs) (length es)) x.op)) (get_seam es e fs)
+    ∙ ap (λ (hs : List Entry). Some (answer block base (contents block base size hs) e.op)) (take_at es (e ∷ fs) (length es) refl)
+
+pub reply-past : (block base size : ℕ) (es : List Entry) (p : ℕ) → length es ≤ p → reply_at block base size es p ≡ None
+reply-past block base size es p h = ap (option_map (λ (e : Entry). answer block base (contents_at block base size es p) e.op)) (slice_get_past es p h)

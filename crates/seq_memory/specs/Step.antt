@@ -1,5 +1,5 @@
 -- One step of the sequential memory: a list of bytes from a base address on.
-use Rattle.std.specs.Prelude.{ℕ, ◌≡◌, ◌+◌, ◌-◌, ◌*◌, ◌/◌, ◌≤◌, Bool, true, not, ◌&&◌, ◌||◌, ◌==◌, nat_le, if◌then◌else◌, List, [], ◌∷◌, ◌++◌, length, take, drop, replicate, Option, Some, None, is_some}
+use Rattle.std.specs.Prelude.{ℕ, ◌≡◌, ◌+◌, ◌-◌, ◌*◌, ◌/◌, Bool, not, ◌&&◌, ◌||◌, ◌==◌, nat_le, if◌then◌else◌, List, [], ◌∷◌, ◌++◌, length, take, drop, replicate, Option, Some, None, is_some}
 use Rattle.byteorder.specs.Endian.{little_number, little_bytes}
 use Rattle.tlp_core.specs.declared.operation.Op.{Op}
 use Rattle.tlp_core.specs.declared.operation.Op.TheVariants as ops
@@ -89,16 +89,6 @@ after block base m op =
 abbrev pub answer : ℕ → ℕ → List ℕ → Op → Reply
 answer block base m op =
     answer_by (refusal block base (length m) op) (read_back op (bytes_at m (address_of op - base) (count_of op)))
-
--- ---- facts of a step
-
--- an operation that is served
-pub record IsServed (block base size : ℕ) (op : Op) : Type 0 where
-  pub sound : op_fault op ≡ None
-  pub within : is_in_block block (address_of op) (count_of op) ≡ true
-  pub small : count_of op ≤ block
-  pub low : base ≤ address_of op
-  pub high : address_of op + count_of op ≤ base + size
 
 -- data has as many bytes as the place
 abbrev pub IsSizedFor : Op → Reply → Type 0

@@ -10,10 +10,13 @@
 //! are little-endian.
 #![tactic(auto)]
 
+pub mod laws;
 mod limits;
 mod memory;
 mod place;
 mod step;
+#[cfg(test)]
+mod tests;
 
 use arrayvec::ArrayVec;
 pub use limits::{ALIGNMENT, MAX_SIZE, MIN_SIZE, is_base, is_block, is_size};

@@ -74,7 +74,8 @@ impl Memory {
     /// Why [`act`](Memory::act) would not serve the operation, none where it would; what it would
     /// reply is known by that but for the data of a read or an AtomicOp.
     pub fn refusal(&self, op: &Op) -> Option<Refusal>
-        ensures { result ≡ refusal self.now.block self.now.base self.now.size op.now }
+        ensures value { result ≡ refusal self.now.block self.now.base self.now.size op.now }
+        ensures size { length (bytes_of self.now) ≡ self.now.size }
     {
         refusal_of(self.base, self.block, self.bytes.len(), op)
     }

@@ -2,7 +2,7 @@
 ghost use Rattle.std.specs.Prelude.{◌≡◌, ◌+◌, ◌≤◌, None, IfNone};
 ghost use Rattle.tlp_core.specs.Operation.{op_fault, address_of, count_of};
 ghost use Rattle.seq_memory.specs.Limits.{IsBlock};
-ghost use Rattle.seq_memory.specs.Step.{is_in_block, is_inside, refusal, IsServed};
+ghost use Rattle.seq_memory.specs.Step.{is_in_block, is_inside, refusal};
 
 use crate::Refusal;
 use tlp_core::Op;
@@ -33,7 +33,10 @@ fn lies_inside(base: u64, size: usize, address: u64, count: u32) -> bool
 pub(crate) fn refusal_of(base: u64, block: u16, size: usize, op: &Op) -> Option<Refusal>
     requires { IsBlock block }
     ensures value { result ≡ refusal block base size op.now }
-    ensures served { IfNone result (IsServed block base size op.now) }
+    ensures sound { IfNone result (op_fault op.now ≡ None) }
+    ensures few { IfNone result (count_of op.now ≤ 128) }
+    ensures low { IfNone result (base ≤ address_of op.now) }
+    ensures high { IfNone result (address_of op.now + count_of op.now ≤ base + size) }
 {
     if tlp_core::op_fault(op).is_some() {
         return Some(Refusal::Aborted);

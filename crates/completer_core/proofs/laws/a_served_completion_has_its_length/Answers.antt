@@ -1,0 +1,5 @@
+use Rattle.completer_core.proofs.Outlines.{served_completion}
+use Rattle.completer_core.proofs.laws.a_served_completion_has_its_length.Goals as goal
+
+pub returns : goal.returns
+returns c = served_completion

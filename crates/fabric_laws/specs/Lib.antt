@@ -1,0 +1,11 @@
+pub mod Lists
+pub mod Whole
+pub mod Sound
+pub mod Trace
+pub mod Steps
+pub mod New
+pub mod Packets
+pub mod Fabric
+pub mod Events
+pub mod Expected
+pub mod Routed

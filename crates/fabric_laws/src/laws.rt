@@ -1,0 +1,104 @@
+//! What holds of a fabric whatever steps it takes.
+ghost use Rattle.std.specs.Prelude.{◌≡◌, ◌≢◌, ◌<◌, ℕ, suc, Some, Ok, List, [], ◌∷◌, ◌++◌, length, slice_get, is_some, true};
+ghost use Rattle.tlp_core.specs.declared.operation.Op.{Op};
+ghost use Rattle.seq_memory.specs.declared.Entry.{Entry};
+ghost use Rattle.requester_core.specs.declared.requester.Answer.{Answer};
+ghost use Rattle.tlp_core.specs.Packet.{Packet};
+ghost use Rattle.tlp_core.specs.Operation.{op_of};
+ghost use Rattle.requester_core.specs.Requesting.{Requesting, finished};
+ghost use Rattle.lane_core.specs.Steps.{Ends};
+ghost use Rattle.lane_core.specs.Calls.{content};
+ghost use Rattle.history_check.specs.declared.Record.{Record};
+ghost use Rattle.history_check.specs.declared.Record.TheVariants.{Sub, Ans};
+ghost use Rattle.history_check.specs.Trace.{Explains};
+ghost use Rattle.fabric_laws.specs.Whole.{Whole, Item, memory_of, up_of, down_of, requester_of, open_at};
+ghost use Rattle.fabric_laws.specs.Sound.{Sound, times};
+ghost use Rattle.fabric_laws.specs.Trace.{Belongs};
+ghost use Rattle.fabric_laws.specs.Steps.{Step, Run};
+ghost use Rattle.fabric_laws.specs.New.{IsNew, IsNewFabric};
+ghost use Rattle.fabric_laws.specs.Expected.{IsExpected};
+ghost use Rattle.fabric_laws.specs.Routed.{HasPort, IsRouted};
+ghost use Rattle.fabric_laws.specs.Fabric.{Fabric, whole_of};
+ghost use Rattle.fabric_laws.specs.Events.{IsSubmitted, IsForwarded, IsServed, IsReturned, IsCollected, IsLinked};
+
+use completer_core::laws::a_served_completion_has_its_length;
+use seq_memory::laws::history_grows_by_steps;
+
+/// A new fabric is sound, and each step keeps it so: a submission, a request that goes from its
+/// requester's lane to the memory's, one that acts on the memory, a completion that goes back, one
+/// that is collected, and a call of a link, which moves nothing.
+pub fn each_step_keeps_it_sound()
+    ensures new { (p : Whole) → IsNew p → Sound p }
+    ensures step { (p p' : Whole) (rs : List Record) → Sound p → Step p p' rs → Sound p' }
+{}
+
+/// Whatever steps a sound fabric takes, its history only grows, and the records so far, with those
+/// of the steps behind them, belong to it; and the history of a sound fabric explains all records
+/// that belong to it.
+pub fn the_trace_belongs()
+    ensures new { (p : Whole) → IsNew p → Belongs p [] }
+    ensures run { (p p' : Whole) (rs ss : List Record) → Sound p → Belongs p rs → Run p p' ss → Belongs p' (rs ++ ss) }
+    ensures sound { (p p' : Whole) (rs : List Record) → Sound p → Run p p' rs → Sound p' }
+    ensures begins { (p p' : Whole) (rs : List Record) → Sound p → Run p p' rs → (new : List Entry) × (p'.history ≡ p.history ++ new) }
+    ensures explained { (p : Whole) (rs : List Record) → Sound p → Belongs p rs → Explains (record { memory = memory_of p; records = rs }) }
+{}
+
+/// A new fabric by its parts is new as a whole, and its packets, of which there are none, have their
+/// ports.
+pub fn new_parts_make_a_new_fabric()
+    ensures whole { (f : Fabric) → IsNewFabric f → IsNew (whole_of f) }
+    ensures routed { (f : Fabric) → IsNewFabric f → IsRouted f }
+{}
+
+/// Each event on the real parts, the packets in the lanes and the tag tables of the requesters, is
+/// a step: with the record of what was submitted or collected, and else with none.
+pub fn each_event_is_a_step()
+    ensures submitted { (f f' : Fabric) (i : ℕ) (op : Op) (e : IsSubmitted f i op f') → Step (whole_of f) (whole_of f') (Sub (suc i) e.number op (length f.memory.entries) ∷ []) }
+    ensures forwarded { (f f' : Fabric) (i place : ℕ) → IsForwarded f i place f' → Step (whole_of f) (whole_of f') [] }
+    ensures served { (f f' : Fabric) (place : ℕ) → IsServed f place f' → Step (whole_of f) (whole_of f') [] }
+    ensures returned { (f f' : Fabric) (i place : ℕ) → IsReturned f i place f' → Step (whole_of f) (whole_of f') [] }
+    ensures collected { (f f' : Fabric) (i : ℕ) (a : Answer) → IsCollected f i a f' → Step (whole_of f) (whole_of f') (Ans (suc i) a.number a.reply (length f.memory.entries) ∷ []) }
+{
+    a_served_completion_has_its_length();
+    history_grows_by_steps();
+}
+
+/// A call of a link, which leaves what its lane holds, is a step that leaves the whole.
+pub fn each_link_call_is_a_step()
+    ensures up { (f : Fabric) (i : ℕ) (lanes : List Ends) → IsLinked f.up i lanes → Step (whole_of f) (whole_of (record f { up = lanes })) [] }
+    ensures down { (f : Fabric) (i : ℕ) (lanes : List Ends) → IsLinked f.down i lanes → Step (whole_of f) (whole_of (record f { down = lanes })) [] }
+    ensures inward { (f : Fabric) (lane : Ends) → content lane ≡ content f.inward → Step (whole_of f) (whole_of (record f { inward = lane })) [] }
+    ensures outward { (f : Fabric) (lane : Ends) → content lane ≡ content f.outward → Step (whole_of f) (whole_of (record f { outward = lane })) [] }
+{}
+
+/// In a sound fabric whose lanes hold nothing of a requester, each of its submissions stands once
+/// in the history, and none waits for its completion.
+pub fn quiet_is_all_acted()
+    ensures acted { (p : Whole) (i k : ℕ) → Sound p → p.inward ≡ [] → up_of p i ≡ [] → k < (requester_of p i).next → times i k p.history ≡ 1 }
+    ensures answered { (p : Whole) (i t k : ℕ) → Sound p → p.inward ≡ [] → up_of p i ≡ [] → p.outward ≡ [] → down_of p i ≡ [] → open_at (requester_of p i) t ≢ Some k }
+{}
+
+/// Each event keeps every packet's Requester ID that of a port of the fabric, the requests such that
+/// each asks for an operation, and the completions of the form that their requesters expect.
+pub fn packets_keep_their_ports()
+    ensures asks { (f : Fabric) (place mark : ℕ) (t : Packet) → IsRouted f → slice_get (content f.inward) place ≡ Some (t, mark) → is_some (op_of t) ≡ true }
+    ensures submitted { (f f' : Fabric) (i : ℕ) (op : Op) → IsRouted f → IsSubmitted f i op f' → IsRouted f' }
+    ensures forwarded { (f f' : Fabric) (i place : ℕ) → IsRouted f → IsForwarded f i place f' → IsRouted f' }
+    ensures served { (f f' : Fabric) (place : ℕ) → IsRouted f → IsServed f place f' → IsRouted f' }
+    ensures returned { (f f' : Fabric) (i place : ℕ) → IsRouted f → IsReturned f i place f' → IsRouted f' }
+    ensures collected { (f f' : Fabric) (i : ℕ) (a : Answer) → IsRouted f → IsCollected f i a f' → IsRouted f' }
+    ensures up { (f : Fabric) (i : ℕ) (lanes : List Ends) → IsRouted f → IsLinked f.up i lanes → IsRouted (record f { up = lanes }) }
+    ensures down { (f : Fabric) (i : ℕ) (lanes : List Ends) → IsRouted f → IsLinked f.down i lanes → IsRouted (record f { down = lanes }) }
+    ensures inward { (f : Fabric) (lane : Ends) → IsRouted f → content lane ≡ content f.inward → IsRouted (record f { inward = lane }) }
+    ensures outward { (f : Fabric) (lane : Ends) → IsRouted f → content lane ≡ content f.outward → IsRouted (record f { outward = lane }) }
+{}
+
+/// What a requester of a sound fabric collects is a completion that it expects, so it is never
+/// refused; and every completion on its way back has a port to go to.
+pub fn no_completion_is_strange()
+    ensures expected { (p : Whole) (i : ℕ) (c : Item) (rest : List Item) → Sound p → down_of p i ≡ c ∷ rest → IsExpected i (requester_of p i) c }
+    ensures finished { (f : Fabric) (i mark : ℕ) (q : Requesting) (lane : Ends) (t : Packet) → Sound (whole_of f) → IsRouted f →
+        slice_get f.requesters i ≡ Some q → slice_get f.down i ≡ Some lane → slice_get lane.receiver.queue 0 ≡ Some (t, mark) →
+        (a : Answer) × (finished q t ≡ Ok a) }
+    ensures routed { (f : Fabric) (place mark : ℕ) (t : Packet) → IsRouted f → slice_get (content f.outward) place ≡ Some (t, mark) → HasPort (length f.requesters) t }
+{}

@@ -1,0 +1,4 @@
+pub mod Needs
+pub mod Limits
+pub mod Credits
+pub mod Account

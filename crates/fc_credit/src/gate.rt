@@ -1,0 +1,111 @@
+//! The sender's side.
+ghost use Rattle.std.specs.Prelude.{◌≡◌, ℕ, ◌<◌, ◌≤◌, ◌↔◌, IsTrue};
+
+use crate::counter::{Allowance, Part};
+use crate::limits::LaneCredits;
+use crate::needs::Need;
+use dllp_core::Class;
+
+/// The two counters of a class.
+#[derive(Clone, Copy, Debug, PartialEq, Eq)]
+pub(crate) struct ClassGate {
+    header: Allowance,
+    units: Allowance,
+}
+
+/// The transmitter's counters (section 2.6.1.2): for each class what it may use and what it used.
+#[derive(Clone, Copy, Debug, PartialEq, Eq)]
+pub struct CreditGate {
+    posted: ClassGate,
+    non_posted: ClassGate,
+    completion: ClassGate,
+}
+
+impl ClassGate {
+    ghost use Rattle.fc_credit.specs.Credits.{class_gate, class_covers, class_spent, class_limited};
+
+    fn new(header: u8, units: u16) -> ClassGate
+        ensures { result ≡ class_gate header units }
+    {
+        ClassGate {
+            header: Allowance::new(Part::Header, u16::from(header)),
+            units: Allowance::new(Part::Data, units),
+        }
+    }
+
+    fn fits(self, header: u8, units: u16) -> bool
+        ensures { result ≡ class_covers self header units }
+    {
+        self.header.fits(Part::Header, u16::from(header)) && self.units.fits(Part::Data, units)
+    }
+
+    fn consume(&mut self, header: u8, units: u16)
+        ensures { self.new ≡ class_spent self.old header units }
+    {
+        self.header.consume(Part::Header, u16::from(header));
+        self.units.consume(Part::Data, units);
+    }
+
+    fn limit(&mut self, header: u8, units: u16)
+        ensures { self.new ≡ class_limited self.old header units }
+    {
+        self.header.set_limit(u16::from(header));
+        self.units.set_limit(units);
+    }
+}
+
+impl CreditGate {
+    ghost use Rattle.fc_credit.specs.Credits.{modulus, most, pick, gate_of, allowance, gate_covers, after_consume, after_limit, first_gate, StandsFor, HasRoom};
+    ghost use Rattle.fc_credit.specs.declared.counter.Part.{Part};
+
+    /// The gate as these credits were advertised and nothing used.
+    pub fn new(credits: LaneCredits) -> CreditGate
+        ensures { result ≡ first_gate credits }
+    {
+        CreditGate {
+            posted: ClassGate::new(credits.ph, credits.pd),
+            non_posted: ClassGate::new(credits.nph, credits.npd),
+            completion: ClassGate::new(credits.cplh, credits.cpld),
+        }
+    }
+
+    /// Whether a packet of this need may go (section 2.6.1.2).
+    pub fn fits(&self, need: Need) -> bool
+        ensures value { result ≡ gate_covers self.now need }
+        ensures right { (known used : Part → ℕ) →
+            ((p : Part) → 0 < (allowance need.class p self.now).first → StandsFor p (allowance need.class p self.now) (known p) (used p)) →
+            need.header ≤ 127 → need.units ≤ 2047 →
+            IsTrue result ↔ ((p : Part) → HasRoom (allowance need.class p self.now) (known p) (used p) (pick p need.header need.units)) }
+        ensures infinite { ((p : Part) → (allowance need.class p self.now).first ≡ 0) → IsTrue result }
+    {
+        match need.class {
+            Class::Posted => self.posted.fits(need.header, need.units),
+            Class::NonPosted => self.non_posted.fits(need.header, need.units),
+            Class::Completion => self.completion.fits(need.header, need.units),
+        }
+    }
+
+    /// Takes the credits of a packet that goes now.
+    pub fn consume(&mut self, need: Need)
+        requires { IsTrue (gate_covers self.old need) }
+        ensures { self.new ≡ after_consume self.old need }
+    {
+        match need.class {
+            Class::Posted => self.posted.consume(need.header, need.units),
+            Class::NonPosted => self.non_posted.consume(need.header, need.units),
+            Class::Completion => self.completion.consume(need.header, need.units),
+        }
+    }
+
+    /// Takes what an UpdateFC carries: HdrFC, and DataFC, which has 12 bits.
+    pub fn limit(&mut self, class: Class, header: u8, units: u16)
+        requires { units < 4096 }
+        ensures { self.new ≡ after_limit self.old class header units }
+    {
+        match class {
+            Class::Posted => self.posted.limit(header, units),
+            Class::NonPosted => self.non_posted.limit(header, units),
+            Class::Completion => self.completion.limit(header, units),
+        }
+    }
+}

@@ -1,0 +1,59 @@
+//! What holds of credits, whatever calls come.
+ghost use Rattle.std.specs.Prelude.{◌≡◌, IsTrue, ℕ, ◌*◌, ◌<◌, ◌≤◌, List, []};
+ghost use Rattle.dllp_core.specs.declared.packet.Class.{Class};
+ghost use Rattle.dllp_core.specs.declared.packet.Dllp.{Dllp};
+ghost use Rattle.tlp_core.specs.Packet.{Packet, IsPacket};
+ghost use Rattle.fc_credit.specs.declared.counter.Part.{Part};
+ghost use Rattle.fc_credit.specs.declared.limits.LaneCredits.{LaneCredits};
+ghost use Rattle.fc_credit.specs.declared.needs.Need.{Need};
+ghost use Rattle.fc_credit.specs.declared.gate.CreditGate.{CreditGate};
+ghost use Rattle.fc_credit.specs.declared.ledger.CreditLedger.{CreditLedger};
+ghost use Rattle.fc_credit.specs.Needs.{units_of, need_of};
+ghost use Rattle.fc_credit.specs.Limits.{IsInLimits, least_units};
+ghost use Rattle.fc_credit.specs.Credits.{first_of, allowance, grant, gate_covers, first_gate};
+ghost use Rattle.fc_credit.specs.Account.{Accounts, Direction, Event, HasCredit, IsRight, demand, happens, numbers_after, new_direction, first_numbers, after_events, numbers_in};
+
+/// The data units of a payload are the least number of units of 16 bytes that hold it.
+pub fn units_are_the_least()
+    ensures enough { (bytes : ℕ) → bytes ≤ 16 * units_of bytes }
+    ensures least { (bytes n : ℕ) → bytes ≤ 16 * n → units_of bytes ≤ n }
+{}
+
+/// No packet needs more than the least data credit of its class, so each may go on a new lane, where nothing is used.
+pub fn limits_let_each_packet_go()
+    ensures header { (t : Packet) → (need_of t).header ≡ 1 }
+    ensures units { (t : Packet) → IsPacket t → (need_of t).units ≤ least_units (need_of t).class }
+    ensures goes { (credits : LaneCredits) (t : Packet) → IsInLimits credits → IsPacket t → IsTrue (gate_covers (first_gate credits) (need_of t)) }
+{}
+
+/// The whole numbers behind the counters of one direction still stand behind them after each event, with the gate, the
+/// ledger, the queue and what is under way apart.
+pub fn each_event_keeps_the_account()
+    ensures new { (credits : LaneCredits) → IsInLimits credits →
+        HasCredit credits (new_direction credits).gate (new_direction credits).ledger (first_numbers credits) [] [] [] }
+    ensures kept { (credits : LaneCredits) (d : Direction) (numbers : Accounts) (event : Event) →
+        HasCredit credits d.gate d.ledger numbers d.queue d.on_the_way d.wire →
+        HasCredit credits (happens d event).gate (happens d event).ledger (numbers_after d numbers event) (happens d event).queue (happens d event).on_the_way (happens d event).wire }
+{}
+
+/// Where whole numbers stand behind the counters: for each finite counter what was used is at most what is known, that
+/// is at most what was given, and what was given less what was used and what the queue and the packets under way hold
+/// come to the first value. The gate's test is that of the room in whole numbers, and the receiver sees no overflow.
+pub fn an_account_is_right()
+    ensures right { (credits : LaneCredits) (gate : CreditGate) (ledger : CreditLedger) (numbers : Accounts) (queue on_the_way : List Need) (wire : List Dllp) (c : Class) (p : Part) →
+        HasCredit credits gate ledger numbers queue on_the_way wire → 0 < first_of c p credits →
+        IsRight p (first_of c p credits) (allowance c p gate) (grant c p ledger) (numbers c p) (demand c p queue) (demand c p on_the_way) }
+{}
+
+/// After any events in a new direction, whatever updates are lost and however often the counters wrap, whole numbers
+/// stand behind the counters, and all is right with them.
+pub fn counters_stand_for_whole_numbers()
+    ensures account { (credits : LaneCredits) (events : List Event) → IsInLimits credits →
+        HasCredit credits (after_events (new_direction credits) events).gate (after_events (new_direction credits) events).ledger
+        (numbers_in (new_direction credits) (first_numbers credits) events)
+        (after_events (new_direction credits) events).queue (after_events (new_direction credits) events).on_the_way (after_events (new_direction credits) events).wire }
+    ensures right { (credits : LaneCredits) (events : List Event) (c : Class) (p : Part) → IsInLimits credits → 0 < first_of c p credits →
+        IsRight p (first_of c p credits) (allowance c p (after_events (new_direction credits) events).gate) (grant c p (after_events (new_direction credits) events).ledger)
+        (numbers_in (new_direction credits) (first_numbers credits) events c p)
+        (demand c p (after_events (new_direction credits) events).queue) (demand c p (after_events (new_direction credits) events).on_the_way) }
+{}

@@ -1,0 +1,12 @@
+pub mod Firsts
+pub mod Tables
+pub mod Entries
+pub mod Floors
+pub mod Judged
+pub mod Replies
+pub mod Verdicts
+pub mod Linked
+pub mod Lists
+pub mod Same
+pub mod LegalLaw
+pub mod LinearLaw

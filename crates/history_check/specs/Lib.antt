@@ -1,0 +1,5 @@
+pub mod Claim
+pub mod Names
+pub mod Trace
+pub mod Flaws
+pub mod Lookup

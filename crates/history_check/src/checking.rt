@@ -1,0 +1,41 @@
+//! The check, pass by pass.
+ghost use Rattle.std.specs.Prelude.{◌≡◌, None, OnOk, IfErr};
+ghost use Rattle.seq_memory.specs.Limits.{IsBlock};
+ghost use Rattle.history_check.specs.Flaws.{first_flaw, Tells};
+ghost use Rattle.history_check.specs.Claim.{claim_of};
+ghost use Rattle.history_check.specs.Trace.{Explains};
+
+use crate::flaws::{Flaw, FlawKind, NO_MEMORY};
+use crate::{Trace, acting, answers, index, replay};
+use seq_memory::Entry;
+use std::alloc::Global;
+
+/// The passes, one after the other.
+fn first_flaw_of(alloc: Global, trace: &Trace, history: &[Entry]) -> Result<(), Flaw>
+    requires { IsBlock trace.now.block }
+    ensures ok { OnOk result (first_flaw (claim_of trace.now history.now) ≡ None) }
+    ensures err { IfErr result (Tells (first_flaw (claim_of trace.now history.now))) }
+{
+    let records = trace.records.as_slice();
+    let index = index::index_of(alloc, records)?;
+    let points = acting::act(alloc, &index, records, history)?;
+    let Ok(floors) = answers::floors(alloc, &index, &points, records) else {
+        return Err(NO_MEMORY);
+    };
+    let Ok(replies) = replay::replay(alloc, trace.block, trace.base, trace.size, history) else {
+        return Err(NO_MEMORY);
+    };
+    answers::answer(alloc, &index, records, &points, &floors, &replies)
+}
+
+/// Whether the history explains the trace, and else the first flaw. Where a growth was refused, a
+/// flaw of kind `Memory` tells it, and nothing is known.
+pub fn check(alloc: Global, trace: &Trace, history: &[Entry]) -> Result<(), Flaw>
+    requires { IsBlock trace.now.block }
+    ensures explained { OnOk result (Explains (claim_of trace.now history.now)) }
+    ensures unexplained { IfErr result (λ f. ¬ (f.kind ≡ FlawKind.Memory) → ¬ (Explains (claim_of trace.now history.now))) }
+    ensures ok { OnOk result (first_flaw (claim_of trace.now history.now) ≡ None) }
+    ensures err { IfErr result (Tells (first_flaw (claim_of trace.now history.now))) }
+{
+    first_flaw_of(alloc, trace, history)
+}

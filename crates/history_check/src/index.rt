@@ -1,0 +1,90 @@
+//! Where each submission stands among the records.
+ghost use Rattle.std.specs.Prelude.{◌≡◌, ◌++◌, ◌∷◌, [], length, take, set, get_or, None, IfOk, OnOk, IfErr, OnErr};
+ghost use Rattle.history_check.specs.Flaws.{first_at, numbering_at, Tells};
+ghost use Rattle.history_check.specs.Lookup.{IsIndex, place_in};
+
+use crate::Record;
+use crate::flaws::{Flaw, FlawKind, NO_MEMORY};
+use std::alloc::{AllocError, Global};
+use std::marker::Model;
+
+/// The places of each requester's submissions, by number.
+#[derive(Drop)]
+pub(crate) struct Index {
+    rows: Vec<Vec<usize>>,
+}
+
+impl Model for Index {
+    ghost use Rattle.std.specs.Prelude.{◌≡◌, ℕ, List, map, length};
+
+    ghost Value = { List (List ℕ) };
+
+    ghost view = { λ m. map (λ v. v.items) m.rows.items };
+
+    ghost invariant = { λ m. length m.rows.items ≡ 256 };
+}
+
+impl Index {
+    fn new(alloc: Global) -> Result<Self, AllocError>
+        ensures { IfOk result (λ rows. IsIndex rows []) }
+    {
+        let mut rows = Vec::new(alloc);
+        for _ in 0..256usize {
+            rows.push(Vec::new(alloc))?;
+        }
+        Ok(Index { rows })
+    }
+
+    /// How many submissions of the requester there are.
+    fn count(&self, requester: u8) -> usize
+        ensures { result ≡ length (get_or self.now requester []) }
+    {
+        self.rows[usize::from(requester)].len()
+    }
+
+    /// Where the submission stands.
+    pub(crate) fn place(&self, requester: u8, number: u32) -> Option<usize>
+        ensures { result ≡ place_in self.now requester number }
+    {
+        self.rows[usize::from(requester)]
+            .get(number as usize)
+            .copied()
+    }
+
+    fn add(&mut self, requester: u8, place: usize) -> Result<(), AllocError>
+        ensures { OnOk result (self.new ≡ set self.old requester (get_or self.old requester [] ++ place ∷ [])) }
+    {
+        self.rows[usize::from(requester)].push(place)?;
+        Ok(())
+    }
+}
+
+/// The index of records whose numbers are in order.
+pub(crate) fn index_of(alloc: Global, records: &[Record]) -> Result<Index, Flaw>
+    ensures index { IfOk result (λ rows. IsIndex rows records.now) }
+    ensures ok { OnOk result (first_at (numbering_at records.now) (length records.now) ≡ None) }
+    ensures err { IfErr result (Tells (first_at (numbering_at records.now) (length records.now))) }
+{
+    let Ok(mut index) = Index::new(alloc) else {
+        return Err(NO_MEMORY);
+    };
+    for a in 0..records.len() {
+        if let Record::Sub {
+            requester,
+            number,
+            ..
+        } = &records[a]
+        {
+            if index.count(*requester) != *number as usize {
+                return Err(Flaw {
+                    kind: FlawKind::Numbering,
+                    place: a,
+                });
+            }
+            let Ok(()) = index.add(*requester, a) else {
+                return Err(NO_MEMORY);
+            };
+        }
+    }
+    Ok(index)
+}

@@ -1,0 +1,55 @@
+//! Whether a history explains what requesters were told.
+//!
+//! A [`Trace`] has what requesters submitted to a memory and what they were answered, in the order
+//! of events, wherever it comes from; a history is the requests in the order in which the memory
+//! did them. [`check`] says whether the history explains the trace, and else what is wrong first:
+//! each answer has to be the sequential memory's at one point of the history that lies after its
+//! submission, before the answer, and above the points of all answers that its requester had before
+//! it asked.
+//!
+//! The check is near linear in the records and entries: one loop each over flat tables.
+#![tactic(auto)]
+
+mod acting;
+mod answers;
+mod checking;
+mod flaws;
+mod index;
+mod replay;
+#[cfg(test)]
+mod tests;
+
+pub use checking::check;
+pub use flaws::{Flaw, FlawKind};
+use seq_memory::Reply;
+use tlp_core::Op;
+
+/// What a requester saw. `n` is the length of the history at that event.
+#[derive(Clone, Debug, PartialEq, Drop)]
+pub enum Record {
+    /// The requester submitted an operation under its next number.
+    Sub {
+        requester: u8,
+        number: u32,
+        op: Op,
+        n: u64,
+    },
+    /// It was answered.
+    Ans {
+        requester: u8,
+        number: u32,
+        reply: Reply,
+        n: u64,
+    },
+}
+
+/// What requesters submitted to a memory and were answered, in the order of events. The memory has
+/// `size` bytes, zeros at first, from the address `base` on, and serves accesses by blocks of
+/// `block` bytes.
+#[derive(Clone, Debug, PartialEq, Drop)]
+pub struct Trace {
+    pub base: u64,
+    pub size: usize,
+    pub block: u16,
+    pub records: Vec<Record>,
+}

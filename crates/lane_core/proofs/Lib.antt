@@ -1,0 +1,10 @@
+pub mod Arithmetic
+pub mod UnderWay
+pub mod Forward
+pub mod Backward
+pub mod Right
+pub mod Sound
+pub mod Directions
+pub mod Kept
+pub mod Whole
+pub mod Sums

@@ -1,0 +1,5 @@
+use Rattle.lane_core.proofs.Kept.{accepts_first}
+use Rattle.lane_core.proofs.laws.only_the_first_is_accepted.Goals as goal
+
+pub returns : goal.returns
+returns c = accepts_first

@@ -1,0 +1,5 @@
+pub mod Content
+pub mod Steps
+pub mod Calls
+pub mod Credit
+pub mod Refusals

@@ -1,0 +1,234 @@
+//! The four ends together.
+ghost use Rattle.std.specs.Prelude.{◌≡◌, ℕ, ◌+◌, ◌<◌, ◌≤◌, ◌↔◌, ◌⊎◌, List, [], ◌∷◌, ◌++◌, length, false, remove, slice_get, Some, IsTrue, IsOk, IsSome, IfSome, OnOk, OnErr, IfOk, IfErr};
+
+use crate::packet::{Arrival, DllpKind, DllpSeen, Fate, LaneRefusal};
+use crate::receiver_end::ReceiverEnd;
+use crate::sender_end::SenderEnd;
+use crate::wires::{BackWire, ForwardWire};
+use dllp_core::Dllp;
+use fc_credit::{LaneCredits, Need};
+use link_receiver::Reception;
+use replay_sender::AckFault;
+use seq12::Seq12;
+use std::alloc::Global;
+use std::marker::Model;
+use tlp_core::Tlp;
+
+/// One direction of a link: both ends and both wires, right through every loss and every wrap.
+#[derive(Drop)]
+pub struct Lane {
+    sender: SenderEnd,
+    forward: ForwardWire,
+    back: BackWire,
+    receiver: ReceiverEnd,
+}
+
+impl Model for Lane {
+    ghost use Rattle.lane_core.specs.Steps.{Ends};
+    ghost use Rattle.lane_core.specs.Calls.{IsRight};
+
+    ghost Value = { Ends };
+
+    ghost view = { λ l. record { sender = l.sender; forward = l.forward; back = l.back; receiver = l.receiver } };
+
+    ghost invariant = { λ l. IsRight (record { sender = l.sender; forward = l.forward; back = l.back; receiver = l.receiver }) };
+}
+
+impl Lane {
+    ghost use Rattle.replay_sender.specs.Sending.{next_number};
+    ghost use Rattle.fc_credit.specs.Limits.{IsInLimits};
+    ghost use Rattle.fc_credit.specs.Needs.{need_of as need};
+    ghost use Rattle.fc_credit.specs.Credits.{gate_covers};
+    ghost use Rattle.vc_queue.specs.Queue.{Item, is_takeable};
+    ghost use Rattle.lane_core.specs.Steps.{new_lane, entered, with_room, transmitted, delivered, dllp_of, dllp_seen, after_take};
+    ghost use Rattle.fc_credit.specs.declared.limits.LaneCredits.{LaneCredits};
+    ghost use Rattle.lane_core.specs.Calls.{Call, Transmit, Deliver, SendDllp, DeliverDllp, Timer, Retrained, AreCalls, after_calls, happens, content, AcceptsFirst, IsRight};
+    ghost use Rattle.lane_core.specs.Credit.{numbers_of, HasRoom};
+
+    /// A lane whose receiver advertised these credits. It allocates nothing.
+    pub fn new(credits: LaneCredits, alloc: Global) -> Lane
+        requires { IsInLimits credits }
+        ensures { result ≡ new_lane credits }
+    {
+        Lane {
+            sender: SenderEnd::new(credits, alloc),
+            forward: ForwardWire::new(alloc),
+            back: BackWire::new(alloc),
+            receiver: ReceiverEnd::new(credits, alloc),
+        }
+    }
+
+    /// Keeps room for one packet of this need: after Ok, the next `enter` of that need is accepted and takes no memory.
+    pub fn make_room(&mut self, need: Need) -> Result<(), LaneRefusal>
+        ensures no_credits { (result ≡ Err (LaneRefusal.NoCredits need.class)) ↔ (gate_covers self.old.sender.gate need ≡ false) }
+        ensures no_room { need.header ≤ 127 → need.units ≤ 2047 → (credits : LaneCredits) (calls : List Call) → IsInLimits credits → AreCalls calls → after_calls (new_lane credits) calls ≡ self.old →
+            (result ≡ Err (LaneRefusal.NoCredits need.class)) ↔ (¬ HasRoom credits (numbers_of credits calls) need) }
+        ensures full { (result ≡ Err LaneRefusal.WindowFull) ↔ (IsTrue (gate_covers self.old.sender.gate need) × (2047 ≤ length self.old.sender.sending.kept)) }
+        ensures errors { IfErr result (λ refusal. (refusal ≡ LaneRefusal.NoCredits need.class) ⊎ (refusal ≡ LaneRefusal.WindowFull) ⊎ (refusal ≡ LaneRefusal.Memory)) }
+        ensures made { IsTrue self.old.sender.sending.reserved → IsTrue (gate_covers self.old.sender.gate need) → length self.old.sender.sending.kept < 2047 → IsOk result }
+        ensures ok { OnOk result (self.new ≡ record self.old { sender = with_room self.old.sender }) }
+        ensures content { content self.new ≡ content self.old }
+        ensures err { OnErr result (self.new ≡ self.old) }
+    {
+        self.sender.make_room(need)
+    }
+
+    /// Takes a packet with its mark as the last, under the next sequence number.
+    pub fn enter(&mut self, tlp: &Tlp, mark: u32) -> Result<Seq12, LaneRefusal>
+        ensures no_credits { (result ≡ Err (LaneRefusal.NoCredits (need tlp.now).class)) ↔ (gate_covers self.old.sender.gate (need tlp.now) ≡ false) }
+        ensures no_room { (credits : LaneCredits) (calls : List Call) → IsInLimits credits → AreCalls calls → after_calls (new_lane credits) calls ≡ self.old →
+            (result ≡ Err (LaneRefusal.NoCredits (need tlp.now).class)) ↔ (¬ HasRoom credits (numbers_of credits calls) (need tlp.now)) }
+        ensures full { (result ≡ Err LaneRefusal.WindowFull) ↔ (IsTrue (gate_covers self.old.sender.gate (need tlp.now)) × (2047 ≤ length self.old.sender.sending.kept)) }
+        ensures errors { IfErr result (λ refusal. (refusal ≡ LaneRefusal.NoCredits (need tlp.now).class) ⊎ (refusal ≡ LaneRefusal.WindowFull) ⊎ (refusal ≡ LaneRefusal.Memory)) }
+        ensures room_was_made { IsTrue self.old.sender.sending.reserved → IsTrue (gate_covers self.old.sender.gate (need tlp.now)) → length self.old.sender.sending.kept < 2047 → IsOk result }
+        ensures number { IfOk result (λ number. number ≡ next_number self.old.sender.sending) }
+        ensures ok { OnOk result (self.new ≡ record self.old { sender = entered self.old.sender tlp.now mark }) }
+        ensures content { OnOk result (content self.new ≡ content self.old ++ (tlp.now, mark) ∷ []) }
+        ensures err { OnErr result (self.new ≡ self.old) }
+    {
+        self.sender.enter(tlp, mark)
+    }
+
+    /// The next packet goes onto the forward wire as the last; None where there is none to send, and while the sender
+    /// is stopped.
+    pub fn transmit(&mut self) -> Result<Option<Seq12>, LaneRefusal>
+        ensures number { IfOk result (λ number. number ≡ transmitted self.old.sender) }
+        ensures ok { OnOk result (self.new ≡ happens self.old Transmit) }
+        ensures content { content self.new ≡ content self.old }
+        ensures memory { IfErr result (λ refusal. refusal ≡ LaneRefusal.Memory) }
+        ensures err { OnErr result (self.new ≡ self.old) }
+    {
+        self.sender.transmit(&mut self.forward)
+    }
+
+    /// Takes the oldest packet of the forward wire; None where the wire is empty. An accepted packet stands last in the
+    /// queue.
+    pub fn deliver(&mut self, fate: Fate) -> Result<Option<Arrival>, LaneRefusal>
+        ensures answer { IfOk result (λ arrival. arrival ≡ delivered self.old.forward self.old.receiver fate) }
+        ensures ok { OnOk result (self.new ≡ happens self.old (Deliver fate)) }
+        ensures accepts { result ≡ Ok (Some (Arrival.Answered Reception.Accept)) → AcceptsFirst self.old self.new }
+        ensures content { content self.new ≡ content self.old }
+        ensures memory { IfErr result (λ refusal. refusal ≡ LaneRefusal.Memory) }
+        ensures err { OnErr result (self.new ≡ self.old) }
+    {
+        self.receiver.deliver(&mut self.forward, fate)
+    }
+
+    /// Puts the Ack or Nak that is due, or a class's UpdateFC, on the back wire as the last.
+    pub fn send_dllp(&mut self, kind: DllpKind) -> Result<Dllp, LaneRefusal>
+        ensures answer { IfOk result (λ dllp. dllp ≡ dllp_of self.old.receiver kind) }
+        ensures ok { OnOk result (self.new ≡ happens self.old (SendDllp kind)) }
+        ensures content { content self.new ≡ content self.old }
+        ensures memory { IfErr result (λ refusal. refusal ≡ LaneRefusal.Memory) }
+        ensures err { OnErr result (self.new ≡ self.old) }
+    {
+        self.receiver.send_dllp(&mut self.back, kind)
+    }
+
+    /// Takes the oldest DLLP of the back wire; None where the wire is empty. It takes effect where it is good. In a lane
+    /// it is never a protocol error.
+    pub fn deliver_dllp(&mut self, fate: Fate) -> Result<Option<DllpSeen>, AckFault>
+        ensures never_fault { IsOk result }
+        ensures answer { result ≡ dllp_seen self.old.back self.old.sender fate }
+        ensures state { self.new ≡ happens self.old (DeliverDllp fate) }
+        ensures content { content self.new ≡ content self.old }
+    {
+        self.sender.deliver_dllp(&mut self.back, fate)
+    }
+
+    /// The replay timer expired: the next packet to send is the oldest. Gives by how many places that moved back.
+    pub fn timer(&mut self) -> usize
+        ensures moved { result ≡ self.old.sender.sending.place }
+        ensures state { self.new ≡ happens self.old Timer }
+        ensures content { content self.new ≡ content self.old }
+    {
+        self.sender.timer()
+    }
+
+    /// The link was retrained: the sender is no longer stopped. Answers whether it was.
+    pub fn retrained(&mut self) -> bool
+        ensures answer { result ≡ self.old.sender.sending.stopped }
+        ensures state { self.new ≡ happens self.old Retrained }
+        ensures content { content self.new ≡ content self.old }
+    {
+        self.sender.retrained()
+    }
+
+    /// How many accepted packets there are.
+    pub fn len(&self) -> usize
+        ensures { result ≡ length self.now.receiver.queue }
+    {
+        self.receiver.len()
+    }
+
+    /// Whether there is no accepted packet.
+    pub fn is_empty(&self) -> bool
+        ensures { IsTrue result ↔ (self.now.receiver.queue ≡ []) }
+    {
+        self.receiver.is_empty()
+    }
+
+    /// Whether there is an accepted packet at this place that may pass every earlier one.
+    pub fn takeable(&self, place: usize) -> bool
+        ensures { result ≡ is_takeable self.now.receiver.queue place }
+    {
+        self.receiver.takeable(place)
+    }
+
+    /// The accepted packet of a place and its mark, oldest first from 0; None past the end.
+    pub fn at(&self, place: usize) -> Option<(&Tlp, u32)>
+        ensures there { IsSome result ↔ (place < length self.now.receiver.queue) }
+        ensures item { IfSome result (λ x. slice_get self.now.receiver.queue place ≡ Some (x.0.now, x.1)) }
+    {
+        self.receiver.at(place)
+    }
+
+    /// Takes the accepted packet of a place, with its mark, and gives its credits back.
+    pub fn take(&mut self, place: usize) -> (Tlp, u32)
+        requires { IsTrue (is_takeable self.old.receiver.queue place) }
+        ensures item { slice_get self.old.receiver.queue place ≡ Some result }
+        ensures state { self.new ≡ record self.old { receiver = after_take self.old.receiver place } }
+        ensures content { content self.new ≡ remove (content self.old) place }
+    {
+        self.receiver.take(place)
+    }
+
+    /// Whether every packet that was entered was taken.
+    pub fn quiet(&self) -> bool
+        ensures quiet { IsTrue result ↔ (content self.now ≡ []) }
+    {
+        self.receiver.is_empty() && self.receiver.next_rcv_seq() == self.sender.next_transmit_seq()
+    }
+
+    /// The four ends apart.
+    pub fn into_ends(self) -> (SenderEnd, ForwardWire, BackWire, ReceiverEnd)
+        ensures ends { self ≡ record { sender = result.0; forward = result.1; back = result.2; receiver = result.3 } }
+        ensures right { IsRight (record { sender = result.0; forward = result.1; back = result.2; receiver = result.3 }) }
+    {
+        let Lane {
+            sender,
+            forward,
+            back,
+            receiver,
+        } = self;
+        (sender, forward, back, receiver)
+    }
+
+    /// The four ends together, which are right together.
+    pub fn of_ends(
+        sender: SenderEnd,
+        forward: ForwardWire,
+        back: BackWire,
+        receiver: ReceiverEnd,
+    ) -> Lane
+        requires { IsRight (record { sender = sender; forward = forward; back = back; receiver = receiver }) }
+        ensures { result ≡ record { sender = sender; forward = forward; back = back; receiver = receiver } }
+    {
+        Lane {
+            sender,
+            forward,
+            back,
+            receiver,
+        }
+    }
+}

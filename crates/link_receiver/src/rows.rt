@@ -1,0 +1,34 @@
+//! Worked rows.
+use super::*;
+use dllp_core::Dllp;
+use seq12::Seq12;
+
+/// The next DLLP, as bytes.
+fn sent(receiver: &mut Receiver) -> [u8; 4] {
+    match receiver.acknowledge() {
+        Dllp::Ack(number) => dllp_core::encode(&Dllp::Ack(number)),
+        Dllp::Nak(number) => dllp_core::encode(&Dllp::Nak(number)),
+        Dllp::Update(..) => [0xFF; 4],
+    }
+}
+
+#[test]
+fn packets_of_a_fresh_receiver(rt: HostRuntime) {
+    let mut receiver = Receiver::new();
+    for (number, answer, dllp) in [
+        (4095, Reception::Duplicate, [0x00, 0x00, 0x0F, 0xFF]),
+        (2048, Reception::Duplicate, [0x00, 0x00, 0x0F, 0xFF]),
+        (1, Reception::NakNow, [0x10, 0x00, 0x0F, 0xFF]),
+    ] {
+        assert_eq!(rt;
+            receiver.receive(Seq12::new(number), true),
+            answer,
+            "at {number}"
+        );
+        assert_eq!(rt; sent(&mut receiver), dllp, "at {number}");
+    }
+    assert_eq!(rt; receiver.receive(Seq12::new(1), true), Reception::Quiet);
+    assert_eq!(rt; receiver.nak_scheduled(), NakScheduled::Sent);
+    assert_eq!(rt; receiver.receive(Seq12::new(0), true), Reception::Accept);
+    assert_eq!(rt; receiver.next_rcv_seq(), Seq12::new(1));
+}

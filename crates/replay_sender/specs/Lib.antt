@@ -1,0 +1,4 @@
+pub mod Carried
+pub mod Sending
+pub mod Refusals
+pub mod Runs

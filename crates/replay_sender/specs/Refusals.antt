@@ -1,0 +1,13 @@
+-- The numbers of refusals, in the order in which they are looked for.
+use Rattle.std.specs.Prelude.{ℕ}
+use Rattle.replay_sender.specs.declared.fault.SendRefusal.{SendRefusal}
+use Rattle.replay_sender.specs.declared.fault.SendRefusal.TheVariants.{WindowFull, Memory}
+use Rattle.replay_sender.specs.declared.fault.AckFault.{AckFault}
+use Rattle.replay_sender.specs.declared.fault.AckFault.TheVariants.{NotOutstanding}
+
+abbrev pub refusal_number : SendRefusal → ℕ
+refusal_number WindowFull = 1
+refusal_number Memory = 2
+
+abbrev pub ack_fault_number : AckFault → ℕ
+ack_fault_number NotOutstanding = 1

@@ -1,0 +1,46 @@
+//! What a sender carries.
+ghost use Rattle.std.specs.Prelude.{◌≡◌};
+
+use arrayvec::ArrayVec;
+use std::marker::Model;
+
+/// The most bytes of a packet: a header of 16 and a payload of 128.
+pub const CARGO_BYTES: usize = 144;
+
+/// The bytes of a transaction layer packet, and a mark that rides beside them and isn't on the wire.
+#[derive(Debug, PartialEq, Eq, Drop)]
+pub struct Cargo {
+    pub bytes: ArrayVec<u8, 144>,
+    pub mark: u32,
+}
+
+impl Model for Cargo {
+    ghost use Rattle.replay_sender.specs.Carried.{Carried};
+
+    ghost Value = { Carried };
+
+    ghost view = { λ c. record { bytes = c.bytes.items; mark = c.mark } };
+
+    ghost inverse = { λ c. record { bytes = record { items = c.bytes }; mark = c.mark } };
+}
+
+/// The same bytes; takes no memory.
+fn copy_of(bytes: &ArrayVec<u8, 144>) -> ArrayVec<u8, 144>
+    ensures { result.items ≡ bytes.now.items }
+{
+    let mut copy = ArrayVec::new();
+    let _fits = copy.try_extend_from_slice(bytes.as_slice());
+    copy
+}
+
+impl Cargo {
+    /// An exact copy, which takes no memory.
+    pub fn copied(&self) -> Cargo
+        ensures { result ≡ self.now }
+    {
+        Cargo {
+            bytes: copy_of(&self.bytes),
+            mark: self.mark,
+        }
+    }
+}

@@ -1,0 +1,15 @@
+-- The numbers under which refusals and faults are told.
+use Rattle.std.specs.Prelude.{ℕ}
+use Rattle.requester_core.specs.declared.fault.SubmitRefusal.{SubmitRefusal}
+use Rattle.requester_core.specs.declared.fault.SubmitRefusal.TheVariants as refusals
+use Rattle.requester_core.specs.declared.fault.CompletionFault.{CompletionFault}
+use Rattle.requester_core.specs.declared.fault.CompletionFault.TheVariants as faults
+
+abbrev pub refusal_number : SubmitRefusal → ℕ
+refusal_number (refusals.Profile f) = 1
+refusal_number refusals.TagsUsed = 2
+refusal_number refusals.NumbersUsed = 3
+
+abbrev pub fault_number : CompletionFault → ℕ
+fault_number faults.Unexpected = 1
+fault_number faults.Mismatch = 2

@@ -1,0 +1,133 @@
+-- A requester as contracts see it: the next number, and what is open under each of its 256 tags.
+use Rattle.std.specs.Prelude.{◌≡◌, ℕ, ◌+◌, ◌*◌, ◌<◌, ◌≤◌, ◌==◌, Bool, true, false, not, ◌&&◌, if◌then◌else◌, List, length, replicate, slice_set, get_or, Option, Some, None, is_none, Result, Ok, Err}
+use Rattle.std.specs.List.{position_or_len}
+use Rattle.tlp_core.specs.declared.operation.Op.{Op}
+use Rattle.tlp_core.specs.declared.packet.Kind.{Kind}
+use Rattle.tlp_core.specs.declared.packet.Kind.TheVariants as kinds
+use Rattle.tlp_core.specs.declared.packet.Body.{Body}
+use Rattle.tlp_core.specs.declared.packet.Body.TheVariants as bodies
+use Rattle.tlp_core.specs.declared.packet.Status.TheVariants as statuses
+use Rattle.tlp_core.specs.declared.fault.TlpFault.{TlpFault}
+use Rattle.tlp_core.specs.Packet.{Packet}
+use Rattle.tlp_core.specs.Operation.{op_fault, is_posted, is_completion}
+use Rattle.seq_memory.specs.declared.Reply.{Reply}
+use Rattle.seq_memory.specs.declared.Reply.TheVariants as replies
+use Rattle.requester_core.specs.declared.requester.Open.{Open}
+use Rattle.requester_core.specs.declared.requester.Answer.{Answer}
+use Rattle.requester_core.specs.declared.fault.SubmitRefusal.{SubmitRefusal}
+use Rattle.requester_core.specs.declared.fault.SubmitRefusal.TheVariants as refusals
+use Rattle.requester_core.specs.declared.fault.CompletionFault.{CompletionFault}
+use Rattle.requester_core.specs.declared.fault.CompletionFault.TheVariants as faults
+use Rattle.requester_core.specs.Request.{request_for}
+
+pub record Requesting : Type 0 where
+  -- its port, 1 to 7; its Requester ID is 256 times that
+  pub port : ℕ
+  -- the number of the next request, which is also how many there were
+  pub next : ℕ
+  -- for each tag, the request that is open under it
+  pub open_tags : List (Option Open)
+
+-- a requester that has asked for nothing
+abbrev pub fresh : ℕ → Requesting
+fresh port = record { port = port; next = 0; open_tags = replicate 256 None }
+
+-- the lowest free tag; 256 where all are open
+abbrev pub lowest_free : List (Option Open) → ℕ
+lowest_free tags = position_or_len is_none tags
+
+-- what is open under a tag
+abbrev pub open_at : Requesting → ℕ → Option Open
+open_at s tag = get_or s.open_tags tag None
+
+-- ---- a request is prepared
+
+-- the tag of the next request: a posted one has 0, and opens none
+abbrev pub tag_for : Requesting → Op → ℕ
+tag_for s op = if is_posted op then 0 else lowest_free s.open_tags
+
+-- a request that needs a tag where all are open
+abbrev pub lacks_tag : Requesting → Op → Bool
+lacks_tag s op = not (is_posted op) && (lowest_free s.open_tags == 256)
+
+abbrev pub prepared_by : Option TlpFault → Bool → Bool → ℕ → Packet → Result (ℕ × Packet) SubmitRefusal
+prepared_by (Some f) tags_used numbers_used number t = Err (refusals.Profile f)
+prepared_by None true numbers_used number t = Err refusals.TagsUsed
+prepared_by None false true number t = Err refusals.NumbersUsed
+prepared_by None false false number t = Ok (number, t)
+
+-- the number and the request for an operation, or the first cause that refuses it
+abbrev pub prepared : Requesting → Op → Result (ℕ × Packet) SubmitRefusal
+prepared s op =
+    prepared_by (op_fault op) (lacks_tag s op) (s.next == 4294967295) s.next (request_for s.port (tag_for s op) op)
+
+-- the request is one that is prepared next
+pub record IsPrepared (s : Requesting) (t : Packet) : Type 0 where
+  pub op : Op
+  pub number : ℕ
+  pub is : prepared s op ≡ Ok (number, t)
+
+-- ---- a request is taken by the lane
+
+-- how many bytes of data its completion has, where it is served
+abbrev pub size_for : Kind → ℕ → ℕ
+size_for kinds.Cas dw = 2 * dw
+size_for _ dw = 4 * dw
+
+abbrev pub opens : Kind → List (Option Open) → ℕ → Open → List (Option Open)
+opens kinds.MemoryWrite tags tag o = tags
+opens _ tags tag o = slice_set tags tag (Some o)
+
+-- the number is spent, and a non-posted request is open under its tag
+abbrev pub after_opened : Requesting → Packet → Requesting
+after_opened s t =
+    record { port = s.port; next = s.next + 1; open_tags = opens t.kind s.open_tags t.tag (record { number = s.next; size = size_for t.kind t.length }) }
+
+-- ---- a completion arrives
+
+-- a completion for this requester
+abbrev pub is_ours : Requesting → Packet → Bool
+is_ours s t = is_completion t.kind && (t.requester == s.port * 256)
+
+-- the request that a packet completes
+abbrev pub completed : Requesting → Packet → Option Open
+completed s t = if is_ours s t then open_at s t.tag else None
+
+-- the reply that a completion of a request of that size carries; none where they don't agree
+abbrev pub reply_of : ℕ → Kind → Body → List ℕ → Option Reply
+reply_of size kinds.CompletionData (bodies.Completion c statuses.Success n lower) bytes =
+    if length bytes == size then Some (replies.Data (record { items = bytes })) else None
+reply_of size kinds.Completion (bodies.Completion c statuses.Unsupported n lower) bytes = Some replies.Unsupported
+reply_of size kinds.Completion (bodies.Completion c statuses.Aborted n lower) bytes = Some replies.Aborted
+reply_of _ _ _ _ = None
+
+abbrev pub answered : ℕ → Option Reply → Result Answer CompletionFault
+answered number None = Err faults.Mismatch
+answered number (Some reply) = Ok (record { number = number; reply = reply })
+
+abbrev pub finished_by : Option Open → Packet → Result Answer CompletionFault
+finished_by None t = Err faults.Unexpected
+finished_by (Some o) t = answered o.number (reply_of o.size t.kind t.body t.payload)
+
+-- the number and the reply of the request that is completed, or the first cause that refuses the packet
+abbrev pub finished : Requesting → Packet → Result Answer CompletionFault
+finished s t = finished_by (completed s t) t
+
+abbrev pub closes : Result Answer CompletionFault → Requesting → ℕ → Requesting
+closes (Ok a) s tag = record { port = s.port; next = s.next; open_tags = slice_set s.open_tags tag None }
+closes (Err e) s tag = s
+
+-- the tag of the request that is completed is free; a packet that is refused changes nothing
+abbrev pub after_finish : Requesting → Packet → Requesting
+after_finish s t = closes (finished s t) s t.tag
+
+-- ---- what holds of each requester
+
+-- each open number was given, and to one tag
+pub record IsSound (s : Requesting) : Type 0 where
+  pub some_port : 1 ≤ s.port
+  pub few_ports : s.port ≤ 7
+  pub numbers : s.next ≤ 4294967295
+  pub tags : length s.open_tags ≡ 256
+  pub given : (tag : ℕ) (o : Open) → open_at s tag ≡ Some o → o.number < s.next
+  pub one_tag : (tag other : ℕ) (o p : Open) → open_at s tag ≡ Some o → open_at s other ≡ Some p → o.number ≡ p.number → tag ≡ other

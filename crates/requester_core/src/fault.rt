@@ -1,0 +1,56 @@
+//! Why a request is not prepared, or a packet completes none.
+ghost use Rattle.std.specs.Prelude.{◌≡◌};
+ghost use Rattle.requester_core.specs.Faults.{refusal_number, fault_number};
+
+use thiserror::Error;
+use tlp_core::TlpFault;
+
+/// Why no request is prepared, in the order of the tests.
+#[derive(Clone, Copy, Debug, PartialEq, Eq, Error)]
+pub enum SubmitRefusal {
+    /// No request can ask for the operation.
+    #[error("Profile {0}")]
+    Profile(TlpFault),
+    /// All 256 tags are open, and the request is non-posted.
+    #[error("TagsUsed")]
+    TagsUsed,
+    /// All 4,294,967,295 numbers are spent.
+    #[error("NumbersUsed")]
+    NumbersUsed,
+}
+
+impl SubmitRefusal {
+    /// The number under which it is told, 1 to 3.
+    pub fn number(self) -> u8
+        ensures { result ≡ refusal_number self }
+    {
+        match self {
+            SubmitRefusal::Profile(_) => 1,
+            SubmitRefusal::TagsUsed => 2,
+            SubmitRefusal::NumbersUsed => 3,
+        }
+    }
+}
+
+/// Why a packet completes no request, in the order of the tests.
+#[derive(Clone, Copy, Debug, PartialEq, Eq, Error)]
+pub enum CompletionFault {
+    /// No completion, one for another Requester ID, or one with a tag that is not open.
+    #[error("Unexpected")]
+    Unexpected,
+    /// Status SC without data, data with another status, or data of another length.
+    #[error("Mismatch")]
+    Mismatch,
+}
+
+impl CompletionFault {
+    /// The number under which it is told, 1 or 2.
+    pub fn number(self) -> u8
+        ensures { result ≡ fault_number self }
+    {
+        match self {
+            CompletionFault::Unexpected => 1,
+            CompletionFault::Mismatch => 2,
+        }
+    }
+}

@@ -1,0 +1,13 @@
+//! A requester of the fabric (PCI Express Base 4.0, sections 2.2.6 and 2.2.7): it numbers its
+//! requests, gives each non-posted one a tag, and knows its completion by that tag.
+#![tactic(auto)]
+
+mod fault;
+pub mod laws;
+mod request;
+mod requester;
+#[cfg(test)]
+mod tests;
+
+pub use fault::{CompletionFault, SubmitRefusal};
+pub use requester::{Answer, Open, Requester, TAGS};

@@ -1,0 +1,61 @@
+//! Laws of the sequential memory: what holds of the definitions that the contracts cite.
+ghost use Rattle.std.specs.Prelude.{ℕ, ◌≡◌, ◌+◌, ◌-◌, ◌*◌, ◌/◌, ◌<◌, ◌≤◌, ◌⊎◌, true, None, Some, List, [], ◌∷◌, ◌++◌, length, replicate, slice_get, slice_index};
+ghost use Rattle.arrayvec.specs.ArrayVec.{ArrayVec};
+ghost use Rattle.tlp_core.specs.declared.operation.Op.{Op};
+ghost use Rattle.tlp_core.specs.declared.operation.Op.TheVariants as ops;
+ghost use Rattle.tlp_core.specs.declared.operation.Width.{Width};
+ghost use Rattle.tlp_core.specs.Enables.{enables};
+ghost use Rattle.tlp_core.specs.Operation.{size_of, address_of, count_of};
+ghost use Rattle.seq_memory.specs.declared.Entry.{Entry};
+ghost use Rattle.seq_memory.specs.declared.Refusal.{Refusal};
+ghost use Rattle.seq_memory.specs.Limits.{IsBlock};
+ghost use Rattle.seq_memory.specs.Step.{refusal, after, answer, bytes_at, place_after, data_of};
+ghost use Rattle.seq_memory.specs.History.{contents, contents_at, reply_at};
+
+/// An operation changes no byte outside its place and not their number, and a served one leaves at
+/// its place what it makes of the bytes that were there.
+#[tactic(auto, using(crate::proofs::Steps::others_kept, crate::proofs::Steps::size_kept, crate::proofs::Steps::place_is))]
+pub fn only_the_place_changes()
+    ensures others { (block base k : ℕ) (m : List ℕ) (op : Op) → (base + k < address_of op) ⊎ (address_of op + count_of op ≤ base + k) → slice_index (after block base m op) k ≡ slice_index m k }
+    ensures size { (block base : ℕ) (m : List ℕ) (op : Op) → length (after block base m op) ≡ length m }
+    ensures place { (block base : ℕ) (m : List ℕ) (op : Op) → refusal block base (length m) op ≡ None → bytes_at (after block base m op) (address_of op - base) (count_of op) ≡ place_after op (bytes_at m (address_of op - base) (count_of op)) }
+{}
+
+/// An operation that is not served changes nothing, and neither does a read.
+#[tactic(auto, using(crate::proofs::Steps::refused_kept))]
+pub fn refused_and_read_change_nothing()
+    ensures refused { (block base : ℕ) (m : List ℕ) (op : Op) (r : Refusal) → refusal block base (length m) op ≡ Some r → after block base m op ≡ m }
+    ensures reads { (block base a dw f l : ℕ) (m : List ℕ) → after block base m (ops.Read a dw f l) ≡ m }
+{}
+
+/// A served AtomicOp returns the original bytes of its operand.
+#[tactic(auto, using(crate::proofs::Steps::served_answer))]
+pub fn atomics_return_the_original()
+    ensures fetch_add { (block base a x : ℕ) (w : Width) (m : List ℕ) → refusal block base (length m) (ops.FetchAdd a w x) ≡ None → answer block base m (ops.FetchAdd a w x) ≡ data_of (bytes_at m (a - base) (size_of w)) }
+    ensures swap { (block base a x : ℕ) (w : Width) (m : List ℕ) → refusal block base (length m) (ops.Swap a w x) ≡ None → answer block base m (ops.Swap a w x) ≡ data_of (bytes_at m (a - base) (size_of w)) }
+    ensures cas { (block base a x y : ℕ) (w : Width) (m : List ℕ) → refusal block base (length m) (ops.Cas a w x y) ≡ None → answer block base m (ops.Cas a w x y) ≡ data_of (bytes_at m (a - base) (size_of w)) }
+{}
+
+/// A read of the DW of a served write with all bytes enabled, right after it, gives what was
+/// written.
+#[tactic(auto, using(crate::proofs::Steps::write_read))]
+pub fn what_was_written_is_read()
+    ensures { (block base a f l : ℕ) (m : List ℕ) (bytes : ArrayVec ℕ) → IsBlock block → enables (length bytes.items / 4) f l ≡ replicate (length bytes.items) true → refusal block base (length m) (ops.Write a f l bytes) ≡ None → answer block base (after block base m (ops.Write a f l bytes)) (ops.Read a (length bytes.items / 4) f l) ≡ data_of bytes.items }
+{}
+
+/// A history of no entries leaves zeros, and one more entry takes one step; the bytes keep their
+/// number.
+pub fn history_grows_by_steps()
+    ensures none { (block base size : ℕ) → contents block base size [] ≡ replicate size 0 }
+    ensures next { (block base size : ℕ) (es : List Entry) (e : Entry) → contents block base size (es ++ e ∷ []) ≡ after block base (contents block base size es) e.op }
+    ensures at { (block base size p : ℕ) (es : List Entry) (e : Entry) → slice_get es p ≡ Some e → contents_at block base size es (p + 1) ≡ after block base (contents_at block base size es p) e.op }
+    ensures size { (block base size : ℕ) (es : List Entry) → length (contents block base size es) ≡ size }
+{}
+
+/// The reply to an entry is the answer of the memory that the entries before it make, whatever
+/// comes behind it.
+pub fn replies_stay()
+    ensures before { (block base size p : ℕ) (es fs : List Entry) → p < length es → reply_at block base size (es ++ fs) p ≡ reply_at block base size es p }
+    ensures next { (block base size : ℕ) (es fs : List Entry) (e : Entry) → reply_at block base size (es ++ e ∷ fs) (length es) ≡ Some (answer block base (contents block base size es) e.op) }
+    ensures past { (block base size p : ℕ) (es : List Entry) → length es ≤ p → reply_at block base size es p ≡ None }
+{}

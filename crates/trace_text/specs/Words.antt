@@ -1,0 +1,36 @@
+-- The words of a line, and its fields.
+use Rattle.std.specs.Prelude.{ℕ, ◌==◌, Bool, true, false, if◌then◌else◌, List, [], ◌∷◌, Option, Some, None}
+use Rattle.std.specs.List.{slice_split}
+
+abbrev pub is_space : ℕ → Bool
+is_space c = c == 32
+
+-- what stands between the spaces of a line: between two that follow one another stands an empty word
+abbrev pub words : List ℕ → List (List ℕ)
+words line = slice_split is_space line
+
+-- the words of a line that goes on with a space, none where it ends
+abbrev pub words_behind : List ℕ → List (List ℕ)
+words_behind [] = []
+words_behind (c ∷ rest) = words rest
+
+abbrev pub then_with : {X Y : Type 0} → Option X → (X → Option Y) → Option Y
+then_with None f = None
+then_with (Some x) f = f x
+
+-- what the first word spells, with the words behind it
+abbrev pub first_field : {X : Type 0} → (List ℕ → Option X) → List (List ℕ) → Option (X × List (List ℕ))
+first_field spelled [] = None
+first_field spelled (w ∷ ws) = then_with (spelled w) (λ x. Some (x, ws))
+
+-- a field, and what follows by its value
+abbrev pub field : {X Y : Type 0} → (List ℕ → Option X) → (X → List (List ℕ) → Option Y) → List (List ℕ) → Option Y
+field spelled f ws = then_with (first_field spelled ws) (λ s. f s.0 s.1)
+
+abbrev pub has_ended : List (List ℕ) → Bool
+has_ended [] = true
+has_ended (w ∷ ws) = false
+
+-- no more fields
+abbrev pub ended : {X : Type 0} → X → List (List ℕ) → Option X
+ended x ws = if has_ended ws then Some x else None

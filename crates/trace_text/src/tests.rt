@@ -1,0 +1,71 @@
+//! Worked texts, and texts that spell nothing.
+use crate::{read_op, read_reply};
+use seq_memory::Reply;
+use std::test::Fail;
+use tlp_core::{Op, Width};
+
+#[test]
+fn operations(rt: HostRuntime) -> Result<(), Fail> {
+    let read = Op::Read {
+        address: 0x3C,
+        dw: 2,
+        first: 15,
+        last: 10,
+    };
+    assert_eq!(rt; read_op(b"read 3C 2 F A"), Some(read));
+    let add = Op::FetchAdd {
+        address: 0x40,
+        width: Width::Four,
+        operand: 0x0A00_0007,
+    };
+    assert_eq!(rt; read_op(b"add 40 0700000a"), Some(add));
+    let cas = Op::Cas {
+        address: 0,
+        width: Width::Eight,
+        compare: 1,
+        swap: 0x0100_0000_0000_0000,
+    };
+    let text = b"cas 0 0100000000000000 0000000000000001";
+    assert_eq!(rt; read_op(text), Some(cas));
+    let write = read_op(b"write FFFFFFFFFFFFFFFF 0 F 01").ok_or("no write")?;
+    assert_eq!(rt; (write.address(), write.size()), (u64::MAX, 1));
+    let swap = read_op(b"swap 8 000102030405060708090A0B0C0D0E0F").ok_or("no swap")?;
+    assert_eq!(rt; (swap.address(), swap.size()), (8, 16));
+    Ok(())
+}
+
+#[test]
+fn no_operations(rt: HostRuntime) {
+    let rows: [&[u8]; 14] = [
+        b"",
+        b"read",
+        b"Read 40 1 F 0",
+        b"read 40 1 F 0 ",
+        b"read  40 1 F 0",
+        b"read 040 1 F 0",
+        b"read +40 1 F 0",
+        b"read 40 65536 F 0",
+        b"read 40 1 10 0",
+        b"read 10000000000000000 1 F 0",
+        b"write 40 F 0 ",
+        b"write 40 F 0 012",
+        b"add 40 0102",
+        b"cas 40 01000000 0100000000000000",
+    ];
+    for row in rows {
+        assert_eq!(rt; read_op(row), None);
+    }
+}
+
+#[test]
+fn replies(rt: HostRuntime) -> Result<(), Fail> {
+    assert_eq!(rt; read_reply(b"ur"), Some(Reply::Unsupported));
+    assert_eq!(rt; read_reply(b"ca"), Some(Reply::Aborted));
+    assert_eq!(rt; read_reply(b"ca 0"), None);
+    assert_eq!(rt; read_reply(b"data"), None);
+    let Some(Reply::Data(bytes)) = read_reply(b"data ff00") else {
+        return Err(Fail::from("no data"));
+    };
+    assert_eq!(rt; bytes.as_slice(), [0xFF, 0].as_slice());
+    Ok(())
+}
