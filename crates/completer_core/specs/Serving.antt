@@ -1,5 +1,5 @@
 -- A request is served: one step of the memory, one entry, and one completion or none.
-use Rattle.std.specs.Prelude.{ℕ, ◌/◌, [], ◌∷◌, ◌++◌, length, Option, option_and_then}
+use Rattle.std.specs.Prelude.{ℕ, ◌/◌, [], ◌∷◌, ◌++◌, Option, option_and_then}
 use Rattle.std.specs.Option.{option_map_or}
 use Rattle.tlp_core.specs.declared.operation.Op.{Op}
 use Rattle.tlp_core.specs.Packet.{Packet}
@@ -7,7 +7,6 @@ use Rattle.tlp_core.specs.Operation.{op_of}
 use Rattle.seq_memory.specs.declared.Entry.{Entry}
 use Rattle.seq_memory.specs.Step.{answer}
 use Rattle.seq_memory.specs.History.{State, bytes_of}
-use Rattle.completer_core.specs.declared.Outline.{Outline}
 use Rattle.completer_core.specs.Completion.{completion_of}
 
 -- the entry of a request: its requester is the port of its Requester ID
@@ -25,7 +24,3 @@ after_serving s t number = option_map_or (λ op. with_entry s (entry_of t number
 -- the completion of the request, which carries the memory's reply
 abbrev pub completion_to : State → Packet → Option Packet
 completion_to s t = option_and_then (λ op. completion_of t (answer s.block s.base (bytes_of s) op)) (op_of t)
-
--- a completion but for the contents of its payload
-abbrev pub outline_of : Packet → Outline
-outline_of c = record { kind = c.kind; payload = length c.payload }

@@ -10,13 +10,3 @@ mod span;
 mod tests;
 
 pub use serving::{serve, shape};
-use tlp_core::Kind;
-
-/// What a completion is, but for the contents of its payload.
-#[derive(Clone, Copy, Debug, PartialEq, Eq)]
-pub struct Outline {
-    /// `Completion` or `CompletionData`.
-    pub kind: Kind,
-    /// How many bytes the payload has, 0 to 128.
-    pub payload: u16,
-}

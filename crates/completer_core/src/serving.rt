@@ -1,12 +1,13 @@
 //! Requests at the memory.
 ghost use Rattle.std.specs.Prelude.{◌≡◌, IfOk, OnOk, OnErr, option_map};
-ghost use Rattle.completer_core.specs.Serving.{after_serving, completion_to, outline_of};
+ghost use Rattle.fc_credit.specs.Needs.{need_of};
+ghost use Rattle.completer_core.specs.Serving.{after_serving, completion_to};
 
-use crate::Outline;
 use crate::completion::completion_with;
+use fc_credit::Need;
 use seq_memory::{Entry, Memory, Refusal};
 use std::alloc::AllocError;
-use tlp_core::{Kind, Tlp, op_of};
+use tlp_core::{Tlp, op_of};
 
 /// Lets the request act on the memory under that number, and gives its completion; none for a
 /// posted write. A request that is aborted or unsupported changes no byte, and stands in the
@@ -29,23 +30,17 @@ pub fn serve(memory: &mut Memory, request: &Tlp, number: u32) -> Result<Option<T
     Ok(completion_with(request, reply))
 }
 
-/// What the request's completion would be, if it acted now; none for a posted write. Takes no
-/// memory.
-pub fn shape(memory: &Memory, request: &Tlp) -> Option<Outline>
-    ensures { result ≡ option_map outline_of (completion_to memory.now request.now) }
+/// What the request's completion would take of the credits, if it acted now; none for a posted
+/// write (section 2.6.1). Takes no memory.
+pub fn shape(memory: &Memory, request: &Tlp) -> Option<Need>
+    ensures { result ≡ option_map need_of (completion_to memory.now request.now) }
 {
     let op = op_of(request)?;
     if op.is_posted() {
         return None;
     }
     Some(match memory.refusal(&op) {
-        None => Outline {
-            kind: Kind::CompletionData,
-            payload: op.size() as u16,
-        },
-        Some(Refusal::Aborted | Refusal::Unsupported) => Outline {
-            kind: Kind::Completion,
-            payload: 0,
-        },
+        None => Need::completion(op.size() as u16),
+        Some(Refusal::Aborted | Refusal::Unsupported) => Need::completion(0),
     })
 }

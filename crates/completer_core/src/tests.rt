@@ -1,9 +1,10 @@
 //! Worked requests, served.
-use crate::{Outline, serve, shape};
+use crate::{serve, shape};
+use fc_credit::Need;
 use seq_memory::Memory;
 use std::alloc::Global;
 use std::test::Fail;
-use tlp_core::{Kind, decode, encode};
+use tlp_core::{decode, encode};
 
 /// The bytes of the completion, none where there is none.
 fn answer(
@@ -26,11 +27,10 @@ fn fetch_add(rt: HostRuntime) -> Result<(), Fail> {
     let mut memory = Memory::new(rt.alloc(), 0, 4096, 64)?;
     let request = [0x4C, 0, 0, 1, 1, 0, 5, 0, 0, 0, 0, 0x40, 7, 0, 0, 0];
     let want = [0x4A, 0, 0, 1, 0, 0, 0, 4, 1, 0, 5, 0, 0, 0, 0, 0];
-    let outline = Outline {
-        kind: Kind::CompletionData,
-        payload: 4,
-    };
-    assert_eq!(rt; shape(&memory, &decode(&request)?), Some(outline));
+    assert_eq!(rt;
+        shape(&memory, &decode(&request)?),
+        Some(Need::completion(4))
+    );
     let got = answer(rt.alloc(), &mut memory, &request, 0)?;
     assert_eq!(rt; got.as_slice(), want.as_slice());
     assert_eq!(rt; memory.entries().len(), 1);

@@ -1,4 +1,4 @@
-use Rattle.completer_core.proofs.Outlines.{served_completion}
+use Rattle.completer_core.proofs.Shapes.{served_completion}
 use Rattle.completer_core.proofs.laws.a_served_completion_has_its_length.Goals as goal
 
 pub returns : goal.returns

@@ -1,4 +1,4 @@
--- The completion's kind and the size of its payload, from the memory's refusal alone.
+-- What the completion takes of the credits, from the memory's refusal alone.
 use Rattle.std.proofs.Common.{◌≡◌, ℕ, suc, ◌+◌, ◌-◌, ◌*◌, ◌/◌, ◌≤◌, Bool, true, false, cond, List, [], ◌∷◌, length, drop, Option, Some, None, refl, sym, ap, ◌∙◌, arith, length-drop, length-take}
 use Rattle.std.specs.Prelude.{◌||◌, ◌==◌, nat_lt, replicate, option_map, option_and_then, IsSomeAnd}
 use Rattle.std.proofs.lemmas.Bool.Decides.{nat_tests}
@@ -24,7 +24,8 @@ use Rattle.seq_memory.specs.Step.{is_inside, refusal, answer, answer_by, read_ba
 use Rattle.seq_memory.specs.History.{State, bytes_of}
 use Rattle.completer_core.specs.Completion.{completion, completion_of, completion_for, unless_posted}
 use Rattle.completer_core.proofs.Spans.{length_by, one_or_more}
-use Rattle.completer_core.specs.Serving.{completion_to, outline_of}
+use Rattle.fc_credit.specs.Needs.{need_of, completion_need}
+use Rattle.completer_core.specs.Serving.{completion_to}
 
 -- only a write's operation is posted
 wrote : (a f l : ℕ) (b : List ℕ) (op : Op) → ◌≡◌ {A = Option Op} (Some (ops.Write a f l (record { items = b }))) (Some op) → is_posted op ≡ false → ⊥
@@ -83,8 +84,8 @@ bounds base size address count e = grind (arith, nat_tests)
 inside : (block base size : ℕ) (op : Op) → refusal block base size op ≡ None → (address_of op - base) + count_of op ≤ size
 inside block base size op e = bounds base size (address_of op) (count_of op) (not_refused _ _ e)
 
-outline_carried : (t : Packet) (r : Reply) (n : ℕ) → ((c : Option Packet) → unless_posted t.kind c ≡ c) → IsData r n → option_map outline_of (completion_of t r) ≡ Some (record { kind = kinds.CompletionData; payload = n })
-outline_carried t r n same d = rw d.is (ap (option_map outline_of) (same (completion_for t (data_of d.bytes))) ∙ ap (λ n. Some (record { kind = kinds.CompletionData; payload = n })) d.size)
+need_carried : (t : Packet) (r : Reply) (n : ℕ) → ((c : Option Packet) → unless_posted t.kind c ≡ c) → IsData r n → option_map need_of (completion_of t r) ≡ Some (completion_need n)
+need_carried t r n same d = rw d.is (ap (option_map need_of) (same (completion_for t (data_of d.bytes))) ∙ ap (λ n. Some (completion_need n)) d.size)
 
 -- what a served request that is not posted is answered
 served_data : (s : State) (op : Op) → op_fault op ≡ None → is_posted op ≡ false → refusal s.block s.base s.size op ≡ None → length (bytes_of s) ≡ s.size → IsData (answer s.block s.base (bytes_of s) op) (count_of op)
@@ -100,10 +101,10 @@ served_data s op sound p served size =
 asked : (s : State) (t : Packet) (op : Op) → op_of t ≡ Some op → completion_to s t ≡ completion_of t (answer s.block s.base (bytes_of s) op)
 asked s t op e = ap (option_and_then (λ op. completion_of t (answer s.block s.base (bytes_of s) op))) e
 
-pub served_outline : (s : State) (t : Packet) (op : Op) → op_of t ≡ Some op → op_fault op ≡ None → is_posted op ≡ false → refusal s.block s.base s.size op ≡ None → length (bytes_of s) ≡ s.size → option_map outline_of (completion_to s t) ≡ Some (record { kind = kinds.CompletionData; payload = count_of op })
-served_outline s t op e sound p served size =
-    ap (option_map outline_of) (asked s t op e)
-    ∙ outline_carried t (answer s.block s.base (bytes_of s) op) (count_of op) (λ c. kind_not_write t.kind t.body t.length t.payload op c e p) (served_data s op sound p served size)
+pub served_need : (s : State) (t : Packet) (op : Op) → op_of t ≡ Some op → op_fault op ≡ None → is_posted op ≡ false → refusal s.block s.base s.size op ≡ None → length (bytes_of s) ≡ s.size → option_map need_of (completion_to s t) ≡ Some (completion_need (count_of op))
+served_need s t op e sound p served size =
+    ap (option_map need_of) (asked s t op e)
+    ∙ need_carried t (answer s.block s.base (bytes_of s) op) (count_of op) (λ c. kind_not_write t.kind t.body t.length t.payload op c e p) (served_data s op sound p served size)
 
 whole_size : (w : Width) → 4 * (size_of w / 4) ≡ size_of w
 whole_size widths.Four = refl
