@@ -4,25 +4,12 @@ use Rattle.std.proofs.lemmas.Bool.{and_parts, cases_lt, eqb-true}
 use Rattle.std.specs.Char.{to_ascii_uppercase}
 use Rattle.std.specs.Fmt.{decimal}
 use Rattle.std.proofs.lemmas.Fmt.{decimal_digit, decimal_step}
-use Rattle.hex.specs.Hex.{encode_with, encode_upper, encode_lower, upper_digits, lower_digits, decode_of, decode_sized, IsBytes}
+use Rattle.hex.specs.Hex.{encode_with, encode_upper, upper_digits, decode_of, decode_sized}
+use Rattle.hex.proofs.HexLemmas.{length-encode_with}
 use Rattle.tlp_core.specs.declared.fault.TlpFault.{TlpFault}
 use Rattle.tlp_core.specs.declared.fault.TlpFault.TheVariants as faults
 use Rattle.tlp_core.specs.Fault.{number_of, name_of}
 use Rattle.pciex.specs.Tlp.{spaced}
-
--- more than eight digits: a group, a space, and the groups of the rest
-pub spaced-more : (xs : List ℕ) → 8 < length xs → spaced xs ≡ take 8 xs ++ 32 ∷ spaced (drop 8 xs)
-unfolding spaced
-spaced-more [] h = absurd (omega arith)
-spaced-more (a ∷ []) h = absurd (omega arith)
-spaced-more (a ∷ b ∷ []) h = absurd (omega arith)
-spaced-more (a ∷ b ∷ c ∷ []) h = absurd (omega arith)
-spaced-more (a ∷ b ∷ c ∷ d ∷ []) h = absurd (omega arith)
-spaced-more (a ∷ b ∷ c ∷ d ∷ e ∷ []) h = absurd (omega arith)
-spaced-more (a ∷ b ∷ c ∷ d ∷ e ∷ f ∷ []) h = absurd (omega arith)
-spaced-more (a ∷ b ∷ c ∷ d ∷ e ∷ f ∷ g ∷ []) h = absurd (omega arith)
-spaced-more (a ∷ b ∷ c ∷ d ∷ e ∷ f ∷ g ∷ h ∷ []) lt = absurd (omega arith)
-spaced-more (a ∷ b ∷ c ∷ d ∷ e ∷ f ∷ g ∷ h ∷ i ∷ rest) lt = refl
 
 -- eight digits at most: one group
 pub spaced-last : (xs : List ℕ) → length xs ≤ 8 → spaced xs ≡ xs
@@ -38,32 +25,20 @@ spaced-last (a ∷ b ∷ c ∷ d ∷ e ∷ f ∷ g ∷ []) h = refl
 spaced-last (a ∷ b ∷ c ∷ d ∷ e ∷ f ∷ g ∷ h ∷ []) lt = refl
 spaced-last (a ∷ b ∷ c ∷ d ∷ e ∷ f ∷ g ∷ h ∷ i ∷ rest) lt = absurd (omega arith)
 
--- the test that the first n digits have these capitals
-abbrev have_capitals : ℕ → Bool
-have_capitals zero = true
-have_capitals (suc n) = (to_ascii_uppercase (slice_index lower_digits n) == slice_index upper_digits n) && have_capitals n
+-- more than four bytes: the digits of four, a space, and the groups of the rest
+pub spaced-encode_more : (bytes : List ℕ) → 4 < length bytes
+    → spaced (encode_upper bytes) ≡ encode_upper (take 4 bytes) ++ 32 ∷ spaced (encode_upper (drop 4 bytes))
+unfolding spaced encode_with
+spaced-encode_more [] h = absurd (omega arith)
+spaced-encode_more (a ∷ []) h = absurd (omega arith)
+spaced-encode_more (a ∷ b ∷ []) h = absurd (omega arith)
+spaced-encode_more (a ∷ b ∷ c ∷ []) h = absurd (omega arith)
+spaced-encode_more (a ∷ b ∷ c ∷ d ∷ []) h = absurd (omega arith)
+spaced-encode_more (a ∷ b ∷ c ∷ d ∷ e ∷ rest) h = refl
 
-capital-at : (n k : ℕ) → have_capitals n ≡ true → k < n → to_ascii_uppercase (slice_index lower_digits k) ≡ slice_index upper_digits k
-capital-at zero k h lt = absurd (omega arith)
-capital-at (suc n) k h lt =
-    let parts = and_parts (to_ascii_uppercase (slice_index lower_digits n) == slice_index upper_digits n) (have_capitals n) h in
-    elim (cases_lt k n) [
-      | inl below ↦ capital-at n k parts.1 below
-      | inr top ↦
-          let e : k ≡ n = omega arith in
-          rw e (eqb-true (to_ascii_uppercase (slice_index lower_digits n)) (slice_index upper_digits n) parts.0)
-    ]
-
-capital : (k : ℕ) → k < 16 → to_ascii_uppercase (slice_index lower_digits k) ≡ slice_index upper_digits k
-capital k lt = capital-at 16 k refl lt
-
--- capitals of digits are the digits in capitals
-pub capitals-encode : (bytes : List ℕ) → IsBytes bytes → map to_ascii_uppercase (encode_lower bytes) ≡ encode_upper bytes
-unfolding encode_with
-capitals-encode [] h = refl
-capitals-encode (b ∷ bytes) h =
-    let fits : b < 256 = h 0 in
-    rw (capital (b / 16) (omega arith), capital (b % 16) (omega arith), capitals-encode bytes (λ k. h (suc k))) refl
+-- four bytes at most: one group
+pub spaced-encode_last : (bytes : List ℕ) → length bytes ≤ 4 → spaced (encode_upper bytes) ≡ encode_upper bytes
+spaced-encode_last bytes h = spaced-last (encode_upper bytes) (omega (arith, length-encode_with upper_digits bytes))
 
 -- decoding into half as many bytes is decoding
 pub decode_sized-half : (text : List ℕ) → decode_sized text (length text / 2) ≡ decode_of text
@@ -112,4 +87,4 @@ name-short faults.ByteEnables = lit≤ tt
 name-short faults.OperandSize = lit≤ tt
 name-short faults.Unaligned = lit≤ tt
 
-pub ruleset text_rules = (spaced-more, spaced-last, capitals-encode, decode_sized-half, decimal-one, decimal-two, number-small, name-short)
+pub ruleset text_rules = (spaced-last, decode_sized-half, decimal-one, decimal-two, number-small, name-short)

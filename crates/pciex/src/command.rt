@@ -1,5 +1,6 @@
 //! The program, over any streams.
-ghost use Rattle.std.specs.Prelude.{◌≡◌, ℕ, map, true};
+ghost use Rattle.std.specs.Prelude.{◌≡◌, ◌≢◌, ℕ, map, true};
+ghost use Rattle.std.specs.IoError.{error_kind};
 ghost use Rattle.clap.specs.Words.{kind_of, subcommand_of, takes};
 ghost use Rattle.pciex.specs.Faults.{IsMemoryFault};
 ghost use Rattle.pciex.specs.Options.{the_app, Asks};
@@ -12,7 +13,8 @@ use crate::tlp::run_tlp;
 use clap::error::ErrorKind;
 use std::alloc::Global;
 use std::convert::AsStr;
-use std::io::{Read, Write};
+use std::io;
+use std::io::{ErrorKind as IoErrorKind, Read, Write};
 
 /// Tells what stopped an engine, and gives the exit status for that.
 fn stopped<E: Write>(fault: EngineFault, errors: &mut E) -> u8
@@ -53,6 +55,19 @@ fn refused<W: Write, E: Write>(fault: &RequestFault, writer: &mut W, errors: &mu
             2
         }
     }
+}
+
+/// Tells why the words of the command line were not read, and gives the exit status for that: want
+/// of memory, or a word that is no text.
+pub fn no_words<E: Write>(fault: &io::Error, errors: &mut E) -> u8
+    ensures memory { error_kind fault.now ≡ IoErrorKind.OutOfMemory → result ≡ 1 }
+    ensures word { error_kind fault.now ≢ IoErrorKind.OutOfMemory → result ≡ 2 }
+{
+    if fault.kind() == IoErrorKind::OutOfMemory {
+        return stopped(EngineFault::Memory, errors);
+    }
+    let _ = writeln!(errors, "pciex: options");
+    2
 }
 
 /// Does what the words of the command line ask for, the program's name before them, and gives the

@@ -1,9 +1,8 @@
 //! Texts of bytes and of faults.
-ghost use Rattle.std.specs.Prelude.{◌≡◌, ◌≤◌, take, ◌<◌, ◌+◌, ◌*◌, ◌++◌, ◌∷◌, ◌/◌, [], true, false, Ok, IsErr, IfSome, IfNone, length, map, not, ◌==◌, filter, if◌then◌else◌, nat_lt};
+ghost use Rattle.std.specs.Prelude.{◌≡◌, ◌≤◌, ℕ, take, ◌<◌, ◌+◌, ◌*◌, ◌++◌, ◌∷◌, ◌/◌, [], true, false, Ok, IsErr, IfSome, IfNone, length, map, not, ◌==◌, filter, if◌then◌else◌, nat_lt, unwrap_or};
 ghost use Rattle.std.specs.Fmt.{decimal};
-ghost use Rattle.std.specs.Char.{to_ascii_uppercase};
 ghost use Rattle.arrayvec.specs.ArrayVec.{array_vec_len};
-ghost use Rattle.hex.specs.Hex.{encode_upper, encode_lower, decode_of};
+ghost use Rattle.hex.specs.Hex.{encode_upper, decode_of, hex_digit_value, pair_value};
 ghost use Rattle.tlp_core.specs.Fault.{number_of, name_of};
 ghost use Rattle.tlp_core.specs.Layout.{canonical};
 ghost use Rattle.pciex.specs.Tlp.{digits_of, spaced, fault_text};
@@ -38,6 +37,65 @@ fn copy_digits(line: &[u8], room: &mut [u8; 512]) -> usize
     count
 }
 
+/// The value of each hexadecimal digit, in either case, and 16 for each byte that is no digit.
+const VALUES: [u8; 256] = [
+    16, 16, 16, 16, 16, 16, 16, 16, 16, 16, 16, 16, 16, 16, 16, 16, 16, 16, 16, 16, 16, 16, 16, 16,
+    16, 16, 16, 16, 16, 16, 16, 16, 16, 16, 16, 16, 16, 16, 16, 16, 16, 16, 16, 16, 16, 16, 16, 16,
+    0, 1, 2, 3, 4, 5, 6, 7, 8, 9, 16, 16, 16, 16, 16, 16, 16, 10, 11, 12, 13, 14, 15, 16, 16, 16,
+    16, 16, 16, 16, 16, 16, 16, 16, 16, 16, 16, 16, 16, 16, 16, 16, 16, 16, 16, 16, 16, 16, 16, 10,
+    11, 12, 13, 14, 15, 16, 16, 16, 16, 16, 16, 16, 16, 16, 16, 16, 16, 16, 16, 16, 16, 16, 16, 16,
+    16, 16, 16, 16, 16, 16, 16, 16, 16, 16, 16, 16, 16, 16, 16, 16, 16, 16, 16, 16, 16, 16, 16, 16,
+    16, 16, 16, 16, 16, 16, 16, 16, 16, 16, 16, 16, 16, 16, 16, 16, 16, 16, 16, 16, 16, 16, 16, 16,
+    16, 16, 16, 16, 16, 16, 16, 16, 16, 16, 16, 16, 16, 16, 16, 16, 16, 16, 16, 16, 16, 16, 16, 16,
+    16, 16, 16, 16, 16, 16, 16, 16, 16, 16, 16, 16, 16, 16, 16, 16, 16, 16, 16, 16, 16, 16, 16, 16,
+    16, 16, 16, 16, 16, 16, 16, 16, 16, 16, 16, 16, 16, 16, 16, 16, 16, 16, 16, 16, 16, 16, 16, 16,
+    16, 16, 16, 16, 16, 16, 16, 16, 16, 16, 16, 16, 16, 16,
+];
+
+/// The value of a digit, and 16 for a byte that is none.
+fn value_of(digit: u8) -> u8
+    ensures { result ≡ unwrap_or (hex_digit_value digit) 16 }
+{
+    VALUES[usize::from(digit)]
+}
+
+/// The byte of two digits, none where one of them is no digit.
+fn byte_of(high: u8, low: u8) -> Option<u8>
+    ensures some { (i : ℕ) → IfSome result (λ byte. pair_value high low i ≡ Ok byte) }
+    ensures none { (i : ℕ) → IfNone result (IsErr (pair_value high low i)) }
+{
+    let high = value_of(high);
+    let low = value_of(low);
+    if high < 16 && low < 16 {
+        return Some(high * 16 + low);
+    }
+    None
+}
+
+/// Reads the bytes of a line where no space parts the digits of a byte, as in most lines, to the
+/// front of `bytes`, and gives their number; none of other lines.
+fn read_pairs(line: &[u8], bytes: &mut [u8; 256]) -> Option<usize>
+    requires { length line.now ≤ 512 }
+    ensures read { IfSome result (λ count. decode_of (digits_of line.now) ≡ Ok (take count bytes.new)) }
+    ensures fits { IfSome result (λ count. count ≤ 256) }
+{
+    let mut count = 0;
+    let mut rest = line;
+    while let [first, after @ ..] = rest {
+        if *first == b' ' {
+            rest = after;
+        } else {
+            let [second, after @ ..] = after else {
+                return None;
+            };
+            bytes[count] = byte_of(*first, *second)?;
+            count += 1;
+            rest = after;
+        }
+    }
+    Some(count)
+}
+
 /// Reads the bytes of the digits, and says whether they are digits of whole bytes.
 fn read_digits(digits: &[u8], bytes: &mut [u8]) -> bool
     requires { length bytes.old ≡ length digits.now / 2 }
@@ -55,6 +113,9 @@ fn read_line(line: &[u8], digits: &mut [u8; 512], bytes: &mut [u8; 256]) -> Opti
     ensures fits { IfSome result (λ count. count ≤ 256) }
     ensures not_read { IfNone result (IsErr (decode_of (digits_of line.now))) }
 {
+    if let Some(count) = read_pairs(line, bytes) {
+        return Some(count);
+    }
     let count = copy_digits(line, digits);
     let half = count / 2;
     if read_digits(&digits[..count], &mut bytes[..half]) {
@@ -115,62 +176,45 @@ impl HexLine {
     }
 }
 
-/// Writes the letters of the digits as capitals.
-fn capitals(digits: &mut [u8])
-    ensures { digits.new ≡ map to_ascii_uppercase digits.old }
+/// The digits, by their values.
+const DIGITS: [u8; 16] = *b"0123456789ABCDEF";
+
+/// Adds the digits of four bytes at most.
+fn put_digits(bytes: &[u8], text: &mut ArrayVec<u8, 325>)
+    requires { array_vec_len text.old + 2 * length bytes.now ≤ 325 }
+    ensures items { text.new.items ≡ text.old.items ++ encode_upper bytes.now }
+    ensures len { array_vec_len text.new ≡ array_vec_len text.old + 2 * length bytes.now }
 {
-    for digit in digits.iter_mut() {
-        digit.make_ascii_uppercase();
+    for byte in bytes {
+        text.push(DIGITS[usize::from(byte / 16)]);
+        text.push(DIGITS[usize::from(byte % 16)]);
     }
 }
 
-/// Adds the digits in groups of eight.
-#[tactic(auto, using(crate::proofs::TextLemmas::text_rules))]
-fn put_spaced(digits: &[u8], text: &mut ArrayVec<u8, 325>)
-    requires empty { array_vec_len text.old ≡ 0 }
-    requires room { length digits.now ≤ 288 }
-    ensures items { text.new.items ≡ text.old.items ++ spaced digits.now }
-    ensures len { array_vec_len text.new < 325 }
-{
-    let mut rest = digits;
-    while rest.len() > 8 {
-        put(text, &rest[..8]);
-        put(text, b" ");
-        rest = &rest[8..];
-    }
-    put(text, rest);
-}
-
-/// Writes the bytes in digits.
-fn write_digits(bytes: &[u8], digits: &mut [u8])
-    requires { length digits.old ≡ 2 * length bytes.now }
-    ensures { digits.new ≡ encode_lower bytes.now }
-{
-    let _ = hex::encode_to_slice(bytes, digits);
-}
-
-/// Adds the bytes, in capitals in groups of four. What `room` holds does not count.
-fn put_bytes(bytes: &[u8], room: &mut [u8; 288], text: &mut ArrayVec<u8, 325>)
+/// Adds the bytes, in capitals in groups of four.
+fn put_bytes(bytes: &[u8], text: &mut ArrayVec<u8, 325>)
     requires empty { array_vec_len text.old ≡ 0 }
     requires fits { length bytes.now ≤ 144 }
     ensures items { text.new.items ≡ text.old.items ++ spaced (encode_upper bytes.now) }
     ensures len { array_vec_len text.new < 325 }
 {
-    let digits = &mut room[..2 * bytes.len()];
-    write_digits(bytes, digits);
-    capitals(digits);
-    put_spaced(digits, text);
+    let mut rest = bytes;
+    while rest.len() > 4 {
+        put_digits(&rest[..4], text);
+        text.push(b' ');
+        rest = &rest[4..];
+    }
+    put_digits(rest, text);
 }
 
 /// Adds the bytes of the packet, in capitals in groups of four. What `room` holds does not count.
-pub fn put_packet(packet: &Tlp, room: &mut [u8; 288], text: &mut ArrayVec<u8, 325>)
+pub fn put_packet(packet: &Tlp, room: &mut ArrayVec<u8, 144>, text: &mut ArrayVec<u8, 325>)
     requires { array_vec_len text.old ≡ 0 }
     ensures items { text.new.items ≡ text.old.items ++ spaced (encode_upper (canonical packet.now)) }
     ensures len { array_vec_len text.new < 325 }
 {
-    let mut bytes = ArrayVec::new();
-    encode(packet, &mut bytes);
-    put_bytes(bytes.as_slice(), room, text);
+    encode(packet, room);
+    put_bytes(room.as_slice(), text);
 }
 
 /// Adds a number below 100 in decimal.

@@ -42,7 +42,7 @@ impl Model for Device {
 /// Room for an answer, used again and again: what it holds does not count.
 #[derive(Drop)]
 struct Room {
-    digits: [u8; 288],
+    bytes: ArrayVec<u8, 144>,
     text: ArrayVec<u8, 325>,
 }
 
@@ -103,7 +103,7 @@ fn tell_completion(
         return Ok(false);
     };
     room.text.clear();
-    put_packet(completion, &mut room.digits, &mut room.text);
+    put_packet(completion, &mut room.bytes, &mut room.text);
     room.text.push(b'\n');
     out.extend_from_slice(room.text.as_slice())?;
     Ok(false)
@@ -203,7 +203,7 @@ impl Completer {
     {
         let device = Device::new(alloc, base, size, block)?;
         let room = Room {
-            digits: [0; 288],
+            bytes: ArrayVec::new(),
             text: ArrayVec::new(),
         };
         let line = HexLine::new();
