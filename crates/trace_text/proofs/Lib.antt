@@ -1,1 +1,4 @@
 mod WordLemmas
+mod DigitLemmas
+mod ReadBackLemmas
+mod OpLemmas

@@ -11,7 +11,7 @@ use byteorder::{ByteOrder, LittleEndian};
 use tlp_core::Width;
 
 /// The first word of a line, and the rest from the space behind it on.
-pub(crate) fn cut(line: &[u8]) -> (&[u8], &[u8])
+pub fn cut(line: &[u8]) -> (&[u8], &[u8])
     ensures { words line.now ≡ result.0.now ∷ words_behind result.1.now }
 {
     let mut at = 0;
@@ -31,8 +31,8 @@ fn next(rest: &[u8]) -> Option<(&[u8], &[u8])>
     }
 }
 
-/// Whether the line ends here.
-pub(crate) fn is_ended(rest: &[u8]) -> bool
+/// Whether the line ends here, `rest` being what is behind a word.
+pub fn is_ended(rest: &[u8]) -> bool
     ensures { result ≡ has_ended (words_behind rest.now) }
 {
     rest.is_empty()
@@ -105,8 +105,9 @@ fn operand_in(bytes: &[u8]) -> Option<(Width, u128)>
     }
 }
 
-/// The number that the next word spells, of at most `most`, and what is behind it.
-pub(crate) fn number(rest: &[u8], radix: u32, most: u64) -> Option<(u64, &[u8])>
+/// The number that the next word spells in that radix, of at most `most` and without leading zeros,
+/// and what is behind it. `rest` is what is behind a word.
+pub fn number(rest: &[u8], radix: u32, most: u64) -> Option<(u64, &[u8])>
     requires low { 2 ≤ radix }
     requires high { radix ≤ 36 }
     ensures field { first_field (numeral radix most) (words_behind rest.now) ≡ option_map (λ s. (s.0, words_behind s.1.now)) result }

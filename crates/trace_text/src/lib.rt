@@ -12,14 +12,19 @@
 //! DW are counted in decimal; no number has leading zeros. A byte string has two digits a byte, 1 to
 //! 128 bytes in memory order, and an operand is a byte string of 4, 8 or 16 bytes, which tell its
 //! width. Letters of hexadecimal digits are read in either case. Replies are `data <bytes>`, `ur` and
-//! `ca`.
+//! `ca`. What is written has capitals, and is read back.
 #![tactic(auto)]
 
 mod fields;
+mod laws;
 mod operations;
 mod replies;
 #[cfg(test)]
 mod tests;
+mod writing;
 
-pub use operations::read_op;
-pub use replies::read_reply;
+pub use fields::{cut, is_ended, number};
+pub use laws::{own_text_spells_operation, own_text_spells_reply};
+pub use operations::{op_behind, read_op};
+pub use replies::{read_reply, reply_behind};
+pub use writing::{write_decimal, write_hexadecimal, write_op, write_reply};

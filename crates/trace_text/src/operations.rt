@@ -139,3 +139,13 @@ pub fn read_op(text: &[u8]) -> Option<Op>
     let (kind, rest) = cut(text);
     op_by(kind, rest)
 }
+
+/// The operation that the rest of a line spells, behind the space.
+pub fn op_behind(rest: &[u8]) -> Option<Op>
+    ensures { result ≡ spelled.op_of (words_behind rest.now) }
+{
+    match rest {
+        [] => None,
+        [_, text @ ..] => read_op(text),
+    }
+}

@@ -42,3 +42,13 @@ pub fn read_reply(text: &[u8]) -> Option<Reply>
     let (kind, rest) = cut(text);
     reply_by(kind, rest)
 }
+
+/// The reply that the rest of a line spells, behind the space.
+pub fn reply_behind(rest: &[u8]) -> Option<Reply>
+    ensures { result ≡ spelled.reply_of (words_behind rest.now) }
+{
+    match rest {
+        [] => None,
+        [_, text @ ..] => read_reply(text),
+    }
+}

@@ -1,5 +1,9 @@
 //! Worked texts, and texts that spell nothing.
-use crate::{read_op, read_reply};
+use crate::{
+    cut, is_ended, number, op_behind, own_text_spells_operation, own_text_spells_reply, read_op,
+    read_reply, reply_behind, write_op, write_reply,
+};
+use arrayvec::ArrayString;
 use seq_memory::Reply;
 use std::test::Fail;
 use tlp_core::{Op, Width};
@@ -67,5 +71,52 @@ fn replies(rt: HostRuntime) -> Result<(), Fail> {
         return Err(Fail::from("no data"));
     };
     assert_eq!(rt; bytes.as_slice(), [0xFF, 0].as_slice());
+    Ok(())
+}
+
+#[test]
+fn written(rt: HostRuntime) -> Result<(), Fail> {
+    let rows: [(&[u8], &str); 6] = [
+        (b"read 0 1 f 0", "read 0 1 F 0"),
+        (
+            b"read ffffffffffffffff 65535 F a",
+            "read FFFFFFFFFFFFFFFF 65535 F A",
+        ),
+        (b"write 3c F 0 0a0b", "write 3C F 0 0A0B"),
+        (b"add 40 0700000a", "add 40 0700000A"),
+        (
+            b"swap a0 000102030405060708090a0b0c0d0e0f",
+            "swap A0 000102030405060708090A0B0C0D0E0F",
+        ),
+        (
+            b"cas 0 0100000000000000 0000000000000001",
+            "cas 0 0100000000000000 0000000000000001",
+        ),
+    ];
+    for (text, own) in rows {
+        let op = read_op(text).ok_or("no operation")?;
+        let mut line = ArrayString::new();
+        write_op(&op, &mut line);
+        assert_eq!(rt; line.as_str(), own);
+    }
+    for (text, own) in [
+        (b"data ff00".as_slice(), "data FF00"),
+        (b"ur", "ur"),
+        (b"ca", "ca"),
+    ] {
+        let reply = read_reply(text).ok_or("no reply")?;
+        let mut line = ArrayString::new();
+        write_reply(&reply, &mut line);
+        assert_eq!(rt; line.as_str(), own);
+    }
+    let (word, rest) = cut(b"sub 7");
+    assert_eq!(rt; word, b"sub".as_slice());
+    let (requester, rest) = number(rest, 10, 255).ok_or("no number")?;
+    assert_eq!(rt; (requester, is_ended(rest)), (7, true));
+    assert_eq!(rt; op_behind(b" read 0 1 F 0"), read_op(b"read 0 1 F 0"));
+    assert_eq!(rt; reply_behind(b" ca"), Some(Reply::Aborted));
+    assert_eq!(rt; reply_behind(b""), None);
+    own_text_spells_operation();
+    own_text_spells_reply();
     Ok(())
 }
