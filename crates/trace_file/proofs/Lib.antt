@@ -1,2 +1,3 @@
 mod FormLemmas
 mod LineLemmas
+mod TextLemmas

@@ -25,7 +25,9 @@ mod reader;
 mod reading;
 #[cfg(test)]
 mod tests;
+mod writing;
 
 pub use fault::{ReadFault, ReadFaultKind};
 pub use reader::TraceReader;
 pub use reading::read_trace;
+pub use writing::write_trace;
