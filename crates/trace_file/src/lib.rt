@@ -20,6 +20,7 @@
 #![tactic(auto)]
 
 mod fault;
+mod laws;
 mod line;
 mod reader;
 mod reading;
@@ -28,6 +29,7 @@ mod tests;
 mod writing;
 
 pub use fault::{ReadFault, ReadFaultKind};
+pub use laws::own_text_spells_trace;
 pub use reader::TraceReader;
 pub use reading::read_trace;
 pub use writing::write_trace;
