@@ -1,7 +1,7 @@
 -- What the forms of lines tell of their values.
-use Rattle.std.proofs.Common.{◌≡◌, ℕ, zero, suc, ◌+◌, ◌-◌, ◌*◌, ◌^◌, ◌<◌, ◌≤◌, Bool, true, false, List, [], ◌∷◌, ◌++◌, length, refl, sym, ap, subst, ◌∙◌, arith, Option, Some, None, inl, inr}
-use Rattle.std.specs.Prelude.{◌==◌, ◌&&◌, ◌||◌, not, nat_lt, nat_le, cond, codes, bytes_eq, ◌⊎◌, IfSome}
-use Rattle.std.proofs.lemmas.Bool.{cases_Bool, eqb-true, ne_eqb, eq-eqb}
+use Rattle.std.proofs.Common.{◌≡◌, ℕ, Bool, true, false, List, [], ◌∷◌, refl, sym, subst, arith, Option, Some, None, inl, inr}
+use Rattle.std.specs.Prelude.{◌==◌, ◌||◌, cond, codes, bytes_eq, IfSome}
+use Rattle.std.proofs.lemmas.Bool.{cases_Bool}
 use Rattle.std.proofs.lemmas.Bool.Decides.{nat_tests}
 use Rattle.tlp_core.specs.declared.operation.Op.{Op}
 use Rattle.seq_memory.specs.declared.Entry.{Entry}
@@ -10,7 +10,7 @@ use Rattle.seq_memory.specs.Limits.{IsBlock}
 use Rattle.history_check.specs.declared.Record.{Record}
 use Rattle.history_check.specs.declared.Record.TheVariants as records
 use Rattle.trace_text.specs.Operations.{address, op_of, reply_of}
-use Rattle.trace_text.specs.Words.{words, field, first_field, then_with, ended, has_ended}
+use Rattle.trace_text.specs.Words.{field, then_with, ended}
 use Rattle.trace_text.specs.Numbers.{numeral}
 use Rattle.trace_file.specs.declared.line.Version.{Version}
 use Rattle.trace_file.specs.declared.line.Version.TheVariants as versions

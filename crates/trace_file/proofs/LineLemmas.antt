@@ -1,15 +1,15 @@
 -- The lines of a text, one after the other.
-use Rattle.std.proofs.Common.{◌≡◌, ◌≢◌, ◌<◌, ◌≤◌, ◌+◌, ◌-◌, ℕ, zero, suc, true, false, List, [], ◌∷◌, ◌++◌, ◌∙◌, ◌==◌, if◌then◌else◌, length, take, drop, slice_index, get_or, refl, ap, sym, append_assoc, arith, fold, All, nat_lt}
+use Rattle.std.proofs.Common.{◌≡◌, ◌≢◌, ◌<◌, ◌≤◌, ◌+◌, ◌-◌, ℕ, true, false, List, [], ◌∷◌, ◌++◌, ◌∙◌, ◌==◌, length, take, drop, slice_index, get_or, refl, ap, sym, append_assoc, arith, fold, All}
 use Rattle.std.specs.Io.BufRead.{ends_with_byte}
 use Rattle.std.proofs.lemmas.Bool.Decides.{nat_tests}
 use Rattle.std.proofs.lemmas.Grind.{common_steps}
-use Rattle.std.proofs.lemmas.List.{append-nil, length-take-le, take-append-drop, take_more}
+use Rattle.std.proofs.lemmas.List.{length-take-le, take-append-drop, take_more}
 use Rattle.std.proofs.lemmas.List.Elements.{All-head, All-drop, All-get_or, All-from_get_or}
 use Rattle.std.proofs.Math.Seq.{get_or-take}
 use Rattle.memchr.specs.Find.{Nowhere, Passes, is_byte}
 use Rattle.trace_file.specs.Lines.{lines_of, bare}
-use Rattle.trace_file.specs.Reading.{Reading, take_line, reading_of, nothing_read}
-use Rattle.trace_file.specs.Engine.{on_ended_line, on_last_line}
+use Rattle.trace_file.specs.Reading.{Reading, take_line}
+use Rattle.trace_file.specs.Endings.{on_ended_line, on_last_line}
 
 -- the same as All, by recursion
 abbrev pub NoFeed : List ℕ → Type 0

@@ -1,12 +1,10 @@
 -- The text of a claim that some text spells is read back.
-use Rattle.std.proofs.Common.{◌≡◌, ℕ, zero, suc, ◌+◌, ◌-◌, ◌*◌, ◌^◌, ◌<◌, ◌≤◌, Bool, true, false, List, [], ◌∷◌, ◌++◌, length, get_or, refl, sym, ap, ap₂, subst, ◌∙◌, append_assoc, length-append, arith, All, fold, map, Option, Some, None, inl, inr, Result, Ok, Err}
-use Rattle.std.specs.Prelude.{◌==◌, if◌then◌else◌, ◌&&◌, ◌||◌, ◌≢◌, not, nat_lt, nat_le, cond, codes, bytes_eq, ◌⊎◌, is_some, min}
+use Rattle.std.proofs.Common.{◌≡◌, ℕ, ◌+◌, ◌-◌, ◌^◌, ◌<◌, ◌≤◌, Bool, true, false, List, [], ◌∷◌, ◌++◌, length, get_or, refl, sym, ap, subst, ◌∙◌, append_assoc, length-append, arith, All, fold, map, Option, Some, None, inl, inr, Ok}
+use Rattle.std.specs.Prelude.{◌==◌, if◌then◌else◌, ◌&&◌, ◌≢◌, nat_lt, nat_le, cond, codes, is_some, min}
 use Rattle.std.specs.Io.BufRead.{strip_last}
-use Rattle.std.specs.List.{join_with_byte}
 use Rattle.std.specs.Fmt.{decimal}
-use Rattle.std.proofs.lemmas.Bool.{cases_Bool, and_parts, eqb-true, ne_eqb, eq-eqb}
+use Rattle.std.proofs.lemmas.Bool.{cases_Bool, and_parts, ne_eqb, eq-eqb}
 use Rattle.std.proofs.lemmas.Bool.Decides.{nat_tests}
-use Rattle.std.proofs.lemmas.Grind.{common_steps}
 use Rattle.std.proofs.lemmas.List.{append-nil}
 use Rattle.std.proofs.lemmas.List.Elements.{All-nil, All-cons, All-append, All-head, All-drop, All-get_or}
 use Rattle.tlp_core.specs.declared.operation.Op.{Op}
@@ -17,12 +15,11 @@ use Rattle.seq_memory.specs.Limits.{IsBlock}
 use Rattle.history_check.specs.declared.Record.{Record}
 use Rattle.history_check.specs.declared.Record.TheVariants as records
 use Rattle.history_check.specs.Claim.{Claim}
-use Rattle.trace_text.specs.Words.{words, then_with, field, ended}
+use Rattle.trace_text.specs.Words.{words}
 use Rattle.trace_text.specs.Numbers.{numeral}
 use Rattle.trace_text.specs.Operations.{address, op_of, reply_of}
 use Rattle.trace_text.specs.Texts.{hexadecimal, op_text, reply_text, IsPrinted, IsPrintedChar}
 use Rattle.trace_file.specs.declared.fault.ReadFault.{ReadFault}
-use Rattle.trace_file.specs.declared.fault.ReadFaultKind.{ReadFaultKind}
 use Rattle.trace_file.specs.declared.line.Version.{Version}
 use Rattle.trace_file.specs.declared.line.Version.TheVariants as versions
 use Rattle.trace_file.specs.declared.line.Line.{Line}
@@ -32,12 +29,11 @@ use Rattle.trace_file.specs.declared.reader.Section.TheVariants as sections
 use Rattle.trace_file.specs.Lines.{lines_of, bare, said, is_skipped}
 use Rattle.trace_file.specs.Forms as forms
 use Rattle.trace_file.specs.Forms.{line_of}
-use Rattle.trace_file.specs.Reading.{Reading, nothing_read, next_line, in_head, in_memory, in_records, in_history, placed, taken, after_line, after_long_line, take_line, reading_of, claim_read, ended_in, at_end, fault_or_end, read_of}
-use Rattle.trace_file.specs.Engine.{on_ended_line}
-use Rattle.trace_file.specs.Texts.{spaced, memory_line, record_line, entry_line, lines_text, trace_lines, trace_text}
+use Rattle.trace_file.specs.Reading.{Reading, nothing_read, in_head, in_memory, in_records, in_history, placed, taken, after_line, after_long_line, take_line, reading_of, claim_read, at_end, fault_or_end, read_of}
+use Rattle.trace_file.specs.Texts.{memory_line, record_line, entry_line, lines_text, trace_text}
 use Rattle.trace_file.proofs.FormLemmas.{IsSpelled, RecordIs, EntryIs, LineIs, line-is, then-first, some-is}
 use Rattle.trace_file.proofs.LineLemmas.{reading_on, on-feed, on-none}
-use Rattle.trace_file.proofs.TextLemmas.{lines_text-append, lines_text-next, lines_text-none, trace_text-is}
+use Rattle.trace_file.proofs.TextLemmas.{lines_text-next, lines_text-none, trace_text-is}
 
 -- what is known of the texts of numbers, operations and replies
 pub record Laws : Type 0 where

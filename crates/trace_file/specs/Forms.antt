@@ -1,8 +1,6 @@
 -- The forms of lines.
 use Rattle.std.specs.Prelude.{ℕ, ◌==◌, ◌||◌, if◌then◌else◌, List, [], ◌∷◌, Option, Some, None, codes, bytes_eq}
-use Rattle.seq_memory.specs.declared.Entry.{Entry}
 use Rattle.seq_memory.specs.Limits.{IsBlock}
-use Rattle.history_check.specs.declared.Record.{Record}
 use Rattle.history_check.specs.declared.Record.TheVariants as records
 use Rattle.trace_text.specs.Words.{then_with, field, ended}
 use Rattle.trace_text.specs.Numbers.{numeral}

@@ -2,5 +2,5 @@ pub mod Names
 pub mod Lines
 pub mod Forms
 pub mod Reading
-pub mod Engine
+pub mod Endings
 pub mod Texts

@@ -1,5 +1,5 @@
 -- What a text of a trace is read as, line by line.
-use Rattle.std.specs.Prelude.{ℕ, ◌≡◌, ◌+◌, ◌-◌, ◌^◌, ◌⊎◌, min, nat_lt, if◌then◌else◌, Bool, List, [], ◌∷◌, ◌++◌, length, fold, Option, Some, None, is_some, Result, Ok, Err}
+use Rattle.std.specs.Prelude.{ℕ, ◌≡◌, ◌+◌, ◌-◌, ◌^◌, ◌⊎◌, min, nat_lt, if◌then◌else◌, List, [], ◌∷◌, ◌++◌, length, fold, Option, Some, None, is_some, Result, Ok, Err}
 use Rattle.seq_memory.specs.declared.Entry.{Entry}
 use Rattle.history_check.specs.declared.Record.{Record}
 use Rattle.history_check.specs.Claim.{Claim}

@@ -4,7 +4,7 @@ ghost use Rattle.std.specs.Io.BufRead.{strip_last};
 ghost use Rattle.seq_memory.specs.Limits.{IsBlock};
 ghost use Rattle.history_check.specs.Claim.{claim_of};
 ghost use Rattle.trace_file.specs.Reading.{read_of, Tells};
-ghost use Rattle.trace_file.specs.Engine.{on_ended_line, on_last_line};
+ghost use Rattle.trace_file.specs.Endings.{on_ended_line, on_last_line};
 
 use crate::fault::ReadFault;
 use crate::reader::TraceReader;

@@ -1,5 +1,7 @@
 //! Worked texts, in both versions.
-use crate::{ReadFault, ReadFaultKind, TraceReader, read_trace};
+use crate::{
+    ReadFault, ReadFaultKind, TraceReader, own_text_spells_trace, read_trace, write_trace,
+};
 use history_check::check;
 use std::alloc::Global;
 use std::test::Fail;
@@ -144,5 +146,20 @@ fn checked(rt: HostRuntime) -> Result<(), Fail> {
             (number, place)
         );
     }
+    Ok(())
+}
+
+#[test]
+fn upgraded(rt: HostRuntime) -> Result<(), Fail> {
+    let first: &[u8] =
+        b"pciex-trace 1\n# seen\nmemory ffc0 4096\r\n\nsub 1 0 0 read 40 1 f 0\nsub 7 0 0 write 3c F a 0a0b0C0d0A0B0C0D\nans 1 0 2 ur\nhistory\nent 1 0 read 40 1 F 0\nend";
+    let second =
+        "pciex-trace 2\nmemory FFC0 4096 64\nsub 1 0 0 read 40 1 F 0\nsub 7 0 0 write 3C F A 0A0B0C0D0A0B0C0D\nans 1 0 2 ur\nhistory\nent 1 0 read 40 1 F 0\nend\n";
+    for text in [first, second.as_bytes()] {
+        let (trace, history) = read_trace(rt.alloc(), text).map_err(|_| "fault")?;
+        let own = write_trace(rt.alloc(), &trace, &history)?;
+        assert_eq!(rt; own.as_str(), second);
+    }
+    own_text_spells_trace();
     Ok(())
 }

@@ -1,13 +1,12 @@
-use Rattle.std.proofs.Common.{true, false, ◌≡◌, ◌∙◌, ◌++◌, ◌+◌, ◌-◌, List, ℕ, [], ◌∷◌, ap, sym, subst, take, drop, length, append_assoc, arith, inl, inr, Result, Ok, Err, OnOk, OnErr, refl}
-use Rattle.std.specs.Prelude.{◌==◌, ◌⊎◌, IfOk, IfErr}
+use Rattle.std.proofs.Common.{true, false, ◌≡◌, ◌∙◌, ◌++◌, ◌+◌, ◌-◌, List, ℕ, [], ◌∷◌, ap, sym, subst, take, drop, length, append_assoc, arith, inl, inr, Result, Ok, Err, refl}
+use Rattle.std.specs.Prelude.{◌==◌, IfOk, IfErr}
 use Rattle.std.proofs.lemmas.Bool.{eqb-true}
 use Rattle.std.proofs.lemmas.Grind.{common_steps}
 use Rattle.std.proofs.lemmas.List.{append-nil}
-use Rattle.history_check.specs.Claim.{Claim, claim_of}
+use Rattle.history_check.specs.Claim.{claim_of}
 use Rattle.trace_file.specs.declared.fault.ReadFault.{ReadFault}
 use Rattle.trace_file.specs.declared.fault.ReadFaultKind.TheVariants as faults
-use Rattle.trace_file.specs.Reading.{Reading, reading_of, fault_at_next, IsRefused, Tells, at_end, read_of}
-use Rattle.trace_file.specs.Engine.{on_ended_line, on_last_line}
+use Rattle.trace_file.specs.Reading.{Reading, reading_of, fault_at_next, Tells, at_end}
 use Rattle.trace_file.proofs.LineLemmas.{reading_on, on-feed, on-last, on-none, none-before, none-at-all, cut-at}
 use Rattle.trace_file.proofs.reading.read_trace.Goals.{then-not-is_empty+in-Ok-take_last, else-not-is_empty}
 use Rattle.trace_file.proofs.reading.read_trace.Goals as goal

@@ -1,7 +1,6 @@
-use Rattle.std.proofs.Common.{◌≡◌, ◌∙◌, ◌++◌, ◌+◌, ◌∷◌, ◌<◌, ◌≤◌, List, ℕ, [], zero, suc, ap, sym, refl, drop, map, length, get_or, append_assoc, arith}
+use Rattle.std.proofs.Common.{◌∙◌}
 use Rattle.std.specs.Prelude.{string_bytes}
-use Rattle.seq_memory.specs.declared.Entry.{Entry}
-use Rattle.trace_file.specs.Texts.{entry_line, lines_text}
+use Rattle.trace_file.specs.Texts.{entry_line}
 use Rattle.trace_file.proofs.TextLemmas.{text-next, text-past}
 use Rattle.trace_file.proofs.writing.add_entries.Goals as goal
 

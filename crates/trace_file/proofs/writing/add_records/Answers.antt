@@ -1,7 +1,6 @@
-use Rattle.std.proofs.Common.{◌≡◌, ◌∙◌, ◌++◌, ◌+◌, ◌∷◌, ◌<◌, ◌≤◌, List, ℕ, [], zero, suc, ap, sym, refl, drop, map, length, get_or, append_assoc, arith}
+use Rattle.std.proofs.Common.{◌∙◌}
 use Rattle.std.specs.Prelude.{string_bytes}
-use Rattle.history_check.specs.declared.Record.{Record}
-use Rattle.trace_file.specs.Texts.{record_line, lines_text}
+use Rattle.trace_file.specs.Texts.{record_line}
 use Rattle.trace_file.proofs.TextLemmas.{text-next, text-past}
 use Rattle.trace_file.proofs.writing.add_records.Goals as goal
 

@@ -1,4 +1,4 @@
-use Rattle.std.proofs.Common.{◌≡◌, ◌∙◌, ◌++◌, List, ℕ, ap, map}
+use Rattle.std.proofs.Common.{◌∙◌, ◌++◌, ap, map}
 use Rattle.std.specs.Prelude.{string_bytes}
 use Rattle.history_check.specs.Claim.{claim_of}
 use Rattle.trace_file.specs.Texts.{lines_text, record_line}
