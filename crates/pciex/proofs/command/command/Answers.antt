@@ -1,15 +1,17 @@
-use Rattle.std.proofs.Common.{◌≡◌, List, ℕ, Option, sym, subst, inr}
+use Rattle.std.proofs.Common.{◌≡◌, List, ℕ, Option, Result, Ok, Err, IfOk, OnErr, sym, subst, inl, inr}
 use Rattle.clap.specs.Words.{Row, Text, kind_of}
 use Rattle.clap.specs.declared.error.kind.ErrorKind.TheVariants as kinds
+use Rattle.pciex.specs.declared.fault.EngineFault.{EngineFault}
 use Rattle.pciex.specs.declared.options.Request.{Request}
-use Rattle.pciex.specs.declared.options.Request.TheVariants.{Tlp}
+use Rattle.pciex.specs.declared.options.Request.TheVariants.{Tlp, Check, Upgrade}
 use Rattle.pciex.specs.declared.options.RequestFault.{RequestFault}
 use Rattle.pciex.specs.declared.options.RequestFault.TheVariants as faults
 use Rattle.pciex.specs.Faults.{WordsFault, RangeFault, IsMemoryFault}
 use Rattle.pciex.specs.Options.{Asks}
-use Rattle.pciex.specs.Run.{IsPart}
-use Rattle.pciex.specs.Tlp.{out_tlp}
+use Rattle.pciex.specs.Run.{Run, IsRun, IsWhole, IsPart}
+use Rattle.pciex.specs.Command.{IsDone}
 use Rattle.pciex.proofs.LineLemmas.{nothing-done}
+use Rattle.pciex.proofs.RequestsAsked.{asks_one}
 use Rattle.pciex.proofs.command.command.Goals as goal
 
 -- words that `clap` takes and that ask for something are refused for want of memory alone
@@ -19,15 +21,20 @@ want : (fault : RequestFault) (taken : Type 0) (o : Option (Text × List Row)) (
 want (faults.Words e) taken o r words range t a = words t
 want faults.Range taken o r words range t a = range r a
 
-pub returns-in-Err : goal.returns-in-Err
-returns-in-Err g c = record {
-  tlp = λ base size block takes asks.
-      let memory = want _ _ _ (Tlp base size block) c.in-Err.ensures.words c.in-Err.ensures.range takes asks in
-      let input = g.R.Read.remaining c.args.reader.now in
-      let out = g.W.Write.contents c.args.writer.now in
-      inr (
-        c.refused.ensures.status memory,
-        subst (λ (after : Option (List ℕ)). IsPart (out_tlp base size block) input input out after) (sym (c.refused.ensures.same memory))
-            (nothing-done (out_tlp base size block) input out),
-      );
-}
+-- nothing was done, and status 1 tells it
+undone : (r : Request) (input out : Option (List ℕ)) (exit : ℕ) → exit ≡ 1 → IsDone r input input out out exit
+undone (Tlp base size block) input out exit e = inr (e, nothing-done _ input out)
+undone Check input out exit e = inr (e, nothing-done _ input out)
+undone Upgrade input out exit e = inr (e, nothing-done _ input out)
+
+-- an engine's run, whole or stopped
+run_done : {S : Type 0} (run : List ℕ → Run S) (r : Result ℕ EngineFault) (input rest out out' : Option (List ℕ)) (exit : ℕ)
+    → IfOk r (λ status. exit ≡ status) → OnErr r (exit ≡ 1)
+    → IfOk r (IsWhole run input rest out out') → OnErr r (IsPart run input rest out out') → IsRun run input rest out out' exit
+run_done run (Ok status) input rest out out' exit ok err whole part = inl (subst (λ (n : ℕ). IsWhole run input rest out out' n) (sym ok) whole)
+run_done run (Err fault) input rest out out' exit ok err whole part = inr (err, part)
+
+-- what was done is what was asked for
+asked : (o : Option (Text × List Row)) (r s : Request) (input rest out out' : Option (List ℕ)) (exit : ℕ)
+    → Asks o r → Asks o s → IsDone r input rest out out' exit → IsDone s input rest out out' exit
+asked o r s input rest out out' exit a b d = subst (λ (r : Request). IsDone r input rest out out' exit) (asks_one o r s a b) d
