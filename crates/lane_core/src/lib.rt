@@ -26,6 +26,3 @@ pub use packet::{Arrival, DllpKind, DllpSeen, Fate, LaneRefusal, WirePacket};
 pub use receiver_end::ReceiverEnd;
 pub use sender_end::SenderEnd;
 pub use wires::{BackWire, ForwardWire};
-
-#[cfg(test)]
-mod rows;

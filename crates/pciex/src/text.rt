@@ -72,9 +72,9 @@ fn byte_of(high: u8, low: u8) -> Option<u8>
     None
 }
 
-/// Reads the bytes of a line where no space parts the digits of a byte, as in most lines, to the
-/// front of `bytes`, and gives their number; none of other lines.
-fn read_pairs(line: &[u8], bytes: &mut [u8; 256]) -> Option<usize>
+/// Reads the bytes of a line whose digits stand in groups of eight, as in most lines, to the front
+/// of `bytes`, and gives their number; none of other lines.
+fn read_groups(line: &[u8], bytes: &mut [u8; 256]) -> Option<usize>
     requires { length line.now ≤ 512 }
     ensures read { IfSome result (λ count. decode_of (digits_of line.now) ≡ Ok (take count bytes.new)) }
     ensures fits { IfSome result (λ count. count ≤ 256) }
@@ -85,11 +85,14 @@ fn read_pairs(line: &[u8], bytes: &mut [u8; 256]) -> Option<usize>
         if *first == b' ' {
             rest = after;
         } else {
-            let [second, after @ ..] = after else {
+            let [a, b, c, d, e, f, g, h, after @ ..] = rest else {
                 return None;
             };
-            bytes[count] = byte_of(*first, *second)?;
-            count += 1;
+            bytes[count] = byte_of(*a, *b)?;
+            bytes[count + 1] = byte_of(*c, *d)?;
+            bytes[count + 2] = byte_of(*e, *f)?;
+            bytes[count + 3] = byte_of(*g, *h)?;
+            count += 4;
             rest = after;
         }
     }
@@ -113,7 +116,7 @@ fn read_line(line: &[u8], digits: &mut [u8; 512], bytes: &mut [u8; 256]) -> Opti
     ensures fits { IfSome result (λ count. count ≤ 256) }
     ensures not_read { IfNone result (IsErr (decode_of (digits_of line.now))) }
 {
-    if let Some(count) = read_pairs(line, bytes) {
+    if let Some(count) = read_groups(line, bytes) {
         return Some(count);
     }
     let count = copy_digits(line, digits);

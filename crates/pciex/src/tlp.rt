@@ -128,20 +128,6 @@ impl Device {
         self.counts[usize::from(request.requester / 256)]
     }
 
-    /// Lets a request act, under the number of its requester's requests before it.
-    fn act(&mut self, request: &Tlp, number: u32) -> Result<Option<Tlp>, AllocError>
-        requires request { is_completion request.now.kind ≡ false }
-        requires number { number ≡ count_of self.old.entries (request.now.requester / 256) }
-        requires room { number < 4294967295 }
-        ensures memory { OnOk result (self.new ≡ after_serving self.old request.now number) }
-        ensures completion { IfOk result (λ c. c ≡ completion_to self.old request.now) }
-        ensures err { OnErr result (self.new ≡ self.old) }
-    {
-        let completion = serve(&mut self.memory, request, number)?;
-        self.counts[usize::from(request.requester / 256)] = number + 1;
-        Ok(completion)
-    }
-
     /// Answers a request.
     fn answer_request(
         &mut self,
@@ -157,7 +143,8 @@ impl Device {
         if number == u32::MAX {
             return tell(b"fault numbers\n", out);
         }
-        let completion = self.act(request, number)?;
+        let completion = serve(&mut self.memory, request, number)?;
+        self.counts[usize::from(request.requester / 256)] = number + 1;
         tell_completion(&completion, room, out)
     }
 

@@ -2,7 +2,7 @@ use Rattle.std.proofs.Common.{◌≡◌, ◌≤◌, ◌+◌, ◌*◌, ◌%◌, t
 use Rattle.hex.specs.Hex.{decode_pairs}
 use Rattle.hex.proofs.Pairs.{prepend}
 use Rattle.pciex.specs.Tlp.{digits_of}
-use Rattle.pciex.proofs.text.read_pairs.Given as goal
+use Rattle.pciex.proofs.text.read_groups.Given as goal
 
 abbrev pub invariant-loop-rest : goal.invariant-loop-rest
 invariant-loop-rest l = record {

@@ -1,0 +1,14 @@
+//! Lanes driven from end to end: worked rows, past several wraps of the sequence numbers; credits that come back; a wire
+//! that loses or fails most of what it carries; memory that doesn't grow.
+#![tactic(auto)]
+
+#[cfg(test)]
+mod calls;
+#[cfg(test)]
+mod credits;
+#[cfg(test)]
+mod memory;
+#[cfg(test)]
+mod storm;
+#[cfg(test)]
+mod windows;
