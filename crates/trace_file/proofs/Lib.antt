@@ -1,0 +1,2 @@
+mod FormLemmas
+mod LineLemmas

@@ -1,0 +1,75 @@
+//! Reading the whole text of a trace.
+ghost use Rattle.std.specs.Prelude.{◌≡◌, OnOk, OnErr, IfOk, IfErr, Ok, ◌++◌, ◌∷◌, []};
+ghost use Rattle.std.specs.Io.BufRead.{strip_last};
+ghost use Rattle.seq_memory.specs.Limits.{IsBlock};
+ghost use Rattle.history_check.specs.Claim.{claim_of};
+ghost use Rattle.trace_file.specs.Reading.{read_of, Tells};
+ghost use Rattle.trace_file.specs.Engine.{on_ended_line, on_last_line};
+
+use crate::fault::ReadFault;
+use crate::reader::TraceReader;
+use history_check::Trace;
+use memchr::memchr;
+use seq_memory::Entry;
+use std::alloc::{AllocError, Global};
+
+/// The most bytes that a line may have before its line feed.
+const MAX_LINE: usize = 512;
+
+/// The line with no carriage return at its end.
+fn without_return(line: &[u8]) -> &[u8]
+    ensures { result.now ≡ strip_last 13 line.now }
+{
+    match line {
+        [front @ .., b'\r'] => front,
+        _ => line,
+    }
+}
+
+/// Takes a line that a line feed ended, given without it.
+fn take_ended(reader: &mut TraceReader, line: &[u8]) -> Result<(), AllocError>
+    ensures ok { OnOk result (reader.new ≡ on_ended_line reader.old line.now) }
+    ensures err { OnErr result (reader.new ≡ reader.old) }
+{
+    if line.len() > MAX_LINE {
+        reader.long_line();
+        return Ok(());
+    }
+    reader.line(without_return(line))
+}
+
+/// Takes a line that the end of the text ended.
+fn take_last(reader: &mut TraceReader, line: &[u8]) -> Result<(), AllocError>
+    ensures ok { OnOk result (reader.new ≡ on_last_line reader.old line.now) }
+    ensures err { OnErr result (reader.new ≡ reader.old) }
+{
+    if line.len() > MAX_LINE {
+        reader.long_line();
+        return Ok(());
+    }
+    reader.line(line)
+}
+
+/// The trace and the history that the text spells, or its first fault: its lines end in line feeds,
+/// the last may lack it, and one carriage return before a line feed is ignored. A fault of kind
+/// `Memory` tells that a growth was refused.
+pub fn read_trace(alloc: Global, text: &[u8]) -> Result<(Trace, Vec<Entry>), ReadFault>
+    ensures ok { IfOk result (λ t. read_of text.now ≡ Ok (claim_of t.0 t.1.items)) }
+    ensures err { IfErr result (Tells text.now) }
+    ensures block { IfOk result (λ t. IsBlock t.0.block) }
+{
+    let mut reader = TraceReader::new(alloc);
+    let mut rest = text;
+    while let Some(end) = memchr(b'\n', rest) {
+        let Ok(()) = take_ended(&mut reader, &rest[..end]) else {
+            return Err(reader.out_of_memory());
+        };
+        rest = &rest[end + 1..];
+    }
+    if !rest.is_empty() {
+        let Ok(()) = take_last(&mut reader, rest) else {
+            return Err(reader.out_of_memory());
+        };
+    }
+    reader.end()
+}
