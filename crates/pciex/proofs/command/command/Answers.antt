@@ -1,5 +1,5 @@
-use Rattle.std.proofs.Common.{◌≡◌, List, ℕ, Option, Result, Ok, Err, IfOk, OnErr, sym, subst, inl, inr}
-use Rattle.clap.specs.Words.{Row, Text, kind_of}
+use Rattle.std.proofs.Common.{◌≡◌, List, ℕ, Option, Result, Ok, Err, IfOk, OnErr, map, sym, subst, inl, inr}
+use Rattle.clap.specs.Words.{Row, Text, kind_of, subcommand_of}
 use Rattle.clap.specs.declared.error.kind.ErrorKind.TheVariants as kinds
 use Rattle.pciex.specs.declared.fault.EngineFault.{EngineFault}
 use Rattle.pciex.specs.declared.options.Request.{Request}
@@ -7,7 +7,7 @@ use Rattle.pciex.specs.declared.options.Request.TheVariants.{Tlp, Check, Upgrade
 use Rattle.pciex.specs.declared.options.RequestFault.{RequestFault}
 use Rattle.pciex.specs.declared.options.RequestFault.TheVariants as faults
 use Rattle.pciex.specs.Faults.{WordsFault, RangeFault, IsMemoryFault}
-use Rattle.pciex.specs.Options.{Asks}
+use Rattle.pciex.specs.Options.{the_app, Asks}
 use Rattle.pciex.specs.Run.{Run, IsRun, IsWhole, IsPart}
 use Rattle.pciex.specs.Command.{IsDone}
 use Rattle.pciex.proofs.LineLemmas.{nothing-done}
@@ -38,3 +38,21 @@ run_done run (Err fault) input rest out out' exit ok err whole part = inr (err, 
 asked : (o : Option (Text × List Row)) (r s : Request) (input rest out out' : Option (List ℕ)) (exit : ℕ)
     → Asks o r → Asks o s → IsDone r input rest out out' exit → IsDone s input rest out out' exit
 asked o r s input rest out out' exit a b d = subst (λ (r : Request). IsDone r input rest out out' exit) (asks_one o r s a b) d
+
+pub returns-in-Ok-Tlp : goal.returns-in-Ok-Tlp
+returns-in-Ok-Tlp g c = record {
+  run = λ request takes asks.
+      asked _ (Tlp c.in-Ok-Tlp.base c.in-Ok-Tlp.size c.in-Ok-Tlp.block) request _ _ _ _ _
+          (subst (λ (r : Request). Asks (subcommand_of the_app (map g.S.AsStr.text c.args.words.now)) r) c.in-Ok-Tlp.field-0-is c.in-Ok-Tlp.ensures.ok) asks
+      (run_done _ c.run_tlp.result _ _ _ _ _ c.ended.ensures.ok c.ended.ensures.err c.run_tlp.ensures.ok c.run_tlp.ensures.err);
+}
+
+pub returns-in-Err : goal.returns-in-Err
+returns-in-Err g c = record {
+  run = λ request takes asks.
+      let memory = want _ _ _ request c.in-Err.ensures.words c.in-Err.ensures.range takes asks in
+      let input = g.R.Read.remaining c.args.reader.now in
+      let out = g.W.Write.contents c.args.writer.now in
+      subst (λ (after : Option (List ℕ)). IsDone request input input out after c.refused.result) (sym (c.refused.ensures.same memory))
+          (undone request input out c.refused.result (c.refused.ensures.status memory));
+}
