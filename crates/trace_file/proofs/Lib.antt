@@ -1,2 +1,4 @@
 mod FormLemmas
 mod LineLemmas
+mod TextLemmas
+mod ReadBack

@@ -20,12 +20,16 @@
 #![tactic(auto)]
 
 mod fault;
+mod laws;
 mod line;
 mod reader;
 mod reading;
 #[cfg(test)]
 mod tests;
+mod writing;
 
 pub use fault::{ReadFault, ReadFaultKind};
+pub use laws::own_text_spells_trace;
 pub use reader::TraceReader;
 pub use reading::read_trace;
+pub use writing::write_trace;

@@ -93,7 +93,7 @@ numeral_after-range radix most n m (c ∷ cs) le h = elim (cases_Bool (nat_lt (d
   | inr miss ↦ absurd (let k = rw miss at h in cc k)
 ]
 
-numeral-range : (radix most m : ℕ) (w : List ℕ) → numeral radix most w ≡ Some m → m ≤ most
+pub numeral-range : (radix most m : ℕ) (w : List ℕ) → numeral radix most w ≡ Some m → m ≤ most
 numeral-range radix most m [] h = absurd (cc h)
 numeral-range radix most m (c ∷ cs) h = elim (cases_Bool ((c == 48) && not (length cs == 0))) [
   | inl hit ↦ absurd (let k = rw hit at h in cc k)
@@ -298,7 +298,7 @@ record Written (text : List ℕ) (ws : List (List ℕ)) : Type 0 where
   split : words text ≡ ws
   printed : IsPrinted text
 
-printed-word : (w : List ℕ) → IsWord w → IsPrinted w
+pub printed-word : (w : List ℕ) → IsWord w → IsPrinted w
 printed-word [] h = All-nil IsPrintedChar
 printed-word (c ∷ w) h = All-cons IsPrintedChar c w (let k = h.0.0 in omega arith, h.0.1) (printed-word w h.1)
 

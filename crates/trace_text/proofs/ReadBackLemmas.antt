@@ -73,11 +73,11 @@ abbrev pub AreWords : List (List ℕ) → Type 0
 AreWords [] = Unit {0}
 AreWords (w ∷ ws) = IsWord w × AreWords ws
 
-word-first : (w line : List ℕ) → IsWord w → words (w ++ 32 ∷ line) ≡ w ∷ words line
+pub word-first : (w line : List ℕ) → IsWord w → words (w ++ 32 ∷ line) ≡ w ∷ words line
 word-first [] line h = refl
 word-first (c ∷ w) line h = rw (no_space c h.0, word-first w line h.1) refl
 
-word-alone : (w : List ℕ) → IsWord w → words w ≡ w ∷ []
+pub word-alone : (w : List ℕ) → IsWord w → words w ≡ w ∷ []
 word-alone [] h = refl
 word-alone (c ∷ w) h = rw (no_space c h.0, word-alone w h.1) refl
 

@@ -24,7 +24,7 @@ mod tests;
 mod writing;
 
 pub use fields::{cut, is_ended, number};
-pub use laws::{own_text_spells_operation, own_text_spells_reply};
+pub use laws::{own_digits_spell_number, own_text_spells_operation, own_text_spells_reply};
 pub use operations::{op_behind, read_op};
 pub use replies::{read_reply, reply_behind};
 pub use writing::{write_decimal, write_hexadecimal, write_op, write_reply};

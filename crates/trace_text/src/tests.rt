@@ -1,7 +1,7 @@
 //! Worked texts, and texts that spell nothing.
 use crate::{
-    cut, is_ended, number, op_behind, own_text_spells_operation, own_text_spells_reply, read_op,
-    read_reply, reply_behind, write_op, write_reply,
+    cut, is_ended, number, op_behind, own_digits_spell_number, own_text_spells_operation,
+    own_text_spells_reply, read_op, read_reply, reply_behind, write_op, write_reply,
 };
 use arrayvec::ArrayString;
 use seq_memory::Reply;
@@ -116,6 +116,7 @@ fn written(rt: HostRuntime) -> Result<(), Fail> {
     assert_eq!(rt; op_behind(b" read 0 1 F 0"), read_op(b"read 0 1 F 0"));
     assert_eq!(rt; reply_behind(b" ca"), Some(Reply::Aborted));
     assert_eq!(rt; reply_behind(b""), None);
+    own_digits_spell_number();
     own_text_spells_operation();
     own_text_spells_reply();
     Ok(())
