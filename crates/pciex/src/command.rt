@@ -7,9 +7,9 @@ ghost use Rattle.pciex.specs.Options.{the_app, Asks};
 ghost use Rattle.pciex.specs.Command.{IsDone};
 ghost use Rattle.pciex.specs.declared.options.Request.{Request};
 
+use crate::check::run_check;
 use crate::fault::EngineFault;
 use crate::options::{Request, RequestFault, options};
-use crate::check::run_check;
 use crate::tlp::run_tlp;
 use crate::upgrade::run_upgrade;
 use clap::error::ErrorKind;

@@ -12,6 +12,8 @@ mod responder;
 mod tests;
 mod text;
 mod tlp;
+#[cfg(test)]
+mod trace_tests;
 mod traces;
 mod upgrade;
 

@@ -68,7 +68,7 @@ impl Write for FailingWriter {
 }
 
 /// The exit status, what was written, and what the error stream got.
-fn told(alloc: Global, words: &[&str], input: &[u8]) -> (u8, Vec<u8>, Vec<u8>) {
+pub fn told(alloc: Global, words: &[&str], input: &[u8]) -> (u8, Vec<u8>, Vec<u8>) {
     let mut reader = FailingReader {
         rest: input,
         most: 7,

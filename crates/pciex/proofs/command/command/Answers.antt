@@ -43,7 +43,7 @@ pub returns-in-Ok-Tlp : goal.returns-in-Ok-Tlp
 returns-in-Ok-Tlp g c = record {
   run = λ request takes asks.
       asked _ (Tlp c.in-Ok-Tlp.base c.in-Ok-Tlp.size c.in-Ok-Tlp.block) request _ _ _ _ _
-          (subst (λ (r : Request). Asks (subcommand_of the_app (map g.S.AsStr.text c.args.words.now)) r) c.in-Ok-Tlp.field-0-is c.in-Ok-Tlp.ensures.ok) asks
+      (subst (λ (r : Request). Asks (subcommand_of the_app (map g.S.AsStr.text c.args.words.now)) r) c.in-Ok-Tlp.field-0-is c.in-Ok-Tlp.ensures.ok) asks
       (run_done _ c.run_tlp.result _ _ _ _ _ c.ended.ensures.ok c.ended.ensures.err c.run_tlp.ensures.ok c.run_tlp.ensures.err);
 }
 
@@ -54,5 +54,5 @@ returns-in-Err g c = record {
       let input = g.R.Read.remaining c.args.reader.now in
       let out = g.W.Write.contents c.args.writer.now in
       subst (λ (after : Option (List ℕ)). IsDone request input input out after c.refused.result) (sym (c.refused.ensures.same memory))
-          (undone request input out c.refused.result (c.refused.ensures.status memory));
+      (undone request input out c.refused.result (c.refused.ensures.status memory));
 }
