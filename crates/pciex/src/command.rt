@@ -29,6 +29,7 @@ fn stopped<E: Write>(fault: EngineFault, errors: &mut E) -> u8
 fn told<W: Write, E: Write>(error: &clap::Error, writer: &mut W, errors: &mut E) -> u8
     ensures status { kind_of error.now ≡ ErrorKind.OutOfMemory → result ≡ 1 }
     ensures same { kind_of error.now ≡ ErrorKind.OutOfMemory → W.contents writer.new ≡ W.contents writer.old }
+    ensures wrong { kind_of error.now ≢ ErrorKind.OutOfMemory → kind_of error.now ≢ ErrorKind.DisplayHelp → kind_of error.now ≢ ErrorKind.DisplayVersion → result ≡ 2 }
 {
     if error.kind() == ErrorKind::OutOfMemory {
         return stopped(EngineFault::Memory, errors);
@@ -47,6 +48,8 @@ fn told<W: Write, E: Write>(error: &clap::Error, writer: &mut W, errors: &mut E)
 fn refused<W: Write, E: Write>(fault: &RequestFault, writer: &mut W, errors: &mut E) -> u8
     ensures status { IsMemoryFault fault.now → result ≡ 1 }
     ensures same { IsMemoryFault fault.now → W.contents writer.new ≡ W.contents writer.old }
+    ensures range { fault.now ≡ RequestFault.Range → result ≡ 2 }
+    ensures range_same { fault.now ≡ RequestFault.Range → W.contents writer.new ≡ W.contents writer.old }
 {
     match fault {
         RequestFault::Words(error) => told(error, writer, errors),
