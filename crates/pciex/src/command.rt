@@ -1,5 +1,5 @@
 //! The program, over any streams.
-ghost use Rattle.std.specs.Prelude.{◌≡◌, ◌≢◌, ℕ, map, true};
+ghost use Rattle.std.specs.Prelude.{◌≡◌, ◌≢◌, ◌⊎◌, ℕ, map, true};
 ghost use Rattle.std.specs.IoError.{error_kind};
 ghost use Rattle.clap.specs.Words.{kind_of, subcommand_of, takes};
 ghost use Rattle.pciex.specs.Faults.{IsMemoryFault};
@@ -87,6 +87,10 @@ pub fn command<S: AsStr, R: Read, W: Write, E: Write>(
     ensures tlp { (base size block : ℕ) → takes the_app (map S.text words.now) ≡ true
         → Asks (subcommand_of the_app (map S.text words.now)) (Request.Tlp base size block)
         → IsRun (out_tlp base size block) (R.remaining reader.old) (R.remaining reader.new) (W.contents writer.old) (W.contents writer.new) result }
+
+    // Words that `clap` takes and that ask for nothing have status 2, or 1 for want of memory, and nothing is written.
+    ensures nothing { takes the_app (map S.text words.now) ≡ true → ((r : Request) → Asks (subcommand_of the_app (map S.text words.now)) r → ⊥)
+        → ((result ≡ 1) ⊎ (result ≡ 2)) × (W.contents writer.new ≡ W.contents writer.old) }
 {
     match options(alloc, words) {
         Ok(Request::Tlp { base, size, block }) => {

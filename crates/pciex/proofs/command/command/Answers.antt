@@ -1,4 +1,4 @@
-use Rattle.std.proofs.Common.{◌≡◌, List, ℕ, Option, sym, subst, inr}
+use Rattle.std.proofs.Common.{◌≡◌, ◌⊎◌, List, ℕ, Option, sym, subst, inl, inr, refl}
 use Rattle.clap.specs.Words.{Row, Text, kind_of}
 use Rattle.clap.specs.declared.error.kind.ErrorKind.TheVariants as kinds
 use Rattle.pciex.specs.declared.options.Request.{Request}
@@ -19,6 +19,13 @@ want : (fault : RequestFault) (taken : Type 0) (o : Option (Text × List Row)) (
 want (faults.Words e) taken o r words range t a = words t
 want faults.Range taken o r words range t a = range r a
 
+-- words that ask for nothing are refused, and nothing is written
+none : {A : Type 0} (fault : RequestFault) (taken : Type 0) (status : ℕ) (old new : A) → WordsFault (λ e. taken → kind_of e ≡ kinds.OutOfMemory) fault → taken
+    → (IsMemoryFault fault → status ≡ 1) → (IsMemoryFault fault → new ≡ old) → (fault ≡ faults.Range → status ≡ 2) → (fault ≡ faults.Range → new ≡ old)
+    → ((status ≡ 1) ⊎ (status ≡ 2)) × (new ≡ old)
+none (faults.Words e) taken status old new words t m same r range_same = (inl (m (words t)), same (words t))
+none faults.Range taken status old new words t m same r range_same = (inr (r refl), range_same refl)
+
 pub returns-in-Err : goal.returns-in-Err
 returns-in-Err g c = record {
   tlp = λ base size block takes asks.
@@ -30,4 +37,5 @@ returns-in-Err g c = record {
         subst (λ (after : Option (List ℕ)). IsPart (out_tlp base size block) input input out after) (sym (c.refused.ensures.same memory))
             (nothing-done (out_tlp base size block) input out),
       );
+  nothing = λ takes empty. none _ _ _ _ _ c.in-Err.ensures.words takes c.refused.ensures.status c.refused.ensures.same c.refused.ensures.range c.refused.ensures.range_same;
 }
