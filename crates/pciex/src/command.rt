@@ -1,5 +1,5 @@
 //! The program, over any streams.
-ghost use Rattle.std.specs.Prelude.{◌≡◌, ◌≢◌, map, true, IfOk, OnErr};
+ghost use Rattle.std.specs.Prelude.{◌≡◌, ◌≢◌, ◌⊎◌, map, true, IfOk, OnErr};
 ghost use Rattle.std.specs.IoError.{error_kind};
 ghost use Rattle.clap.specs.Words.{kind_of, subcommand_of, takes};
 ghost use Rattle.pciex.specs.Faults.{IsMemoryFault};
@@ -39,6 +39,7 @@ fn ended<E: Write>(run: Result<u8, EngineFault>, errors: &mut E) -> u8
 fn told<W: Write, E: Write>(error: &clap::Error, writer: &mut W, errors: &mut E) -> u8
     ensures status { kind_of error.now ≡ ErrorKind.OutOfMemory → result ≡ 1 }
     ensures same { kind_of error.now ≡ ErrorKind.OutOfMemory → W.contents writer.new ≡ W.contents writer.old }
+    ensures wrong { kind_of error.now ≢ ErrorKind.OutOfMemory → kind_of error.now ≢ ErrorKind.DisplayHelp → kind_of error.now ≢ ErrorKind.DisplayVersion → result ≡ 2 }
 {
     if error.kind() == ErrorKind::OutOfMemory {
         return stopped(EngineFault::Memory, errors);
@@ -57,6 +58,8 @@ fn told<W: Write, E: Write>(error: &clap::Error, writer: &mut W, errors: &mut E)
 fn refused<W: Write, E: Write>(fault: &RequestFault, writer: &mut W, errors: &mut E) -> u8
     ensures status { IsMemoryFault fault.now → result ≡ 1 }
     ensures same { IsMemoryFault fault.now → W.contents writer.new ≡ W.contents writer.old }
+    ensures range { fault.now ≡ RequestFault.Range → result ≡ 2 }
+    ensures range_same { fault.now ≡ RequestFault.Range → W.contents writer.new ≡ W.contents writer.old }
 {
     match fault {
         RequestFault::Words(error) => told(error, writer, errors),
@@ -93,6 +96,10 @@ pub fn command<S: AsStr, R: Read, W: Write, E: Write>(
     // Words that `clap` takes and that ask for something have the run of that.
     ensures run { (request : Request) → takes the_app (map S.text words.now) ≡ true → Asks (subcommand_of the_app (map S.text words.now)) request
         → IsDone request (R.remaining reader.old) (R.remaining reader.new) (W.contents writer.old) (W.contents writer.new) result }
+
+    // Words that `clap` takes and that ask for nothing have status 2, or 1 for want of memory, and nothing is written.
+    ensures nothing { takes the_app (map S.text words.now) ≡ true → ((r : Request) → Asks (subcommand_of the_app (map S.text words.now)) r → ⊥)
+        → ((result ≡ 1) ⊎ (result ≡ 2)) × (W.contents writer.new ≡ W.contents writer.old) }
 {
     match options(alloc, words) {
         Ok(Request::Tlp { base, size, block }) => {

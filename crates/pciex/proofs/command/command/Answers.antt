@@ -1,4 +1,4 @@
-use Rattle.std.proofs.Common.{◌≡◌, List, ℕ, Option, Result, Ok, Err, IfOk, OnErr, map, sym, subst, inl, inr}
+use Rattle.std.proofs.Common.{◌≡◌, ◌⊎◌, List, ℕ, Option, Result, Ok, Err, IfOk, OnErr, map, sym, subst, inl, inr, refl}
 use Rattle.clap.specs.Words.{Row, Text, kind_of, subcommand_of}
 use Rattle.clap.specs.declared.error.kind.ErrorKind.TheVariants as kinds
 use Rattle.pciex.specs.declared.fault.EngineFault.{EngineFault}
@@ -39,12 +39,20 @@ asked : (o : Option (Text × List Row)) (r s : Request) (input rest out out' : O
     → Asks o r → Asks o s → IsDone r input rest out out' exit → IsDone s input rest out out' exit
 asked o r s input rest out out' exit a b d = subst (λ (r : Request). IsDone r input rest out out' exit) (asks_one o r s a b) d
 
+-- words that ask for nothing are refused, and nothing is written
+none : {A : Type 0} (fault : RequestFault) (taken : Type 0) (status : ℕ) (old new : A) → WordsFault (λ e. taken → kind_of e ≡ kinds.OutOfMemory) fault → taken
+    → (IsMemoryFault fault → status ≡ 1) → (IsMemoryFault fault → new ≡ old) → (fault ≡ faults.Range → status ≡ 2) → (fault ≡ faults.Range → new ≡ old)
+    → ((status ≡ 1) ⊎ (status ≡ 2)) × (new ≡ old)
+none (faults.Words e) taken status old new words t m same r range_same = (inl (m (words t)), same (words t))
+none faults.Range taken status old new words t m same r range_same = (inr (r refl), range_same refl)
+
 pub returns-in-Ok-Tlp : goal.returns-in-Ok-Tlp
 returns-in-Ok-Tlp g c = record {
   run = λ request takes asks.
       asked _ (Tlp c.in-Ok-Tlp.base c.in-Ok-Tlp.size c.in-Ok-Tlp.block) request _ _ _ _ _
       (subst (λ (r : Request). Asks (subcommand_of the_app (map g.S.AsStr.text c.args.words.now)) r) c.in-Ok-Tlp.field-0-is c.in-Ok-Tlp.ensures.ok) asks
       (run_done _ c.run_tlp.result _ _ _ _ _ c.ended.ensures.ok c.ended.ensures.err c.run_tlp.ensures.ok c.run_tlp.ensures.err);
+  nothing = λ takes empty. absurd (empty c.in-Ok-Tlp.field-0 c.in-Ok-Tlp.ensures.ok);
 }
 
 pub returns-in-Err : goal.returns-in-Err
@@ -55,4 +63,5 @@ returns-in-Err g c = record {
       let out = g.W.Write.contents c.args.writer.now in
       subst (λ (after : Option (List ℕ)). IsDone request input input out after c.refused.result) (sym (c.refused.ensures.same memory))
       (undone request input out c.refused.result (c.refused.ensures.status memory));
+  nothing = λ takes empty. none _ _ _ _ _ c.in-Err.ensures.words takes c.refused.ensures.status c.refused.ensures.same c.refused.ensures.range c.refused.ensures.range_same;
 }
