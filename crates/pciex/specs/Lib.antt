@@ -4,3 +4,6 @@ pub mod Engine
 pub mod Tlp
 pub mod Options
 pub mod Faults
+pub mod Check
+pub mod Upgrade
+pub mod Command

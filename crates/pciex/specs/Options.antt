@@ -4,7 +4,7 @@ use Rattle.std.specs.Str.Parse.{IsNumeral, digits_value}
 use Rattle.clap.specs.Words.{App, Row, Rule, Text, first_of, new_app, new_rule, with_rule, with_subcommand}
 use Rattle.seq_memory.specs.Limits.{IsSize, IsBase, IsBlock}
 use Rattle.pciex.specs.declared.options.Request.{Request}
-use Rattle.pciex.specs.declared.options.Request.TheVariants.{Tlp}
+use Rattle.pciex.specs.declared.options.Request.TheVariants.{Tlp, Check, Upgrade}
 
 -- an option with a value
 abbrev pub option : Text → Rule
@@ -20,7 +20,7 @@ top_app = record (new_app (codes "pciex")) {
 
 -- the grammar of the command line
 unfoldable pub the_app : App
-the_app = with_subcommand top_app tlp_app.top
+the_app = with_subcommand (with_subcommand (with_subcommand top_app tlp_app.top) (new_app (codes "check")).top) (new_app (codes "upgrade")).top
 
 -- a base is written in 1 to 16 hexadecimal digits, and is 0 where none is given
 abbrev pub WritesBase : Option Text → ℕ → Type 0
@@ -49,3 +49,5 @@ pub record AsksTlp (rows : List Row) (base size block : ℕ) : Type 0 where
 abbrev pub Asks : Option (Text × List Row) → Request → Type 0
 Asks None request = ⊥
 Asks (Some p) (Tlp base size block) = (p.0 ≡ codes "tlp") × AsksTlp p.1 base size block
+Asks (Some p) Check = p.0 ≡ codes "check"
+Asks (Some p) Upgrade = p.0 ≡ codes "upgrade"

@@ -1,15 +1,17 @@
 //! The program, over any streams.
-ghost use Rattle.std.specs.Prelude.{◌≡◌, ◌≢◌, ℕ, map, true};
+ghost use Rattle.std.specs.Prelude.{◌≡◌, ◌≢◌, ◌⊎◌, map, true, IfOk, OnErr};
 ghost use Rattle.std.specs.IoError.{error_kind};
 ghost use Rattle.clap.specs.Words.{kind_of, subcommand_of, takes};
 ghost use Rattle.pciex.specs.Faults.{IsMemoryFault};
 ghost use Rattle.pciex.specs.Options.{the_app, Asks};
-ghost use Rattle.pciex.specs.Run.{IsRun};
-ghost use Rattle.pciex.specs.Tlp.{out_tlp};
+ghost use Rattle.pciex.specs.Command.{IsDone};
+ghost use Rattle.pciex.specs.declared.options.Request.{Request};
 
+use crate::check::run_check;
 use crate::fault::EngineFault;
 use crate::options::{Request, RequestFault, options};
 use crate::tlp::run_tlp;
+use crate::upgrade::run_upgrade;
 use clap::error::ErrorKind;
 use std::alloc::Global;
 use std::convert::AsStr;
@@ -24,11 +26,20 @@ fn stopped<E: Write>(fault: EngineFault, errors: &mut E) -> u8
     1
 }
 
+/// The exit status of an engine's run; what stopped it is told.
+fn ended<E: Write>(run: Result<u8, EngineFault>, errors: &mut E) -> u8
+    ensures ok { IfOk run (λ status. result ≡ status) }
+    ensures err { OnErr run (result ≡ 1) }
+{
+    run.unwrap_or_else(|fault| stopped(fault, errors))
+}
+
 /// Tells what `clap` says of the words, and gives the exit status: a text that was asked for goes
 /// to standard output, and any other to standard error.
 fn told<W: Write, E: Write>(error: &clap::Error, writer: &mut W, errors: &mut E) -> u8
     ensures status { kind_of error.now ≡ ErrorKind.OutOfMemory → result ≡ 1 }
     ensures same { kind_of error.now ≡ ErrorKind.OutOfMemory → W.contents writer.new ≡ W.contents writer.old }
+    ensures wrong { kind_of error.now ≢ ErrorKind.OutOfMemory → kind_of error.now ≢ ErrorKind.DisplayHelp → kind_of error.now ≢ ErrorKind.DisplayVersion → result ≡ 2 }
 {
     if error.kind() == ErrorKind::OutOfMemory {
         return stopped(EngineFault::Memory, errors);
@@ -47,6 +58,8 @@ fn told<W: Write, E: Write>(error: &clap::Error, writer: &mut W, errors: &mut E)
 fn refused<W: Write, E: Write>(fault: &RequestFault, writer: &mut W, errors: &mut E) -> u8
     ensures status { IsMemoryFault fault.now → result ≡ 1 }
     ensures same { IsMemoryFault fault.now → W.contents writer.new ≡ W.contents writer.old }
+    ensures range { fault.now ≡ RequestFault.Range → result ≡ 2 }
+    ensures range_same { fault.now ≡ RequestFault.Range → W.contents writer.new ≡ W.contents writer.old }
 {
     match fault {
         RequestFault::Words(error) => told(error, writer, errors),
@@ -80,18 +93,20 @@ pub fn command<S: AsStr, R: Read, W: Write, E: Write>(
     writer: &mut W,
     errors: &mut E,
 ) -> u8
-    // Words that `clap` takes and that ask for `tlp` over a memory have its run.
-    ensures tlp { (base size block : ℕ) → takes the_app (map S.text words.now) ≡ true
-        → Asks (subcommand_of the_app (map S.text words.now)) (Request.Tlp base size block)
-        → IsRun (out_tlp base size block) (R.remaining reader.old) (R.remaining reader.new) (W.contents writer.old) (W.contents writer.new) result }
+    // Words that `clap` takes and that ask for something have the run of that.
+    ensures run { (request : Request) → takes the_app (map S.text words.now) ≡ true → Asks (subcommand_of the_app (map S.text words.now)) request
+        → IsDone request (R.remaining reader.old) (R.remaining reader.new) (W.contents writer.old) (W.contents writer.new) result }
+
+    // Words that `clap` takes and that ask for nothing have status 2, or 1 for want of memory, and nothing is written.
+    ensures nothing { takes the_app (map S.text words.now) ≡ true → ((r : Request) → Asks (subcommand_of the_app (map S.text words.now)) r → ⊥)
+        → ((result ≡ 1) ⊎ (result ≡ 2)) × (W.contents writer.new ≡ W.contents writer.old) }
 {
     match options(alloc, words) {
         Ok(Request::Tlp { base, size, block }) => {
-            match run_tlp(alloc, base, size, block, reader, writer) {
-                Ok(status) => status,
-                Err(fault) => stopped(fault, errors),
-            }
+            ended(run_tlp(alloc, base, size, block, reader, writer), errors)
         }
+        Ok(Request::Check) => ended(run_check(alloc, reader, writer), errors),
+        Ok(Request::Upgrade) => ended(run_upgrade(alloc, reader, writer), errors),
         Err(fault) => refused(&fault, writer, errors),
     }
 }

@@ -1,6 +1,7 @@
 //! The program `pciex`: a shared memory device on a PCI Express fabric.
 #![tactic(auto)]
 
+mod check;
 mod command;
 mod engine;
 mod fault;
@@ -11,6 +12,10 @@ mod responder;
 mod tests;
 mod text;
 mod tlp;
+#[cfg(test)]
+mod trace_tests;
+mod traces;
+mod upgrade;
 
 use std::io;
 use std::process::ExitCode;

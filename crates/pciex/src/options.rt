@@ -1,6 +1,6 @@
 //! The command line.
 ghost use Rattle.std.specs.Prelude.{◌≡◌, ◌^◌, ◌<◌, ℕ, IfOk, IfErr, IsTrue, ◌↔◌, IfSome, IfNone, map, option_map, true, false, codes, Some};
-ghost use Rattle.clap.specs.Words.{app_of, kind_of, subcommand_of, subcommand_rows_of, has_subcommand, takes, rows_of, found_of};
+ghost use Rattle.clap.specs.Words.{app_of, kind_of, subcommand_of, subcommand_rows_of, has_subcommand, takes, rows_of, found_of, new_app};
 ghost use Rattle.clap.specs.Walk.{rule_of};
 ghost use Rattle.clap.specs.declared.builder.Command.TheViews.{out-Command};
 ghost use Rattle.pciex.specs.declared.options.Request.{Request};
@@ -19,6 +19,12 @@ const ABOUT: &str =
 const TLP_ABOUT: &str =
     "Answers memory requests and AtomicOps with their completions. Each line of the input has the bytes of one TLP in hexadecimal digits; spaces, empty lines and lines that begin with '#' are ignored. Each answer is a line: the completion, '-' for a posted write, or 'fault' and what is wrong.";
 
+const CHECK_ABOUT: &str =
+    "Tells whether a history explains what requesters were told. The input is one trace text. The answer is one line: 'ok'; or 'flaw' with the number, the name and the place of the first flaw; or 'fault' with the line that can't be read and why.";
+
+const UPGRADE_ABOUT: &str =
+    "Writes a trace text of version 1 or 2 in version 2, unchecked. The answer to a text that can't be read is 'fault' with the line and why.";
+
 const BASE_HELP: &str =
     "The first address of the memory, in 1 to 16 hexadecimal digits. It is a multiple of 80 (128 in decimal), and the memory ends at 2^64 or before. The default is 0.";
 
@@ -33,6 +39,10 @@ const BLOCK_HELP: &str =
 pub enum Request {
     /// The subcommand `tlp`, over a memory of these limits.
     Tlp { base: u64, size: usize, block: u16 },
+    /// The subcommand `check`.
+    Check,
+    /// The subcommand `upgrade`.
+    Upgrade,
 }
 
 /// Why the words ask for nothing.
@@ -67,6 +77,14 @@ fn tlp_command<'a>(alloc: Global) -> Result<Command<'a>, AllocError>
     tlp.arg(base)?.arg(size)?.arg(block)
 }
 
+/// A subcommand without options.
+fn plain_command<'a>(alloc: Global, name: &'a str, about: &'a str) -> Command<'a>
+    ensures app { app_of result ≡ new_app name.entry.now }
+    ensures globals { (out-Command result).has_globals ≡ false }
+{
+    Command::new(alloc, name).about(about)
+}
+
 /// The command line's grammar.
 fn grammar<'a>(alloc: Global) -> Result<Command<'a>, AllocError>
     ensures app { IfOk result (λ c. app_of c ≡ the_app) }
@@ -78,7 +96,9 @@ fn grammar<'a>(alloc: Global) -> Result<Command<'a>, AllocError>
         .version("0.1.0")
         .subcommand_required(true)
         .disable_help_subcommand(true);
-    top.subcommand(tlp)
+    let check = plain_command(alloc, "check", CHECK_ABOUT);
+    let upgrade = plain_command(alloc, "upgrade", UPGRADE_ABOUT);
+    top.subcommand(tlp)?.subcommand(check)?.subcommand(upgrade)
 }
 
 /// What the words match.
@@ -154,6 +174,22 @@ fn tlp_of(tlp: &ArgMatches<'_>) -> Option<Request>
     Some(Request::Tlp { base, size, block })
 }
 
+/// What a subcommand with these values asks for.
+fn request_of(name: &str, values: &ArgMatches<'_>) -> Option<Request>
+    ensures some { IfSome result (Asks (Some (name.now, rows_of (found_of values.now)))) }
+    ensures none { IfNone result ((r : Request) → Asks (Some (name.now, rows_of (found_of values.now))) r → ⊥) }
+{
+    if name == "tlp" {
+        tlp_of(values)
+    } else if name == "check" {
+        Some(Request::Check)
+    } else if name == "upgrade" {
+        Some(Request::Upgrade)
+    } else {
+        None
+    }
+}
+
 /// What the words of a command line ask for, the program's name before them.
 pub fn options<'a, S: AsStr>(alloc: Global, words: &'a [S]) -> Result<Request, RequestFault>
     // What the words ask for.
@@ -169,11 +205,8 @@ pub fn options<'a, S: AsStr>(alloc: Global, words: &'a [S]) -> Result<Request, R
         Ok(matches) => matches,
         Err(e) => return Err(RequestFault::Words(e)),
     };
-    let Some(tlp) = matches.subcommand_matches("tlp") else {
+    let Some((name, values)) = matches.subcommand() else {
         return Err(RequestFault::Range);
     };
-    match tlp_of(tlp) {
-        Some(request) => Ok(request),
-        None => Err(RequestFault::Range),
-    }
+    request_of(name, values).ok_or(RequestFault::Range)
 }

@@ -1,7 +1,8 @@
 //! Worked lines, and streams that fail.
-use crate::command::command;
+use crate::command::{command, no_words};
 use crate::fault::EngineFault;
 use crate::tlp::run_tlp;
+use arrayvec::ArrayVec;
 use std::alloc::Global;
 use std::io;
 use std::io::{ErrorKind, Read, Write};
@@ -68,7 +69,7 @@ impl Write for FailingWriter {
 }
 
 /// The exit status, what was written, and what the error stream got.
-fn told(alloc: Global, words: &[&str], input: &[u8]) -> (u8, Vec<u8>, Vec<u8>) {
+pub fn told(alloc: Global, words: &[&str], input: &[u8]) -> (u8, Vec<u8>, Vec<u8>) {
     let mut reader = FailingReader {
         rest: input,
         most: 7,
@@ -440,5 +441,55 @@ fn faults_of_streams(rt: HostRuntime) {
             1
         );
         assert_eq!(rt; errors.as_slice(), b"pciex: write\n".as_slice());
+    }
+}
+
+/// Sums of 7, and what they answer: the history grows several times.
+fn many_adds() -> (ArrayVec<u8, 720>, ArrayVec<u8, 720>) {
+    let mut input = ArrayVec::new();
+    let mut want = ArrayVec::new();
+    for count in 0..20u8 {
+        let _ = input.try_extend_from_slice(LINE);
+        let _ = writeln!(want, "4A000001 00000004 01000500 {:02X}000000", 7 * count);
+    }
+    (input, want)
+}
+
+/// An allocation may be refused, once: that is told, and what was written begins the whole output.
+#[test]
+fn a_refused_allocation(rt: HostRuntime) {
+    let (input, want) = many_adds();
+    let mut refused = 0u8;
+    for _ in 0..3 {
+        let mut reader = FailingReader {
+            rest: input.as_slice(),
+            most: 100,
+            reads_left: u32::MAX,
+        };
+        let mut out: ArrayVec<u8, 720> = ArrayVec::new();
+        let mut errors: ArrayVec<u8, 99> = ArrayVec::new();
+        let words = ["pciex", "tlp"];
+        let status = command(rt.alloc(), &words, &mut reader, &mut out, &mut errors);
+        assert!(rt; want.starts_with(out.as_slice()));
+        assert_eq!(rt; out.len() == want.len(), status == 0);
+        if status != 0 {
+            assert_eq!(rt; status, 1);
+            assert_eq!(rt; errors.as_slice(), b"pciex: memory\n".as_slice());
+            refused = refused.saturating_add(1);
+        }
+    }
+    assert!(rt; refused <= 1);
+}
+
+#[test]
+fn words_that_are_not_read(rt: HostRuntime) {
+    let rows = [
+        (ErrorKind::OutOfMemory, 1, "pciex: memory\n"),
+        (ErrorKind::InvalidData, 2, "pciex: options\n"),
+    ];
+    for (kind, exit, text) in rows {
+        let mut errors: ArrayVec<u8, 99> = ArrayVec::new();
+        assert_eq!(rt; no_words(&kind.into(), &mut errors), exit);
+        assert_eq!(rt; errors.as_slice(), text.as_bytes());
     }
 }

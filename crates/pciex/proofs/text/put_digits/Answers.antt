@@ -1,4 +1,4 @@
-use Rattle.std.proofs.Common.{◌≡◌, ◌∙◌, ◌++◌, ◌∷◌, ◌<◌, ◌+◌, ◌/◌, ◌%◌, ◌*◌, List, ℕ, [], length, take, get_or, sym, ap, append_assoc, arith, add-zero}
+use Rattle.std.proofs.Common.{◌≡◌, ◌∙◌, ◌++◌, ◌∷◌, ◌<◌, ◌+◌, ◌/◌, ◌%◌, List, ℕ, [], length, take, get_or, sym, ap, append_assoc, arith, add-zero}
 use Rattle.std.proofs.lemmas.List.{append-nil, take_more}
 use Rattle.hex.specs.Hex.{encode_upper, encode_with, upper_digits}
 use Rattle.pciex.proofs.HexLemmas.{encode_with-append, encode_with-one}

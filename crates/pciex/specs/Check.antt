@@ -1,0 +1,40 @@
+-- What `check` answers to the text of a trace.
+use Rattle.std.specs.Prelude.{ℕ, List, [], ◌∷◌, ◌++◌, Bool, true, false, codes, Option, Some, None, Result, Ok, Err}
+use Rattle.std.specs.Fmt.{decimal}
+use Rattle.history_check.specs.declared.flaws.FlawKind.{FlawKind}
+use Rattle.history_check.specs.Names.{number_of, name_of}
+use Rattle.history_check.specs.Claim.{Claim}
+use Rattle.history_check.specs.Flaws.{first_flaw}
+use Rattle.trace_file.specs.declared.fault.ReadFault.{ReadFault}
+use Rattle.trace_file.specs.Names.{name_of as fault_name}
+use Rattle.trace_file.specs.Reading.{Reading, nothing_read, after_line, after_long_line, at_end}
+use Rattle.pciex.specs.Run.{Answer, Responses, Run, run_of}
+
+-- a line is read, and nothing written
+abbrev pub is_read : Reading → Answer Reading
+is_read s = record { state = s; text = []; is_fault = false }
+
+-- the text has ended: one line is written, and nothing is left of what was read
+abbrev pub concludes : List ℕ → Bool → Answer Reading
+concludes line is_fault = record { state = nothing_read; text = line ++ 10 ∷ []; is_fault = is_fault }
+
+abbrev pub fault_line : ReadFault → List ℕ
+fault_line f = codes "fault " ++ decimal f.line ++ 32 ∷ fault_name f.kind
+
+abbrev pub flaw_line : FlawKind → ℕ → List ℕ
+flaw_line kind place = codes "flaw " ++ decimal (number_of kind) ++ 32 ∷ name_of kind ++ 32 ∷ decimal place
+
+abbrev pub judged : Option (FlawKind × ℕ) → Answer Reading
+judged None = concludes (codes "ok") false
+judged (Some f) = concludes (flaw_line f.0 f.1) true
+
+abbrev pub checked : Result Claim ReadFault → Answer Reading
+checked (Err f) = concludes (fault_line f) true
+checked (Ok x) = judged (first_flaw x)
+
+abbrev pub check_responses : Responses Reading
+check_responses = record { on_line = λ s line. is_read (after_line s line); on_long_line = λ s. is_read (after_long_line s); on_end = λ s. checked (at_end s) }
+
+-- the whole run of `check` on an input
+abbrev pub out_check : List ℕ → Run Reading
+out_check input = run_of check_responses nothing_read input

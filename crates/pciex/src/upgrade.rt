@@ -1,0 +1,86 @@
+//! The subcommand `upgrade`: a trace in the second version of its text.
+ghost use Rattle.std.specs.Prelude.{◌≡◌, ◌++◌, false, IfOk, OnErr};
+ghost use Rattle.history_check.specs.Claim.{claim_of};
+ghost use Rattle.trace_file.specs.Texts.{trace_text};
+ghost use Rattle.pciex.specs.Run.{IsWhole, IsPart};
+ghost use Rattle.pciex.specs.Upgrade.{out_upgrade};
+
+use crate::engine::run;
+use crate::fault::EngineFault;
+use crate::responder::Responder;
+use crate::traces::{TraceInput, tell_fault};
+use history_check::Trace;
+use seq_memory::Entry;
+use std::alloc::{AllocError, Global};
+use std::io::{Read, Write};
+use std::marker::Model;
+use trace_file::write_trace;
+
+/// Adds the text of the trace and its history.
+fn tell_trace(
+    alloc: Global,
+    trace: &Trace,
+    history: &[Entry],
+    out: &mut Vec<u8>,
+) -> Result<bool, AllocError>
+    ensures ok { IfOk result (λ told. (told ≡ false) × (out.new.items ≡ out.old.items ++ trace_text (claim_of trace.now history.now))) }
+    ensures err { OnErr result (out.new.items ≡ out.old.items) }
+{
+    let text = write_trace(alloc, trace, history)?;
+    out.extend_from_slice(text.as_bytes())?;
+    Ok(false)
+}
+
+/// A trace that is read, and then written.
+#[derive(Drop)]
+struct Upgrader {
+    input: TraceInput,
+}
+
+impl Model for Upgrader {
+    ghost use Rattle.trace_file.specs.Reading.{Reading};
+
+    ghost Value = { Reading };
+
+    ghost view = { λ u. u.input };
+}
+
+impl Responder for Upgrader {
+    ghost use Rattle.pciex.specs.Upgrade.{upgrade_responses};
+
+    ghost responses = { upgrade_responses };
+
+    fn on_line(&mut self, line: &[u8], _out: &mut Vec<u8>) -> Result<bool, AllocError> {
+        self.input.line(line)?;
+        Ok(false)
+    }
+
+    fn on_long_line(&mut self, _out: &mut Vec<u8>) -> Result<bool, AllocError> {
+        self.input.long_line();
+        Ok(false)
+    }
+
+    fn on_end(&mut self, out: &mut Vec<u8>) -> Result<bool, AllocError> {
+        match self.input.end() {
+            Ok((trace, history)) => {
+                tell_trace(self.input.alloc(), &trace, history.as_slice(), out)
+            }
+            Err(fault) => tell_fault(fault, out),
+        }
+    }
+}
+
+/// Reads the text of a trace, of version 1 or 2, and writes it in version 2, unchecked; or `fault`
+/// with the line that can't be read and why. `Ok` is the exit status, 1 where a fault was told. After
+/// an `Err` what was written is a beginning of the whole output.
+pub fn run_upgrade<R: Read, W: Write>(
+    alloc: Global,
+    reader: &mut R,
+    writer: &mut W,
+) -> Result<u8, EngineFault>
+    ensures ok { IfOk result (IsWhole out_upgrade (R.remaining reader.old) (R.remaining reader.new) (W.contents writer.old) (W.contents writer.new)) }
+    ensures err { OnErr result (IsPart out_upgrade (R.remaining reader.old) (R.remaining reader.new) (W.contents writer.old) (W.contents writer.new)) }
+{
+    let input = TraceInput::new(alloc);
+    run(alloc, Upgrader { input }, reader, writer)
+}
