@@ -5,6 +5,7 @@ use Rattle.tlp_core.specs.Packet.{Packet}
 use Rattle.tlp_core.specs.Operation.{op_of}
 use Rattle.tlp_core.specs.Layout.{Spells, canonical}
 use Rattle.seq_memory.specs.History.{State}
+use Rattle.dllp_core.specs.declared.packet.Dllp.{Dllp}
 use Rattle.completer_core.specs.Serving.{completion_to, after_serving}
 use Rattle.requester_core.specs.declared.requester.Answer.{Answer}
 use Rattle.requester_core.specs.Requesting.{Requesting, IsSound, prepared, after_opened, finished, after_finish}
@@ -102,12 +103,16 @@ abbrev pub IdleOr : Refusal → Type 0 → Type 0 → Type 0
 IdleOr refusals.Idle idle p = idle
 IdleOr r idle p = NoMemory r p
 
+abbrev pub DllpRefused : List Dllp → Outgoing → Fate → Refusal → Type 0
+DllpRefused back s fate refusals.Idle = back ≡ []
+DllpRefused back s fate (refusals.Protocol f) = dllp_seen back s fate ≡ Err f
+DllpRefused back s fate _ = ⊥
+
 abbrev pub LinkRefused : Ends → LinkEvent → Refusal → Type 0
 LinkRefused e links.Transmit r = IdleOr r (transmitted e.sender ≡ None) (transmitted e.sender ≢ None)
 LinkRefused e (links.Deliver fate) r = IdleOr r (e.forward ≡ []) (e.forward ≢ [])
 LinkRefused e (links.SendDllp kind) r = NoMemory r (Unit {0})
-LinkRefused e (links.DeliverDllp fate) refusals.Idle = e.back ≡ []
-LinkRefused e (links.DeliverDllp fate) (refusals.Protocol f) = dllp_seen e.back e.sender fate ≡ Err f
+LinkRefused e (links.DeliverDllp fate) r = DllpRefused e.back e.sender fate r
 LinkRefused e links.Timer refusals.Idle = e.sender.sending.place ≡ 0
 LinkRefused e links.Retrained refusals.Idle = e.sender.sending.stopped ≡ false
 LinkRefused e _ _ = ⊥

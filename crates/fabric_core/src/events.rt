@@ -8,7 +8,6 @@ use fc_credit::Need;
 use lane_core::{
     Arrival, BackWire, DllpKind, DllpSeen, Fate, ForwardWire, LaneRefusal, ReceiverEnd, SenderEnd,
 };
-use replay_sender::AckFault;
 use requester_core::{Answer, Requester};
 use seq12::Seq12;
 use seq_memory::Memory;
@@ -18,7 +17,7 @@ use tlp_core::{Op, Tlp};
 ghost use Rattle.fc_credit.specs.Needs.{need_of};
 ghost use Rattle.completer_core.specs.Serving.{completion_to, after_serving};
 ghost use Rattle.lane_core.specs.Steps.{may_enter, with_room, after_timer, after_retraining, transmitted, after_transmission, wire_after_transmit, all_but_first, delivered, after_deliver, dllp_of, after_send, wire_after_send, dllp_seen, sender_after};
-ghost use Rattle.fabric_core.specs.Footprints.{Enters, LacksRoom, Submits, SubmitRefused, Forwards, ForwardRefused, IsRoutedAs, DestinationRefused, Acts, ActRefused, Serves, ServeRefused, Collects, CollectRefused};
+ghost use Rattle.fabric_core.specs.Footprints.{Enters, LacksRoom, Submits, SubmitRefused, Forwards, ForwardRefused, IsRoutedAs, DestinationRefused, Acts, ActRefused, DllpRefused, Serves, ServeRefused, Collects, CollectRefused};
 
 /// A packet enters a lane with its mark.
 fn enter(sender: &mut SenderEnd, tlp: &Tlp, mark: u32) -> Result<(), LaneRefusal>
@@ -130,9 +129,7 @@ pub fn deliver_dllp(
     ensures seen { IfOk result (λ seen. dllp_seen wire.old sender.old fate ≡ Ok (Some seen)) }
     ensures sender { OnOk result (sender.new ≡ sender_after wire.old sender.old fate) }
     ensures wire { OnOk result (wire.new ≡ all_but_first wire.old) }
-    ensures idle { (result ≡ Err Refusal.Idle) ↔ (wire.old ≡ []) }
-    ensures protocol { (f : AckFault) → (result ≡ Err (Refusal.Protocol f)) ↔ (dllp_seen wire.old sender.old fate ≡ Err f) }
-    ensures errors { IfErr result (λ r. (r ≡ Refusal.Idle) ⊎ ((f : AckFault) × (r ≡ Refusal.Protocol f))) }
+    ensures refused { IfErr result (λ r. DllpRefused wire.old sender.old fate r) }
     ensures err_sender { OnErr result (sender.new ≡ sender.old) }
     ensures err_wire { OnErr result (wire.new ≡ wire.old) }
 {

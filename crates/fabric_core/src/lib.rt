@@ -11,6 +11,8 @@
 mod event;
 pub mod events;
 mod fault;
+mod parts;
 
 pub use event::{Event, LaneName, LinkEvent, Seen};
 pub use fault::Refusal;
+pub use parts::LaneParts;
