@@ -8,8 +8,8 @@ use Rattle.requester_core.specs.Requesting.{Requesting}
 use Rattle.lane_core.specs.Steps.{Ends, Incoming, Outgoing}
 use Rattle.fabric_laws.specs.Fabric.{Fabric}
 use Rattle.fabric_core.specs.declared.fault.Refusal.{Refusal}
-use Rattle.fabric_core.specs.Footprints.{Submits, SubmitRefused, Collects, CollectRefused, Serves}
-use Rattle.fabric_core.specs.Steps.{HasPart, SubmitsAt, SubmitAtRefused, CollectsAt, CollectAtRefused, ServesAt}
+use Rattle.fabric_core.specs.Footprints.{Submits, SubmitRefused, Collects, CollectRefused, Serves, IsRoutedAs, Forwards, ForwardRefused}
+use Rattle.fabric_core.specs.Steps.{HasPart, SubmitsAt, SubmitAtRefused, CollectsAt, CollectAtRefused, ServesAt, ForwardsUp, ForwardsOut, ForwardOutRefused}
 
 pub if_ok : {A E : Type 0} (r : Result A E) (P Q : A → Type 0) → ((a : A) → P a → Q a) → IfOk r P → IfOk r Q
 if_ok (Ok a) P Q m h = m a h
@@ -50,3 +50,20 @@ serves_at f place i' m' s' r h =
     if_ok r (λ at. Serves f.inward.receiver place f.memory f.outward.sender at i' m' s')
     (λ at. ServesAt f place at (record f { memory = m'; inward = record f.inward { receiver = i' }; outward = record f.outward { sender = s' } }))
     (λ a k. record { receiver_after = i'; memory_after = m'; sender_after = s'; serves = k; now = refl }) h
+
+pub forwards_up : (f : Fabric) (port place to at : ℕ) (e : Ends) (r' : Incoming) (s' : Outgoing) →
+    HasPart f.up port at e → IsRoutedAs e.receiver place port (Ok to) → Forwards e.receiver place f.inward.sender r' s' →
+    ForwardsUp f port place to (record f { up = slice_set f.up at (record e { receiver = r' }); inward = record f.inward { sender = s' } })
+forwards_up f port place to at e r' s' i d h =
+    record { at_place = at; lane = e; has_lane = i; routed = d; receiver_after = r'; sender_after = s'; forwards = h; now = refl }
+
+pub forwards_out : (f : Fabric) (place to at : ℕ) (e : Ends) (r' : Incoming) (s' : Outgoing) →
+    HasPart f.down to at e → IsRoutedAs f.outward.receiver place 0 (Ok to) → Forwards f.outward.receiver place e.sender r' s' →
+    ForwardsOut f place to (record f { outward = record f.outward { receiver = r' }; down = slice_set f.down at (record e { sender = s' }) })
+forwards_out f place to at e r' s' i d h =
+    record { at_place = at; lane = e; routed = d; has_lane = i; receiver_after = r'; sender_after = s'; forwards = h; now = refl }
+
+pub forward_out_refused : (f : Fabric) (place to at : ℕ) (e : Ends) (r : Refusal) →
+    HasPart f.down to at e → IsRoutedAs f.outward.receiver place 0 (Ok to) → ForwardRefused f.outward.receiver place e.sender r → ForwardOutRefused f place r
+forward_out_refused f place to at e r i d h =
+    inr (inr (record { at_place = at; to = to; lane = e; routed = d; has_lane = i; refused = h }))

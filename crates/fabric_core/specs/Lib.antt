@@ -1,3 +1,4 @@
 pub mod Faults
 pub mod Footprints
 pub mod Steps
+pub mod Kept

@@ -1,5 +1,5 @@
 -- Each event on a whole fabric: what it leaves, and when it is refused.
-use Rattle.std.specs.Prelude.{ℕ, ◌≡◌, ◌≢◌, ◌<◌, ◌⊎◌, suc, List, length, Option, Some, Result, Ok, Err, slice_get, slice_set}
+use Rattle.std.specs.Prelude.{ℕ, ◌≡◌, ◌≢◌, ◌<◌, ◌≤◌, ◌⊎◌, suc, List, length, Option, Some, Result, Ok, Err, slice_get, slice_set}
 use Rattle.tlp_core.specs.declared.operation.Op.{Op}
 use Rattle.seq_memory.specs.History.{State}
 use Rattle.requester_core.specs.declared.requester.Answer.{Answer}
@@ -31,6 +31,12 @@ IsMissing r port count = (r ≡ refusals.NoSuchPart) × IsNoPort port count
 pub record HasPart {X : Type 0} (parts : List X) (port : ℕ) (place : ℕ) (x : X) : Type 0 where
   pub is_port : port ≡ suc place
   pub there : slice_get parts place ≡ Some x
+
+-- each of the requesters, 7 at most, has its two lanes
+pub record HasLanes (f : Fabric) : Type 0 where
+  pub few : length f.requesters ≤ 7
+  pub up : length f.up ≡ length f.requesters
+  pub down : length f.down ≡ length f.requesters
 
 -- ---- calls of a link
 

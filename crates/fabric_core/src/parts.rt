@@ -1,7 +1,7 @@
 //! The parts of a fabric, and the events by their ports and lanes.
 ghost use Rattle.std.specs.Prelude.{◌≡◌, ◌↔◌, ◌<◌, ◌≤◌, ℕ, [], suc, length, IsTrue, IfOk, IfErr, OnOk, OnErr};
 
-use crate::event::{LaneName, LinkEvent, Seen};
+use crate::event::{Event, LaneName, LinkEvent, Seen};
 use crate::events;
 use crate::fault::Refusal;
 use fc_credit::LaneCredits;
@@ -120,7 +120,7 @@ impl Model for Parts {
     ghost view = { λ p. record { credits = p.credits; memory = p.memory; requesters = p.requesters.items; inward = p.inward; outward = p.outward; up = p.up.items; down = p.down.items } };
 }
 
-ghost use Rattle.fabric_core.specs.Steps.{IsNoPort, LinksIn, LinkInRefused, LinksAt, LinkAtRefused, SubmitsAt, SubmitAtRefused, ForwardsUp, ForwardUpRefused, ForwardsOut, ForwardOutRefused, ServesAt, CollectsAt, CollectAtRefused, Happens, Refused};
+ghost use Rattle.fabric_core.specs.Steps.{IsNoPort, LinksIn, LinkInRefused, LinksAt, LinkAtRefused, SubmitsAt, SubmitAtRefused, ForwardsUp, ForwardUpRefused, ForwardsOut, ForwardOutRefused, ServesAt, CollectsAt, CollectAtRefused, Happens, Refused, HasLanes};
 ghost use Rattle.fabric_core.specs.Footprints.{ServeRefused};
 
 /// The place of a port in lists of so many parts.
@@ -199,7 +199,9 @@ impl Parts {
             return Err(Refusal::Route(RouteFault::NoPort));
         };
         let lane = &mut self.down[at];
-        events::forward(&mut outward.receiver, place, &mut lane.sender)?;
+        if let Err(refusal) = events::forward(&mut outward.receiver, place, &mut lane.sender) {
+            return Err(refusal);
+        }
         Ok(to.number())
     }
 
@@ -223,5 +225,54 @@ impl Parts {
         let requester = &mut self.requesters[place];
         let lane = &mut self.down[place];
         events::collect(&mut lane.receiver, requester)
+    }
+
+    fn forward(&mut self, name: LaneName, place: usize) -> Result<Seen, Refusal>
+        requires { length self.old.up ≤ 7 }
+        ensures ok { IfOk result (λ what. Happens self.old (Event.Forward name place) what self.new) }
+        ensures refused { IfErr result (λ r. Refused self.old (Event.Forward name place) r) }
+        ensures err { OnErr result (self.new ≡ self.old) }
+    {
+        match name {
+            LaneName::Up(port) => match self.forward_up(port, place) {
+                Ok(to) => Ok(Seen::To(to)),
+                Err(refusal) => Err(refusal),
+            },
+            LaneName::Outward => match self.forward_out(place) {
+                Ok(to) => Ok(Seen::To(to)),
+                Err(refusal) => Err(refusal),
+            },
+            LaneName::Inward | LaneName::Down(_) => Err(Refusal::NoSuchPart),
+        }
+    }
+
+    /// An event, and what is seen of it. After a refusal all is as it was.
+    pub(crate) fn step(&mut self, event: &Event) -> Result<Seen, Refusal>
+        requires { HasLanes self.old }
+        ensures ok { IfOk result (λ what. Happens self.old event.now what self.new) }
+        ensures refused { IfErr result (λ r. Refused self.old event.now r) }
+        ensures err { OnErr result (self.new ≡ self.old) }
+    {
+        match event {
+            Event::Submit(port, op) => match self.submit(*port, op) {
+                Ok(number) => Ok(Seen::Submitted(number)),
+                Err(refusal) => Err(refusal),
+            },
+            Event::Transmit(lane) => self.link(*lane, LinkEvent::Transmit),
+            Event::Deliver(lane, fate) => self.link(*lane, LinkEvent::Deliver(*fate)),
+            Event::SendDllp(lane, kind) => self.link(*lane, LinkEvent::SendDllp(*kind)),
+            Event::DeliverDllp(lane, fate) => self.link(*lane, LinkEvent::DeliverDllp(*fate)),
+            Event::Timer(lane) => self.link(*lane, LinkEvent::Timer),
+            Event::Retrained(lane) => self.link(*lane, LinkEvent::Retrained),
+            Event::Forward(lane, place) => self.forward(*lane, *place),
+            Event::Serve(place) => match self.serve(*place) {
+                Ok(at) => Ok(Seen::At(at)),
+                Err(refusal) => Err(refusal),
+            },
+            Event::Collect(port) => match self.collect(*port) {
+                Ok(answer) => Ok(Seen::Collected(answer)),
+                Err(refusal) => Err(refusal),
+            },
+        }
     }
 }
