@@ -15,11 +15,11 @@ use Rattle.fabric_core.specs.declared.event.LinkEvent.TheVariants as links
 use Rattle.fabric_core.specs.declared.event.Seen.{Seen}
 use Rattle.fabric_core.specs.Footprints.{Enters, EntersIfAny, IsAt, Links, call_of}
 
-abbrev pub KeepsRight : Type 0 → Type 0
-KeepsRight u = (credits : LaneCredits) (e : Ends) (call : Call) → IsCall call → IsRightWith credits e → IsRightWith credits (happens e call)
+abbrev pub KeepsRight : Type 0
+KeepsRight = (credits : LaneCredits) (e : Ends) (call : Call) → IsCall call → IsRightWith credits e → IsRightWith credits (happens e call)
 
-abbrev pub KeepsContent : Type 0 → Type 0
-KeepsContent u = (e : Ends) (call : Call) → IsCall call → IsRight e → content (happens e call) ≡ content_after e call
+abbrev pub KeepsContent : Type 0
+KeepsContent = (e : Ends) (call : Call) → IsCall call → IsRight e → content (happens e call) ≡ content_after e call
 
 -- ---- lists
 
@@ -49,12 +49,12 @@ if_true P p q false e h = cc
 pub right : (credits : LaneCredits) (e : Ends) → IsRightWith credits e → IsRight e
 right credits e r = record { credits = credits; right = r }
 
-pub enters_right : KeepsRight Unit → (credits : LaneCredits) (e : Ends) (t : Packet) (mark : ℕ) (s' : Outgoing) → IsRightWith credits e → Enters e.sender t mark s' → IsRightWith credits (record e { sender = s' })
+pub enters_right : KeepsRight → (credits : LaneCredits) (e : Ends) (t : Packet) (mark : ℕ) (s' : Outgoing) → IsRightWith credits e → Enters e.sender t mark s' → IsRightWith credits (record e { sender = s' })
 enters_right law credits e t mark s' r h =
     subst (λ (s : Outgoing). IsRightWith credits (record e { sender = s })) (sym h.now)
     (if_true (IsRightWith credits) (record e { sender = entered e.sender t mark }) e (may_enter e.sender (need_of t)) h.may (law credits e (Enter t mark) h.spelled r))
 
-pub enters_content : KeepsContent Unit → (credits : LaneCredits) (e : Ends) (t : Packet) (mark : ℕ) (s' : Outgoing) → IsRightWith credits e → Enters e.sender t mark s' → content (record e { sender = s' }) ≡ content e ++ (t, mark) ∷ []
+pub enters_content : KeepsContent → (credits : LaneCredits) (e : Ends) (t : Packet) (mark : ℕ) (s' : Outgoing) → IsRightWith credits e → Enters e.sender t mark s' → content (record e { sender = s' }) ≡ content e ++ (t, mark) ∷ []
 enters_content law credits e t mark s' r h =
     subst (λ (s : Outgoing). content (record e { sender = s }) ≡ content e ++ (t, mark) ∷ []) (sym h.now)
     (both (may_enter e.sender (need_of t)) h.may (law e (Enter t mark) h.spelled (right credits e r)))
@@ -65,22 +65,22 @@ enters_content law credits e t mark s' r h =
 
 -- ---- a completion enters, if there is one
 
-pub any_right : KeepsRight Unit → (credits : LaneCredits) (e : Ends) (o : Option Packet) (mark : ℕ) (s' : Outgoing) → IsRightWith credits e → EntersIfAny e.sender o mark s' → IsRightWith credits (record e { sender = s' })
+pub any_right : KeepsRight → (credits : LaneCredits) (e : Ends) (o : Option Packet) (mark : ℕ) (s' : Outgoing) → IsRightWith credits e → EntersIfAny e.sender o mark s' → IsRightWith credits (record e { sender = s' })
 any_right law credits e None mark s' r h = subst (λ (s : Outgoing). IsRightWith credits (record e { sender = s })) (sym h) r
 any_right law credits e (Some c) mark s' r h = enters_right law credits e c mark s' r h
 
-pub any_content : KeepsContent Unit → (credits : LaneCredits) (e : Ends) (o : Option Packet) (mark : ℕ) (s' : Outgoing) → IsRightWith credits e → EntersIfAny e.sender o mark s' → content (record e { sender = s' }) ≡ content e ++ are_entered o mark
+pub any_content : KeepsContent → (credits : LaneCredits) (e : Ends) (o : Option Packet) (mark : ℕ) (s' : Outgoing) → IsRightWith credits e → EntersIfAny e.sender o mark s' → content (record e { sender = s' }) ≡ content e ++ are_entered o mark
 any_content law credits e None mark s' r h = subst (λ (s : Outgoing). content (record e { sender = s }) ≡ content e ++ []) (sym h) (sym (append-nil (content e)))
 any_content law credits e (Some c) mark s' r h = enters_content law credits e c mark s' r h
 
 -- ---- a packet is taken
 
-pub takes_right : KeepsRight Unit → (credits : LaneCredits) (e : Ends) (place mark : ℕ) (t : Packet) (r' : Incoming) → IsRightWith credits e → IsAt e.receiver place t mark → r' ≡ after_take e.receiver place → IsRightWith credits (record e { receiver = r' })
+pub takes_right : KeepsRight → (credits : LaneCredits) (e : Ends) (place mark : ℕ) (t : Packet) (r' : Incoming) → IsRightWith credits e → IsAt e.receiver place t mark → r' ≡ after_take e.receiver place → IsRightWith credits (record e { receiver = r' })
 takes_right law credits e place mark t r' r h now =
     subst (λ (x : Incoming). IsRightWith credits (record e { receiver = x })) (sym now)
     (if_true (IsRightWith credits) (record e { receiver = after_take e.receiver place }) e (is_takeable e.receiver.queue place) h.takeable (law credits e (Take place) tt r))
 
-pub taken_at : KeepsContent Unit → (credits : LaneCredits) (e : Ends) (place mark : ℕ) (t : Packet) (r' : Incoming) → IsRightWith credits e → IsAt e.receiver place t mark → r' ≡ after_take e.receiver place → IsTakenAt e place t mark (record e { receiver = r' })
+pub taken_at : KeepsContent → (credits : LaneCredits) (e : Ends) (place mark : ℕ) (t : Packet) (r' : Incoming) → IsRightWith credits e → IsAt e.receiver place t mark → r' ≡ after_take e.receiver place → IsTakenAt e place t mark (record e { receiver = r' })
 taken_at law credits e place mark t r' r h now =
     record {
       takeable = h.takeable;
@@ -111,8 +111,8 @@ leaves e (links.DeliverDllp fate) = refl
 leaves e links.Timer = refl
 leaves e links.Retrained = refl
 
-pub links_right : KeepsRight Unit → (credits : LaneCredits) (e : Ends) (event : LinkEvent) (what : Seen) (e' : Ends) → IsRightWith credits e → Links e event what e' → IsRightWith credits e'
+pub links_right : KeepsRight → (credits : LaneCredits) (e : Ends) (event : LinkEvent) (what : Seen) (e' : Ends) → IsRightWith credits e → Links e event what e' → IsRightWith credits e'
 links_right law credits e event what e' r h = subst (IsRightWith credits) (sym h.now) (law credits e (call_of event) (is_call event) r)
 
-pub links_content : KeepsContent Unit → (credits : LaneCredits) (e : Ends) (event : LinkEvent) (what : Seen) (e' : Ends) → IsRightWith credits e → Links e event what e' → content e' ≡ content e
+pub links_content : KeepsContent → (credits : LaneCredits) (e : Ends) (event : LinkEvent) (what : Seen) (e' : Ends) → IsRightWith credits e → Links e event what e' → content e' ≡ content e
 links_content law credits e event what e' r h = subst (λ (x : Ends). content x ≡ content e) (sym h.now) (law e (call_of event) (is_call event) (right credits e r) ∙ leaves e event)

@@ -1,3 +1,5 @@
 pub mod Rooms
 pub mod Indexed
 pub mod Lanes
+pub mod Kept
+pub mod Possible

@@ -202,18 +202,19 @@ CollectAtRefused f port r = IsMissing r port (length f.requesters) ⊎ CollectAt
 
 -- the event happens: what is seen of it, and the fabric after it
 abbrev pub Happens : Fabric → Event → Seen → Fabric → Type 0
-Happens f (events.Submit port op) (seen.Submitted number) f' = SubmitsAt f port op number f'
+Happens f (events.Submit port op) what f' = (number : ℕ) × (what ≡ seen.Submitted number) × SubmitsAt f port op number f'
 Happens f (events.Transmit lane) what f' = LinksAt f lane links.Transmit what f'
 Happens f (events.Deliver lane fate) what f' = LinksAt f lane (links.Deliver fate) what f'
 Happens f (events.SendDllp lane kind) what f' = LinksAt f lane (links.SendDllp kind) what f'
 Happens f (events.DeliverDllp lane fate) what f' = LinksAt f lane (links.DeliverDllp fate) what f'
 Happens f (events.Timer lane) what f' = LinksAt f lane links.Timer what f'
 Happens f (events.Retrained lane) what f' = LinksAt f lane links.Retrained what f'
-Happens f (events.Forward (lanes.Up port) place) (seen.To to) f' = ForwardsUp f port place to f'
-Happens f (events.Forward lanes.Outward place) (seen.To to) f' = ForwardsOut f place to f'
-Happens f (events.Serve place) (seen.At in_history) f' = ServesAt f place in_history f'
-Happens f (events.Collect port) (seen.Collected a) f' = CollectsAt f port a f'
-Happens f _ _ f' = ⊥
+Happens f (events.Forward (lanes.Up port) place) what f' = (to : ℕ) × (what ≡ seen.To to) × ForwardsUp f port place to f'
+Happens f (events.Forward lanes.Outward place) what f' = (to : ℕ) × (what ≡ seen.To to) × ForwardsOut f place to f'
+Happens f (events.Forward lanes.Inward place) what f' = ⊥
+Happens f (events.Forward (lanes.Down port) place) what f' = ⊥
+Happens f (events.Serve place) what f' = (at : ℕ) × (what ≡ seen.At at) × ServesAt f place at f'
+Happens f (events.Collect port) what f' = (a : Answer) × (what ≡ seen.Collected a) × CollectsAt f port a f'
 
 -- nothing is forwarded from `in` or a `down` lane
 abbrev pub IsNoSuchPart : Refusal → Type 0
@@ -231,6 +232,7 @@ Refused f (events.Timer lane) r = LinkAtRefused f lane links.Timer r
 Refused f (events.Retrained lane) r = LinkAtRefused f lane links.Retrained r
 Refused f (events.Forward (lanes.Up port) place) r = ForwardUpRefused f port place r
 Refused f (events.Forward lanes.Outward place) r = ForwardOutRefused f place r
-Refused f (events.Forward _ place) r = IsNoSuchPart r
+Refused f (events.Forward lanes.Inward place) r = IsNoSuchPart r
+Refused f (events.Forward (lanes.Down port) place) r = IsNoSuchPart r
 Refused f (events.Serve place) r = ServeRefused f.inward.receiver place f.memory f.outward.sender r
 Refused f (events.Collect port) r = CollectAtRefused f port r

@@ -11,6 +11,7 @@
 mod event;
 pub mod events;
 mod fault;
+pub mod laws;
 mod parts;
 
 pub use event::{Event, LaneName, LinkEvent, Seen};
