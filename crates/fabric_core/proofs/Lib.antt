@@ -3,3 +3,4 @@ pub mod Indexed
 pub mod Lanes
 pub mod Kept
 pub mod Possible
+pub mod New

@@ -2,3 +2,5 @@ pub mod Faults
 pub mod Footprints
 pub mod Steps
 pub mod Kept
+pub mod Config
+pub mod Quiet

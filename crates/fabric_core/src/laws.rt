@@ -5,12 +5,14 @@ ghost use Rattle.fabric_laws.specs.Steps.{Step};
 ghost use Rattle.fabric_core.specs.declared.event.Event.{Event};
 ghost use Rattle.fabric_core.specs.declared.event.Seen.{Seen};
 ghost use Rattle.fabric_core.specs.declared.fault.Refusal.{Refusal};
+ghost use Rattle.fabric_core.specs.declared.config.Config.{Config};
+ghost use Rattle.fabric_core.specs.Config.{IsNewWith};
 ghost use Rattle.fabric_core.specs.Steps.{Happens, Refused};
 ghost use Rattle.fabric_core.specs.Kept.{IsSoundFabric, IsPossible, records_of};
 
 use fabric_laws::laws::{
     each_event_is_a_step, each_link_call_is_a_step, each_step_keeps_it_sound,
-    no_completion_is_strange, packets_keep_their_ports,
+    new_parts_make_a_new_fabric, no_completion_is_strange, packets_keep_their_ports,
 };
 use lane_core::{each_call_keeps_it_right, never_a_protocol_error};
 
@@ -35,4 +37,13 @@ pub fn every_refusal_is_possible()
 {
     never_a_protocol_error();
     no_completion_is_strange();
+}
+
+/// A new fabric is sound.
+pub fn a_new_fabric_is_sound()
+    ensures { (c : Config) (f : Fabric) → IsNewWith c f → IsSoundFabric f }
+{
+    each_call_keeps_it_right();
+    each_step_keeps_it_sound();
+    new_parts_make_a_new_fabric();
 }

@@ -8,12 +8,16 @@
 //! Each event is a function of [`events`] over the parts that it uses, exact on their values.
 #![tactic(auto)]
 
+mod config;
 mod event;
 pub mod events;
+mod fabric;
 mod fault;
 pub mod laws;
 mod parts;
 
+pub use config::{Config, ConfigFault};
 pub use event::{Event, LaneName, LinkEvent, Seen};
+pub use fabric::Fabric;
 pub use fault::Refusal;
-pub use parts::LaneParts;
+pub use parts::{LaneParts, Parts};
