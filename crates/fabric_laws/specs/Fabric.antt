@@ -1,6 +1,7 @@
 -- A fabric by its parts, and what the laws see of them.
 use Rattle.std.specs.Prelude.{List, [], ◌∷◌, map}
 use Rattle.seq_memory.specs.History.{State}
+use Rattle.fc_credit.specs.declared.limits.LaneCredits.{LaneCredits}
 use Rattle.lane_core.specs.Steps.{Ends}
 use Rattle.lane_core.specs.Calls.{content}
 use Rattle.fabric_laws.specs.Whole.{Item, Whole, Requesting, unused}
@@ -8,6 +9,8 @@ use Rattle.fabric_laws.specs.Packets.{item_of}
 
 -- the parts; those of port 1 stand at place 0
 pub record Fabric : Type 0 where
+  -- the credits that the lanes advertised when they were new
+  pub credits : LaneCredits
   pub memory : State
   pub requesters : List Requesting
   pub inward : Ends

@@ -78,6 +78,14 @@ entered s t mark =
 abbrev pub with_room : Outgoing → Outgoing
 with_room s = record { sending = with_reserved s.sending; gate = s.gate }
 
+-- no room is kept
+abbrev pub without_room : Outgoing → Outgoing
+without_room s =
+    record {
+      sending = record { acked = s.sending.acked; kept = s.sending.kept; place = s.sending.place; replays = s.sending.replays; stopped = s.sending.stopped; reserved = false };
+      gate = s.gate;
+    }
+
 -- the replay timer expired
 abbrev pub after_timer : Outgoing → Outgoing
 after_timer s = record { sending = from_oldest s.sending; gate = s.gate }

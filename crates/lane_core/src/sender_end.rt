@@ -1,5 +1,5 @@
 //! The sender's end of a lane.
-ghost use Rattle.std.specs.Prelude.{◌≡◌, ℕ, ◌+◌, ◌<◌, ◌≤◌, ◌↔◌, ◌⊎◌, List, [], ◌∷◌, ◌++◌, length, false, IsTrue, IsOk, OnOk, OnErr, IfOk, IfErr};
+ghost use Rattle.std.specs.Prelude.{◌≡◌, ℕ, ◌+◌, ◌<◌, ◌≤◌, ◌↔◌, ◌⊎◌, List, [], ◌∷◌, ◌++◌, length, false, IsTrue, IsOk, OnOk, OnErr, IfOk, IfErr, is_some};
 
 use crate::packet::{DllpSeen, Fate, LaneRefusal, WirePacket};
 use crate::wires::{BackWire, ForwardWire};
@@ -43,8 +43,8 @@ ghost use Rattle.lane_core.specs.Content.{cargo_of};
 impl SenderEnd {
     ghost use Rattle.fc_credit.specs.Needs.{need_of as need};
     ghost use Rattle.fc_credit.specs.Credits.{gate_covers};
-    ghost use Rattle.replay_sender.specs.Sending.{next_number};
-    ghost use Rattle.lane_core.specs.Steps.{new_sender, entered, with_room, after_timer, after_retraining, transmitted, after_transmission, wire_after_transmit, all_but_first, is_expected, after_dllp, sender_after, dllp_seen};
+    ghost use Rattle.replay_sender.specs.Sending.{next_number, next_item};
+    ghost use Rattle.lane_core.specs.Steps.{new_sender, entered, with_room, without_room, after_timer, after_retraining, transmitted, after_transmission, wire_after_transmit, all_but_first, is_expected, after_dllp, sender_after, dllp_seen};
     ghost use Rattle.dllp_core.specs.Layout.{FitsDataFC};
     ghost use Rattle.lane_core.specs.declared.packet.Fate.TheVariants.{Good};
 
@@ -78,6 +78,20 @@ impl SenderEnd {
         }
     }
 
+    /// Whether room is kept for one packet.
+    pub fn has_room(&self) -> bool
+        ensures { result ≡ self.now.sending.reserved }
+    {
+        self.sender.has_room()
+    }
+
+    /// Room is no longer kept for a packet: undoes a [`make_room`](Self::make_room) that found no room kept.
+    pub fn release(&mut self)
+        ensures { self.new ≡ without_room self.old }
+    {
+        self.sender.release();
+    }
+
     /// Takes a packet with its mark as the last, under the next sequence number.
     pub fn enter(&mut self, tlp: &Tlp, mark: u32) -> Result<Seq12, LaneRefusal>
         ensures no_credits { (result ≡ Err (LaneRefusal.NoCredits (need tlp.now).class)) ↔ (gate_covers self.old.gate (need tlp.now) ≡ false) }
@@ -105,6 +119,13 @@ impl SenderEnd {
             Err(SendRefusal::WindowFull) => Err(LaneRefusal::WindowFull),
             Err(SendRefusal::Memory) => Err(LaneRefusal::Memory),
         }
+    }
+
+    /// Whether the next `transmit` has a packet to send.
+    pub fn can_transmit(&self) -> bool
+        ensures { result ≡ is_some (next_item self.now.sending) }
+    {
+        self.sender.can_transmit()
     }
 
     /// The next packet goes onto the wire as the last; None where there is none to send, and while the sender is

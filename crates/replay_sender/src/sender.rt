@@ -1,5 +1,5 @@
 //! The sender: numbers, replay buffer, sending place and replay counter.
-ghost use Rattle.std.specs.Prelude.{◌≡◌, ℕ, ◌+◌, ◌-◌, ◌%◌, ◌<◌, ◌≤◌, ◌↔◌, List, [], length, drop, is_some, IsTrue, IsOk, IfOk, OnOk, OnErr};
+ghost use Rattle.std.specs.Prelude.{◌≡◌, ℕ, false, ◌+◌, ◌-◌, ◌%◌, ◌<◌, ◌≤◌, ◌↔◌, List, [], length, drop, is_some, IsTrue, IsOk, IfOk, OnOk, OnErr};
 ghost use Rattle.std.specs.VecDeque.{deque_len, deque_capacity};
 
 use crate::cargo::Cargo;
@@ -118,6 +118,20 @@ impl Sender {
         }
         self.reserved = true;
         Ok(())
+    }
+
+    /// Whether room is kept for one packet.
+    pub fn has_room(&self) -> bool
+        ensures { result ≡ self.now.reserved }
+    {
+        self.reserved
+    }
+
+    /// Room is no longer kept for a packet. It frees no memory.
+    pub fn release(&mut self)
+        ensures { self.new ≡ record { acked = self.old.acked; kept = self.old.kept; place = self.old.place; replays = self.old.replays; stopped = self.old.stopped; reserved = false } }
+    {
+        self.reserved = false;
     }
 
     /// Takes a packet as the last, under NEXT_TRANSMIT_SEQ.

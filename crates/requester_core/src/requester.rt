@@ -51,7 +51,7 @@ impl Model for Requester {
 }
 
 impl Requester {
-    ghost use Rattle.std.specs.Prelude.{IfOk, slice_set};
+    ghost use Rattle.std.specs.Prelude.{IfOk, OnOk, slice_set};
     ghost use Rattle.tlp_core.specs.Operation.{op_of};
     ghost use Rattle.requester_core.specs.Requesting.{fresh, prepared, after_opened, finished, after_finish, completed, IsSound, IsPrepared};
 
@@ -83,6 +83,7 @@ impl Requester {
     pub fn prepare(&self, op: &Op) -> Result<(u32, Tlp), SubmitRefusal>
         ensures value { result ≡ prepared self.now op.now }
         ensures asks { IfOk result (λ p. op_of p.1 ≡ Some op.now) }
+        ensures sound { OnOk result (IsSound self.now) }
     {
         if let Some(fault) = op_fault(op) {
             return Err(SubmitRefusal::Profile(fault));

@@ -1,0 +1,342 @@
+//! Each event over the parts that it uses. A refused event leaves them as they were.
+ghost use Rattle.std.specs.Prelude.{◌≡◌, ◌↔◌, ◌⊎◌, ◌<◌, ℕ, [], true, false, length, option_map, Some, IfOk, IfErr, OnOk, OnErr};
+
+use crate::fault::Refusal;
+use completer_core::{serve as serve_request, shape};
+use dllp_core::Dllp;
+use fc_credit::Need;
+use lane_core::{
+    Arrival, BackWire, DllpKind, DllpSeen, Fate, ForwardWire, LaneRefusal, ReceiverEnd, SenderEnd,
+};
+use requester_core::{Answer, Requester};
+use seq12::Seq12;
+use seq_memory::Memory;
+use switch_core::{Port, route};
+use tlp_core::{Op, Tlp};
+
+ghost use Rattle.fc_credit.specs.Needs.{need_of};
+ghost use Rattle.completer_core.specs.Serving.{completion_to, after_serving};
+ghost use Rattle.lane_core.specs.Steps.{may_enter, with_room, after_timer, after_retraining, transmitted, after_transmission, wire_after_transmit, all_but_first, delivered, after_deliver, dllp_of, after_send, wire_after_send, dllp_seen, sender_after};
+ghost use Rattle.fabric_core.specs.Footprints.{Enters, LacksRoom, Submits, SubmitRefused, Forwards, ForwardRefused, IsRoutedAs, DestinationRefused, Acts, ActRefused, DllpRefused, Serves, ServeRefused, Collects, CollectRefused};
+
+/// A packet enters a lane with its mark.
+fn enter(sender: &mut SenderEnd, tlp: &Tlp, mark: u32) -> Result<(), LaneRefusal>
+    ensures ok { OnOk result (Enters sender.old tlp.now mark sender.new) }
+    ensures refused { IfErr result (λ r. LacksRoom sender.old (need_of tlp.now) r) }
+    ensures err { OnErr result (sender.new ≡ sender.old) }
+{
+    match sender.enter(tlp, mark) {
+        Ok(_) => Ok(()),
+        Err(refusal) => Err(refusal),
+    }
+}
+
+/// The requester submits an operation: its request enters the lane, and its number is spent. Gives the number. `Submit`
+/// where no request is prepared, then `Lane`.
+pub fn submit(
+    requester: &mut Requester,
+    sender: &mut SenderEnd,
+    op: &Op,
+) -> Result<u32, Refusal>
+    ensures ok { IfOk result (λ number. Submits requester.old sender.old op.now number requester.new sender.new) }
+    ensures refused { IfErr result (λ r. SubmitRefused requester.old sender.old op.now r) }
+    ensures err_requester { OnErr result (requester.new ≡ requester.old) }
+    ensures err_sender { OnErr result (sender.new ≡ sender.old) }
+{
+    let (number, request) = match requester.prepare(op) {
+        Ok(prepared) => prepared,
+        Err(refusal) => return Err(Refusal::Submit(refusal)),
+    };
+    if let Err(refusal) = enter(sender, &request, number) {
+        return Err(Refusal::Lane(refusal));
+    }
+    requester.opened(&request);
+    Ok(number)
+}
+
+/// The sender's next packet goes onto the wire. Gives its sequence number. `Idle` where there is none to send, or while
+/// the sender is stopped; then `Lane` for want of memory.
+pub fn transmit(sender: &mut SenderEnd, wire: &mut ForwardWire) -> Result<Seq12, Refusal>
+    ensures number { IfOk result (λ number. transmitted sender.old ≡ Some number) }
+    ensures sender { OnOk result (sender.new ≡ after_transmission sender.old) }
+    ensures wire { OnOk result (wire.new ≡ wire_after_transmit sender.old wire.old) }
+    ensures idle { (result ≡ Err Refusal.Idle) ↔ (transmitted sender.old ≡ None) }
+    ensures errors { IfErr result (λ r. (r ≡ Refusal.Idle) ⊎ (r ≡ Refusal.Lane LaneRefusal.Memory)) }
+    ensures err_sender { OnErr result (sender.new ≡ sender.old) }
+    ensures err_wire { OnErr result (wire.new ≡ wire.old) }
+{
+    if !sender.can_transmit() {
+        return Err(Refusal::Idle);
+    }
+    match sender.transmit(wire) {
+        Ok(Some(number)) => Ok(number),
+        Ok(None) => Err(Refusal::Idle),
+        Err(refusal) => Err(Refusal::Lane(refusal)),
+    }
+}
+
+/// The oldest packet of the wire reaches the receiver, or doesn't. Gives what became of it. `Idle` where the wire is
+/// empty; then `Lane` for want of memory.
+pub fn deliver(
+    wire: &mut ForwardWire,
+    receiver: &mut ReceiverEnd,
+    fate: Fate,
+) -> Result<Arrival, Refusal>
+    ensures arrival { IfOk result (λ arrival. delivered wire.old receiver.old fate ≡ Some arrival) }
+    ensures receiver { OnOk result (receiver.new ≡ after_deliver wire.old receiver.old fate) }
+    ensures wire { OnOk result (wire.new ≡ all_but_first wire.old) }
+    ensures idle { (result ≡ Err Refusal.Idle) ↔ (wire.old ≡ []) }
+    ensures errors { IfErr result (λ r. (r ≡ Refusal.Idle) ⊎ (r ≡ Refusal.Lane LaneRefusal.Memory)) }
+    ensures err_receiver { OnErr result (receiver.new ≡ receiver.old) }
+    ensures err_wire { OnErr result (wire.new ≡ wire.old) }
+{
+    if wire.is_empty() {
+        return Err(Refusal::Idle);
+    }
+    match receiver.deliver(wire, fate) {
+        Ok(Some(arrival)) => Ok(arrival),
+        Ok(None) => Err(Refusal::Idle),
+        Err(refusal) => Err(Refusal::Lane(refusal)),
+    }
+}
+
+/// The receiver puts a DLLP on the back wire, and gives it. `Lane` for want of memory.
+pub fn send_dllp(
+    receiver: &mut ReceiverEnd,
+    wire: &mut BackWire,
+    kind: DllpKind,
+) -> Result<Dllp, Refusal>
+    ensures dllp { IfOk result (λ dllp. dllp ≡ dllp_of receiver.old kind) }
+    ensures receiver { OnOk result (receiver.new ≡ after_send receiver.old kind) }
+    ensures wire { OnOk result (wire.new ≡ wire_after_send receiver.old kind wire.old) }
+    ensures errors { IfErr result (λ r. r ≡ Refusal.Lane LaneRefusal.Memory) }
+    ensures err_receiver { OnErr result (receiver.new ≡ receiver.old) }
+    ensures err_wire { OnErr result (wire.new ≡ wire.old) }
+{
+    match receiver.send_dllp(wire, kind) {
+        Ok(dllp) => Ok(dllp),
+        Err(refusal) => Err(Refusal::Lane(refusal)),
+    }
+}
+
+/// The oldest DLLP of the back wire reaches the sender, or doesn't. Gives what became of it. `Idle` where the wire is
+/// empty, `Protocol` where a good Ack or Nak names no packet.
+pub fn deliver_dllp(
+    wire: &mut BackWire,
+    sender: &mut SenderEnd,
+    fate: Fate,
+) -> Result<DllpSeen, Refusal>
+    ensures seen { IfOk result (λ seen. dllp_seen wire.old sender.old fate ≡ Ok (Some seen)) }
+    ensures sender { OnOk result (sender.new ≡ sender_after wire.old sender.old fate) }
+    ensures wire { OnOk result (wire.new ≡ all_but_first wire.old) }
+    ensures refused { IfErr result (λ r. DllpRefused wire.old sender.old fate r) }
+    ensures err_sender { OnErr result (sender.new ≡ sender.old) }
+    ensures err_wire { OnErr result (wire.new ≡ wire.old) }
+{
+    match sender.deliver_dllp(wire, fate) {
+        Ok(Some(seen)) => Ok(seen),
+        Ok(None) => Err(Refusal::Idle),
+        Err(fault) => Err(Refusal::Protocol(fault)),
+    }
+}
+
+/// The replay timer expires. Gives by how many places the sender moved back. `Idle` where there is no place to move
+/// back.
+pub fn timer(sender: &mut SenderEnd) -> Result<usize, Refusal>
+    ensures moved { IfOk result (λ moved. (moved ≡ sender.old.sending.place) × (0 < moved)) }
+    ensures ok { OnOk result (sender.new ≡ after_timer sender.old) }
+    ensures idle { (result ≡ Err Refusal.Idle) ↔ (sender.old.sending.place ≡ 0) }
+    ensures errors { IfErr result (λ r. r ≡ Refusal.Idle) }
+    ensures err { OnErr result (sender.new ≡ sender.old) }
+{
+    let moved = sender.timer();
+    if moved == 0 {
+        return Err(Refusal::Idle);
+    }
+    Ok(moved)
+}
+
+/// The link was retrained. `Idle` where the sender isn't stopped.
+pub fn retrained(sender: &mut SenderEnd) -> Result<(), Refusal>
+    ensures stopped { OnOk result (sender.old.sending.stopped ≡ true) }
+    ensures ok { OnOk result (sender.new ≡ after_retraining sender.old) }
+    ensures idle { (result ≡ Err Refusal.Idle) ↔ (sender.old.sending.stopped ≡ false) }
+    ensures errors { IfErr result (λ r. r ≡ Refusal.Idle) }
+    ensures err { OnErr result (sender.new ≡ sender.old) }
+{
+    if !sender.retrained() {
+        return Err(Refusal::Idle);
+    }
+    Ok(())
+}
+
+/// The port to which the packet at this place goes that came in from another. `NotTakeable` where there is none or it
+/// may not pass an earlier one, then `Route`.
+pub fn destination(receiver: &ReceiverEnd, place: usize, from: Port) -> Result<Port, Refusal>
+    ensures ok { IfOk result (λ port. IsRoutedAs receiver.now place from (Ok port)) }
+    ensures refused { IfErr result (λ r. DestinationRefused receiver.now place from r) }
+{
+    if !receiver.takeable(place) {
+        return Err(Refusal::NotTakeable);
+    }
+    let Some((packet, _)) = receiver.at(place) else {
+        return Err(Refusal::NotTakeable);
+    };
+    match route(packet, from) {
+        Ok(port) => Ok(port),
+        Err(fault) => Err(Refusal::Route(fault)),
+    }
+}
+
+/// The packet at this place goes into the next lane, with its mark. `NotTakeable` where there is none or it may not pass
+/// an earlier one, then `Lane`.
+pub fn forward(
+    receiver: &mut ReceiverEnd,
+    place: usize,
+    sender: &mut SenderEnd,
+) -> Result<(), Refusal>
+    ensures ok { OnOk result (Forwards receiver.old place sender.old receiver.new sender.new) }
+    ensures refused { IfErr result (λ r. ForwardRefused receiver.old place sender.old r) }
+    ensures err_receiver { OnErr result (receiver.new ≡ receiver.old) }
+    ensures err_sender { OnErr result (sender.new ≡ sender.old) }
+{
+    if !receiver.takeable(place) {
+        return Err(Refusal::NotTakeable);
+    }
+    let Some((packet, mark)) = receiver.at(place) else {
+        return Err(Refusal::NotTakeable);
+    };
+    if let Err(refusal) = enter(sender, packet, mark) {
+        return Err(Refusal::Lane(refusal));
+    }
+    let (_, _) = receiver.take(place);
+    Ok(())
+}
+
+/// The requester takes its oldest completion. Gives the number of the request and the reply. `Idle` where none has
+/// arrived, `Strange` where the requester doesn't expect it.
+pub fn collect(receiver: &mut ReceiverEnd, requester: &mut Requester) -> Result<Answer, Refusal>
+    ensures ok { IfOk result (λ a. Collects receiver.old requester.old a receiver.new requester.new) }
+    ensures refused { IfErr result (λ r. CollectRefused receiver.old requester.old r) }
+    ensures err_receiver { OnErr result (receiver.new ≡ receiver.old) }
+    ensures err_requester { OnErr result (requester.new ≡ requester.old) }
+{
+    if !receiver.takeable(0) {
+        return Err(Refusal::Idle);
+    }
+    let Some((packet, _)) = receiver.at(0) else {
+        return Err(Refusal::Idle);
+    };
+    match requester.finish(packet) {
+        Ok(answer) => {
+            let (_, _) = receiver.take(0);
+            Ok(answer)
+        }
+        Err(fault) => Err(Refusal::Strange(fault)),
+    }
+}
+
+/// Keeps room for a packet of this need.
+fn keep_room(sender: &mut SenderEnd, need: Need) -> Result<(), LaneRefusal>
+    ensures may { OnOk result (may_enter sender.old need ≡ true) }
+    ensures ok { OnOk result (sender.new ≡ with_room sender.old) }
+    ensures refused { IfErr result (λ r. LacksRoom sender.old need r) }
+    ensures err { OnErr result (sender.new ≡ sender.old) }
+{
+    match sender.make_room(need) {
+        Ok(()) => Ok(()),
+        Err(refusal) => Err(refusal),
+    }
+}
+
+/// A posted write acts on the memory.
+fn act_alone(memory: &mut Memory, request: &Tlp, mark: u32) -> Result<usize, Refusal>
+    ensures place { IfOk result (λ place. place ≡ length memory.old.entries) }
+    ensures ok { OnOk result (memory.new ≡ after_serving memory.old request.now mark) }
+    ensures errors { IfErr result (λ r. r ≡ Refusal.Memory) }
+    ensures err { OnErr result (memory.new ≡ memory.old) }
+{
+    let place = memory.entries().len();
+    match serve_request(memory, request, mark) {
+        Ok(_) => Ok(place),
+        Err(_) => Err(Refusal::Memory),
+    }
+}
+
+/// The request acts on the memory, and its completion, which has this need, enters the lane.
+fn act_and_answer(
+    memory: &mut Memory,
+    request: &Tlp,
+    mark: u32,
+    sender: &mut SenderEnd,
+    need: Need,
+) -> Result<usize, Refusal>
+    requires { option_map need_of (completion_to memory.old request.now) ≡ Some need }
+    ensures ok { IfOk result (λ place. Acts memory.old request.now mark sender.old place memory.new sender.new) }
+    ensures refused { IfErr result (λ r. ActRefused memory.old request.now sender.old r) }
+    ensures err_memory { OnErr result (memory.new ≡ memory.old) }
+    ensures err_sender { OnErr result (sender.new ≡ sender.old) }
+{
+    let place = memory.entries().len();
+    let had_room = sender.has_room();
+    if let Err(refusal) = keep_room(sender, need) {
+        return Err(Refusal::Lane(refusal));
+    }
+    match serve_request(memory, request, mark) {
+        Ok(Some(completion)) => {
+            let _ = sender.enter(&completion, mark);
+            Ok(place)
+        }
+        Ok(None) => Ok(place),
+        Err(_) => {
+            if !had_room {
+                sender.release();
+            }
+            Err(Refusal::Memory)
+        }
+    }
+}
+
+/// The request acts on the memory, and its completion, if it has one, enters the lane.
+fn act(
+    memory: &mut Memory,
+    request: &Tlp,
+    mark: u32,
+    sender: &mut SenderEnd,
+) -> Result<usize, Refusal>
+    ensures ok { IfOk result (λ place. Acts memory.old request.now mark sender.old place memory.new sender.new) }
+    ensures refused { IfErr result (λ r. ActRefused memory.old request.now sender.old r) }
+    ensures err_memory { OnErr result (memory.new ≡ memory.old) }
+    ensures err_sender { OnErr result (sender.new ≡ sender.old) }
+{
+    match shape(memory, request) {
+        Some(need) => act_and_answer(memory, request, mark, sender, need),
+        None => act_alone(memory, request, mark),
+    }
+}
+
+/// The request at this place acts on the memory, and its completion, if it has one, enters the lane. Gives the place in
+/// the history. `NotTakeable` where there is no packet or it may not pass an earlier one, then `Lane` where there is no
+/// room for the completion, then `Memory` where the history can't grow.
+pub fn serve(
+    receiver: &mut ReceiverEnd,
+    place: usize,
+    memory: &mut Memory,
+    sender: &mut SenderEnd,
+) -> Result<usize, Refusal>
+    ensures ok { IfOk result (λ at. Serves receiver.old place memory.old sender.old at receiver.new memory.new sender.new) }
+    ensures refused { IfErr result (λ r. ServeRefused receiver.old place memory.old sender.old r) }
+    ensures err_receiver { OnErr result (receiver.new ≡ receiver.old) }
+    ensures err_memory { OnErr result (memory.new ≡ memory.old) }
+    ensures err_sender { OnErr result (sender.new ≡ sender.old) }
+{
+    if !receiver.takeable(place) {
+        return Err(Refusal::NotTakeable);
+    }
+    let Some((request, mark)) = receiver.at(place) else {
+        return Err(Refusal::NotTakeable);
+    };
+    let at = act(memory, request, mark, sender)?;
+    let (_, _) = receiver.take(place);
+    Ok(at)
+}

@@ -1,0 +1,278 @@
+//! The parts of a fabric, and the events by their ports and lanes.
+ghost use Rattle.std.specs.Prelude.{◌≡◌, ◌↔◌, ◌<◌, ◌≤◌, ℕ, [], suc, length, IsTrue, IfOk, IfErr, OnOk, OnErr};
+
+use crate::event::{Event, LaneName, LinkEvent, Seen};
+use crate::events;
+use crate::fault::Refusal;
+use fc_credit::LaneCredits;
+use lane_core::{BackWire, ForwardWire, ReceiverEnd, SenderEnd};
+use requester_core::{Answer, Requester};
+use seq_memory::Memory;
+use std::alloc::Global;
+use std::marker::Model;
+use switch_core::{Port, RouteFault};
+use tlp_core::Op;
+
+/// A lane by its four ends.
+#[derive(Drop)]
+pub struct LaneParts {
+    pub sender: SenderEnd,
+    pub forward: ForwardWire,
+    pub back: BackWire,
+    pub receiver: ReceiverEnd,
+}
+
+impl Model for LaneParts {
+    ghost use Rattle.lane_core.specs.Steps.{Ends};
+
+    ghost Value = { Ends };
+
+    ghost view = { λ l. record { sender = l.sender; forward = l.forward; back = l.back; receiver = l.receiver } };
+}
+
+impl LaneParts {
+    ghost use Rattle.lane_core.specs.Steps.{new_lane};
+    ghost use Rattle.replay_sender.specs.Sending.{next_number};
+    ghost use Rattle.fabric_core.specs.Footprints.{Links, LinkRefused};
+
+    /// A lane whose receiver advertised these credits. It allocates nothing.
+    pub fn new(credits: LaneCredits, alloc: Global) -> LaneParts
+        ensures { result ≡ new_lane credits }
+    {
+        LaneParts {
+            sender: SenderEnd::new(credits, alloc),
+            forward: ForwardWire::new(alloc),
+            back: BackWire::new(alloc),
+            receiver: ReceiverEnd::new(credits, alloc),
+        }
+    }
+
+    /// A call of the link, and what is seen of it.
+    pub fn link(&mut self, event: LinkEvent) -> Result<Seen, Refusal>
+        ensures ok { IfOk result (λ what. Links self.old event what self.new) }
+        ensures refused { IfErr result (λ r. LinkRefused self.old event r) }
+        ensures err { OnErr result (self.new ≡ self.old) }
+    {
+        match event {
+            LinkEvent::Transmit => match events::transmit(&mut self.sender, &mut self.forward) {
+                Ok(number) => Ok(Seen::Sent(number)),
+                Err(refusal) => Err(refusal),
+            },
+            LinkEvent::Deliver(fate) => {
+                match events::deliver(&mut self.forward, &mut self.receiver, fate) {
+                    Ok(arrival) => Ok(Seen::Delivered(arrival)),
+                    Err(refusal) => Err(refusal),
+                }
+            }
+            LinkEvent::SendDllp(kind) => {
+                match events::send_dllp(&mut self.receiver, &mut self.back, kind) {
+                    Ok(dllp) => Ok(Seen::SentDllp(dllp)),
+                    Err(refusal) => Err(refusal),
+                }
+            }
+            LinkEvent::DeliverDllp(fate) => {
+                match events::deliver_dllp(&mut self.back, &mut self.sender, fate) {
+                    Ok(seen) => Ok(Seen::SeenDllp(seen)),
+                    Err(refusal) => Err(refusal),
+                }
+            }
+            LinkEvent::Timer => match events::timer(&mut self.sender) {
+                Ok(moved) => Ok(Seen::Back(moved)),
+                Err(refusal) => Err(refusal),
+            },
+            LinkEvent::Retrained => match events::retrained(&mut self.sender) {
+                Ok(()) => Ok(Seen::Retrained),
+                Err(refusal) => Err(refusal),
+            },
+        }
+    }
+
+    /// Whether no accepted packet waits, and the receiver waits for the number that the sender gives next.
+    pub fn quiet(&self) -> bool
+        ensures { IsTrue result ↔ ((self.now.receiver.queue ≡ []) × (self.now.receiver.receiving.next ≡ next_number self.now.sender.sending)) }
+    {
+        self.receiver.is_empty() && self.receiver.next_rcv_seq() == self.sender.next_transmit_seq()
+    }
+}
+
+/// The parts of a fabric by name; in each list that of port 1 is the first.
+#[derive(Drop)]
+pub struct Parts {
+    /// The credits that the lanes advertised when they were new, but that `down` lanes have infinite completion credits.
+    pub credits: LaneCredits,
+    pub memory: Memory,
+    pub requesters: Vec<Requester>,
+    /// From the switch to the memory.
+    pub inward: LaneParts,
+    /// From the memory to the switch.
+    pub outward: LaneParts,
+    /// From each requester to the switch.
+    pub up: Vec<LaneParts>,
+    /// From the switch to each requester.
+    pub down: Vec<LaneParts>,
+}
+
+impl Model for Parts {
+    ghost use Rattle.fabric_laws.specs.Fabric.{Fabric};
+
+    ghost Value = { Fabric };
+
+    ghost view = { λ p. record { credits = p.credits; memory = p.memory; requesters = p.requesters.items; inward = p.inward; outward = p.outward; up = p.up.items; down = p.down.items } };
+}
+
+ghost use Rattle.fabric_core.specs.Steps.{IsNoPort, LinksIn, LinkInRefused, LinksAt, LinkAtRefused, SubmitsAt, SubmitAtRefused, ForwardsUp, ForwardUpRefused, ForwardsOut, ForwardOutRefused, ServesAt, CollectsAt, CollectAtRefused, Happens, Refused, HasLanes};
+ghost use Rattle.fabric_core.specs.Footprints.{ServeRefused};
+
+/// The place of a port in lists of so many parts.
+fn place_of(port: u8, count: usize) -> Result<usize, Refusal>
+    ensures ok { IfOk result (λ place. (port ≡ suc place) × (place < count)) }
+    ensures refused { IfErr result (λ r. (r ≡ Refusal.NoSuchPart) × IsNoPort port count) }
+{
+    if port == 0 || usize::from(port) > count {
+        return Err(Refusal::NoSuchPart);
+    }
+    Ok(usize::from(port) - 1)
+}
+
+/// A call of the link of a port.
+fn link_in(lanes: &mut Vec<LaneParts>, port: u8, event: LinkEvent) -> Result<Seen, Refusal>
+    ensures ok { IfOk result (λ what. LinksIn lanes.old.items port event what lanes.new.items) }
+    ensures refused { IfErr result (λ r. LinkInRefused lanes.old.items port event r) }
+    ensures err { OnErr result (lanes.new.items ≡ lanes.old.items) }
+{
+    let place = place_of(port, lanes.len())?;
+    let lane = &mut lanes[place];
+    lane.link(event)
+}
+
+impl Parts {
+    /// A call of the link of a lane.
+    fn link(&mut self, name: LaneName, event: LinkEvent) -> Result<Seen, Refusal>
+        ensures ok { IfOk result (λ what. LinksAt self.old name event what self.new) }
+        ensures refused { IfErr result (λ r. LinkAtRefused self.old name event r) }
+        ensures err { OnErr result (self.new ≡ self.old) }
+    {
+        match name {
+            LaneName::Up(port) => link_in(&mut self.up, port, event),
+            LaneName::Down(port) => link_in(&mut self.down, port, event),
+            LaneName::Inward => self.inward.link(event),
+            LaneName::Outward => self.outward.link(event),
+        }
+    }
+
+    fn submit(&mut self, port: u8, op: &Op) -> Result<u32, Refusal>
+        requires { length self.old.up ≡ length self.old.requesters }
+        ensures ok { IfOk result (λ number. SubmitsAt self.old port op.now number self.new) }
+        ensures refused { IfErr result (λ r. SubmitAtRefused self.old port op.now r) }
+        ensures err { OnErr result (self.new ≡ self.old) }
+    {
+        let place = place_of(port, self.requesters.len())?;
+        let requester = &mut self.requesters[place];
+        let lane = &mut self.up[place];
+        events::submit(requester, &mut lane.sender, op)
+    }
+
+    /// From the `up` lane of a port.
+    fn forward_up(&mut self, port: u8, place: usize) -> Result<u8, Refusal>
+        requires { length self.old.up ≤ 7 }
+        ensures ok { IfOk result (λ to. ForwardsUp self.old port place to self.new) }
+        ensures refused { IfErr result (λ r. ForwardUpRefused self.old port place r) }
+        ensures err { OnErr result (self.new ≡ self.old) }
+    {
+        let at = place_of(port, self.up.len())?;
+        let lane = &mut self.up[at];
+        let to = events::destination(&lane.receiver, place, Port::new(port))?;
+        let inward = &mut self.inward;
+        events::forward(&mut lane.receiver, place, &mut inward.sender)?;
+        Ok(to.number())
+    }
+
+    /// From `out`.
+    fn forward_out(&mut self, place: usize) -> Result<u8, Refusal>
+        ensures ok { IfOk result (λ to. ForwardsOut self.old place to self.new) }
+        ensures refused { IfErr result (λ r. ForwardOutRefused self.old place r) }
+        ensures err { OnErr result (self.new ≡ self.old) }
+    {
+        let outward = &mut self.outward;
+        let to = events::destination(&outward.receiver, place, Port::MEMORY)?;
+        let Ok(at) = place_of(to.number(), self.down.len()) else {
+            return Err(Refusal::Route(RouteFault::NoPort));
+        };
+        let lane = &mut self.down[at];
+        if let Err(refusal) = events::forward(&mut outward.receiver, place, &mut lane.sender) {
+            return Err(refusal);
+        }
+        Ok(to.number())
+    }
+
+    fn serve(&mut self, place: usize) -> Result<usize, Refusal>
+        ensures ok { IfOk result (λ at. ServesAt self.old place at self.new) }
+        ensures refused { IfErr result (λ r. ServeRefused self.old.inward.receiver place self.old.memory self.old.outward.sender r) }
+        ensures err { OnErr result (self.new ≡ self.old) }
+    {
+        let inward = &mut self.inward;
+        let outward = &mut self.outward;
+        events::serve(&mut inward.receiver, place, &mut self.memory, &mut outward.sender)
+    }
+
+    fn collect(&mut self, port: u8) -> Result<Answer, Refusal>
+        requires { length self.old.down ≡ length self.old.requesters }
+        ensures ok { IfOk result (λ a. CollectsAt self.old port a self.new) }
+        ensures refused { IfErr result (λ r. CollectAtRefused self.old port r) }
+        ensures err { OnErr result (self.new ≡ self.old) }
+    {
+        let place = place_of(port, self.requesters.len())?;
+        let requester = &mut self.requesters[place];
+        let lane = &mut self.down[place];
+        events::collect(&mut lane.receiver, requester)
+    }
+
+    fn forward(&mut self, name: LaneName, place: usize) -> Result<Seen, Refusal>
+        requires { length self.old.up ≤ 7 }
+        ensures ok { IfOk result (λ what. Happens self.old (Event.Forward name place) what self.new) }
+        ensures refused { IfErr result (λ r. Refused self.old (Event.Forward name place) r) }
+        ensures err { OnErr result (self.new ≡ self.old) }
+    {
+        match name {
+            LaneName::Up(port) => match self.forward_up(port, place) {
+                Ok(to) => Ok(Seen::To(to)),
+                Err(refusal) => Err(refusal),
+            },
+            LaneName::Outward => match self.forward_out(place) {
+                Ok(to) => Ok(Seen::To(to)),
+                Err(refusal) => Err(refusal),
+            },
+            LaneName::Inward | LaneName::Down(_) => Err(Refusal::NoSuchPart),
+        }
+    }
+
+    /// An event, and what is seen of it. After a refusal all is as it was.
+    pub(crate) fn step(&mut self, event: &Event) -> Result<Seen, Refusal>
+        requires { HasLanes self.old }
+        ensures ok { IfOk result (λ what. Happens self.old event.now what self.new) }
+        ensures refused { IfErr result (λ r. Refused self.old event.now r) }
+        ensures err { OnErr result (self.new ≡ self.old) }
+    {
+        match event {
+            Event::Submit(port, op) => match self.submit(*port, op) {
+                Ok(number) => Ok(Seen::Submitted(number)),
+                Err(refusal) => Err(refusal),
+            },
+            Event::Transmit(lane) => self.link(*lane, LinkEvent::Transmit),
+            Event::Deliver(lane, fate) => self.link(*lane, LinkEvent::Deliver(*fate)),
+            Event::SendDllp(lane, kind) => self.link(*lane, LinkEvent::SendDllp(*kind)),
+            Event::DeliverDllp(lane, fate) => self.link(*lane, LinkEvent::DeliverDllp(*fate)),
+            Event::Timer(lane) => self.link(*lane, LinkEvent::Timer),
+            Event::Retrained(lane) => self.link(*lane, LinkEvent::Retrained),
+            Event::Forward(lane, place) => self.forward(*lane, *place),
+            Event::Serve(place) => match self.serve(*place) {
+                Ok(at) => Ok(Seen::At(at)),
+                Err(refusal) => Err(refusal),
+            },
+            Event::Collect(port) => match self.collect(*port) {
+                Ok(answer) => Ok(Seen::Collected(answer)),
+                Err(refusal) => Err(refusal),
+            },
+        }
+    }
+}
