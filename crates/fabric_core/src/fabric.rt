@@ -7,6 +7,7 @@ use crate::fault::Refusal;
 use crate::laws::{a_new_fabric_is_sound, each_event_keeps_it_sound, every_refusal_is_possible};
 use crate::parts::{LaneParts, Parts};
 use fc_credit::LaneCredits;
+use lane_core::quiet_is_nothing_left;
 use requester_core::Requester;
 use seq_memory::{Entry, Memory};
 use std::alloc::{AllocError, Global};
@@ -132,10 +133,23 @@ impl Fabric {
         self.parts.step(event)
     }
 
+    /// Every fabric is sound.
+    pub fn sound(&self)
+        ensures { IsSoundFabric self.now }
+    {
+        let _parts = &self.parts;
+    }
+
+    /// The parts.
+    pub(crate) fn parts(&self) -> &Parts
+        ensures { result.now ≡ self.now }
+    {
+        &self.parts
+    }
+
     /// The requests that acted on the memory, oldest first.
     pub fn history(&self) -> &[Entry]
-        ensures entries { result.now ≡ self.now.memory.entries }
-        ensures sound { IsSoundFabric self.now }
+        ensures { result.now ≡ self.now.memory.entries }
     {
         let parts = &self.parts;
         parts.memory.entries()
@@ -147,6 +161,15 @@ impl Fabric {
     {
         let parts = &self.parts;
         parts.memory.bytes()
+    }
+
+    /// Whether every lane's content is empty: all that was entered was taken.
+    pub fn quiet(&self) -> bool
+        ensures { IsTrue result ↔ IsQuiet self.now }
+    {
+        quiet_is_nothing_left();
+        let parts = &self.parts;
+        parts.is_still()
     }
 
     /// The parts by name.
