@@ -1,5 +1,5 @@
 -- Events in a row.
-use Rattle.std.proofs.Common.{ℕ, ◌≡◌, ◌+◌, ◌<◌, ◌≤◌, zero, suc, List, [], ◌∷◌, ◌++◌, length, take, add-one, refl, sym, ap, ◌∙◌, subst, Option, Some, None}
+use Rattle.std.proofs.Common.{ℕ, ◌≡◌, ◌+◌, zero, suc, List, [], ◌∷◌, ◌++◌, length, take, add-one, refl, sym, ap, ◌∙◌, subst, Some}
 use Rattle.std.specs.Prelude.{slice_get}
 use Rattle.std.proofs.lemmas.List.{append-nil, append_assoc}
 use Rattle.history_check.specs.declared.Record.{Record}
@@ -25,9 +25,14 @@ runs_more f g h [] rs rs' e r k =
     (k.what, h, [], happens, (refl, refl), k.now ∙ ap (λ (x : List Record). x ++ records_of e k.what (length g.memory.entries)) r.0 ∙ records ∙ sym (append-nil (records_of e k.what (length f.memory.entries))))
 runs_more f g h (x ∷ es) rs rs' e r k =
     let more = records_of e k.what (length g.memory.entries) in
-    let later : Recorded g e r.2 h (r.2 ++ more) = record { what = k.what; happens = k.happens; now = refl } in
-    (r.0, r.1, r.2 ++ more, r.3, runs_more r.1 g h es r.2 (r.2 ++ more) e r.4 later,
-        k.now ∙ ap (λ (y : List Record). y ++ more) r.5 ∙ append_assoc (records_of x r.0 (length f.memory.entries)) r.2 more)
+    let later : Recorded g e r.2 h (r.2 ++ more) = record { what = k.what; happens = k.happens; now = refl } in (
+      r.0,
+      r.1,
+      r.2 ++ more,
+      r.3,
+      runs_more r.1 g h es r.2 (r.2 ++ more) e r.4 later,
+      k.now ∙ ap (λ (y : List Record). y ++ more) r.5 ∙ append_assoc (records_of x r.0 (length f.memory.entries)) r.2 more,
+    )
 
 -- a beginning that is one longer
 take_one : (es : List Event) (n : ℕ) (e : Event) → slice_get es n ≡ Some e → take (suc n) es ≡ take n es ++ e ∷ []

@@ -78,6 +78,6 @@ pub all_answered : Answered → (f : Fabric) → IsSoundFabric f → IsQuiet f �
 all_answered law f s h i t k q has =
     subst (λ (x : Requesting). open_at x t ≢ Some k) (get_or_from_slice_get f.requesters i q unused has)
     (law (whole_of f) (suc i) t k s.sound (no_items f.inward h.inward)
-        (part_is items [] f.up i (λ n e at. no_items e (h.up n e at)))
-        (no_items f.outward h.outward)
-        (part_is items [] f.down i (λ n e at. no_items e (h.down n e at))))
+    (part_is items [] f.up i (λ n e at. no_items e (h.up n e at)))
+    (no_items f.outward h.outward)
+    (part_is items [] f.down i (λ n e at. no_items e (h.down n e at))))

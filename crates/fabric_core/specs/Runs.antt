@@ -1,6 +1,5 @@
 -- Lists of events.
 use Rattle.std.specs.Prelude.{ℕ, ◌≡◌, ◌⊎◌, List, [], ◌∷◌, ◌++◌, length, take, Result, Ok, Err, Option, Some, None, slice_get}
-use Rattle.seq_memory.specs.declared.Entry.{Entry}
 use Rattle.history_check.specs.declared.Record.{Record}
 use Rattle.history_check.specs.declared.Trace.{Trace}
 use Rattle.requester_core.specs.declared.requester.Answer.{Answer}

@@ -238,7 +238,12 @@ impl Parts {
     {
         let inward = &mut self.inward;
         let outward = &mut self.outward;
-        events::serve(&mut inward.receiver, place, &mut self.memory, &mut outward.sender)
+        events::serve(
+            &mut inward.receiver,
+            place,
+            &mut self.memory,
+            &mut outward.sender,
+        )
     }
 
     fn collect(&mut self, port: u8) -> Result<Answer, Refusal>

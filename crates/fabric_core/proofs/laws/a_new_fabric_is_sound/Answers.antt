@@ -1,4 +1,3 @@
-use Rattle.std.proofs.Common.{◌≡◌}
 use Rattle.fabric_laws.specs.Fabric.{whole_of}
 use Rattle.fabric_core.proofs.New.{is_new, new_is_sound}
 use Rattle.fabric_core.proofs.laws.a_new_fabric_is_sound.Goals as goal

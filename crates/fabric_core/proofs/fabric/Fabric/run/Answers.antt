@@ -1,4 +1,4 @@
-use Rattle.std.proofs.Common.{◌≡◌, ◌+◌, List, length, take, Some, sym, ap, subst, refl, arith, ◌⊎◌}
+use Rattle.std.proofs.Common.{◌≡◌, length, take, Some, sym, subst, refl, arith, ◌⊎◌}
 use Rattle.std.specs.Prelude.{slice_get}
 use Rattle.std.proofs.lemmas.Option.{slice_get_read}
 use Rattle.fabric_laws.specs.Fabric.{Fabric}

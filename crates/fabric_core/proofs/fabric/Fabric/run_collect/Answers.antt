@@ -1,8 +1,7 @@
 use Rattle.std.proofs.Common.{◌≡◌, ◌++◌, ◌∷◌, [], List, length, Some, sym, ap, ◌∙◌}
 use Rattle.seq_memory.specs.declared.Entry.{Entry}
-use Rattle.tlp_core.specs.declared.operation.Op.{Op}
 use Rattle.history_check.specs.declared.Record.{Record}
-use Rattle.history_check.specs.declared.Record.TheVariants.{Sub, Ans}
+use Rattle.history_check.specs.declared.Record.TheVariants.{Ans}
 use Rattle.fabric_core.specs.Kept.{records_of}
 use Rattle.fabric_core.specs.Runs.{answer_in}
 use Rattle.fabric_core.proofs.Records.{collect_records}
