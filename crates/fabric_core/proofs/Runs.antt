@@ -5,11 +5,14 @@ use Rattle.std.proofs.lemmas.List.{append-nil, append_assoc}
 use Rattle.history_check.specs.declared.Record.{Record}
 use Rattle.fabric_laws.specs.Fabric.{Fabric, whole_of}
 use Rattle.seq_memory.specs.declared.Entry.{Entry}
+use Rattle.seq_memory.specs.History.{State}
+use Rattle.history_check.specs.declared.Trace.{Trace}
+use Rattle.history_check.specs.Claim.{claim_of}
 use Rattle.history_check.specs.Trace.{Explains}
 use Rattle.fabric_laws.specs.Whole.{Whole, memory_of}
 use Rattle.fabric_laws.specs.Sound.{Sound}
 use Rattle.fabric_laws.specs.Trace.{Belongs}
-use Rattle.fabric_laws.specs.Steps.{Step, Run, stays, goes}
+use Rattle.fabric_laws.specs.Steps.{Step, submits, forwards, serves, returns, collects, links, Run, stays, goes}
 use Rattle.fabric_core.specs.declared.event.Event.{Event}
 use Rattle.fabric_core.specs.declared.event.Seen.{Seen}
 use Rattle.fabric_core.specs.Steps.{Happens}
@@ -61,6 +64,24 @@ run_of l f g (e ∷ es) rs s r =
     subst (λ (x : List Record). Run (whole_of f) (whole_of g) x) (sym r.5)
     (begun_by (whole_of f) (whole_of r.1) (whole_of g) (records_of e r.0 (length f.memory.entries)) r.2 (l.step f r.1 e r.0 s r.3) later)
 
+-- ---- the memory stays where it is
+
+step_shape : (p p' : Whole) (rs : List Record) → Step p p' rs → p'.shape ≡ p.shape
+step_shape p p' rs (submits i op h e) = ap (λ (x : Whole). x.shape) h.now
+step_shape p p' rs (forwards i h e) = ap (λ (x : Whole). x.shape) h.now
+step_shape p p' rs (serves h e) = ap (λ (x : Whole). x.shape) h.now
+step_shape p p' rs (returns h e) = ap (λ (x : Whole). x.shape) h.now
+step_shape p p' rs (collects i number reply h e) = ap (λ (x : Whole). x.shape) h.now
+step_shape p p' rs (links h e) = ap (λ (x : Whole). x.shape) h
+
+run_shape : (p p' : Whole) (rs : List Record) → Run p p' rs → p'.shape ≡ p.shape
+run_shape p p' rs stays = refl
+run_shape p p' rs (goes {q = m} {rs = before} {ss = last} t u) = step_shape m p' last u ∙ run_shape p m before t
+
+-- what a check is asked
+claim_is : (m : State) (t : Trace) → t.base ≡ m.base → t.size ≡ m.size → t.block ≡ m.block → record { memory = m; records = t.records.items } ≡ claim_of t m.entries
+claim_is m t a b c = λ k. record { memory = record { base = sym a k; size = sym b k; block = sym c k; entries = m.entries }; records = t.records.items }
+
 -- ---- the headline
 
 pub record TraceLaws : Type 0 where
@@ -69,6 +90,7 @@ pub record TraceLaws : Type 0 where
   pub explained : (p : Whole) (rs : List Record) → Sound p → Belongs p rs → Explains (record { memory = memory_of p; records = rs })
 
 pub record Headline (f g : Fabric) (ss : List Record) : Type 0 where
+  pub shape : (whole_of g).shape ≡ (whole_of f).shape
   pub begins : (later : List Entry) × (g.memory.entries ≡ f.memory.entries ++ later)
   pub belongs : (rs : List Record) → Belongs (whole_of f) rs → Belongs (whole_of g) (rs ++ ss)
   pub explained : (rs : List Record) → Belongs (whole_of f) rs → Explains (record { memory = g.memory; records = rs ++ ss })
@@ -77,7 +99,11 @@ pub headline : Each → TraceLaws → (f g : Fabric) (es : List Event) (ss : Lis
 headline l t f g es ss s s' r =
     let run = run_of l f g es ss s r in
     record {
+      shape = run_shape (whole_of f) (whole_of g) ss run;
       begins = t.begins (whole_of f) (whole_of g) ss s.sound run;
       belongs = λ rs b. t.run (whole_of f) (whole_of g) rs ss s.sound b run;
       explained = λ rs b. t.explained (whole_of g) (rs ++ ss) s'.sound (t.run (whole_of f) (whole_of g) rs ss s.sound b run);
     }
+
+pub checked : (f g : Fabric) (t : Trace) → Headline f g t.records.items → t.base ≡ g.memory.base → t.size ≡ g.memory.size → t.block ≡ g.memory.block → Belongs (whole_of f) [] → Explains (claim_of t g.memory.entries)
+checked f g t h a b c e = subst Explains (claim_is g.memory t a b c) (h.explained [] e)

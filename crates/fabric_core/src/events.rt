@@ -195,7 +195,8 @@ pub fn forward(
     ensures err_receiver { OnErr result (receiver.new ≡ receiver.old) }
     ensures err_sender { OnErr result (sender.new ≡ sender.old) }
 {
-    if !receiver.takeable(place) {
+    let may_go = receiver.takeable(place);
+    if !may_go {
         return Err(Refusal::NotTakeable);
     }
     let Some((packet, mark)) = receiver.at(place) else {

@@ -1,6 +1,8 @@
 //! Lists of events, and their traces.
 ghost use Rattle.std.specs.Prelude.{◌≡◌, ◌<◌, ◌⊎◌, ◌++◌, ◌∷◌, [], ℕ, List, length, take, vec_len, vec_capacity, IfErr, OnOk, OnErr};
 ghost use Rattle.history_check.specs.declared.Record.{Record};
+ghost use Rattle.history_check.specs.Claim.{claim_of};
+ghost use Rattle.seq_memory.specs.Limits.{IsBlock};
 ghost use Rattle.history_check.specs.Trace.{Explains};
 ghost use Rattle.fabric_laws.specs.Fabric.{whole_of};
 ghost use Rattle.fabric_laws.specs.Trace.{Belongs};
@@ -184,7 +186,7 @@ impl Fabric {
     {
         self.sound();
         keep_place(records)?;
-        let n = self.history().len() as u64;
+        let length = self.history().len();
         let seen = match self.step(event) {
             Ok(seen) => seen,
             Err(refusal) => return Err(refusal),
@@ -194,7 +196,7 @@ impl Fabric {
                 requester: port,
                 number: answer.number,
                 reply: answer.reply,
-                n,
+                n: length as u64,
             };
             push_kept(records, last);
         }
@@ -225,6 +227,7 @@ impl Fabric {
         ensures base { result.base ≡ self.now.memory.base }
         ensures size { result.size ≡ self.now.memory.size }
         ensures block { result.block ≡ self.now.memory.block }
+        ensures limits { IsBlock result.block }
         ensures records { result.records.items ≡ records.items }
     {
         let parts = self.parts();
@@ -239,6 +242,10 @@ impl Fabric {
     /// The events in turn, up to the first that is refused. Gives the trace: each submission and each answer, with the
     /// length of the history before its event. A refusal is that of [`step`](Self::step), or `Memory` where the trace can't
     /// grow; the events before its place have happened then, and their trace is told, too.
+    ///
+    /// The history only grows. A trace that belonged to the fabric before, followed by this one, belongs to the fabric
+    /// after, and the history explains it; so that of the first run of a new fabric is right under
+    /// [`check`](history_check::check).
     pub fn run(&mut self, events: &[Event], alloc: Global) -> Result<Trace, RunFault>
         ensures ran { Runs self.old (done result events.now) (trace_in result).records.items self.new }
         ensures stops { IfErr result (λ x. Stops self.new events.now x.place x.refusal) }
@@ -246,9 +253,12 @@ impl Fabric {
         ensures base { (trace_in result).base ≡ self.new.memory.base }
         ensures size { (trace_in result).size ≡ self.new.memory.size }
         ensures block { (trace_in result).block ≡ self.new.memory.block }
+        ensures limits { IsBlock (trace_in result).block }
+        ensures shape { (whole_of self.new).shape ≡ (whole_of self.old).shape }
         ensures begins { (later : List Entry) × (self.new.memory.entries ≡ self.old.memory.entries ++ later) }
         ensures belongs { (rs : List Record) → Belongs (whole_of self.old) rs → Belongs (whole_of self.new) (rs ++ (trace_in result).records.items) }
         ensures explained { (rs : List Record) → Belongs (whole_of self.old) rs → Explains (record { memory = self.new.memory; records = rs ++ (trace_in result).records.items }) }
+        ensures checked { Belongs (whole_of self.old) [] → Explains (claim_of (trace_in result) self.new.memory.entries) }
         ensures sound { IsSoundFabric self.new }
     {
         self.sound();
