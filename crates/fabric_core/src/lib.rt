@@ -16,6 +16,8 @@ mod fault;
 pub mod laws;
 mod parts;
 mod run;
+#[cfg(test)]
+mod tests;
 
 pub use config::{Config, ConfigFault};
 pub use event::{Event, LaneName, LinkEvent, Seen};
