@@ -1,6 +1,6 @@
 -- Events over parts of a fabric, as events of the fabric.
-use Rattle.std.proofs.Common.{ℕ, ◌≡◌, suc, refl, Result, Ok, Err, inl, inr, IfOk, IfErr}
-use Rattle.std.specs.Prelude.{slice_get, slice_set}
+use Rattle.std.proofs.Common.{ℕ, refl, Result, Ok, Err, inr, IfOk, IfErr}
+use Rattle.std.specs.Prelude.{slice_set}
 use Rattle.tlp_core.specs.declared.operation.Op.{Op}
 use Rattle.seq_memory.specs.History.{State}
 use Rattle.requester_core.specs.declared.requester.Answer.{Answer}

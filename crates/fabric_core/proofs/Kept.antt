@@ -1,17 +1,17 @@
 -- Each event on a sound fabric is one of the events of the laws, and keeps the lanes right.
-use Rattle.std.proofs.Common.{ℕ, ◌≡◌, suc, Bool, true, false, List, [], ◌∷◌, ◌++◌, length, refl, sym, ap, ◌∙◌, subst, Option, Some, None, Result, Ok, Err, ◌/◌}
-use Rattle.std.specs.Prelude.{slice_get, slice_set, is_some, if◌then◌else◌, ◌&&◌, ◌==◌}
+use Rattle.std.proofs.Common.{ℕ, ◌≡◌, suc, Bool, true, false, List, [], ◌∷◌, length, refl, sym, ap, ◌∙◌, subst, Option, Some, None, Ok, Err, ◌/◌}
+use Rattle.std.specs.Prelude.{slice_get, slice_set, is_some, if◌then◌else◌, ◌&&◌}
 use Rattle.std.proofs.lemmas.List.{length-set}
 use Rattle.tlp_core.specs.declared.operation.Op.{Op}
 use Rattle.tlp_core.specs.Packet.{Packet}
 use Rattle.tlp_core.specs.Operation.{op_of, is_completion}
 use Rattle.seq_memory.specs.History.{State}
-use Rattle.completer_core.specs.Serving.{completion_to, after_serving}
+use Rattle.completer_core.specs.Serving.{completion_to}
 use Rattle.requester_core.specs.declared.requester.Answer.{Answer}
 use Rattle.requester_core.specs.Requesting.{Requesting}
 use Rattle.switch_core.specs.Routing.{port_of, is_requester, route}
 use Rattle.switch_core.specs.declared.fault.RouteFault.TheVariants.{NoPort}
-use Rattle.lane_core.specs.Steps.{Ends, Incoming, Outgoing}
+use Rattle.lane_core.specs.Steps.{Ends, Incoming}
 use Rattle.lane_core.specs.Calls.{content, on_the_way, IsRightWith}
 use Rattle.fabric_laws.specs.Fabric.{Fabric, whole_of}
 use Rattle.fabric_laws.specs.Events.{IsSubmitted, IsForwarded, IsServed, IsReturned, IsCollected, IsLinked}
@@ -26,11 +26,10 @@ use Rattle.fabric_core.specs.declared.event.Event.TheVariants as events
 use Rattle.fabric_core.specs.declared.event.LaneName.{LaneName}
 use Rattle.fabric_core.specs.declared.event.LaneName.TheVariants as lanes
 use Rattle.fabric_core.specs.declared.event.LinkEvent.TheVariants as links
-use Rattle.fabric_core.specs.declared.event.Seen.TheVariants as seen
 use Rattle.fabric_core.specs.declared.event.LinkEvent.{LinkEvent}
 use Rattle.fabric_core.specs.declared.event.Seen.{Seen}
-use Rattle.fabric_core.specs.Footprints.{IsAt, Enters, Forwards, IsRoutedAs, Serves, Submits, Collects, Links}
-use Rattle.fabric_core.specs.Steps.{HasPart, HasLanes, LinksIn, LinksUp, LinksDown, LinksInward, LinksOutward, LinksAt, SubmitsAt, ForwardsUp, ForwardsOut, ServesAt, CollectsAt, Happens}
+use Rattle.fabric_core.specs.Footprints.{IsAt}
+use Rattle.fabric_core.specs.Steps.{HasLanes, LinksUp, LinksDown, LinksInward, LinksOutward, LinksAt, SubmitsAt, ForwardsUp, ForwardsOut, ServesAt, CollectsAt, Happens}
 use Rattle.fabric_core.specs.Kept.{IsSoundFabric, down_credits, records_of}
 use Rattle.fabric_core.proofs.Lanes.{KeepsRight, KeepsContent, kept_set, get_before, enters_right, enters_content, any_right, any_content, takes_right, taken_at, links_right, links_content}
 

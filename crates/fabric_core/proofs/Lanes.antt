@@ -1,11 +1,11 @@
 -- What each event does to a lane that is right.
-use Rattle.std.proofs.Common.{ℕ, ◌≡◌, zero, suc, Bool, true, false, List, [], ◌∷◌, ◌++◌, refl, sym, ap, ◌∙◌, subst, Option, Some, None}
-use Rattle.std.specs.Prelude.{slice_get, slice_set, remove, if◌then◌else◌, is_some}
+use Rattle.std.proofs.Common.{ℕ, ◌≡◌, zero, suc, Bool, true, false, List, [], ◌∷◌, ◌++◌, refl, sym, ◌∙◌, subst, Option, Some, None}
+use Rattle.std.specs.Prelude.{slice_get, slice_set, remove, if◌then◌else◌}
 use Rattle.std.proofs.lemmas.List.{append-nil}
 use Rattle.tlp_core.specs.Packet.{Packet}
 use Rattle.fc_credit.specs.declared.limits.LaneCredits.{LaneCredits}
 use Rattle.fc_credit.specs.Needs.{need_of}
-use Rattle.vc_queue.specs.Queue.{Item, is_takeable}
+use Rattle.vc_queue.specs.Queue.{is_takeable}
 use Rattle.lane_core.specs.Steps.{Ends, Incoming, Outgoing, may_enter, entered, after_take}
 use Rattle.lane_core.specs.Calls.{Call, Enter, Take, IsCall, happens, content, content_after, IsRightWith, IsRight}
 use Rattle.fabric_laws.specs.Lists.{Each}

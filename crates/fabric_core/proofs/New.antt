@@ -7,7 +7,6 @@ use Rattle.seq_memory.specs.History.{State}
 use Rattle.requester_core.specs.Requesting.{Requesting, fresh}
 use Rattle.lane_core.specs.Steps.{Ends, new_lane}
 use Rattle.lane_core.specs.Calls.{content, IsRightWith}
-use Rattle.history_check.specs.declared.Record.{Record}
 use Rattle.fabric_laws.specs.Fabric.{Fabric, whole_of}
 use Rattle.fabric_laws.specs.Whole.{Whole}
 use Rattle.fabric_laws.specs.Sound.{Sound}
@@ -36,7 +35,7 @@ pub record Beginnings : Type 0 where
   pub routed : (f : Fabric) → IsNewFabric f → IsRouted f
   pub sound : (p : Whole) → IsNew p → Sound p
 
-is_new : (c : Config) (f : Fabric) → IsNewWith c f → IsNewFabric f
+pub is_new : (c : Config) (f : Fabric) → IsNewWith c f → IsNewFabric f
 is_new c f n =
     record {
       history = ap (λ (m : State). m.entries) n.memory;

@@ -1,12 +1,11 @@
 -- What a sound fabric never answers.
-use Rattle.std.proofs.Common.{ℕ, ◌≡◌, ◌+◌, ◌*◌, ◌/◌, ◌<◌, ◌≤◌, suc, Bool, true, false, List, length, refl, sym, ap, ◌∙◌, subst, arith, Option, Some, None, Result, Ok, Err, IsOk, inl, inr}
-use Rattle.std.specs.Prelude.{slice_get, is_some, if◌then◌else◌, ◌&&◌, ◌==◌, not, nat_le, ◌⊎◌}
+use Rattle.std.proofs.Common.{ℕ, ◌≡◌, ◌*◌, ◌/◌, ◌<◌, ◌≤◌, suc, Bool, true, false, List, length, refl, sym, ◌∙◌, subst, arith, Some, Result, Ok, Err, IsOk, inl, inr}
+use Rattle.std.specs.Prelude.{slice_get, is_some, if◌then◌else◌, ◌&&◌, ◌==◌, not, ◌⊎◌}
 use Rattle.std.proofs.lemmas.Bool.Decides.{nat_tests}
 use Rattle.tlp_core.specs.declared.packet.Kind.{Kind}
 use Rattle.tlp_core.specs.declared.packet.Kind.TheVariants as kinds
 use Rattle.tlp_core.specs.declared.packet.Body.{Body}
 use Rattle.tlp_core.specs.declared.packet.Body.TheVariants as bodies
-use Rattle.tlp_core.specs.declared.packet.Status.TheVariants as statuses
 use Rattle.tlp_core.specs.Packet.{Packet}
 use Rattle.tlp_core.specs.Operation.{op_at, op_of, is_completion}
 use Rattle.requester_core.specs.declared.requester.Answer.{Answer}
@@ -17,9 +16,8 @@ use Rattle.switch_core.specs.declared.fault.RouteFault.{RouteFault}
 use Rattle.switch_core.specs.declared.fault.RouteFault.TheVariants.{NoPort}
 use Rattle.switch_core.specs.Routing.{port_of, is_requester, route}
 use Rattle.lane_core.specs.declared.packet.Fate.{Fate}
-use Rattle.lane_core.specs.Steps.{Ends, Incoming, dllp_seen}
-use Rattle.lane_core.specs.Calls.{content, on_the_way, IsRight, IsRightWith}
-use Rattle.fabric_laws.specs.Lists.{Each}
+use Rattle.lane_core.specs.Steps.{Ends, dllp_seen}
+use Rattle.lane_core.specs.Calls.{content, on_the_way, IsRight}
 use Rattle.fabric_laws.specs.Fabric.{Fabric, whole_of}
 use Rattle.fabric_laws.specs.Sound.{Sound}
 use Rattle.fabric_laws.specs.Routed.{HasPort, FitsStatus, IsRouted}
@@ -32,7 +30,7 @@ use Rattle.fabric_core.specs.declared.event.LinkEvent.TheVariants as links
 use Rattle.fabric_core.specs.declared.fault.Refusal.{Refusal}
 use Rattle.fabric_core.specs.declared.fault.Refusal.TheVariants as refusals
 use Rattle.fabric_core.specs.Footprints.{IsAt, IsRoutedAs, LinkRefused}
-use Rattle.fabric_core.specs.Steps.{IsNoPort, HasLanes, LinkInRefused, LinkAtRefused, ForwardUpRefusedBy, IsWithoutLane, Refused}
+use Rattle.fabric_core.specs.Steps.{LinkAtRefused, ForwardUpRefusedBy, IsWithoutLane, Refused}
 use Rattle.fabric_core.specs.Kept.{IsSoundFabric, IsPossible, down_credits}
 use Rattle.fabric_core.proofs.Lanes.{each_at, get_before, right}
 
@@ -40,8 +38,8 @@ use Rattle.fabric_core.proofs.Lanes.{each_at, get_before, right}
 pub record Never : Type 0 where
   pub protocol : (e : Ends) (fate : Fate) → IsRight e → IsOk (dllp_seen e.back e.sender fate)
   pub strange : (f : Fabric) (i mark : ℕ) (q : Requesting) (lane : Ends) (t : Packet) → Sound (whole_of f) → IsRouted f →
-        slice_get f.requesters i ≡ Some q → slice_get f.down i ≡ Some lane → slice_get lane.receiver.queue 0 ≡ Some (t, mark) →
-        (a : Answer) × (finished q t ≡ Ok a)
+      slice_get f.requesters i ≡ Some q → slice_get f.down i ≡ Some lane → slice_get lane.receiver.queue 0 ≡ Some (t, mark) →
+      (a : Answer) × (finished q t ≡ Ok a)
 
 either : {A B C : Type 0} → A ⊎ B → (A → C) → (B → C) → C
 either (inl a) f g = f a
@@ -199,8 +197,8 @@ out_possible f place r s b =
     (λ x c. either c (λ h. h) (λ d. either d (λ w. has_lane f place (refusals.Protocol x) s w) (λ h. h.refused)))
     (λ x c. either c (λ h. h) (λ d. either d (λ w. has_lane f place (refusals.Strange x) s w) (λ h. h.refused)))
     (λ x c. either c
-        (λ h. let p = out_packet f place h.mark h.packet s.routed h.there in completion_routed (length f.requesters) h.packet x s.lanes.few p.0 p.1 h.is)
-        (λ d. either d (λ w. has_lane f place (refusals.Route x) s w) (λ h. h.refused)))
+    (λ h. let p = out_packet f place h.mark h.packet s.routed h.there in completion_routed (length f.requesters) h.packet x s.lanes.few p.0 p.1 h.is)
+    (λ d. either d (λ w. has_lane f place (refusals.Route x) s w) (λ h. h.refused)))
     r b
 
 -- ---- all events
@@ -222,7 +220,7 @@ possible n f (events.Serve place) r s h = by_refusal (λ (x : Refusal). Refused 
 possible n f (events.Collect port) r s h =
     either h (λ m. missing r m.0)
     (λ b. by_refusal (λ (x : Refusal). Rattle.fabric_core.specs.Footprints.CollectRefused b.lane.receiver b.requester x)
-        (λ x k. k)
-        (λ x k. let a = n.strange f b.place k.mark b.requester b.lane k.packet s.sound s.routed b.has_requester.there b.has_lane.there k.there.item in let bad : Ok a.0 ≡ Err x = sym a.1 ∙ k.is in cc)
-        (λ x k. k)
-        r b.refused)
+    (λ x k. k)
+    (λ x k. let a = n.strange f b.place k.mark b.requester b.lane k.packet s.sound s.routed b.has_requester.there b.has_lane.there k.there.item in let bad : Ok a.0 ≡ Err x = sym a.1 ∙ k.is in cc)
+    (λ x k. k)
+    r b.refused)

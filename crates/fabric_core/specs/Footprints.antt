@@ -1,5 +1,5 @@
 -- Each event on the parts that it uses: what it leaves, and when it is refused.
-use Rattle.std.specs.Prelude.{ℕ, ◌≡◌, ◌≢◌, ◌<◌, ◌≤◌, false, true, List, [], length, IsTrue, Option, Some, None, is_some, Result, Ok, Err, slice_get}
+use Rattle.std.specs.Prelude.{ℕ, ◌≡◌, ◌≢◌, ◌<◌, ◌≤◌, false, true, List, [], length, Option, Some, None, Result, Ok, Err, slice_get}
 use Rattle.tlp_core.specs.declared.operation.Op.{Op}
 use Rattle.tlp_core.specs.Packet.{Packet}
 use Rattle.tlp_core.specs.Operation.{op_of}
@@ -16,7 +16,6 @@ use Rattle.requester_core.specs.declared.fault.CompletionFault.{CompletionFault}
 use Rattle.switch_core.specs.declared.fault.RouteFault.{RouteFault}
 use Rattle.vc_queue.specs.Queue.{is_takeable}
 use Rattle.switch_core.specs.Routing.{route}
-use Rattle.lane_core.specs.declared.packet.Arrival.{Arrival}
 use Rattle.lane_core.specs.declared.packet.Fate.{Fate}
 use Rattle.lane_core.specs.declared.packet.LaneRefusal.{LaneRefusal}
 use Rattle.lane_core.specs.declared.packet.LaneRefusal.TheVariants.{NoCredits, WindowFull, Memory}

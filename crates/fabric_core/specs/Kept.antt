@@ -1,5 +1,5 @@
 -- What holds of a fabric whatever happens to it.
-use Rattle.std.specs.Prelude.{ℕ, ◌≡◌, ◌≤◌, List, [], ◌∷◌, length, Some, slice_get}
+use Rattle.std.specs.Prelude.{ℕ, ◌≡◌, List, [], ◌∷◌, Some, slice_get}
 use Rattle.fc_credit.specs.declared.limits.LaneCredits.{LaneCredits}
 use Rattle.lane_core.specs.Steps.{Ends}
 use Rattle.lane_core.specs.Calls.{IsRightWith}

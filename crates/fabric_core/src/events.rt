@@ -1,5 +1,9 @@
 //! Each event over the parts that it uses. A refused event leaves them as they were.
 ghost use Rattle.std.specs.Prelude.{◌≡◌, ◌↔◌, ◌⊎◌, ◌<◌, ℕ, [], true, false, length, option_map, Some, IfOk, IfErr, OnOk, OnErr};
+ghost use Rattle.fc_credit.specs.Needs.{need_of};
+ghost use Rattle.completer_core.specs.Serving.{completion_to, after_serving};
+ghost use Rattle.lane_core.specs.Steps.{may_enter, with_room, after_timer, after_retraining, transmitted, after_transmission, wire_after_transmit, all_but_first, delivered, after_deliver, dllp_of, after_send, wire_after_send, dllp_seen, sender_after};
+ghost use Rattle.fabric_core.specs.Footprints.{Enters, LacksRoom, Submits, SubmitRefused, Forwards, ForwardRefused, IsRoutedAs, DestinationRefused, Acts, ActRefused, DllpRefused, Serves, ServeRefused, Collects, CollectRefused};
 
 use crate::fault::Refusal;
 use completer_core::{serve as serve_request, shape};
@@ -9,15 +13,10 @@ use lane_core::{
     Arrival, BackWire, DllpKind, DllpSeen, Fate, ForwardWire, LaneRefusal, ReceiverEnd, SenderEnd,
 };
 use requester_core::{Answer, Requester};
-use seq12::Seq12;
 use seq_memory::Memory;
+use seq12::Seq12;
 use switch_core::{Port, route};
 use tlp_core::{Op, Tlp};
-
-ghost use Rattle.fc_credit.specs.Needs.{need_of};
-ghost use Rattle.completer_core.specs.Serving.{completion_to, after_serving};
-ghost use Rattle.lane_core.specs.Steps.{may_enter, with_room, after_timer, after_retraining, transmitted, after_transmission, wire_after_transmit, all_but_first, delivered, after_deliver, dllp_of, after_send, wire_after_send, dllp_seen, sender_after};
-ghost use Rattle.fabric_core.specs.Footprints.{Enters, LacksRoom, Submits, SubmitRefused, Forwards, ForwardRefused, IsRoutedAs, DestinationRefused, Acts, ActRefused, DllpRefused, Serves, ServeRefused, Collects, CollectRefused};
 
 /// A packet enters a lane with its mark.
 fn enter(sender: &mut SenderEnd, tlp: &Tlp, mark: u32) -> Result<(), LaneRefusal>
@@ -33,11 +32,7 @@ fn enter(sender: &mut SenderEnd, tlp: &Tlp, mark: u32) -> Result<(), LaneRefusal
 
 /// The requester submits an operation: its request enters the lane, and its number is spent. Gives the number. `Submit`
 /// where no request is prepared, then `Lane`.
-pub fn submit(
-    requester: &mut Requester,
-    sender: &mut SenderEnd,
-    op: &Op,
-) -> Result<u32, Refusal>
+pub fn submit(requester: &mut Requester, sender: &mut SenderEnd, op: &Op) -> Result<u32, Refusal>
     ensures ok { IfOk result (λ number. Submits requester.old sender.old op.now number requester.new sender.new) }
     ensures refused { IfErr result (λ r. SubmitRefused requester.old sender.old op.now r) }
     ensures err_requester { OnErr result (requester.new ≡ requester.old) }
@@ -200,7 +195,8 @@ pub fn forward(
     ensures err_receiver { OnErr result (receiver.new ≡ receiver.old) }
     ensures err_sender { OnErr result (sender.new ≡ sender.old) }
 {
-    if !receiver.takeable(place) {
+    let may_go = receiver.takeable(place);
+    if !may_go {
         return Err(Refusal::NotTakeable);
     }
     let Some((packet, mark)) = receiver.at(place) else {

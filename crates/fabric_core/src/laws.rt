@@ -1,7 +1,15 @@
 //! What holds of a fabric whatever happens to it, said of its parts wherever they are.
-ghost use Rattle.std.specs.Prelude.{◌≡◌, ℕ, length, List};
+ghost use Rattle.std.specs.Prelude.{◌≡◌, ◌<◌, ℕ, length, List, []};
+ghost use Rattle.dllp_core.specs.declared.packet.Class.{Class};
+ghost use Rattle.fc_credit.specs.declared.limits.LaneCredits.{LaneCredits};
+ghost use Rattle.fc_credit.specs.Credits.{allowance, grant, first_of};
+ghost use Rattle.fc_credit.specs.Account.{demand, IsRight as IsBalanced};
+ghost use Rattle.lane_core.specs.Steps.{Ends};
+ghost use Rattle.lane_core.specs.Calls.{IsRightWith, on_the_way};
+ghost use Rattle.lane_core.specs.Credit.{needs_of, numbers_of};
 ghost use Rattle.fabric_laws.specs.Fabric.{Fabric, whole_of};
 ghost use Rattle.fabric_laws.specs.Steps.{Step};
+ghost use Rattle.fabric_laws.specs.Trace.{Belongs};
 ghost use Rattle.fabric_core.specs.declared.event.Event.{Event};
 ghost use Rattle.fabric_core.specs.declared.event.Seen.{Seen};
 ghost use Rattle.fabric_core.specs.declared.fault.Refusal.{Refusal};
@@ -13,8 +21,9 @@ ghost use Rattle.fabric_core.specs.Kept.{IsSoundFabric, IsPossible, records_of};
 use fabric_laws::laws::{
     each_event_is_a_step, each_link_call_is_a_step, each_step_keeps_it_sound,
     new_parts_make_a_new_fabric, no_completion_is_strange, packets_keep_their_ports,
+    the_trace_belongs,
 };
-use lane_core::{each_call_keeps_it_right, never_a_protocol_error};
+use lane_core::{credits_are_whole_numbers, each_call_keeps_it_right, never_a_protocol_error};
 
 /// Each event that happens to a sound fabric keeps it sound, and is a step of the whole, with the record of what was
 /// submitted or collected.
@@ -39,11 +48,24 @@ pub fn every_refusal_is_possible()
     no_completion_is_strange();
 }
 
-/// A new fabric is sound.
+/// A new fabric is sound, and the empty trace belongs to it.
 pub fn a_new_fabric_is_sound()
-    ensures { (c : Config) (f : Fabric) → IsNewWith c f → IsSoundFabric f }
+    ensures sound { (c : Config) (f : Fabric) → IsNewWith c f → IsSoundFabric f }
+    ensures belongs { (c : Config) (f : Fabric) → IsNewWith c f → Belongs (whole_of f) [] }
 {
     each_call_keeps_it_right();
     each_step_keeps_it_sound();
     new_parts_make_a_new_fabric();
+    the_trace_belongs();
+}
+
+/// The credits of a lane that is right, as each lane of a sound fabric is, are accounted in whole numbers, of which its
+/// counters are the remainders: for each finite counter what was used is at most what is known, that at most what was
+/// given, and what was given less what was used, with what is queued and under way, is the first value.
+pub fn the_credits_of_a_lane_are_accounted()
+    ensures { (credits : LaneCredits) (e : Ends) (r : IsRightWith credits e) (c : Class) (p : _) → 0 < first_of c p credits →
+        IsBalanced p (first_of c p credits) (allowance c p e.sender.gate) (grant c p e.receiver.ledger)
+        (numbers_of credits r.calls c p) (demand c p (needs_of e.receiver.queue)) (demand c p (needs_of (on_the_way e))) }
+{
+    credits_are_whole_numbers();
 }

@@ -1,6 +1,5 @@
 use Rattle.std.proofs.Common.{◌≡◌, true, length, Some, sym, ap, subst, ◌∙◌}
 use Rattle.std.specs.Prelude.{option_map}
-use Rattle.tlp_core.specs.Packet.{Packet}
 use Rattle.fc_credit.specs.declared.needs.Need.{Need}
 use Rattle.fc_credit.specs.Needs.{need_of}
 use Rattle.completer_core.specs.Serving.{completion_to}
@@ -27,9 +26,9 @@ returns-in-Ok-Some-clause-ok c =
     record {
       enters = subst (λ o. EntersIfAny c.args.sender.now o c.args.mark c.enter.new.self) (sym is)
           (enters_kept c.args.sender.now c.enter.new.self c.in-Ok-Some.completion c.args.mark c.enter.result fits
-              (rw c.in_default.ensures.ok at c.enter.ensures.room_was_made)
-              (rw c.in_default.ensures.ok at c.enter.ensures.ok)
-              c.enter.ensures.spelled);
+          (rw c.in_default.ensures.ok at c.enter.ensures.room_was_made)
+          (rw c.in_default.ensures.ok at c.enter.ensures.ok)
+          c.enter.ensures.spelled);
       in_history = ap length c.entries-place.ensures;
       now = c.in-Ok-Some.ensures.memory;
     }

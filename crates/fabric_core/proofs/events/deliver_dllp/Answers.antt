@@ -1,4 +1,4 @@
-use Rattle.std.proofs.Common.{◌≡◌, None, Ok, Err, sym, ap, ◌∙◌}
+use Rattle.std.proofs.Common.{◌≡◌, None, Ok, Err, ◌∙◌}
 use Rattle.lane_core.specs.Steps.{dllp_seen}
 use Rattle.fabric_core.proofs.Rooms.{none_seen, protocol_stays}
 use Rattle.fabric_core.proofs.events.deliver_dllp.Goals as goal

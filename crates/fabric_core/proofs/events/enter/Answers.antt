@@ -1,6 +1,4 @@
-use Rattle.std.proofs.Common.{◌≡◌, Err}
 use Rattle.fc_credit.specs.Needs.{need_of}
-use Rattle.lane_core.specs.declared.packet.LaneRefusal.TheVariants.{NoCredits, WindowFull}
 use Rattle.fabric_core.proofs.Rooms.{may}
 use Rattle.fabric_core.proofs.events.enter.Goals as goal
 

@@ -1,4 +1,4 @@
-use Rattle.std.proofs.Common.{◌≡◌, ◌+◌, ◌++◌, ◌∷◌, [], subst, sym, ◌∙◌, ap, rules}
+use Rattle.std.proofs.Common.{◌≡◌, ◌+◌, ◌++◌, ◌∷◌, [], subst, sym, rules}
 use Rattle.lane_core.specs.Steps.{new_lane}
 use Rattle.fabric_core.specs.Config.{AreNewLanes}
 use Rattle.fabric_core.proofs.New.{lanes_push}

@@ -11,6 +11,6 @@ pub returns-clause-step : goal.returns-clause-step
 returns-clause-step c =
     rw (← c.self.view_is)
     (if_ok c.step.result (λ (what : Seen). Happens c.self.inside.parts c.args.event.now what c.step.new.self)
-        (λ (what : Seen). Step (whole_of c.self.inside.parts) (whole_of c.step.new.self) (records_of c.args.event.now what (length c.self.inside.parts.memory.entries)))
-        (λ what h. c.each_event_keeps_it_sound.ensures.step c.self.inside.parts c.step.new.self c.args.event.now what c.self.invariant h)
-        c.step.ensures.ok)
+    (λ (what : Seen). Step (whole_of c.self.inside.parts) (whole_of c.step.new.self) (records_of c.args.event.now what (length c.self.inside.parts.memory.entries)))
+    (λ what h. c.each_event_keeps_it_sound.ensures.step c.self.inside.parts c.step.new.self c.args.event.now what c.self.invariant h)
+    c.step.ensures.ok)

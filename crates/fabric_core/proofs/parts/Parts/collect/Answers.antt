@@ -1,4 +1,4 @@
-use Rattle.std.proofs.Common.{◌≡◌, ◌<◌, List, length, Some, refl, arith}
+use Rattle.std.proofs.Common.{◌≡◌, ◌<◌, length, Some, refl, arith}
 use Rattle.std.specs.Prelude.{slice_get}
 use Rattle.std.proofs.lemmas.Option.{slice_get_read}
 use Rattle.lane_core.specs.Steps.{Ends}
@@ -18,9 +18,9 @@ returns-clause-ok c =
     let asks : slice_get b.requesters.items p ≡ Some c.index_mut-requester.result.now = slice_get_read b.requesters.items (length b.requesters.items) p c.index_mut-requester.result.now refl within c.index_mut-requester.ensures.value in
     rw (← c.self.view_is)
     (collects_at f c.args.port p c.index_mut-requester.result.now c.collect.new.requester e c.collect.new.receiver c.collect.result
-        (record { is_port = c.in_ok-place.ensures.ok.0; there = asks })
-        (record { is_port = c.in_ok-place.ensures.ok.0; there = has })
-        c.collect.ensures.ok)
+    (record { is_port = c.in_ok-place.ensures.ok.0; there = asks })
+    (record { is_port = c.in_ok-place.ensures.ok.0; there = has })
+    c.collect.ensures.ok)
 
 pub returns-clause-refused : goal.returns-clause-refused
 returns-clause-refused c =
@@ -34,6 +34,6 @@ returns-clause-refused c =
     let asks : slice_get b.requesters.items p ≡ Some c.index_mut-requester.result.now = slice_get_read b.requesters.items (length b.requesters.items) p c.index_mut-requester.result.now refl within c.index_mut-requester.ensures.value in
     rw (← c.self.view_is)
     (collect_refused f c.args.port p c.index_mut-requester.result.now e c.collect.result
-        (record { is_port = c.in_ok-place.ensures.ok.0; there = asks })
-        (record { is_port = c.in_ok-place.ensures.ok.0; there = has })
-        c.collect.ensures.refused)
+    (record { is_port = c.in_ok-place.ensures.ok.0; there = asks })
+    (record { is_port = c.in_ok-place.ensures.ok.0; there = has })
+    c.collect.ensures.refused)

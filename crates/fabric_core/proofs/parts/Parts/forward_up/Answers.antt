@@ -1,10 +1,9 @@
-use Rattle.std.proofs.Common.{◌≡◌, ◌<◌, List, length, Some, Ok, refl, subst, sym, arith}
+use Rattle.std.proofs.Common.{◌≡◌, ◌<◌, length, Some, Ok, refl, arith}
 use Rattle.std.specs.Prelude.{slice_get}
 use Rattle.std.proofs.lemmas.Option.{slice_get_read}
 use Rattle.lane_core.specs.Steps.{Ends}
 use Rattle.fabric_laws.specs.Fabric.{Fabric}
 use Rattle.fabric_core.specs.Footprints.{IsRoutedAs}
-use Rattle.fabric_core.specs.Steps.{HasPart}
 use Rattle.fabric_core.proofs.Indexed.{forwards_up}
 use Rattle.fabric_core.proofs.parts.Parts.forward_up.Goals as goal
 
@@ -20,4 +19,4 @@ returns-clause-ok c =
     let to : IsRoutedAs e.receiver c.args.place c.args.port (Ok c.number.result) = rw (c.number.ensures.value, ← c.new.ensures) c.in_ok-to.ensures.ok in
     rw (← c.self.view_is, ← c.inward.view_is)
     (forwards_up f c.args.port c.args.place c.number.result p e c.forward.new.receiver c.forward.new.sender
-        (record { is_port = c.in_ok-at.ensures.ok.0; there = has }) to c.in_ok-forward.ensures.ok)
+    (record { is_port = c.in_ok-at.ensures.ok.0; there = has }) to c.in_ok-forward.ensures.ok)

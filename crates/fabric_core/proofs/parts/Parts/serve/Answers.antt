@@ -1,10 +1,5 @@
-use Rattle.std.proofs.Common.{◌≡◌, ◌<◌, List, length, Some, Ok, refl, subst, sym, arith}
-use Rattle.std.specs.Prelude.{slice_get}
-use Rattle.std.proofs.lemmas.Option.{slice_get_read}
 use Rattle.lane_core.specs.Steps.{Ends}
 use Rattle.fabric_laws.specs.Fabric.{Fabric}
-use Rattle.fabric_core.specs.Footprints.{IsRoutedAs}
-use Rattle.fabric_core.specs.Steps.{HasPart}
 use Rattle.fabric_core.proofs.Indexed.{serves_at}
 use Rattle.fabric_core.proofs.parts.Parts.serve.Goals as goal
 

@@ -1,0 +1,311 @@
+//! Worked scripts of events.
+use crate::{Config, ConfigFault, Event, Fabric, LaneName, Refusal, Seen};
+use arrayvec::ArrayVec;
+use dllp_core::{Class, Dllp};
+use history_check::check;
+use lane_core::{Arrival, DllpKind, DllpSeen, Fate, LaneCredits, LaneRefusal};
+use link_receiver::Reception;
+use requester_core::{Answer, SubmitRefusal};
+use seq_memory::Reply;
+use seq12::Seq12;
+use std::alloc::Global;
+use std::test::Fail;
+use tlp_core::{Op, TlpFault, Width};
+
+const UP: LaneName = LaneName::Up(1);
+const DOWN: LaneName = LaneName::Down(1);
+const IN: LaneName = LaneName::Inward;
+const OUT: LaneName = LaneName::Outward;
+
+/// One requester and 4096 bytes.
+const SMALL: Config = Config {
+    requesters: 1,
+    base: 0,
+    size: 4096,
+    credits: LaneCredits::DEFAULT,
+    block: 64,
+};
+
+/// The least credits.
+const LEAST: LaneCredits = LaneCredits {
+    ph: 1,
+    pd: 8,
+    nph: 1,
+    npd: 2,
+    cplh: 1,
+    cpld: 8,
+};
+
+fn small(alloc: Global) -> Result<Fabric, ConfigFault> {
+    Fabric::new(SMALL, alloc)
+}
+
+fn bytes_of(items: &[u8]) -> ArrayVec<u8, 128> {
+    let mut bytes = ArrayVec::new();
+    let _ = bytes.try_extend_from_slice(items);
+    bytes
+}
+
+fn add(address: u64, operand: u128) -> Event {
+    let op = Op::FetchAdd {
+        address,
+        width: Width::Four,
+        operand,
+    };
+    Event::Submit(1, op)
+}
+
+fn read() -> Event {
+    let op = Op::Read {
+        address: 0x40,
+        dw: 1,
+        first: 15,
+        last: 0,
+    };
+    Event::Submit(1, op)
+}
+
+fn write() -> Event {
+    let op = Op::Write {
+        address: 0x40,
+        first: 15,
+        last: 0,
+        bytes: bytes_of(&[1, 2, 3, 4]),
+    };
+    Event::Submit(1, op)
+}
+
+fn deliver(lane: LaneName, fate: Fate) -> Event {
+    Event::Deliver(lane, fate)
+}
+
+fn sent(number: u8) -> Seen {
+    Seen::Sent(Seq12::new(u16::from(number)))
+}
+
+fn arrived(answer: Reception) -> Seen {
+    Seen::Delivered(Arrival::Answered(answer))
+}
+
+fn answer(number: u32, bytes: &[u8]) -> Seen {
+    let reply = Reply::Data(bytes_of(bytes));
+    Seen::Collected(Answer { number, reply })
+}
+
+/// The place of the first event that isn't seen as it should be; the script's length if all are.
+fn play(fabric: &mut Fabric, script: &[(Event, Seen)]) -> Result<usize, Fail> {
+    for (place, (event, want)) in script.iter().enumerate() {
+        let seen = fabric.step(event)?;
+        if seen != *want {
+            return Ok(place);
+        }
+    }
+    Ok(script.len())
+}
+
+#[test]
+fn a_lost_ack_and_its_replay(rt: HostRuntime) -> Result<(), Fail> {
+    let mut fabric = small(rt.alloc())?;
+    let script = [
+        (add(0x40, 7), Seen::Submitted(0)),
+        (Event::Transmit(UP), sent(0)),
+        (deliver(UP, Fate::Good), arrived(Reception::Accept)),
+        (Event::SendDllp(UP, DllpKind::Answer), Seen::SentDllp(Dllp::Ack(Seq12::new(0)))),
+        (Event::DeliverDllp(UP, Fate::Lost), Seen::SeenDllp(DllpSeen::Gone)),
+        (Event::Timer(UP), Seen::Back(1)),
+        (Event::Transmit(UP), sent(0)),
+        (deliver(UP, Fate::Good), arrived(Reception::Duplicate)),
+        (Event::Forward(UP, 0), Seen::To(0)),
+        (Event::Transmit(IN), sent(0)),
+        (deliver(IN, Fate::Good), arrived(Reception::Accept)),
+        (Event::Serve(0), Seen::At(0)),
+        (Event::Transmit(OUT), sent(0)),
+        (deliver(OUT, Fate::Good), arrived(Reception::Accept)),
+        (Event::Forward(OUT, 0), Seen::To(1)),
+        (Event::Transmit(DOWN), sent(0)),
+        (deliver(DOWN, Fate::Good), arrived(Reception::Accept)),
+        (Event::Collect(1), answer(0, &[0, 0, 0, 0])),
+    ];
+    assert!(rt; fabric.quiet());
+    assert_eq!(rt; play(&mut fabric, &script)?, script.len());
+    assert_eq!(rt; fabric.history().len(), 1);
+    assert!(rt; fabric.quiet());
+    Ok(())
+}
+
+#[test]
+fn a_nak_and_its_replay(rt: HostRuntime) -> Result<(), Fail> {
+    let mut fabric = small(rt.alloc())?;
+    let nak = Dllp::Nak(Seq12::new(0));
+    let script = [
+        (add(0x40, 1), Seen::Submitted(0)),
+        (add(0x40, 1), Seen::Submitted(1)),
+        (add(0x40, 1), Seen::Submitted(2)),
+        (Event::Transmit(UP), sent(0)),
+        (Event::Transmit(UP), sent(1)),
+        (Event::Transmit(UP), sent(2)),
+        (deliver(UP, Fate::Good), arrived(Reception::Accept)),
+        (deliver(UP, Fate::Failed), arrived(Reception::NakNow)),
+        (deliver(UP, Fate::Good), arrived(Reception::Quiet)),
+        (Event::SendDllp(UP, DllpKind::Answer), Seen::SentDllp(nak)),
+        (Event::DeliverDllp(UP, Fate::Good), Seen::SeenDllp(DllpSeen::Took(nak))),
+        (Event::Transmit(UP), sent(1)),
+        (deliver(UP, Fate::Good), arrived(Reception::Accept)),
+        (Event::Transmit(UP), sent(2)),
+        (deliver(UP, Fate::Good), arrived(Reception::Accept)),
+        (Event::SendDllp(UP, DllpKind::Answer), Seen::SentDllp(Dllp::Ack(Seq12::new(2)))),
+    ];
+    assert_eq!(rt; play(&mut fabric, &script)?, script.len());
+    assert!(rt; !fabric.quiet());
+    Ok(())
+}
+
+#[test]
+fn a_write_passes_an_earlier_read(rt: HostRuntime) -> Result<(), Fail> {
+    let mut fabric = small(rt.alloc())?;
+    let events = [
+        read(),
+        write(),
+        Event::Transmit(UP),
+        Event::Transmit(UP),
+        deliver(UP, Fate::Good),
+        deliver(UP, Fate::Good),
+        Event::Forward(UP, 1),
+        Event::Forward(UP, 0),
+        Event::Transmit(IN),
+        Event::Transmit(IN),
+        deliver(IN, Fate::Good),
+        deliver(IN, Fate::Good),
+        Event::Serve(0),
+        Event::Serve(0),
+        Event::Transmit(OUT),
+        deliver(OUT, Fate::Good),
+        Event::Forward(OUT, 0),
+        Event::Transmit(DOWN),
+        deliver(DOWN, Fate::Good),
+        Event::Collect(1),
+    ];
+    let trace = match fabric.run(&events, rt.alloc()) {
+        Ok(trace) => trace,
+        Err(fault) => return Err(Fail::new(fault.refusal)),
+    };
+    assert_eq!(rt; trace.records.len(), 3);
+    assert_eq!(rt; check(rt.alloc(), &trace, fabric.history()).is_ok(), true);
+    assert_eq!(rt; fabric.bytes().get(0x43).copied(), Some(4));
+    Ok(())
+}
+
+#[test]
+fn a_read_passes_no_earlier_write(rt: HostRuntime) -> Result<(), Fail> {
+    let mut fabric = small(rt.alloc())?;
+    let events = [
+        write(),
+        read(),
+        Event::Transmit(UP),
+        Event::Transmit(UP),
+        deliver(UP, Fate::Good),
+        deliver(UP, Fate::Good),
+        Event::Forward(UP, 1),
+        Event::Forward(UP, 0),
+    ];
+    let Err(fault) = fabric.run(&events, rt.alloc()) else {
+        return Err(Fail::new("it passed"));
+    };
+    assert_eq!(rt; fault.place, 6);
+    assert_eq!(rt; fault.refusal, Refusal::NotTakeable);
+    assert_eq!(rt; fault.trace.records.len(), 2);
+    Ok(())
+}
+
+#[test]
+fn credits_run_out_and_come_back(rt: HostRuntime) -> Result<(), Fail> {
+    let config = Config {
+        credits: LEAST,
+        ..SMALL
+    };
+    let mut fabric = Fabric::new(config, rt.alloc())?;
+    let update = Dllp::Update(Class::NonPosted, 2, 3);
+    let script = [
+        (Event::Transmit(UP), sent(0)),
+        (deliver(UP, Fate::Good), arrived(Reception::Accept)),
+        (Event::Forward(UP, 0), Seen::To(0)),
+        (Event::SendDllp(UP, DllpKind::Update(Class::NonPosted)), Seen::SentDllp(update)),
+        (Event::DeliverDllp(UP, Fate::Good), Seen::SeenDllp(DllpSeen::Took(update))),
+        (add(0x40, 1), Seen::Submitted(1)),
+    ];
+    let first = fabric.step(&add(0x40, 1))?;
+    let second = fabric.step(&add(0x40, 1));
+    let no_credits = Refusal::Lane(LaneRefusal::NoCredits(Class::NonPosted));
+    assert_eq!(rt; first, Seen::Submitted(0));
+    assert!(rt; second == Err(no_credits));
+    assert_eq!(rt; play(&mut fabric, &script)?, script.len());
+    Ok(())
+}
+
+#[test]
+fn a_stopped_link_is_retrained(rt: HostRuntime) -> Result<(), Fail> {
+    let mut fabric = small(rt.alloc())?;
+    let round = [
+        (Event::Transmit(UP), sent(0)),
+        (deliver(UP, Fate::Lost), Seen::Delivered(Arrival::Gone)),
+        (Event::Timer(UP), Seen::Back(1)),
+    ];
+    let _first = fabric.step(&add(0x40, 1))?;
+    assert!(rt; fabric.step(&Event::Retrained(UP)) == Err(Refusal::Idle));
+    for _ in 0..4 {
+        assert_eq!(rt; play(&mut fabric, &round)?, 3);
+    }
+    assert!(rt; fabric.step(&Event::Transmit(UP)) == Err(Refusal::Idle));
+    let again = [(Event::Retrained(UP), Seen::Retrained), (Event::Transmit(UP), sent(0))];
+    assert_eq!(rt; play(&mut fabric, &again)?, 2);
+    Ok(())
+}
+
+#[test]
+fn refusals(rt: HostRuntime) -> Result<(), Fail> {
+    let unaligned = Refusal::Submit(SubmitRefusal::Profile(TlpFault::Unaligned));
+    let mut fabric = small(rt.alloc())?;
+    let rows = [
+        (add(0x42, 1), unaligned, 4),
+        (Event::Collect(2), Refusal::NoSuchPart, 1),
+        (Event::Forward(IN, 0), Refusal::NoSuchPart, 1),
+        (Event::Timer(UP), Refusal::Idle, 2),
+        (Event::Collect(1), Refusal::Idle, 2),
+        (Event::Forward(UP, 0), Refusal::NotTakeable, 3),
+        (Event::Serve(0), Refusal::NotTakeable, 3),
+    ];
+    for (event, want, number) in &rows {
+        assert!(rt; fabric.step(event) == Err(*want));
+        assert_eq!(rt; want.number(), *number);
+    }
+    let fabric = Fabric::of_parts(fabric.into_parts());
+    assert!(rt; fabric.quiet());
+    Ok(())
+}
+
+#[test]
+fn configurations(rt: HostRuntime) -> Result<(), Fail> {
+    let no_credits = LaneCredits {
+        ph: 0,
+        ..LaneCredits::DEFAULT
+    };
+    let rows = [
+        (8, 100, 0x40, LaneCredits::DEFAULT, 96, ConfigFault::Requesters, 1),
+        (1, 100, 0x40, LaneCredits::DEFAULT, 96, ConfigFault::Size, 2),
+        (1, 4096, 0x40, no_credits, 96, ConfigFault::Base, 3),
+        (1, 4096, 0, no_credits, 96, ConfigFault::Credits, 4),
+        (1, 4096, 0, LaneCredits::DEFAULT, 96, ConfigFault::Block, 6),
+    ];
+    for (requesters, size, base, credits, block, want, number) in rows {
+        let config = Config {
+            requesters,
+            base,
+            size,
+            credits,
+            block,
+        };
+        assert_eq!(rt; Fabric::new(config, rt.alloc()).err(), Some(want));
+        assert_eq!(rt; want.number(), number);
+    }
+    Ok(())
+}
