@@ -4,3 +4,6 @@ pub mod Lanes
 pub mod Kept
 pub mod Possible
 pub mod New
+pub mod Still
+pub mod Records
+pub mod Runs

@@ -36,7 +36,7 @@ pub record Beginnings : Type 0 where
   pub routed : (f : Fabric) → IsNewFabric f → IsRouted f
   pub sound : (p : Whole) → IsNew p → Sound p
 
-is_new : (c : Config) (f : Fabric) → IsNewWith c f → IsNewFabric f
+pub is_new : (c : Config) (f : Fabric) → IsNewWith c f → IsNewFabric f
 is_new c f n =
     record {
       history = ap (λ (m : State). m.entries) n.memory;

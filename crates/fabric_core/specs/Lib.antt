@@ -4,3 +4,4 @@ pub mod Steps
 pub mod Kept
 pub mod Config
 pub mod Quiet
+pub mod Runs

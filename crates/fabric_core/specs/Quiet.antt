@@ -12,6 +12,12 @@ IsStill e = (e.receiver.queue ≡ []) × (e.receiver.receiving.next ≡ next_num
 abbrev pub AreStill : List Ends → Type 0
 AreStill lanes = (i : ℕ) (e : Ends) → slice_get lanes i ≡ Some e → IsStill e
 
+pub record IsStillFabric (f : Fabric) : Type 0 where
+  pub inward : IsStill f.inward
+  pub outward : IsStill f.outward
+  pub up : AreStill f.up
+  pub down : AreStill f.down
+
 -- every lane's content is empty: all that was entered was taken
 pub record IsQuiet (f : Fabric) : Type 0 where
   pub inward : content f.inward ≡ []

@@ -1,12 +1,14 @@
 //! The whole fabric.
-ghost use Rattle.std.specs.Prelude.{◌≡◌, ◌↔◌, ◌≤◌, ◌<◌, ℕ, List, [], length, Some, slice_get, suc, IsTrue, IfOk, IfErr, OnErr};
+ghost use Rattle.std.specs.Prelude.{◌≡◌, ◌≢◌, ◌↔◌, ◌≤◌, ◌<◌, ℕ, List, [], length, Some, slice_get, suc, IsTrue, IfOk, IfErr, OnErr};
 
 use crate::config::{Config, ConfigFault};
 use crate::event::{Event, Seen};
 use crate::fault::Refusal;
 use crate::laws::{a_new_fabric_is_sound, each_event_keeps_it_sound, every_refusal_is_possible};
 use crate::parts::{LaneParts, Parts};
+use fabric_laws::laws::quiet_is_all_acted;
 use fc_credit::LaneCredits;
+use lane_core::quiet_is_nothing_left;
 use requester_core::Requester;
 use seq_memory::{Entry, Memory};
 use std::alloc::{AllocError, Global};
@@ -99,12 +101,17 @@ impl Fabric {
     ghost use Rattle.fabric_core.specs.Config.{HasFault};
     ghost use Rattle.fabric_core.specs.Kept.{IsSoundFabric, IsPossible, records_of};
     ghost use Rattle.fabric_core.specs.Steps.{Happens, Refused};
+    ghost use Rattle.requester_core.specs.Requesting.{Requesting};
+    ghost use Rattle.fabric_laws.specs.Whole.{open_at};
+    ghost use Rattle.fabric_laws.specs.Sound.{times};
+    ghost use Rattle.fabric_laws.specs.Trace.{Belongs};
     ghost use Rattle.fabric_core.specs.Quiet.{IsQuiet};
 
     /// A fabric of this configuration to which nothing has happened. The faults are tested in the order Requesters, Size,
     /// Base, Credits, Block, Memory.
     pub fn new(config: Config, alloc: Global) -> Result<Fabric, ConfigFault>
         ensures ok { IfOk result (λ f. IsNewWith config f) }
+        ensures belongs { IfOk result (λ f. Belongs (whole_of f) []) }
         ensures fault { IfErr result (λ fault. HasFault config fault) }
     {
         config.test()?;
@@ -132,10 +139,23 @@ impl Fabric {
         self.parts.step(event)
     }
 
+    /// Every fabric is sound.
+    pub fn sound(&self)
+        ensures { IsSoundFabric self.now }
+    {
+        let _parts = &self.parts;
+    }
+
+    /// The parts.
+    pub(crate) fn parts(&self) -> &Parts
+        ensures { result.now ≡ self.now }
+    {
+        &self.parts
+    }
+
     /// The requests that acted on the memory, oldest first.
     pub fn history(&self) -> &[Entry]
-        ensures entries { result.now ≡ self.now.memory.entries }
-        ensures sound { IsSoundFabric self.now }
+        ensures { result.now ≡ self.now.memory.entries }
     {
         let parts = &self.parts;
         parts.memory.entries()
@@ -147,6 +167,19 @@ impl Fabric {
     {
         let parts = &self.parts;
         parts.memory.bytes()
+    }
+
+    /// Whether every lane's content is empty: all that was entered was taken. Then each submission stands in the history
+    /// once, and none waits for its completion.
+    pub fn quiet(&self) -> bool
+        ensures quiet { IsTrue result ↔ IsQuiet self.now }
+        ensures acted { IsTrue result → (i k : ℕ) (q : Requesting) → slice_get self.now.requesters i ≡ Some q → k < q.next → times (suc i) k self.now.memory.entries ≡ 1 }
+        ensures answered { IsTrue result → (i tag k : ℕ) (q : Requesting) → slice_get self.now.requesters i ≡ Some q → open_at q tag ≢ Some k }
+    {
+        quiet_is_nothing_left();
+        quiet_is_all_acted();
+        let parts = &self.parts;
+        parts.is_still()
     }
 
     /// The parts by name.

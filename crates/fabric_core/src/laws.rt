@@ -1,7 +1,8 @@
 //! What holds of a fabric whatever happens to it, said of its parts wherever they are.
-ghost use Rattle.std.specs.Prelude.{◌≡◌, ℕ, length, List};
+ghost use Rattle.std.specs.Prelude.{◌≡◌, ℕ, length, List, []};
 ghost use Rattle.fabric_laws.specs.Fabric.{Fabric, whole_of};
 ghost use Rattle.fabric_laws.specs.Steps.{Step};
+ghost use Rattle.fabric_laws.specs.Trace.{Belongs};
 ghost use Rattle.fabric_core.specs.declared.event.Event.{Event};
 ghost use Rattle.fabric_core.specs.declared.event.Seen.{Seen};
 ghost use Rattle.fabric_core.specs.declared.fault.Refusal.{Refusal};
@@ -13,6 +14,7 @@ ghost use Rattle.fabric_core.specs.Kept.{IsSoundFabric, IsPossible, records_of};
 use fabric_laws::laws::{
     each_event_is_a_step, each_link_call_is_a_step, each_step_keeps_it_sound,
     new_parts_make_a_new_fabric, no_completion_is_strange, packets_keep_their_ports,
+    the_trace_belongs,
 };
 use lane_core::{each_call_keeps_it_right, never_a_protocol_error};
 
@@ -39,11 +41,13 @@ pub fn every_refusal_is_possible()
     no_completion_is_strange();
 }
 
-/// A new fabric is sound.
+/// A new fabric is sound, and the empty trace belongs to it.
 pub fn a_new_fabric_is_sound()
-    ensures { (c : Config) (f : Fabric) → IsNewWith c f → IsSoundFabric f }
+    ensures sound { (c : Config) (f : Fabric) → IsNewWith c f → IsSoundFabric f }
+    ensures belongs { (c : Config) (f : Fabric) → IsNewWith c f → Belongs (whole_of f) [] }
 {
     each_call_keeps_it_right();
     each_step_keeps_it_sound();
     new_parts_make_a_new_fabric();
+    the_trace_belongs();
 }

@@ -15,9 +15,11 @@ mod fabric;
 mod fault;
 pub mod laws;
 mod parts;
+mod run;
 
 pub use config::{Config, ConfigFault};
 pub use event::{Event, LaneName, LinkEvent, Seen};
 pub use fabric::Fabric;
 pub use fault::Refusal;
 pub use parts::{LaneParts, Parts};
+pub use run::RunFault;

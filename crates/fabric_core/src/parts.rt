@@ -32,7 +32,7 @@ impl Model for LaneParts {
 
 impl LaneParts {
     ghost use Rattle.lane_core.specs.Steps.{new_lane};
-    ghost use Rattle.replay_sender.specs.Sending.{next_number};
+    ghost use Rattle.fabric_core.specs.Quiet.{IsStill};
     ghost use Rattle.fabric_core.specs.Footprints.{Links, LinkRefused};
 
     /// A lane whose receiver advertised these credits. It allocates nothing.
@@ -89,7 +89,7 @@ impl LaneParts {
 
     /// Whether no accepted packet waits, and the receiver waits for the number that the sender gives next.
     pub fn quiet(&self) -> bool
-        ensures { IsTrue result ↔ ((self.now.receiver.queue ≡ []) × (self.now.receiver.receiving.next ≡ next_number self.now.sender.sending)) }
+        ensures { IsTrue result ↔ IsStill self.now }
     {
         self.receiver.is_empty() && self.receiver.next_rcv_seq() == self.sender.next_transmit_seq()
     }
@@ -122,6 +122,7 @@ impl Model for Parts {
 
 ghost use Rattle.fabric_core.specs.Steps.{IsNoPort, LinksIn, LinkInRefused, LinksAt, LinkAtRefused, SubmitsAt, SubmitAtRefused, ForwardsUp, ForwardUpRefused, ForwardsOut, ForwardOutRefused, ServesAt, CollectsAt, CollectAtRefused, Happens, Refused, HasLanes};
 ghost use Rattle.fabric_core.specs.Footprints.{ServeRefused};
+ghost use Rattle.fabric_core.specs.Quiet.{AreStill, IsStillFabric};
 
 /// The place of a port in lists of so many parts.
 fn place_of(port: u8, count: usize) -> Result<usize, Refusal>
@@ -145,7 +146,32 @@ fn link_in(lanes: &mut Vec<LaneParts>, port: u8, event: LinkEvent) -> Result<See
     lane.link(event)
 }
 
+/// Whether each of these lanes is still.
+fn are_still(lanes: &[LaneParts]) -> bool
+    ensures { IsTrue result ↔ AreStill lanes.now }
+{
+    for lane in lanes {
+        if !lane.quiet() {
+            return false;
+        }
+    }
+    true
+}
+
 impl Parts {
+    /// Whether every lane is still.
+    pub(crate) fn is_still(&self) -> bool
+        ensures { IsTrue result ↔ IsStillFabric self.now }
+    {
+        if !self.inward.quiet() || !self.outward.quiet() {
+            return false;
+        }
+        if !are_still(&self.up) {
+            return false;
+        }
+        are_still(&self.down)
+    }
+
     /// A call of the link of a lane.
     fn link(&mut self, name: LaneName, event: LinkEvent) -> Result<Seen, Refusal>
         ensures ok { IfOk result (λ what. LinksAt self.old name event what self.new) }

@@ -1,0 +1,8 @@
+use Rattle.std.proofs.Common.{◌≡◌, ℕ, ◌<◌, Some}
+use Rattle.std.specs.Prelude.{slice_get}
+use Rattle.lane_core.specs.Steps.{Ends}
+use Rattle.fabric_core.specs.Quiet.{IsStill}
+use Rattle.fabric_core.proofs.parts.are_still.Given as goal
+
+abbrev pub invariant-loop-lane : goal.invariant-loop-lane
+invariant-loop-lane l = (i : ℕ) (e : Ends) → i < l.lane-index → slice_get l.lanes i ≡ Some e → IsStill e
