@@ -83,7 +83,9 @@ fn fabric(rest: &[u8]) -> Option<Line>
     }))
 }
 
-/// The line that the text spells, without what ends it.
+/// The line that the text spells, which is given without what ends it. None where it has no known
+/// form, or a number is above the range of its field: the ranges of a configuration and the parts of
+/// a fabric are not looked at.
 pub fn read_line(text: &[u8]) -> Option<Line>
     ensures { result ≡ forms.line_of (words text.now) }
 {

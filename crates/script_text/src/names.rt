@@ -9,7 +9,7 @@ use fabric_core::{ConfigFault, Refusal};
 use lane_core::LaneRefusal;
 use requester_core::SubmitRefusal;
 
-/// Adds the name of the fault.
+/// Adds the name of the fault, at most 32 bytes.
 pub fn write_config_fault(fault: &ConfigFault, out: &mut ArrayString<512>)
     requires { array_string_len out.old + 32 ≤ 512 }
     ensures text { out.new.bytes ≡ out.old.bytes ++ config_fault_name fault.now }
@@ -56,8 +56,8 @@ fn put_lane_refusal(refusal: LaneRefusal, out: &mut ArrayString<512>)
     });
 }
 
-/// Adds the name of the refusal, with the fault of the operation or the class of the credits that
-/// are used up.
+/// Adds the name of the refusal, at most 32 bytes, with the fault of the operation or the class of
+/// the credits that are used up.
 pub fn write_refusal(refusal: &Refusal, out: &mut ArrayString<512>)
     requires { array_string_len out.old + 32 ≤ 512 }
     ensures text { out.new.bytes ≡ out.old.bytes ++ refusal_name refusal.now }

@@ -177,66 +177,58 @@ fn no_lines(rt: HostRuntime) {
 
 #[test]
 fn seen(rt: HostRuntime) -> Result<(), Fail> {
-    let update = Dllp::Update(Class::NonPosted, 2, 3);
-    let bytes = ArrayVec::try_from([0u8; 4].as_slice())
+    let zeros = ArrayVec::try_from([0u8; 4].as_slice())
         .ok()
         .ok_or("no bytes")?;
-    let rows: [(Event, Seen, &str); 15] = [
-        (Event::Collect(1), Seen::Submitted(0), "sub 1 0"),
+    let answer = Answer {
+        number: 4_294_967_295,
+        reply: Reply::Data(zeros),
+    };
+    let ack = Dllp::Ack(Seq12::new(0));
+    let nak = Dllp::Nak(Seq12::new(0xFFF));
+    let update = Dllp::Update(Class::NonPosted, 2, 3);
+    let accept = Arrival::Answered(Reception::Accept);
+    let duplicate = Arrival::Answered(Reception::Duplicate);
+    let nak_now = Arrival::Answered(Reception::NakNow);
+    let quiet = Arrival::Answered(Reception::Quiet);
+    let rows: [(&[u8], Seen, &str); 17] = [
+        (b"submit 1 add 40 07000000", Seen::Submitted(0), "sub 1 0"),
+        (b"transmit up1", Seen::Sent(Seq12::new(0)), "sent 000"),
+        (b"transmit up1", Seen::Sent(Seq12::new(0xFA9)), "sent FA9"),
+        (b"deliver up1 good", Seen::Delivered(accept), "accept"),
+        (b"deliver up1 good", Seen::Delivered(duplicate), "duplicate"),
+        (b"deliver up1 failed", Seen::Delivered(nak_now), "nak"),
+        (b"deliver up1 good", Seen::Delivered(quiet), "quiet"),
+        (b"deliver up1 lost", Seen::Delivered(Arrival::Gone), "gone"),
+        (b"dllp up1 ack", Seen::SentDllp(ack), "00000000"),
+        (b"dllp up1 ack", Seen::SentDllp(nak), "10000FFF"),
         (
-            Event::Serve(0),
-            Seen::Submitted(4_294_967_295),
-            "sub 0 4294967295",
-        ),
-        (Event::Serve(0), Seen::Sent(Seq12::new(0)), "sent 000"),
-        (Event::Serve(0), Seen::Sent(Seq12::new(0xFA9)), "sent FA9"),
-        (
-            Event::Serve(0),
-            Seen::Delivered(Arrival::Answered(Reception::Accept)),
-            "accept",
-        ),
-        (
-            Event::Serve(0),
-            Seen::Delivered(Arrival::Answered(Reception::Duplicate)),
-            "duplicate",
-        ),
-        (
-            Event::Serve(0),
-            Seen::Delivered(Arrival::Answered(Reception::NakNow)),
-            "nak",
-        ),
-        (
-            Event::Serve(0),
-            Seen::Delivered(Arrival::Answered(Reception::Quiet)),
-            "quiet",
-        ),
-        (
-            Event::Serve(0),
-            Seen::SentDllp(Dllp::Nak(Seq12::new(0xFFF))),
-            "10000FFF",
-        ),
-        (
-            Event::Serve(0),
+            b"deliver-dllp up1 good",
             Seen::SeenDllp(DllpSeen::Took(update)),
             "took 90008003",
         ),
-        (Event::Serve(0), Seen::SeenDllp(DllpSeen::Gone), "gone"),
-        (Event::Serve(0), Seen::Back(1), "replay 1"),
-        (Event::Serve(0), Seen::Retrained, "retrained"),
-        (Event::Serve(0), Seen::At(17), "at 17"),
         (
-            Event::Collect(7),
-            Seen::Collected(Answer {
-                number: 3,
-                reply: Reply::Data(bytes),
-            }),
-            "ans 7 3 data 00000000",
+            b"deliver-dllp up1 lost",
+            Seen::SeenDllp(DllpSeen::Gone),
+            "gone",
+        ),
+        (b"timer up1", Seen::Back(1), "replay 1"),
+        (b"retrained up1", Seen::Retrained, "retrained"),
+        (b"forward out 0", Seen::To(1), "to 1"),
+        (b"serve 0", Seen::At(17), "at 17"),
+        (
+            b"collect 7",
+            Seen::Collected(answer),
+            "ans 7 4294967295 data 00000000",
         ),
     ];
-    for (event, what, text) in &rows {
+    for (text, what, told) in &rows {
+        let Some(Line::Event(event)) = read_line(*text) else {
+            return Err(Fail::from("no event"));
+        };
         let mut line = ArrayString::new();
-        write_seen(event, what, &mut line);
-        assert_eq!(rt; line.as_str(), *text);
+        write_seen(&event, what, &mut line);
+        assert_eq!(rt; line.as_str(), *told);
     }
     Ok(())
 }

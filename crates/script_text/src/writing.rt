@@ -124,7 +124,8 @@ fn port(event: &Event) -> u8
     }
 }
 
-/// Adds what is seen of the event, at most 320 bytes.
+/// Adds what is seen of the event, at most 320 bytes. Of the event only the port of its requester
+/// counts.
 pub fn write_seen(event: &Event, seen: &Seen, out: &mut ArrayString<512>)
     requires { array_string_len out.old + 320 ≤ 512 }
     ensures text { out.new.bytes ≡ out.old.bytes ++ seen_text event.now seen.now }
