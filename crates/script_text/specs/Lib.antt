@@ -1,0 +1,3 @@
+pub mod Forms
+pub mod Names
+pub mod Texts

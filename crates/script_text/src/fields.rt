@@ -1,0 +1,118 @@
+//! The fields of a script's line.
+ghost use Rattle.std.specs.Prelude.{◌≡◌, [], ◌∷◌, option_map, MatchOption};
+ghost use Rattle.trace_text.specs.Words.{words_behind, first_field};
+ghost use Rattle.script_text.specs.Forms as forms;
+
+use dllp_core::Class;
+use fabric_core::LaneName;
+use lane_core::{DllpKind, Fate};
+use trace_text::{cut, number};
+
+/// The next word, and what is behind it; none at the end of the line.
+pub(crate) fn next(rest: &[u8]) -> Option<(&[u8], &[u8])>
+    ensures { MatchOption result (words_behind rest.now ≡ []) (λ s. words_behind rest.now ≡ s.0.now ∷ words_behind s.1.now) }
+{
+    match rest {
+        [] => None,
+        [_, line @ ..] => Some(cut(line)),
+    }
+}
+
+pub(crate) fn octet(rest: &[u8]) -> Option<(u8, &[u8])>
+    ensures { first_field forms.octet (words_behind rest.now) ≡ option_map (λ s. (s.0, words_behind s.1.now)) result }
+{
+    let (octet, rest) = number(rest, 10, 255)?;
+    Some((octet as u8, rest))
+}
+
+pub(crate) fn short(rest: &[u8]) -> Option<(u16, &[u8])>
+    ensures { first_field forms.short (words_behind rest.now) ≡ option_map (λ s. (s.0, words_behind s.1.now)) result }
+{
+    let (short, rest) = number(rest, 10, 65535)?;
+    Some((short as u16, rest))
+}
+
+pub(crate) fn count(rest: &[u8]) -> Option<(usize, &[u8])>
+    ensures { first_field forms.count (words_behind rest.now) ≡ option_map (λ s. (s.0, words_behind s.1.now)) result }
+{
+    let (count, rest) = number(rest, 10, u64::MAX)?;
+    Some((count as usize, rest))
+}
+
+/// The port of a lane's name.
+fn port(digits: &[u8]) -> Option<u8>
+    ensures { result ≡ forms.port_digit digits.now }
+{
+    match digits {
+        [digit] if *digit >= b'1' && *digit <= b'7' => Some(*digit - b'0'),
+        _ => None,
+    }
+}
+
+/// The lane of that name.
+fn lane_in(word: &[u8]) -> Option<LaneName>
+    ensures { result ≡ forms.lane word.now }
+{
+    if word == b"in".as_slice() {
+        return Some(LaneName::Inward);
+    }
+    if word == b"out".as_slice() {
+        return Some(LaneName::Outward);
+    }
+    match word {
+        [b'u', b'p', digits @ ..] => Some(LaneName::Up(port(digits)?)),
+        [b'd', b'o', b'w', b'n', digits @ ..] => Some(LaneName::Down(port(digits)?)),
+        _ => None,
+    }
+}
+
+pub(crate) fn lane(rest: &[u8]) -> Option<(LaneName, &[u8])>
+    ensures { first_field forms.lane (words_behind rest.now) ≡ option_map (λ s. (s.0, words_behind s.1.now)) result }
+{
+    let (word, rest) = next(rest)?;
+    Some((lane_in(word)?, rest))
+}
+
+fn fate_in(word: &[u8]) -> Option<Fate>
+    ensures { result ≡ forms.fate word.now }
+{
+    if word == b"good".as_slice() {
+        Some(Fate::Good)
+    } else if word == b"failed".as_slice() {
+        Some(Fate::Failed)
+    } else if word == b"lost".as_slice() {
+        Some(Fate::Lost)
+    } else {
+        None
+    }
+}
+
+pub(crate) fn fate(rest: &[u8]) -> Option<(Fate, &[u8])>
+    ensures { first_field forms.fate (words_behind rest.now) ≡ option_map (λ s. (s.0, words_behind s.1.now)) result }
+{
+    let (word, rest) = next(rest)?;
+    Some((fate_in(word)?, rest))
+}
+
+fn kind_in(word: &[u8]) -> Option<DllpKind>
+    ensures { result ≡ forms.kind word.now }
+{
+    if word == b"ack".as_slice() {
+        Some(DllpKind::Answer)
+    } else if word == b"p".as_slice() {
+        Some(DllpKind::Update(Class::Posted))
+    } else if word == b"np".as_slice() {
+        Some(DllpKind::Update(Class::NonPosted))
+    } else if word == b"cpl".as_slice() {
+        Some(DllpKind::Update(Class::Completion))
+    } else {
+        None
+    }
+}
+
+pub(crate) fn kind(rest: &[u8]) -> Option<(DllpKind, &[u8])>
+    ensures { first_field forms.kind (words_behind rest.now) ≡ option_map (λ s. (s.0, words_behind s.1.now)) result }
+{
+    let (word, rest) = next(rest)?;
+    Some((kind_in(word)?, rest))
+}

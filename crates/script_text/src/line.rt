@@ -1,0 +1,97 @@
+//! The lines of a script.
+ghost use Rattle.std.specs.Prelude.{◌≡◌, option_map};
+ghost use Rattle.trace_text.specs.Words.{words, words_behind};
+ghost use Rattle.script_text.specs.Forms as forms;
+
+use crate::events::event_by;
+use crate::fields::{count, next, octet, short};
+use fabric_core::{Config, Event};
+use fc_credit::LaneCredits;
+use trace_text::{cut, is_ended, number};
+
+/// The bytes of a block where the line doesn't tell them.
+const DEFAULT_BLOCK: u16 = 64;
+
+/// What a line of a script asks for.
+#[derive(Debug, PartialEq, Drop)]
+pub enum Line {
+    /// A fabric is made.
+    Fabric(Config),
+    /// An event happens to it.
+    Event(Event),
+}
+
+/// The six credits.
+fn six_credits(rest: &[u8]) -> Option<(LaneCredits, &[u8])>
+    ensures { forms.six_credits (words_behind rest.now) ≡ option_map (λ s. (s.0, words_behind s.1.now)) result }
+{
+    let (ph, rest) = octet(rest)?;
+    let (pd, rest) = short(rest)?;
+    let (nph, rest) = octet(rest)?;
+    let (npd, rest) = short(rest)?;
+    let (cplh, rest) = octet(rest)?;
+    let (cpld, rest) = short(rest)?;
+    let credits = LaneCredits {
+        ph,
+        pd,
+        nph,
+        npd,
+        cplh,
+        cpld,
+    };
+    Some((credits, rest))
+}
+
+/// The six credits, or the default where the line ends or `block` comes.
+fn credits(rest: &[u8]) -> Option<(LaneCredits, &[u8])>
+    ensures { forms.credits_of (words_behind rest.now) ≡ option_map (λ s. (s.0, words_behind s.1.now)) result }
+{
+    match next(rest) {
+        Some((word, _)) if word != b"block".as_slice() => six_credits(rest),
+        _ => Some((LaneCredits::DEFAULT, rest)),
+    }
+}
+
+/// The bytes of a block, which end the line.
+fn block(rest: &[u8]) -> Option<u16>
+    ensures { result ≡ forms.block_of (words_behind rest.now) }
+{
+    let Some((word, rest)) = next(rest) else {
+        return Some(DEFAULT_BLOCK);
+    };
+    if word != b"block".as_slice() {
+        return None;
+    }
+    let (block, rest) = short(rest)?;
+    if is_ended(rest) { Some(block) } else { None }
+}
+
+fn fabric(rest: &[u8]) -> Option<Line>
+    ensures { result ≡ forms.fabric_of (words_behind rest.now) }
+{
+    let (requesters, rest) = octet(rest)?;
+    let (base, rest) = number(rest, 16, u64::MAX)?;
+    let (size, rest) = count(rest)?;
+    let (credits, rest) = credits(rest)?;
+    let block = block(rest)?;
+    Some(Line::Fabric(Config {
+        requesters,
+        base,
+        size,
+        credits,
+        block,
+    }))
+}
+
+/// The line that the text spells, which is given without what ends it. None where it has no known
+/// form, or a number is above the range of its field: the ranges of a configuration and the parts of
+/// a fabric are not looked at.
+pub fn read_line(text: &[u8]) -> Option<Line>
+    ensures { result ≡ forms.line_of (words text.now) }
+{
+    let (kind, rest) = cut(text);
+    if kind == b"fabric".as_slice() {
+        return fabric(rest);
+    }
+    Some(Line::Event(event_by(kind, rest)?))
+}
