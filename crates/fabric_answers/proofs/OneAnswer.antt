@@ -167,7 +167,7 @@ both false b x y z e = absurd cc
 enters : (s : Outgoing) (t : Packet) (mark : ℕ) (s' : Outgoing) → Enters s t mark s' → enter s t mark ≡ Ok s'
 enters s t mark s' h =
     both (gate_covers s.gate (need_of t)) (nat_lt (length s.sending.kept) 2047) (Ok (entered s t mark)) (Err (refusals.Lane WindowFull))
-        (Err (refusals.Lane (NoCredits (need_of t).class))) h.may
+    (Err (refusals.Lane (NoCredits (need_of t).class))) h.may
     ∙ ap Ok (sym h.now)
 
 enters_if_any : (s : Outgoing) (c : Option Packet) (mark : ℕ) (s' : Outgoing) → EntersIfAny s c mark s' → enter_if_any s c mark ≡ Ok s'
@@ -191,10 +191,10 @@ submitted f port op number f' h =
     ap₂ (submit_with f port op) (part_is f.requesters port h.place q h.has_requester) (part_is f.up port h.place e h.has_lane)
     ∙ ap (submits f port q e) s.is_prepared
     ∙ ap (seen_with (seen.Submitted number) (λ (x : Outgoing). record f { up = with_part f.up port (record e { sender = x }); requesters = with_part f.requesters port (after_opened q s.request) }))
-        (enters e.sender s.request number h.sender_after s.enters)
+    (enters e.sender s.request number h.sender_after s.enters)
     ∙ ap₂ (λ (up : List Ends) (requesters : List Requesting). Ok (seen.Submitted number, record f { up = up; requesters = requesters }))
-        (set_is f.up port h.place e (record e { sender = h.sender_after }) h.has_lane)
-        (set_is f.requesters port h.place q (after_opened q s.request) h.has_requester ∙ ap (slice_set f.requesters h.place) (sym s.now))
+    (set_is f.up port h.place e (record e { sender = h.sender_after }) h.has_lane)
+    (set_is f.requesters port h.place q (after_opened q s.request) h.has_requester ∙ ap (slice_set f.requesters h.place) (sym s.now))
     ∙ ap (λ (g : Fabric). Ok (seen.Submitted number, g)) (sym h.now)
 
 forwarded_up : (f : Fabric) (port place to : ℕ) (f' : Fabric) → ForwardsUp f port place to f' → forward_up f port place (part f.up port) ≡ Ok (seen.To to, f')
@@ -207,10 +207,10 @@ forwarded_up f port place to f' h =
     ∙ ap (forward_item f port e place) (taken e.receiver place s.packet s.mark s.there)
     ∙ ap (forward_in f port e place (s.packet, s.mark)) goes
     ∙ ap (seen_with (seen.To to) (λ (x : Outgoing). record f { up = with_part f.up port (record e { receiver = after_take e.receiver place }); inward = record f.inward { sender = x } }))
-        (enters f.inward.sender s.packet s.mark h.sender_after s.enters)
+    (enters f.inward.sender s.packet s.mark h.sender_after s.enters)
     ∙ ap (λ (up : List Ends). Ok (seen.To to, record f { up = up; inward = record f.inward { sender = h.sender_after } }))
-        (set_is f.up port h.at_place e (record e { receiver = after_take e.receiver place }) h.has_lane
-        ∙ ap (λ (r : Incoming). slice_set f.up h.at_place (record e { receiver = r })) (sym s.now))
+    (set_is f.up port h.at_place e (record e { receiver = after_take e.receiver place }) h.has_lane
+    ∙ ap (λ (r : Incoming). slice_set f.up h.at_place (record e { receiver = r })) (sym s.now))
     ∙ ap (λ (g : Fabric). Ok (seen.To to, g)) (sym h.now)
 
 forwarded_out : (f : Fabric) (place to : ℕ) (f' : Fabric) → ForwardsOut f place to f' → forward_out f place (takeable_at f.outward.receiver place) ≡ Ok (seen.To to, f')
@@ -223,10 +223,10 @@ forwarded_out f place to f' h =
     ∙ ap (forward_routed f place (s.packet, s.mark)) goes
     ∙ ap (forward_to f to place (s.packet, s.mark)) (part_is f.down to h.at_place e h.has_lane)
     ∙ ap (seen_with (seen.To to) (λ (x : Outgoing). record f { outward = record f.outward { receiver = after_take f.outward.receiver place }; down = with_part f.down to (record e { sender = x }) }))
-        (enters e.sender s.packet s.mark h.sender_after s.enters)
+    (enters e.sender s.packet s.mark h.sender_after s.enters)
     ∙ ap₂ (λ (r : Incoming) (down : List Ends). Ok (seen.To to, record f { outward = record f.outward { receiver = r }; down = down }))
-        (sym s.now)
-        (set_is f.down to h.at_place e (record e { sender = h.sender_after }) h.has_lane)
+    (sym s.now)
+    (set_is f.down to h.at_place e (record e { sender = h.sender_after }) h.has_lane)
     ∙ ap (λ (g : Fabric). Ok (seen.To to, g)) (sym h.now)
 
 served : (f : Fabric) (place at : ℕ) (f' : Fabric) → ServesAt f place at f' → serve_item f place (takeable_at f.inward.receiver place) ≡ Ok (seen.At at, f')
@@ -234,7 +234,7 @@ served f place at f' h =
     let s = h.serves in
     ap (serve_item f place) (taken f.inward.receiver place s.packet s.mark s.there)
     ∙ ap (seen_with (seen.At (length f.memory.entries)) (λ (x : Outgoing). record f { memory = after_serving f.memory s.packet s.mark; inward = record f.inward { receiver = after_take f.inward.receiver place }; outward = record f.outward { sender = x } }))
-        (enters_if_any f.outward.sender (completion_to f.memory s.packet) s.mark h.sender_after s.acts.enters)
+    (enters_if_any f.outward.sender (completion_to f.memory s.packet) s.mark h.sender_after s.acts.enters)
     ∙ ap₂ (λ (m : _) (r : Incoming). Ok (seen.At (length f.memory.entries), record f { memory = m; inward = record f.inward { receiver = r }; outward = record f.outward { sender = h.sender_after } })) (sym s.acts.now) (sym s.now)
     ∙ ap₂ (λ (n : ℕ) (g : Fabric). Ok (seen.At n, g)) (sym s.acts.in_history) (sym h.now)
 
@@ -252,8 +252,8 @@ was_collected f port a f' h =
     ∙ first_is f port q e e.receiver.queue (s.packet, s.mark) s.there.item
     ∙ ap (collected f port q e s.packet) s.finishes
     ∙ ap₂ (λ (down : List Ends) (requesters : List Requesting). Ok (seen.Collected a, record f { down = down; requesters = requesters }))
-        (set_is f.down port h.place e (record e { receiver = after_take e.receiver 0 }) h.has_lane ∙ ap (λ (r : Incoming). slice_set f.down h.place (record e { receiver = r })) (sym s.now))
-        (set_is f.requesters port h.place q (after_finish q s.packet) h.has_requester ∙ ap (slice_set f.requesters h.place) (sym s.requester))
+    (set_is f.down port h.place e (record e { receiver = after_take e.receiver 0 }) h.has_lane ∙ ap (λ (r : Incoming). slice_set f.down h.place (record e { receiver = r })) (sym s.now))
+    (set_is f.requesters port h.place q (after_finish q s.packet) h.has_requester ∙ ap (slice_set f.requesters h.place) (sym s.requester))
     ∙ ap (λ (g : Fabric). Ok (seen.Collected a, g)) (sym h.now)
 
 -- what is seen, by its parts

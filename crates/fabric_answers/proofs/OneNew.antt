@@ -30,7 +30,7 @@ all_fresh port zero (q ∷ qs) e h = absurd cc
 all_fresh port (suc n) [] e h = absurd cc
 all_fresh port (suc n) (q ∷ qs) e h =
     ap₂ (λ p ps. p ∷ ps) (h 0 q refl ∙ ap fresh (omega arith))
-        (all_fresh (suc port) n qs (omega (arith, e)) (λ i p k. h (suc i) p k ∙ ap fresh (omega arith)))
+    (all_fresh (suc port) n qs (omega (arith, e)) (λ i p k. h (suc i) p k ∙ ap fresh (omega arith)))
 
 new_lanes : (count : ℕ) (credits : LaneCredits) (lanes : List Ends) → AreNewLanes count credits lanes → lanes ≡ replicate count (new_lane credits)
 new_lanes count credits lanes h = all_same (new_lane credits) count lanes h.number h.each
@@ -68,9 +68,10 @@ data_parts c = three (is_between 8 2047 c.pd) (is_between 2 2047 c.npd) (is_betw
 
 credits : (c : LaneCredits) → Decides (are_credits c) (AreCredits c)
 credits c =
-    let both = Decides-and (are_header_credits c) (are_data_credits c) (headers c) (data_parts c) in
-    (λ e. let h = both.0 e in record { ph = h.0.0; nph = h.0.1; cplh = h.0.2; pd = h.1.0; npd = h.1.1; cpld = h.1.2 },
-     λ k. both.1 ((k.ph, k.nph, k.cplh), (k.pd, k.npd, k.cpld)))
+    let both = Decides-and (are_header_credits c) (are_data_credits c) (headers c) (data_parts c) in (
+      λ e. let h = both.0 e in record { ph = h.0.0; nph = h.0.1; cplh = h.0.2; pd = h.1.0; npd = h.1.1; cpld = h.1.2 },
+      λ k. both.1 ((k.ph, k.nph, k.cplh), (k.pd, k.npd, k.cpld)),
+    )
 
 not_so : {P : Type 0} (r : Bool) → Decides r P → ¬ P → r ≡ false
 not_so true d n = absurd (n (d.0 refl))
@@ -99,11 +100,12 @@ same_parts f l m qs inward outward up down e1 e2 e3 e4 e5 e6 e7 = rw (← e1, �
 
 pub one_new : (c : Config) (f : Fabric) → IsNewWith c f → (f ≡ new_fabric c) × (config_fault c ≡ None)
 one_new c f h =
-    let g = new_fabric c in
-    (same_parts f g.credits g.memory g.requesters g.inward g.outward g.up g.down h.credits h.memory
-        (new_requesters c.requesters f.requesters h.requesters) h.inward h.outward
-        (new_lanes c.requesters c.credits f.up h.up) (new_lanes c.requesters (down_credits c.credits) f.down h.down),
-     no_fault c h.config)
+    let g = new_fabric c in (
+      same_parts f g.credits g.memory g.requesters g.inward g.outward g.up g.down h.credits h.memory
+          (new_requesters c.requesters f.requesters h.requesters) h.inward h.outward
+          (new_lanes c.requesters c.credits f.up h.up) (new_lanes c.requesters (down_credits c.credits) f.down h.down),
+      no_fault c h.config,
+    )
 
 pub one_fault : (c : Config) (x : ConfigFault) → HasFault c x → ¬ (x ≡ faults.Memory) → config_fault c ≡ Some x
 one_fault c faults.Requesters h k =

@@ -109,8 +109,8 @@ abbrev pub submits : Fabric → ℕ → Requesting → Ends → Result (ℕ × P
 submits f port q e (Err r) = Err (refusals.Submit r)
 submits f port q e (Ok p) =
     seen_with (seen.Submitted p.0)
-        (λ s. record f { up = with_part f.up port (record e { sender = s }); requesters = with_part f.requesters port (after_opened q p.1) })
-        (enter e.sender p.1 p.0)
+    (λ s. record f { up = with_part f.up port (record e { sender = s }); requesters = with_part f.requesters port (after_opened q p.1) })
+    (enter e.sender p.1 p.0)
 
 abbrev pub submit_with : Fabric → ℕ → Op → Option Requesting → Option Ends → Answered Fabric
 submit_with f port op (Some q) (Some e) = submits f port q e (prepared q op)
@@ -123,8 +123,8 @@ abbrev pub forward_to : Fabric → ℕ → ℕ → Item → Option Ends → Answ
 forward_to f to place x None = Err (refusals.Route NoPort)
 forward_to f to place x (Some e) =
     seen_with (seen.To to)
-        (λ s. record f { outward = record f.outward { receiver = after_take f.outward.receiver place }; down = with_part f.down to (record e { sender = s }) })
-        (enter e.sender x.0 x.1)
+    (λ s. record f { outward = record f.outward { receiver = after_take f.outward.receiver place }; down = with_part f.down to (record e { sender = s }) })
+    (enter e.sender x.0 x.1)
 
 abbrev pub forward_routed : Fabric → ℕ → Item → Result ℕ RouteFault → Answered Fabric
 forward_routed f place x (Err fault) = Err (refusals.Route fault)
@@ -138,8 +138,8 @@ abbrev pub forward_in : Fabric → ℕ → Ends → ℕ → Item → Result ℕ 
 forward_in f port e place x (Err fault) = Err (refusals.Route fault)
 forward_in f port e place x (Ok to) =
     seen_with (seen.To to)
-        (λ s. record f { up = with_part f.up port (record e { receiver = after_take e.receiver place }); inward = record f.inward { sender = s } })
-        (enter f.inward.sender x.0 x.1)
+    (λ s. record f { up = with_part f.up port (record e { receiver = after_take e.receiver place }); inward = record f.inward { sender = s } })
+    (enter f.inward.sender x.0 x.1)
 
 abbrev pub forward_item : Fabric → ℕ → Ends → ℕ → Option Item → Answered Fabric
 forward_item f port e place None = Err refusals.NotTakeable
@@ -160,8 +160,8 @@ abbrev pub serve_item : Fabric → ℕ → Option Item → Answered Fabric
 serve_item f place None = Err refusals.NotTakeable
 serve_item f place (Some x) =
     seen_with (seen.At (length f.memory.entries))
-        (λ s. record f { memory = after_serving f.memory x.0 x.1; inward = record f.inward { receiver = after_take f.inward.receiver place }; outward = record f.outward { sender = s } })
-        (enter_if_any f.outward.sender (completion_to f.memory x.0) x.1)
+    (λ s. record f { memory = after_serving f.memory x.0 x.1; inward = record f.inward { receiver = after_take f.inward.receiver place }; outward = record f.outward { sender = s } })
+    (enter_if_any f.outward.sender (completion_to f.memory x.0) x.1)
 
 -- ---- Collect
 

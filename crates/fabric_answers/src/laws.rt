@@ -29,5 +29,4 @@ pub fn each_event_has_one_answer()
 pub fn a_configuration_has_one_answer()
     ensures new { (c : Config) (f : Fabric) → IsNewWith c f → (f ≡ new_fabric c) × (config_fault c ≡ None) }
     ensures fault { (c : Config) (x : ConfigFault) → HasFault c x → ¬ (x ≡ config_faults.Memory) → config_fault c ≡ Some x }
-{
-}
+{}

@@ -13,8 +13,11 @@ use std::test::Fail;
 use tlp_core::{Op, TlpFault, Width};
 
 const UP: LaneName = LaneName::Up(1);
+
 const DOWN: LaneName = LaneName::Down(1);
+
 const IN: LaneName = LaneName::Inward;
+
 const OUT: LaneName = LaneName::Outward;
 
 /// One requester and 4096 bytes.
@@ -110,8 +113,14 @@ fn a_lost_ack_and_its_replay(rt: HostRuntime) -> Result<(), Fail> {
         (add(0x40, 7), Seen::Submitted(0)),
         (Event::Transmit(UP), sent(0)),
         (deliver(UP, Fate::Good), arrived(Reception::Accept)),
-        (Event::SendDllp(UP, DllpKind::Answer), Seen::SentDllp(Dllp::Ack(Seq12::new(0)))),
-        (Event::DeliverDllp(UP, Fate::Lost), Seen::SeenDllp(DllpSeen::Gone)),
+        (
+            Event::SendDllp(UP, DllpKind::Answer),
+            Seen::SentDllp(Dllp::Ack(Seq12::new(0))),
+        ),
+        (
+            Event::DeliverDllp(UP, Fate::Lost),
+            Seen::SeenDllp(DllpSeen::Gone),
+        ),
         (Event::Timer(UP), Seen::Back(1)),
         (Event::Transmit(UP), sent(0)),
         (deliver(UP, Fate::Good), arrived(Reception::Duplicate)),
@@ -148,12 +157,18 @@ fn a_nak_and_its_replay(rt: HostRuntime) -> Result<(), Fail> {
         (deliver(UP, Fate::Failed), arrived(Reception::NakNow)),
         (deliver(UP, Fate::Good), arrived(Reception::Quiet)),
         (Event::SendDllp(UP, DllpKind::Answer), Seen::SentDllp(nak)),
-        (Event::DeliverDllp(UP, Fate::Good), Seen::SeenDllp(DllpSeen::Took(nak))),
+        (
+            Event::DeliverDllp(UP, Fate::Good),
+            Seen::SeenDllp(DllpSeen::Took(nak)),
+        ),
         (Event::Transmit(UP), sent(1)),
         (deliver(UP, Fate::Good), arrived(Reception::Accept)),
         (Event::Transmit(UP), sent(2)),
         (deliver(UP, Fate::Good), arrived(Reception::Accept)),
-        (Event::SendDllp(UP, DllpKind::Answer), Seen::SentDllp(Dllp::Ack(Seq12::new(2)))),
+        (
+            Event::SendDllp(UP, DllpKind::Answer),
+            Seen::SentDllp(Dllp::Ack(Seq12::new(2))),
+        ),
     ];
     assert_eq!(rt; play(&mut fabric, &script)?, script.len());
     assert!(rt; !fabric.quiet());
@@ -229,8 +244,14 @@ fn credits_run_out_and_come_back(rt: HostRuntime) -> Result<(), Fail> {
         (Event::Transmit(UP), sent(0)),
         (deliver(UP, Fate::Good), arrived(Reception::Accept)),
         (Event::Forward(UP, 0), Seen::To(0)),
-        (Event::SendDllp(UP, DllpKind::Update(Class::NonPosted)), Seen::SentDllp(update)),
-        (Event::DeliverDllp(UP, Fate::Good), Seen::SeenDllp(DllpSeen::Took(update))),
+        (
+            Event::SendDllp(UP, DllpKind::Update(Class::NonPosted)),
+            Seen::SentDllp(update),
+        ),
+        (
+            Event::DeliverDllp(UP, Fate::Good),
+            Seen::SeenDllp(DllpSeen::Took(update)),
+        ),
         (add(0x40, 1), Seen::Submitted(1)),
     ];
     let first = fabric.step(&add(0x40, 1))?;
@@ -256,7 +277,10 @@ fn a_stopped_link_is_retrained(rt: HostRuntime) -> Result<(), Fail> {
         assert_eq!(rt; play(&mut fabric, &round)?, 3);
     }
     assert!(rt; fabric.step(&Event::Transmit(UP)) == Err(Refusal::Idle));
-    let again = [(Event::Retrained(UP), Seen::Retrained), (Event::Transmit(UP), sent(0))];
+    let again = [
+        (Event::Retrained(UP), Seen::Retrained),
+        (Event::Transmit(UP), sent(0)),
+    ];
     assert_eq!(rt; play(&mut fabric, &again)?, 2);
     Ok(())
 }
@@ -290,7 +314,15 @@ fn configurations(rt: HostRuntime) -> Result<(), Fail> {
         ..LaneCredits::DEFAULT
     };
     let rows = [
-        (8, 100, 0x40, LaneCredits::DEFAULT, 96, ConfigFault::Requesters, 1),
+        (
+            8,
+            100,
+            0x40,
+            LaneCredits::DEFAULT,
+            96,
+            ConfigFault::Requesters,
+            1,
+        ),
         (1, 100, 0x40, LaneCredits::DEFAULT, 96, ConfigFault::Size, 2),
         (1, 4096, 0x40, no_credits, 96, ConfigFault::Base, 3),
         (1, 4096, 0, no_credits, 96, ConfigFault::Credits, 4),
