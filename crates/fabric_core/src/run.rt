@@ -222,8 +222,8 @@ impl Fabric {
         }
     }
 
-    /// The trace of these records.
-    fn trace_of(&self, records: Vec<Record>) -> Trace
+    /// The trace of these records, over the memory as it was made.
+    pub fn trace_of(&self, records: Vec<Record>) -> Trace
         ensures base { result.base ≡ self.now.memory.base }
         ensures size { result.size ≡ self.now.memory.size }
         ensures block { result.block ≡ self.now.memory.block }

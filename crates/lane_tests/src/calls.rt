@@ -28,28 +28,28 @@ const ONE_WRITE: LaneCredits = LaneCredits {
 };
 
 /// A new lane without finite credits.
-pub fn infinite(alloc: Global) -> Lane {
+pub(super) fn infinite(alloc: Global) -> Lane {
     Lane::new(INFINITE, alloc)
 }
 
 /// A new lane with the default credits.
-pub fn usual(alloc: Global) -> Lane {
+pub(super) fn usual(alloc: Global) -> Lane {
     Lane::new(LaneCredits::DEFAULT, alloc)
 }
 
 /// A new lane with credits for one write.
-pub fn one_write(alloc: Global) -> Lane {
+pub(super) fn one_write(alloc: Global) -> Lane {
     Lane::new(ONE_WRITE, alloc)
 }
 
 /// A write of 4 bytes, which hold the number.
-pub fn write_of(number: u32) -> Result<Tlp, TlpFault> {
+pub(super) fn write_of(number: u32) -> Result<Tlp, TlpFault> {
     let [a, b, c, d] = number.to_be_bytes();
     tlp_core::decode(&[0x40, 0, 0, 1, 1, 0, 0, 15, 0, 0, 0, 0, a, b, c, d])
 }
 
 /// A write of 128 bytes.
-pub fn long_write() -> Result<Tlp, TlpFault> {
+pub(super) fn long_write() -> Result<Tlp, TlpFault> {
     let mut bytes = [0; 140];
     bytes[0] = 0x40;
     bytes[3] = 32;
@@ -59,27 +59,27 @@ pub fn long_write() -> Result<Tlp, TlpFault> {
 }
 
 /// FetchAdd of 7 at 40h.
-pub fn fetch_add() -> Result<Tlp, TlpFault> {
+pub(super) fn fetch_add() -> Result<Tlp, TlpFault> {
     tlp_core::decode(&[0x4C, 0, 0, 1, 1, 0, 5, 0, 0, 0, 0, 0x40, 7, 0, 0, 0])
 }
 
 /// Enters a packet; its number.
-pub fn enter(lane: &mut Lane, tlp: &Tlp, mark: u32) -> Result<u16, LaneRefusal> {
+pub(super) fn enter(lane: &mut Lane, tlp: &Tlp, mark: u32) -> Result<u16, LaneRefusal> {
     Ok(lane.enter(tlp, mark)?.value())
 }
 
 /// The number of the packet that is transmitted.
-pub fn transmit(lane: &mut Lane) -> Result<Option<u16>, LaneRefusal> {
+pub(super) fn transmit(lane: &mut Lane) -> Result<Option<u16>, LaneRefusal> {
     Ok(lane.transmit()?.map(|number| number.value()))
 }
 
 /// The oldest packet is delivered.
-pub fn deliver(lane: &mut Lane, fate: Fate) -> Result<Option<Arrival>, LaneRefusal> {
+pub(super) fn deliver(lane: &mut Lane, fate: Fate) -> Result<Option<Arrival>, LaneRefusal> {
     lane.deliver(fate)
 }
 
 /// The oldest packet is delivered good; the receiver's answer.
-pub fn answered(lane: &mut Lane) -> Result<Option<Reception>, LaneRefusal> {
+pub(super) fn answered(lane: &mut Lane) -> Result<Option<Reception>, LaneRefusal> {
     match lane.deliver(Fate::Good)? {
         Some(Arrival::Answered(answer)) => Ok(Some(answer)),
         _ => Ok(None),
@@ -87,13 +87,13 @@ pub fn answered(lane: &mut Lane) -> Result<Option<Reception>, LaneRefusal> {
 }
 
 /// A DLLP is sent.
-pub fn send(lane: &mut Lane, kind: DllpKind) -> Result<(), LaneRefusal> {
+pub(super) fn send(lane: &mut Lane, kind: DllpKind) -> Result<(), LaneRefusal> {
     lane.send_dllp(kind)?;
     Ok(())
 }
 
 /// A DLLP is sent; its bytes.
-pub fn sent(lane: &mut Lane, kind: DllpKind) -> Result<Option<[u8; 4]>, LaneRefusal> {
+pub(super) fn sent(lane: &mut Lane, kind: DllpKind) -> Result<Option<[u8; 4]>, LaneRefusal> {
     match lane.send_dllp(kind)? {
         Dllp::Update(_, _, data) if data >= 4096 => Ok(None),
         dllp => Ok(Some(dllp_core::encode(&dllp))),
@@ -101,23 +101,23 @@ pub fn sent(lane: &mut Lane, kind: DllpKind) -> Result<Option<[u8; 4]>, LaneRefu
 }
 
 /// The oldest DLLP is delivered; whether it took effect.
-pub fn took(lane: &mut Lane, fate: Fate) -> Result<bool, Fail> {
+pub(super) fn took(lane: &mut Lane, fate: Fate) -> Result<bool, Fail> {
     let seen = lane.deliver_dllp(fate)?;
     Ok(matches!(seen, Some(DllpSeen::Took(_))))
 }
 
 /// The replay timer expires; by how many places that moved back.
-pub fn timer(lane: &mut Lane) -> usize {
+pub(super) fn timer(lane: &mut Lane) -> usize {
     lane.timer()
 }
 
 /// The link was retrained; whether the sender was stopped.
-pub fn retrained(lane: &mut Lane) -> bool {
+pub(super) fn retrained(lane: &mut Lane) -> bool {
     lane.retrained()
 }
 
 /// The accepted packet of a place is taken, if it is takeable.
-pub fn take(lane: &mut Lane, place: usize) -> Option<(Tlp, u32)> {
+pub(super) fn take(lane: &mut Lane, place: usize) -> Option<(Tlp, u32)> {
     if lane.takeable(place) {
         Some(lane.take(place))
     } else {
@@ -126,12 +126,12 @@ pub fn take(lane: &mut Lane, place: usize) -> Option<(Tlp, u32)> {
 }
 
 /// The oldest accepted packet is taken; its mark.
-pub fn take_mark(lane: &mut Lane) -> Option<u32> {
+pub(super) fn take_mark(lane: &mut Lane) -> Option<u32> {
     let (_, mark) = take(lane, 0)?;
     Some(mark)
 }
 
 /// Whether every packet that was entered was taken.
-pub fn quiet(lane: &Lane) -> bool {
+pub(super) fn quiet(lane: &Lane) -> bool {
     lane.quiet()
 }

@@ -7,3 +7,4 @@ pub mod Faults
 pub mod Check
 pub mod Upgrade
 pub mod Command
+pub mod Step

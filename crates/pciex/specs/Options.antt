@@ -1,10 +1,11 @@
 -- What the words of a command line ask for.
-use Rattle.std.specs.Prelude.{◌≡◌, ◌≤◌, ℕ, true, List, length, Option, Some, None, codes}
+use Rattle.std.specs.Prelude.{◌≡◌, ◌≤◌, ℕ, Bool, true, false, List, length, Option, Some, None, codes, bytes_eq}
 use Rattle.std.specs.Str.Parse.{IsNumeral, digits_value}
+use Rattle.clap.specs.declared.builder.action.ArgAction.TheVariants.{SetTrue}
 use Rattle.clap.specs.Words.{App, Row, Rule, Text, first_of, new_app, new_rule, with_rule, with_subcommand}
 use Rattle.seq_memory.specs.Limits.{IsSize, IsBase, IsBlock}
 use Rattle.pciex.specs.declared.options.Request.{Request}
-use Rattle.pciex.specs.declared.options.Request.TheVariants.{Tlp, Check, Upgrade}
+use Rattle.pciex.specs.declared.options.Request.TheVariants.{Tlp, Check, Upgrade, Step}
 
 -- an option with a value
 abbrev pub option : Text → Rule
@@ -13,6 +14,13 @@ option name = record (new_rule name) { long = Some name; value_names = 1 }
 abbrev pub tlp_app : App
 tlp_app = with_rule (with_rule (with_rule (new_app (codes "tlp")) (option (codes "base"))) (option (codes "size"))) (option (codes "block"))
 
+-- a flag, whose value is `true` where it is given
+abbrev pub flag : Text → Rule
+flag name = record (new_rule name) { long = Some name; action = Some SetTrue }
+
+abbrev pub step_app : App
+step_app = with_rule (new_app (codes "step")) (flag (codes "trace"))
+
 abbrev pub top_app : App
 top_app = record (new_app (codes "pciex")) {
   top = record ((new_app (codes "pciex")).top) { has_version = true; subcommand_required = true; disable_help_subcommand = true };
@@ -20,7 +28,9 @@ top_app = record (new_app (codes "pciex")) {
 
 -- the grammar of the command line
 unfoldable pub the_app : App
-the_app = with_subcommand (with_subcommand (with_subcommand top_app tlp_app.top) (new_app (codes "check")).top) (new_app (codes "upgrade")).top
+the_app =
+    with_subcommand (with_subcommand (with_subcommand (with_subcommand top_app tlp_app.top) (new_app (codes "check")).top) (new_app (codes "upgrade")).top)
+    step_app.top
 
 -- a base is written in 1 to 16 hexadecimal digits, and is 0 where none is given
 abbrev pub WritesBase : Option Text → ℕ → Type 0
@@ -45,9 +55,15 @@ pub record AsksTlp (rows : List Row) (base size block : ℕ) : Type 0 where
   pub block_read : WritesNumber 64 (first_of (codes "block") rows) block
   pub memory : IsMemory base size block
 
+-- a flag is set exactly where its value is `true`
+abbrev pub WritesFlag : Option Text → Bool → Type 0
+WritesFlag None b = b ≡ false
+WritesFlag (Some text) b = b ≡ bytes_eq text (codes "true")
+
 -- the subcommand with its values asks for this
 abbrev pub Asks : Option (Text × List Row) → Request → Type 0
 Asks None request = ⊥
 Asks (Some p) (Tlp base size block) = (p.0 ≡ codes "tlp") × AsksTlp p.1 base size block
 Asks (Some p) Check = p.0 ≡ codes "check"
 Asks (Some p) Upgrade = p.0 ≡ codes "upgrade"
+Asks (Some p) (Step is_traced) = (p.0 ≡ codes "step") × WritesFlag (first_of (codes "trace") p.1) is_traced

@@ -10,6 +10,7 @@ ghost use Rattle.pciex.specs.declared.options.Request.{Request};
 use crate::check::run_check;
 use crate::fault::EngineFault;
 use crate::options::{Request, RequestFault, options};
+use crate::step::run_step;
 use crate::tlp::run_tlp;
 use crate::upgrade::run_upgrade;
 use clap::error::ErrorKind;
@@ -107,6 +108,9 @@ pub fn command<S: AsStr, R: Read, W: Write, E: Write>(
         }
         Ok(Request::Check) => ended(run_check(alloc, reader, writer), errors),
         Ok(Request::Upgrade) => ended(run_upgrade(alloc, reader, writer), errors),
+        Ok(Request::Step { is_traced }) => {
+            ended(run_step(alloc, is_traced, reader, writer), errors)
+        }
         Err(fault) => refused(&fault, writer, errors),
     }
 }

@@ -8,6 +8,7 @@ mod fault;
 mod options;
 mod output;
 mod responder;
+mod step;
 #[cfg(test)]
 mod tests;
 mod text;

@@ -5,10 +5,10 @@ ghost use Rattle.clap.specs.Walk.{rule_of};
 ghost use Rattle.clap.specs.declared.builder.Command.TheViews.{out-Command};
 ghost use Rattle.pciex.specs.declared.options.Request.{Request};
 ghost use Rattle.pciex.specs.Faults.{WordsFault, RangeFault};
-ghost use Rattle.pciex.specs.Options.{the_app, tlp_app, option, IsMemory, WritesBase, WritesNumber, Asks};
+ghost use Rattle.pciex.specs.Options.{the_app, tlp_app, step_app, option, flag, WritesFlag, IsMemory, WritesBase, WritesNumber, Asks};
 
 use clap::error::ErrorKind;
-use clap::{Arg, ArgMatches, Command};
+use clap::{Arg, ArgAction, ArgMatches, Command};
 use seq_memory::{is_base, is_block, is_size};
 use std::alloc::{AllocError, Global};
 use std::convert::AsStr;
@@ -24,6 +24,12 @@ const CHECK_ABOUT: &str =
 
 const UPGRADE_ABOUT: &str =
     "Writes a trace text of version 1 or 2 in version 2, unchecked. The answer to a text that can't be read is 'fault' with the line and why.";
+
+const STEP_ABOUT: &str =
+    "Runs a script of events on a fabric: one memory, one to seven requesters, the switch, and the lanes between them. The first line makes the fabric, as in 'fabric 1 0 4096'; each line behind it is an event. Each answer is a line: what was seen of the event. The first line that can't be read is answered with 'fault', the first event that is refused with 'refused', its line and why, and ends the run.";
+
+const TRACE_HELP: &str =
+    "Prints the trace of a run that ends well, in place of the results: what was submitted and answered, and the history.";
 
 const BASE_HELP: &str =
     "The first address of the memory, in 1 to 16 hexadecimal digits. It is a multiple of 80 (128 in decimal), and the memory ends at 2^64 or before. The default is 0.";
@@ -43,6 +49,8 @@ pub enum Request {
     Check,
     /// The subcommand `upgrade`.
     Upgrade,
+    /// The subcommand `step`, which tells results, or the trace alone.
+    Step { is_traced: bool },
 }
 
 /// Why the words ask for nothing.
@@ -62,6 +70,17 @@ fn option_of<'a>(alloc: Global, name: &'a str, value: &'a str, help: &'a str) ->
     Arg::new(alloc, name)
         .long(name)
         .value_name(value)
+        .help(help)
+}
+
+/// A flag.
+fn flag_of<'a>(alloc: Global, name: &'a str, help: &'a str) -> Arg<'a>
+    ensures rule { rule_of result ≡ flag name.entry.now }
+    ensures local { result.global ≡ false }
+{
+    Arg::new(alloc, name)
+        .long(name)
+        .action(ArgAction::SetTrue)
         .help(help)
 }
 
@@ -85,6 +104,15 @@ fn plain_command<'a>(alloc: Global, name: &'a str, about: &'a str) -> Command<'a
     Command::new(alloc, name).about(about)
 }
 
+/// The subcommand `step`.
+fn step_command<'a>(alloc: Global) -> Result<Command<'a>, AllocError>
+    ensures app { IfOk result (λ c. app_of c ≡ step_app) }
+    ensures globals { IfOk result (λ c. (out-Command c).has_globals ≡ false) }
+{
+    let trace = flag_of(alloc, "trace", TRACE_HELP);
+    Command::new(alloc, "step").about(STEP_ABOUT).arg(trace)
+}
+
 /// The command line's grammar.
 fn grammar<'a>(alloc: Global) -> Result<Command<'a>, AllocError>
     ensures app { IfOk result (λ c. app_of c ≡ the_app) }
@@ -98,7 +126,11 @@ fn grammar<'a>(alloc: Global) -> Result<Command<'a>, AllocError>
         .disable_help_subcommand(true);
     let check = plain_command(alloc, "check", CHECK_ABOUT);
     let upgrade = plain_command(alloc, "upgrade", UPGRADE_ABOUT);
-    top.subcommand(tlp)?.subcommand(check)?.subcommand(upgrade)
+    let step = step_command(alloc)?;
+    top.subcommand(tlp)?
+        .subcommand(check)?
+        .subcommand(upgrade)?
+        .subcommand(step)
 }
 
 /// What the words match.
@@ -174,6 +206,25 @@ fn tlp_of(tlp: &ArgMatches<'_>) -> Option<Request>
     Some(Request::Tlp { base, size, block })
 }
 
+/// Whether the flag is set, by its value.
+fn is_set(text: Option<&str>) -> bool
+    ensures { WritesFlag (option_map (λ t. t.now) text.entry) result }
+{
+    match text {
+        Some(text) => text == "true",
+        None => false,
+    }
+}
+
+/// What the values of `step` ask for.
+fn step_of(step: &ArgMatches<'_>) -> Request
+    ensures { Asks (Some (codes "step", rows_of (found_of step.now))) result }
+{
+    Request::Step {
+        is_traced: is_set(step.get_str("trace")),
+    }
+}
+
 /// What a subcommand with these values asks for.
 fn request_of(name: &str, values: &ArgMatches<'_>) -> Option<Request>
     ensures some { IfSome result (Asks (Some (name.now, rows_of (found_of values.now)))) }
@@ -185,6 +236,8 @@ fn request_of(name: &str, values: &ArgMatches<'_>) -> Option<Request>
         Some(Request::Check)
     } else if name == "upgrade" {
         Some(Request::Upgrade)
+    } else if name == "step" {
+        Some(step_of(values))
     } else {
         None
     }

@@ -1,7 +1,8 @@
 //! What the subcommands that read a trace share.
-ghost use Rattle.std.specs.Prelude.{◌≡◌, ◌++◌, ◌∷◌, [], true, IfOk, IfErr, OnErr, OnOk, Ok, Err};
+ghost use Rattle.std.specs.Prelude.{◌≡◌, ◌++◌, ◌∷◌, [], true, false, IfOk, IfErr, OnErr, OnOk, Ok, Err};
 ghost use Rattle.seq_memory.specs.Limits.{IsBlock};
 ghost use Rattle.history_check.specs.Claim.{claim_of};
+ghost use Rattle.trace_file.specs.Texts.{trace_text};
 ghost use Rattle.trace_file.specs.Reading.{nothing_read, after_line, after_long_line, at_end};
 ghost use Rattle.pciex.specs.Check.{fault_line};
 
@@ -11,7 +12,7 @@ use seq_memory::Entry;
 use std::alloc::{AllocError, Global};
 use std::marker::Model;
 use std::mem;
-use trace_file::{ReadFault, TraceReader};
+use trace_file::{ReadFault, TraceReader, write_trace};
 use trace_text::write_decimal;
 
 /// A trace that is read line by line.
@@ -81,4 +82,19 @@ pub fn tell_fault(fault: ReadFault, out: &mut Vec<u8>) -> Result<bool, AllocErro
     text.push_str("\n");
     out.extend_from_slice(text.as_bytes())?;
     Ok(true)
+}
+
+/// Adds the text of the trace and its history.
+pub fn tell_trace(
+    alloc: Global,
+    trace: &Trace,
+    history: &[Entry],
+    out: &mut Vec<u8>,
+) -> Result<bool, AllocError>
+    ensures ok { IfOk result (λ told. (told ≡ false) × (out.new.items ≡ out.old.items ++ trace_text (claim_of trace.now history.now))) }
+    ensures err { OnErr result (out.new.items ≡ out.old.items) }
+{
+    let text = write_trace(alloc, trace, history)?;
+    out.extend_from_slice(text.as_bytes())?;
+    Ok(false)
 }

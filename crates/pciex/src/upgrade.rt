@@ -1,35 +1,15 @@
 //! The subcommand `upgrade`: a trace in the second version of its text.
-ghost use Rattle.std.specs.Prelude.{◌≡◌, ◌++◌, false, IfOk, OnErr};
-ghost use Rattle.history_check.specs.Claim.{claim_of};
-ghost use Rattle.trace_file.specs.Texts.{trace_text};
+ghost use Rattle.std.specs.Prelude.{IfOk, OnErr};
 ghost use Rattle.pciex.specs.Run.{IsWhole, IsPart};
 ghost use Rattle.pciex.specs.Upgrade.{out_upgrade};
 
 use crate::engine::run;
 use crate::fault::EngineFault;
 use crate::responder::Responder;
-use crate::traces::{TraceInput, tell_fault};
-use history_check::Trace;
-use seq_memory::Entry;
+use crate::traces::{TraceInput, tell_fault, tell_trace};
 use std::alloc::{AllocError, Global};
 use std::io::{Read, Write};
 use std::marker::Model;
-use trace_file::write_trace;
-
-/// Adds the text of the trace and its history.
-fn tell_trace(
-    alloc: Global,
-    trace: &Trace,
-    history: &[Entry],
-    out: &mut Vec<u8>,
-) -> Result<bool, AllocError>
-    ensures ok { IfOk result (λ told. (told ≡ false) × (out.new.items ≡ out.old.items ++ trace_text (claim_of trace.now history.now))) }
-    ensures err { OnErr result (out.new.items ≡ out.old.items) }
-{
-    let text = write_trace(alloc, trace, history)?;
-    out.extend_from_slice(text.as_bytes())?;
-    Ok(false)
-}
 
 /// A trace that is read, and then written.
 #[derive(Drop)]

@@ -34,7 +34,7 @@ pub struct Answer {
 pub struct Requester {
     port: u8,
     next: u32,
-    open: [Option<Open>; 256],
+    open_tags: [Option<Open>; 256],
     /// The lowest free tag, 256 where all are open.
     lowest: usize,
 }
@@ -45,9 +45,9 @@ impl Model for Requester {
 
     ghost Value = { Requesting };
 
-    ghost view = { λ r. record { port = r.port; next = r.next; open_tags = r.open } };
+    ghost view = { λ r. record { port = r.port; next = r.next; open_tags = r.open_tags } };
 
-    ghost invariant = { λ r. IsSound (record { port = r.port; next = r.next; open_tags = r.open }) × (r.lowest ≡ lowest_free r.open) };
+    ghost invariant = { λ r. IsSound (record { port = r.port; next = r.next; open_tags = r.open_tags }) × (r.lowest ≡ lowest_free r.open_tags) };
 }
 
 impl Requester {
@@ -64,7 +64,7 @@ impl Requester {
         Requester {
             port,
             next: 0,
-            open: no_tags(),
+            open_tags: no_tags(),
             lowest: 0,
         }
     }
@@ -123,9 +123,9 @@ impl Requester {
         ensures { self.new ≡ record { port = self.old.port; next = self.old.next + 1; open_tags = slice_set self.old.open_tags tag (Some request) } }
     {
         let tag = usize::from(tag);
-        self.open[tag] = Some(request);
+        self.open_tags[tag] = Some(request);
         self.next += 1;
-        self.lowest = free_from(&self.open, tag);
+        self.lowest = free_from(&self.open_tags, tag);
     }
 
     /// The tag is free.
@@ -133,7 +133,7 @@ impl Requester {
         ensures { self.new ≡ record { port = self.old.port; next = self.old.next; open_tags = slice_set self.old.open_tags tag None } }
     {
         let tag = usize::from(tag);
-        self.open[tag] = None;
+        self.open_tags[tag] = None;
         self.lowest = self.lowest.min(tag);
     }
 
@@ -145,7 +145,7 @@ impl Requester {
         if !matches!(packet.kind, Kind::Completion | Kind::CompletionData) || !ours {
             return None;
         }
-        self.open[usize::from(packet.tag)]
+        self.open_tags[usize::from(packet.tag)]
     }
 
     /// The number and the reply of the request that the completion answers, whose tag is then

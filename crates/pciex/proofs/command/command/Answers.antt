@@ -3,7 +3,7 @@ use Rattle.clap.specs.Words.{Row, Text, kind_of, subcommand_of}
 use Rattle.clap.specs.declared.error.kind.ErrorKind.TheVariants as kinds
 use Rattle.pciex.specs.declared.fault.EngineFault.{EngineFault}
 use Rattle.pciex.specs.declared.options.Request.{Request}
-use Rattle.pciex.specs.declared.options.Request.TheVariants.{Tlp, Check, Upgrade}
+use Rattle.pciex.specs.declared.options.Request.TheVariants.{Tlp, Check, Upgrade, Step}
 use Rattle.pciex.specs.declared.options.RequestFault.{RequestFault}
 use Rattle.pciex.specs.declared.options.RequestFault.TheVariants as faults
 use Rattle.pciex.specs.Faults.{WordsFault, RangeFault, IsMemoryFault}
@@ -26,6 +26,7 @@ undone : (r : Request) (input out : Option (List ℕ)) (exit : ℕ) → exit ≡
 undone (Tlp base size block) input out exit e = inr (e, nothing-done _ input out)
 undone Check input out exit e = inr (e, nothing-done _ input out)
 undone Upgrade input out exit e = inr (e, nothing-done _ input out)
+undone (Step is_traced) input out exit e = inr (e, nothing-done _ input out)
 
 -- an engine's run, whole or stopped
 run_done : {S : Type 0} (run : List ℕ → Run S) (r : Result ℕ EngineFault) (input rest out out' : Option (List ℕ)) (exit : ℕ)
@@ -53,6 +54,15 @@ returns-in-Ok-Tlp g c = record {
       (subst (λ (r : Request). Asks (subcommand_of the_app (map g.S.AsStr.text c.args.words.now)) r) c.in-Ok-Tlp.field-0-is c.in-Ok-Tlp.ensures.ok) asks
       (run_done _ c.run_tlp.result _ _ _ _ _ c.ended.ensures.ok c.ended.ensures.err c.run_tlp.ensures.ok c.run_tlp.ensures.err);
   nothing = λ takes empty. absurd (empty c.in-Ok-Tlp.field-0 c.in-Ok-Tlp.ensures.ok);
+}
+
+pub returns-in-Ok-Step : goal.returns-in-Ok-Step
+returns-in-Ok-Step g c = record {
+  run = λ request takes asks.
+      asked _ (Step c.in-Ok-Step.is_traced) request _ _ _ _ _
+      (subst (λ (r : Request). Asks (subcommand_of the_app (map g.S.AsStr.text c.args.words.now)) r) c.in-Ok-Step.field-0-is c.in-Ok-Step.ensures.ok) asks
+      (run_done _ c.run_step.result _ _ _ _ _ c.ended-in-Ok-Step.ensures.ok c.ended-in-Ok-Step.ensures.err c.run_step.ensures.ok c.run_step.ensures.err);
+  nothing = λ takes empty. absurd (empty c.in-Ok-Step.field-0 c.in-Ok-Step.ensures.ok);
 }
 
 pub returns-in-Err : goal.returns-in-Err

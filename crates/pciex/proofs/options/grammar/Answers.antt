@@ -19,7 +19,8 @@ returns-clause-app c =
     ∙ ap (λ (a : App). record a { top = record (a.top) { subcommand_required = true; disable_help_subcommand = true } }) version_is in
     let tlp_added = c.in_ok-subcommand.ensures.shape c.in_ok-tlp.ensures.globals ∙ ap₂ with_subcommand top_is (ap (λ (a : App). a.top) c.in_ok-tlp.ensures.app) in
     let check_added = c.in_ok-subcommand-2.ensures.shape c.plain_command-check.ensures.globals ∙ ap₂ with_subcommand tlp_added (ap (λ (a : App). a.top) c.plain_command-check.ensures.app) in
-    IfOk-weaker c.subcommand-3.result _ _ (λ new h. h.shape c.plain_command-upgrade.ensures.globals ∙ ap₂ with_subcommand check_added (ap (λ (a : App). a.top) c.plain_command-upgrade.ensures.app)) c.subcommand-3.ensures
+    let upgrade_added = c.in_ok-subcommand-3.ensures.shape c.plain_command-upgrade.ensures.globals ∙ ap₂ with_subcommand check_added (ap (λ (a : App). a.top) c.plain_command-upgrade.ensures.app) in
+    IfOk-weaker c.subcommand-4.result _ _ (λ new h. h.shape c.in_ok-step.ensures.globals ∙ ap₂ with_subcommand upgrade_added (ap (λ (a : App). a.top) c.in_ok-step.ensures.app)) c.subcommand-4.ensures
 
 pub returns-clause-globals : goal.returns-clause-globals
-returns-clause-globals c = IfOk-weaker c.subcommand-3.result _ _ (λ new h. h.globals ∙ search rules) c.subcommand-3.ensures
+returns-clause-globals c = IfOk-weaker c.subcommand-4.result _ _ (λ new h. h.globals ∙ search rules) c.subcommand-4.ensures
