@@ -77,7 +77,7 @@ fn each_packet_is_accepted_once(rt: HostRuntime) -> Result<(), Fail> {
     let mut sender = Sender::new(rt.alloc());
     let mut receiver = Receiver::new();
     let mut due = 0;
-    for round in 1..4u32 {
+    for round in 1..8u32 {
         fill(&mut sender, due, WINDOW)?;
         let answer = drain(&mut sender, &mut receiver, due)?;
         assert_eq!(rt; answer, Some(round * 2047));

@@ -14,7 +14,7 @@ use std::alloc::{AllocError, Global};
 use std::convert::AsStr;
 
 const ABOUT: &str =
-    "A shared memory device on a PCI Express fabric. Each subcommand reads lines from standard input and answers on standard output. The exit status is 0 if all went well, 1 if a fault was told, and 2 if the words of the command line are wrong.";
+    "A shared memory device on a PCI Express fabric. Each subcommand reads lines from standard input and answers on standard output. The exit status is 0 if all went well, 1 if a fault, a flaw or a refusal was told, or if reading, writing or memory failed, and 2 if the words of the command line are wrong.";
 
 const TLP_ABOUT: &str =
     "Answers memory requests and AtomicOps with their completions. Each line of the input has the bytes of one TLP in hexadecimal digits; spaces, empty lines and lines that begin with '#' are ignored. Each answer is a line: the completion, '-' for a posted write, or 'fault' and what is wrong.";
@@ -26,7 +26,7 @@ const UPGRADE_ABOUT: &str =
     "Writes a trace text of version 1 or 2 in version 2, unchecked. The answer to a text that can't be read is 'fault' with the line and why.";
 
 const STEP_ABOUT: &str =
-    "Runs a script of events on a fabric: one memory, one to seven requesters, the switch, and the lanes between them. The first line makes the fabric, as in 'fabric 1 0 4096'; each line behind it is an event. Each answer is a line: what was seen of the event. The first line that can't be read is answered with 'fault', the first event that is refused with 'refused', its line and why, and ends the run.";
+    "Runs a script of events on a fabric: one memory, one to seven requesters, the switch, and the lanes between them. The first line makes the fabric, as in 'fabric 1 0 4096'; each line behind it is an event. Each answer is a line: what was seen of the event. The first line that can't be read, or a fabric that can't be made, is answered with 'fault', and the first event that is refused with 'refused', the line and why; that ends the run.";
 
 const TRACE_HELP: &str =
     "Prints the trace of a run that ends well, in place of the results: what was submitted and answered, and the history.";
