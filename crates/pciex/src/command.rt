@@ -85,7 +85,7 @@ pub fn no_words<E: Write>(fault: &io::Error, errors: &mut E) -> u8
 }
 
 /// Does what the words of the command line ask for, the program's name before them, and gives the
-/// exit status: 0 done; 1 a fault was told, or reading, writing or memory failed; 2 the words ask
+/// exit status: 0 done; 1 a fault, a flaw or a refusal was told, or reading, writing or memory failed; 2 the words ask
 /// for nothing.
 pub fn command<S: AsStr, R: Read, W: Write, E: Write>(
     alloc: Global,
