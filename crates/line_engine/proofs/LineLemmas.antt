@@ -15,11 +15,11 @@ use Rattle.line_engine.proofs.KnownLemmas.{Appends-none, Consumes-none}
 use Rattle.line_engine.specs.Engine.{Stands, Begins, IsAnswered, run_at, on_ended_line, on_last_line}
 
 -- the same as All, by recursion
-abbrev NoFeed : List ℕ → Type 0
+abbrev pub NoFeed : List ℕ → Type 0
 NoFeed [] = Unit {0}
 NoFeed (b ∷ bs) = (b ≢ 10) × NoFeed bs
 
-no_feed : (xs : List ℕ) → All (λ b. b ≢ 10) xs → NoFeed xs
+pub no_feed : (xs : List ℕ) → All (λ b. b ≢ 10) xs → NoFeed xs
 no_feed [] h = tt
 no_feed (x ∷ xs) h = (All-head (λ b. b ≢ 10) x xs h, no_feed xs (All-drop (λ b. b ≢ 10) 1 (x ∷ xs) h))
 
@@ -30,7 +30,7 @@ other b ne = grind (arith, nat_tests)
 -- ---- lines
 
 -- a line feed ends the unfinished line
-lines_of-feed : (xs more : List ℕ) → NoFeed xs → lines_of (xs ++ 10 ∷ more) ≡ (xs ++ 10 ∷ []) ∷ lines_of more
+pub lines_of-feed : (xs more : List ℕ) → NoFeed xs → lines_of (xs ++ 10 ∷ more) ≡ (xs ++ 10 ∷ []) ∷ lines_of more
 unfolding lines_of
 lines_of-feed [] more h = refl
 lines_of-feed (x ∷ xs) more h =
@@ -38,7 +38,7 @@ lines_of-feed (x ∷ xs) more h =
     rw (test, lines_of-feed xs more h.1) refl
 
 -- with no more to come the unfinished line is the last one
-lines_of-last : (xs : List ℕ) (b : ℕ) → NoFeed (b ∷ xs) → lines_of (b ∷ xs) ≡ (b ∷ xs) ∷ []
+pub lines_of-last : (xs : List ℕ) (b : ℕ) → NoFeed (b ∷ xs) → lines_of (b ∷ xs) ≡ (b ∷ xs) ∷ []
 unfolding lines_of
 lines_of-last [] b h = let test : (b == 10) ≡ false = other b h.0 in rw test refl
 lines_of-last (x ∷ xs) b h =
@@ -46,14 +46,14 @@ lines_of-last (x ∷ xs) b h =
     rw (test, lines_of-last xs x h.1) refl
 
 -- a line that ends in a line feed
-ends-feed : (xs : List ℕ) → ends_with_byte 10 (xs ++ 10 ∷ []) ≡ true
+pub ends-feed : (xs : List ℕ) → ends_with_byte 10 (xs ++ 10 ∷ []) ≡ true
 ends-feed xs = grind (arith, common_steps, nat_tests)
 
-bare-feed : (xs : List ℕ) → bare (xs ++ 10 ∷ []) ≡ xs
+pub bare-feed : (xs : List ℕ) → bare (xs ++ 10 ∷ []) ≡ xs
 bare-feed xs = rw (ends-feed xs) (grind (arith, common_steps))
 
 -- a line without one
-ends-last : (xs : List ℕ) → All (λ b. b ≢ 10) xs → ends_with_byte 10 xs ≡ false
+pub ends-last : (xs : List ℕ) → All (λ b. b ≢ 10) xs → ends_with_byte 10 xs ≡ false
 ends-last [] h = refl
 ends-last (x ∷ xs) h =
     let ne : get_or (x ∷ xs) (length (x ∷ xs) - 1) 0 ≢ 10 =
