@@ -1,5 +1,3 @@
-pub mod KnownLemmas
-pub mod LineLemmas
 pub mod TextLemmas
 pub mod GrammarLemmas
 pub mod RequestLemmas

@@ -8,7 +8,7 @@ use Rattle.history_check.specs.Flaws.{first_flaw}
 use Rattle.trace_file.specs.declared.fault.ReadFault.{ReadFault}
 use Rattle.trace_file.specs.Names.{name_of as fault_name}
 use Rattle.trace_file.specs.Reading.{Reading, nothing_read, after_line, after_long_line, at_end}
-use Rattle.pciex.specs.Run.{Answer, Responses, Run, run_of}
+use Rattle.line_engine.specs.Run.{Answer, Responses, Run, run_of}
 
 -- a line is read, and nothing written
 abbrev pub is_read : Reading → Answer Reading

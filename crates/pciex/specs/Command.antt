@@ -2,7 +2,7 @@
 use Rattle.std.specs.Prelude.{ℕ, List, Option}
 use Rattle.pciex.specs.declared.options.Request.{Request}
 use Rattle.pciex.specs.declared.options.Request.TheVariants.{Tlp, Check, Upgrade, Step}
-use Rattle.pciex.specs.Run.{IsRun}
+use Rattle.line_engine.specs.Run.{IsRun}
 use Rattle.pciex.specs.Tlp.{out_tlp}
 use Rattle.pciex.specs.Check.{out_check}
 use Rattle.pciex.specs.Upgrade.{out_upgrade}

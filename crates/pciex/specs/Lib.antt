@@ -1,6 +1,3 @@
-pub mod Lines
-pub mod Run
-pub mod Engine
 pub mod Tlp
 pub mod Options
 pub mod Faults

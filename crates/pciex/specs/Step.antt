@@ -19,7 +19,7 @@ use Rattle.script_text.specs.declared.line.Line.TheVariants as lines
 use Rattle.script_text.specs.Forms.{line_of}
 use Rattle.script_text.specs.Names.{config_fault_name, refusal_name}
 use Rattle.script_text.specs.Texts.{seen_text}
-use Rattle.pciex.specs.Run.{Answer, Responses, Run, run_of}
+use Rattle.line_engine.specs.Run.{Answer, Responses, Run, run_of}
 
 -- a script so far: whether its trace is told in place of the results, the fabric, the trace's records, the number of
 -- lines, skipped ones counted, and whether the run has ended

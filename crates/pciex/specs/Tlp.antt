@@ -12,7 +12,7 @@ use Rattle.tlp_core.specs.Operation.{is_completion}
 use Rattle.seq_memory.specs.declared.Entry.{Entry}
 use Rattle.seq_memory.specs.History.{State}
 use Rattle.completer_core.specs.Serving.{after_serving, completion_to}
-use Rattle.pciex.specs.Run.{Answer, Responses, Run, run_of}
+use Rattle.line_engine.specs.Run.{Answer, Responses, Run, run_of}
 
 -- ---- texts
 

@@ -4,7 +4,7 @@ use Rattle.history_check.specs.Claim.{Claim}
 use Rattle.trace_file.specs.declared.fault.ReadFault.{ReadFault}
 use Rattle.trace_file.specs.Reading.{Reading, nothing_read, after_line, after_long_line, at_end}
 use Rattle.trace_file.specs.Texts.{trace_text}
-use Rattle.pciex.specs.Run.{Answer, Responses, Run, run_of}
+use Rattle.line_engine.specs.Run.{Answer, Responses, Run, run_of}
 use Rattle.pciex.specs.Check.{is_read, concludes, fault_line}
 
 -- the text in the second version, whether or not the history explains the trace

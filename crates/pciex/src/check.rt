@@ -4,15 +4,13 @@ ghost use Rattle.seq_memory.specs.Limits.{IsBlock};
 ghost use Rattle.history_check.specs.Claim.{claim_of};
 ghost use Rattle.history_check.specs.Flaws.{first_flaw};
 ghost use Rattle.trace_file.specs.Reading.{nothing_read};
-ghost use Rattle.pciex.specs.Run.{IsAnswer, IsWhole, IsPart};
+ghost use Rattle.line_engine.specs.Run.{IsAnswer, IsWhole, IsPart};
 ghost use Rattle.pciex.specs.Check.{flaw_line, judged, out_check};
 
-use crate::engine::run;
-use crate::fault::EngineFault;
-use crate::responder::Responder;
 use crate::traces::{TraceInput, tell_fault};
 use arrayvec::ArrayString;
 use history_check::{Flaw, FlawKind, Trace, check};
+use line_engine::{EngineFault, Responder, run};
 use seq_memory::Entry;
 use std::alloc::{AllocError, Global};
 use std::io::{Read, Write};

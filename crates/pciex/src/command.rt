@@ -8,12 +8,12 @@ ghost use Rattle.pciex.specs.Command.{IsDone};
 ghost use Rattle.pciex.specs.declared.options.Request.{Request};
 
 use crate::check::run_check;
-use crate::fault::EngineFault;
 use crate::options::{Request, RequestFault, options};
 use crate::step::run_step;
 use crate::tlp::run_tlp;
 use crate::upgrade::run_upgrade;
 use clap::error::ErrorKind;
+use line_engine::EngineFault;
 use std::alloc::Global;
 use std::convert::AsStr;
 use std::io;

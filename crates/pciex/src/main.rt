@@ -3,11 +3,7 @@
 
 mod check;
 mod command;
-mod engine;
-mod fault;
 mod options;
-mod output;
-mod responder;
 mod step;
 #[cfg(test)]
 mod tests;

@@ -1,8 +1,8 @@
 //! Worked lines, and streams that fail.
 use crate::command::{command, no_words};
-use crate::fault::EngineFault;
 use crate::tlp::run_tlp;
 use arrayvec::ArrayVec;
+use line_engine::EngineFault;
 use std::alloc::Global;
 use std::io;
 use std::io::{ErrorKind, Read, Write};

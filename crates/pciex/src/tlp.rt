@@ -4,15 +4,13 @@ ghost use Rattle.seq_memory.specs.Limits.{IsSize, IsBase, IsBlock};
 ghost use Rattle.tlp_core.specs.Faults.{reading};
 ghost use Rattle.tlp_core.specs.Operation.{is_completion};
 ghost use Rattle.completer_core.specs.Serving.{after_serving, completion_to};
-ghost use Rattle.pciex.specs.Run.{IsAnswer, IsWhole, IsPart};
+ghost use Rattle.line_engine.specs.Run.{IsAnswer, IsWhole, IsPart};
 ghost use Rattle.pciex.specs.Tlp.{new_state, out_tlp, answer_request, answer_packet, answer_reading, count_of, fault_text, completion_text};
 
-use crate::engine::run;
-use crate::fault::EngineFault;
-use crate::responder::Responder;
 use crate::text::{HexLine, put_fault, put_packet};
 use arrayvec::ArrayVec;
 use completer_core::serve;
+use line_engine::{EngineFault, Responder, run};
 use seq_memory::Memory;
 use std::alloc::{AllocError, Global};
 use std::io::{Read, Write};

@@ -1,12 +1,10 @@
 //! The subcommand `upgrade`: a trace in the second version of its text.
 ghost use Rattle.std.specs.Prelude.{IfOk, OnErr};
-ghost use Rattle.pciex.specs.Run.{IsWhole, IsPart};
+ghost use Rattle.line_engine.specs.Run.{IsWhole, IsPart};
 ghost use Rattle.pciex.specs.Upgrade.{out_upgrade};
 
-use crate::engine::run;
-use crate::fault::EngineFault;
-use crate::responder::Responder;
 use crate::traces::{TraceInput, tell_fault, tell_trace};
+use line_engine::{EngineFault, Responder, run};
 use std::alloc::{AllocError, Global};
 use std::io::{Read, Write};
 use std::marker::Model;

@@ -7,6 +7,7 @@ use Rattle.std.proofs.lemmas.Bool.{cases_Bool, and_parts, ne_eqb, eq-eqb}
 use Rattle.std.proofs.lemmas.Bool.Decides.{nat_tests}
 use Rattle.std.proofs.lemmas.List.{append-nil}
 use Rattle.std.proofs.lemmas.List.Elements.{All-nil, All-cons, All-append, All-head, All-drop, All-get_or}
+use Rattle.line_engine.specs.Lines.{lines_of, bare, said}
 use Rattle.tlp_core.specs.declared.operation.Op.{Op}
 use Rattle.seq_memory.specs.declared.Entry.{Entry}
 use Rattle.seq_memory.specs.declared.Reply.{Reply}
@@ -26,7 +27,7 @@ use Rattle.trace_file.specs.declared.line.Line.{Line}
 use Rattle.trace_file.specs.declared.line.Line.TheVariants as lines
 use Rattle.trace_file.specs.declared.reader.Section.{Section}
 use Rattle.trace_file.specs.declared.reader.Section.TheVariants as sections
-use Rattle.trace_file.specs.Lines.{lines_of, bare, said, is_skipped}
+use Rattle.trace_file.specs.Lines.{is_skipped}
 use Rattle.trace_file.specs.Forms as forms
 use Rattle.trace_file.specs.Forms.{line_of}
 use Rattle.trace_file.specs.Reading.{Reading, nothing_read, in_head, in_memory, in_records, in_history, placed, taken, after_line, after_long_line, take_line, reading_of, claim_read, at_end, fault_or_end, read_of}

@@ -1,5 +1,6 @@
 -- What a text of a trace is read as, line by line.
 use Rattle.std.specs.Prelude.{ℕ, ◌≡◌, ◌+◌, ◌-◌, ◌^◌, ◌⊎◌, min, nat_lt, if◌then◌else◌, List, [], ◌∷◌, ◌++◌, length, fold, Option, Some, None, is_some, Result, Ok, Err}
+use Rattle.line_engine.specs.Lines.{lines_of, bare, said}
 use Rattle.seq_memory.specs.declared.Entry.{Entry}
 use Rattle.history_check.specs.declared.Record.{Record}
 use Rattle.history_check.specs.Claim.{Claim}
@@ -13,7 +14,7 @@ use Rattle.trace_file.specs.declared.line.Line.{Line}
 use Rattle.trace_file.specs.declared.line.Line.TheVariants as lines
 use Rattle.trace_file.specs.declared.reader.Section.{Section}
 use Rattle.trace_file.specs.declared.reader.Section.TheVariants as sections
-use Rattle.trace_file.specs.Lines.{lines_of, bare, said, is_skipped}
+use Rattle.trace_file.specs.Lines.{is_skipped}
 use Rattle.trace_file.specs.Forms.{line_of}
 
 -- what was read so far: the section that goes on, the number of lines, skipped ones counted, and the first fault

@@ -1,16 +1,16 @@
 use Rattle.std.proofs.Common.{◌≡◌, ◌⊎◌, List, ℕ, Option, Result, Ok, Err, IfOk, OnErr, map, sym, subst, inl, inr, refl}
 use Rattle.clap.specs.Words.{Row, Text, kind_of, subcommand_of}
 use Rattle.clap.specs.declared.error.kind.ErrorKind.TheVariants as kinds
-use Rattle.pciex.specs.declared.fault.EngineFault.{EngineFault}
+use Rattle.line_engine.specs.declared.fault.EngineFault.{EngineFault}
 use Rattle.pciex.specs.declared.options.Request.{Request}
 use Rattle.pciex.specs.declared.options.Request.TheVariants.{Tlp, Check, Upgrade, Step}
 use Rattle.pciex.specs.declared.options.RequestFault.{RequestFault}
 use Rattle.pciex.specs.declared.options.RequestFault.TheVariants as faults
 use Rattle.pciex.specs.Faults.{WordsFault, RangeFault, IsMemoryFault}
 use Rattle.pciex.specs.Options.{the_app, Asks}
-use Rattle.pciex.specs.Run.{Run, IsRun, IsWhole, IsPart}
+use Rattle.line_engine.specs.Run.{Run, IsRun, IsWhole, IsPart}
 use Rattle.pciex.specs.Command.{IsDone}
-use Rattle.pciex.proofs.LineLemmas.{nothing-done}
+use Rattle.line_engine.proofs.LineLemmas.{nothing-done}
 use Rattle.pciex.proofs.RequestsAsked.{asks_one}
 use Rattle.pciex.proofs.command.command.Goals as goal
 

@@ -1,4 +1,4 @@
-use Rattle.std.proofs.Common.{◌≡◌, ◌∙◌, refl, subst, codes, Option}
+use Rattle.std.proofs.Common.{◌∙◌, refl, subst, codes, Option}
 use Rattle.clap.specs.Words.{found_of, Text}
 use Rattle.clap.proofs.WalkLemmas.{first_value-rows}
 use Rattle.pciex.specs.Options.{WritesFlag}

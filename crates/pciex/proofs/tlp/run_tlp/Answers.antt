@@ -1,5 +1,5 @@
 use Rattle.pciex.specs.Tlp.{out_tlp}
-use Rattle.pciex.proofs.LineLemmas.{on_err, nothing-done}
+use Rattle.line_engine.proofs.LineLemmas.{on_err, nothing-done}
 use Rattle.pciex.proofs.tlp.run_tlp.Goals as goal
 
 pub returns-in_err-completer-clause-err : goal.returns-in_err-completer-clause-err

@@ -4,10 +4,11 @@ use Rattle.std.proofs.lemmas.Bool.{eqb-true}
 use Rattle.std.proofs.lemmas.Grind.{common_steps}
 use Rattle.std.proofs.lemmas.List.{append-nil}
 use Rattle.history_check.specs.Claim.{claim_of}
+use Rattle.line_engine.proofs.LineLemmas.{none-before, none-at-all}
 use Rattle.trace_file.specs.declared.fault.ReadFault.{ReadFault}
 use Rattle.trace_file.specs.declared.fault.ReadFaultKind.TheVariants as faults
 use Rattle.trace_file.specs.Reading.{Reading, reading_of, fault_at_next, Tells, at_end}
-use Rattle.trace_file.proofs.LineLemmas.{reading_on, on-feed, on-last, on-none, none-before, none-at-all, cut-at}
+use Rattle.trace_file.proofs.LineLemmas.{reading_on, on-feed, on-last, on-none, cut-at}
 use Rattle.trace_file.proofs.reading.read_trace.Goals.{then-not-is_empty+in-Ok-take_last, else-not-is_empty}
 use Rattle.trace_file.proofs.reading.read_trace.Goals as goal
 

@@ -1,10 +1,9 @@
-use Rattle.std.proofs.Common.{rules, ◌≡◌, ◌∙◌, ◌++◌, [], List, ℕ, Bool, true, false, refl, sym, ap, subst, Option, Some, None}
+use Rattle.std.proofs.Common.{rules, ◌≡◌, ◌∙◌, List, ℕ, false, refl, sym, ap, subst, Option, Some, None}
 use Rattle.std.specs.Prelude.{is_some}
 use Rattle.std.proofs.lemmas.List.{append-nil}
-use Rattle.fabric_core.specs.declared.config.ConfigFault.{ConfigFault}
 use Rattle.fabric_answers.specs.New.{new_fabric, config_fault}
 use Rattle.fabric_laws.specs.Fabric.{Fabric}
-use Rattle.pciex.specs.Run.{Answer, IsAnswer}
+use Rattle.line_engine.specs.Run.{IsAnswer}
 use Rattle.pciex.specs.Step.{Stepping, next_line, made, made_once}
 use Rattle.pciex.proofs.step.Stepper.make.Goals as goal
 

@@ -2,7 +2,7 @@ use Rattle.std.proofs.Common.{◌≡◌, ◌≢◌, ◌∙◌, ◌==◌, length,
 use Rattle.std.proofs.lemmas.Result.{IfOk-weaker}
 use Rattle.tlp_core.specs.Faults.{reading}
 use Rattle.seq_memory.specs.History.{State}
-use Rattle.pciex.specs.Run.{Answer, IsAnswer}
+use Rattle.line_engine.specs.Run.{Answer, IsAnswer}
 use Rattle.pciex.specs.Tlp.{digits_of, answer_line, answer_reading}
 use Rattle.pciex.proofs.RequestLemmas.{line-read}
 use Rattle.pciex.proofs.tlp.CompleterResponder.on_line.Goals as goal

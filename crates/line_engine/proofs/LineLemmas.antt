@@ -1,0 +1,330 @@
+-- What each line feed, and the end of the input, does to an engine's stand.
+use Rattle.std.proofs.Common.{◌≡◌, ◌≢◌, ◌<◌, ◌≤◌, ◌+◌, ◌-◌, ℕ, true, false, List, [], ◌∷◌, ◌++◌, ◌∙◌, ◌==◌, if◌then◌else◌, length, take, drop, slice_index, get_or, refl, ap, sym, append_assoc, arith, fold, All, nat_lt, inl, inr, subst, Option, Some, None, IfSome, Result, Ok, Err, OnOk, OnErr}
+use Rattle.std.specs.Io.KnownBytes.{Consumes, IsAtEnd}
+use Rattle.std.specs.Io.BufRead.{ends_with_byte}
+use Rattle.std.proofs.lemmas.Bool.{cases_lt}
+use Rattle.std.proofs.lemmas.Bool.Decides.{nat_tests}
+use Rattle.std.proofs.lemmas.Grind.{common_steps}
+use Rattle.std.proofs.lemmas.List.{append-nil, take-append-le, take_all, length-take-le, take-append-drop, take_more}
+use Rattle.std.proofs.lemmas.List.Elements.{All-nil, All-head, All-drop, All-append, All-get_or, All-from_get_or}
+use Rattle.std.proofs.Math.Seq.{get_or-take}
+use Rattle.memchr.specs.Find.{Nowhere, Passes, is_byte}
+use Rattle.line_engine.specs.Lines.{lines_of, bare}
+use Rattle.line_engine.specs.Run.{Responses, Run, Answer, answer_to, after_line, after_end, with_answer, new_run, run_of, IsBeginning, IsPart}
+use Rattle.line_engine.proofs.KnownLemmas.{Appends-none, Consumes-none}
+use Rattle.line_engine.specs.Engine.{Stands, Begins, IsAnswered, run_at, on_ended_line, on_last_line}
+
+-- the same as All, by recursion
+abbrev pub NoFeed : List ℕ → Type 0
+NoFeed [] = Unit {0}
+NoFeed (b ∷ bs) = (b ≢ 10) × NoFeed bs
+
+pub no_feed : (xs : List ℕ) → All (λ b. b ≢ 10) xs → NoFeed xs
+no_feed [] h = tt
+no_feed (x ∷ xs) h = (All-head (λ b. b ≢ 10) x xs h, no_feed xs (All-drop (λ b. b ≢ 10) 1 (x ∷ xs) h))
+
+-- the test for a line feed
+other : (b : ℕ) → b ≢ 10 → (b == 10) ≡ false
+other b ne = grind (arith, nat_tests)
+
+-- ---- lines
+
+-- a line feed ends the unfinished line
+pub lines_of-feed : (xs more : List ℕ) → NoFeed xs → lines_of (xs ++ 10 ∷ more) ≡ (xs ++ 10 ∷ []) ∷ lines_of more
+unfolding lines_of
+lines_of-feed [] more h = refl
+lines_of-feed (x ∷ xs) more h =
+    let test : (x == 10) ≡ false = other x h.0 in
+    rw (test, lines_of-feed xs more h.1) refl
+
+-- with no more to come the unfinished line is the last one
+pub lines_of-last : (xs : List ℕ) (b : ℕ) → NoFeed (b ∷ xs) → lines_of (b ∷ xs) ≡ (b ∷ xs) ∷ []
+unfolding lines_of
+lines_of-last [] b h = let test : (b == 10) ≡ false = other b h.0 in rw test refl
+lines_of-last (x ∷ xs) b h =
+    let test : (b == 10) ≡ false = other b h.0 in
+    rw (test, lines_of-last xs x h.1) refl
+
+-- a line that ends in a line feed
+pub ends-feed : (xs : List ℕ) → ends_with_byte 10 (xs ++ 10 ∷ []) ≡ true
+ends-feed xs = grind (arith, common_steps, nat_tests)
+
+pub bare-feed : (xs : List ℕ) → bare (xs ++ 10 ∷ []) ≡ xs
+bare-feed xs = rw (ends-feed xs) (grind (arith, common_steps))
+
+-- a line without one
+pub ends-last : (xs : List ℕ) → All (λ b. b ≢ 10) xs → ends_with_byte 10 xs ≡ false
+ends-last [] h = refl
+ends-last (x ∷ xs) h =
+    let ne : get_or (x ∷ xs) (length (x ∷ xs) - 1) 0 ≢ 10 =
+    All-get_or (λ b. b ≢ 10) (x ∷ xs) (length (x ∷ xs) - 1) 0 (omega arith) h in
+    let test : (get_or (x ∷ xs) (length (x ∷ xs) - 1) 0 == 10) ≡ false = other _ ne in
+    rw test (grind (arith, nat_tests))
+
+-- ---- answers
+
+pub answer_to-feed : {S : Type 0} (r : Responses S) (s : S) (xs : List ℕ) → answer_to r s (xs ++ 10 ∷ []) ≡ on_ended_line r s xs
+answer_to-feed r s xs = rw (bare-feed xs, ends-feed xs) refl
+
+pub answer_to-last : {S : Type 0} (r : Responses S) (s : S) (xs : List ℕ) → All (λ b. b ≢ 10) xs → answer_to r s xs ≡ on_last_line r s xs
+answer_to-last r s xs h = rw (ends-last xs h) refl
+
+-- a test for below
+ltb-of : (a b : ℕ) → a < b → nat_lt a b ≡ true
+ltb-of a b h = grind (arith, nat_tests)
+
+-- only so much of a line is looked at
+same-test : (xs : List ℕ) → 512 < length xs → nat_lt 512 (length (take 513 xs)) ≡ nat_lt 512 (length xs)
+same-test xs long =
+    let len : length (take 513 xs) ≡ 513 = length-take-le 513 xs long in
+    rw (len, ltb-of 512 (length xs) long) refl
+
+pub ended-kept : {S : Type 0} (r : Responses S) (s : S) (xs : List ℕ) → on_ended_line r s (take 513 xs) ≡ on_ended_line r s xs
+ended-kept r s xs = elim (cases_lt 512 (length xs)) [
+  | inl long ↦ rw (same-test xs long, ltb-of 512 (length xs) long) refl
+  | inr short ↦ rw (take_all 513 xs (omega arith)) refl
+]
+
+pub last-kept : {S : Type 0} (r : Responses S) (s : S) (xs : List ℕ) → on_last_line r s (take 513 xs) ≡ on_last_line r s xs
+last-kept r s xs = elim (cases_lt 512 (length xs)) [
+  | inl long ↦ rw (same-test xs long, ltb-of 512 (length xs) long) refl
+  | inr short ↦ rw (take_all 513 xs (omega arith)) refl
+]
+
+-- what is kept of a line that goes on, from what was kept of it
+pub kept-more : (xs ys : List ℕ) → take 513 (take 513 xs ++ ys) ≡ take 513 (xs ++ ys)
+kept-more xs ys = elim (cases_lt 513 (length xs)) [
+  | inl long ↦
+      let len : length (take 513 xs) ≡ 513 = length-take-le 513 xs (omega arith) in
+      rw (take-append-le 513 (take 513 xs) ys (omega arith), take_all 513 (take 513 xs) (omega arith)) (sym (take-append-le 513 xs ys (omega arith)))
+  | inr short ↦ rw (take_all 513 xs short) refl
+]
+
+-- ---- runs
+
+-- what is written stays written
+fold-begins : {S : Type 0} (r : Responses S) (run : Run S) (ls : List (List ℕ)) → IsBeginning run.text (fold (after_line r) run ls).text
+fold-begins r run [] = ([], sym (append-nil run.text))
+fold-begins r run (l ∷ ls) =
+    let more = fold-begins r (after_line r run l) ls in
+    ((answer_to r run.state l).text ++ more.0, more.1 ∙ append_assoc run.text (answer_to r run.state l).text more.0)
+
+-- the output of a run begins with what was written on the way
+pub all-begins : {S : Type 0} (r : Responses S) (run : Run S) (ls : List (List ℕ)) → IsBeginning run.text (after_end r (fold (after_line r) run ls)).text
+all-begins r run ls =
+    let whole = fold (after_line r) run ls in
+    let b = fold-begins r run ls in
+    (b.0 ++ (r.on_end whole.state).text, ap (λ (t : List ℕ). t ++ (r.on_end whole.state).text) b.1 ∙ append_assoc run.text b.0 (r.on_end whole.state).text)
+
+-- ---- stands
+
+-- a new engine has read nothing
+pub stands-new : {S : Type 0} (r : Responses S) (start : S) → Stands r start start [] [] 0 [] []
+stands-new r start = record { unfinished = []; one_line = All-nil (λ b. b ≢ 10); kept = refl; answered = λ more. refl }
+
+-- more of the unfinished line
+pub stands-keep : {S : Type 0} (r : Responses S) (start state : S) (line line' pending : List ℕ) (status : ℕ) (written read more : List ℕ)
+    → Stands r start state line pending status written read → All (λ b. b ≢ 10) more
+    → line' ≡ take 513 (line ++ more)
+    → Stands r start state line' pending status written (read ++ more)
+stands-keep r start state line line' pending status written read more s one e = record {
+  unfinished = s.unfinished ++ more;
+  one_line = All-append (λ b. b ≢ 10) s.unfinished more s.one_line one;
+  kept = e ∙ ap (λ (t : List ℕ). take 513 (t ++ more)) s.kept ∙ kept-more s.unfinished more;
+  answered = λ rest. rw (append_assoc read more rest, append_assoc s.unfinished more rest) (s.answered (more ++ rest));
+}
+
+-- the same answer to all of the line as to what was kept
+ended-all : {S : Type 0} (r : Responses S) (s : S) (line unfinished tail : List ℕ) → line ≡ take 513 unfinished
+    → on_ended_line r s (unfinished ++ tail) ≡ on_ended_line r s (line ++ tail)
+ended-all r s line unfinished tail e =
+    sym (ended-kept r s (unfinished ++ tail)) ∙ ap (on_ended_line r s) (sym (kept-more unfinished tail))
+    ∙ ended-kept r s (take 513 unfinished ++ tail) ∙ ap (λ (t : List ℕ). on_ended_line r s (t ++ tail)) (sym e)
+
+-- a run with one more answer
+answered : {S : Type 0} (state state' : S) (pending pending' : List ℕ) (status status' : ℕ) (written : List ℕ) (a : Answer S)
+    → state' ≡ a.state → pending' ≡ pending ++ a.text → status' ≡ (if a.is_fault then 1 else status)
+    → with_answer (run_at state (written ++ pending) status) a ≡ run_at state' (written ++ pending') status'
+answered state state' pending pending' status status' written a e f g = rw (e, f, g, ← append_assoc) refl
+
+-- nothing is kept of nothing alone
+no_line : (xs : List ℕ) → take 513 xs ≡ [] → xs ≡ []
+no_line [] e = refl
+no_line (x ∷ xs) e = cc
+
+-- a text of one line
+one-line : (xs : List ℕ) → NoFeed xs → (xs ≡ [] → ⊥) → lines_of xs ≡ xs ∷ []
+one-line [] h some = absurd (some refl)
+one-line (x ∷ xs) h some = lines_of-last xs x h
+
+-- the end of a line
+pub stands-feed : {S : Type 0} (r : Responses S) (start state state' : S) (line pending pending' tail : List ℕ) (status status' : ℕ) (written read : List ℕ)
+    → Stands r start state line pending status written read → All (λ b. b ≢ 10) tail
+    → state' ≡ (on_ended_line r state (line ++ tail)).state
+    → pending' ≡ pending ++ (on_ended_line r state (line ++ tail)).text
+    → status' ≡ (if (on_ended_line r state (line ++ tail)).is_fault then 1 else status)
+    → Stands r start state' [] pending' status' written (read ++ (tail ++ 10 ∷ []))
+stands-feed {S} r start state state' line pending pending' tail status status' written read s one e f g = record {
+  unfinished = [];
+  one_line = All-nil (λ b. b ≢ 10);
+  kept = refl;
+  answered = λ more.
+      let regroup : (read ++ (tail ++ 10 ∷ [])) ++ more ≡ read ++ (tail ++ 10 ∷ more) =
+      append_assoc read (tail ++ 10 ∷ []) more ∙ ap (λ (t : List ℕ). read ++ t) (append_assoc tail (10 ∷ []) more) in
+      let whole : s.unfinished ++ (tail ++ 10 ∷ more) ≡ (s.unfinished ++ tail) ++ 10 ∷ more = sym (append_assoc s.unfinished tail (10 ∷ more)) in
+      let cut = lines_of-feed (s.unfinished ++ tail) more (no_feed (s.unfinished ++ tail) (All-append (λ b. b ≢ 10) s.unfinished tail s.one_line one)) in
+      let same = answer_to-feed r state (s.unfinished ++ tail) ∙ ended-all r state line s.unfinished tail s.kept in
+      let step = ap (with_answer (run_at state (written ++ pending) status)) same
+      ∙ answered state state' pending pending' status status' written (on_ended_line r state (line ++ tail)) e f g in
+      ap (λ (t : List ℕ). fold (after_line r) (new_run start) (lines_of t)) regroup
+      ∙ s.answered (tail ++ 10 ∷ more)
+      ∙ ap (λ (t : List ℕ). fold (after_line r) (run_at state (written ++ pending) status) (lines_of t)) whole
+      ∙ ap (fold (after_line r) (run_at state (written ++ pending) status)) cut
+      ∙ ap (λ (run : Run S). fold (after_line r) run (lines_of more)) step;
+}
+
+-- what was written and is pending begins the output
+pub stands-begins : {S : Type 0} (r : Responses S) (start state : S) (line pending : List ℕ) (status : ℕ) (written read : List ℕ)
+    → Stands r start state line pending status written read → Begins r start pending written read
+stands-begins {S} r start state line pending status written read s = λ more.
+    let b = all-begins r (run_at state (written ++ pending) status) (lines_of (s.unfinished ++ more)) in
+    (b.0, ap (λ (run : Run S). (after_end r run).text) (s.answered more) ∙ b.1)
+
+-- all that was pending is written
+pub stands-written : {S : Type 0} (r : Responses S) (start state : S) (line pending : List ℕ) (status : ℕ) (written read : List ℕ)
+    → Stands r start state line pending status written read → Stands r start state line [] status (written ++ pending) read
+stands-written r start state line pending status written read s = record {
+  unfinished = s.unfinished;
+  one_line = s.one_line;
+  kept = s.kept;
+  answered = λ more. rw (append-nil (written ++ pending)) (s.answered more);
+}
+
+-- ---- the end of the input
+
+-- no unfinished line: all lines were answered
+pub stands-end : {S : Type 0} (r : Responses S) (start state : S) (line pending : List ℕ) (status : ℕ) (written read : List ℕ)
+    → Stands r start state line pending status written read → line ≡ []
+    → IsAnswered r start state pending status written read
+unfolding lines_of
+stands-end {S} r start state line pending status written read s e =
+    let none : s.unfinished ≡ [] = no_line s.unfinished (sym s.kept ∙ e) in
+    ap (λ (t : List ℕ). fold (after_line r) (new_run start) (lines_of t)) (sym (append-nil read)) ∙ s.answered []
+    ∙ ap (λ (t : List ℕ). fold (after_line r) (run_at state (written ++ pending) status) (lines_of (t ++ []))) none
+
+-- an unfinished line is the last one
+pub stands-last : {S : Type 0} (r : Responses S) (start state state' : S) (line pending pending' : List ℕ) (status status' : ℕ) (written read : List ℕ)
+    → Stands r start state line pending status written read → (line ≡ [] → ⊥)
+    → state' ≡ (on_last_line r state line).state
+    → pending' ≡ pending ++ (on_last_line r state line).text
+    → status' ≡ (if (on_last_line r state line).is_fault then 1 else status)
+    → IsAnswered r start state' pending' status' written read
+stands-last {S} r start state state' line pending pending' status status' written read s some e f g =
+    let there : s.unfinished ≡ [] → ⊥ = λ none. some (s.kept ∙ ap (take 513) none) in
+    let same : answer_to r state s.unfinished ≡ on_last_line r state line =
+    answer_to-last r state s.unfinished s.one_line ∙ sym (last-kept r state s.unfinished) ∙ ap (on_last_line r state) (sym s.kept) in
+    ap (λ (t : List ℕ). fold (after_line r) (new_run start) (lines_of t)) (sym (append-nil read)) ∙ s.answered []
+    ∙ ap (λ (t : List ℕ). fold (after_line r) (run_at state (written ++ pending) status) (lines_of t)) (append-nil s.unfinished)
+    ∙ ap (fold (after_line r) (run_at state (written ++ pending) status)) (one-line s.unfinished (no_feed s.unfinished s.one_line) there)
+    ∙ ap (with_answer (run_at state (written ++ pending) status)) same
+    ∙ answered state state' pending pending' status status' written (on_last_line r state line) e f g
+
+-- the end itself
+pub ended : {S : Type 0} (r : Responses S) (start state state' : S) (pending pending' : List ℕ) (status status' : ℕ) (written read : List ℕ)
+    → IsAnswered r start state pending status written read
+    → state' ≡ (r.on_end state).state
+    → pending' ≡ pending ++ (r.on_end state).text
+    → status' ≡ (if (r.on_end state).is_fault then 1 else status)
+    → run_of r start read ≡ run_at state' (written ++ pending') status'
+ended r start state state' pending pending' status status' written read h e f g =
+    ap (after_end r) h ∙ answered state state' pending pending' status status' written (r.on_end state) e f g
+
+-- what is answered begins the output
+pub answered-begins : {S : Type 0} (r : Responses S) (start state : S) (pending : List ℕ) (status : ℕ) (written read : List ℕ)
+    → IsAnswered r start state pending status written read → IsBeginning (written ++ pending) (run_of r start read).text
+answered-begins {S} r start state pending status written read h =
+    ((r.on_end state).text, ap (λ (run : Run S). (after_end r run).text) h)
+
+-- ---- where a line ends
+
+-- no line feed before the first
+pub none-before : (xs : List ℕ) (k : ℕ) → k ≤ length xs → Nowhere (Passes (is_byte 10) xs) 0 k → All (λ b. b ≢ 10) (take k xs)
+none-before xs k le h = All-from_get_or (λ b. b ≢ 10) (take k xs) 0 (λ i lt e.
+    let low : i < k = omega (arith, length-take-le k xs le) in
+    let same : get_or xs i 0 ≡ 10 = sym (get_or-take k xs i 0 low) ∙ e in
+    h i (omega arith) low (rw same refl))
+
+pub none-at-all : (xs : List ℕ) → Nowhere (Passes (is_byte 10) xs) 0 (length xs) → All (λ b. b ≢ 10) xs
+none-at-all xs h = All-from_get_or (λ b. b ≢ 10) xs 0 (λ i lt e. h i (omega arith) lt (rw e refl))
+
+-- the text up to a line feed, the line feed, and the rest
+pub cut-at : (xs : List ℕ) (k : ℕ) → k < length xs → (slice_index xs k == 10) ≡ true → xs ≡ (take k xs ++ 10 ∷ []) ++ drop (k + 1) xs
+cut-at xs k lt t =
+    let is : get_or xs k 0 ≡ 10 = grind (arith, nat_tests) in
+    sym (take-append-drop (k + 1) xs) ∙ ap (λ (t : List ℕ). t ++ drop (k + 1) xs) (take_more xs k 0 lt ∙ ap (λ (b : ℕ). take k xs ++ b ∷ []) is)
+
+-- ---- beginnings
+
+-- a beginning of what is pending
+pub begins-part : (written done pending all : List ℕ) → IsBeginning done pending → IsBeginning (written ++ pending) all → IsBeginning (written ++ done) all
+begins-part written done pending all a b =
+    (a.0 ++ b.0, b.1 ∙ ap (λ (t : List ℕ). (written ++ t) ++ b.0) a.1 ∙ regroup written done a.0 b.0)
+  where
+    regroup : (x y z w : List ℕ) → (x ++ (y ++ z)) ++ w ≡ (x ++ y) ++ (z ++ w)
+    regroup x y z w = simp append_assoc
+
+-- all of it
+pub begins-all : (all done : List ℕ) → done ≡ all → IsBeginning done all
+begins-all all done e = ([], sym e ∙ sym (append-nil done))
+
+-- what begins the output of all that goes on from what was read begins that of what was read
+pub begins-now : {S : Type 0} (r : Responses S) (start : S) (pending written read : List ℕ) → Begins r start pending written read
+    → IsBeginning (written ++ pending) (run_of r start read).text
+begins-now r start pending written read b =
+    subst (λ (t : List ℕ). IsBeginning (written ++ pending) (run_of r start t).text) (append-nil read) (b [])
+
+-- and where the reader's bytes are known, that of the whole input
+pub begins-input : {S : Type 0} (r : Responses S) (start : S) (u v : Option (List ℕ)) (pending written read : List ℕ) → Consumes u v read
+    → Begins r start pending written read → IfSome u (λ input. IsBeginning (written ++ pending) (run_of r start input).text)
+begins-input r start None v pending written read x b = tt
+begins-input r start (Some input) None pending written read x b = absurd x
+begins-input r start (Some input) (Some rest) pending written read x b =
+    subst (λ (t : List ℕ). IsBeginning (written ++ pending) (run_of r start t).text) (sym x) (b rest)
+
+-- so where nothing is left
+pub begins-end : {S : Type 0} (r : Responses S) (start : S) (u v : Option (List ℕ)) (done read : List ℕ) → Consumes u v read → IsAtEnd v
+    → IsBeginning done (run_of r start read).text → IfSome u (λ input. IsBeginning done (run_of r start input).text)
+begins-end r start None v done read x e b = tt
+begins-end r start (Some input) None done read x e b = absurd x
+begins-end r start (Some input) (Some rest) done read x e b =
+    let all : input ≡ read = x ∙ ap (λ (t : List ℕ). read ++ t) e ∙ append-nil read in
+    subst (λ (t : List ℕ). IsBeginning done (run_of r start t).text) (sym all) b
+
+-- ---- results
+
+pub on_err : {T E P : Type 0} (r : Result T E) → P → OnErr r P
+on_err (Ok x) p = tt
+on_err (Err e) p = p
+
+pub either : {T E P Q X : Type 0} (r : Result T E) → OnOk r P → OnErr r Q → (P → X) → (Q → X) → X
+either (Ok x) p q f g = f p
+either (Err e) p q f g = g q
+
+pub on_err_weaker : {T E P Q : Type 0} (r : Result T E) → (P → Q) → OnErr r P → OnErr r Q
+on_err_weaker (Ok x) f p = tt
+on_err_weaker (Err e) f p = f p
+
+-- nothing read and nothing written
+pub nothing-done : {S : Type 0} (run : List ℕ → Run S) (u w : Option (List ℕ)) → IsPart run u u w w
+nothing-done run u w = record {
+  read = [];
+  done = [];
+  consumed = Consumes-none u;
+  written = Appends-none w;
+  begins = ((run []).text, refl);
+  begins_all = all u;
+}
+  where
+    all : (u : Option (List ℕ)) → IfSome u (λ input. IsBeginning [] (run input).text)
+    all None = tt
+    all (Some input) = ((run input).text, refl)

@@ -1,0 +1,28 @@
+//! What stops an engine.
+ghost use Rattle.std.specs.Prelude.{◌≡◌};
+ghost use Rattle.line_engine.specs.declared.fault.EngineFault.TheVariants.{Memory};
+
+use std::alloc::AllocError;
+use thiserror::Error;
+
+/// Why an engine stopped before the end of its input.
+#[derive(Clone, Copy, Debug, PartialEq, Eq, Error)]
+pub enum EngineFault {
+    /// The reader failed.
+    #[error("read")]
+    Read,
+    /// The writer failed, or took nothing.
+    #[error("write")]
+    Write,
+    /// Memory ran out.
+    #[error("memory")]
+    Memory,
+}
+
+impl From<AllocError> for EngineFault {
+    ghost from_gives = { λ _ fault. fault ≡ Memory };
+
+    fn from(_: AllocError) -> EngineFault {
+        EngineFault::Memory
+    }
+}
