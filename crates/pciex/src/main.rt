@@ -4,11 +4,15 @@
 mod check;
 mod command;
 mod engine;
+#[cfg(test)]
+mod examples;
 mod fault;
 mod options;
 mod output;
 mod responder;
 mod step;
+#[cfg(test)]
+mod step_tests;
 #[cfg(test)]
 mod tests;
 mod text;
