@@ -3,8 +3,12 @@
 
 mod check;
 mod command;
+#[cfg(test)]
+mod examples;
 mod options;
 mod step;
+#[cfg(test)]
+mod step_tests;
 #[cfg(test)]
 mod tests;
 mod text;

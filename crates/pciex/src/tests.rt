@@ -10,10 +10,10 @@ use std::test::Fail;
 
 /// Gives its bytes a few at a time, and fails at the read after so many.
 #[derive(Drop)]
-struct FailingReader<'a> {
-    rest: &'a [u8],
-    most: usize,
-    reads_left: u32,
+pub struct FailingReader<'a> {
+    pub rest: &'a [u8],
+    pub most: usize,
+    pub reads_left: u32,
 }
 
 impl Read for FailingReader<'_> {
@@ -38,11 +38,11 @@ impl Read for FailingReader<'_> {
 /// Takes a few bytes at a time, and fails at the write after so many, by an error or by taking
 /// none.
 #[derive(Drop)]
-struct FailingWriter {
-    taken: Vec<u8>,
-    most: usize,
-    writes_left: u32,
-    takes_none: bool,
+pub struct FailingWriter {
+    pub taken: Vec<u8>,
+    pub most: usize,
+    pub writes_left: u32,
+    pub takes_none: bool,
 }
 
 impl Write for FailingWriter {
