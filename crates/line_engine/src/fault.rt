@@ -1,6 +1,7 @@
 //! What stops an engine.
 ghost use Rattle.std.specs.Prelude.{◌≡◌};
 ghost use Rattle.line_engine.specs.declared.fault.EngineFault.TheVariants.{Memory};
+ghost use Rattle.line_engine.specs.Faults.{fault_number};
 
 use std::alloc::AllocError;
 use thiserror::Error;
@@ -17,6 +18,19 @@ pub enum EngineFault {
     /// Memory ran out.
     #[error("memory")]
     Memory,
+}
+
+impl EngineFault {
+    /// The number under which it is told, 1 to 3.
+    pub fn number(self) -> u8
+        ensures { result ≡ fault_number self }
+    {
+        match self {
+            EngineFault::Read => 1,
+            EngineFault::Write => 2,
+            EngineFault::Memory => 3,
+        }
+    }
 }
 
 impl From<AllocError> for EngineFault {

@@ -203,4 +203,5 @@ fn bytes_written(rt: HostRuntime) {
             assert_eq!(rt; writer.taken.as_slice(), want.as_bytes());
         }
     }
+    assert_eq!(rt; EngineFault::Write.number(), 2);
 }

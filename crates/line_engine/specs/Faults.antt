@@ -1,0 +1,9 @@
+-- The numbers of what stops an engine.
+use Rattle.std.specs.Prelude.{ℕ}
+use Rattle.line_engine.specs.declared.fault.EngineFault.{EngineFault}
+use Rattle.line_engine.specs.declared.fault.EngineFault.TheVariants as faults
+
+abbrev pub fault_number : EngineFault → ℕ
+fault_number faults.Read = 1
+fault_number faults.Write = 2
+fault_number faults.Memory = 3
