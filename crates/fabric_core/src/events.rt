@@ -1,5 +1,7 @@
 //! Each event over the parts that it uses. A refused event leaves them as they were.
 ghost use Rattle.std.specs.Prelude.{◌≡◌, ◌↔◌, ◌⊎◌, ◌<◌, ℕ, [], true, false, length, option_map, Some, IfOk, IfErr, OnOk, OnErr};
+ghost use Rattle.dllp_core.specs.Layout.{FitsDataFC};
+ghost use Rattle.dllp_core.specs.declared.packet.Dllp.{Dllp};
 ghost use Rattle.fc_credit.specs.Needs.{need_of};
 ghost use Rattle.completer_core.specs.Serving.{completion_to, after_serving};
 ghost use Rattle.lane_core.specs.Steps.{may_enter, with_room, after_timer, after_retraining, transmitted, after_transmission, wire_after_transmit, all_but_first, delivered, after_deliver, dllp_of, after_send, wire_after_send, dllp_seen, sender_after};
@@ -102,6 +104,7 @@ pub fn send_dllp(
     kind: DllpKind,
 ) -> Result<Dllp, Refusal>
     ensures dllp { IfOk result (λ dllp. dllp ≡ dllp_of receiver.old kind) }
+    ensures in_range { IfOk result (λ dllp. FitsDataFC dllp) }
     ensures receiver { OnOk result (receiver.new ≡ after_send receiver.old kind) }
     ensures wire { OnOk result (wire.new ≡ wire_after_send receiver.old kind wire.old) }
     ensures errors { IfErr result (λ r. r ≡ Refusal.Lane LaneRefusal.Memory) }
@@ -122,6 +125,7 @@ pub fn deliver_dllp(
     fate: Fate,
 ) -> Result<DllpSeen, Refusal>
     ensures seen { IfOk result (λ seen. dllp_seen wire.old sender.old fate ≡ Ok (Some seen)) }
+    ensures in_range { (dllp : Dllp) → result ≡ Ok (DllpSeen.Took dllp) → FitsDataFC dllp }
     ensures sender { OnOk result (sender.new ≡ sender_after wire.old sender.old fate) }
     ensures wire { OnOk result (wire.new ≡ all_but_first wire.old) }
     ensures refused { IfErr result (λ r. DllpRefused wire.old sender.old fate r) }

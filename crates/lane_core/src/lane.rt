@@ -35,6 +35,8 @@ impl Model for Lane {
 }
 
 impl Lane {
+    ghost use Rattle.dllp_core.specs.Layout.{FitsDataFC};
+    ghost use Rattle.dllp_core.specs.declared.packet.Dllp.{Dllp};
     ghost use Rattle.replay_sender.specs.Sending.{next_number};
     ghost use Rattle.fc_credit.specs.Limits.{IsInLimits};
     ghost use Rattle.fc_credit.specs.Needs.{need_of as need};
@@ -117,6 +119,7 @@ impl Lane {
     /// Puts the Ack or Nak that is due, or a class's UpdateFC, on the back wire as the last.
     pub fn send_dllp(&mut self, kind: DllpKind) -> Result<Dllp, LaneRefusal>
         ensures answer { IfOk result (λ dllp. dllp ≡ dllp_of self.old.receiver kind) }
+        ensures in_range { IfOk result (λ dllp. FitsDataFC dllp) }
         ensures ok { OnOk result (self.new ≡ happens self.old (SendDllp kind)) }
         ensures content { content self.new ≡ content self.old }
         ensures memory { IfErr result (λ refusal. refusal ≡ LaneRefusal.Memory) }
@@ -130,6 +133,7 @@ impl Lane {
     pub fn deliver_dllp(&mut self, fate: Fate) -> Result<Option<DllpSeen>, AckFault>
         ensures never_fault { IsOk result }
         ensures answer { result ≡ dllp_seen self.old.back self.old.sender fate }
+        ensures in_range { (dllp : Dllp) → result ≡ Ok (Some (DllpSeen.Took dllp)) → FitsDataFC dllp }
         ensures state { self.new ≡ happens self.old (DeliverDllp fate) }
         ensures content { content self.new ≡ content self.old }
     {

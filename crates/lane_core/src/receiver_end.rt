@@ -30,6 +30,7 @@ impl Model for ReceiverEnd {
 }
 
 impl ReceiverEnd {
+    ghost use Rattle.dllp_core.specs.Layout.{FitsDataFC};
     ghost use Rattle.link_receiver.specs.Receiving.{reception_of};
     ghost use Rattle.vc_queue.specs.Queue.{is_takeable};
     ghost use Rattle.lane_core.specs.Content.{item_of};
@@ -108,6 +109,7 @@ impl ReceiverEnd {
     /// Puts the Ack or Nak that is due, or a class's UpdateFC, on the wire as the last.
     pub fn send_dllp(&mut self, wire: &mut BackWire, kind: DllpKind) -> Result<Dllp, LaneRefusal>
         ensures answer { IfOk result (λ dllp. dllp ≡ dllp_of self.old kind) }
+        ensures in_range { IfOk result (λ dllp. FitsDataFC dllp) }
         ensures ok { OnOk result (self.new ≡ after_send self.old kind) }
         ensures wire { OnOk result (wire.new ≡ wire_after_send self.old kind wire.old) }
         ensures memory { IfErr result (λ refusal. refusal ≡ LaneRefusal.Memory) }

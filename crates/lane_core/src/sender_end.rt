@@ -1,5 +1,5 @@
 //! The sender's end of a lane.
-ghost use Rattle.std.specs.Prelude.{◌≡◌, ℕ, ◌+◌, ◌<◌, ◌≤◌, ◌↔◌, ◌⊎◌, List, [], ◌∷◌, ◌++◌, length, false, IsTrue, IsOk, OnOk, OnErr, IfOk, IfErr, is_some};
+ghost use Rattle.std.specs.Prelude.{◌≡◌, ℕ, ◌+◌, ◌<◌, ◌≤◌, ◌↔◌, ◌⊎◌, List, [], ◌∷◌, ◌++◌, length, false, IsTrue, IsOk, OnOk, OnErr, IfOk, IfErr, Some, is_some};
 
 use crate::packet::{DllpSeen, Fate, LaneRefusal, WirePacket};
 use crate::wires::{BackWire, ForwardWire};
@@ -46,6 +46,7 @@ impl SenderEnd {
     ghost use Rattle.replay_sender.specs.Sending.{next_number, next_item};
     ghost use Rattle.lane_core.specs.Steps.{new_sender, entered, with_room, without_room, after_timer, after_retraining, transmitted, after_transmission, wire_after_transmit, all_but_first, is_expected, after_dllp, sender_after, dllp_seen};
     ghost use Rattle.dllp_core.specs.Layout.{FitsDataFC};
+    ghost use Rattle.dllp_core.specs.declared.packet.Dllp.{Dllp};
     ghost use Rattle.lane_core.specs.declared.packet.Fate.TheVariants.{Good};
 
     /// Nothing was entered, and these credits are known of. It allocates nothing.
@@ -176,6 +177,7 @@ impl SenderEnd {
         fate: Fate,
     ) -> Result<Option<DllpSeen>, AckFault>
         ensures answer { result ≡ dllp_seen wire.old self.old fate }
+        ensures in_range { (dllp : Dllp) → result ≡ Ok (Some (DllpSeen.Took dllp)) → FitsDataFC dllp }
         ensures sender { self.new ≡ sender_after wire.old self.old fate }
         ensures ok { OnOk result (wire.new ≡ all_but_first wire.old) }
         ensures err { OnErr result (wire.new ≡ wire.old) }

@@ -1,4 +1,7 @@
 //! Why a packet has no port, or stays where it is.
+ghost use Rattle.std.specs.Prelude.{◌≡◌};
+ghost use Rattle.switch_core.specs.Faults.{fault_number, refusal_number};
+
 use lane_core::LaneRefusal;
 use thiserror::Error;
 
@@ -10,6 +13,17 @@ pub enum RouteFault {
     NoPort,
 }
 
+impl RouteFault {
+    /// The number under which it is told, 1.
+    pub fn number(self) -> u8
+        ensures { result ≡ fault_number self }
+    {
+        match self {
+            RouteFault::NoPort => 1,
+        }
+    }
+}
+
 /// Why a packet isn't forwarded, in the order of the tests.
 #[derive(Clone, Copy, Debug, PartialEq, Eq, Error)]
 pub enum ForwardRefusal {
@@ -19,4 +33,16 @@ pub enum ForwardRefusal {
     /// The lane that it goes to refuses it.
     #[error("{0}")]
     Lane(LaneRefusal),
+}
+
+impl ForwardRefusal {
+    /// The place of this refusal in the order of the tests, from 1.
+    pub fn number(self) -> u8
+        ensures { result ≡ refusal_number self }
+    {
+        match self {
+            ForwardRefusal::NotTakeable => 1,
+            ForwardRefusal::Lane(_) => 2,
+        }
+    }
 }

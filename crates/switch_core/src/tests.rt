@@ -28,6 +28,7 @@ fn worked_routes(rt: HostRuntime) -> Result<(), Fail> {
         let got = route(&completion_for(requester)?, Port::new(from)).map(|p| p.number());
         assert_eq!(rt; got, want, "ID {requester:04X} from {from}");
     }
+    assert_eq!(rt; RouteFault::NoPort.number(), 1);
     Ok(())
 }
 
@@ -130,5 +131,7 @@ fn a_packet_moves_on(rt: HostRuntime) -> Result<(), Fail> {
     let write = decode(&WRITE)?;
     assert!(rt; moves_and_arrives(rt.alloc(), &write)?);
     assert!(rt; stays_and_leaves(rt.alloc(), &write)?);
+    assert_eq!(rt; ForwardRefusal::NotTakeable.number(), 1);
+    assert_eq!(rt; ForwardRefusal::Lane(LaneRefusal::WindowFull).number(), 2);
     Ok(())
 }
