@@ -186,9 +186,9 @@ has_lane f place r s w =
 up_possible : (f : Fabric) (port place : ℕ) (r : Refusal) → IsSoundFabric f → ForwardUpRefusedBy f port place r → IsPossible r
 up_possible f port place r s b =
     by_refusal (λ (x : Refusal). ForwardUpRefusedBy f port place x)
-    (λ x c. either c.refused (λ h. h) (λ h. h))
-    (λ x c. either c.refused (λ h. h) (λ h. h))
-    (λ x c. either c.refused (λ h. request_routed h.packet port c.at_place x (up_packet f c.at_place c.lane place h.mark h.packet s.routed c.has_lane.there h.there) c.has_lane.is_port h.is) (λ h. h))
+    (λ x c. either c.refused (λ h. h) (λ h. h.refused))
+    (λ x c. either c.refused (λ h. h) (λ h. h.refused))
+    (λ x c. either c.refused (λ h. request_routed h.packet port c.at_place x (up_packet f c.at_place c.lane place h.mark h.packet s.routed c.has_lane.there h.there) c.has_lane.is_port h.is) (λ h. h.refused))
     r b
 
 out_possible : (f : Fabric) (place : ℕ) (r : Refusal) → IsSoundFabric f → Refused f (events.Forward lanes.Outward place) r → IsPossible r
