@@ -10,7 +10,6 @@ use Rattle.completer_core.specs.Serving.{completion_to}
 use Rattle.requester_core.specs.Requesting.{Requesting, prepared}
 use Rattle.fc_credit.specs.Needs.{need_of}
 use Rattle.vc_queue.specs.Queue.{is_takeable}
-use Rattle.switch_core.specs.declared.fault.RouteFault.{RouteFault}
 use Rattle.switch_core.specs.Routing.{route}
 use Rattle.lane_core.specs.declared.packet.Fate.{Fate}
 use Rattle.lane_core.specs.declared.packet.DllpKind.{DllpKind}
@@ -29,8 +28,8 @@ use Rattle.fabric_core.specs.declared.event.Seen.TheVariants as seen
 use Rattle.fabric_core.specs.declared.fault.Refusal.{Refusal}
 use Rattle.fabric_core.specs.declared.fault.Refusal.TheVariants as refusals
 use Rattle.fabric_core.specs.Footprints.{IsAt, LinkRefused, LacksRoom, SubmitRefused, ForwardRefused, DestinationRefused, IsRoutedAs, ActRefused, ServeRefused, CollectRefused, call_of}
-use Rattle.fabric_core.specs.Steps.{HasPart, IsNoPort, LinkInRefused, LinkAtRefused, SubmitAtRefused, ForwardUpRefused, ForwardOutRefused, CollectAtRefused, IsNoSuchPart, Refused}
-use Rattle.fabric_core.specs.Kept.{IsSoundFabric, IsPossible}
+use Rattle.fabric_core.specs.Steps.{HasPart, IsNoPort, LinkInRefused, LinkAtRefused, SubmitAtRefused, IsKeptFromInward, ForwardUpRefused, ForwardOutRefused, CollectAtRefused, IsNoSuchPart, Refused}
+use Rattle.fabric_core.specs.Kept.{IsSoundFabric}
 use Rattle.fabric_answers.specs.Answers.{Answered, IsTold, within, part, with_part, sent, arrived, dllp_arrived, link_answer, link_in, link_at, enter, seen_with, takeable_at, submits, submit_with, forward_to, forward_routed, forward_out, forward_in, forward_item, forward_up, enter_if_any, serve_item, collected, collect_item, collect_with, answer}
 use Rattle.fabric_answers.proofs.OneAnswer.{part_is, taken, same_packet, first_is, retrained_or_idle, back_or_idle}
 
@@ -189,10 +188,6 @@ submitted f port op r same (inr h) k =
 
 -- ---- Forward
 
--- where the packet of a place goes
-abbrev GoesTo : Incoming → ℕ → ℕ → Type 0
-GoesTo r place from = (t : Packet) (mark : ℕ) → IsAt r place t mark → (to : ℕ) × (route t from ≡ Ok to)
-
 to_nowhere : (f : Fabric) (port : ℕ) (e : Ends) (place : ℕ) (r : Refusal) → DestinationRefused e.receiver place port r → IsTold r → forward_item f port e place (takeable_at e.receiver place) ≡ Err r
 to_nowhere f port e place refusals.NoSuchPart h k = absurd h
 to_nowhere f port e place refusals.Idle h k = absurd h
@@ -206,30 +201,33 @@ to_nowhere f port e place (refusals.Protocol x) h k = absurd h
 to_nowhere f port e place (refusals.Strange x) h k = absurd h
 to_nowhere f port e place (refusals.Route x) h k = ap (forward_item f port e place) (taken e.receiver place h.packet h.mark h.there) ∙ ap (forward_in f port e place (h.packet, h.mark)) h.is
 
-held : (f : Fabric) (port : ℕ) (e : Ends) (place : ℕ) (r : Refusal) → ForwardRefused e.receiver place f.inward.sender r → GoesTo e.receiver place port → IsTold r → forward_item f port e place (takeable_at e.receiver place) ≡ Err r
-held f port e place refusals.NoSuchPart h g k = absurd h
-held f port e place refusals.Idle h g k = absurd h
-held f port e place refusals.NotTakeable h g k = ap (forward_item f port e place) (not_taken e.receiver place h)
-held f port e place (refusals.Submit x) h g k = absurd h
-held f port e place (refusals.Lane (NoCredits c)) h g k = ap (forward_item f port e place) (taken e.receiver place h.packet h.mark h.there) ∙ ap (forward_in f port e place (h.packet, h.mark)) (g h.packet h.mark h.there).1 ∙ ap (seen_with (seen.To (g h.packet h.mark h.there).0) _) (lacks f.inward.sender h.packet h.mark (NoCredits c) h.lacks k)
-held f port e place (refusals.Lane WindowFull) h g k = ap (forward_item f port e place) (taken e.receiver place h.packet h.mark h.there) ∙ ap (forward_in f port e place (h.packet, h.mark)) (g h.packet h.mark h.there).1 ∙ ap (seen_with (seen.To (g h.packet h.mark h.there).0) _) (lacks f.inward.sender h.packet h.mark WindowFull h.lacks k)
-held f port e place (refusals.Lane Memory) h g k = absurd k
-held f port e place refusals.Memory h g k = absurd h
-held f port e place (refusals.Protocol x) h g k = absurd h
-held f port e place (refusals.Strange x) h g k = absurd h
-held f port e place (refusals.Route x) h g k = absurd h
+-- the packet of the place goes to `in`
+routed_in : (f : Fabric) (port place to : ℕ) (e : Ends) (routed : IsRoutedAs e.receiver place port (Ok to)) → (t : Packet) (mark : ℕ) → IsAt e.receiver place t mark
+    → forward_item f port e place (takeable_at e.receiver place) ≡ forward_in f port e place (t, mark) (Ok to)
+routed_in f port place to e routed t mark there =
+    ap (forward_item f port e place) (taken e.receiver place t mark there)
+    ∙ ap (forward_in f port e place (t, mark)) (subst (λ (t : Packet). route t port ≡ Ok to) (same_packet e.receiver place routed.packet t routed.mark mark routed.there there) routed.is)
 
--- packets have ports
-record Possible (f : Fabric) : Type 0 where
-  pub up : (port at place : ℕ) (e : Ends) → HasPart f.up port at e → GoesTo e.receiver place port
+held : (f : Fabric) (port place to : ℕ) (e : Ends) (routed : IsRoutedAs e.receiver place port (Ok to)) (r : Refusal) → ForwardRefused e.receiver place f.inward.sender r → IsTold r → forward_item f port e place (takeable_at e.receiver place) ≡ Err r
+held f port place to e routed refusals.NoSuchPart h k = absurd h
+held f port place to e routed refusals.Idle h k = absurd h
+held f port place to e routed refusals.NotTakeable h k = ap (forward_item f port e place) (not_taken e.receiver place h)
+held f port place to e routed (refusals.Submit x) h k = absurd h
+held f port place to e routed (refusals.Lane (NoCredits c)) h k = routed_in f port place to e routed h.packet h.mark h.there ∙ ap (seen_with (seen.To to) _) (lacks f.inward.sender h.packet h.mark (NoCredits c) h.lacks k)
+held f port place to e routed (refusals.Lane WindowFull) h k = routed_in f port place to e routed h.packet h.mark h.there ∙ ap (seen_with (seen.To to) _) (lacks f.inward.sender h.packet h.mark WindowFull h.lacks k)
+held f port place to e routed (refusals.Lane Memory) h k = absurd k
+held f port place to e routed refusals.Memory h k = absurd h
+held f port place to e routed (refusals.Protocol x) h k = absurd h
+held f port place to e routed (refusals.Strange x) h k = absurd h
+held f port place to e routed (refusals.Route x) h k = absurd h
 
-forwarded_up : (f : Fabric) (port place : ℕ) (r : Refusal) → Possible f → ForwardUpRefused f port place r → IsTold r → forward_up f port place (part f.up port) ≡ Err r
-forwarded_up f port place r p (inl missing) k = ap (forward_up f port place) (no_part f.up port missing.1) ∙ ap Err (sym missing.0)
-forwarded_up f port place r p (inr h) k = ap (forward_up f port place) (part_is f.up port h.at_place h.lane h.has_lane) ∙ by_cause h.refused
+forwarded_up : (f : Fabric) (port place : ℕ) (r : Refusal) → ForwardUpRefused f port place r → IsTold r → forward_up f port place (part f.up port) ≡ Err r
+forwarded_up f port place r (inl missing) k = ap (forward_up f port place) (no_part f.up port missing.1) ∙ ap Err (sym missing.0)
+forwarded_up f port place r (inr h) k = ap (forward_up f port place) (part_is f.up port h.at_place h.lane h.has_lane) ∙ by_cause h.refused
   where
-    by_cause : DestinationRefused h.lane.receiver place port r ⊎ ForwardRefused h.lane.receiver place f.inward.sender r → forward_item f port h.lane place (takeable_at h.lane.receiver place) ≡ Err r
+    by_cause : DestinationRefused h.lane.receiver place port r ⊎ IsKeptFromInward f h.lane port place r → forward_item f port h.lane place (takeable_at h.lane.receiver place) ≡ Err r
     by_cause (inl d) = to_nowhere f port h.lane place r d k
-    by_cause (inr d) = held f port h.lane place r d (p.up port h.at_place place h.lane h.has_lane) k
+    by_cause (inr d) = held f port place d.to h.lane d.routed r d.refused k
 
 out_to_nowhere : (f : Fabric) (place : ℕ) (r : Refusal) → DestinationRefused f.outward.receiver place 0 r → IsTold r → forward_out f place (takeable_at f.outward.receiver place) ≡ Err r
 out_to_nowhere f place refusals.NoSuchPart h k = absurd h
@@ -340,33 +338,17 @@ no_such_part (refusals.Protocol x) h = absurd h
 no_such_part (refusals.Strange x) h = absurd h
 no_such_part (refusals.Route x) h = absurd h
 
--- what is never answered, of which the packets' ports follow
-abbrev Never : Fabric → Type 0
-Never f = (event : Event) (r : Refusal) → Refused f event r → IsPossible r
-
-goes : (t : Packet) (from : ℕ) (routed : Result ℕ RouteFault) → route t from ≡ routed → ((fault : RouteFault) → route t from ≡ Err fault → ⊥) → (to : ℕ) × (route t from ≡ Ok to)
-goes t from (Ok to) e never = (to, e)
-goes t from (Err fault) e never = absurd (never fault e)
-
-possible : (f : Fabric) → Never f → Possible f
-possible f never = record {
-  up = λ port at place e has t mark there.
-      goes t port (route t port) refl (λ fault is.
-      never (events.Forward (lanes.Up port) place) (refusals.Route fault)
-      (inr (record { at_place = at; lane = e; has_lane = has; refused = inl (record { packet = t; mark = mark; there = there; is = is }) })));
-}
-
-pub one_refusal : (f : Fabric) (event : Event) (r : Refusal) → IsSoundFabric f → Never f → Refused f event r → IsTold r → answer f event ≡ Err r
-one_refusal f (events.Submit port op) r s n h k = submitted f port op r s.lanes.up h k
-one_refusal f (events.Transmit lane) r s n h k = linked_at f lane links.Transmit r h k
-one_refusal f (events.Deliver lane fate) r s n h k = linked_at f lane (links.Deliver fate) r h k
-one_refusal f (events.SendDllp lane kind) r s n h k = linked_at f lane (links.SendDllp kind) r h k
-one_refusal f (events.DeliverDllp lane fate) r s n h k = linked_at f lane (links.DeliverDllp fate) r h k
-one_refusal f (events.Timer lane) r s n h k = linked_at f lane links.Timer r h k
-one_refusal f (events.Retrained lane) r s n h k = linked_at f lane links.Retrained r h k
-one_refusal f (events.Forward (lanes.Up port) place) r s n h k = forwarded_up f port place r (possible f n) h k
-one_refusal f (events.Forward lanes.Outward place) r s n h k = forwarded_out f place r h k
-one_refusal f (events.Forward lanes.Inward place) r s n h k = no_such_part r h
-one_refusal f (events.Forward (lanes.Down port) place) r s n h k = no_such_part r h
-one_refusal f (events.Serve place) r s n h k = served f place r h k
-one_refusal f (events.Collect port) r s n h k = not_collected f port r s.lanes.down h k
+pub one_refusal : (f : Fabric) (event : Event) (r : Refusal) → IsSoundFabric f → Refused f event r → IsTold r → answer f event ≡ Err r
+one_refusal f (events.Submit port op) r s h k = submitted f port op r s.lanes.up h k
+one_refusal f (events.Transmit lane) r s h k = linked_at f lane links.Transmit r h k
+one_refusal f (events.Deliver lane fate) r s h k = linked_at f lane (links.Deliver fate) r h k
+one_refusal f (events.SendDllp lane kind) r s h k = linked_at f lane (links.SendDllp kind) r h k
+one_refusal f (events.DeliverDllp lane fate) r s h k = linked_at f lane (links.DeliverDllp fate) r h k
+one_refusal f (events.Timer lane) r s h k = linked_at f lane links.Timer r h k
+one_refusal f (events.Retrained lane) r s h k = linked_at f lane links.Retrained r h k
+one_refusal f (events.Forward (lanes.Up port) place) r s h k = forwarded_up f port place r h k
+one_refusal f (events.Forward lanes.Outward place) r s h k = forwarded_out f place r h k
+one_refusal f (events.Forward lanes.Inward place) r s h k = no_such_part r h
+one_refusal f (events.Forward (lanes.Down port) place) r s h k = no_such_part r h
+one_refusal f (events.Serve place) r s h k = served f place r h k
+one_refusal f (events.Collect port) r s h k = not_collected f port r s.lanes.down h k

@@ -13,16 +13,12 @@ ghost use Rattle.fabric_core.specs.Kept.{IsSoundFabric};
 ghost use Rattle.fabric_answers.specs.Answers.{answer, IsTold};
 ghost use Rattle.fabric_answers.specs.New.{new_fabric, config_fault};
 
-use fabric_core::laws::every_refusal_is_possible;
-
 /// An event that happens has the one answer, with the one fabric after it; and one that a sound fabric refuses, for
 /// another cause than memory, has that refusal for its answer.
 pub fn each_event_has_one_answer()
     ensures happens { (f f' : Fabric) (event : Event) (what : Seen) → Happens f event what f' → answer f event ≡ Ok (what, f') }
     ensures refused { (f : Fabric) (event : Event) (r : Refusal) → IsSoundFabric f → Refused f event r → IsTold r → answer f event ≡ Err r }
-{
-    every_refusal_is_possible();
-}
+{}
 
 /// A new fabric is the one of its configuration, which then has no fault; and a fault of a configuration, other than want
 /// of memory, is the one that it has.

@@ -9,7 +9,7 @@ use Rattle.lane_core.specs.Steps.{Ends, Incoming, Outgoing}
 use Rattle.fabric_laws.specs.Fabric.{Fabric}
 use Rattle.fabric_core.specs.declared.fault.Refusal.{Refusal}
 use Rattle.fabric_core.specs.Footprints.{Submits, SubmitRefused, Collects, CollectRefused, Serves, IsRoutedAs, Forwards, ForwardRefused}
-use Rattle.fabric_core.specs.Steps.{HasPart, SubmitsAt, SubmitAtRefused, CollectsAt, CollectAtRefused, ServesAt, ForwardsUp, ForwardsOut, ForwardOutRefused}
+use Rattle.fabric_core.specs.Steps.{HasPart, SubmitsAt, SubmitAtRefused, CollectsAt, CollectAtRefused, ServesAt, ForwardsUp, ForwardUpRefused, ForwardsOut, ForwardOutRefused}
 
 pub if_ok : {A E : Type 0} (r : Result A E) (P Q : A → Type 0) → ((a : A) → P a → Q a) → IfOk r P → IfOk r Q
 if_ok (Ok a) P Q m h = m a h
@@ -56,6 +56,11 @@ pub forwards_up : (f : Fabric) (port place to at : ℕ) (e : Ends) (r' : Incomin
     ForwardsUp f port place to (record f { up = slice_set f.up at (record e { receiver = r' }); inward = record f.inward { sender = s' } })
 forwards_up f port place to at e r' s' i d h =
     record { at_place = at; lane = e; has_lane = i; routed = d; receiver_after = r'; sender_after = s'; forwards = h; now = refl }
+
+pub forward_up_refused : (f : Fabric) (port place to at : ℕ) (e : Ends) (r : Refusal) →
+    HasPart f.up port at e → IsRoutedAs e.receiver place port (Ok to) → ForwardRefused e.receiver place f.inward.sender r → ForwardUpRefused f port place r
+forward_up_refused f port place to at e r i d h =
+    inr (record { at_place = at; lane = e; has_lane = i; refused = inr (record { to = to; routed = d; refused = h }) })
 
 pub forwards_out : (f : Fabric) (place to at : ℕ) (e : Ends) (r' : Incoming) (s' : Outgoing) →
     HasPart f.down to at e → IsRoutedAs f.outward.receiver place 0 (Ok to) → Forwards f.outward.receiver place e.sender r' s' →

@@ -167,7 +167,7 @@ forward_stays law f port place to f' s h =
     subst HasRightLanes (sym h.now) (inward_set (record f { up = slice_set f.up h.at_place e }) i (up_set f h.at_place e (lanes_of f s) r) q)
 
 -- a packet that the memory's side sends home goes to its own port
-goes_home : (t : Packet) (to : ℕ) → route t 0 ≡ Ok to → t.requester / 256 ≡ to
+pub goes_home : (t : Packet) (to : ℕ) → route t 0 ≡ Ok to → t.requester / 256 ≡ to
 goes_home t to e = by_kind (is_completion t.kind) (is_requester (port_of t)) e
   where
     by_kind : (c p : Bool) → (if c then (if true && p then Ok (port_of t) else Err NoPort) else Err NoPort) ≡ Ok to → t.requester / 256 ≡ to

@@ -33,6 +33,7 @@ use Rattle.fabric_core.specs.Footprints.{IsAt, IsRoutedAs, LinkRefused}
 use Rattle.fabric_core.specs.Steps.{LinkAtRefused, ForwardUpRefusedBy, IsWithoutLane, Refused}
 use Rattle.fabric_core.specs.Kept.{IsSoundFabric, IsPossible, down_credits}
 use Rattle.fabric_core.proofs.Lanes.{each_at, get_before, right}
+use Rattle.fabric_core.proofs.Kept.{goes_home}
 
 -- the laws of the layers below
 pub record Never : Type 0 where
@@ -164,14 +165,6 @@ out_packet : (f : Fabric) (place mark : ℕ) (t : Packet) → IsRouted f → IsA
 out_packet f place mark t r there =
     each_at (λ (x : Packet × ℕ). HasPort (length f.requesters) x.0 × FitsStatus x.0.kind x.0.body) (content f.outward) place (t, mark) (get_before f.outward.receiver.queue (on_the_way f.outward) place (t, mark) there.item) r.outward
 
-goes_home : (t : Packet) (to : ℕ) → route t 0 ≡ Ok to → t.requester / 256 ≡ to
-goes_home t to e = by_kind (is_completion t.kind) (is_requester (port_of t)) e
-  where
-    by_kind : (c p : Bool) → (if c then (if true && p then Ok (port_of t) else Err NoPort) else Err NoPort) ≡ Ok to → t.requester / 256 ≡ to
-    by_kind true true h = cc
-    by_kind true false h = cc
-    by_kind false p h = cc
-
 has_lane : (f : Fabric) (place : ℕ) (r : Refusal) → IsSoundFabric f → IsWithoutLane f place r → ⊥
 has_lane f place r s w =
     let p = (out_packet f place w.routed.mark w.routed.packet s.routed w.routed.there).0 in
@@ -186,9 +179,9 @@ has_lane f place r s w =
 up_possible : (f : Fabric) (port place : ℕ) (r : Refusal) → IsSoundFabric f → ForwardUpRefusedBy f port place r → IsPossible r
 up_possible f port place r s b =
     by_refusal (λ (x : Refusal). ForwardUpRefusedBy f port place x)
-    (λ x c. either c.refused (λ h. h) (λ h. h))
-    (λ x c. either c.refused (λ h. h) (λ h. h))
-    (λ x c. either c.refused (λ h. request_routed h.packet port c.at_place x (up_packet f c.at_place c.lane place h.mark h.packet s.routed c.has_lane.there h.there) c.has_lane.is_port h.is) (λ h. h))
+    (λ x c. either c.refused (λ h. h) (λ h. h.refused))
+    (λ x c. either c.refused (λ h. h) (λ h. h.refused))
+    (λ x c. either c.refused (λ h. request_routed h.packet port c.at_place x (up_packet f c.at_place c.lane place h.mark h.packet s.routed c.has_lane.there h.there) c.has_lane.is_port h.is) (λ h. h.refused))
     r b
 
 out_possible : (f : Fabric) (place : ℕ) (r : Refusal) → IsSoundFabric f → Refused f (events.Forward lanes.Outward place) r → IsPossible r

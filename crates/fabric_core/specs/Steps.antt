@@ -127,11 +127,17 @@ pub record ForwardsUp (f : Fabric) (port place to : ℕ) (f' : Fabric) : Type 0 
   pub forwards : Forwards lane.receiver place f.inward.sender receiver_after sender_after
   pub now : f' ≡ record f { up = slice_set f.up at_place (record lane { receiver = receiver_after }); inward = record f.inward { sender = sender_after } }
 
+-- the packet has a route, and `in` refuses it
+pub record IsKeptFromInward (f : Fabric) (lane : Ends) (port place : ℕ) (r : Refusal) : Type 0 where
+  pub to : ℕ
+  pub routed : IsRoutedAs lane.receiver place port (Ok to)
+  pub refused : ForwardRefused lane.receiver place f.inward.sender r
+
 pub record ForwardUpRefusedBy (f : Fabric) (port place : ℕ) (r : Refusal) : Type 0 where
   pub at_place : ℕ
   pub lane : Ends
   pub has_lane : HasPart f.up port at_place lane
-  pub refused : DestinationRefused lane.receiver place port r ⊎ ForwardRefused lane.receiver place f.inward.sender r
+  pub refused : DestinationRefused lane.receiver place port r ⊎ IsKeptFromInward f lane port place r
 
 abbrev pub ForwardUpRefused : Fabric → ℕ → ℕ → Refusal → Type 0
 ForwardUpRefused f port place r = IsMissing r port (length f.up) ⊎ ForwardUpRefusedBy f port place r

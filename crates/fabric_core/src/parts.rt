@@ -209,7 +209,9 @@ impl Parts {
         let lane = &mut self.up[at];
         let to = events::destination(&lane.receiver, place, Port::new(port))?;
         let inward = &mut self.inward;
-        events::forward(&mut lane.receiver, place, &mut inward.sender)?;
+        if let Err(refusal) = events::forward(&mut lane.receiver, place, &mut inward.sender) {
+            return Err(refusal);
+        }
         Ok(to.number())
     }
 

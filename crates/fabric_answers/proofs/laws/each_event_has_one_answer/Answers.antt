@@ -5,5 +5,5 @@ use Rattle.fabric_answers.proofs.laws.each_event_has_one_answer.Goals as goal
 pub returns : goal.returns
 returns c = record {
   happens = one_answer;
-  refused = λ f event r sound refused told. one_refusal f event r sound (λ event r. c.every_refusal_is_possible.ensures f event r sound) refused told;
+  refused = one_refusal;
 }
