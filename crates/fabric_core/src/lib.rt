@@ -14,6 +14,8 @@ pub mod events;
 mod fabric;
 mod fault;
 pub mod laws;
+#[cfg(test)]
+mod memory_tests;
 mod parts;
 mod run;
 #[cfg(test)]

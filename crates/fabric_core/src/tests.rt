@@ -39,7 +39,8 @@ const LEAST: LaneCredits = LaneCredits {
     cpld: 8,
 };
 
-fn small(alloc: Global) -> Result<Fabric, ConfigFault> {
+/// A new small fabric.
+pub(super) fn small(alloc: Global) -> Result<Fabric, ConfigFault> {
     Fabric::new(SMALL, alloc)
 }
 
@@ -106,10 +107,9 @@ fn play(fabric: &mut Fabric, script: &[(Event, Seen)]) -> Result<usize, Fail> {
     Ok(script.len())
 }
 
-#[test]
-fn a_lost_ack_and_its_replay(rt: HostRuntime) -> Result<(), Fail> {
-    let mut fabric = small(rt.alloc())?;
-    let script = [
+/// An Ack is lost, the packet is sent again, and the sum is answered.
+pub(super) fn lost_ack() -> [(Event, Seen); 18] {
+    [
         (add(0x40, 7), Seen::Submitted(0)),
         (Event::Transmit(UP), sent(0)),
         (deliver(UP, Fate::Good), arrived(Reception::Accept)),
@@ -134,19 +134,27 @@ fn a_lost_ack_and_its_replay(rt: HostRuntime) -> Result<(), Fail> {
         (Event::Transmit(DOWN), sent(0)),
         (deliver(DOWN, Fate::Good), arrived(Reception::Accept)),
         (Event::Collect(1), answer(0, &[0, 0, 0, 0])),
-    ];
+    ]
+}
+
+#[test]
+fn a_lost_ack_and_its_replay(rt: HostRuntime) -> Result<(), Fail> {
+    let mut fabric = small(rt.alloc())?;
     assert!(rt; fabric.quiet());
-    assert_eq!(rt; play(&mut fabric, &script)?, script.len());
+    assert_eq!(rt; play(&mut fabric, &lost_ack())?, 18);
     assert_eq!(rt; fabric.history().len(), 1);
     assert!(rt; fabric.quiet());
     Ok(())
 }
 
-#[test]
-fn a_nak_and_its_replay(rt: HostRuntime) -> Result<(), Fail> {
-    let mut fabric = small(rt.alloc())?;
-    let nak = Dllp::Nak(Seq12::new(0));
-    let script = [
+/// The Nak of the packet 1.
+fn nak() -> Dllp {
+    Dllp::Nak(Seq12::new(0))
+}
+
+/// The second of three packets fails; it and the third are sent again.
+pub(super) fn nak_and_replay() -> [(Event, Seen); 16] {
+    [
         (add(0x40, 1), Seen::Submitted(0)),
         (add(0x40, 1), Seen::Submitted(1)),
         (add(0x40, 1), Seen::Submitted(2)),
@@ -156,10 +164,10 @@ fn a_nak_and_its_replay(rt: HostRuntime) -> Result<(), Fail> {
         (deliver(UP, Fate::Good), arrived(Reception::Accept)),
         (deliver(UP, Fate::Failed), arrived(Reception::NakNow)),
         (deliver(UP, Fate::Good), arrived(Reception::Quiet)),
-        (Event::SendDllp(UP, DllpKind::Answer), Seen::SentDllp(nak)),
+        (Event::SendDllp(UP, DllpKind::Answer), Seen::SentDllp(nak())),
         (
             Event::DeliverDllp(UP, Fate::Good),
-            Seen::SeenDllp(DllpSeen::Took(nak)),
+            Seen::SeenDllp(DllpSeen::Took(nak())),
         ),
         (Event::Transmit(UP), sent(1)),
         (deliver(UP, Fate::Good), arrived(Reception::Accept)),
@@ -169,37 +177,49 @@ fn a_nak_and_its_replay(rt: HostRuntime) -> Result<(), Fail> {
             Event::SendDllp(UP, DllpKind::Answer),
             Seen::SentDllp(Dllp::Ack(Seq12::new(2))),
         ),
-    ];
-    assert_eq!(rt; play(&mut fabric, &script)?, script.len());
+    ]
+}
+
+#[test]
+fn a_nak_and_its_replay(rt: HostRuntime) -> Result<(), Fail> {
+    let mut fabric = small(rt.alloc())?;
+    assert_eq!(rt; play(&mut fabric, &nak_and_replay())?, 16);
     assert!(rt; !fabric.quiet());
     Ok(())
 }
 
+/// A write acts before the read that was submitted before it, which answers what it wrote.
+pub(super) fn write_passes_read() -> [(Event, Seen); 20] {
+    [
+        (read(), Seen::Submitted(0)),
+        (write(), Seen::Submitted(1)),
+        (Event::Transmit(UP), sent(0)),
+        (Event::Transmit(UP), sent(1)),
+        (deliver(UP, Fate::Good), arrived(Reception::Accept)),
+        (deliver(UP, Fate::Good), arrived(Reception::Accept)),
+        (Event::Forward(UP, 1), Seen::To(0)),
+        (Event::Forward(UP, 0), Seen::To(0)),
+        (Event::Transmit(IN), sent(0)),
+        (Event::Transmit(IN), sent(1)),
+        (deliver(IN, Fate::Good), arrived(Reception::Accept)),
+        (deliver(IN, Fate::Good), arrived(Reception::Accept)),
+        (Event::Serve(0), Seen::At(0)),
+        (Event::Serve(0), Seen::At(1)),
+        (Event::Transmit(OUT), sent(0)),
+        (deliver(OUT, Fate::Good), arrived(Reception::Accept)),
+        (Event::Forward(OUT, 0), Seen::To(1)),
+        (Event::Transmit(DOWN), sent(0)),
+        (deliver(DOWN, Fate::Good), arrived(Reception::Accept)),
+        (Event::Collect(1), answer(0, &[1, 2, 3, 4])),
+    ]
+}
+
 #[test]
 fn a_write_passes_an_earlier_read(rt: HostRuntime) -> Result<(), Fail> {
+    let mut stepped = small(rt.alloc())?;
+    assert_eq!(rt; play(&mut stepped, &write_passes_read())?, 20);
     let mut fabric = small(rt.alloc())?;
-    let events = [
-        read(),
-        write(),
-        Event::Transmit(UP),
-        Event::Transmit(UP),
-        deliver(UP, Fate::Good),
-        deliver(UP, Fate::Good),
-        Event::Forward(UP, 1),
-        Event::Forward(UP, 0),
-        Event::Transmit(IN),
-        Event::Transmit(IN),
-        deliver(IN, Fate::Good),
-        deliver(IN, Fate::Good),
-        Event::Serve(0),
-        Event::Serve(0),
-        Event::Transmit(OUT),
-        deliver(OUT, Fate::Good),
-        Event::Forward(OUT, 0),
-        Event::Transmit(DOWN),
-        deliver(DOWN, Fate::Good),
-        Event::Collect(1),
-    ];
+    let events = write_passes_read().map(|(event, _)| event);
     let trace = match fabric.run(&events, rt.alloc()) {
         Ok(trace) => trace,
         Err(fault) => return Err(Fail::new(fault.refusal)),
@@ -210,19 +230,27 @@ fn a_write_passes_an_earlier_read(rt: HostRuntime) -> Result<(), Fail> {
     Ok(())
 }
 
+/// A read arrives at the switch behind a write.
+pub(super) fn read_behind_write() -> [(Event, Seen); 6] {
+    [
+        (write(), Seen::Submitted(0)),
+        (read(), Seen::Submitted(1)),
+        (Event::Transmit(UP), sent(0)),
+        (Event::Transmit(UP), sent(1)),
+        (deliver(UP, Fate::Good), arrived(Reception::Accept)),
+        (deliver(UP, Fate::Good), arrived(Reception::Accept)),
+    ]
+}
+
 #[test]
 fn a_read_passes_no_earlier_write(rt: HostRuntime) -> Result<(), Fail> {
     let mut fabric = small(rt.alloc())?;
-    let events = [
-        write(),
-        read(),
-        Event::Transmit(UP),
-        Event::Transmit(UP),
-        deliver(UP, Fate::Good),
-        deliver(UP, Fate::Good),
-        Event::Forward(UP, 1),
-        Event::Forward(UP, 0),
-    ];
+    let mut events = Vec::new(rt.alloc());
+    for (event, _) in read_behind_write() {
+        events.push(event)?;
+    }
+    events.push(Event::Forward(UP, 1))?;
+    events.push(Event::Forward(UP, 0))?;
     let Err(fault) = fabric.run(&events, rt.alloc()) else {
         return Err(Fail::new("it passed"));
     };
