@@ -5,6 +5,8 @@ mod check;
 mod command;
 #[cfg(test)]
 mod examples;
+#[cfg(test)]
+mod memory_tests;
 mod options;
 mod step;
 #[cfg(test)]
