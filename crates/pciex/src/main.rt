@@ -4,7 +4,7 @@
 mod check;
 mod command;
 #[cfg(test)]
-mod examples;
+mod example_tests;
 #[cfg(test)]
 mod memory_tests;
 mod options;
