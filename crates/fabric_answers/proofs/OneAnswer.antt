@@ -201,31 +201,33 @@ forwarded_up : (f : Fabric) (port place to : ℕ) (f' : Fabric) → ForwardsUp f
 forwarded_up f port place to f' h =
     let e = h.lane in
     let s = h.forwards in
+    let there : IsAt e.receiver place s.packet s.mark = record { takeable = s.takeable; item = s.there } in
     let goes : route s.packet port ≡ Ok to =
-    subst (λ (t : Packet). route t port ≡ Ok to) (same_packet e.receiver place h.routed.packet s.packet h.routed.mark s.mark h.routed.there s.there) h.routed.is in
+    subst (λ (t : Packet). route t port ≡ Ok to) (same_packet e.receiver place h.routed.packet s.packet h.routed.mark s.mark h.routed.there there) h.routed.is in
     ap (forward_up f port place) (part_is f.up port h.at_place e h.has_lane)
-    ∙ ap (forward_item f port e place) (taken e.receiver place s.packet s.mark s.there)
+    ∙ ap (forward_item f port e place) (taken e.receiver place s.packet s.mark there)
     ∙ ap (forward_in f port e place (s.packet, s.mark)) goes
     ∙ ap (seen_with (seen.To to) (λ (x : Outgoing). record f { up = with_part f.up port (record e { receiver = after_take e.receiver place }); inward = record f.inward { sender = x } }))
-    (enters f.inward.sender s.packet s.mark h.sender_after s.enters)
+    (enters f.inward.sender s.packet s.mark h.sender_after (record { may = s.may; spelled = s.spelled; now = s.sent }))
     ∙ ap (λ (up : List Ends). Ok (seen.To to, record f { up = up; inward = record f.inward { sender = h.sender_after } }))
     (set_is f.up port h.at_place e (record e { receiver = after_take e.receiver place }) h.has_lane
-    ∙ ap (λ (r : Incoming). slice_set f.up h.at_place (record e { receiver = r })) (sym s.now))
+    ∙ ap (λ (r : Incoming). slice_set f.up h.at_place (record e { receiver = r })) (sym s.left))
     ∙ ap (λ (g : Fabric). Ok (seen.To to, g)) (sym h.now)
 
 forwarded_out : (f : Fabric) (place to : ℕ) (f' : Fabric) → ForwardsOut f place to f' → forward_out f place (takeable_at f.outward.receiver place) ≡ Ok (seen.To to, f')
 forwarded_out f place to f' h =
     let e = h.lane in
     let s = h.forwards in
+    let there : IsAt f.outward.receiver place s.packet s.mark = record { takeable = s.takeable; item = s.there } in
     let goes : route s.packet 0 ≡ Ok to =
-    subst (λ (t : Packet). route t 0 ≡ Ok to) (same_packet f.outward.receiver place h.routed.packet s.packet h.routed.mark s.mark h.routed.there s.there) h.routed.is in
-    ap (forward_out f place) (taken f.outward.receiver place s.packet s.mark s.there)
+    subst (λ (t : Packet). route t 0 ≡ Ok to) (same_packet f.outward.receiver place h.routed.packet s.packet h.routed.mark s.mark h.routed.there there) h.routed.is in
+    ap (forward_out f place) (taken f.outward.receiver place s.packet s.mark there)
     ∙ ap (forward_routed f place (s.packet, s.mark)) goes
     ∙ ap (forward_to f to place (s.packet, s.mark)) (part_is f.down to h.at_place e h.has_lane)
     ∙ ap (seen_with (seen.To to) (λ (x : Outgoing). record f { outward = record f.outward { receiver = after_take f.outward.receiver place }; down = with_part f.down to (record e { sender = x }) }))
-    (enters e.sender s.packet s.mark h.sender_after s.enters)
+    (enters e.sender s.packet s.mark h.sender_after (record { may = s.may; spelled = s.spelled; now = s.sent }))
     ∙ ap₂ (λ (r : Incoming) (down : List Ends). Ok (seen.To to, record f { outward = record f.outward { receiver = r }; down = down }))
-    (sym s.now)
+    (sym s.left)
     (set_is f.down to h.at_place e (record e { sender = h.sender_after }) h.has_lane)
     ∙ ap (λ (g : Fabric). Ok (seen.To to, g)) (sym h.now)
 

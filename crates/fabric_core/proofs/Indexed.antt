@@ -6,9 +6,10 @@ use Rattle.seq_memory.specs.History.{State}
 use Rattle.requester_core.specs.declared.requester.Answer.{Answer}
 use Rattle.requester_core.specs.Requesting.{Requesting}
 use Rattle.lane_core.specs.Steps.{Ends, Incoming, Outgoing}
+use Rattle.switch_core.specs.Forwarding.{Forwards}
 use Rattle.fabric_laws.specs.Fabric.{Fabric}
 use Rattle.fabric_core.specs.declared.fault.Refusal.{Refusal}
-use Rattle.fabric_core.specs.Footprints.{Submits, SubmitRefused, Collects, CollectRefused, Serves, IsRoutedAs, Forwards, ForwardRefused}
+use Rattle.fabric_core.specs.Footprints.{Submits, SubmitRefused, Collects, CollectRefused, Serves, IsRoutedAs, ForwardRefused}
 use Rattle.fabric_core.specs.Steps.{HasPart, SubmitsAt, SubmitAtRefused, CollectsAt, CollectAtRefused, ServesAt, ForwardsUp, ForwardUpRefused, ForwardsOut, ForwardOutRefused}
 
 pub if_ok : {A E : Type 0} (r : Result A E) (P Q : A → Type 0) → ((a : A) → P a → Q a) → IfOk r P → IfOk r Q
@@ -52,7 +53,7 @@ serves_at f place i' m' s' r h =
     (λ a k. record { receiver_after = i'; memory_after = m'; sender_after = s'; serves = k; now = refl }) h
 
 pub forwards_up : (f : Fabric) (port place to at : ℕ) (e : Ends) (r' : Incoming) (s' : Outgoing) →
-    HasPart f.up port at e → IsRoutedAs e.receiver place port (Ok to) → Forwards e.receiver place f.inward.sender r' s' →
+    HasPart f.up port at e → IsRoutedAs e.receiver place port (Ok to) → Forwards e.receiver r' place f.inward.sender s' →
     ForwardsUp f port place to (record f { up = slice_set f.up at (record e { receiver = r' }); inward = record f.inward { sender = s' } })
 forwards_up f port place to at e r' s' i d h =
     record { at_place = at; lane = e; has_lane = i; routed = d; receiver_after = r'; sender_after = s'; forwards = h; now = refl }
@@ -63,7 +64,7 @@ forward_up_refused f port place to at e r i d h =
     inr (record { at_place = at; lane = e; has_lane = i; refused = inr (record { to = to; routed = d; refused = h }) })
 
 pub forwards_out : (f : Fabric) (place to at : ℕ) (e : Ends) (r' : Incoming) (s' : Outgoing) →
-    HasPart f.down to at e → IsRoutedAs f.outward.receiver place 0 (Ok to) → Forwards f.outward.receiver place e.sender r' s' →
+    HasPart f.down to at e → IsRoutedAs f.outward.receiver place 0 (Ok to) → Forwards f.outward.receiver r' place e.sender s' →
     ForwardsOut f place to (record f { outward = record f.outward { receiver = r' }; down = slice_set f.down at (record e { sender = s' }) })
 forwards_out f place to at e r' s' i d h =
     record { at_place = at; lane = e; routed = d; has_lane = i; receiver_after = r'; sender_after = s'; forwards = h; now = refl }

@@ -9,9 +9,10 @@ use Rattle.seq_memory.specs.History.{State}
 use Rattle.completer_core.specs.Serving.{completion_to}
 use Rattle.requester_core.specs.declared.requester.Answer.{Answer}
 use Rattle.requester_core.specs.Requesting.{Requesting}
+use Rattle.switch_core.specs.Forwarding.{Forwards}
 use Rattle.switch_core.specs.Routing.{port_of, is_requester, route}
 use Rattle.switch_core.specs.declared.fault.RouteFault.TheVariants.{NoPort}
-use Rattle.lane_core.specs.Steps.{Ends, Incoming}
+use Rattle.lane_core.specs.Steps.{Ends, Incoming, Outgoing}
 use Rattle.lane_core.specs.Calls.{content, on_the_way, IsRightWith}
 use Rattle.fabric_laws.specs.Fabric.{Fabric, whole_of}
 use Rattle.fabric_laws.specs.Events.{IsSubmitted, IsForwarded, IsServed, IsReturned, IsCollected, IsLinked}
@@ -28,7 +29,7 @@ use Rattle.fabric_core.specs.declared.event.LaneName.TheVariants as lanes
 use Rattle.fabric_core.specs.declared.event.LinkEvent.TheVariants as links
 use Rattle.fabric_core.specs.declared.event.LinkEvent.{LinkEvent}
 use Rattle.fabric_core.specs.declared.event.Seen.{Seen}
-use Rattle.fabric_core.specs.Footprints.{IsAt}
+use Rattle.fabric_core.specs.Footprints.{IsAt, Enters}
 use Rattle.fabric_core.specs.Steps.{HasLanes, LinksUp, LinksDown, LinksInward, LinksOutward, LinksAt, SubmitsAt, ForwardsUp, ForwardsOut, ServesAt, CollectsAt, Happens}
 use Rattle.fabric_core.specs.Kept.{IsSoundFabric, down_credits, records_of}
 use Rattle.fabric_core.proofs.Lanes.{KeepsRight, KeepsContent, kept_set, get_before, enters_right, enters_content, any_right, any_content, takes_right, taken_at, links_right, links_content}
@@ -144,6 +145,13 @@ submit_stays law f port op number f' s h =
 
 -- ---- Forward
 
+-- what is said of each end of a packet that is forwarded
+is_at : {r r' : Incoming} {place : ℕ} {s s' : Outgoing} (h : Forwards r r' place s s') → IsAt r place h.packet h.mark
+is_at h = record { takeable = h.takeable; item = h.there }
+
+enters : {r r' : Incoming} {place : ℕ} {s s' : Outgoing} (h : Forwards r r' place s s') → Enters s h.packet h.mark s'
+enters h = record { may = h.may; spelled = h.spelled; now = h.sent }
+
 pub forwarded : KeepsContent → (f : Fabric) (port place to : ℕ) (f' : Fabric) → IsSoundFabric f → (h : ForwardsUp f port place to f') → IsForwarded f h.at_place place f'
 forwarded law f port place to f' s h =
     record {
@@ -153,8 +161,8 @@ forwarded law f port place to f' s h =
       packet = h.forwards.packet;
       mark = h.forwards.mark;
       has_lane = h.has_lane.there;
-      taken = taken_at law f.credits h.lane place h.forwards.mark h.forwards.packet h.receiver_after (s.up h.at_place h.lane h.has_lane.there) h.forwards.there h.forwards.now;
-      entered = enters_content law f.credits f.inward h.forwards.packet h.forwards.mark h.sender_after s.inward h.forwards.enters;
+      taken = taken_at law f.credits h.lane place h.forwards.mark h.forwards.packet h.receiver_after (s.up h.at_place h.lane h.has_lane.there) (is_at h.forwards) h.forwards.left;
+      entered = enters_content law f.credits f.inward h.forwards.packet h.forwards.mark h.sender_after s.inward (enters h.forwards);
       now = h.now;
     }
 
@@ -162,8 +170,8 @@ pub forward_stays : KeepsRight → (f : Fabric) (port place to : ℕ) (f' : Fabr
 forward_stays law f port place to f' s h =
     let e : Ends = record h.lane { receiver = h.receiver_after } in
     let i : Ends = record f.inward { sender = h.sender_after } in
-    let r : IsRightWith f.credits e = takes_right law f.credits h.lane place h.forwards.mark h.forwards.packet h.receiver_after (s.up h.at_place h.lane h.has_lane.there) h.forwards.there h.forwards.now in
-    let q : IsRightWith f.credits i = enters_right law f.credits f.inward h.forwards.packet h.forwards.mark h.sender_after s.inward h.forwards.enters in
+    let r : IsRightWith f.credits e = takes_right law f.credits h.lane place h.forwards.mark h.forwards.packet h.receiver_after (s.up h.at_place h.lane h.has_lane.there) (is_at h.forwards) h.forwards.left in
+    let q : IsRightWith f.credits i = enters_right law f.credits f.inward h.forwards.packet h.forwards.mark h.sender_after s.inward (enters h.forwards) in
     subst HasRightLanes (sym h.now) (inward_set (record f { up = slice_set f.up h.at_place e }) i (up_set f h.at_place e (lanes_of f s) r) q)
 
 -- a packet that the memory's side sends home goes to its own port
@@ -186,7 +194,7 @@ one_packet r place t u m n h k =
 
 pub returned : KeepsContent → (f : Fabric) (place to : ℕ) (f' : Fabric) → IsSoundFabric f → (h : ForwardsOut f place to f') → IsReturned f h.at_place place f'
 returned law f place to f' s h =
-    let same : h.routed.packet ≡ h.forwards.packet = one_packet f.outward.receiver place h.routed.packet h.forwards.packet h.routed.mark h.forwards.mark h.routed.there h.forwards.there in
+    let same : h.routed.packet ≡ h.forwards.packet = one_packet f.outward.receiver place h.routed.packet h.forwards.packet h.routed.mark h.forwards.mark h.routed.there (is_at h.forwards) in
     record {
       lane_after = record f.outward { receiver = h.receiver_after };
       lane = h.lane;
@@ -195,8 +203,8 @@ returned law f place to f' s h =
       mark = h.forwards.mark;
       port = subst (λ (t : Packet). t.requester / 256 ≡ suc h.at_place) same (goes_home h.routed.packet to h.routed.is ∙ h.has_lane.is_port);
       has_lane = h.has_lane.there;
-      taken = taken_at law f.credits f.outward place h.forwards.mark h.forwards.packet h.receiver_after s.outward h.forwards.there h.forwards.now;
-      entered = enters_content law (down_credits f.credits) h.lane h.forwards.packet h.forwards.mark h.sender_after (s.down h.at_place h.lane h.has_lane.there) h.forwards.enters;
+      taken = taken_at law f.credits f.outward place h.forwards.mark h.forwards.packet h.receiver_after s.outward (is_at h.forwards) h.forwards.left;
+      entered = enters_content law (down_credits f.credits) h.lane h.forwards.packet h.forwards.mark h.sender_after (s.down h.at_place h.lane h.has_lane.there) (enters h.forwards);
       now = h.now;
     }
 
@@ -204,8 +212,8 @@ pub return_stays : KeepsRight → (f : Fabric) (place to : ℕ) (f' : Fabric) �
 return_stays law f place to f' s h =
     let e : Ends = record h.lane { sender = h.sender_after } in
     let o : Ends = record f.outward { receiver = h.receiver_after } in
-    let r : IsRightWith f.credits o = takes_right law f.credits f.outward place h.forwards.mark h.forwards.packet h.receiver_after s.outward h.forwards.there h.forwards.now in
-    let q : IsRightWith (down_credits f.credits) e = enters_right law (down_credits f.credits) h.lane h.forwards.packet h.forwards.mark h.sender_after (s.down h.at_place h.lane h.has_lane.there) h.forwards.enters in
+    let r : IsRightWith f.credits o = takes_right law f.credits f.outward place h.forwards.mark h.forwards.packet h.receiver_after s.outward (is_at h.forwards) h.forwards.left in
+    let q : IsRightWith (down_credits f.credits) e = enters_right law (down_credits f.credits) h.lane h.forwards.packet h.forwards.mark h.sender_after (s.down h.at_place h.lane h.has_lane.there) (enters h.forwards) in
     subst HasRightLanes (sym h.now) (down_set (record f { outward = o }) h.at_place e (outward_set f o (lanes_of f s) r) q)
 
 -- ---- Serve

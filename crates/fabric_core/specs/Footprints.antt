@@ -118,13 +118,6 @@ LinkRefused e _ _ = ⊥
 
 -- ---- Forward, over a receiver's end and the sender's end of the next lane
 
-pub record Forwards (r : Incoming) (place : ℕ) (s : Outgoing) (r' : Incoming) (s' : Outgoing) : Type 0 where
-  pub packet : Packet
-  pub mark : ℕ
-  pub there : IsAt r place packet mark
-  pub enters : Enters s packet mark s'
-  pub now : r' ≡ after_take r place
-
 -- the packet may go, and the next lane has no room for it
 pub record IsHeld (r : Incoming) (place : ℕ) (s : Outgoing) (refusal : LaneRefusal) : Type 0 where
   pub packet : Packet

@@ -5,6 +5,7 @@ use Rattle.seq_memory.specs.History.{State}
 use Rattle.requester_core.specs.declared.requester.Answer.{Answer}
 use Rattle.requester_core.specs.Requesting.{Requesting}
 use Rattle.switch_core.specs.declared.fault.RouteFault.TheVariants.{NoPort}
+use Rattle.switch_core.specs.Forwarding.{Forwards}
 use Rattle.lane_core.specs.Steps.{Ends, Incoming, Outgoing}
 use Rattle.fabric_laws.specs.Fabric.{Fabric}
 use Rattle.fabric_core.specs.declared.event.Event.{Event}
@@ -17,7 +18,7 @@ use Rattle.fabric_core.specs.declared.event.Seen.{Seen}
 use Rattle.fabric_core.specs.declared.event.Seen.TheVariants as seen
 use Rattle.fabric_core.specs.declared.fault.Refusal.{Refusal}
 use Rattle.fabric_core.specs.declared.fault.Refusal.TheVariants as refusals
-use Rattle.fabric_core.specs.Footprints.{Submits, SubmitRefused, Links, LinkRefused, Forwards, ForwardRefused, IsRoutedAs, DestinationRefused, Serves, ServeRefused, Collects, CollectRefused}
+use Rattle.fabric_core.specs.Footprints.{Submits, SubmitRefused, Links, LinkRefused, ForwardRefused, IsRoutedAs, DestinationRefused, Serves, ServeRefused, Collects, CollectRefused}
 
 -- lists of so many parts have none of that port
 abbrev pub IsNoPort : ℕ → ℕ → Type 0
@@ -124,7 +125,7 @@ pub record ForwardsUp (f : Fabric) (port place to : ℕ) (f' : Fabric) : Type 0 
   pub routed : IsRoutedAs lane.receiver place port (Ok to)
   pub receiver_after : Incoming
   pub sender_after : Outgoing
-  pub forwards : Forwards lane.receiver place f.inward.sender receiver_after sender_after
+  pub forwards : Forwards lane.receiver receiver_after place f.inward.sender sender_after
   pub now : f' ≡ record f { up = slice_set f.up at_place (record lane { receiver = receiver_after }); inward = record f.inward { sender = sender_after } }
 
 -- the packet has a route, and `in` refuses it
@@ -150,7 +151,7 @@ pub record ForwardsOut (f : Fabric) (place to : ℕ) (f' : Fabric) : Type 0 wher
   pub has_lane : HasPart f.down to at_place lane
   pub receiver_after : Incoming
   pub sender_after : Outgoing
-  pub forwards : Forwards f.outward.receiver place lane.sender receiver_after sender_after
+  pub forwards : Forwards f.outward.receiver receiver_after place lane.sender sender_after
   pub now : f' ≡ record f { outward = record f.outward { receiver = receiver_after }; down = slice_set f.down at_place (record lane { sender = sender_after }) }
 
 pub record ForwardOutRefusedBy (f : Fabric) (place : ℕ) (r : Refusal) : Type 0 where

@@ -5,7 +5,8 @@ ghost use Rattle.dllp_core.specs.declared.packet.Dllp.{Dllp};
 ghost use Rattle.fc_credit.specs.Needs.{need_of};
 ghost use Rattle.completer_core.specs.Serving.{completion_to, after_serving};
 ghost use Rattle.lane_core.specs.Steps.{may_enter, with_room, after_timer, after_retraining, transmitted, after_transmission, wire_after_transmit, all_but_first, delivered, after_deliver, dllp_of, after_send, wire_after_send, dllp_seen, sender_after};
-ghost use Rattle.fabric_core.specs.Footprints.{Enters, LacksRoom, Submits, SubmitRefused, Forwards, ForwardRefused, IsRoutedAs, DestinationRefused, Acts, ActRefused, DllpRefused, Serves, ServeRefused, Collects, CollectRefused};
+ghost use Rattle.switch_core.specs.Forwarding.{Forwards};
+ghost use Rattle.fabric_core.specs.Footprints.{Enters, LacksRoom, Submits, SubmitRefused, ForwardRefused, IsRoutedAs, DestinationRefused, Acts, ActRefused, DllpRefused, Serves, ServeRefused, Collects, CollectRefused};
 
 use crate::fault::Refusal;
 use completer_core::{serve as serve_request, shape};
@@ -17,7 +18,7 @@ use lane_core::{
 use requester_core::{Answer, Requester};
 use seq_memory::Memory;
 use seq12::Seq12;
-use switch_core::{Port, route};
+use switch_core::{ForwardRefusal, Port, forward_ends, route};
 use tlp_core::{Op, Tlp};
 
 /// A packet enters a lane with its mark.
@@ -194,23 +195,16 @@ pub fn forward(
     place: usize,
     sender: &mut SenderEnd,
 ) -> Result<(), Refusal>
-    ensures ok { OnOk result (Forwards receiver.old place sender.old receiver.new sender.new) }
+    ensures ok { OnOk result (Forwards receiver.old receiver.new place sender.old sender.new) }
     ensures refused { IfErr result (λ r. ForwardRefused receiver.old place sender.old r) }
     ensures err_receiver { OnErr result (receiver.new ≡ receiver.old) }
     ensures err_sender { OnErr result (sender.new ≡ sender.old) }
 {
-    let may_go = receiver.takeable(place);
-    if !may_go {
-        return Err(Refusal::NotTakeable);
+    match forward_ends(receiver, place, sender) {
+        Ok(()) => Ok(()),
+        Err(ForwardRefusal::NotTakeable) => Err(Refusal::NotTakeable),
+        Err(ForwardRefusal::Lane(refusal)) => Err(Refusal::Lane(refusal)),
     }
-    let Some((packet, mark)) = receiver.at(place) else {
-        return Err(Refusal::NotTakeable);
-    };
-    if let Err(refusal) = enter(sender, packet, mark) {
-        return Err(Refusal::Lane(refusal));
-    }
-    let (_, _) = receiver.take(place);
-    Ok(())
 }
 
 /// The requester takes its oldest completion. Gives the number of the request and the reply. `Idle` where none has

@@ -38,6 +38,7 @@ impl Lane {
     ghost use Rattle.dllp_core.specs.Layout.{FitsDataFC};
     ghost use Rattle.dllp_core.specs.declared.packet.Dllp.{Dllp};
     ghost use Rattle.replay_sender.specs.Sending.{next_number};
+    ghost use Rattle.tlp_core.specs.Layout.{Spells, canonical};
     ghost use Rattle.fc_credit.specs.Limits.{IsInLimits};
     ghost use Rattle.fc_credit.specs.Needs.{need_of as need};
     ghost use Rattle.fc_credit.specs.Credits.{gate_covers};
@@ -85,6 +86,7 @@ impl Lane {
         ensures room_was_made { IsTrue self.old.sender.sending.reserved → IsTrue (gate_covers self.old.sender.gate (need tlp.now)) → length self.old.sender.sending.kept < 2047 → IsOk result }
         ensures number { IfOk result (λ number. number ≡ next_number self.old.sender.sending) }
         ensures ok { OnOk result (self.new ≡ record self.old { sender = entered self.old.sender tlp.now mark }) }
+        ensures spelled { OnOk result (Spells (canonical tlp.now) tlp.now) }
         ensures content { OnOk result (content self.new ≡ content self.old ++ (tlp.now, mark) ∷ []) }
         ensures err { OnErr result (self.new ≡ self.old) }
     {

@@ -1,11 +1,19 @@
 -- A packet moves from one lane's queue into another lane.
-use Rattle.std.specs.Prelude.{◌≡◌, ℕ, Some, slice_get}
-use Rattle.vc_queue.specs.Queue.{Item}
-use Rattle.lane_core.specs.Steps.{Incoming, Outgoing, entered, after_take}
+use Rattle.std.specs.Prelude.{◌≡◌, ℕ, true, Some, slice_get}
+use Rattle.tlp_core.specs.Packet.{Packet}
+use Rattle.tlp_core.specs.Layout.{Spells, canonical}
+use Rattle.fc_credit.specs.Needs.{need_of}
+use Rattle.vc_queue.specs.Queue.{is_takeable}
+use Rattle.lane_core.specs.Steps.{Incoming, Outgoing, may_enter, entered, after_take}
 
--- the packet of the place, with its mark, was entered into the second end unchanged and taken from the first
+-- the packet of the place, which may pass each earlier one, was taken from the first end and entered into the second
+-- unchanged, with its mark, where there was room for it
 pub record Forwards (from from_after : Incoming) (place : ℕ) (to to_after : Outgoing) : Type 0 where
-  pub item : Item
-  pub there : slice_get from.queue place ≡ Some item
-  pub sent : to_after ≡ entered to item.0 item.1
+  pub packet : Packet
+  pub mark : ℕ
+  pub takeable : is_takeable from.queue place ≡ true
+  pub there : slice_get from.queue place ≡ Some (packet, mark)
+  pub may : may_enter to (need_of packet) ≡ true
+  pub spelled : Spells (canonical packet) packet
+  pub sent : to_after ≡ entered to packet mark
   pub left : from_after ≡ after_take from place

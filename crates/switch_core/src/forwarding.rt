@@ -65,7 +65,11 @@ pub fn forward(from: &mut Lane, place: usize, to: &mut Lane) -> Result<(), Forwa
     if !takeable {
         return Err(ForwardRefusal::NotTakeable);
     }
-    to.enter(packet, mark).map_err(ForwardRefusal::Lane)?;
-    let (_, _) = from.take(place);
-    Ok(())
+    match to.enter(packet, mark) {
+        Ok(_) => {
+            let (_, _) = from.take(place);
+            Ok(())
+        }
+        Err(refusal) => Err(ForwardRefusal::Lane(refusal)),
+    }
 }
