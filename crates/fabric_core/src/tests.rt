@@ -215,11 +215,37 @@ pub(super) fn write_passes_read() -> [(Event, Seen); 20] {
 }
 
 #[test]
-fn a_write_passes_an_earlier_read(rt: HostRuntime) -> Result<(), Fail> {
-    let mut stepped = small(rt.alloc())?;
-    assert_eq!(rt; play(&mut stepped, &write_passes_read())?, 20);
+fn a_write_passes_an_earlier_read_step_by_step(rt: HostRuntime) -> Result<(), Fail> {
     let mut fabric = small(rt.alloc())?;
-    let events = write_passes_read().map(|(event, _)| event);
+    assert_eq!(rt; play(&mut fabric, &write_passes_read())?, 20);
+    Ok(())
+}
+
+#[test]
+fn a_write_passes_an_earlier_read(rt: HostRuntime) -> Result<(), Fail> {
+    let mut fabric = small(rt.alloc())?;
+    let events = [
+        read(),
+        write(),
+        Event::Transmit(UP),
+        Event::Transmit(UP),
+        deliver(UP, Fate::Good),
+        deliver(UP, Fate::Good),
+        Event::Forward(UP, 1),
+        Event::Forward(UP, 0),
+        Event::Transmit(IN),
+        Event::Transmit(IN),
+        deliver(IN, Fate::Good),
+        deliver(IN, Fate::Good),
+        Event::Serve(0),
+        Event::Serve(0),
+        Event::Transmit(OUT),
+        deliver(OUT, Fate::Good),
+        Event::Forward(OUT, 0),
+        Event::Transmit(DOWN),
+        deliver(DOWN, Fate::Good),
+        Event::Collect(1),
+    ];
     let trace = match fabric.run(&events, rt.alloc()) {
         Ok(trace) => trace,
         Err(fault) => return Err(Fail::new(fault.refusal)),
@@ -245,12 +271,16 @@ pub(super) fn read_behind_write() -> [(Event, Seen); 6] {
 #[test]
 fn a_read_passes_no_earlier_write(rt: HostRuntime) -> Result<(), Fail> {
     let mut fabric = small(rt.alloc())?;
-    let mut events = Vec::new(rt.alloc());
-    for (event, _) in read_behind_write() {
-        events.push(event)?;
-    }
-    events.push(Event::Forward(UP, 1))?;
-    events.push(Event::Forward(UP, 0))?;
+    let events = [
+        write(),
+        read(),
+        Event::Transmit(UP),
+        Event::Transmit(UP),
+        deliver(UP, Fate::Good),
+        deliver(UP, Fate::Good),
+        Event::Forward(UP, 1),
+        Event::Forward(UP, 0),
+    ];
     let Err(fault) = fabric.run(&events, rt.alloc()) else {
         return Err(Fail::new("it passed"));
     };
