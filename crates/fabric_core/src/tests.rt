@@ -1,8 +1,10 @@
 //! Worked scripts of events.
+ghost use Rattle.seq_memory.specs.Limits.{IsBlock};
+
 use crate::{Config, ConfigFault, Event, Fabric, LaneName, Refusal, Seen};
 use arrayvec::ArrayVec;
 use dllp_core::{Class, Dllp};
-use history_check::check;
+use history_check::{Trace, check};
 use lane_core::{Arrival, DllpKind, DllpSeen, Fate, LaneCredits, LaneRefusal};
 use link_receiver::Reception;
 use requester_core::{Answer, SubmitRefusal};
@@ -137,13 +139,20 @@ pub(super) fn lost_ack() -> [(Event, Seen); 18] {
     ]
 }
 
+fn lost_ack_on(fabric: &mut Fabric) -> Result<bool, Fail> {
+    let was_quiet = fabric.quiet();
+    let place = play(fabric, &lost_ack())?;
+    Ok(was_quiet && place == 18 && fabric.history().len() == 1 && fabric.quiet())
+}
+
+fn lost_ack_on_new(alloc: Global) -> Result<bool, Fail> {
+    let mut fabric = small(alloc)?;
+    lost_ack_on(&mut fabric)
+}
+
 #[test]
 fn a_lost_ack_and_its_replay(rt: HostRuntime) -> Result<(), Fail> {
-    let mut fabric = small(rt.alloc())?;
-    assert!(rt; fabric.quiet());
-    assert_eq!(rt; play(&mut fabric, &lost_ack())?, 18);
-    assert_eq!(rt; fabric.history().len(), 1);
-    assert!(rt; fabric.quiet());
+    assert!(rt; lost_ack_on_new(rt.alloc())?);
     Ok(())
 }
 
@@ -180,11 +189,19 @@ pub(super) fn nak_and_replay() -> [(Event, Seen); 16] {
     ]
 }
 
+fn nak_on(fabric: &mut Fabric) -> Result<bool, Fail> {
+    let place = play(fabric, &nak_and_replay())?;
+    Ok(place == 16 && !fabric.quiet())
+}
+
+fn nak_on_new(alloc: Global) -> Result<bool, Fail> {
+    let mut fabric = small(alloc)?;
+    nak_on(&mut fabric)
+}
+
 #[test]
 fn a_nak_and_its_replay(rt: HostRuntime) -> Result<(), Fail> {
-    let mut fabric = small(rt.alloc())?;
-    assert_eq!(rt; play(&mut fabric, &nak_and_replay())?, 16);
-    assert!(rt; !fabric.quiet());
+    assert!(rt; nak_on_new(rt.alloc())?);
     Ok(())
 }
 
@@ -216,14 +233,16 @@ pub(super) fn write_passes_read() -> [(Event, Seen); 20] {
 
 #[test]
 fn a_write_passes_an_earlier_read_step_by_step(rt: HostRuntime) -> Result<(), Fail> {
-    let mut fabric = small(rt.alloc())?;
-    assert_eq!(rt; play(&mut fabric, &write_passes_read())?, 20);
+    assert_eq!(rt; play_new(&write_passes_read(), rt.alloc())?, 20);
     Ok(())
 }
 
-#[test]
-fn a_write_passes_an_earlier_read(rt: HostRuntime) -> Result<(), Fail> {
-    let mut fabric = small(rt.alloc())?;
+fn play_new(script: &[(Event, Seen)], alloc: Global) -> Result<usize, Fail> {
+    let mut fabric = small(alloc)?;
+    play(&mut fabric, script)
+}
+
+fn run_passes(fabric: &mut Fabric, alloc: Global) -> Result<bool, Fail> {
     let events = [
         read(),
         write(),
@@ -246,13 +265,28 @@ fn a_write_passes_an_earlier_read(rt: HostRuntime) -> Result<(), Fail> {
         deliver(DOWN, Fate::Good),
         Event::Collect(1),
     ];
-    let trace = match fabric.run(&events, rt.alloc()) {
-        Ok(trace) => trace,
-        Err(fault) => return Err(Fail::new(fault.refusal)),
-    };
-    assert_eq!(rt; trace.records.len(), 3);
-    assert_eq!(rt; check(rt.alloc(), &trace, fabric.history()).is_ok(), true);
-    assert_eq!(rt; fabric.bytes().get(0x43).copied(), Some(4));
+    match fabric.run(&events, alloc) {
+        Ok(trace) => Ok(is_right(&trace, fabric, alloc)),
+        Err(fault) => Err(Fail::new(fault.refusal)),
+    }
+}
+
+fn is_right(trace: &Trace, fabric: &Fabric, alloc: Global) -> bool
+    requires { IsBlock trace.now.block }
+{
+    trace.records.len() == 3
+        && check(alloc, trace, fabric.history()).is_ok()
+        && fabric.bytes().get(0x43).copied() == Some(4)
+}
+
+fn run_passes_on_new(alloc: Global) -> Result<bool, Fail> {
+    let mut fabric = small(alloc)?;
+    run_passes(&mut fabric, alloc)
+}
+
+#[test]
+fn a_write_passes_an_earlier_read(rt: HostRuntime) -> Result<(), Fail> {
+    assert!(rt; run_passes_on_new(rt.alloc())?);
     Ok(())
 }
 
@@ -268,9 +302,7 @@ pub(super) fn read_behind_write() -> [(Event, Seen); 6] {
     ]
 }
 
-#[test]
-fn a_read_passes_no_earlier_write(rt: HostRuntime) -> Result<(), Fail> {
-    let mut fabric = small(rt.alloc())?;
+fn refused_read(fabric: &mut Fabric, alloc: Global) -> Result<bool, Fail> {
     let events = [
         write(),
         read(),
@@ -281,22 +313,28 @@ fn a_read_passes_no_earlier_write(rt: HostRuntime) -> Result<(), Fail> {
         Event::Forward(UP, 1),
         Event::Forward(UP, 0),
     ];
-    let Err(fault) = fabric.run(&events, rt.alloc()) else {
-        return Err(Fail::new("it passed"));
-    };
-    assert_eq!(rt; fault.place, 6);
-    assert_eq!(rt; fault.refusal, Refusal::NotTakeable);
-    assert_eq!(rt; fault.trace.records.len(), 2);
-    Ok(())
+    match fabric.run(&events, alloc) {
+        Ok(_) => Err(Fail::new("it passed")),
+        Err(fault) => Ok(
+            fault.place == 6
+                && fault.refusal == Refusal::NotTakeable
+                && fault.trace.records.len() == 2,
+        ),
+    }
+}
+
+fn refused_read_on_new(alloc: Global) -> Result<bool, Fail> {
+    let mut fabric = small(alloc)?;
+    refused_read(&mut fabric, alloc)
 }
 
 #[test]
-fn credits_run_out_and_come_back(rt: HostRuntime) -> Result<(), Fail> {
-    let config = Config {
-        credits: LEAST,
-        ..SMALL
-    };
-    let mut fabric = Fabric::new(config, rt.alloc())?;
+fn a_read_passes_no_earlier_write(rt: HostRuntime) -> Result<(), Fail> {
+    assert!(rt; refused_read_on_new(rt.alloc())?);
+    Ok(())
+}
+
+fn credits_come_back(fabric: &mut Fabric) -> Result<bool, Fail> {
     let update = Dllp::Update(Class::NonPosted, 2, 3);
     let script = [
         (Event::Transmit(UP), sent(0)),
@@ -312,41 +350,93 @@ fn credits_run_out_and_come_back(rt: HostRuntime) -> Result<(), Fail> {
         ),
         (add(0x40, 1), Seen::Submitted(1)),
     ];
+    Ok(play(fabric, &script)? == 6)
+}
+
+fn credits_run_out(fabric: &mut Fabric) -> Result<bool, Fail> {
     let first = fabric.step(&add(0x40, 1))?;
     let second = fabric.step(&add(0x40, 1));
     let no_credits = Refusal::Lane(LaneRefusal::NoCredits(Class::NonPosted));
-    assert_eq!(rt; first, Seen::Submitted(0));
-    assert!(rt; second == Err(no_credits));
-    assert_eq!(rt; play(&mut fabric, &script)?, script.len());
-    Ok(())
+    Ok(first == Seen::Submitted(0) && second == Err(no_credits))
+}
+
+fn credits_on(fabric: &mut Fabric) -> Result<bool, Fail> {
+    let out = credits_run_out(fabric)?;
+    let back = credits_come_back(fabric)?;
+    Ok(out && back)
+}
+
+fn credits_on_new(alloc: Global) -> Result<bool, Fail> {
+    let config = Config {
+        credits: LEAST,
+        ..SMALL
+    };
+    let mut fabric = Fabric::new(config, alloc)?;
+    credits_on(&mut fabric)
 }
 
 #[test]
-fn a_stopped_link_is_retrained(rt: HostRuntime) -> Result<(), Fail> {
-    let mut fabric = small(rt.alloc())?;
+fn credits_run_out_and_come_back(rt: HostRuntime) -> Result<(), Fail> {
+    assert!(rt; credits_on_new(rt.alloc())?);
+    Ok(())
+}
+
+fn round_is_lost(fabric: &mut Fabric) -> Result<bool, Fail> {
     let round = [
         (Event::Transmit(UP), sent(0)),
         (deliver(UP, Fate::Lost), Seen::Delivered(Arrival::Gone)),
         (Event::Timer(UP), Seen::Back(1)),
     ];
-    let _first = fabric.step(&add(0x40, 1))?;
-    assert!(rt; fabric.step(&Event::Retrained(UP)) == Err(Refusal::Idle));
+    Ok(play(fabric, &round)? == 3)
+}
+
+fn rounds_are_lost(fabric: &mut Fabric) -> Result<bool, Fail> {
     for _ in 0..4 {
-        assert_eq!(rt; play(&mut fabric, &round)?, 3);
+        if !round_is_lost(fabric)? {
+            return Ok(false);
+        }
     }
-    assert!(rt; fabric.step(&Event::Transmit(UP)) == Err(Refusal::Idle));
+    Ok(true)
+}
+
+fn goes_on(fabric: &mut Fabric) -> Result<bool, Fail> {
     let again = [
         (Event::Retrained(UP), Seen::Retrained),
         (Event::Transmit(UP), sent(0)),
     ];
-    assert_eq!(rt; play(&mut fabric, &again)?, 2);
-    Ok(())
+    Ok(play(fabric, &again)? == 2)
+}
+
+fn is_idle(fabric: &mut Fabric, event: &Event) -> bool {
+    fabric.step(event) == Err(Refusal::Idle)
+}
+
+fn stops_and_goes_on(fabric: &mut Fabric) -> Result<bool, Fail> {
+    let _first = fabric.step(&add(0x40, 1))?;
+    let early = is_idle(fabric, &Event::Retrained(UP));
+    let lost = rounds_are_lost(fabric)?;
+    let stopped = is_idle(fabric, &Event::Transmit(UP));
+    let on = goes_on(fabric)?;
+    Ok(early && lost && stopped && on)
+}
+
+fn new_stops_and_goes_on(alloc: Global) -> Result<bool, Fail> {
+    let mut fabric = small(alloc)?;
+    stops_and_goes_on(&mut fabric)
 }
 
 #[test]
-fn refusals(rt: HostRuntime) -> Result<(), Fail> {
+fn a_stopped_link_is_retrained(rt: HostRuntime) -> Result<(), Fail> {
+    assert!(rt; new_stops_and_goes_on(rt.alloc())?);
+    Ok(())
+}
+
+fn is_refused(fabric: &mut Fabric, event: &Event, want: Refusal, number: u8) -> bool {
+    fabric.step(event) == Err(want) && want.number() == number
+}
+
+fn are_refused(fabric: &mut Fabric) -> bool {
     let unaligned = Refusal::Submit(SubmitRefusal::Profile(TlpFault::Unaligned));
-    let mut fabric = small(rt.alloc())?;
     let rows = [
         (add(0x42, 1), unaligned, 4),
         (Event::Collect(2), Refusal::NoSuchPart, 1),
@@ -357,11 +447,23 @@ fn refusals(rt: HostRuntime) -> Result<(), Fail> {
         (Event::Serve(0), Refusal::NotTakeable, 3),
     ];
     for (event, want, number) in &rows {
-        assert!(rt; fabric.step(event) == Err(*want));
-        assert_eq!(rt; want.number(), *number);
+        if !is_refused(fabric, event, *want, *number) {
+            return false;
+        }
     }
+    true
+}
+
+fn refusals_on_new(alloc: Global) -> Result<bool, Fail> {
+    let mut fabric = small(alloc)?;
+    let are = are_refused(&mut fabric);
     let fabric = Fabric::of_parts(fabric.into_parts());
-    assert!(rt; fabric.quiet());
+    Ok(are && fabric.quiet())
+}
+
+#[test]
+fn refusals(rt: HostRuntime) -> Result<(), Fail> {
+    assert!(rt; refusals_on_new(rt.alloc())?);
     Ok(())
 }
 
