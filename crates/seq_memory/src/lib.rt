@@ -22,7 +22,7 @@ use arrayvec::ArrayVec;
 pub use limits::{ALIGNMENT, MAX_SIZE, MIN_SIZE, is_base, is_block, is_size};
 pub use memory::Memory;
 pub use step::perform;
-use tlp_core::Op;
+use tlp_core::{MAX_PAYLOAD, Op};
 
 /// Why an access is not served. It then changes no byte.
 #[derive(Clone, Copy, Debug, PartialEq, Eq)]
@@ -40,7 +40,7 @@ pub enum Reply {
     Done,
     /// The bytes of a read's DW, 00 where they are not enabled, or the original bytes of an
     /// AtomicOp's operand, in rising address order.
-    Data(ArrayVec<u8, 128>),
+    Data(ArrayVec<u8, MAX_PAYLOAD>),
     /// See [`Refusal::Unsupported`].
     Unsupported,
     /// See [`Refusal::Aborted`].

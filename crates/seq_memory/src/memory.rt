@@ -96,6 +96,14 @@ impl Memory {
         &self.bytes
     }
 
+    /// How many bytes there are.
+    pub fn size(&self) -> usize
+        ensures value { result ≡ self.now.size }
+        ensures range { IsSize result }
+    {
+        self.bytes.len()
+    }
+
     /// The first address.
     pub fn base(&self) -> u64
         ensures value { result ≡ self.now.base }

@@ -13,7 +13,7 @@ use crate::{Refusal, Reply};
 use arrayvec::ArrayVec;
 use atomic_op::{AtomicOp, apply};
 use byteorder::{ByteOrder, LittleEndian};
-use tlp_core::{Op, Width};
+use tlp_core::{MAX_PAYLOAD, Op, Width};
 
 /// The number in the first bytes.
 fn number_at(bytes: &[u8], width: Width) -> u128
@@ -42,7 +42,7 @@ fn put_number(place: &mut [u8], width: Width, number: u128)
 }
 
 /// The bytes as data.
-fn copy_of(bytes: &[u8]) -> ArrayVec<u8, 128>
+fn copy_of(bytes: &[u8]) -> ArrayVec<u8, MAX_PAYLOAD>
     requires { length bytes.now ≤ 128 }
     ensures items { result.items ≡ bytes.now }
     ensures len { array_vec_len result ≡ length bytes.now }
@@ -53,7 +53,7 @@ fn copy_of(bytes: &[u8]) -> ArrayVec<u8, 128>
 }
 
 /// Does an AtomicOp at its place, and gives the bytes that were there.
-fn change(place: &mut [u8], width: Width, op: AtomicOp) -> ArrayVec<u8, 128>
+fn change(place: &mut [u8], width: Width, op: AtomicOp) -> ArrayVec<u8, MAX_PAYLOAD>
     requires size { length place.old ≡ size_of width }
     requires operands { FitsWidth op width }
     ensures place { place.new ≡ changed width op place.old }
@@ -101,10 +101,10 @@ fn merge(old: &mut [u8], new: &[u8], first: u8, last: u8)
     merge_dw(&mut old[end..], &new[end..], last);
 }
 
-const ZEROS: [u8; 128] = [0; 128];
+const ZEROS: [u8; MAX_PAYLOAD] = [0; MAX_PAYLOAD];
 
 /// The bytes of a read.
-fn read(place: &[u8], first: u8, last: u8) -> ArrayVec<u8, 128>
+fn read(place: &[u8], first: u8, last: u8) -> ArrayVec<u8, MAX_PAYLOAD>
     requires some { 4 ≤ length place.now }
     requires few { length place.now ≤ 128 }
     requires whole { length place.now % 4 ≡ 0 }

@@ -3,9 +3,9 @@ use crate::{Entry, Memory, Refusal, Reply, is_base, is_block, is_size, perform};
 use arrayvec::ArrayVec;
 use std::alloc::{AllocError, Global};
 use std::test::Fail;
-use tlp_core::{Op, Width};
+use tlp_core::{MAX_PAYLOAD, Op, Width};
 
-fn bytes_of(bytes: &[u8]) -> ArrayVec<u8, 128> {
+fn bytes_of(bytes: &[u8]) -> ArrayVec<u8, MAX_PAYLOAD> {
     let mut data = ArrayVec::new();
     let _ = data.try_extend_from_slice(bytes);
     data

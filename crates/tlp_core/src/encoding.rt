@@ -12,7 +12,7 @@ use byteorder::{BigEndian, ByteOrder};
 /// The most bytes that a packet has: a header of 16 and a payload of 128.
 pub const MAX_TLP: usize = 144;
 
-fn put(out: &mut ArrayVec<u8, 144>, bytes: &[u8])
+fn put(out: &mut ArrayVec<u8, MAX_TLP>, bytes: &[u8])
     requires { array_vec_len out.old + length bytes.now ≤ 144 }
     ensures items { out.new.items ≡ out.old.items ++ bytes.now }
     ensures len { array_vec_len out.new ≡ array_vec_len out.old + length bytes.now }
@@ -20,7 +20,7 @@ fn put(out: &mut ArrayVec<u8, 144>, bytes: &[u8])
     let _ = out.try_extend_from_slice(bytes);
 }
 
-fn put_u16(out: &mut ArrayVec<u8, 144>, number: u16)
+fn put_u16(out: &mut ArrayVec<u8, MAX_TLP>, number: u16)
     requires { array_vec_len out.old + 2 ≤ 144 }
     ensures items { out.new.items ≡ out.old.items ++ big_bytes 2 number }
     ensures len { array_vec_len out.new ≡ array_vec_len out.old + 2 }
@@ -30,7 +30,7 @@ fn put_u16(out: &mut ArrayVec<u8, 144>, number: u16)
     put(out, &bytes);
 }
 
-fn put_address(out: &mut ArrayVec<u8, 144>, address: u64)
+fn put_address(out: &mut ArrayVec<u8, MAX_TLP>, address: u64)
     requires { array_vec_len out.old + 8 ≤ 144 }
     ensures items { out.new.items ≡ out.old.items ++ (if nat_lt address (2 ^ 32) then big_bytes 4 address else big_bytes 8 address) }
     ensures len { array_vec_len out.new ≤ array_vec_len out.old + 8 }
@@ -78,7 +78,7 @@ fn status_bits(status: Status) -> u8
     }
 }
 
-fn put_rest(out: &mut ArrayVec<u8, 144>, requester: u16, tag: u8, body: Body)
+fn put_rest(out: &mut ArrayVec<u8, MAX_TLP>, requester: u16, tag: u8, body: Body)
     requires room { array_vec_len out.old + 12 ≤ 144 }
     requires fits { FitsFields body }
     ensures items { out.new.items ≡ out.old.items ++ rest_of_header requester tag body }
@@ -113,7 +113,7 @@ fn put_rest(out: &mut ArrayVec<u8, 144>, requester: u16, tag: u8, body: Body)
 /// Fills the buffer with the canonical bytes of the packet, whatever it held: the header of 3 DW
 /// for an address below 2^32, and zeros in all bits that a reader ignores. Takes no memory.
 #[tactic(auto, using(crate::proofs::Canon::fields_fit))]
-pub fn encode(tlp: &Tlp, out: &mut ArrayVec<u8, 144>)
+pub fn encode(tlp: &Tlp, out: &mut ArrayVec<u8, MAX_TLP>)
     ensures bytes { out.new.items ≡ canonical tlp.now }
     ensures spelled { Spells (canonical tlp.now) tlp.now }
 {

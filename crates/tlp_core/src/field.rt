@@ -4,7 +4,7 @@ ghost use Rattle.tlp_core.specs.Layout.{kind_of, header_length, dw_count, addres
 ghost use Rattle.tlp_core.specs.Bits.{bits};
 ghost use Rattle.tlp_core.specs.Packet.{has_data};
 
-use crate::packet::{Body, Kind, Status};
+use crate::packet::{Body, Kind, MAX_PAYLOAD, Status};
 use arrayvec::ArrayVec;
 use byteorder::{BigEndian, ByteOrder};
 
@@ -134,7 +134,7 @@ pub(crate) fn requester_start(kind: Kind) -> usize
     }
 }
 
-pub(crate) fn payload_of(bytes: &[u8]) -> ArrayVec<u8, 128>
+pub(crate) fn payload_of(bytes: &[u8]) -> ArrayVec<u8, MAX_PAYLOAD>
     requires { length bytes.now ≤ 128 }
     ensures { result.items ≡ bytes.now }
 {

@@ -2,8 +2,8 @@
 //! reads and writes, AtomicOps, and completions, with headers of 3 and 4 DW.
 //!
 //! [`decode`] reads a packet of its bytes or tells the first fault, [`encode`] writes the one
-//! canonical spelling, [`op_of`] gives the operation that a request asks of a memory, and
-//! [`op_fault`] tells what keeps an operation from being a request.
+//! canonical spelling, [`op_of`] gives the operation that a request asks of a memory,
+//! [`op_fault`] tells what keeps an operation from being a request, and [`copy_of`] copies one.
 //! A DW is 4 bytes. LCRC, ECRC and framing are not part of a packet's bytes here.
 #![tactic(auto)]
 
@@ -20,5 +20,5 @@ mod tests;
 pub use decoding::decode;
 pub use encoding::{MAX_TLP, encode};
 pub use fault::TlpFault;
-pub use operation::{Op, Width, op_fault, op_of};
+pub use operation::{Op, Width, copy_of, op_fault, op_of};
 pub use packet::{Body, Kind, MAX_PAYLOAD, Status, Tlp};

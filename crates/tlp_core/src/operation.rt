@@ -6,7 +6,7 @@ ghost use Rattle.tlp_core.specs.Operation as spec;
 
 use crate::decoding::keeps_enables;
 use crate::fault::TlpFault;
-use crate::packet::{Body, Kind, Tlp};
+use crate::packet::{Body, Kind, MAX_PAYLOAD, Tlp};
 use arrayvec::ArrayVec;
 use byteorder::{ByteOrder, LittleEndian};
 
@@ -50,7 +50,7 @@ pub enum Op {
         address: u64,
         first: u8,
         last: u8,
-        bytes: ArrayVec<u8, 128>,
+        bytes: ArrayVec<u8, MAX_PAYLOAD>,
     },
     /// Adds the operand.
     FetchAdd {
@@ -131,8 +131,66 @@ fn operand_at(bytes: &[u8], count: usize) -> u128
     LittleEndian::read_uint128(bytes, count)
 }
 
-/// The operation that the packet asks for, none where it is a completion. Takes no memory.
+/// The same operation. Takes no memory.
+pub fn copy_of(op: &Op) -> Op
+    ensures { result ≡ op.now }
+{
+    match op {
+        Op::Read {
+            address,
+            dw,
+            first,
+            last,
+        } => Op::Read {
+            address: *address,
+            dw: *dw,
+            first: *first,
+            last: *last,
+        },
+        Op::Write {
+            address,
+            first,
+            last,
+            bytes,
+        } => Op::Write {
+            address: *address,
+            first: *first,
+            last: *last,
+            bytes: crate::field::payload_of(bytes.as_slice()),
+        },
+        Op::FetchAdd {
+            address,
+            width,
+            operand,
+        } => Op::FetchAdd {
+            address: *address,
+            width: *width,
+            operand: *operand,
+        },
+        Op::Swap {
+            address,
+            width,
+            operand,
+        } => Op::Swap {
+            address: *address,
+            width: *width,
+            operand: *operand,
+        },
+        Op::Cas {
+            address,
+            width,
+            compare,
+            swap,
+        } => Op::Cas {
+            address: *address,
+            width: *width,
+            compare: *compare,
+            swap: *swap,
+        },
+    }
+}
 
+/// The operation that the packet asks for, none where it is a completion. Takes no memory.
 pub fn op_of(tlp: &Tlp) -> Option<Op>
     ensures value { result ≡ spec.op_of tlp.now }
     ensures none { IsNone result ↔ IsTrue (spec.is_completion tlp.now.kind) }

@@ -75,7 +75,7 @@ pub struct Tlp {
     pub tag: u8,
     pub body: Body,
     /// In rising address order.
-    pub payload: ArrayVec<u8, 128>,
+    pub payload: ArrayVec<u8, MAX_PAYLOAD>,
 }
 
 impl Model for Tlp {
