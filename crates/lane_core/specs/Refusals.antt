@@ -1,6 +1,5 @@
 -- Why a lane refuses.
 use Rattle.std.specs.Prelude.{ℕ, ◌≡◌, ◌≤◌, true, false, length}
-use Rattle.dllp_core.specs.declared.packet.Class.{Class}
 use Rattle.fc_credit.specs.declared.needs.Need.{Need}
 use Rattle.fc_credit.specs.Credits.{gate_covers}
 use Rattle.lane_core.specs.declared.packet.LaneRefusal.{LaneRefusal}

@@ -44,9 +44,9 @@ impl Lane {
     ghost use Rattle.fc_credit.specs.Credits.{gate_covers};
     ghost use Rattle.vc_queue.specs.Queue.{Item, is_takeable};
     ghost use Rattle.lane_core.specs.Refusals.{LacksRoom};
-    ghost use Rattle.lane_core.specs.Steps.{new_lane, may_enter, entered, with_room, transmitted, delivered, dllp_of, dllp_seen, after_take};
+    ghost use Rattle.lane_core.specs.Steps.{new_lane, may_enter, transmitted, delivered, dllp_of, dllp_seen};
     ghost use Rattle.fc_credit.specs.declared.limits.LaneCredits.{LaneCredits};
-    ghost use Rattle.lane_core.specs.Calls.{Call, Transmit, Deliver, SendDllp, DeliverDllp, Timer, Retrained, AreCalls, after_calls, happens, content, AcceptsFirst, IsRight};
+    ghost use Rattle.lane_core.specs.Calls.{Call, MakeRoom, Enter, Transmit, Deliver, SendDllp, DeliverDllp, Timer, Retrained, Take, AreCalls, after_calls, happens, content, AcceptsFirst, IsRight};
     ghost use Rattle.lane_core.specs.Credit.{numbers_of, HasRoom};
 
     /// A lane whose receiver advertised these credits. It allocates nothing.
@@ -72,7 +72,7 @@ impl Lane {
         ensures refused { IfErr result (λ refusal. LacksRoom self.old.sender need refusal) }
         ensures may { OnOk result (may_enter self.old.sender need ≡ true) }
         ensures made { IsTrue self.old.sender.sending.reserved → IsTrue (gate_covers self.old.sender.gate need) → length self.old.sender.sending.kept < 2047 → IsOk result }
-        ensures ok { OnOk result (self.new ≡ record self.old { sender = with_room self.old.sender }) }
+        ensures ok { OnOk result (self.new ≡ happens self.old (MakeRoom need)) }
         ensures content { content self.new ≡ content self.old }
         ensures err { OnErr result (self.new ≡ self.old) }
     {
@@ -90,7 +90,7 @@ impl Lane {
         ensures may { OnOk result (may_enter self.old.sender (need tlp.now) ≡ true) }
         ensures room_was_made { IsTrue self.old.sender.sending.reserved → IsTrue (gate_covers self.old.sender.gate (need tlp.now)) → length self.old.sender.sending.kept < 2047 → IsOk result }
         ensures number { IfOk result (λ number. number ≡ next_number self.old.sender.sending) }
-        ensures ok { OnOk result (self.new ≡ record self.old { sender = entered self.old.sender tlp.now mark }) }
+        ensures ok { OnOk result (self.new ≡ happens self.old (Enter tlp.now mark)) }
         ensures spelled { OnOk result (Spells (canonical tlp.now) tlp.now) }
         ensures content { OnOk result (content self.new ≡ content self.old ++ (tlp.now, mark) ∷ []) }
         ensures err { OnErr result (self.new ≡ self.old) }
@@ -200,7 +200,7 @@ impl Lane {
     pub fn take(&mut self, place: usize) -> (Tlp, u32)
         requires { IsTrue (is_takeable self.old.receiver.queue place) }
         ensures item { slice_get self.old.receiver.queue place ≡ Some result }
-        ensures state { self.new ≡ record self.old { receiver = after_take self.old.receiver place } }
+        ensures state { self.new ≡ happens self.old (Take place) }
         ensures content { content self.new ≡ remove (content self.old) place }
     {
         self.receiver.take(place)
