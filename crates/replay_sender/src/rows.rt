@@ -175,3 +175,19 @@ fn nak_sends_the_rest_again(rt: HostRuntime) -> Result<(), Fail> {
     assert!(rt; two_are_left(rt.alloc())?);
     Ok(())
 }
+
+#[test]
+fn names(rt: HostRuntime) -> Result<(), Fail> {
+    for (refusal, name) in [
+        (SendRefusal::WindowFull, "WindowFull"),
+        (SendRefusal::Memory, "Memory"),
+    ] {
+        assert_eq!(rt; format!(in rt.alloc(); "{refusal}")?.as_str(), name);
+    }
+    let fault = AckFault::NotOutstanding;
+    assert_eq!(rt;
+        format!(in rt.alloc(); "{fault}")?.as_str(),
+        "NotOutstanding"
+    );
+    Ok(())
+}
