@@ -2,6 +2,7 @@
 ghost use Rattle.std.specs.Prelude.{◌≡◌, ◌≢◌, ◌<◌, ℕ, suc, Some, Ok, List, [], ◌∷◌, ◌++◌, length, slice_get, is_some, true};
 ghost use Rattle.tlp_core.specs.declared.operation.Op.{Op};
 ghost use Rattle.seq_memory.specs.declared.Entry.{Entry};
+ghost use Rattle.seq_memory.specs.declared.Reply.{Reply};
 ghost use Rattle.requester_core.specs.declared.requester.Answer.{Answer};
 ghost use Rattle.tlp_core.specs.Packet.{Packet};
 ghost use Rattle.tlp_core.specs.Operation.{op_of};
@@ -10,7 +11,7 @@ ghost use Rattle.lane_core.specs.Steps.{Ends};
 ghost use Rattle.lane_core.specs.Calls.{content};
 ghost use Rattle.history_check.specs.declared.Record.{Record};
 ghost use Rattle.history_check.specs.declared.Record.TheVariants.{Sub, Ans};
-ghost use Rattle.history_check.specs.Trace.{Explains};
+ghost use Rattle.history_check.specs.Trace.{Explains, answers_to, submissions};
 ghost use Rattle.fabric_laws.specs.Whole.{Whole, Item, memory_of, up_of, down_of, requester_of, open_at};
 ghost use Rattle.fabric_laws.specs.Sound.{Sound, times};
 ghost use Rattle.fabric_laws.specs.Trace.{Belongs};
@@ -69,6 +70,14 @@ pub fn each_link_call_is_a_step()
     ensures down { (f : Fabric) (i : ℕ) (lanes : List Ends) → IsLinked f.down i lanes → Step (whole_of f) (whole_of (record f { down = lanes })) [] }
     ensures inward { (f : Fabric) (lane : Ends) → content lane ≡ content f.inward → Step (whole_of f) (whole_of (record f { inward = lane })) [] }
     ensures outward { (f : Fabric) (lane : Ends) → content lane ≡ content f.outward → Step (whole_of f) (whole_of (record f { outward = lane })) [] }
+{}
+
+/// What a record adds to what a requester submitted, and which record is the answer of a request.
+pub fn what_a_record_adds()
+    ensures own { (rs : List Record) (i k n : ℕ) (op : Op) → submissions (rs ++ Sub i k op n ∷ []) i ≡ submissions rs i ++ op ∷ [] }
+    ensures other { (rs : List Record) (i j k n : ℕ) (op : Op) → j ≢ i → submissions (rs ++ Sub j k op n ∷ []) i ≡ submissions rs i }
+    ensures answered { (rs : List Record) (i j k n : ℕ) (reply : Reply) → submissions (rs ++ Ans j k reply n ∷ []) i ≡ submissions rs i }
+    ensures answer { (i k : ℕ) (r : Record) → answers_to i k r ≡ true → (reply : Reply) × (n : ℕ) × (r ≡ Ans i k reply n) }
 {}
 
 /// In a sound fabric whose lanes hold nothing of a requester, each of its submissions stands once
