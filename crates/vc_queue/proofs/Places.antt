@@ -1,5 +1,6 @@
 -- What stands at the places of a queue, and what is takeable there.
 use Rattle.std.proofs.Common.{◌≡◌, ◌≢◌, ℕ, zero, suc, ◌<◌, Bool, true, false, List, [], ◌∷◌, length, take, drop, Option, Some, None, refl, sym, ◌∙◌, ap, arith}
+use Rattle.std.specs.Prelude.{◌⊎◌}
 use Rattle.std.specs.Prelude.{◌&&◌, slice_get, slice_index_or}
 use Rattle.std.specs.List.{list_all}
 use Rattle.std.proofs.lemmas.Bool.Decides.{nat_tests}
@@ -120,6 +121,28 @@ posted_goes : (later earlier : Packet) → class_of later.kind ≡ Posted → cl
 posted_goes later earlier e n =
     ap (λ (c : Class). passes c (class_of earlier.kind) (is_same_request later earlier)) e ∙ posted_passes (class_of earlier.kind) (is_same_request later earlier) n
 
+passes_non_posted : (later : Class) (same : Bool) → passes later NonPosted same ≡ true
+passes_non_posted Posted same = refl
+passes_non_posted NonPosted same = refl
+passes_non_posted Completion same = refl
+
+pub non_posted_is_passed : (later earlier : Packet) → class_of earlier.kind ≡ NonPosted → may_pass later earlier ≡ true
+non_posted_is_passed later earlier e =
+    ap (λ (c : Class). passes (class_of later.kind) c (is_same_request later earlier)) e ∙ passes_non_posted (class_of later.kind) (is_same_request later earlier)
+
+request_passes : (later earlier : Class) (same : Bool) → later ≢ Completion → earlier ≢ Posted → passes later earlier same ≡ true
+request_passes later Posted same n m = absurd (m refl)
+request_passes later NonPosted same n m = passes_non_posted later same
+request_passes Posted Completion same n m = refl
+request_passes NonPosted Completion same n m = refl
+request_passes Completion Completion same n m = absurd (n refl)
+
+pub request_goes : (later earlier : Packet) → class_of later.kind ≢ Completion → class_of earlier.kind ≢ Posted → may_pass later earlier ≡ true
+request_goes later earlier n m = request_passes (class_of later.kind) (class_of earlier.kind) (is_same_request later earlier) n m
+
+pub request_passes_completion : (later earlier : Packet) → class_of later.kind ≢ Completion → class_of earlier.kind ≡ Completion → may_pass later earlier ≡ true
+request_passes_completion later earlier n e = request_goes later earlier n (λ p. let no : Completion ≡ Posted = sym e ∙ p in cc)
+
 pub nothing_passes_posted : (q : List Item) (place before : ℕ) (earlier : Item) → is_takeable q place ≡ true → before < place →
     slice_get q before ≡ Some earlier → class_of earlier.0.kind ≢ Posted
 nothing_passes_posted q place before earlier t h f p =
@@ -133,6 +156,19 @@ pub posted_is_takeable : (q : List Item) (place : ℕ) (item : Item) → slice_g
     is_takeable q place ≡ true
 posted_is_takeable q place item e p h =
     all q place item e (λ before earlier l f. posted_goes item.0 earlier.0 p (h before earlier l f))
+
+pub request_is_takeable : (q : List Item) (place : ℕ) (item : Item) → slice_get q place ≡ Some item → class_of item.0.kind ≢ Completion →
+    ((before : ℕ) (earlier : Item) → before < place → slice_get q before ≡ Some earlier → class_of earlier.0.kind ≢ Posted) →
+    is_takeable q place ≡ true
+request_is_takeable q place item e n h =
+    all q place item e (λ before earlier l f. request_goes item.0 earlier.0 n (h before earlier l f))
+
+different_request : (t u : Packet) → (t.requester ≢ u.requester) ⊎ (t.tag ≢ u.tag) → is_same_request t u ≡ false
+different_request t u d = grind (arith, nat_tests)
+
+pub different_pass : (later earlier : Packet) → class_of later.kind ≡ Completion → class_of earlier.kind ≡ Completion →
+    (later.requester ≢ earlier.requester) ⊎ (later.tag ≢ earlier.tag) → may_pass later earlier ≡ true
+different_pass later earlier e f d = rw (e, f, different_request later earlier d) refl
 
 same_request : (t u : Packet) → t.requester ≡ u.requester → t.tag ≡ u.tag → is_same_request t u ≡ true
 same_request t u e f = grind (arith, nat_tests)

@@ -1,5 +1,5 @@
 //! What the ordering rules come to.
-ghost use Rattle.std.specs.Prelude.{◌≡◌, ◌≢◌, ℕ, ◌<◌, true, false, Some, List, ◌∷◌, slice_get};
+ghost use Rattle.std.specs.Prelude.{◌≡◌, ◌≢◌, ◌⊎◌, ℕ, ◌<◌, true, false, Some, List, ◌∷◌, slice_get};
 ghost use Rattle.dllp_core.specs.declared.packet.Class.TheVariants as classes;
 ghost use Rattle.tlp_core.specs.Packet.{Packet};
 ghost use Rattle.fc_credit.specs.Needs.{class_of};
@@ -20,6 +20,25 @@ pub fn posted_requests_pass_the_others()
     ensures queue { (q : List Item) (place : ℕ) (item : Item) → slice_get q place ≡ Some item → class_of item.0.kind ≡ classes.Posted →
         ((before : ℕ) (earlier : Item) → before < place → slice_get q before ≡ Some earlier → class_of earlier.0.kind ≢ classes.Posted) →
         is_takeable q place ≡ true }
+{}
+
+/// Everything passes a non-posted request.
+pub fn everything_passes_a_non_posted_request()
+    ensures { (later earlier : Packet) → class_of earlier.kind ≡ classes.NonPosted → may_pass later earlier ≡ true }
+{}
+
+/// A request passes every completion, so it waits for posted requests alone.
+pub fn requests_pass_completions()
+    ensures pair { (later earlier : Packet) → class_of later.kind ≢ classes.Completion → class_of earlier.kind ≡ classes.Completion → may_pass later earlier ≡ true }
+    ensures queue { (q : List Item) (place : ℕ) (item : Item) → slice_get q place ≡ Some item → class_of item.0.kind ≢ classes.Completion →
+        ((before : ℕ) (earlier : Item) → before < place → slice_get q before ≡ Some earlier → class_of earlier.0.kind ≢ classes.Posted) →
+        is_takeable q place ≡ true }
+{}
+
+/// Completions of different Requester IDs or different Tags pass each other.
+pub fn completions_of_different_requests_pass()
+    ensures { (later earlier : Packet) → class_of later.kind ≡ classes.Completion → class_of earlier.kind ≡ classes.Completion →
+        (later.requester ≢ earlier.requester) ⊎ (later.tag ≢ earlier.tag) → may_pass later earlier ≡ true }
 {}
 
 /// Completions of one Requester ID and Tag keep their order.

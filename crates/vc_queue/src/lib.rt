@@ -11,8 +11,9 @@ mod queue;
 mod rows;
 
 pub use laws::{
-    completions_of_a_request_keep_their_order, nothing_passes_a_posted_request,
-    posted_requests_pass_the_others, the_oldest_is_takeable,
+    completions_of_a_request_keep_their_order, completions_of_different_requests_pass,
+    everything_passes_a_non_posted_request, nothing_passes_a_posted_request,
+    posted_requests_pass_the_others, requests_pass_completions, the_oldest_is_takeable,
 };
 pub use ordering::may_pass;
 pub use queue::OrderedQueue;

@@ -59,6 +59,26 @@ fn takeable_places(rt: HostRuntime) -> Result<(), Fail> {
     Ok(())
 }
 
+/// A completion for ID 0100h and tag 1, one for ID 0200h and tag 0.
+const OTHER_TAG: [u8; 12] = [0x0A, 0, 0, 0, 0, 0, 0, 4, 1, 0, 1, 0];
+
+const OTHER_REQUESTER: [u8; 12] = [0x0A, 0, 0, 0, 0, 0, 0, 4, 2, 0, 0, 0];
+
+#[test]
+fn completions_of_different_requests(rt: HostRuntime) -> Result<(), Fail> {
+    let rows: [(&[u8], &[u8], bool); 5] = [
+        (&OTHER_TAG, ARRIVED[3], true),
+        (ARRIVED[3], &OTHER_TAG, true),
+        (&OTHER_REQUESTER, ARRIVED[3], true),
+        (&OTHER_TAG, &OTHER_TAG, false),
+        (ARRIVED[0], &OTHER_TAG, true),
+    ];
+    for (later, earlier, want) in rows {
+        assert_eq!(rt; may_pass(&decode(later)?, &decode(earlier)?), want);
+    }
+    Ok(())
+}
+
 #[test]
 fn pairs(rt: HostRuntime) -> Result<(), Fail> {
     for (later, earlier, want) in [(1, 0, true), (0, 1, false), (4, 3, false), (2, 3, true)] {
