@@ -51,9 +51,8 @@ fn small(alloc: Global) -> Result<Memory, AllocError> {
     Memory::new(alloc, 0, 4096, 64)
 }
 
-#[test]
-fn a_history(rt: HostRuntime) -> Result<(), Fail> {
-    let mut memory = small(rt.alloc())?;
+/// Each operation is answered so, in turn.
+fn answers(memory: &mut Memory) -> Result<bool, AllocError> {
     let rows = [
         (
             Op::FetchAdd {
@@ -99,21 +98,36 @@ fn a_history(rt: HostRuntime) -> Result<(), Fail> {
         ),
     ];
     for (op, want) in rows {
-        assert_eq!(rt; act(&mut memory, op)?, want);
+        if act(memory, op)? != want {
+            return Ok(false);
+        }
     }
-    assert_eq!(rt; memory.entries().len(), 8);
-    assert_eq!(rt; memory.bytes()[0x40], 1);
-    assert_eq!(rt; (memory.base(), memory.block()), (0, 64));
+    Ok(true)
+}
+
+/// Eight entries, and what the last left.
+fn holds_one(memory: &Memory) -> bool {
+    memory.entries().len() == 8
+        && memory.bytes().get(0x40) == Some(&1)
+        && (memory.base(), memory.block()) == (0, 64)
+}
+
+fn new_answers(alloc: Global) -> Result<bool, AllocError> {
+    let mut memory = small(alloc)?;
+    Ok(answers(&mut memory)? && holds_one(&memory))
+}
+
+#[test]
+fn a_history(rt: HostRuntime) -> Result<(), Fail> {
+    assert!(rt; new_answers(rt.alloc())?);
     Ok(())
 }
 
 /// The end of the address space.
 const LAST_DW: u64 = 0xFFFF_FFFF_FFFF_FFFC;
 
-#[test]
-fn blocks_before_bounds(rt: HostRuntime) -> Result<(), Fail> {
-    let narrow = Memory::new(rt.alloc(), 0x1000, 4096, 64)?;
-    let wide = Memory::new(rt.alloc(), 0x1000, 4096, 128)?;
+/// Whether each operation is refused so by blocks of 64 bytes and by blocks of 128.
+fn refuse(narrow: &Memory, wide: &Memory) -> bool {
     let aborted = Some(Refusal::Aborted);
     let unsupported = Some(Refusal::Unsupported);
     let rows = [
@@ -135,26 +149,43 @@ fn blocks_before_bounds(rt: HostRuntime) -> Result<(), Fail> {
         (read(LAST_DW, 2), aborted, aborted),
     ];
     for (op, by_64, by_128) in rows {
-        assert_eq!(rt;
-            (narrow.refusal(&op), wide.refusal(&op)),
-            (by_64, by_128),
-            "{op:?}"
-        );
+        if narrow.refusal(&op) != by_64 || wide.refusal(&op) != by_128 {
+            return false;
+        }
     }
+    true
+}
+
+fn both_refuse(alloc: Global) -> Result<bool, AllocError> {
+    let narrow = Memory::new(alloc, 0x1000, 4096, 64)?;
+    let wide = Memory::new(alloc, 0x1000, 4096, 128)?;
+    Ok(refuse(&narrow, &wide))
+}
+
+#[test]
+fn blocks_before_bounds(rt: HostRuntime) -> Result<(), Fail> {
+    assert!(rt; both_refuse(rt.alloc())?);
     Ok(())
+}
+
+fn refused_ones_are_entries(memory: &mut Memory) -> Result<bool, AllocError> {
+    let crossing = act(memory, write(0x3C, 15, 15, &[1; 8]))?;
+    let past_the_end = act(memory, write(0x1000, 15, 0, &[1; 4]))?;
+    Ok(crossing == Reply::Aborted && past_the_end == Reply::Unsupported)
+}
+
+fn has_two_and_zeros(memory: &Memory) -> bool {
+    memory.entries().len() == 2 && memory.bytes().iter().all(|&byte| byte == 0)
+}
+
+fn new_keeps_refused(alloc: Global) -> Result<bool, AllocError> {
+    let mut memory = small(alloc)?;
+    Ok(refused_ones_are_entries(&mut memory)? && has_two_and_zeros(&memory))
 }
 
 #[test]
 fn refused_accesses_are_entries(rt: HostRuntime) -> Result<(), Fail> {
-    let mut memory = small(rt.alloc())?;
-    let crossing = write(0x3C, 15, 15, &[1; 8]);
-    assert_eq!(rt; act(&mut memory, crossing)?, Reply::Aborted);
-    assert_eq!(rt;
-        act(&mut memory, write(0x1000, 15, 0, &[1; 4]))?,
-        Reply::Unsupported
-    );
-    assert_eq!(rt; memory.entries().len(), 2);
-    assert!(rt; memory.bytes().iter().all(|&byte| byte == 0));
+    assert!(rt; new_keeps_refused(rt.alloc())?);
     Ok(())
 }
 
@@ -166,20 +197,39 @@ fn one_more() -> Op {
     }
 }
 
+/// So many entries, each of which added 1.
+fn has_counted(memory: &Memory, count: u8) -> bool {
+    memory.entries().len() == usize::from(count) && memory.bytes().get(0x40) == Some(&count)
+}
+
+/// Adds 1 to that; where memory is wanted all is as before, and the same succeeds.
+fn counts_on(memory: &mut Memory, count: u8) -> Result<bool, AllocError> {
+    if act(memory, one_more()).is_err() {
+        if !has_counted(memory, count) {
+            return Ok(false);
+        }
+        let _ = act(memory, one_more())?;
+    }
+    Ok(has_counted(memory, count.wrapping_add(1)))
+}
+
+fn counts(memory: &mut Memory) -> Result<bool, AllocError> {
+    for count in 0..20u8 {
+        if !counts_on(memory, count)? {
+            return Ok(false);
+        }
+    }
+    Ok(true)
+}
+
+fn new_counts(alloc: Global) -> Result<bool, AllocError> {
+    let mut memory = small(alloc)?;
+    counts(&mut memory)
+}
+
 #[test]
 fn a_refused_growth_changes_nothing(rt: HostRuntime) -> Result<(), Fail> {
-    let mut memory = small(rt.alloc())?;
-    for count in 0..20 {
-        if act(&mut memory, one_more()).is_err() {
-            assert_eq!(rt;
-                (memory.entries().len(), memory.bytes()[0x40]),
-                (count, count as u8)
-            );
-            let _ = act(&mut memory, one_more())?;
-        }
-        assert_eq!(rt; memory.entries().len(), count + 1);
-    }
-    assert_eq!(rt; memory.bytes()[0x40], 20);
+    assert!(rt; new_counts(rt.alloc())?);
     Ok(())
 }
 
