@@ -9,9 +9,7 @@ use Rattle.dllp_core.specs.declared.packet.Dllp.{Dllp}
 use Rattle.completer_core.specs.Serving.{completion_to, after_serving}
 use Rattle.requester_core.specs.declared.requester.Answer.{Answer}
 use Rattle.requester_core.specs.Requesting.{Requesting, IsSound, prepared, after_opened, finished, after_finish}
-use Rattle.fc_credit.specs.declared.needs.Need.{Need}
 use Rattle.fc_credit.specs.Needs.{need_of}
-use Rattle.fc_credit.specs.Credits.{gate_covers}
 use Rattle.requester_core.specs.declared.fault.CompletionFault.{CompletionFault}
 use Rattle.switch_core.specs.declared.fault.RouteFault.{RouteFault}
 use Rattle.vc_queue.specs.Queue.{is_takeable}
@@ -19,7 +17,10 @@ use Rattle.switch_core.specs.Routing.{route}
 use Rattle.lane_core.specs.declared.packet.Fate.{Fate}
 use Rattle.lane_core.specs.declared.packet.WirePacket.{WirePacket}
 use Rattle.lane_core.specs.declared.packet.LaneRefusal.{LaneRefusal}
-use Rattle.lane_core.specs.declared.packet.LaneRefusal.TheVariants.{NoCredits, WindowFull, Memory}
+use Rattle.lane_core.specs.declared.packet.LaneRefusal.TheVariants.{Memory}
+use Rattle.lane_core.specs.Refusals.{LacksRoom}
+use Rattle.lane_core.specs.declared.packet.Arrival.TheVariants.{Answered}
+use Rattle.link_receiver.specs.declared.receiver.Reception.TheVariants.{Accept}
 use Rattle.lane_core.specs.Steps.{Ends, Incoming, Outgoing, may_enter, entered, transmitted, delivered, dllp_of, dllp_seen, after_take}
 use Rattle.lane_core.specs.Calls.{Call, Transmit, Deliver, SendDllp, DeliverDllp, Timer, Retrained, happens}
 use Rattle.fabric_core.specs.declared.event.LinkEvent.{LinkEvent}
@@ -36,12 +37,6 @@ pub record Enters (s : Outgoing) (t : Packet) (mark : ℕ) (s' : Outgoing) : Typ
   pub may : may_enter s (need_of t) ≡ true
   pub spelled : Spells (canonical t) t
   pub now : s' ≡ entered s t mark
-
--- why there is no room for a packet of this need: want of memory comes only where credits and window have room
-abbrev pub LacksRoom : Outgoing → Need → LaneRefusal → Type 0
-LacksRoom s need (NoCredits class) = (class ≡ need.class) × (gate_covers s.gate need ≡ false)
-LacksRoom s need WindowFull = (gate_covers s.gate need ≡ true) × (2047 ≤ length s.sending.kept)
-LacksRoom s need Memory = may_enter s need ≡ true
 
 -- the packet of a place, which may pass each earlier one
 pub record IsAt (r : Incoming) (place : ℕ) (t : Packet) (mark : ℕ) : Type 0 where
@@ -100,10 +95,10 @@ TransmitRefused s refusals.Idle = transmitted s ≡ None
 TransmitRefused s (refusals.Lane Memory) = transmitted s ≢ None
 TransmitRefused s _ = ⊥
 
--- the wire is empty; or the queue can't grow for the packet that arrives
+-- the wire is empty; or the queue can't grow for the packet that would be accepted
 abbrev pub DeliverRefused : List WirePacket → Incoming → Fate → Refusal → Type 0
 DeliverRefused forward r fate refusals.Idle = forward ≡ []
-DeliverRefused forward r fate (refusals.Lane Memory) = forward ≢ []
+DeliverRefused forward r fate (refusals.Lane Memory) = delivered forward r fate ≡ Some (Answered Accept)
 DeliverRefused forward r fate _ = ⊥
 
 -- the wire can't grow, as it does with each DLLP

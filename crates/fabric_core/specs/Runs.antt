@@ -1,12 +1,11 @@
 -- Lists of events.
-use Rattle.std.specs.Prelude.{ℕ, ◌≡◌, ◌⊎◌, List, [], ◌∷◌, ◌++◌, length, take, Result, Ok, Err, Option, Some, None, slice_get}
+use Rattle.std.specs.Prelude.{ℕ, ◌≡◌, ◌⊎◌, Bool, true, false, List, [], ◌∷◌, ◌++◌, length, take, Result, Ok, Err, Some, slice_get}
 use Rattle.history_check.specs.declared.Record.{Record}
 use Rattle.history_check.specs.declared.Trace.{Trace}
-use Rattle.requester_core.specs.declared.requester.Answer.{Answer}
 use Rattle.fabric_laws.specs.Fabric.{Fabric}
 use Rattle.fabric_core.specs.declared.event.Event.{Event}
+use Rattle.fabric_core.specs.declared.event.Event.TheVariants as events
 use Rattle.fabric_core.specs.declared.event.Seen.{Seen}
-use Rattle.fabric_core.specs.declared.event.Seen.TheVariants as seen
 use Rattle.fabric_core.specs.declared.fault.Refusal.{Refusal}
 use Rattle.fabric_core.specs.declared.fault.Refusal.TheVariants as refusals
 use Rattle.fabric_core.specs.declared.run.RunFault.{RunFault}
@@ -25,11 +24,21 @@ pub record Recorded (f : Fabric) (event : Event) (rs : List Record) (f' : Fabric
   pub happens : Happens f event what f'
   pub now : rs' ≡ rs ++ records_of event what (length f.memory.entries)
 
--- the event at this place is refused, or the trace can't grow
+-- a submission and a collection have a record
+abbrev pub has_record : Event → Bool
+has_record (events.Submit port op) = true
+has_record (events.Collect port) = true
+has_record _ = false
+
+-- the trace can't grow for the record of the event
+abbrev pub LacksRecord : Event → Refusal → Type 0
+LacksRecord event r = (has_record event ≡ true) × (r ≡ refusals.Memory)
+
+-- the event at this place is refused, or the trace can't grow for its record
 pub record Stops (f : Fabric) (events : List Event) (place : ℕ) (r : Refusal) : Type 0 where
   pub event : Event
   pub there : slice_get events place ≡ Some event
-  pub refused : Refused f event r ⊎ (r ≡ refusals.Memory)
+  pub refused : Refused f event r ⊎ LacksRecord event r
 
 -- the events that were done, and their trace
 
@@ -40,11 +49,3 @@ done (Err x) events = take x.place events
 abbrev pub trace_in : Result Trace RunFault → Trace
 trace_in (Ok trace) = trace
 trace_in (Err x) = x.trace
-
-abbrev pub number_in : Seen → Option ℕ
-number_in (seen.Submitted number) = Some number
-number_in _ = None
-
-abbrev pub answer_in : Seen → Option Answer
-answer_in (seen.Collected a) = Some a
-answer_in _ = None

@@ -5,8 +5,9 @@ ghost use Rattle.dllp_core.specs.declared.packet.Dllp.{Dllp};
 ghost use Rattle.fc_credit.specs.Needs.{need_of};
 ghost use Rattle.completer_core.specs.Serving.{completion_to, after_serving};
 ghost use Rattle.lane_core.specs.Steps.{may_enter, with_room, after_timer, after_retraining, transmitted, after_transmission, wire_after_transmit, all_but_first, delivered, after_deliver, dllp_of, after_send, wire_after_send, dllp_seen, sender_after};
+ghost use Rattle.lane_core.specs.Refusals.{LacksRoom};
 ghost use Rattle.switch_core.specs.Forwarding.{Forwards};
-ghost use Rattle.fabric_core.specs.Footprints.{Enters, LacksRoom, Submits, SubmitRefused, TransmitRefused, DeliverRefused, SendDllpRefused, DllpRefused, TimerRefused, RetrainedRefused, ForwardRefused, IsRoutedAs, DestinationRefused, Acts, ActRefused, Serves, ServeRefused, Collects, CollectRefused};
+ghost use Rattle.fabric_core.specs.Footprints.{Enters, Submits, SubmitRefused, TransmitRefused, DeliverRefused, SendDllpRefused, DllpRefused, TimerRefused, RetrainedRefused, ForwardRefused, IsRoutedAs, DestinationRefused, Acts, ActRefused, Serves, ServeRefused, Collects, CollectRefused};
 
 use crate::fault::Refusal;
 use completer_core::{serve as serve_request, shape};

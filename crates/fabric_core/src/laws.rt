@@ -1,5 +1,5 @@
 //! What holds of a fabric whatever happens to it, said of its parts wherever they are.
-ghost use Rattle.std.specs.Prelude.{◌≡◌, ◌<◌, ℕ, true, length, slice_set, List, [], Some, Ok};
+ghost use Rattle.std.specs.Prelude.{◌≡◌, ◌<◌, ◌++◌, ℕ, true, length, slice_set, List, [], Some, Ok};
 ghost use Rattle.tlp_core.specs.declared.operation.Op.{Op};
 ghost use Rattle.seq_memory.specs.History.{State};
 ghost use Rattle.requester_core.specs.declared.requester.Answer.{Answer};
@@ -18,7 +18,9 @@ ghost use Rattle.lane_core.specs.Calls.{IsRightWith, on_the_way};
 ghost use Rattle.lane_core.specs.Credit.{needs_of, numbers_of};
 ghost use Rattle.fabric_laws.specs.Fabric.{Fabric, whole_of};
 ghost use Rattle.fabric_laws.specs.Steps.{Step};
-ghost use Rattle.fabric_laws.specs.Trace.{Belongs};
+ghost use Rattle.fabric_laws.specs.Trace.{Belongs, IsMade};
+ghost use Rattle.fabric_laws.specs.Whole.{view};
+ghost use Rattle.history_check.specs.Trace.{IsLegal, submissions};
 ghost use Rattle.fabric_core.specs.declared.event.Event.{Event};
 ghost use Rattle.fabric_core.specs.declared.event.Event.TheVariants as events;
 ghost use Rattle.fabric_core.specs.declared.event.LaneName.{LaneName};
@@ -36,7 +38,7 @@ ghost use Rattle.fabric_core.specs.Quiet.{IsQuiet};
 use fabric_laws::laws::{
     each_event_is_a_step, each_link_call_is_a_step, each_step_keeps_it_sound,
     new_parts_make_a_new_fabric, no_completion_is_strange, packets_keep_their_ports,
-    the_trace_belongs,
+    the_history_is_legal, the_trace_belongs, what_was_submitted_is_one_list,
 };
 use lane_core::{credits_are_whole_numbers, each_call_keeps_it_right, never_a_protocol_error};
 
@@ -107,6 +109,19 @@ pub fn each_refusal_on_its_parts_is_the_fabrics()
     ensures collect { (f : Fabric) (port place : ℕ) (q : Requesting) (e : Ends) (r : Refusal) →
         HasPart f.requesters port place q → HasPart f.down port place e → CollectRefused e.receiver q r → Refused f (events.Collect port) r }
 {}
+
+/// The history of a sound fabric is legal for what its requesters submitted. That is one list for each, read off its path,
+/// and an event adds to it what its record says, which is nothing but for that requester's submission.
+pub fn the_history_is_legal_for_what_was_submitted()
+    ensures legal { (f : Fabric) → IsSoundFabric f → (s : ℕ → List Op) × ((i : ℕ) → IsMade i (view (whole_of f) i) (s i)) × IsLegal s f.memory.entries }
+    ensures one { (f : Fabric) (i : ℕ) (ops others : List Op) → IsSoundFabric f → IsMade i (view (whole_of f) i) ops → IsMade i (view (whole_of f) i) others → ops ≡ others }
+    ensures grows { (f f' : Fabric) (event : Event) (what : Seen) (i : ℕ) (ops : List Op) → IsSoundFabric f → Happens f event what f' → IsMade i (view (whole_of f) i) ops →
+        IsMade i (view (whole_of f') i) (ops ++ submissions (records_of event what (length f.memory.entries)) i) }
+{
+    each_event_keeps_it_sound();
+    the_history_is_legal();
+    what_was_submitted_is_one_list();
+}
 
 /// No event of a sound fabric is refused for a packet that has no port, a completion that its requester doesn't expect,
 /// or an Ack or Nak of no packet.

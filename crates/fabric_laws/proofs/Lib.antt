@@ -11,6 +11,7 @@ pub mod Legal
 pub mod Records
 pub mod Belongs
 pub mod Headline
+pub mod Submitted
 pub mod New
 pub mod Expected
 pub mod Packets

@@ -11,10 +11,10 @@ ghost use Rattle.lane_core.specs.Steps.{Ends};
 ghost use Rattle.lane_core.specs.Calls.{content};
 ghost use Rattle.history_check.specs.declared.Record.{Record};
 ghost use Rattle.history_check.specs.declared.Record.TheVariants.{Sub, Ans};
-ghost use Rattle.history_check.specs.Trace.{Explains, answers_to, submissions};
-ghost use Rattle.fabric_laws.specs.Whole.{Whole, Item, memory_of, up_of, down_of, requester_of, open_at};
+ghost use Rattle.history_check.specs.Trace.{Explains, IsLegal, answers_to, submissions};
+ghost use Rattle.fabric_laws.specs.Whole.{Whole, Item, view, memory_of, up_of, down_of, requester_of, open_at};
 ghost use Rattle.fabric_laws.specs.Sound.{Sound, times};
-ghost use Rattle.fabric_laws.specs.Trace.{Belongs};
+ghost use Rattle.fabric_laws.specs.Trace.{Belongs, IsMade};
 ghost use Rattle.fabric_laws.specs.Steps.{Step, Run};
 ghost use Rattle.fabric_laws.specs.New.{IsNew, IsNewFabric};
 ghost use Rattle.fabric_laws.specs.Expected.{IsExpected};
@@ -70,6 +70,20 @@ pub fn each_link_call_is_a_step()
     ensures down { (f : Fabric) (i : ℕ) (lanes : List Ends) → IsLinked f.down i lanes → Step (whole_of f) (whole_of (record f { down = lanes })) [] }
     ensures inward { (f : Fabric) (lane : Ends) → content lane ≡ content f.inward → Step (whole_of f) (whole_of (record f { inward = lane })) [] }
     ensures outward { (f : Fabric) (lane : Ends) → content lane ≡ content f.outward → Step (whole_of f) (whole_of (record f { outward = lane })) [] }
+{}
+
+/// What each requester submitted is one list of operations, which can be read off its path; and a step adds to it what
+/// its records say, which is nothing but for that requester's submission.
+pub fn what_was_submitted_is_one_list()
+    ensures there { (p : Whole) (i : ℕ) → Sound p → (ops : List Op) × IsMade i (view p i) ops }
+    ensures one { (p : Whole) (i : ℕ) (ops others : List Op) → Sound p → IsMade i (view p i) ops → IsMade i (view p i) others → ops ≡ others }
+    ensures grows { (p p' : Whole) (rs : List Record) (i : ℕ) (ops : List Op) → Sound p → Step p p' rs → IsMade i (view p i) ops → IsMade i (view p' i) (ops ++ submissions rs i) }
+{}
+
+/// The history of a sound fabric is legal for what its requesters submitted.
+pub fn the_history_is_legal()
+    ensures legal { (p : Whole) (s : ℕ → List Op) → Sound p → ((i : ℕ) → IsMade i (view p i) (s i)) → IsLegal s p.history }
+    ensures always { (p : Whole) → Sound p → (s : ℕ → List Op) × ((i : ℕ) → IsMade i (view p i) (s i)) × IsLegal s p.history }
 {}
 
 /// What a record adds to what a requester submitted, and which record is the answer of a request.
