@@ -9,7 +9,7 @@ ghost use Rattle.completer_core.specs.Completion.{byte_count, lower_address, com
 use crate::span;
 use arrayvec::ArrayVec;
 use seq_memory::Reply;
-use tlp_core::{Body, Kind, Status, Tlp};
+use tlp_core::{Body, Kind, MAX_PAYLOAD, Status, Tlp};
 
 /// The Completer ID of port 0.
 const COMPLETER: u16 = 0;
@@ -39,7 +39,7 @@ fn carry(
     counts: (u16, u8),
     kind: Kind,
     status: Status,
-    payload: ArrayVec<u8, 128>,
+    payload: ArrayVec<u8, MAX_PAYLOAD>,
 ) -> Tlp
     requires count { counts.0 ≡ byte_count request.now.kind request.now.body request.now.length }
     requires lower { counts.1 ≡ lower_address request.now.kind request.now.body request.now.length }

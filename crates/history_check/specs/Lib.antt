@@ -1,3 +1,4 @@
+pub mod Observation
 pub mod Claim
 pub mod Names
 pub mod Trace

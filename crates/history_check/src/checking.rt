@@ -1,6 +1,5 @@
 //! The check, pass by pass.
 ghost use Rattle.std.specs.Prelude.{◌≡◌, None, OnOk, IfErr};
-ghost use Rattle.seq_memory.specs.Limits.{IsBlock};
 ghost use Rattle.history_check.specs.Flaws.{first_flaw, Tells};
 ghost use Rattle.history_check.specs.Claim.{claim_of};
 ghost use Rattle.history_check.specs.Trace.{Explains};
@@ -12,7 +11,6 @@ use std::alloc::Global;
 
 /// The passes, one after the other.
 fn first_flaw_of(alloc: Global, trace: &Trace, history: &[Entry]) -> Result<(), Flaw>
-    requires { IsBlock trace.now.block }
     ensures ok { OnOk result (first_flaw (claim_of trace.now history.now) ≡ None) }
     ensures err { IfErr result (Tells (first_flaw (claim_of trace.now history.now))) }
 {
@@ -29,9 +27,9 @@ fn first_flaw_of(alloc: Global, trace: &Trace, history: &[Entry]) -> Result<(), 
 }
 
 /// Whether the history explains the trace, and else the first flaw. Where a growth was refused, a
-/// flaw of kind `Memory` tells it, and nothing is known.
+/// flaw of kind `Memory` tells it, and nothing is known. Takes as many bytes as the trace's memory
+/// has, and tables of the records and entries.
 pub fn check(alloc: Global, trace: &Trace, history: &[Entry]) -> Result<(), Flaw>
-    requires { IsBlock trace.now.block }
     ensures explained { OnOk result (Explains (claim_of trace.now history.now)) }
     ensures unexplained { IfErr result (λ f. ¬ (f.kind ≡ FlawKind.Memory) → ¬ (Explains (claim_of trace.now history.now))) }
     ensures ok { OnOk result (first_flaw (claim_of trace.now history.now) ≡ None) }

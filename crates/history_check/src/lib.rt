@@ -22,6 +22,7 @@ mod tests;
 pub use checking::check;
 pub use flaws::{Flaw, FlawKind};
 use seq_memory::Reply;
+use std::marker::Model;
 use tlp_core::Op;
 
 /// What a requester saw. `n` is the length of the history at that event.
@@ -45,11 +46,23 @@ pub enum Record {
 
 /// What requesters submitted to a memory and were answered, in the order of events. The memory has
 /// `size` bytes, zeros at first, from the address `base` on, and serves accesses by blocks of
-/// `block` bytes.
-#[derive(Clone, Debug, PartialEq, Drop)]
+/// `block` bytes. All three are within the limits of a memory: [`is_size`](seq_memory::is_size),
+/// [`is_base`](seq_memory::is_base) and [`is_block`](seq_memory::is_block) test them. A literal
+/// proves that where it is made.
+#[derive(Clone, Debug, Drop)]
 pub struct Trace {
     pub base: u64,
     pub size: usize,
     pub block: u16,
     pub records: Vec<Record>,
+}
+
+impl Model for Trace {
+    ghost use Rattle.history_check.specs.Observation.{Observation, HasLimits};
+
+    ghost Value = { Observation };
+
+    ghost view = { λ t. record { base = t.base; size = t.size; block = t.block; records = t.records.items } };
+
+    ghost invariant = { λ t. HasLimits (record { base = t.base; size = t.size; block = t.block; records = t.records.items }) };
 }

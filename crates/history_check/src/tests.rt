@@ -4,7 +4,7 @@ use arrayvec::ArrayVec;
 use seq_memory::{Entry, Reply};
 use std::alloc::{AllocError, Global};
 use std::test::Fail;
-use tlp_core::Op;
+use tlp_core::{MAX_PAYLOAD, Op};
 
 /// A record, by its request's number and the length of the history.
 #[derive(Clone, Copy)]
@@ -26,7 +26,7 @@ enum Act {
     WideRead(u32),
 }
 
-fn four(byte: u8) -> ArrayVec<u8, 128> {
+fn four(byte: u8) -> ArrayVec<u8, MAX_PAYLOAD> {
     let mut bytes = ArrayVec::new();
     let _ = bytes.try_extend_from_slice(&[byte; 4]);
     bytes

@@ -6,7 +6,7 @@ ghost use Rattle.tlp_core.specs.Operation.{size_of, op_fault, op_of};
 ghost use Rattle.requester_core.specs.Request.{kind_for, length_for, first_for, last_for, payload_for, request_for};
 
 use arrayvec::ArrayVec;
-use tlp_core::{Body, Kind, Op, Tlp, Width};
+use tlp_core::{Body, Kind, MAX_PAYLOAD, Op, Tlp, Width};
 
 fn kind_for(op: &Op) -> Kind
     ensures { result ≡ kind_for op.now }
@@ -43,7 +43,7 @@ fn enables_for(op: &Op) -> (u8, u8)
 }
 
 /// Adds an operand's bytes.
-fn put_operand(payload: &mut ArrayVec<u8, 128>, width: Width, operand: u128)
+fn put_operand(payload: &mut ArrayVec<u8, MAX_PAYLOAD>, width: Width, operand: u128)
     requires { array_vec_len payload.old ≤ 16 }
     ensures items { payload.new.items ≡ payload.old.items ++ little_bytes (size_of width) operand }
     ensures len { array_vec_len payload.new ≡ array_vec_len payload.old + size_of width }
@@ -52,7 +52,7 @@ fn put_operand(payload: &mut ArrayVec<u8, 128>, width: Width, operand: u128)
     let _ = payload.try_extend_from_slice(&bytes[..usize::from(width.size())]);
 }
 
-fn payload_for(op: &Op) -> ArrayVec<u8, 128>
+fn payload_for(op: &Op) -> ArrayVec<u8, MAX_PAYLOAD>
     ensures items { result.items ≡ payload_for op.now }
     ensures range { length result.items ≤ 128 }
 {

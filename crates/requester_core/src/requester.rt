@@ -6,7 +6,7 @@ use crate::request::request_for;
 use arrayvec::ArrayVec;
 use seq_memory::Reply;
 use std::marker::Model;
-use tlp_core::{Body, Kind, Op, Status, Tlp, op_fault};
+use tlp_core::{Body, Kind, MAX_PAYLOAD, Op, Status, Tlp, op_fault};
 
 /// How many tags a requester has: those of 8 bits.
 pub const TAGS: usize = 256;
@@ -34,8 +34,8 @@ pub struct Answer {
 pub struct Requester {
     port: u8,
     next: u32,
-    open_tags: [Option<Open>; 256],
-    /// The lowest free tag, 256 where all are open.
+    open_tags: [Option<Open>; TAGS],
+    /// The lowest free tag, [`TAGS`] where all are open.
     lowest: usize,
 }
 
@@ -201,7 +201,7 @@ fn reply_of(size: u16, completion: &Tlp) -> Option<Reply>
 }
 
 /// The payload as a reply, if it has that size.
-fn data_of(size: u16, payload: &ArrayVec<u8, 128>) -> Option<Reply>
+fn data_of(size: u16, payload: &ArrayVec<u8, MAX_PAYLOAD>) -> Option<Reply>
     ensures { result ≡ (if length payload.now.items == size then Some (Reply.Data payload.now) else None) }
 {
     if payload.len() != usize::from(size) {
@@ -212,10 +212,10 @@ fn data_of(size: u16, payload: &ArrayVec<u8, 128>) -> Option<Reply>
     Some(Reply::Data(bytes))
 }
 
-fn no_tags() -> [Option<Open>; 256]
+fn no_tags() -> [Option<Open>; TAGS]
     ensures { result ≡ replicate 256 None }
 {
-    [None; 256]
+    [None; TAGS]
 }
 
 /// The lowest free tag, where none below `from` is free.

@@ -2,3 +2,4 @@ pub mod Places
 pub mod Merges
 pub mod Histories
 pub mod Steps
+pub mod Counts

@@ -1,8 +1,9 @@
 -- Merging DW by DW.
-use Rattle.std.proofs.Common.{◌≡◌, ℕ, zero, suc, ◌+◌, ◌-◌, ◌*◌, ◌/◌, ◌%◌, ◌≤◌, Bool, true, false, cond, eqb, List, [], ◌∷◌, ◌++◌, length, take, drop, replicate, refl, sym, ap, ◌∙◌, append_assoc, arith, length-append, length-drop}
+use Rattle.std.proofs.Common.{◌≡◌, ℕ, zero, suc, ◌+◌, ◌-◌, ◌*◌, ◌/◌, ◌%◌, ◌≤◌, Bool, true, false, cond, eqb, List, [], ◌∷◌, ◌++◌, length, take, drop, get_or, replicate, refl, sym, ap, ◌∙◌, append_assoc, arith, length-append, length-drop}
 use Rattle.std.proofs.lemmas.List.{append-nil, drop_all, take_all, take_at, drop_at, take-append-drop, drop-drop, length-replicate}
 use Rattle.std.proofs.lemmas.Bool.Decides.{nat_tests}
 use Rattle.std.proofs.Math.Seq.{length-take-le}
+use Rattle.std.specs.Prelude.{slice_get}
 use borrow.Rule.Slice.PartMut.{put_mid}
 use Rattle.tlp_core.specs.Enables.{dw_enables, enables}
 use Rattle.seq_memory.specs.Step.{merged}
@@ -28,6 +29,14 @@ merged_all zero (x ∷ xs) ys h1 h2 = absurd (cc)
 merged_all (suc n) [] ys h1 h2 = absurd (cc)
 merged_all (suc n) (x ∷ xs) [] h1 h2 = absurd (cc)
 merged_all (suc n) (x ∷ xs) (y ∷ ys) h1 h2 = ap (λ zs. x ∷ zs) (merged_all n xs ys (omega arith) (omega arith))
+
+-- an enabled byte is the new one
+pub merged_at : (es : List Bool) (xs ys : List ℕ) (k : ℕ) → length xs ≡ length es → length ys ≡ length es → get_or es k false ≡ true → slice_get (merged es xs ys) k ≡ slice_get xs k
+merged_at [] xs ys k h1 h2 e = absurd (cc e)
+merged_at (b ∷ es) [] ys k h1 h2 e = absurd (cc)
+merged_at (b ∷ es) (x ∷ xs) [] k h1 h2 e = absurd (cc)
+merged_at (b ∷ es) (x ∷ xs) (y ∷ ys) zero h1 h2 e = rw e refl
+merged_at (b ∷ es) (x ∷ xs) (y ∷ ys) (suc k) h1 h2 e = merged_at es xs ys k (omega arith) (omega arith) e
 
 -- first DW, bytes between and last DW of several
 three_parts : (f l n : ℕ) (p q r a b c : List ℕ) → length p ≡ 4 → length a ≡ 4 → length q ≡ n → length b ≡ n → merged (dw_enables f ++ replicate n true ++ dw_enables l) ((p ++ q) ++ r) ((a ++ b) ++ c) ≡ (merged (dw_enables f) p a ++ q) ++ merged (dw_enables l) r c

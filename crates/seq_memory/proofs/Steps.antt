@@ -1,6 +1,6 @@
 -- Laws of one step.
 use Rattle.std.proofs.Common.{◌≡◌, ℕ, zero, suc, ◌+◌, ◌-◌, ◌*◌, ◌/◌, ◌%◌, ◌<◌, ◌≤◌, ◌⊎◌, inl, inr, Bool, true, false, eqb, List, ◌++◌, length, take, drop, get_or, replicate, Option, Some, None, refl, sym, ap, subst, ◌∙◌, append_assoc, arith, length-append, length-drop}
-use Rattle.std.specs.Prelude.{◌==◌, ◌&&◌, ◌||◌, not, if◌then◌else◌, nat_le, nat_lt, is_some, slice_index}
+use Rattle.std.specs.Prelude.{◌==◌, ◌&&◌, ◌||◌, not, if◌then◌else◌, nat_le, nat_lt, is_some, slice_index, slice_get}
 use Rattle.std.proofs.lemmas.List.{take_at, drop_at, take-append-drop, drop-drop, length-replicate, get_or_append_left, get_or-append_right, get_or-take, get_or-drop}
 use Rattle.std.proofs.lemmas.Bool.Decides.{nat_tests}
 use Rattle.std.proofs.Math.Seq.{length-take-le}
@@ -15,8 +15,8 @@ use Rattle.tlp_core.specs.Operation.{size_of, address_of, count_of, op_fault, wr
 use Rattle.seq_memory.specs.declared.Refusal.{Refusal}
 use Rattle.seq_memory.specs.declared.Refusal.TheVariants as refusals
 use Rattle.seq_memory.specs.Limits.{IsBlock}
-use Rattle.seq_memory.specs.Step.{is_in_block, is_inside, refusal, merged, place_after, read_back, bytes_at, patched, after_by, answer_by, after, answer, data_of}
-use Rattle.seq_memory.proofs.Merges.{length_merged, merged_all}
+use Rattle.seq_memory.specs.Step.{is_in_block, is_inside, refusal, merged, place_after, read_back, bytes_at, patched, after_by, answer_by, after, answer, data_of, is_enabled, written_over, read_over}
+use Rattle.seq_memory.proofs.Merges.{length_merged, merged_all, merged_at}
 
 -- ---- an operation that is served
 
@@ -131,11 +131,11 @@ by_refusal P None old new p q = q refl
 by_refusal P (Some r) old new p q = p
 
 -- where a served operation's place begins and ends in the bytes
-record IsPlaced (base size : ℕ) (op : Op) : Type 0 where
+pub record IsPlaced (base size : ℕ) (op : Op) : Type 0 where
   pub fits : address_of op - base + count_of op ≤ size
   pub low : base ≤ address_of op
 
-placed : (block base size : ℕ) (op : Op) → Served block base size op → IsPlaced base size op
+pub placed : (block base size : ℕ) (op : Op) → Served block base size op → IsPlaced base size op
 placed block base size op s = let l = s.low in let h = s.high in record { fits = omega (arith, l, h); low = l }
 
 new_length : (block base : ℕ) (m : List ℕ) (op : Op) → Served block base (length m) op → length (place_after op (bytes_at m (address_of op - base) (count_of op))) ≡ count_of op
@@ -207,6 +207,41 @@ read_served block base size a f l bytes b e =
     let none : op_fault (ops.Read a (n / 4) f l) ≡ None = sound_whole (ops.Read a (n / 4) f l) right parts.1 refl parts.3 in
     subst (λ k. (if is_some (op_fault (ops.Read a (n / 4) f l)) || not (is_in_block block a k) then Some refusals.Aborted else (if is_inside base size a k then None else Some refusals.Unsupported)) ≡ None)
     (sym w.1) (none_served (is_some (op_fault (ops.Read a (n / 4) f l))) (is_in_block block a n) (is_inside base size a n) (ap is_some none) s.within s.inside)
+
+-- what a read right after a write of the same DW gives, whatever bytes each of them enables
+pub write_read_any : (block base a f l g h : ℕ) (m : List ℕ) (bytes : ArrayVec ℕ)
+    → refusal block base (length m) (ops.Write a f l bytes) ≡ None
+    → refusal block base (length m) (ops.Read a (length bytes.items / 4) g h) ≡ None
+    → answer block base (after block base m (ops.Write a f l bytes)) (ops.Read a (length bytes.items / 4) g h) ≡ data_of (read_over g h bytes.items (written_over f l bytes.items (bytes_at m (a - base) (length bytes.items))))
+write_read_any block base a f l g h m bytes e e' =
+    let n = length bytes.items in
+    let m' = after block base m (ops.Write a f l bytes) in
+    let s = served block base (length m) (ops.Write a f l bytes) e in
+    let w = whole_dw n (sound_parts (ops.Write a f l bytes) s.sound).0 in
+    let read : refusal block base (length m') (ops.Read a (n / 4) g h) ≡ None =
+    ap (λ k. refusal block base k (ops.Read a (n / 4) g h)) (size_kept block base m (ops.Write a f l bytes)) ∙ e' in
+    served_answer block base m' (ops.Read a (n / 4) g h) read
+    ∙ ap (λ k. data_of (merged (enables (n / 4) g h) (bytes_at m' (a - base) k) (replicate k 0))) w.1
+    ∙ ap (λ xs. data_of (merged (enables (n / 4) g h) xs (replicate n 0))) (place_is block base m (ops.Write a f l bytes) e)
+
+-- of the bytes that both enable
+pub enabled_read : (block base a f l g h k : ℕ) (m : List ℕ) (bytes : ArrayVec ℕ)
+    → refusal block base (length m) (ops.Write a f l bytes) ≡ None
+    → is_enabled (length bytes.items / 4) f l k ≡ true → is_enabled (length bytes.items / 4) g h k ≡ true
+    → slice_get (read_over g h bytes.items (written_over f l bytes.items (bytes_at m (a - base) (length bytes.items)))) k ≡ slice_get bytes.items k
+enabled_read block base a f l g h k m bytes e w r =
+    let n = length bytes.items in
+    let old = bytes_at m (a - base) n in
+    let s = served block base (length m) (ops.Write a f l bytes) e in
+    let whole = whole_dw n (sound_parts (ops.Write a f l bytes) s.sound).0 in
+    let some : 1 ≤ n / 4 = omega (arith, whole.0) in
+    let of_write : length (enables (n / 4) f l) ≡ n = length_enables (n / 4) f l some ∙ whole.1 in
+    let of_read : length (enables (n / 4) g h) ≡ n = length_enables (n / 4) g h some ∙ whole.1 in
+    let there : length old ≡ n = length_at m (a - base) n (placed block base (length m) (ops.Write a f l bytes) s).fits in
+    let zeros : length {A = ℕ} (replicate n 0) ≡ n = length-replicate {A = ℕ} n 0 in
+    let new : length (merged (enables (n / 4) f l) bytes.items old) ≡ n = length_merged (enables (n / 4) f l) bytes.items old (sym of_write) (there ∙ sym of_write) ∙ of_write in
+    merged_at (enables (n / 4) g h) (merged (enables (n / 4) f l) bytes.items old) (replicate n 0) k (new ∙ sym of_read) (zeros ∙ sym of_read) r
+    ∙ merged_at (enables (n / 4) f l) bytes.items old k (sym of_write) (there ∙ sym of_write) w
 
 pub write_read : (block base a f l : ℕ) (m : List ℕ) (bytes : ArrayVec ℕ) → IsBlock block
     → enables (length bytes.items / 4) f l ≡ replicate (length bytes.items) true

@@ -1,5 +1,7 @@
 -- The history of a memory: the requests that acted, in order.
-use Rattle.std.specs.Prelude.{ℕ, ◌≡◌, List, take, fold, replicate, Option, option_map, slice_get}
+use Rattle.std.specs.Prelude.{ℕ, ◌≡◌, List, take, fold, replicate, Option, Some, option_map, slice_get}
+use Rattle.tlp_core.specs.declared.operation.Op.TheVariants as ops
+use Rattle.tlp_core.specs.declared.operation.Width.{Width}
 use Rattle.seq_memory.specs.declared.Entry.{Entry}
 use Rattle.seq_memory.specs.declared.Reply.{Reply}
 use Rattle.seq_memory.specs.Limits.{IsSize, IsBase, IsBlock}
@@ -17,6 +19,10 @@ contents_at block base size entries p = contents block base size (take p entries
 abbrev pub reply_at : ℕ → ℕ → ℕ → List Entry → ℕ → Option Reply
 reply_at block base size entries p =
     option_map (λ e. answer block base (contents_at block base size entries p) e.op) (slice_get entries p)
+
+-- each request is a FetchAdd of 1, of that width and at that address
+abbrev pub AreCounts : ℕ → Width → List Entry → Type 0
+AreCounts a w entries = (p : ℕ) (e : Entry) → slice_get entries p ≡ Some e → e.op ≡ ops.FetchAdd a w 1
 
 -- a memory as contracts see it
 pub record State : Type 0 where

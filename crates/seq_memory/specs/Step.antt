@@ -1,5 +1,5 @@
 -- One step of the sequential memory: a list of bytes from a base address on.
-use Rattle.std.specs.Prelude.{ℕ, ◌≡◌, ◌+◌, ◌-◌, ◌*◌, ◌/◌, Bool, not, ◌&&◌, ◌||◌, ◌==◌, nat_le, if◌then◌else◌, List, [], ◌∷◌, ◌++◌, length, take, drop, replicate, Option, Some, None, is_some}
+use Rattle.std.specs.Prelude.{ℕ, ◌≡◌, ◌+◌, ◌-◌, ◌*◌, ◌/◌, Bool, false, not, ◌&&◌, ◌||◌, ◌==◌, nat_le, if◌then◌else◌, List, [], ◌∷◌, ◌++◌, length, take, drop, get_or, replicate, Option, Some, None, is_some}
 use Rattle.byteorder.specs.Endian.{little_number, little_bytes}
 use Rattle.tlp_core.specs.declared.operation.Op.{Op}
 use Rattle.tlp_core.specs.declared.operation.Op.TheVariants as ops
@@ -89,6 +89,20 @@ after block base m op =
 abbrev pub answer : ℕ → ℕ → List ℕ → Op → Reply
 answer block base m op =
     answer_by (refusal block base (length m) op) (read_back op (bytes_at m (address_of op - base) (count_of op)))
+
+-- ---- a read right after a write of the same DW
+
+-- byte k of so many DW is enabled
+abbrev pub is_enabled : ℕ → ℕ → ℕ → ℕ → Bool
+is_enabled dw first last k = get_or (enables dw first last) k false
+
+-- the written bytes where they are enabled, and else the old ones
+abbrev pub written_over : ℕ → ℕ → List ℕ → List ℕ → List ℕ
+written_over first last bytes old = merged (enables (length bytes / 4) first last) bytes old
+
+-- of as many bytes those that are read, and 0 for the others
+abbrev pub read_over : ℕ → ℕ → List ℕ → List ℕ → List ℕ
+read_over first last bytes place = merged (enables (length bytes / 4) first last) place (replicate (length bytes) 0)
 
 -- data has as many bytes as the place
 abbrev pub IsSizedFor : Op → Reply → Type 0

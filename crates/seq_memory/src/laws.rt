@@ -1,6 +1,7 @@
 //! Laws of the sequential memory: what holds of the definitions that the contracts cite.
-ghost use Rattle.std.specs.Prelude.{ℕ, ◌≡◌, ◌+◌, ◌-◌, ◌*◌, ◌/◌, ◌<◌, ◌≤◌, ◌⊎◌, true, None, Some, List, [], ◌∷◌, ◌++◌, length, replicate, slice_get, slice_index};
+ghost use Rattle.std.specs.Prelude.{ℕ, ◌≡◌, ◌+◌, ◌-◌, ◌*◌, ◌/◌, ◌%◌, ◌^◌, ◌<◌, ◌≤◌, ◌⊎◌, true, None, Some, List, [], ◌∷◌, ◌++◌, length, replicate, slice_get, slice_index};
 ghost use Rattle.arrayvec.specs.ArrayVec.{ArrayVec};
+ghost use Rattle.byteorder.specs.Endian.{little_number, little_bytes};
 ghost use Rattle.tlp_core.specs.declared.operation.Op.{Op};
 ghost use Rattle.tlp_core.specs.declared.operation.Op.TheVariants as ops;
 ghost use Rattle.tlp_core.specs.declared.operation.Width.{Width};
@@ -9,8 +10,8 @@ ghost use Rattle.tlp_core.specs.Operation.{size_of, address_of, count_of};
 ghost use Rattle.seq_memory.specs.declared.Entry.{Entry};
 ghost use Rattle.seq_memory.specs.declared.Refusal.{Refusal};
 ghost use Rattle.seq_memory.specs.Limits.{IsBlock};
-ghost use Rattle.seq_memory.specs.Step.{refusal, after, answer, bytes_at, place_after, data_of};
-ghost use Rattle.seq_memory.specs.History.{contents, contents_at, reply_at};
+ghost use Rattle.seq_memory.specs.Step.{refusal, after, answer, bytes_at, place_after, data_of, is_enabled, written_over, read_over};
+ghost use Rattle.seq_memory.specs.History.{contents, contents_at, reply_at, AreCounts};
 
 /// An operation changes no byte outside its place and not their number, and a served one leaves at
 /// its place what it makes of the bytes that were there.
@@ -36,11 +37,14 @@ pub fn atomics_return_the_original()
     ensures cas { (block base a x y : ℕ) (w : Width) (m : List ℕ) → refusal block base (length m) (ops.Cas a w x y) ≡ None → answer block base m (ops.Cas a w x y) ≡ data_of (bytes_at m (a - base) (size_of w)) }
 {}
 
-/// A read of the DW of a served write with all bytes enabled, right after it, gives what was
-/// written.
-#[tactic(auto, using(crate::proofs::Steps::write_read))]
+/// A read of the DW of a served write, right after it, gives what was written, of the bytes that
+/// both enable; where the read alone enables a byte it gives the old one, and else 0. A read of
+/// the same enables is served too where all bytes are enabled.
+#[tactic(auto, using(crate::proofs::Steps::write_read, crate::proofs::Steps::write_read_any, crate::proofs::Steps::enabled_read))]
 pub fn what_was_written_is_read()
-    ensures { (block base a f l : ℕ) (m : List ℕ) (bytes : ArrayVec ℕ) → IsBlock block → enables (length bytes.items / 4) f l ≡ replicate (length bytes.items) true → refusal block base (length m) (ops.Write a f l bytes) ≡ None → answer block base (after block base m (ops.Write a f l bytes)) (ops.Read a (length bytes.items / 4) f l) ≡ data_of bytes.items }
+    ensures any { (block base a f l g h : ℕ) (m : List ℕ) (bytes : ArrayVec ℕ) → refusal block base (length m) (ops.Write a f l bytes) ≡ None → refusal block base (length m) (ops.Read a (length bytes.items / 4) g h) ≡ None → answer block base (after block base m (ops.Write a f l bytes)) (ops.Read a (length bytes.items / 4) g h) ≡ data_of (read_over g h bytes.items (written_over f l bytes.items (bytes_at m (a - base) (length bytes.items)))) }
+    ensures both { (block base a f l g h k : ℕ) (m : List ℕ) (bytes : ArrayVec ℕ) → refusal block base (length m) (ops.Write a f l bytes) ≡ None → is_enabled (length bytes.items / 4) f l k ≡ true → is_enabled (length bytes.items / 4) g h k ≡ true → slice_get (read_over g h bytes.items (written_over f l bytes.items (bytes_at m (a - base) (length bytes.items)))) k ≡ slice_get bytes.items k }
+    ensures all { (block base a f l : ℕ) (m : List ℕ) (bytes : ArrayVec ℕ) → IsBlock block → enables (length bytes.items / 4) f l ≡ replicate (length bytes.items) true → refusal block base (length m) (ops.Write a f l bytes) ≡ None → answer block base (after block base m (ops.Write a f l bytes)) (ops.Read a (length bytes.items / 4) f l) ≡ data_of bytes.items }
 {}
 
 /// A history of no entries leaves zeros, and one more entry takes one step; the bytes keep their
@@ -50,6 +54,14 @@ pub fn history_grows_by_steps()
     ensures next { (block base size : ℕ) (es : List Entry) (e : Entry) → contents block base size (es ++ e ∷ []) ≡ after block base (contents block base size es) e.op }
     ensures at { (block base size p : ℕ) (es : List Entry) (e : Entry) → slice_get es p ≡ Some e → contents_at block base size es (p + 1) ≡ after block base (contents_at block base size es p) e.op }
     ensures size { (block base size : ℕ) (es : List Entry) → length (contents block base size es) ≡ size }
+{}
+
+/// A counter counts each request once: a history of FetchAdds of 1 at one place, where they are
+/// served, leaves its length there, modulo 2 to the number of the operand's bits.
+#[tactic(auto, using(crate::proofs::Counts::count_number, crate::proofs::Counts::count_bytes))]
+pub fn a_counter_counts_each_once()
+    ensures number { (block base size a : ℕ) (w : Width) (es : List Entry) → refusal block base size (ops.FetchAdd a w 1) ≡ None → AreCounts a w es → little_number (size_of w) (bytes_at (contents block base size es) (a - base) (size_of w)) ≡ length es % 2 ^ (8 * size_of w) }
+    ensures bytes { (block base size a : ℕ) (w : Width) (es : List Entry) → refusal block base size (ops.FetchAdd a w 1) ≡ None → AreCounts a w es → bytes_at (contents block base size es) (a - base) (size_of w) ≡ little_bytes (size_of w) (length es % 2 ^ (8 * size_of w)) }
 {}
 
 /// The reply to an entry is the answer of the memory that the entries before it make, whatever

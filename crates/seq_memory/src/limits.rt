@@ -1,6 +1,7 @@
 //! Where a memory can lie, and how large it can be.
-ghost use Rattle.std.specs.Prelude.{◌↔◌, IsTrue};
+ghost use Rattle.std.specs.Prelude.{◌≡◌, ◌↔◌, IsTrue};
 ghost use Rattle.seq_memory.specs.Limits.{IsSize, IsBase, IsBlock};
+ghost use Rattle.seq_memory.specs.Limits as limits;
 
 /// The least size of a memory, in bytes.
 pub const MIN_SIZE: usize = 128;
@@ -14,7 +15,8 @@ pub const ALIGNMENT: usize = 128;
 /// Whether a memory can have so many bytes: [`MIN_SIZE`] to [`MAX_SIZE`], a multiple of
 /// [`ALIGNMENT`].
 pub fn is_size(size: usize) -> bool
-    ensures { IsTrue result ↔ IsSize size }
+    ensures limits { IsTrue result ↔ IsSize size }
+    ensures test { result ≡ limits.is_size size }
 {
     MIN_SIZE <= size && size <= MAX_SIZE && size % ALIGNMENT == 0
 }
@@ -22,7 +24,8 @@ pub fn is_size(size: usize) -> bool
 /// Whether a memory of `size` bytes can begin at `base`: a multiple of [`ALIGNMENT`] from which on
 /// so many addresses are below 2^64.
 pub fn is_base(base: u64, size: usize) -> bool
-    ensures { IsTrue result ↔ IsBase base size }
+    ensures limits { IsTrue result ↔ IsBase base size }
+    ensures test { result ≡ limits.is_base base size }
 {
     base % ALIGNMENT as u64 == 0 && u128::from(base) + size as u128 <= 1 << 64
 }

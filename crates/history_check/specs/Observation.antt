@@ -1,0 +1,15 @@
+-- A trace as contracts see it.
+use Rattle.std.specs.Prelude.{ℕ, List}
+use Rattle.seq_memory.specs.Limits.{IsWithinLimits}
+use Rattle.history_check.specs.declared.Record.{Record}
+
+-- what requesters submitted and were answered, over a memory of that base, size and block
+pub record Observation : Type 0 where
+  pub base : ℕ
+  pub size : ℕ
+  pub block : ℕ
+  pub records : List Record
+
+-- the memory is one that there can be
+abbrev pub HasLimits : Observation → Type 0
+HasLimits t = IsWithinLimits t.base t.size t.block
