@@ -205,7 +205,7 @@ read_item : (r : Result Packet TlpFault) (mark : ℕ) → IsOk r → (item : Ite
 read_item (Ok t) mark i = ((t, mark), refl)
 read_item (Err x) mark i = cc
 
-spelled_some : (c : Carried) → IsSpelled c → (item : Item) × (item_of c ≡ Some item)
+pub spelled_some : (c : Carried) → IsSpelled c → (item : Item) × (item_of c ≡ Some item)
 spelled_some c k = read_item (reading c.bytes) c.mark k
 
 none_left : (cs : List Carried) → All IsSpelled cs → items_of cs ≡ [] → cs ≡ []

@@ -8,3 +8,4 @@ pub mod Directions
 pub mod Kept
 pub mod Whole
 pub mod Sums
+pub mod Windows

@@ -152,7 +152,7 @@ discarded_right s p f b next r =
       dllps = r.dllps;
     }
 
-first_is : (xs : List Carried) (x : Carried) → slice_get xs 0 ≡ Some x → xs ≡ x ∷ drop 1 xs
+pub first_is : (xs : List Carried) (x : Carried) → slice_get xs 0 ≡ Some x → xs ≡ x ∷ drop 1 xs
 first_is [] x h = cc
 first_is (y ∷ xs) x h = cc
 

@@ -3,3 +3,4 @@ pub mod Steps
 pub mod Calls
 pub mod Credit
 pub mod Refusals
+pub mod Windows

@@ -1,5 +1,5 @@
 //! What holds of a lane whatever calls are made, said of the values of its four ends, wherever these are.
-ghost use Rattle.std.specs.Prelude.{◌≡◌, ◌↔◌, ℕ, ◌+◌, ◌/◌, ◌<◌, ◌≤◌, All, IsOk, IsTrue, Some, List, [], ◌∷◌, ◌++◌};
+ghost use Rattle.std.specs.Prelude.{◌≡◌, ◌↔◌, ℕ, ◌+◌, ◌/◌, ◌<◌, ◌≤◌, All, IsOk, IsTrue, Some, List, [], ◌∷◌, ◌++◌, length};
 ghost use Rattle.dllp_core.specs.declared.packet.Class.{Class};
 ghost use Rattle.tlp_core.specs.Packet.{Packet};
 ghost use Rattle.tlp_core.specs.Layout.{Spells, canonical};
@@ -14,8 +14,9 @@ ghost use Rattle.lane_core.specs.declared.packet.Fate.{Fate};
 ghost use Rattle.lane_core.specs.declared.packet.WirePacket.{WirePacket};
 ghost use Rattle.lane_core.specs.declared.packet.Arrival.TheVariants.{Answered};
 ghost use Rattle.lane_core.specs.Content.{cargo_of, item_of, IsSpelled, wire_bytes};
-ghost use Rattle.lane_core.specs.Steps.{Ends, new_lane, delivered, dllp_seen};
+ghost use Rattle.lane_core.specs.Steps.{Ends, new_lane, transmitted, delivered, dllp_seen};
 ghost use Rattle.lane_core.specs.Calls.{Call, Deliver, IsCall, AreCalls, happens, entered_by, accepted_by, after_calls, entered_in, accepted_in, taken_in, IsPrefixOf, on_the_way, content, content_after, IsRightWith, IsRight, AcceptsFirst};
+ghost use Rattle.lane_core.specs.Windows.{next_entered, oldest_unacknowledged, next_accepted, deliveries};
 ghost use Rattle.lane_core.specs.Credit.{needs_of, numbers_of, HasRoom};
 
 /// Each call keeps four ends right together, with their credits. `Enter` adds to the end of the content, `Take` removes
@@ -79,6 +80,16 @@ pub fn credits_are_whole_numbers()
         (numbers_of credits calls c p) (demand c p (needs_of (after_calls (new_lane credits) calls).receiver.queue)) (demand c p (needs_of (on_the_way (after_calls (new_lane credits) calls)))) }
     ensures unused { (credits : LaneCredits) (calls : List Call) (c : Class) (p : _) → IsInLimits credits → AreCalls calls → 0 < first_of c p credits →
         (numbers_of credits calls c p).known ≤ (numbers_of credits calls c p).used + most p }
+{}
+
+/// A packet is right whoever holds the ends meanwhile. Let some calls come and then others, of which at most as many
+/// deliver as packets were under way between the two: a packet that was sent there is still under way. It was one of the
+/// unacknowledged packets, A to N - 1 in true numbers, and the true number that the receiver waits for is from A to N.
+pub fn found_within_the_window()
+    ensures sent { (credits : LaneCredits) (before : List Call) (number : ℕ) → transmitted (after_calls (new_lane credits) before).sender ≡ Some number →
+        (after_calls (new_lane credits) before).sender.sending.place < length (after_calls (new_lane credits) before).sender.sending.kept }
+    ensures found { (credits : LaneCredits) (before after : List Call) → AreCalls before → deliveries after ≤ length (after_calls (new_lane credits) before).forward →
+        (oldest_unacknowledged credits before ≤ next_accepted credits (before ++ after)) × (next_accepted credits (before ++ after) ≤ next_entered credits before) }
 {}
 
 /// A need within the limits is covered exactly where the room, known less used in whole numbers, is enough.

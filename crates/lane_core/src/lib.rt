@@ -19,8 +19,8 @@ pub use fc_credit::LaneCredits;
 pub use lane::Lane;
 pub use laws::{
     accepted_begins_entered, credits_are_whole_numbers, each_call_keeps_it_right,
-    never_a_protocol_error, only_the_first_is_accepted, quiet_is_nothing_left,
-    room_is_known_less_used, wire_bytes_tell_the_packet,
+    found_within_the_window, never_a_protocol_error, only_the_first_is_accepted,
+    quiet_is_nothing_left, room_is_known_less_used, wire_bytes_tell_the_packet,
 };
 pub use packet::{Arrival, DllpKind, DllpSeen, Fate, LaneRefusal, WirePacket};
 pub use receiver_end::ReceiverEnd;

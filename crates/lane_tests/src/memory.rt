@@ -3,6 +3,7 @@
 use crate::calls::{
     answered, deliver, enter, infinite, quiet, send, take_mark, took, transmit, write_of,
 };
+use dllp_core::Class;
 use fc_credit::need_of;
 use lane_core::{DllpKind, Fate, Lane, LaneRefusal};
 use link_receiver::Reception;
@@ -130,5 +131,17 @@ fn a_refused_growth_changes_nothing(rt: HostRuntime) -> Result<(), Fail> {
         lane = grown;
     }
     assert!(rt; arrive(&mut lane)? && take_all(&mut lane));
+    Ok(())
+}
+
+#[test]
+fn names_of_refusals(rt: HostRuntime) -> Result<(), Fail> {
+    for (refusal, name) in [
+        (LaneRefusal::NoCredits(Class::Posted), "NoCredits"),
+        (LaneRefusal::WindowFull, "WindowFull"),
+        (LaneRefusal::Memory, "Memory"),
+    ] {
+        assert_eq!(rt; format!(in rt.alloc(); "{refusal}")?.as_str(), name);
+    }
     Ok(())
 }
