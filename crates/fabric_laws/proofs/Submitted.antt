@@ -67,7 +67,7 @@ ops_there i es (suc n) k less = dite (dec_lt k n)
     subst (λ (m : ℕ). slice_get (ops_to i es n ++ op_at i n es ∷ []) m ≡ Some (op_at i k es)) (ops_length i es n ∙ sym is)
     (subst (λ (m : ℕ). slice_get (ops_to i es n ++ op_at i n es ∷ []) (length (ops_to i es n)) ≡ Some (op_at i m es)) (sym is) (get_seam (ops_to i es n) [] (op_at i n es))))
 
-each_of : {X : Type 0} (P : X → Type 0) (xs : List X) → ((n : ℕ) (x : X) → slice_get xs n ≡ Some x → P x) → Each P xs
+pub each_of : {X : Type 0} (P : X → Type 0) (xs : List X) → ((n : ℕ) (x : X) → slice_get xs n ≡ Some x → P x) → Each P xs
 each_of P [] f = tt
 each_of P (x ∷ xs) f = (f 0 x refl, each_of P xs (λ n y e. f (suc n) y e))
 

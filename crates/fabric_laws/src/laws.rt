@@ -14,7 +14,7 @@ ghost use Rattle.history_check.specs.declared.Record.TheVariants.{Sub, Ans};
 ghost use Rattle.history_check.specs.Trace.{Explains, IsLegal, answers_to, submissions};
 ghost use Rattle.fabric_laws.specs.Whole.{Whole, Item, view, memory_of, up_of, down_of, requester_of, open_at};
 ghost use Rattle.fabric_laws.specs.Sound.{Sound, times};
-ghost use Rattle.fabric_laws.specs.Trace.{Belongs, IsMade};
+ghost use Rattle.fabric_laws.specs.Trace.{Belongs, IsMade, submitted_by};
 ghost use Rattle.fabric_laws.specs.Steps.{Step, Run};
 ghost use Rattle.fabric_laws.specs.New.{IsNew, IsNewFabric};
 ghost use Rattle.fabric_laws.specs.Expected.{IsExpected};
@@ -99,6 +99,11 @@ pub fn what_a_record_adds()
 pub fn quiet_is_all_acted()
     ensures acted { (p : Whole) (i k : ℕ) → Sound p → p.inward ≡ [] → up_of p i ≡ [] → k < (requester_of p i).next → times i k p.history ≡ 1 }
     ensures answered { (p : Whole) (i t k : ℕ) → Sound p → p.inward ≡ [] → up_of p i ≡ [] → p.outward ≡ [] → down_of p i ≡ [] → open_at (requester_of p i) t ≢ Some k }
+{}
+
+/// The history of a sound fabric whose lanes hold no request has as many entries as its requesters submitted operations.
+pub fn a_quiet_history_has_every_submission()
+    ensures { (p : Whole) → Sound p → p.inward ≡ [] → ((i : ℕ) → up_of p i ≡ []) → length p.history ≡ submitted_by p.requesters }
 {}
 
 /// Each event keeps every packet's Requester ID that of a port of the fabric, the requests such that
