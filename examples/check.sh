@@ -1,14 +1,22 @@
 #!/bin/sh
-# Tells whether the tests of the crate pciex, in its file src/example_tests.rt, have the text of each file here.
+# Tells whether the tests of the engines have the text of each file here: each stands under its name in a test file of
+# crates/tlp_engine, crates/trace_engine or crates/step_engine.
 cd "$(dirname "$0")" || exit 1
 differ=0
 for file in *.txt *.out; do
     name=$(echo "${file%.*}" | tr '[:lower:]' '[:upper:]')
     case $file in *.out) name=${name}_OUT ;; esac
-    if sed -n "/^const $name: &str = /,/^\";\$/p" ../crates/pciex/src/example_tests.rt | sed '1d;$d' | cmp -s - "$file"; then
-        continue
+    tests=$(grep -ls "^const $name: &str = " ../crates/*_engine/src/*tests.rt)
+    if [ -z "$tests" ]; then
+        echo "$file: no test has it"
+        differ=1
     fi
-    echo "$file: src/example_tests.rt has another text"
-    differ=1
+    for test in $tests; do
+        if sed -n "/^const $name: &str = /,/^\";\$/p" "$test" | sed '1d;$d' | cmp -s - "$file"; then
+            continue
+        fi
+        echo "$file: ${test#../} has another text"
+        differ=1
+    done
 done
 exit $differ

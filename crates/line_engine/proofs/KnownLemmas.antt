@@ -1,6 +1,5 @@
 -- What two reads or writes in turn do to known bytes.
-use Rattle.std.proofs.Common.{ℕ, List, [], ◌++◌, ◌∙◌, sym, Option, Some, None, ap, append_assoc, refl}
-use Rattle.std.proofs.lemmas.List.{append-nil}
+use Rattle.std.proofs.Common.{ℕ, List, ◌++◌, ◌∙◌, sym, Option, Some, None, ap, append_assoc}
 use Rattle.std.specs.Io.KnownBytes.{Appends, Consumes, Keeps}
 
 pub Appends-then : (u v w : Option (List ℕ)) (a b : List ℕ) → Appends u v a → Appends v w b → Appends u w (a ++ b)
@@ -15,10 +14,6 @@ Appends-kept (Some xs) None w a x y = absurd x
 Appends-kept (Some xs) (Some ys) None a x y = absurd y
 Appends-kept (Some xs) (Some ys) (Some zs) a x y = y ∙ x
 
-pub Appends-none : (u : Option (List ℕ)) → Appends u u []
-Appends-none None = tt
-Appends-none (Some xs) = sym (append-nil xs)
-
 pub Consumes-then : (u v w : Option (List ℕ)) (a b : List ℕ) → Consumes u v a → Consumes v w b → Consumes u w (a ++ b)
 Consumes-then None v w a b x y = tt
 Consumes-then (Some xs) None w a b x y = absurd x
@@ -30,7 +25,3 @@ Consumes-kept None v w a x y = tt
 Consumes-kept (Some xs) None w a x y = absurd x
 Consumes-kept (Some xs) (Some ys) None a x y = absurd y
 Consumes-kept (Some xs) (Some ys) (Some zs) a x y = x ∙ ap (λ (t : List ℕ). a ++ t) (sym y)
-
-pub Consumes-none : (u : Option (List ℕ)) → Consumes u u []
-Consumes-none None = tt
-Consumes-none (Some xs) = refl

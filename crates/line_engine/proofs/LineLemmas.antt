@@ -1,17 +1,17 @@
 -- What each line feed, and the end of the input, does to an engine's stand.
-use Rattle.std.proofs.Common.{◌≡◌, ◌≢◌, ◌<◌, ◌≤◌, ◌+◌, ◌-◌, ℕ, true, false, List, [], ◌∷◌, ◌++◌, ◌∙◌, ◌==◌, if◌then◌else◌, length, take, drop, slice_index, get_or, refl, ap, sym, append_assoc, arith, fold, All, nat_lt, inl, inr, subst, Option, Some, None, IfSome, Result, Ok, Err, OnOk, OnErr}
+use Rattle.std.proofs.Common.{◌≡◌, ◌≢◌, ◌<◌, ◌≤◌, ◌+◌, ◌-◌, ℕ, true, false, List, [], ◌∷◌, ◌++◌, ◌∙◌, ◌==◌, if◌then◌else◌, length, take, drop, slice_index, get_or, refl, ap, ap₂, sym, append_assoc, arith, filter, fold, All, nat_lt, inl, inr, subst, Option, Some, None, IfSome, Result, Ok, Err, OnOk, OnErr}
 use Rattle.std.specs.Io.KnownBytes.{Consumes, IsAtEnd}
 use Rattle.std.specs.Io.BufRead.{ends_with_byte}
 use Rattle.std.proofs.lemmas.Bool.{cases_lt}
 use Rattle.std.proofs.lemmas.Bool.Decides.{nat_tests}
 use Rattle.std.proofs.lemmas.Grind.{common_steps}
 use Rattle.std.proofs.lemmas.List.{append-nil, take-append-le, take_all, length-take-le, take-append-drop, take_more}
-use Rattle.std.proofs.lemmas.List.Elements.{All-nil, All-head, All-drop, All-append, All-get_or, All-from_get_or}
+use Rattle.std.proofs.lemmas.List.Sums.{fold-append}
+use Rattle.std.proofs.lemmas.List.Elements.{filter-append, All-nil, All-head, All-drop, All-append, All-get_or, All-from_get_or}
 use Rattle.std.proofs.Math.Seq.{get_or-take}
 use Rattle.memchr.specs.Find.{Nowhere, Passes, is_byte}
-use Rattle.line_engine.specs.Lines.{lines_of, bare}
-use Rattle.line_engine.specs.Run.{Responses, Run, Answer, answer_to, after_line, after_end, with_answer, new_run, run_of, IsBeginning, IsPart}
-use Rattle.line_engine.proofs.KnownLemmas.{Appends-none, Consumes-none}
+use Rattle.line_engine.specs.Lines.{lines_of, ended_lines, bare}
+use Rattle.line_engine.specs.Run.{Responses, Run, Answer, answer_to, after_line, after_end, with_answer, new_run, run_of, IsBeginning}
 use Rattle.line_engine.specs.Engine.{Stands, Begins, IsAnswered, run_at, on_ended_line, on_last_line}
 
 -- the same as All, by recursion
@@ -120,7 +120,24 @@ all-begins r run ls =
 
 -- a new engine has read nothing
 pub stands-new : {S : Type 0} (r : Responses S) (start : S) → Stands r start start [] [] 0 [] []
-stands-new r start = record { unfinished = []; one_line = All-nil (λ b. b ≢ 10); kept = refl; answered = λ more. refl }
+stands-new r start = record {
+  unfinished = [];
+  one_line = All-nil (λ b. b ≢ 10);
+  kept = refl;
+  whole = [];
+  ended = refl;
+  cut = λ more. refl;
+  answered = refl;
+}
+
+-- the answers to the lines that have ended, and what is left, make those to all that may follow
+pub goes-on : {S : Type 0} (r : Responses S) (start state : S) (line pending : List ℕ) (status : ℕ) (written read : List ℕ)
+    → (s : Stands r start state line pending status written read) → (more : List ℕ)
+    → fold (after_line r) (new_run start) (lines_of (read ++ more))
+    ≡ fold (after_line r) (run_at state (written ++ pending) status) (lines_of (s.unfinished ++ more))
+goes-on {S} r start state line pending status written read s more =
+    ap (fold (after_line r) (new_run start)) (s.cut more) ∙ fold-append (after_line r) (new_run start) s.whole (lines_of (s.unfinished ++ more))
+    ∙ ap (λ (run : Run S). fold (after_line r) run (lines_of (s.unfinished ++ more))) s.answered
 
 -- more of the unfinished line
 pub stands-keep : {S : Type 0} (r : Responses S) (start state : S) (line line' pending : List ℕ) (status : ℕ) (written read more : List ℕ)
@@ -131,7 +148,10 @@ stands-keep r start state line line' pending status written read more s one e = 
   unfinished = s.unfinished ++ more;
   one_line = All-append (λ b. b ≢ 10) s.unfinished more s.one_line one;
   kept = e ∙ ap (λ (t : List ℕ). take 513 (t ++ more)) s.kept ∙ kept-more s.unfinished more;
-  answered = λ rest. rw (append_assoc read more rest, append_assoc s.unfinished more rest) (s.answered (more ++ rest));
+  whole = s.whole;
+  ended = s.ended;
+  cut = λ rest. rw (append_assoc read more rest, append_assoc s.unfinished more rest) (s.cut (more ++ rest));
+  answered = s.answered;
 }
 
 -- the same answer to all of the line as to what was kept
@@ -168,27 +188,32 @@ stands-feed {S} r start state state' line pending pending' tail status status' w
   unfinished = [];
   one_line = All-nil (λ b. b ≢ 10);
   kept = refl;
-  answered = λ more.
+  whole = s.whole ++ ((s.unfinished ++ tail) ++ 10 ∷ []) ∷ [];
+  ended = filter-append (ends_with_byte 10) s.whole (((s.unfinished ++ tail) ++ 10 ∷ []) ∷ []) ∙ ap₂ (λ (xs ys : List (List ℕ)). xs ++ ys) s.ended (ended_one (s.unfinished ++ tail));
+  cut = λ more.
       let regroup : (read ++ (tail ++ 10 ∷ [])) ++ more ≡ read ++ (tail ++ 10 ∷ more) =
       append_assoc read (tail ++ 10 ∷ []) more ∙ ap (λ (t : List ℕ). read ++ t) (append_assoc tail (10 ∷ []) more) in
-      let whole : s.unfinished ++ (tail ++ 10 ∷ more) ≡ (s.unfinished ++ tail) ++ 10 ∷ more = sym (append_assoc s.unfinished tail (10 ∷ more)) in
-      let cut = lines_of-feed (s.unfinished ++ tail) more (no_feed (s.unfinished ++ tail) (All-append (λ b. b ≢ 10) s.unfinished tail s.one_line one)) in
+      let line_is : s.unfinished ++ (tail ++ 10 ∷ more) ≡ (s.unfinished ++ tail) ++ 10 ∷ more = sym (append_assoc s.unfinished tail (10 ∷ more)) in
+      let first = lines_of-feed (s.unfinished ++ tail) more (no_feed (s.unfinished ++ tail) (All-append (λ b. b ≢ 10) s.unfinished tail s.one_line one)) in
+      ap lines_of regroup ∙ s.cut (tail ++ 10 ∷ more) ∙ ap (λ (ls : List (List ℕ)). s.whole ++ ls) (ap lines_of line_is ∙ first)
+      ∙ sym (append_assoc s.whole (((s.unfinished ++ tail) ++ 10 ∷ []) ∷ []) (lines_of more));
+  answered =
       let same = answer_to-feed r state (s.unfinished ++ tail) ∙ ended-all r state line s.unfinished tail s.kept in
-      let step = ap (with_answer (run_at state (written ++ pending) status)) same
-      ∙ answered state state' pending pending' status status' written (on_ended_line r state (line ++ tail)) e f g in
-      ap (λ (t : List ℕ). fold (after_line r) (new_run start) (lines_of t)) regroup
-      ∙ s.answered (tail ++ 10 ∷ more)
-      ∙ ap (λ (t : List ℕ). fold (after_line r) (run_at state (written ++ pending) status) (lines_of t)) whole
-      ∙ ap (fold (after_line r) (run_at state (written ++ pending) status)) cut
-      ∙ ap (λ (run : Run S). fold (after_line r) run (lines_of more)) step;
+      fold-append (after_line r) (new_run start) s.whole (((s.unfinished ++ tail) ++ 10 ∷ []) ∷ [])
+      ∙ ap (λ (run : Run S). after_line r run ((s.unfinished ++ tail) ++ 10 ∷ [])) s.answered
+      ∙ ap (with_answer (run_at state (written ++ pending) status)) same
+      ∙ answered state state' pending pending' status status' written (on_ended_line r state (line ++ tail)) e f g;
 }
+  where
+    ended_one : (xs : List ℕ) → filter (ends_with_byte 10) ((xs ++ 10 ∷ []) ∷ []) ≡ (xs ++ 10 ∷ []) ∷ []
+    ended_one xs = let test = ends-feed xs in rw test refl
 
 -- what was written and is pending begins the output
 pub stands-begins : {S : Type 0} (r : Responses S) (start state : S) (line pending : List ℕ) (status : ℕ) (written read : List ℕ)
     → Stands r start state line pending status written read → Begins r start pending written read
 stands-begins {S} r start state line pending status written read s = λ more.
     let b = all-begins r (run_at state (written ++ pending) status) (lines_of (s.unfinished ++ more)) in
-    (b.0, ap (λ (run : Run S). (after_end r run).text) (s.answered more) ∙ b.1)
+    (b.0, ap (λ (run : Run S). (after_end r run).text) (goes-on r start state line pending status written read s more) ∙ b.1)
 
 -- all that was pending is written
 pub stands-written : {S : Type 0} (r : Responses S) (start state : S) (line pending : List ℕ) (status : ℕ) (written read : List ℕ)
@@ -197,8 +222,32 @@ stands-written r start state line pending status written read s = record {
   unfinished = s.unfinished;
   one_line = s.one_line;
   kept = s.kept;
-  answered = λ more. rw (append-nil (written ++ pending)) (s.answered more);
+  whole = s.whole;
+  ended = s.ended;
+  cut = s.cut;
+  answered = rw (append-nil (written ++ pending)) s.answered;
 }
+
+-- no line has ended in a text without a line feed
+not_ended : (xs : List ℕ) → All (λ b. b ≢ 10) xs → ended_lines xs ≡ []
+unfolding lines_of
+not_ended [] h = refl
+not_ended (x ∷ xs) h =
+    let test = ends-last (x ∷ xs) h in
+    ap (filter (ends_with_byte 10)) (lines_of-last xs x (no_feed (x ∷ xs) h)) ∙ rw test refl
+
+-- where nothing is pending, the answers to the lines that have ended are written
+pub stands-caught_up : {S : Type 0} (r : Responses S) (start state : S) (line pending : List ℕ) (status : ℕ) (written read : List ℕ)
+    → Stands r start state line pending status written read → pending ≡ []
+    → written ≡ (fold (after_line r) (new_run start) (ended_lines read)).text
+stands-caught_up {S} r start state line pending status written read s none =
+    let lines : ended_lines read ≡ s.whole =
+    ap (filter (ends_with_byte 10)) (ap lines_of (sym (append-nil read)) ∙ s.cut [])
+    ∙ filter-append (ends_with_byte 10) s.whole (lines_of (s.unfinished ++ []))
+    ∙ ap₂ (λ (xs ys : List (List ℕ)). xs ++ ys) s.ended (ap (λ (t : List ℕ). filter (ends_with_byte 10) (lines_of t)) (append-nil s.unfinished) ∙ not_ended s.unfinished s.one_line)
+    ∙ append-nil s.whole in
+    sym (append-nil written) ∙ ap (λ (t : List ℕ). written ++ t) (sym none) ∙ sym (ap (λ (run : Run S). run.text) s.answered)
+    ∙ ap (λ (ls : List (List ℕ)). (fold (after_line r) (new_run start) ls).text) (sym lines)
 
 -- ---- the end of the input
 
@@ -209,7 +258,7 @@ pub stands-end : {S : Type 0} (r : Responses S) (start state : S) (line pending 
 unfolding lines_of
 stands-end {S} r start state line pending status written read s e =
     let none : s.unfinished ≡ [] = no_line s.unfinished (sym s.kept ∙ e) in
-    ap (λ (t : List ℕ). fold (after_line r) (new_run start) (lines_of t)) (sym (append-nil read)) ∙ s.answered []
+    ap (λ (t : List ℕ). fold (after_line r) (new_run start) (lines_of t)) (sym (append-nil read)) ∙ goes-on r start state line pending status written read s []
     ∙ ap (λ (t : List ℕ). fold (after_line r) (run_at state (written ++ pending) status) (lines_of (t ++ []))) none
 
 -- an unfinished line is the last one
@@ -223,7 +272,7 @@ stands-last {S} r start state state' line pending pending' status status' writte
     let there : s.unfinished ≡ [] → ⊥ = λ none. some (s.kept ∙ ap (take 513) none) in
     let same : answer_to r state s.unfinished ≡ on_last_line r state line =
     answer_to-last r state s.unfinished s.one_line ∙ sym (last-kept r state s.unfinished) ∙ ap (on_last_line r state) (sym s.kept) in
-    ap (λ (t : List ℕ). fold (after_line r) (new_run start) (lines_of t)) (sym (append-nil read)) ∙ s.answered []
+    ap (λ (t : List ℕ). fold (after_line r) (new_run start) (lines_of t)) (sym (append-nil read)) ∙ goes-on r start state line pending status written read s []
     ∙ ap (λ (t : List ℕ). fold (after_line r) (run_at state (written ++ pending) status) (lines_of t)) (append-nil s.unfinished)
     ∙ ap (fold (after_line r) (run_at state (written ++ pending) status)) (one-line s.unfinished (no_feed s.unfinished s.one_line) there)
     ∙ ap (with_answer (run_at state (written ++ pending) status)) same
@@ -313,18 +362,3 @@ either (Err e) p q f g = g q
 pub on_err_weaker : {T E P Q : Type 0} (r : Result T E) → (P → Q) → OnErr r P → OnErr r Q
 on_err_weaker (Ok x) f p = tt
 on_err_weaker (Err e) f p = f p
-
--- nothing read and nothing written
-pub nothing-done : {S : Type 0} (run : List ℕ → Run S) (u w : Option (List ℕ)) → IsPart run u u w w
-nothing-done run u w = record {
-  read = [];
-  done = [];
-  consumed = Consumes-none u;
-  written = Appends-none w;
-  begins = ((run []).text, refl);
-  begins_all = all u;
-}
-  where
-    all : (u : Option (List ℕ)) → IfSome u (λ input. IsBeginning [] (run input).text)
-    all None = tt
-    all (Some input) = ((run input).text, refl)

@@ -1,6 +1,6 @@
 -- How an engine stands in the middle of its input.
-use Rattle.std.specs.Prelude.{◌≡◌, ◌≢◌, ℕ, List, ◌++◌, take, fold, All, nat_lt, length, if◌then◌else◌}
-use Rattle.std.specs.Io.BufRead.{strip_last}
+use Rattle.std.specs.Prelude.{◌≡◌, ◌≢◌, ℕ, List, ◌++◌, take, fold, filter, All, nat_lt, length, if◌then◌else◌}
+use Rattle.std.specs.Io.BufRead.{strip_last, ends_with_byte}
 use Rattle.line_engine.specs.Lines.{lines_of}
 use Rattle.line_engine.specs.Run.{Responses, Answer, Run, after_line, new_run, run_of, IsBeginning}
 
@@ -14,8 +14,10 @@ pub record Stands {S : Type 0} (r : Responses S) (start state : S) (line pending
   pub unfinished : List ℕ
   pub one_line : All (λ b. b ≢ 10) unfinished
   pub kept : line ≡ take 513 unfinished
-  pub answered : (more : List ℕ) → fold (after_line r) (new_run start) (lines_of (read ++ more))
-      ≡ fold (after_line r) (run_at state (written ++ pending) status) (lines_of (unfinished ++ more))
+  pub whole : List (List ℕ)
+  pub ended : filter (ends_with_byte 10) whole ≡ whole
+  pub cut : (more : List ℕ) → lines_of (read ++ more) ≡ whole ++ lines_of (unfinished ++ more)
+  pub answered : fold (after_line r) (new_run start) whole ≡ run_at state (written ++ pending) status
 
 -- what was written, and then what is pending, begins the output of each input that goes on from what was read
 abbrev pub Begins : {S : Type 0} → Responses S → S → List ℕ → List ℕ → List ℕ → Type 0

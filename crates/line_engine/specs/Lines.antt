@@ -1,5 +1,5 @@
 -- The lines of a text.
-use Rattle.std.specs.Prelude.{ℕ, List, [], ◌∷◌, ◌==◌, if◌then◌else◌}
+use Rattle.std.specs.Prelude.{ℕ, List, [], ◌∷◌, ◌==◌, filter, if◌then◌else◌}
 use Rattle.std.specs.Io.BufRead.{strip_last, ends_with_byte}
 
 -- the first line begins with b
@@ -19,3 +19,7 @@ bare line = strip_last 10 line
 -- what a line says: neither its line feed nor one carriage return before that counts
 abbrev pub said : List ℕ → List ℕ
 said line = if ends_with_byte 10 line then strip_last 13 (bare line) else line
+
+-- those of them that a line feed has ended
+abbrev pub ended_lines : List ℕ → List (List ℕ)
+ended_lines bytes = filter (ends_with_byte 10) (lines_of bytes)

@@ -1,7 +1,7 @@
 -- What a subcommand makes of its input, line by line.
 use Rattle.std.specs.Prelude.{◌≡◌, ◌⊎◌, ℕ, List, [], ◌++◌, Bool, nat_lt, if◌then◌else◌, length, fold, Option, IfSome}
 use Rattle.std.specs.Io.KnownBytes.{Appends, Consumes, IsAtEnd}
-use Rattle.line_engine.specs.Lines.{lines_of, bare, said}
+use Rattle.line_engine.specs.Lines.{lines_of, ended_lines, bare, said}
 
 -- what one line makes: the state after it, the text that is written, and whether the exit status tells a fault
 pub record Answer (S : Type 0) : Type 0 where
@@ -71,6 +71,12 @@ pub record IsPart {S : Type 0} (run : List ℕ → Run S) (input rest out out' :
   pub written : Appends out out' done
   pub begins : IsBeginning done (run read).text
   pub begins_all : IfSome input (λ all. IsBeginning done (run all).text)
+
+-- what was written is the answers to all the lines that have ended in what was read
+pub record IsCaughtUp {S : Type 0} (r : Responses S) (start : S) (input rest out out' : Option (List ℕ)) : Type 0 where
+  pub read : List ℕ
+  pub consumed : Consumes input rest read
+  pub written : Appends out out' (fold (after_line r) (new_run start) (ended_lines read)).text
 
 -- the whole output was written, and the exit status is the run's; or a beginning of it, and the exit status is 1
 abbrev pub IsRun : {S : Type 0} → (List ℕ → Run S) → Option (List ℕ) → Option (List ℕ) → Option (List ℕ) → Option (List ℕ) → ℕ → Type 0

@@ -1,8 +1,8 @@
 //! The loop that all subcommands share: blocks of input in, lines to the responder, its text out.
-ghost use Rattle.std.specs.Prelude.{◌≡◌, ◌≢◌, ◌++◌, ◌∷◌, List, ℕ, [], All, take, nat_lt, length, OnOk, IfOk, OnErr, if◌then◌else◌};
+ghost use Rattle.std.specs.Prelude.{◌≡◌, ◌≢◌, ◌++◌, ◌∷◌, List, ℕ, [], All, take, nat_lt, length, OnOk, IfOk, IfErr, OnErr, if◌then◌else◌};
 ghost use Rattle.std.specs.Io.BufRead.{strip_last};
 ghost use Rattle.std.specs.Io.KnownBytes.{Appends};
-ghost use Rattle.line_engine.specs.Run.{Answer, IsAnswer, IsBeginning, IsWhole, IsPart, run_of};
+ghost use Rattle.line_engine.specs.Run.{Answer, IsAnswer, IsBeginning, IsCaughtUp, IsWhole, IsPart, run_of};
 ghost use Rattle.line_engine.specs.Engine.{Stands, Begins, IsAnswered, on_ended_line, on_last_line};
 
 use crate::fault::EngineFault;
@@ -196,6 +196,7 @@ impl<P: Responder> Engine<P> {
         ensures responder { self.new.responder ≡ self.old.responder }
         ensures line { self.new.line.items ≡ self.old.line.items }
         ensures status { self.new.status ≡ self.old.status }
+        ensures fault { IfErr result (λ f. f ≡ EngineFault.Write) }
         ensures part { OnErr result ((done : List ℕ) × IsBeginning done self.old.pending.items
             × Appends (W.contents writer.old) (W.contents writer.new) done) }
     {
@@ -212,6 +213,7 @@ impl<P: Responder> Engine<P> {
             → Stands P.responses start self.old.responder self.old.line.items self.old.pending.items self.old.status written read
             → Stands P.responses start self.new.responder self.new.line.items self.new.pending.items self.new.status (written ++ text) (read ++ bytes.now))) }
         ensures pending { OnOk result (self.new.pending.items ≡ []) }
+        ensures fault { IfErr result (λ f. f ≢ EngineFault.Read) }
         ensures err { OnErr result ((done : List ℕ) × Appends (W.contents writer.old) (W.contents writer.new) done
             × ((start : P) (written read : List ℕ)
             → Stands P.responses start self.old.responder self.old.line.items self.old.pending.items self.old.status written read
@@ -229,6 +231,7 @@ impl<P: Responder> Engine<P> {
             × ((start : P) (written read : List ℕ)
             → Stands P.responses start self.old.responder self.old.line.items self.old.pending.items self.old.status written read
             → (exit ≡ (run_of P.responses start read).status) × (written ++ text ≡ (run_of P.responses start read).text))) }
+        ensures fault { IfErr result (λ f. f ≢ EngineFault.Read) }
         ensures err { OnErr result ((done : List ℕ) × Appends (W.contents writer.old) (W.contents writer.new) done
             × ((start : P) (written read : List ℕ)
             → Stands P.responses start self.old.responder self.old.line.items self.old.pending.items self.old.status written read
@@ -251,6 +254,9 @@ pub fn run<P: Responder, R: Read, W: Write>(
 ) -> Result<u8, EngineFault>
     ensures ok { IfOk result (IsWhole (run_of P.responses responder) (R.remaining reader.old) (R.remaining reader.new) (W.contents writer.old) (W.contents writer.new)) }
     ensures err { OnErr result (IsPart (run_of P.responses responder) (R.remaining reader.old) (R.remaining reader.new) (W.contents writer.old) (W.contents writer.new)) }
+
+    // Where reading failed, the answers to the lines that had ended were written: so they were written before more was to be read.
+    ensures read { IfErr result (λ f. f ≡ EngineFault.Read → IsCaughtUp P.responses responder (R.remaining reader.old) (R.remaining reader.new) (W.contents writer.old) (W.contents writer.new)) }
 {
     let mut engine = Engine::new(alloc, responder);
     let mut buffer = [0u8; BLOCK];

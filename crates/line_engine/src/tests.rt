@@ -2,6 +2,7 @@
 use crate::{EngineFault, Responder, run, write_out};
 use arrayvec::ArrayVec;
 use std::alloc::{AllocError, Global};
+use std::cell::Cell;
 use std::io;
 use std::io::{ErrorKind, Read, Write};
 use std::test::Fail;
@@ -74,11 +75,27 @@ impl Read for FailingReader<'_> {
     }
 }
 
-/// Takes a byte at a time, and fails where it is full, by an error or by taking none.
+/// Takes a byte at a time, and shows what it took where it is flushed. After so many writes it fails,
+/// by an error or by taking none, and after so many flushes it fails at a flush.
 #[derive(Drop)]
 struct FailingWriter {
-    taken: ArrayVec<u8, 5>,
+    taken: Vec<u8>,
+    shown: usize,
+    writes_left: usize,
+    flushes_left: usize,
     takes_none: bool,
+}
+
+impl FailingWriter {
+    fn new(alloc: Global, writes: usize, flushes: usize, takes_none: bool) -> FailingWriter {
+        FailingWriter {
+            taken: Vec::new(alloc),
+            shown: 0,
+            writes_left: writes,
+            flushes_left: flushes,
+            takes_none,
+        }
+    }
 }
 
 impl Write for FailingWriter {
@@ -87,17 +104,23 @@ impl Write for FailingWriter {
     ghost contents = { λ w. Some w.taken.items };
 
     fn write(&mut self, buf: &[u8]) -> io::Result<usize> {
-        if self.taken.is_full() && !self.takes_none {
+        if self.writes_left == 0 && !self.takes_none {
             return Err(ErrorKind::Other.into());
         }
-        if self.taken.is_full() || buf.is_empty() {
+        if self.writes_left == 0 || buf.is_empty() {
             return Ok(0);
         }
-        self.taken.push(buf[0]);
+        self.writes_left -= 1;
+        self.taken.push(buf[0])?;
         Ok(1)
     }
 
     fn flush(&mut self) -> io::Result<()> {
+        if self.flushes_left == 0 {
+            return Err(ErrorKind::Other.into());
+        }
+        self.flushes_left -= 1;
+        self.shown = self.taken.len();
         Ok(())
     }
 }
@@ -121,8 +144,10 @@ fn lines(rt: HostRuntime) {
     ];
     for (input, want) in rows {
         let (result, written) = answers(rt.alloc(), input.as_bytes());
-        assert_eq!(rt; result, Ok(0), "{input}");
-        assert_eq!(rt; written.as_slice(), want.as_bytes(), "{input}");
+        assert!(rt;
+            result == Ok(0) && written.as_slice() == want.as_bytes(),
+            "{input}"
+        );
     }
 }
 
@@ -155,53 +180,197 @@ fn long_lines(rt: HostRuntime) -> Result<(), Fail> {
         }
         want.extend_from_slice(b"end\n")?;
         let (result, written) = answers(rt.alloc(), input.as_slice());
-        assert_eq!(rt; result, Ok(u8::from(is_long)), "{count}");
-        assert_eq!(rt; written.as_slice(), want.as_slice(), "{count}");
+        let is_well = result == Ok(u8::from(is_long)) && written.as_slice() == want.as_slice();
+        assert!(rt; is_well, "{count}");
     }
     Ok(())
 }
 
 /// The answers to the lines before are written.
 #[test]
-fn stops(rt: HostRuntime) {
+fn no_memory(rt: HostRuntime) {
     let (result, written) = answers(rt.alloc(), b"one\nnone\ntwo\n");
-    assert_eq!(rt; result, Err(EngineFault::Memory));
-    assert_eq!(rt; written.as_slice(), b"aone\n".as_slice());
+    assert!(rt; result == Err(EngineFault::Memory) && written.as_slice() == b"aone\n".as_slice());
+}
+
+const INPUT: &[u8] = b"one\ntwo\nthree";
+
+const OUTPUT: &[u8] = b"aone\nbtwo\nathree\nend\n";
+
+/// What is written of the input where its bytes from this place on can't be read.
+fn before(place: usize) -> &'static [u8] {
+    match place {
+        0..4 => b"",
+        4..8 => b"aone\n",
+        _ => b"aone\nbtwo\n",
+    }
+}
+
+/// Whether a run ends by the reader's failing there.
+fn ends_at_read(alloc: Global, place: usize) -> bool {
     let mut reader = FailingReader {
-        rest: b"one\ntwo\nthr",
+        rest: &INPUT[..place.min(INPUT.len())],
     };
-    let mut written = Vec::new(rt.alloc());
-    let marker = Marker { is_second: false };
-    let result = run(rt.alloc(), marker, &mut reader, &mut written);
-    assert_eq!(rt; result, Err(EngineFault::Read));
-    assert_eq!(rt; written.as_slice(), b"aone\nbtwo\n".as_slice());
+    let mut writer = Vec::new(alloc);
+    let result = run(alloc, Marker { is_second: false }, &mut reader, &mut writer);
+    result == Err(EngineFault::Read) && writer.as_slice() == before(place)
+}
+
+#[test]
+fn each_read_fails(rt: HostRuntime) {
+    for place in 0..=INPUT.len() {
+        assert!(rt; ends_at_read(rt.alloc(), place), "at {place}");
+    }
+}
+
+/// Whether a run over this writer ends so, having written so many bytes of the output.
+fn ends_so(
+    alloc: Global,
+    writer: &mut FailingWriter,
+    want: Result<u8, EngineFault>,
+    count: usize,
+) -> bool {
+    let mut reader = INPUT;
+    let result = run(alloc, Marker { is_second: false }, &mut reader, writer);
+    result == want && OUTPUT.starts_with(writer.taken.as_slice()) && writer.taken.len() == count
+}
+
+#[test]
+fn each_write_fails(rt: HostRuntime) {
     for takes_none in [false, true] {
-        let mut reader = b"1\n2\n3\n".as_slice();
-        let mut writer = FailingWriter {
-            taken: ArrayVec::new(),
-            takes_none,
-        };
-        let marker = Marker { is_second: true };
-        let result = run(rt.alloc(), marker, &mut reader, &mut writer);
-        assert_eq!(rt; result, Err(EngineFault::Write));
-        assert_eq!(rt; writer.taken.as_slice(), b"b1\na2".as_slice());
+        for writes in 0..OUTPUT.len() {
+            let mut writer = FailingWriter::new(rt.alloc(), writes, usize::MAX, takes_none);
+            let want = Err(EngineFault::Write);
+            assert!(rt;
+                ends_so(rt.alloc(), &mut writer, want, writes),
+                "at {writes}"
+            );
+        }
     }
 }
 
 #[test]
+fn a_flush_fails(rt: HostRuntime) {
+    let mut writer = FailingWriter::new(rt.alloc(), usize::MAX, 0, false);
+    let want = Err(EngineFault::Write);
+    assert!(rt; ends_so(rt.alloc(), &mut writer, want, 10));
+}
+
+#[test]
+fn no_write_fails(rt: HostRuntime) {
+    let mut writer = FailingWriter::new(rt.alloc(), OUTPUT.len(), usize::MAX, true);
+    assert!(rt; ends_so(rt.alloc(), &mut writer, Ok(0), OUTPUT.len()));
+    assert_eq!(rt; writer.shown, OUTPUT.len());
+}
+
+/// What `write_out` answers, what was written, and how much of it is shown.
+fn written(
+    alloc: Global,
+    writes: usize,
+    flushes: usize,
+) -> (Result<(), EngineFault>, usize, usize) {
+    let mut writer = FailingWriter::new(alloc, writes, flushes, false);
+    let result = write_out(&mut writer, b"12345");
+    (result, writer.taken.len(), writer.shown)
+}
+
+#[test]
 fn bytes_written(rt: HostRuntime) {
-    for takes_none in [false, true] {
-        for (bytes, want, result) in [
-            ("12345", "12345", Ok(())),
-            ("123456", "12345", Err(EngineFault::Write)),
-        ] {
-            let mut writer = FailingWriter {
-                taken: ArrayVec::new(),
-                takes_none,
-            };
-            assert_eq!(rt; write_out(&mut writer, bytes.as_bytes()), result);
-            assert_eq!(rt; writer.taken.as_slice(), want.as_bytes());
-        }
+    for (writes, flushes, want) in [
+        (5, 1, (Ok(()), 5, 5)),
+        (4, 1, (Err(EngineFault::Write), 4, 0)),
+        (5, 0, (Err(EngineFault::Write), 5, 0)),
+    ] {
+        assert!(rt;
+            written(rt.alloc(), writes, flushes) == want,
+            "{writes} {flushes}"
+        );
     }
-    assert_eq!(rt; EngineFault::Write.number(), 2);
+}
+
+/// A user at a terminal gives a line once the answers to all lines before it are shown, and else
+/// gives none.
+#[derive(Drop)]
+struct User<'a> {
+    lines: &'a [&'a str],
+    given: usize,
+    shown: &'a Cell<usize>,
+}
+
+impl Read for User<'_> {
+    ghost use Rattle.std.specs.Prelude.{None};
+
+    ghost remaining = { λ _. None };
+
+    fn read(&mut self, buf: &mut [u8]) -> io::Result<usize> {
+        if self.shown.get() != self.given {
+            return Err(ErrorKind::Other.into());
+        }
+        let [line, rest @ ..] = self.lines else {
+            return Ok(0);
+        };
+        let count = line.len().min(buf.len());
+        buf[..count].copy_from_slice(&line.as_bytes()[..count]);
+        self.lines = rest;
+        self.given = self.given.saturating_add(1);
+        Ok(count)
+    }
+}
+
+/// Counts the lines that were flushed.
+#[derive(Drop)]
+struct Terminal<'a> {
+    lines: usize,
+    shown: &'a Cell<usize>,
+}
+
+impl Write for Terminal<'_> {
+    ghost use Rattle.std.specs.Prelude.{None};
+
+    ghost contents = { λ _. None };
+
+    fn write(&mut self, buf: &[u8]) -> io::Result<usize> {
+        for byte in buf {
+            if *byte == b'\n' {
+                self.lines = self.lines.saturating_add(1);
+            }
+        }
+        Ok(buf.len())
+    }
+
+    fn flush(&mut self) -> io::Result<()> {
+        self.shown.set(self.lines);
+        Ok(())
+    }
+}
+
+/// Each answer is shown before more is read.
+#[test]
+fn answers_are_shown_at_once(rt: HostRuntime) {
+    let shown = Cell::new(0);
+    let mut user = User {
+        lines: &["one\n", "two\n", "three\n"],
+        given: 0,
+        shown: &shown,
+    };
+    let mut terminal = Terminal {
+        lines: 0,
+        shown: &shown,
+    };
+    let marker = Marker { is_second: false };
+    assert_eq!(rt; run(rt.alloc(), marker, &mut user, &mut terminal), Ok(0));
+}
+
+/// The name of each fault.
+#[test]
+fn names_of_faults(rt: HostRuntime) {
+    for (fault, number, name) in [
+        (EngineFault::Read, 1, "read"),
+        (EngineFault::Write, 2, "write"),
+        (EngineFault::Memory, 3, "memory"),
+    ] {
+        let mut text: ArrayVec<u8, 16> = ArrayVec::new();
+        let _ = write!(text, "{fault}");
+        assert!(rt; fault.number() == number && text.as_slice() == name.as_bytes());
+    }
 }

@@ -1,5 +1,2 @@
-pub mod TextLemmas
 pub mod GrammarLemmas
-pub mod RequestLemmas
 pub mod RequestsAsked
-pub mod HexLemmas

@@ -1,23 +1,22 @@
 //! The program, over any streams.
 ghost use Rattle.std.specs.Prelude.{◌≡◌, ◌≢◌, ◌⊎◌, map, true, IfOk, OnErr};
 ghost use Rattle.std.specs.IoError.{error_kind};
-ghost use Rattle.clap.specs.Words.{kind_of, subcommand_of, takes};
-ghost use Rattle.pciex.specs.Faults.{IsMemoryFault};
+ghost use Rattle.clap.specs.Words.{fault_of, kind_of, subcommand_of, takes};
+ghost use Rattle.pciex.specs.Faults.{IsMemoryFault, WordsFault};
 ghost use Rattle.pciex.specs.Options.{the_app, Asks};
-ghost use Rattle.pciex.specs.Command.{IsDone};
+ghost use Rattle.pciex.specs.Command.{IsDone, AreRefused};
 ghost use Rattle.pciex.specs.declared.options.Request.{Request};
 
-use crate::check::run_check;
 use crate::options::{Request, RequestFault, options};
-use crate::step::run_step;
-use crate::tlp::run_tlp;
-use crate::upgrade::run_upgrade;
 use clap::error::ErrorKind;
 use line_engine::EngineFault;
 use std::alloc::Global;
 use std::convert::AsStr;
 use std::io;
 use std::io::{ErrorKind as IoErrorKind, Read, Write};
+use step_engine::run_step;
+use tlp_engine::run_tlp;
+use trace_engine::{run_check, run_upgrade};
 
 /// Tells what stopped an engine, and gives the exit status for that.
 fn stopped<E: Write>(fault: EngineFault, errors: &mut E) -> u8
@@ -41,6 +40,7 @@ fn told<W: Write, E: Write>(error: &clap::Error, writer: &mut W, errors: &mut E)
     ensures status { kind_of error.now ≡ ErrorKind.OutOfMemory → result ≡ 1 }
     ensures same { kind_of error.now ≡ ErrorKind.OutOfMemory → W.contents writer.new ≡ W.contents writer.old }
     ensures wrong { kind_of error.now ≢ ErrorKind.OutOfMemory → kind_of error.now ≢ ErrorKind.DisplayHelp → kind_of error.now ≢ ErrorKind.DisplayVersion → result ≡ 2 }
+    ensures wrong_same { kind_of error.now ≢ ErrorKind.DisplayHelp → kind_of error.now ≢ ErrorKind.DisplayVersion → W.contents writer.new ≡ W.contents writer.old }
 {
     if error.kind() == ErrorKind::OutOfMemory {
         return stopped(EngineFault::Memory, errors);
@@ -59,6 +59,8 @@ fn told<W: Write, E: Write>(error: &clap::Error, writer: &mut W, errors: &mut E)
 fn refused<W: Write, E: Write>(fault: &RequestFault, writer: &mut W, errors: &mut E) -> u8
     ensures status { IsMemoryFault fault.now → result ≡ 1 }
     ensures same { IsMemoryFault fault.now → W.contents writer.new ≡ W.contents writer.old }
+    ensures words { WordsFault (λ e. kind_of e ≢ ErrorKind.DisplayHelp → kind_of e ≢ ErrorKind.DisplayVersion
+        → ((result ≡ 1) ⊎ (result ≡ 2)) × (W.contents writer.new ≡ W.contents writer.old)) fault.now }
     ensures range { fault.now ≡ RequestFault.Range → result ≡ 2 }
     ensures range_same { fault.now ≡ RequestFault.Range → W.contents writer.new ≡ W.contents writer.old }
 {
@@ -100,6 +102,10 @@ pub fn command<S: AsStr, R: Read, W: Write, E: Write>(
 
     // Words that `clap` takes and that ask for nothing have status 2, or 1 for want of memory, and nothing is written.
     ensures nothing { takes the_app (map S.text words.now) ≡ true → ((r : Request) → Asks (subcommand_of the_app (map S.text words.now)) r → ⊥)
+        → ((result ≡ 1) ⊎ (result ≡ 2)) × (W.contents writer.new ≡ W.contents writer.old) }
+
+    // So do words that `clap` refuses, but where they ask for a text.
+    ensures refused { AreRefused (fault_of the_app (map S.text words.now))
         → ((result ≡ 1) ⊎ (result ≡ 2)) × (W.contents writer.new ≡ W.contents writer.old) }
 {
     match options(alloc, words) {

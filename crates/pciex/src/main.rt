@@ -1,24 +1,10 @@
 //! The program `pciex`: a shared memory device on a PCI Express fabric.
 #![tactic(auto)]
 
-mod check;
 mod command;
-#[cfg(test)]
-mod example_tests;
-#[cfg(test)]
-mod memory_tests;
 mod options;
-mod step;
-#[cfg(test)]
-mod step_tests;
 #[cfg(test)]
 mod tests;
-mod text;
-mod tlp;
-#[cfg(test)]
-mod trace_tests;
-mod traces;
-mod upgrade;
 
 use std::io;
 use std::process::ExitCode;

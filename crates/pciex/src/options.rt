@@ -1,6 +1,6 @@
 //! The command line.
-ghost use Rattle.std.specs.Prelude.{◌≡◌, ◌^◌, ◌<◌, ℕ, IfOk, IfErr, IsTrue, ◌↔◌, IfSome, IfNone, map, option_map, true, false, codes, Some};
-ghost use Rattle.clap.specs.Words.{app_of, kind_of, subcommand_of, subcommand_rows_of, has_subcommand, takes, rows_of, found_of, new_app};
+ghost use Rattle.std.specs.Prelude.{◌≡◌, ◌^◌, ◌<◌, ℕ, IfOk, IfErr, IsTrue, ◌↔◌, IfSome, IfNone, map, option_map, true, false, codes, Some, []};
+ghost use Rattle.clap.specs.Words.{FailsBy, HasKind, app_of, fault_of, kind_of, subcommand_of, subcommand_rows_of, has_subcommand, takes, rows_of, found_of, new_app};
 ghost use Rattle.clap.specs.Walk.{rule_of};
 ghost use Rattle.clap.specs.declared.builder.Command.TheViews.{out-Command};
 ghost use Rattle.pciex.specs.declared.options.Request.{Request};
@@ -119,18 +119,18 @@ fn grammar<'a>(alloc: Global) -> Result<Command<'a>, AllocError>
     ensures globals { IfOk result (λ c. (out-Command c).has_globals ≡ false) }
 {
     let tlp = tlp_command(alloc)?;
+    let step = step_command(alloc)?;
     let top = Command::new(alloc, "pciex")
         .about(ABOUT)
         .version("0.1.0")
         .subcommand_required(true)
         .disable_help_subcommand(true);
+    let with_tlp = top.subcommand(tlp)?;
     let check = plain_command(alloc, "check", CHECK_ABOUT);
+    let with_check = with_tlp.subcommand(check)?;
     let upgrade = plain_command(alloc, "upgrade", UPGRADE_ABOUT);
-    let step = step_command(alloc)?;
-    top.subcommand(tlp)?
-        .subcommand(check)?
-        .subcommand(upgrade)?
-        .subcommand(step)
+    let with_upgrade = with_check.subcommand(upgrade)?;
+    with_upgrade.subcommand(step)
 }
 
 /// What the words match.
@@ -138,6 +138,7 @@ fn matches_of<'a, S: AsStr>(alloc: Global, words: &'a [S]) -> Result<ArgMatches<
     ensures there { IfOk result (λ m. has_subcommand m ≡ true) }
     ensures rows { IfOk result (λ m. subcommand_rows_of m ≡ subcommand_of the_app (map S.text words.now)) }
     ensures err { IfErr result (λ e. takes the_app (map S.text words.now) ≡ true → kind_of e ≡ ErrorKind.OutOfMemory) }
+    ensures kinds { FailsBy (fault_of the_app (map S.text words.now)) result }
 {
     let command = grammar(alloc)?;
     command.try_get_matches_from(words)
@@ -248,11 +249,18 @@ pub fn options<'a, S: AsStr>(alloc: Global, words: &'a [S]) -> Result<Request, R
     // What the words ask for.
     ensures ok { IfOk result (Asks (subcommand_of the_app (map S.text words.now))) }
 
+    // Words that ask for something have no fault.
+    ensures faultless { IfOk result (λ _. fault_of the_app (map S.text words.now) ≡ []) }
+
     // The parser's fault comes only at words that it doesn't take, but for memory.
     ensures words { IfErr result (WordsFault (λ e. takes the_app (map S.text words.now) ≡ true → kind_of e ≡ ErrorKind.OutOfMemory)) }
 
-    // And that of a range only at values that ask for nothing.
+    // It is of a kind that the words' first fault may have.
+    ensures kinds { IfErr result (WordsFault (HasKind (fault_of the_app (map S.text words.now)))) }
+
+    // And that of a range only at values that ask for nothing, in words that have no fault.
     ensures range { IfErr result (RangeFault ((r : Request) → Asks (subcommand_of the_app (map S.text words.now)) r → ⊥)) }
+    ensures range_faultless { IfErr result (RangeFault (fault_of the_app (map S.text words.now) ≡ [])) }
 {
     let matches = match matches_of(alloc, words) {
         Ok(matches) => matches,

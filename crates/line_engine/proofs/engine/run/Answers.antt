@@ -2,10 +2,10 @@ use Rattle.std.proofs.Common.{◌≡◌, ◌∙◌, ◌++◌, ◌<◌, List, ℕ
 use Rattle.std.proofs.lemmas.List.{append-nil}
 use Rattle.std.proofs.lemmas.Result.{IfOk-weaker}
 use Rattle.std.specs.Io.KnownBytes.{Appends, Consumes}
-use Rattle.line_engine.specs.Run.{Responses, IsPart, run_of}
+use Rattle.line_engine.specs.Run.{Responses, IsCaughtUp, IsPart, run_of}
 use Rattle.line_engine.specs.Engine.{Stands, Begins}
 use Rattle.line_engine.proofs.KnownLemmas.{Appends-then, Consumes-then, Consumes-kept}
-use Rattle.line_engine.proofs.LineLemmas.{on_err, on_err_weaker, stands-begins, begins-now, begins-input, begins-end}
+use Rattle.line_engine.proofs.LineLemmas.{on_err, on_err_weaker, stands-begins, stands-caught_up, begins-now, begins-input, begins-end}
 use Rattle.line_engine.proofs.engine.run.Goals as goal
 
 -- what was read, and the text that was written, where the engine goes no further
@@ -38,6 +38,25 @@ no_more : (u v w : Option (List ℕ)) (read came : List ℕ) (n : ℕ) → n ≡
 no_more u v w read came n zero x y =
     let none : take n came ≡ [] = rw zero refl in
     subst (λ (t : List ℕ). Consumes u w t) (ap (λ (t : List ℕ). read ++ t) none ∙ append-nil read) (Consumes-then u v w read (take n came) x y)
+
+-- reading goes no further
+caught_up : {S : Type 0} (r : Responses S) (start state : S) (line pending : List ℕ) (status : ℕ) (u v w w' : Option (List ℕ)) (written read : List ℕ)
+    → Consumes u v read → Appends w w' written → pending ≡ [] → Stands r start state line pending status written read → IsCaughtUp r start u v w w'
+caught_up r start state line pending status u v w w' written read x y e s = record {
+  read = read;
+  consumed = x;
+  written = subst (λ (t : List ℕ). Appends w w' t) (stands-caught_up r start state line pending status written read s e) y;
+}
+
+pub returns-in_default-clause-read : goal.returns-in_default-clause-read
+returns-in_default-clause-read g c =
+    let h = c.loop.invariant in
+    λ is. caught_up g.P.Responder.responses c.args.responder _ _ _ _ _ _ _ _ h.1 h.0 (Consumes-kept _ _ _ h.0 h.2 c.in_default.ensures.bytes) h.3 h.4 h.5
+
+pub returns-clause-read : goal.returns-clause-read
+returns-clause-read g c =
+    let h = c.loop.invariant in
+    λ is. caught_up g.P.Responder.responses c.args.responder _ _ _ _ _ _ _ _ h.1 h.0 h.2 h.3 h.4 h.5
 
 pub returns-in_default-clause-err : goal.returns-in_default-clause-err
 returns-in_default-clause-err g c =

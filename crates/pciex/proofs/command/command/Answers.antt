@@ -1,5 +1,8 @@
-use Rattle.std.proofs.Common.{◌≡◌, ◌⊎◌, List, ℕ, Option, Result, Ok, Err, IfOk, OnErr, map, sym, subst, inl, inr, refl}
-use Rattle.clap.specs.Words.{Row, Text, kind_of, subcommand_of}
+use Rattle.std.proofs.Common.{◌≡◌, ◌≢◌, ◌⊎◌, ◌∙◌, List, ℕ, [], ◌∷◌, Option, Some, None, Result, Ok, Err, IfOk, IfSome, OnErr, map, sym, subst, inl, inr, refl}
+use Rattle.std.proofs.lemmas.List.{append-nil}
+use Rattle.std.specs.Io.KnownBytes.{Appends, Consumes}
+use Rattle.clap.specs.Words.{HasKind, IsAmong, Kinds, Row, Text, fault_of, kind_of, subcommand_of}
+use Rattle.clap.specs.declared.error.kind.ErrorKind.{ErrorKind}
 use Rattle.clap.specs.declared.error.kind.ErrorKind.TheVariants as kinds
 use Rattle.line_engine.specs.declared.fault.EngineFault.{EngineFault}
 use Rattle.pciex.specs.declared.options.Request.{Request}
@@ -8,9 +11,8 @@ use Rattle.pciex.specs.declared.options.RequestFault.{RequestFault}
 use Rattle.pciex.specs.declared.options.RequestFault.TheVariants as faults
 use Rattle.pciex.specs.Faults.{WordsFault, RangeFault, IsMemoryFault}
 use Rattle.pciex.specs.Options.{the_app, Asks}
-use Rattle.line_engine.specs.Run.{Run, IsRun, IsWhole, IsPart}
-use Rattle.pciex.specs.Command.{IsDone}
-use Rattle.line_engine.proofs.LineLemmas.{nothing-done}
+use Rattle.line_engine.specs.Run.{Run, IsBeginning, IsRun, IsWhole, IsPart}
+use Rattle.pciex.specs.Command.{IsDone, AskForNoText, AreRefused}
 use Rattle.pciex.proofs.RequestsAsked.{asks_one}
 use Rattle.pciex.proofs.command.command.Goals as goal
 
@@ -20,6 +22,29 @@ want : (fault : RequestFault) (taken : Type 0) (o : Option (Text × List Row)) (
     → taken → Asks o r → IsMemoryFault fault
 want (faults.Words e) taken o r words range t a = words t
 want faults.Range taken o r words range t a = range r a
+
+-- nothing read and nothing written
+nothing-done : {S : Type 0} (run : List ℕ → Run S) (u w : Option (List ℕ)) → IsPart run u u w w
+nothing-done run u w = record {
+  read = [];
+  done = [];
+  consumed = consumes u;
+  written = appends w;
+  begins = ((run []).text, refl);
+  begins_all = all u;
+}
+  where
+    consumes : (u : Option (List ℕ)) → Consumes u u []
+    consumes None = tt
+    consumes (Some xs) = refl
+
+    appends : (w : Option (List ℕ)) → Appends w w []
+    appends None = tt
+    appends (Some xs) = sym (append-nil xs)
+
+    all : (u : Option (List ℕ)) → IfSome u (λ input. IsBeginning [] (run input).text)
+    all None = tt
+    all (Some input) = ((run input).text, refl)
 
 -- nothing was done, and status 1 tells it
 undone : (r : Request) (input out : Option (List ℕ)) (exit : ℕ) → exit ≡ 1 → IsDone r input input out out exit
@@ -47,6 +72,38 @@ none : {A : Type 0} (fault : RequestFault) (taken : Type 0) (status : ℕ) (old 
 none (faults.Words e) taken status old new words t m same r range_same = (inl (m (words t)), same (words t))
 none faults.Range taken status old new words t m same r range_same = (inr (r refl), range_same refl)
 
+-- words without a fault are not refused
+not_refused : {X : Type 0} (faults : Kinds) → faults ≡ [] → AreRefused faults → X
+not_refused faults none refused = absurd (refused.0 none)
+
+-- no kind of those asks for a text
+no_text : (k : ErrorKind) (faults : Kinds) → AskForNoText faults → IsAmong k faults → (k ≢ kinds.DisplayHelp) × (k ≢ kinds.DisplayVersion)
+no_text k [] other among = absurd among
+no_text k (f ∷ fs) other (inl is) = (λ e. other.0 (sym is ∙ e), λ e. other.1 (sym is ∙ e))
+no_text k (f ∷ fs) other (inr rest) = no_text k fs other.2 rest
+
+not_help : kinds.OutOfMemory ≢ kinds.DisplayHelp
+not_help e = cc
+
+not_version : kinds.OutOfMemory ≢ kinds.DisplayVersion
+not_version e = cc
+
+-- an error that is told so is of no text
+no_text_of : (k : ErrorKind) (faults : Kinds) → AskForNoText faults → (k ≡ kinds.OutOfMemory) ⊎ IsAmong k faults
+    → (k ≢ kinds.DisplayHelp) × (k ≢ kinds.DisplayVersion)
+no_text_of k fs other (inl memory) = (λ e. not_help (sym memory ∙ e), λ e. not_version (sym memory ∙ e))
+no_text_of k fs other (inr among) = no_text k fs other among
+
+-- words that the parser refuses are told of on the error stream alone
+refused_words : {A : Type 0} (fault : RequestFault) (faults : Kinds) (status : ℕ) (old new : A) → WordsFault (HasKind faults) fault
+    → RangeFault (faults ≡ []) fault
+    → WordsFault (λ e. kind_of e ≢ kinds.DisplayHelp → kind_of e ≢ kinds.DisplayVersion → ((status ≡ 1) ⊎ (status ≡ 2)) × (new ≡ old)) fault
+    → AreRefused faults → ((status ≡ 1) ⊎ (status ≡ 2)) × (new ≡ old)
+refused_words (faults.Words e) kinds_of status old new kind range told refused =
+    let none = no_text_of (kind_of e) kinds_of refused.1 kind in
+    told none.0 none.1
+refused_words faults.Range kinds_of status old new kind range told refused = not_refused kinds_of range refused
+
 pub returns-in-Ok-Tlp : goal.returns-in-Ok-Tlp
 returns-in-Ok-Tlp g c = record {
   run = λ request takes asks.
@@ -54,6 +111,7 @@ returns-in-Ok-Tlp g c = record {
       (subst (λ (r : Request). Asks (subcommand_of the_app (map g.S.AsStr.text c.args.words.now)) r) c.in-Ok-Tlp.field-0-is c.in-Ok-Tlp.ensures.ok) asks
       (run_done _ c.run_tlp.result _ _ _ _ _ c.ended.ensures.ok c.ended.ensures.err c.run_tlp.ensures.ok c.run_tlp.ensures.err);
   nothing = λ takes empty. absurd (empty c.in-Ok-Tlp.field-0 c.in-Ok-Tlp.ensures.ok);
+  refused = not_refused _ c.in-Ok-Tlp.ensures.faultless;
 }
 
 pub returns-in-Ok-Step : goal.returns-in-Ok-Step
@@ -63,6 +121,7 @@ returns-in-Ok-Step g c = record {
       (subst (λ (r : Request). Asks (subcommand_of the_app (map g.S.AsStr.text c.args.words.now)) r) c.in-Ok-Step.field-0-is c.in-Ok-Step.ensures.ok) asks
       (run_done _ c.run_step.result _ _ _ _ _ c.ended-in-Ok-Step.ensures.ok c.ended-in-Ok-Step.ensures.err c.run_step.ensures.ok c.run_step.ensures.err);
   nothing = λ takes empty. absurd (empty c.in-Ok-Step.field-0 c.in-Ok-Step.ensures.ok);
+  refused = not_refused _ c.in-Ok-Step.ensures.faultless;
 }
 
 pub returns-in-Err : goal.returns-in-Err
@@ -74,4 +133,5 @@ returns-in-Err g c = record {
       subst (λ (after : Option (List ℕ)). IsDone request input input out after c.refused.result) (sym (c.refused.ensures.same memory))
       (undone request input out c.refused.result (c.refused.ensures.status memory));
   nothing = λ takes empty. none _ _ _ _ _ c.in-Err.ensures.words takes c.refused.ensures.status c.refused.ensures.same c.refused.ensures.range c.refused.ensures.range_same;
+  refused = refused_words _ _ _ _ _ c.in-Err.ensures.kinds c.in-Err.ensures.range_faultless c.refused.ensures.words;
 }

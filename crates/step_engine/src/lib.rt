@@ -1,0 +1,14 @@
+//! The engine of `step`: a script of events on a fabric in, what is seen of each out.
+//!
+//! [`run_step`] makes the fabric that a script's first line names, does the event of each line behind it,
+//! and writes what is seen of it, or at the end the trace of the whole run with its history. It goes over
+//! any reader and writer, a block of input at a time.
+#![tactic(auto)]
+
+#[cfg(test)]
+mod example_tests;
+mod step;
+#[cfg(test)]
+mod tests;
+
+pub use step::run_step;

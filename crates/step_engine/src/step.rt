@@ -1,0 +1,293 @@
+//! The subcommand `step`: scripts of events for a fabric.
+ghost use Rattle.std.specs.Prelude.{◌≡◌, ◌≤◌, ◌+◌, ◌++◌, ◌∷◌, [], true, false, length, option_to_list, Some, None, Ok, Err, IfOk, IfErr, OnOk, OnErr};
+ghost use Rattle.std.specs.Fmt.{decimal};
+ghost use Rattle.arrayvec.specs.ArrayString.{array_string_len};
+ghost use Rattle.fabric_core.specs.Kept.{records_of};
+ghost use Rattle.fabric_answers.specs.Answers.{answer, IsTold};
+ghost use Rattle.fabric_answers.specs.New.{new_fabric, config_fault};
+ghost use Rattle.script_text.specs.Names.{config_fault_name, refusal_name};
+ghost use Rattle.line_engine.specs.Run.{IsAnswer, IsWhole, IsPart};
+ghost use Rattle.step_engine.specs.Step as spec;
+
+use arrayvec::ArrayString;
+use fabric_answers::laws::{a_configuration_has_one_answer, each_event_has_one_answer};
+use fabric_core::{Config, ConfigFault, Event, Fabric, Refusal, Seen};
+use history_check::Record;
+use lane_core::LaneRefusal;
+use line_engine::{EngineFault, Responder, run};
+use script_text::{Line, read_line, write_config_fault, write_refusal, write_seen};
+use std::alloc::{AllocError, Global};
+use std::io::{Read, Write};
+use std::marker::Model;
+use std::mem;
+use trace_engine::tell_trace;
+use trace_text::write_decimal;
+
+/// The beginning of the line that ends a run.
+fn ending(kind: &str, line: u64) -> ArrayString<512>
+    requires { length kind.now ≤ 8 }
+    ensures text { result.bytes ≡ kind.now ++ (decimal line ++ 32 ∷ []) }
+    ensures len { array_string_len result ≤ 29 }
+{
+    let mut text = ArrayString::new();
+    text.push_str(kind);
+    write_decimal(line, &mut text);
+    text.push_str(" ");
+    text
+}
+
+/// A new fabric.
+fn make(config: Config, alloc: Global) -> Result<Fabric, ConfigFault>
+    ensures ok { IfOk result (λ f. (f ≡ new_fabric config) × (config_fault config ≡ None)) }
+    ensures fault { IfErr result (λ fault. (fault ≡ ConfigFault.Memory → ⊥) → config_fault config ≡ Some fault) }
+{
+    a_configuration_has_one_answer();
+    Fabric::new(config, alloc)
+}
+
+/// An event happens to the fabric.
+fn happen(fabric: &mut Fabric, event: &Event) -> Result<Seen, Refusal>
+    ensures ok { IfOk result (λ what. answer fabric.old event.now ≡ Ok (what, fabric.new)) }
+    ensures refused { IfErr result (λ r. IsTold r → answer fabric.old event.now ≡ Err r) }
+    ensures err { OnErr result (fabric.new ≡ fabric.old) }
+{
+    each_event_has_one_answer();
+    fabric.sound();
+    fabric.step(event)
+}
+
+/// What an event adds to a trace, `n` being the length of the history before it.
+fn record_of(event: &Event, seen: &Seen, n: u64) -> Result<Option<Record>, AllocError>
+    ensures { IfOk result (λ told. option_to_list told ≡ records_of event.now seen.now n) }
+{
+    match event {
+        Event::Submit(port, op) => match seen {
+            Seen::Submitted(number) => Ok(Some(Record::Sub {
+                requester: *port,
+                number: *number,
+                op: op.clone()?,
+                n,
+            })),
+            _ => Ok(None),
+        },
+        Event::Collect(port) => match seen {
+            Seen::Collected(answer) => Ok(Some(Record::Ans {
+                requester: *port,
+                number: answer.number,
+                reply: answer.reply.clone()?,
+                n,
+            })),
+            _ => Ok(None),
+        },
+        _ => Ok(None),
+    }
+}
+
+/// A script that is run line by line.
+#[derive(Drop)]
+struct Stepper {
+    alloc: Global,
+    is_traced: bool,
+    fabric: Option<Fabric>,
+    records: Vec<Record>,
+    lines: u64,
+    has_ended: bool,
+}
+
+impl Model for Stepper {
+    ghost use Rattle.step_engine.specs.Step.{Stepping};
+
+    ghost Value = { Stepping };
+
+    ghost view = { λ s. record { is_traced = s.is_traced; fabric = s.fabric; records = s.records.items; lines = s.lines; has_ended = s.has_ended } };
+}
+
+impl Stepper {
+    fn new(alloc: Global, is_traced: bool) -> Stepper
+        ensures { result ≡ spec.new_script is_traced }
+    {
+        Stepper {
+            alloc,
+            is_traced,
+            fabric: None,
+            records: Vec::new(alloc),
+            lines: 0,
+            has_ended: false,
+        }
+    }
+
+    /// The number of the line that comes next, from 1; it stays at 2^64 - 1.
+    fn next_line(&self) -> u64
+        ensures { result ≡ spec.next_line self.now }
+    {
+        self.lines.saturating_add(1)
+    }
+
+    fn count(&mut self)
+        ensures { self.new ≡ spec.counted self.old }
+    {
+        self.lines = self.next_line();
+    }
+
+    /// Ends the run with this line.
+    fn end(&mut self, mut line: ArrayString<512>, out: &mut Vec<u8>) -> Result<bool, AllocError>
+        requires { array_string_len line ≤ 64 }
+        ensures ok { IfOk result (λ told. IsAnswer self.new out.old.items out.new.items told (spec.ends self.old line.bytes)) }
+        ensures err { OnErr result (out.new.items ≡ out.old.items) }
+    {
+        line.push_str("\n");
+        out.extend_from_slice(line.as_bytes())?;
+        self.count();
+        self.has_ended = true;
+        Ok(true)
+    }
+
+    /// The line is none of a script.
+    fn no_line(&mut self, out: &mut Vec<u8>) -> Result<bool, AllocError>
+        ensures ok { IfOk result (λ told. IsAnswer self.new out.old.items out.new.items told (spec.no_line self.old)) }
+        ensures err { OnErr result (out.new.items ≡ out.old.items) }
+    {
+        let mut line = ending("fault ", self.next_line());
+        line.push_str("Script");
+        self.end(line, out)
+    }
+
+    /// There is no fabric of the configuration.
+    fn not_made(&mut self, fault: ConfigFault, out: &mut Vec<u8>) -> Result<bool, AllocError>
+        ensures ok { IfOk result (λ told. IsAnswer self.new out.old.items out.new.items told (spec.ends self.old (spec.fault_line self.old (config_fault_name fault)))) }
+        ensures err { OnErr result (out.new.items ≡ out.old.items) }
+    {
+        let mut line = ending("fault ", self.next_line());
+        write_config_fault(&fault, &mut line);
+        self.end(line, out)
+    }
+
+    /// An event was refused.
+    fn refused(&mut self, refusal: Refusal, out: &mut Vec<u8>) -> Result<bool, AllocError>
+        ensures ok { IfOk result (λ told. IsAnswer self.new out.old.items out.new.items told (spec.ends self.old (spec.refused_line self.old (refusal_name refusal)))) }
+        ensures err { OnErr result (out.new.items ≡ out.old.items) }
+    {
+        let mut line = ending("refused ", self.next_line());
+        write_refusal(&refusal, &mut line);
+        self.end(line, out)
+    }
+}
+
+impl Stepper {
+    /// The fabric of the script is made.
+    fn make(&mut self, config: Config, out: &mut Vec<u8>) -> Result<bool, AllocError>
+        ensures ok { IfOk result (λ told. IsAnswer self.new out.old.items out.new.items told (spec.made_once self.old self.old.fabric config)) }
+        ensures err { OnErr result (out.new.items ≡ out.old.items) }
+    {
+        if self.fabric.is_some() {
+            return self.no_line(out);
+        }
+        match make(config, self.alloc) {
+            Ok(fabric) => {
+                self.fabric = Some(fabric);
+                self.count();
+                Ok(false)
+            }
+            Err(ConfigFault::Memory) => Err(AllocError),
+            Err(fault) => self.not_made(fault, out),
+        }
+    }
+
+    /// Tells what was seen of an event, or adds it to the trace.
+    fn tell(
+        &mut self,
+        event: &Event,
+        seen: &Seen,
+        n: u64,
+        out: &mut Vec<u8>,
+    ) -> Result<bool, AllocError>
+        ensures ok { IfOk result (λ told. IsAnswer self.new out.old.items out.new.items told (spec.told_of self.old event.now seen.now n)) }
+        ensures err { OnErr result (out.new.items ≡ out.old.items) }
+    {
+        if self.is_traced {
+            if let Some(record) = record_of(event, seen, n)? {
+                self.records.push(record)?;
+            }
+        } else {
+            let mut line = ArrayString::new();
+            write_seen(event, seen, &mut line);
+            line.push_str("\n");
+            out.extend_from_slice(line.as_bytes())?;
+        }
+        self.count();
+        Ok(false)
+    }
+
+    /// An event happens.
+    fn happen(&mut self, event: &Event, out: &mut Vec<u8>) -> Result<bool, AllocError>
+        ensures ok { IfOk result (λ told. IsAnswer self.new out.old.items out.new.items told (spec.happened self.old self.old.fabric event.now)) }
+        ensures err { OnErr result (out.new.items ≡ out.old.items) }
+    {
+        let Some(fabric) = &mut self.fabric else {
+            return self.no_line(out);
+        };
+        let n = fabric.history().len() as u64;
+        match happen(fabric, event) {
+            Ok(seen) => self.tell(event, &seen, n, out),
+            Err(Refusal::Memory | Refusal::Lane(LaneRefusal::Memory)) => Err(AllocError),
+            Err(refusal) => self.refused(refusal, out),
+        }
+    }
+}
+
+impl Responder for Stepper {
+    ghost use Rattle.step_engine.specs.Step.{step_responses};
+
+    ghost responses = { step_responses };
+
+    fn on_line(&mut self, line: &[u8], out: &mut Vec<u8>) -> Result<bool, AllocError> {
+        if self.has_ended {
+            return Ok(false);
+        }
+        if line.is_empty() || line[0] == b'#' {
+            self.count();
+            return Ok(false);
+        }
+        match read_line(line) {
+            None => self.no_line(out),
+            Some(Line::Fabric(config)) => self.make(config, out),
+            Some(Line::Event(event)) => self.happen(&event, out),
+        }
+    }
+
+    fn on_long_line(&mut self, out: &mut Vec<u8>) -> Result<bool, AllocError> {
+        if self.has_ended {
+            return Ok(false);
+        }
+        self.no_line(out)
+    }
+
+    fn on_end(&mut self, out: &mut Vec<u8>) -> Result<bool, AllocError> {
+        let records = mem::replace(&mut self.records, Vec::new(self.alloc));
+        if self.has_ended || !self.is_traced {
+            return Ok(false);
+        }
+        let Some(fabric) = &self.fabric else {
+            return Ok(false);
+        };
+        let trace = fabric.trace_of(records);
+        tell_trace(self.alloc, &trace, fabric.history(), out)
+    }
+}
+
+/// Runs a script: the first line makes a fabric, and each line behind it is an event, whose result is written in a line.
+/// The first line that is none, the first fault of the configuration and the first refusal end the run with one line. With
+/// `is_traced` the trace of a run that ends well is written in place of the results. `Ok` is the exit status, 1 where a
+/// fault or a refusal was told. After an `Err` what was written is a beginning of the whole output.
+pub fn run_step<R: Read, W: Write>(
+    alloc: Global,
+    is_traced: bool,
+    reader: &mut R,
+    writer: &mut W,
+) -> Result<u8, EngineFault>
+    ensures ok { IfOk result (IsWhole (spec.out_step is_traced) (R.remaining reader.old) (R.remaining reader.new) (W.contents writer.old) (W.contents writer.new)) }
+    ensures err { OnErr result (IsPart (spec.out_step is_traced) (R.remaining reader.old) (R.remaining reader.new) (W.contents writer.old) (W.contents writer.new)) }
+{
+    let stepper = Stepper::new(alloc, is_traced);
+    run(alloc, stepper, reader, writer)
+}

@@ -1,0 +1,88 @@
+-- Laws of the texts.
+use Rattle.std.proofs.Common.{◌≡◌, ℕ, ◌+◌, ◌/◌, ◌%◌, List, [], ◌∷◌, ◌++◌, ◌<◌, ◌≤◌, length, take, drop, refl, arith, lit≤, ◌^◌}
+use Rattle.std.specs.Fmt.{decimal}
+use Rattle.std.proofs.lemmas.Fmt.{decimal_digit, decimal_step}
+use Rattle.hex.specs.Hex.{encode_with, encode_upper, upper_digits, decode_of, decode_sized}
+use Rattle.hex.proofs.HexLemmas.{length-encode_with}
+use Rattle.tlp_core.specs.declared.fault.TlpFault.{TlpFault}
+use Rattle.tlp_core.specs.declared.fault.TlpFault.TheVariants as faults
+use Rattle.tlp_core.specs.Fault.{number_of, name_of}
+use Rattle.tlp_engine.specs.Tlp.{spaced}
+
+-- eight digits at most: one group
+pub spaced-last : (xs : List ℕ) → length xs ≤ 8 → spaced xs ≡ xs
+unfolding spaced
+spaced-last [] h = refl
+spaced-last (a ∷ []) h = refl
+spaced-last (a ∷ b ∷ []) h = refl
+spaced-last (a ∷ b ∷ c ∷ []) h = refl
+spaced-last (a ∷ b ∷ c ∷ d ∷ []) h = refl
+spaced-last (a ∷ b ∷ c ∷ d ∷ e ∷ []) h = refl
+spaced-last (a ∷ b ∷ c ∷ d ∷ e ∷ f ∷ []) h = refl
+spaced-last (a ∷ b ∷ c ∷ d ∷ e ∷ f ∷ g ∷ []) h = refl
+spaced-last (a ∷ b ∷ c ∷ d ∷ e ∷ f ∷ g ∷ h ∷ []) lt = refl
+spaced-last (a ∷ b ∷ c ∷ d ∷ e ∷ f ∷ g ∷ h ∷ i ∷ rest) lt = absurd (omega arith)
+
+-- more than four bytes: the digits of four, a space, and the groups of the rest
+pub spaced-encode_more : (bytes : List ℕ) → 4 < length bytes
+    → spaced (encode_upper bytes) ≡ encode_upper (take 4 bytes) ++ 32 ∷ spaced (encode_upper (drop 4 bytes))
+unfolding spaced encode_with
+spaced-encode_more [] h = absurd (omega arith)
+spaced-encode_more (a ∷ []) h = absurd (omega arith)
+spaced-encode_more (a ∷ b ∷ []) h = absurd (omega arith)
+spaced-encode_more (a ∷ b ∷ c ∷ []) h = absurd (omega arith)
+spaced-encode_more (a ∷ b ∷ c ∷ d ∷ []) h = absurd (omega arith)
+spaced-encode_more (a ∷ b ∷ c ∷ d ∷ e ∷ rest) h = refl
+
+-- four bytes at most: one group
+pub spaced-encode_last : (bytes : List ℕ) → length bytes ≤ 4 → spaced (encode_upper bytes) ≡ encode_upper bytes
+spaced-encode_last bytes h = spaced-last (encode_upper bytes) (omega (arith, length-encode_with upper_digits bytes))
+
+-- decoding into half as many bytes is decoding
+pub decode_sized-half : (text : List ℕ) → decode_sized text (length text / 2) ≡ decode_of text
+decode_sized-half text = grind arith
+
+-- a number of two digits
+pub decimal-two : (n : ℕ) → 10 ≤ n → n < 100 → decimal n ≡ (48 + n / 10) ∷ (48 + n % 10) ∷ []
+decimal-two n more small =
+    let tens : n / 10 < 10 = omega arith in
+    let fits : n < 2 ^ 64 = omega arith in
+    rw (decimal_step n more fits, decimal_digit (n / 10) tens) refl
+
+pub decimal-one : (n : ℕ) → n < 10 → decimal n ≡ (48 + n % 10) ∷ []
+decimal-one n small =
+    let same : n % 10 ≡ n = omega arith in
+    rw same (decimal_digit n small)
+
+-- how long the texts of a fault are
+pub number-small : (f : TlpFault) → number_of f < 100
+number-small faults.Short = omega arith
+number-small faults.Prefix = omega arith
+number-small faults.Kind = omega arith
+number-small faults.TenBitTag = omega arith
+number-small faults.Hints = omega arith
+number-small faults.Digest = omega arith
+number-small faults.Poisoned = omega arith
+number-small faults.Translated = omega arith
+number-small faults.LengthMismatch = omega arith
+number-small faults.PayloadTooLong = omega arith
+number-small faults.ByteEnables = omega arith
+number-small faults.OperandSize = omega arith
+number-small faults.Unaligned = omega arith
+
+pub name-short : (f : TlpFault) → length (name_of f) ≤ 14
+name-short faults.Short = lit≤ tt
+name-short faults.Prefix = lit≤ tt
+name-short faults.Kind = lit≤ tt
+name-short faults.TenBitTag = lit≤ tt
+name-short faults.Hints = lit≤ tt
+name-short faults.Digest = lit≤ tt
+name-short faults.Poisoned = lit≤ tt
+name-short faults.Translated = lit≤ tt
+name-short faults.LengthMismatch = lit≤ tt
+name-short faults.PayloadTooLong = lit≤ tt
+name-short faults.ByteEnables = lit≤ tt
+name-short faults.OperandSize = lit≤ tt
+name-short faults.Unaligned = lit≤ tt
+
+pub ruleset text_rules = (spaced-last, decode_sized-half, decimal-one, decimal-two, number-small, name-short)

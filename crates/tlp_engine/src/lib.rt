@@ -1,0 +1,14 @@
+//! The engine of `tlp`: lines of packets in, lines of completions out, over one memory.
+//!
+//! [`run_tlp`] reads a TLP a line in hexadecimal digits and writes its completion, `-` for a posted
+//! write, or a fault. It goes over any reader and writer, a block of input at a time.
+#![tactic(auto)]
+
+#[cfg(test)]
+mod example_tests;
+#[cfg(test)]
+mod tests;
+mod text;
+mod tlp;
+
+pub use tlp::run_tlp;

@@ -1,0 +1,109 @@
+//! The subcommand `check`: whether a history explains what requesters were told.
+ghost use Rattle.std.specs.Prelude.{◌≡◌, ◌++◌, ◌∷◌, [], true, IfOk, OnErr};
+ghost use Rattle.seq_memory.specs.Limits.{IsBlock};
+ghost use Rattle.history_check.specs.Claim.{claim_of};
+ghost use Rattle.history_check.specs.Flaws.{first_flaw};
+ghost use Rattle.trace_file.specs.Reading.{nothing_read};
+ghost use Rattle.line_engine.specs.Run.{IsAnswer, IsWhole, IsPart};
+ghost use Rattle.trace_engine.specs.Check.{flaw_line, judged, out_check};
+
+use crate::traces::{TraceInput, tell_fault};
+use arrayvec::ArrayString;
+use history_check::{Flaw, FlawKind, Trace, check};
+use line_engine::{EngineFault, Responder, run};
+use seq_memory::Entry;
+use std::alloc::{AllocError, Global};
+use std::io::{Read, Write};
+use std::marker::Model;
+use trace_text::write_decimal;
+
+/// Adds the line of a flaw.
+fn tell_flaw(flaw: Flaw, out: &mut Vec<u8>) -> Result<bool, AllocError>
+    ensures ok { IfOk result (λ told. (told ≡ true) × (out.new.items ≡ out.old.items ++ (flaw_line flaw.kind flaw.place ++ 10 ∷ []))) }
+    ensures err { OnErr result (out.new.items ≡ out.old.items) }
+{
+    let mut text = ArrayString::new();
+    text.push_str("flaw ");
+    write_decimal(u64::from(flaw.kind.number()), &mut text);
+    text.push_str(" ");
+    text.push_str(flaw.kind.name());
+    text.push_str(" ");
+    write_decimal(flaw.place as u64, &mut text);
+    text.push_str("\n");
+    out.extend_from_slice(text.as_bytes())?;
+    Ok(true)
+}
+
+/// Adds the line that tells whether the history explains the trace.
+fn judge(
+    alloc: Global,
+    trace: &Trace,
+    history: &[Entry],
+    out: &mut Vec<u8>,
+) -> Result<bool, AllocError>
+    requires { IsBlock trace.now.block }
+    ensures ok { IfOk result (λ told. IsAnswer nothing_read out.old.items out.new.items told (judged (first_flaw (claim_of trace.now history.now)))) }
+    ensures err { OnErr result (out.new.items ≡ out.old.items) }
+{
+    match check(alloc, trace, history) {
+        Ok(()) => {
+            out.extend_from_slice(b"ok\n")?;
+            Ok(false)
+        }
+        Err(flaw) if flaw.kind == FlawKind::Memory => Err(AllocError),
+        Err(flaw) => tell_flaw(flaw, out),
+    }
+}
+
+/// A trace that is read, and then checked.
+#[derive(Drop)]
+struct Checker {
+    input: TraceInput,
+}
+
+impl Model for Checker {
+    ghost use Rattle.trace_file.specs.Reading.{Reading};
+
+    ghost Value = { Reading };
+
+    ghost view = { λ c. c.input };
+}
+
+impl Responder for Checker {
+    ghost use Rattle.trace_engine.specs.Check.{check_responses};
+
+    ghost responses = { check_responses };
+
+    fn on_line(&mut self, line: &[u8], _out: &mut Vec<u8>) -> Result<bool, AllocError> {
+        self.input.line(line)?;
+        Ok(false)
+    }
+
+    fn on_long_line(&mut self, _out: &mut Vec<u8>) -> Result<bool, AllocError> {
+        self.input.long_line();
+        Ok(false)
+    }
+
+    fn on_end(&mut self, out: &mut Vec<u8>) -> Result<bool, AllocError> {
+        match self.input.end() {
+            Ok((trace, history)) => judge(self.input.alloc(), &trace, history.as_slice(), out),
+            Err(fault) => tell_fault(fault, out),
+        }
+    }
+}
+
+/// Reads the text of a trace and writes one line: `ok` where its history explains its records, else
+/// `flaw` with the number, the name and the place of the first flaw; or `fault` with the line that
+/// can't be read and why. `Ok` is the exit status, 0 for `ok` and else 1. After an `Err` what was
+/// written is a beginning of the whole output.
+pub fn run_check<R: Read, W: Write>(
+    alloc: Global,
+    reader: &mut R,
+    writer: &mut W,
+) -> Result<u8, EngineFault>
+    ensures ok { IfOk result (IsWhole out_check (R.remaining reader.old) (R.remaining reader.new) (W.contents writer.old) (W.contents writer.new)) }
+    ensures err { OnErr result (IsPart out_check (R.remaining reader.old) (R.remaining reader.new) (W.contents writer.old) (W.contents writer.new)) }
+{
+    let input = TraceInput::new(alloc);
+    run(alloc, Checker { input }, reader, writer)
+}

@@ -1,0 +1,17 @@
+//! The engines of `check` and `upgrade`: the text of a trace in, a verdict or the text in its second
+//! version out.
+//!
+//! [`run_check`] tells whether a trace's history explains its records, [`run_upgrade`] writes a trace of
+//! either version in the second one, unchecked. Both go over any reader and writer, a block of input at
+//! a time, and answer at the end of the input.
+#![tactic(auto)]
+
+mod check;
+#[cfg(test)]
+mod tests;
+mod traces;
+mod upgrade;
+
+pub use check::run_check;
+pub use traces::tell_trace;
+pub use upgrade::run_upgrade;

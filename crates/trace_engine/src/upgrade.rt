@@ -1,0 +1,64 @@
+//! The subcommand `upgrade`: a trace in the second version of its text.
+ghost use Rattle.std.specs.Prelude.{IfOk, OnErr};
+ghost use Rattle.line_engine.specs.Run.{IsWhole, IsPart};
+ghost use Rattle.trace_engine.specs.Upgrade.{out_upgrade};
+
+use crate::traces::{TraceInput, tell_fault, tell_trace};
+use line_engine::{EngineFault, Responder, run};
+use std::alloc::{AllocError, Global};
+use std::io::{Read, Write};
+use std::marker::Model;
+
+/// A trace that is read, and then written.
+#[derive(Drop)]
+struct Upgrader {
+    input: TraceInput,
+}
+
+impl Model for Upgrader {
+    ghost use Rattle.trace_file.specs.Reading.{Reading};
+
+    ghost Value = { Reading };
+
+    ghost view = { λ u. u.input };
+}
+
+impl Responder for Upgrader {
+    ghost use Rattle.trace_engine.specs.Upgrade.{upgrade_responses};
+
+    ghost responses = { upgrade_responses };
+
+    fn on_line(&mut self, line: &[u8], _out: &mut Vec<u8>) -> Result<bool, AllocError> {
+        self.input.line(line)?;
+        Ok(false)
+    }
+
+    fn on_long_line(&mut self, _out: &mut Vec<u8>) -> Result<bool, AllocError> {
+        self.input.long_line();
+        Ok(false)
+    }
+
+    fn on_end(&mut self, out: &mut Vec<u8>) -> Result<bool, AllocError> {
+        match self.input.end() {
+            Ok((trace, history)) => {
+                tell_trace(self.input.alloc(), &trace, history.as_slice(), out)
+            }
+            Err(fault) => tell_fault(fault, out),
+        }
+    }
+}
+
+/// Reads the text of a trace, of version 1 or 2, and writes it in version 2, unchecked; or `fault`
+/// with the line that can't be read and why. `Ok` is the exit status, 1 where a fault was told. After
+/// an `Err` what was written is a beginning of the whole output.
+pub fn run_upgrade<R: Read, W: Write>(
+    alloc: Global,
+    reader: &mut R,
+    writer: &mut W,
+) -> Result<u8, EngineFault>
+    ensures ok { IfOk result (IsWhole out_upgrade (R.remaining reader.old) (R.remaining reader.new) (W.contents writer.old) (W.contents writer.new)) }
+    ensures err { OnErr result (IsPart out_upgrade (R.remaining reader.old) (R.remaining reader.new) (W.contents writer.old) (W.contents writer.new)) }
+{
+    let input = TraceInput::new(alloc);
+    run(alloc, Upgrader { input }, reader, writer)
+}

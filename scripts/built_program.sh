@@ -1,0 +1,121 @@
+#!/bin/sh
+# Runs the built program for each of its exit statuses, over the files of examples/ and over streams that fail, and tells
+# each run that prints or ends otherwise. `rt ci` has to have built it.
+cd "$(dirname "$0")/.." || exit 1
+pciex=crates/pciex/out/pciex
+if [ ! -x $pciex ]; then
+    echo "built program: there is no $pciex: run rt ci first"
+    exit 1
+fi
+room=$(mktemp -d) || exit 1
+trap 'rm -rf "$room"' EXIT
+runs=0
+failed=0
+
+# wants WHAT STATUS OUTPUT ERRORS: whether the last run, which ended with $status, had this exit status and wrote these
+# files.
+wants() {
+    runs=$((runs + 1))
+    if [ $status -eq "$2" ] && cmp -s "$3" "$room/output" && cmp -s "$4" "$room/errors"; then
+        return
+    fi
+    echo "built program: $1: status $status, and not $2, or another text"
+    failed=1
+}
+
+# of_file INPUT WORD..: runs the program on a file.
+of_file() {
+    input=$1
+    shift
+    timeout 10 $pciex "$@" < "$input" > "$room/output" 2> "$room/errors"
+    status=$?
+}
+
+# The examples, with status 0 or 1.
+: > "$room/nothing"
+of_file examples/packets.txt tlp
+wants "tlp on packets.txt" 1 examples/packets.out "$room/nothing"
+grep -v '^4C0000' examples/packets.txt | grep -v ' 01000500 .* 07000000$' > "$room/sound.txt"
+grep -v '^fault' examples/packets.out > "$room/faultless"
+for name in lost_ack write_passes_read credits stopped_link; do
+    of_file examples/$name.txt step
+    wants "step on $name.txt" 0 examples/$name.out "$room/nothing"
+done
+of_file examples/credits_used_up.txt step
+wants "step on credits_used_up.txt" 1 examples/credits_used_up.out "$room/nothing"
+echo ok > "$room/ok"
+of_file examples/trace.txt check
+wants "check on trace.txt" 0 "$room/ok" "$room/nothing"
+grep -v '^#' examples/trace.txt > "$room/trace"
+of_file examples/trace.txt upgrade
+wants "upgrade on trace.txt" 0 "$room/trace" "$room/nothing"
+of_file examples/write_passes_read.txt step --trace
+wants "step --trace on write_passes_read.txt" 0 "$room/trace" "$room/nothing"
+for name in lost_ack write_passes_read credits stopped_link; do
+    $pciex step --trace < examples/$name.txt > "$room/told"
+    of_file "$room/told" check
+    wants "check on what step --trace prints of $name.txt" 0 "$room/ok" "$room/nothing"
+done
+
+# Faults and flaws have status 1.
+echo 4C0000 > "$room/short"
+echo "fault 1 Short" > "$room/fault"
+of_file "$room/short" tlp
+wants "tlp on three bytes" 1 "$room/fault" "$room/nothing"
+sed 's/^ans 1 0 2 data 01020304/ans 1 0 2 data 00000000/' examples/trace.txt > "$room/flawed"
+echo "flaw 10 Reply 2" > "$room/flaw"
+of_file "$room/flawed" check
+wants "check on a trace with a wrong reply" 1 "$room/flaw" "$room/nothing"
+
+# Wrong words have status 2 and write nothing on standard output; values out of a range are told in one line.
+echo "pciex: options" > "$room/options"
+of_file examples/packets.txt tlp --size 100
+wants "tlp --size 100" 2 "$room/nothing" "$room/options"
+of_file examples/packets.txt tlp "$(printf '\377')"
+wants "a word that is no text" 2 "$room/nothing" "$room/options"
+for words in "" "tpl" "tlp 0" "step --trace=no" "check --trace"; do
+    # shellcheck disable=SC2086
+    of_file examples/packets.txt $words
+    [ -s "$room/errors" ] && cp "$room/errors" "$room/told" || echo "a text" > "$room/told"
+    wants "the words '$words'" 2 "$room/nothing" "$room/told"
+done
+
+# A text that was asked for has status 0 and is not on the error stream.
+for words in "--help" "--version" "tlp --help" "step --help"; do
+    # shellcheck disable=SC2086
+    of_file examples/packets.txt $words
+    [ -s "$room/output" ] && cp "$room/output" "$room/told" || echo "a text" > "$room/told"
+    wants "the words '$words'" 0 "$room/told" "$room/nothing"
+done
+
+# A reader and a writer that fail have status 1.
+echo "pciex: read" > "$room/read"
+echo "pciex: write" > "$room/write"
+for words in tlp check upgrade step "step --trace"; do
+    # shellcheck disable=SC2086
+    of_file / $words
+    wants "$words, where standard input is a folder" 1 "$room/nothing" "$room/read"
+done
+if [ -c /dev/full ]; then
+    : > "$room/output"
+    timeout 10 $pciex tlp < examples/packets.txt > /dev/full 2> "$room/errors"
+    status=$?
+    wants "tlp, where standard output is full" 1 "$room/nothing" "$room/write"
+fi
+
+# Each answer is written before more is read: this user waits for it, and the input has not ended.
+mkfifo "$room/in" "$room/out"
+timeout 10 $pciex tlp < "$room/in" > "$room/out" &
+exec 3> "$room/in" 4< "$room/out"
+for _ in 1 2 3; do
+    echo 4C0000 >&3
+    timeout 5 head -n 1 <&4 > "$room/output"
+    status=$?
+    : > "$room/errors"
+    wants "an answer before the next line" 0 "$room/fault" "$room/nothing"
+done
+exec 3>&- 4<&-
+wait
+
+echo "built program: $runs runs, $([ $failed -eq 0 ] && echo "all as they should be" || echo "not all as they should be")"
+exit $failed

@@ -1,0 +1,84 @@
+#!/bin/sh
+# Runs built programs with each of their allocations refused in turn, and tells each run that does not end as it should.
+# `rt ci` has to have built them: it refuses no allocation itself. Without a C compiler nothing is run, and that is told.
+cd "$(dirname "$0")/.." || exit 1
+if ! command -v cc > /dev/null; then
+    echo "refused allocations: left out, since there is no cc"
+    exit 0
+fi
+room=$(mktemp -d) || exit 1
+trap 'rm -rf "$room"' EXIT
+library=$room/refuse_allocation.so
+cc -O1 -Wall -Wextra -Werror -shared -fPIC -o "$library" scripts/refuse_allocation.c -ldl || exit 1
+runs=0
+failed=0
+
+# Whether the run ended as it does where nothing is refused: so it may where room was asked for ahead of its use, and
+# asked for again.
+is_as_ever() {
+    [ "$1" -eq "$whole_status" ] && cmp -s "$room/whole" "$room/output" && cmp -s "$room/whole_errors" "$room/errors"
+}
+
+# What a run that was refused an allocation has to be: status 1, `pciex: memory` alone on the error stream, and a
+# beginning of the output that is written where nothing is refused; or as it is there.
+stops_for_memory() {
+    if [ "$1" -eq 1 ] && [ "$(cat "$room/errors")" = "pciex: memory" ]; then
+        head -c "$(wc -c < "$room/output")" "$room/whole" | cmp -s - "$room/output"
+    else
+        is_as_ever "$1"
+    fi
+}
+
+# each_refused JUDGE INPUT PROGRAM WORD.. runs the program on the file INPUT, with the first allocation refused, then with
+# the second, until nothing is left to refuse. JUDGE is a function: it is given the exit status, finds the output and the
+# error stream in $room/output and $room/errors, those of the whole run in $room/whole and $room/whole_errors with its
+# status in $whole_status, and says whether all is well. A run has ten seconds.
+each_refused() {
+    judge=$1
+    input=$2
+    shift 2
+    timeout 10 "$@" < "$input" > "$room/whole" 2> "$room/whole_errors"
+    whole_status=$?
+    stopped=0
+    number=0
+    while :; do
+        number=$((number + 1))
+        rm -f "$room/mark"
+        timeout 10 env LD_PRELOAD="$library" REFUSED_ALLOCATION=$number REFUSED_MARK="$room/mark" "$@" \
+            < "$input" > "$room/output" 2> "$room/errors"
+        status=$?
+        [ -e "$room/mark" ] || break
+        runs=$((runs + 1))
+        if ! "$judge" $status; then
+            echo "refused allocations: number $number of '$*' on $input: status $status, $(head -c 200 "$room/errors")"
+            failed=1
+        fi
+        is_as_ever $status || stopped=$((stopped + 1))
+    done
+    if [ $stopped -eq 0 ]; then
+        echo "refused allocations: '$*' on $input: no run was stopped"
+        failed=1
+    elif ! is_as_ever $status; then
+        echo "refused allocations: '$*' on $input: another run where none is refused"
+        failed=1
+    fi
+}
+
+pciex=crates/pciex/out/pciex
+if [ ! -x $pciex ]; then
+    echo "refused allocations: there is no $pciex: run rt ci first"
+    exit 1
+fi
+each_refused stops_for_memory examples/packets.txt $pciex tlp
+each_refused stops_for_memory examples/packets.txt $pciex tlp --base 0 --size 256 --block 128
+each_refused stops_for_memory examples/packets.txt $pciex tlp --size 100
+each_refused stops_for_memory examples/packets.txt $pciex tpl
+each_refused stops_for_memory examples/packets.txt $pciex step --help
+each_refused stops_for_memory examples/trace.txt $pciex check
+each_refused stops_for_memory examples/trace.txt $pciex upgrade
+for script in lost_ack write_passes_read credits_used_up stopped_link; do
+    each_refused stops_for_memory examples/$script.txt $pciex step
+    each_refused stops_for_memory examples/$script.txt $pciex step --trace
+done
+echo "refused allocations: $runs runs, $([ $failed -eq 0 ] && echo "all as they should be" || echo "not all as they should be")"
+exit $failed
