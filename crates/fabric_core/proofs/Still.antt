@@ -1,5 +1,5 @@
 -- Lanes that are still are those that hold nothing.
-use Rattle.std.proofs.Common.{ℕ, ◌≡◌, ◌≢◌, ◌↔◌, ◌<◌, ◌≤◌, ◌+◌, zero, suc, List, [], ◌∷◌, length, map, Some, get_or, arith, refl, sym, ap, subst}
+use Rattle.std.proofs.Common.{ℕ, ◌≡◌, ◌≢◌, ◌↔◌, ◌<◌, ◌≤◌, ◌+◌, zero, suc, List, [], ◌∷◌, length, map, Some, get_or, arith, refl, sym, ap, subst, ◌∙◌}
 use Rattle.std.specs.Prelude.{slice_get}
 use Rattle.std.proofs.lemmas.Option.{slice_get_read, slice_get_within, get_or_from_slice_get}
 use borrow.Author.Count.{below_more}
@@ -11,6 +11,7 @@ use Rattle.fabric_laws.specs.Fabric.{Fabric, items, whole_of}
 use Rattle.fabric_laws.specs.Packets.{item_of}
 use Rattle.fabric_laws.specs.Whole.{Whole, up_of, down_of, requester_of, open_at, unused}
 use Rattle.fabric_laws.specs.Sound.{Sound, times}
+use Rattle.fabric_laws.specs.Trace.{submitted_by}
 use Rattle.fabric_core.specs.Kept.{IsSoundFabric, down_credits}
 use Rattle.fabric_core.specs.Quiet.{IsStill, AreStill, IsStillFabric, IsQuiet}
 use Rattle.fabric_core.proofs.Lanes.{right}
@@ -81,3 +82,13 @@ all_answered law f s h i t k q has =
     (part_is items [] f.up i (λ n e at. no_items e (h.up n e at)))
     (no_items f.outward h.outward)
     (part_is items [] f.down i (λ n e at. no_items e (h.down n e at))))
+
+zero_more : (n : ℕ) → 0 + n ≡ n
+zero_more n = omega arith
+
+pub quiet_total : ((p : Whole) → Sound p → p.inward ≡ [] → ((i : ℕ) → up_of p i ≡ []) → length p.history ≡ submitted_by p.requesters) → (f : Fabric) → IsSoundFabric f → IsQuiet f → length f.memory.entries ≡ submitted_by f.requesters
+quiet_total law f s h = law (whole_of f) s.sound (no_items f.inward h.inward) up_is ∙ zero_more (submitted_by f.requesters)
+  where
+    up_is : (i : ℕ) → up_of (whole_of f) i ≡ []
+    up_is zero = refl
+    up_is (suc i) = part_is items [] f.up i (λ n e at. no_items e (h.up n e at))

@@ -4,7 +4,10 @@ ghost use Rattle.std.specs.Prelude.{◌≡◌, ◌≢◌, ◌↔◌, ◌≤◌, 
 use crate::config::{Config, ConfigFault};
 use crate::event::{Event, Seen};
 use crate::fault::Refusal;
-use crate::laws::{a_new_fabric_is_sound, each_event_keeps_it_sound, every_refusal_is_possible};
+use crate::laws::{
+    a_new_fabric_is_sound, a_quiet_fabric_has_every_submission, each_event_keeps_it_sound,
+    every_refusal_is_possible,
+};
 use crate::parts::{LaneParts, Parts};
 use fabric_laws::laws::quiet_is_all_acted;
 use fc_credit::LaneCredits;
@@ -104,7 +107,7 @@ impl Fabric {
     ghost use Rattle.requester_core.specs.Requesting.{Requesting};
     ghost use Rattle.fabric_laws.specs.Whole.{open_at};
     ghost use Rattle.fabric_laws.specs.Sound.{times};
-    ghost use Rattle.fabric_laws.specs.Trace.{Belongs};
+    ghost use Rattle.fabric_laws.specs.Trace.{Belongs, submitted_by};
     ghost use Rattle.fabric_core.specs.Quiet.{IsQuiet};
 
     /// A fabric of this configuration to which nothing has happened. The faults are tested in the order Requesters, Size,
@@ -172,14 +175,16 @@ impl Fabric {
     }
 
     /// Whether every lane's content is empty: all that was entered was taken. Then each submission stands in the history
-    /// once, and none waits for its completion.
+    /// once, and nothing else, and none waits for its completion.
     pub fn quiet(&self) -> bool
         ensures quiet { IsTrue result ↔ IsQuiet self.now }
         ensures acted { IsTrue result → (i k : ℕ) (q : Requesting) → slice_get self.now.requesters i ≡ Some q → k < q.next → times (suc i) k self.now.memory.entries ≡ 1 }
+        ensures all { IsTrue result → length self.now.memory.entries ≡ submitted_by self.now.requesters }
         ensures answered { IsTrue result → (i tag k : ℕ) (q : Requesting) → slice_get self.now.requesters i ≡ Some q → open_at q tag ≢ Some k }
     {
         quiet_is_nothing_left();
         quiet_is_all_acted();
+        a_quiet_fabric_has_every_submission();
         let parts = &self.parts;
         parts.is_still()
     }

@@ -1,6 +1,7 @@
 //! What holds of a fabric whatever happens to it, said of its parts wherever they are.
-ghost use Rattle.std.specs.Prelude.{◌≡◌, ◌<◌, ◌++◌, ℕ, true, length, slice_set, List, [], Some, Ok};
+ghost use Rattle.std.specs.Prelude.{◌≡◌, ◌<◌, ◌++◌, ℕ, true, length, slice_get, slice_set, List, [], Some, Ok};
 ghost use Rattle.tlp_core.specs.declared.operation.Op.{Op};
+ghost use Rattle.seq_memory.specs.declared.Entry.{Entry};
 ghost use Rattle.seq_memory.specs.History.{State};
 ghost use Rattle.requester_core.specs.declared.requester.Answer.{Answer};
 ghost use Rattle.requester_core.specs.Requesting.{Requesting};
@@ -18,7 +19,8 @@ ghost use Rattle.lane_core.specs.Calls.{IsRightWith, on_the_way};
 ghost use Rattle.lane_core.specs.Credit.{needs_of, numbers_of};
 ghost use Rattle.fabric_laws.specs.Fabric.{Fabric, whole_of};
 ghost use Rattle.fabric_laws.specs.Steps.{Step};
-ghost use Rattle.fabric_laws.specs.Trace.{Belongs, IsMade};
+ghost use Rattle.fabric_laws.specs.Trace.{Belongs, IsMade, submitted_by};
+ghost use Rattle.fabric_laws.specs.Lists.{Each};
 ghost use Rattle.fabric_laws.specs.Whole.{view};
 ghost use Rattle.history_check.specs.Trace.{IsLegal, submissions};
 ghost use Rattle.fabric_core.specs.declared.event.Event.{Event};
@@ -36,9 +38,10 @@ ghost use Rattle.fabric_core.specs.Kept.{IsSoundFabric, IsPossible, records_of};
 ghost use Rattle.fabric_core.specs.Quiet.{IsQuiet};
 
 use fabric_laws::laws::{
-    each_event_is_a_step, each_link_call_is_a_step, each_step_keeps_it_sound,
-    new_parts_make_a_new_fabric, no_completion_is_strange, packets_keep_their_ports,
-    the_history_is_legal, the_trace_belongs, what_was_submitted_is_one_list,
+    a_quiet_history_has_every_submission, each_event_is_a_step, each_link_call_is_a_step,
+    each_step_keeps_it_sound, new_parts_make_a_new_fabric, no_completion_is_strange,
+    packets_keep_their_ports, the_history_is_legal, the_trace_belongs,
+    what_was_submitted_is_one_list,
 };
 use lane_core::{credits_are_whole_numbers, each_call_keeps_it_right, never_a_protocol_error};
 
@@ -120,6 +123,17 @@ pub fn the_history_is_legal_for_what_was_submitted()
 {
     each_event_keeps_it_sound();
     the_history_is_legal();
+    what_was_submitted_is_one_list();
+}
+
+/// The history of a quiet fabric has as many entries as its requesters submitted operations. Where all that the requesters
+/// of a sound fabric submitted is one operation, each entry of the history is that one.
+pub fn a_quiet_fabric_has_every_submission()
+    ensures all { (f : Fabric) → IsSoundFabric f → IsQuiet f → length f.memory.entries ≡ submitted_by f.requesters }
+    ensures same { (f : Fabric) (op : Op) → IsSoundFabric f → ((i : ℕ) (ops : List Op) → IsMade i (view (whole_of f) i) ops → Each (λ x. x ≡ op) ops) →
+        (place : ℕ) (e : Entry) → slice_get f.memory.entries place ≡ Some e → e.op ≡ op }
+{
+    a_quiet_history_has_every_submission();
     what_was_submitted_is_one_list();
 }
 
