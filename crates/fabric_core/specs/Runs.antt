@@ -1,7 +1,7 @@
 -- Lists of events.
 use Rattle.std.specs.Prelude.{ℕ, ◌≡◌, ◌⊎◌, List, [], ◌∷◌, ◌++◌, length, take, Result, Ok, Err, Option, Some, None, slice_get}
 use Rattle.history_check.specs.declared.Record.{Record}
-use Rattle.history_check.specs.declared.Trace.{Trace}
+use Rattle.history_check.specs.Observation.{Observation}
 use Rattle.requester_core.specs.declared.requester.Answer.{Answer}
 use Rattle.fabric_laws.specs.Fabric.{Fabric}
 use Rattle.fabric_core.specs.declared.event.Event.{Event}
@@ -33,11 +33,11 @@ pub record Stops (f : Fabric) (events : List Event) (place : ℕ) (r : Refusal) 
 
 -- the events that were done, and their trace
 
-abbrev pub done : Result Trace RunFault → List Event → List Event
+abbrev pub done : Result Observation RunFault → List Event → List Event
 done (Ok trace) events = events
 done (Err x) events = take x.place events
 
-abbrev pub trace_in : Result Trace RunFault → Trace
+abbrev pub trace_in : Result Observation RunFault → Observation
 trace_in (Ok trace) = trace
 trace_in (Err x) = x.trace
 
