@@ -6,7 +6,7 @@ use Rattle.history_check.specs.declared.Record.{Record}
 use Rattle.fabric_laws.specs.Fabric.{Fabric, whole_of}
 use Rattle.seq_memory.specs.declared.Entry.{Entry}
 use Rattle.seq_memory.specs.History.{State}
-use Rattle.history_check.specs.declared.Trace.{Trace}
+use Rattle.history_check.specs.Observation.{Observation}
 use Rattle.history_check.specs.Claim.{claim_of}
 use Rattle.history_check.specs.Trace.{Explains}
 use Rattle.fabric_laws.specs.Whole.{Whole, memory_of}
@@ -79,8 +79,8 @@ run_shape p p' rs stays = refl
 run_shape p p' rs (goes {q = m} {rs = before} {ss = last} t u) = step_shape m p' last u ∙ run_shape p m before t
 
 -- what a check is asked
-claim_is : (m : State) (t : Trace) → t.base ≡ m.base → t.size ≡ m.size → t.block ≡ m.block → record { memory = m; records = t.records.items } ≡ claim_of t m.entries
-claim_is m t a b c = λ k. record { memory = record { base = sym a k; size = sym b k; block = sym c k; entries = m.entries }; records = t.records.items }
+claim_is : (m : State) (t : Observation) → t.base ≡ m.base → t.size ≡ m.size → t.block ≡ m.block → record { memory = m; records = t.records } ≡ claim_of t m.entries
+claim_is m t a b c = λ k. record { memory = record { base = sym a k; size = sym b k; block = sym c k; entries = m.entries }; records = t.records }
 
 -- ---- the headline
 
@@ -105,5 +105,5 @@ headline l t f g es ss s s' r =
       explained = λ rs b. t.explained (whole_of g) (rs ++ ss) s'.sound (t.run (whole_of f) (whole_of g) rs ss s.sound b run);
     }
 
-pub checked : (f g : Fabric) (t : Trace) → Headline f g t.records.items → t.base ≡ g.memory.base → t.size ≡ g.memory.size → t.block ≡ g.memory.block → Belongs (whole_of f) [] → Explains (claim_of t g.memory.entries)
+pub checked : (f g : Fabric) (t : Observation) → Headline f g t.records → t.base ≡ g.memory.base → t.size ≡ g.memory.size → t.block ≡ g.memory.block → Belongs (whole_of f) [] → Explains (claim_of t g.memory.entries)
 checked f g t h a b c e = subst Explains (claim_is g.memory t a b c) (h.explained [] e)

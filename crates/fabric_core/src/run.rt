@@ -2,7 +2,7 @@
 ghost use Rattle.std.specs.Prelude.{◌≡◌, ◌<◌, ◌⊎◌, ◌++◌, ◌∷◌, [], ℕ, List, length, take, vec_len, vec_capacity, true, option_to_list, IfOk, IfErr, OnOk, OnErr};
 ghost use Rattle.history_check.specs.declared.Record.{Record};
 ghost use Rattle.history_check.specs.Claim.{claim_of};
-ghost use Rattle.seq_memory.specs.Limits.{IsBlock};
+ghost use Rattle.history_check.specs.Observation.{HasLimits};
 ghost use Rattle.history_check.specs.Trace.{Explains};
 ghost use Rattle.fabric_laws.specs.Fabric.{whole_of};
 ghost use Rattle.fabric_laws.specs.Trace.{Belongs};
@@ -15,83 +15,19 @@ use crate::event::{Event, Seen};
 use crate::fabric::Fabric;
 use crate::fault::Refusal;
 use crate::laws::each_event_keeps_it_sound;
-use arrayvec::ArrayVec;
 use fabric_laws::laws::the_trace_belongs;
 use history_check::{Record, Trace};
 use std::alloc::Global;
-use tlp_core::Op;
+use tlp_core::copy_of;
 
 /// The first event that was refused. The fabric stands before it.
-#[derive(Debug, PartialEq, Drop)]
+#[derive(Debug, Drop)]
 pub struct RunFault {
     /// Its place among the events, from 0.
     pub place: usize,
     pub refusal: Refusal,
     /// The trace of the events before it.
     pub trace: Trace,
-}
-
-/// The same operation.
-fn copy_of(op: &Op) -> Op
-    ensures { result ≡ op.now }
-{
-    match op {
-        Op::Read {
-            address,
-            dw,
-            first,
-            last,
-        } => Op::Read {
-            address: *address,
-            dw: *dw,
-            first: *first,
-            last: *last,
-        },
-        Op::Write {
-            address,
-            first,
-            last,
-            bytes,
-        } => {
-            let mut copy = ArrayVec::new();
-            let _fits = copy.try_extend_from_slice(bytes.as_slice());
-            Op::Write {
-                address: *address,
-                first: *first,
-                last: *last,
-                bytes: copy,
-            }
-        }
-        Op::FetchAdd {
-            address,
-            width,
-            operand,
-        } => Op::FetchAdd {
-            address: *address,
-            width: *width,
-            operand: *operand,
-        },
-        Op::Swap {
-            address,
-            width,
-            operand,
-        } => Op::Swap {
-            address: *address,
-            width: *width,
-            operand: *operand,
-        },
-        Op::Cas {
-            address,
-            width,
-            compare,
-            swap,
-        } => Op::Cas {
-            address: *address,
-            width: *width,
-            compare: *compare,
-            swap: *swap,
-        },
-    }
 }
 
 /// What an event adds to a trace, `n` being the length of the history before it.
@@ -209,13 +145,13 @@ impl Fabric {
         ensures base { result.base ≡ self.now.memory.base }
         ensures size { result.size ≡ self.now.memory.size }
         ensures block { result.block ≡ self.now.memory.block }
-        ensures limits { IsBlock result.block }
-        ensures records { result.records.items ≡ records.items }
+        ensures limits { HasLimits result }
+        ensures records { result.records ≡ records.items }
     {
         let parts = self.parts();
         Trace {
             base: parts.memory.base(),
-            size: parts.memory.bytes().len(),
+            size: parts.memory.size(),
             block: parts.memory.block(),
             records,
         }
@@ -229,17 +165,17 @@ impl Fabric {
     /// after, and the history explains it; so that of the first run of a new fabric is right under
     /// [`check`](history_check::check).
     pub fn run(&mut self, events: &[Event], alloc: Global) -> Result<Trace, RunFault>
-        ensures ran { Runs self.old (done result events.now) (trace_in result).records.items self.new }
+        ensures ran { Runs self.old (done result events.now) (trace_in result).records self.new }
         ensures stops { IfErr result (λ x. Stops self.new events.now x.place x.refusal) }
         ensures possible { IfErr result (λ x. IsPossible x.refusal) }
         ensures base { (trace_in result).base ≡ self.new.memory.base }
         ensures size { (trace_in result).size ≡ self.new.memory.size }
         ensures block { (trace_in result).block ≡ self.new.memory.block }
-        ensures limits { IsBlock (trace_in result).block }
+        ensures limits { HasLimits (trace_in result) }
         ensures shape { (whole_of self.new).shape ≡ (whole_of self.old).shape }
         ensures begins { (later : List Entry) × (self.new.memory.entries ≡ self.old.memory.entries ++ later) }
-        ensures belongs { (rs : List Record) → Belongs (whole_of self.old) rs → Belongs (whole_of self.new) (rs ++ (trace_in result).records.items) }
-        ensures explained { (rs : List Record) → Belongs (whole_of self.old) rs → Explains (record { memory = self.new.memory; records = rs ++ (trace_in result).records.items }) }
+        ensures belongs { (rs : List Record) → Belongs (whole_of self.old) rs → Belongs (whole_of self.new) (rs ++ (trace_in result).records) }
+        ensures explained { (rs : List Record) → Belongs (whole_of self.old) rs → Explains (record { memory = self.new.memory; records = rs ++ (trace_in result).records }) }
         ensures checked { Belongs (whole_of self.old) [] → Explains (claim_of (trace_in result) self.new.memory.entries) }
         ensures sound { IsSoundFabric self.new }
     {

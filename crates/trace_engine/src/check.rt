@@ -1,6 +1,5 @@
 //! The subcommand `check`: whether a history explains what requesters were told.
 ghost use Rattle.std.specs.Prelude.{◌≡◌, ◌++◌, ◌∷◌, [], true, IfOk, OnErr};
-ghost use Rattle.seq_memory.specs.Limits.{IsBlock};
 ghost use Rattle.history_check.specs.Claim.{claim_of};
 ghost use Rattle.history_check.specs.Flaws.{first_flaw};
 ghost use Rattle.trace_file.specs.Reading.{nothing_read};
@@ -41,7 +40,6 @@ fn judge(
     history: &[Entry],
     out: &mut Vec<u8>,
 ) -> Result<bool, AllocError>
-    requires { IsBlock trace.now.block }
     ensures ok { IfOk result (λ told. IsAnswer nothing_read out.old.items out.new.items told (judged (first_flaw (claim_of trace.now history.now)))) }
     ensures err { OnErr result (out.new.items ≡ out.old.items) }
 {

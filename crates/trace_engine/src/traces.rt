@@ -1,6 +1,5 @@
 //! What the subcommands that read a trace share.
 ghost use Rattle.std.specs.Prelude.{◌≡◌, ◌++◌, ◌∷◌, [], true, false, IfOk, IfErr, OnErr, OnOk, Ok, Err};
-ghost use Rattle.seq_memory.specs.Limits.{IsBlock};
 ghost use Rattle.history_check.specs.Claim.{claim_of};
 ghost use Rattle.trace_file.specs.Texts.{trace_text};
 ghost use Rattle.trace_file.specs.Reading.{nothing_read, after_line, after_long_line, at_end};
@@ -61,7 +60,6 @@ impl TraceInput {
     pub fn end(&mut self) -> Result<(Trace, Vec<Entry>), ReadFault>
         ensures ok { IfOk result (λ t. at_end self.old ≡ Ok (claim_of t.0 t.1.items)) }
         ensures err { IfErr result (λ f. at_end self.old ≡ Err f) }
-        ensures block { IfOk result (λ t. IsBlock t.0.block) }
         ensures gone { self.new ≡ nothing_read }
     {
         let reader = mem::replace(&mut self.reader, TraceReader::new(self.alloc));

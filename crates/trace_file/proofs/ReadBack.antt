@@ -12,7 +12,7 @@ use Rattle.tlp_core.specs.declared.operation.Op.{Op}
 use Rattle.seq_memory.specs.declared.Entry.{Entry}
 use Rattle.seq_memory.specs.declared.Reply.{Reply}
 use Rattle.seq_memory.specs.History.{State}
-use Rattle.seq_memory.specs.Limits.{IsBlock}
+use Rattle.seq_memory.specs.Limits.{IsBlock, is_size, is_base}
 use Rattle.history_check.specs.declared.Record.{Record}
 use Rattle.history_check.specs.declared.Record.TheVariants as records
 use Rattle.history_check.specs.Claim.{Claim}
@@ -72,6 +72,7 @@ entries-more [] e h he = (he, tt)
 entries-more (x ∷ es) e h he = (h.0, entries-more es e h.1 he)
 
 record IsOwn (base size block : ℕ) (rs : List Record) (es : List Entry) : Type 0 where
+  within : (is_size size && is_base base size) ≡ true
   base_is : IsSpelled address base
   size_is : IsSpelled forms.count size
   block_is : IsBlock block
@@ -82,7 +83,7 @@ abbrev Own : Reading → Type 0
 Own s = IsOwn s.base s.size s.block s.records s.entries
 
 own-memory : (s : Reading) (l : Line) → Own s → LineIs l → Own (in_memory s l)
-own-memory s (lines.Memory base size block) h is = record { base_is = is.0; size_is = is.1; block_is = is.2; records_are = h.records_are; entries_are = h.entries_are }
+own-memory s (lines.Memory base size block) h is = record { within = is.3; base_is = is.0; size_is = is.1; block_is = is.2; records_are = h.records_are; entries_are = h.entries_are }
 own-memory s (lines.Head v) h is = h
 own-memory s (lines.Record r) h is = h
 own-memory s lines.History h is = h
@@ -90,7 +91,7 @@ own-memory s (lines.Entry e) h is = h
 own-memory s lines.End h is = h
 
 own-records : (s : Reading) (l : Line) → Own s → LineIs l → Own (in_records s l)
-own-records s (lines.Record r) h is = record { base_is = h.base_is; size_is = h.size_is; block_is = h.block_is; records_are = records-more s.records r h.records_are is; entries_are = h.entries_are }
+own-records s (lines.Record r) h is = record { within = h.within; base_is = h.base_is; size_is = h.size_is; block_is = h.block_is; records_are = records-more s.records r h.records_are is; entries_are = h.entries_are }
 own-records s (lines.Head v) h is = h
 own-records s (lines.Memory base size block) h is = h
 own-records s lines.History h is = h
@@ -98,7 +99,7 @@ own-records s (lines.Entry e) h is = h
 own-records s lines.End h is = h
 
 own-history : (s : Reading) (l : Line) → Own s → LineIs l → Own (in_history s l)
-own-history s (lines.Entry e) h is = record { base_is = h.base_is; size_is = h.size_is; block_is = h.block_is; records_are = h.records_are; entries_are = entries-more s.entries e h.entries_are is }
+own-history s (lines.Entry e) h is = record { within = h.within; base_is = h.base_is; size_is = h.size_is; block_is = h.block_is; records_are = h.records_are; entries_are = entries-more s.entries e h.entries_are is }
 own-history s (lines.Head v) h is = h
 own-history s (lines.Memory base size block) h is = h
 own-history s (lines.Record r) h is = h
@@ -142,7 +143,7 @@ own-lines [] s h = h
 own-lines (l ∷ ls) s h = own-lines ls (take_line s l) (own-line s l h)
 
 own-nothing : Own nothing_read
-own-nothing = record { base_is = (codes "0", refl); size_is = (codes "0", refl); block_is = inl refl; records_are = tt; entries_are = tt }
+own-nothing = record { within = refl; base_is = (codes "0", refl); size_is = (codes "128", refl); block_is = inl refl; records_are = tt; entries_are = tt }
 
 abbrev OwnClaim : Claim → Type 0
 OwnClaim c = IsOwn c.memory.base c.memory.size c.memory.block c.records c.memory.entries
@@ -346,9 +347,9 @@ module _ (law : Laws) where
   block-short b (inl e) = (law.short b (omega arith)).0
   block-short b (inr e) = (law.short b (omega arith)).0
 
-  memory-line : (m : State) → IsSpelled address m.base → IsSpelled forms.count m.size → IsBlock m.block → IsLine versions.Two (memory_line m) (lines.Memory m.base m.size m.block)
+  memory-line : (m : State) → IsSpelled address m.base → IsSpelled forms.count m.size → IsBlock m.block → (is_size m.size && is_base m.base m.size) ≡ true → IsLine versions.Two (memory_line m) (lines.Memory m.base m.size m.block)
   unfolding are_printed
-  memory-line m hb hs hk = record {
+  memory-line m hb hs hk hw = record {
     printed =
         printed-field (codes "memory") _ (printed-is (codes "memory") refl) (printed-field (hexadecimal m.base) _ (law.printed m.base).1
         (printed-field (decimal m.size) (decimal m.block) (law.printed m.size).0 (law.printed m.block).0));
@@ -365,6 +366,7 @@ module _ (law : Laws) where
       address-back m.base hb,
       count-back m.size hs,
       block-back m.block hk,
+      hw,
     ) refl;
   }
 
@@ -438,7 +440,7 @@ module _ (law : Laws) where
         min (entered.0 + 1) (2 ^ 64 - 1),
         ap reading_of (trace_text-is c)
             ∙ on-line nothing_read (codes "pciex-trace 2") first (lines.Head versions.Two) refl head-line
-            ∙ on-line (at sections.Memory n0 0 0 64 [] []) (memory_line c.memory) second (lines.Memory base size block) refl (memory-line c.memory h.base_is h.size_is h.block_is)
+            ∙ on-line (at sections.Memory n0 0 128 64 [] []) (memory_line c.memory) second (lines.Memory base size block) refl (memory-line c.memory h.base_is h.size_is h.block_is h.within)
             ∙ read.1
             ∙ on-line (at sections.Records read.0 base size block rs []) (codes "history") (lines_text (map entry_line es) ++ last) lines.History refl history-line
             ∙ entered.1

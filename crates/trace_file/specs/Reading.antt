@@ -29,13 +29,14 @@ pub record Reading : Type 0 where
   pub entries : List Entry
   pub fault : Option ReadFault
 
+-- base, size and block are told by the memory's line, and those of a memory until then
 abbrev pub nothing_read : Reading
 nothing_read = record {
   section = sections.Head;
   version = versions.One;
   lines = 0;
   base = 0;
-  size = 0;
+  size = 128;
   block = 64;
   records = [];
   entries = [];

@@ -4,7 +4,7 @@ ghost use Rattle.trace_text.specs.Words.{words, words_behind, first_field, ended
 ghost use Rattle.trace_file.specs.Forms as forms;
 
 use history_check::Record;
-use seq_memory::Entry;
+use seq_memory::{Entry, is_base, is_size};
 use trace_text::{cut, is_ended, number, op_behind, reply_behind};
 
 /// The version of a trace's text.
@@ -27,8 +27,8 @@ pub(crate) enum Line {
     End,
 }
 
-fn requester(rest: &[u8]) -> Option<(u8, &[u8])>
-    ensures { first_field forms.requester (words_behind rest.now) ≡ option_map (λ s. (s.0, words_behind s.1.now)) result }
+fn requester(rest: Option<&[u8]>) -> Option<(u8, Option<&[u8]>)>
+    ensures { first_field forms.requester (words_behind rest.entry) ≡ option_map (λ s. (s.0, words_behind s.1)) result }
 {
     let (requester, rest) = number(rest, 10, 7)?;
     if requester == 0 {
@@ -38,21 +38,21 @@ fn requester(rest: &[u8]) -> Option<(u8, &[u8])>
 }
 
 /// The number of a request.
-fn request(rest: &[u8]) -> Option<(u32, &[u8])>
-    ensures { first_field forms.number (words_behind rest.now) ≡ option_map (λ s. (s.0, words_behind s.1.now)) result }
+fn request(rest: Option<&[u8]>) -> Option<(u32, Option<&[u8]>)>
+    ensures { first_field forms.number (words_behind rest.entry) ≡ option_map (λ s. (s.0, words_behind s.1)) result }
 {
     let (request, rest) = number(rest, 10, 4_294_967_294)?;
     Some((request as u32, rest))
 }
 
-fn count(rest: &[u8]) -> Option<(u64, &[u8])>
-    ensures { first_field forms.count (words_behind rest.now) ≡ option_map (λ s. (s.0, words_behind s.1.now)) result }
+fn count(rest: Option<&[u8]>) -> Option<(u64, Option<&[u8]>)>
+    ensures { first_field forms.count (words_behind rest.entry) ≡ option_map (λ s. (s.0, words_behind s.1)) result }
 {
     number(rest, 10, u64::MAX)
 }
 
-fn block(rest: &[u8]) -> Option<(u16, &[u8])>
-    ensures { first_field forms.block (words_behind rest.now) ≡ option_map (λ s. (s.0, words_behind s.1.now)) result }
+fn block(rest: Option<&[u8]>) -> Option<(u16, Option<&[u8]>)>
+    ensures { first_field forms.block (words_behind rest.entry) ≡ option_map (λ s. (s.0, words_behind s.1)) result }
 {
     let (block, rest) = number(rest, 10, 128)?;
     if block == 64 || block == 128 {
@@ -61,8 +61,8 @@ fn block(rest: &[u8]) -> Option<(u16, &[u8])>
     None
 }
 
-fn next_version(rest: &[u8]) -> Option<(Version, &[u8])>
-    ensures { first_field forms.version (words_behind rest.now) ≡ option_map (λ s. (s.0, words_behind s.1.now)) result }
+fn next_version(rest: Option<&[u8]>) -> Option<(Version, Option<&[u8]>)>
+    ensures { first_field forms.version (words_behind rest.entry) ≡ option_map (λ s. (s.0, words_behind s.1)) result }
 {
     let (version, rest) = number(rest, 10, 2)?;
     match version {
@@ -73,43 +73,47 @@ fn next_version(rest: &[u8]) -> Option<(Version, &[u8])>
 }
 
 /// The line, if it ends here.
-fn alone(line: Line, rest: &[u8]) -> Option<Line>
-    ensures { result ≡ ended line (words_behind rest.now) }
+fn alone(line: Line, rest: Option<&[u8]>) -> Option<Line>
+    ensures { result ≡ ended line (words_behind rest.entry) }
 {
     if is_ended(rest) { Some(line) } else { None }
 }
 
-fn head(rest: &[u8]) -> Option<Line>
-    ensures { result ≡ forms.head_of (words_behind rest.now) }
+fn head(rest: Option<&[u8]>) -> Option<Line>
+    ensures { result ≡ forms.head_of (words_behind rest.entry) }
 {
     let (version, rest) = next_version(rest)?;
     alone(Line::Head(version), rest)
 }
 
-fn memory(rest: &[u8], version: Version) -> Option<Line>
-    ensures { result ≡ forms.memory_of version (words_behind rest.now) }
+/// The line of a memory, if there can be one of that base and size.
+fn memory_within(base: u64, size: usize, block: u16, rest: Option<&[u8]>) -> Option<Line>
+    ensures { result ≡ forms.memory_within base size block (words_behind rest.entry) }
+{
+    if is_size(size) && is_base(base, size) {
+        alone(Line::Memory { base, size, block }, rest)
+    } else {
+        None
+    }
+}
+
+fn memory(rest: Option<&[u8]>, version: Version) -> Option<Line>
+    ensures { result ≡ forms.memory_of version (words_behind rest.entry) }
 {
     let (base, rest) = number(rest, 16, u64::MAX)?;
     let (size, rest) = count(rest)?;
     let size = size as usize;
     match version {
-        Version::One => alone(
-            Line::Memory {
-                base,
-                size,
-                block: 64,
-            },
-            rest,
-        ),
+        Version::One => memory_within(base, size, 64, rest),
         Version::Two => {
             let (block, rest) = block(rest)?;
-            alone(Line::Memory { base, size, block }, rest)
+            memory_within(base, size, block, rest)
         }
     }
 }
 
-fn sub(rest: &[u8]) -> Option<Line>
-    ensures { result ≡ forms.sub_of (words_behind rest.now) }
+fn sub(rest: Option<&[u8]>) -> Option<Line>
+    ensures { result ≡ forms.sub_of (words_behind rest.entry) }
 {
     let (requester, rest) = requester(rest)?;
     let (number, rest) = request(rest)?;
@@ -123,8 +127,8 @@ fn sub(rest: &[u8]) -> Option<Line>
     }))
 }
 
-fn ans(rest: &[u8]) -> Option<Line>
-    ensures { result ≡ forms.ans_of (words_behind rest.now) }
+fn ans(rest: Option<&[u8]>) -> Option<Line>
+    ensures { result ≡ forms.ans_of (words_behind rest.entry) }
 {
     let (requester, rest) = requester(rest)?;
     let (number, rest) = request(rest)?;
@@ -138,8 +142,8 @@ fn ans(rest: &[u8]) -> Option<Line>
     }))
 }
 
-fn ent(rest: &[u8]) -> Option<Line>
-    ensures { result ≡ forms.ent_of (words_behind rest.now) }
+fn ent(rest: Option<&[u8]>) -> Option<Line>
+    ensures { result ≡ forms.ent_of (words_behind rest.entry) }
 {
     let (requester, rest) = requester(rest)?;
     let (number, rest) = request(rest)?;
@@ -152,8 +156,8 @@ fn ent(rest: &[u8]) -> Option<Line>
 }
 
 /// The line of that kind that the rest of it spells.
-fn line_by(kind: &[u8], rest: &[u8], version: Version) -> Option<Line>
-    ensures { result ≡ forms.line_by version kind.now (words_behind rest.now) }
+fn line_by(kind: &[u8], rest: Option<&[u8]>, version: Version) -> Option<Line>
+    ensures { result ≡ forms.line_by version kind.now (words_behind rest.entry) }
 {
     if kind == b"sub".as_slice() {
         sub(rest)
@@ -177,7 +181,7 @@ fn line_by(kind: &[u8], rest: &[u8], version: Version) -> Option<Line>
 /// The line that the text spells in a trace of that version.
 pub(crate) fn read_line(text: &[u8], version: Version) -> Option<Line>
     ensures value { result ≡ forms.line_of version (words text.now) }
-    ensures block { IfSome result forms.HasBlock }
+    ensures limits { IfSome result forms.IsLineOfLimits }
 {
     let (kind, rest) = cut(text);
     line_by(kind, rest, version)

@@ -1,14 +1,14 @@
 //! Reading a trace line by line.
 ghost use Rattle.std.specs.Prelude.{◌≡◌, OnOk, OnErr, IfOk, IfErr, Ok, Err, Some};
-ghost use Rattle.seq_memory.specs.Limits.{IsBlock};
 ghost use Rattle.history_check.specs.Claim.{claim_of};
-ghost use Rattle.trace_file.specs.Forms.{HasBlock};
+ghost use Rattle.history_check.specs.Observation.{HasLimits};
+ghost use Rattle.trace_file.specs.Forms.{IsLineOfLimits};
 ghost use Rattle.trace_file.specs.Reading as reads;
 
 use crate::fault::{ReadFault, ReadFaultKind};
 use crate::line::{Line, Version, read_line};
 use history_check::{Record, Trace};
-use seq_memory::Entry;
+use seq_memory::{Entry, MIN_SIZE};
 use std::alloc::{AllocError, Global};
 use std::marker::Model;
 
@@ -42,14 +42,14 @@ pub struct TraceReader {
 }
 
 impl Model for TraceReader {
-    ghost use Rattle.seq_memory.specs.Limits.{IsBlock};
+    ghost use Rattle.seq_memory.specs.Limits.{IsWithinLimits};
     ghost use Rattle.trace_file.specs.Reading.{Reading};
 
     ghost Value = { Reading };
 
     ghost view = { λ s. record { section = s.section; version = s.version; lines = s.lines; base = s.base; size = s.size; block = s.block; records = s.records.items; entries = s.entries.items; fault = s.fault } };
 
-    ghost invariant = { λ s. IsBlock s.block };
+    ghost invariant = { λ s. IsWithinLimits s.base s.size s.block };
 }
 
 impl TraceReader {
@@ -62,7 +62,7 @@ impl TraceReader {
             version: Version::One,
             lines: 0,
             base: 0,
-            size: 0,
+            size: MIN_SIZE,
             block: 64,
             records: Vec::new(alloc),
             entries: Vec::new(alloc),
@@ -130,7 +130,7 @@ impl TraceReader {
     }
 
     fn in_memory(&mut self, line: Line)
-        requires { HasBlock line }
+        requires { IsLineOfLimits line }
         ensures { self.new ≡ reads.in_memory self.old line }
     {
         match line {
@@ -183,7 +183,7 @@ impl TraceReader {
 
     /// Takes a line of that form.
     fn place(&mut self, line: Line) -> Result<(), AllocError>
-        requires { HasBlock line }
+        requires { IsLineOfLimits line }
         ensures ok { OnOk result (self.new ≡ reads.placed self.old.section self.old line) }
         ensures err { OnErr result (self.new ≡ self.old) }
     {
@@ -244,7 +244,7 @@ impl TraceReader {
     pub fn end(self) -> Result<(Trace, Vec<Entry>), ReadFault>
         ensures ok { IfOk result (λ t. reads.at_end self ≡ Ok (claim_of t.0 t.1.items)) }
         ensures err { IfErr result (λ f. reads.at_end self ≡ Err f) }
-        ensures block { IfOk result (λ t. IsBlock t.0.block) }
+        ensures limits { IfOk result (λ t. HasLimits t.0) }
     {
         if let Some(fault) = self.fault {
             return Err(fault);

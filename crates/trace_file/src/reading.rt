@@ -1,8 +1,8 @@
 //! Reading the whole text of a trace.
 ghost use Rattle.std.specs.Prelude.{◌≡◌, OnOk, OnErr, IfOk, IfErr, Ok, ◌++◌, ◌∷◌, []};
 ghost use Rattle.std.specs.Io.BufRead.{strip_last};
-ghost use Rattle.seq_memory.specs.Limits.{IsBlock};
 ghost use Rattle.history_check.specs.Claim.{claim_of};
+ghost use Rattle.history_check.specs.Observation.{HasLimits};
 ghost use Rattle.trace_file.specs.Reading.{read_of, Tells};
 ghost use Rattle.trace_file.specs.Endings.{on_ended_line, on_last_line};
 
@@ -56,7 +56,7 @@ fn take_last(reader: &mut TraceReader, line: &[u8]) -> Result<(), AllocError>
 pub fn read_trace(alloc: Global, text: &[u8]) -> Result<(Trace, Vec<Entry>), ReadFault>
     ensures ok { IfOk result (λ t. read_of text.now ≡ Ok (claim_of t.0 t.1.items)) }
     ensures err { IfErr result (Tells text.now) }
-    ensures block { IfOk result (λ t. IsBlock t.0.block) }
+    ensures limits { IfOk result (λ t. HasLimits t.0) }
 {
     let mut reader = TraceReader::new(alloc);
     let mut rest = text;

@@ -16,7 +16,7 @@ fn fault_of(alloc: Global, text: &[u8]) -> (u64, &'static str) {
 
 #[test]
 fn faults(rt: HostRuntime) {
-    let rows: [(&[u8], u64, &str); 26] = [
+    let rows: [(&[u8], u64, &str); 31] = [
         (b"", 1, "Head"),
         (b"#\n\n# x\n", 4, "Head"),
         (b"pciex-trace 3\n", 1, "Head"),
@@ -29,6 +29,15 @@ fn faults(rt: HostRuntime) {
         (b"pciex-trace 2\nmemory 0 4096\n", 2, "Line"),
         (b"pciex-trace 2\nmemory 0 4096 96\n", 2, "Line"),
         (b"pciex-trace 1\nmemory 00 4096\n", 2, "Line"),
+        (b"pciex-trace 1\nmemory 40 4096\n", 2, "Line"),
+        (b"pciex-trace 2\nmemory 8 4096 64\n", 2, "Line"),
+        (b"pciex-trace 2\nmemory 0 2 128\n", 2, "Line"),
+        (b"pciex-trace 1\nmemory 0 100\n", 2, "Line"),
+        (
+            b"pciex-trace 1\nmemory 0 4096\nans 1 0 0 done\nsub 1 0 0 read 40 1 F 0\nend\n",
+            3,
+            "Line",
+        ),
         (b"pciex-trace 1\nmemory 0  4096\n", 2, "Line"),
         (b"pciex-trace 1\nhistory\n", 2, "Section"),
         (b"pciex-trace 1\nmemory 0 4096\n", 3, "Section"),
@@ -152,9 +161,9 @@ fn checked(rt: HostRuntime) -> Result<(), Fail> {
 #[test]
 fn upgraded(rt: HostRuntime) -> Result<(), Fail> {
     let first: &[u8] =
-        b"pciex-trace 1\n# seen\nmemory ffc0 4096\r\n\nsub 1 0 0 read 40 1 f 0\nsub 7 0 0 write 3c F a 0a0b0C0d0A0B0C0D\nans 1 0 2 ur\nhistory\nent 1 0 read 40 1 F 0\nend";
+        b"pciex-trace 1\n# seen\nmemory ff80 4096\r\n\nsub 1 0 0 read 40 1 f 0\nsub 7 0 0 write 3c F a 0a0b0C0d0A0B0C0D\nans 1 0 2 ur\nhistory\nent 1 0 read 40 1 F 0\nend";
     let second =
-        "pciex-trace 2\nmemory FFC0 4096 64\nsub 1 0 0 read 40 1 F 0\nsub 7 0 0 write 3C F A 0A0B0C0D0A0B0C0D\nans 1 0 2 ur\nhistory\nent 1 0 read 40 1 F 0\nend\n";
+        "pciex-trace 2\nmemory FF80 4096 64\nsub 1 0 0 read 40 1 F 0\nsub 7 0 0 write 3C F A 0A0B0C0D0A0B0C0D\nans 1 0 2 ur\nhistory\nent 1 0 read 40 1 F 0\nend\n";
     for text in [first, second.as_bytes()] {
         let (trace, history) = read_trace(rt.alloc(), text).map_err(|_| "fault")?;
         let own = write_trace(rt.alloc(), &trace, &history)?;

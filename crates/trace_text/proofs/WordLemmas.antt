@@ -1,15 +1,23 @@
 -- Words, one after the other.
-use Rattle.std.proofs.Common.{◌≡◌, ℕ, zero, suc, ◌<◌, ◌≤◌, true, false, List, [], ◌∷◌, length, take, drop, get_or, refl, sym, ap, ◌∙◌, inl, inr, arith}
-use Rattle.std.specs.Prelude.{◌==◌}
-use Rattle.std.proofs.lemmas.Bool.{cases_Bool, ne_eqb}
+use Rattle.std.proofs.Common.{◌≡◌, ℕ, zero, suc, ◌<◌, Bool, true, false, List, [], ◌∷◌, length, take, drop, get_or, refl, sym, ap, ◌∙◌, inl, inr, arith}
+use Rattle.std.specs.Prelude.{Option, Some, None, is_some, not}
+use Rattle.std.specs.Borrow.{Bor}
+use Rattle.std.proofs.lemmas.Bool.{cases_Bool}
 use Rattle.trace_text.specs.Words.{words, words_behind, is_space, has_ended}
 
-pub cut_is : (line : List ℕ) (at : ℕ) → at ≤ length line → ((k : ℕ) → k < at → is_space (get_or line k 0) ≡ false) → (at < length line → is_space (get_or line at 0) ≡ true) → words line ≡ take at line ∷ words_behind (drop at line)
-cut_is [] zero l none stop = refl
-cut_is [] (suc at) l none stop = absurd (omega arith)
-cut_is (c ∷ cs) zero l none stop = rw (stop (omega arith)) refl
-cut_is (c ∷ cs) (suc at) l none stop =
-    let rest = cut_is cs at (omega arith) (λ k m. none (suc k) (omega arith)) (λ m. stop (omega arith)) in
+-- a space ends the first word
+pub cut_at : (line : List ℕ) (at : ℕ) → at < length line → ((k : ℕ) → k < at → is_space (get_or line k 0) ≡ false) → is_space (get_or line at 0) ≡ true → words line ≡ take at line ∷ words (drop (suc at) line)
+cut_at [] at l none stop = absurd (omega arith)
+cut_at (c ∷ cs) zero l none stop = rw stop refl
+cut_at (c ∷ cs) (suc at) l none stop =
+    let rest = cut_at cs at (omega arith) (λ k m. none (suc k) (omega arith)) stop in
+    rw (none 0 (omega arith), rest) refl
+
+-- a line with no space is one word
+pub one_word : (line : List ℕ) → ((k : ℕ) → k < length line → is_space (get_or line k 0) ≡ false) → words line ≡ line ∷ []
+one_word [] none = refl
+one_word (c ∷ cs) none =
+    let rest = one_word cs (λ k m. none (suc k) (omega arith)) in
     rw (none 0 (omega arith), rest) refl
 
 some_words : (line : List ℕ) → (w : List ℕ) × (ws : List (List ℕ)) × (words line ≡ w ∷ ws)
@@ -19,8 +27,8 @@ some_words (c ∷ cs) = elim (cases_Bool (is_space c)) [
   | inr miss ↦ let (w, ws, e) = some_words cs in (c ∷ w, ws, rw (miss, e) refl)
 ]
 
-pub ended_is : (rest : List ℕ) → has_ended (words_behind rest) ≡ (length rest == 0)
-ended_is [] = refl
-ended_is (c ∷ rest) =
-    let (w, ws, e) = some_words rest in
-    ap has_ended e ∙ sym (ne_eqb (length (c ∷ rest)) 0 (λ e. omega arith))
+pub ended_is : (rest : Option (Bor (List ℕ))) (r : Bool) → not r ≡ is_some rest → r ≡ has_ended (words_behind rest)
+ended_is None true h = refl
+ended_is None false h = absurd (cc h)
+ended_is (Some line) true h = absurd (cc h)
+ended_is (Some line) false h = let (w, ws, e) = some_words line.now in sym (ap has_ended e)

@@ -1,5 +1,6 @@
 -- The words of a line, and its fields.
 use Rattle.std.specs.Prelude.{ℕ, ◌==◌, Bool, true, false, if◌then◌else◌, List, [], ◌∷◌, Option, Some, None}
+use Rattle.std.specs.Borrow.{Bor}
 use Rattle.std.specs.List.{slice_split}
 
 abbrev pub is_space : ℕ → Bool
@@ -9,10 +10,10 @@ is_space c = c == 32
 abbrev pub words : List ℕ → List (List ℕ)
 words line = slice_split is_space line
 
--- the words of a line that goes on with a space, none where it ends
-abbrev pub words_behind : List ℕ → List (List ℕ)
-words_behind [] = []
-words_behind (c ∷ rest) = words rest
+-- the words behind the space that ends a word, none where the line ends with the word
+abbrev pub words_behind : Option (Bor (List ℕ)) → List (List ℕ)
+words_behind None = []
+words_behind (Some rest) = words rest.now
 
 abbrev pub then_with : {X Y : Type 0} → Option X → (X → Option Y) → Option Y
 then_with None f = None

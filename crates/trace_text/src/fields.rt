@@ -8,34 +8,36 @@ ghost use Rattle.trace_text.specs.Operations as spelled;
 
 use arrayvec::ArrayVec;
 use byteorder::{ByteOrder, LittleEndian};
-use tlp_core::Width;
+use tlp_core::{MAX_PAYLOAD, Width};
 
-/// The first word of a line, and the rest from the space behind it on.
-pub fn cut(line: &[u8]) -> (&[u8], &[u8])
-    ensures { words line.now ≡ result.0.now ∷ words_behind result.1.now }
+/// The first word of a line, and what is behind the space that ends it, none where the line ends with
+/// the word.
+pub fn cut(line: &[u8]) -> (&[u8], Option<&[u8]>)
+    ensures { words line.now ≡ result.0.now ∷ words_behind result.1 }
 {
     let mut at = 0;
     while at < line.len() && line[at] != b' ' {
         at += 1;
     }
-    (&line[..at], &line[at..])
-}
-
-/// The next word, and what is behind it; none at the end of the line.
-fn next(rest: &[u8]) -> Option<(&[u8], &[u8])>
-    ensures { MatchOption result (words_behind rest.now ≡ []) (λ s. words_behind rest.now ≡ s.0.now ∷ words_behind s.1.now) }
-{
-    match rest {
-        [] => None,
-        [_, line @ ..] => Some(cut(line)),
+    if at < line.len() {
+        (&line[..at], Some(&line[at + 1..]))
+    } else {
+        (line, None)
     }
 }
 
-/// Whether the line ends here, `rest` being what is behind a word.
-pub fn is_ended(rest: &[u8]) -> bool
-    ensures { result ≡ has_ended (words_behind rest.now) }
+/// The next word, and what is behind it; none at the end of the line.
+fn next(rest: Option<&[u8]>) -> Option<(&[u8], Option<&[u8]>)>
+    ensures { MatchOption result (words_behind rest.entry ≡ []) (λ s. words_behind rest.entry ≡ s.0.now ∷ words_behind s.1) }
 {
-    rest.is_empty()
+    Some(cut(rest?))
+}
+
+/// Whether the line ends here, `rest` being what [`cut`] left.
+pub fn is_ended(rest: Option<&[u8]>) -> bool
+    ensures { result ≡ has_ended (words_behind rest.entry) }
+{
+    rest.is_none()
 }
 
 /// The digit's value.
@@ -81,13 +83,13 @@ fn number_in(word: &[u8], radix: u32, most: u64) -> Option<u64>
 }
 
 /// The bytes that the word spells.
-fn bytes_in(word: &[u8]) -> Option<ArrayVec<u8, 128>>
+fn bytes_in(word: &[u8]) -> Option<ArrayVec<u8, MAX_PAYLOAD>>
     ensures { option_map (λ b. b.items) result ≡ byte_string word.now }
 {
-    if word.is_empty() || word.len() > 256 || word.len() % 2 == 1 {
+    if word.is_empty() || word.len() > 2 * MAX_PAYLOAD || word.len() % 2 == 1 {
         return None;
     }
-    let mut room = [0u8; 128];
+    let mut room = [0u8; MAX_PAYLOAD];
     let bytes = &mut room[..word.len() / 2];
     hex::decode_to_slice(word, bytes).ok()?;
     ArrayVec::try_from(&*bytes).ok()
@@ -106,11 +108,11 @@ fn operand_in(bytes: &[u8]) -> Option<(Width, u128)>
 }
 
 /// The number that the next word spells in that radix, of at most `most` and without leading zeros,
-/// and what is behind it. `rest` is what is behind a word.
-pub fn number(rest: &[u8], radix: u32, most: u64) -> Option<(u64, &[u8])>
+/// and what is behind it. `rest` is what [`cut`] left.
+pub fn number(rest: Option<&[u8]>, radix: u32, most: u64) -> Option<(u64, Option<&[u8]>)>
     requires low { 2 ≤ radix }
     requires high { radix ≤ 36 }
-    ensures field { first_field (numeral radix most) (words_behind rest.now) ≡ option_map (λ s. (s.0, words_behind s.1.now)) result }
+    ensures field { first_field (numeral radix most) (words_behind rest.entry) ≡ option_map (λ s. (s.0, words_behind s.1)) result }
     ensures range { IfSome result (λ s. s.0 ≤ most) }
 {
     let (word, rest) = next(rest)?;
@@ -118,16 +120,16 @@ pub fn number(rest: &[u8], radix: u32, most: u64) -> Option<(u64, &[u8])>
 }
 
 /// The bytes that the next word spells.
-pub(crate) fn bytes(rest: &[u8]) -> Option<(ArrayVec<u8, 128>, &[u8])>
-    ensures { first_field byte_string (words_behind rest.now) ≡ option_map (λ s. (s.0.items, words_behind s.1.now)) result }
+pub(crate) fn bytes(rest: Option<&[u8]>) -> Option<(ArrayVec<u8, MAX_PAYLOAD>, Option<&[u8]>)>
+    ensures { first_field byte_string (words_behind rest.entry) ≡ option_map (λ s. (s.0.items, words_behind s.1)) result }
 {
     let (word, rest) = next(rest)?;
     Some((bytes_in(word)?, rest))
 }
 
 /// The operand that the next word spells.
-pub(crate) fn operand(rest: &[u8]) -> Option<(Width, u128, &[u8])>
-    ensures { first_field spelled.operand (words_behind rest.now) ≡ option_map (λ s. ((s.0, s.1), words_behind s.2.now)) result }
+pub(crate) fn operand(rest: Option<&[u8]>) -> Option<(Width, u128, Option<&[u8]>)>
+    ensures { first_field spelled.operand (words_behind rest.entry) ≡ option_map (λ s. ((s.0, s.1), words_behind s.2)) result }
 {
     let (word, rest) = next(rest)?;
     let (width, operand) = operand_in(&bytes_in(word)?)?;

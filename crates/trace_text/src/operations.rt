@@ -7,28 +7,28 @@ use crate::fields::{bytes, cut, is_ended, number, operand};
 use tlp_core::Op;
 
 /// The address that the next word spells.
-fn address(rest: &[u8]) -> Option<(u64, &[u8])>
-    ensures { first_field spelled.address (words_behind rest.now) ≡ option_map (λ s. (s.0, words_behind s.1.now)) result }
+fn address(rest: Option<&[u8]>) -> Option<(u64, Option<&[u8]>)>
+    ensures { first_field spelled.address (words_behind rest.entry) ≡ option_map (λ s. (s.0, words_behind s.1)) result }
 {
     number(rest, 16, u64::MAX)
 }
 
-fn count(rest: &[u8]) -> Option<(u16, &[u8])>
-    ensures { first_field spelled.count (words_behind rest.now) ≡ option_map (λ s. (s.0, words_behind s.1.now)) result }
+fn count(rest: Option<&[u8]>) -> Option<(u16, Option<&[u8]>)>
+    ensures { first_field spelled.count (words_behind rest.entry) ≡ option_map (λ s. (s.0, words_behind s.1)) result }
 {
     let (dw, rest) = number(rest, 10, 65535)?;
     Some((dw as u16, rest))
 }
 
-fn enables(rest: &[u8]) -> Option<(u8, &[u8])>
-    ensures { first_field spelled.enables (words_behind rest.now) ≡ option_map (λ s. (s.0, words_behind s.1.now)) result }
+fn enables(rest: Option<&[u8]>) -> Option<(u8, Option<&[u8]>)>
+    ensures { first_field spelled.enables (words_behind rest.entry) ≡ option_map (λ s. (s.0, words_behind s.1)) result }
 {
     let (enables, rest) = number(rest, 16, 15)?;
     Some((enables as u8, rest))
 }
 
-fn read(rest: &[u8]) -> Option<Op>
-    ensures { result ≡ spelled.read_of (words_behind rest.now) }
+fn read(rest: Option<&[u8]>) -> Option<Op>
+    ensures { result ≡ spelled.read_of (words_behind rest.entry) }
 {
     let (address, rest) = address(rest)?;
     let (dw, rest) = count(rest)?;
@@ -45,8 +45,8 @@ fn read(rest: &[u8]) -> Option<Op>
     })
 }
 
-fn write(rest: &[u8]) -> Option<Op>
-    ensures { result ≡ spelled.write_of (words_behind rest.now) }
+fn write(rest: Option<&[u8]>) -> Option<Op>
+    ensures { result ≡ spelled.write_of (words_behind rest.entry) }
 {
     let (address, rest) = address(rest)?;
     let (first, rest) = enables(rest)?;
@@ -63,8 +63,8 @@ fn write(rest: &[u8]) -> Option<Op>
     })
 }
 
-fn add(rest: &[u8]) -> Option<Op>
-    ensures { result ≡ spelled.add_of (words_behind rest.now) }
+fn add(rest: Option<&[u8]>) -> Option<Op>
+    ensures { result ≡ spelled.add_of (words_behind rest.entry) }
 {
     let (address, rest) = address(rest)?;
     let (width, operand, rest) = operand(rest)?;
@@ -78,8 +78,8 @@ fn add(rest: &[u8]) -> Option<Op>
     })
 }
 
-fn swap(rest: &[u8]) -> Option<Op>
-    ensures { result ≡ spelled.swap_of (words_behind rest.now) }
+fn swap(rest: Option<&[u8]>) -> Option<Op>
+    ensures { result ≡ spelled.swap_of (words_behind rest.entry) }
 {
     let (address, rest) = address(rest)?;
     let (width, operand, rest) = operand(rest)?;
@@ -93,8 +93,8 @@ fn swap(rest: &[u8]) -> Option<Op>
     })
 }
 
-fn cas(rest: &[u8]) -> Option<Op>
-    ensures { result ≡ spelled.cas_of (words_behind rest.now) }
+fn cas(rest: Option<&[u8]>) -> Option<Op>
+    ensures { result ≡ spelled.cas_of (words_behind rest.entry) }
 {
     let (address, rest) = address(rest)?;
     let (width, compare, rest) = operand(rest)?;
@@ -114,8 +114,8 @@ fn cas(rest: &[u8]) -> Option<Op>
 }
 
 /// The operation of that kind that the rest of a line spells.
-pub(crate) fn op_by(kind: &[u8], rest: &[u8]) -> Option<Op>
-    ensures { result ≡ spelled.op_by kind.now (words_behind rest.now) }
+pub(crate) fn op_by(kind: &[u8], rest: Option<&[u8]>) -> Option<Op>
+    ensures { result ≡ spelled.op_by kind.now (words_behind rest.entry) }
 {
     if kind == b"read".as_slice() {
         read(rest)
@@ -140,12 +140,10 @@ pub fn read_op(text: &[u8]) -> Option<Op>
     op_by(kind, rest)
 }
 
-/// The operation that the rest of a line spells, behind the space.
-pub fn op_behind(rest: &[u8]) -> Option<Op>
-    ensures { result ≡ spelled.op_of (words_behind rest.now) }
+/// The operation that the rest of a line spells, none where there is no rest. `rest` is what
+/// [`cut`] left.
+pub fn op_behind(rest: Option<&[u8]>) -> Option<Op>
+    ensures { result ≡ spelled.op_of (words_behind rest.entry) }
 {
-    match rest {
-        [] => None,
-        [_, text @ ..] => read_op(text),
-    }
+    read_op(rest?)
 }

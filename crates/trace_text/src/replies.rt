@@ -7,22 +7,22 @@ use crate::fields::{bytes, cut, is_ended};
 use seq_memory::Reply;
 
 /// The reply, if the line ends here.
-fn alone(reply: Reply, rest: &[u8]) -> Option<Reply>
-    ensures { result ≡ ended reply (words_behind rest.now) }
+fn alone(reply: Reply, rest: Option<&[u8]>) -> Option<Reply>
+    ensures { result ≡ ended reply (words_behind rest.entry) }
 {
     if is_ended(rest) { Some(reply) } else { None }
 }
 
-fn data(rest: &[u8]) -> Option<Reply>
-    ensures { result ≡ spelled.data_of (words_behind rest.now) }
+fn data(rest: Option<&[u8]>) -> Option<Reply>
+    ensures { result ≡ spelled.data_of (words_behind rest.entry) }
 {
     let (bytes, rest) = bytes(rest)?;
     alone(Reply::Data(bytes), rest)
 }
 
 /// The reply of that kind that the rest of a line spells.
-pub(crate) fn reply_by(kind: &[u8], rest: &[u8]) -> Option<Reply>
-    ensures { result ≡ spelled.reply_by kind.now (words_behind rest.now) }
+pub(crate) fn reply_by(kind: &[u8], rest: Option<&[u8]>) -> Option<Reply>
+    ensures { result ≡ spelled.reply_by kind.now (words_behind rest.entry) }
 {
     if kind == b"data".as_slice() {
         data(rest)
@@ -43,12 +43,10 @@ pub fn read_reply(text: &[u8]) -> Option<Reply>
     reply_by(kind, rest)
 }
 
-/// The reply that the rest of a line spells, behind the space.
-pub fn reply_behind(rest: &[u8]) -> Option<Reply>
-    ensures { result ≡ spelled.reply_of (words_behind rest.now) }
+/// The reply that the rest of a line spells, none where there is no rest. `rest` is what [`cut`]
+/// left.
+pub fn reply_behind(rest: Option<&[u8]>) -> Option<Reply>
+    ensures { result ≡ spelled.reply_of (words_behind rest.entry) }
 {
-    match rest {
-        [] => None,
-        [_, text @ ..] => read_reply(text),
-    }
+    read_reply(rest?)
 }

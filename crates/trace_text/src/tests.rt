@@ -113,9 +113,10 @@ fn written(rt: HostRuntime) -> Result<(), Fail> {
     assert_eq!(rt; word, b"sub".as_slice());
     let (requester, rest) = number(rest, 10, 255).ok_or("no number")?;
     assert_eq!(rt; (requester, is_ended(rest)), (7, true));
-    assert_eq!(rt; op_behind(b" read 0 1 F 0"), read_op(b"read 0 1 F 0"));
-    assert_eq!(rt; reply_behind(b" ca"), Some(Reply::Aborted));
-    assert_eq!(rt; reply_behind(b""), None);
+    assert_eq!(rt; op_behind(Some(b"read 0 1 F 0")), read_op(b"read 0 1 F 0"));
+    assert_eq!(rt; op_behind(Some(b"xread 0 1 F 0")), None);
+    assert_eq!(rt; reply_behind(Some(b"ca")), Some(Reply::Aborted));
+    assert_eq!(rt; reply_behind(None), None);
     own_digits_spell_number();
     own_text_spells_operation();
     own_text_spells_reply();

@@ -28,78 +28,78 @@ pub returns-in-Err-clause-begins : goal.returns-in-Err-clause-begins
 returns-in-Err-clause-begins c =
     let each : Each = record { step = c.each_event_keeps_it_sound.ensures.step; sound = c.each_event_keeps_it_sound.ensures.sound } in
     let laws : TraceLaws = record { run = c.the_trace_belongs.ensures.run; begins = c.the_trace_belongs.ensures.begins; explained = c.the_trace_belongs.ensures.explained } in
-    let ran : Runs c.args.self.now (take c.loop-place.place c.args.events.now) c.trace_of.result.records.items c.run_event.new.self = rw (c.trace_of.ensures.records, c.in-Err.ensures.err_records, c.in-Err.ensures.err) c.loop-place.invariant.ran in
-    let head : Headline c.args.self.now c.run_event.new.self c.trace_of.result.records.items = headline each laws c.args.self.now c.run_event.new.self (take c.loop-place.place c.args.events.now) c.trace_of.result.records.items c.loop-place.invariant.first c.run_event.ensures.sound ran in
+    let ran : Runs c.args.self.now (take c.loop-place.place c.args.events.now) c.trace_of.result.records c.run_event.new.self = rw (c.trace_of.ensures.records, c.in-Err.ensures.err_records, c.in-Err.ensures.err) c.loop-place.invariant.ran in
+    let head : Headline c.args.self.now c.run_event.new.self c.trace_of.result.records = headline each laws c.args.self.now c.run_event.new.self (take c.loop-place.place c.args.events.now) c.trace_of.result.records c.loop-place.invariant.first c.run_event.ensures.sound ran in
     head.begins
 
 pub returns-in-Err-clause-belongs : goal.returns-in-Err-clause-belongs
 returns-in-Err-clause-belongs c =
     let each : Each = record { step = c.each_event_keeps_it_sound.ensures.step; sound = c.each_event_keeps_it_sound.ensures.sound } in
     let laws : TraceLaws = record { run = c.the_trace_belongs.ensures.run; begins = c.the_trace_belongs.ensures.begins; explained = c.the_trace_belongs.ensures.explained } in
-    let ran : Runs c.args.self.now (take c.loop-place.place c.args.events.now) c.trace_of.result.records.items c.run_event.new.self = rw (c.trace_of.ensures.records, c.in-Err.ensures.err_records, c.in-Err.ensures.err) c.loop-place.invariant.ran in
-    let head : Headline c.args.self.now c.run_event.new.self c.trace_of.result.records.items = headline each laws c.args.self.now c.run_event.new.self (take c.loop-place.place c.args.events.now) c.trace_of.result.records.items c.loop-place.invariant.first c.run_event.ensures.sound ran in
+    let ran : Runs c.args.self.now (take c.loop-place.place c.args.events.now) c.trace_of.result.records c.run_event.new.self = rw (c.trace_of.ensures.records, c.in-Err.ensures.err_records, c.in-Err.ensures.err) c.loop-place.invariant.ran in
+    let head : Headline c.args.self.now c.run_event.new.self c.trace_of.result.records = headline each laws c.args.self.now c.run_event.new.self (take c.loop-place.place c.args.events.now) c.trace_of.result.records c.loop-place.invariant.first c.run_event.ensures.sound ran in
     head.belongs
 
 pub returns-in-Err-clause-explained : goal.returns-in-Err-clause-explained
 returns-in-Err-clause-explained c =
     let each : Each = record { step = c.each_event_keeps_it_sound.ensures.step; sound = c.each_event_keeps_it_sound.ensures.sound } in
     let laws : TraceLaws = record { run = c.the_trace_belongs.ensures.run; begins = c.the_trace_belongs.ensures.begins; explained = c.the_trace_belongs.ensures.explained } in
-    let ran : Runs c.args.self.now (take c.loop-place.place c.args.events.now) c.trace_of.result.records.items c.run_event.new.self = rw (c.trace_of.ensures.records, c.in-Err.ensures.err_records, c.in-Err.ensures.err) c.loop-place.invariant.ran in
-    let head : Headline c.args.self.now c.run_event.new.self c.trace_of.result.records.items = headline each laws c.args.self.now c.run_event.new.self (take c.loop-place.place c.args.events.now) c.trace_of.result.records.items c.loop-place.invariant.first c.run_event.ensures.sound ran in
+    let ran : Runs c.args.self.now (take c.loop-place.place c.args.events.now) c.trace_of.result.records c.run_event.new.self = rw (c.trace_of.ensures.records, c.in-Err.ensures.err_records, c.in-Err.ensures.err) c.loop-place.invariant.ran in
+    let head : Headline c.args.self.now c.run_event.new.self c.trace_of.result.records = headline each laws c.args.self.now c.run_event.new.self (take c.loop-place.place c.args.events.now) c.trace_of.result.records c.loop-place.invariant.first c.run_event.ensures.sound ran in
     head.explained
 
 pub returns-clause-begins : goal.returns-clause-begins
 returns-clause-begins c =
     let each : Each = record { step = c.each_event_keeps_it_sound.ensures.step; sound = c.each_event_keeps_it_sound.ensures.sound } in
     let laws : TraceLaws = record { run = c.the_trace_belongs.ensures.run; begins = c.the_trace_belongs.ensures.begins; explained = c.the_trace_belongs.ensures.explained } in
-    let ran : Runs c.args.self.now (take c.loop-place.place c.args.events.now) c.trace_of-2.result.records.items c.loop-place.self = rw c.trace_of-2.ensures.records c.loop-place.invariant.ran in
-    let head : Headline c.args.self.now c.loop-place.self c.trace_of-2.result.records.items = headline each laws c.args.self.now c.loop-place.self (take c.loop-place.place c.args.events.now) c.trace_of-2.result.records.items c.loop-place.invariant.first c.loop-place.invariant.sound ran in
+    let ran : Runs c.args.self.now (take c.loop-place.place c.args.events.now) c.trace_of-2.result.records c.loop-place.self = rw c.trace_of-2.ensures.records c.loop-place.invariant.ran in
+    let head : Headline c.args.self.now c.loop-place.self c.trace_of-2.result.records = headline each laws c.args.self.now c.loop-place.self (take c.loop-place.place c.args.events.now) c.trace_of-2.result.records c.loop-place.invariant.first c.loop-place.invariant.sound ran in
     head.begins
 
 pub returns-clause-belongs : goal.returns-clause-belongs
 returns-clause-belongs c =
     let each : Each = record { step = c.each_event_keeps_it_sound.ensures.step; sound = c.each_event_keeps_it_sound.ensures.sound } in
     let laws : TraceLaws = record { run = c.the_trace_belongs.ensures.run; begins = c.the_trace_belongs.ensures.begins; explained = c.the_trace_belongs.ensures.explained } in
-    let ran : Runs c.args.self.now (take c.loop-place.place c.args.events.now) c.trace_of-2.result.records.items c.loop-place.self = rw c.trace_of-2.ensures.records c.loop-place.invariant.ran in
-    let head : Headline c.args.self.now c.loop-place.self c.trace_of-2.result.records.items = headline each laws c.args.self.now c.loop-place.self (take c.loop-place.place c.args.events.now) c.trace_of-2.result.records.items c.loop-place.invariant.first c.loop-place.invariant.sound ran in
+    let ran : Runs c.args.self.now (take c.loop-place.place c.args.events.now) c.trace_of-2.result.records c.loop-place.self = rw c.trace_of-2.ensures.records c.loop-place.invariant.ran in
+    let head : Headline c.args.self.now c.loop-place.self c.trace_of-2.result.records = headline each laws c.args.self.now c.loop-place.self (take c.loop-place.place c.args.events.now) c.trace_of-2.result.records c.loop-place.invariant.first c.loop-place.invariant.sound ran in
     head.belongs
 
 pub returns-clause-explained : goal.returns-clause-explained
 returns-clause-explained c =
     let each : Each = record { step = c.each_event_keeps_it_sound.ensures.step; sound = c.each_event_keeps_it_sound.ensures.sound } in
     let laws : TraceLaws = record { run = c.the_trace_belongs.ensures.run; begins = c.the_trace_belongs.ensures.begins; explained = c.the_trace_belongs.ensures.explained } in
-    let ran : Runs c.args.self.now (take c.loop-place.place c.args.events.now) c.trace_of-2.result.records.items c.loop-place.self = rw c.trace_of-2.ensures.records c.loop-place.invariant.ran in
-    let head : Headline c.args.self.now c.loop-place.self c.trace_of-2.result.records.items = headline each laws c.args.self.now c.loop-place.self (take c.loop-place.place c.args.events.now) c.trace_of-2.result.records.items c.loop-place.invariant.first c.loop-place.invariant.sound ran in
+    let ran : Runs c.args.self.now (take c.loop-place.place c.args.events.now) c.trace_of-2.result.records c.loop-place.self = rw c.trace_of-2.ensures.records c.loop-place.invariant.ran in
+    let head : Headline c.args.self.now c.loop-place.self c.trace_of-2.result.records = headline each laws c.args.self.now c.loop-place.self (take c.loop-place.place c.args.events.now) c.trace_of-2.result.records c.loop-place.invariant.first c.loop-place.invariant.sound ran in
     head.explained
 
 pub returns-in-Err-clause-shape : goal.returns-in-Err-clause-shape
 returns-in-Err-clause-shape c =
     let each : Each = record { step = c.each_event_keeps_it_sound.ensures.step; sound = c.each_event_keeps_it_sound.ensures.sound } in
     let laws : TraceLaws = record { run = c.the_trace_belongs.ensures.run; begins = c.the_trace_belongs.ensures.begins; explained = c.the_trace_belongs.ensures.explained } in
-    let ran : Runs c.args.self.now (take c.loop-place.place c.args.events.now) c.trace_of.result.records.items c.run_event.new.self = rw (c.trace_of.ensures.records, c.in-Err.ensures.err_records, c.in-Err.ensures.err) c.loop-place.invariant.ran in
-    let head : Headline c.args.self.now c.run_event.new.self c.trace_of.result.records.items = headline each laws c.args.self.now c.run_event.new.self (take c.loop-place.place c.args.events.now) c.trace_of.result.records.items c.loop-place.invariant.first c.run_event.ensures.sound ran in
+    let ran : Runs c.args.self.now (take c.loop-place.place c.args.events.now) c.trace_of.result.records c.run_event.new.self = rw (c.trace_of.ensures.records, c.in-Err.ensures.err_records, c.in-Err.ensures.err) c.loop-place.invariant.ran in
+    let head : Headline c.args.self.now c.run_event.new.self c.trace_of.result.records = headline each laws c.args.self.now c.run_event.new.self (take c.loop-place.place c.args.events.now) c.trace_of.result.records c.loop-place.invariant.first c.run_event.ensures.sound ran in
     head.shape
 
 pub returns-in-Err-clause-checked : goal.returns-in-Err-clause-checked
 returns-in-Err-clause-checked c =
     let each : Each = record { step = c.each_event_keeps_it_sound.ensures.step; sound = c.each_event_keeps_it_sound.ensures.sound } in
     let laws : TraceLaws = record { run = c.the_trace_belongs.ensures.run; begins = c.the_trace_belongs.ensures.begins; explained = c.the_trace_belongs.ensures.explained } in
-    let ran : Runs c.args.self.now (take c.loop-place.place c.args.events.now) c.trace_of.result.records.items c.run_event.new.self = rw (c.trace_of.ensures.records, c.in-Err.ensures.err_records, c.in-Err.ensures.err) c.loop-place.invariant.ran in
-    let head : Headline c.args.self.now c.run_event.new.self c.trace_of.result.records.items = headline each laws c.args.self.now c.run_event.new.self (take c.loop-place.place c.args.events.now) c.trace_of.result.records.items c.loop-place.invariant.first c.run_event.ensures.sound ran in
+    let ran : Runs c.args.self.now (take c.loop-place.place c.args.events.now) c.trace_of.result.records c.run_event.new.self = rw (c.trace_of.ensures.records, c.in-Err.ensures.err_records, c.in-Err.ensures.err) c.loop-place.invariant.ran in
+    let head : Headline c.args.self.now c.run_event.new.self c.trace_of.result.records = headline each laws c.args.self.now c.run_event.new.self (take c.loop-place.place c.args.events.now) c.trace_of.result.records c.loop-place.invariant.first c.run_event.ensures.sound ran in
     checked c.args.self.now c.run_event.new.self c.trace_of.result head c.trace_of.ensures.base c.trace_of.ensures.size c.trace_of.ensures.block
 
 pub returns-clause-shape : goal.returns-clause-shape
 returns-clause-shape c =
     let each : Each = record { step = c.each_event_keeps_it_sound.ensures.step; sound = c.each_event_keeps_it_sound.ensures.sound } in
     let laws : TraceLaws = record { run = c.the_trace_belongs.ensures.run; begins = c.the_trace_belongs.ensures.begins; explained = c.the_trace_belongs.ensures.explained } in
-    let ran : Runs c.args.self.now (take c.loop-place.place c.args.events.now) c.trace_of-2.result.records.items c.loop-place.self = rw c.trace_of-2.ensures.records c.loop-place.invariant.ran in
-    let head : Headline c.args.self.now c.loop-place.self c.trace_of-2.result.records.items = headline each laws c.args.self.now c.loop-place.self (take c.loop-place.place c.args.events.now) c.trace_of-2.result.records.items c.loop-place.invariant.first c.loop-place.invariant.sound ran in
+    let ran : Runs c.args.self.now (take c.loop-place.place c.args.events.now) c.trace_of-2.result.records c.loop-place.self = rw c.trace_of-2.ensures.records c.loop-place.invariant.ran in
+    let head : Headline c.args.self.now c.loop-place.self c.trace_of-2.result.records = headline each laws c.args.self.now c.loop-place.self (take c.loop-place.place c.args.events.now) c.trace_of-2.result.records c.loop-place.invariant.first c.loop-place.invariant.sound ran in
     head.shape
 
 pub returns-clause-checked : goal.returns-clause-checked
 returns-clause-checked c =
     let each : Each = record { step = c.each_event_keeps_it_sound.ensures.step; sound = c.each_event_keeps_it_sound.ensures.sound } in
     let laws : TraceLaws = record { run = c.the_trace_belongs.ensures.run; begins = c.the_trace_belongs.ensures.begins; explained = c.the_trace_belongs.ensures.explained } in
-    let ran : Runs c.args.self.now (take c.loop-place.place c.args.events.now) c.trace_of-2.result.records.items c.loop-place.self = rw c.trace_of-2.ensures.records c.loop-place.invariant.ran in
-    let head : Headline c.args.self.now c.loop-place.self c.trace_of-2.result.records.items = headline each laws c.args.self.now c.loop-place.self (take c.loop-place.place c.args.events.now) c.trace_of-2.result.records.items c.loop-place.invariant.first c.loop-place.invariant.sound ran in
+    let ran : Runs c.args.self.now (take c.loop-place.place c.args.events.now) c.trace_of-2.result.records c.loop-place.self = rw c.trace_of-2.ensures.records c.loop-place.invariant.ran in
+    let head : Headline c.args.self.now c.loop-place.self c.trace_of-2.result.records = headline each laws c.args.self.now c.loop-place.self (take c.loop-place.place c.args.events.now) c.trace_of-2.result.records c.loop-place.invariant.first c.loop-place.invariant.sound ran in
     checked c.args.self.now c.loop-place.self c.trace_of-2.result head c.trace_of-2.ensures.base c.trace_of-2.ensures.size c.trace_of-2.ensures.block
