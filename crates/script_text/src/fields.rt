@@ -9,31 +9,28 @@ use lane_core::{DllpKind, Fate};
 use trace_text::{cut, number};
 
 /// The next word, and what is behind it; none at the end of the line.
-pub(crate) fn next(rest: &[u8]) -> Option<(&[u8], &[u8])>
-    ensures { MatchOption result (words_behind rest.now ≡ []) (λ s. words_behind rest.now ≡ s.0.now ∷ words_behind s.1.now) }
+pub(crate) fn next(rest: Option<&[u8]>) -> Option<(&[u8], Option<&[u8]>)>
+    ensures { MatchOption result (words_behind rest.entry ≡ []) (λ s. words_behind rest.entry ≡ s.0.now ∷ words_behind s.1) }
 {
-    match rest {
-        [] => None,
-        [_, line @ ..] => Some(cut(line)),
-    }
+    Some(cut(rest?))
 }
 
-pub(crate) fn octet(rest: &[u8]) -> Option<(u8, &[u8])>
-    ensures { first_field forms.octet (words_behind rest.now) ≡ option_map (λ s. (s.0, words_behind s.1.now)) result }
+pub(crate) fn octet(rest: Option<&[u8]>) -> Option<(u8, Option<&[u8]>)>
+    ensures { first_field forms.octet (words_behind rest.entry) ≡ option_map (λ s. (s.0, words_behind s.1)) result }
 {
     let (octet, rest) = number(rest, 10, 255)?;
     Some((octet as u8, rest))
 }
 
-pub(crate) fn short(rest: &[u8]) -> Option<(u16, &[u8])>
-    ensures { first_field forms.short (words_behind rest.now) ≡ option_map (λ s. (s.0, words_behind s.1.now)) result }
+pub(crate) fn short(rest: Option<&[u8]>) -> Option<(u16, Option<&[u8]>)>
+    ensures { first_field forms.short (words_behind rest.entry) ≡ option_map (λ s. (s.0, words_behind s.1)) result }
 {
     let (short, rest) = number(rest, 10, 65535)?;
     Some((short as u16, rest))
 }
 
-pub(crate) fn count(rest: &[u8]) -> Option<(usize, &[u8])>
-    ensures { first_field forms.count (words_behind rest.now) ≡ option_map (λ s. (s.0, words_behind s.1.now)) result }
+pub(crate) fn count(rest: Option<&[u8]>) -> Option<(usize, Option<&[u8]>)>
+    ensures { first_field forms.count (words_behind rest.entry) ≡ option_map (λ s. (s.0, words_behind s.1)) result }
 {
     let (count, rest) = number(rest, 10, u64::MAX)?;
     Some((count as usize, rest))
@@ -66,8 +63,8 @@ fn lane_in(word: &[u8]) -> Option<LaneName>
     }
 }
 
-pub(crate) fn lane(rest: &[u8]) -> Option<(LaneName, &[u8])>
-    ensures { first_field forms.lane (words_behind rest.now) ≡ option_map (λ s. (s.0, words_behind s.1.now)) result }
+pub(crate) fn lane(rest: Option<&[u8]>) -> Option<(LaneName, Option<&[u8]>)>
+    ensures { first_field forms.lane (words_behind rest.entry) ≡ option_map (λ s. (s.0, words_behind s.1)) result }
 {
     let (word, rest) = next(rest)?;
     Some((lane_in(word)?, rest))
@@ -87,8 +84,8 @@ fn fate_in(word: &[u8]) -> Option<Fate>
     }
 }
 
-pub(crate) fn fate(rest: &[u8]) -> Option<(Fate, &[u8])>
-    ensures { first_field forms.fate (words_behind rest.now) ≡ option_map (λ s. (s.0, words_behind s.1.now)) result }
+pub(crate) fn fate(rest: Option<&[u8]>) -> Option<(Fate, Option<&[u8]>)>
+    ensures { first_field forms.fate (words_behind rest.entry) ≡ option_map (λ s. (s.0, words_behind s.1)) result }
 {
     let (word, rest) = next(rest)?;
     Some((fate_in(word)?, rest))
@@ -110,8 +107,8 @@ fn kind_in(word: &[u8]) -> Option<DllpKind>
     }
 }
 
-pub(crate) fn kind(rest: &[u8]) -> Option<(DllpKind, &[u8])>
-    ensures { first_field forms.kind (words_behind rest.now) ≡ option_map (λ s. (s.0, words_behind s.1.now)) result }
+pub(crate) fn kind(rest: Option<&[u8]>) -> Option<(DllpKind, Option<&[u8]>)>
+    ensures { first_field forms.kind (words_behind rest.entry) ≡ option_map (λ s. (s.0, words_behind s.1)) result }
 {
     let (word, rest) = next(rest)?;
     Some((kind_in(word)?, rest))

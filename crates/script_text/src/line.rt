@@ -22,8 +22,8 @@ pub enum Line {
 }
 
 /// The six credits.
-fn six_credits(rest: &[u8]) -> Option<(LaneCredits, &[u8])>
-    ensures { forms.six_credits (words_behind rest.now) ≡ option_map (λ s. (s.0, words_behind s.1.now)) result }
+fn six_credits(rest: Option<&[u8]>) -> Option<(LaneCredits, Option<&[u8]>)>
+    ensures { forms.six_credits (words_behind rest.entry) ≡ option_map (λ s. (s.0, words_behind s.1)) result }
 {
     let (ph, rest) = octet(rest)?;
     let (pd, rest) = short(rest)?;
@@ -43,8 +43,8 @@ fn six_credits(rest: &[u8]) -> Option<(LaneCredits, &[u8])>
 }
 
 /// The six credits, or the default where the line ends or `block` comes.
-fn credits(rest: &[u8]) -> Option<(LaneCredits, &[u8])>
-    ensures { forms.credits_of (words_behind rest.now) ≡ option_map (λ s. (s.0, words_behind s.1.now)) result }
+fn credits(rest: Option<&[u8]>) -> Option<(LaneCredits, Option<&[u8]>)>
+    ensures { forms.credits_of (words_behind rest.entry) ≡ option_map (λ s. (s.0, words_behind s.1)) result }
 {
     match next(rest) {
         Some((word, _)) if word != b"block".as_slice() => six_credits(rest),
@@ -53,8 +53,8 @@ fn credits(rest: &[u8]) -> Option<(LaneCredits, &[u8])>
 }
 
 /// The bytes of a block, which end the line.
-fn block(rest: &[u8]) -> Option<u16>
-    ensures { result ≡ forms.block_of (words_behind rest.now) }
+fn block(rest: Option<&[u8]>) -> Option<u16>
+    ensures { result ≡ forms.block_of (words_behind rest.entry) }
 {
     let Some((word, rest)) = next(rest) else {
         return Some(DEFAULT_BLOCK);
@@ -66,8 +66,8 @@ fn block(rest: &[u8]) -> Option<u16>
     if is_ended(rest) { Some(block) } else { None }
 }
 
-fn fabric(rest: &[u8]) -> Option<Line>
-    ensures { result ≡ forms.fabric_of (words_behind rest.now) }
+fn fabric(rest: Option<&[u8]>) -> Option<Line>
+    ensures { result ≡ forms.fabric_of (words_behind rest.entry) }
 {
     let (requesters, rest) = octet(rest)?;
     let (base, rest) = number(rest, 16, u64::MAX)?;

@@ -1,5 +1,5 @@
 -- What a text of a trace is read as, line by line.
-use Rattle.std.specs.Prelude.{ℕ, ◌≡◌, ◌+◌, ◌-◌, ◌^◌, ◌⊎◌, min, nat_lt, if◌then◌else◌, List, [], ◌∷◌, ◌++◌, length, fold, Option, Some, None, is_some, Result, Ok, Err}
+use Rattle.std.specs.Prelude.{ℕ, ◌≡◌, ◌+◌, ◌-◌, ◌^◌, ◌⊎◌, ◌&&◌, Bool, true, false, not, min, nat_lt, if◌then◌else◌, List, [], ◌∷◌, ◌++◌, length, fold, Option, Some, None, is_some, Result, Ok, Err}
 use Rattle.line_engine.specs.Lines.{lines_of, bare, said}
 use Rattle.seq_memory.specs.declared.Entry.{Entry}
 use Rattle.history_check.specs.declared.Record.{Record}
@@ -113,6 +113,22 @@ take_line s line = if nat_lt 512 (length (bare line)) then after_long_line s els
 abbrev pub reading_of : List ℕ → Reading
 reading_of text = fold take_line nothing_read (lines_of text)
 
+-- ---- growth
+
+-- a section grows by its own lines alone
+abbrev pub adds : Section → Option Line → Bool
+adds sections.Records (Some (lines.Record r)) = true
+adds sections.History (Some (lines.Entry e)) = true
+adds _ _ = false
+
+-- no fault was read before, and the line adds a record or an entry
+abbrev pub adds_one : Reading → List ℕ → Bool
+adds_one s line = not (is_some s.fault) && (not (is_skipped line) && adds s.section (line_of s.version (words line)))
+
+-- the same of a line with what ends it
+abbrev pub adds_by : Reading → List ℕ → Bool
+adds_by s line = not (nat_lt 512 (length (bare line))) && adds_one s (said line)
+
 -- ---- the end
 
 abbrev pub claim_read : Reading → Claim
@@ -140,12 +156,14 @@ at_end s = fault_or_end s.fault s
 abbrev pub read_of : List ℕ → Result Claim ReadFault
 read_of text = at_end (reading_of text)
 
--- a growth was refused for the line that follows a beginning of the text
+-- a growth was refused for a record or an entry, before which no fault was read
 pub record IsRefused (text : List ℕ) (f : ReadFault) : Type 0 where
-  pub read : List ℕ
-  pub rest : List ℕ
-  pub begins : text ≡ read ++ rest
-  pub is : f ≡ fault_at_next (reading_of read) faults.Memory
+  pub read : List (List ℕ)
+  pub line : List ℕ
+  pub rest : List (List ℕ)
+  pub begins : lines_of text ≡ read ++ line ∷ rest
+  pub adds : adds_by (fold take_line nothing_read read) line ≡ true
+  pub is : f ≡ fault_at_next (fold take_line nothing_read read) faults.Memory
 
 -- the first fault, or that memory ran out before one
 abbrev pub Tells : List ℕ → ReadFault → Type 0

@@ -1,5 +1,5 @@
 //! Reading a trace line by line.
-ghost use Rattle.std.specs.Prelude.{◌≡◌, OnOk, OnErr, IfOk, IfErr, Ok, Err, Some};
+ghost use Rattle.std.specs.Prelude.{◌≡◌, true, OnOk, OnErr, IfOk, IfErr, Ok, Err, Some};
 ghost use Rattle.history_check.specs.Claim.{claim_of};
 ghost use Rattle.history_check.specs.Observation.{HasLimits};
 ghost use Rattle.trace_file.specs.Forms.{IsLineOfLimits};
@@ -148,6 +148,7 @@ impl TraceReader {
     fn in_records(&mut self, line: Line) -> Result<(), AllocError>
         ensures ok { OnOk result (self.new ≡ reads.in_records self.old line) }
         ensures err { OnErr result (self.new ≡ self.old) }
+        ensures adds { OnErr result (reads.adds Section.Records (Some line) ≡ true) }
     {
         match line {
             Line::Record(record) => {
@@ -166,6 +167,7 @@ impl TraceReader {
     fn in_history(&mut self, line: Line) -> Result<(), AllocError>
         ensures ok { OnOk result (self.new ≡ reads.in_history self.old line) }
         ensures err { OnErr result (self.new ≡ self.old) }
+        ensures adds { OnErr result (reads.adds Section.History (Some line) ≡ true) }
     {
         match line {
             Line::Entry(entry) => {
@@ -186,6 +188,7 @@ impl TraceReader {
         requires { IsLineOfLimits line }
         ensures ok { OnOk result (self.new ≡ reads.placed self.old.section self.old line) }
         ensures err { OnErr result (self.new ≡ self.old) }
+        ensures adds { OnErr result (reads.adds self.old.section (Some line) ≡ true) }
     {
         match self.section {
             Section::Head => self.in_head(line),
@@ -210,10 +213,12 @@ impl TraceReader {
 
 impl TraceReader {
     /// Takes a line, without the line feed and the carriage return that end it. Behind a fault
-    /// nothing is read. After an `Err` nothing was taken.
+    /// nothing is read. `Err` tells that a growth was refused, for a record or an entry behind no
+    /// fault; nothing was taken then.
     pub fn line(&mut self, line: &[u8]) -> Result<(), AllocError>
         ensures ok { OnOk result (self.new ≡ reads.after_line self.old line.now) }
         ensures err { OnErr result (self.new ≡ self.old) }
+        ensures adds { OnErr result (reads.adds_one self.old line.now ≡ true) }
     {
         if self.fault.is_some() {
             return Ok(());

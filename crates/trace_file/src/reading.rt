@@ -1,10 +1,10 @@
 //! Reading the whole text of a trace.
-ghost use Rattle.std.specs.Prelude.{◌≡◌, OnOk, OnErr, IfOk, IfErr, Ok, ◌++◌, ◌∷◌, []};
+ghost use Rattle.std.specs.Prelude.{◌≡◌, true, OnOk, OnErr, IfOk, IfErr, Ok, ◌++◌, ◌∷◌, []};
 ghost use Rattle.std.specs.Io.BufRead.{strip_last};
 ghost use Rattle.history_check.specs.Claim.{claim_of};
 ghost use Rattle.history_check.specs.Observation.{HasLimits};
 ghost use Rattle.trace_file.specs.Reading.{read_of, Tells};
-ghost use Rattle.trace_file.specs.Endings.{on_ended_line, on_last_line};
+ghost use Rattle.trace_file.specs.Endings.{on_ended_line, on_last_line, adds_ended, adds_last};
 
 use crate::fault::ReadFault;
 use crate::reader::TraceReader;
@@ -30,6 +30,7 @@ fn without_return(line: &[u8]) -> &[u8]
 fn take_ended(reader: &mut TraceReader, line: &[u8]) -> Result<(), AllocError>
     ensures ok { OnOk result (reader.new ≡ on_ended_line reader.old line.now) }
     ensures err { OnErr result (reader.new ≡ reader.old) }
+    ensures adds { OnErr result (adds_ended reader.old line.now ≡ true) }
 {
     if line.len() > MAX_LINE {
         reader.long_line();
@@ -42,6 +43,7 @@ fn take_ended(reader: &mut TraceReader, line: &[u8]) -> Result<(), AllocError>
 fn take_last(reader: &mut TraceReader, line: &[u8]) -> Result<(), AllocError>
     ensures ok { OnOk result (reader.new ≡ on_last_line reader.old line.now) }
     ensures err { OnErr result (reader.new ≡ reader.old) }
+    ensures adds { OnErr result (adds_last reader.old line.now ≡ true) }
 {
     if line.len() > MAX_LINE {
         reader.long_line();
@@ -52,7 +54,8 @@ fn take_last(reader: &mut TraceReader, line: &[u8]) -> Result<(), AllocError>
 
 /// The trace and the history that the text spells, or its first fault: its lines end in line feeds,
 /// the last may lack it, and one carriage return before a line feed is ignored. A fault of kind
-/// `Memory` tells that a growth was refused.
+/// `Memory` tells that a growth was refused, for a record or an entry behind no fault. Nothing is
+/// read behind the first fault.
 pub fn read_trace(alloc: Global, text: &[u8]) -> Result<(Trace, Vec<Entry>), ReadFault>
     ensures ok { IfOk result (λ t. read_of text.now ≡ Ok (claim_of t.0 t.1.items)) }
     ensures err { IfErr result (Tells text.now) }
@@ -64,6 +67,9 @@ pub fn read_trace(alloc: Global, text: &[u8]) -> Result<(Trace, Vec<Entry>), Rea
         let Ok(()) = take_ended(&mut reader, &rest[..end]) else {
             return Err(reader.out_of_memory());
         };
+        if let Some(fault) = reader.fault() {
+            return Err(fault);
+        }
         rest = &rest[end + 1..];
     }
     if !rest.is_empty() {
