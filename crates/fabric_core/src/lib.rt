@@ -19,6 +19,8 @@ mod memory_tests;
 mod parts;
 mod run;
 #[cfg(test)]
+mod run_tests;
+#[cfg(test)]
 mod tests;
 
 pub use config::{Config, ConfigFault};
