@@ -1,8 +1,13 @@
 //! What holds of a fabric whatever happens to it, said of its parts wherever they are.
-ghost use Rattle.std.specs.Prelude.{◌≡◌, ◌<◌, ◌++◌, ℕ, true, length, slice_get, slice_set, List, [], Some, Ok};
+ghost use Rattle.std.specs.Prelude.{◌≡◌, ◌<◌, ◌++◌, ◌-◌, ◌*◌, ◌%◌, ◌^◌, ℕ, true, length, slice_get, slice_set, List, [], Some, None, Ok};
+ghost use Rattle.byteorder.specs.Endian.{little_number};
 ghost use Rattle.tlp_core.specs.declared.operation.Op.{Op};
+ghost use Rattle.tlp_core.specs.declared.operation.Op.TheVariants as ops;
+ghost use Rattle.tlp_core.specs.declared.operation.Width.{Width};
+ghost use Rattle.tlp_core.specs.Operation.{size_of};
 ghost use Rattle.seq_memory.specs.declared.Entry.{Entry};
-ghost use Rattle.seq_memory.specs.History.{State};
+ghost use Rattle.seq_memory.specs.History.{State, bytes_of};
+ghost use Rattle.seq_memory.specs.Step.{refusal, bytes_at};
 ghost use Rattle.requester_core.specs.declared.requester.Answer.{Answer};
 ghost use Rattle.requester_core.specs.Requesting.{Requesting};
 ghost use Rattle.dllp_core.specs.declared.packet.Class.{Class};
@@ -44,6 +49,7 @@ use fabric_laws::laws::{
     what_was_submitted_is_one_list,
 };
 use lane_core::{credits_are_whole_numbers, each_call_keeps_it_right, never_a_protocol_error};
+use seq_memory::laws::a_counter_counts_each_once;
 
 /// Each event that happens to a sound fabric keeps it sound, and is a step of the whole, with the record of what was
 /// submitted or collected.
@@ -135,6 +141,18 @@ pub fn a_quiet_fabric_has_every_submission()
 {
     a_quiet_history_has_every_submission();
     what_was_submitted_is_one_list();
+}
+
+/// A counter counts each request once, whatever the links do: where all that was submitted is FetchAdds of 1 at one place,
+/// which are served, and the fabric is quiet, the number there is the number of submissions, modulo 2 to the number of the
+/// operand's bits.
+pub fn a_quiet_counter_is_the_number_of_submissions()
+    ensures { (f : Fabric) (a : ℕ) (w : Width) → IsSoundFabric f → IsQuiet f → refusal f.memory.block f.memory.base f.memory.size (ops.FetchAdd a w 1) ≡ None →
+        ((i : ℕ) (made : List Op) → IsMade i (view (whole_of f) i) made → Each (λ x. x ≡ ops.FetchAdd a w 1) made) →
+        little_number (size_of w) (bytes_at (bytes_of f.memory) (a - f.memory.base) (size_of w)) ≡ submitted_by f.requesters % 2 ^ (8 * size_of w) }
+{
+    a_counter_counts_each_once();
+    a_quiet_fabric_has_every_submission();
 }
 
 /// No event of a sound fabric is refused for a packet that has no port, a completion that its requester doesn't expect,
