@@ -1,6 +1,6 @@
 -- Of 65,536 counts in a row each has its own value.
-use Rattle.std.proofs.Common.{◌≡◌, ◌≢◌, ℕ, zero, suc, ◌+◌, ◌-◌, ◌*◌, ◌/◌, ◌%◌, ◌<◌, ◌≤◌, Bool, true, false, refl, sym, ◌∙◌, ap, arith}
-use Rattle.std.specs.Prelude.{nat_lt, nat_le, ◌==◌, ◌&&◌, min, if◌then◌else◌}
+use Rattle.std.proofs.Common.{inl, inr, ◌≡◌, ◌≢◌, ℕ, zero, suc, ◌+◌, ◌-◌, ◌*◌, ◌/◌, ◌%◌, ◌<◌, ◌≤◌, Bool, true, false, refl, sym, ◌∙◌, ap, arith}
+use Rattle.std.specs.Prelude.{◌⊎◌, nat_lt, nat_le, ◌==◌, ◌&&◌, min, if◌then◌else◌}
 use Rattle.std.proofs.lemmas.Bool.Decides.{nat_tests}
 use Rattle.std.proofs.Math.Nat.{div-le_self}
 use Rattle.lane_core.specs.declared.packet.Fate.{Fate}
@@ -118,3 +118,59 @@ pub lost_in_a_row : (lose corrupt start : ℕ) → 0 < lose → how_many (λ cou
 lost_in_a_row lose corrupt start h =
     same_tests (λ count. is_lost (fate_of lose corrupt count)) (λ count. nat_lt (spread count) (65536 / lose)) start 65536 (λ i l. lost_below lose corrupt (start + i) h) ∙
     below start (65536 / lose) (part_le lose h)
+
+-- what fails
+
+all_but : (s t : ℕ → Bool) (start n : ℕ) → ((i : ℕ) → one_if (s i) + one_if (t i) ≡ 1) → how_many s start n + how_many t start n ≡ n
+unfolding how_many
+all_but s t start zero h = refl
+all_but s t start (suc n) h =
+    let rest = all_but s t start n h in
+    let one = h (start + n) in
+    omega (arith, rest, one)
+
+-- with least the lowest value that fails or none
+failed_or_below : (lose corrupt least count : ℕ) → 0 < lose → 0 < corrupt → 65536 / lose ≤ least → 65536 - 65536 / corrupt ≤ least →
+    (least ≡ 65536 / lose) ⊎ (least ≡ 65536 - 65536 / corrupt) →
+    one_if (is_failed (fate_of lose corrupt count)) + one_if (nat_lt (spread count) least) ≡ 1
+failed_or_below lose corrupt least count g h k l m =
+    let some : nat_lt 0 lose ≡ true = grind (arith, nat_tests) in
+    let fails : nat_lt 0 corrupt ≡ true = grind (arith, nat_tests) in
+    rw (some, fails) (by_case (nat_lt (spread count) (65536 / lose)) (nat_le (65536 - 65536 / corrupt) (spread count)) (nat_lt (spread count) least) refl refl refl)
+  where
+    by_case : (b c d : Bool) → nat_lt (spread count) (65536 / lose) ≡ b → nat_le (65536 - 65536 / corrupt) (spread count) ≡ c → nat_lt (spread count) least ≡ d →
+        one_if (is_failed (if b then Lost else (if c then Failed else Good))) + one_if d ≡ 1
+    by_case true c true e f i = refl
+    by_case false true false e f i = refl
+    by_case false false true e f i = refl
+    by_case true c false e f i = absurd (grind (arith, nat_tests))
+    by_case false true true e f i = absurd (grind (arith, nat_tests))
+    by_case false false false e f i = absurd (grind (arith, nat_tests))
+
+failed_from : (lose corrupt start least : ℕ) → 0 < lose → 0 < corrupt → 65536 / lose ≤ least → 65536 - 65536 / corrupt ≤ least →
+    (least ≡ 65536 / lose) ⊎ (least ≡ 65536 - 65536 / corrupt) →
+    how_many (λ count. is_failed (fate_of lose corrupt count)) start 65536 ≡ 65536 - least
+failed_from lose corrupt start least g h k l m =
+    let all = all_but (λ count. is_failed (fate_of lose corrupt count)) (λ count. nat_lt (spread count) least) start 65536
+    (λ i. failed_or_below lose corrupt least i g h k l m) in
+    let lost = part_le lose g in
+    let small : least ≤ 65536 = grind (arith, m, lost) in
+    let under = below start least small in
+    omega (arith, all, under)
+
+pub failed_in_a_row : (lose corrupt start : ℕ) → 0 < lose → 0 < corrupt →
+    how_many (λ count. is_failed (fate_of lose corrupt count)) start 65536 ≡ min (65536 / corrupt) (65536 - 65536 / lose)
+failed_in_a_row lose corrupt start g h = by_case (grind arith)
+  where
+    by_case : (65536 / lose ≤ 65536 - 65536 / corrupt) ⊎ (65536 - 65536 / corrupt < 65536 / lose) →
+        how_many (λ count. is_failed (fate_of lose corrupt count)) start 65536 ≡ min (65536 / corrupt) (65536 - 65536 / lose)
+    by_case (inl l) =
+        let some = failed_from lose corrupt start (65536 - 65536 / corrupt) g h l (omega arith) (inr refl) in
+        let part = part_le lose g in
+        let other = part_le corrupt h in
+        omega (arith, some, part, other)
+    by_case (inr l) =
+        let some = failed_from lose corrupt start (65536 / lose) g h (omega arith) (omega arith) (inl refl) in
+        let part = part_le lose g in
+        let other = part_le corrupt h in
+        omega (arith, some, part, other)

@@ -2,9 +2,9 @@
 //! count, so that a run under a plan can be repeated.
 #![tactic(auto)]
 
-ghost use Rattle.std.specs.Prelude.{◌≡◌, ℕ, ◌-◌, ◌/◌, ◌<◌, ◌≤◌};
+ghost use Rattle.std.specs.Prelude.{◌≡◌, ℕ, ◌-◌, ◌/◌, ◌<◌, ◌≤◌, min};
 ghost use Rattle.lane_core.specs.declared.packet.Fate.TheVariants.{Good};
-ghost use Rattle.fault_plan.specs.Fates.{fate_of, is_lost, how_many};
+ghost use Rattle.fault_plan.specs.Fates.{fate_of, is_failed, is_lost, how_many};
 
 use lane_core::Fate;
 
@@ -41,9 +41,11 @@ impl Plan {
     }
 }
 
-/// Of 65,536 counts in a row, from any, a plan that loses one of so many loses just that part of 65,536.
+/// Of 65,536 counts in a row, from any, a plan that loses one of so many loses just that part of 65,536, and as many
+/// fail as it says, but for those that are lost.
 pub fn each_part_is_lost()
-    ensures { (lose corrupt start : ℕ) → 0 < lose → how_many (λ count. is_lost (fate_of lose corrupt count)) start 65536 ≡ 65536 / lose }
+    ensures failed { (lose corrupt start : ℕ) → 0 < lose → 0 < corrupt → how_many (λ count. is_failed (fate_of lose corrupt count)) start 65536 ≡ min (65536 / corrupt) (65536 - 65536 / lose) }
+    ensures lost { (lose corrupt start : ℕ) → 0 < lose → how_many (λ count. is_lost (fate_of lose corrupt count)) start 65536 ≡ 65536 / lose }
 {}
 
 /// Under a plan that neither loses nor corrupts, all arrive good.
