@@ -2,14 +2,18 @@
 //! count, so that a run under a plan can be repeated.
 #![tactic(auto)]
 
-ghost use Rattle.std.specs.Prelude.{◌≡◌, ℕ, ◌≤◌};
+ghost use Rattle.std.specs.Prelude.{◌≡◌, ℕ, ◌-◌, ◌/◌, ◌<◌, ◌≤◌, min};
 ghost use Rattle.lane_core.specs.declared.packet.Fate.TheVariants.{Good};
-ghost use Rattle.fault_plan.specs.Fates.{fate_of};
+ghost use Rattle.fault_plan.specs.Fates.{fate_of, is_failed, is_lost, how_many};
 
 use lane_core::Fate;
 
 /// The most that a plan can say: one of 65,536.
 pub const MOST: u32 = 65536;
+
+/// What a count is multiplied by, modulo 65,536. It is odd, so that of 65,536 counts in a row each has its own product;
+/// it is near 65,536 divided by the golden ratio, so that products of counts that follow each other lie far apart.
+const SPREAD: u64 = 40503;
 
 /// How many are lost and how many arrive with a failed check: one of each so many, spread evenly,
 /// none where it is 0. Each is 0 to 65,536.
@@ -26,7 +30,7 @@ impl Plan {
     pub fn fate(&self, count: u64) -> Fate
         ensures { result ≡ fate_of self.now.lose_every self.now.corrupt_every count }
     {
-        let spread = (count % 65536 * 40503 % 65536) as u32;
+        let spread = (count % u64::from(MOST) * SPREAD % u64::from(MOST)) as u32;
         if self.lose_every > 0 && spread < MOST / self.lose_every {
             return Fate::Lost;
         }
@@ -36,6 +40,13 @@ impl Plan {
         Fate::Good
     }
 }
+
+/// Of 65,536 counts in a row, from any, a plan that loses one of so many loses just that part of 65,536, and as many
+/// fail as it says, but for those that are lost.
+pub fn each_part_is_lost()
+    ensures failed { (lose corrupt start : ℕ) → 0 < lose → 0 < corrupt → how_many (λ count. is_failed (fate_of lose corrupt count)) start 65536 ≡ min (65536 / corrupt) (65536 - 65536 / lose) }
+    ensures lost { (lose corrupt start : ℕ) → 0 < lose → how_many (λ count. is_lost (fate_of lose corrupt count)) start 65536 ≡ 65536 / lose }
+{}
 
 /// Under a plan that neither loses nor corrupts, all arrive good.
 pub fn a_plan_without_faults_is_good()
@@ -67,6 +78,23 @@ mod tests {
         for (place, fate) in want.iter().enumerate() {
             let count = place as u64 + 1;
             assert_eq!(rt; plan.fate(count), *fate, "count {count}");
+        }
+    }
+
+    /// Of 65,536 values the 21,845 lowest are lost and the 21,845 greatest fail.
+    #[test]
+    fn fates_at_the_boundaries(rt: HostRuntime) {
+        let plan = Plan {
+            lose_every: 3,
+            corrupt_every: 3,
+        };
+        for (count, fate) in [
+            (2892, Fate::Lost),
+            (33491, Fate::Good),
+            (1446, Fate::Good),
+            (32045, Fate::Failed),
+        ] {
+            assert_eq!(rt; plan.fate(count), fate, "count {count}");
         }
     }
 }

@@ -1,0 +1,8 @@
+use Rattle.fault_plan.proofs.Spread.{failed_in_a_row, lost_in_a_row}
+use Rattle.fault_plan.proofs.each_part_is_lost.Goals as goal
+
+pub returns-clause-failed : goal.returns-clause-failed
+returns-clause-failed c = failed_in_a_row
+
+pub returns-clause-lost : goal.returns-clause-lost
+returns-clause-lost c = lost_in_a_row
