@@ -13,6 +13,10 @@ pub record HallView : Type 0 where
   pub table_id : TableId
   pub config : Config
 
+-- the seat came from this hall
+abbrev pub IsSeatOf : HallView → SeatView → Type 0
+IsSeatOf h s = (s.table_id ≡ h.table_id) × (s.knows.config ≡ h.config)
+
 -- new seats of a table, in the order of their numbers
 pub record AreNewSeats (z : TableId) (c : Config) (first count : ℕ) (seats : List SeatView) : Type 0 where
   pub number : length seats ≡ count
