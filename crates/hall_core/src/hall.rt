@@ -6,6 +6,7 @@ ghost use Rattle.hall_core.specs.Works.{Pumped, event_of};
 ghost use Rattle.fabric_core.specs.declared.event.Event.TheVariants.{Submit, Collect};
 ghost use Rattle.hall_core.specs.Refusals.{IsRefused, IsPossibleInHall, IsBusy};
 ghost use Rattle.hall_laws.specs.Shows.{Shows};
+ghost use Rattle.hall_laws.specs.Calls.{IsSized};
 ghost use Rattle.hall_laws.specs.Rule.{HasConfig};
 ghost use Rattle.hall_laws.specs.Tells.{SubmitTells, CollectTells, SeesTells, Met};
 ghost use Rattle.hall_core.specs.Views.{AreNewSeats, IsSeatOf};
@@ -19,6 +20,7 @@ use crate::seats::{ReqSeat, WorkSeat, req_seats, work_seats};
 use crate::work::{WorkEvent, pump_as};
 use fabric_core::laws::every_refusal_is_possible;
 use fabric_core::{Config, Fabric, Seen};
+use hall_laws::laws::Steps;
 use hall_laws::part::Part;
 use std::alloc::Global;
 use std::marker::Model;
@@ -92,6 +94,14 @@ impl Hall {
             config,
         };
         Ok((hall, first, second))
+    }
+
+    /// The table of this hall, for the steps of [`laws`](crate::laws).
+    pub fn steps(&self) -> &Steps
+        ensures table { result.now.table_id ≡ self.now.table_id }
+        ensures sized { IsSized result.now.table_id self.now.config.requesters }
+    {
+        &self.board.shared
     }
 
     /// The requester of the seat submits an operation: its request enters the lane to the switch. Gives the number of the

@@ -51,6 +51,25 @@ impl Model for WorkSeat {
     ghost invariant = { λ s. IsIdle s.place.me × ((token_of s.place.me.0).knows.number ≡ s.number) × (s.number < 2 ^ 32) };
 }
 
+impl WorkSeat {
+    ghost use Rattle.hall_laws.specs.Calls.{knowing};
+
+    /// The number of the seat. The words that name it are 1 more.
+    pub fn number(&self) -> usize
+        ensures number { result ≡ self.now.knows.number }
+        ensures small { result < 2 ^ 32 }
+    {
+        self.number
+    }
+
+    /// The place of the seat at its table, for the steps of [`laws`](crate::laws).
+    pub fn into_place(self) -> Place
+        ensures { (result.table_id ≡ self.table_id) × (result.me ≡ knowing self.knows) }
+    {
+        self.place
+    }
+}
+
 /// A seat for each requester, in their order. The rest of the tokens stays.
 pub fn req_seats(
     steps: &Steps,
