@@ -5,5 +5,6 @@
 pub mod duties;
 pub mod laws;
 pub mod part;
+pub mod slots;
 pub mod takes;
 pub mod token;

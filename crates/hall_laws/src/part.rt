@@ -77,7 +77,7 @@ pub enum PartValue {
 }
 
 /// The name of a part.
-#[derive(Drop, Clone, Copy, PartialEq, Debug)]
+#[derive(Clone, Copy, Debug, PartialEq, Eq)]
 pub enum Part {
     Memory,
     /// The requester of a port from 1 on.
