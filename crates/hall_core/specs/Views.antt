@@ -1,0 +1,19 @@
+-- What contracts see of a hall and of a seat.
+use Rattle.std.specs.Prelude.{ℕ, ◌≡◌, ◌+◌, List, length, slice_get, Some}
+use Rattle.atomic_table.specs.Seated.{TableId}
+use Rattle.fabric_core.specs.declared.config.Config.{Config}
+use Rattle.hall_laws.specs.declared.token.Knowledge.{Knowledge}
+use Rattle.hall_laws.specs.Rule.{newcomer}
+
+pub record SeatView : Type 0 where
+  pub table_id : TableId
+  pub knows : Knowledge
+
+pub record HallView : Type 0 where
+  pub table_id : TableId
+  pub config : Config
+
+-- new seats of a table, in the order of their numbers
+pub record AreNewSeats (z : TableId) (c : Config) (first count : ℕ) (seats : List SeatView) : Type 0 where
+  pub number : length seats ≡ count
+  pub each : (i : ℕ) (s : SeatView) → slice_get seats i ≡ Some s → (s.table_id ≡ z) × (s.knows ≡ (newcomer c (first + i)).knows)

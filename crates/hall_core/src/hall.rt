@@ -1,0 +1,241 @@
+//! The hall and its calls.
+ghost use Rattle.std.specs.Prelude.{◌≡◌, ◌≢◌, ◌+◌, ◌<◌, ◌≤◌, ℕ, List, [], ◌∷◌, length, IfOk, IfErr, MatchOption};
+ghost use Rattle.seq_memory.specs.declared.Entry.{Entry};
+ghost use Rattle.hall_core.specs.Opens.{IsUnused, HasHallFault, Leaves};
+ghost use Rattle.hall_core.specs.Works.{Pumped, event_of};
+ghost use Rattle.fabric_core.specs.declared.event.Event.TheVariants.{Submit, Collect};
+ghost use Rattle.hall_core.specs.Refusals.{IsRefused, IsPossibleInHall, IsBusy};
+ghost use Rattle.hall_laws.specs.Shows.{Shows};
+ghost use Rattle.hall_laws.specs.Rule.{HasConfig};
+ghost use Rattle.hall_laws.specs.Tells.{SubmitTells, CollectTells, SeesTells, Met};
+ghost use Rattle.hall_core.specs.Views.{AreNewSeats};
+
+use crate::closing::{StillHeld, close};
+use crate::meeting::meet_as;
+use crate::opening::{Board, Opened, Shelves, open};
+use crate::refusal::{HallFault, HallRefusal};
+use crate::requests::{Answered, Submitted, collect_as, submit_as};
+use crate::seats::{ReqSeat, WorkSeat, req_seats, work_seats};
+use crate::work::{WorkEvent, pump_as};
+use fabric_core::laws::every_refusal_is_possible;
+use fabric_core::{Config, Fabric, Seen};
+use hall_laws::part::Part;
+use std::alloc::Global;
+use std::marker::Model;
+use tlp_core::Op;
+
+/// A fabric that many threads drive at once, each part of which lies in a slot of one table.
+///
+/// A hall is `Sync`: threads share it by `&`, and each has seats of its own. It can be dropped, and the parts at home
+/// with it.
+#[derive(Drop)]
+pub struct Hall {
+    pub(crate) board: Board,
+    pub(crate) shelves: Shelves,
+    pub(crate) config: Config,
+}
+
+impl Model for Hall {
+    ghost use Rattle.std.specs.Prelude.{◌≡◌, ◌≤◌};
+    ghost use Rattle.std.specs.Vec.{vec_len, vec_capacity};
+    ghost use Rattle.hall_core.specs.Views.{HallView};
+
+    ghost Value = { HallView };
+
+    ghost use Rattle.hall_laws.specs.Calls.{IsSized};
+
+    ghost view = { λ h. record { table_id = h.board.shared.table_id; config = h.config } };
+
+    ghost invariant = { λ h. IsSized h.board.shared.table_id h.config.requesters × (vec_len h.shelves.requesters ≡ 0) × (vec_len h.shelves.up ≡ 0) × (vec_len h.shelves.down ≡ 0) × (h.config.requesters ≤ vec_capacity h.shelves.requesters) × (h.config.requesters ≤ vec_capacity h.shelves.up) × (h.config.requesters ≤ vec_capacity h.shelves.down) };
+}
+
+impl Hall {
+    /// A hall of a fabric, with a seat for each requester, in their order, and `work` work seats, 1 to 64. The caller owes
+    /// a fabric that is quiet, with an empty history, as a new one is. With R requesters the seat of requester i has the
+    /// number i - 1, and the work seats have R, R + 1 and so on.
+    ///
+    /// The faults are `Seats` where `work` isn't 1 to 64, then `Memory`; either way the fabric is spent.
+    pub fn new(
+        fabric: Fabric,
+        work: usize,
+        alloc: Global,
+    ) -> Result<(Hall, Vec<ReqSeat>, Vec<WorkSeat>), HallFault>
+        requires { IsUnused fabric }
+        ensures config { IfOk result (λ t. HasConfig fabric t.0.config) }
+        ensures requesters { IfOk result (λ t. AreNewSeats t.0.table_id t.0.config 0 t.0.config.requesters t.1.items) }
+        ensures work { IfOk result (λ t. AreNewSeats t.0.table_id t.0.config t.0.config.requesters work t.2.items) }
+        ensures fault { IfErr result (λ fault. HasHallFault work fault) }
+    {
+        if work == 0 || work > 64 {
+            return Err(HallFault::Seats);
+        }
+        let Ok(
+            Opened {
+                board,
+                mut place,
+                shelves,
+                config,
+            },
+        ) = open(fabric, work, alloc)
+        else {
+            return Err(HallFault::Memory);
+        };
+        let Ok(first) = req_seats(&board.shared, &mut place, &config, work, alloc) else {
+            return Err(HallFault::Memory);
+        };
+        let Ok(second) = work_seats(&board.shared, &mut place, &config, work, alloc) else {
+            return Err(HallFault::Memory);
+        };
+        let hall = Hall {
+            board,
+            shelves,
+            config,
+        };
+        Ok((hall, first, second))
+    }
+
+    /// The requester of the seat submits an operation: its request enters the lane to the switch. Gives the number of the
+    /// request, and the length of the history, which the seat then has seen.
+    ///
+    /// `Busy` where another seat has the memory, the requester or the sender's end of its lane, in this order; then the
+    /// refusal of the fabric.
+    pub fn submit(&self, seat: &mut ReqSeat, op: Op) -> Result<Submitted, HallRefusal>
+        requires { (seat.old.table_id ≡ self.now.table_id) × (seat.old.knows.config ≡ self.now.config) }
+        ensures seat { (seat.new.table_id ≡ seat.old.table_id) × (seat.new.knows.config ≡ seat.old.knows.config) }
+        ensures submitted { IfOk result (λ s. SubmitTells seat.old.knows s.number op s.n seat.new.knows) }
+        ensures refused { IfErr result (λ _. seat.new ≡ seat.old) }
+        ensures why { IfErr result (λ r. IsRefused seat.old.knows (Submit (seat.old.knows.number + 1) op) r) }
+        ensures possible { IfErr result (λ r. IsPossibleInHall r) }
+    {
+        every_refusal_is_possible();
+        submit_as(
+            &self.board.shared,
+            &mut seat.place,
+            usize::from(seat.number),
+            self.config.requesters,
+            seat.number + 1,
+            &op,
+        )
+    }
+
+    /// The requester of the seat takes its oldest completion. Gives the number of the request, the reply, and the length
+    /// of the history, which the seat then has seen. None where no completion had arrived; the seat then has seen the
+    /// history, too.
+    ///
+    /// `Busy` where another seat has the memory, the requester or the receiver's end of its lane, in this order.
+    pub fn collect(&self, seat: &mut ReqSeat) -> Result<Option<Answered>, HallRefusal>
+        requires { (seat.old.table_id ≡ self.now.table_id) × (seat.old.knows.config ≡ self.now.config) }
+        ensures seat { (seat.new.table_id ≡ seat.old.table_id) × (seat.new.knows.config ≡ seat.old.knows.config) }
+        ensures collected { IfOk result (λ o. MatchOption o (SeesTells seat.old.knows seat.new.knows) (λ a. CollectTells seat.old.knows a.number a.reply a.n seat.new.knows)) }
+        ensures refused { IfErr result (λ _. seat.new ≡ seat.old) }
+        ensures why { IfErr result (λ r. IsRefused seat.old.knows (Collect (seat.old.knows.number + 1)) r) }
+        ensures possible { IfErr result (λ r. IsPossibleInHall r) }
+    {
+        every_refusal_is_possible();
+        collect_as(
+            &self.board.shared,
+            &mut seat.place,
+            usize::from(seat.number),
+            self.config.requesters,
+            seat.number + 1,
+        )
+    }
+
+    /// The seats meet: both have seen one history then, of the length that is given, in which every answered request of
+    /// both stands. The seats come back in their order, knowing else what they knew.
+    ///
+    /// `Busy` where another seat has the memory.
+    pub fn meet(
+        &self,
+        first: ReqSeat,
+        second: ReqSeat,
+    ) -> Result<(ReqSeat, ReqSeat, u64), (HallRefusal, ReqSeat, ReqSeat)>
+        requires first { (first.table_id ≡ self.now.table_id) × (first.knows.config ≡ self.now.config) }
+        requires second { (second.table_id ≡ self.now.table_id) × (second.knows.config ≡ self.now.config) }
+        ensures seats { IfOk result (λ r. (r.0.table_id ≡ first.table_id) × (r.1.table_id ≡ second.table_id) × (r.0.knows.config ≡ first.knows.config) × (r.1.knows.config ≡ second.knows.config)) }
+        ensures met { IfOk result (λ r. (h : List Entry) × (r.2 ≡ length h) × Met first.knows h r.0.knows × Met second.knows h r.1.knows) }
+        ensures refused { IfErr result (λ r. IsBusy r.0 × (r.1 ≡ first) × (r.2 ≡ second)) }
+    {
+        let ReqSeat {
+            place: a,
+            number: one,
+        } = first;
+        let ReqSeat {
+            place: b,
+            number: two,
+        } = second;
+        match meet_as(
+            &self.board.shared,
+            a,
+            b,
+            usize::from(one),
+            self.config.requesters,
+        ) {
+            Ok((a, b, n)) => Ok((
+                ReqSeat {
+                    place: a,
+                    number: one,
+                },
+                ReqSeat {
+                    place: b,
+                    number: two,
+                },
+                n as u64,
+            )),
+            Err((word, a, b)) => Err((
+                HallRefusal::Busy {
+                    part: Part::Memory,
+                    word,
+                },
+                ReqSeat {
+                    place: a,
+                    number: one,
+                },
+                ReqSeat {
+                    place: b,
+                    number: two,
+                },
+            )),
+        }
+    }
+
+    /// An event, and what is seen of it. `Serve` gives the place in the history that it filled, which no other serving
+    /// gives.
+    ///
+    /// `Busy` where another seat has a part that the event uses, in the order of their taking; then the refusal of the
+    /// fabric. It is never `Protocol`, `Strange` or `Route`.
+    pub fn pump(&self, seat: &mut WorkSeat, event: WorkEvent) -> Result<Seen, HallRefusal>
+        requires { (seat.old.table_id ≡ self.now.table_id) × (seat.old.knows.config ≡ self.now.config) }
+        ensures seat { (seat.new.table_id ≡ seat.old.table_id) × (seat.new.knows.config ≡ seat.old.knows.config) }
+        ensures pumped { IfOk result (λ what. Pumped event what seat.old.knows seat.new.knows) }
+        ensures shows { IfOk result (λ what. Shows seat.old.knows (event_of event) what) }
+        ensures refused { IfErr result (λ _. seat.new ≡ seat.old) }
+        ensures why { IfErr result (λ r. IsRefused seat.old.knows (event_of event) r) }
+        ensures possible { IfErr result (λ r. IsPossibleInHall r) }
+    {
+        every_refusal_is_possible();
+        pump_as(
+            &self.board.shared,
+            &mut seat.place,
+            seat.number,
+            self.config.requesters,
+            event,
+        )
+    }
+
+    /// The fabric of all parts, whose history begins with all that the seat has seen. Where a part's word isn't 0, that
+    /// part is told, and the hall and the seat are spent.
+    pub fn close(self, seat: ReqSeat) -> Result<Fabric, StillHeld>
+        requires { (seat.table_id ≡ self.table_id) × (seat.knows.config ≡ self.config) }
+        ensures closed { IfOk result (λ f. Leaves seat.knows f) }
+        ensures held { IfErr result (λ e. e.word ≢ 0) }
+    {
+        let Hall {
+            board,
+            shelves,
+            config,
+        } = self;
+        let ReqSeat { place, number: _ } = seat;
+        close(board, shelves, &config, place)
+    }
+}

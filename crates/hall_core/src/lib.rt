@@ -1,0 +1,33 @@
+//! The hall: the same fabric for many threads, with no lock round it.
+//!
+//! Each part of the fabric lies in a slot of one table, and a word says who has it: 0 while it is free, else 1 plus the
+//! number of the seat that has it. A call takes the words of the few parts that its event uses, one at a time, does the
+//! event on them, and gives them back one at a time. No call waits, and none tries again: a part that another seat has is
+//! answered as [`HallRefusal::Busy`].
+//!
+//! Whatever the threads do, there is one history of requests that acted, it only grows, and each seat knows a beginning
+//! of it.
+//!
+//! A [`Hall`] is `Sync`, so that threads share it by `&`; seats are `Send`, and each moves to the thread that uses it. A
+//! seat is used with the hall that it came from.
+#![tactic(auto)]
+
+mod closing;
+mod hall;
+pub mod laws;
+mod links;
+mod meeting;
+mod opening;
+mod refusal;
+mod requests;
+mod seats;
+mod switching;
+mod work;
+
+pub use closing::StillHeld;
+pub use hall::Hall;
+pub use hall_laws::part::Part;
+pub use refusal::{HallFault, HallRefusal};
+pub use requests::{Answered, Submitted};
+pub use seats::{ReqSeat, WorkSeat};
+pub use work::WorkEvent;

@@ -1,0 +1,99 @@
+//! The seats of a hall.
+ghost use Rattle.std.specs.Prelude.{◌≡◌, ◌+◌, ◌-◌, ◌<◌, ◌≤◌, ◌^◌, ℕ, List, [], ◌∷◌, length, IfOk, IfErr};
+ghost use Rattle.hall_laws.specs.Rule.{newcomers};
+ghost use Rattle.hall_core.specs.Views.{AreNewSeats};
+
+use fabric_core::Config;
+use hall_laws::laws::{Place, Steps, split};
+use std::alloc::{AllocError, Global};
+use std::marker::Model;
+
+/// The seat of a requester, for its submissions and collections. It is `Send`, and can be dropped; its requester then
+/// submits and collects no more. It is used with the hall that it came from.
+#[derive(Drop)]
+pub struct ReqSeat {
+    pub(crate) place: Place,
+    pub(crate) number: u8,
+}
+
+impl Model for ReqSeat {
+    ghost use Rattle.std.specs.Prelude.{◌≡◌, ◌<◌, ◌≤◌};
+    ghost use Rattle.hall_core.specs.Views.{SeatView};
+
+    ghost Value = { SeatView };
+
+    ghost use Rattle.hall_laws.specs.Standing.{token_of};
+    ghost use Rattle.hall_laws.specs.Calls.{IsIdle};
+
+    ghost view = { λ s. record { table_id = s.place.table_id; knows = (token_of s.place.me.0).knows } };
+
+    ghost invariant = { λ s. IsIdle s.place.me × ((token_of s.place.me.0).knows.number ≡ s.number) × (s.number < (token_of s.place.me.0).knows.config.requesters) × ((token_of s.place.me.0).knows.config.requesters ≤ 7) };
+}
+
+/// A seat for the other events. It is `Send`, and can be dropped. It is used with the hall that it came from.
+#[derive(Drop)]
+pub struct WorkSeat {
+    pub(crate) place: Place,
+    pub(crate) number: usize,
+}
+
+impl Model for WorkSeat {
+    ghost use Rattle.std.specs.Prelude.{◌≡◌, ◌<◌, ◌≤◌, ◌^◌};
+    ghost use Rattle.hall_core.specs.Views.{SeatView};
+
+    ghost Value = { SeatView };
+
+    ghost use Rattle.hall_laws.specs.Standing.{token_of};
+    ghost use Rattle.hall_laws.specs.Calls.{IsIdle};
+
+    ghost view = { λ s. record { table_id = s.place.table_id; knows = (token_of s.place.me.0).knows } };
+
+    ghost invariant = { λ s. IsIdle s.place.me × ((token_of s.place.me.0).knows.number ≡ s.number) × (s.number < 2 ^ 32) };
+}
+
+/// A seat for each requester, in their order. The rest of the tokens stays.
+pub fn req_seats(
+    steps: &Steps,
+    place: &mut Place,
+    config: &Config,
+    work: usize,
+    alloc: Global,
+) -> Result<Vec<ReqSeat>, AllocError>
+    requires table { (place.old.table_id ≡ steps.now.table_id) × (0 < steps.now.table_id.words) × (config.now.requesters ≤ 7) }
+    requires tokens { place.old.me ≡ (newcomers config.now 0 (config.now.requesters + work), []) }
+    ensures seats { IfOk result (λ v. AreNewSeats steps.now.table_id config.now 0 config.now.requesters v.items) }
+    ensures rest { IfOk result (λ _. (place.new.table_id ≡ place.old.table_id) × (place.new.me ≡ (newcomers config.now config.now.requesters work, []))) }
+{
+    let mut seats = Vec::with_capacity(alloc, usize::from(config.requesters))?;
+    for number in 0..config.requesters {
+        let given = split(steps, place);
+        seats.push_reserved(ReqSeat {
+            place: given,
+            number,
+        });
+    }
+    Ok(seats)
+}
+
+/// So many work seats, with the numbers from that of the first token on.
+pub fn work_seats(
+    steps: &Steps,
+    place: &mut Place,
+    config: &Config,
+    work: usize,
+    alloc: Global,
+) -> Result<Vec<WorkSeat>, AllocError>
+    requires table { (place.old.table_id ≡ steps.now.table_id) × (0 < steps.now.table_id.words) × (work ≤ 64) }
+    requires tokens { place.old.me ≡ (newcomers config.now config.now.requesters work, []) }
+    ensures seats { IfOk result (λ v. AreNewSeats steps.now.table_id config.now config.now.requesters work v.items) }
+{
+    let mut seats = Vec::with_capacity(alloc, work)?;
+    for index in 0..work {
+        let given = split(steps, place);
+        seats.push_reserved(WorkSeat {
+            place: given,
+            number: usize::from(config.requesters) + index,
+        });
+    }
+    Ok(seats)
+}

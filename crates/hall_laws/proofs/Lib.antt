@@ -1,0 +1,17 @@
+pub mod Lists
+pub mod Parts
+pub mod Lanes
+pub mod LinkSteps
+pub mod SwitchSteps
+pub mod RequesterSteps
+pub mod Totals
+pub mod Moves
+pub mod Records
+pub mod Waits
+pub mod Learning
+pub mod Events
+pub mod Held
+pub mod Told
+pub mod Answered
+pub mod Truths
+pub mod Refusing

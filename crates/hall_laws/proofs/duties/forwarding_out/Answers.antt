@@ -1,0 +1,21 @@
+use Rattle.std.proofs.Common.{refl}
+use Rattle.hall_laws.specs.Parts.{slot}
+use Rattle.hall_laws.proofs.Answered.{event_shows}
+use Rattle.hall_laws.proofs.SwitchSteps.{goes_out}
+use Rattle.hall_laws.proofs.Refusing.{out_no_way, out_no_lane, out_kept}
+use Rattle.hall_laws.proofs.duties.forwarding_out.Goals as goal
+
+pub returns-clause-owes : goal.returns-clause-owes
+returns-clause-owes c t place to r r' s s' named held routed forwards = goes_out t place to (slot to 5) r r' s s' named held refl routed forwards
+
+pub returns-clause-no_way : goal.returns-clause-no_way
+returns-clause-no_way c = out_no_way
+
+pub returns-clause-no_lane : goal.returns-clause-no_lane
+returns-clause-no_lane c = out_no_lane
+
+pub returns-clause-kept : goal.returns-clause-kept
+returns-clause-kept c = out_kept
+
+pub returns-clause-shown : goal.returns-clause-shown
+returns-clause-shown c = event_shows

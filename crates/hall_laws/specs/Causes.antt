@@ -1,0 +1,107 @@
+-- A refusal by the parts that a token holds is one by the fabric.
+use Rattle.std.specs.Prelude.{◌≡◌, ◌⊎◌, ◌↔◌, ℕ, suc, ◌+◌, ◌<◌, ◌≤◌, false, List, [], ◌∷◌, None, Ok}
+use Rattle.tlp_core.specs.declared.operation.Op.{Op}
+use Rattle.dllp_core.specs.declared.packet.Dllp.{Dllp}
+use Rattle.seq_memory.specs.History.{State}
+use Rattle.requester_core.specs.Requesting.{Requesting}
+use Rattle.lane_core.specs.declared.packet.WirePacket.{WirePacket}
+use Rattle.lane_core.specs.declared.packet.Fate.{Fate}
+use Rattle.lane_core.specs.declared.packet.DllpKind.{DllpKind}
+use Rattle.lane_core.specs.declared.packet.LaneRefusal.TheVariants as lane_refusals
+use Rattle.lane_core.specs.Steps.{Incoming, Outgoing, transmitted}
+use Rattle.switch_core.specs.declared.fault.RouteFault.TheVariants.{NoPort}
+use Rattle.fabric_core.specs.declared.event.Event.{Event}
+use Rattle.fabric_core.specs.declared.event.Event.TheVariants as events
+use Rattle.fabric_core.specs.declared.event.LaneName.{LaneName}
+use Rattle.fabric_core.specs.declared.event.LaneName.TheVariants as lanes
+use Rattle.fabric_core.specs.declared.fault.Refusal.{Refusal}
+use Rattle.fabric_core.specs.declared.fault.Refusal.TheVariants as refusals
+use Rattle.fabric_core.specs.Footprints.{SubmitRefused, CollectRefused, DllpRefused, DestinationRefused, IsRoutedAs, ForwardRefused, ServeRefused}
+use Rattle.hall_laws.specs.declared.part.PartValue.TheVariants.{Memory, Requester, Sender, Forward, Back, Receiver}
+use Rattle.hall_laws.specs.declared.token.Token.{Token}
+use Rattle.hall_laws.specs.Parts.{slot, lane_slot}
+use Rattle.hall_laws.specs.Standing.{Values}
+use Rattle.hall_laws.specs.Rule.{Known}
+use Rattle.hall_laws.specs.Duties.{KnowsLane, IsAtPort}
+use Rattle.hall_laws.specs.Shows.{MayRefuse}
+
+-- the tokens fit a sound fabric, and the first holds these parts
+abbrev pub KnownHolding : Token → List Token → Values → Type 0
+KnownHolding t ts held = Known (t ∷ ts) × (t.held ≡ held)
+
+-- the refusal is Idle, which comes exactly then, or want of memory
+abbrev pub IsIdleOrMemory : Refusal → Type 0 → Type 0
+IsIdleOrMemory r idle = ((r ≡ refusals.Idle) ↔ idle) × ((r ≡ refusals.Idle) ⊎ (r ≡ refusals.Lane lane_refusals.Memory))
+
+abbrev pub TransmitIsRefused : Type 0
+TransmitIsRefused = (t : Token) (ts : List Token) (name : LaneName) (s : Outgoing) (w : List WirePacket) (r : Refusal) → KnowsLane t name
+    → KnownHolding t ts ((lane_slot name + 1, Forward w) ∷ ((lane_slot name, Sender s) ∷ []))
+    → IsIdleOrMemory r (transmitted s ≡ None) → MayRefuse t.knows (events.Transmit name) r
+
+abbrev pub DeliverIsRefused : Type 0
+DeliverIsRefused = (t : Token) (ts : List Token) (name : LaneName) (w : List WirePacket) (v : Incoming) (fate : Fate) (r : Refusal) → KnowsLane t name
+    → KnownHolding t ts ((lane_slot name + 3, Receiver v) ∷ ((lane_slot name + 1, Forward w) ∷ []))
+    → IsIdleOrMemory r (w ≡ []) → MayRefuse t.knows (events.Deliver name fate) r
+
+abbrev pub SendDllpIsRefused : Type 0
+SendDllpIsRefused = (t : Token) (ts : List Token) (name : LaneName) (v : Incoming) (b : List Dllp) (kind : DllpKind) (r : Refusal) → KnowsLane t name
+    → KnownHolding t ts ((lane_slot name + 2, Back b) ∷ ((lane_slot name + 3, Receiver v) ∷ []))
+    → r ≡ refusals.Lane lane_refusals.Memory → MayRefuse t.knows (events.SendDllp name kind) r
+
+abbrev pub DeliverDllpIsRefused : Type 0
+DeliverDllpIsRefused = (t : Token) (ts : List Token) (name : LaneName) (b : List Dllp) (s : Outgoing) (fate : Fate) (r : Refusal) → KnowsLane t name
+    → KnownHolding t ts ((lane_slot name, Sender s) ∷ ((lane_slot name + 2, Back b) ∷ []))
+    → DllpRefused b s fate r → MayRefuse t.knows (events.DeliverDllp name fate) r
+
+abbrev pub TimerIsRefused : Type 0
+TimerIsRefused = (t : Token) (ts : List Token) (name : LaneName) (s : Outgoing) (r : Refusal) → KnowsLane t name
+    → KnownHolding t ts ((lane_slot name, Sender s) ∷ [])
+    → r ≡ refusals.Idle → s.sending.place ≡ 0 → MayRefuse t.knows (events.Timer name) r
+
+abbrev pub RetrainedIsRefused : Type 0
+RetrainedIsRefused = (t : Token) (ts : List Token) (name : LaneName) (s : Outgoing) (r : Refusal) → KnowsLane t name
+    → KnownHolding t ts ((lane_slot name, Sender s) ∷ [])
+    → r ≡ refusals.Idle → s.sending.stopped ≡ false → MayRefuse t.knows (events.Retrained name) r
+
+-- of a packet of an `up` lane that has no way, or may not go
+abbrev pub UpHasNoWay : Type 0
+UpHasNoWay = (t : Token) (ts : List Token) (port place : ℕ) (v : Incoming) (r : Refusal) → KnowsLane t (lanes.Up port)
+    → KnownHolding t ts ((slot port 1 + 3, Receiver v) ∷ [])
+    → DestinationRefused v place port r → MayRefuse t.knows (events.Forward (lanes.Up port) place) r
+
+abbrev pub UpIsKept : Type 0
+UpIsKept = (t : Token) (ts : List Token) (port place to : ℕ) (v : Incoming) (s : Outgoing) (r : Refusal) → KnowsLane t (lanes.Up port)
+    → KnownHolding t ts ((1, Sender s) ∷ ((slot port 1 + 3, Receiver v) ∷ []))
+    → IsRoutedAs v place port (Ok to) → ForwardRefused v place s r → MayRefuse t.knows (events.Forward (lanes.Up port) place) r
+
+-- of a packet of `out` that has no way, or may not go
+abbrev pub OutHasNoWay : Type 0
+OutHasNoWay = (t : Token) (ts : List Token) (place : ℕ) (v : Incoming) (r : Refusal)
+    → KnownHolding t ts ((8, Receiver v) ∷ [])
+    → DestinationRefused v place 0 r → MayRefuse t.knows (events.Forward lanes.Outward place) r
+
+-- the port of the packet has no lane
+abbrev pub OutHasNoLane : Type 0
+OutHasNoLane = (t : Token) (ts : List Token) (place to : ℕ) (v : Incoming)
+    → KnownHolding t ts ((8, Receiver v) ∷ [])
+    → IsRoutedAs v place 0 (Ok to) → (to ≡ 0) ⊎ (t.knows.config.requesters < to) → MayRefuse t.knows (events.Forward lanes.Outward place) (refusals.Route NoPort)
+
+abbrev pub OutIsKept : Type 0
+OutIsKept = (t : Token) (ts : List Token) (place to : ℕ) (v : Incoming) (s : Outgoing) (r : Refusal) → KnowsLane t (lanes.Down to)
+    → KnownHolding t ts ((slot to 5, Sender s) ∷ ((8, Receiver v) ∷ []))
+    → IsRoutedAs v place 0 (Ok to) → ForwardRefused v place s r → MayRefuse t.knows (events.Forward lanes.Outward place) r
+
+abbrev pub ServeIsRefused : Type 0
+ServeIsRefused = (t : Token) (ts : List Token) (place : ℕ) (v : Incoming) (m : State) (s : Outgoing) (r : Refusal)
+    → KnownHolding t ts ((5, Sender s) ∷ ((0, Memory m) ∷ ((4, Receiver v) ∷ [])))
+    → ServeRefused v place m s r → MayRefuse t.knows (events.Serve place) r
+
+abbrev pub SubmitIsRefused : Type 0
+SubmitIsRefused = (t : Token) (ts : List Token) (port : ℕ) (op : Op) (m : State) (q : Requesting) (s : Outgoing) (r : Refusal) → IsAtPort t port
+    → KnownHolding t ts ((slot port 1, Sender s) ∷ ((slot port 0, Requester q) ∷ ((0, Memory m) ∷ [])))
+    → SubmitRefused q s op r → MayRefuse t.knows (events.Submit port op) r
+
+abbrev pub CollectIsRefused : Type 0
+CollectIsRefused = (t : Token) (ts : List Token) (port : ℕ) (m : State) (q : Requesting) (v : Incoming) (r : Refusal) → IsAtPort t port
+    → KnownHolding t ts ((slot port 5 + 3, Receiver v) ∷ ((slot port 0, Requester q) ∷ ((0, Memory m) ∷ [])))
+    → CollectRefused v q r → MayRefuse t.knows (events.Collect port) r

@@ -1,0 +1,11 @@
+pub mod Parts
+pub mod Standing
+pub mod Waiting
+pub mod Rule
+pub mod Calls
+pub mod Tells
+pub mod Knows
+pub mod Shows
+pub mod Duties
+pub mod Causes
+pub mod Telling
