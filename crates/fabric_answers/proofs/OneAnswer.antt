@@ -27,8 +27,8 @@ use Rattle.fabric_core.specs.declared.event.Seen.{Seen}
 use Rattle.fabric_core.specs.declared.event.Seen.TheVariants as seen
 use Rattle.fabric_core.specs.declared.fault.Refusal.TheVariants as refusals
 use Rattle.fabric_core.specs.Footprints.{Enters, IsAt, IsSeen, Links, EntersIfAny, call_of}
-use Rattle.fabric_core.specs.Steps.{HasPart, LinksIn, LinksAt, SubmitsAt, ForwardsUp, ForwardsOut, ServesAt, CollectsAt, Happens}
-use Rattle.fabric_answers.specs.Answers.{Answered, within, part, with_part, sent, arrived, dllp_arrived, link_answer, link_in, link_at, enter, seen_with, takeable_at, submits, submit_with, forward_to, forward_routed, forward_out, forward_in, forward_item, forward_up, enter_if_any, serve_item, collected, collect_item, collect_with, answer}
+use Rattle.fabric_core.specs.Steps.{HasPart, with_part, LinksIn, LinksAt, SubmitsAt, ForwardsUp, ForwardsOut, ServesAt, CollectsAt, Happens}
+use Rattle.fabric_answers.specs.Answers.{Answered, within, part, sent, arrived, dllp_arrived, link_answer, link_in, link_at, enter, seen_with, takeable_at, submits, submit_with, forward_to, forward_routed, forward_out, forward_in, forward_item, forward_up, enter_if_any, serve_item, collected, collect_item, collect_with, answer}
 
 pub part_is : {X : Type 0} (parts : List X) (port place : ℕ) (x : X) → HasPart parts port place x → part parts port ≡ Some x
 part_is parts port place x h = ap (part parts) h.is_port ∙ h.there

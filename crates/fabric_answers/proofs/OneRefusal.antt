@@ -17,6 +17,7 @@ use Rattle.lane_core.specs.declared.packet.LaneRefusal.{LaneRefusal}
 use Rattle.lane_core.specs.declared.packet.LaneRefusal.TheVariants.{NoCredits, WindowFull, Memory}
 use Rattle.lane_core.specs.Steps.{Ends, Incoming, Outgoing, entered, delivered, dllp_seen}
 use Rattle.lane_core.specs.Calls.{happens}
+use Rattle.lane_core.specs.Refusals.{LacksRoom}
 use Rattle.fabric_laws.specs.Fabric.{Fabric}
 use Rattle.fabric_core.specs.declared.event.Event.{Event}
 use Rattle.fabric_core.specs.declared.event.Event.TheVariants as events
@@ -27,10 +28,10 @@ use Rattle.fabric_core.specs.declared.event.LinkEvent.TheVariants as links
 use Rattle.fabric_core.specs.declared.event.Seen.TheVariants as seen
 use Rattle.fabric_core.specs.declared.fault.Refusal.{Refusal}
 use Rattle.fabric_core.specs.declared.fault.Refusal.TheVariants as refusals
-use Rattle.fabric_core.specs.Footprints.{IsAt, LinkRefused, LacksRoom, SubmitRefused, ForwardRefused, DestinationRefused, IsRoutedAs, ActRefused, ServeRefused, CollectRefused, call_of}
-use Rattle.fabric_core.specs.Steps.{HasPart, IsNoPort, LinkInRefused, LinkAtRefused, SubmitAtRefused, IsKeptFromInward, ForwardUpRefused, ForwardOutRefused, CollectAtRefused, IsNoSuchPart, Refused}
+use Rattle.fabric_core.specs.Footprints.{IsAt, LinkRefused, SubmitRefused, ForwardRefused, DestinationRefused, IsRoutedAs, ActRefused, ServeRefused, CollectRefused, call_of}
+use Rattle.fabric_core.specs.Steps.{HasPart, with_part, IsNoPort, LinkInRefused, LinkAtRefused, SubmitAtRefused, IsKeptFromInward, ForwardUpRefused, ForwardOutRefused, CollectAtRefused, IsNoSuchPart, Refused}
 use Rattle.fabric_core.specs.Kept.{IsSoundFabric}
-use Rattle.fabric_answers.specs.Answers.{Answered, IsTold, within, part, with_part, sent, arrived, dllp_arrived, link_answer, link_in, link_at, enter, seen_with, takeable_at, submits, submit_with, forward_to, forward_routed, forward_out, forward_in, forward_item, forward_up, enter_if_any, serve_item, collected, collect_item, collect_with, answer}
+use Rattle.fabric_answers.specs.Answers.{Answered, IsTold, within, part, sent, arrived, dllp_arrived, link_answer, link_in, link_at, enter, seen_with, takeable_at, submits, submit_with, forward_to, forward_routed, forward_out, forward_in, forward_item, forward_up, enter_if_any, serve_item, collected, collect_item, collect_with, answer}
 use Rattle.fabric_answers.proofs.OneAnswer.{part_is, taken, same_packet, first_is, retrained_or_idle, back_or_idle}
 
 -- ---- parts

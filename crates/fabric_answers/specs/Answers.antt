@@ -1,5 +1,5 @@
 -- What a fabric answers to an event, where no growth is refused: what is seen and the fabric after it, or the refusal.
-use Rattle.std.specs.Prelude.{ℕ, zero, suc, ◌==◌, nat_lt, List, [], ◌∷◌, length, if◌then◌else◌, Option, Some, None, Result, Ok, Err, slice_get, slice_set}
+use Rattle.std.specs.Prelude.{ℕ, zero, suc, ◌==◌, nat_lt, List, [], ◌∷◌, length, if◌then◌else◌, Option, Some, None, Result, Ok, Err, slice_get}
 use Rattle.tlp_core.specs.declared.operation.Op.{Op}
 use Rattle.tlp_core.specs.Packet.{Packet}
 use Rattle.completer_core.specs.Serving.{completion_to, after_serving}
@@ -32,6 +32,7 @@ use Rattle.fabric_core.specs.declared.event.Seen.TheVariants as seen
 use Rattle.fabric_core.specs.declared.fault.Refusal.{Refusal}
 use Rattle.fabric_core.specs.declared.fault.Refusal.TheVariants as refusals
 use Rattle.fabric_core.specs.Footprints.{call_of}
+use Rattle.fabric_core.specs.Steps.{with_part}
 
 -- what is seen, and what is left
 abbrev pub Answered : Type 0 → Type 0
@@ -46,11 +47,6 @@ within f (Err r) = Err r
 abbrev pub part : {X : Type 0} → List X → ℕ → Option X
 part parts zero = None
 part parts (suc place) = slice_get parts place
-
--- the parts with another at a port
-abbrev pub with_part : {X : Type 0} → List X → ℕ → X → List X
-with_part parts zero x = parts
-with_part parts (suc place) x = slice_set parts place x
 
 -- ---- calls of a link
 

@@ -1,5 +1,5 @@
 -- Events over parts of a fabric, as events of the fabric.
-use Rattle.std.proofs.Common.{ℕ, refl, Result, Ok, Err, inr, IfOk, IfErr}
+use Rattle.std.proofs.Common.{ℕ, refl, Result, Ok, Err, inr, IfOk, IfErr, OnErr}
 use Rattle.std.specs.Prelude.{slice_set}
 use Rattle.tlp_core.specs.declared.operation.Op.{Op}
 use Rattle.seq_memory.specs.History.{State}
@@ -19,6 +19,11 @@ if_ok (Err e) P Q m h = tt
 pub if_err : {A E : Type 0} (r : Result A E) (P Q : E → Type 0) → ((e : E) → P e → Q e) → IfErr r P → IfErr r Q
 if_err (Ok a) P Q m h = tt
 if_err (Err e) P Q m h = m e h
+
+-- what follows in both cases
+pub in_both : {A E Q : Type 0} (r : Result A E) (P : A → Type 0) (R : Type 0) → ((a : A) → P a → Q) → (R → Q) → IfOk r P → OnErr r R → Q
+in_both (Ok a) P R f g h k = f a h
+in_both (Err e) P R f g h k = g k
 
 pub submits_at : (f : Fabric) (port place : ℕ) (op : Op) (q q' : Requesting) (e : Ends) (s' : Outgoing) (r : Result ℕ Refusal) →
     HasPart f.requesters port place q → HasPart f.up port place e → IfOk r (λ n. Submits q e.sender op n q' s') →

@@ -2,11 +2,12 @@
 use Rattle.std.proofs.Common.{ℕ, ◌≡◌, suc, Bool, true, false, List, [], ◌∷◌, length, refl, sym, ap, ◌∙◌, subst, Option, Some, None, Ok, Err, ◌/◌}
 use Rattle.std.specs.Prelude.{slice_get, slice_set, is_some, if◌then◌else◌, ◌&&◌}
 use Rattle.std.proofs.lemmas.List.{length-set}
+use Rattle.std.specs.Option.{option_map_or}
 use Rattle.tlp_core.specs.declared.operation.Op.{Op}
 use Rattle.tlp_core.specs.Packet.{Packet}
 use Rattle.tlp_core.specs.Operation.{op_of, is_completion}
 use Rattle.seq_memory.specs.History.{State}
-use Rattle.completer_core.specs.Serving.{completion_to}
+use Rattle.completer_core.specs.Serving.{completion_to, after_serving, with_entry, entry_of}
 use Rattle.requester_core.specs.declared.requester.Answer.{Answer}
 use Rattle.requester_core.specs.Requesting.{Requesting}
 use Rattle.switch_core.specs.Forwarding.{Forwards}
@@ -31,6 +32,7 @@ use Rattle.fabric_core.specs.declared.event.LinkEvent.{LinkEvent}
 use Rattle.fabric_core.specs.declared.event.Seen.{Seen}
 use Rattle.fabric_core.specs.Footprints.{IsAt, Enters}
 use Rattle.fabric_core.specs.Steps.{HasLanes, LinksUp, LinksDown, LinksInward, LinksOutward, LinksAt, SubmitsAt, ForwardsUp, ForwardsOut, ServesAt, CollectsAt, Happens}
+use Rattle.fabric_core.specs.Config.{IsConfig, config_of}
 use Rattle.fabric_core.specs.Kept.{IsSoundFabric, down_credits, records_of}
 use Rattle.fabric_core.proofs.Lanes.{KeepsRight, KeepsContent, kept_set, get_before, enters_right, enters_content, any_right, any_content, takes_right, taken_at, links_right, links_content}
 
@@ -38,6 +40,7 @@ use Rattle.fabric_core.proofs.Lanes.{KeepsRight, KeepsContent, kept_set, get_bef
 
 -- all of the sound fabric but what the laws of the whole give
 pub record HasRightLanes (f : Fabric) : Type 0 where
+  pub config : IsConfig (config_of f)
   pub lanes : HasLanes f
   pub inward : IsRightWith f.credits f.inward
   pub outward : IsRightWith f.credits f.outward
@@ -45,15 +48,16 @@ pub record HasRightLanes (f : Fabric) : Type 0 where
   pub down : (i : ℕ) (e : Ends) → slice_get f.down i ≡ Some e → IsRightWith (down_credits f.credits) e
 
 pub lanes_of : (f : Fabric) → IsSoundFabric f → HasRightLanes f
-lanes_of f s = record { lanes = s.lanes; inward = s.inward; outward = s.outward; up = s.up; down = s.down }
+lanes_of f s = record { config = s.config; lanes = s.lanes; inward = s.inward; outward = s.outward; up = s.up; down = s.down }
 
 pub joined : (f : Fabric) → HasRightLanes f → Sound (whole_of f) → IsRouted f → IsSoundFabric f
-joined f l s r = record { lanes = l.lanes; inward = l.inward; outward = l.outward; up = l.up; down = l.down; sound = s; routed = r }
+joined f l s r = record { config = l.config; lanes = l.lanes; inward = l.inward; outward = l.outward; up = l.up; down = l.down; sound = s; routed = r }
 
 -- a part of a list is replaced
 up_set : (f : Fabric) (i : ℕ) (e : Ends) → HasRightLanes f → IsRightWith f.credits e → HasRightLanes (record f { up = slice_set f.up i e })
 up_set f i e l r =
     record {
+      config = l.config;
       lanes = record { few = l.lanes.few; up = length-set f.up i e ∙ l.lanes.up; down = l.lanes.down };
       inward = l.inward;
       outward = l.outward;
@@ -64,6 +68,7 @@ up_set f i e l r =
 down_set : (f : Fabric) (i : ℕ) (e : Ends) → HasRightLanes f → IsRightWith (down_credits f.credits) e → HasRightLanes (record f { down = slice_set f.down i e })
 down_set f i e l r =
     record {
+      config = l.config;
       lanes = record { few = l.lanes.few; up = l.lanes.up; down = length-set f.down i e ∙ l.lanes.down };
       inward = l.inward;
       outward = l.outward;
@@ -72,15 +77,16 @@ down_set f i e l r =
     }
 
 inward_set : (f : Fabric) (e : Ends) → HasRightLanes f → IsRightWith f.credits e → HasRightLanes (record f { inward = e })
-inward_set f e l r = record { lanes = record { few = l.lanes.few; up = l.lanes.up; down = l.lanes.down }; inward = r; outward = l.outward; up = l.up; down = l.down }
+inward_set f e l r = record { config = l.config; lanes = record { few = l.lanes.few; up = l.lanes.up; down = l.lanes.down }; inward = r; outward = l.outward; up = l.up; down = l.down }
 
 outward_set : (f : Fabric) (e : Ends) → HasRightLanes f → IsRightWith f.credits e → HasRightLanes (record f { outward = e })
-outward_set f e l r = record { lanes = record { few = l.lanes.few; up = l.lanes.up; down = l.lanes.down }; inward = l.inward; outward = r; up = l.up; down = l.down }
+outward_set f e l r = record { config = l.config; lanes = record { few = l.lanes.few; up = l.lanes.up; down = l.lanes.down }; inward = l.inward; outward = r; up = l.up; down = l.down }
 
 requester_set : (f : Fabric) (i : ℕ) (q : Requesting) → HasRightLanes f → HasRightLanes (record f { requesters = slice_set f.requesters i q })
 requester_set f i q l =
     let same : length (slice_set f.requesters i q) ≡ length f.requesters = length-set f.requesters i q in
     record {
+      config = subst (λ (n : ℕ). IsConfig (record { requesters = n; base = f.memory.base; size = f.memory.size; credits = f.credits; block = f.memory.block })) (sym same) l.config;
       lanes = record { few = rw same l.lanes.few; up = rw same l.lanes.up; down = rw same l.lanes.down };
       inward = l.inward;
       outward = l.outward;
@@ -88,8 +94,20 @@ requester_set f i q l =
       down = l.down;
     }
 
-memory_set : (f : Fabric) (m : State) → HasRightLanes f → HasRightLanes (record f { memory = m })
-memory_set f m l = record { lanes = record { few = l.lanes.few; up = l.lanes.up; down = l.lanes.down }; inward = l.inward; outward = l.outward; up = l.up; down = l.down }
+-- a memory that lies where the first did
+abbrev SamePlace : State → State → Type 0
+SamePlace m n = (m.base ≡ n.base) × (m.size ≡ n.size) × (m.block ≡ n.block)
+
+-- a request acts in the memory as it was made
+serves_there : (m : State) (t : Packet) (number : ℕ) → SamePlace (after_serving m t number) m
+serves_there m t number = by_op (op_of t)
+  where
+    by_op : (o : Option Op) → SamePlace (option_map_or (λ op. with_entry m (entry_of t number op)) o m) m
+    by_op None = (refl, refl, refl)
+    by_op (Some op) = (refl, refl, refl)
+
+memory_set : (f : Fabric) (m : State) → SamePlace m f.memory → HasRightLanes f → HasRightLanes (record f { memory = m })
+memory_set f m k l = record { config = rw (k.0, k.1, k.2) l.config; lanes = record { few = l.lanes.few; up = l.lanes.up; down = l.lanes.down }; inward = l.inward; outward = l.outward; up = l.up; down = l.down }
 
 -- ---- calls of a link
 
@@ -249,7 +267,7 @@ serve_stays law f place at f' s h =
     let o : Ends = record f.outward { sender = h.sender_after } in
     let r : IsRightWith f.credits i = takes_right law f.credits f.inward place h.serves.mark h.serves.packet h.receiver_after s.inward h.serves.there h.serves.now in
     let q : IsRightWith f.credits o = any_right law f.credits f.outward (completion_to f.memory h.serves.packet) h.serves.mark h.sender_after s.outward h.serves.acts.enters in
-    subst HasRightLanes (sym h.now) (memory_set (record f { inward = i; outward = o }) h.memory_after (outward_set (record f { inward = i }) o (inward_set f i (lanes_of f s) r) q))
+    subst HasRightLanes (sym h.now) (memory_set (record f { inward = i; outward = o }) h.memory_after (subst (λ (m : State). SamePlace m f.memory) (sym h.serves.acts.now) (serves_there f.memory h.serves.packet h.serves.mark)) (outward_set (record f { inward = i }) o (inward_set f i (lanes_of f s) r) q))
 
 -- ---- Collect
 

@@ -8,7 +8,7 @@ use Rattle.fc_credit.specs.Needs.{need_of}
 use Rattle.vc_queue.specs.Queue.{is_takeable}
 use Rattle.lane_core.specs.Steps.{Ends, Incoming, Outgoing, may_enter, entered, after_take}
 use Rattle.lane_core.specs.Calls.{Call, Enter, Take, IsCall, happens, content, content_after, IsRightWith, IsRight}
-use Rattle.fabric_laws.specs.Lists.{Each}
+pub use Rattle.fabric_laws.specs.ListFacts.{each_at, get_before}
 use Rattle.fabric_laws.specs.Events.{IsTakenAt, are_entered}
 use Rattle.fabric_core.specs.declared.event.LinkEvent.{LinkEvent}
 use Rattle.fabric_core.specs.declared.event.LinkEvent.TheVariants as links
@@ -29,16 +29,6 @@ kept_set P (z ∷ xs) zero y f p zero x e = let is : y ≡ x = cc in subst (P ze
 kept_set P (z ∷ xs) zero y f p (suc i) x e = f (suc i) x e
 kept_set P (z ∷ xs) (suc k) y f p zero x e = f zero x e
 kept_set P (z ∷ xs) (suc k) y f p (suc i) x e = kept_set (λ n. P (suc n)) xs k y (λ n w h. f (suc n) w h) p i x e
-
-pub each_at : {X : Type 0} (P : X → Type 0) (xs : List X) (n : ℕ) (x : X) → slice_get xs n ≡ Some x → Each P xs → P x
-each_at P [] n x e a = absurd (cc)
-each_at P (y ∷ xs) zero x e a = let same : y ≡ x = cc in subst P same a.0
-each_at P (y ∷ xs) (suc n) x e a = each_at P xs n x e a.1
-
-pub get_before : {X : Type 0} (xs ys : List X) (n : ℕ) (x : X) → slice_get xs n ≡ Some x → slice_get (xs ++ ys) n ≡ Some x
-get_before [] ys n x e = absurd (cc)
-get_before (y ∷ xs) ys zero x e = e
-get_before (y ∷ xs) ys (suc n) x e = get_before xs ys n x e
 
 if_true : {X : Type 0} (P : X → Type 0) (p q : X) (b : Bool) → b ≡ true → P (if b then p else q) → P p
 if_true P p q true e h = h

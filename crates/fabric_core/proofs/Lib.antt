@@ -1,4 +1,5 @@
 pub mod Rooms
+pub mod FromParts
 pub mod Indexed
 pub mod Lanes
 pub mod Kept

@@ -24,24 +24,8 @@ use Rattle.lane_core.specs.declared.packet.DllpSeen.TheVariants as seen
 use Rattle.lane_core.specs.Steps.{Outgoing, Incoming, may_enter, entered, with_room, delivered, after_deliver, dllp_seen, is_expected, after_dllp, sender_after}
 use Rattle.switch_core.specs.declared.fault.ForwardRefusal.{ForwardRefusal}
 use Rattle.switch_core.specs.declared.fault.ForwardRefusal.TheVariants.{NotTakeable, Lane}
-use Rattle.fabric_core.specs.Footprints.{Enters, LacksRoom, IsHeld}
-
--- where neither credits nor the window lack room
-has_room : (s : Outgoing) (need : Need) → ¬ (gate_covers s.gate need ≡ false) → ¬ (IsTrue (gate_covers s.gate need) × (2047 ≤ length s.sending.kept)) → may_enter s need ≡ true
-has_room s need k w = by_cover (gate_covers s.gate need) refl
-  where
-    by_cover : (b : Bool) → gate_covers s.gate need ≡ b → may_enter s need ≡ true
-    by_cover false e = absurd (k e)
-    by_cover true e =
-        let room : length s.sending.kept < 2047 = lt_of_not-le (λ big. w (e, big)) in
-        let test : nat_lt (length s.sending.kept) 2047 ≡ true = grind (arith, nat_tests) in
-        rw (e, test) refl
-
--- what was refused for neither credits nor the window may enter
-pub may : {A : Type 0} (r : Result A LaneRefusal) (s : Outgoing) (need : Need) → ¬ (r ≡ Err (NoCredits need.class)) → ¬ (r ≡ Err WindowFull) →
-    (r ≡ Err (NoCredits need.class)) ↔ (gate_covers s.gate need ≡ false) →
-    (r ≡ Err WindowFull) ↔ (IsTrue (gate_covers s.gate need) × (2047 ≤ length s.sending.kept)) → may_enter s need ≡ true
-may r s need k w n f = has_room s need (λ e. k (n.1 e)) (λ e. w (f.1 e))
+use Rattle.lane_core.specs.Refusals.{LacksRoom}
+use Rattle.fabric_core.specs.Footprints.{Enters, IsHeld}
 
 pub when_ok : {A E P : Type 0} (r : Result A E) → IsOk r → OnOk r P → P
 when_ok (Ok a) i h = h
@@ -104,50 +88,13 @@ protocol_stays (d ∷ ds) s Good f e = by_test (is_expected s.sending d) refl
 
 -- ---- what the switch doesn't forward
 
--- there is an item at a place that is takeable
-there : (earlier queue : List Item) (place : ℕ) → first_passes earlier (drop place queue) ≡ true → (item : Item) × (slice_get queue place ≡ Some item)
-there earlier [] zero e = cc
-there earlier [] (suc place) e = cc
-there earlier (item ∷ queue) zero e = (item, refl)
-there earlier (item ∷ queue) (suc place) e = there earlier queue place e
-
-one_item : (x y : Item) → Some x ≡ Some y → x ≡ y
-one_item x y e = ap first_in e
-  where
-    first_in : Option Item → Item
-    first_in None = x
-    first_in (Some z) = z
-
-lacks : {A : Type 0} (r : Result A ForwardRefusal) (s : Outgoing) (need : Need) (x : LaneRefusal) → r ≡ Err (Lane x) →
-    (r ≡ Err (Lane (NoCredits need.class))) ↔ (gate_covers s.gate need ≡ false) →
-    (r ≡ Err (Lane WindowFull)) ↔ (IsTrue (gate_covers s.gate need) × (2047 ≤ length s.sending.kept)) →
-    ((c : Class) → r ≡ Err (Lane (NoCredits c)) → c ≡ need.class) → LacksRoom s need x
-lacks r s need (NoCredits c) e n f k = (k c e, n.0 (e ∙ ap (λ (d : Class). Err (Lane (NoCredits d))) (k c e)))
-lacks r s need WindowFull e n f k = f.0 e
-lacks r s need Memory e n f k =
-    has_room s need
-    (λ g. let bad : Err (Lane Memory) ≡ Err (Lane (NoCredits need.class)) = sym e ∙ n.1 g in cc)
-    (λ g. let bad : Err (Lane Memory) ≡ Err (Lane WindowFull) = sym e ∙ f.1 g in cc)
-
 -- the packet may go, and why its lane has no room for it
 pub held : {A : Type 0} (from : Incoming) (place : ℕ) (to : Outgoing) (r : Result A ForwardRefusal) (x : LaneRefusal) → r ≡ Err (Lane x) →
     (r ≡ Err NotTakeable) ↔ (is_takeable from.queue place ≡ false) →
-    ((item : Item) → slice_get from.queue place ≡ Some item → IsTrue (is_takeable from.queue place) →
-    (r ≡ Err (Lane (NoCredits (need_of item.0).class))) ↔ (gate_covers to.gate (need_of item.0) ≡ false)) →
-    ((item : Item) → slice_get from.queue place ≡ Some item → IsTrue (is_takeable from.queue place) →
-    (r ≡ Err (Lane WindowFull)) ↔ (IsTrue (gate_covers to.gate (need_of item.0)) × (2047 ≤ length to.sending.kept))) →
-    ((c : Class) → r ≡ Err (Lane (NoCredits c)) → (item : Item) × (slice_get from.queue place ≡ Some item) × (c ≡ (need_of item.0).class)) →
+    (item : Item) × (slice_get from.queue place ≡ Some item) × (LacksRoom to (need_of item.0) x) →
     IsHeld from place to x
-held from place to r x e t n f k = by_test (is_takeable from.queue place) refl
+held from place to r x e t at = by_test (is_takeable from.queue place) refl
   where
     by_test : (b : Bool) → is_takeable from.queue place ≡ b → IsHeld from place to x
     by_test false q = let bad : Err (Lane x) ≡ Err NotTakeable = sym e ∙ t.1 q in cc
-    by_test true q =
-        let at = there (take place from.queue) from.queue place q in
-        record {
-          packet = at.0.0;
-          mark = at.0.1;
-          there = record { takeable = q; item = at.1 };
-          lacks = lacks r to (need_of at.0.0) x e (n at.0 at.1 q) (f at.0 at.1 q)
-              (λ c h. let found = k c h in subst (λ (item : Item). c ≡ (need_of item.0).class) (one_item found.0 at.0 (sym found.1 ∙ at.1)) found.2);
-        }
+    by_test true q = record { packet = at.0.0; mark = at.0.1; there = record { takeable = q; item = at.1 }; lacks = at.2 }

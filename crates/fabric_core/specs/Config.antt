@@ -8,7 +8,6 @@ use Rattle.fabric_laws.specs.Fabric.{Fabric}
 use Rattle.fabric_core.specs.declared.config.Config.{Config}
 use Rattle.fabric_core.specs.declared.config.ConfigFault.{ConfigFault}
 use Rattle.fabric_core.specs.declared.config.ConfigFault.TheVariants as faults
-use Rattle.fabric_core.specs.Kept.{down_credits}
 
 abbrev pub IsBetween : ℕ → ℕ → ℕ → Type 0
 IsBetween least most n = (least ≤ n) × (n ≤ most)
@@ -29,6 +28,14 @@ pub record IsConfig (c : Config) : Type 0 where
   pub base : IsBase c.base c.size
   pub credits : AreCredits c.credits
   pub block : IsBlock c.block
+
+-- the configuration of a fabric, read off its parts
+abbrev pub config_of : Fabric → Config
+config_of f = record { requesters = length f.requesters; base = f.memory.base; size = f.memory.size; credits = f.credits; block = f.memory.block }
+
+-- `down` lanes have infinite completion credits
+abbrev pub down_credits : LaneCredits → LaneCredits
+down_credits c = record { ph = c.ph; pd = c.pd; nph = c.nph; npd = c.npd; cplh = 0; cpld = 0 }
 
 -- the first fault, in this order: Requesters, Size, Base, Credits, Block; want of memory comes only where there is none
 abbrev pub HasFault : Config → ConfigFault → Type 0

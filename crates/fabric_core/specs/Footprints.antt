@@ -9,16 +9,18 @@ use Rattle.dllp_core.specs.declared.packet.Dllp.{Dllp}
 use Rattle.completer_core.specs.Serving.{completion_to, after_serving}
 use Rattle.requester_core.specs.declared.requester.Answer.{Answer}
 use Rattle.requester_core.specs.Requesting.{Requesting, IsSound, prepared, after_opened, finished, after_finish}
-use Rattle.fc_credit.specs.declared.needs.Need.{Need}
 use Rattle.fc_credit.specs.Needs.{need_of}
-use Rattle.fc_credit.specs.Credits.{gate_covers}
 use Rattle.requester_core.specs.declared.fault.CompletionFault.{CompletionFault}
 use Rattle.switch_core.specs.declared.fault.RouteFault.{RouteFault}
 use Rattle.vc_queue.specs.Queue.{is_takeable}
 use Rattle.switch_core.specs.Routing.{route}
 use Rattle.lane_core.specs.declared.packet.Fate.{Fate}
+use Rattle.lane_core.specs.declared.packet.WirePacket.{WirePacket}
 use Rattle.lane_core.specs.declared.packet.LaneRefusal.{LaneRefusal}
-use Rattle.lane_core.specs.declared.packet.LaneRefusal.TheVariants.{NoCredits, WindowFull, Memory}
+use Rattle.lane_core.specs.declared.packet.LaneRefusal.TheVariants.{Memory}
+use Rattle.lane_core.specs.Refusals.{LacksRoom}
+use Rattle.lane_core.specs.declared.packet.Arrival.TheVariants.{Answered}
+use Rattle.link_receiver.specs.declared.receiver.Reception.TheVariants.{Accept}
 use Rattle.lane_core.specs.Steps.{Ends, Incoming, Outgoing, may_enter, entered, transmitted, delivered, dllp_of, dllp_seen, after_take}
 use Rattle.lane_core.specs.Calls.{Call, Transmit, Deliver, SendDllp, DeliverDllp, Timer, Retrained, happens}
 use Rattle.fabric_core.specs.declared.event.LinkEvent.{LinkEvent}
@@ -35,12 +37,6 @@ pub record Enters (s : Outgoing) (t : Packet) (mark : ℕ) (s' : Outgoing) : Typ
   pub may : may_enter s (need_of t) ≡ true
   pub spelled : Spells (canonical t) t
   pub now : s' ≡ entered s t mark
-
--- why there is no room for a packet of this need: want of memory comes only where credits and window have room
-abbrev pub LacksRoom : Outgoing → Need → LaneRefusal → Type 0
-LacksRoom s need (NoCredits class) = (class ≡ need.class) × (gate_covers s.gate need ≡ false)
-LacksRoom s need WindowFull = (gate_covers s.gate need ≡ true) × (2047 ≤ length s.sending.kept)
-LacksRoom s need Memory = may_enter s need ≡ true
 
 -- the packet of a place, which may pass each earlier one
 pub record IsAt (r : Incoming) (place : ℕ) (t : Packet) (mark : ℕ) : Type 0 where
@@ -93,28 +89,46 @@ pub record Links (e : Ends) (event : LinkEvent) (what : Seen) (e' : Ends) : Type
   pub sees : IsSeen e event what
   pub now : e' ≡ happens e (call_of event)
 
--- a wire can't grow
-abbrev pub NoMemory : Refusal → Type 0 → Type 0
-NoMemory (refusals.Lane Memory) p = p
-NoMemory _ p = ⊥
+-- there is no packet to send; or the wire can't grow for the one that there is
+abbrev pub TransmitRefused : Outgoing → Refusal → Type 0
+TransmitRefused s refusals.Idle = transmitted s ≡ None
+TransmitRefused s (refusals.Lane Memory) = transmitted s ≢ None
+TransmitRefused s _ = ⊥
 
-abbrev pub IdleOr : Refusal → Type 0 → Type 0 → Type 0
-IdleOr refusals.Idle idle p = idle
-IdleOr r idle p = NoMemory r p
+-- the wire is empty; or the queue can't grow for the packet that would be accepted
+abbrev pub DeliverRefused : List WirePacket → Incoming → Fate → Refusal → Type 0
+DeliverRefused forward r fate refusals.Idle = forward ≡ []
+DeliverRefused forward r fate (refusals.Lane Memory) = delivered forward r fate ≡ Some (Answered Accept)
+DeliverRefused forward r fate _ = ⊥
 
+-- the wire can't grow, as it does with each DLLP
+abbrev pub SendDllpRefused : Refusal → Type 0
+SendDllpRefused (refusals.Lane Memory) = Unit {0}
+SendDllpRefused _ = ⊥
+
+-- the wire is empty; or a good Ack or Nak names no packet
 abbrev pub DllpRefused : List Dllp → Outgoing → Fate → Refusal → Type 0
 DllpRefused back s fate refusals.Idle = back ≡ []
 DllpRefused back s fate (refusals.Protocol f) = dllp_seen back s fate ≡ Err f
 DllpRefused back s fate _ = ⊥
 
+-- there is no place to move back
+abbrev pub TimerRefused : Outgoing → Refusal → Type 0
+TimerRefused s refusals.Idle = s.sending.place ≡ 0
+TimerRefused s _ = ⊥
+
+-- the sender isn't stopped
+abbrev pub RetrainedRefused : Outgoing → Refusal → Type 0
+RetrainedRefused s refusals.Idle = s.sending.stopped ≡ false
+RetrainedRefused s _ = ⊥
+
 abbrev pub LinkRefused : Ends → LinkEvent → Refusal → Type 0
-LinkRefused e links.Transmit r = IdleOr r (transmitted e.sender ≡ None) (transmitted e.sender ≢ None)
-LinkRefused e (links.Deliver fate) r = IdleOr r (e.forward ≡ []) (e.forward ≢ [])
-LinkRefused e (links.SendDllp kind) r = NoMemory r (Unit {0})
+LinkRefused e links.Transmit r = TransmitRefused e.sender r
+LinkRefused e (links.Deliver fate) r = DeliverRefused e.forward e.receiver fate r
+LinkRefused e (links.SendDllp kind) r = SendDllpRefused r
 LinkRefused e (links.DeliverDllp fate) r = DllpRefused e.back e.sender fate r
-LinkRefused e links.Timer refusals.Idle = e.sender.sending.place ≡ 0
-LinkRefused e links.Retrained refusals.Idle = e.sender.sending.stopped ≡ false
-LinkRefused e _ _ = ⊥
+LinkRefused e links.Timer r = TimerRefused e.sender r
+LinkRefused e links.Retrained r = RetrainedRefused e.sender r
 
 -- ---- Forward, over a receiver's end and the sender's end of the next lane
 

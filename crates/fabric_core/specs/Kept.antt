@@ -1,6 +1,5 @@
 -- What holds of a fabric whatever happens to it.
 use Rattle.std.specs.Prelude.{ℕ, ◌≡◌, List, [], ◌∷◌, Some, slice_get}
-use Rattle.fc_credit.specs.declared.limits.LaneCredits.{LaneCredits}
 use Rattle.lane_core.specs.Steps.{Ends}
 use Rattle.lane_core.specs.Calls.{IsRightWith}
 use Rattle.history_check.specs.declared.Record.{Record}
@@ -15,13 +14,12 @@ use Rattle.fabric_core.specs.declared.event.Seen.TheVariants as seen
 use Rattle.fabric_core.specs.declared.fault.Refusal.{Refusal}
 use Rattle.fabric_core.specs.declared.fault.Refusal.TheVariants as refusals
 use Rattle.fabric_core.specs.Steps.{HasLanes}
+use Rattle.fabric_core.specs.Config.{IsConfig, config_of}
+pub use Rattle.fabric_core.specs.Config.{down_credits}
 
--- `down` lanes have infinite completion credits
-abbrev pub down_credits : LaneCredits → LaneCredits
-down_credits c = record { ph = c.ph; pd = c.pd; nph = c.nph; npd = c.npd; cplh = 0; cpld = 0 }
-
--- each lane is right with its credits, every packet has its port, and the whole is sound
+-- a fabric of its configuration can be made, each lane is right with its credits, every packet has its port, and the whole is sound
 pub record IsSoundFabric (f : Fabric) : Type 0 where
+  pub config : IsConfig (config_of f)
   pub lanes : HasLanes f
   pub inward : IsRightWith f.credits f.inward
   pub outward : IsRightWith f.credits f.outward

@@ -5,8 +5,9 @@ ghost use Rattle.dllp_core.specs.declared.packet.Dllp.{Dllp};
 ghost use Rattle.fc_credit.specs.Needs.{need_of};
 ghost use Rattle.completer_core.specs.Serving.{completion_to, after_serving};
 ghost use Rattle.lane_core.specs.Steps.{may_enter, with_room, after_timer, after_retraining, transmitted, after_transmission, wire_after_transmit, all_but_first, delivered, after_deliver, dllp_of, after_send, wire_after_send, dllp_seen, sender_after};
+ghost use Rattle.lane_core.specs.Refusals.{LacksRoom};
 ghost use Rattle.switch_core.specs.Forwarding.{Forwards};
-ghost use Rattle.fabric_core.specs.Footprints.{Enters, LacksRoom, Submits, SubmitRefused, ForwardRefused, IsRoutedAs, DestinationRefused, Acts, ActRefused, DllpRefused, Serves, ServeRefused, Collects, CollectRefused};
+ghost use Rattle.fabric_core.specs.Footprints.{Enters, Submits, SubmitRefused, TransmitRefused, DeliverRefused, SendDllpRefused, DllpRefused, TimerRefused, RetrainedRefused, ForwardRefused, IsRoutedAs, DestinationRefused, Acts, ActRefused, Serves, ServeRefused, Collects, CollectRefused};
 
 use crate::fault::Refusal;
 use completer_core::{serve as serve_request, shape};
@@ -59,7 +60,7 @@ pub fn transmit(sender: &mut SenderEnd, wire: &mut ForwardWire) -> Result<Seq12,
     ensures sender { OnOk result (sender.new ≡ after_transmission sender.old) }
     ensures wire { OnOk result (wire.new ≡ wire_after_transmit sender.old wire.old) }
     ensures idle { (result ≡ Err Refusal.Idle) ↔ (transmitted sender.old ≡ None) }
-    ensures errors { IfErr result (λ r. (r ≡ Refusal.Idle) ⊎ (r ≡ Refusal.Lane LaneRefusal.Memory)) }
+    ensures refused { IfErr result (λ r. TransmitRefused sender.old r) }
     ensures err_sender { OnErr result (sender.new ≡ sender.old) }
     ensures err_wire { OnErr result (wire.new ≡ wire.old) }
 {
@@ -84,7 +85,7 @@ pub fn deliver(
     ensures receiver { OnOk result (receiver.new ≡ after_deliver wire.old receiver.old fate) }
     ensures wire { OnOk result (wire.new ≡ all_but_first wire.old) }
     ensures idle { (result ≡ Err Refusal.Idle) ↔ (wire.old ≡ []) }
-    ensures errors { IfErr result (λ r. (r ≡ Refusal.Idle) ⊎ (r ≡ Refusal.Lane LaneRefusal.Memory)) }
+    ensures refused { IfErr result (λ r. DeliverRefused wire.old receiver.old fate r) }
     ensures err_receiver { OnErr result (receiver.new ≡ receiver.old) }
     ensures err_wire { OnErr result (wire.new ≡ wire.old) }
 {
@@ -108,7 +109,7 @@ pub fn send_dllp(
     ensures in_range { IfOk result (λ dllp. FitsDataFC dllp) }
     ensures receiver { OnOk result (receiver.new ≡ after_send receiver.old kind) }
     ensures wire { OnOk result (wire.new ≡ wire_after_send receiver.old kind wire.old) }
-    ensures errors { IfErr result (λ r. r ≡ Refusal.Lane LaneRefusal.Memory) }
+    ensures refused { IfErr result (λ r. SendDllpRefused r) }
     ensures err_receiver { OnErr result (receiver.new ≡ receiver.old) }
     ensures err_wire { OnErr result (wire.new ≡ wire.old) }
 {
@@ -146,7 +147,7 @@ pub fn timer(sender: &mut SenderEnd) -> Result<usize, Refusal>
     ensures moved { IfOk result (λ moved. (moved ≡ sender.old.sending.place) × (0 < moved)) }
     ensures ok { OnOk result (sender.new ≡ after_timer sender.old) }
     ensures idle { (result ≡ Err Refusal.Idle) ↔ (sender.old.sending.place ≡ 0) }
-    ensures errors { IfErr result (λ r. r ≡ Refusal.Idle) }
+    ensures refused { IfErr result (λ r. TimerRefused sender.old r) }
     ensures err { OnErr result (sender.new ≡ sender.old) }
 {
     let moved = sender.timer();
@@ -161,7 +162,7 @@ pub fn retrained(sender: &mut SenderEnd) -> Result<(), Refusal>
     ensures stopped { OnOk result (sender.old.sending.stopped ≡ true) }
     ensures ok { OnOk result (sender.new ≡ after_retraining sender.old) }
     ensures idle { (result ≡ Err Refusal.Idle) ↔ (sender.old.sending.stopped ≡ false) }
-    ensures errors { IfErr result (λ r. r ≡ Refusal.Idle) }
+    ensures refused { IfErr result (λ r. RetrainedRefused sender.old r) }
     ensures err { OnErr result (sender.new ≡ sender.old) }
 {
     if !sender.retrained() {

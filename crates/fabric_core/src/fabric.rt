@@ -112,6 +112,8 @@ impl Fabric {
     pub fn new(config: Config, alloc: Global) -> Result<Fabric, ConfigFault>
         ensures ok { IfOk result (λ f. IsNewWith config f) }
         ensures belongs { IfOk result (λ f. Belongs (whole_of f) []) }
+        ensures quiet { IfOk result (λ f. IsQuiet f) }
+        ensures empty { IfOk result (λ f. f.memory.entries ≡ []) }
         ensures fault { IfErr result (λ fault. HasFault config fault) }
     {
         config.test()?;

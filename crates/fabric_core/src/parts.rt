@@ -1,6 +1,7 @@
 //! The parts of a fabric, and the events by their ports and lanes.
 ghost use Rattle.std.specs.Prelude.{◌≡◌, ◌↔◌, ◌<◌, ◌≤◌, ℕ, [], suc, length, IsTrue, IfOk, IfErr, OnOk, OnErr};
 
+use crate::config::Config;
 use crate::event::{Event, LaneName, LinkEvent, Seen};
 use crate::events;
 use crate::fault::Refusal;
@@ -121,6 +122,7 @@ impl Model for Parts {
 }
 
 ghost use Rattle.fabric_core.specs.Steps.{IsNoPort, LinksIn, LinkInRefused, LinksAt, LinkAtRefused, SubmitsAt, SubmitAtRefused, ForwardsUp, ForwardUpRefused, ForwardsOut, ForwardOutRefused, ServesAt, CollectsAt, CollectAtRefused, Happens, Refused, HasLanes};
+ghost use Rattle.fabric_core.specs.Config.{config_of};
 ghost use Rattle.fabric_core.specs.Footprints.{ServeRefused};
 ghost use Rattle.fabric_core.specs.Quiet.{AreStill, IsStillFabric};
 
@@ -159,6 +161,20 @@ fn are_still(lanes: &[LaneParts]) -> bool
 }
 
 impl Parts {
+    /// What a fabric of these parts is made of, read off them.
+    pub fn config(&self) -> Config
+        requires { HasLanes self.now }
+        ensures { result ≡ config_of self.now }
+    {
+        Config {
+            requesters: self.requesters.len() as u8,
+            base: self.memory.base(),
+            size: self.memory.bytes().len(),
+            credits: self.credits,
+            block: self.memory.block(),
+        }
+    }
+
     /// Whether every lane is still.
     pub(crate) fn is_still(&self) -> bool
         ensures { IsTrue result ↔ IsStillFabric self.now }

@@ -1,5 +1,5 @@
 //! Lists of events, and their traces.
-ghost use Rattle.std.specs.Prelude.{◌≡◌, ◌<◌, ◌⊎◌, ◌++◌, ◌∷◌, [], ℕ, List, length, take, vec_len, vec_capacity, IfErr, OnOk, OnErr};
+ghost use Rattle.std.specs.Prelude.{◌≡◌, ◌<◌, ◌⊎◌, ◌++◌, ◌∷◌, [], ℕ, List, length, take, vec_len, vec_capacity, true, option_to_list, IfOk, IfErr, OnOk, OnErr};
 ghost use Rattle.history_check.specs.declared.Record.{Record};
 ghost use Rattle.history_check.specs.Claim.{claim_of};
 ghost use Rattle.seq_memory.specs.Limits.{IsBlock};
@@ -7,9 +7,9 @@ ghost use Rattle.history_check.specs.Trace.{Explains};
 ghost use Rattle.fabric_laws.specs.Fabric.{whole_of};
 ghost use Rattle.fabric_laws.specs.Trace.{Belongs};
 ghost use Rattle.seq_memory.specs.declared.Entry.{Entry};
-ghost use Rattle.fabric_core.specs.Kept.{IsSoundFabric, IsPossible};
+ghost use Rattle.fabric_core.specs.Kept.{IsSoundFabric, IsPossible, records_of};
 ghost use Rattle.fabric_core.specs.Steps.{Refused};
-ghost use Rattle.fabric_core.specs.Runs.{Runs, Recorded, Stops, done, trace_in, number_in, answer_in};
+ghost use Rattle.fabric_core.specs.Runs.{Runs, Recorded, LacksRecord, Stops, done, has_record, trace_in};
 
 use crate::event::{Event, Seen};
 use crate::fabric::Fabric;
@@ -18,7 +18,6 @@ use crate::laws::each_event_keeps_it_sound;
 use arrayvec::ArrayVec;
 use fabric_laws::laws::the_trace_belongs;
 use history_check::{Record, Trace};
-use requester_core::Answer;
 use std::alloc::Global;
 use tlp_core::Op;
 
@@ -95,20 +94,29 @@ fn copy_of(op: &Op) -> Op
     }
 }
 
-fn number_in(seen: &Seen) -> Option<u32>
-    ensures { result ≡ number_in seen.now }
+/// What an event adds to a trace, `n` being the length of the history before it.
+fn record_of(event: &Event, seen: Seen, n: u64) -> Option<Record>
+    ensures { option_to_list result ≡ records_of event.now seen n }
 {
-    match seen {
-        Seen::Submitted(number) => Some(*number),
-        _ => None,
-    }
-}
-
-fn answer_in(seen: Seen) -> Option<Answer>
-    ensures { result ≡ answer_in seen }
-{
-    match seen {
-        Seen::Collected(answer) => Some(answer),
+    match event {
+        Event::Submit(port, op) => match seen {
+            Seen::Submitted(number) => Some(Record::Sub {
+                requester: *port,
+                number,
+                op: copy_of(op),
+                n,
+            }),
+            _ => None,
+        },
+        Event::Collect(port) => match seen {
+            Seen::Collected(answer) => Some(Record::Ans {
+                requester: *port,
+                number: answer.number,
+                reply: answer.reply,
+                n,
+            }),
+            _ => None,
+        },
         _ => None,
     }
 }
@@ -134,51 +142,33 @@ fn push_kept(records: &mut Vec<Record>, last: Record)
 }
 
 impl Fabric {
-    /// A submission, and its record.
-    fn run_submit(
-        &mut self,
-        event: &Event,
-        port: u8,
-        op: &Op,
-        records: &mut Vec<Record>,
-    ) -> Result<(), Refusal>
-        requires { event.now ≡ Event.Submit port op.now }
-        ensures ok { OnOk result (Recorded self.old event.now records.old.items self.new records.new.items) }
-        ensures refused { IfErr result (λ r. (Refused self.old event.now r) ⊎ (r ≡ Refusal.Memory)) }
+    /// An event, and what it adds to a trace: a submission and an answer have a record, with the length of the history
+    /// before the event. It is refused as [`step`](Self::step) is.
+    ///
+    /// A trace that belonged to the fabric before, followed by the record, belongs to the fabric after, and the history
+    /// explains it.
+    pub fn step_recorded(&mut self, event: &Event) -> Result<Option<Record>, Refusal>
+        ensures ok { IfOk result (λ told. Recorded self.old event.now [] self.new (option_to_list told)) }
+        ensures refused { IfErr result (λ r. Refused self.old event.now r) }
         ensures possible { IfErr result (λ r. IsPossible r) }
+        ensures belongs { IfOk result (λ told. (rs : List Record) → Belongs (whole_of self.old) rs → Belongs (whole_of self.new) (rs ++ option_to_list told)) }
         ensures sound { IsSoundFabric self.new }
         ensures err { OnErr result (self.new ≡ self.old) }
-        ensures err_records { OnErr result (records.new.items ≡ records.old.items) }
     {
         self.sound();
-        keep_place(records)?;
+        the_trace_belongs();
         let n = self.history().len() as u64;
-        let seen = match self.step(event) {
-            Ok(seen) => seen,
-            Err(refusal) => return Err(refusal),
-        };
-        if let Some(number) = number_in(&seen) {
-            let last = Record::Sub {
-                requester: port,
-                number,
-                op: copy_of(op),
-                n,
-            };
-            push_kept(records, last);
+        match self.step(event) {
+            Ok(seen) => Ok(record_of(event, seen, n)),
+            Err(refusal) => Err(refusal),
         }
-        Ok(())
     }
 
-    /// A completion that is collected, and its record.
-    fn run_collect(
-        &mut self,
-        event: &Event,
-        port: u8,
-        records: &mut Vec<Record>,
-    ) -> Result<(), Refusal>
-        requires { event.now ≡ Event.Collect port }
+    /// An event that has a record, and its record.
+    fn run_recorded(&mut self, event: &Event, records: &mut Vec<Record>) -> Result<(), Refusal>
+        requires { has_record event.now ≡ true }
         ensures ok { OnOk result (Recorded self.old event.now records.old.items self.new records.new.items) }
-        ensures refused { IfErr result (λ r. (Refused self.old event.now r) ⊎ (r ≡ Refusal.Memory)) }
+        ensures refused { IfErr result (λ r. (Refused self.old event.now r) ⊎ LacksRecord event.now r) }
         ensures possible { IfErr result (λ r. IsPossible r) }
         ensures sound { IsSoundFabric self.new }
         ensures err { OnErr result (self.new ≡ self.old) }
@@ -186,35 +176,27 @@ impl Fabric {
     {
         self.sound();
         keep_place(records)?;
-        let length = self.history().len();
-        let seen = match self.step(event) {
-            Ok(seen) => seen,
-            Err(refusal) => return Err(refusal),
-        };
-        if let Some(answer) = answer_in(seen) {
-            let last = Record::Ans {
-                requester: port,
-                number: answer.number,
-                reply: answer.reply,
-                n: length as u64,
-            };
-            push_kept(records, last);
+        match self.step_recorded(event) {
+            Ok(Some(record)) => {
+                push_kept(records, record);
+                Ok(())
+            }
+            Ok(None) => Ok(()),
+            Err(refusal) => Err(refusal),
         }
-        Ok(())
     }
 
     /// An event, and its record if it has one.
     fn run_event(&mut self, event: &Event, records: &mut Vec<Record>) -> Result<(), Refusal>
         ensures ok { OnOk result (Recorded self.old event.now records.old.items self.new records.new.items) }
-        ensures refused { IfErr result (λ r. (Refused self.old event.now r) ⊎ (r ≡ Refusal.Memory)) }
+        ensures refused { IfErr result (λ r. (Refused self.old event.now r) ⊎ LacksRecord event.now r) }
         ensures possible { IfErr result (λ r. IsPossible r) }
         ensures sound { IsSoundFabric self.new }
         ensures err { OnErr result (self.new ≡ self.old) }
         ensures err_records { OnErr result (records.new.items ≡ records.old.items) }
     {
         match event {
-            Event::Submit(port, op) => self.run_submit(event, *port, op, records),
-            Event::Collect(port) => self.run_collect(event, *port, records),
+            Event::Submit(_, _) | Event::Collect(_) => self.run_recorded(event, records),
             _ => match self.step(event) {
                 Ok(_) => Ok(()),
                 Err(refusal) => Err(refusal),
@@ -240,8 +222,8 @@ impl Fabric {
     }
 
     /// The events in turn, up to the first that is refused. Gives the trace: each submission and each answer, with the
-    /// length of the history before its event. A refusal is that of [`step`](Self::step), or `Memory` where the trace can't
-    /// grow; the events before its place have happened then, and their trace is told, too.
+    /// length of the history before its event. A refusal is that of [`step`](Self::step), or, of a
+    /// submission or a collection, `Memory` where the trace can't grow; the events before its place have happened then, and their trace is told, too.
     ///
     /// The history only grows. A trace that belonged to the fabric before, followed by this one, belongs to the fabric
     /// after, and the history explains it; so that of the first run of a new fabric is right under

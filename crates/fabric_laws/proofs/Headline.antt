@@ -19,7 +19,7 @@ use Rattle.fabric_laws.proofs.Keeps.{run_keeps}
 use Rattle.fabric_laws.proofs.Legal.{legal}
 use Rattle.fabric_laws.proofs.Belongs.{Silent, silent_belongs, submit_belongs, collect_belongs}
 
-forward_silent : (p : Whole) (i : ℕ) (p' : Whole) → Sound p → IsForward p i p' → Silent p p'
+pub forward_silent : (p : Whole) (i : ℕ) (p' : Whole) → Sound p → IsForward p i p' → Silent p p'
 forward_silent p i p' s e = subst (Silent p) (sym e.now) (record {
   same_shape = refl;
   new = [];
@@ -36,7 +36,7 @@ forward_silent p i p' s e = subst (Silent p) (sym e.now) (record {
     own : e.item.requester ≡ i
     own = (each_remove (IsRequestOf i) e.taken.before e.taken.behind e.item (subst (Each (IsRequestOf i)) e.taken.was (s i).own_requests)).0.0
 
-serve_silent : (p p' : Whole) → IsServe p p' → Silent p p'
+pub serve_silent : (p p' : Whole) → IsServe p p' → Silent p p'
 serve_silent p p' e = subst (Silent p) (sym e.now) (record {
   same_shape = refl;
   new = entry_of e.item ∷ [];
@@ -47,7 +47,7 @@ serve_silent p p' e = subst (Silent p) (sym e.now) (record {
       (subst (λ (w : List Item). Each P (path (record (view p j) { inward = w }))) e.taken.was a));
 })
 
-return_silent : (p p' : Whole) → IsReturn p p' → Silent p p'
+pub return_silent : (p p' : Whole) → IsReturn p p' → Silent p p'
 return_silent p p' e = subst (Silent p) (sym e.now) (record {
   same_shape = refl;
   new = [];

@@ -19,7 +19,7 @@ at_most_one : (b : Bool) → one_if b ≤ 1
 at_most_one true = omega arith
 at_most_one false = omega arith
 
-hits : (i k a b : ℕ) → ((i == a) && (k == b)) ≡ true → (a ≡ i) × (b ≡ k)
+pub hits : (i k a b : ℕ) → ((i == a) && (k == b)) ≡ true → (a ≡ i) × (b ≡ k)
 hits i k a b h = grind (arith, nat_tests)
 
 differs : (i k a b : ℕ) → b ≢ k → ((i == a) && (k == b)) ≡ false

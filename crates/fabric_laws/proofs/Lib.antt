@@ -11,6 +11,8 @@ pub mod Legal
 pub mod Records
 pub mod Belongs
 pub mod Headline
+pub mod Submitted
+pub mod Totals
 pub mod New
 pub mod Expected
 pub mod Packets

@@ -2,6 +2,7 @@
 use Rattle.std.proofs.Common.{◌≡◌, ℕ, zero, suc, ◌+◌, ◌<◌, ◌≤◌, Bool, true, List, [], ◌∷◌, ◌++◌, length, take, map, refl, sym, ap, ◌∙◌, subst, arith, Some, append_assoc}
 use Rattle.std.specs.Prelude.{slice_get}
 use Rattle.fabric_laws.specs.Lists.{Each, Pairs, one_if, count}
+pub use Rattle.fabric_laws.specs.ListFacts.{each_at, count_nil, get_before, get_seam}
 
 pub each_append : {X : Type 0} (P : X → Type 0) (xs ys : List X) → Each P xs → Each P ys → Each P (xs ++ ys)
 each_append P [] ys a b = b
@@ -26,11 +27,6 @@ each_always P (x ∷ xs) f = (f x, each_always P xs f)
 pub each_unmap : {X Y : Type 0} (P : Y → Type 0) (f : X → Y) (xs : List X) → Each P (map f xs) → Each (λ x. P (f x)) xs
 each_unmap P f [] a = tt
 each_unmap P f (x ∷ xs) a = (a.0, each_unmap P f xs a.1)
-
-pub each_at : {X : Type 0} (P : X → Type 0) (xs : List X) (n : ℕ) (x : X) → slice_get xs n ≡ Some x → Each P xs → P x
-each_at P [] n x e a = absurd (cc)
-each_at P (y ∷ xs) zero x e a = let same : y ≡ x = cc in subst P same a.0
-each_at P (y ∷ xs) (suc n) x e a = each_at P xs n x e a.1
 
 -- a new element x between two parts
 pub each_insert : {X : Type 0} (P : X → Type 0) (xs ys : List X) (x : X) → Each P (xs ++ ys) → P x → Each P (xs ++ x ∷ ys)
@@ -71,10 +67,6 @@ count_cons p x xs = refl
 pub count_one : {X : Type 0} (p : X → Bool) (x : X) → count p (x ∷ []) ≡ one_if (p x)
 unfolding count
 count_one p x = omega arith
-
-pub count_nil : {X : Type 0} (p : X → Bool) → count p [] ≡ 0
-unfolding count
-count_nil p = refl
 
 pub count_insert : {X : Type 0} (p : X → Bool) (xs ys : List X) (x : X) → count p (xs ++ x ∷ ys) ≡ one_if (p x) + count p (xs ++ ys)
 unfolding count
@@ -117,15 +109,6 @@ pub count_map_push : {X Y : Type 0} (p : Y → Bool) (f : X → Y) (xs : List X)
 unfolding count
 count_map_push p f [] x = omega arith
 count_map_push p f (z ∷ xs) x = let r : count p (map f (xs ++ x ∷ [])) ≡ count p (map f xs) + one_if (p (f x)) = count_map_push p f xs x in omega arith
-
-pub get_before : {X : Type 0} (xs ys : List X) (n : ℕ) (x : X) → slice_get xs n ≡ Some x → slice_get (xs ++ ys) n ≡ Some x
-get_before [] ys n x e = absurd (cc)
-get_before (z ∷ xs) ys zero x e = e
-get_before (z ∷ xs) ys (suc n) x e = get_before xs ys n x e
-
-pub get_seam : {X : Type 0} (xs ys : List X) (x : X) → slice_get (xs ++ x ∷ ys) (length xs) ≡ Some x
-get_seam [] ys x = refl
-get_seam (z ∷ xs) ys x = get_seam xs ys x
 
 pub take_before : {X : Type 0} (xs ys : List X) (n : ℕ) → n ≤ length xs → take n (xs ++ ys) ≡ take n xs
 take_before xs ys zero h = refl

@@ -1,4 +1,5 @@
 pub mod Lists
+pub mod ListFacts
 pub mod Whole
 pub mod Sound
 pub mod Trace

@@ -1,5 +1,5 @@
 -- When the records of a trace belong to a fabric.
-use Rattle.std.specs.Prelude.{ℕ, ◌≡◌, ◌≤◌, false, List, length, take, Some, slice_get}
+use Rattle.std.specs.Prelude.{ℕ, ◌≡◌, ◌≤◌, ◌+◌, false, List, [], ◌∷◌, length, take, Some, slice_get}
 use Rattle.std.specs.List.{list_any}
 use Rattle.tlp_core.specs.declared.operation.Op.{Op}
 use Rattle.tlp_core.specs.Operation.{is_posted}
@@ -7,12 +7,17 @@ use Rattle.history_check.specs.declared.Record.{Record}
 use Rattle.history_check.specs.declared.Record.TheVariants.{Sub, Ans}
 use Rattle.history_check.specs.Trace.{submissions, IsNumbered, answers_to, stands, IsLinear}
 use Rattle.fabric_laws.specs.Lists.{Each}
-use Rattle.fabric_laws.specs.Whole.{Whole, View, view, memory_of, open_at, requester_of, path}
+use Rattle.fabric_laws.specs.Whole.{Whole, Requesting, View, view, memory_of, open_at, requester_of, path}
 
 -- the operations are those that requester i submitted: as many as its next number, and each request on its path is as submitted
 pub record IsMade (i : ℕ) (v : View) (ops : List Op) : Type 0 where
   pub spent : length ops ≡ v.requester.next
   pub each : Each (λ e. e.requester ≡ i → slice_get ops e.number ≡ Some e.op) (path v)
+
+-- how many operations these requesters submitted, in all
+abbrev pub submitted_by : List Requesting → ℕ
+submitted_by [] = 0
+submitted_by (q ∷ qs) = q.next + submitted_by qs
 
 -- the length of the history at the record
 abbrev pub moment : Record → ℕ

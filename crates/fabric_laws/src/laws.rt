@@ -2,6 +2,7 @@
 ghost use Rattle.std.specs.Prelude.{◌≡◌, ◌≢◌, ◌<◌, ℕ, suc, Some, Ok, List, [], ◌∷◌, ◌++◌, length, slice_get, is_some, true};
 ghost use Rattle.tlp_core.specs.declared.operation.Op.{Op};
 ghost use Rattle.seq_memory.specs.declared.Entry.{Entry};
+ghost use Rattle.seq_memory.specs.declared.Reply.{Reply};
 ghost use Rattle.requester_core.specs.declared.requester.Answer.{Answer};
 ghost use Rattle.tlp_core.specs.Packet.{Packet};
 ghost use Rattle.tlp_core.specs.Operation.{op_of};
@@ -10,10 +11,10 @@ ghost use Rattle.lane_core.specs.Steps.{Ends};
 ghost use Rattle.lane_core.specs.Calls.{content};
 ghost use Rattle.history_check.specs.declared.Record.{Record};
 ghost use Rattle.history_check.specs.declared.Record.TheVariants.{Sub, Ans};
-ghost use Rattle.history_check.specs.Trace.{Explains};
-ghost use Rattle.fabric_laws.specs.Whole.{Whole, Item, memory_of, up_of, down_of, requester_of, open_at};
+ghost use Rattle.history_check.specs.Trace.{Explains, IsLegal, answers_to, submissions};
+ghost use Rattle.fabric_laws.specs.Whole.{Whole, Item, view, memory_of, up_of, down_of, requester_of, open_at};
 ghost use Rattle.fabric_laws.specs.Sound.{Sound, times};
-ghost use Rattle.fabric_laws.specs.Trace.{Belongs};
+ghost use Rattle.fabric_laws.specs.Trace.{Belongs, IsMade, submitted_by};
 ghost use Rattle.fabric_laws.specs.Steps.{Step, Run};
 ghost use Rattle.fabric_laws.specs.New.{IsNew, IsNewFabric};
 ghost use Rattle.fabric_laws.specs.Expected.{IsExpected};
@@ -71,11 +72,38 @@ pub fn each_link_call_is_a_step()
     ensures outward { (f : Fabric) (lane : Ends) → content lane ≡ content f.outward → Step (whole_of f) (whole_of (record f { outward = lane })) [] }
 {}
 
+/// What each requester submitted is one list of operations, which can be read off its path; and a step adds to it what
+/// its records say, which is nothing but for that requester's submission.
+pub fn what_was_submitted_is_one_list()
+    ensures there { (p : Whole) (i : ℕ) → Sound p → (ops : List Op) × IsMade i (view p i) ops }
+    ensures one { (p : Whole) (i : ℕ) (ops others : List Op) → Sound p → IsMade i (view p i) ops → IsMade i (view p i) others → ops ≡ others }
+    ensures grows { (p p' : Whole) (rs : List Record) (i : ℕ) (ops : List Op) → Sound p → Step p p' rs → IsMade i (view p i) ops → IsMade i (view p' i) (ops ++ submissions rs i) }
+{}
+
+/// The history of a sound fabric is legal for what its requesters submitted.
+pub fn the_history_is_legal()
+    ensures legal { (p : Whole) (s : ℕ → List Op) → Sound p → ((i : ℕ) → IsMade i (view p i) (s i)) → IsLegal s p.history }
+    ensures always { (p : Whole) → Sound p → (s : ℕ → List Op) × ((i : ℕ) → IsMade i (view p i) (s i)) × IsLegal s p.history }
+{}
+
+/// What a record adds to what a requester submitted, and which record is the answer of a request.
+pub fn what_a_record_adds()
+    ensures own { (rs : List Record) (i k n : ℕ) (op : Op) → submissions (rs ++ Sub i k op n ∷ []) i ≡ submissions rs i ++ op ∷ [] }
+    ensures other { (rs : List Record) (i j k n : ℕ) (op : Op) → j ≢ i → submissions (rs ++ Sub j k op n ∷ []) i ≡ submissions rs i }
+    ensures answered { (rs : List Record) (i j k n : ℕ) (reply : Reply) → submissions (rs ++ Ans j k reply n ∷ []) i ≡ submissions rs i }
+    ensures answer { (i k : ℕ) (r : Record) → answers_to i k r ≡ true → (reply : Reply) × (n : ℕ) × (r ≡ Ans i k reply n) }
+{}
+
 /// In a sound fabric whose lanes hold nothing of a requester, each of its submissions stands once
 /// in the history, and none waits for its completion.
 pub fn quiet_is_all_acted()
     ensures acted { (p : Whole) (i k : ℕ) → Sound p → p.inward ≡ [] → up_of p i ≡ [] → k < (requester_of p i).next → times i k p.history ≡ 1 }
     ensures answered { (p : Whole) (i t k : ℕ) → Sound p → p.inward ≡ [] → up_of p i ≡ [] → p.outward ≡ [] → down_of p i ≡ [] → open_at (requester_of p i) t ≢ Some k }
+{}
+
+/// The history of a sound fabric whose lanes hold no request has as many entries as its requesters submitted operations.
+pub fn a_quiet_history_has_every_submission()
+    ensures { (p : Whole) → Sound p → p.inward ≡ [] → ((i : ℕ) → up_of p i ≡ []) → length p.history ≡ submitted_by p.requesters }
 {}
 
 /// Each event keeps every packet's Requester ID that of a port of the fabric, the requests such that

@@ -3,7 +3,7 @@ use Rattle.std.proofs.Common.{◌≡◌, ◌≢◌, ℕ, ne_eqb, eq-eqb, cond, s
 use Rattle.std.specs.Prelude.{slice_get}
 use mathlib.Core.Option.{some, some-injective, some-ne-none}
 use lib.ListN.{get_elem?}
-use Rattle.fabric_laws.specs.Lists.{count}
+pub use Rattle.fabric_laws.specs.ListFacts.{count_nil}
 use Rattle.hall_laws.specs.Standing.{one_if_same}
 
 pub at_snoc : {A : Type 0} (l : List A) (a b : A) (j : ℕ) → get_elem? (l ++ a ∷ []) j ≡ some b → (get_elem? l j ≡ some b) ⊎ (a ≡ b)
@@ -16,10 +16,6 @@ pub at_map : {A B : Type 0} (f : A → B) (l : List A) (i : ℕ) (a : A) → get
 at_map f [] i a e = absurd (some-ne-none a (sym e))
 at_map f (x ∷ xs) zero a e = ap (λ y. some (f y)) (some-injective x a e)
 at_map f (x ∷ xs) (suc i) a e = at_map f xs i a e
-
-pub count_nil : {X : Type 0} (p : X → Bool) → count p [] ≡ 0
-unfolding count
-count_nil p = refl
 
 pub get_push : {X : Type 0} (xs : List X) (y : X) (n : ℕ) (x : X) → slice_get (xs ++ y ∷ []) n ≡ Some x → ((n < length xs) × (slice_get xs n ≡ Some x)) ⊎ ((n ≡ length xs) × (y ≡ x))
 get_push [] y zero x e = inr (refl, cc)

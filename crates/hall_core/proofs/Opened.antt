@@ -16,6 +16,7 @@ use Rattle.fabric_laws.specs.New.{IsNew}
 use Rattle.fabric_laws.specs.Trace.{Belongs}
 use Rattle.fabric_laws.specs.Fabric.{Fabric, items, whole_of}
 use Rattle.fabric_core.specs.declared.config.Config.{Config}
+use Rattle.fabric_core.specs.Config.{IsConfig, config_of}
 use Rattle.fabric_core.specs.Kept.{IsSoundFabric}
 use Rattle.hall_laws.specs.declared.part.PartValue.{PartValue}
 use Rattle.hall_laws.specs.declared.token.Token.{Token}
@@ -122,6 +123,9 @@ same_lists [] (y ∷ ys) n h = absurd (omega arith)
 same_lists (x ∷ xs) [] n h = absurd (omega arith)
 same_lists (x ∷ xs) (y ∷ ys) n h = let e = some-injective x y (h 0 y refl) in let r = same_lists xs ys (omega arith) (λ k z at. h (suc k) z at) in cc
 
+same_config : (f : Fabric) (c : Config) → HasConfig f c → config_of f ≡ c
+same_config f c h = λ i. record { requesters = h.requesters i; base = h.base i; size = h.size i; credits = h.credits i; block = h.block i }
+
 -- where each word is 0, the slots are the parts of a sound fabric that the seat leaves
 pub closes : (key : Start) (id : ℕ) (v : List Token) (ws : List ℕ) (xs : List (Option PartValue)) → 0 < length v → Final (Seen (Kept key) id v) ws xs → ((k : ℕ) → k < length ws → get_elem? ws k ≡ some 0) → Left (token_of v).knows xs
 closes key id [] ws xs some_token (s, (r, at), words, count, home) free = absurd (omega arith)
@@ -132,6 +136,7 @@ closes key id (t ∷ ts) ws xs some_token (s, (r, at), words, count, home) free 
       record {
         sound = r.sound.sound;
         config = mine.config;
+        right_config = subst IsConfig (same_config p.fabric t.knows.config mine.config) r.sound.sound.config;
         begins = mine.seen;
         made = subst (Rattle.fabric_laws.specs.Trace.IsMade (suc t.knows.number) (Rattle.fabric_laws.specs.Whole.view (whole_of p.fabric) (suc t.knows.number))) (sym mine.made) (r.sound.belongs.made (suc t.knows.number));
       },

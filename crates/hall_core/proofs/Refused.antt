@@ -20,10 +20,6 @@ use Rattle.hall_core.specs.declared.refusal.HallRefusal.{HallRefusal}
 use Rattle.hall_core.specs.declared.refusal.HallRefusal.TheVariants.{Busy, Core}
 use Rattle.hall_core.specs.Refusals.{HasNoPart, IsRefused, IsPossibleInHall}
 
--- the refusal is Idle where the answer is that refusal
-pub idle_only : {X A : Type 0} (r : Refusal) → (◌≡◌ {A = Result X Refusal} (Err r) (Err Idle)) ↔ A → (r ≡ Idle) ↔ A
-idle_only r h = ((λ e. h.0 (ap Err e)), (λ a. let e = h.1 a in cc))
-
 -- a lane that isn't there
 no_port : (port count other : ℕ) → ((0 < port) × (port ≤ count) → ⊥) → other ≡ count → IsNoPort port other
 no_port port count other none same = decide (dec_lt 0 port)

@@ -3,6 +3,7 @@ use Rattle.std.specs.Prelude.{◌≡◌, ◌≤◌, ℕ, suc, List, [], map, Opt
 use Rattle.fabric_laws.specs.Fabric.{Fabric, whole_of}
 use Rattle.fabric_laws.specs.Whole.{view}
 use Rattle.fabric_laws.specs.Trace.{IsMade}
+use Rattle.fabric_core.specs.Config.{IsConfig}
 use Rattle.fabric_core.specs.Kept.{IsSoundFabric}
 use Rattle.fabric_core.specs.Quiet.{IsQuiet}
 use Rattle.hall_core.specs.declared.refusal.HallFault.{HallFault}
@@ -29,6 +30,8 @@ HasHallFault work Memory = IsSeatCount work
 pub record Leaves (w : Knowledge) (f : Fabric) : Type 0 where
   pub sound : IsSoundFabric f
   pub config : HasConfig f w.config
+  -- a fabric of this configuration can be made
+  pub right_config : IsConfig w.config
   -- its history begins with all that the seat has seen
   pub begins : Begins w.seen f.memory.entries
   -- what the seat submitted is what the requester has

@@ -8,7 +8,7 @@ ghost use Rattle.hall_core.specs.Refusals.{IsRefused, IsPossibleInHall, IsBusy};
 ghost use Rattle.hall_laws.specs.Shows.{Shows};
 ghost use Rattle.hall_laws.specs.Rule.{HasConfig};
 ghost use Rattle.hall_laws.specs.Tells.{SubmitTells, CollectTells, SeesTells, Met};
-ghost use Rattle.hall_core.specs.Views.{AreNewSeats};
+ghost use Rattle.hall_core.specs.Views.{AreNewSeats, IsSeatOf};
 
 use crate::closing::{StillHeld, close};
 use crate::meeting::meet_as;
@@ -100,8 +100,8 @@ impl Hall {
     /// `Busy` where another seat has the memory, the requester or the sender's end of its lane, in this order; then the
     /// refusal of the fabric.
     pub fn submit(&self, seat: &mut ReqSeat, op: Op) -> Result<Submitted, HallRefusal>
-        requires { (seat.old.table_id ≡ self.now.table_id) × (seat.old.knows.config ≡ self.now.config) }
-        ensures seat { (seat.new.table_id ≡ seat.old.table_id) × (seat.new.knows.config ≡ seat.old.knows.config) }
+        requires { IsSeatOf self.now seat.old }
+        ensures seat { IsSeatOf self.now seat.new }
         ensures submitted { IfOk result (λ s. SubmitTells seat.old.knows s.number op s.n seat.new.knows) }
         ensures refused { IfErr result (λ _. seat.new ≡ seat.old) }
         ensures why { IfErr result (λ r. IsRefused seat.old.knows (Submit (seat.old.knows.number + 1) op) r) }
@@ -124,8 +124,8 @@ impl Hall {
     ///
     /// `Busy` where another seat has the memory, the requester or the receiver's end of its lane, in this order.
     pub fn collect(&self, seat: &mut ReqSeat) -> Result<Option<Answered>, HallRefusal>
-        requires { (seat.old.table_id ≡ self.now.table_id) × (seat.old.knows.config ≡ self.now.config) }
-        ensures seat { (seat.new.table_id ≡ seat.old.table_id) × (seat.new.knows.config ≡ seat.old.knows.config) }
+        requires { IsSeatOf self.now seat.old }
+        ensures seat { IsSeatOf self.now seat.new }
         ensures collected { IfOk result (λ o. MatchOption o (SeesTells seat.old.knows seat.new.knows) (λ a. CollectTells seat.old.knows a.number a.reply a.n seat.new.knows)) }
         ensures refused { IfErr result (λ _. seat.new ≡ seat.old) }
         ensures why { IfErr result (λ r. IsRefused seat.old.knows (Collect (seat.old.knows.number + 1)) r) }
@@ -150,9 +150,9 @@ impl Hall {
         first: ReqSeat,
         second: ReqSeat,
     ) -> Result<(ReqSeat, ReqSeat, u64), (HallRefusal, ReqSeat, ReqSeat)>
-        requires first { (first.table_id ≡ self.now.table_id) × (first.knows.config ≡ self.now.config) }
-        requires second { (second.table_id ≡ self.now.table_id) × (second.knows.config ≡ self.now.config) }
-        ensures seats { IfOk result (λ r. (r.0.table_id ≡ first.table_id) × (r.1.table_id ≡ second.table_id) × (r.0.knows.config ≡ first.knows.config) × (r.1.knows.config ≡ second.knows.config)) }
+        requires first { IsSeatOf self.now first }
+        requires second { IsSeatOf self.now second }
+        ensures seats { IfOk result (λ r. IsSeatOf self.now r.0 × IsSeatOf self.now r.1) }
         ensures met { IfOk result (λ r. (h : List Entry) × (r.2 ≡ length h) × Met first.knows h r.0.knows × Met second.knows h r.1.knows) }
         ensures refused { IfErr result (λ r. IsBusy r.0 × (r.1 ≡ first) × (r.2 ≡ second)) }
     {
@@ -205,8 +205,8 @@ impl Hall {
     /// `Busy` where another seat has a part that the event uses, in the order of their taking; then the refusal of the
     /// fabric. It is never `Protocol`, `Strange` or `Route`.
     pub fn pump(&self, seat: &mut WorkSeat, event: WorkEvent) -> Result<Seen, HallRefusal>
-        requires { (seat.old.table_id ≡ self.now.table_id) × (seat.old.knows.config ≡ self.now.config) }
-        ensures seat { (seat.new.table_id ≡ seat.old.table_id) × (seat.new.knows.config ≡ seat.old.knows.config) }
+        requires { IsSeatOf self.now seat.old }
+        ensures seat { IsSeatOf self.now seat.new }
         ensures pumped { IfOk result (λ what. Pumped event what seat.old.knows seat.new.knows) }
         ensures shows { IfOk result (λ what. Shows seat.old.knows (event_of event) what) }
         ensures refused { IfErr result (λ _. seat.new ≡ seat.old) }
@@ -226,7 +226,7 @@ impl Hall {
     /// The fabric of all parts, whose history begins with all that the seat has seen. Where a part's word isn't 0, that
     /// part is told, and the hall and the seat are spent.
     pub fn close(self, seat: ReqSeat) -> Result<Fabric, StillHeld>
-        requires { (seat.table_id ≡ self.table_id) × (seat.knows.config ≡ self.config) }
+        requires { IsSeatOf self seat }
         ensures closed { IfOk result (λ f. Leaves seat.knows f) }
         ensures held { IfErr result (λ e. e.word ≢ 0) }
     {

@@ -218,8 +218,9 @@ pub fn serve(
                 PartValue::Receiver(receiver),
                 &(at, n, &memory, &sender),
             );
-            put_back(steps, place, 5, PartValue::Sender(sender));
+            place.turn();
             put_back(steps, place, 0, PartValue::Memory(memory));
+            put_back(steps, place, 5, PartValue::Sender(sender));
             Ok(n)
         }
         Err(refusal) => {

@@ -22,8 +22,10 @@ lane_there f h Inward n = (f.inward, refl)
 lane_there f h Outward n = (f.outward, refl)
 
 pub with_lane_lanes : (f : Fabric) (name : LaneName) (e : Ends) → HasLanes f → HasLanes (with_lane f name e)
-with_lane_lanes f (Up port) e h = record { few = h.few; up = length-set f.up _ e ∙ h.up; down = h.down }
-with_lane_lanes f (Down port) e h = record { few = h.few; up = h.up; down = length-set f.down _ e ∙ h.down }
+with_lane_lanes f (Up zero) e h = record { few = h.few; up = h.up; down = h.down }
+with_lane_lanes f (Up (suc n)) e h = record { few = h.few; up = length-set f.up n e ∙ h.up; down = h.down }
+with_lane_lanes f (Down zero) e h = record { few = h.few; up = h.up; down = h.down }
+with_lane_lanes f (Down (suc n)) e h = record { few = h.few; up = h.up; down = length-set f.down n e ∙ h.down }
 with_lane_lanes f Inward e h = record { few = h.few; up = h.up; down = h.down }
 with_lane_lanes f Outward e h = record { few = h.few; up = h.up; down = h.down }
 
@@ -40,8 +42,10 @@ with_lane_has f Inward e e' has = refl
 with_lane_has f Outward e e' has = refl
 
 with_lane_twice : (f : Fabric) (name : LaneName) (e e' : Ends) → with_lane (with_lane f name e) name e' ≡ with_lane f name e'
-with_lane_twice f (Up port) e e' = ap (λ (l : List Ends). record f { up = l }) (set_twice f.up _ e e')
-with_lane_twice f (Down port) e e' = ap (λ (l : List Ends). record f { down = l }) (set_twice f.down _ e e')
+with_lane_twice f (Up zero) e e' = refl
+with_lane_twice f (Up (suc n)) e e' = ap (λ (l : List Ends). record f { up = l }) (set_twice f.up n e e')
+with_lane_twice f (Down zero) e e' = refl
+with_lane_twice f (Down (suc n)) e e' = ap (λ (l : List Ends). record f { down = l }) (set_twice f.down n e e')
 with_lane_twice f Inward e e' = refl
 with_lane_twice f Outward e e' = refl
 

@@ -1,6 +1,5 @@
 -- Lemmas on lists.
 use Rattle.std.proofs.Common.{◌≡◌, ◌≢◌, ℕ, eqb, subst, eq-eqb, ne_eqb, zero, suc, ◌+◌, ◌<◌, ◌≤◌, ◌⊎◌, ◌==◌, Bool, true, false, List, [], ◌∷◌, ◌++◌, map, length, take, set, sym, refl, ap, ◌∙◌, inl, inr, ⊎_elim, arith, Some}
-use Rattle.std.specs.Prelude.{slice_get}
 use Rattle.std.proofs.lemmas.List.{append-nil}
 use Rattle.std.proofs.lemmas.List.Elements.{filter_map-append}
 use Rattle.std.proofs.lemmas.Bool.Decides.{nat_tests}
@@ -14,7 +13,7 @@ use Rattle.seq_memory.specs.declared.Reply.{Reply}
 use Rattle.history_check.specs.declared.Record.{Record}
 use Rattle.history_check.specs.declared.Record.TheVariants.{Sub, Ans}
 use Rattle.history_check.specs.Trace.{submission, submissions, answers_to}
-use Rattle.fabric_laws.specs.Lists.{Each}
+pub use Rattle.fabric_laws.specs.ListFacts.{each_at, get_before, get_seam}
 
 -- ---- elements by number
 
@@ -62,20 +61,6 @@ module _ {A : Type 0} where
 
 pub exchanged : (n old new : ℕ) (F : ℕ → Type 0) → (n ≡ old → F new) → (n ≢ old → F n) → F (either (eqb n old) new n)
 exchanged n old new F hit miss = dite (ℕ_discrete n old) (λ e. subst (λ b. F (either b new n)) (sym (eq-eqb n old e)) (hit e)) (λ ne. subst (λ b. F (either b new n)) (sym (ne_eqb n old ne)) (miss ne))
-
-pub each_at : {X : Type 0} (P : X → Type 0) (xs : List X) (n : ℕ) (x : X) → slice_get xs n ≡ Some x → Each P xs → P x
-each_at P [] n x e a = absurd (cc)
-each_at P (y ∷ xs) zero x e a = let same : y ≡ x = cc in subst P same a.0
-each_at P (y ∷ xs) (suc n) x e a = each_at P xs n x e a.1
-
-pub get_before : {X : Type 0} (xs ys : List X) (n : ℕ) (x : X) → slice_get xs n ≡ Some x → slice_get (xs ++ ys) n ≡ Some x
-get_before [] ys n x e = absurd (cc)
-get_before (z ∷ xs) ys zero x e = e
-get_before (z ∷ xs) ys (suc n) x e = get_before xs ys n x e
-
-pub get_seam : {X : Type 0} (xs ys : List X) (x : X) → slice_get (xs ++ x ∷ ys) (length xs) ≡ Some x
-get_seam [] ys x = refl
-get_seam (z ∷ xs) ys x = get_seam xs ys x
 
 pub take_before : {X : Type 0} (xs ys : List X) (n : ℕ) → n ≤ length xs → take n (xs ++ ys) ≡ take n xs
 take_before xs ys zero h = refl

@@ -10,8 +10,7 @@ use Rattle.switch_core.specs.declared.fault.RouteFault.TheVariants.{NoPort}
 use Rattle.lane_core.specs.declared.packet.WirePacket.{WirePacket}
 use Rattle.lane_core.specs.declared.packet.Fate.{Fate}
 use Rattle.lane_core.specs.declared.packet.DllpKind.{DllpKind}
-use Rattle.lane_core.specs.declared.packet.LaneRefusal.TheVariants as lane_refusals
-use Rattle.lane_core.specs.Steps.{Ends, Incoming, Outgoing, transmitted}
+use Rattle.lane_core.specs.Steps.{Ends, Incoming, Outgoing}
 use Rattle.fabric_laws.specs.Fabric.{Fabric}
 use Rattle.fabric_core.specs.declared.event.Event.{Event}
 use Rattle.fabric_core.specs.declared.event.Event.TheVariants as events
@@ -21,7 +20,7 @@ use Rattle.fabric_core.specs.declared.event.LinkEvent.{LinkEvent}
 use Rattle.fabric_core.specs.declared.event.LinkEvent.TheVariants as links
 use Rattle.fabric_core.specs.declared.fault.Refusal.{Refusal}
 use Rattle.fabric_core.specs.declared.fault.Refusal.TheVariants as refusals
-use Rattle.fabric_core.specs.Footprints.{SubmitRefused, CollectRefused, LinkRefused, DllpRefused, IdleOr, NoMemory, DestinationRefused, IsRoutedAs, ForwardRefused, ServeRefused}
+use Rattle.fabric_core.specs.Footprints.{SubmitRefused, CollectRefused, LinkRefused, TransmitRefused, DeliverRefused, SendDllpRefused, DllpRefused, TimerRefused, RetrainedRefused, DestinationRefused, IsRoutedAs, ForwardRefused, ServeRefused}
 use Rattle.fabric_core.specs.Steps.{HasPart, Refused, LinkAtRefused, IsNoPort}
 use Rattle.hall_laws.specs.declared.part.PartValue.{PartValue}
 use Rattle.hall_laws.specs.declared.part.PartValue.TheVariants.{Memory, Requester, Sender, Forward, Back, Receiver}
@@ -31,7 +30,7 @@ use Rattle.hall_laws.specs.Standing.{Values}
 use Rattle.hall_laws.specs.Rule.{Known, Agrees}
 use Rattle.hall_laws.specs.Shows.{MayRefuse}
 use Rattle.hall_laws.specs.Duties.{KnowsLane, IsAtPort}
-use Rattle.hall_laws.specs.Causes.{KnownHolding, IsIdleOrMemory}
+use Rattle.hall_laws.specs.Causes.{KnownHolding}
 use Rattle.hall_laws.proofs.Parts.{has_at, get_requester, get_end}
 use Rattle.hall_laws.proofs.Lanes.{lane_there}
 use Rattle.hall_laws.proofs.LinkSteps.{is_sender, is_receiver, is_forward, is_back}
@@ -77,12 +76,6 @@ at_refused f (lanes.Down port) link e r has refused = inr (record { place = has.
 at_refused f lanes.Inward link e r has refused = subst (λ (z : Ends). LinkRefused z link r) (sym has) refused
 at_refused f lanes.Outward link e r has refused = subst (λ (z : Ends). LinkRefused z link r) (sym has) refused
 
-idle_or : (r : Refusal) (A B : Type 0) → (A → B) → (B → A) → IsIdleOrMemory r B → IdleOr r A (A → ⊥)
-idle_or r A B to from is = ⊎_elim
-    (λ (e : r ≡ refusals.Idle). subst (λ (z : Refusal). IdleOr z A (A → ⊥)) (sym e) (from (is.0.0 e)))
-    (λ (e : r ≡ refusals.Lane lane_refusals.Memory). subst (λ (z : Refusal). IdleOr z A (A → ⊥)) (sym e) (λ (a : A). let other : r ≡ refusals.Idle = is.0.1 (to a) in absurd (cc)))
-    is.1
-
 module _ (t : Token) (ts : List Token) (held : Values) (holding : KnownHolding t ts held) where
   abbrev whole : Fabric
   whole = holding.0.0.fabric
@@ -103,28 +96,29 @@ module _ (t : Token) (ts : List Token) (held : Values) (holding : KnownHolding t
 
 pub transmit_refused : (t : Token) (ts : List Token) (name : LaneName) (s : Outgoing) (w : List WirePacket) (r : Refusal) → KnowsLane t name
     → KnownHolding t ts ((lane_slot name + 1, Forward w) ∷ ((lane_slot name, Sender s) ∷ []))
-    → IsIdleOrMemory r (transmitted s ≡ None) → MayRefuse t.knows (events.Transmit name) r
+    → TransmitRefused s r → MayRefuse t.knows (events.Transmit name) r
 transmit_refused t ts name s w r named k why =
     let h : Values = (lane_slot name + 1, Forward w) ∷ ((lane_slot name, Sender s) ∷ []) in
     let e = lane t ts h k name named in
     let is : e.0.sender ≡ s = is_sender e.0.sender s (end t ts h k name named 0 (lane_slot name) (Sender s) (omega arith) (omega arith) (there t ts h k).1.0) in
-    may t ts h k name named (events.Transmit name) links.Transmit r (λ f x. x) (idle_or r (transmitted e.0.sender ≡ None) (transmitted s ≡ None) (λ a. ap transmitted (sym is) ∙ a) (λ a. ap transmitted is ∙ a) why)
+    may t ts h k name named (events.Transmit name) links.Transmit r (λ f x. x) (subst (λ (z : Outgoing). TransmitRefused z r) (sym is) why)
 
 pub deliver_refused : (t : Token) (ts : List Token) (name : LaneName) (w : List WirePacket) (v : Incoming) (fate : Fate) (r : Refusal) → KnowsLane t name
     → KnownHolding t ts ((lane_slot name + 3, Receiver v) ∷ ((lane_slot name + 1, Forward w) ∷ []))
-    → IsIdleOrMemory r (w ≡ []) → MayRefuse t.knows (events.Deliver name fate) r
+    → DeliverRefused w v fate r → MayRefuse t.knows (events.Deliver name fate) r
 deliver_refused t ts name w v fate r named k why =
     let h : Values = (lane_slot name + 3, Receiver v) ∷ ((lane_slot name + 1, Forward w) ∷ []) in
     let e = lane t ts h k name named in
     let is : e.0.forward ≡ w = is_forward e.0.forward w (end t ts h k name named 1 (lane_slot name + 1) (Forward w) (omega arith) (omega arith) (there t ts h k).1.0) in
-    may t ts h k name named (events.Deliver name fate) (links.Deliver fate) r (λ f x. x) (idle_or r (e.0.forward ≡ []) (w ≡ []) (λ a. sym is ∙ a) (λ a. is ∙ a) why)
+    let is_v : e.0.receiver ≡ v = is_receiver e.0.receiver v (end t ts h k name named 3 (lane_slot name + 3) (Receiver v) (omega arith) (omega arith) (there t ts h k).0) in
+    may t ts h k name named (events.Deliver name fate) (links.Deliver fate) r (λ f x. x) (subst (λ (z : List WirePacket). DeliverRefused z e.0.receiver fate r) (sym is) (subst (λ (z : Incoming). DeliverRefused w z fate r) (sym is_v) why))
 
 pub send_dllp_refused : (t : Token) (ts : List Token) (name : LaneName) (v : Incoming) (b : List Dllp) (kind : DllpKind) (r : Refusal) → KnowsLane t name
     → KnownHolding t ts ((lane_slot name + 2, Back b) ∷ ((lane_slot name + 3, Receiver v) ∷ []))
-    → r ≡ refusals.Lane lane_refusals.Memory → MayRefuse t.knows (events.SendDllp name kind) r
+    → SendDllpRefused r → MayRefuse t.knows (events.SendDllp name kind) r
 send_dllp_refused t ts name v b kind r named k why =
     let h : Values = (lane_slot name + 2, Back b) ∷ ((lane_slot name + 3, Receiver v) ∷ []) in
-    may t ts h k name named (events.SendDllp name kind) (links.SendDllp kind) r (λ f x. x) (subst (λ (z : Refusal). NoMemory z (Unit {0})) (sym why) tt)
+    may t ts h k name named (events.SendDllp name kind) (links.SendDllp kind) r (λ f x. x) why
 
 pub deliver_dllp_refused : (t : Token) (ts : List Token) (name : LaneName) (b : List Dllp) (s : Outgoing) (fate : Fate) (r : Refusal) → KnowsLane t name
     → KnownHolding t ts ((lane_slot name, Sender s) ∷ ((lane_slot name + 2, Back b) ∷ []))
@@ -139,21 +133,21 @@ deliver_dllp_refused t ts name b s fate r named k why =
 
 pub timer_refused : (t : Token) (ts : List Token) (name : LaneName) (s : Outgoing) (r : Refusal) → KnowsLane t name
     → KnownHolding t ts ((lane_slot name, Sender s) ∷ [])
-    → r ≡ refusals.Idle → s.sending.place ≡ 0 → MayRefuse t.knows (events.Timer name) r
-timer_refused t ts name s r named k why zero_place =
+    → TimerRefused s r → MayRefuse t.knows (events.Timer name) r
+timer_refused t ts name s r named k why =
     let h : Values = (lane_slot name, Sender s) ∷ [] in
     let e = lane t ts h k name named in
     let is : e.0.sender ≡ s = is_sender e.0.sender s (end t ts h k name named 0 (lane_slot name) (Sender s) (omega arith) (omega arith) (there t ts h k).0) in
-    may t ts h k name named (events.Timer name) links.Timer r (λ f x. x) (subst (λ (z : Refusal). LinkRefused e.0 links.Timer z) (sym why) (ap (λ (z : Outgoing). z.sending.place) is ∙ zero_place))
+    may t ts h k name named (events.Timer name) links.Timer r (λ f x. x) (subst (λ (z : Outgoing). TimerRefused z r) (sym is) why)
 
 pub retrained_refused : (t : Token) (ts : List Token) (name : LaneName) (s : Outgoing) (r : Refusal) → KnowsLane t name
     → KnownHolding t ts ((lane_slot name, Sender s) ∷ [])
-    → r ≡ refusals.Idle → s.sending.stopped ≡ false → MayRefuse t.knows (events.Retrained name) r
-retrained_refused t ts name s r named k why runs =
+    → RetrainedRefused s r → MayRefuse t.knows (events.Retrained name) r
+retrained_refused t ts name s r named k why =
     let h : Values = (lane_slot name, Sender s) ∷ [] in
     let e = lane t ts h k name named in
     let is : e.0.sender ≡ s = is_sender e.0.sender s (end t ts h k name named 0 (lane_slot name) (Sender s) (omega arith) (omega arith) (there t ts h k).0) in
-    may t ts h k name named (events.Retrained name) links.Retrained r (λ f x. x) (subst (λ (z : Refusal). LinkRefused e.0 links.Retrained z) (sym why) (ap (λ (z : Outgoing). z.sending.stopped) is ∙ runs))
+    may t ts h k name named (events.Retrained name) links.Retrained r (λ f x. x) (subst (λ (z : Outgoing). RetrainedRefused z r) (sym is) why)
 
 -- ---- forwarding and serving
 

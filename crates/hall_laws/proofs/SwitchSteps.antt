@@ -106,12 +106,12 @@ goes_out t place (suc i) j r r' s s' named held at routed forwards = record {
 
 -- the request of a place of `in` acts on the memory: its receiver was taken at 4, the memory at 0, the sender's end of `out` at 5
 pub goes_serve : (t : Token) (place at : ℕ) (r r' : Incoming) (m m' : State) (s s' : Outgoing) → t.held ≡ (5, Sender s) ∷ ((0, Memory m) ∷ ((4, Receiver r) ∷ [])) → Serves r place m s at r' m' s'
-    → Goes (events.Serve place) (seen.At at) t 4 (Receiver r') (after_event (events.Serve place) (seen.At at) m.entries ((5, Sender s') ∷ ((0, Memory m') ∷ [])) t)
+    → Goes (events.Serve place) (seen.At at) t 4 (Receiver r') (after_event (events.Serve place) (seen.At at) m.entries ((0, Memory m') ∷ ((5, Sender s') ∷ [])) t)
 goes_serve t place at r r' m m' s s' held did = record {
   covers = subst (λ (l : Values). Covers l 4) (sym held) (inr (inr (inl refl)));
-  others = (((λ z. omega arith), subst (λ (l : Values). Covers l 5) (sym held) (inl refl)), (((λ z. omega arith), subst (λ (l : Values). Covers l 0) (sym held) (inr (inl refl))), tt));
-  keeps = λ n ne x. ⊎_elim (λ (a : 5 ≡ n). inl a)
-      (λ (y : Covers ((0, Memory m) ∷ ((4, Receiver r) ∷ [])) n). ⊎_elim (λ (a : 0 ≡ n). inr (inl a)) (λ (z : Covers ((4, Receiver r) ∷ []) n). ⊎_elim (λ (a : 4 ≡ n). absurd (ne (sym a))) (λ (z : ⊥). absurd z) z) y)
+  others = (((λ z. omega arith), subst (λ (l : Values). Covers l 0) (sym held) (inr (inl refl))), (((λ z. omega arith), subst (λ (l : Values). Covers l 5) (sym held) (inl refl)), tt));
+  keeps = λ n ne x. ⊎_elim (λ (a : 5 ≡ n). inr (inl a))
+      (λ (y : Covers ((0, Memory m) ∷ ((4, Receiver r) ∷ [])) n). ⊎_elim (λ (a : 0 ≡ n). inl a) (λ (z : Covers ((4, Receiver r) ∷ []) n). ⊎_elim (λ (a : 4 ≡ n). absurd (ne (sym a))) (λ (z : ⊥). absurd z) z) y)
       (subst (λ (l : Values). Covers l n) held x);
   apart = (((λ z. omega arith), tt), (tt, tt));
   own = λ n. tt;

@@ -14,9 +14,13 @@ use Rattle.fabric_laws.specs.Trace.{IsMade}
 use Rattle.fabric_laws.specs.Fabric.{whole_of}
 use Rattle.hall_laws.proofs.Lists.{answer_is}
 use Rattle.hall_laws.specs.declared.token.Knowledge.{Knowledge}
-use Rattle.hall_laws.specs.Rule.{Traced, IsSoundTraced, Fits}
+use Rattle.hall_laws.specs.declared.token.Token.{Token}
+use Rattle.hall_laws.specs.declared.token.Start.{Start}
+use Rattle.hall_laws.specs.Standing.{Table, Seated}
+use Rattle.hall_laws.specs.Rule.{Traced, IsSoundTraced, Fits, Kept, parts}
 use Rattle.hall_laws.specs.Tells.{Has, AnsweredStand}
-use Rattle.hall_laws.specs.Knows.{IsTrueOf}
+use Rattle.hall_laws.specs.Knows.{IsTrueOf, IsRuled}
+use Rattle.hall_laws.proofs.Totals.{each_map}
 use Rattle.hall_laws.proofs.Told.{own_request}
 use Rattle.hall_laws.proofs.Waits.{test, waits, made_by, any_found, any_at, NoAnswer, Asked, asked_behind, more_made}
 
@@ -96,3 +100,16 @@ module _ (s : Traced) (w : Knowledge) (sound : IsSoundTraced s) (f : Fits s w) w
     answered = answered_seen;
     served = f.served;
   }
+
+-- the whole rule
+pub ruled : (about : Start) (s : Table) → Kept about s → IsRuled s
+ruled about s r = record {
+  state = r.whole.fabric;
+  sound = r.sound.sound;
+  at_home = r.at_home;
+  held = r.holder;
+  holds = λ j ts at. each_map (λ (t : Token) (h : Seated parts IsSoundTraced Fits r.whole s.words t). h.0) ts (r.tokens j ts at);
+  one_seat = r.apart;
+  one_serving = r.served;
+  knows = λ j ts at. each_map (λ (t : Token) (h : Seated parts IsSoundTraced Fits r.whole s.words t). is_true r.whole t.knows r.sound h.1) ts (r.tokens j ts at);
+}

@@ -7,8 +7,7 @@ use Rattle.requester_core.specs.Requesting.{Requesting}
 use Rattle.lane_core.specs.declared.packet.WirePacket.{WirePacket}
 use Rattle.lane_core.specs.declared.packet.Fate.{Fate}
 use Rattle.lane_core.specs.declared.packet.DllpKind.{DllpKind}
-use Rattle.lane_core.specs.declared.packet.LaneRefusal.TheVariants as lane_refusals
-use Rattle.lane_core.specs.Steps.{Incoming, Outgoing, transmitted}
+use Rattle.lane_core.specs.Steps.{Incoming, Outgoing}
 use Rattle.switch_core.specs.declared.fault.RouteFault.TheVariants.{NoPort}
 use Rattle.fabric_core.specs.declared.event.Event.{Event}
 use Rattle.fabric_core.specs.declared.event.Event.TheVariants as events
@@ -16,7 +15,7 @@ use Rattle.fabric_core.specs.declared.event.LaneName.{LaneName}
 use Rattle.fabric_core.specs.declared.event.LaneName.TheVariants as lanes
 use Rattle.fabric_core.specs.declared.fault.Refusal.{Refusal}
 use Rattle.fabric_core.specs.declared.fault.Refusal.TheVariants as refusals
-use Rattle.fabric_core.specs.Footprints.{SubmitRefused, CollectRefused, DllpRefused, DestinationRefused, IsRoutedAs, ForwardRefused, ServeRefused}
+use Rattle.fabric_core.specs.Footprints.{SubmitRefused, CollectRefused, TransmitRefused, DeliverRefused, SendDllpRefused, DllpRefused, TimerRefused, RetrainedRefused, DestinationRefused, IsRoutedAs, ForwardRefused, ServeRefused}
 use Rattle.hall_laws.specs.declared.part.PartValue.TheVariants.{Memory, Requester, Sender, Forward, Back, Receiver}
 use Rattle.hall_laws.specs.declared.token.Token.{Token}
 use Rattle.hall_laws.specs.Parts.{slot, lane_slot}
@@ -29,24 +28,20 @@ use Rattle.hall_laws.specs.Shows.{MayRefuse}
 abbrev pub KnownHolding : Token → List Token → Values → Type 0
 KnownHolding t ts held = Known (t ∷ ts) × (t.held ≡ held)
 
--- the refusal is Idle, which comes exactly then, or want of memory
-abbrev pub IsIdleOrMemory : Refusal → Type 0 → Type 0
-IsIdleOrMemory r idle = ((r ≡ refusals.Idle) ↔ idle) × ((r ≡ refusals.Idle) ⊎ (r ≡ refusals.Lane lane_refusals.Memory))
-
 abbrev pub TransmitIsRefused : Type 0
 TransmitIsRefused = (t : Token) (ts : List Token) (name : LaneName) (s : Outgoing) (w : List WirePacket) (r : Refusal) → KnowsLane t name
     → KnownHolding t ts ((lane_slot name + 1, Forward w) ∷ ((lane_slot name, Sender s) ∷ []))
-    → IsIdleOrMemory r (transmitted s ≡ None) → MayRefuse t.knows (events.Transmit name) r
+    → TransmitRefused s r → MayRefuse t.knows (events.Transmit name) r
 
 abbrev pub DeliverIsRefused : Type 0
 DeliverIsRefused = (t : Token) (ts : List Token) (name : LaneName) (w : List WirePacket) (v : Incoming) (fate : Fate) (r : Refusal) → KnowsLane t name
     → KnownHolding t ts ((lane_slot name + 3, Receiver v) ∷ ((lane_slot name + 1, Forward w) ∷ []))
-    → IsIdleOrMemory r (w ≡ []) → MayRefuse t.knows (events.Deliver name fate) r
+    → DeliverRefused w v fate r → MayRefuse t.knows (events.Deliver name fate) r
 
 abbrev pub SendDllpIsRefused : Type 0
 SendDllpIsRefused = (t : Token) (ts : List Token) (name : LaneName) (v : Incoming) (b : List Dllp) (kind : DllpKind) (r : Refusal) → KnowsLane t name
     → KnownHolding t ts ((lane_slot name + 2, Back b) ∷ ((lane_slot name + 3, Receiver v) ∷ []))
-    → r ≡ refusals.Lane lane_refusals.Memory → MayRefuse t.knows (events.SendDllp name kind) r
+    → SendDllpRefused r → MayRefuse t.knows (events.SendDllp name kind) r
 
 abbrev pub DeliverDllpIsRefused : Type 0
 DeliverDllpIsRefused = (t : Token) (ts : List Token) (name : LaneName) (b : List Dllp) (s : Outgoing) (fate : Fate) (r : Refusal) → KnowsLane t name
@@ -56,12 +51,12 @@ DeliverDllpIsRefused = (t : Token) (ts : List Token) (name : LaneName) (b : List
 abbrev pub TimerIsRefused : Type 0
 TimerIsRefused = (t : Token) (ts : List Token) (name : LaneName) (s : Outgoing) (r : Refusal) → KnowsLane t name
     → KnownHolding t ts ((lane_slot name, Sender s) ∷ [])
-    → r ≡ refusals.Idle → s.sending.place ≡ 0 → MayRefuse t.knows (events.Timer name) r
+    → TimerRefused s r → MayRefuse t.knows (events.Timer name) r
 
 abbrev pub RetrainedIsRefused : Type 0
 RetrainedIsRefused = (t : Token) (ts : List Token) (name : LaneName) (s : Outgoing) (r : Refusal) → KnowsLane t name
     → KnownHolding t ts ((lane_slot name, Sender s) ∷ [])
-    → r ≡ refusals.Idle → s.sending.stopped ≡ false → MayRefuse t.knows (events.Retrained name) r
+    → RetrainedRefused s r → MayRefuse t.knows (events.Retrained name) r
 
 -- of a packet of an `up` lane that has no way, or may not go
 abbrev pub UpHasNoWay : Type 0

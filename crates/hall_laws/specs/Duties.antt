@@ -81,7 +81,7 @@ abbrev pub ServeOwes : Type 0
 ServeOwes = (t : Token) (place at : ℕ) (r r' : Incoming) (m m' : State) (s s' : Outgoing)
     → t.held ≡ (5, Sender s) ∷ ((0, Memory m) ∷ ((4, Receiver r) ∷ []))
     → Serves r place m s at r' m' s'
-    → Goes (events.Serve place) (seen.At at) t 4 (Receiver r') (after_event (events.Serve place) (seen.At at) m.entries ((5, Sender s') ∷ ((0, Memory m') ∷ [])) t)
+    → Goes (events.Serve place) (seen.At at) t 4 (Receiver r') (after_event (events.Serve place) (seen.At at) m.entries ((0, Memory m') ∷ ((5, Sender s') ∷ [])) t)
 
 -- the seat of the requester at this port
 abbrev pub IsAtPort : Token → ℕ → Type 0

@@ -1,11 +1,18 @@
 -- What a seat knows, said of the fabric alone.
-use Rattle.std.specs.Prelude.{◌≡◌, ℕ, suc, ◌<◌, ◌≤◌, false, length, take}
+use Rattle.std.specs.Prelude.{◌≡◌, ℕ, suc, ◌<◌, ◌≤◌, false, List, length, take, Some}
+use mathlib.Core.Option.{some}
+use lib.ListN.{get_elem?}
 use Rattle.history_check.specs.Trace.{stands}
 use Rattle.fabric_laws.specs.Lists.{Each}
 use Rattle.fabric_laws.specs.Whole.{view}
 use Rattle.fabric_laws.specs.Trace.{IsMade, IsOpen}
 use Rattle.fabric_laws.specs.Fabric.{Fabric, whole_of}
 use Rattle.hall_laws.specs.declared.token.Knowledge.{Knowledge}
+use Rattle.fabric_core.specs.Kept.{IsSoundFabric}
+use Rattle.hall_laws.specs.declared.part.PartValue.{PartValue}
+use Rattle.hall_laws.specs.declared.token.Token.{Token}
+use Rattle.hall_laws.specs.Parts.{parts_of}
+use Rattle.hall_laws.specs.Standing.{Table, Found, total, named, serving}
 use Rattle.hall_laws.specs.Rule.{Begins, HasConfig}
 use Rattle.hall_laws.specs.Tells.{Has, AnsweredStand}
 
@@ -24,3 +31,22 @@ pub record IsTrueOf (f : Fabric) (w : Knowledge) : Type 0 where
   -- what isn't posted and isn't pending is seen
   pub answered : AnsweredStand w w.seen
   pub served : Each (λ (n : ℕ). n < length f.memory.entries) w.served
+
+-- The rule of the hall, line by line, over the words, the values at home and the views of all seats
+pub record IsRuled (s : Table) : Type 0 where
+  -- the state is a sound fabric
+  pub state : Fabric
+  pub sound : IsSoundFabric state
+  -- a part whose word is 0 is at home in its slot
+  pub at_home : (k : ℕ) (v : PartValue) → get_elem? s.words k ≡ some 0 → get_elem? (parts_of state) k ≡ some v → get_elem? s.homes k ≡ some (some (Some v))
+  -- any other is held by a token of the seat that its word names
+  pub held : (k n : ℕ) → get_elem? s.words k ≡ some (suc n) → Found s.views n k
+  -- a part that a token holds has the word of its seat, and the value that the token says
+  pub holds : (j : ℕ) (ts : List Token) → get_elem? s.views j ≡ some ts
+      → Each (λ (t : Token). Each (λ (kv : ℕ × PartValue). (get_elem? s.words kv.0 ≡ some (suc t.knows.number)) × (get_elem? (parts_of state) kv.0 ≡ some kv.1)) t.held) ts
+  -- no seat number stands in two tokens
+  pub one_seat : (n : ℕ) → total (named n) s.views ≤ 1
+  -- no place of the history stands twice in all that was served
+  pub one_serving : (n : ℕ) → total (serving n) s.views ≤ 1
+  -- what each seat knows is true of the state
+  pub knows : (j : ℕ) (ts : List Token) → get_elem? s.views j ≡ some ts → Each (λ (t : Token). IsTrueOf state t.knows) ts

@@ -7,7 +7,8 @@ use Rattle.lane_core.specs.Steps.{Ends}
 use Rattle.fabric_laws.specs.Fabric.{Fabric}
 use Rattle.fabric_core.specs.declared.event.LaneName.{LaneName}
 use Rattle.fabric_core.specs.declared.event.LaneName.TheVariants.{Up, Down, Inward, Outward}
-use Rattle.fabric_core.specs.Steps.{HasPart, HasLanes}
+pub use Rattle.fabric_core.specs.Steps.{HasLane, with_lane}
+use Rattle.fabric_core.specs.Steps.{HasLanes}
 use Rattle.hall_laws.specs.declared.part.PartValue.{PartValue}
 use Rattle.hall_laws.specs.declared.part.Part.{Part}
 use Rattle.hall_laws.specs.declared.part.Part.TheVariants as names
@@ -48,24 +49,6 @@ lane_slot (Up port) = slot port 1
 lane_slot (Down port) = slot port 5
 lane_slot Inward = 1
 lane_slot Outward = 5
-
--- the lane of that name
-abbrev pub HasLane : Fabric → LaneName → Ends → Type 0
-HasLane f (Up port) e = (place : ℕ) × HasPart f.up port place e
-HasLane f (Down port) e = (place : ℕ) × HasPart f.down port place e
-HasLane f Inward e = f.inward ≡ e
-HasLane f Outward e = f.outward ≡ e
-
-abbrev pub below : ℕ → ℕ
-below zero = zero
-below (suc n) = n
-
--- the fabric with another lane of that name
-abbrev pub with_lane : Fabric → LaneName → Ends → Fabric
-with_lane f (Up port) e = record f { up = slice_set f.up (below port) e }
-with_lane f (Down port) e = record f { down = slice_set f.down (below port) e }
-with_lane f Inward e = record f { inward = e }
-with_lane f Outward e = record f { outward = e }
 
 -- a fabric with so many requesters has a lane of that name
 abbrev pub IsLaneName : ℕ → LaneName → Type 0

@@ -6,8 +6,10 @@ ghost use Rattle.fabric_core.specs.declared.event.Seen.{Seen};
 ghost use Rattle.hall_laws.specs.declared.token.Token.{Token};
 ghost use Rattle.hall_laws.specs.Standing.{token_of, others_of, holding_first, Outside};
 ghost use Rattle.hall_laws.specs.declared.token.Knowledge.{Knowledge};
-ghost use Rattle.hall_laws.specs.Knows.{IsTrueOf};
-ghost use Rattle.hall_laws.specs.Rule.{Traced, IsSoundTraced, Fits, Known, Releases, Goes, dropped_first, dropped_seen};
+ghost use Rattle.hall_laws.specs.Knows.{IsTrueOf, IsRuled};
+ghost use Rattle.hall_laws.specs.declared.token.Start.{Start};
+ghost use Rattle.hall_laws.specs.Standing.{Table};
+ghost use Rattle.hall_laws.specs.Rule.{Traced, IsSoundTraced, Fits, Kept, Known, Releases, Goes, dropped_first, dropped_seen};
 
 use crate::part::PartValue;
 use crate::token::{Start, Token};
@@ -188,4 +190,11 @@ pub fn join(steps: &Steps, place: &mut Place, other: Place)
 /// that isn't posted and isn't pending stands in what it has seen.
 pub fn what_a_seat_knows_is_true()
     ensures { (s : Traced) (w : Knowledge) → IsSoundTraced s → Fits s w → IsTrueOf s.fabric w }
+{}
+
+/// The rule of the hall, between any two steps on the words, line by line: the values at home and those that tokens hold
+/// are the parts of one sound fabric; no seat number stands in two tokens, and no place of the history was served twice;
+/// and what each seat knows is true of that fabric.
+pub fn the_rule_line_by_line()
+    ensures { (about : Start) (s : Table) → Kept about s → IsRuled s }
 {}

@@ -1,7 +1,7 @@
 -- What a call does to the DLLPs on the backward wire.
-use Rattle.std.proofs.Common.{◌≡◌, ℕ, ◌+◌, ◌-◌, ◌%◌, ◌<◌, ◌≤◌, List, [], ◌∷◌, ◌++◌, arith}
+use Rattle.std.proofs.Common.{◌≡◌, ℕ, ◌+◌, ◌<◌, ◌≤◌, List, [], ◌∷◌, ◌++◌, arith}
 use Rattle.seq12.specs.Numbers.{distance_of}
-use Rattle.lane_core.proofs.UnderWay.{MayReturn, IsBackward}
+use Rattle.lane_core.proofs.UnderWay.{IsBackward}
 use Rattle.lane_core.proofs.Arithmetic.{distance_step}
 
 pub more_received : (acked least received more : ℕ) (ds : List ℕ) → received ≤ more → IsBackward acked least received ds → IsBackward acked least more ds

@@ -1,6 +1,6 @@
 -- What a lane's calls do to its credits.
-use Rattle.std.proofs.Common.{◌≡◌, ℕ, zero, suc, ◌+◌, ◌-◌, ◌*◌, ◌/◌, ◌%◌, ◌<◌, ◌≤◌, Bool, true, false, IsTrue, List, [], ◌∷◌, ◌++◌, length, map, filter, take, drop, Option, Some, None, refl, sym, ◌∙◌, ap, subst, arith}
-use Rattle.std.specs.Prelude.{◌⊎◌, slice_get, remove, nat_le, nat_lt, if◌then◌else◌, ◌&&◌}
+use Rattle.std.proofs.Common.{◌≡◌, ℕ, zero, suc, ◌<◌, ◌≤◌, Bool, true, false, List, [], ◌∷◌, ◌++◌, length, map, filter, take, drop, Option, Some, None, refl, sym, ◌∙◌, ap, arith}
+use Rattle.std.specs.Prelude.{slice_get, remove, nat_le, nat_lt, if◌then◌else◌, ◌&&◌}
 use Rattle.std.specs.Option.{option_map}
 use Rattle.std.proofs.lemmas.List.{append-nil, map-append, take-map, drop-map, take_all, drop_all, length-map}
 use Rattle.std.proofs.lemmas.List.Elements.{filter-append}
@@ -34,7 +34,7 @@ use Rattle.lane_core.specs.declared.packet.DllpKind.{DllpKind}
 use Rattle.lane_core.specs.declared.packet.DllpKind.TheVariants as kinds
 use Rattle.lane_core.specs.Content.{items_of, unaccepted_of}
 use Rattle.lane_core.specs.Steps.{Ends, Outgoing, Incoming, new_lane, may_enter, entered, with_room, all_but_first, arrival_of, taken_on, ledger_with, queue_with, after_deliver, sender_after, after_take, ledger_freed}
-use Rattle.lane_core.specs.Calls.{Call, MakeRoom, Enter, Transmit, Deliver, SendDllp, DeliverDllp, Timer, Retrained, Take, IsCall, AreCalls, happens, list_of, accepted_from, after_calls, on_the_way}
+use Rattle.lane_core.specs.Calls.{Call, MakeRoom, Release, Enter, Transmit, Deliver, SendDllp, DeliverDllp, Timer, Retrained, Take, IsCall, AreCalls, happens, list_of, accepted_from, after_calls, on_the_way}
 use Rattle.lane_core.specs.Credit.{needs_of, is_update, direction_of, dllp_events, events_of, events_in}
 use Rattle.lane_core.proofs.UnderWay.{AreNumbered}
 use Rattle.lane_core.proofs.Sound.{answers_in, IsSound, both_true, enter_one, deliver_right, deliver_dllp_right, step_sound, new_sound}
@@ -175,6 +175,7 @@ take_direction e place true =
 
 pub step_direction : (e : Ends) (call : Call) → IsCall call → IsSound e → direction_of (happens e call) ≡ after_events (direction_of e) (events_of e call)
 step_direction e (MakeRoom need) i k = room_direction e (may_enter e.sender need)
+step_direction e Release i k = refl
 step_direction e (Enter t mark) i k = enter_direction e t mark (may_enter e.sender (need_of t)) refl i k
 step_direction e Transmit i k = refl
 step_direction e (Deliver fate) i k = deliver_direction e.sender e.forward e.back e.receiver fate k.numbered

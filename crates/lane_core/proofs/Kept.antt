@@ -1,9 +1,8 @@
 -- A lane whose call ended in one of two ways, and what follows where it is right.
-use Rattle.std.proofs.Common.{◌≡◌, ◌↔◌, ℕ, ◌+◌, ◌-◌, ◌/◌, ◌%◌, ◌<◌, ◌≤◌, All, Bool, true, false, IsTrue, List, [], ◌∷◌, ◌++◌, length, take, drop, refl, sym, ◌∙◌, ap, subst, arith, Result, Ok, Err, OnOk, OnErr, IfOk, IsOk, Option, Some, None}
-use Rattle.std.specs.Prelude.{slice_get, remove, nat_lt, if◌then◌else◌, ◌&&◌}
-use Rattle.std.specs.List.{cons_option}
+use Rattle.std.proofs.Common.{◌≡◌, ℕ, ◌+◌, ◌-◌, ◌/◌, ◌%◌, ◌<◌, ◌≤◌, All, Bool, true, false, List, [], ◌∷◌, ◌++◌, length, take, drop, refl, sym, ◌∙◌, ap, subst, arith, Result, Ok, Err, OnOk, OnErr, IfOk, IsOk, Option, Some, None}
+use Rattle.std.specs.Prelude.{remove, nat_lt, if◌then◌else◌, ◌&&◌}
 use Rattle.std.proofs.Math.Nat.{lt_of_not-le}
-use Rattle.std.proofs.lemmas.List.{append-nil, append_assoc, drop_all, length-append, length-drop, nil_from_length}
+use Rattle.std.proofs.lemmas.List.{append-nil, append_assoc, drop_all, length-drop}
 use Rattle.std.proofs.lemmas.List.Elements.{All-drop}
 use Rattle.std.proofs.lemmas.List.Edits.{remove-append_left}
 use Rattle.std.proofs.lemmas.Bool.Decides.{nat_tests}
@@ -11,9 +10,8 @@ use Rattle.tlp_core.specs.Packet.{Packet}
 use Rattle.tlp_core.specs.Layout.{Spells, canonical}
 use Rattle.dllp_core.specs.declared.packet.Dllp.{Dllp}
 use Rattle.dllp_core.specs.declared.packet.Dllp.TheVariants.{Ack, Nak, Update}
-use Rattle.dllp_core.specs.declared.packet.Class.{Class}
 use Rattle.replay_sender.specs.Carried.{Carried}
-use Rattle.replay_sender.specs.Sending.{Sending, is_outstanding, next_number}
+use Rattle.replay_sender.specs.Sending.{next_number}
 use Rattle.link_receiver.specs.declared.receiver.Reception.TheVariants.{Accept, Duplicate, NakNow, Quiet}
 use Rattle.fc_credit.specs.declared.needs.Need.{Need}
 use Rattle.fc_credit.specs.declared.limits.LaneCredits.{LaneCredits}
@@ -23,7 +21,6 @@ use Rattle.fc_credit.specs.Credits.{gate_covers}
 use Rattle.vc_queue.specs.Queue.{Item, first_passes, is_takeable}
 use Rattle.lane_core.specs.declared.packet.WirePacket.{WirePacket}
 use Rattle.lane_core.specs.declared.packet.LaneRefusal.{LaneRefusal}
-use Rattle.lane_core.specs.declared.packet.LaneRefusal.TheVariants.{NoCredits, WindowFull}
 use Rattle.lane_core.specs.declared.packet.Fate.{Fate}
 use Rattle.lane_core.specs.declared.packet.Fate.TheVariants.{Good, Failed, Lost}
 use Rattle.lane_core.specs.declared.packet.Arrival.{Arrival}
@@ -33,11 +30,11 @@ use Rattle.lane_core.specs.declared.packet.DllpKind.TheVariants as kinds
 use Rattle.tlp_core.specs.Faults.{reading}
 use Rattle.tlp_core.specs.declared.fault.TlpFault.{TlpFault}
 use Rattle.lane_core.specs.Content.{item_read, item_of, items_of, IsSpelled, wire_bytes, received_of, unaccepted_of}
-use Rattle.lane_core.specs.Steps.{Ends, Outgoing, Incoming, new_lane, may_enter, entered, with_room, all_but_first, delivered, arrival_of, taken_on, queue_with, after_arrival, after_deliver, sender_after, is_expected, seen_by, dllp_seen, after_send, wire_after_send, after_take}
-use Rattle.lane_core.specs.Calls.{Call, MakeRoom, Enter, Transmit, Deliver, SendDllp, DeliverDllp, Timer, Retrained, Take, IsCall, AreCalls, happens, after_calls, list_of, accepted_from, on_the_way, content, content_after, IsRightWith, IsRight, AcceptsFirst}
+use Rattle.lane_core.specs.Steps.{Ends, Outgoing, Incoming, new_lane, may_enter, entered, with_room, all_but_first, delivered, arrival_of, taken_on, queue_with, after_deliver, is_expected, seen_by, dllp_seen, after_take}
+use Rattle.lane_core.specs.Calls.{Call, MakeRoom, Release, Enter, Transmit, Deliver, SendDllp, DeliverDllp, Timer, Retrained, Take, IsCall, AreCalls, happens, after_calls, list_of, accepted_from, on_the_way, content, content_after, IsRightWith, IsRight, AcceptsFirst}
 use Rattle.lane_core.proofs.UnderWay.{AreNumbered}
 use Rattle.lane_core.proofs.Right.{taken_first}
-use Rattle.lane_core.proofs.Sound.{arrival_accepts, answers_in, IsSound, named, enter_one, step_sound, run_sound, new_sound, deliver_right, deliver_dllp_right}
+use Rattle.lane_core.proofs.Sound.{arrival_accepts, answers_in, IsSound, named, enter_one, run_sound, new_sound, deliver_right, deliver_dllp_right}
 
 pub ok_or : {A E X : Type 0} (P : X → Type 0) (r : Result A E) (x ok err : X) → OnOk r (x ≡ ok) → OnErr r (x ≡ err) →
     ((a : A) → r ≡ Ok a → P ok) → P err → P x
@@ -99,20 +96,23 @@ right_entered e t mark m s r = by_test e (record e { sender = entered e.sender t
 pub right_room : (e : Ends) (need : Need) → may_enter e.sender need ≡ true → IsRight e → IsRight (record e { sender = with_room e.sender })
 right_room e need m r = by_test e (record e { sender = with_room e.sender }) (may_enter e.sender need) m (right_by e (MakeRoom need) tt r)
 
+-- a call that has room for its packet, or takes one that is there
+
+pub enters : {A E : Type 0} (r : Result A E) (e : Ends) (t : Packet) (mark : ℕ) (new : Outgoing) → OnOk r (may_enter e.sender (need_of t) ≡ true) →
+    OnOk r (new ≡ entered e.sender t mark) → OnOk r (record e { sender = new } ≡ happens e (Enter t mark))
+enters (Ok a) e t mark new m h = rw (m, h) refl
+enters (Err x) e t mark new m h = tt
+
+pub makes_room : {A E : Type 0} (r : Result A E) (e : Ends) (need : Need) (new : Outgoing) → OnOk r (may_enter e.sender need ≡ true) →
+    OnOk r (new ≡ with_room e.sender) → OnOk r (record e { sender = new } ≡ happens e (MakeRoom need))
+makes_room (Ok a) e need new m h = rw (m, h) refl
+makes_room (Err x) e need new m h = tt
+
+pub takes : (e : Ends) (place : ℕ) → is_takeable e.receiver.queue place ≡ true → record e { receiver = after_take e.receiver place } ≡ happens e (Take place)
+takes e place t = rw t refl
+
 pub right_taken : (e : Ends) (place : ℕ) → is_takeable e.receiver.queue place ≡ true → IsRight e → IsRight (record e { receiver = after_take e.receiver place })
 right_taken e place m r = by_test e (record e { receiver = after_take e.receiver place }) (is_takeable e.receiver.queue place) m (right_by e (Take place) tt r)
-
--- what was not refused may enter
-pub may : {A : Type 0} (r : Result A LaneRefusal) (a : A) (s : Outgoing) (need : Need) → r ≡ Ok a → (r ≡ Err (NoCredits need.class)) ↔ (gate_covers s.gate need ≡ false) →
-    (r ≡ Err WindowFull) ↔ (IsTrue (gate_covers s.gate need) × 2047 ≤ length s.sending.kept) → may_enter s need ≡ true
-may r a s need h n f = by_cover (gate_covers s.gate need) refl
-  where
-    by_cover : (b : Bool) → gate_covers s.gate need ≡ b → may_enter s need ≡ true
-    by_cover false e = let refused : r ≡ Err (NoCredits need.class) = n.1 e in cc
-    by_cover true e =
-        let room : length s.sending.kept < 2047 = lt_of_not-le (λ big. let full : r ≡ Err WindowFull = f.1 (e, big) in cc) in
-        let test : nat_lt (length s.sending.kept) 2047 ≡ true = grind (arith, nat_tests) in
-        rw (e, test) refl
 
 room_of : (a : Bool) (n : ℕ) → a && nat_lt n 2047 ≡ true → n < 2047
 room_of true n h = grind (arith, nat_tests)
@@ -169,6 +169,7 @@ room_content e false = refl
 
 pub content_by : (e : Ends) (call : Call) → IsCall call → IsRight e → content (happens e call) ≡ content_after e call
 content_by e (MakeRoom need) i r = room_content e (may_enter e.sender need)
+content_by e Release i r = refl
 content_by e (Enter t mark) i r = enter_content e t mark (may_enter e.sender (need_of t)) refl i r
 content_by e Transmit i r = refl
 content_by e (Deliver fate) i r = content_delivered e fate r
@@ -286,12 +287,10 @@ accepts_when e fate (Ok a) new wire k answer ok w h = rw (ok, w) (accepts_first 
 accepts_when e fate (Err x) new wire k answer ok w h = cc
 
 pub when_entered : {A : Type 0} (e : Ends) (t : Packet) (mark : ℕ) (r : Result A LaneRefusal) (new : Outgoing) →
-    (r ≡ Err (NoCredits (need_of t).class)) ↔ (gate_covers e.sender.gate (need_of t) ≡ false) →
-    (r ≡ Err WindowFull) ↔ (IsTrue (gate_covers e.sender.gate (need_of t)) × 2047 ≤ length e.sender.sending.kept) →
-    OnOk r (new ≡ entered e.sender t mark) → OnOk r (Spells (canonical t) t) → IsRight e →
+    OnOk r (may_enter e.sender (need_of t) ≡ true) → OnOk r (new ≡ entered e.sender t mark) → OnOk r (Spells (canonical t) t) → IsRight e →
     OnOk r (content (record e { sender = new }) ≡ content e ++ (t, mark) ∷ [])
-when_entered e t mark (Ok a) new n f ok s k = rw ok (content_entered e t mark (may (Ok a) a e.sender (need_of t) refl n f) s k)
-when_entered e t mark (Err x) new n f ok s k = tt
+when_entered e t mark (Ok a) new m ok s k = rw ok (content_entered e t mark m s k)
+when_entered e t mark (Err x) new m ok s k = tt
 
 -- ---- the bytes on the wire
 

@@ -1,17 +1,17 @@
 -- Each call keeps a lane right, and the list of what is entered and not yet accepted.
-use Rattle.std.proofs.Common.{◌≡◌, ℕ, zero, suc, zero-add, ◌+◌, ◌-◌, ◌*◌, ◌%◌, ◌<◌, ◌≤◌, max, Bool, true, false, List, [], ◌∷◌, ◌++◌, length, drop, Option, Some, None, refl, sym, ◌∙◌, ap, subst, arith}
-use Rattle.std.specs.Prelude.{slice_get, nat_le, nat_lt, if◌then◌else◌}
+use Rattle.std.proofs.Common.{◌≡◌, ℕ, zero, suc, zero-add, ◌+◌, ◌-◌, ◌%◌, ◌<◌, ◌≤◌, max, Bool, true, false, List, [], ◌∷◌, ◌++◌, length, drop, Option, Some, None, refl, sym, ◌∙◌, ap, subst, arith}
+use Rattle.std.specs.Prelude.{slice_get, nat_lt, if◌then◌else◌}
 use Rattle.std.proofs.lemmas.Option.{slice_get_within}
 use Rattle.std.proofs.lemmas.List.{drop-drop, drop-append-le, length-drop, length_push, append-nil}
 use Rattle.std.proofs.lemmas.Bool.Decides.{nat_tests}
 use Rattle.seq12.specs.Numbers.{next_of, distance_of}
-use Rattle.replay_sender.specs.Sending.{Sending, number_at, with_accepted, after_transmit, next_item, with_reserved, is_outstanding, acknowledged, from_oldest, trained}
+use Rattle.replay_sender.specs.Sending.{Sending, number_at, with_accepted, after_transmit, next_item, with_reserved, released, acknowledged, from_oldest, trained}
 use Rattle.lane_core.specs.declared.packet.WirePacket.{WirePacket}
 use Rattle.replay_sender.specs.Carried.{Carried}
 use Rattle.lane_core.specs.Content.{received_of, unaccepted_of}
-use Rattle.lane_core.proofs.UnderWay.{ahead_of, MayArrive, IsForward, IsBackward, AreNumbered}
+use Rattle.lane_core.proofs.UnderWay.{ahead_of, IsForward, AreNumbered}
 use Rattle.lane_core.specs.Steps.{packets_sent}
-use Rattle.lane_core.proofs.Arithmetic.{ahead_here, ahead_same, ahead_sent, received_step, last_distance, received_acked}
+use Rattle.lane_core.proofs.Arithmetic.{ahead_same, ahead_sent, received_step, last_distance, received_acked}
 use Rattle.lane_core.proofs.Forward as forward
 use Rattle.lane_core.proofs.Backward as backward
 
@@ -65,6 +65,20 @@ trained_right s f b next r =
 
 pub reserved_right : (s : Sending) (f : List WirePacket) (b : List ℕ) (next : ℕ) → AreNumbered s f b next → AreNumbered (with_reserved s) f b next
 reserved_right s f b next r =
+    record {
+      acked_in_range = r.acked_in_range;
+      next_in_range = r.next_in_range;
+      window = r.window;
+      place = r.place;
+      received = r.received;
+      packets = r.packets;
+      dllps = r.dllps;
+    }
+
+-- release
+
+pub released_right : (s : Sending) (f : List WirePacket) (b : List ℕ) (next : ℕ) → AreNumbered s f b next → AreNumbered (released s) f b next
+released_right s f b next r =
     record {
       acked_in_range = r.acked_in_range;
       next_in_range = r.next_in_range;

@@ -1,5 +1,5 @@
 -- Each call keeps a lane's numbers in order, and what is entered and not yet accepted.
-use Rattle.std.proofs.Common.{◌≡◌, ℕ, ◌+◌, ◌-◌, ◌%◌, ◌<◌, ◌≤◌, Bool, true, false, IsTrue, IsOk, All, List, [], ◌∷◌, ◌++◌, length, drop, filter_map, Option, Some, None, Ok, refl, sym, ◌∙◌, ap, subst, arith}
+use Rattle.std.proofs.Common.{◌≡◌, ℕ, ◌+◌, ◌%◌, ◌<◌, ◌≤◌, Bool, true, false, All, List, [], ◌∷◌, ◌++◌, length, filter_map, Option, Some, None, refl, sym, ◌∙◌, ap, subst, arith}
 use Rattle.std.specs.Prelude.{slice_get, nat_le, nat_lt, if◌then◌else◌, ◌==◌, ◌&&◌}
 use Rattle.std.specs.List.{cons_option}
 use Rattle.std.proofs.lemmas.List.{append-nil, append_assoc}
@@ -8,7 +8,6 @@ use Rattle.std.proofs.lemmas.Option.{slice_get_within, get_or_from_slice_get}
 use Rattle.std.proofs.lemmas.Bool.Decides.{nat_tests}
 use Rattle.tlp_core.specs.Packet.{Packet}
 use Rattle.tlp_core.specs.Layout.{Spells, canonical}
-use Rattle.tlp_core.specs.Faults.{reading}
 use Rattle.tlp_core.proofs.Grammar.{reading_spelled}
 use Rattle.seq12.specs.Numbers.{next_of, previous_of, distance_of, class_of}
 use Rattle.seq12.specs.declared.class.SequenceClass.{SequenceClass}
@@ -16,13 +15,11 @@ use Rattle.seq12.specs.declared.class.SequenceClass.TheVariants.{Expected, Dupli
 use Rattle.dllp_core.specs.declared.packet.Dllp.{Dllp}
 use Rattle.dllp_core.specs.declared.packet.Dllp.TheVariants.{Ack, Nak, Update}
 use Rattle.replay_sender.specs.Carried.{Carried}
-use Rattle.replay_sender.specs.Sending.{Sending, number_at, next_item, is_outstanding, acknowledged, after_ack, after_nak, from_oldest, with_accepted}
+use Rattle.replay_sender.specs.Sending.{Sending, number_at, next_item, is_outstanding, acknowledged, from_oldest}
 use Rattle.link_receiver.specs.declared.receiver.NakScheduled.{NakScheduled}
 use Rattle.link_receiver.specs.declared.receiver.NakScheduled.TheVariants.{Clear, Due, Sent}
-use Rattle.link_receiver.specs.declared.receiver.Reception.{Reception}
 use Rattle.link_receiver.specs.declared.receiver.Reception.TheVariants.{Accept, Duplicate, NakNow, Quiet}
 use Rattle.link_receiver.specs.Receiving.{Receiving, reception_of, answer_by, discard_answer, acknowledgment_of, dllp_by}
-use Rattle.fc_credit.specs.declared.needs.Need.{Need}
 use Rattle.fc_credit.specs.declared.limits.LaneCredits.{LaneCredits}
 use Rattle.fc_credit.specs.Needs.{need_of}
 use Rattle.fc_credit.specs.Credits.{gate_covers}
@@ -34,11 +31,11 @@ use Rattle.lane_core.specs.declared.packet.Arrival.{Arrival}
 use Rattle.lane_core.specs.declared.packet.Arrival.TheVariants.{Answered, Gone}
 use Rattle.lane_core.specs.declared.packet.DllpKind.{DllpKind}
 use Rattle.lane_core.specs.declared.packet.DllpKind.TheVariants as kinds
-use Rattle.lane_core.specs.Content.{cargo_of, item_read, item_of, items_of, IsSpelled, received_of, unaccepted_of}
+use Rattle.lane_core.specs.Content.{cargo_of, item_of, items_of, IsSpelled, received_of, unaccepted_of}
 use Rattle.lane_core.specs.Steps.{Ends, Outgoing, Incoming, packets_sent, new_lane, may_enter, entered, with_room, all_but_first, arrival_of, taken_on, receiving_on, after_deliver, dllp_of, receiving_after, wire_after_send, after_dllp, sender_after, after_take}
-use Rattle.lane_core.specs.Calls.{Call, MakeRoom, Enter, Transmit, Deliver, SendDllp, DeliverDllp, Timer, Retrained, Take, IsCall, AreCalls, happens, list_of, entered_by, accepted_from, accepted_by, after_calls, entered_in, accepted_in, on_the_way}
+use Rattle.lane_core.specs.Calls.{Call, MakeRoom, Release, Enter, Transmit, Deliver, SendDllp, DeliverDllp, Timer, Retrained, Take, IsCall, AreCalls, happens, list_of, entered_by, accepted_from, accepted_by, after_calls, entered_in, accepted_in, on_the_way}
 use Rattle.lane_core.proofs.UnderWay.{AreNumbered}
-use Rattle.lane_core.proofs.Right.{entered_unaccepted, entered_right, reserved_right, restarted_right, trained_right, transmitted_right, discarded_right, taken_first, taken_right, answered_right, forgotten_right, outstanding, acknowledged_unaccepted, acknowledged_right}
+use Rattle.lane_core.proofs.Right.{entered_unaccepted, entered_right, reserved_right, released_right, restarted_right, trained_right, transmitted_right, discarded_right, taken_first, taken_right, answered_right, forgotten_right, outstanding, acknowledged_unaccepted, acknowledged_right}
 
 -- the numbers of the Acks and Naks of a back wire
 
@@ -273,6 +270,10 @@ rest_spelled (p ∷ f) w = All-drop IsWireSpelled 1 (p ∷ f) w
 pub step_sound : (e : Ends) (call : Call) → IsCall call → IsSound e →
     IsSound (happens e call) × (on_the_way e ++ entered_by e call ≡ accepted_by e call ++ on_the_way (happens e call))
 step_sound e (MakeRoom need) i k = room_right e (may_enter e.sender need) k
+step_sound e Release i k = (
+  record { numbered = released_right e.sender.sending e.forward (answers_in e.back) e.receiver.receiving.next k.numbered; spelled = k.spelled; under_way = k.under_way },
+  append-nil _,
+)
 step_sound e (Enter t mark) i k = enter_right e t mark (may_enter e.sender (need_of t)) refl i k
 step_sound e Transmit i k = (
   record {

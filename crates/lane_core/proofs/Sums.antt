@@ -1,6 +1,6 @@
 -- What was used is what was entered, and what was given is the first value and what was taken.
-use Rattle.std.proofs.Common.{◌≡◌, ℕ, ◌+◌, ◌<◌, ◌≤◌, Bool, true, false, List, [], ◌∷◌, ◌++◌, length, map, filter, sum_by, Option, Some, None, refl, sym, ◌∙◌, ap, subst, arith, zero-add, add-zero}
-use Rattle.std.specs.Prelude.{slice_get, nat_lt, if◌then◌else◌, ◌&&◌}
+use Rattle.std.proofs.Common.{◌≡◌, ℕ, ◌+◌, Bool, true, false, List, [], ◌∷◌, ◌++◌, length, map, filter, Option, Some, None, refl, sym, ◌∙◌, ap, subst, arith, zero-add, add-zero}
+use Rattle.std.specs.Prelude.{slice_get, nat_lt, if◌then◌else◌}
 use Rattle.std.specs.Option.{option_map}
 use Rattle.std.proofs.lemmas.List.{map-append}
 use Rattle.std.proofs.lemmas.List.Sums.{sum_by-append}
@@ -13,15 +13,15 @@ use Rattle.fc_credit.specs.declared.needs.Need.{Need}
 use Rattle.fc_credit.specs.declared.limits.LaneCredits.{LaneCredits}
 use Rattle.fc_credit.specs.Needs.{need_of}
 use Rattle.fc_credit.specs.Credits.{same, amount, first_of, gate_covers}
-use Rattle.fc_credit.specs.Account.{Account, Accounts, Direction, Event, Consume, Receive, Free, demand, uses, gives, loses, learns, told_to, lost_to, known_to, may_go, used_if, received_by, given_by, new_direction, first_numbers, happens as occurs, numbers_after, after_events, numbers_in}
+use Rattle.fc_credit.specs.Account.{Account, Accounts, Direction, Event, Consume, Receive, Free, demand, uses, loses, learns, told_to, lost_to, known_to, may_go, used_if, received_by, given_by, first_numbers, happens as occurs, numbers_after, after_events, numbers_in}
 use Rattle.vc_queue.specs.Queue.{Item, is_takeable}
 use Rattle.lane_core.specs.declared.packet.Fate.{Fate}
 use Rattle.lane_core.specs.declared.packet.Fate.TheVariants.{Good, Failed, Lost}
 use Rattle.lane_core.specs.declared.packet.DllpKind.{DllpKind}
 use Rattle.lane_core.specs.declared.packet.DllpKind.TheVariants as kinds
 use Rattle.lane_core.specs.declared.packet.WirePacket.{WirePacket}
-use Rattle.lane_core.specs.Steps.{Ends, Outgoing, Incoming, new_lane, may_enter, arrival_of, taken_on}
-use Rattle.lane_core.specs.Calls.{Call, MakeRoom, Enter, Transmit, Deliver, SendDllp, DeliverDllp, Timer, Retrained, Take, IsCall, AreCalls, happens, list_of, accepted_from, entered_by, taken_by, entered_in, taken_in, after_calls}
+use Rattle.lane_core.specs.Steps.{Ends, Incoming, new_lane, may_enter, arrival_of, taken_on}
+use Rattle.lane_core.specs.Calls.{Call, MakeRoom, Release, Enter, Transmit, Deliver, SendDllp, DeliverDllp, Timer, Retrained, Take, IsCall, AreCalls, happens, list_of, accepted_from, entered_by, taken_by, entered_in, taken_in}
 use Rattle.lane_core.specs.Credit.{needs_of, is_update, direction_of, dllp_events, events_of, events_in, numbers_of}
 use Rattle.lane_core.proofs.Sound.{IsSound, both_true, step_sound, new_sound}
 use Rattle.lane_core.proofs.Directions.{goes, need_there, step_direction}
@@ -116,6 +116,7 @@ take_adds e numbers place false c p = same_used (numbers c p)
 call_adds : (e : Ends) (numbers : Accounts) (call : Call) → IsCall call → (c : Class) (p : _) →
     Adds (numbers c p) (numbers_in (direction_of e) numbers (events_of e call) c p) (demand c p (needs_of (entered_by e call))) (demand c p (needs_of (taken_by e call)))
 call_adds e numbers (MakeRoom need) i c p = same_used (numbers c p)
+call_adds e numbers Release i c p = same_used (numbers c p)
 call_adds e numbers (Enter t mark) i c p = enter_adds e numbers t mark (may_enter e.sender (need_of t)) refl i c p
 call_adds e numbers Transmit i c p = same_used (numbers c p)
 call_adds e numbers (Deliver fate) i c p = deliver_adds (direction_of e) numbers e.forward e.receiver fate c p

@@ -1,16 +1,16 @@
 -- The credits of a lane in whole numbers.
-use Rattle.std.proofs.Common.{◌≡◌, ◌↔◌, ℕ, zero, suc, ◌+◌, ◌-◌, ◌<◌, ◌≤◌, Bool, true, false, IsTrue, List, [], ◌∷◌, ◌++◌, refl, sym, ◌∙◌, ap, subst, arith, Result, Err}
+use Rattle.std.proofs.Common.{◌≡◌, ◌↔◌, ℕ, zero, suc, ◌+◌, ◌<◌, ◌≤◌, Bool, true, false, IsTrue, List, refl, sym, ◌∙◌, subst, arith, Result, Err}
 use Rattle.dllp_core.specs.declared.packet.Class.{Class}
 use Rattle.fc_credit.specs.declared.needs.Need.{Need}
 use Rattle.fc_credit.specs.declared.limits.LaneCredits.{LaneCredits}
 use Rattle.fc_credit.specs.Limits.{IsInLimits}
 use Rattle.fc_credit.specs.Credits.{most, pick, covers, gate_of, allowance, grant, first_of, gate_covers}
-use Rattle.fc_credit.specs.Account.{Direction, demand, new_direction, after_events, IsRight as IsBalanced}
+use Rattle.fc_credit.specs.Account.{Direction, demand, IsRight as IsBalanced}
 use Rattle.fc_credit.proofs.Fits.{small, covered_parts, parts_covered, infinite_counter}
 use Rattle.fc_credit.proofs.Runs.{first_small, account, whole}
 use Rattle.lane_core.specs.Steps.{Ends, new_lane}
 use Rattle.lane_core.specs.Calls.{Call, AreCalls, after_calls, on_the_way}
-use Rattle.lane_core.specs.Credit.{needs_of, direction_of, events_in, numbers_of, HasRoom}
+use Rattle.lane_core.specs.Credit.{needs_of, events_in, numbers_of, HasRoom}
 use Rattle.tlp_core.specs.Packet.{Packet}
 use Rattle.fc_credit.specs.Needs.{need_of}
 use Rattle.fc_credit.proofs.Packets.{one_header}

@@ -1,5 +1,5 @@
 -- The calls of a lane as one machine, and what any list of calls enters, accepts and takes.
-use Rattle.std.specs.Prelude.{◌≡◌, ℕ, ◌<◌, Bool, if◌then◌else◌, Option, Some, None, List, [], ◌∷◌, ◌++◌, length, slice_get, remove}
+use Rattle.std.specs.Prelude.{◌≡◌, ℕ, if◌then◌else◌, Option, Some, None, List, [], ◌∷◌, ◌++◌, slice_get, remove}
 use Rattle.tlp_core.specs.Packet.{Packet}
 use Rattle.tlp_core.specs.Layout.{Spells, canonical}
 use Rattle.fc_credit.specs.declared.needs.Need.{Need}
@@ -11,11 +11,12 @@ use Rattle.lane_core.specs.declared.packet.WirePacket.{WirePacket}
 use Rattle.lane_core.specs.declared.packet.Fate.{Fate}
 use Rattle.lane_core.specs.declared.packet.DllpKind.{DllpKind}
 use Rattle.lane_core.specs.Content.{items_of, unaccepted_of}
-use Rattle.lane_core.specs.Steps.{Ends, Incoming, new_lane, may_enter, entered, with_room, after_timer, after_retraining, after_transmission, wire_after_transmit, all_but_first, arrival_of, taken_on, after_deliver, after_send, wire_after_send, sender_after, after_take}
+use Rattle.lane_core.specs.Steps.{Ends, Incoming, new_lane, may_enter, entered, with_room, without_room, after_timer, after_retraining, after_transmission, wire_after_transmit, all_but_first, arrival_of, taken_on, after_deliver, after_send, wire_after_send, sender_after, after_take}
 
 -- a call of a lane; one that is refused for want of memory changes nothing and is left out
 pub data Call : Type 0 where
   MakeRoom : Need → Call
+  Release : Call
   Enter : Packet → ℕ → Call
   Transmit : Call
   Deliver : Fate → Call
@@ -38,6 +39,7 @@ AreCalls (call ∷ calls) = IsCall call × AreCalls calls
 -- the lane after a call: each changes the ends that it is of, and leaves the others
 abbrev pub happens : Ends → Call → Ends
 happens e (MakeRoom need) = if may_enter e.sender need then record e { sender = with_room e.sender } else e
+happens e Release = record e { sender = without_room e.sender }
 happens e (Enter t mark) = if may_enter e.sender (need_of t) then record e { sender = entered e.sender t mark } else e
 happens e Transmit =
     record e { sender = after_transmission e.sender; forward = wire_after_transmit e.sender e.forward }

@@ -1,5 +1,5 @@
 -- Packets of a lane, as values with their marks and as bytes.
-use Rattle.std.specs.Prelude.{ℕ, ◌≡◌, ◌+◌, ◌-◌, ◌/◌, ◌%◌, ◌<◌, IsOk, List, [], ◌∷◌, ◌++◌, drop, Option, Some, None, filter_map, Result, Ok, Err}
+use Rattle.std.specs.Prelude.{ℕ, ◌+◌, ◌-◌, ◌/◌, ◌%◌, IsOk, List, ◌∷◌, drop, Option, Some, None, filter_map, Result, Ok, Err}
 use Rattle.tlp_core.specs.Packet.{Packet}
 use Rattle.tlp_core.specs.Layout.{canonical}
 use Rattle.tlp_core.specs.Faults.{reading}

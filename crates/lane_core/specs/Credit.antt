@@ -1,5 +1,5 @@
 -- Credits of a lane in whole numbers, which it doesn't store.
-use Rattle.std.specs.Prelude.{◌≡◌, ℕ, ◌+◌, ◌<◌, ◌≤◌, Bool, true, false, if◌then◌else◌, Option, Some, None, List, [], ◌∷◌, ◌++◌, map, filter, length, slice_get}
+use Rattle.std.specs.Prelude.{◌+◌, ◌<◌, ◌≤◌, Bool, true, false, if◌then◌else◌, List, [], ◌∷◌, ◌++◌, map, filter}
 use Rattle.dllp_core.specs.declared.packet.Dllp.{Dllp}
 use Rattle.dllp_core.specs.declared.packet.Dllp.TheVariants.{Ack, Nak, Update}
 use Rattle.fc_credit.specs.declared.needs.Need.{Need}
@@ -12,8 +12,8 @@ use Rattle.lane_core.specs.declared.packet.Fate.{Fate}
 use Rattle.lane_core.specs.declared.packet.Fate.TheVariants.{Good, Failed, Lost}
 use Rattle.lane_core.specs.declared.packet.DllpKind.{DllpKind}
 use Rattle.lane_core.specs.declared.packet.DllpKind.TheVariants as kinds
-use Rattle.lane_core.specs.Steps.{Ends, new_lane, may_enter, taken_on, arrival_of}
-use Rattle.lane_core.specs.Calls.{Call, MakeRoom, Enter, Transmit, Deliver, SendDllp, DeliverDllp, Timer, Retrained, Take, happens, on_the_way, accepted_by}
+use Rattle.lane_core.specs.Steps.{Ends, new_lane, may_enter}
+use Rattle.lane_core.specs.Calls.{Call, Enter, Deliver, SendDllp, DeliverDllp, Take, happens, on_the_way, accepted_by}
 
 abbrev pub needs_of : List Item → List Need
 needs_of items = map (λ item. need_of item.0) items

@@ -1,11 +1,11 @@
 -- The calls of a lane, on the values of its four ends.
-use Rattle.std.specs.Prelude.{◌≡◌, ℕ, ◌<◌, Bool, true, false, nat_lt, ◌&&◌, if◌then◌else◌, List, [], ◌∷◌, ◌++◌, length, Option, Some, None, slice_get, remove, Result, Ok, Err}
+use Rattle.std.specs.Prelude.{ℕ, Bool, true, false, nat_lt, ◌&&◌, if◌then◌else◌, List, [], ◌∷◌, ◌++◌, length, Option, Some, None, slice_get, remove, Result, Ok, Err}
 use Rattle.std.specs.Option.{option_map}
 use Rattle.dllp_core.specs.declared.packet.Dllp.{Dllp}
 use Rattle.dllp_core.specs.declared.packet.Dllp.TheVariants.{Ack, Nak, Update}
 use Rattle.tlp_core.specs.Packet.{Packet}
 use Rattle.replay_sender.specs.Carried.{Carried}
-use Rattle.replay_sender.specs.Sending.{Sending, fresh as fresh_sender, next_item, number_at, with_accepted, with_reserved, after_transmit, after_ack, after_nak, from_oldest, trained, is_outstanding}
+use Rattle.replay_sender.specs.Sending.{Sending, fresh as fresh_sender, next_item, number_at, with_accepted, with_reserved, released, after_transmit, after_ack, after_nak, from_oldest, trained, is_outstanding}
 use Rattle.replay_sender.specs.declared.fault.AckFault.{AckFault}
 use Rattle.replay_sender.specs.declared.fault.AckFault.TheVariants.{NotOutstanding}
 use Rattle.link_receiver.specs.declared.receiver.Reception.{Reception}
@@ -80,11 +80,7 @@ with_room s = record { sending = with_reserved s.sending; gate = s.gate }
 
 -- no room is kept
 abbrev pub without_room : Outgoing → Outgoing
-without_room s =
-    record {
-      sending = record { acked = s.sending.acked; kept = s.sending.kept; place = s.sending.place; replays = s.sending.replays; stopped = s.sending.stopped; reserved = false };
-      gate = s.gate;
-    }
+without_room s = record { sending = released s.sending; gate = s.gate }
 
 -- the replay timer expired
 abbrev pub after_timer : Outgoing → Outgoing

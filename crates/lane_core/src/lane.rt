@@ -1,5 +1,5 @@
 //! The four ends together.
-ghost use Rattle.std.specs.Prelude.{◌≡◌, ℕ, ◌+◌, ◌<◌, ◌≤◌, ◌↔◌, ◌⊎◌, List, [], ◌∷◌, ◌++◌, length, false, remove, slice_get, Some, IsTrue, IsOk, IsSome, IfSome, OnOk, OnErr, IfOk, IfErr};
+ghost use Rattle.std.specs.Prelude.{◌≡◌, ℕ, ◌+◌, ◌<◌, ◌≤◌, ◌↔◌, ◌⊎◌, List, [], ◌∷◌, ◌++◌, length, true, false, remove, slice_get, Some, IsTrue, IsOk, IsSome, IfSome, OnOk, OnErr, IfOk, IfErr};
 
 use crate::packet::{Arrival, DllpKind, DllpSeen, Fate, LaneRefusal};
 use crate::receiver_end::ReceiverEnd;
@@ -43,9 +43,10 @@ impl Lane {
     ghost use Rattle.fc_credit.specs.Needs.{need_of as need};
     ghost use Rattle.fc_credit.specs.Credits.{gate_covers};
     ghost use Rattle.vc_queue.specs.Queue.{Item, is_takeable};
-    ghost use Rattle.lane_core.specs.Steps.{new_lane, entered, with_room, transmitted, delivered, dllp_of, dllp_seen, after_take};
+    ghost use Rattle.lane_core.specs.Refusals.{LacksRoom};
+    ghost use Rattle.lane_core.specs.Steps.{new_lane, may_enter, transmitted, delivered, dllp_of, dllp_seen};
     ghost use Rattle.fc_credit.specs.declared.limits.LaneCredits.{LaneCredits};
-    ghost use Rattle.lane_core.specs.Calls.{Call, Transmit, Deliver, SendDllp, DeliverDllp, Timer, Retrained, AreCalls, after_calls, happens, content, AcceptsFirst, IsRight};
+    ghost use Rattle.lane_core.specs.Calls.{Call, MakeRoom, Enter, Transmit, Deliver, SendDllp, DeliverDllp, Timer, Retrained, Take, AreCalls, after_calls, happens, content, AcceptsFirst, IsRight};
     ghost use Rattle.lane_core.specs.Credit.{numbers_of, HasRoom};
 
     /// A lane whose receiver advertised these credits. It allocates nothing.
@@ -68,8 +69,10 @@ impl Lane {
             (result ≡ Err (LaneRefusal.NoCredits need.class)) ↔ (¬ HasRoom credits (numbers_of credits calls) need) }
         ensures full { (result ≡ Err LaneRefusal.WindowFull) ↔ (IsTrue (gate_covers self.old.sender.gate need) × (2047 ≤ length self.old.sender.sending.kept)) }
         ensures errors { IfErr result (λ refusal. (refusal ≡ LaneRefusal.NoCredits need.class) ⊎ (refusal ≡ LaneRefusal.WindowFull) ⊎ (refusal ≡ LaneRefusal.Memory)) }
+        ensures refused { IfErr result (λ refusal. LacksRoom self.old.sender need refusal) }
+        ensures may { OnOk result (may_enter self.old.sender need ≡ true) }
         ensures made { IsTrue self.old.sender.sending.reserved → IsTrue (gate_covers self.old.sender.gate need) → length self.old.sender.sending.kept < 2047 → IsOk result }
-        ensures ok { OnOk result (self.new ≡ record self.old { sender = with_room self.old.sender }) }
+        ensures ok { OnOk result (self.new ≡ happens self.old (MakeRoom need)) }
         ensures content { content self.new ≡ content self.old }
         ensures err { OnErr result (self.new ≡ self.old) }
     {
@@ -83,9 +86,11 @@ impl Lane {
             (result ≡ Err (LaneRefusal.NoCredits (need tlp.now).class)) ↔ (¬ HasRoom credits (numbers_of credits calls) (need tlp.now)) }
         ensures full { (result ≡ Err LaneRefusal.WindowFull) ↔ (IsTrue (gate_covers self.old.sender.gate (need tlp.now)) × (2047 ≤ length self.old.sender.sending.kept)) }
         ensures errors { IfErr result (λ refusal. (refusal ≡ LaneRefusal.NoCredits (need tlp.now).class) ⊎ (refusal ≡ LaneRefusal.WindowFull) ⊎ (refusal ≡ LaneRefusal.Memory)) }
+        ensures refused { IfErr result (λ refusal. LacksRoom self.old.sender (need tlp.now) refusal) }
+        ensures may { OnOk result (may_enter self.old.sender (need tlp.now) ≡ true) }
         ensures room_was_made { IsTrue self.old.sender.sending.reserved → IsTrue (gate_covers self.old.sender.gate (need tlp.now)) → length self.old.sender.sending.kept < 2047 → IsOk result }
         ensures number { IfOk result (λ number. number ≡ next_number self.old.sender.sending) }
-        ensures ok { OnOk result (self.new ≡ record self.old { sender = entered self.old.sender tlp.now mark }) }
+        ensures ok { OnOk result (self.new ≡ happens self.old (Enter tlp.now mark)) }
         ensures spelled { OnOk result (Spells (canonical tlp.now) tlp.now) }
         ensures content { OnOk result (content self.new ≡ content self.old ++ (tlp.now, mark) ∷ []) }
         ensures err { OnErr result (self.new ≡ self.old) }
@@ -97,6 +102,7 @@ impl Lane {
     /// is stopped.
     pub fn transmit(&mut self) -> Result<Option<Seq12>, LaneRefusal>
         ensures number { IfOk result (λ number. number ≡ transmitted self.old.sender) }
+        ensures idle { transmitted self.old.sender ≡ None → IsOk result }
         ensures ok { OnOk result (self.new ≡ happens self.old Transmit) }
         ensures content { content self.new ≡ content self.old }
         ensures memory { IfErr result (λ refusal. refusal ≡ LaneRefusal.Memory) }
@@ -111,6 +117,7 @@ impl Lane {
         ensures answer { IfOk result (λ arrival. arrival ≡ delivered self.old.forward self.old.receiver fate) }
         ensures ok { OnOk result (self.new ≡ happens self.old (Deliver fate)) }
         ensures accepts { result ≡ Ok (Some (Arrival.Answered Reception.Accept)) → AcceptsFirst self.old self.new }
+        ensures grows { OnErr result (delivered self.old.forward self.old.receiver fate ≡ Some (Arrival.Answered Reception.Accept)) }
         ensures content { content self.new ≡ content self.old }
         ensures memory { IfErr result (λ refusal. refusal ≡ LaneRefusal.Memory) }
         ensures err { OnErr result (self.new ≡ self.old) }
@@ -193,7 +200,7 @@ impl Lane {
     pub fn take(&mut self, place: usize) -> (Tlp, u32)
         requires { IsTrue (is_takeable self.old.receiver.queue place) }
         ensures item { slice_get self.old.receiver.queue place ≡ Some result }
-        ensures state { self.new ≡ record self.old { receiver = after_take self.old.receiver place } }
+        ensures state { self.new ≡ happens self.old (Take place) }
         ensures content { content self.new ≡ remove (content self.old) place }
     {
         self.receiver.take(place)

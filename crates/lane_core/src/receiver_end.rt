@@ -69,6 +69,7 @@ impl ReceiverEnd {
     fn receive(&mut self, packet: &WirePacket, good: bool) -> Result<Reception, LaneRefusal>
         ensures answer { IfOk result (λ answer. answer ≡ reception_of self.old.receiving packet.now.number good) }
         ensures ok { IfOk result (λ answer. self.new ≡ after_arrival self.old packet.now.cargo (Answered answer)) }
+        ensures grows { OnErr result (reception_of self.old.receiving packet.now.number good ≡ Reception.Accept) }
         ensures memory { IfErr result (λ refusal. refusal ≡ LaneRefusal.Memory) }
         ensures err { OnErr result (self.new ≡ self.old) }
     {
@@ -90,6 +91,7 @@ impl ReceiverEnd {
         ensures answer { IfOk result (λ arrival. arrival ≡ delivered wire.old self.old fate) }
         ensures ok { OnOk result (self.new ≡ after_deliver wire.old self.old fate) }
         ensures wire { OnOk result (wire.new ≡ all_but_first wire.old) }
+        ensures grows { OnErr result (delivered wire.old self.old fate ≡ Some (Arrival.Answered Reception.Accept)) }
         ensures memory { IfErr result (λ refusal. refusal ≡ LaneRefusal.Memory) }
         ensures err { OnErr result (self.new ≡ self.old) }
         ensures err_wire { OnErr result (wire.new ≡ wire.old) }

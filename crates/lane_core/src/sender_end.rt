@@ -1,5 +1,5 @@
 //! The sender's end of a lane.
-ghost use Rattle.std.specs.Prelude.{◌≡◌, ℕ, ◌+◌, ◌<◌, ◌≤◌, ◌↔◌, ◌⊎◌, List, [], ◌∷◌, ◌++◌, length, false, IsTrue, IsOk, OnOk, OnErr, IfOk, IfErr, Some, is_some};
+ghost use Rattle.std.specs.Prelude.{◌≡◌, ℕ, ◌+◌, ◌<◌, ◌≤◌, ◌↔◌, ◌⊎◌, List, [], ◌∷◌, ◌++◌, length, true, false, IsTrue, IsOk, OnOk, OnErr, IfOk, IfErr, Some, is_some};
 
 use crate::packet::{DllpSeen, Fate, LaneRefusal, WirePacket};
 use crate::wires::{BackWire, ForwardWire};
@@ -44,7 +44,8 @@ impl SenderEnd {
     ghost use Rattle.fc_credit.specs.Needs.{need_of as need};
     ghost use Rattle.fc_credit.specs.Credits.{gate_covers};
     ghost use Rattle.replay_sender.specs.Sending.{next_number, next_item};
-    ghost use Rattle.lane_core.specs.Steps.{new_sender, entered, with_room, without_room, after_timer, after_retraining, transmitted, after_transmission, wire_after_transmit, all_but_first, is_expected, after_dllp, sender_after, dllp_seen};
+    ghost use Rattle.lane_core.specs.Refusals.{LacksRoom};
+    ghost use Rattle.lane_core.specs.Steps.{new_sender, may_enter, entered, with_room, without_room, after_timer, after_retraining, transmitted, after_transmission, wire_after_transmit, all_but_first, is_expected, after_dllp, sender_after, dllp_seen};
     ghost use Rattle.dllp_core.specs.Layout.{FitsDataFC};
     ghost use Rattle.dllp_core.specs.declared.packet.Dllp.{Dllp};
     ghost use Rattle.lane_core.specs.declared.packet.Fate.TheVariants.{Good};
@@ -64,6 +65,8 @@ impl SenderEnd {
         ensures no_credits { (result ≡ Err (LaneRefusal.NoCredits need.class)) ↔ (gate_covers self.old.gate need ≡ false) }
         ensures full { (result ≡ Err LaneRefusal.WindowFull) ↔ (IsTrue (gate_covers self.old.gate need) × (2047 ≤ length self.old.sending.kept)) }
         ensures errors { IfErr result (λ refusal. (refusal ≡ LaneRefusal.NoCredits need.class) ⊎ (refusal ≡ LaneRefusal.WindowFull) ⊎ (refusal ≡ LaneRefusal.Memory)) }
+        ensures refused { IfErr result (λ refusal. LacksRoom self.old need refusal) }
+        ensures may { OnOk result (may_enter self.old need ≡ true) }
         ensures made { IsTrue self.old.sending.reserved → IsTrue (gate_covers self.old.gate need) → length self.old.sending.kept < 2047 → IsOk result }
         ensures ok { OnOk result (self.new ≡ with_room self.old) }
         ensures err { OnErr result (self.new ≡ self.old) }
@@ -98,6 +101,8 @@ impl SenderEnd {
         ensures no_credits { (result ≡ Err (LaneRefusal.NoCredits (need tlp.now).class)) ↔ (gate_covers self.old.gate (need tlp.now) ≡ false) }
         ensures full { (result ≡ Err LaneRefusal.WindowFull) ↔ (IsTrue (gate_covers self.old.gate (need tlp.now)) × (2047 ≤ length self.old.sending.kept)) }
         ensures errors { IfErr result (λ refusal. (refusal ≡ LaneRefusal.NoCredits (need tlp.now).class) ⊎ (refusal ≡ LaneRefusal.WindowFull) ⊎ (refusal ≡ LaneRefusal.Memory)) }
+        ensures refused { IfErr result (λ refusal. LacksRoom self.old (need tlp.now) refusal) }
+        ensures may { OnOk result (may_enter self.old (need tlp.now) ≡ true) }
         ensures room_was_made { IsTrue self.old.sending.reserved → IsTrue (gate_covers self.old.gate (need tlp.now)) → length self.old.sending.kept < 2047 → IsOk result }
         ensures number { IfOk result (λ number. number ≡ next_number self.old.sending) }
         ensures ok { OnOk result (self.new ≡ entered self.old tlp.now mark) }
@@ -135,10 +140,14 @@ impl SenderEnd {
         ensures number { IfOk result (λ number. number ≡ transmitted self.old) }
         ensures sender { OnOk result (self.new ≡ after_transmission self.old) }
         ensures wire { OnOk result (wire.new ≡ wire_after_transmit self.old wire.old) }
+        ensures idle { transmitted self.old ≡ None → IsOk result }
         ensures memory { IfErr result (λ refusal. refusal ≡ LaneRefusal.Memory) }
         ensures err_sender { OnErr result (self.new ≡ self.old) }
         ensures err_wire { OnErr result (wire.new ≡ wire.old) }
     {
+        if !self.sender.can_transmit() {
+            return Ok(None);
+        }
         if wire.packets.try_reserve(1).is_err() {
             return Err(LaneRefusal::Memory);
         }

@@ -7,8 +7,8 @@ use Rattle.std.proofs.lemmas.List.{append-nil, take-append-drop, get_or-append-a
 use Rattle.std.proofs.lemmas.Option.{slice_get_within, slice_get-get_or, get_or_from_slice_get}
 use Rattle.seq12.specs.Numbers.{distance_of}
 use Rattle.replay_sender.specs.Carried.{Carried}
-use Rattle.replay_sender.specs.Sending.{Sending, fresh, number_at, next_number, sent_from, with_accepted, with_reserved, after_transmit, is_outstanding, acknowledged, from_oldest, trained}
-use Rattle.replay_sender.specs.Runs.{Call, Accept, Reserve, Transmit, Ack, Nak, Timer, Retrained, IsCall, AreCalls, after_call, accepted_by, after_calls, accepted_in, KeepsTheLast}
+use Rattle.replay_sender.specs.Sending.{Sending, fresh, number_at, next_number, sent_from, with_accepted, with_reserved, released, after_transmit, is_outstanding, acknowledged, from_oldest, trained}
+use Rattle.replay_sender.specs.Runs.{Call, Accept, Reserve, Release, Transmit, Ack, Nak, Timer, Retrained, IsCall, AreCalls, after_call, accepted_by, after_calls, accepted_in, KeepsTheLast}
 
 -- ---- numbers
 
@@ -89,6 +89,10 @@ reserve_keeps xs s true k =
     record { dropped = k.dropped; kept = k.kept; acked = k.acked; window = k.window; place = k.place; replays = k.replays }
 reserve_keeps xs s false k = k
 
+released_keeps : (xs : List Carried) (s : Sending) → KeepsTheLast xs s → KeepsTheLast xs (released s)
+released_keeps xs s k =
+    record { dropped = k.dropped; kept = k.kept; acked = k.acked; window = k.window; place = k.place; replays = k.replays }
+
 transmit_keeps : (xs : List Carried) (s : Sending) → KeepsTheLast xs s → KeepsTheLast xs (after_transmit s)
 transmit_keeps xs s k =
     record {
@@ -107,6 +111,7 @@ trained_keeps xs s k =
 call_keeps : (xs : List Carried) (s : Sending) (call : Call) → IsCall call → KeepsTheLast xs s → KeepsTheLast (xs ++ accepted_by s call) (after_call s call)
 call_keeps xs s (Accept cargo) is k = accept_keeps xs s cargo (nat_lt (length s.kept) 2047) refl k
 call_keeps xs s Reserve is k = rw append-nil (reserve_keeps xs s (nat_lt (length s.kept) 2047) k)
+call_keeps xs s Release is k = rw append-nil (released_keeps xs s k)
 call_keeps xs s Transmit is k = rw append-nil (transmit_keeps xs s k)
 call_keeps xs s (Ack n) is k = rw append-nil (ack_keeps xs s n (is_outstanding s n) refl is k)
 call_keeps xs s (Nak n) is k = rw append-nil (nak_keeps xs s n (is_outstanding s n) refl is k)

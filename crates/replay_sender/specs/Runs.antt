@@ -1,12 +1,13 @@
 -- Lists of calls of a sender, and what holds of every one.
 use Rattle.std.specs.Prelude.{◌≡◌, ℕ, ◌+◌, ◌%◌, ◌<◌, ◌≤◌, nat_lt, if◌then◌else◌, List, [], ◌∷◌, ◌++◌, length}
 use Rattle.replay_sender.specs.Carried.{Carried}
-use Rattle.replay_sender.specs.Sending.{Sending, with_accepted, with_reserved, after_transmit, after_ack, after_nak, from_oldest, trained}
+use Rattle.replay_sender.specs.Sending.{Sending, with_accepted, with_reserved, released, after_transmit, after_ack, after_nak, from_oldest, trained}
 
 -- a call of a sender; one that is refused for want of memory changes nothing and is left out
 pub data Call : Type 0 where
   Accept : Carried → Call
   Reserve : Call
+  Release : Call
   Transmit : Call
   Ack : ℕ → Call
   Nak : ℕ → Call
@@ -27,6 +28,7 @@ AreCalls (call ∷ calls) = IsCall call × AreCalls calls
 abbrev pub after_call : Sending → Call → Sending
 after_call s (Accept cargo) = if nat_lt (length s.kept) 2047 then with_accepted s cargo else s
 after_call s Reserve = if nat_lt (length s.kept) 2047 then with_reserved s else s
+after_call s Release = released s
 after_call s Transmit = after_transmit s
 after_call s (Ack number) = after_ack s number
 after_call s (Nak number) = after_nak s number

@@ -42,6 +42,11 @@ abbrev pub with_reserved : Sending → Sending
 with_reserved s =
     record { acked = s.acked; kept = s.kept; place = s.place; replays = s.replays; stopped = s.stopped; reserved = true }
 
+-- room is no longer kept
+abbrev pub released : Sending → Sending
+released s =
+    record { acked = s.acked; kept = s.kept; place = s.place; replays = s.replays; stopped = s.stopped; reserved = false }
+
 -- the packet at the place, unless the link waits to be retrained
 abbrev pub next_item : Sending → Option Carried
 next_item s = if s.stopped then None else slice_get s.kept s.place

@@ -10,7 +10,7 @@ pub const CARGO_BYTES: usize = 144;
 /// The bytes of a transaction layer packet, and a mark that rides beside them and isn't on the wire.
 #[derive(Debug, PartialEq, Eq, Drop)]
 pub struct Cargo {
-    pub bytes: ArrayVec<u8, 144>,
+    pub bytes: ArrayVec<u8, CARGO_BYTES>,
     pub mark: u32,
 }
 
@@ -25,7 +25,7 @@ impl Model for Cargo {
 }
 
 /// The same bytes; takes no memory.
-fn copy_of(bytes: &ArrayVec<u8, 144>) -> ArrayVec<u8, 144>
+fn copy_of(bytes: &ArrayVec<u8, CARGO_BYTES>) -> ArrayVec<u8, CARGO_BYTES>
     ensures { result.items ≡ bytes.now.items }
 {
     let mut copy = ArrayVec::new();

@@ -115,3 +115,19 @@ fn nak_sends_the_rest_again(rt: HostRuntime) -> Result<(), Fail> {
     assert!(rt; !sender.is_full());
     Ok(())
 }
+
+#[test]
+fn names(rt: HostRuntime) -> Result<(), Fail> {
+    for (refusal, name) in [
+        (SendRefusal::WindowFull, "WindowFull"),
+        (SendRefusal::Memory, "Memory"),
+    ] {
+        assert_eq!(rt; format!(in rt.alloc(); "{refusal}")?.as_str(), name);
+    }
+    let fault = AckFault::NotOutstanding;
+    assert_eq!(rt;
+        format!(in rt.alloc(); "{fault}")?.as_str(),
+        "NotOutstanding"
+    );
+    Ok(())
+}

@@ -52,7 +52,7 @@ fn drop_front(items: &mut VecDeque<Cargo>, count: usize)
 }
 
 impl Sender {
-    ghost use Rattle.replay_sender.specs.Sending.{fresh, next_number, with_accepted, with_reserved, next_item, sent_from, after_transmit, ack_answer, after_ack, after_nak, from_oldest, trained};
+    ghost use Rattle.replay_sender.specs.Sending.{fresh, next_number, with_accepted, with_reserved, released, next_item, sent_from, after_transmit, ack_answer, after_ack, after_nak, from_oldest, trained};
 
     /// NEXT_TRANSMIT_SEQ is 000h, ACKD_SEQ is FFFh. It allocates nothing.
     pub fn new(alloc: Global) -> Sender
@@ -129,7 +129,7 @@ impl Sender {
 
     /// Room is no longer kept for a packet. It frees no memory.
     pub fn release(&mut self)
-        ensures { self.new ≡ record { acked = self.old.acked; kept = self.old.kept; place = self.old.place; replays = self.old.replays; stopped = self.old.stopped; reserved = false } }
+        ensures { self.new ≡ released self.old }
     {
         self.reserved = false;
     }

@@ -5,6 +5,8 @@ ghost use Rattle.fc_credit.specs.Needs.{need_of};
 ghost use Rattle.fc_credit.specs.Credits.{gate_covers};
 ghost use Rattle.vc_queue.specs.Queue.{Item, is_takeable};
 ghost use Rattle.lane_core.specs.Calls.{content};
+ghost use Rattle.lane_core.specs.Refusals.{LacksRoom};
+ghost use Rattle.lane_core.specs.declared.packet.LaneRefusal.{LaneRefusal};
 ghost use Rattle.switch_core.specs.Forwarding.{Forwards};
 
 use crate::fault::ForwardRefusal;
@@ -25,6 +27,8 @@ pub fn forward_ends(
         (result ≡ Err (ForwardRefusal.Lane LaneRefusal.WindowFull)) ↔ (IsTrue (gate_covers to.old.gate (need_of item.0)) × (2047 ≤ length to.old.sending.kept)) }
     ensures class { (c : Class) → result ≡ Err (ForwardRefusal.Lane (LaneRefusal.NoCredits c)) →
         (item : Item) × (slice_get from.old.queue place ≡ Some item) × (c ≡ (need_of item.0).class) }
+    ensures lacks { (refusal : LaneRefusal) → result ≡ Err (ForwardRefusal.Lane refusal) →
+        (item : Item) × (slice_get from.old.queue place ≡ Some item) × (LacksRoom to.old (need_of item.0) refusal) }
     ensures ok { OnOk result (Forwards from.old from.new place to.old to.new) }
     ensures err_from { OnErr result (from.new ≡ from.old) }
     ensures err_to { OnErr result (to.new ≡ to.old) }
@@ -53,7 +57,11 @@ pub fn forward(from: &mut Lane, place: usize, to: &mut Lane) -> Result<(), Forwa
         (result ≡ Err (ForwardRefusal.Lane LaneRefusal.WindowFull)) ↔ (IsTrue (gate_covers to.old.sender.gate (need_of item.0)) × (2047 ≤ length to.old.sender.sending.kept)) }
     ensures class { (c : Class) → result ≡ Err (ForwardRefusal.Lane (LaneRefusal.NoCredits c)) →
         (item : Item) × (slice_get from.old.receiver.queue place ≡ Some item) × (c ≡ (need_of item.0).class) }
+    ensures lacks { (refusal : LaneRefusal) → result ≡ Err (ForwardRefusal.Lane refusal) →
+        (item : Item) × (slice_get from.old.receiver.queue place ≡ Some item) × (LacksRoom to.old.sender (need_of item.0) refusal) }
     ensures ok { OnOk result (Forwards from.old.receiver from.new.receiver place to.old.sender to.new.sender) }
+    ensures rest_from { from.new ≡ record from.old { receiver = from.new.receiver } }
+    ensures rest_to { to.new ≡ record to.old { sender = to.new.sender } }
     ensures content { OnOk result ((item : Item) × (slice_get from.old.receiver.queue place ≡ Some item) × (content to.new ≡ content to.old ++ item ∷ []) × (content from.new ≡ remove (content from.old) place)) }
     ensures err_from { OnErr result (from.new ≡ from.old) }
     ensures err_to { OnErr result (to.new ≡ to.old) }

@@ -135,3 +135,21 @@ fn a_packet_moves_on(rt: HostRuntime) -> Result<(), Fail> {
     assert_eq!(rt; ForwardRefusal::Lane(LaneRefusal::WindowFull).number(), 2);
     Ok(())
 }
+
+#[test]
+fn names(rt: HostRuntime) -> Result<(), Fail> {
+    for (refusal, name) in [
+        (ForwardRefusal::NotTakeable, "NotTakeable"),
+        (
+            ForwardRefusal::Lane(LaneRefusal::NoCredits(Class::Posted)),
+            "NoCredits",
+        ),
+        (ForwardRefusal::Lane(LaneRefusal::WindowFull), "WindowFull"),
+        (ForwardRefusal::Lane(LaneRefusal::Memory), "Memory"),
+    ] {
+        assert_eq!(rt; format!(in rt.alloc(); "{refusal}")?.as_str(), name);
+    }
+    let fault = RouteFault::NoPort;
+    assert_eq!(rt; format!(in rt.alloc(); "{fault}")?.as_str(), "NoPort");
+    Ok(())
+}

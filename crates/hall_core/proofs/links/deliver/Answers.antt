@@ -10,7 +10,6 @@ use Rattle.hall_laws.specs.Rule.{Known, Goes}
 use Rattle.hall_laws.specs.Shows.{Shows}
 use Rattle.hall_core.specs.Refusals.{IsRefused}
 use Rattle.hall_core.specs.declared.refusal.HallRefusal.TheVariants.{Core}
-use Rattle.hall_core.proofs.Refused.{idle_only}
 use Rattle.hall_core.proofs.links.deliver.Goals as goal
 
 pub event-requires-clause-event : goal.event-requires-clause-event
@@ -56,4 +55,4 @@ returns-in-Err-deliver-clause-why c =
     let same : t.knows ≡ before = search rules in
     let many : t.knows.config.requesters ≡ c.args.requesters = search rules in
     let named : IsLaneName t.knows.config.requesters name = subst (λ (n : ℕ). IsLaneName n name) (sym many) c.requires.table.2 in
-    subst (λ (z : Knowledge). IsRefused z (Deliver name c.args.fate) (Core c.in-Err-deliver.refusal)) same (inl (c.delivering.ensures.refused t (others_of ts) name v w c.args.fate c.in-Err-deliver.refusal named (known, held) (idle_only c.in-Err-deliver.refusal c.in-Err-deliver.ensures.idle, c.in-Err-deliver.ensures.errors)))
+    subst (λ (z : Knowledge). IsRefused z (Deliver name c.args.fate) (Core c.in-Err-deliver.refusal)) same (inl (c.delivering.ensures.refused t (others_of ts) name v w c.args.fate c.in-Err-deliver.refusal named (known, held) c.in-Err-deliver.ensures.refused))

@@ -1,4 +1,4 @@
-use Rattle.std.proofs.Common.{rules, ◌≡◌, ℕ, List, [], ◌∷◌, inl, ap, sym, subst, Err}
+use Rattle.std.proofs.Common.{rules, ◌≡◌, ℕ, List, [], ◌∷◌, inl, sym, subst}
 use Rattle.fabric_core.specs.declared.event.Event.TheVariants as events
 use Rattle.fabric_core.specs.declared.event.Seen.TheVariants as seen
 use Rattle.hall_laws.specs.declared.part.PartValue.TheVariants.{Sender}
@@ -53,4 +53,4 @@ returns-in-Err-retrained-clause-why c =
     let many : t.knows.config.requesters ≡ c.args.requesters = search rules in
     let named : IsLaneName t.knows.config.requesters name = subst (λ (n : ℕ). IsLaneName n name) (sym many) c.requires.table.2 in
     subst (λ (z : Knowledge). IsRefused z (events.Retrained name) (Core c.in-Err-retrained.refusal)) same
-    (inl (c.retraining.ensures.refused t (others_of ts) name v c.in-Err-retrained.refusal named (known, held) c.in-Err-retrained.ensures.errors (c.in-Err-retrained.ensures.idle.0 (ap Err c.in-Err-retrained.ensures.errors))))
+    (inl (c.retraining.ensures.refused t (others_of ts) name v c.in-Err-retrained.refusal named (known, held) c.in-Err-retrained.ensures.refused))

@@ -55,4 +55,4 @@ returns-in-Err-send_dllp-clause-why c =
     let same : t.knows ≡ before = search rules in
     let many : t.knows.config.requesters ≡ c.args.requesters = search rules in
     let named : IsLaneName t.knows.config.requesters name = subst (λ (n : ℕ). IsLaneName n name) (sym many) c.requires.table.2 in
-    subst (λ (z : Knowledge). IsRefused z (SendDllp name c.args.kind) (Core c.in-Err-send_dllp.refusal)) same (inl (c.sending_a_dllp.ensures.refused t (others_of ts) name v w c.args.kind c.in-Err-send_dllp.refusal named (known, held) c.in-Err-send_dllp.ensures.errors))
+    subst (λ (z : Knowledge). IsRefused z (SendDllp name c.args.kind) (Core c.in-Err-send_dllp.refusal)) same (inl (c.sending_a_dllp.ensures.refused t (others_of ts) name v w c.args.kind c.in-Err-send_dllp.refusal named (known, held) c.in-Err-send_dllp.ensures.refused))

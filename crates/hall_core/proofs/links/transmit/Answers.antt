@@ -10,7 +10,6 @@ use Rattle.hall_laws.specs.Rule.{Known, Goes}
 use Rattle.hall_laws.specs.Shows.{Shows}
 use Rattle.hall_core.specs.Refusals.{IsRefused}
 use Rattle.hall_core.specs.declared.refusal.HallRefusal.TheVariants.{Core}
-use Rattle.hall_core.proofs.Refused.{idle_only}
 use Rattle.hall_core.proofs.links.transmit.Goals as goal
 
 pub event-requires-clause-event : goal.event-requires-clause-event
@@ -56,4 +55,4 @@ returns-in-Err-transmit-clause-why c =
     let same : t.knows ≡ before = search rules in
     let many : t.knows.config.requesters ≡ c.args.requesters = search rules in
     let named : IsLaneName t.knows.config.requesters name = subst (λ (n : ℕ). IsLaneName n name) (sym many) c.requires.table.2 in
-    subst (λ (z : Knowledge). IsRefused z (Transmit name) (Core c.in-Err-transmit.refusal)) same (inl (c.transmitting.ensures.refused t (others_of ts) name v w c.in-Err-transmit.refusal named (known, held) (idle_only c.in-Err-transmit.refusal c.in-Err-transmit.ensures.idle, c.in-Err-transmit.ensures.errors)))
+    subst (λ (z : Knowledge). IsRefused z (Transmit name) (Core c.in-Err-transmit.refusal)) same (inl (c.transmitting.ensures.refused t (others_of ts) name v w c.in-Err-transmit.refusal named (known, held) c.in-Err-transmit.ensures.refused))

@@ -15,6 +15,7 @@ use Rattle.hall_laws.specs.Rule.{Known, Goes, after_event}
 use Rattle.hall_laws.specs.Shows.{Shows}
 use Rattle.hall_core.specs.Refusals.{IsRefused}
 use Rattle.hall_core.specs.declared.refusal.HallRefusal.TheVariants.{Core}
+use Rattle.hall_core.proofs.switching.forward_out.Goals.{then-to-eq0-via-then-to-eq0, then-to-eq0-via-else-to-eq0+then-to-requesters}
 use Rattle.hall_core.proofs.switching.forward_out.Goals as goal
 
 pub event-requires-clause-event : goal.event-requires-clause-event
@@ -75,3 +76,21 @@ returns-in-Err-forward-clause-why c =
     let small : to ≤ c.args.requesters = search rules in
     subst (λ (z : Knowledge). IsRefused z (Forward lanes.Outward c.args.at) (Core c.in-Err-forward.refusal)) same
     (inl (c.forwarding_out.ensures.kept t (others_of ts) c.args.at to r s c.in-Err-forward.refusal (some_port, omega (arith, many, small)) (known, held) routed c.in-Err-forward.ensures.refused))
+
+pub returns-then-to-eq0-clause-why : goal.returns-then-to-eq0-clause-why
+returns-then-to-eq0-clause-why c =
+    let before : Knowledge = (token_of c.args.place.now.me.0).knows in
+    let r = c.in-Ok.receiver in let to : ℕ = c.number-to.result in
+    let ts : List Token = c.args.place.now.me.0 in
+    let t : Token = holding 8 (Receiver r) (token_of ts) in
+    let known : Known (t ∷ others_of ts) = c.in-Ok.ensures.taken.1 in
+    let held : t.held ≡ (8, Receiver r) ∷ [] = search rules in
+    let same : t.knows ≡ before = search rules in
+    let many : t.knows.config.requesters ≡ c.args.requesters = search rules in
+    let routed : IsRoutedAs r c.args.at 0 (Ok to) = search rules in
+    let none : (to ≡ 0) ⊎ (t.knows.config.requesters < to) = elim c.then-to-eq0.branch [
+      | then-to-eq0-via-then-to-eq0 w ↦ inl w.if-to-eq0.true
+      | then-to-eq0-via-else-to-eq0+then-to-requesters w ↦ inr (omega (arith, many, w.if-to-requesters.true))
+    ] in
+    subst (λ (z : Knowledge). IsRefused z (Forward lanes.Outward c.args.at) (Core (refusals.Route NoPort))) same
+    (inl (c.forwarding_out.ensures.no_lane t (others_of ts) c.args.at to r (known, held) routed none))

@@ -33,7 +33,7 @@ returns-in-Ok-serve-clause-shows c =
     let known : Known (t ∷ others_of ts) = c.in-Ok-take_sender.ensures.taken.1 in
     let held : t.held ≡ (5, Sender s) ∷ ((0, Memory m) ∷ ((4, Receiver r) ∷ [])) = search rules in
     let same : t.knows ≡ before = search rules in
-    let after : Token = after_event (Serve c.args.at) (At n) m.entries ((5, Sender c.serve.new.sender) ∷ ((0, Memory c.serve.new.memory) ∷ [])) t in
+    let after : Token = after_event (Serve c.args.at) (At n) m.entries ((0, Memory c.serve.new.memory) ∷ ((5, Sender c.serve.new.sender) ∷ [])) t in
     subst (λ (z : Knowledge). Shows z (Serve c.args.at) (At n)) same
     (c.serving.ensures.shown (Serve c.args.at) (At n) t after (others_of ts) 4 (Receiver c.serve.new.receiver) known (c.serving.ensures.owes t c.args.at n r c.serve.new.receiver m c.serve.new.memory s c.serve.new.sender held c.in-Ok-serve.ensures.ok))
 

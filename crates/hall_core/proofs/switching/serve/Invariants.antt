@@ -6,4 +6,4 @@ use Rattle.hall_core.proofs.switching.serve.Given as goal
 
 abbrev pub ghosts-event : goal.ghosts-event
 ghosts-event a = let t = token_of a.place.now.me.0 in let told = a.told.now in
-    record { token = record { knows = serving_also told.1 t.knows; held = (5, Sender told.3.now) ∷ ((0, Memory told.2.now) ∷ []) } }
+    record { token = record { knows = serving_also told.1 t.knows; held = (0, Memory told.2.now) ∷ ((5, Sender told.3.now) ∷ []) } }

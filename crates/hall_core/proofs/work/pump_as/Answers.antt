@@ -13,9 +13,9 @@ always (Err e) P h = tt
 pub returns-in-Transmit-clause-pumped : goal.returns-in-Transmit-clause-pumped
 returns-in-Transmit-clause-pumped c =
     let w : Knowledge = (token_of c.args.place.now.me.0).knows in
-    let me : Sat = c.link-in-Transmit.new.place.me in
+    let me : Sat = c.link.new.place.me in
     let now : me ≡ knowing w = search rules in
-    always c.link-in-Transmit.result (λ what. (x : Knowledge) × (me ≡ knowing x) × Pumped c.args.event what w x) (λ what. (w, now, subst (λ (e : WorkEvent). Pumped e what w w) (sym c.in-Transmit.is) refl))
+    always c.link.result (λ what. (x : Knowledge) × (me ≡ knowing x) × Pumped c.args.event what w x) (λ what. (w, now, subst (λ (e : WorkEvent). Pumped e what w w) (sym c.in-Transmit.is) refl))
 
 pub returns-in-Deliver-clause-pumped : goal.returns-in-Deliver-clause-pumped
 returns-in-Deliver-clause-pumped c =

@@ -1,6 +1,5 @@
-use Rattle.std.proofs.Common.{refl}
-use Rattle.fc_credit.specs.Needs.{need_of}
-use Rattle.switch_core.proofs.Rooms.{may}
+use Rattle.std.proofs.Common.{◌≡◌, true, refl}
+use Rattle.vc_queue.specs.Queue.{is_takeable}
 use Rattle.switch_core.proofs.forwarding.forward.Goals as goal
 
 pub returns-in-Ok-clause-ok : goal.returns-in-Ok-clause-ok
@@ -9,8 +8,8 @@ returns-in-Ok-clause-ok c = record {
   mark = c.in-Some.mark;
   takeable = let value = c.takeable-takeable.ensures in let no = c.if-not-takeable.false in cc;
   there = c.in-Some.ensures.item;
-  may = may c.enter.result c.args.to.now.sender (need_of c.in-Some.packet.now) (λ e. let is = c.in-Ok.is in cc) (λ e. let is = c.in-Ok.is in cc) c.enter.ensures.no_credits c.enter.ensures.full;
+  may = c.in-Ok.ensures.may;
   spelled = c.in-Ok.ensures.spelled;
-  sent = rw c.in-Ok.ensures.ok refl;
-  left = rw c.take.ensures.state refl;
+  sent = rw (c.in-Ok.ensures.ok, c.in-Ok.ensures.may) refl;
+  left = let value = c.takeable-takeable.ensures in let no = c.if-not-takeable.false in let takes : is_takeable c.args.from.now.receiver.queue c.args.place ≡ true = cc in rw (c.take.ensures.state, takes) refl;
 }

@@ -2,9 +2,8 @@ use Rattle.std.proofs.Common.{◌≡◌, length, take, Some, sym, subst, refl, a
 use Rattle.std.specs.Prelude.{slice_get}
 use Rattle.std.proofs.lemmas.Option.{slice_get_read}
 use Rattle.fabric_laws.specs.Fabric.{Fabric}
-use Rattle.fabric_core.specs.declared.fault.Refusal.TheVariants as refusals
 use Rattle.fabric_core.specs.Steps.{Refused}
-use Rattle.fabric_core.specs.Runs.{Runs}
+use Rattle.fabric_core.specs.Runs.{Runs, LacksRecord}
 use Rattle.fabric_core.proofs.Runs.{Each, TraceLaws, Headline, headline, checked, runs_next}
 use Rattle.fabric_core.proofs.fabric.Fabric.run.Goals as goal
 
@@ -13,7 +12,7 @@ returns-in-Err-clause-stops c =
     record {
       event = c.index-events-place.result;
       there = slice_get_read c.args.events.now (length c.args.events.now) c.loop-place.place c.index-events-place.result refl (omega arith) c.index-events-place.is;
-      refused = subst (λ (f : Fabric). Refused f c.index-events-place.result c.in-Err.refusal ⊎ (c.in-Err.refusal ≡ refusals.Memory)) (sym c.in-Err.ensures.err) c.in-Err.ensures.refused;
+      refused = subst (λ (f : Fabric). Refused f c.index-events-place.result c.in-Err.refusal ⊎ LacksRecord c.index-events-place.result c.in-Err.refusal) (sym c.in-Err.ensures.err) c.in-Err.ensures.refused;
     }
 
 pub loop-place-preserved : goal.loop-place-preserved

@@ -1,4 +1,4 @@
-use Rattle.std.proofs.Common.{◌≡◌, refl, IsOk}
+use Rattle.std.proofs.Common.{refl, IsOk}
 use Rattle.lane_core.specs.Calls.{DeliverDllp}
 use Rattle.lane_core.proofs.Kept.{when_ok, right_by, never_fault, content_told}
 use Rattle.lane_core.proofs.lane.Lane.deliver_dllp.Goals as goal

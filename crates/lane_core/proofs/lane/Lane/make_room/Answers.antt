@@ -1,6 +1,6 @@
 use Rattle.lane_core.specs.Steps.{Outgoing, with_room}
 use Rattle.lane_core.specs.Calls.{IsRight}
-use Rattle.lane_core.proofs.Kept.{ok_or, may, right_room}
+use Rattle.lane_core.proofs.Kept.{ok_or, of_ok, right_room, makes_room}
 use Rattle.lane_core.proofs.Whole.{no_room}
 use Rattle.lane_core.proofs.lane.Lane.make_room.Goals as goal
 
@@ -8,7 +8,7 @@ pub invariant_of-self : goal.invariant_of-self
 invariant_of-self c =
     ok_or (λ (s : Outgoing). IsRight (record { sender = s; forward = c.self.inside.forward; back = c.self.inside.back; receiver = c.self.inside.receiver }))
     c.make_room.result c.make_room.new.self (with_room c.self.inside.sender) c.self.inside.sender c.make_room.ensures.ok c.make_room.ensures.err
-    (λ a h. right_room _ c.args.need (may c.make_room.result a c.self.inside.sender c.args.need h c.make_room.ensures.no_credits c.make_room.ensures.full) c.self.invariant)
+    (λ a h. right_room _ c.args.need (of_ok c.make_room.result a h c.make_room.ensures.may) c.self.invariant)
     c.self.invariant
 
 pub returns-clause-no_room : goal.returns-clause-no_room
@@ -16,3 +16,9 @@ returns-clause-no_room c =
     rw (← c.self.view_is)
     (no_room c.make_room.result (record { sender = c.self.inside.sender; forward = c.self.inside.forward; back = c.self.inside.back; receiver = c.self.inside.receiver })
     c.args.need c.make_room.ensures.no_credits)
+
+pub returns-clause-ok : goal.returns-clause-ok
+returns-clause-ok c =
+    rw (← c.self.view_is)
+    (makes_room c.make_room.result (record { sender = c.self.inside.sender; forward = c.self.inside.forward; back = c.self.inside.back; receiver = c.self.inside.receiver })
+    c.args.need c.make_room.new.self c.make_room.ensures.may c.make_room.ensures.ok)

@@ -1,4 +1,4 @@
-use Rattle.std.proofs.Common.{◌≡◌, ℕ, arith, eq-eqb, sym, ◌∙◌, IsTrue}
+use Rattle.std.proofs.Common.{◌≡◌, arith, eq-eqb, sym, ◌∙◌}
 use Rattle.std.proofs.lemmas.Bool.Decides.{nat_tests}
 use Rattle.lane_core.proofs.Kept.{quiet_when, quiet_only}
 use Rattle.lane_core.proofs.lane.Lane.quiet.Goals as goal
