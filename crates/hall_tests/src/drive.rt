@@ -1,0 +1,178 @@
+//! A hall with its seats, and how packets go through it. The calls say no more than that the seats stay the hall's.
+ghost use Rattle.std.specs.Prelude.{◌≡◌, IfOk, IfSome};
+ghost use Rattle.hall_core.specs.Views.{IsSeatOf, AreSeatsOf};
+
+use arrayvec::ArrayVec;
+use fabric_core::{Config, ConfigFault, Fabric, LaneName, Seen};
+use hall_core::{Answered, Hall, HallFault, HallRefusal, ReqSeat, Submitted, WorkEvent, WorkSeat};
+use lane_core::{Fate, LaneCredits};
+use seq_memory::Reply;
+use std::alloc::Global;
+use tlp_core::{Op, Width};
+
+/// Why no hall was opened.
+#[derive(Clone, Copy, Debug, PartialEq, Eq)]
+pub enum OpenFault {
+    /// No fabric was made.
+    Fabric(ConfigFault),
+    /// No hall was made.
+    Hall(HallFault),
+}
+
+/// A hall of a new fabric of 4096 bytes, with its seats.
+pub fn opened(
+    requesters: u8,
+    work: usize,
+    block: u16,
+    alloc: Global,
+) -> Result<(Hall, Vec<ReqSeat>, Vec<WorkSeat>), OpenFault>
+    ensures seats { IfOk result (λ t. AreSeatsOf t.0 t.1.items × AreSeatsOf t.0 t.2.items) }
+    ensures config { IfOk result (λ t. t.0.config.requesters ≡ requesters) }
+{
+    let config = Config {
+        requesters,
+        base: 0,
+        size: 4096,
+        credits: LaneCredits::DEFAULT,
+        block,
+    };
+    let fabric = match Fabric::new(config, alloc) {
+        Ok(fabric) => fabric,
+        Err(fault) => return Err(OpenFault::Fabric(fault)),
+    };
+    match Hall::new(fabric, work, alloc) {
+        Ok(made) => Ok(made),
+        Err(fault) => Err(OpenFault::Hall(fault)),
+    }
+}
+
+/// The last of these seats.
+#[tactic(auto, using(crate::proofs::Seats::last_fits))]
+pub fn last_seat(hall: &Hall, seats: &mut Vec<ReqSeat>) -> Option<ReqSeat>
+    requires { AreSeatsOf hall.now seats.old.items }
+    ensures rest { AreSeatsOf hall.now seats.new.items }
+    ensures seat { IfSome result (λ s. IsSeatOf hall.now s) }
+{
+    seats.pop()
+}
+
+/// The last of these seats.
+#[tactic(auto, using(crate::proofs::Seats::last_fits))]
+pub fn last_worker(hall: &Hall, seats: &mut Vec<WorkSeat>) -> Option<WorkSeat>
+    requires { AreSeatsOf hall.now seats.old.items }
+    ensures rest { AreSeatsOf hall.now seats.new.items }
+    ensures seat { IfSome result (λ s. IsSeatOf hall.now s) }
+{
+    seats.pop()
+}
+
+/// [`Hall::submit`].
+pub fn submit(hall: &Hall, seat: &mut ReqSeat, op: Op) -> Result<Submitted, HallRefusal>
+    requires { IsSeatOf hall.now seat.old }
+    ensures { IsSeatOf hall.now seat.new }
+{
+    hall.submit(seat, op)
+}
+
+/// [`Hall::collect`].
+pub fn collect(hall: &Hall, seat: &mut ReqSeat) -> Result<Option<Answered>, HallRefusal>
+    requires { IsSeatOf hall.now seat.old }
+    ensures { IsSeatOf hall.now seat.new }
+{
+    hall.collect(seat)
+}
+
+/// [`Hall::pump`].
+pub fn pump(hall: &Hall, seat: &mut WorkSeat, event: WorkEvent) -> Result<Seen, HallRefusal>
+    requires { IsSeatOf hall.now seat.old }
+    ensures { IsSeatOf hall.now seat.new }
+{
+    hall.pump(seat, event)
+}
+
+/// How many of these events happen, up to the first refusal.
+pub fn play(hall: &Hall, seat: &mut WorkSeat, events: &[WorkEvent]) -> usize
+    requires { IsSeatOf hall.now seat.old }
+    ensures { IsSeatOf hall.now seat.new }
+{
+    for (place, event) in events.iter().enumerate() {
+        if pump(hall, seat, *event).is_err() {
+            return place;
+        }
+    }
+    events.len()
+}
+
+/// From a requester's lane through Serve.
+pub fn out_and_served(port: u8) -> [WorkEvent; 6] {
+    let up = LaneName::Up(port);
+    [
+        WorkEvent::Transmit(up),
+        WorkEvent::Deliver(up, Fate::Good),
+        WorkEvent::Forward(up, 0),
+        WorkEvent::Transmit(LaneName::Inward),
+        WorkEvent::Deliver(LaneName::Inward, Fate::Good),
+        WorkEvent::Serve(0),
+    ]
+}
+
+/// From Serve to the requester.
+pub fn back(port: u8) -> [WorkEvent; 5] {
+    let down = LaneName::Down(port);
+    [
+        WorkEvent::Transmit(LaneName::Outward),
+        WorkEvent::Deliver(LaneName::Outward, Fate::Good),
+        WorkEvent::Forward(LaneName::Outward, 0),
+        WorkEvent::Transmit(down),
+        WorkEvent::Deliver(down, Fate::Good),
+    ]
+}
+
+/// A payload.
+pub fn bytes_of(items: &[u8]) -> ArrayVec<u8, 128> {
+    let mut bytes = ArrayVec::new();
+    let _ = bytes.try_extend_from_slice(items);
+    bytes
+}
+
+/// Writes 01 02 03 04 at 40h.
+pub fn write() -> Op {
+    Op::Write {
+        address: 0x40,
+        first: 15,
+        last: 0,
+        bytes: bytes_of(&[1, 2, 3, 4]),
+    }
+}
+
+/// Reads the DW at 40h.
+pub fn read() -> Op {
+    Op::Read {
+        address: 0x40,
+        dw: 1,
+        first: 15,
+        last: 0,
+    }
+}
+
+/// Adds 1 to the word at 0.
+pub fn add_one() -> Op {
+    Op::FetchAdd {
+        address: 0,
+        width: Width::Four,
+        operand: 1,
+    }
+}
+
+/// Whether the request with this number was answered with these bytes at this length of the history.
+pub fn is_answer(
+    got: &Result<Option<Answered>, HallRefusal>,
+    number: u32,
+    bytes: &[u8],
+    n: u64,
+) -> bool {
+    match got {
+        Ok(Some(a)) => a.number == number && a.n == n && a.reply == Reply::Data(bytes_of(bytes)),
+        _ => false,
+    }
+}
