@@ -1,0 +1,78 @@
+-- How a run begins, and why it ends.
+use Rattle.std.proofs.Common.{◌≡◌, ℕ, suc, ◌+◌, ◌<◌, List, [], length, get_or, inl, refl, sym, ap, subst, Bool, true, ◌∙◌}
+use Rattle.std.specs.Prelude.{Option, Some, Result, Ok, Err, IfOk, IfErr, slice_get}
+use Rattle.std.proofs.lemmas.Option.{slice_get-get_or}
+use Rattle.seq_memory.specs.declared.Entry.{Entry}
+use Rattle.seq_memory.specs.History.{State}
+use Rattle.history_check.specs.declared.Trace.{Trace}
+use Rattle.history_check.specs.declared.flaws.FlawKind.{FlawKind}
+use Rattle.history_check.specs.Claim.{claim_of}
+use Rattle.history_check.specs.Flaws.{first_flaw}
+use Rattle.lane_core.specs.Calls.{content}
+use Rattle.fabric_laws.specs.Fabric.{Fabric}
+use Rattle.fabric_core.specs.declared.config.Config.{Config}
+use Rattle.fabric_core.specs.Config.{IsNewWith}
+use Rattle.hall_core.specs.Opens.{IsUnused}
+use Rattle.hall_laws.specs.Rule.{HasConfig, newcomer}
+use Rattle.hall_core.specs.Views.{SeatView, HallView, AreNewSeats}
+use Rattle.workers.specs.declared.halt.RunHalt.{RunHalt}
+use Rattle.workers.specs.declared.halt.RunHalt.TheVariants as halts
+use Rattle.workers.specs.declared.running.RunPlan.{RunPlan}
+use Rattle.workers.specs.declared.running.Report.{Report}
+use Rattle.tlp_core.specs.declared.operation.Op.{Op}
+use Rattle.history_check.specs.declared.Record.{Record}
+use Rattle.workers.specs.Halts.{IsPlan, IsOfMemory, IsFlaw, IsEndBy, IsCause}
+use Rattle.workers.specs.Running.{AreUnusedSeats, AreWorkSeats, AreDone}
+use Rattle.workers.proofs.Rows.{new_seats}
+
+-- a new fabric is quiet, and nothing has acted
+pub new_is_unused : (c : Config) (f : Fabric) → IsNewWith c f → IsUnused f
+new_is_unused c f n = (
+  record {
+    inward = ap content n.inward;
+    outward = ap content n.outward;
+    up = λ i e at. ap content (n.up.each i e at);
+    down = λ i e at. ap content (n.down.each i e at);
+  },
+  ap (λ (m : State). m.entries) n.memory,
+)
+
+pub first_seats : (hall : HallView) (ss : List SeatView) → AreNewSeats hall.table_id hall.config 0 hall.config.requesters ss → AreUnusedSeats hall 1 ss
+first_seats hall ss new = new_seats hall 0 ss new.each
+
+pub work_seats : (hall : HallView) (first count : ℕ) (ss : List SeatView) → AreNewSeats hall.table_id hall.config first count ss → AreWorkSeats hall ss
+work_seats hall first count ss new k d below =
+    let one = new.each k (get_or ss k d) (slice_get-get_or ss k d below) in (one.0, ap (λ w. w.config) one.1)
+
+pub same_config : (c d : Config) (f g : Fabric) → IsNewWith c f → HasConfig f d → HasConfig g d → HasConfig g c
+same_config c d f g n h k = record {
+  requesters = k.requesters ∙ sym h.requesters ∙ n.requesters.number;
+  base = k.base ∙ sym h.base ∙ ap (λ (m : State). m.base) n.memory;
+  size = k.size ∙ sym h.size ∙ ap (λ (m : State). m.size) n.memory;
+  block = k.block ∙ sym h.block ∙ ap (λ (m : State). m.block) n.memory;
+  credits = k.credits ∙ sym h.credits ∙ n.credits;
+}
+
+-- ---- the end
+
+pub flaw_ends : (c : Config) (trace : Trace) (history : List Entry) (halt : RunHalt) → IsOfMemory c trace → IsFlaw (first_flaw (claim_of trace history)) halt → IsEndBy c halt
+flaw_ends c trace history (halts.Flaw f) memory h = (trace, history, memory, h)
+flaw_ends c trace history halts.Memory memory h = tt
+flaw_ends c trace history halts.Plan memory h = absurd h
+flaw_ends c trace history halts.Turns memory h = absurd h
+flaw_ends c trace history halts.Gated memory h = absurd h
+flaw_ends c trace history (halts.Held held) memory h = absurd h
+flaw_ends c trace history (halts.Core r) memory h = absurd h
+flaw_ends c trace history halts.Missing memory h = absurd h
+
+pub ends : (p : RunPlan) (r : Result Report RunHalt) → IsPlan p → IfErr r (λ h. IsEndBy p.config h) → IfErr r (λ h. IsCause p h)
+ends p (Ok x) plan e = tt
+ends p (Err h) plan e = inl (plan, e)
+
+pub configured : (p : RunPlan) (d : Config) (f : Fabric) (r : Result Report RunHalt) → IsPlan p → IsNewWith p.config f → HasConfig f d → IfOk r (λ x. HasConfig x.fabric d) → IfOk r (λ x. IsPlan p × HasConfig x.fabric p.config)
+configured p d f (Ok x) plan new has e = (plan, same_config p.config d f x.fabric new has e)
+configured p d f (Err h) plan new has e = tt
+
+pub all_done : (ss : List (List Op)) (whole : Bool) (rs : List Record) (r : Result Report RunHalt) → (whole ≡ true → AreDone rs 1 ss) → IfOk r (λ x. (whole ≡ true) × (x.trace.records.items ≡ rs)) → IfOk r (λ x. AreDone x.trace.records.items 1 ss)
+all_done ss whole rs (Ok x) h e = subst (λ l. AreDone l 1 ss) (sym e.1) (h e.0)
+all_done ss whole rs (Err h') h e = tt

@@ -1,0 +1,4 @@
+pub mod Beginning
+pub mod Rows
+pub mod Steps
+pub mod Waits

@@ -1,0 +1,156 @@
+-- Seats, threads and records in the order of their requesters.
+use Rattle.std.proofs.Math.Seq.{take-suc, drop-cons}
+use Rattle.std.proofs.lemmas.List.{map-append, length-map, length-take-le}
+use Rattle.std.proofs.Common.{◌≡◌, ℕ, zero, suc, ◌+◌, ◌<◌, Vec, Global, Bool, true, false, cond, eqb, ◌&&◌, ◌||◌, List, [], ◌∷◌, ◌++◌, length, map, take, drop, get_or, refl, add-one, subst, ◌∙◌, sym, ap, arith}
+use Rattle.std.specs.Prelude.{remove, Some, None, slice_get}
+use Rattle.std.specs.declared.thread.PromisedHandle.{PromisedHandle}
+use Rattle.std.specs.List.{AllByRecursion as Each, list_any, cons_option}
+use Rattle.atomic_table.specs.Seated.{TableId}
+use Rattle.tlp_core.specs.declared.operation.Op.{Op}
+use Rattle.history_check.specs.declared.Record.{Record}
+use Rattle.history_check.specs.declared.Record.TheVariants as records
+use Rattle.history_check.specs.Lookup.{requester_of}
+use Rattle.history_check.specs.Trace.{submission, submissions, answers_to}
+use Rattle.fabric_core.specs.declared.config.Config.{Config}
+use Rattle.hall_laws.specs.Rule.{newcomer}
+use Rattle.hall_core.specs.Views.{SeatView, HallView, AreNewSeats, IsSeatOf}
+use Rattle.recorder.specs.declared.laws.Pushed.{Pushed}
+use Rattle.recorder.specs.declared.laws.Taken.{Taken}
+use Rattle.recorder.specs.Rule.{records_by, IsWhole}
+use Rattle.workers.specs.declared.requester.Ended.{Ended}
+use Rattle.workers.specs.declared.threads.Keeps.{Keeps}
+use Rattle.workers.specs.Following.{IsUnusedSeat, Finishes}
+use Rattle.workers.specs.Running.{AreUnusedSeats, AreSeats, AreHandles, AreFinished, AreDone}
+
+pub seats_next : (hall : HallView) (i : ℕ) (ss : List SeatView) → AreUnusedSeats hall i ss → 0 < length ss → AreUnusedSeats hall (i + 1) (remove ss 0)
+seats_next hall i [] h some = absurd (omega arith)
+seats_next hall i (s ∷ ss) h some = h.1
+
+pub seats_first : (hall : HallView) (i : ℕ) (ss : List SeatView) (s : SeatView) → AreUnusedSeats hall i ss → 0 < length ss → s ≡ get_or ss 0 s → IsUnusedSeat hall i s
+seats_first hall i [] s h some is = absurd (omega arith)
+seats_first hall i (t ∷ ts) s h some is = subst (IsUnusedSeat hall i) (sym is) h.0
+
+-- the first of some
+pub seat_first : (hall : HallView) (ss : List SeatView) (s : SeatView) → AreSeats hall ss → 0 < length ss → s ≡ get_or ss 0 s → IsSeatOf hall s
+seat_first hall [] s h some is = absurd (omega arith)
+seat_first hall (t ∷ ts) s h some is = subst (IsSeatOf hall) (sym is) h.0
+
+-- the seats of a new hall
+pub new_seats : (hall : HallView) (n : ℕ) (ss : List SeatView) → ((i : ℕ) (s : SeatView) → slice_get ss i ≡ Some s → (s.table_id ≡ hall.table_id) × (s.knows ≡ (newcomer hall.config (n + i)).knows)) → AreUnusedSeats hall (suc n) ss
+new_seats hall n [] each = tt
+new_seats hall n (s ∷ ss) each =
+    let mine = each 0 s refl in
+    let is : s.knows ≡ (newcomer hall.config n).knows = mine.1 ∙ ap (λ m. (newcomer hall.config m).knows) (omega arith) in (
+      record { seat = (mine.0, ap (λ k. k.config) is); number = ap (λ k. suc k.number) is; made = ap (λ k. k.made) is; pending = ap (λ k. k.pending) is },
+      subst (λ m. AreUnusedSeats hall m ss) (omega arith) (new_seats hall (suc n) ss (λ i t at. let one = each (suc i) t at in (one.0, one.1 ∙ ap (λ m. (newcomer hall.config m).knows) (omega arith)))),
+    )
+
+pub handles_more : (hall : HallView) (queue : TableId) (i : ℕ) (ss : List (List Op)) (hs : List (PromisedHandle Ended Keeps)) (s : List Op) (h : PromisedHandle Ended Keeps) → AreHandles hall queue i ss hs
+    → h.promise.hall.now ≡ hall → h.promise.recorder.now ≡ queue → h.promise.script.now ≡ s → h.promise.requester ≡ i + length ss → AreHandles hall queue i (ss ++ s ∷ []) (hs ++ h ∷ [])
+handles_more hall queue i [] [] s h old a b c d = (a, b, c, (omega arith), tt)
+handles_more hall queue i [] (k ∷ ks) s h old a b c d = absurd old
+handles_more hall queue i (t ∷ ts) [] s h old a b c d = absurd old
+handles_more hall queue i (t ∷ ts) (k ∷ ks) s h old a b c d = (old.0, old.1, old.2, old.3, handles_more hall queue (i + 1) ts ks s h old.4 a b c (omega arith))
+
+abbrev pub items_of : Vec Op Global → List Op
+items_of v = v.items
+
+pub handles_step : (hall : HallView) (queue : TableId) (xs : List (Vec Op Global)) (i : ℕ) (hs : List (PromisedHandle Ended Keeps)) (v : Vec Op Global) (h : PromisedHandle Ended Keeps)
+    → AreHandles hall queue 1 (map items_of (take i xs)) hs → i < length xs → v ≡ get_or xs i v
+    → h.promise.hall.now ≡ hall → h.promise.recorder.now ≡ queue → h.promise.script.now ≡ v.items → h.promise.requester ≡ i + 1 → AreHandles hall queue 1 (map items_of (take (i + 1) xs)) (hs ++ h ∷ [])
+handles_step hall queue xs i hs v h old below is a b c d =
+    let more : take (i + 1) xs ≡ take i xs ++ v ∷ [] = ap (λ k. take k xs) (add-one i) ∙ take-suc xs i v below ∙ ap (λ (x : Vec Op Global). take i xs ++ x ∷ []) (sym is) in
+    let shown : map items_of (take (i + 1) xs) ≡ map items_of (take i xs) ++ v.items ∷ [] = ap (map items_of) more ∙ map-append items_of (take i xs) (v ∷ []) in
+    let count : length (map items_of (take i xs)) ≡ i = length-map (take i xs) items_of ∙ length-take-le i xs (omega arith) in
+    subst (λ l. AreHandles hall queue 1 l (hs ++ h ∷ [])) (sym shown) (handles_more hall queue 1 (map items_of (take i xs)) hs v.items h old a b c (omega arith))
+
+pub seats_more : (hall : HallView) (ss : List SeatView) (s : SeatView) → AreSeats hall ss → IsSeatOf hall s → AreSeats hall (ss ++ s ∷ [])
+seats_more hall [] s old e = (e, tt)
+seats_more hall (t ∷ ts) s old e = (old.0, seats_more hall ts s old.1 e)
+
+-- of the first thread, and of those behind it
+pub record Split (hall : HallView) (queue : TableId) (i : ℕ) (s : List Op) (ss : List (List Op)) (h : PromisedHandle Ended Keeps) (hs : List (PromisedHandle Ended Keeps)) : Type 0 where
+  pub hall_is : h.promise.hall.now ≡ hall
+  pub queue_is : h.promise.recorder.now ≡ queue
+  pub script_is : h.promise.script.now ≡ s
+  pub requester_is : h.promise.requester ≡ i
+  pub others : AreHandles hall queue (i + 1) ss hs
+
+split : (hall : HallView) (queue : TableId) (i : ℕ) (s : List Op) (ss : List (List Op)) (hs : List (PromisedHandle Ended Keeps)) (h : PromisedHandle Ended Keeps) → AreHandles hall queue i (s ∷ ss) hs → h ≡ get_or hs 0 h
+    → Split hall queue i s ss h (remove hs 0)
+split hall queue i s ss [] h old is = absurd old
+split hall queue i s ss (k ∷ ks) h old is = subst (λ (x : PromisedHandle Ended Keeps). Split hall queue i s ss x ks) (sym is) (record { hall_is = old.0; queue_is = old.1; script_is = old.2; requester_is = old.3; others = old.4 })
+
+pub split_at : (hall : HallView) (queue : TableId) (xs : List (Vec Op Global)) (i : ℕ) (v : Vec Op Global) (hs : List (PromisedHandle Ended Keeps)) (h : PromisedHandle Ended Keeps)
+    → AreHandles hall queue (i + 1) (map items_of (drop i xs)) hs → i < length xs → v ≡ get_or xs i v → h ≡ get_or hs 0 h → Split hall queue (i + 1) v.items (map items_of (drop (i + 1) xs)) h (remove hs 0)
+split_at hall queue xs i v hs h old below here is =
+    let cut : drop i xs ≡ v ∷ drop (i + 1) xs = drop-cons xs i v below ∙ (λ j. sym here j ∷ drop (sym (add-one i) j) xs) in
+    split hall queue (i + 1) v.items (map items_of (drop (i + 1) xs)) hs h (subst (λ l. AreHandles hall queue (i + 1) (map items_of l) hs) cut old) is
+
+finished_more : (i : ℕ) (ss : List (List Op)) (ps : List Pushed) (s : List Op) (p : Pushed) → AreFinished i ss ps → p.requester ≡ i + length ss → Finishes s p → AreFinished i (ss ++ s ∷ []) (ps ++ p ∷ [])
+finished_more i [] [] s p old e f = ((omega arith), f, tt)
+finished_more i [] (q ∷ qs) s p old e f = absurd old
+finished_more i (t ∷ ts) [] s p old e f = absurd old
+finished_more i (t ∷ ts) (q ∷ qs) s p old e f = (old.0, old.1, finished_more (i + 1) ts qs s p old.2 (omega arith) f)
+
+pub finished_step : (xs : List (Vec Op Global)) (i : ℕ) (v : Vec Op Global) (ps : List Pushed) (p : Pushed) → AreFinished 1 (map items_of (take i xs)) ps → i < length xs → v ≡ get_or xs i v → p.requester ≡ i + 1 → Finishes v.items p
+    → AreFinished 1 (map items_of (take (i + 1) xs)) (ps ++ p ∷ [])
+finished_step xs i v ps p old below is e f =
+    let more : take (i + 1) xs ≡ take i xs ++ v ∷ [] = ap (λ k. take k xs) (add-one i) ∙ take-suc xs i v below ∙ ap (λ (x : Vec Op Global). take i xs ++ x ∷ []) (sym is) in
+    let shown : map items_of (take (i + 1) xs) ≡ map items_of (take i xs) ++ v.items ∷ [] = ap (map items_of) more ∙ map-append items_of (take i xs) (v ∷ []) in
+    let count : length (map items_of (take i xs)) ≡ i = length-map (take i xs) items_of ∙ length-take-le i xs (omega arith) in
+    subst (λ l. AreFinished 1 l (ps ++ p ∷ [])) (sym shown) (finished_more 1 (map items_of (take i xs)) ps v.items p old (omega arith) f)
+
+pub handles_length : (hall : HallView) (queue : TableId) (i : ℕ) (ss : List (List Op)) (hs : List (PromisedHandle Ended Keeps)) → AreHandles hall queue i ss hs → length hs ≡ length ss
+handles_length hall queue i [] [] old = refl
+handles_length hall queue i [] (h ∷ hs) old = absurd old
+handles_length hall queue i (s ∷ ss) [] old = absurd old
+handles_length hall queue i (s ∷ ss) (h ∷ hs) old = ap suc (handles_length hall queue (i + 1) ss hs old.4)
+
+-- ---- what the checker took is what the requesters pushed
+
+-- a record of another requester submits nothing of this one, and answers nothing of it
+nothing_of : (i : ℕ) (r : Record) → eqb i (requester_of r) ≡ false → submission i r ≡ None
+nothing_of i (records.Sub j k op n) e = ap (λ b. cond b (Some op) None) e
+nothing_of i (records.Ans j k reply n) e = refl
+
+no_answer_of : (i k : ℕ) (r : Record) → eqb i (requester_of r) ≡ false → answers_to i k r ≡ false
+no_answer_of i k (records.Sub j m op n) e = refl
+no_answer_of i k (records.Ans j m reply n) e = ap (λ b. b && eqb k m) e
+
+submissions_by_at : (i : ℕ) (r : Record) (rs : List Record) (b : Bool) → eqb i (requester_of r) ≡ b → submissions (records_by i rs) i ≡ submissions rs i → submissions (cond b (r ∷ records_by i rs) (records_by i rs)) i ≡ submissions (r ∷ rs) i
+submissions_by_at i r rs true e h = ap (λ l. cons_option (submission i r) l) h
+submissions_by_at i r rs false e h = h ∙ ap (λ o. cons_option o (submissions rs i)) (sym (nothing_of i r e))
+
+submissions_by : (i : ℕ) (rs : List Record) → submissions (records_by i rs) i ≡ submissions rs i
+submissions_by i [] = refl
+submissions_by i (r ∷ rs) = submissions_by_at i r rs (eqb i (requester_of r)) refl (submissions_by i rs)
+
+answers_by_at : (i k : ℕ) (r : Record) (rs : List Record) (b : Bool) → eqb i (requester_of r) ≡ b → list_any (answers_to i k) (records_by i rs) ≡ list_any (answers_to i k) rs
+    → list_any (answers_to i k) (cond b (r ∷ records_by i rs) (records_by i rs)) ≡ list_any (answers_to i k) (r ∷ rs)
+answers_by_at i k r rs true e h = ap (λ b. answers_to i k r || b) h
+answers_by_at i k r rs false e h = h ∙ ap (λ b. b || list_any (answers_to i k) rs) (sym (no_answer_of i k r e))
+
+answers_by : (i k : ℕ) (rs : List Record) → list_any (answers_to i k) (records_by i rs) ≡ list_any (answers_to i k) rs
+answers_by i k [] = refl
+answers_by i k (r ∷ rs) = answers_by_at i k r rs (eqb i (requester_of r)) refl (answers_by i k rs)
+
+done_of : (rs : List Record) (i : ℕ) (ss : List (List Op)) (ps : List Pushed) → AreFinished i ss ps → Each (λ p. records_by p.requester rs ≡ p.records) ps → AreDone rs i ss
+done_of rs i [] [] f h = tt
+done_of rs i [] (p ∷ ps) f h = absurd f
+done_of rs i (s ∷ ss) [] f h = absurd f
+done_of rs i (s ∷ ss) (p ∷ ps) f h =
+    let mine : records_by i rs ≡ p.records = ap (λ k. records_by k rs) (sym f.0) ∙ h.0 in (
+      sym (submissions_by i rs) ∙ ap (λ l. submissions l i) mine ∙ ap (λ k. submissions p.records k) (sym f.0) ∙ f.1.submitted,
+      λ k op at np. sym (answers_by i k rs) ∙ ap (list_any (answers_to i k)) mine ∙ ap (λ j. list_any (answers_to j k) p.records) (sym f.0) ∙ f.1.answered k op at np,
+      done_of rs (i + 1) ss ps f.2 h.1,
+    )
+
+each_behind : {A : Type 0} (P : A → Type 0) (xs ys : List A) → Each P (xs ++ ys) → Each P ys
+each_behind P [] ys h = h
+each_behind P (x ∷ xs) ys h = each_behind P xs ys h.1
+
+pub done : (t : Taken) (rs : List Record) (ss : List (List Op)) (before pushed : List Pushed) → IsWhole t → t.records ≡ rs → t.known ≡ before ++ pushed → AreFinished 1 ss pushed → AreDone rs 1 ss
+done t rs ss before pushed whole is known f =
+    let all : Each (λ p. records_by p.requester t.records ≡ p.records) (before ++ pushed) = subst (Each (λ p. records_by p.requester t.records ≡ p.records)) known whole in
+    subst (λ l. AreDone l 1 ss) is (done_of t.records 1 ss pushed f (each_behind (λ p. records_by p.requester t.records ≡ p.records) before pushed all))

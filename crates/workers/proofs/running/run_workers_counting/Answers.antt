@@ -1,0 +1,25 @@
+use Rattle.std.proofs.Common.{◌∙◌, ap, sym, map, length, arith}
+use Rattle.workers.proofs.Beginning.{new_is_unused, first_seats, work_seats, ends, configured, all_done}
+use Rattle.workers.proofs.running.run_workers_counting.Goals as goal
+
+pub new-requires : goal.new-requires
+new-requires g c = new_is_unused c.args.plan.config c.in_ok-fabric.fabric c.in_ok-fabric.ensures.ok.1
+
+pub run_threads-gathered-requires-clause-seats : goal.run_threads-gathered-requires-clause-seats
+run_threads-gathered-requires-clause-seats g c κs within =
+    let plan = c.in_ok-fabric.ensures.ok.0 in
+    let new = c.in_ok-fabric.ensures.ok.1 in
+    let has = c.in-Ok.ensures.config in
+    let number = c.in-Ok.ensures.requesters.number in
+    let count = has.requesters in
+    let made = new.requesters.number in
+    let scripts = c.as_slice.ensures.value in
+    let same = plan.1 in
+    let few = plan.0.requesters.1 in (
+      omega (arith, c.in-Ok.seats.ok.0, ap length scripts),
+      omega (arith, ap length scripts),
+      first_seats c.in-Ok.hall c.in-Ok.seats.items c.in-Ok.ensures.requesters,
+    )
+
+pub run_threads-gathered-requires-clause-workers : goal.run_threads-gathered-requires-clause-workers
+run_threads-gathered-requires-clause-workers g c κs within = work_seats c.in-Ok.hall _ _ c.in-Ok.workers.items c.in-Ok.ensures.work

@@ -1,0 +1,47 @@
+-- Seats, threads and records in the order of their requesters.
+use Rattle.std.specs.Prelude.{◌≡◌, ℕ, suc, ◌+◌, List, [], ◌∷◌}
+use Rattle.std.specs.List.{All}
+use Rattle.std.specs.declared.thread.PromisedHandle.{PromisedHandle}
+use Rattle.atomic_table.specs.Seated.{TableId}
+use Rattle.tlp_core.specs.declared.operation.Op.{Op}
+use Rattle.history_check.specs.declared.Record.{Record}
+use Rattle.history_check.specs.Trace.{submissions}
+use Rattle.recorder.specs.declared.laws.Pushed.{Pushed}
+use Rattle.hall_core.specs.Views.{SeatView, HallView, IsSeatOf}
+use Rattle.workers.specs.declared.requester.Ended.{Ended}
+use Rattle.workers.specs.declared.threads.Keeps.{Keeps}
+use Rattle.workers.specs.Following.{IsUnusedSeat, IsAnswered, Finishes}
+
+-- the unused seats of that hall for the requesters from that number on
+abbrev pub AreUnusedSeats : HallView → ℕ → List SeatView → Type 0
+AreUnusedSeats hall i [] = Unit {0}
+AreUnusedSeats hall i (s ∷ ss) = IsUnusedSeat hall i s × AreUnusedSeats hall (i + 1) ss
+
+-- seats of requesters of that hall
+abbrev pub AreSeats : HallView → List SeatView → Type 0
+AreSeats hall [] = Unit {0}
+AreSeats hall (s ∷ ss) = IsSeatOf hall s × AreSeats hall ss
+
+-- work seats of that hall
+abbrev pub AreWorkSeats : HallView → List SeatView → Type 0
+AreWorkSeats hall ss = All (IsSeatOf hall) ss
+
+-- the threads of the requesters from that number on, with these scripts
+abbrev pub AreHandles : HallView → TableId → ℕ → List (List Op) → List (PromisedHandle Ended Keeps) → Type 0
+AreHandles hall queue i [] [] = Unit {0}
+AreHandles hall queue i [] (h ∷ hs) = ⊥
+AreHandles hall queue i (s ∷ ss) [] = ⊥
+AreHandles hall queue i (s ∷ ss) (h ∷ hs) =
+    (h.promise.hall.now ≡ hall) × (h.promise.recorder.now ≡ queue) × (h.promise.script.now ≡ s) × (h.promise.requester ≡ i) × AreHandles hall queue (i + 1) ss hs
+
+-- what the requesters from that number on pushed for these scripts
+abbrev pub AreFinished : ℕ → List (List Op) → List Pushed → Type 0
+AreFinished i [] [] = Unit {0}
+AreFinished i [] (p ∷ ps) = ⊥
+AreFinished i (s ∷ ss) [] = ⊥
+AreFinished i (s ∷ ss) (p ∷ ps) = (p.requester ≡ i) × Finishes s p × AreFinished (i + 1) ss ps
+
+-- the records' submissions of the requesters from that number on are these scripts, and each operation of theirs that isn't posted is answered
+abbrev pub AreDone : List Record → ℕ → List (List Op) → Type 0
+AreDone rs i [] = Unit {0}
+AreDone rs i (s ∷ ss) = (submissions rs i ≡ s) × IsAnswered i s rs × AreDone rs (i + 1) ss

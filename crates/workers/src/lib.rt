@@ -1,0 +1,22 @@
+//! Worker threads that drive a hall: one for each requester, two for each lane, one each for the
+//! switch and the completer, and a checker that takes what requesters saw out of a queue while the
+//! others run.
+//!
+//! [`run_workers`] runs a plan and answers a report, whose history explains its trace, or why there is
+//! none. No worker but the checker can wait: its loop takes no `Wait`.
+#![tactic(auto)]
+
+mod copying;
+mod gate;
+mod halt;
+mod parts;
+mod requester;
+mod running;
+#[cfg(test)]
+mod tests;
+mod threads;
+mod turns;
+
+pub use gate::{Gate, OpenGate};
+pub use halt::RunHalt;
+pub use running::{Report, RunPlan, run_workers, run_workers_counting};
