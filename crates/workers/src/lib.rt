@@ -6,7 +6,6 @@
 //! none. No worker but the checker can wait: its loop takes no `Wait`.
 #![tactic(auto)]
 
-mod copying;
 mod gate;
 mod halt;
 mod parts;

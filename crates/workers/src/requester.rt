@@ -3,7 +3,6 @@ ghost use Rattle.std.specs.Prelude.{◌≡◌, ◌+◌, ◌<◌, ◌≤◌, IsTr
 ghost use Rattle.hall_core.specs.Views.{IsSeatOf};
 ghost use Rattle.workers.specs.Following.{IsUnusedSeat, Follows, IsSame, Finishes};
 
-use crate::copying::copy_of;
 use crate::gate::Gate;
 use crate::halt::Stop;
 use crate::turns::Turns;
@@ -14,7 +13,7 @@ use lane_core::LaneRefusal;
 use recorder::{Pusher, Recorder};
 use requester_core::SubmitRefusal;
 use std::thread;
-use tlp_core::Op;
+use tlp_core::{Op, copy_of};
 
 /// A requester at work.
 #[derive(Drop)]
