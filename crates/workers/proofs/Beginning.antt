@@ -4,7 +4,7 @@ use Rattle.std.specs.Prelude.{Option, Some, Result, Ok, Err, IfOk, IfErr, slice_
 use Rattle.std.proofs.lemmas.Option.{slice_get-get_or}
 use Rattle.seq_memory.specs.declared.Entry.{Entry}
 use Rattle.seq_memory.specs.History.{State}
-use Rattle.history_check.specs.declared.Trace.{Trace}
+use Rattle.history_check.specs.Observation.{Observation}
 use Rattle.history_check.specs.declared.flaws.FlawKind.{FlawKind}
 use Rattle.history_check.specs.Claim.{claim_of}
 use Rattle.history_check.specs.Flaws.{first_flaw}
@@ -55,7 +55,7 @@ same_config c d f g n h k = record {
 
 -- ---- the end
 
-pub flaw_ends : (c : Config) (trace : Trace) (history : List Entry) (halt : RunHalt) → IsOfMemory c trace → IsFlaw (first_flaw (claim_of trace history)) halt → IsEndBy c halt
+pub flaw_ends : (c : Config) (trace : Observation) (history : List Entry) (halt : RunHalt) → IsOfMemory c trace → IsFlaw (first_flaw (claim_of trace history)) halt → IsEndBy c halt
 flaw_ends c trace history (halts.Flaw f) memory h = (trace, history, memory, h)
 flaw_ends c trace history halts.Memory memory h = tt
 flaw_ends c trace history halts.Plan memory h = absurd h
@@ -73,6 +73,6 @@ pub configured : (p : RunPlan) (d : Config) (f : Fabric) (r : Result Report RunH
 configured p d f (Ok x) plan new has e = (plan, same_config p.config d f x.fabric new has e)
 configured p d f (Err h) plan new has e = tt
 
-pub all_done : (ss : List (List Op)) (whole : Bool) (rs : List Record) (r : Result Report RunHalt) → (whole ≡ true → AreDone rs 1 ss) → IfOk r (λ x. (whole ≡ true) × (x.trace.records.items ≡ rs)) → IfOk r (λ x. AreDone x.trace.records.items 1 ss)
+pub all_done : (ss : List (List Op)) (whole : Bool) (rs : List Record) (r : Result Report RunHalt) → (whole ≡ true → AreDone rs 1 ss) → IfOk r (λ x. (whole ≡ true) × (x.trace.records ≡ rs)) → IfOk r (λ x. AreDone x.trace.records 1 ss)
 all_done ss whole rs (Ok x) h e = subst (λ l. AreDone l 1 ss) (sym e.1) (h e.0)
 all_done ss whole rs (Err h') h e = tt

@@ -1,7 +1,6 @@
 //! A run from its plan to its report.
 ghost use Rattle.std.specs.Prelude.{◌≡◌, ◌+◌, ◌<◌, [], IfOk, IfErr, OnOk, IsTrue, vec_len, length, map};
-ghost use Rattle.seq_memory.specs.Limits.{IsBlock};
-ghost use Rattle.fabric_core.specs.Config.{IsNewWith};
+ghost use Rattle.fabric_core.specs.Config.{IsConfig, IsNewWith};
 ghost use Rattle.history_check.specs.Flaws.{first_flaw};
 ghost use Rattle.history_check.specs.Claim.{claim_of};
 ghost use Rattle.history_check.specs.Trace.{Explains};
@@ -116,7 +115,6 @@ fn workers_of(requesters: u8) -> usize {
 
 /// Whether the history explains the trace, and else the halt that tells the flaw.
 fn explained(alloc: Global, trace: &Trace, fabric: &Fabric) -> Result<(), RunHalt>
-    requires { IsBlock trace.now.block }
     ensures explained { OnOk result (Explains (claim_of trace.now fabric.now.memory.entries)) }
     ensures flaw { IfErr result (λ h. IsFlaw (first_flaw (claim_of trace.now fabric.now.memory.entries)) h) }
 {
@@ -135,9 +133,9 @@ fn report_of(
     gathered: Gathered,
 ) -> Result<Report, RunHalt>
     requires seats { (0 < vec_len gathered.seats) × AreSeats hall gathered.seats.items }
-    requires block { IsBlock config.block }
+    requires config { IsConfig config }
     ensures checked { IfOk result (λ r. Explains (claim_of r.trace r.fabric.memory.entries)) }
-    ensures records { IfOk result (λ r. IsTrue gathered.whole × (r.trace.records.items ≡ gathered.records.items)) }
+    ensures records { IfOk result (λ r. IsTrue gathered.whole × (r.trace.records ≡ gathered.records.items)) }
     ensures memory { IfOk result (λ r. IsOfMemory config r.trace) }
     ensures config { IfOk result (λ r. HasConfig r.fabric hall.config) }
     ensures halt { IfErr result (λ h. IsEndBy config h) }
@@ -173,7 +171,7 @@ pub fn run_workers_counting<R: Threads + Wait + Sync, G: Gate + Sync>(
     answered: &AtomicU64,
 ) -> Result<Report, RunHalt>
     ensures checked { IfOk result (λ r. Explains (claim_of r.trace r.fabric.memory.entries)) }
-    ensures done { IfOk result (λ r. AreDone r.trace.records.items 1 (map (λ s. s.items) plan.scripts.items)) }
+    ensures done { IfOk result (λ r. AreDone r.trace.records 1 (map (λ s. s.items) plan.scripts.items)) }
     ensures memory { IfOk result (λ r. IsOfMemory plan.config r.trace) }
     ensures config { IfOk result (λ r. IsPlan plan × HasConfig r.fabric plan.config) }
     ensures halt { IfErr result (λ h. IsCause plan h) }
@@ -226,7 +224,7 @@ pub fn run_workers<R: Threads + Wait + Sync, G: Gate + Sync>(
     gate: &G,
 ) -> Result<Report, RunHalt>
     ensures checked { IfOk result (λ r. Explains (claim_of r.trace r.fabric.memory.entries)) }
-    ensures done { IfOk result (λ r. AreDone r.trace.records.items 1 (map (λ s. s.items) plan.scripts.items)) }
+    ensures done { IfOk result (λ r. AreDone r.trace.records 1 (map (λ s. s.items) plan.scripts.items)) }
     ensures memory { IfOk result (λ r. IsOfMemory plan.config r.trace) }
     ensures config { IfOk result (λ r. IsPlan plan × HasConfig r.fabric plan.config) }
     ensures halt { IfErr result (λ h. IsCause plan h) }
