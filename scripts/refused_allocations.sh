@@ -64,6 +64,16 @@ each_refused() {
     fi
 }
 
+# What a run that tries each refused call again has to be: status 0, one line that tells the refusal, and else the output
+# that is written where nothing is refused; or as it is there.
+tries_again() {
+    if [ "$1" -eq 0 ] && [ "$(grep -c '^refused' "$room/output")" -eq 1 ]; then
+        grep -v '^refused' "$room/output" | cmp -s - "$room/whole"
+    else
+        is_as_ever "$1"
+    fi
+}
+
 pciex=crates/pciex/out/pciex
 if [ ! -x $pciex ]; then
     echo "refused allocations: there is no $pciex: run rt ci first"
@@ -80,5 +90,6 @@ for script in lost_ack write_passes_read credits_used_up stopped_link; do
     each_refused stops_for_memory examples/$script.txt $pciex step
     each_refused stops_for_memory examples/$script.txt $pciex step --trace
 done
+each_refused tries_again /dev/null crates/hall_alloc/out/hall_alloc
 echo "refused allocations: $runs runs, $([ $failed -eq 0 ] && echo "all as they should be" || echo "not all as they should be")"
 exit $failed
