@@ -1,6 +1,4 @@
 //! Worked scripts of events.
-ghost use Rattle.seq_memory.specs.Limits.{IsBlock};
-
 use crate::{Config, ConfigFault, Event, Fabric, LaneName, Refusal, Seen};
 use arrayvec::ArrayVec;
 use dllp_core::{Class, Dllp};
@@ -271,9 +269,7 @@ fn run_passes(fabric: &mut Fabric, alloc: Global) -> Result<bool, Fail> {
     }
 }
 
-fn is_right(trace: &Trace, fabric: &Fabric, alloc: Global) -> bool
-    requires { IsBlock trace.now.block }
-{
+fn is_right(trace: &Trace, fabric: &Fabric, alloc: Global) -> bool {
     trace.records.len() == 3
         && check(alloc, trace, fabric.history()).is_ok()
         && fabric.bytes().get(0x43).copied() == Some(4)
