@@ -1,7 +1,8 @@
 -- What `step` answers to the lines of a script.
-use Rattle.std.specs.Prelude.{ℕ, ◌+◌, ◌-◌, ◌^◌, ◌&&◌, min, not, Bool, true, false, if◌then◌else◌, List, [], ◌∷◌, ◌++◌, length, codes, Option, Some, None, Result, Ok, Err}
+use Rattle.std.specs.Prelude.{ℕ, ◌≡◌, ◌+◌, ◌-◌, ◌^◌, ◌&&◌, min, not, Bool, true, false, if◌then◌else◌, List, [], ◌∷◌, ◌++◌, length, codes, Option, Some, None, Result, Ok, Err}
 use Rattle.std.specs.Fmt.{decimal}
 use Rattle.history_check.specs.declared.Record.{Record}
+use Rattle.history_check.specs.Claim.{Claim}
 use Rattle.fabric_laws.specs.Fabric.{Fabric}
 use Rattle.fabric_core.specs.declared.config.Config.{Config}
 use Rattle.fabric_core.specs.declared.config.ConfigFault.{ConfigFault}
@@ -85,6 +86,14 @@ told_of s event what n = record {
   is_fault = false;
 }
 
+-- with these records more
+abbrev pub kept : Stepping → List Record → Stepping
+kept s rs = record s { lines = next_line s; records = s.records ++ rs }
+
+-- the event has this answer, which leaves the fabric so, and these are its records
+abbrev pub IsRecorded : Result (Seen × Fabric) Refusal → Event → ℕ → Fabric → List Record → Type 0
+IsRecorded a event n f' rs = (what : Seen) × (a ≡ Ok (what, f')) × (rs ≡ records_of event what n)
+
 abbrev pub answered : Stepping → Event → ℕ → Result (Seen × Fabric) Refusal → Answer Stepping
 answered s event n (Ok p) = told_of (record s { fabric = Some p.1 }) event p.0 n
 answered s event n (Err r) = ends s (refused_line s (refusal_name r))
@@ -111,12 +120,16 @@ step_long_line s = if s.has_ended then nothing s else no_line s
 
 -- ---- the end
 
-abbrev pub fabric_trace : Option Fabric → List Record → List ℕ
-fabric_trace None rs = []
-fabric_trace (Some f) rs = trace_text (record {
+-- the fabric's memory has its history, and these are the records
+abbrev pub claim_with : Fabric → List Record → Claim
+claim_with f rs = record {
   memory = record { base = f.memory.base; size = f.memory.size; block = f.memory.block; entries = f.memory.entries };
   records = rs;
-})
+}
+
+abbrev pub fabric_trace : Option Fabric → List Record → List ℕ
+fabric_trace None rs = []
+fabric_trace (Some f) rs = trace_text (claim_with f rs)
 
 -- a run that ends well tells its trace, where that was asked for
 abbrev pub step_end : Stepping → Answer Stepping

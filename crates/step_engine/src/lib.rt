@@ -7,6 +7,7 @@
 
 #[cfg(test)]
 mod example_tests;
+pub mod laws;
 mod step;
 #[cfg(test)]
 mod tests;

@@ -2,12 +2,13 @@
 ghost use Rattle.std.specs.Prelude.{◌≡◌, ◌≤◌, ◌+◌, ◌++◌, ◌∷◌, [], true, false, length, option_to_list, Some, None, Ok, Err, IfOk, IfErr, OnOk, OnErr};
 ghost use Rattle.std.specs.Fmt.{decimal};
 ghost use Rattle.arrayvec.specs.ArrayString.{array_string_len};
-ghost use Rattle.fabric_core.specs.Kept.{records_of};
 ghost use Rattle.fabric_answers.specs.Answers.{answer, IsTold};
 ghost use Rattle.fabric_answers.specs.New.{new_fabric, config_fault};
 ghost use Rattle.script_text.specs.Names.{config_fault_name, refusal_name};
+ghost use Rattle.script_text.specs.Texts.{seen_text};
 ghost use Rattle.line_engine.specs.Run.{IsAnswer, IsWhole, IsPart};
 ghost use Rattle.step_engine.specs.Step as spec;
+ghost use Rattle.step_engine.specs.Step.{IsRecorded};
 
 use arrayvec::ArrayString;
 use fabric_answers::laws::{a_configuration_has_one_answer, each_event_has_one_answer};
@@ -56,31 +57,15 @@ fn happen(fabric: &mut Fabric, event: &Event) -> Result<Seen, Refusal>
     fabric.step(event)
 }
 
-/// What an event adds to a trace, `n` being the length of the history before it.
-fn record_of(event: &Event, seen: &Seen, n: u64) -> Result<Option<Record>, AllocError>
-    ensures { IfOk result (λ told. option_to_list told ≡ records_of event.now seen.now n) }
+/// An event happens to the fabric, and this is what it adds to a trace.
+fn happen_recorded(fabric: &mut Fabric, event: &Event) -> Result<Option<Record>, Refusal>
+    ensures ok { IfOk result (λ told. IsRecorded (answer fabric.old event.now) event.now (length fabric.old.memory.entries) fabric.new (option_to_list told)) }
+    ensures refused { IfErr result (λ r. IsTold r → answer fabric.old event.now ≡ Err r) }
+    ensures err { OnErr result (fabric.new ≡ fabric.old) }
 {
-    match event {
-        Event::Submit(port, op) => match seen {
-            Seen::Submitted(number) => Ok(Some(Record::Sub {
-                requester: *port,
-                number: *number,
-                op: op.clone()?,
-                n,
-            })),
-            _ => Ok(None),
-        },
-        Event::Collect(port) => match seen {
-            Seen::Collected(answer) => Ok(Some(Record::Ans {
-                requester: *port,
-                number: answer.number,
-                reply: answer.reply.clone()?,
-                n,
-            })),
-            _ => Ok(None),
-        },
-        _ => Ok(None),
-    }
+    each_event_has_one_answer();
+    fabric.sound();
+    fabric.step_recorded(event)
 }
 
 /// A script that is run line by line.
@@ -162,11 +147,14 @@ impl Stepper {
         self.end(line, out)
     }
 
-    /// An event was refused.
+    /// An event was refused; want of memory is no answer.
     fn refused(&mut self, refusal: Refusal, out: &mut Vec<u8>) -> Result<bool, AllocError>
-        ensures ok { IfOk result (λ told. IsAnswer self.new out.old.items out.new.items told (spec.ends self.old (spec.refused_line self.old (refusal_name refusal)))) }
+        ensures ok { IfOk result (λ told. IsTold refusal × IsAnswer self.new out.old.items out.new.items told (spec.ends self.old (spec.refused_line self.old (refusal_name refusal)))) }
         ensures err { OnErr result (out.new.items ≡ out.old.items) }
     {
+        if let Refusal::Memory | Refusal::Lane(LaneRefusal::Memory) = refusal {
+            return Err(AllocError);
+        }
         let mut line = ending("refused ", self.next_line());
         write_refusal(&refusal, &mut line);
         self.end(line, out)
@@ -193,26 +181,28 @@ impl Stepper {
         }
     }
 
-    /// Tells what was seen of an event, or adds it to the trace.
-    fn tell(
-        &mut self,
-        event: &Event,
-        seen: &Seen,
-        n: u64,
-        out: &mut Vec<u8>,
-    ) -> Result<bool, AllocError>
-        ensures ok { IfOk result (λ told. IsAnswer self.new out.old.items out.new.items told (spec.told_of self.old event.now seen.now n)) }
+    /// Tells what was seen of an event.
+    fn tell(&mut self, event: &Event, seen: &Seen, out: &mut Vec<u8>) -> Result<bool, AllocError>
+        ensures state { OnOk result (self.new ≡ spec.counted self.old) }
+        ensures text { OnOk result (out.new.items ≡ out.old.items ++ (seen_text event.now seen.now ++ 10 ∷ [])) }
+        ensures told { IfOk result (λ told. told ≡ false) }
         ensures err { OnErr result (out.new.items ≡ out.old.items) }
     {
-        if self.is_traced {
-            if let Some(record) = record_of(event, seen, n)? {
-                self.records.push(record)?;
-            }
-        } else {
-            let mut line = ArrayString::new();
-            write_seen(event, seen, &mut line);
-            line.push_str("\n");
-            out.extend_from_slice(line.as_bytes())?;
+        let mut line = ArrayString::new();
+        write_seen(event, seen, &mut line);
+        line.push_str("\n");
+        out.extend_from_slice(line.as_bytes())?;
+        self.count();
+        Ok(false)
+    }
+
+    /// The trace grows by what an event adds to it.
+    fn keep(&mut self, told: Option<Record>) -> Result<bool, AllocError>
+        ensures state { OnOk result (self.new ≡ spec.kept self.old (option_to_list told)) }
+        ensures told { IfOk result (λ is_fault. is_fault ≡ false) }
+    {
+        if let Some(record) = told {
+            self.records.push(record)?;
         }
         self.count();
         Ok(false)
@@ -226,11 +216,16 @@ impl Stepper {
         let Some(fabric) = &mut self.fabric else {
             return self.no_line(out);
         };
-        let n = fabric.history().len() as u64;
-        match happen(fabric, event) {
-            Ok(seen) => self.tell(event, &seen, n, out),
-            Err(Refusal::Memory | Refusal::Lane(LaneRefusal::Memory)) => Err(AllocError),
-            Err(refusal) => self.refused(refusal, out),
+        if self.is_traced {
+            match happen_recorded(fabric, event) {
+                Ok(told) => self.keep(told),
+                Err(refusal) => self.refused(refusal, out),
+            }
+        } else {
+            match happen(fabric, event) {
+                Ok(seen) => self.tell(event, &seen, out),
+                Err(refusal) => self.refused(refusal, out),
+            }
         }
     }
 }

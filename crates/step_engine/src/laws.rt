@@ -1,0 +1,33 @@
+//! What holds of the traces of scripts.
+ghost use Rattle.std.specs.Prelude.{◌≡◌, true, ℕ, List};
+ghost use Rattle.history_check.specs.declared.Record.{Record};
+ghost use Rattle.history_check.specs.Trace.{Explains};
+ghost use Rattle.fabric_laws.specs.Fabric.{Fabric};
+ghost use Rattle.fabric_core.specs.declared.config.Config.{Config};
+ghost use Rattle.fabric_core.specs.declared.event.Event.{Event};
+ghost use Rattle.fabric_core.specs.Config.{IsNewWith};
+ghost use Rattle.fabric_core.specs.Runs.{Runs};
+ghost use Rattle.trace_file.specs.Texts.{trace_text};
+ghost use Rattle.step_engine.specs.Script.{IsScript};
+ghost use Rattle.step_engine.specs.Step.{claim_with, out_step};
+
+use fabric_answers::laws::{a_configuration_has_one_answer, each_event_has_one_answer};
+use fabric_core::laws::{a_new_fabric_is_sound, each_event_keeps_it_sound};
+use fabric_laws::laws::the_trace_belongs;
+
+/// Where all events of a script happen to a new fabric of its configuration, its run with `--trace` writes the trace of
+/// those events with the fabric's history, and ends with status 0; and the history explains that trace.
+pub fn a_traced_script_is_explained()
+    ensures text { (input : List ℕ) (c : Config) (f f' : Fabric) (events : List Event) (rs : List Record) →
+        IsScript input c events → IsNewWith c f → Runs f events rs f' → (out_step true input).text ≡ trace_text (claim_with f' rs) }
+    ensures status { (input : List ℕ) (c : Config) (f f' : Fabric) (events : List Event) (rs : List Record) →
+        IsScript input c events → IsNewWith c f → Runs f events rs f' → (out_step true input).status ≡ 0 }
+    ensures explained { (c : Config) (f f' : Fabric) (events : List Event) (rs : List Record) →
+        IsNewWith c f → Runs f events rs f' → Explains (claim_with f' rs) }
+{
+    a_configuration_has_one_answer();
+    a_new_fabric_is_sound();
+    each_event_has_one_answer();
+    each_event_keeps_it_sound();
+    the_trace_belongs();
+}
