@@ -107,13 +107,12 @@ event_by h false false l ls more (x ∷ xs) f f' before rs n e r =
     let later = r.2 in
     let s = at (Some f) before n in
     let first = records_of x what (length f.memory.entries) in
-    let all = more xs next f' (before ++ first) later (next_line s) (rest_same l (event_line x) (script_of ls) (map event_line xs) e) r.4 in
-    (
+    let all = more xs next f' (before ++ first) later (next_line s) (rest_same l (event_line x) (script_of ls) (map event_line xs) e) r.4 in (
       all.0,
       ap (λ (o : Option Line). on_from false false o s ls) (first_same l (event_line x) (script_of ls) (map event_line xs) e)
-      ∙ ap (λ (a : Result (Seen × Fabric) Refusal). fold (after_line step_responses) (with_answer (new_run s) (answered s x (length f.memory.entries) a)) ls) (h f next x what r.3)
-      ∙ all.1
-      ∙ ap (λ (ys : List Record). new_run (at (Some f') ys all.0)) (append_assoc before first later ∙ ap (λ (ys : List Record). before ++ ys) (sym r.5)),
+          ∙ ap (λ (a : Result (Seen × Fabric) Refusal). fold (after_line step_responses) (with_answer (new_run s) (answered s x (length f.memory.entries) a)) ls) (h f next x what r.3)
+          ∙ all.1
+          ∙ ap (λ (ys : List Record). new_run (at (Some f') ys all.0)) (append_assoc before first later ∙ ap (λ (ys : List Record). before ++ ys) (sym r.5)),
     )
 
 events_run : EachHappens → (ls : List (List ℕ)) → Events ls
@@ -134,12 +133,11 @@ script_by h true skipped l ls more c events f' rs n k e r = absurd cc
 script_by h false true l ls more c events f' rs n k e r = more c events f' rs (next_line (at None [] n)) k e r
 script_by h false false l ls more c events f' rs n k e r =
     let s = at None [] n in
-    let all = events_run h ls events (new_fabric c) f' [] rs (next_line s) (rest_same l (Some (lines.Fabric c)) (script_of ls) (map event_line events) e) r in
-    (
+    let all = events_run h ls events (new_fabric c) f' [] rs (next_line s) (rest_same l (Some (lines.Fabric c)) (script_of ls) (map event_line events) e) r in (
       all.0,
       ap (λ (o : Option Line). on_from false false o s ls) (first_same l (Some (lines.Fabric c)) (script_of ls) (map event_line events) e)
-      ∙ ap (λ (x : Option ConfigFault). fold (after_line step_responses) (with_answer (new_run s) (made s c x)) ls) k
-      ∙ all.1,
+          ∙ ap (λ (x : Option ConfigFault). fold (after_line step_responses) (with_answer (new_run s) (made s c x)) ls) k
+          ∙ all.1,
     )
 
 scripts_run : EachHappens → (ls : List (List ℕ)) → Scripts ls
