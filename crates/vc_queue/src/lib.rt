@@ -8,6 +8,9 @@ mod classes;
 mod laws;
 mod numbers;
 mod ordering;
+mod queue;
+#[cfg(test)]
+mod rows;
 
 pub use classes::Arrived;
 pub use laws::{
@@ -16,3 +19,4 @@ pub use laws::{
     posted_requests_pass_the_others, requests_pass_completions, the_oldest_is_takeable,
 };
 pub use ordering::may_pass;
+pub use queue::OrderedQueue;
