@@ -1,5 +1,5 @@
 -- The items of a receive queue with their arrival numbers, and the queue of each class.
-use Rattle.std.specs.Prelude.{ℕ, ◌≡◌, ◌+◌, ◌^◌, ◌<◌, ◌≤◌, Bool, true, false, List, [], ◌∷◌, ◌++◌, length, map, nat_lt, ◌&&◌, Option, None, Some, if◌then◌else◌, drop}
+use Rattle.std.specs.Prelude.{ℕ, ◌≡◌, ◌+◌, ◌^◌, ◌<◌, ◌≤◌, Bool, true, false, List, [], ◌∷◌, ◌++◌, length, map, nat_lt, slice_get, ◌&&◌, Option, None, Some, if◌then◌else◌, drop}
 use Rattle.dllp_core.specs.declared.packet.Class.{Class}
 use Rattle.dllp_core.specs.declared.packet.Class.TheVariants.{Posted, NonPosted, Completion}
 use Rattle.fc_credit.specs.Needs.{class_of}
@@ -43,6 +43,7 @@ pub record AreItemsOf (queue : List Item) (class : Class) (lent : List Arrived) 
   pub arrivals : List ℕ
   pub rise : Rises 0 arrivals
   pub each : length arrivals ≡ length queue
+  pub is_place : (place arrival : ℕ) → slice_get arrivals place ≡ Some arrival → smaller arrival arrivals ≡ place
   pub lends : lent ≡ numbered class arrivals queue
 
 -- ---- the three queues
@@ -145,3 +146,13 @@ oldest_of posted non_posted completion =
 abbrev pub renumbered : ℕ → List Arrived → List Arrived
 renumbered n [] = []
 renumbered n (x ∷ xs) = record { arrival = n; tlp = x.tlp; mark = x.mark } ∷ xs
+
+-- the first items have the numbers from 0 on, as many as stand before a cut; the packets and their order are the same
+pub record IsAnew (items : List Item) (count : ℕ) (cut : Cut) (q : Classes) : Type 0 where
+  pub done : List Arrived
+  pub rest : List Arrived
+  pub split : IsSplit (done ++ rest) q
+  pub is_cut : IsCut done cut
+  pub rises : IsRising 0 count done
+  pub number : length done ≡ count
+  pub same_items : map item_of (done ++ rest) ≡ items

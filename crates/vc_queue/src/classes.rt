@@ -1,7 +1,7 @@
 //! A queue for each class.
-ghost use Rattle.std.specs.Prelude.{◌≡◌, ℕ, ◌+◌, ◌<◌, ◌≤◌, ◌^◌, List, [], ◌∷◌, ◌++◌, length, take, drop, remove, map, slice_get, IfSome, OnSome, OnOk, OnErr, Some, None, MatchOption};
+ghost use Rattle.std.specs.Prelude.{◌≡◌, ◌+◌, ◌<◌, ◌^◌, List, [], ◌∷◌, ◌++◌, length, take, remove, map, slice_get, false, IfSome, OnOk, OnErr, Some, None, MatchOption};
 
-use crate::numbers::{number_at, oldest_of};
+use crate::numbers::{is_same, number_at, oldest_of, passes_before, renumber};
 use dllp_core::Class;
 use fc_credit::class_of;
 use std::alloc::{AllocError, Global};
@@ -80,8 +80,8 @@ impl Cut {
 }
 
 impl Classes {
-    ghost use Rattle.vc_queue.specs.Queue.{passes_each};
-    ghost use Rattle.vc_queue.specs.Arrivals.{item_of, class_in, IsSplit, IsSound, in_order, items_of, list_of, count_of, past, IsCut, IsRising, first_class, first_number, renumbered};
+    ghost use Rattle.vc_queue.specs.Queue.{is_takeable, first_of};
+    ghost use Rattle.vc_queue.specs.Arrivals.{item_of, IsSplit, IsSound, IsAnew, in_order, items_of, list_of, count_of, IsCut, first_class};
 
     /// Three empty queues.
     pub(crate) fn new(alloc: Global, next: u64) -> Classes
@@ -145,7 +145,9 @@ impl Classes {
         ensures { (all : List _) → IsSplit all self.now → MatchOption result (slice_get all place ≡ None) (λ x. slice_get all place ≡ Some x.now) }
     {
         let cut = self.cut(place);
-        let class = self.oldest(cut)?;
+        let Some(class) = self.oldest(cut) else {
+            return None;
+        };
         self.of(class).get(cut.count(class))
     }
 
@@ -160,6 +162,60 @@ impl Classes {
             Class::NonPosted => self.non_posted.remove(cut.non_posted),
             Class::Completion => self.completion.remove(cut.completion),
         }
+    }
+
+    /// The cut before a place that no posted packet stands before: none behind a posted packet, and past the end.
+    fn cut_free(&self, place: usize) -> Option<Cut>
+        ensures { (all : List _) → IsSplit all self.now → MatchOption result (is_takeable (map item_of all) place ≡ false) (λ cut. IsCut (take place all) cut × (cut.posted ≡ 0)) }
+    {
+        let mut cut = Cut::start();
+        for _before in 0..place {
+            let Some(class) = self.oldest(cut) else {
+                return None;
+            };
+            if is_same(class, Class::Posted) {
+                return None;
+            }
+            cut = cut.past(class);
+        }
+        Some(cut)
+    }
+
+    /// Whether there is a packet at a place of all that may pass every earlier one.
+    pub(crate) fn takeable(&self, place: usize) -> bool
+        ensures { (all : List _) → IsSplit all self.now → result ≡ is_takeable (map item_of all) place }
+    {
+        let Some(cut) = self.cut_free(place) else {
+            return false;
+        };
+        let Some(class) = self.oldest(cut) else {
+            return false;
+        };
+        if is_same(class, Class::Completion) {
+            return passes_before(&self.completion, cut.completion);
+        }
+        true
+    }
+
+    /// The first place of a class.
+    pub(crate) fn first_of(&self, class: Class) -> Option<usize>
+        requires { IsSound self.now }
+        ensures { result ≡ first_of (items_of self.now) class }
+    {
+        if self.of(class).is_empty() {
+            return None;
+        }
+        let mut cut = Cut::start();
+        for place in 0..self.len() {
+            let Some(oldest) = self.oldest(cut) else {
+                return None;
+            };
+            if is_same(oldest, class) {
+                return Some(place);
+            }
+            cut = cut.past(oldest);
+        }
+        None
     }
 
     /// Puts a packet behind the others, with the next arrival number. Fails only where its queue can't grow.
@@ -178,5 +234,64 @@ impl Classes {
         }
         self.next = arrival + 1;
         Ok(())
+    }
+
+    /// Makes room for one more packet of a class. Where there is none, nothing changes.
+    fn reserve(&mut self, class: Class) -> Result<(), AllocError>
+        ensures queues { (all : List _) → IsSplit all self.old → IsSplit all self.new }
+        ensures next { self.new.next ≡ self.old.next }
+    {
+        match class {
+            Class::Posted => self.posted.reserve(1),
+            Class::NonPosted => self.non_posted.reserve(1),
+            Class::Completion => self.completion.reserve(1),
+        }
+    }
+
+    /// Gives the packet behind a cut its place as arrival number.
+    fn give_place(&mut self, cut: Cut, place: u64) -> Cut
+        ensures numbered { (items : List _) → IsAnew items place cut self.old → place < length items → IsAnew items (place + 1) result self.new }
+        ensures next { self.new.next ≡ self.old.next }
+    {
+        let Some(class) = self.oldest(cut) else {
+            return cut;
+        };
+        match class {
+            Class::Posted => renumber(&mut self.posted, cut.posted, place),
+            Class::NonPosted => renumber(&mut self.non_posted, cut.non_posted, place),
+            Class::Completion => renumber(&mut self.completion, cut.completion, place),
+        }
+        cut.past(class)
+    }
+
+    /// Numbers the packets anew from 0, in their order.
+    fn number_anew(&mut self)
+        requires { IsSound self.old }
+        ensures sound { IsSound self.new }
+        ensures items { items_of self.new ≡ items_of self.old }
+    {
+        let count = self.len() as u64;
+        let mut cut = Cut::start();
+        for place in 0..count {
+            cut = self.give_place(cut, place);
+        }
+        self.next = count;
+    }
+
+    /// Puts a packet behind the others. Fails only where its queue can't grow.
+    pub(crate) fn push(&mut self, tlp: Tlp, mark: u32) -> Result<(), AllocError>
+        requires { IsSound self.old }
+        ensures sound { IsSound self.new }
+        ensures ok { OnOk result (items_of self.new ≡ items_of self.old ++ (tlp, mark) ∷ []) }
+        ensures err { OnErr result (items_of self.new ≡ items_of self.old) }
+    {
+        self.reserve(class_of(tlp.kind))?;
+        if self.next == u64::MAX {
+            self.number_anew();
+        }
+        if self.next == u64::MAX {
+            return Err(AllocError);
+        }
+        self.add(tlp, mark)
     }
 }

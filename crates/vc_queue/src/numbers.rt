@@ -1,10 +1,16 @@
-//! Arrival numbers.
-ghost use Rattle.std.specs.Prelude.{◌≡◌, drop};
-ghost use Rattle.vc_queue.specs.Arrivals.{first_number, is_older, oldest_of};
+//! One queue, and arrival numbers.
+ghost use Rattle.std.specs.Prelude.{◌≡◌, ◌++◌, take, drop, map};
+ghost use Rattle.std.specs.List.{list_all};
+ghost use Rattle.fc_credit.specs.Credits.{same};
+ghost use Rattle.vc_queue.specs.Ordering as spec;
+ghost use Rattle.vc_queue.specs.Queue.{is_takeable};
+ghost use Rattle.vc_queue.specs.Arrivals.{item_of, first_number, is_older, oldest_of, renumbered};
 
 use crate::classes::Arrived;
+use crate::ordering::may_pass;
 use dllp_core::Class;
 use std::collections::VecDeque;
+use tlp_core::Tlp;
 
 /// The arrival number at a place of one queue.
 pub(crate) fn number_at(queue: &VecDeque<Arrived>, place: usize) -> Option<u64>
@@ -39,5 +45,41 @@ pub(crate) fn oldest_of(
         Some(Class::NonPosted)
     } else {
         completion.map(|_| Class::Completion)
+    }
+}
+
+/// Whether two classes are the same.
+pub(crate) fn is_same(one: Class, other: Class) -> bool
+    ensures { result ≡ same one other }
+{
+    one == other
+}
+
+/// Gives the packet at a place of one queue another arrival number.
+pub(crate) fn renumber(queue: &mut VecDeque<Arrived>, place: usize, arrival: u64)
+    ensures { queue.new.items ≡ take place queue.old.items ++ renumbered arrival (drop place queue.old.items) }
+{
+    if let Some(arrived) = queue.get_mut(place) {
+        arrived.arrival = arrival;
+    }
+}
+
+/// Whether the packet may pass each of the first `count` packets.
+fn passes_first(tlp: &Tlp, queue: &VecDeque<Arrived>, count: usize) -> bool
+    ensures { result ≡ list_all (λ e. spec.may_pass tlp.now e.tlp) (take count queue.now.items) }
+{
+    queue
+        .iter()
+        .take(count)
+        .all(|earlier| may_pass(tlp, &earlier.tlp))
+}
+
+/// Whether there is a packet at a place of one queue that may pass each one before it there.
+pub(crate) fn passes_before(queue: &VecDeque<Arrived>, place: usize) -> bool
+    ensures { result ≡ is_takeable (map item_of queue.now.items) place }
+{
+    match queue.get(place) {
+        Some(arrived) => passes_first(&arrived.tlp, queue, place),
+        None => false,
     }
 }

@@ -4,7 +4,7 @@ use Rattle.dllp_core.specs.declared.packet.Class.TheVariants.{Posted, NonPosted,
 use Rattle.vc_queue.specs.declared.classes.Arrived.{Arrived}
 use Rattle.vc_queue.specs.declared.classes.Classes.{Classes}
 use Rattle.vc_queue.specs.Arrivals.{IsSplit}
-use Rattle.vc_queue.proofs.Merged.{removed_item, is_removed, taken_at, none_at}
+use Rattle.vc_queue.proofs.Taken.{removed_item, is_removed, taken_at, none_at}
 use Rattle.vc_queue.proofs.classes.Classes.take.Goals as goal
 
 pub returns-in_err-oldest-clause-item : goal.returns-in_err-oldest-clause-item
