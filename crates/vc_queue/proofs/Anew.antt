@@ -1,5 +1,5 @@
 -- Numbering anew, and a push.
-use Rattle.std.proofs.Common.{◌≡◌, ◌≢◌, ℕ, zero, suc, ◌+◌, ◌^◌, ◌<◌, ◌≤◌, Bool, true, false, List, [], ◌∷◌, ◌++◌, length, take, drop, map, Option, Some, None, refl, sym, ◌∙◌, ap, subst, arith}
+use Rattle.std.proofs.Common.{◌≡◌, ℕ, zero, suc, ◌+◌, ◌^◌, ◌<◌, ◌≤◌, false, List, [], ◌∷◌, ◌++◌, length, take, drop, map, Option, Some, None, refl, sym, ◌∙◌, ap, subst, arith}
 use Rattle.std.proofs.lemmas.List.{append_assoc, append-nil, length-append, drop_at, take_at, length-map, map-append}
 use Rattle.std.specs.Prelude.{slice_index_or, slice_set, OnOk, OnErr}
 use Rattle.std.proofs.Common.{Result, Ok, Err}
@@ -11,7 +11,7 @@ use Rattle.vc_queue.specs.declared.classes.Classes.{Classes}
 use Rattle.vc_queue.specs.declared.classes.Cut.{Cut}
 use Rattle.vc_queue.specs.Queue.{Item}
 use Rattle.vc_queue.specs.Arrivals.{item_of, class_in, IsSplit, IsSound, IsAnew, AreParts, in_order, items_of, past, IsCut, IsRising, keep, of_class, renumbered}
-use Rattle.vc_queue.proofs.Merged.{same_class, of_append, parted, first_of_some, first_of_none, cut_one, rising_join, rising_lower, rising_before, rising_behind, rising_length, rising_push, merged_is, is_sound, TellsFirst}
+use Rattle.vc_queue.proofs.Merged.{same_class, parted, first_of_some, first_of_none, cut_one, rising_join, rising_lower, rising_before, rising_behind, rising_length, rising_push, merged_is, is_sound, TellsFirst}
 
 abbrev other_number : Arrived → ℕ → Arrived
 other_number x n = record { arrival = n; tlp = x.tlp; mark = x.mark }

@@ -1,19 +1,16 @@
 -- Items in order of arrival, and the queues of their classes.
-use Rattle.std.proofs.Common.{◌≡◌, ◌≢◌, ℕ, zero, suc, ◌+◌, ◌^◌, ◌<◌, ◌≤◌, Bool, true, false, List, [], ◌∷◌, ◌++◌, length, take, drop, map, Option, Some, None, refl, sym, ◌∙◌, ap, subst, arith}
-use Rattle.std.specs.Prelude.{◌&&◌, nat_lt, slice_get, remove}
+use Rattle.std.proofs.Common.{◌≡◌, ℕ, zero, suc, ◌+◌, ◌^◌, ◌<◌, ◌≤◌, Bool, true, false, List, [], ◌∷◌, ◌++◌, length, take, drop, Option, Some, None, refl, sym, ◌∙◌, ap, subst, arith}
+use Rattle.std.specs.Prelude.{◌&&◌, nat_lt, remove}
 use Rattle.std.proofs.lemmas.Bool.Decides.{nat_tests}
-use Rattle.std.proofs.lemmas.List.{append_assoc, append-nil, length-append, drop_at, take_at, take_all, length-drop, take-append-drop}
+use Rattle.std.proofs.lemmas.List.{append-nil, length-append, drop_at, take_at, take_all, length-drop, take-append-drop}
 use native.Mathlib.Numerals.{unary_clauses}
-use Rattle.std.specs.Prelude.{slice_index_or, OnSome}
-use Rattle.std.proofs.lemmas.Option.{slice_get_within, get_or_from_slice_get}
 use Rattle.dllp_core.specs.declared.packet.Class.{Class}
 use Rattle.dllp_core.specs.declared.packet.Class.TheVariants.{Posted, NonPosted, Completion}
 use Rattle.fc_credit.specs.Credits.{same}
 use Rattle.vc_queue.specs.declared.classes.Arrived.{Arrived}
 use Rattle.vc_queue.specs.declared.classes.Classes.{Classes}
 use Rattle.vc_queue.specs.declared.classes.Cut.{Cut}
-use Rattle.vc_queue.specs.Queue.{Item}
-use Rattle.vc_queue.specs.Arrivals.{item_of, class_in, IsSplit, IsSound, AreParts, in_order, items_of, list_of, count_of, past, IsCut, IsRising, keep, of_class, placed, merged, first_class, first_number, is_older, oldest_of, completion_if, renumbered}
+use Rattle.vc_queue.specs.Arrivals.{class_in, IsSplit, IsSound, AreParts, in_order, past, IsCut, IsRising, keep, of_class, placed, merged, first_class, first_number, is_older, oldest_of}
 
 lt_true : (a b : ℕ) → a < b → nat_lt a b ≡ true
 lt_true a b h = grind (arith, nat_tests)

@@ -1,5 +1,5 @@
 -- Walks over a queue: what is takeable, the first place of a class, and what is lent of a class.
-use Rattle.std.proofs.Common.{◌≡◌, ◌≢◌, ℕ, zero, suc, ◌+◌, ◌<◌, ◌≤◌, Bool, true, false, List, [], ◌∷◌, ◌++◌, length, take, drop, map, Option, Some, None, refl, sym, ◌∙◌, ap, subst, arith}
+use Rattle.std.proofs.Common.{◌≡◌, ◌≢◌, ℕ, zero, suc, ◌+◌, ◌<◌, ◌≤◌, Bool, true, false, List, [], ◌∷◌, ◌++◌, length, take, drop, map, Option, Some, None, refl, sym, ◌∙◌, ap, arith}
 use Rattle.std.specs.Prelude.{◌&&◌, nat_lt, slice_get, slice_index_or, remove}
 use Rattle.std.specs.Option.{IsSome, option_map}
 use Rattle.std.proofs.lemmas.List.{map-append}
@@ -21,7 +21,7 @@ use Rattle.vc_queue.specs.declared.classes.Classes.{Classes}
 use Rattle.vc_queue.specs.declared.classes.Cut.{Cut}
 use Rattle.vc_queue.specs.Ordering.{may_pass}
 use Rattle.vc_queue.specs.Queue.{Item, passes_each, first_passes, is_takeable, first_of}
-use Rattle.vc_queue.specs.Arrivals.{item_of, class_in, IsSplit, IsSound, IsCut, IsRising, in_order, items_of, list_of, count_of, past, keep, of_class, Rises, smaller, numbered, AreItemsOf}
+use Rattle.vc_queue.specs.Arrivals.{item_of, class_in, IsSplit, IsCut, IsRising, list_of, count_of, past, keep, of_class, Rises, smaller, numbered, AreItemsOf}
 use Rattle.vc_queue.proofs.Places.{drop_read, takeable_is_there, takeable_from, non_posted_is_passed, request_goes, nothing_passes_posted}
 use Rattle.vc_queue.proofs.Merged.{same_class, of_append, first_of_none, nothing_left, left, split_at, TellsFirst}
 use Rattle.vc_queue.proofs.Taken.{found_class, got_of_drop}

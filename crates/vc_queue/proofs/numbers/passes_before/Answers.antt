@@ -1,4 +1,4 @@
-use Rattle.std.proofs.Common.{◌≡◌, ◌∙◌}
+use Rattle.std.proofs.Common.{◌∙◌}
 use Rattle.vc_queue.proofs.Walks.{read_before}
 use Rattle.vc_queue.proofs.numbers.passes_before.Goals as goal
 

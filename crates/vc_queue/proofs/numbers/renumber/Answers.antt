@@ -1,4 +1,3 @@
-use Rattle.std.proofs.Common.{◌≡◌}
 use Rattle.vc_queue.proofs.Anew.{renumbered_at}
 use Rattle.vc_queue.proofs.numbers.renumber.Goals as goal
 

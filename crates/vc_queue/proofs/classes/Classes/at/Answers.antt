@@ -1,8 +1,4 @@
-use Rattle.std.proofs.Common.{◌≡◌, ◌∙◌, subst, sym}
-use Rattle.vc_queue.specs.declared.classes.Arrived.{Arrived}
 use Rattle.vc_queue.proofs.Taken.{none_at, lent_at}
-use Rattle.std.proofs.Common.{List, Bor}
-use Rattle.std.specs.Slice.{IsItemAt}
 use Rattle.vc_queue.proofs.classes.Classes.at.Goals as goal
 
 pub returns-in_default : goal.returns-in_default

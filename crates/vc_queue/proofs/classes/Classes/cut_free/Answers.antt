@@ -1,5 +1,5 @@
-use Rattle.std.proofs.Common.{◌≡◌, ◌∙◌, ◌<◌, ◌≤◌, refl, sym, ap, Some, arith}
-use Rattle.dllp_core.specs.declared.packet.Class.TheVariants.{Posted, NonPosted, Completion}
+use Rattle.std.proofs.Common.{◌∙◌, sym, ap, Some, arith}
+use Rattle.dllp_core.specs.declared.packet.Class.TheVariants.{Posted}
 use Rattle.vc_queue.proofs.Merged.{cut_further}
 use Rattle.vc_queue.proofs.Walks.{past_the_end, behind_posted, past_free, same_is, differs}
 use Rattle.vc_queue.proofs.classes.Classes.cut_free.Goals as goal

@@ -1,4 +1,4 @@
-use Rattle.std.proofs.Common.{◌≡◌, ◌∙◌, ◌<◌, ◌≤◌, refl, sym, ap, Some, length, arith}
+use Rattle.std.proofs.Common.{◌∙◌, sym, ap, Some, length, arith}
 use Rattle.std.proofs.lemmas.Bool.Decides.{nat_tests}
 use Rattle.vc_queue.specs.Arrivals.{in_order}
 use Rattle.vc_queue.proofs.Merged.{cut_further}

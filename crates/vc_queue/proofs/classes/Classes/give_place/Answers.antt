@@ -1,4 +1,4 @@
-use Rattle.std.proofs.Common.{◌≡◌, ◌∙◌, refl, sym, ap, Some, arith}
+use Rattle.std.proofs.Common.{◌∙◌, refl, ap, Some}
 use Rattle.dllp_core.specs.declared.packet.Class.TheVariants.{Posted, NonPosted, Completion}
 use Rattle.vc_queue.specs.Arrivals.{past}
 use Rattle.vc_queue.proofs.Anew.{anew_step}

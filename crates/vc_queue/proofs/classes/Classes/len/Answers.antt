@@ -1,5 +1,4 @@
-use Rattle.std.proofs.Common.{rules, ◌≡◌, ℕ, ◌+◌, ◌<◌, ◌≤◌, List, length, arith, Fits, w64}
-use Rattle.vc_queue.specs.Arrivals.{in_order}
+use Rattle.std.proofs.Common.{arith}
 use Rattle.vc_queue.proofs.Merged.{held, few}
 use Rattle.vc_queue.proofs.classes.Classes.len.Goals as goal
 

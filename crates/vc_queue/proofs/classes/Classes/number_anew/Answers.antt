@@ -1,8 +1,8 @@
-use Rattle.std.proofs.Common.{◌≡◌, ◌∙◌, ◌≤◌, ◌<◌, ◌^◌, length, refl, sym, ap, arith}
+use Rattle.std.proofs.Common.{refl, arith}
 use Rattle.std.proofs.lemmas.List.{length-map}
 use Rattle.vc_queue.specs.Arrivals.{item_of, in_order, items_of}
 use Rattle.vc_queue.proofs.Merged.{few}
-use Rattle.vc_queue.proofs.Anew.{anew_start, anew_end}
+use Rattle.vc_queue.proofs.Anew.{anew_end}
 use Rattle.vc_queue.proofs.classes.Classes.number_anew.Goals as goal
 
 pub returns-clause-sound : goal.returns-clause-sound

@@ -1,4 +1,3 @@
-use Rattle.std.proofs.Common.{◌≡◌, ◌∙◌}
 use Rattle.vc_queue.proofs.Merged.{oldest_is}
 use Rattle.vc_queue.proofs.classes.Classes.oldest.Goals as goal
 

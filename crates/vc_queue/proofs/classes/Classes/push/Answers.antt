@@ -1,4 +1,4 @@
-use Rattle.std.proofs.Common.{◌≡◌, ◌∙◌}
+use Rattle.std.proofs.Common.{◌∙◌}
 use Rattle.vc_queue.proofs.Anew.{IsKept, kept_by, pushed_sound, pushed_ok}
 use Rattle.vc_queue.proofs.classes.Classes.push.Goals.{then-self, else-self}
 use Rattle.vc_queue.proofs.classes.Classes.push.Goals as goal
@@ -6,15 +6,17 @@ use Rattle.vc_queue.proofs.classes.Classes.push.Goals as goal
 pub returns-clause-sound : goal.returns-clause-sound
 returns-clause-sound c =
     let kept : IsKept c.args.self.now c.if-self.self =
-        elim c.if-self.branch [
-        then-self w ↦ rw w.self-is (w.number_anew.ensures.sound, w.number_anew.ensures.items ∙ (kept_by c.args.self.now c.reserve.new.self c.requires c.in_ok-reserve.ensures.queues).1)
-        | else-self w ↦ rw w.self-is (kept_by c.args.self.now c.reserve.new.self c.requires c.in_ok-reserve.ensures.queues) ] in
+    elim c.if-self.branch [
+      | then-self w ↦ rw w.self-is (w.number_anew.ensures.sound, w.number_anew.ensures.items ∙ (kept_by c.args.self.now c.reserve.new.self c.requires c.in_ok-reserve.ensures.queues).1)
+      | else-self w ↦ rw w.self-is (kept_by c.args.self.now c.reserve.new.self c.requires c.in_ok-reserve.ensures.queues)
+    ] in
     pushed_sound c.add.result (record { arrival = c.if-self.self.next; tlp = c.args.tlp; mark = c.args.mark }) c.if-self.self c.add.new.self c.add.ensures.ok c.add.ensures.err kept.0
 
 pub returns-clause-ok : goal.returns-clause-ok
 returns-clause-ok c =
     let kept : IsKept c.args.self.now c.if-self.self =
-        elim c.if-self.branch [
-        then-self w ↦ rw w.self-is (w.number_anew.ensures.sound, w.number_anew.ensures.items ∙ (kept_by c.args.self.now c.reserve.new.self c.requires c.in_ok-reserve.ensures.queues).1)
-        | else-self w ↦ rw w.self-is (kept_by c.args.self.now c.reserve.new.self c.requires c.in_ok-reserve.ensures.queues) ] in
+    elim c.if-self.branch [
+      | then-self w ↦ rw w.self-is (w.number_anew.ensures.sound, w.number_anew.ensures.items ∙ (kept_by c.args.self.now c.reserve.new.self c.requires c.in_ok-reserve.ensures.queues).1)
+      | else-self w ↦ rw w.self-is (kept_by c.args.self.now c.reserve.new.self c.requires c.in_ok-reserve.ensures.queues)
+    ] in
     pushed_ok c.add.result (record { arrival = c.if-self.self.next; tlp = c.args.tlp; mark = c.args.mark }) c.args.self.now c.if-self.self c.add.new.self c.add.ensures.ok kept

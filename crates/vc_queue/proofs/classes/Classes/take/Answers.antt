@@ -1,8 +1,6 @@
-use Rattle.std.proofs.Common.{refl, sym, ◌∙◌, ◌≡◌, ◌<◌, subst, ap, arith, Option, Some, length}
-use Rattle.std.specs.Prelude.{slice_index_or, remove}
+use Rattle.std.proofs.Common.{refl, sym, ◌∙◌, ◌≡◌, subst, ap, arith, Some}
+use Rattle.std.specs.Prelude.{remove}
 use Rattle.dllp_core.specs.declared.packet.Class.TheVariants.{Posted, NonPosted, Completion}
-use Rattle.vc_queue.specs.declared.classes.Arrived.{Arrived}
-use Rattle.vc_queue.specs.declared.classes.Classes.{Classes}
 use Rattle.vc_queue.specs.Arrivals.{IsSplit}
 use Rattle.vc_queue.proofs.Taken.{removed_item, is_removed, taken_at, none_at}
 use Rattle.vc_queue.proofs.classes.Classes.take.Goals as goal

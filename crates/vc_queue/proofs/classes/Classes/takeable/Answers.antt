@@ -1,4 +1,4 @@
-use Rattle.std.proofs.Common.{◌≡◌, ◌∙◌, ◌≤◌, sym, ap, Some, arith}
+use Rattle.std.proofs.Common.{◌∙◌, sym, ap, Some, arith}
 use Rattle.dllp_core.specs.declared.packet.Class.TheVariants.{Completion}
 use Rattle.vc_queue.proofs.Walks.{takeable_request, takeable_completion, past_the_end, same_is, differs}
 use Rattle.vc_queue.proofs.classes.Classes.takeable.Goals as goal

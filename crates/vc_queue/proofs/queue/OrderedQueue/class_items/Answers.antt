@@ -1,4 +1,3 @@
-use Rattle.std.proofs.Common.{◌≡◌}
 use Rattle.vc_queue.specs.Arrivals.{in_order}
 use Rattle.vc_queue.proofs.Walks.{are_items}
 use Rattle.vc_queue.proofs.queue.OrderedQueue.class_items.Goals as goal
