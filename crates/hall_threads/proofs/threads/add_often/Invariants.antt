@@ -1,0 +1,6 @@
+use Rattle.std.proofs.Common.{◌≤◌}
+use Rattle.hall_core.specs.Views.{IsSeatOf}
+use Rattle.hall_threads.proofs.threads.add_often.Given as goal
+
+abbrev pub invariant-loop-round : goal.invariant-loop-round
+invariant-loop-round l = IsSeatOf l.hall l.seat

@@ -1,0 +1,5 @@
+//! A hall driven by threads.
+#![tactic(auto)]
+
+#[cfg(test)]
+mod threads;
