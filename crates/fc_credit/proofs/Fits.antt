@@ -1,12 +1,13 @@
 -- The gate's test of wrapped counters is that of the room in whole numbers.
-use Rattle.std.proofs.Common.{◌≡◌, ℕ, ◌+◌, ◌-◌, ◌/◌, ◌%◌, ◌<◌, ◌≤◌, ◌↔◌, Bool, true, false, IsTrue, refl, arith}
+use Rattle.std.proofs.Common.{◌≡◌, ℕ, ◌+◌, ◌-◌, ◌/◌, ◌%◌, ◌<◌, ◌≤◌, ◌↔◌, Bool, true, false, IsTrue, refl, sym, arith}
 use Rattle.std.specs.Prelude.{nat_le, ◌==◌, ◌||◌, ◌&&◌}
 use Rattle.std.proofs.lemmas.Bool.Decides.{nat_tests}
+use Rattle.std.proofs.Math.Nat.{mod-eq_of_lt}
 use Rattle.fc_credit.specs.declared.counter.Part.{Part}
 use Rattle.fc_credit.specs.declared.counter.Part.TheVariants.{Header, Data}
 use Rattle.fc_credit.specs.declared.counter.Allowance.{Allowance}
 use Rattle.fc_credit.specs.declared.gate.ClassGate.{ClassGate}
-use Rattle.fc_credit.specs.Credits.{modulus, most, covers, pick, allowance_in, class_covers, StandsFor, HasRoom}
+use Rattle.fc_credit.specs.Credits.{modulus, most, covers, pick, allowance_in, class_covers, IsWrapped, StandsFor, HasRoom, room_of}
 
 within : (p : Part) (known used units : ℕ) → used ≤ known → known ≤ used + most p → units ≤ most p →
     (known % modulus p + modulus p - (used % modulus p + units) % modulus p) % modulus p ≤ modulus p / 2 → used + units ≤ known
@@ -71,3 +72,38 @@ infinite_counter p a units e = test_of a.first _ _ (λ q. absurd (omega arith))
 
 pub infinite_class : (g : ClassGate) (header units : ℕ) → ((p : Part) → (allowance_in p g).first ≡ 0) → IsTrue (class_covers g header units)
 infinite_class g header units e = parts_covered g header units (λ p. infinite_counter p (allowance_in p g) (pick p header units) (e p))
+
+-- room by the counters alone
+
+own_limit : (p : Part) (limit consumed : ℕ) → limit < modulus p → consumed < modulus p → limit ≡ (consumed + (limit + modulus p - consumed) % modulus p) % modulus p
+own_limit Header limit consumed l c = omega arith
+own_limit Data limit consumed l c = omega arith
+
+no_less : (used room : ℕ) → used ≤ used + room
+no_less used room = omega arith
+
+more_by : (used less more : ℕ) → less ≤ more → used + less ≤ used + more
+more_by used less more h = omega arith
+
+less_by : (used less more : ℕ) → used + less ≤ used + more → less ≤ more
+less_by used less more h = omega arith
+
+-- below their modulus, they stand for themselves and the room between them
+own : (p : Part) (a : Allowance) → IsWrapped p a → room_of p a ≤ most p → StandsFor p a (a.consumed + room_of p a) a.consumed
+own p a w r =
+    record {
+      limit = own_limit p a.limit a.consumed w.limit w.consumed;
+      consumed = sym (mod-eq_of_lt w.consumed);
+      used_known = no_less a.consumed (room_of p a);
+      unused = more_by a.consumed (room_of p a) (most p) r;
+    }
+
+pub class_room : (g : ClassGate) (header units : ℕ) → ((p : Part) → IsWrapped p (allowance_in p g)) → header ≤ 127 → units ≤ 2047 →
+    ((p : Part) → 0 < (allowance_in p g).first → room_of p (allowance_in p g) ≤ most p) →
+    IsTrue (class_covers g header units) ↔ ((p : Part) → 0 < (allowance_in p g).first → pick p header units ≤ room_of p (allowance_in p g))
+class_room g header units w h u m =
+    let right = class_right g header units (λ p. (allowance_in p g).consumed + room_of p (allowance_in p g)) (λ p. (allowance_in p g).consumed)
+    (λ p q. own p (allowance_in p g) (w p) (m p q)) h u in (
+      λ t p q. less_by (allowance_in p g).consumed (pick p header units) (room_of p (allowance_in p g)) (right.0 t p q),
+      λ r. right.1 (λ p q. more_by (allowance_in p g).consumed (pick p header units) (room_of p (allowance_in p g)) (r p q)),
+    )

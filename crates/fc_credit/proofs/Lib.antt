@@ -1,4 +1,5 @@
 pub mod Fits
+pub mod Within
 pub mod Counters
 pub mod Six
 pub mod Runs

@@ -5,6 +5,7 @@ use crate::counter::{Allowance, Part};
 use crate::limits::LaneCredits;
 use crate::needs::Need;
 use dllp_core::Class;
+use std::marker::Model;
 
 /// The two counters of a class.
 #[derive(Clone, Copy, Debug, PartialEq, Eq)]
@@ -14,11 +15,26 @@ pub(crate) struct ClassGate {
 }
 
 /// The transmitter's counters (section 2.6.1.2): for each class what it may use and what it used.
+///
+/// CREDIT_LIMIT and CREDITS_CONSUMED are always below 256 for headers and below 4096 for data, so a gate alone tells the
+/// room: their difference modulo 256 or 4096.
 #[derive(Clone, Copy, Debug, PartialEq, Eq)]
 pub struct CreditGate {
     posted: ClassGate,
     non_posted: ClassGate,
     completion: ClassGate,
+}
+
+impl Model for CreditGate {
+    ghost use Rattle.fc_credit.specs.Credits.{Gate, IsWithin};
+
+    ghost Value = { Gate };
+
+    ghost view = { λ g. record { posted = g.posted; non_posted = g.non_posted; completion = g.completion } };
+
+    ghost invariant = { λ g. IsWithin (record { posted = g.posted; non_posted = g.non_posted; completion = g.completion }) };
+
+    ghost inverse = { λ g. record { posted = g.posted; non_posted = g.non_posted; completion = g.completion } };
 }
 
 impl ClassGate {
@@ -55,7 +71,7 @@ impl ClassGate {
 }
 
 impl CreditGate {
-    ghost use Rattle.fc_credit.specs.Credits.{modulus, most, pick, gate_of, allowance, gate_covers, after_consume, after_limit, first_gate, StandsFor, HasRoom};
+    ghost use Rattle.fc_credit.specs.Credits.{modulus, most, pick, gate_of, allowance, gate_covers, after_consume, after_limit, first_gate, StandsFor, HasRoom, room_of};
     ghost use Rattle.fc_credit.specs.declared.counter.Part.{Part};
 
     /// The gate as these credits were advertised and nothing used.
@@ -76,6 +92,9 @@ impl CreditGate {
             ((p : Part) → 0 < (allowance need.class p self.now).first → StandsFor p (allowance need.class p self.now) (known p) (used p)) →
             need.header ≤ 127 → need.units ≤ 2047 →
             IsTrue result ↔ ((p : Part) → HasRoom (allowance need.class p self.now) (known p) (used p) (pick p need.header need.units)) }
+        ensures room { need.header ≤ 127 → need.units ≤ 2047 →
+            ((p : Part) → 0 < (allowance need.class p self.now).first → room_of p (allowance need.class p self.now) ≤ most p) →
+            IsTrue result ↔ ((p : Part) → 0 < (allowance need.class p self.now).first → pick p need.header need.units ≤ room_of p (allowance need.class p self.now)) }
         ensures infinite { ((p : Part) → (allowance need.class p self.now).first ≡ 0) → IsTrue result }
     {
         match need.class {

@@ -17,14 +17,13 @@ use Rattle.link_receiver.specs.Receiving.{Receiving, acknowledgment_of, dllp_by}
 use Rattle.replay_sender.specs.Carried.{Carried}
 use Rattle.fc_credit.specs.declared.needs.Need.{Need}
 use Rattle.fc_credit.specs.declared.limits.LaneCredits.{LaneCredits}
-use Rattle.fc_credit.specs.declared.gate.CreditGate.{CreditGate}
 use Rattle.fc_credit.specs.declared.ledger.CreditLedger.{CreditLedger}
 use Rattle.fc_credit.specs.Needs.{need_of}
 use Rattle.fc_credit.specs.Limits.{least_units}
 use Rattle.fc_credit.proofs.Packets.{one_header, units_few}
 use Rattle.dllp_core.specs.declared.packet.Class.{Class}
 use Rattle.dllp_core.specs.declared.packet.Class.TheVariants.{Posted, NonPosted, Completion}
-use Rattle.fc_credit.specs.Credits.{gate_covers, update_of}
+use Rattle.fc_credit.specs.Credits.{Gate, gate_covers, update_of}
 use Rattle.fc_credit.specs.Account.{Direction, Event, Consume, Receive, Free, is_small, may_go, consumed_if, freed_at, new_direction, after_events, happens as occurs}
 use Rattle.vc_queue.specs.Queue.{Item, is_takeable}
 use Rattle.lane_core.specs.declared.packet.WirePacket.{WirePacket}
@@ -57,7 +56,7 @@ packet_small t k =
 
 -- Enter
 
-pub goes : (gate : CreditGate) (t : Packet) → IsPacket t → gate_covers gate (need_of t) ≡ true → may_go gate (need_of t) ≡ true
+pub goes : (gate : Gate) (t : Packet) → IsPacket t → gate_covers gate (need_of t) ≡ true → may_go gate (need_of t) ≡ true
 goes gate t k c = rw (packet_small t k, c) refl
 
 consumed : (d : Direction) (need : Need) (b : Bool) → b ≡ true → consumed_if b d need ≡ consumed_if true d need
@@ -82,7 +81,7 @@ room_direction e false = refl
 
 -- Deliver
 
-received_direction : (gate : CreditGate) (ledger : CreditLedger) (queue : List Item) (wire : List Dllp) (way left : List Item) (o : Option Item) → way ≡ list_of o ++ left →
+received_direction : (gate : Gate) (ledger : CreditLedger) (queue : List Item) (wire : List Dllp) (way left : List Item) (o : Option Item) → way ≡ list_of o ++ left →
     ◌≡◌ {A = Direction} (record { gate = gate; ledger = ledger_with ledger o; on_the_way = needs_of left; queue = needs_of (queue_with queue o); wire = wire })
     (after_events (record { gate = gate; ledger = ledger; on_the_way = needs_of way; queue = needs_of queue; wire = wire }) (map (λ (item : Item). Receive) (list_of o)))
 received_direction gate ledger queue wire way left None h = rw h refl

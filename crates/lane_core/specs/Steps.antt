@@ -13,10 +13,9 @@ use Rattle.link_receiver.specs.declared.receiver.Reception.TheVariants.{Accept, 
 use Rattle.link_receiver.specs.Receiving.{Receiving, fresh as fresh_receiver, reception_of, after_reception, acknowledgment_of, after_acknowledge}
 use Rattle.fc_credit.specs.declared.needs.Need.{Need}
 use Rattle.fc_credit.specs.declared.limits.LaneCredits.{LaneCredits}
-use Rattle.fc_credit.specs.declared.gate.CreditGate.{CreditGate}
 use Rattle.fc_credit.specs.declared.ledger.CreditLedger.{CreditLedger}
 use Rattle.fc_credit.specs.Needs.{need_of}
-use Rattle.fc_credit.specs.Credits.{gate_covers, after_consume, after_received, after_freed, update_of, first_gate, first_ledger}
+use Rattle.fc_credit.specs.Credits.{Gate, gate_covers, after_consume, after_received, after_freed, update_of, first_gate, first_ledger}
 use Rattle.fc_credit.specs.Account.{gate_told}
 use Rattle.vc_queue.specs.Queue.{Item}
 use Rattle.lane_core.specs.declared.packet.WirePacket.{WirePacket}
@@ -33,7 +32,7 @@ use Rattle.lane_core.specs.Content.{cargo_of, item_of}
 -- what the sender's end has: the unacknowledged packets, and the credits that it knows of
 pub record Outgoing : Type 0 where
   pub sending : Sending
-  pub gate : CreditGate
+  pub gate : Gate
 
 -- what the receiver's end has: its numbers, the credits that it gave, and the accepted packets, oldest first
 pub record Incoming : Type 0 where
