@@ -140,10 +140,6 @@ rising_join low mid high (x ∷ xs) ys r s = (r.0, rising_join (x.arrival + 1) m
 
 -- ---- how many
 
-length_keep : {X : Type 0} → (b : Bool) (x : X) (xs : List X) → length xs ≤ length (keep b x xs)
-length_keep true x xs = omega arith
-length_keep false x xs = omega arith
-
 pub counted : (m : List Arrived) → length (of_class Posted m) + length (of_class NonPosted m) + length (of_class Completion m) ≡ length m
 counted [] = refl
 counted (x ∷ xs) = by_case (counted xs) (class_in x) refl

@@ -70,10 +70,6 @@ pub takeable_from : (q : List Item) (place : ℕ) (item : Item) (later : List It
     is_takeable q place ≡ passes_each item.0 (take place q)
 takeable_from q place item later e = ap (first_passes (take place q)) e
 
-pub takeable_read : (q : List Item) (place : ℕ) (item : Item) → place < length q → item ≡ slice_index_or q place item →
-    is_takeable q place ≡ passes_each item.0 (take place q)
-takeable_read q place item h e = takeable_from q place item (drop (suc place) q) (drop_read q place item h e)
-
 takeable_got : (q : List Item) (place : ℕ) (item : Item) → slice_get q place ≡ Some item →
     is_takeable q place ≡ passes_each item.0 (take place q)
 takeable_got q place item e = takeable_from q place item (drop (suc place) q) (drop_got q place item e)

@@ -51,8 +51,38 @@ fn take_greatest(queue: &mut OrderedQueue, list: &mut PlainList) -> bool {
     }
 }
 
-/// The first step at which the bodies differ, where arrival numbers begin at `start`. After every push of an odd step
-/// from `first_take` on the greatest takeable place is taken.
+/// Pushes the packet of a step into both, then takes the greatest takeable place if asked, and tells whether they agree
+/// after each call.
+fn step_agrees(
+    queue: &mut OrderedQueue,
+    list: &mut PlainList,
+    step: u32,
+    takes: bool,
+) -> Result<bool, Fail> {
+    queue.push(packet(step)?, step)?;
+    list.push(packet(step)?, step)?;
+    let pushed = agree(queue, list);
+    let taken = !takes || take_greatest(queue, list);
+    Ok(pushed && taken && agree(queue, list))
+}
+
+/// The first step at which they differ. After every push of an odd step from `first_take` on a packet is taken.
+fn difference(
+    queue: &mut OrderedQueue,
+    list: &mut PlainList,
+    steps: u32,
+    first_take: u32,
+) -> Result<Option<u32>, Fail> {
+    for step in 0..steps {
+        let takes = step % 2 == 1 && first_take <= step;
+        if !step_agrees(queue, list, step, takes)? {
+            return Ok(Some(step));
+        }
+    }
+    Ok(None)
+}
+
+/// The first step at which the bodies differ, where arrival numbers begin at `start`.
 fn first_difference(
     alloc: Global,
     start: u64,
@@ -61,20 +91,7 @@ fn first_difference(
 ) -> Result<Option<u32>, Fail> {
     let mut queue = OrderedQueue::starting_at(alloc, start);
     let mut list = PlainList::new(alloc);
-    for step in 0..steps {
-        queue.push(packet(step)?, step)?;
-        list.push(packet(step)?, step)?;
-        if !agree(&queue, &list) {
-            return Ok(Some(step));
-        }
-        if step % 2 == 1 && first_take <= step && !take_greatest(&mut queue, &mut list) {
-            return Ok(Some(step));
-        }
-        if !agree(&queue, &list) {
-            return Ok(Some(step));
-        }
-    }
-    Ok(None)
+    difference(&mut queue, &mut list, steps, first_take)
 }
 
 #[test]
@@ -99,24 +116,23 @@ fn numbers(queue: &OrderedQueue, class: Class) -> [Option<u64>; 4] {
     [number(0), number(1), number(2), number(3)]
 }
 
+/// Pushes packets, and tells whether the arrival numbers are those of the places.
+fn numbers_are_places(queue: &mut OrderedQueue, steps: u32) -> Result<bool, Fail> {
+    for step in 0..steps {
+        queue.push(packet(step)?, step)?;
+    }
+    Ok(
+        numbers(queue, Class::Posted) == [Some(0), Some(3), Some(6), Some(9)]
+            && numbers(queue, Class::NonPosted) == [Some(1), Some(4), Some(7), None]
+            && numbers(queue, Class::Completion) == [Some(2), Some(5), Some(8), None],
+    )
+}
+
 /// Nine packets below the greatest number, and one more: they are numbered anew in their order.
 #[test]
 fn numbered_anew(rt: HostRuntime) -> Result<(), Fail> {
     let mut queue = OrderedQueue::starting_at(rt.alloc(), u64::MAX - 9);
-    for step in 0..10 {
-        queue.push(packet(step)?, step)?;
-    }
-    assert_eq!(rt;
-        [
-            numbers(&queue, Class::Posted),
-            numbers(&queue, Class::NonPosted),
-            numbers(&queue, Class::Completion)
-        ],
-        [
-            [Some(0), Some(3), Some(6), Some(9)],
-            [Some(1), Some(4), Some(7), None],
-            [Some(2), Some(5), Some(8), None]
-        ]
-    );
+    let anew = numbers_are_places(&mut queue, 10)?;
+    assert!(rt; anew);
     Ok(())
 }
