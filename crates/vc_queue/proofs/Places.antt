@@ -18,7 +18,7 @@ drop_got [] n x e = cc
 drop_got (y ∷ ys) zero x e = cc
 drop_got (y ∷ ys) (suc n) x e = drop_got ys n x e
 
-drop_read : {X : Type 0} → (xs : List X) (n : ℕ) (x : X) → n < length xs → x ≡ slice_index_or xs n x → drop n xs ≡ x ∷ drop (suc n) xs
+pub drop_read : {X : Type 0} → (xs : List X) (n : ℕ) (x : X) → n < length xs → x ≡ slice_index_or xs n x → drop n xs ≡ x ∷ drop (suc n) xs
 drop_read [] n x h e = absurd (omega arith)
 drop_read (y ∷ ys) zero x h e = ap (λ z. z ∷ ys) (sym e)
 drop_read (y ∷ ys) (suc n) x h e = drop_read ys n x (omega arith) e
@@ -66,13 +66,9 @@ all_of test (y ∷ ys) h =
 
 -- ---- what is takeable
 
-takeable_from : (q : List Item) (place : ℕ) (item : Item) (later : List Item) → drop place q ≡ item ∷ later →
+pub takeable_from : (q : List Item) (place : ℕ) (item : Item) (later : List Item) → drop place q ≡ item ∷ later →
     is_takeable q place ≡ passes_each item.0 (take place q)
 takeable_from q place item later e = ap (first_passes (take place q)) e
-
-pub takeable_read : (q : List Item) (place : ℕ) (item : Item) → place < length q → item ≡ slice_index_or q place item →
-    is_takeable q place ≡ passes_each item.0 (take place q)
-takeable_read q place item h e = takeable_from q place item (drop (suc place) q) (drop_read q place item h e)
 
 takeable_got : (q : List Item) (place : ℕ) (item : Item) → slice_get q place ≡ Some item →
     is_takeable q place ≡ passes_each item.0 (take place q)
@@ -92,7 +88,7 @@ all q place item e h =
     all_of (λ (other : Item). may_pass item.0 other.0) (take place q)
     (λ k x f. let found = got_of_take q place k x f in h k x found.0 found.1)
 
-takeable_is_there : (q : List Item) (place : ℕ) → is_takeable q place ≡ true → (item : Item) × (slice_get q place ≡ Some item)
+pub takeable_is_there : (q : List Item) (place : ℕ) → is_takeable q place ≡ true → (item : Item) × (slice_get q place ≡ Some item)
 takeable_is_there q place t = by_case (slice_get q place) refl
   where
     by_case : (found : Option Item) → slice_get q place ≡ found → (item : Item) × (slice_get q place ≡ Some item)

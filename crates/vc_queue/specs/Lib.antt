@@ -1,2 +1,3 @@
 pub mod Ordering
 pub mod Queue
+pub mod Arrivals

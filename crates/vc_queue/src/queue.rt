@@ -1,39 +1,32 @@
 //! The receive queue.
-ghost use Rattle.std.specs.Prelude.{◌≡◌, ◌+◌, ◌<◌, ◌↔◌, ◌==◌, ◌∷◌, ◌++◌, [], Some, length, take, remove, slice_get, IsTrue, IsSome, IfSome, OnOk, OnErr};
-ghost use Rattle.vc_queue.specs.Queue.{passes_each, is_takeable, first_of};
+ghost use Rattle.std.specs.Prelude.{◌≡◌, ◌+◌, ◌<◌, ◌^◌, ◌↔◌, ◌==◌, ◌∷◌, ◌++◌, [], Some, length, take, remove, slice_get, IsTrue, IsSome, IfSome, OnOk, OnErr};
+ghost use Rattle.vc_queue.specs.Queue.{is_takeable, first_of};
+ghost use Rattle.vc_queue.specs.Arrivals.{AreItemsOf};
 
-use crate::ordering::may_pass;
+use crate::classes::{Arrived, Classes};
 use dllp_core::Class;
-use fc_credit::class_of;
 use std::alloc::{AllocError, Global};
 use std::collections::VecDeque;
 use std::marker::Model;
 use tlp_core::Tlp;
 
 /// Packets in order of arrival, each with its mark, which no decision about order looks at. Places count from 0, oldest
-/// first.
+/// first: the place of a packet is the number of packets that arrived before it. Each class has a queue of its own.
 #[derive(Drop)]
 pub struct OrderedQueue {
-    items: VecDeque<(Tlp, u32)>,
+    classes: Classes,
 }
 
 impl Model for OrderedQueue {
     ghost use Rattle.std.specs.Prelude.{ℕ, List};
     ghost use Rattle.tlp_core.specs.Packet.{Packet};
+    ghost use Rattle.vc_queue.specs.Arrivals.{IsSound, items_of};
 
     ghost Value = { List (Packet × ℕ) };
 
-    ghost view = { λ q. q.items.items };
-}
+    ghost view = { λ q. items_of q.classes };
 
-/// Whether the packet may pass each of the first `count` packets.
-fn passes_first(tlp: &Tlp, items: &VecDeque<(Tlp, u32)>, count: usize) -> bool
-    ensures { result ≡ passes_each tlp.now (take count items.now.items) }
-{
-    items
-        .iter()
-        .take(count)
-        .all(|(earlier, _)| may_pass(tlp, earlier))
+    ghost invariant = { λ q. IsSound q.classes };
 }
 
 impl OrderedQueue {
@@ -41,8 +34,15 @@ impl OrderedQueue {
     pub fn new(alloc: Global) -> OrderedQueue
         ensures { result ≡ [] }
     {
+        OrderedQueue::starting_at(alloc, 0)
+    }
+
+    /// An empty queue whose next packet gets this arrival number.
+    pub(crate) fn starting_at(alloc: Global, next: u64) -> OrderedQueue
+        ensures { result ≡ [] }
+    {
         OrderedQueue {
-            items: VecDeque::new(alloc),
+            classes: Classes::new(alloc, next),
         }
     }
 
@@ -50,14 +50,14 @@ impl OrderedQueue {
     pub fn len(&self) -> usize
         ensures { result ≡ length self.now }
     {
-        self.items.len()
+        self.classes.len()
     }
 
     /// Whether there is none.
     pub fn is_empty(&self) -> bool
         ensures { IsTrue result ↔ (self.now ≡ []) }
     {
-        self.items.is_empty()
+        self.classes.len() == 0
     }
 
     /// Adds a packet behind the others. Fails only where the queue can't grow.
@@ -65,18 +65,14 @@ impl OrderedQueue {
         ensures ok { OnOk result (self.new ≡ self.old ++ (tlp, mark) ∷ []) }
         ensures err { OnErr result (self.new ≡ self.old) }
     {
-        self.items.push_back((tlp, mark))?;
-        Ok(())
+        self.classes.push(tlp, mark)
     }
 
     /// Whether there is a packet at this place that may pass every earlier one.
     pub fn takeable(&self, place: usize) -> bool
         ensures { result ≡ is_takeable self.now place }
     {
-        match self.items.get(place) {
-            Some((tlp, _)) => passes_first(tlp, &self.items, place),
-            None => false,
-        }
+        self.classes.takeable(place)
     }
 
     /// The packet and the mark at this place, none past the end.
@@ -84,8 +80,8 @@ impl OrderedQueue {
         ensures there { IsSome result ↔ (place < length self.now) }
         ensures item { IfSome result (λ x. slice_get self.now place ≡ Some (x.0.now, x.1)) }
     {
-        let (tlp, mark) = self.items.get(place)?;
-        Some((tlp, *mark))
+        let arrived = self.classes.at(place)?;
+        Some((&arrived.tlp, arrived.mark))
     }
 
     /// Takes the packet at this place out, with its mark.
@@ -94,15 +90,21 @@ impl OrderedQueue {
         ensures item { slice_get self.old place ≡ Some result }
         ensures rest { self.new ≡ remove self.old place }
     {
-        self.items.remove(place).unwrap()
+        self.classes.take(place).unwrap()
     }
 
     /// The first place of a class, none where there is no packet of it.
     pub fn first_of(&self, class: Class) -> Option<usize>
         ensures { result ≡ first_of self.now class }
     {
-        self.items
-            .iter()
-            .position(|(tlp, _)| class_of(tlp.kind) == class)
+        self.classes.first_of(class)
+    }
+
+    /// The packets of a class, the oldest first, each with its arrival number. The numbers of all packets rise in their
+    /// order, so the place of a packet is the number of packets with a smaller one.
+    pub fn class_items(&self, class: Class) -> &VecDeque<Arrived>
+        ensures { AreItemsOf self.now class result.now.items }
+    {
+        self.classes.of(class)
     }
 }
