@@ -104,6 +104,7 @@ fn merge(old: &mut [u8], new: &[u8], first: u8, last: u8)
 const ZEROS: [u8; MAX_PAYLOAD] = [0; MAX_PAYLOAD];
 
 /// The bytes of a read.
+#[inline]
 fn read(place: &[u8], first: u8, last: u8) -> ArrayVec<u8, MAX_PAYLOAD>
     requires some { 4 ≤ length place.now }
     requires few { length place.now ≤ 128 }
@@ -117,6 +118,7 @@ fn read(place: &[u8], first: u8, last: u8) -> ArrayVec<u8, MAX_PAYLOAD>
 }
 
 /// A served operation at its place.
+#[inline(always)]
 fn serve(place: &mut [u8], op: &Op) -> Reply
     requires sound { op_fault op.now ≡ None }
     requires size { length place.old ≡ count_of op.now }
@@ -153,6 +155,7 @@ fn serve(place: &mut [u8], op: &Op) -> Reply
 
 /// One step of the sequential memory whose bytes begin at `base`: does the operation on `bytes` if
 /// it is served, by blocks of `block` bytes, and answers it. Takes no memory.
+#[inline(always)]
 pub fn perform(base: u64, block: u16, bytes: &mut [u8], op: &Op) -> Reply
     requires { IsBlock block }
     ensures bytes { bytes.new ≡ after block base bytes.old op.now }

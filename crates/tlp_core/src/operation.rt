@@ -191,6 +191,7 @@ pub fn copy_of(op: &Op) -> Op
 }
 
 /// The operation that the packet asks for, none where it is a completion. Takes no memory.
+#[inline(always)]
 pub fn op_of(tlp: &Tlp) -> Option<Op>
     ensures value { result ≡ spec.op_of tlp.now }
     ensures none { IsNone result ↔ IsTrue (spec.is_completion tlp.now.kind) }
@@ -319,6 +320,7 @@ fn wrong_address(op: &Op) -> bool
 /// `LengthMismatch` for a read of 0 or more than 1024 DW or a write of no bytes or of a part of a
 /// DW, `ByteEnables`, `OperandSize` for an operand of 16 bytes in FetchAdd or Swap or one that is
 /// too great for its width, `Unaligned`. Takes no memory.
+#[inline]
 pub fn op_fault(op: &Op) -> Option<TlpFault>
     ensures { result ≡ spec.op_fault op.now }
 {
