@@ -30,7 +30,6 @@ fn lies_inside(base: u64, size: usize, address: u64, count: u32) -> bool
 }
 
 /// Why the operation is not served, none where it is.
-#[inline]
 pub(crate) fn refusal_of(base: u64, block: u16, size: usize, op: &Op) -> Option<Refusal>
     requires { IsBlock block }
     ensures value { result ≡ refusal block base size op.now }

@@ -53,6 +53,7 @@ fn copy_of(bytes: &[u8]) -> ArrayVec<u8, MAX_PAYLOAD>
 }
 
 /// Does an AtomicOp at its place, and gives the bytes that were there.
+#[inline(always)]
 fn change(place: &mut [u8], width: Width, op: AtomicOp) -> ArrayVec<u8, MAX_PAYLOAD>
     requires size { length place.old ≡ size_of width }
     requires operands { FitsWidth op width }
@@ -104,7 +105,6 @@ fn merge(old: &mut [u8], new: &[u8], first: u8, last: u8)
 const ZEROS: [u8; MAX_PAYLOAD] = [0; MAX_PAYLOAD];
 
 /// The bytes of a read.
-#[inline]
 fn read(place: &[u8], first: u8, last: u8) -> ArrayVec<u8, MAX_PAYLOAD>
     requires some { 4 ≤ length place.now }
     requires few { length place.now ≤ 128 }

@@ -320,7 +320,6 @@ fn wrong_address(op: &Op) -> bool
 /// `LengthMismatch` for a read of 0 or more than 1024 DW or a write of no bytes or of a part of a
 /// DW, `ByteEnables`, `OperandSize` for an operand of 16 bytes in FetchAdd or Swap or one that is
 /// too great for its width, `Unaligned`. Takes no memory.
-#[inline]
 pub fn op_fault(op: &Op) -> Option<TlpFault>
     ensures { result ≡ spec.op_fault op.now }
 {

@@ -189,11 +189,8 @@ fn put_digits(bytes: &[u8], text: &mut ArrayVec<u8, 325>)
     ensures len { array_vec_len text.new ≡ array_vec_len text.old + 2 * length bytes.now }
 {
     for byte in bytes {
-        let digits = [
-            DIGITS[usize::from(byte / 16)],
-            DIGITS[usize::from(byte % 16)],
-        ];
-        put(text, &digits);
+        text.push(DIGITS[usize::from(byte / 16)]);
+        text.push(DIGITS[usize::from(byte % 16)]);
     }
 }
 
