@@ -15,6 +15,7 @@ mod answers;
 mod checking;
 mod flaws;
 mod index;
+pub mod laws;
 mod replay;
 #[cfg(test)]
 mod tests;

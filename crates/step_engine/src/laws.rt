@@ -1,5 +1,5 @@
 //! What holds of the traces of scripts.
-ghost use Rattle.std.specs.Prelude.{◌≡◌, true, ℕ, List};
+ghost use Rattle.std.specs.Prelude.{◌≡◌, true, ℕ, List, codes};
 ghost use Rattle.history_check.specs.declared.Record.{Record};
 ghost use Rattle.history_check.specs.Trace.{Explains};
 ghost use Rattle.fabric_laws.specs.Fabric.{Fabric};
@@ -7,6 +7,8 @@ ghost use Rattle.fabric_core.specs.declared.config.Config.{Config};
 ghost use Rattle.fabric_core.specs.declared.event.Event.{Event};
 ghost use Rattle.fabric_core.specs.Config.{IsNewWith};
 ghost use Rattle.fabric_core.specs.Runs.{Runs};
+ghost use Rattle.trace_engine.specs.Check.{out_check};
+ghost use Rattle.trace_file.specs.Tellable.{IsTellable};
 ghost use Rattle.trace_file.specs.Texts.{trace_text};
 ghost use Rattle.step_engine.specs.Script.{IsScript};
 ghost use Rattle.step_engine.specs.Step.{claim_with, out_step};
@@ -14,6 +16,8 @@ ghost use Rattle.step_engine.specs.Step.{claim_with, out_step};
 use fabric_answers::laws::{a_configuration_has_one_answer, each_event_has_one_answer};
 use fabric_core::laws::{a_new_fabric_is_sound, each_event_keeps_it_sound};
 use fabric_laws::laws::the_trace_belongs;
+use trace_engine::laws::an_explained_trace_is_ok;
+use trace_file::told_trace_is_read_back;
 
 /// Where all events of a script happen to a new fabric of its configuration, its run with `--trace` writes the trace of
 /// those events with the fabric's history, and ends with status 0; and the history explains that trace.
@@ -30,4 +34,17 @@ pub fn a_traced_script_is_explained()
     each_event_has_one_answer();
     each_event_keeps_it_sound();
     the_trace_belongs();
+}
+
+/// Where all events of a script happen to a new fabric of its configuration, `check` says `ok`, with status 0, to what the
+/// script's run with `--trace` writes, if lines can tell that trace.
+pub fn a_traced_script_is_ok()
+    ensures ok { (input : List ℕ) (c : Config) (f f' : Fabric) (events : List Event) (rs : List Record) →
+        IsScript input c events → IsNewWith c f → Runs f events rs f' → IsTellable (claim_with f' rs) → (out_check (out_step true input).text).text ≡ codes "ok\n" }
+    ensures status { (input : List ℕ) (c : Config) (f f' : Fabric) (events : List Event) (rs : List Record) →
+        IsScript input c events → IsNewWith c f → Runs f events rs f' → IsTellable (claim_with f' rs) → (out_check (out_step true input).text).status ≡ 0 }
+{
+    a_traced_script_is_explained();
+    told_trace_is_read_back();
+    an_explained_trace_is_ok();
 }

@@ -7,6 +7,7 @@
 #![tactic(auto)]
 
 mod check;
+pub mod laws;
 #[cfg(test)]
 mod tests;
 mod traces;

@@ -6,13 +6,13 @@ use Rattle.std.specs.Fmt.{decimal}
 use Rattle.std.proofs.lemmas.Bool.{cases_Bool, and_parts, ne_eqb, eq-eqb}
 use Rattle.std.proofs.lemmas.Bool.Decides.{nat_tests}
 use Rattle.std.proofs.lemmas.List.{append-nil}
-use Rattle.std.proofs.lemmas.List.Elements.{All-nil, All-cons, All-append, All-head, All-drop, All-get_or}
+use Rattle.std.proofs.lemmas.List.Elements.{All-nil, All-cons, All-append, All-head, All-tail, All-drop, All-get_or}
 use Rattle.line_engine.specs.Lines.{lines_of, bare, said}
 use Rattle.tlp_core.specs.declared.operation.Op.{Op}
 use Rattle.seq_memory.specs.declared.Entry.{Entry}
 use Rattle.seq_memory.specs.declared.Reply.{Reply}
 use Rattle.seq_memory.specs.History.{State}
-use Rattle.seq_memory.specs.Limits.{IsBlock, is_size, is_base}
+use Rattle.seq_memory.specs.Limits.{IsSize, IsBase, IsBlock, is_size, is_base}
 use Rattle.history_check.specs.declared.Record.{Record}
 use Rattle.history_check.specs.declared.Record.TheVariants as records
 use Rattle.history_check.specs.Claim.{Claim}
@@ -31,6 +31,7 @@ use Rattle.trace_file.specs.Lines.{is_skipped}
 use Rattle.trace_file.specs.Forms as forms
 use Rattle.trace_file.specs.Forms.{line_of}
 use Rattle.trace_file.specs.Reading.{Reading, nothing_read, in_head, in_memory, in_records, in_history, placed, taken, after_line, after_long_line, take_line, reading_of, claim_read, at_end, fault_or_end, read_of}
+use Rattle.trace_file.specs.Tellable.{IsTellableRecord, IsTellableEntry, IsTellable}
 use Rattle.trace_file.specs.Texts.{memory_line, record_line, entry_line, lines_text, trace_text}
 use Rattle.trace_file.proofs.FormLemmas.{IsSpelled, RecordIs, EntryIs, LineIs, line-is, then-first, some-is}
 use Rattle.trace_file.proofs.LineLemmas.{reading_on, on-feed, on-none}
@@ -455,3 +456,54 @@ module _ (law : Laws) where
 
   pub one-claim : (t u : List ℕ) (c d : Claim) → read_of t ≡ Ok c → read_of u ≡ Ok d → trace_text c ≡ trace_text d → c ≡ d
   one-claim t u c d h k e = let same = sym (read-back t c h) ∙ ap read_of e ∙ read-back u d k in cc same
+
+  -- ---- what lines can tell is spelled
+
+  requester-told : (i : ℕ) → 1 ≤ i → i ≤ 7 → IsSpelled forms.requester i
+  requester-told i low high =
+      let test : (i == 0) ≡ false = ne_eqb i 0 (λ e. omega (arith, low, e)) in
+      (decimal i, rw (law.decimal_back 7 i high (omega (arith, high)), test) refl)
+
+  number-told : (k : ℕ) → k < 2 ^ 32 - 1 → IsSpelled forms.number k
+  number-told k lt = (decimal k, law.decimal_back 4294967294 k (omega (arith, lt)) (omega (arith, lt)))
+
+  count-told : (n : ℕ) → n < 2 ^ 64 → IsSpelled forms.count n
+  count-told n lt = (decimal n, law.decimal_back 18446744073709551615 n (omega (arith, lt)) lt)
+
+  address-told : (a : ℕ) → a < 2 ^ 64 → IsSpelled address a
+  address-told a lt = (hexadecimal a, law.hexadecimal_back 18446744073709551615 a (omega (arith, lt)) lt)
+
+  record-told : (r : Record) → IsTellableRecord r → RecordIs r
+  record-told (records.Sub i k op n) h = (requester-told i h.0.0 h.0.1, number-told k h.0.2, count-told n h.1, h.2)
+  record-told (records.Ans i k reply n) h = (requester-told i h.0.0 h.0.1, number-told k h.0.2, count-told n h.1, h.2)
+
+  records-told : (rs : List Record) → All IsTellableRecord rs → AllRecords rs
+  records-told [] h = tt
+  records-told (r ∷ rs) h = (record-told r (All-head IsTellableRecord r rs h), records-told rs (All-tail IsTellableRecord r rs h))
+
+  entry-told : (e : Entry) → IsTellableEntry e → EntryIs e
+  entry-told e h = (requester-told e.requester h.0.0 h.0.1, number-told e.number h.0.2, h.1)
+
+  entries-told : (es : List Entry) → All IsTellableEntry es → AllEntries es
+  entries-told [] h = tt
+  entries-told (e ∷ es) h = (entry-told e (All-head IsTellableEntry e es h), entries-told es (All-tail IsTellableEntry e es h))
+
+  limits-test : (base size : ℕ) → IsSize size → IsBase base size → (is_size size && is_base base size) ≡ true
+  limits-test base size s b = grind (arith, nat_tests)
+
+  claim-told : (c : Claim) → IsTellable c → OwnClaim c
+  claim-told c h =
+      let size = c.memory.size in
+      let s = h.limits.in_size in
+      let b = h.limits.in_base in
+      record {
+        within = limits-test c.memory.base size s b;
+        base_is = address-told c.memory.base (omega (arith, s.0, b.1));
+        size_is = count-told size (omega (arith, s.1));
+        block_is = h.limits.in_block;
+        records_are = records-told c.records h.records_are;
+        entries_are = entries-told c.memory.entries h.entries_are;
+      }
+
+  pub told-back : (c : Claim) → IsTellable c → read_of (trace_text c) ≡ Ok c
+  told-back c h = ap at_end (on-text c (claim-told c h)).1

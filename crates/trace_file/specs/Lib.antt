@@ -4,3 +4,4 @@ pub mod Forms
 pub mod Reading
 pub mod Endings
 pub mod Texts
+pub mod Tellable

@@ -29,7 +29,7 @@ mod tests;
 mod writing;
 
 pub use fault::{ReadFault, ReadFaultKind};
-pub use laws::own_text_spells_trace;
+pub use laws::{own_text_spells_trace, told_trace_is_read_back};
 pub use reader::TraceReader;
 pub use reading::read_trace;
 pub use writing::write_trace;

@@ -1,0 +1,62 @@
+-- What `check` makes of a text: it is read whole, and then judged.
+use Rattle.std.proofs.Common.{◌≡◌, ◌∙◌, ℕ, Bool, true, false, List, [], ◌∷◌, length, refl, sym, ap, fold, cond, Option, Some, None, Result, Ok, Err}
+use Rattle.std.specs.Prelude.{nat_lt, codes}
+use Rattle.history_check.specs.declared.flaws.FlawKind.{FlawKind}
+use Rattle.history_check.specs.Claim.{Claim}
+use Rattle.history_check.specs.Flaws.{first_flaw}
+use Rattle.history_check.specs.Trace.{Explains}
+use Rattle.line_engine.specs.Lines.{lines_of, bare, said}
+use Rattle.line_engine.specs.Run.{Run, with_answer, after_line as run_on, after_end, new_run}
+use Rattle.trace_file.specs.declared.fault.ReadFault.{ReadFault}
+use Rattle.trace_file.specs.Reading.{Reading, nothing_read, after_line, after_long_line, take_line, read_of}
+use Rattle.trace_engine.specs.Check.{is_read, judged, checked, check_responses, out_check}
+
+-- one line more is read, and nothing written
+one_line : (t : Bool) (s : Reading) (line : List ℕ) → with_answer (new_run s) (cond t (is_read (after_long_line s)) (is_read (after_line s line))) ≡ new_run (cond t (after_long_line s) (after_line s line))
+one_line true s line = refl
+one_line false s line = refl
+
+all_lines : (ls : List (List ℕ)) (s : Reading) → fold (run_on check_responses) (new_run s) ls ≡ new_run (fold take_line s ls)
+all_lines [] s = refl
+all_lines (l ∷ ls) s =
+    ap (λ (r : Run Reading). fold (run_on check_responses) r ls) (one_line (nat_lt 512 (length (bare l))) s (said l))
+    ∙ all_lines ls (take_line s l)
+
+-- the run on a text that is read so
+abbrev verdict : Result Claim ReadFault → Run Reading
+verdict r = with_answer (new_run nothing_read) (checked r)
+
+run_text : (text : List ℕ) → (out_check text).text ≡ (verdict (read_of text)).text
+run_text text = ap (λ (r : Run Reading). (after_end check_responses r).text) (all_lines (lines_of text) nothing_read)
+
+run_status : (text : List ℕ) → (out_check text).status ≡ (verdict (read_of text)).status
+run_status text = ap (λ (r : Run Reading). (after_end check_responses r).status) (all_lines (lines_of text) nothing_read)
+
+abbrev Clean : Type 0
+Clean = (c : Claim) → Explains c → first_flaw c ≡ None
+
+abbrev Explained : Type 0
+Explained = (c : Claim) → first_flaw c ≡ None → Explains c
+
+pub says_ok : Clean → (text : List ℕ) (c : Claim) → read_of text ≡ Ok c → Explains c → (out_check text).text ≡ codes "ok\n"
+says_ok clean text c read good =
+    run_text text
+    ∙ ap (λ (r : Result Claim ReadFault). (verdict r).text) read
+    ∙ ap (λ (o : Option (FlawKind × ℕ)). (judged o).text) (clean c good)
+
+pub has_status_0 : Clean → (text : List ℕ) (c : Claim) → read_of text ≡ Ok c → Explains c → (out_check text).status ≡ 0
+has_status_0 clean text c read good =
+    run_status text
+    ∙ ap (λ (r : Result Claim ReadFault). (verdict r).status) read
+    ∙ ap (λ (o : Option (FlawKind × ℕ)). (with_answer (new_run nothing_read) (judged o)).status) (clean c good)
+
+flawless : (o : Option (FlawKind × ℕ)) → (with_answer (new_run nothing_read) (judged o)).status ≡ 0 → o ≡ None
+flawless None e = refl
+flawless (Some f) e = absurd (cc e)
+
+judged_well : Explained → (r : Result Claim ReadFault) → (verdict r).status ≡ 0 → (c : Claim) × (r ≡ Ok c) × Explains c
+judged_well explained (Err f) e = absurd (cc e)
+judged_well explained (Ok c) e = (c, refl, explained c (flawless (first_flaw c) e))
+
+pub only_explained : Explained → (text : List ℕ) → (out_check text).status ≡ 0 → (c : Claim) × (read_of text ≡ Ok c) × Explains c
+only_explained explained text e = judged_well explained (read_of text) (sym (run_status text) ∙ e)
