@@ -1,4 +1,4 @@
-//! Halls driven for tests: calls that say no more than that the seats stay the hall's, worked rows and scripts.
+//! Halls driven for tests: calls that say no more than that the seats stay the hall's, worked rows and scripts, and threads.
 #![tactic(auto)]
 
 pub mod drive;
@@ -6,3 +6,5 @@ pub mod drive;
 mod rows;
 #[cfg(test)]
 mod scripts;
+#[cfg(test)]
+mod threads;
