@@ -9,7 +9,7 @@ use fabric_core::{ConfigFault, Refusal};
 use hall_core::{Hall, HallFault, HallRefusal, ReqSeat, WorkEvent, WorkSeat};
 use hall_tests::drive::{
     OpenFault, add_one, back, collect, last_seat, last_worker, opened, out_and_served, pump, read,
-    submit, write,
+    small, submit, write,
 };
 use lane_core::LaneRefusal;
 use seq_memory::Reply;
@@ -34,7 +34,7 @@ fn open<R: Print>(
     ensures { IfOk result (λ o. IfSome o (λ t. AreSeatsOf t.0 t.1.items × AreSeatsOf t.0 t.2.items)) }
 {
     for _again in 0..3u8 {
-        match opened(requesters, 1, 64, alloc) {
+        match opened(small(requesters), 1, alloc) {
             Ok(made) => return Ok(Some(made)),
             Err(OpenFault::Fabric(ConfigFault::Memory)) => print!(rt; "refused fabric\n")?,
             Err(OpenFault::Hall(HallFault::Memory)) => print!(rt; "refused hall\n")?,
@@ -128,15 +128,16 @@ fn take_answer<R: Print>(rt: &R, hall: &Hall, seat: &mut ReqSeat) -> io::Result<
     Ok(())
 }
 
-/// Closes the hall, and tells how long the history is, whether the fabric is quiet, and its first bytes.
+/// Closes the hall, and tells how long the history is, whether the fabric is quiet, and the bytes at 0 and 40h.
 fn end<R: Print>(rt: &R, hall: Hall, seat: ReqSeat) -> io::Result<()>
     requires { IsSeatOf hall seat }
 {
     match hall.close(seat) {
         Ok(fabric) => {
-            let byte = fabric.bytes().first().copied().unwrap_or(255);
+            let added = fabric.bytes().first().copied().unwrap_or(255);
+            let written = fabric.bytes().get(0x40).copied().unwrap_or(255);
             print!(rt;
-                "closed {} {} {byte}\n",
+                "closed {} {} {added} {written}\n",
                 fabric.history().len(),
                 fabric.quiet()
             )

@@ -17,25 +17,32 @@ pub enum OpenFault {
     Fabric(ConfigFault),
     /// No hall was made.
     Hall(HallFault),
+    /// A seat is missing.
+    Seats,
 }
 
-/// A hall of a new fabric of 4096 bytes, with its seats.
-pub fn opened(
-    requesters: u8,
-    work: usize,
-    block: u16,
-    alloc: Global,
-) -> Result<(Hall, Vec<ReqSeat>, Vec<WorkSeat>), OpenFault>
-    ensures seats { IfOk result (λ t. AreSeatsOf t.0 t.1.items × AreSeatsOf t.0 t.2.items) }
-    ensures config { IfOk result (λ t. t.0.config.requesters ≡ requesters) }
+/// So many requesters and 4096 bytes.
+pub fn small(requesters: u8) -> Config
+    ensures { result.requesters ≡ requesters }
 {
-    let config = Config {
+    Config {
         requesters,
         base: 0,
         size: 4096,
         credits: LaneCredits::DEFAULT,
-        block,
-    };
+        block: 64,
+    }
+}
+
+/// A hall of a new fabric, with its seats.
+pub fn opened(
+    config: Config,
+    work: usize,
+    alloc: Global,
+) -> Result<(Hall, Vec<ReqSeat>, Vec<WorkSeat>), OpenFault>
+    ensures seats { IfOk result (λ t. AreSeatsOf t.0 t.1.items × AreSeatsOf t.0 t.2.items) }
+    ensures config { IfOk result (λ t. t.0.config.requesters ≡ config.requesters) }
+{
     let fabric = match Fabric::new(config, alloc) {
         Ok(fabric) => fabric,
         Err(fault) => return Err(OpenFault::Fabric(fault)),
@@ -64,6 +71,41 @@ pub fn last_worker(hall: &Hall, seats: &mut Vec<WorkSeat>) -> Option<WorkSeat>
     ensures seat { IfSome result (λ s. IsSeatOf hall.now s) }
 {
     seats.pop()
+}
+
+/// A hall of a new fabric, with the seats of its last two requesters, the first of them first, and one work seat.
+pub fn two_and_a_worker(
+    config: Config,
+    alloc: Global,
+) -> Result<(Hall, ReqSeat, ReqSeat, WorkSeat), OpenFault>
+    ensures { IfOk result (λ t. IsSeatOf t.0 t.1 × IsSeatOf t.0 t.2 × IsSeatOf t.0 t.3) }
+{
+    let (hall, mut seats, mut workers) = opened(config, 1, alloc)?;
+    match (
+        last_seat(&hall, &mut seats),
+        last_seat(&hall, &mut seats),
+        last_worker(&hall, &mut workers),
+    ) {
+        (Some(two), Some(one), Some(worker)) => Ok((hall, one, two, worker)),
+        _ => Err(OpenFault::Seats),
+    }
+}
+
+/// A hall of a new fabric, with the seat of its last requester and one work seat.
+pub fn one_and_a_worker(
+    config: Config,
+    alloc: Global,
+) -> Result<(Hall, ReqSeat, WorkSeat), OpenFault>
+    ensures { IfOk result (λ t. IsSeatOf t.0 t.1 × IsSeatOf t.0 t.2) }
+{
+    let (hall, mut seats, mut workers) = opened(config, 1, alloc)?;
+    match (
+        last_seat(&hall, &mut seats),
+        last_worker(&hall, &mut workers),
+    ) {
+        (Some(seat), Some(worker)) => Ok((hall, seat, worker)),
+        _ => Err(OpenFault::Seats),
+    }
 }
 
 /// [`Hall::submit`].

@@ -1,6 +1,10 @@
-//! Halls driven from one thread, for tests: calls that say no more than that the seats stay the hall's, and worked rows.
+//! Halls driven for tests: calls that say no more than that the seats stay the hall's, worked rows and scripts, and threads.
 #![tactic(auto)]
 
 pub mod drive;
 #[cfg(test)]
 mod rows;
+#[cfg(test)]
+mod scripts;
+#[cfg(test)]
+mod threads;

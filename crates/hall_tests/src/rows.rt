@@ -3,10 +3,10 @@ ghost use Rattle.std.specs.Prelude.{◌≡◌};
 ghost use Rattle.hall_core.specs.Views.{IsSeatOf};
 
 use crate::drive::{
-    add_one, back, collect, is_answer, last_seat, last_worker, opened, out_and_served, play, pump,
-    read, submit, write,
+    add_one, back, collect, is_answer, last_worker, one_and_a_worker, opened, out_and_served, play,
+    pump, read, small, submit, two_and_a_worker, write,
 };
-use fabric_core::{LaneName, Refusal};
+use fabric_core::{Config, LaneName, Refusal};
 use hall_core::laws::put_back;
 use hall_core::{Hall, HallRefusal, Part, ReqSeat, WorkEvent, WorkSeat};
 use hall_laws::part::{PartValue, lane_slot};
@@ -14,7 +14,14 @@ use hall_laws::takes::take_sender;
 use std::alloc::Global;
 use std::test::Fail;
 
-fn is_submitted(hall: &Hall, seat: &mut ReqSeat, op: tlp_core::Op, number: u32, n: u64) -> bool
+/// Whether the operation is submitted under this number at this length of the history.
+pub(super) fn is_submitted(
+    hall: &Hall,
+    seat: &mut ReqSeat,
+    op: tlp_core::Op,
+    number: u32,
+    n: u64,
+) -> bool
     requires { IsSeatOf hall.now seat.old }
     ensures { IsSeatOf hall.now seat.new }
 {
@@ -53,16 +60,10 @@ fn write_then_read(hall: &Hall, seat: &mut ReqSeat, worker: &mut WorkSeat) -> u3
     7
 }
 
-/// One requester and one work seat; the number of steps that went as they should, 8 if the closed hall has both requests
+/// The number of steps that went as they should, 8 if the closed hall has both requests
 /// in its history.
 fn one_requester(block: u16, alloc: Global) -> Result<u32, Fail> {
-    let (hall, mut seats, mut workers) = opened(1, 1, block, alloc)?;
-    let Some(mut seat) = last_seat(&hall, &mut seats) else {
-        return Ok(100);
-    };
-    let Some(mut worker) = last_worker(&hall, &mut workers) else {
-        return Ok(101);
-    };
+    let (hall, mut seat, mut worker) = one_and_a_worker(Config { block, ..small(1) }, alloc)?;
     let done = write_then_read(&hall, &mut seat, &mut worker);
     if done < 7 {
         return Ok(done);
@@ -89,16 +90,7 @@ fn a_write_is_read_in_blocks_of_128(rt: HostRuntime) -> Result<(), Fail> {
 
 /// Two requesters add, meet and are answered. The number of steps that went as they should.
 fn meeting(alloc: Global) -> Result<u32, Fail> {
-    let (hall, mut seats, mut workers) = opened(2, 1, 64, alloc)?;
-    let (Some(mut two), Some(mut one)) = (
-        last_seat(&hall, &mut seats),
-        last_seat(&hall, &mut seats),
-    ) else {
-        return Ok(100);
-    };
-    let Some(mut worker) = last_worker(&hall, &mut workers) else {
-        return Ok(101);
-    };
+    let (hall, mut one, mut two, mut worker) = two_and_a_worker(small(2), alloc)?;
     if !is_submitted(&hall, &mut one, add_one(), 0, 0)
         || play(&hall, &mut worker, &out_and_served(1)) != 6
     {
@@ -150,7 +142,7 @@ fn refused_so(hall: &Hall, seat: &mut WorkSeat, cases: &[(WorkEvent, Refusal)]) 
 
 /// How many events that can't happen a hall refuses as it should.
 fn refusals(alloc: Global) -> Result<usize, Fail> {
-    let (hall, _, mut workers) = opened(1, 1, 64, alloc)?;
+    let (hall, _, mut workers) = opened(small(1), 1, alloc)?;
     let Some(mut worker) = last_worker(&hall, &mut workers) else {
         return Ok(100);
     };
@@ -207,7 +199,7 @@ fn busy(hall: &Hall, first: WorkSeat, second: &mut WorkSeat) -> u32
 }
 
 fn held_by_another(alloc: Global) -> Result<u32, Fail> {
-    let (hall, _, mut workers) = opened(1, 2, 64, alloc)?;
+    let (hall, _, mut workers) = opened(small(1), 2, alloc)?;
     let Some(mut second) = last_worker(&hall, &mut workers) else {
         return Ok(100);
     };
