@@ -10,7 +10,7 @@ use Rattle.vc_queue.specs.declared.classes.Arrived.{Arrived}
 use Rattle.vc_queue.specs.declared.classes.Classes.{Classes}
 use Rattle.vc_queue.specs.declared.classes.Cut.{Cut}
 use Rattle.vc_queue.specs.Queue.{Item}
-use Rattle.vc_queue.specs.Arrivals.{item_of, class_in, IsSplit, IsSound, IsAnew, in_order, items_of, list_of, count_of, HasInstead, past, IsCut, IsRising, keep, of_class, renumbered}
+use Rattle.vc_queue.specs.Arrivals.{item_of, class_in, IsSplit, IsSound, IsAnew, in_order, items_of, list_of, count_of, HasInstead, past, IsCut, IsRising, of_class, renumbered}
 use Rattle.vc_queue.proofs.Merged.{keep_mine, keep_other, parts_instead, of_list, of_cut, parted, first_of_some, first_of_none, cut_one, rising_join, rising_lower, rising_before, rising_behind, rising_length, rising_push, merged_is, is_sound, TellsFirst}
 
 abbrev other_number : Arrived → ℕ → Arrived

@@ -1,8 +1,6 @@
-use Rattle.std.proofs.Common.{refl, sym, ◌∙◌, subst, ap, List}
-use Rattle.std.specs.Prelude.{slice_get, remove}
-use Rattle.std.specs.Option.{option_map}
+use Rattle.std.proofs.Common.{sym, ◌∙◌, subst, List}
 use Rattle.vc_queue.specs.declared.classes.Arrived.{Arrived}
-use Rattle.vc_queue.specs.Arrivals.{item_of, IsSplit, HasInstead, list_of}
+use Rattle.vc_queue.specs.Arrivals.{IsSplit}
 use Rattle.vc_queue.proofs.Taken.{taken_item, taken_at, none_at}
 use Rattle.vc_queue.proofs.classes.Classes.take.Goals as goal
 

@@ -1,4 +1,4 @@
-use Rattle.std.proofs.Common.{◌≡◌, ◌∙◌, List, sym, subst}
+use Rattle.std.proofs.Common.{◌∙◌, List, sym, subst}
 use Rattle.vc_queue.specs.declared.classes.Arrived.{Arrived}
 use Rattle.vc_queue.specs.Arrivals.{IsSplit}
 use Rattle.vc_queue.proofs.Taken.{first_item, first_taken, no_first}

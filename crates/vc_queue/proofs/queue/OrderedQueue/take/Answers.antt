@@ -1,4 +1,4 @@
-use Rattle.std.proofs.Common.{◌≡◌, ◌∙◌, true, List, Some, sym, ap, subst}
+use Rattle.std.proofs.Common.{◌≡◌, ◌∙◌, true, List, sym, ap, subst}
 use Rattle.std.specs.Prelude.{slice_get, remove}
 use Rattle.vc_queue.specs.Queue.{Item, is_takeable}
 use Rattle.vc_queue.specs.Arrivals.{in_order, items_of}
