@@ -1,10 +1,10 @@
 use Rattle.std.proofs.Common.{rules, ◌+◌, IfErr}
 use Rattle.fabric_core.specs.declared.event.Event.TheVariants.{Submit}
-use Rattle.hall_core.specs.Refusals.{IsRefused}
-use Rattle.hall_core.proofs.Refused.{all_possible}
+use Rattle.hall_events.specs.Refusals.{IsRefused, IsPossibleInHall}
+use Rattle.hall_core.proofs.Possible.{each_error}
 use Rattle.hall_core.proofs.hall.Hall.submit.Goals as goal
 
 pub returns-clause-possible : goal.returns-clause-possible
 returns-clause-possible c =
     let why : IfErr c.submit_as.result (IsRefused c.args.seat.now.knows (Submit (c.args.seat.now.knows.number + 1) c.args.op)) = search rules in
-    all_possible c.every_refusal_is_possible.ensures c.args.seat.now.knows (Submit (c.args.seat.now.knows.number + 1) c.args.op) c.submit_as.result why
+    each_error c.submit_as.result (IsRefused c.args.seat.now.knows (Submit (c.args.seat.now.knows.number + 1) c.args.op)) IsPossibleInHall (c.each_refusal_is_possible.ensures c.args.seat.now.knows (Submit (c.args.seat.now.knows.number + 1) c.args.op)) why
