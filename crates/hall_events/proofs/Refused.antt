@@ -1,5 +1,5 @@
 -- Refusals.
-use Rattle.std.proofs.Common.{◌≡◌, ◌≢◌, ◌⊎◌, ◌↔◌, ℕ, ◌+◌, ◌<◌, ◌≤◌, length, ap, sym, refl, ◌∙◌, inl, inr, subst, arith, lt_of_not-le, ⊎_elim, IfErr, Result, Ok, Err}
+use Rattle.std.proofs.Common.{◌≡◌, ℕ, ◌<◌, ◌≤◌, length, sym, refl, ◌∙◌, inl, inr, subst, arith, lt_of_not-le, ⊎_elim}
 use native.Mathlib.Decide.{dec_le, dec_lt}
 use Rattle.fabric_laws.specs.Fabric.{Fabric}
 use Rattle.fabric_core.specs.declared.event.Event.{Event}
@@ -9,8 +9,8 @@ use Rattle.fabric_core.specs.declared.event.LaneName.TheVariants as lanes
 use Rattle.fabric_core.specs.declared.event.LinkEvent.{LinkEvent}
 use Rattle.fabric_core.specs.declared.event.LinkEvent.TheVariants as links
 use Rattle.fabric_core.specs.declared.fault.Refusal.{Refusal}
-use Rattle.fabric_core.specs.declared.fault.Refusal.TheVariants.{NoSuchPart, Idle}
-use Rattle.fabric_core.specs.Steps.{HasLanes, LinkAtRefused, LinkInRefused, IsNoPort, Refused}
+use Rattle.fabric_core.specs.declared.fault.Refusal.TheVariants.{NoSuchPart}
+use Rattle.fabric_core.specs.Steps.{HasLanes, LinkAtRefused, IsNoPort, Refused}
 use Rattle.hall_laws.specs.Parts.{IsLaneName}
 use Rattle.hall_events.specs.Works.{link_event}
 use Rattle.fabric_core.specs.Kept.{IsSoundFabric, IsPossible}

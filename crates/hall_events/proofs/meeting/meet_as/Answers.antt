@@ -1,4 +1,4 @@
-use Rattle.std.proofs.Common.{rules, ◌≡◌, ℕ, List, [], ◌∷◌, ◌++◌, length, subst, ap, ◌∙◌}
+use Rattle.std.proofs.Common.{rules, ◌≡◌, ℕ, List, [], ◌∷◌, ◌++◌, subst, ap, ◌∙◌}
 use Rattle.hall_laws.specs.declared.part.PartValue.TheVariants.{Memory}
 use Rattle.hall_laws.specs.declared.token.Token.{Token}
 use Rattle.hall_laws.specs.Standing.{Sat, token_of, holding, holding_first}

@@ -9,8 +9,6 @@ use Rattle.hall_laws.specs.Parts.{slot}
 use Rattle.hall_laws.specs.Standing.{Sat, token_of}
 use Rattle.hall_laws.specs.Rule.{Known, Goes, after_event, learned}
 use Rattle.hall_laws.specs.Tells.{CollectTells}
-use Rattle.hall_events.specs.declared.refusal.HallRefusal.TheVariants.{Core}
-use Rattle.hall_events.specs.Refusals.{IsRefused}
 use Rattle.hall_events.proofs.requests.collect_as.Goals as goal
 
 pub event-requires-clause-event : goal.event-requires-clause-event

@@ -1,17 +1,14 @@
-use Rattle.std.proofs.Common.{rules, ◌≡◌, ◌⊎◌, ◌+◌, ◌≤◌, ◌<◌, ℕ, List, [], ◌∷◌, inl, inr, sym, subst, arith, Ok}
+use Rattle.std.proofs.Common.{rules, ◌≡◌, ◌+◌, ℕ, List, [], ◌∷◌, inl, sym, subst, arith, Ok}
 use Rattle.fabric_core.specs.declared.event.Event.TheVariants.{Forward}
 use Rattle.fabric_core.specs.declared.event.Seen.TheVariants.{To}
 use Rattle.fabric_core.specs.declared.event.LaneName.TheVariants as lanes
-use Rattle.fabric_core.specs.declared.fault.Refusal.TheVariants as refusals
 use Rattle.fabric_core.specs.Footprints.{IsRoutedAs}
-use Rattle.switch_core.specs.declared.fault.RouteFault.TheVariants.{NoPort}
-use Rattle.hall_laws.specs.declared.part.PartValue.TheVariants.{Memory, Sender, Receiver}
+use Rattle.hall_laws.specs.declared.part.PartValue.TheVariants.{Sender, Receiver}
 use Rattle.hall_laws.specs.declared.token.Token.{Token}
 use Rattle.hall_laws.specs.declared.token.Knowledge.{Knowledge}
-use Rattle.hall_laws.specs.Calls.{serving_also}
 use Rattle.hall_laws.specs.Parts.{slot}
 use Rattle.hall_laws.specs.Standing.{token_of, others_of, holding}
-use Rattle.hall_laws.specs.Rule.{Known, Goes, after_event}
+use Rattle.hall_laws.specs.Rule.{Known, Goes}
 use Rattle.hall_laws.specs.Shows.{Shows}
 use Rattle.hall_events.specs.Refusals.{IsRefused}
 use Rattle.hall_events.specs.declared.refusal.HallRefusal.TheVariants.{Core}

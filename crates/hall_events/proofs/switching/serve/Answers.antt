@@ -1,4 +1,4 @@
-use Rattle.std.proofs.Common.{rules, ◌≡◌, List, [], ◌∷◌, inl, refl, subst}
+use Rattle.std.proofs.Common.{rules, ◌≡◌, [], ◌∷◌, inl, refl, subst}
 use Rattle.fabric_core.specs.declared.event.Event.TheVariants.{Serve}
 use Rattle.fabric_core.specs.declared.event.Seen.TheVariants.{At}
 use Rattle.hall_laws.specs.declared.part.PartValue.TheVariants.{Memory, Sender, Receiver}
