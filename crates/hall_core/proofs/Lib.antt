@@ -1,6 +1,2 @@
-pub mod Lists
-pub mod Shelved
-pub mod Opened
 pub mod Newcomers
-pub mod Emptied
-pub mod Refused
+pub mod Possible

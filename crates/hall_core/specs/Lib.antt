@@ -1,5 +1,5 @@
-pub mod Opens
+pub mod Faults
 pub mod Views
-pub mod Closes
-pub mod Works
-pub mod Refusals
+pub use Rattle.hall_parts.specs.Opens
+pub use Rattle.hall_events.specs.Refusals
+pub use Rattle.hall_events.specs.Works

@@ -1,27 +1,28 @@
 //! The hall and its calls.
 ghost use Rattle.std.specs.Prelude.{◌≡◌, ◌≢◌, ◌+◌, ◌<◌, ◌≤◌, ℕ, List, [], ◌∷◌, length, IfOk, IfErr, MatchOption};
 ghost use Rattle.seq_memory.specs.declared.Entry.{Entry};
-ghost use Rattle.hall_core.specs.Opens.{IsUnused, HasHallFault, Leaves};
-ghost use Rattle.hall_core.specs.Works.{Pumped, event_of};
 ghost use Rattle.fabric_core.specs.declared.event.Event.TheVariants.{Submit, Collect};
-ghost use Rattle.hall_core.specs.Refusals.{IsRefused, IsPossibleInHall, IsBusy};
 ghost use Rattle.hall_laws.specs.Shows.{Shows};
 ghost use Rattle.hall_laws.specs.Calls.{IsSized};
 ghost use Rattle.hall_laws.specs.Rule.{HasConfig};
 ghost use Rattle.hall_laws.specs.Tells.{SubmitTells, CollectTells, SeesTells, Met};
+ghost use Rattle.hall_parts.specs.Opens.{IsUnused, Leaves};
+ghost use Rattle.hall_events.specs.Refusals.{IsRefused, IsPossibleInHall, IsBusy};
+ghost use Rattle.hall_events.specs.Works.{Pumped, event_of};
+ghost use Rattle.hall_core.specs.Faults.{HasHallFault};
 ghost use Rattle.hall_core.specs.Views.{AreNewSeats, IsSeatOf};
 
-use crate::closing::{StillHeld, close};
-use crate::meeting::meet_as;
-use crate::opening::{Board, Opened, Shelves, open};
-use crate::refusal::{HallFault, HallRefusal};
-use crate::requests::{Answered, Submitted, collect_as, submit_as};
+use crate::fault::HallFault;
 use crate::seats::{ReqSeat, WorkSeat, req_seats, work_seats};
-use crate::work::{WorkEvent, pump_as};
-use fabric_core::laws::every_refusal_is_possible;
+use crate::told::{Answered, Submitted};
 use fabric_core::{Config, Fabric, Seen};
+use hall_events::meeting::meet_as;
+use hall_events::refusal::{HallRefusal, each_refusal_is_possible};
+use hall_events::requests::{collect_as, submit_as};
+use hall_events::work::{WorkEvent, pump_as};
 use hall_laws::laws::Steps;
-use hall_laws::part::Part;
+use hall_parts::closing::{StillHeld, close};
+use hall_parts::opening::{Board, Opened, Shelves, open};
 use std::alloc::Global;
 use std::marker::Model;
 use tlp_core::Op;
@@ -117,15 +118,18 @@ impl Hall {
         ensures why { IfErr result (λ r. IsRefused seat.old.knows (Submit (seat.old.knows.number + 1) op) r) }
         ensures possible { IfErr result (λ r. IsPossibleInHall r) }
     {
-        every_refusal_is_possible();
-        submit_as(
+        each_refusal_is_possible();
+        match submit_as(
             &self.board.shared,
             &mut seat.place,
             usize::from(seat.number),
             self.config.requesters,
             seat.number + 1,
             &op,
-        )
+        ) {
+            Ok((number, n)) => Ok(Submitted { number, n }),
+            Err(refusal) => Err(refusal),
+        }
     }
 
     /// The requester of the seat takes its oldest completion. Gives the number of the request, the reply, and the length
@@ -141,14 +145,22 @@ impl Hall {
         ensures why { IfErr result (λ r. IsRefused seat.old.knows (Collect (seat.old.knows.number + 1)) r) }
         ensures possible { IfErr result (λ r. IsPossibleInHall r) }
     {
-        every_refusal_is_possible();
-        collect_as(
+        each_refusal_is_possible();
+        match collect_as(
             &self.board.shared,
             &mut seat.place,
             usize::from(seat.number),
             self.config.requesters,
             seat.number + 1,
-        )
+        ) {
+            Ok(Some((answer, n))) => Ok(Some(Answered {
+                number: answer.number,
+                reply: answer.reply,
+                n,
+            })),
+            Ok(None) => Ok(None),
+            Err(refusal) => Err(refusal),
+        }
     }
 
     /// The seats meet: both have seen one history then, of the length that is given, in which every answered request of
@@ -166,20 +178,15 @@ impl Hall {
         ensures met { IfOk result (λ r. (h : List Entry) × (r.2 ≡ length h) × Met first.knows h r.0.knows × Met second.knows h r.1.knows) }
         ensures refused { IfErr result (λ r. IsBusy r.0 × (r.1 ≡ first) × (r.2 ≡ second)) }
     {
-        let ReqSeat {
-            place: a,
-            number: one,
-        } = first;
-        let ReqSeat {
-            place: b,
-            number: two,
-        } = second;
+        let (one, two) = (first.number, second.number);
+        let steps = &self.board.shared;
+        let requesters = self.config.requesters;
         match meet_as(
-            &self.board.shared,
-            a,
-            b,
+            steps,
+            first.place,
+            second.place,
             usize::from(one),
-            self.config.requesters,
+            requesters,
         ) {
             Ok((a, b, n)) => Ok((
                 ReqSeat {
@@ -190,13 +197,10 @@ impl Hall {
                     place: b,
                     number: two,
                 },
-                n as u64,
+                n,
             )),
-            Err((word, a, b)) => Err((
-                HallRefusal::Busy {
-                    part: Part::Memory,
-                    word,
-                },
+            Err((refusal, a, b)) => Err((
+                refusal,
                 ReqSeat {
                     place: a,
                     number: one,
@@ -223,7 +227,7 @@ impl Hall {
         ensures why { IfErr result (λ r. IsRefused seat.old.knows (event_of event) r) }
         ensures possible { IfErr result (λ r. IsPossibleInHall r) }
     {
-        every_refusal_is_possible();
+        each_refusal_is_possible();
         pump_as(
             &self.board.shared,
             &mut seat.place,

@@ -12,22 +12,17 @@
 //! seat is used with the hall that it came from.
 #![tactic(auto)]
 
-mod closing;
+mod fault;
 mod hall;
 pub mod laws;
-mod links;
-mod meeting;
-mod opening;
-mod refusal;
-mod requests;
 mod seats;
-mod switching;
-mod work;
+mod told;
 
-pub use closing::StillHeld;
+pub use fault::HallFault;
 pub use hall::Hall;
+pub use hall_events::refusal::HallRefusal;
+pub use hall_events::work::WorkEvent;
 pub use hall_laws::part::Part;
-pub use refusal::{HallFault, HallRefusal};
-pub use requests::{Answered, Submitted};
+pub use hall_parts::closing::StillHeld;
 pub use seats::{ReqSeat, WorkSeat};
-pub use work::WorkEvent;
+pub use told::{Answered, Submitted};

@@ -1,5 +1,5 @@
 -- A refusal by the parts that are held is one by the fabric.
-use Rattle.std.proofs.Common.{◌≡◌, ◌⊎◌, ◌↔◌, ℕ, zero, suc, ◌+◌, ◌<◌, ◌≤◌, false, List, [], ◌∷◌, None, Ok, refl, sym, ap, ◌∙◌, inl, inr, ⊎_elim, subst, arith, Some}
+use Rattle.std.proofs.Common.{◌≡◌, ◌⊎◌, ℕ, zero, suc, ◌+◌, ◌<◌, ◌≤◌, List, [], ◌∷◌, Ok, refl, sym, ap, ◌∙◌, inl, inr, ⊎_elim, subst, arith, Some}
 use mathlib.Core.Option.{some}
 use lib.ListN.{get_elem?}
 use Rattle.tlp_core.specs.declared.operation.Op.{Op}
@@ -21,7 +21,7 @@ use Rattle.fabric_core.specs.declared.event.LinkEvent.TheVariants as links
 use Rattle.fabric_core.specs.declared.fault.Refusal.{Refusal}
 use Rattle.fabric_core.specs.declared.fault.Refusal.TheVariants as refusals
 use Rattle.fabric_core.specs.Footprints.{SubmitRefused, CollectRefused, LinkRefused, TransmitRefused, DeliverRefused, SendDllpRefused, DllpRefused, TimerRefused, RetrainedRefused, DestinationRefused, IsRoutedAs, ForwardRefused, ServeRefused}
-use Rattle.fabric_core.specs.Steps.{HasPart, Refused, LinkAtRefused, IsNoPort}
+use Rattle.fabric_core.specs.Steps.{HasPart, Refused, LinkAtRefused}
 use Rattle.hall_laws.specs.declared.part.PartValue.{PartValue}
 use Rattle.hall_laws.specs.declared.part.PartValue.TheVariants.{Memory, Requester, Sender, Forward, Back, Receiver}
 use Rattle.hall_laws.specs.declared.token.Token.{Token}
@@ -29,7 +29,7 @@ use Rattle.hall_laws.specs.Parts.{ends, parts_of, slot, lane_slot, IsLaneName, H
 use Rattle.hall_laws.specs.Standing.{Values}
 use Rattle.hall_laws.specs.Rule.{Known, Agrees}
 use Rattle.hall_laws.specs.Shows.{MayRefuse}
-use Rattle.hall_laws.specs.Duties.{KnowsLane, IsAtPort}
+use Rattle.hall_laws.specs.Duties.{KnowsLane}
 use Rattle.hall_laws.specs.Causes.{KnownHolding}
 use Rattle.hall_laws.proofs.Parts.{has_at, get_requester, get_end}
 use Rattle.hall_laws.proofs.Lanes.{lane_there}

@@ -1,5 +1,5 @@
 -- A refusal by the parts that a token holds is one by the fabric.
-use Rattle.std.specs.Prelude.{◌≡◌, ◌⊎◌, ◌↔◌, ℕ, suc, ◌+◌, ◌<◌, ◌≤◌, false, List, [], ◌∷◌, None, Ok}
+use Rattle.std.specs.Prelude.{◌≡◌, ◌⊎◌, ℕ, ◌+◌, ◌<◌, List, [], ◌∷◌, Ok}
 use Rattle.tlp_core.specs.declared.operation.Op.{Op}
 use Rattle.dllp_core.specs.declared.packet.Dllp.{Dllp}
 use Rattle.seq_memory.specs.History.{State}
@@ -9,7 +9,6 @@ use Rattle.lane_core.specs.declared.packet.Fate.{Fate}
 use Rattle.lane_core.specs.declared.packet.DllpKind.{DllpKind}
 use Rattle.lane_core.specs.Steps.{Incoming, Outgoing}
 use Rattle.switch_core.specs.declared.fault.RouteFault.TheVariants.{NoPort}
-use Rattle.fabric_core.specs.declared.event.Event.{Event}
 use Rattle.fabric_core.specs.declared.event.Event.TheVariants as events
 use Rattle.fabric_core.specs.declared.event.LaneName.{LaneName}
 use Rattle.fabric_core.specs.declared.event.LaneName.TheVariants as lanes

@@ -7,48 +7,48 @@ ghost use Rattle.hall_laws.specs.Telling.{SubmissionTells, CollectionTells, Look
 use fabric_core::laws::each_event_keeps_it_sound;
 use fabric_laws::laws::{packets_keep_their_ports, the_trace_belongs};
 
-/// A transmission over a sender's end and its forward wire is that event of the fabric, which shows what is seen of it; where the parts refuse it, so does
-/// the fabric.
+/// A transmission over a sender's end and its forward wire is that event of the fabric, which shows what is seen of it;
+/// where the parts refuse it, so does the fabric.
 pub fn transmitting()
     ensures owes { TransmitOwes }
     ensures refused { TransmitIsRefused }
     ensures shown { EventShows }
 {}
 
-/// A delivery over a forward wire and its receiver's end is that event of the fabric, which shows what is seen of it; where the parts refuse it, so does
-/// the fabric.
+/// A delivery over a forward wire and its receiver's end is that event of the fabric, which shows what is seen of it;
+/// where the parts refuse it, so does the fabric.
 pub fn delivering()
     ensures owes { DeliverOwes }
     ensures refused { DeliverIsRefused }
     ensures shown { EventShows }
 {}
 
-/// A DLLP that is sent, over a receiver's end and its back wire, is that event of the fabric, which shows what is seen of it; where the parts refuse it, so does
-/// the fabric.
+/// A DLLP that is sent, over a receiver's end and its back wire, is that event of the fabric, which shows what is seen
+/// of it; where the parts refuse it, so does the fabric.
 pub fn sending_a_dllp()
     ensures owes { SendDllpOwes }
     ensures refused { SendDllpIsRefused }
     ensures shown { EventShows }
 {}
 
-/// A DLLP that is delivered, over a back wire and its sender's end, is that event of the fabric, which shows what is seen of it; where the parts refuse it, so does
-/// the fabric.
+/// A DLLP that is delivered, over a back wire and its sender's end, is that event of the fabric, which shows what is
+/// seen of it; where the parts refuse it, so does the fabric.
 pub fn delivering_a_dllp()
     ensures owes { DeliverDllpOwes }
     ensures refused { DeliverDllpIsRefused }
     ensures shown { EventShows }
 {}
 
-/// A replay timer that expires, over its sender's end, is that event of the fabric, which shows what is seen of it; where the parts refuse it, so does
-/// the fabric.
+/// A replay timer that expires, over its sender's end, is that event of the fabric, which shows what is seen of it;
+/// where the parts refuse it, so does the fabric.
 pub fn expiring()
     ensures owes { TimerOwes }
     ensures refused { TimerIsRefused }
     ensures shown { EventShows }
 {}
 
-/// A retraining over its sender's end is that event of the fabric, which shows what is seen of it; where the parts refuse it, so does
-/// the fabric.
+/// A retraining over its sender's end is that event of the fabric, which shows what is seen of it; where the parts
+/// refuse it, so does the fabric.
 pub fn retraining()
     ensures owes { RetrainedOwes }
     ensures refused { RetrainedIsRefused }
@@ -64,8 +64,8 @@ pub fn forwarding_up()
     ensures shown { EventShows }
 {}
 
-/// A packet that goes from `out` into a `down` lane, over the receiver's end and the next sender's, is that event of the
-/// fabric, which shows what is seen of it; where the parts refuse it, so does the fabric.
+/// A packet that goes from `out` into a `down` lane, over the receiver's end and the next sender's, is that event of
+/// the fabric, which shows what is seen of it; where the parts refuse it, so does the fabric.
 pub fn forwarding_out()
     ensures owes { ForwardOutOwes }
     ensures no_way { OutHasNoWay }
@@ -95,7 +95,8 @@ pub fn submitting()
 }
 
 /// A collection over the requester and the receiver's end of its `down` lane is that event of the fabric; where the
-/// parts refuse it, so does the fabric. By the history of the memory it tells the seat at which point the request acted.
+/// parts refuse it, so does the fabric. By the history of the memory it tells the seat at which point the request
+/// acted.
 pub fn collecting()
     ensures owes { CollectOwes }
     ensures refused { CollectIsRefused }

@@ -1,4 +1,4 @@
-use Rattle.std.proofs.Common.{◌+◌, refl}
+use Rattle.std.proofs.Common.{refl}
 use Rattle.hall_laws.specs.Parts.{lane_slot}
 use Rattle.hall_laws.proofs.Answered.{event_shows}
 use Rattle.hall_laws.proofs.LinkSteps.{goes_retrained}

@@ -1,4 +1,4 @@
-use Rattle.std.proofs.Common.{◌+◌, refl}
+use Rattle.std.proofs.Common.{refl}
 use Rattle.hall_laws.specs.Parts.{slot}
 use Rattle.hall_laws.proofs.Answered.{submit_tells}
 use Rattle.hall_laws.proofs.RequesterSteps.{goes_submit}

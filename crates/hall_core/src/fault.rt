@@ -1,0 +1,28 @@
+//! Why a hall isn't made.
+ghost use Rattle.std.specs.Prelude.{◌≡◌};
+ghost use Rattle.hall_core.specs.Faults.{hall_fault_number};
+
+use thiserror::Error;
+
+/// Why no hall is made. The fabric is spent.
+#[derive(Clone, Copy, Debug, PartialEq, Eq, Error)]
+pub enum HallFault {
+    /// There would be no work seat, or more than 64.
+    #[error("Seats")]
+    Seats,
+    /// There is no memory for the hall.
+    #[error("Memory")]
+    Memory,
+}
+
+impl HallFault {
+    /// The number under which it is told, 1 or 2.
+    pub fn number(self) -> u8
+        ensures { result ≡ hall_fault_number self }
+    {
+        match self {
+            HallFault::Seats => 1,
+            HallFault::Memory => 2,
+        }
+    }
+}

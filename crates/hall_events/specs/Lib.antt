@@ -1,0 +1,4 @@
+pub mod Holds
+pub mod Refusals
+pub mod Works
+pub mod Ways

@@ -1,0 +1,39 @@
+-- What a pump does, and what it tells of its seat.
+use Rattle.std.specs.Prelude.{◌≡◌}
+use Rattle.fabric_core.specs.declared.event.Event.{Event}
+use Rattle.fabric_core.specs.declared.event.Event.TheVariants as events
+use Rattle.fabric_core.specs.declared.event.LaneName.{LaneName}
+use Rattle.fabric_core.specs.declared.event.LinkEvent.{LinkEvent}
+use Rattle.fabric_core.specs.declared.event.LinkEvent.TheVariants as links
+use Rattle.fabric_core.specs.declared.event.Seen.{Seen}
+use Rattle.fabric_core.specs.declared.event.Seen.TheVariants as seen
+use Rattle.hall_laws.specs.declared.token.Knowledge.{Knowledge}
+use Rattle.hall_events.specs.declared.work.WorkEvent.{WorkEvent}
+use Rattle.hall_events.specs.declared.work.WorkEvent.TheVariants as works
+use Rattle.hall_laws.specs.Calls.{serving_also}
+
+-- the fabric's event of that name
+abbrev pub event_of : WorkEvent → Event
+event_of (works.Transmit lane) = events.Transmit lane
+event_of (works.Deliver lane fate) = events.Deliver lane fate
+event_of (works.SendDllp lane kind) = events.SendDllp lane kind
+event_of (works.DeliverDllp lane fate) = events.DeliverDllp lane fate
+event_of (works.Timer lane) = events.Timer lane
+event_of (works.Retrained lane) = events.Retrained lane
+event_of (works.Forward lane place) = events.Forward lane place
+event_of (works.Serve place) = events.Serve place
+
+-- the fabric's event of a link call of a lane
+abbrev pub link_event : LaneName → LinkEvent → Event
+link_event lane links.Transmit = events.Transmit lane
+link_event lane (links.Deliver fate) = events.Deliver lane fate
+link_event lane (links.SendDllp kind) = events.SendDllp lane kind
+link_event lane (links.DeliverDllp fate) = events.DeliverDllp lane fate
+link_event lane links.Timer = events.Timer lane
+link_event lane links.Retrained = events.Retrained lane
+
+-- a serving adds the place that it gives to those that the seat filled; nothing else is learned
+abbrev pub Pumped : WorkEvent → Seen → Knowledge → Knowledge → Type 0
+Pumped (works.Serve place) (seen.At n) w w' = w' ≡ serving_also n w
+Pumped (works.Serve place) _ w w' = ⊥
+Pumped _ what w w' = w' ≡ w

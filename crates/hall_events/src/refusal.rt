@@ -1,0 +1,38 @@
+//! Why a call is refused.
+ghost use Rattle.std.specs.Prelude.{◌≡◌};
+ghost use Rattle.hall_events.specs.Refusals.{RefusalsArePossible, hall_refusal_number};
+
+use fabric_core::Refusal;
+use fabric_core::laws::every_refusal_is_possible;
+use hall_laws::part::Part;
+use thiserror::Error;
+
+/// Why a call of the hall is refused. It has changed nothing then: no part is held, and the seat knows what it knew.
+#[derive(Clone, Copy, Debug, PartialEq, Eq, Error)]
+pub enum HallRefusal {
+    /// The part's word was found to be this, which isn't 0: the seat with the number one less had the part.
+    #[error("Busy")]
+    Busy { part: Part, word: u64 },
+    /// The fabric's refusal of the event.
+    #[error("{0}")]
+    Core(Refusal),
+}
+
+impl HallRefusal {
+    /// The number under which it is told, 1 or 2.
+    pub fn number(self) -> u8
+        ensures { result ≡ hall_refusal_number self }
+    {
+        match self {
+            HallRefusal::Busy { .. } => 1,
+            HallRefusal::Core(_) => 2,
+        }
+    }
+}
+
+/// Whatever refuses a call, it is neither `Protocol` nor `Strange` nor `Route`.
+pub fn each_refusal_is_possible()
+    ensures { RefusalsArePossible }
+{
+    every_refusal_is_possible();
+}

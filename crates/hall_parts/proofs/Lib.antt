@@ -1,0 +1,4 @@
+pub mod Lists
+pub mod Shelved
+pub mod Opened
+pub mod Emptied
