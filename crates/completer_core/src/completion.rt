@@ -64,6 +64,7 @@ fn carry(
 }
 
 /// The completion of a request with that reply, none for a posted write.
+#[inline(always)]
 pub(crate) fn completion_with(request: &Tlp, reply: Reply) -> Option<Tlp>
     requires { (op : Op) × (op_of request.now ≡ Some op) × IsSizedFor op reply }
     ensures { result ≡ completion_of request.now reply }

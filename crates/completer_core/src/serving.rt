@@ -13,6 +13,7 @@ use tlp_core::{Tlp, op_of};
 /// posted write. A request that is aborted or unsupported changes no byte, and stands in the
 /// history all the same. Fails only where the history can't grow, and then changes nothing; a
 /// completion in place of a request does nothing.
+#[inline(always)]
 pub fn serve(memory: &mut Memory, request: &Tlp, number: u32) -> Result<Option<Tlp>, AllocError>
     ensures memory { OnOk result (memory.new ≡ after_serving memory.old request.now number) }
     ensures completion { IfOk result (λ c. c ≡ completion_to memory.old request.now) }

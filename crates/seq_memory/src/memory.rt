@@ -59,6 +59,7 @@ impl Memory {
 
     /// Does the entry's operation, if it is served, and adds the entry to the history, served or
     /// not. The only call that changes bytes; it fails only where the history can't grow.
+    #[inline(always)]
     pub fn act(&mut self, entry: Entry) -> Result<Reply, AllocError>
         ensures entry { OnOk result (self.new ≡ record self.old { entries = self.old.entries ++ entry ∷ [] }) }
         ensures reply { IfOk result (λ r. r ≡ answer self.old.block self.old.base (bytes_of self.old) entry.op) }

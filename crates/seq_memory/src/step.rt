@@ -53,6 +53,7 @@ fn copy_of(bytes: &[u8]) -> ArrayVec<u8, MAX_PAYLOAD>
 }
 
 /// Does an AtomicOp at its place, and gives the bytes that were there.
+#[inline(always)]
 fn change(place: &mut [u8], width: Width, op: AtomicOp) -> ArrayVec<u8, MAX_PAYLOAD>
     requires size { length place.old ≡ size_of width }
     requires operands { FitsWidth op width }
@@ -117,6 +118,7 @@ fn read(place: &[u8], first: u8, last: u8) -> ArrayVec<u8, MAX_PAYLOAD>
 }
 
 /// A served operation at its place.
+#[inline(always)]
 fn serve(place: &mut [u8], op: &Op) -> Reply
     requires sound { op_fault op.now ≡ None }
     requires size { length place.old ≡ count_of op.now }
@@ -153,6 +155,7 @@ fn serve(place: &mut [u8], op: &Op) -> Reply
 
 /// One step of the sequential memory whose bytes begin at `base`: does the operation on `bytes` if
 /// it is served, by blocks of `block` bytes, and answers it. Takes no memory.
+#[inline(always)]
 pub fn perform(base: u64, block: u16, bytes: &mut [u8], op: &Op) -> Reply
     requires { IsBlock block }
     ensures bytes { bytes.new ≡ after block base bytes.old op.now }

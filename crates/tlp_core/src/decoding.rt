@@ -13,6 +13,7 @@ use crate::packet::{Kind, Tlp};
 use byteorder::{BigEndian, ByteOrder};
 
 /// The kind, or the first fault of any header.
+#[inline(always)]
 fn header(bytes: &[u8]) -> Result<Kind, TlpFault>
     ensures kind { IfOk result (λ kind. kind_of (slice_index bytes.now 0) ≡ Some kind) }
     ensures whole { IfOk result (λ kind. header_length bytes.now ≤ length bytes.now) }
@@ -117,6 +118,7 @@ fn wrong_alignment(kind: Kind, dw: u16, address: u64) -> bool
 }
 
 /// The first fault of the kind.
+#[inline(always)]
 fn kind_fault(kind: Kind, bytes: &[u8]) -> Option<TlpFault>
     requires kind { kind_of (slice_index bytes.now 0) ≡ Some kind }
     requires whole { header_length bytes.now ≤ length bytes.now }
@@ -151,6 +153,7 @@ fn kind_fault(kind: Kind, bytes: &[u8]) -> Option<TlpFault>
 ///
 /// Bits that the tables of section 2.2 leave free or that this profile ignores may have any value,
 /// and a header of 4 DW may carry an address below 2^32. Takes no memory.
+#[inline(always)]
 pub fn decode(bytes: &[u8]) -> Result<Tlp, TlpFault>
     ensures reading { result ≡ reading bytes.now }
     ensures spelled { IfOk result (λ t. Spells bytes.now t) }

@@ -78,6 +78,7 @@ fn status_bits(status: Status) -> u8
     }
 }
 
+#[inline(always)]
 fn put_rest(out: &mut ArrayVec<u8, MAX_TLP>, requester: u16, tag: u8, body: Body)
     requires room { array_vec_len out.old + 12 ≤ 144 }
     requires fits { FitsFields body }
@@ -113,6 +114,7 @@ fn put_rest(out: &mut ArrayVec<u8, MAX_TLP>, requester: u16, tag: u8, body: Body
 /// Fills the buffer with the canonical bytes of the packet, whatever it held: the header of 3 DW
 /// for an address below 2^32, and zeros in all bits that a reader ignores. Takes no memory.
 #[tactic(auto, using(crate::proofs::Canon::fields_fit))]
+#[inline(always)]
 pub fn encode(tlp: &Tlp, out: &mut ArrayVec<u8, MAX_TLP>)
     ensures bytes { out.new.items ≡ canonical tlp.now }
     ensures spelled { Spells (canonical tlp.now) tlp.now }

@@ -191,6 +191,7 @@ pub fn copy_of(op: &Op) -> Op
 }
 
 /// The operation that the packet asks for, none where it is a completion. Takes no memory.
+#[inline(always)]
 pub fn op_of(tlp: &Tlp) -> Option<Op>
     ensures value { result ≡ spec.op_of tlp.now }
     ensures none { IsNone result ↔ IsTrue (spec.is_completion tlp.now.kind) }
