@@ -1,11 +1,8 @@
 //! The loop of a requester: it submits its script, collects the answers, and records both.
 ghost use Rattle.std.specs.Prelude.{◌≡◌, ◌+◌, ◌<◌, ◌≤◌, IsTrue, None, Some, length, []};
 ghost use Rattle.hall_core.specs.Views.{IsSeatOf};
-ghost use Rattle.workers.specs.Following.{IsUnusedSeat, Follows, IsSame, Finishes};
+ghost use Rattle.requester_worker.specs.Following.{IsUnusedSeat, Follows, IsSame, Finishes};
 
-use crate::gate::Gate;
-use crate::halt::Stop;
-use crate::turns::Turns;
 use fabric_core::Refusal;
 use hall_core::{Hall, HallRefusal, ReqSeat};
 use history_check::Record;
@@ -14,6 +11,7 @@ use recorder::{Pusher, Recorder};
 use requester_core::SubmitRefusal;
 use std::thread;
 use tlp_core::{Op, copy_of};
+use worker_turns::{Gate, Stop, Turns};
 
 /// A requester at work.
 #[derive(Drop)]

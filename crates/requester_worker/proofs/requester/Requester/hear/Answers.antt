@@ -1,8 +1,8 @@
 use Rattle.std.proofs.Common.{subst}
 use Rattle.std.specs.Prelude.{MatchOption}
 use Rattle.hall_laws.specs.Tells.{SeesTells, CollectTells}
-use Rattle.workers.proofs.Steps.{follows_heard}
-use Rattle.workers.proofs.requester.Requester.hear.Goals as goal
+use Rattle.requester_worker.proofs.Steps.{follows_heard}
+use Rattle.requester_worker.proofs.requester.Requester.hear.Goals as goal
 
 pub returns-in-Ok-Some-clause-follows : goal.returns-in-Ok-Some-clause-follows
 returns-in-Ok-Some-clause-follows g c =

@@ -3,8 +3,8 @@ use Rattle.std.specs.Prelude.{Some}
 use Rattle.std.proofs.lemmas.Option.{slice_get-get_or}
 use Rattle.tlp_core.specs.Operation.{is_posted}
 use Rattle.hall_laws.specs.Tells.{SubmitTells}
-use Rattle.workers.proofs.Steps.{follows_open, follows_posted}
-use Rattle.workers.proofs.requester.Requester.ask.Goals as goal
+use Rattle.requester_worker.proofs.Steps.{follows_open, follows_posted}
+use Rattle.requester_worker.proofs.requester.Requester.ask.Goals as goal
 
 pub overflow_add-self-then-not-is_posted : goal.overflow_add-self-then-not-is_posted
 overflow_add-self-then-not-is_posted g c = omega (arith, c.requires.follows.keeps.few)

@@ -4,7 +4,7 @@ use Rattle.std.specs.List.{list_any, AllByRecursion as Each}
 use Rattle.std.proofs.lemmas.List.Folds.{list_any-append}
 use Rattle.hall_laws.specs.Tells.{Has}
 use Rattle.hall_laws.specs.Waiting.{without}
-use Rattle.workers.specs.Following.{is_number, AreApart}
+use Rattle.requester_worker.specs.Following.{is_number, AreApart}
 
 pub or_true : (b : Bool) → (b || true) ≡ true
 or_true true = refl

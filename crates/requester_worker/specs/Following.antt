@@ -8,7 +8,7 @@ use Rattle.history_check.specs.Lookup.{requester_of}
 use Rattle.history_check.specs.Trace.{submissions, answers_to}
 use Rattle.recorder.specs.declared.laws.Pushed.{Pushed}
 use Rattle.hall_core.specs.Views.{SeatView, HallView, IsSeatOf}
-use Rattle.workers.specs.declared.requester.Requester.{Requester}
+use Rattle.requester_worker.specs.declared.requester.Requester.{Requester}
 
 -- the seat of requester i, by which nothing was submitted
 pub record IsUnusedSeat (hall : HallView) (i : ℕ) (s : SeatView) : Type 0 where

@@ -1,10 +1,11 @@
 //! Why a run ends without a report.
 ghost use Rattle.std.specs.Prelude.{◌≡◌};
-ghost use Rattle.workers.specs.Halts.{halt_number, halt_name, halt_of};
+ghost use Rattle.run_report.specs.Halts.{halt_number, halt_name, halt_of};
 
 use fabric_core::Refusal;
 use hall_core::StillHeld;
 use history_check::Flaw;
+use worker_turns::Stop;
 
 /// Why a run ended without a report. The first halt that a worker sets is the one that is answered.
 #[derive(Clone, Copy, Debug, PartialEq)]
@@ -29,6 +30,18 @@ pub enum RunHalt {
 }
 
 impl RunHalt {
+    /// The halt that tells why a worker ended the run.
+    pub fn of(stop: Stop) -> RunHalt
+        ensures { result ≡ halt_of stop }
+    {
+        match stop {
+            Stop::Turns => RunHalt::Turns,
+            Stop::Gated => RunHalt::Gated,
+            Stop::Memory => RunHalt::Memory,
+            Stop::Core(refusal) => RunHalt::Core(refusal),
+        }
+    }
+
     /// The number under which it is told, 1 to 8.
     pub fn number(self) -> u8
         ensures { result ≡ halt_number self }
@@ -58,29 +71,6 @@ impl RunHalt {
             RunHalt::Held(_) => "Held",
             RunHalt::Core(_) => "Core",
             RunHalt::Missing => "Missing",
-        }
-    }
-}
-
-/// Why a worker ends the run.
-#[derive(Clone, Copy, Debug, PartialEq, Eq)]
-pub enum Stop {
-    Turns,
-    Gated,
-    Memory,
-    Core(Refusal),
-}
-
-impl Stop {
-    /// The halt that tells it.
-    pub fn halt(self) -> RunHalt
-        ensures { result ≡ halt_of self }
-    {
-        match self {
-            Stop::Turns => RunHalt::Turns,
-            Stop::Gated => RunHalt::Gated,
-            Stop::Memory => RunHalt::Memory,
-            Stop::Core(refusal) => RunHalt::Core(refusal),
         }
     }
 }

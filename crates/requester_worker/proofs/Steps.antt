@@ -18,9 +18,9 @@ use Rattle.hall_laws.specs.declared.token.Knowledge.{Knowledge}
 use Rattle.hall_laws.specs.Tells.{SubmitTells, CollectTells, SeesTells, Has}
 use Rattle.hall_laws.specs.Waiting.{without}
 use Rattle.hall_core.specs.Views.{SeatView, IsSeatOf}
-use Rattle.workers.specs.declared.requester.Requester.{Requester}
-use Rattle.workers.specs.Following.{is_number, waiting_of, AreApart, IsAnswered, Keeps, Follows, Finishes}
-use Rattle.workers.proofs.Waits.{any_left, any_right, each_map, each_snoc, each_without, apart_without, apart_more, without_count, any_without}
+use Rattle.requester_worker.specs.declared.requester.Requester.{Requester}
+use Rattle.requester_worker.specs.Following.{is_number, waiting_of, AreApart, IsAnswered, Keeps, Follows, Finishes}
+use Rattle.requester_worker.proofs.Waits.{any_left, any_right, each_map, each_snoc, each_without, apart_without, apart_more, without_count, any_without}
 
 get_snoc : {A : Type 0} (xs : List A) (x y : A) (k : ℕ) → slice_get (xs ++ x ∷ []) k ≡ Some y → (slice_get xs k ≡ Some y) ⊎ ((k ≡ length xs) × (x ≡ y))
 get_snoc [] x y zero e = inr (refl, cc)

@@ -7,11 +7,11 @@ use Rattle.history_check.specs.Flaws.{first_flaw}
 use Rattle.history_check.specs.declared.flaws.FlawKind.{FlawKind}
 use Rattle.fabric_core.specs.declared.config.Config.{Config}
 use Rattle.fabric_core.specs.Config.{IsConfig}
-use Rattle.workers.specs.declared.halt.RunHalt.{RunHalt}
-use Rattle.workers.specs.declared.halt.RunHalt.TheVariants as halts
-use Rattle.workers.specs.declared.halt.Stop.{Stop}
-use Rattle.workers.specs.declared.halt.Stop.TheVariants as stops
-use Rattle.workers.specs.declared.running.RunPlan.{RunPlan}
+use Rattle.run_report.specs.declared.halt.RunHalt.{RunHalt}
+use Rattle.run_report.specs.declared.halt.RunHalt.TheVariants as halts
+use Rattle.worker_turns.specs.declared.stop.Stop.{Stop}
+use Rattle.worker_turns.specs.declared.stop.Stop.TheVariants as stops
+use Rattle.run_report.specs.declared.plan.RunPlan.{RunPlan}
 
 abbrev pub halt_number : RunHalt → ℕ
 halt_number halts.Plan = 1
