@@ -1,9 +1,15 @@
 -- Words ask for one request at most.
-use Rattle.std.proofs.Common.{◌≡◌, ◌∙◌, ℕ, Bool, List, refl, sym, ap, codes, Option, Some, None}
+use Rattle.std.proofs.Common.{◌≡◌, ◌∙◌, ℕ, Bool, List, refl, sym, ap, codes, Option, Some, None, IfNone, arith}
+use Rattle.std.specs.Prelude.{slice_index}
 use Rattle.clap.specs.Words.{Row, Text}
-use Rattle.pciex.specs.declared.options.Request.{Request}
-use Rattle.pciex.specs.declared.options.Request.TheVariants.{Tlp, Check, Upgrade, Step}
-use Rattle.pciex.specs.Options.{WritesBase, WritesNumber, WritesFlag, Asks}
+use Rattle.counting.specs.declared.Counting.{Counting}
+use Rattle.command_line.specs.declared.words.Request.{Request}
+use Rattle.command_line.specs.declared.words.Request.TheVariants.{Tlp, Check, Upgrade, Step, Run}
+use Rattle.command_line.specs.Options.{WritesBase, WritesNumber, WritesGiven, WritesFlag, AsksRun, Asks}
+
+pub if_none : {T P : Type 0} (o : Option T) → P → IfNone o P
+if_none None p = p
+if_none (Some x) p = tt
 
 pub same_base : (t : Option Text) (a b : ℕ) → WritesBase t a → WritesBase t b → a ≡ b
 same_base None a b h k = h ∙ sym k
@@ -12,6 +18,13 @@ same_base (Some t) a b h k = h.2 ∙ sym k.2
 pub same_number : (default : ℕ) (t : Option Text) (a b : ℕ) → WritesNumber default t a → WritesNumber default t b → a ≡ b
 same_number default None a b h k = h ∙ sym k
 same_number default (Some t) a b h k = h.1 ∙ sym k.1
+
+pub same_given : (t : Option Text) (a b : ℕ) → WritesGiven t a → WritesGiven t b → a ≡ b
+same_given None a b h k = absurd h
+same_given (Some t) a b h k = h.1 ∙ sym k.1
+
+pub same_counting : (c d : Counting) → c.requesters ≡ d.requesters → c.each ≡ d.each → c.lose ≡ d.lose → c.corrupt ≡ d.corrupt → c.turns ≡ d.turns → c ≡ d
+same_counting c d a b e f g j = record { requesters = a j; each = b j; lose = e j; corrupt = f j; turns = g j }
 
 -- the names of the subcommands differ
 pub tlp_check : codes "tlp" ≡ codes "check" → ⊥
@@ -31,6 +44,18 @@ check_step e = cc
 
 upgrade_step : codes "upgrade" ≡ codes "step" → ⊥
 upgrade_step e = cc
+
+pub tlp_run : codes "tlp" ≡ codes "run" → ⊥
+tlp_run e = let bad : 116 ≡ 114 = ap (λ (t : Text). slice_index t 0) e in absurd (omega (arith, bad))
+
+pub check_run : codes "check" ≡ codes "run" → ⊥
+check_run e = cc
+
+pub upgrade_run : codes "upgrade" ≡ codes "run" → ⊥
+upgrade_run e = cc
+
+pub step_run : codes "step" ≡ codes "run" → ⊥
+step_run e = cc
 
 same_flag : (t : Option Text) (a b : Bool) → WritesFlag t a → WritesFlag t b → a ≡ b
 same_flag None a b h k = h ∙ sym k
@@ -59,3 +84,17 @@ asks_one (Some p) (Step t) (Tlp base size block) a b = absurd (tlp_step (sym b.0
 asks_one (Some p) (Step t) Check a b = absurd (check_step (sym b ∙ a.0))
 asks_one (Some p) (Step t) Upgrade a b = absurd (upgrade_step (sym b ∙ a.0))
 asks_one (Some p) (Step t) (Step u) a b = ap Step (same_flag _ t u a.1 b.1)
+asks_one (Some p) (Tlp base size block) (Run c t) a b = absurd (tlp_run (sym a.0 ∙ b.0))
+asks_one (Some p) Check (Run c t) a b = absurd (check_run (sym a ∙ b.0))
+asks_one (Some p) Upgrade (Run c t) a b = absurd (upgrade_run (sym a ∙ b.0))
+asks_one (Some p) (Step u) (Run c t) a b = absurd (step_run (sym a.0 ∙ b.0))
+asks_one (Some p) (Run c t) (Tlp base size block) a b = absurd (tlp_run (sym b.0 ∙ a.0))
+asks_one (Some p) (Run c t) Check a b = absurd (check_run (sym b ∙ a.0))
+asks_one (Some p) (Run c t) Upgrade a b = absurd (upgrade_run (sym b ∙ a.0))
+asks_one (Some p) (Run c t) (Step u) a b = absurd (step_run (sym b.0 ∙ a.0))
+asks_one (Some p) (Run c t) (Run d u) a b =
+    let x = a.1 in
+    let y = b.1 in
+    let same = same_counting c d (same_given _ _ _ x.requesters_read y.requesters_read) (same_given _ _ _ x.each_read y.each_read) (same_number 0 _ _ _ x.lose_read y.lose_read)
+    (same_number 0 _ _ _ x.corrupt_read y.corrupt_read) (same_number 50000000 _ _ _ x.turns_read y.turns_read) in
+    ap (λ (k : Counting). Run k t) same ∙ ap (Run d) (same_flag _ t u a.2 b.2)

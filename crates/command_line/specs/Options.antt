@@ -3,9 +3,11 @@ use Rattle.std.specs.Prelude.{◌≡◌, ◌≤◌, ℕ, Bool, true, false, List
 use Rattle.std.specs.Str.Parse.{IsNumeral, digits_value}
 use Rattle.clap.specs.declared.builder.action.ArgAction.TheVariants.{SetTrue}
 use Rattle.clap.specs.Words.{App, Row, Rule, Text, first_of, new_app, new_rule, with_rule, with_subcommand}
+use Rattle.counting.specs.declared.Counting.{Counting}
+use Rattle.counting.specs.Ranges.{IsCounting}
 use Rattle.seq_memory.specs.Limits.{IsSize, IsBase, IsBlock}
-use Rattle.pciex.specs.declared.options.Request.{Request}
-use Rattle.pciex.specs.declared.options.Request.TheVariants.{Tlp, Check, Upgrade, Step}
+use Rattle.command_line.specs.declared.words.Request.{Request}
+use Rattle.command_line.specs.declared.words.Request.TheVariants.{Tlp, Check, Upgrade, Step, Run}
 
 -- an option with a value
 abbrev pub option : Text → Rule
@@ -21,6 +23,15 @@ flag name = record (new_rule name) { long = Some name; action = Some SetTrue }
 abbrev pub step_app : App
 step_app = with_rule (new_app (codes "step")) (flag (codes "trace"))
 
+-- an option with a value, which has to be given
+abbrev pub required : Text → Rule
+required name = record (option name) { required = true }
+
+abbrev pub run_app : App
+run_app =
+    with_rule (with_rule (with_rule (with_rule (with_rule (with_rule (new_app (codes "run")) (required (codes "requesters"))) (required (codes "each"))) (option (codes "lose")))
+    (option (codes "corrupt"))) (option (codes "turns"))) (flag (codes "progress"))
+
 abbrev pub top_app : App
 top_app = record (new_app (codes "pciex")) {
   top = record ((new_app (codes "pciex")).top) { has_version = true; subcommand_required = true; disable_help_subcommand = true };
@@ -29,8 +40,8 @@ top_app = record (new_app (codes "pciex")) {
 -- the grammar of the command line
 unfoldable pub the_app : App
 the_app =
-    with_subcommand (with_subcommand (with_subcommand (with_subcommand top_app tlp_app.top) (new_app (codes "check")).top) (new_app (codes "upgrade")).top)
-    step_app.top
+    with_subcommand (with_subcommand (with_subcommand (with_subcommand (with_subcommand top_app tlp_app.top) (new_app (codes "check")).top) (new_app (codes "upgrade")).top)
+    step_app.top) run_app.top
 
 -- a base is written in 1 to 16 hexadecimal digits, and is 0 where none is given
 abbrev pub WritesBase : Option Text → ℕ → Type 0
@@ -41,6 +52,11 @@ WritesBase (Some text) base = (length text ≤ 16) × IsNumeral 16 text × (base
 abbrev pub WritesNumber : ℕ → Option Text → ℕ → Type 0
 WritesNumber default None n = n ≡ default
 WritesNumber default (Some text) n = IsNumeral 10 text × (n ≡ digits_value 10 text)
+
+-- a number that has to be given
+abbrev pub WritesGiven : Option Text → ℕ → Type 0
+WritesGiven None n = ⊥
+WritesGiven (Some text) n = IsNumeral 10 text × (n ≡ digits_value 10 text)
 
 -- the memories that there can be
 pub record IsMemory (base size block : ℕ) : Type 0 where
@@ -60,6 +76,15 @@ abbrev pub WritesFlag : Option Text → Bool → Type 0
 WritesFlag None b = b ≡ false
 WritesFlag (Some text) b = b ≡ bytes_eq text (codes "true")
 
+-- the values of `run` ask for this counting
+pub record AsksRun (rows : List Row) (c : Counting) : Type 0 where
+  pub requesters_read : WritesGiven (first_of (codes "requesters") rows) c.requesters
+  pub each_read : WritesGiven (first_of (codes "each") rows) c.each
+  pub lose_read : WritesNumber 0 (first_of (codes "lose") rows) c.lose
+  pub corrupt_read : WritesNumber 0 (first_of (codes "corrupt") rows) c.corrupt
+  pub turns_read : WritesNumber 50000000 (first_of (codes "turns") rows) c.turns
+  pub right : IsCounting c
+
 -- the subcommand with its values asks for this
 abbrev pub Asks : Option (Text × List Row) → Request → Type 0
 Asks None request = ⊥
@@ -67,3 +92,4 @@ Asks (Some p) (Tlp base size block) = (p.0 ≡ codes "tlp") × AsksTlp p.1 base 
 Asks (Some p) Check = p.0 ≡ codes "check"
 Asks (Some p) Upgrade = p.0 ≡ codes "upgrade"
 Asks (Some p) (Step is_traced) = (p.0 ≡ codes "step") × WritesFlag (first_of (codes "trace") p.1) is_traced
+Asks (Some p) (Run counting is_told) = (p.0 ≡ codes "run") × AsksRun p.1 counting × WritesFlag (first_of (codes "progress") p.1) is_told

@@ -1,15 +1,11 @@
-use Rattle.std.proofs.Common.{◌≡◌, ◌∙◌, ◌<◌, ◌^◌, ℕ, List, refl, sym, subst, arith, codes, Option, Some, None, IfNone, inl, inr}
+use Rattle.std.proofs.Common.{◌≡◌, ◌∙◌, ◌<◌, ◌^◌, ℕ, List, refl, sym, subst, arith, codes, Option, Some, None, inl, inr}
 use Rattle.clap.specs.Words.{rows_of, found_of, first_of, Row, Text}
 use Rattle.clap.proofs.WalkLemmas.{first_value-rows}
-use Rattle.pciex.specs.Options.{WritesBase, WritesNumber, IsMemory, Asks}
-use Rattle.pciex.specs.declared.options.Request.{Request}
-use Rattle.pciex.specs.declared.options.Request.TheVariants.{Tlp, Check, Upgrade, Step}
-use Rattle.pciex.proofs.RequestsAsked.{same_base, same_number, tlp_check, tlp_upgrade, tlp_step}
-use Rattle.pciex.proofs.options.tlp_of.Goals as goal
-
-if_none : {T P : Type 0} (o : Option T) → P → IfNone o P
-if_none None p = p
-if_none (Some x) p = tt
+use Rattle.command_line.specs.Options.{WritesBase, WritesNumber, IsMemory, Asks}
+use Rattle.command_line.specs.declared.words.Request.{Request}
+use Rattle.command_line.specs.declared.words.Request.TheVariants.{Tlp, Check, Upgrade, Step, Run}
+use Rattle.command_line.proofs.RequestsAsked.{same_base, same_number, tlp_check, tlp_upgrade, tlp_step, tlp_run, if_none}
+use Rattle.command_line.proofs.words.tlp_of.Goals as goal
 
 -- the numbers of a memory fit their types
 base_fits : (base size block : ℕ) → IsMemory base size block → base < 2 ^ 64
@@ -29,6 +25,7 @@ no_base rows t e h (Tlp base size block) a =
 no_base rows t e h Check a = tlp_check a
 no_base rows t e h Upgrade a = tlp_upgrade a
 no_base rows t e h (Step traced) a = tlp_step a.0
+no_base rows t e h (Run counting told) a = tlp_run a.0
 
 no_size : (rows : List Row) (t : Option Text) → t ≡ first_of (codes "size") rows → ((n : ℕ) → n < 2 ^ 64 → WritesNumber 4096 t n → ⊥)
     → (r : Request) → Asks (Some (codes "tlp", rows)) r → ⊥
@@ -37,6 +34,7 @@ no_size rows t e h (Tlp base size block) a =
 no_size rows t e h Check a = tlp_check a
 no_size rows t e h Upgrade a = tlp_upgrade a
 no_size rows t e h (Step traced) a = tlp_step a.0
+no_size rows t e h (Run counting told) a = tlp_run a.0
 
 no_block : (rows : List Row) (t : Option Text) → t ≡ first_of (codes "block") rows → ((n : ℕ) → n < 2 ^ 16 → WritesNumber 64 t n → ⊥)
     → (r : Request) → Asks (Some (codes "tlp", rows)) r → ⊥
@@ -45,6 +43,7 @@ no_block rows t e h (Tlp base size block) a =
 no_block rows t e h Check a = tlp_check a
 no_block rows t e h Upgrade a = tlp_upgrade a
 no_block rows t e h (Step traced) a = tlp_step a.0
+no_block rows t e h (Run counting told) a = tlp_run a.0
 
 -- nor do values of which no memory is
 no_memory : (rows : List Row) (b s k : ℕ) → WritesBase (first_of (codes "base") rows) b → WritesNumber 4096 (first_of (codes "size") rows) s
@@ -57,6 +56,7 @@ no_memory rows b s k hb hs hk never (Tlp base size block) a =
 no_memory rows b s k hb hs hk never Check a = tlp_check a
 no_memory rows b s k hb hs hk never Upgrade a = tlp_upgrade a
 no_memory rows b s k hb hs hk never (Step traced) a = tlp_step a.0
+no_memory rows b s k hb hs hk never (Run counting told) a = tlp_run a.0
 
 pub returns-clause-some : goal.returns-clause-some
 returns-clause-some c =

@@ -1,8 +1,8 @@
 use Rattle.std.proofs.Common.{◌∙◌, refl, subst, codes, Option}
 use Rattle.clap.specs.Words.{found_of, Text}
 use Rattle.clap.proofs.WalkLemmas.{first_value-rows}
-use Rattle.pciex.specs.Options.{WritesFlag}
-use Rattle.pciex.proofs.options.step_of.Goals as goal
+use Rattle.command_line.specs.Options.{WritesFlag}
+use Rattle.command_line.proofs.words.step_of.Goals as goal
 
 pub returns : goal.returns
 returns c =

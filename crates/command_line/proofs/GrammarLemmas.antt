@@ -2,7 +2,7 @@
 use Rattle.std.proofs.Common.{◌≡◌, true, refl}
 use Rattle.clap.specs.Words.{is_simple, is_simple_and_free}
 use Rattle.clap.proofs.OnLiterals.{clap_on_literals}
-use Rattle.pciex.specs.Options.{the_app}
+use Rattle.command_line.specs.Options.{the_app}
 
 pub the_app_simple : is_simple the_app ≡ true
 unfolding the_app clap_on_literals
