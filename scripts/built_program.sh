@@ -80,8 +80,37 @@ for words in "" "tpl" "tlp 0" "step --trace=no" "check --trace"; do
     wants "the words '$words'" 2 "$room/nothing" "$room/told"
 done
 
+# Runs of worker threads, with status 0 where each addition was counted once, and 3 where a worker had used up its turns.
+# counts NUMBER WORD..: whether `run` with these words tells that number of answers.
+counts() {
+    printf 'answered %s\nhistory %s\nword %s\ncheck ok\n' "$1" "$1" "$1" > "$room/counted"
+    shift
+    timeout 60 $pciex run "$@" < /dev/null > "$room/output" 2> "$room/errors"
+    status=$?
+    wants "run $*" 0 "$room/counted" "$room/nothing"
+}
+counts 0 --requesters 1 --each 0
+counts 2000 --requesters 2 --each 1000 --lose 3
+counts 4200 --requesters 7 --each 600 --lose 2 --corrupt 3 --turns 1000000000
+echo "halt Turns" > "$room/halt"
+for words in "--requesters 1 --each 1 --lose 1" "--requesters 2 --each 1 --corrupt 1"; do
+    # shellcheck disable=SC2086
+    of_file /dev/null run $words --turns 1000
+    wants "run $words --turns 1000" 3 "$room/halt" "$room/nothing"
+done
+of_file /dev/null run --requesters 8 --each 1
+wants "run --requesters 8" 2 "$room/nothing" "$room/options"
+
+# With --progress the error stream tells how far the run is, and nothing else.
+printf 'answered %s\nhistory %s\nword %s\ncheck ok\n' 140000 140000 140000 > "$room/counted"
+timeout 60 $pciex run --requesters 7 --each 20000 --progress < /dev/null > "$room/output" 2> "$room/errors"
+status=$?
+grep '^[0-9]* of 140000$' "$room/errors" > "$room/told"
+[ -s "$room/told" ] || echo "a line" > "$room/told"
+wants "run --progress" 0 "$room/counted" "$room/told"
+
 # A text that was asked for has status 0 and is not on the error stream.
-for words in "--help" "--version" "tlp --help" "step --help"; do
+for words in "--help" "--version" "tlp --help" "step --help" "run --help"; do
     # shellcheck disable=SC2086
     of_file examples/packets.txt $words
     [ -s "$room/output" ] && cp "$room/output" "$room/told" || echo "a text" > "$room/told"
@@ -101,6 +130,9 @@ if [ -c /dev/full ]; then
     timeout 10 $pciex tlp < examples/packets.txt > /dev/full 2> "$room/errors"
     status=$?
     wants "tlp, where standard output is full" 1 "$room/nothing" "$room/write"
+    timeout 10 $pciex run --requesters 1 --each 1 < /dev/null > /dev/full 2> "$room/errors"
+    status=$?
+    wants "run, where standard output is full" 1 "$room/nothing" "$room/write"
 fi
 
 # Each answer is written before more is read: this user waits for it, and the input has not ended.

@@ -29,6 +29,16 @@ stops_for_memory() {
     fi
 }
 
+# What a run of worker threads that was refused an allocation has to be: status 1, and either `halt Memory` alone on
+# standard output or `pciex: memory` alone on the error stream; or as it is where nothing is refused.
+halts_for_memory() {
+    if [ "$1" -eq 1 ]; then
+        [ "$(cat "$room/output" "$room/errors")" = "halt Memory" ] || [ "$(cat "$room/output" "$room/errors")" = "pciex: memory" ]
+    else
+        is_as_ever "$1"
+    fi
+}
+
 # each_refused JUDGE INPUT PROGRAM WORD.. runs the program on the file INPUT, with the first allocation refused, then with
 # the second, until nothing is left to refuse. JUDGE is a function: it is given the exit status, finds the output and the
 # error stream in $room/output and $room/errors, those of the whole run in $room/whole and $room/whole_errors with its
@@ -90,6 +100,7 @@ for script in lost_ack write_passes_read credits_used_up stopped_link; do
     each_refused stops_for_memory examples/$script.txt $pciex step
     each_refused stops_for_memory examples/$script.txt $pciex step --trace
 done
+each_refused halts_for_memory /dev/null $pciex run --requesters 2 --each 3
 each_refused tries_again /dev/null crates/hall_alloc/out/hall_alloc
 echo "refused allocations: $runs runs, $([ $failed -eq 0 ] && echo "all as they should be" || echo "not all as they should be")"
 exit $failed

@@ -1,10 +1,14 @@
 -- What the program does for what its words ask for.
-use Rattle.std.specs.Prelude.{◌≢◌, ℕ, List, [], ◌∷◌, Option}
+use Rattle.std.specs.Prelude.{◌≡◌, ◌≢◌, ◌⊎◌, ℕ, List, [], ◌∷◌, Option}
 use Rattle.clap.specs.Words.{Kinds}
 use Rattle.clap.specs.declared.error.kind.ErrorKind.TheVariants as kinds
-use Rattle.pciex.specs.declared.options.Request.{Request}
-use Rattle.pciex.specs.declared.options.Request.TheVariants.{Tlp, Check, Upgrade, Step}
+use Rattle.command_line.specs.declared.words.Request.{Request}
+use Rattle.command_line.specs.declared.words.Request.TheVariants.{Tlp, Check, Upgrade, Step, Run}
+use Rattle.counting.specs.Ranges.{IsCounting}
 use Rattle.line_engine.specs.Run.{IsRun}
+use Rattle.pciex.specs.declared.command.Outcome.{Outcome}
+use Rattle.pciex.specs.declared.command.Outcome.TheVariants as outcomes
+use Rattle.run_engine.specs.Text.{IsRan}
 use Rattle.tlp_engine.specs.Tlp.{out_tlp}
 use Rattle.trace_engine.specs.Check.{out_check}
 use Rattle.trace_engine.specs.Upgrade.{out_upgrade}
@@ -16,6 +20,22 @@ IsDone (Tlp base size block) input rest out out' exit = IsRun (out_tlp base size
 IsDone Check input rest out out' exit = IsRun out_check input rest out out' exit
 IsDone Upgrade input rest out out' exit = IsRun out_upgrade input rest out out' exit
 IsDone (Step is_traced) input rest out out' exit = IsRun (out_step is_traced) input rest out out' exit
+IsDone (Run counting is_told) input rest out out' exit = (rest ≡ input) × IsRan counting out out' exit
+
+-- the same of what one thread did, which leaves a run undone
+abbrev pub IsBegun : Request → Option (List ℕ) → Option (List ℕ) → Option (List ℕ) → Option (List ℕ) → Outcome → Type 0
+IsBegun request input rest out out' (outcomes.Ended exit) = IsDone request input rest out out' exit
+IsBegun request input rest out out' (outcomes.Run counting is_told) = (request ≡ Run counting is_told) × (rest ≡ input) × (out' ≡ out)
+
+-- status 1 or 2
+abbrev pub EndsWrong : Outcome → Type 0
+EndsWrong (outcomes.Ended exit) = (exit ≡ 1) ⊎ (exit ≡ 2)
+EndsWrong (outcomes.Run counting is_told) = ⊥
+
+-- the numbers of a run are in their ranges
+abbrev pub IsRight : Outcome → Type 0
+IsRight (outcomes.Ended exit) = Unit {0}
+IsRight (outcomes.Run counting is_told) = IsCounting counting
 
 -- no fault of the words asks for a text, that of `--help` or that of `--version`
 abbrev pub AskForNoText : Kinds → Type 0

@@ -2,18 +2,22 @@
 ghost use Rattle.std.specs.Prelude.{◌≡◌, ◌≢◌, ◌⊎◌, map, true, IfOk, OnErr};
 ghost use Rattle.std.specs.IoError.{error_kind};
 ghost use Rattle.clap.specs.Words.{fault_of, kind_of, subcommand_of, takes};
-ghost use Rattle.pciex.specs.Faults.{IsMemoryFault, WordsFault};
-ghost use Rattle.pciex.specs.Options.{the_app, Asks};
-ghost use Rattle.pciex.specs.Command.{IsDone, AreRefused};
-ghost use Rattle.pciex.specs.declared.options.Request.{Request};
+ghost use Rattle.command_line.specs.Faults.{IsMemoryFault, WordsFault};
+ghost use Rattle.command_line.specs.Options.{the_app, Asks};
+ghost use Rattle.pciex.specs.Command.{IsDone, IsBegun, EndsWrong, IsRight, AreRefused};
+ghost use Rattle.command_line.specs.declared.words.Request.{Request};
 
-use crate::options::{Request, RequestFault, options};
 use clap::error::ErrorKind;
+use command_line::{Request, RequestFault, options};
+use counting::Counting;
 use line_engine::EngineFault;
+use run_engine::run_counting;
 use std::alloc::Global;
 use std::convert::AsStr;
 use std::io;
 use std::io::{ErrorKind as IoErrorKind, Read, Write};
+use std::sync::Wait;
+use std::thread::Threads;
 use step_engine::run_step;
 use tlp_engine::run_tlp;
 use trace_engine::{run_check, run_upgrade};
@@ -86,12 +90,63 @@ pub fn no_words<E: Write>(fault: &io::Error, errors: &mut E) -> u8
     2
 }
 
-/// Does what the words of the command line ask for, the program's name before them, and gives the
-/// exit status: 0 done; 1 a fault, a flaw or a refusal was told, or reading, writing or memory failed; 2 the words ask
-/// for nothing.
-pub fn command<S: AsStr, R: Read, W: Write, E: Write>(
+/// What became of the words of a command line on one thread.
+#[derive(Clone, Copy, Debug, PartialEq, Eq)]
+pub enum Outcome {
+    /// The program ends with this exit status.
+    Ended(u8),
+    /// They ask for a run, of which nothing is done yet.
+    Run { counting: Counting, is_told: bool },
+}
+
+/// Does what the words of the command line ask for, the program's name before them, but for a run, and gives
+/// the exit status: 0 done; 1 a fault, a flaw or a refusal was told, or reading, writing or memory failed; 2 the
+/// words ask for nothing. It waits for no thread, so what is said of it needs no return.
+pub fn on_one_thread<S: AsStr, R: Read, W: Write, E: Write>(
     alloc: Global,
     words: &[S],
+    reader: &mut R,
+    writer: &mut W,
+    errors: &mut E,
+) -> Outcome
+    // Words that `clap` takes and that ask for something have the run of that.
+    ensures run { (request : Request) → takes the_app (map S.text words.now) ≡ true → Asks (subcommand_of the_app (map S.text words.now)) request
+        → IsBegun request (R.remaining reader.old) (R.remaining reader.new) (W.contents writer.old) (W.contents writer.new) result }
+
+    // Words that `clap` takes and that ask for nothing have status 2, or 1 for want of memory, and nothing is written.
+    ensures nothing { takes the_app (map S.text words.now) ≡ true → ((r : Request) → Asks (subcommand_of the_app (map S.text words.now)) r → ⊥)
+        → EndsWrong result × (W.contents writer.new ≡ W.contents writer.old) }
+
+    // So do words that `clap` refuses, but where they ask for a text.
+    ensures refused { AreRefused (fault_of the_app (map S.text words.now))
+        → EndsWrong result × (W.contents writer.new ≡ W.contents writer.old) }
+
+    // What is to be run can be.
+    ensures right { IsRight result }
+{
+    match options(alloc, words) {
+        Ok(Request::Tlp { base, size, block }) => Outcome::Ended(ended(
+            run_tlp(alloc, base, size, block, reader, writer),
+            errors,
+        )),
+        Ok(Request::Check) => Outcome::Ended(ended(run_check(alloc, reader, writer), errors)),
+        Ok(Request::Upgrade) => Outcome::Ended(ended(run_upgrade(alloc, reader, writer), errors)),
+        Ok(Request::Step { is_traced }) => {
+            Outcome::Ended(ended(run_step(alloc, is_traced, reader, writer), errors))
+        }
+        Ok(Request::Run { counting, is_told }) => Outcome::Run { counting, is_told },
+        Err(fault) => Outcome::Ended(refused(&fault, writer, errors)),
+    }
+}
+
+/// Does what the words of the command line ask for, the program's name before them, and gives the exit status:
+/// that of [`on_one_thread`], or that of the run, which is 3 for the halt `Turns`. A run tells how far it is where
+/// the words ask for that or the error stream is a terminal.
+pub fn command<T: Threads + Wait + Sync, S: AsStr, R: Read, W: Write, E: Write + Send>(
+    rt: &T,
+    alloc: Global,
+    words: &[S],
+    is_terminal: bool,
     reader: &mut R,
     writer: &mut W,
     errors: &mut E,
@@ -108,15 +163,14 @@ pub fn command<S: AsStr, R: Read, W: Write, E: Write>(
     ensures refused { AreRefused (fault_of the_app (map S.text words.now))
         → ((result ≡ 1) ⊎ (result ≡ 2)) × (W.contents writer.new ≡ W.contents writer.old) }
 {
-    match options(alloc, words) {
-        Ok(Request::Tlp { base, size, block }) => {
-            ended(run_tlp(alloc, base, size, block, reader, writer), errors)
+    match on_one_thread(alloc, words, reader, writer, errors) {
+        Outcome::Ended(status) => status,
+        Outcome::Run { counting, is_told } => {
+            let shows = is_told || is_terminal;
+            ended(
+                run_counting(rt, alloc, &counting, shows, writer, errors),
+                errors,
+            )
         }
-        Ok(Request::Check) => ended(run_check(alloc, reader, writer), errors),
-        Ok(Request::Upgrade) => ended(run_upgrade(alloc, reader, writer), errors),
-        Ok(Request::Step { is_traced }) => {
-            ended(run_step(alloc, is_traced, reader, writer), errors)
-        }
-        Err(fault) => refused(&fault, writer, errors),
     }
 }

@@ -2,11 +2,11 @@
 #![tactic(auto)]
 
 mod command;
-mod options;
 #[cfg(test)]
 mod tests;
 
 use std::io;
+use std::io::IsTerminal;
 use std::process::ExitCode;
 
 /// The words of the command line, the program's name before them.
@@ -19,8 +19,10 @@ fn main(rt: HostRuntime) -> ExitCode {
     let mut errors = rt.stderr();
     let status = match words(&rt) {
         Ok(words) => command::command(
+            &rt,
             rt.alloc(),
             words.as_slice(),
+            errors.is_terminal(),
             &mut rt.stdin(),
             &mut rt.stdout(),
             &mut errors,

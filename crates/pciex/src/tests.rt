@@ -1,17 +1,27 @@
 //! Words of the command line, a run of each subcommand, and streams that fail.
-use crate::command::{command, no_words};
+use crate::command::{Outcome, command, no_words, on_one_thread};
 use arrayvec::ArrayVec;
 use std::alloc::Global;
 use std::io;
 use std::io::{ErrorKind, Read, Write};
+use std::sync::Wait;
 use std::test::Fail;
+use std::thread::Threads;
+
+/// The exit status, 9 where a run is asked for.
+fn status_of(outcome: Outcome) -> u8 {
+    match outcome {
+        Outcome::Ended(status) => status,
+        Outcome::Run { .. } => 9,
+    }
+}
 
 /// The exit status, what was written, and what the error stream got.
 fn told(alloc: Global, words: &[&str], input: &[u8]) -> (u8, Vec<u8>, Vec<u8>) {
     let mut reader = input;
     let mut out = Vec::new(alloc);
     let mut errors = Vec::new(alloc);
-    let status = command(alloc, words, &mut reader, &mut out, &mut errors);
+    let status = status_of(on_one_thread(alloc, words, &mut reader, &mut out, &mut errors));
     (status, out, errors)
 }
 
@@ -28,7 +38,7 @@ const SCRIPT: &str = "fabric 1 0 4096\nsubmit 1 add 40 07000000\n";
 const TRACE: &str = "pciex-trace 2\nmemory 0 4096 64\nsub 1 0 0 add 40 07000000\nhistory\nend\n";
 
 /// Words after the program's name, what standard input has, what is written, and the exit status.
-const RUNS: [(&[&str], &str, &str, u8); 9] = [
+const RUNS: [(&[&str], &str, &str, u8); 10] = [
     (
         &["tlp"],
         "00000002 01000CFF 0000003C\n4C0000\n",
@@ -58,6 +68,7 @@ const RUNS: [(&[&str], &str, &str, u8); 9] = [
     (&["step"], SCRIPT, "sub 1 0\n", 0),
     (&["step"], "stop\n", "fault 1 Script\n", 1),
     (&["step", "--trace"], SCRIPT, TRACE, 0),
+    (&["run", "--requesters", "7", "--each", "100000"], "", "", 9),
 ];
 
 #[test]
@@ -75,7 +86,7 @@ fn each_subcommand(rt: HostRuntime) -> Result<(), Fail> {
 }
 
 /// Words after the program's name that give status 2, and whether they are out of a range.
-const WRONG: [(&[&str], bool); 20] = [
+const WRONG: [(&[&str], bool); 29] = [
     (&[], false),
     (&["tpl"], false),
     (&["tlp", "--bass", "0"], false),
@@ -96,6 +107,24 @@ const WRONG: [(&[&str], bool); 20] = [
     (&["tlp", "--size", "200"], true),
     (&["tlp", "--block", "96"], true),
     (&["tlp", "--block", "65600"], true),
+    (&["run", "--requesters", "1"], false),
+    (&["run", "--each", "1"], false),
+    (&["run", "--requesters", "0", "--each", "1"], true),
+    (&["run", "--requesters", "8", "--each", "1"], true),
+    (&["run", "--requesters", "1", "--each", "100001"], true),
+    (
+        &["run", "--requesters", "1", "--each", "1", "--lose", "65537"],
+        true,
+    ),
+    (
+        &["run", "--requesters", "1", "--each", "1", "--corrupt", "-1"],
+        false,
+    ),
+    (
+        &["run", "--requesters", "1", "--each", "1", "--turns", "0"],
+        true,
+    ),
+    (&["run", "--requesters", "1", "--each", "+1"], true),
 ];
 
 /// Whether words are refused, and told of as wrong words or as values out of a range.
@@ -120,7 +149,7 @@ fn wrong_words(rt: HostRuntime) -> Result<(), Fail> {
 }
 
 /// Words that ask for a text, and how it begins.
-const TEXTS: [(&[&str], &str); 6] = [
+const TEXTS: [(&[&str], &str); 7] = [
     (&["pciex", "--help"], "A shared memory device"),
     (&["pciex", "-h"], "A shared memory device"),
     (&["pciex", "--version"], "pciex "),
@@ -130,6 +159,7 @@ const TEXTS: [(&[&str], &str); 6] = [
         &["pciex", "step", "--help"],
         "Runs a script of events on a fabric",
     ),
+    (&["pciex", "run", "--help"], "Counts with worker threads"),
 ];
 
 /// Whether the words write a text that begins so.
@@ -203,7 +233,7 @@ fn is_read_told(alloc: Global, words: &[&str], input: &str) -> bool {
     };
     let mut out = Vec::new(alloc);
     let mut errors: ArrayVec<u8, 99> = ArrayVec::new();
-    let status = command(alloc, words, &mut reader, &mut out, &mut errors);
+    let status = status_of(on_one_thread(alloc, words, &mut reader, &mut out, &mut errors));
     status == 1 && errors.as_slice() == b"pciex: read\n".as_slice()
 }
 
@@ -218,7 +248,13 @@ fn a_reader_fails(rt: HostRuntime) {
 fn is_write_told(alloc: Global, words: &[&str], input: &str) -> bool {
     let mut reader = input.as_bytes();
     let mut errors: ArrayVec<u8, 99> = ArrayVec::new();
-    let status = command(alloc, words, &mut reader, &mut FailingWriter, &mut errors);
+    let status = status_of(on_one_thread(
+        alloc,
+        words,
+        &mut reader,
+        &mut FailingWriter,
+        &mut errors,
+    ));
     status == 1 && errors.as_slice() == b"pciex: write\n".as_slice()
 }
 
@@ -241,4 +277,29 @@ fn words_that_are_not_read(rt: HostRuntime) {
         let status = no_words(&kind.into(), &mut errors);
         assert!(rt; status == exit && errors.as_slice() == text.as_bytes());
     }
+}
+
+/// Whether a run of no additions writes its report, and nothing on the error stream.
+fn counts_nothing<T: Threads + Wait + Sync>(rt: &T, alloc: Global) -> bool {
+    let words = ["pciex", "run", "--requesters", "1", "--each", "0"];
+    let mut reader = b"".as_slice();
+    let mut out = Vec::new(alloc);
+    let mut errors = Vec::new(alloc);
+    let status = command(
+        rt,
+        alloc,
+        words.as_slice(),
+        false,
+        &mut reader,
+        &mut out,
+        &mut errors,
+    );
+    status == 0
+        && out.as_slice() == b"answered 0\nhistory 0\nword 0\ncheck ok\n".as_slice()
+        && errors.is_empty()
+}
+
+#[test]
+fn a_run_of_no_additions(rt: HostRuntime) {
+    assert!(rt; counts_nothing(&rt, rt.alloc()));
 }

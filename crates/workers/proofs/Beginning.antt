@@ -15,27 +15,15 @@ use Rattle.fabric_core.specs.Config.{IsNewWith}
 use Rattle.hall_core.specs.Opens.{IsUnused}
 use Rattle.hall_laws.specs.Rule.{HasConfig, newcomer}
 use Rattle.hall_core.specs.Views.{SeatView, HallView, AreNewSeats}
-use Rattle.workers.specs.declared.halt.RunHalt.{RunHalt}
-use Rattle.workers.specs.declared.halt.RunHalt.TheVariants as halts
-use Rattle.workers.specs.declared.running.RunPlan.{RunPlan}
-use Rattle.workers.specs.declared.running.Report.{Report}
+use Rattle.run_report.specs.declared.halt.RunHalt.{RunHalt}
+use Rattle.run_report.specs.declared.halt.RunHalt.TheVariants as halts
+use Rattle.run_report.specs.declared.plan.RunPlan.{RunPlan}
+use Rattle.run_report.specs.declared.report.Report.{Report}
 use Rattle.tlp_core.specs.declared.operation.Op.{Op}
 use Rattle.history_check.specs.declared.Record.{Record}
-use Rattle.workers.specs.Halts.{IsPlan, IsOfMemory, IsFlaw, IsEndBy, IsCause}
+use Rattle.run_report.specs.Halts.{IsPlan, IsOfMemory, IsFlaw, IsEndBy, IsCause}
 use Rattle.workers.specs.Running.{AreUnusedSeats, AreWorkSeats, AreDone}
 use Rattle.workers.proofs.Rows.{new_seats}
-
--- a new fabric is quiet, and nothing has acted
-pub new_is_unused : (c : Config) (f : Fabric) → IsNewWith c f → IsUnused f
-new_is_unused c f n = (
-  record {
-    inward = ap content n.inward;
-    outward = ap content n.outward;
-    up = λ i e at. ap content (n.up.each i e at);
-    down = λ i e at. ap content (n.down.each i e at);
-  },
-  ap (λ (m : State). m.entries) n.memory,
-)
 
 pub first_seats : (hall : HallView) (ss : List SeatView) → AreNewSeats hall.table_id hall.config 0 hall.config.requesters ss → AreUnusedSeats hall 1 ss
 first_seats hall ss new = new_seats hall 0 ss new.each
@@ -54,16 +42,6 @@ same_config c d f g n h k = record {
 }
 
 -- ---- the end
-
-pub flaw_ends : (c : Config) (trace : Observation) (history : List Entry) (halt : RunHalt) → IsOfMemory c trace → IsFlaw (first_flaw (claim_of trace history)) halt → IsEndBy c halt
-flaw_ends c trace history (halts.Flaw f) memory h = (trace, history, memory, h)
-flaw_ends c trace history halts.Memory memory h = tt
-flaw_ends c trace history halts.Plan memory h = absurd h
-flaw_ends c trace history halts.Turns memory h = absurd h
-flaw_ends c trace history halts.Gated memory h = absurd h
-flaw_ends c trace history (halts.Held held) memory h = absurd h
-flaw_ends c trace history (halts.Core r) memory h = absurd h
-flaw_ends c trace history halts.Missing memory h = absurd h
 
 pub ends : (p : RunPlan) (r : Result Report RunHalt) → IsPlan p → IfErr r (λ h. IsEndBy p.config h) → IfErr r (λ h. IsCause p h)
 ends p (Ok x) plan e = tt

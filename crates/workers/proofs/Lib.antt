@@ -1,4 +1,2 @@
 pub mod Beginning
 pub mod Rows
-pub mod Steps
-pub mod Waits

@@ -1,3 +1,1 @@
-pub mod Following
-pub mod Halts
 pub mod Running

@@ -6,16 +6,12 @@
 //! none. No worker but the checker can wait: its loop takes no `Wait`.
 #![tactic(auto)]
 
-mod gate;
-mod halt;
 mod parts;
-mod requester;
 mod running;
 #[cfg(test)]
 mod tests;
 mod threads;
-mod turns;
 
-pub use gate::{Gate, OpenGate};
-pub use halt::RunHalt;
-pub use running::{Report, RunPlan, run_workers, run_workers_counting};
+pub use run_report::{Report, RunHalt, RunPlan};
+pub use running::{run_workers, run_workers_counting};
+pub use worker_turns::{Gate, OpenGate};

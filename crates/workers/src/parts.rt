@@ -2,15 +2,13 @@
 ghost use Rattle.std.specs.Prelude.{◌≡◌, ◌<◌, ◌≤◌, IfSome};
 ghost use Rattle.hall_core.specs.Views.{IsSeatOf};
 
-use crate::gate::Gate;
-use crate::halt::Stop;
-use crate::turns::Turns;
 use dllp_core::Class;
 use fabric_core::{LaneName, Refusal};
 use fault_plan::Plan;
 use hall_core::{Hall, HallRefusal, WorkEvent, WorkSeat};
 use lane_core::{DllpKind, LaneRefusal};
 use std::thread;
+use worker_turns::{Gate, Stop, Turns};
 
 /// What a worker works on.
 #[derive(Clone, Copy, Debug, PartialEq, Eq)]

@@ -1,5 +1,5 @@
 use super::*;
-use crate::running::{RunPlan, run_workers};
+use crate::running::run_workers;
 use arrayvec::ArrayVec;
 use fabric_core::{Config, Refusal};
 use fault_plan::Plan;

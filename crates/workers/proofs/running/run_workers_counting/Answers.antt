@@ -1,9 +1,6 @@
 use Rattle.std.proofs.Common.{◌∙◌, ap, sym, map, length, arith}
-use Rattle.workers.proofs.Beginning.{new_is_unused, first_seats, work_seats, ends, configured, all_done}
+use Rattle.workers.proofs.Beginning.{first_seats, work_seats, ends, configured, all_done}
 use Rattle.workers.proofs.running.run_workers_counting.Goals as goal
-
-pub new-requires : goal.new-requires
-new-requires g c = new_is_unused c.args.plan.config c.in_ok-fabric.fabric c.in_ok-fabric.ensures.ok.1
 
 pub run_threads-gathered-requires-clause-seats : goal.run_threads-gathered-requires-clause-seats
 run_threads-gathered-requires-clause-seats g c κs within =

@@ -1,0 +1,6 @@
+//! The words of a command line, and what they ask for.
+#![tactic(auto)]
+
+mod words;
+
+pub use words::{Request, RequestFault, options};

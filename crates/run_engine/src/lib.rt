@@ -1,0 +1,11 @@
+//! The engine of `run`: a counter that one to seven requesters add to at once, over links that lose and
+//! corrupt packets, and a check that each addition was counted once.
+//!
+//! [`run_counting`] runs worker threads over a hall and writes what came of it.
+#![tactic(auto)]
+
+mod plan;
+mod progress;
+mod text;
+
+pub use text::run_counting;

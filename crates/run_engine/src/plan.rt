@@ -1,0 +1,78 @@
+//! The plan of a counting.
+ghost use Rattle.std.specs.Prelude.{◌≡◌, IfOk, map};
+ghost use Rattle.counting.specs.Ranges.{IsCounting};
+ghost use Rattle.tlp_core.specs.declared.operation.Op.{Op};
+ghost use Rattle.run_engine.specs.Counting.{addition, script_of, scripts_of, config_of, IsPlanOf};
+
+use counting::Counting;
+use fabric_core::Config;
+use fault_plan::Plan;
+use fc_credit::LaneCredits;
+use std::alloc::{AllocError, Global};
+use tlp_core::{Op, Width};
+use workers::RunPlan;
+
+/// Adds 1 to the first word.
+fn addition() -> Op
+    ensures { result ≡ addition }
+{
+    Op::FetchAdd {
+        address: 0,
+        width: Width::Four,
+        operand: 1,
+    }
+}
+
+/// The fabric.
+pub(crate) fn config_of(requesters: u8) -> Config
+    ensures { result ≡ config_of requesters }
+{
+    Config {
+        requesters,
+        base: 0,
+        size: 4096,
+        credits: LaneCredits::DEFAULT,
+        block: 64,
+    }
+}
+
+/// So many additions.
+fn script_of(alloc: Global, each: u64) -> Result<Vec<Op>, AllocError>
+    ensures { IfOk result (λ v. v.items ≡ script_of each) }
+{
+    let mut script = Vec::new(alloc);
+    for _place in 0..each {
+        script.push(addition())?;
+    }
+    Ok(script)
+}
+
+/// A script for each requester.
+fn scripts_of(alloc: Global, requesters: u8, each: u64) -> Result<Vec<Vec<Op>>, AllocError>
+    ensures { IfOk result (λ v. map (λ s. s.items) v.items ≡ scripts_of requesters each) }
+{
+    let mut scripts = Vec::new(alloc);
+    for _place in 0..requesters {
+        let script = script_of(alloc, each)?;
+        scripts.push(script)?;
+    }
+    Ok(scripts)
+}
+
+/// The plan of the run.
+pub(crate) fn plan_of(alloc: Global, counting: &Counting) -> Result<RunPlan, AllocError>
+    requires { IsCounting counting.now }
+    ensures { IfOk result (IsPlanOf counting.now) }
+{
+    let requesters = counting.requesters as u8;
+    let scripts = scripts_of(alloc, requesters, counting.each)?;
+    Ok(RunPlan {
+        config: config_of(requesters),
+        scripts,
+        plan: Plan {
+            lose_every: counting.lose as u32,
+            corrupt_every: counting.corrupt as u32,
+        },
+        turns: counting.turns,
+    })
+}

@@ -1,0 +1,16 @@
+//! Why a worker ends a run.
+
+use fabric_core::Refusal;
+
+/// Why a worker ends the run.
+#[derive(Clone, Copy, Debug, PartialEq, Eq)]
+pub enum Stop {
+    /// It had used up its turns.
+    Turns,
+    /// The gate let it not pass.
+    Gated,
+    /// A growth was refused, or a thread.
+    Memory,
+    /// The core's answer to a worker that can't try again.
+    Core(Refusal),
+}
