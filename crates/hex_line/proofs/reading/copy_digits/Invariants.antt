@@ -1,6 +1,6 @@
 use Rattle.std.proofs.Common.{◌≡◌, ◌≤◌, length, take}
-use Rattle.tlp_engine.specs.Tlp.{digits_of}
-use Rattle.tlp_engine.proofs.text.copy_digits.Given as goal
+use Rattle.hex_line.specs.Line.{digits_of}
+use Rattle.hex_line.proofs.reading.copy_digits.Given as goal
 
 abbrev pub invariant-loop-byte : goal.invariant-loop-byte
 invariant-loop-byte l = record {

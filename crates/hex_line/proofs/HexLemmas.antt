@@ -4,7 +4,7 @@ use Rattle.std.specs.Prelude.{IsErr}
 use Rattle.std.proofs.lemmas.Bool.{and_parts, cases_lt, eqb-true}
 use Rattle.hex.specs.Hex.{encode_with, hex_digit_value, digit_or_error, value_at, pair_value, ◌>>=◌}
 use Rattle.hex.specs.declared.error.FromHexError.{FromHexError}
-use Rattle.tlp_engine.specs.declared.text.TheConstants.{VALUES}
+use Rattle.hex_line.specs.declared.reading.TheConstants.{VALUES}
 
 -- the test that the table has the values of the first n bytes
 abbrev have_values : ℕ → Bool

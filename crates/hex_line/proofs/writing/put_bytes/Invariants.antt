@@ -1,8 +1,8 @@
 use Rattle.std.proofs.Common.{◌≡◌, ◌≤◌, ◌+◌, ◌*◌, ◌++◌, length}
 use Rattle.arrayvec.specs.ArrayVec.{array_vec_len}
 use Rattle.hex.specs.Hex.{encode_upper}
-use Rattle.tlp_engine.specs.Tlp.{spaced}
-use Rattle.tlp_engine.proofs.text.put_bytes.Given as goal
+use Rattle.hex_line.specs.Line.{spaced}
+use Rattle.hex_line.proofs.writing.put_bytes.Given as goal
 
 abbrev pub invariant-loop-rest : goal.invariant-loop-rest
 invariant-loop-rest l = record {

@@ -2,8 +2,8 @@ use Rattle.std.proofs.Common.{◌≡◌, ◌∙◌, ◌/◌, List, ℕ, true, fa
 use Rattle.std.specs.Prelude.{MatchResult, IsErr}
 use Rattle.hex.specs.Hex.{decode_of, decode_sized}
 use Rattle.hex.specs.declared.error.FromHexError.{FromHexError}
-use Rattle.tlp_engine.proofs.TextLemmas.{decode_sized-half}
-use Rattle.tlp_engine.proofs.text.read_digits.Goals as goal
+use Rattle.hex_line.proofs.TextLemmas.{decode_sized-half}
+use Rattle.hex_line.proofs.reading.read_digits.Goals as goal
 
 -- what decoding into a slice tells
 abbrev Told : Result (List ℕ) FromHexError → Result (Unit {0}) FromHexError → List ℕ → Type 0

@@ -3,9 +3,9 @@ use Rattle.std.proofs.lemmas.Grind.{common_steps}
 use Rattle.std.proofs.lemmas.List.{length-take-le}
 use Rattle.arrayvec.specs.ArrayVec.{array_vec_len}
 use Rattle.hex.specs.Hex.{encode_upper}
-use Rattle.tlp_engine.specs.Tlp.{spaced}
-use Rattle.tlp_engine.proofs.TextLemmas.{spaced-encode_more, spaced-encode_last}
-use Rattle.tlp_engine.proofs.text.put_bytes.Goals as goal
+use Rattle.hex_line.specs.Line.{spaced}
+use Rattle.hex_line.proofs.TextLemmas.{spaced-encode_more, spaced-encode_last}
+use Rattle.hex_line.proofs.writing.put_bytes.Goals as goal
 
 -- all that is left behind a place
 left : (xs : List ℕ) (n : ℕ) → take (length xs - n) (drop n xs) ≡ drop n xs

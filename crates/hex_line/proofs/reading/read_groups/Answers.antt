@@ -6,9 +6,9 @@ use Rattle.std.proofs.lemmas.List.{append-nil, take_more_set, length-set}
 use Rattle.hex.specs.Hex.{decode_of, decode_pairs, pair_value}
 use Rattle.hex.proofs.Pairs.{prepend, prepend-cons_byte, decode_pairs-ok_pair, cons_byte}
 use Rattle.hex.proofs.HexLemmas.{decode_of-even}
-use Rattle.tlp_engine.specs.Tlp.{digits_of}
-use Rattle.tlp_engine.proofs.HexLemmas.{pair_value-no_space}
-use Rattle.tlp_engine.proofs.text.read_groups.Goals as goal
+use Rattle.hex_line.specs.Line.{digits_of}
+use Rattle.hex_line.proofs.HexLemmas.{pair_value-no_space}
+use Rattle.hex_line.proofs.reading.read_groups.Goals as goal
 
 -- what stands behind eight
 abbrev after : List ℕ → List ℕ

@@ -1,8 +1,8 @@
 use Rattle.std.proofs.Common.{◌≡◌, ◌≤◌, ◌+◌, ◌*◌, ◌%◌, take, length}
 use Rattle.hex.specs.Hex.{decode_pairs}
 use Rattle.hex.proofs.Pairs.{prepend}
-use Rattle.tlp_engine.specs.Tlp.{digits_of}
-use Rattle.tlp_engine.proofs.text.read_groups.Given as goal
+use Rattle.hex_line.specs.Line.{digits_of}
+use Rattle.hex_line.proofs.reading.read_groups.Given as goal
 
 abbrev pub invariant-loop-rest : goal.invariant-loop-rest
 invariant-loop-rest l = record {

@@ -1,7 +1,7 @@
 use Rattle.std.proofs.Common.{◌≡◌, ◌+◌, ◌*◌, ◌++◌, take}
 use Rattle.arrayvec.specs.ArrayVec.{array_vec_len}
 use Rattle.hex.specs.Hex.{encode_upper}
-use Rattle.tlp_engine.proofs.text.put_digits.Given as goal
+use Rattle.hex_line.proofs.writing.put_digits.Given as goal
 
 abbrev pub invariant-loop-byte : goal.invariant-loop-byte
 invariant-loop-byte l = record {

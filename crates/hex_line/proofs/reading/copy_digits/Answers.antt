@@ -3,9 +3,9 @@ use Rattle.std.proofs.Math.ListN.{set}
 use Rattle.std.proofs.lemmas.Bool.Decides.{nat_tests}
 use Rattle.std.proofs.lemmas.List.{take_more, take_more_set, take-set, append-nil}
 use Rattle.std.proofs.lemmas.List.Elements.{filter-append}
-use Rattle.tlp_engine.specs.Tlp.{digits_of}
-use Rattle.tlp_engine.proofs.text.copy_digits.Goals as goal
-use Rattle.tlp_engine.proofs.text.copy_digits.Goals.{then-byte-ne32, else-byte-ne32}
+use Rattle.hex_line.specs.Line.{digits_of}
+use Rattle.hex_line.proofs.reading.copy_digits.Goals as goal
+use Rattle.hex_line.proofs.reading.copy_digits.Goals.{then-byte-ne32, else-byte-ne32}
 
 -- one more byte of the line
 one : (line : List ℕ) (i : ℕ) → i < length line → digits_of (take (i + 1) line) ≡ digits_of (take i line) ++ digits_of (get_or line i 0 ∷ [])

@@ -1,8 +1,8 @@
 use Rattle.std.proofs.Common.{◌≡◌, ◌∙◌, ◌++◌, ◌∷◌, ◌<◌, ◌+◌, ◌/◌, ◌%◌, List, ℕ, [], length, take, get_or, sym, ap, append_assoc, arith, add-zero}
 use Rattle.std.proofs.lemmas.List.{append-nil, take_more}
 use Rattle.hex.specs.Hex.{encode_upper, encode_with, upper_digits}
-use Rattle.tlp_engine.proofs.HexLemmas.{encode_with-append, encode_with-one}
-use Rattle.tlp_engine.proofs.text.put_digits.Goals as goal
+use Rattle.hex_line.proofs.HexLemmas.{encode_with-append, encode_with-one}
+use Rattle.hex_line.proofs.writing.put_digits.Goals as goal
 
 -- one byte more
 done : (text was half now bytes : List ℕ) (i high low : ℕ) → i < length bytes
