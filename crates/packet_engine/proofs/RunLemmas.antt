@@ -1,8 +1,8 @@
 -- What `decode` writes of packets is read by `encode`, line by line.
-use Rattle.std.proofs.Common.{◌≡◌, ◌≢◌, ◌<◌, ◌≤◌, ◌+◌, ◌-◌, ℕ, Bool, true, false, List, [], ◌∷◌, ◌++◌, ◌∙◌, ◌==◌, if◌then◌else◌, length, take, slice_index, get_or, refl, ap, ap₂, sym, subst, append_assoc, arith, fold, All, nat_lt, inl, inr, Result, Ok, Err}
+use Rattle.std.proofs.Common.{◌≡◌, ◌≢◌, ◌≤◌, ◌-◌, ℕ, Bool, true, false, List, [], ◌∷◌, ◌++◌, ◌∙◌, ◌==◌, if◌then◌else◌, length, take, get_or, refl, ap, sym, subst, append_assoc, arith, fold, All, nat_lt, inl, inr, Result, Ok, Err}
 use Rattle.std.specs.Prelude.{flat_map}
 use Rattle.std.specs.Io.BufRead.{ends_with_byte, strip_last}
-use Rattle.std.proofs.lemmas.Bool.{cases_Bool, ne_eqb}
+use Rattle.std.proofs.lemmas.Bool.{cases_Bool}
 use Rattle.std.proofs.lemmas.Bool.Decides.{nat_tests}
 use Rattle.std.proofs.lemmas.Grind.{common_steps, flat_map-append}
 use Rattle.std.proofs.lemmas.List.{append-nil}
@@ -20,7 +20,7 @@ use Rattle.packet_text.specs.Lines.{BeginsWithLetter}
 use Rattle.packet_text.specs.Forms.{text_reading}
 use Rattle.hex_line.specs.Line.{digits_of}
 use Rattle.line_engine.specs.Lines.{lines_of, bare, said}
-use Rattle.line_engine.specs.Run.{Answer, Responses, Run, answer_to, after_line, with_answer, new_run, run_of}
+use Rattle.line_engine.specs.Run.{Answer, Run, answer_to, after_line, with_answer, new_run}
 use Rattle.packet_engine.specs.Lines.{State, told, bytes_text, decode_line, decode_bytes, decode_reading, decode_responses, out_decode, encode_line, encode_reading, encode_responses, out_encode}
 use Rattle.packet_engine.specs.Runs.{of_reading, of_bytes, of_said, of_line, packets_in, words_lines, bytes_lines}
 

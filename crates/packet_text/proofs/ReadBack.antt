@@ -1,12 +1,12 @@
 -- The text of a packet is read back as that packet.
-use Rattle.std.proofs.Common.{◌≡◌, ◌≢◌, ℕ, suc, ◌+◌, ◌*◌, ◌/◌, ◌%◌, ◌^◌, ◌<◌, ◌≤◌, Bool, true, false, List, [], ◌∷◌, ◌++◌, length, refl, sym, ap, ap₂, subst, ◌∙◌, append_assoc, inl, inr, arith, Option, Some, None, slice_index}
-use Rattle.std.specs.Prelude.{◌==◌, ◌||◌, not, nat_lt, codes, bytes_eq, Result, Ok, Err, ◌⊎◌, if◌then◌else◌}
+use Rattle.std.proofs.Common.{◌≡◌, ◌≢◌, ℕ, suc, ◌+◌, ◌*◌, ◌/◌, ◌%◌, ◌<◌, ◌≤◌, Bool, true, false, List, [], ◌∷◌, ◌++◌, length, refl, sym, ap, ap₂, subst, ◌∙◌, append_assoc, inl, inr, arith, Option, Some, None}
+use Rattle.std.specs.Prelude.{◌==◌, ◌||◌, not, nat_lt, codes, bytes_eq, Result, Ok, ◌⊎◌, if◌then◌else◌}
 use Rattle.std.specs.Fmt.{decimal, digit_glyph}
 use Rattle.std.proofs.lemmas.Fmt.{decimal_digit}
 use Rattle.std.proofs.lemmas.Bool.{eqb-true, ne_eqb}
 use Rattle.std.proofs.lemmas.Bool.Decides.{nat_tests}
 use Rattle.std.proofs.lemmas.Slice.Eq.{bytes_eq-Decides}
-use Rattle.hex.specs.Hex.{encode_upper, encode_with, upper_digits, decode_pairs}
+use Rattle.hex.specs.Hex.{encode_upper, encode_with, decode_pairs}
 use Rattle.tlp_core.specs.declared.packet.Kind.{Kind}
 use Rattle.tlp_core.specs.declared.packet.Kind.TheVariants as kinds
 use Rattle.tlp_core.specs.declared.packet.Body.{Body}
@@ -16,7 +16,6 @@ use Rattle.tlp_core.specs.declared.packet.Status.TheVariants as statuses
 use Rattle.tlp_core.specs.declared.fault.TlpFault.{TlpFault}
 use Rattle.tlp_core.specs.Bits.{IsBytes}
 use Rattle.tlp_core.specs.Packet as tlp
-use Rattle.tlp_core.specs.Operation.{op_at, op_fault, is_completion}
 use Rattle.dllp_core.specs.declared.packet.Class.{Class}
 use Rattle.dllp_core.specs.declared.packet.Class.TheVariants as classes
 use Rattle.dllp_core.specs.declared.packet.Dllp.{Dllp}
@@ -30,7 +29,7 @@ use Rattle.packet_text.specs.declared.packet.Packet.{Packet}
 use Rattle.packet_text.specs.declared.packet.Packet.TheVariants as packets
 use Rattle.packet_text.specs.declared.origin.Origin.{Origin}
 use Rattle.packet_text.specs.Packets.{IsPacket, IsTlp}
-use Rattle.packet_text.specs.Texts.{octet_text, sequence_text, id_text, named, class_text, origin_text, request_text, status_text, data_text, completer_text, completion_text, tlp_text_by, tlp_text, credits_text, dllp_text, packet_text}
+use Rattle.packet_text.specs.Texts.{octet_text, sequence_text, id_text, named, class_text, status_text, completer_text, tlp_text_by, tlp_text, credits_text, dllp_text, packet_text}
 use Rattle.packet_text.specs.Forms as forms
 use Rattle.packet_text.specs.Forms.{text_reading, tlp_read, request_of, request_by, unless}
 use Rattle.packet_text.proofs.WordLemmas.{Lacks, lacks, lacks-is, lacks-append, IsPart, part, IsTail, tail-none, tail-last, tail-word}

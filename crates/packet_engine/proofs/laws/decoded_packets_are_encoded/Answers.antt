@@ -1,5 +1,4 @@
 use Rattle.std.proofs.Common.{◌≡◌, ◌∙◌, List, ℕ, ap}
-use Rattle.line_engine.specs.Run.{Run}
 use Rattle.packet_engine.specs.Lines.{out_decode, out_encode}
 use Rattle.packet_engine.specs.Runs.{packets_in, bytes_lines, IsDecoded}
 use Rattle.packet_engine.proofs.RunLemmas.{Texts, decoded-words, encoded-words}
