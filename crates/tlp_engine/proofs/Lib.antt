@@ -1,3 +1,2 @@
 pub mod TextLemmas
 pub mod RequestLemmas
-pub mod HexLemmas

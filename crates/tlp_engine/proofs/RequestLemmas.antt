@@ -19,7 +19,8 @@ use Rattle.seq_memory.specs.History.{State}
 use Rattle.completer_core.specs.Serving.{after_serving, with_entry, entry_of}
 use Rattle.hex.specs.Hex.{decode_of}
 use Rattle.hex.specs.declared.error.FromHexError.{FromHexError}
-use Rattle.tlp_engine.specs.Tlp.{count_of, answer_request, answer_line, answer_bytes, answer_reading, fault, digits_of}
+use Rattle.hex_line.specs.Line.{digits_of}
+use Rattle.tlp_engine.specs.Tlp.{count_of, answer_request, answer_line, answer_bytes, answer_reading, fault}
 
 -- the operation of a request
 asked : (k : Kind) (body : Body) (dw given : ℕ) (bytes : List ℕ) → FitsKind k body dw given → is_completion k ≡ false → (op : Op) × (op_at k body dw bytes ≡ Some op)

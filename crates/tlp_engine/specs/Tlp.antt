@@ -1,5 +1,5 @@
 -- What `tlp` answers to a line of its input.
-use Rattle.std.specs.Prelude.{ℕ, ◌/◌, List, [], ◌∷◌, ◌++◌, ◌==◌, if◌then◌else◌, true, false, not, count_by, filter, codes, Option, Some, None, Result, Ok, Err}
+use Rattle.std.specs.Prelude.{ℕ, ◌/◌, List, [], ◌∷◌, ◌++◌, ◌==◌, if◌then◌else◌, true, false, count_by, codes, Option, Some, None, Result, Ok, Err}
 use Rattle.std.specs.Fmt.{decimal}
 use Rattle.hex.specs.Hex.{decode_of, encode_upper}
 use Rattle.hex.specs.declared.error.FromHexError.{FromHexError}
@@ -12,14 +12,10 @@ use Rattle.tlp_core.specs.Operation.{is_completion}
 use Rattle.seq_memory.specs.declared.Entry.{Entry}
 use Rattle.seq_memory.specs.History.{State}
 use Rattle.completer_core.specs.Serving.{after_serving, completion_to}
+use Rattle.hex_line.specs.Line.{digits_of, spaced}
 use Rattle.line_engine.specs.Run.{Answer, Responses, Run, run_of}
 
 -- ---- texts
-
--- digits in groups of eight, with a space between each two
-unfoldable pub spaced : List ℕ → List ℕ
-spaced (a ∷ b ∷ c ∷ d ∷ e ∷ f ∷ g ∷ h ∷ i ∷ rest) = (a ∷ b ∷ c ∷ d ∷ e ∷ f ∷ g ∷ h ∷ []) ++ 32 ∷ spaced (i ∷ rest)
-spaced digits = digits
 
 -- the bytes of the completion, in capitals in groups of four bytes; `-` where there is none
 abbrev pub completion_text : Option Packet → List ℕ
@@ -28,10 +24,6 @@ completion_text (Some t) = spaced (encode_upper (canonical t))
 
 abbrev pub fault_text : TlpFault → List ℕ
 fault_text f = codes "fault " ++ decimal (number_of f) ++ 32 ∷ name_of f
-
--- spaces are ignored
-abbrev pub digits_of : List ℕ → List ℕ
-digits_of line = filter (λ b. not (b == 32)) line
 
 -- ---- answers
 

@@ -7,9 +7,10 @@ ghost use Rattle.completer_core.specs.Serving.{after_serving, completion_to};
 ghost use Rattle.line_engine.specs.Run.{IsAnswer, IsWhole, IsPart};
 ghost use Rattle.tlp_engine.specs.Tlp.{new_state, out_tlp, answer_request, answer_packet, answer_reading, count_of, fault_text, completion_text};
 
-use crate::text::{HexLine, put_fault, put_packet};
+use crate::text::{put_fault, put_packet};
 use arrayvec::ArrayVec;
 use completer_core::serve;
+use hex_line::HexLine;
 use line_engine::{EngineFault, Responder, run};
 use seq_memory::Memory;
 use std::alloc::{AllocError, Global};

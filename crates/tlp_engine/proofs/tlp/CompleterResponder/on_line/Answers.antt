@@ -3,7 +3,8 @@ use Rattle.std.proofs.lemmas.Result.{IfOk-weaker}
 use Rattle.tlp_core.specs.Faults.{reading}
 use Rattle.seq_memory.specs.History.{State}
 use Rattle.line_engine.specs.Run.{Answer, IsAnswer}
-use Rattle.tlp_engine.specs.Tlp.{digits_of, answer_line, answer_reading}
+use Rattle.hex_line.specs.Line.{digits_of}
+use Rattle.tlp_engine.specs.Tlp.{answer_line, answer_reading}
 use Rattle.tlp_engine.proofs.RequestLemmas.{line-read}
 use Rattle.tlp_engine.proofs.tlp.CompleterResponder.on_line.Goals as goal
 

@@ -1,0 +1,77 @@
+//! The subcommand `decode`: bytes to words.
+ghost use Rattle.std.specs.Prelude.{◌≡◌, IfOk, OnErr};
+ghost use Rattle.packet_text.specs.Packets.{reading};
+ghost use Rattle.line_engine.specs.Run.{IsAnswer, IsWhole, IsPart};
+ghost use Rattle.packet_engine.specs.Lines.{out_decode, decode_reading};
+
+use crate::telling::{tell, tell_bytes_fault, tell_words};
+use hex_line::HexLine;
+use line_engine::{EngineFault, Responder, run};
+use packet_text::decode;
+use std::alloc::{AllocError, Global};
+use std::io::{Read, Write};
+use std::marker::Model;
+
+/// Room for the bytes of a line, used again and again.
+#[derive(Drop)]
+struct Decoder {
+    line: HexLine,
+}
+
+impl Model for Decoder {
+    ghost use Rattle.packet_engine.specs.Lines.{State};
+
+    ghost Value = { State };
+
+    ghost view = { λ _. tt };
+}
+
+/// Answers the bytes of a line.
+fn answer(bytes: &[u8], out: &mut Vec<u8>) -> Result<bool, AllocError>
+    ensures ok { IfOk result (λ told. IsAnswer tt out.old.items out.new.items told (decode_reading (reading bytes.now))) }
+    ensures err { OnErr result (out.new.items ≡ out.old.items) }
+{
+    match decode(bytes) {
+        Ok(packet) => tell_words(&packet, out),
+        Err(fault) => tell_bytes_fault(fault, out),
+    }
+}
+
+impl Responder for Decoder {
+    ghost use Rattle.packet_engine.specs.Lines.{decode_responses};
+
+    ghost responses = { decode_responses };
+
+    fn on_line(&mut self, line: &[u8], out: &mut Vec<u8>) -> Result<bool, AllocError> {
+        if line.is_empty() || line[0] == b'#' {
+            return Ok(false);
+        }
+        if !self.line.read(line) {
+            return tell(b"fault hex\n", out);
+        }
+        answer(self.line.bytes(), out)
+    }
+
+    fn on_long_line(&mut self, out: &mut Vec<u8>) -> Result<bool, AllocError> {
+        tell(b"fault line\n", out)
+    }
+
+    fn on_end(&mut self, _out: &mut Vec<u8>) -> Result<bool, AllocError> {
+        Ok(false)
+    }
+}
+
+/// Answers each line of the reader's input with a line: it holds the bytes of a DLLP, where they are
+/// four, or else of a TLP. The answer is the packet's text, or a fault. `Ok` is the exit status, 1
+/// where a fault was told. After an `Err` what was written is a beginning of the whole output.
+pub fn run_decode<R: Read, W: Write>(
+    alloc: Global,
+    reader: &mut R,
+    writer: &mut W,
+) -> Result<u8, EngineFault>
+    ensures ok { IfOk result (IsWhole out_decode (R.remaining reader.old) (R.remaining reader.new) (W.contents writer.old) (W.contents writer.new)) }
+    ensures err { OnErr result (IsPart out_decode (R.remaining reader.old) (R.remaining reader.new) (W.contents writer.old) (W.contents writer.new)) }
+{
+    let line = HexLine::new();
+    run(alloc, Decoder { line }, reader, writer)
+}

@@ -1,0 +1,70 @@
+//! The subcommand `encode`: words to bytes.
+ghost use Rattle.std.specs.Prelude.{◌≡◌, IfOk, OnErr};
+ghost use Rattle.packet_text.specs.Forms.{text_reading};
+ghost use Rattle.line_engine.specs.Run.{IsAnswer, IsWhole, IsPart};
+ghost use Rattle.packet_engine.specs.Lines.{out_encode, encode_reading};
+
+use crate::telling::{tell, tell_bytes, tell_text_fault};
+use line_engine::{EngineFault, Responder, run};
+use packet_text::read_packet;
+use std::alloc::{AllocError, Global};
+use std::io::{Read, Write};
+use std::marker::Model;
+
+/// Nothing is remembered from line to line.
+#[derive(Drop)]
+struct Encoder {}
+
+impl Model for Encoder {
+    ghost use Rattle.packet_engine.specs.Lines.{State};
+
+    ghost Value = { State };
+
+    ghost view = { λ _. tt };
+}
+
+/// Answers the words of a line.
+fn answer(line: &[u8], out: &mut Vec<u8>) -> Result<bool, AllocError>
+    ensures ok { IfOk result (λ told. IsAnswer tt out.old.items out.new.items told (encode_reading (text_reading line.now))) }
+    ensures err { OnErr result (out.new.items ≡ out.old.items) }
+{
+    match read_packet(line) {
+        Ok(packet) => tell_bytes(&packet, out),
+        Err(fault) => tell_text_fault(fault, out),
+    }
+}
+
+impl Responder for Encoder {
+    ghost use Rattle.packet_engine.specs.Lines.{encode_responses};
+
+    ghost responses = { encode_responses };
+
+    fn on_line(&mut self, line: &[u8], out: &mut Vec<u8>) -> Result<bool, AllocError> {
+        if line.is_empty() || line[0] == b'#' {
+            return Ok(false);
+        }
+        answer(line, out)
+    }
+
+    fn on_long_line(&mut self, out: &mut Vec<u8>) -> Result<bool, AllocError> {
+        tell(b"fault line\n", out)
+    }
+
+    fn on_end(&mut self, _out: &mut Vec<u8>) -> Result<bool, AllocError> {
+        Ok(false)
+    }
+}
+
+/// Answers each line of the reader's input with a line: it has the text of a packet. The answer is
+/// the packet's canonical bytes, in capitals in groups of four, or a fault. `Ok` is the exit status,
+/// 1 where a fault was told. After an `Err` what was written is a beginning of the whole output.
+pub fn run_encode<R: Read, W: Write>(
+    alloc: Global,
+    reader: &mut R,
+    writer: &mut W,
+) -> Result<u8, EngineFault>
+    ensures ok { IfOk result (IsWhole out_encode (R.remaining reader.old) (R.remaining reader.new) (W.contents writer.old) (W.contents writer.new)) }
+    ensures err { OnErr result (IsPart out_encode (R.remaining reader.old) (R.remaining reader.new) (W.contents writer.old) (W.contents writer.new)) }
+{
+    run(alloc, Encoder {}, reader, writer)
+}

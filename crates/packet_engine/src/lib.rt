@@ -1,0 +1,19 @@
+//! The engines of `decode` and `encode`: lines of bytes in, lines of words out, and back.
+//!
+//! [`run_decode`] reads a TLP or a DLLP a line in hexadecimal digits and writes it in words,
+//! [`run_encode`] reads such words and writes the canonical bytes. Both go over any reader and
+//! writer, a block of input at a time.
+#![tactic(auto)]
+
+mod decoder;
+mod encoder;
+#[cfg(test)]
+mod example_tests;
+mod laws;
+mod telling;
+#[cfg(test)]
+mod tests;
+
+pub use decoder::run_decode;
+pub use encoder::run_encode;
+pub use laws::decoded_packets_are_encoded;

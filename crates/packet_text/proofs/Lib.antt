@@ -1,0 +1,10 @@
+pub mod TextLemmas
+pub mod DigitLemmas
+pub mod CutLemmas
+pub mod WordLemmas
+pub mod NumberLemmas
+pub mod RequestLemmas
+pub mod OpLemmas
+pub mod ReadBack
+pub mod BytesLemmas
+pub mod LineLemmas

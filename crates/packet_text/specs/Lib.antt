@@ -1,0 +1,4 @@
+pub mod Packets
+pub mod Texts
+pub mod Forms
+pub mod Lines

@@ -1,0 +1,124 @@
+-- The text of a packet: one line of words.
+use Rattle.std.specs.Prelude.{ℕ, ◌/◌, ◌%◌, ◌==◌, true, if◌then◌else◌, List, [], ◌∷◌, ◌++◌, codes, Option, Some, None}
+use Rattle.std.specs.Fmt.{decimal, digit_glyph}
+use Rattle.hex.specs.Hex.{encode_upper}
+use Rattle.tlp_core.specs.declared.operation.Op.{Op}
+use Rattle.tlp_core.specs.declared.packet.Kind.{Kind}
+use Rattle.tlp_core.specs.declared.packet.Kind.TheVariants as kinds
+use Rattle.tlp_core.specs.declared.packet.Body.{Body}
+use Rattle.tlp_core.specs.declared.packet.Body.TheVariants as bodies
+use Rattle.tlp_core.specs.declared.packet.Status.{Status}
+use Rattle.tlp_core.specs.declared.packet.Status.TheVariants as statuses
+use Rattle.tlp_core.specs.declared.fault.TlpFault.{TlpFault}
+use Rattle.tlp_core.specs.Fault as tlp_fault
+use Rattle.tlp_core.specs.Operation.{op_of}
+use Rattle.tlp_core.specs.Packet as tlp
+use Rattle.dllp_core.specs.declared.packet.Class.{Class}
+use Rattle.dllp_core.specs.declared.packet.Class.TheVariants as classes
+use Rattle.dllp_core.specs.declared.packet.Dllp.{Dllp}
+use Rattle.dllp_core.specs.declared.packet.Dllp.TheVariants as dllps
+use Rattle.dllp_core.specs.declared.fault.DllpFault.{DllpFault}
+use Rattle.dllp_core.specs.declared.fault.DllpFault.TheVariants as dllp_faults
+use Rattle.dllp_core.specs.Faults as dllp_fault
+use Rattle.trace_text.specs.Texts.{op_text}
+use Rattle.packet_text.specs.declared.packet.Packet.{Packet}
+use Rattle.packet_text.specs.declared.packet.Packet.TheVariants as packets
+use Rattle.packet_text.specs.declared.fault.BytesFault.{BytesFault}
+use Rattle.packet_text.specs.declared.fault.BytesFault.TheVariants as bytes_faults
+use Rattle.packet_text.specs.declared.fault.TextFault.{TextFault}
+use Rattle.packet_text.specs.declared.fault.TextFault.TheVariants as text_faults
+
+-- ---- numbers with all their digits, hexadecimal and in capitals
+
+-- a tag, a Lower Address
+abbrev pub octet_text : ℕ → List ℕ
+octet_text n = digit_glyph true (n / 16) ∷ digit_glyph true (n % 16) ∷ []
+
+-- a sequence number
+abbrev pub sequence_text : ℕ → List ℕ
+sequence_text n = digit_glyph true (n / 256) ∷ octet_text (n % 256)
+
+-- a Requester ID, a Completer ID
+abbrev pub id_text : ℕ → List ℕ
+id_text n = octet_text (n / 256) ++ octet_text (n % 256)
+
+-- ---- TLPs
+
+-- a name and its number, nothing for 0
+abbrev pub named : List ℕ → ℕ → List ℕ
+named name n = if n == 0 then [] else name ++ decimal n
+
+-- Traffic Class and attributes, those that are not 0
+abbrev pub class_text : ℕ → ℕ → List ℕ
+class_text tc attr = named (codes " tc ") tc ++ named (codes " attr ") attr
+
+-- whose request it is
+abbrev pub origin_text : tlp.Packet → List ℕ
+origin_text t = id_text t.requester ++ (codes " tag " ++ octet_text t.tag)
+
+abbrev pub request_text : tlp.Packet → Op → List ℕ
+request_text t op = op_text op ++ (codes " from " ++ (origin_text t ++ class_text t.tc t.attr))
+
+abbrev pub status_text : Status → List ℕ
+status_text statuses.Success = codes "sc"
+status_text statuses.Unsupported = codes "ur"
+status_text statuses.Aborted = codes "ca"
+
+-- the data of a completion, where its kind has data
+abbrev pub data_text : Kind → List ℕ → List ℕ
+data_text kinds.CompletionData bytes = 32 ∷ encode_upper bytes
+data_text _ bytes = []
+
+-- Completer ID, Byte Count and Lower Address
+abbrev pub completer_text : ℕ → ℕ → ℕ → List ℕ
+completer_text completer count lower = codes " by " ++ (id_text completer ++ (codes " count " ++ (decimal count ++ (codes " lower " ++ octet_text lower))))
+
+abbrev pub completion_text : tlp.Packet → Body → List ℕ
+completion_text t (bodies.Completion completer status count lower) =
+    codes "completion " ++ (status_text status ++ (data_text t.kind t.payload ++ (codes " to " ++ (origin_text t
+    ++ (completer_text completer count lower ++ class_text t.tc t.attr)))))
+completion_text t (bodies.Request a f l) = []
+
+abbrev pub tlp_text_by : Option Op → tlp.Packet → List ℕ
+tlp_text_by (Some op) t = request_text t op
+tlp_text_by None t = completion_text t t.body
+
+abbrev pub tlp_text : tlp.Packet → List ℕ
+tlp_text t = tlp_text_by (op_of t) t
+
+-- ---- DLLPs
+
+abbrev pub credits_text : Class → List ℕ
+credits_text classes.Posted = codes "p"
+credits_text classes.NonPosted = codes "np"
+credits_text classes.Completion = codes "cpl"
+
+abbrev pub dllp_text : Dllp → List ℕ
+dllp_text (dllps.Ack n) = codes "ack " ++ sequence_text n
+dllp_text (dllps.Nak n) = codes "nak " ++ sequence_text n
+dllp_text (dllps.Update class header units) = codes "update " ++ (credits_text class ++ 32 ∷ (decimal header ++ 32 ∷ decimal units))
+
+abbrev pub packet_text : Packet → List ℕ
+packet_text (packets.Tlp t) = tlp_text t
+packet_text (packets.Dllp d) = dllp_text d
+
+-- ---- faults
+
+abbrev pub fault_text : ℕ → List ℕ → List ℕ
+fault_text number name = codes "fault " ++ (decimal number ++ 32 ∷ name)
+
+abbrev pub tlp_fault_text : TlpFault → List ℕ
+tlp_fault_text f = fault_text (tlp_fault.number_of f) (tlp_fault.name_of f)
+
+abbrev pub dllp_fault_name : DllpFault → List ℕ
+dllp_fault_name dllp_faults.Short = codes "Short"
+dllp_fault_name dllp_faults.Kind = codes "Kind"
+dllp_fault_name dllp_faults.Scaled = codes "Scaled"
+
+abbrev pub bytes_fault_text : BytesFault → List ℕ
+bytes_fault_text (bytes_faults.Tlp f) = tlp_fault_text f
+bytes_fault_text (bytes_faults.Dllp f) = fault_text (dllp_fault.number_of f) (dllp_fault_name f)
+
+abbrev pub text_fault_text : TextFault → List ℕ
+text_fault_text text_faults.Words = codes "fault words"
+text_fault_text (text_faults.Packet f) = tlp_fault_text f

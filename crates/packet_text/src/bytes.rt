@@ -1,0 +1,42 @@
+//! Packets of both kinds and their bytes.
+ghost use Rattle.std.specs.Prelude.{◌≡◌, IfOk};
+ghost use Rattle.packet_text.specs.Packets as packets;
+
+use crate::fault::BytesFault;
+use crate::packet::Packet;
+use arrayvec::ArrayVec;
+use tlp_core::MAX_TLP;
+
+/// The packet that the bytes spell, or the first of their faults: four bytes are read as a DLLP, and
+/// any other number as a TLP. Takes no memory.
+pub fn decode(bytes: &[u8]) -> Result<Packet, BytesFault>
+    ensures value { result ≡ packets.reading bytes.now }
+    ensures in_range { IfOk result packets.FitsDataFC }
+{
+    if bytes.len() == 4 {
+        match dllp_core::decode(bytes) {
+            Ok(dllp) => Ok(Packet::Dllp(dllp)),
+            Err(fault) => Err(BytesFault::Dllp(fault)),
+        }
+    } else {
+        match tlp_core::decode(bytes) {
+            Ok(tlp) => Ok(Packet::Tlp(tlp)),
+            Err(fault) => Err(BytesFault::Tlp(fault)),
+        }
+    }
+}
+
+/// Fills the buffer with the canonical bytes of the packet, whatever it held. The data credits of an
+/// UpdateFC are below 4096. Takes no memory.
+pub fn encode(packet: &Packet, out: &mut ArrayVec<u8, MAX_TLP>)
+    requires { packets.FitsDataFC packet.now }
+    ensures { out.new.items ≡ packets.canonical packet.now }
+{
+    match packet {
+        Packet::Tlp(tlp) => tlp_core::encode(tlp, out),
+        Packet::Dllp(dllp) => {
+            out.clear();
+            let _ = out.try_extend_from_slice(&dllp_core::encode(dllp));
+        }
+    }
+}

@@ -1,0 +1,188 @@
+//! The fields of a packet's line.
+ghost use Rattle.std.specs.Prelude.{◌≡◌, ◌<◌, ◌≤◌, [], ◌∷◌, option_map, IfSome, MatchOption};
+ghost use Rattle.trace_text.specs.Words.{words_behind, first_field};
+ghost use Rattle.trace_text.specs.Numbers.{byte_string};
+ghost use Rattle.packet_text.specs.Forms as forms;
+
+use arrayvec::ArrayVec;
+use dllp_core::Class;
+use tlp_core::{MAX_PAYLOAD, Status};
+use trace_text::{cut, number};
+
+/// The next word, and what is behind it; none at the end of the line.
+pub(crate) fn next(rest: Option<&[u8]>) -> Option<(&[u8], Option<&[u8]>)>
+    ensures { MatchOption result (words_behind rest.entry ≡ []) (λ s. words_behind rest.entry ≡ s.0.now ∷ words_behind s.1) }
+{
+    Some(cut(rest?))
+}
+
+/// What is behind the next word, which has to be this one.
+pub(crate) fn keyword<'a>(rest: Option<&'a [u8]>, name: &[u8]) -> Option<Option<&'a [u8]>>
+    ensures { forms.behind name.now (words_behind rest.entry) ≡ option_map (λ s. words_behind s) result }
+{
+    let (word, rest) = next(rest)?;
+    if word == name { Some(rest) } else { None }
+}
+
+/// The number below 8 behind the next word, which is this name, or 0 where it is not; and what is
+/// behind it.
+pub(crate) fn named<'a>(rest: Option<&'a [u8]>, name: &[u8]) -> Option<(u8, Option<&'a [u8]>)>
+    ensures value { forms.named name.now (words_behind rest.entry) ≡ option_map (λ s. (s.0, words_behind s.1)) result }
+    ensures range { IfSome result (λ s. s.0 < 8) }
+{
+    let Some((word, behind)) = next(rest) else {
+        return Some((0, None));
+    };
+    if word != name {
+        return Some((0, rest));
+    }
+    let (value, behind) = number(behind, 10, 7)?;
+    Some((value as u8, behind))
+}
+
+/// The value of a hexadecimal digit.
+fn digit(c: u8) -> Option<u8>
+    ensures value { result ≡ forms.digit c }
+    ensures range { IfSome result (λ n. n < 16) }
+{
+    Some(char::from(c).to_digit(16)? as u8)
+}
+
+fn octet_in(word: &[u8]) -> Option<u8>
+    ensures { result ≡ forms.octet word.now }
+{
+    match word {
+        [high, low] => Some(digit(*high)? * 16 + digit(*low)?),
+        _ => None,
+    }
+}
+
+fn sequence_in(word: &[u8]) -> Option<u16>
+    ensures value { result ≡ forms.sequence word.now }
+    ensures range { IfSome result (λ n. n < 4096) }
+{
+    match word {
+        [high, low @ ..] if low.len() == 2 => {
+            let high = digit(*high)?;
+            Some(u16::from(high) * 256 + u16::from(octet_in(low)?))
+        }
+        _ => None,
+    }
+}
+
+fn id_in(word: &[u8]) -> Option<u16>
+    ensures { result ≡ forms.id word.now }
+{
+    if word.len() != 4 {
+        return None;
+    }
+    let high = octet_in(&word[..2])?;
+    let low = octet_in(&word[2..])?;
+    Some(u16::from(high) * 256 + u16::from(low))
+}
+
+/// A tag.
+pub(crate) fn octet(rest: Option<&[u8]>) -> Option<(u8, Option<&[u8]>)>
+    ensures { first_field forms.octet (words_behind rest.entry) ≡ option_map (λ s. (s.0, words_behind s.1)) result }
+{
+    let (word, rest) = next(rest)?;
+    Some((octet_in(word)?, rest))
+}
+
+/// A sequence number.
+pub(crate) fn sequence(rest: Option<&[u8]>) -> Option<(u16, Option<&[u8]>)>
+    ensures value { first_field forms.sequence (words_behind rest.entry) ≡ option_map (λ s. (s.0, words_behind s.1)) result }
+    ensures range { IfSome result (λ s. s.0 < 4096) }
+{
+    let (word, rest) = next(rest)?;
+    Some((sequence_in(word)?, rest))
+}
+
+/// A Requester ID or Completer ID.
+pub(crate) fn id(rest: Option<&[u8]>) -> Option<(u16, Option<&[u8]>)>
+    ensures { first_field forms.id (words_behind rest.entry) ≡ option_map (λ s. (s.0, words_behind s.1)) result }
+{
+    let (word, rest) = next(rest)?;
+    Some((id_in(word)?, rest))
+}
+
+/// Byte Count.
+pub(crate) fn byte_count(rest: Option<&[u8]>) -> Option<(u16, Option<&[u8]>)>
+    ensures value { first_field forms.byte_count (words_behind rest.entry) ≡ option_map (λ s. (s.0, words_behind s.1)) result }
+    ensures range { IfSome result (λ s. (1 ≤ s.0) × (s.0 ≤ 4096)) }
+{
+    let (count, rest) = number(rest, 10, 4096)?;
+    if count == 0 {
+        return None;
+    }
+    Some((count as u16, rest))
+}
+
+/// Lower Address.
+pub(crate) fn lower(rest: Option<&[u8]>) -> Option<(u8, Option<&[u8]>)>
+    ensures value { first_field forms.lower (words_behind rest.entry) ≡ option_map (λ s. (s.0, words_behind s.1)) result }
+    ensures range { IfSome result (λ s. s.0 < 128) }
+{
+    let (lower, rest) = octet(rest)?;
+    if lower >= 128 {
+        return None;
+    }
+    Some((lower, rest))
+}
+
+fn status_in(word: &[u8]) -> Option<Status>
+    ensures { result ≡ forms.status word.now }
+{
+    if word == b"sc".as_slice() {
+        Some(Status::Success)
+    } else if word == b"ur".as_slice() {
+        Some(Status::Unsupported)
+    } else if word == b"ca".as_slice() {
+        Some(Status::Aborted)
+    } else {
+        None
+    }
+}
+
+/// Completion Status.
+pub(crate) fn status(rest: Option<&[u8]>) -> Option<(Status, Option<&[u8]>)>
+    ensures { first_field forms.status (words_behind rest.entry) ≡ option_map (λ s. (s.0, words_behind s.1)) result }
+{
+    let (word, rest) = next(rest)?;
+    Some((status_in(word)?, rest))
+}
+
+fn credits_in(word: &[u8]) -> Option<Class>
+    ensures { result ≡ forms.credits word.now }
+{
+    if word == b"p".as_slice() {
+        Some(Class::Posted)
+    } else if word == b"np".as_slice() {
+        Some(Class::NonPosted)
+    } else if word == b"cpl".as_slice() {
+        Some(Class::Completion)
+    } else {
+        None
+    }
+}
+
+/// A class of credits.
+pub(crate) fn credits(rest: Option<&[u8]>) -> Option<(Class, Option<&[u8]>)>
+    ensures { first_field forms.credits (words_behind rest.entry) ≡ option_map (λ s. (s.0, words_behind s.1)) result }
+{
+    let (word, rest) = next(rest)?;
+    Some((credits_in(word)?, rest))
+}
+
+/// The bytes that the word spells.
+pub(crate) fn bytes_in(word: &[u8]) -> Option<ArrayVec<u8, MAX_PAYLOAD>>
+    ensures { option_map (λ b. b.items) result ≡ byte_string word.now }
+{
+    if word.is_empty() || word.len() > 2 * MAX_PAYLOAD || word.len() % 2 == 1 {
+        return None;
+    }
+    let mut room = [0u8; MAX_PAYLOAD];
+    let bytes = &mut room[..word.len() / 2];
+    hex::decode_to_slice(word, bytes).ok()?;
+    ArrayVec::try_from(&*bytes).ok()
+}

@@ -1,0 +1,33 @@
+//! Packets in words: the one line of text of a TLP or a DLLP, and the packet that a line spells.
+//!
+//! | Line | Packet |
+//! |---|---|
+//! | `<operation> from <id> tag <tag>` | a request; the operation is as scripts have it, `read 40 1 F 0` |
+//! | `completion <status> to <id> tag <tag> by <id> count <n> lower <lower>` | Cpl |
+//! | `completion <status> <bytes> to <id> tag <tag> by <id> count <n> lower <lower>` | CplD |
+//! | `ack <number>`, `nak <number>` | Ack, Nak |
+//! | `update <class> <headers> <data>` | UpdateFC |
+//!
+//! A TLP's line ends with ` tc <n>` and ` attr <n>` where they aren't 0. An ID has four hexadecimal
+//! digits, a tag and a Lower Address two, a sequence number three; other numbers are decimal. A
+//! status is `sc`, `ur` or `ca`, a class `p`, `np` or `cpl`. Letters of digits are read in either
+//! case and written in capitals.
+#![tactic(auto)]
+
+mod bytes;
+mod completion;
+mod fault;
+mod fields;
+mod laws;
+mod origin;
+mod packet;
+mod reading;
+mod request;
+mod writing;
+
+pub use bytes::{decode, encode};
+pub use fault::{BytesFault, TextFault};
+pub use laws::own_text_spells_packet;
+pub use packet::Packet;
+pub use reading::read_packet;
+pub use writing::{write_bytes_fault, write_packet, write_text_fault};

@@ -1,0 +1,142 @@
+//! The packet that a line spells.
+ghost use Rattle.std.specs.Prelude.{◌≡◌, ◌<◌, ◌≤◌, take, codes, bytes_eq, option_map, IfOk, IfSome};
+ghost use Rattle.tlp_core.specs.Operation as operations;
+ghost use Rattle.dllp_core.specs.Layout as dllps;
+ghost use Rattle.trace_text.specs.Words.{words, words_behind, ended};
+ghost use Rattle.packet_text.specs.Packets as packets;
+ghost use Rattle.packet_text.specs.Forms as forms;
+
+use crate::completion::completion;
+use crate::fault::TextFault;
+use crate::fields::{credits, sequence};
+use crate::origin::{Origin, id_and_tag, origin_with};
+use crate::packet::Packet;
+use crate::request::request;
+use dllp_core::Dllp;
+use seq12::Seq12;
+use tlp_core::{Op, Tlp, TlpFault, op_fault};
+use trace_text::{cut, is_ended, number, read_op};
+
+/// Whether the line begins with ` from `.
+fn begins(line: &[u8]) -> bool
+    ensures { result ≡ bytes_eq (take 6 line.now) (codes " from ") }
+{
+    &line[..line.len().min(6)] == b" from ".as_slice()
+}
+
+/// The text before the last ` from `, and the text behind it.
+fn cut_from(line: &[u8]) -> Option<(&[u8], &[u8])>
+    ensures { forms.cut_from line.now ≡ option_map (λ s. (s.0.now, s.1.now)) result }
+{
+    let mut at = line.len();
+    while at > 0 {
+        at -= 1;
+        if begins(&line[at..]) {
+            return Some((&line[..at], &line[at + 6..]));
+        }
+    }
+    None
+}
+
+/// Whose request it is, by the text behind ` from `.
+fn origin(text: &[u8]) -> Option<Origin>
+    ensures value { result ≡ forms.origin (words text.now) }
+    ensures range { IfSome result (λ o. (o.tc < 8) × (o.attr < 8)) }
+{
+    let (requester, tag, rest) = id_and_tag(Some(text))?;
+    origin_with(requester, tag, rest)
+}
+
+/// The request for an operation, or what keeps it from being one.
+fn request_by(op: &Op, origin: Origin) -> Result<Tlp, TlpFault>
+    requires tc { origin.tc < 8 }
+    requires attr { origin.attr < 8 }
+    ensures { result ≡ forms.unless (operations.op_fault op.now) (forms.request op.now origin) }
+{
+    match op_fault(op) {
+        Some(fault) => Err(fault),
+        None => Ok(request(op, origin)),
+    }
+}
+
+/// The request that the line spells, or what keeps it from being one.
+fn request_of(line: &[u8]) -> Option<Result<Tlp, TlpFault>>
+    ensures { result ≡ forms.request_of line.now }
+{
+    let (text, behind) = cut_from(line)?;
+    let op = read_op(text)?;
+    let origin = origin(behind)?;
+    Some(request_by(&op, origin))
+}
+
+/// The DLLP, if the line ends here.
+fn alone(dllp: Dllp, rest: Option<&[u8]>) -> Option<Dllp>
+    ensures { result ≡ ended dllp (words_behind rest.entry) }
+{
+    if is_ended(rest) { Some(dllp) } else { None }
+}
+
+fn ack(rest: Option<&[u8]>) -> Option<Dllp>
+    ensures value { result ≡ forms.ack_of (words_behind rest.entry) }
+    ensures range { IfSome result dllps.FitsDataFC }
+{
+    let (number, rest) = sequence(rest)?;
+    alone(Dllp::Ack(Seq12::new(number)), rest)
+}
+
+fn nak(rest: Option<&[u8]>) -> Option<Dllp>
+    ensures value { result ≡ forms.nak_of (words_behind rest.entry) }
+    ensures range { IfSome result dllps.FitsDataFC }
+{
+    let (number, rest) = sequence(rest)?;
+    alone(Dllp::Nak(Seq12::new(number)), rest)
+}
+
+fn update(rest: Option<&[u8]>) -> Option<Dllp>
+    ensures value { result ≡ forms.update_of (words_behind rest.entry) }
+    ensures range { IfSome result dllps.FitsDataFC }
+{
+    let (class, rest) = credits(rest)?;
+    let (header, rest) = number(rest, 10, 255)?;
+    let (units, rest) = number(rest, 10, 4095)?;
+    alone(Dllp::Update(class, header as u8, units as u16), rest)
+}
+
+fn told_dllp(read: Option<Dllp>) -> Result<Packet, TextFault>
+    ensures { result ≡ forms.dllp_read read }
+{
+    match read {
+        None => Err(TextFault::Words),
+        Some(dllp) => Ok(Packet::Dllp(dllp)),
+    }
+}
+
+fn told_tlp(read: Option<Result<Tlp, TlpFault>>) -> Result<Packet, TextFault>
+    ensures { result ≡ forms.tlp_read read }
+{
+    match read {
+        None => Err(TextFault::Words),
+        Some(Err(fault)) => Err(TextFault::Packet(fault)),
+        Some(Ok(tlp)) => Ok(Packet::Tlp(tlp)),
+    }
+}
+
+/// The packet that the line spells: `Words` for a line of no known form, and the fault of an
+/// operation or of data of which the grammar has no packet. Takes no memory.
+pub fn read_packet(line: &[u8]) -> Result<Packet, TextFault>
+    ensures value { result ≡ forms.text_reading line.now }
+    ensures in_range { IfOk result packets.FitsDataFC }
+{
+    let (kind, rest) = cut(line);
+    if kind == b"completion".as_slice() {
+        told_tlp(completion(rest))
+    } else if kind == b"ack".as_slice() {
+        told_dllp(ack(rest))
+    } else if kind == b"nak".as_slice() {
+        told_dllp(nak(rest))
+    } else if kind == b"update".as_slice() {
+        told_dllp(update(rest))
+    } else {
+        told_tlp(request_of(line))
+    }
+}

@@ -1,0 +1,298 @@
+//! Writing packets and faults.
+ghost use Rattle.std.specs.Prelude.{◌≡◌, ◌≤◌, ◌<◌, ◌+◌, ◌*◌, ◌++◌, ◌∷◌, [], true, length};
+ghost use Rattle.std.specs.Fmt.{decimal, digit_glyph};
+ghost use Rattle.arrayvec.specs.ArrayString.{array_string_len};
+ghost use Rattle.hex.specs.Hex.{encode_upper};
+ghost use Rattle.packet_text.specs.Texts as texts;
+
+use crate::fault::{BytesFault, TextFault};
+use crate::packet::Packet;
+use arrayvec::ArrayString;
+use dllp_core::{Class, Dllp, DllpFault};
+use seq12::Seq12;
+use tlp_core::{Body, Kind, Op, Status, Tlp, TlpFault, op_of};
+use trace_text::{write_decimal, write_op};
+
+/// Adds the digit of a value below 16, in capitals.
+fn put_digit(value: u8, out: &mut ArrayString<512>)
+    requires value { value < 16 }
+    requires room { array_string_len out.old + 1 ≤ 512 }
+    ensures text { out.new.bytes ≡ out.old.bytes ++ digit_glyph true value ∷ [] }
+    ensures len { array_string_len out.new ≡ array_string_len out.old + 1 }
+{
+    let digit = if value < 10 {
+        b'0' + value
+    } else {
+        b'A' + (value - 10)
+    };
+    out.push(char::from(digit));
+}
+
+/// Adds two digits.
+fn put_octet(octet: u8, out: &mut ArrayString<512>)
+    requires { array_string_len out.old + 2 ≤ 512 }
+    ensures text { out.new.bytes ≡ out.old.bytes ++ texts.octet_text octet }
+    ensures len { array_string_len out.new ≡ array_string_len out.old + 2 }
+{
+    put_digit(octet / 16, out);
+    put_digit(octet % 16, out);
+}
+
+/// Adds three digits.
+fn put_sequence(number: Seq12, out: &mut ArrayString<512>)
+    requires { array_string_len out.old + 3 ≤ 512 }
+    ensures text { out.new.bytes ≡ out.old.bytes ++ texts.sequence_text number }
+    ensures len { array_string_len out.new ≡ array_string_len out.old + 3 }
+{
+    let number = number.value();
+    put_digit((number / 256) as u8, out);
+    put_octet((number % 256) as u8, out);
+}
+
+/// Adds four digits.
+fn put_id(id: u16, out: &mut ArrayString<512>)
+    requires { array_string_len out.old + 4 ≤ 512 }
+    ensures text { out.new.bytes ≡ out.old.bytes ++ texts.id_text id }
+    ensures len { array_string_len out.new ≡ array_string_len out.old + 4 }
+{
+    put_octet((id / 256) as u8, out);
+    put_octet((id % 256) as u8, out);
+}
+
+/// Adds two digits a byte.
+fn put_bytes(bytes: &[u8], out: &mut ArrayString<512>)
+    requires { array_string_len out.old + 2 * length bytes.now ≤ 512 }
+    ensures text { out.new.bytes ≡ out.old.bytes ++ encode_upper bytes.now }
+    ensures len { array_string_len out.new ≡ array_string_len out.old + 2 * length bytes.now }
+{
+    for byte in bytes {
+        put_octet(*byte, out);
+    }
+}
+
+/// Adds a name and its number, nothing for 0.
+fn put_named(name: &str, number: u8, out: &mut ArrayString<512>)
+    requires name { length name.now ≤ 6 }
+    requires room { array_string_len out.old + 26 ≤ 512 }
+    ensures text { out.new.bytes ≡ out.old.bytes ++ texts.named name.now number }
+    ensures len { array_string_len out.new ≤ array_string_len out.old + 26 }
+{
+    if number != 0 {
+        out.push_str(name);
+        write_decimal(u64::from(number), out);
+    }
+}
+
+/// Adds Traffic Class and attributes.
+fn put_class(tlp: &Tlp, out: &mut ArrayString<512>)
+    requires { array_string_len out.old + 52 ≤ 512 }
+    ensures text { out.new.bytes ≡ out.old.bytes ++ texts.class_text tlp.now.tc tlp.now.attr }
+    ensures len { array_string_len out.new ≤ array_string_len out.old + 52 }
+{
+    put_named(" tc ", tlp.tc, out);
+    put_named(" attr ", tlp.attr, out);
+}
+
+/// Adds Requester ID and tag.
+fn put_origin(tlp: &Tlp, out: &mut ArrayString<512>)
+    requires { array_string_len out.old + 11 ≤ 512 }
+    ensures text { out.new.bytes ≡ out.old.bytes ++ texts.origin_text tlp.now }
+    ensures len { array_string_len out.new ≡ array_string_len out.old + 11 }
+{
+    put_id(tlp.requester, out);
+    out.push_str(" tag ");
+    put_octet(tlp.tag, out);
+}
+
+fn put_request(tlp: &Tlp, op: &Op, out: &mut ArrayString<512>)
+    requires { array_string_len out.old + 400 ≤ 512 }
+    ensures text { out.new.bytes ≡ out.old.bytes ++ texts.request_text tlp.now op.now }
+    ensures len { array_string_len out.new ≤ array_string_len out.old + 400 }
+{
+    write_op(op, out);
+    out.push_str(" from ");
+    put_origin(tlp, out);
+    put_class(tlp, out);
+}
+
+fn put_status(status: Status, out: &mut ArrayString<512>)
+    requires { array_string_len out.old + 2 ≤ 512 }
+    ensures text { out.new.bytes ≡ out.old.bytes ++ texts.status_text status }
+    ensures len { array_string_len out.new ≡ array_string_len out.old + 2 }
+{
+    out.push_str(match status {
+        Status::Success => "sc",
+        Status::Unsupported => "ur",
+        Status::Aborted => "ca",
+    });
+}
+
+/// Adds the data of a completion, where its kind has data.
+fn put_data(tlp: &Tlp, out: &mut ArrayString<512>)
+    requires { array_string_len out.old + 257 ≤ 512 }
+    ensures text { out.new.bytes ≡ out.old.bytes ++ texts.data_text tlp.now.kind tlp.now.payload }
+    ensures len { array_string_len out.new ≤ array_string_len out.old + 257 }
+{
+    if let Kind::CompletionData = tlp.kind {
+        out.push_str(" ");
+        put_bytes(tlp.payload.as_slice(), out);
+    }
+}
+
+/// Adds Completer ID, Byte Count and Lower Address.
+fn put_completer(completer: u16, byte_count: u16, lower: u8, out: &mut ArrayString<512>)
+    requires { array_string_len out.old + 44 ≤ 512 }
+    ensures text { out.new.bytes ≡ out.old.bytes ++ texts.completer_text completer byte_count lower }
+    ensures len { array_string_len out.new ≤ array_string_len out.old + 44 }
+{
+    out.push_str(" by ");
+    put_id(completer, out);
+    out.push_str(" count ");
+    write_decimal(u64::from(byte_count), out);
+    out.push_str(" lower ");
+    put_octet(lower, out);
+}
+
+fn put_completion(tlp: &Tlp, out: &mut ArrayString<512>)
+    requires { array_string_len out.old + 400 ≤ 512 }
+    ensures text { out.new.bytes ≡ out.old.bytes ++ texts.completion_text tlp.now tlp.now.body }
+    ensures len { array_string_len out.new ≤ array_string_len out.old + 400 }
+{
+    let Body::Completion {
+        completer,
+        status,
+        byte_count,
+        lower,
+    } = tlp.body
+    else {
+        return;
+    };
+    out.push_str("completion ");
+    put_status(status, out);
+    put_data(tlp, out);
+    out.push_str(" to ");
+    put_origin(tlp, out);
+    put_completer(completer, byte_count, lower, out);
+    put_class(tlp, out);
+}
+
+fn put_tlp(tlp: &Tlp, out: &mut ArrayString<512>)
+    requires { array_string_len out.old + 400 ≤ 512 }
+    ensures text { out.new.bytes ≡ out.old.bytes ++ texts.tlp_text tlp.now }
+    ensures len { array_string_len out.new ≤ array_string_len out.old + 400 }
+{
+    match op_of(tlp) {
+        Some(op) => put_request(tlp, &op, out),
+        None => put_completion(tlp, out),
+    }
+}
+
+fn credits_name(class: Class) -> &'static str
+    ensures text { result.now ≡ texts.credits_text class }
+    ensures len { length result.now ≤ 3 }
+{
+    match class {
+        Class::Posted => "p",
+        Class::NonPosted => "np",
+        Class::Completion => "cpl",
+    }
+}
+
+fn put_update(class: Class, header: u8, units: u16, out: &mut ArrayString<512>)
+    requires { array_string_len out.old + 52 ≤ 512 }
+    ensures text { out.new.bytes ≡ out.old.bytes ++ texts.dllp_text (Dllp.Update class header units) }
+    ensures len { array_string_len out.new ≤ array_string_len out.old + 52 }
+{
+    out.push_str("update ");
+    out.push_str(credits_name(class));
+    out.push_str(" ");
+    write_decimal(u64::from(header), out);
+    out.push_str(" ");
+    write_decimal(u64::from(units), out);
+}
+
+fn put_dllp(dllp: Dllp, out: &mut ArrayString<512>)
+    requires { array_string_len out.old + 52 ≤ 512 }
+    ensures text { out.new.bytes ≡ out.old.bytes ++ texts.dllp_text dllp }
+    ensures len { array_string_len out.new ≤ array_string_len out.old + 52 }
+{
+    match dllp {
+        Dllp::Ack(number) => {
+            out.push_str("ack ");
+            put_sequence(number, out);
+        }
+        Dllp::Nak(number) => {
+            out.push_str("nak ");
+            put_sequence(number, out);
+        }
+        Dllp::Update(class, header, units) => put_update(class, header, units, out),
+    }
+}
+
+/// Adds the text of the packet, at most 400 bytes.
+pub fn write_packet(packet: &Packet, out: &mut ArrayString<512>)
+    requires { array_string_len out.old + 400 ≤ 512 }
+    ensures text { out.new.bytes ≡ out.old.bytes ++ texts.packet_text packet.now }
+    ensures len { array_string_len out.new ≤ array_string_len out.old + 400 }
+{
+    match packet {
+        Packet::Tlp(tlp) => put_tlp(tlp, out),
+        Packet::Dllp(dllp) => put_dllp(*dllp, out),
+    }
+}
+
+/// Adds `fault`, a number and a name.
+fn put_fault(number: u8, name: &str, out: &mut ArrayString<512>)
+    requires name { length name.now ≤ 14 }
+    requires room { array_string_len out.old + 41 ≤ 512 }
+    ensures text { out.new.bytes ≡ out.old.bytes ++ texts.fault_text number name.now }
+    ensures len { array_string_len out.new ≤ array_string_len out.old + 41 }
+{
+    out.push_str("fault ");
+    write_decimal(u64::from(number), out);
+    out.push_str(" ");
+    out.push_str(name);
+}
+
+fn put_tlp_fault(fault: TlpFault, out: &mut ArrayString<512>)
+    requires { array_string_len out.old + 41 ≤ 512 }
+    ensures text { out.new.bytes ≡ out.old.bytes ++ texts.tlp_fault_text fault }
+    ensures len { array_string_len out.new ≤ array_string_len out.old + 41 }
+{
+    put_fault(fault.number(), fault.name(), out);
+}
+
+fn dllp_fault_name(fault: DllpFault) -> &'static str
+    ensures text { result.now ≡ texts.dllp_fault_name fault }
+    ensures len { length result.now ≤ 6 }
+{
+    match fault {
+        DllpFault::Short => "Short",
+        DllpFault::Kind => "Kind",
+        DllpFault::Scaled => "Scaled",
+    }
+}
+
+/// Adds `fault`, its number and its name, at most 41 bytes.
+pub fn write_bytes_fault(fault: BytesFault, out: &mut ArrayString<512>)
+    requires { array_string_len out.old + 41 ≤ 512 }
+    ensures text { out.new.bytes ≡ out.old.bytes ++ texts.bytes_fault_text fault }
+    ensures len { array_string_len out.new ≤ array_string_len out.old + 41 }
+{
+    match fault {
+        BytesFault::Tlp(fault) => put_tlp_fault(fault, out),
+        BytesFault::Dllp(fault) => put_fault(fault.number(), dllp_fault_name(fault), out),
+    }
+}
+
+/// Adds `fault words`, or `fault`, the packet's fault's number and name, at most 41 bytes.
+pub fn write_text_fault(fault: TextFault, out: &mut ArrayString<512>)
+    requires { array_string_len out.old + 41 ≤ 512 }
+    ensures text { out.new.bytes ≡ out.old.bytes ++ texts.text_fault_text fault }
+    ensures len { array_string_len out.new ≤ array_string_len out.old + 41 }
+{
+    match fault {
+        TextFault::Words => out.push_str("fault words"),
+        TextFault::Packet(fault) => put_tlp_fault(fault, out),
+    }
+}
