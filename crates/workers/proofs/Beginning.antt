@@ -21,7 +21,9 @@ use Rattle.run_report.specs.declared.plan.RunPlan.{RunPlan}
 use Rattle.run_report.specs.declared.report.Report.{Report}
 use Rattle.tlp_core.specs.declared.operation.Op.{Op}
 use Rattle.history_check.specs.declared.Record.{Record}
-use Rattle.run_report.specs.Halts.{IsPlan, IsOfMemory, IsFlaw, IsEndBy, IsCause}
+use Rattle.run_report.specs.Halts.{IsPlan, IsOfMemory, IsFlaw, IsEndBy, IsCause, halt_of}
+use Rattle.worker_turns.specs.declared.stop.Stop.{Stop}
+use Rattle.worker_turns.specs.declared.stop.Stop.TheVariants as stops
 use Rattle.workers.specs.Running.{AreUnusedSeats, AreWorkSeats, AreDone}
 use Rattle.workers.proofs.Rows.{new_seats}
 
@@ -42,6 +44,13 @@ same_config c d f g n h k = record {
 }
 
 -- ---- the end
+
+-- the plan of a run that a worker ended is one that can be run
+pub stopped : (p : RunPlan) (s : Stop) → IsPlan p → IsCause p (halt_of s)
+stopped p stops.Turns plan = inl (plan, tt)
+stopped p stops.Gated plan = inl (plan, tt)
+stopped p stops.Memory plan = inl (plan, tt)
+stopped p (stops.Core r) plan = inl (plan, tt)
 
 pub ends : (p : RunPlan) (r : Result Report RunHalt) → IsPlan p → IfErr r (λ h. IsEndBy p.config h) → IfErr r (λ h. IsCause p h)
 ends p (Ok x) plan e = tt

@@ -1,5 +1,6 @@
-use Rattle.std.proofs.Common.{◌∙◌, ap, sym, map, length, arith}
-use Rattle.workers.proofs.Beginning.{first_seats, work_seats, ends, configured, all_done}
+use Rattle.std.proofs.Common.{◌∙◌, ap, sym, subst, map, length, arith}
+use Rattle.run_report.specs.Halts.{IsCause}
+use Rattle.workers.proofs.Beginning.{first_seats, work_seats, stopped, ends, configured, all_done}
 use Rattle.workers.proofs.running.run_workers_counting.Goals as goal
 
 pub run_threads-gathered-requires-clause-seats : goal.run_threads-gathered-requires-clause-seats
@@ -20,3 +21,6 @@ run_threads-gathered-requires-clause-seats g c κs within =
 
 pub run_threads-gathered-requires-clause-workers : goal.run_threads-gathered-requires-clause-workers
 run_threads-gathered-requires-clause-workers g c κs within = work_seats c.in-Ok.hall _ _ c.in-Ok.workers.items c.in-Ok.ensures.work
+
+pub returns-in-Some-clause-halt : goal.returns-in-Some-clause-halt
+returns-in-Some-clause-halt g c = subst (λ h. IsCause c.args.plan h) (sym c.of.ensures) (stopped c.args.plan c.in-Some.stop c.in_ok-fabric.ensures.ok.0)
