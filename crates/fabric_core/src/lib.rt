@@ -14,14 +14,8 @@ pub mod events;
 mod fabric;
 mod fault;
 pub mod laws;
-#[cfg(test)]
-mod memory_tests;
 mod parts;
 mod run;
-#[cfg(test)]
-mod run_tests;
-#[cfg(test)]
-mod tests;
 
 pub use config::{Config, ConfigFault};
 pub use event::{Event, LaneName, LinkEvent, Seen};

@@ -1,7 +1,7 @@
 //! Worked scripts of events.
-use crate::{Config, ConfigFault, Event, Fabric, LaneName, Refusal, Seen};
 use arrayvec::ArrayVec;
 use dllp_core::{Class, Dllp};
+use fabric_core::{Config, ConfigFault, Event, Fabric, LaneName, Refusal, Seen};
 use history_check::{Trace, check};
 use lane_core::{Arrival, DllpKind, DllpSeen, Fate, LaneCredits, LaneRefusal};
 use link_receiver::Reception;

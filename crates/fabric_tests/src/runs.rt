@@ -1,5 +1,5 @@
 //! Whole scripts in one call.
-use crate::{Config, Event, Fabric, LaneName};
+use fabric_core::{Config, Event, Fabric, LaneName};
 use lane_core::{DllpKind, Fate, LaneCredits};
 use std::alloc::Global;
 use std::test::Fail;

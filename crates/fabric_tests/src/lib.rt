@@ -1,0 +1,9 @@
+//! A whole fabric, driven by events: worked scripts step by step and in one call; memory that doesn't grow.
+#![tactic(auto)]
+
+#[cfg(test)]
+mod memory;
+#[cfg(test)]
+mod runs;
+#[cfg(test)]
+mod scripts;
