@@ -1,6 +1,6 @@
 #!/bin/sh
 # Tells whether the tests of the engines have the text of each file here: each stands under its name in a test file of
-# crates/tlp_engine, crates/trace_engine or crates/step_engine.
+# crates/tlp_engine, crates/packet_engine, crates/trace_engine or crates/step_engine.
 cd "$(dirname "$0")" || exit 1
 differ=0
 for file in *.txt *.out; do

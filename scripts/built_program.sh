@@ -37,6 +37,14 @@ of_file examples/packets.txt tlp
 wants "tlp on packets.txt" 1 examples/packets.out "$room/nothing"
 grep -v '^4C0000' examples/packets.txt | grep -v ' 01000500 .* 07000000$' > "$room/sound.txt"
 grep -v '^fault' examples/packets.out > "$room/faultless"
+of_file examples/words.txt encode
+wants "encode on words.txt" 1 examples/words.out "$room/nothing"
+grep -v '^#' examples/words.txt | sed '/^$/d' | head -n 9 > "$room/words"
+grep -v '^fault' examples/words.out > "$room/bytes"
+of_file "$room/words" encode
+wants "encode on the packets of words.txt" 0 "$room/bytes" "$room/nothing"
+of_file "$room/bytes" decode
+wants "decode on what encode prints of them" 0 "$room/words" "$room/nothing"
 for name in lost_ack write_passes_read credits stopped_link; do
     of_file examples/$name.txt step
     wants "step on $name.txt" 0 examples/$name.out "$room/nothing"
@@ -62,6 +70,8 @@ echo 4C0000 > "$room/short"
 echo "fault 1 Short" > "$room/fault"
 of_file "$room/short" tlp
 wants "tlp on three bytes" 1 "$room/fault" "$room/nothing"
+of_file "$room/short" decode
+wants "decode on three bytes" 1 "$room/fault" "$room/nothing"
 sed 's/^ans 1 0 2 data 01020304/ans 1 0 2 data 00000000/' examples/trace.txt > "$room/flawed"
 echo "flaw 10 Reply 2" > "$room/flaw"
 of_file "$room/flawed" check
@@ -110,7 +120,7 @@ grep '^[0-9]* of 140000$' "$room/errors" > "$room/told"
 wants "run --progress" 0 "$room/counted" "$room/told"
 
 # A text that was asked for has status 0 and is not on the error stream.
-for words in "--help" "--version" "tlp --help" "step --help" "run --help"; do
+for words in "--help" "--version" "tlp --help" "decode --help" "encode --help" "step --help" "run --help"; do
     # shellcheck disable=SC2086
     of_file examples/packets.txt $words
     [ -s "$room/output" ] && cp "$room/output" "$room/told" || echo "a text" > "$room/told"
@@ -120,7 +130,7 @@ done
 # A reader and a writer that fail have status 1.
 echo "pciex: read" > "$room/read"
 echo "pciex: write" > "$room/write"
-for words in tlp check upgrade step "step --trace"; do
+for words in tlp decode encode check upgrade step "step --trace"; do
     # shellcheck disable=SC2086
     of_file / $words
     wants "$words, where standard input is a folder" 1 "$room/nothing" "$room/read"

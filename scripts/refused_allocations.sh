@@ -94,6 +94,8 @@ each_refused stops_for_memory examples/packets.txt $pciex tlp --base 0 --size 25
 each_refused stops_for_memory examples/packets.txt $pciex tlp --size 100
 each_refused stops_for_memory examples/packets.txt $pciex tpl
 each_refused stops_for_memory examples/packets.txt $pciex step --help
+each_refused stops_for_memory examples/packets.txt $pciex decode
+each_refused stops_for_memory examples/words.txt $pciex encode
 each_refused stops_for_memory examples/trace.txt $pciex check
 each_refused stops_for_memory examples/trace.txt $pciex upgrade
 for script in lost_ack write_passes_read credits_used_up stopped_link; do

@@ -7,7 +7,7 @@ use Rattle.counting.specs.declared.Counting.{Counting}
 use Rattle.counting.specs.Ranges.{IsCounting}
 use Rattle.seq_memory.specs.Limits.{IsSize, IsBase, IsBlock}
 use Rattle.command_line.specs.declared.words.Request.{Request}
-use Rattle.command_line.specs.declared.words.Request.TheVariants.{Tlp, Check, Upgrade, Step, Run}
+use Rattle.command_line.specs.declared.words.Request.TheVariants.{Tlp, Decode, Encode, Check, Upgrade, Step, Run}
 
 -- an option with a value
 abbrev pub option : Text → Rule
@@ -40,8 +40,8 @@ top_app = record (new_app (codes "pciex")) {
 -- the grammar of the command line
 unfoldable pub the_app : App
 the_app =
-    with_subcommand (with_subcommand (with_subcommand (with_subcommand (with_subcommand top_app tlp_app.top) (new_app (codes "check")).top) (new_app (codes "upgrade")).top)
-    step_app.top) run_app.top
+    with_subcommand (with_subcommand (with_subcommand (with_subcommand (with_subcommand (with_subcommand (with_subcommand top_app tlp_app.top) (new_app (codes "decode")).top)
+    (new_app (codes "encode")).top) (new_app (codes "check")).top) (new_app (codes "upgrade")).top) step_app.top) run_app.top
 
 -- a base is written in 1 to 16 hexadecimal digits, and is 0 where none is given
 abbrev pub WritesBase : Option Text → ℕ → Type 0
@@ -89,6 +89,8 @@ pub record AsksRun (rows : List Row) (c : Counting) : Type 0 where
 abbrev pub Asks : Option (Text × List Row) → Request → Type 0
 Asks None request = ⊥
 Asks (Some p) (Tlp base size block) = (p.0 ≡ codes "tlp") × AsksTlp p.1 base size block
+Asks (Some p) Decode = p.0 ≡ codes "decode"
+Asks (Some p) Encode = p.0 ≡ codes "encode"
 Asks (Some p) Check = p.0 ≡ codes "check"
 Asks (Some p) Upgrade = p.0 ≡ codes "upgrade"
 Asks (Some p) (Step is_traced) = (p.0 ≡ codes "step") × WritesFlag (first_of (codes "trace") p.1) is_traced

@@ -20,6 +20,12 @@ const ABOUT: &str =
 const TLP_ABOUT: &str =
     "Answers memory requests and AtomicOps with their completions. Each line of the input has the bytes of one TLP in hexadecimal digits; spaces, empty lines and lines that begin with '#' are ignored. Each answer is a line: the completion, '-' for a posted write, or 'fault' and what is wrong.";
 
+const DECODE_ABOUT: &str =
+    "Writes packets in words. Each line of the input has the bytes of one TLP, or of one DLLP where they are four, in hexadecimal digits; spaces, empty lines and lines that begin with '#' are ignored. Each answer is a line: the packet in words, as in 'add 40 07000000 from 0100 tag 05', or 'fault' and what is wrong.";
+
+const ENCODE_ABOUT: &str =
+    "Writes packets in bytes. Each line of the input has one packet in words, as 'decode' writes it; empty lines and lines that begin with '#' are ignored. Each answer is a line: the packet's canonical bytes in hexadecimal digits, or 'fault' and what is wrong.";
+
 const CHECK_ABOUT: &str =
     "Tells whether a history explains what requesters were told. The input is one trace text. The answer is one line: 'ok'; or 'flaw' with the number, the name and the place of the first flaw; or 'fault' with the line that can't be read and why.";
 
@@ -65,6 +71,10 @@ const BLOCK_HELP: &str =
 pub enum Request {
     /// The subcommand `tlp`, over a memory of these limits.
     Tlp { base: u64, size: usize, block: u16 },
+    /// The subcommand `decode`.
+    Decode,
+    /// The subcommand `encode`.
+    Encode,
     /// The subcommand `check`.
     Check,
     /// The subcommand `upgrade`.
@@ -218,7 +228,9 @@ fn grammar<'a>(alloc: Global) -> Result<Command<'a>, AllocError>
 {
     let tlp = tlp_command(alloc)?;
     let with_tlp = with_command(top_command(alloc), tlp)?;
-    let with_check = with_command(with_tlp, plain_command(alloc, "check", CHECK_ABOUT))?;
+    let with_decode = with_command(with_tlp, plain_command(alloc, "decode", DECODE_ABOUT))?;
+    let with_encode = with_command(with_decode, plain_command(alloc, "encode", ENCODE_ABOUT))?;
+    let with_check = with_command(with_encode, plain_command(alloc, "check", CHECK_ABOUT))?;
     let with_upgrade = with_command(with_check, plain_command(alloc, "upgrade", UPGRADE_ABOUT))?;
     let with_step = with_step(alloc, with_upgrade)?;
     with_run(alloc, with_step)
@@ -375,6 +387,10 @@ fn request_of(name: &str, values: &ArgMatches<'_>) -> Option<Request>
 {
     if name == "tlp" {
         tlp_of(values)
+    } else if name == "decode" {
+        Some(Request::Decode)
+    } else if name == "encode" {
+        Some(Request::Encode)
     } else if name == "check" {
         Some(Request::Check)
     } else if name == "upgrade" {

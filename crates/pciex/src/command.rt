@@ -11,6 +11,7 @@ use clap::error::ErrorKind;
 use command_line::{Request, RequestFault, options};
 use counting::Counting;
 use line_engine::EngineFault;
+use packet_engine::{run_decode, run_encode};
 use run_engine::run_counting;
 use std::alloc::Global;
 use std::convert::AsStr;
@@ -129,6 +130,8 @@ pub fn on_one_thread<S: AsStr, R: Read, W: Write, E: Write>(
             run_tlp(alloc, base, size, block, reader, writer),
             errors,
         )),
+        Ok(Request::Decode) => Outcome::Ended(ended(run_decode(alloc, reader, writer), errors)),
+        Ok(Request::Encode) => Outcome::Ended(ended(run_encode(alloc, reader, writer), errors)),
         Ok(Request::Check) => Outcome::Ended(ended(run_check(alloc, reader, writer), errors)),
         Ok(Request::Upgrade) => Outcome::Ended(ended(run_upgrade(alloc, reader, writer), errors)),
         Ok(Request::Step { is_traced }) => {

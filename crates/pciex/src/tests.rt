@@ -38,7 +38,7 @@ const SCRIPT: &str = "fabric 1 0 4096\nsubmit 1 add 40 07000000\n";
 const TRACE: &str = "pciex-trace 2\nmemory 0 4096 64\nsub 1 0 0 add 40 07000000\nhistory\nend\n";
 
 /// Words after the program's name, what standard input has, what is written, and the exit status.
-const RUNS: [(&[&str], &str, &str, u8); 10] = [
+const RUNS: [(&[&str], &str, &str, u8); 12] = [
     (
         &["tlp"],
         "00000002 01000CFF 0000003C\n4C0000\n",
@@ -57,6 +57,13 @@ const RUNS: [(&[&str], &str, &str, u8); 10] = [
         "4A000001 00000004 0100057C 00000000\n0A000000 00002004 01000500\n",
         0,
     ),
+    (
+        &["decode"],
+        "80008010\n4C0\n",
+        "update p 2 16\nfault hex\n",
+        1,
+    ),
+    (&["encode"], "nak FFF\n", "10000FFF\n", 0),
     (&["check"], TRACE, "ok\n", 0),
     (&["check"], "pciex-trace 3\n", "fault 1 Head\n", 1),
     (
@@ -149,12 +156,14 @@ fn wrong_words(rt: HostRuntime) -> Result<(), Fail> {
 }
 
 /// Words that ask for a text, and how it begins.
-const TEXTS: [(&[&str], &str); 7] = [
+const TEXTS: [(&[&str], &str); 9] = [
     (&["pciex", "--help"], "A shared memory device"),
     (&["pciex", "-h"], "A shared memory device"),
     (&["pciex", "--version"], "pciex "),
     (&["pciex", "-V"], "pciex "),
     (&["pciex", "tlp", "--help"], "Answers memory requests"),
+    (&["pciex", "decode", "--help"], "Writes packets in words"),
+    (&["pciex", "encode", "--help"], "Writes packets in bytes"),
     (
         &["pciex", "step", "--help"],
         "Runs a script of events on a fabric",
@@ -218,8 +227,10 @@ impl Write for FailingWriter {
 }
 
 /// Each subcommand, and an input of it.
-const STREAMED: [(&[&str], &str); 5] = [
+const STREAMED: [(&[&str], &str); 7] = [
     (&["pciex", "tlp"], "4C0000\n"),
+    (&["pciex", "decode"], "4C0000\n"),
+    (&["pciex", "encode"], "nak FFF\n"),
     (&["pciex", "check"], TRACE),
     (&["pciex", "upgrade"], TRACE),
     (&["pciex", "step"], SCRIPT),

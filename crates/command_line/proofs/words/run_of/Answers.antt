@@ -5,17 +5,14 @@ use Rattle.counting.specs.declared.Counting.{Counting}
 use Rattle.counting.specs.Ranges.{IsCounting}
 use Rattle.command_line.specs.Options.{WritesNumber, WritesGiven, WritesFlag, AsksRun, Asks}
 use Rattle.command_line.specs.declared.words.Request.{Request}
-use Rattle.command_line.specs.declared.words.Request.TheVariants.{Tlp, Check, Upgrade, Step, Run}
-use Rattle.command_line.proofs.RequestsAsked.{same_number, same_given, same_counting, tlp_run, check_run, upgrade_run, step_run, if_none}
+use Rattle.command_line.specs.declared.words.Request.TheVariants.{Run}
+use Rattle.command_line.proofs.RequestsAsked.{same_number, same_given, same_counting, name_of, asks_name, differ, if_none}
 use Rattle.command_line.proofs.words.run_of.Goals as goal
 
 -- values that ask for no counting ask for nothing
 nothing : (rows : List Row) → ((c : Counting) → AsksRun rows c → ⊥) → (r : Request) → Asks (Some (codes "run", rows)) r → ⊥
-nothing rows never (Tlp base size block) a = tlp_run (sym a.0)
-nothing rows never Check a = check_run (sym a)
-nothing rows never Upgrade a = upgrade_run (sym a)
-nothing rows never (Step traced) a = step_run (sym a.0)
 nothing rows never (Run c told) a = never c a.1
+nothing rows never r a = differ (codes "run") (name_of r) refl (asks_name (codes "run", rows) r a)
 
 -- a value that is written otherwise asks for no counting
 no_given : (rows : List Row) (name : Text) (n : ℕ) (t : Option Text) → t ≡ first_of name rows → ((k : ℕ) → k < 2 ^ 64 → WritesGiven t k → ⊥) → n < 2 ^ 64 → WritesGiven (first_of name rows) n → ⊥

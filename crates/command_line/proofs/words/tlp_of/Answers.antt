@@ -3,8 +3,8 @@ use Rattle.clap.specs.Words.{rows_of, found_of, first_of, Row, Text}
 use Rattle.clap.proofs.WalkLemmas.{first_value-rows}
 use Rattle.command_line.specs.Options.{WritesBase, WritesNumber, IsMemory, Asks}
 use Rattle.command_line.specs.declared.words.Request.{Request}
-use Rattle.command_line.specs.declared.words.Request.TheVariants.{Tlp, Check, Upgrade, Step, Run}
-use Rattle.command_line.proofs.RequestsAsked.{same_base, same_number, tlp_check, tlp_upgrade, tlp_step, tlp_run, if_none}
+use Rattle.command_line.specs.declared.words.Request.TheVariants.{Tlp}
+use Rattle.command_line.proofs.RequestsAsked.{same_base, same_number, name_of, asks_name, differ, if_none}
 use Rattle.command_line.proofs.words.tlp_of.Goals as goal
 
 -- the numbers of a memory fit their types
@@ -22,28 +22,19 @@ no_base : (rows : List Row) (t : Option Text) → t ≡ first_of (codes "base") 
     → (r : Request) → Asks (Some (codes "tlp", rows)) r → ⊥
 no_base rows t e h (Tlp base size block) a =
     h base (base_fits base size block a.1.memory) (subst (λ (u : Option Text). WritesBase u base) (sym e) a.1.base_read)
-no_base rows t e h Check a = tlp_check a
-no_base rows t e h Upgrade a = tlp_upgrade a
-no_base rows t e h (Step traced) a = tlp_step a.0
-no_base rows t e h (Run counting told) a = tlp_run a.0
+no_base rows t e h r a = differ (codes "tlp") (name_of r) refl (asks_name (codes "tlp", rows) r a)
 
 no_size : (rows : List Row) (t : Option Text) → t ≡ first_of (codes "size") rows → ((n : ℕ) → n < 2 ^ 64 → WritesNumber 4096 t n → ⊥)
     → (r : Request) → Asks (Some (codes "tlp", rows)) r → ⊥
 no_size rows t e h (Tlp base size block) a =
     h size (size_fits base size block a.1.memory) (subst (λ (u : Option Text). WritesNumber 4096 u size) (sym e) a.1.size_read)
-no_size rows t e h Check a = tlp_check a
-no_size rows t e h Upgrade a = tlp_upgrade a
-no_size rows t e h (Step traced) a = tlp_step a.0
-no_size rows t e h (Run counting told) a = tlp_run a.0
+no_size rows t e h r a = differ (codes "tlp") (name_of r) refl (asks_name (codes "tlp", rows) r a)
 
 no_block : (rows : List Row) (t : Option Text) → t ≡ first_of (codes "block") rows → ((n : ℕ) → n < 2 ^ 16 → WritesNumber 64 t n → ⊥)
     → (r : Request) → Asks (Some (codes "tlp", rows)) r → ⊥
 no_block rows t e h (Tlp base size block) a =
     h block (block_fits base size block a.1.memory) (subst (λ (u : Option Text). WritesNumber 64 u block) (sym e) a.1.block_read)
-no_block rows t e h Check a = tlp_check a
-no_block rows t e h Upgrade a = tlp_upgrade a
-no_block rows t e h (Step traced) a = tlp_step a.0
-no_block rows t e h (Run counting told) a = tlp_run a.0
+no_block rows t e h r a = differ (codes "tlp") (name_of r) refl (asks_name (codes "tlp", rows) r a)
 
 -- nor do values of which no memory is
 no_memory : (rows : List Row) (b s k : ℕ) → WritesBase (first_of (codes "base") rows) b → WritesNumber 4096 (first_of (codes "size") rows) s
@@ -53,10 +44,7 @@ no_memory rows b s k hb hs hk never (Tlp base size block) a =
     let f = same_number 4096 _ size s a.1.size_read hs in
     let g = same_number 64 _ block k a.1.block_read hk in
     never (subst (λ (x : ℕ). IsMemory x s k) e (subst (λ (x : ℕ). IsMemory base x k) f (subst (λ (x : ℕ). IsMemory base size x) g a.1.memory)))
-no_memory rows b s k hb hs hk never Check a = tlp_check a
-no_memory rows b s k hb hs hk never Upgrade a = tlp_upgrade a
-no_memory rows b s k hb hs hk never (Step traced) a = tlp_step a.0
-no_memory rows b s k hb hs hk never (Run counting told) a = tlp_run a.0
+no_memory rows b s k hb hs hk never r a = differ (codes "tlp") (name_of r) refl (asks_name (codes "tlp", rows) r a)
 
 pub returns-clause-some : goal.returns-clause-some
 returns-clause-some c =

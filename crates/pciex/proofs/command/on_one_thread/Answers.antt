@@ -6,7 +6,7 @@ use Rattle.clap.specs.declared.error.kind.ErrorKind.{ErrorKind}
 use Rattle.clap.specs.declared.error.kind.ErrorKind.TheVariants as kinds
 use Rattle.line_engine.specs.declared.fault.EngineFault.{EngineFault}
 use Rattle.command_line.specs.declared.words.Request.{Request}
-use Rattle.command_line.specs.declared.words.Request.TheVariants.{Tlp, Check, Upgrade, Step, Run as run_words}
+use Rattle.command_line.specs.declared.words.Request.TheVariants.{Tlp, Decode, Encode, Check, Upgrade, Step, Run as run_words}
 use Rattle.command_line.specs.declared.words.RequestFault.{RequestFault}
 use Rattle.command_line.specs.declared.words.RequestFault.TheVariants as faults
 use Rattle.command_line.specs.Faults.{WordsFault, RangeFault, IsMemoryFault}
@@ -65,6 +65,8 @@ nothing-counted counting w = record {
 -- nothing was done, and status 1 tells it
 undone : (r : Request) (input out : Option (List ℕ)) (exit : ℕ) → exit ≡ 1 → IsDone r input input out out exit
 undone (Tlp base size block) input out exit e = inr (e, nothing-done _ input out)
+undone Decode input out exit e = inr (e, nothing-done _ input out)
+undone Encode input out exit e = inr (e, nothing-done _ input out)
 undone Check input out exit e = inr (e, nothing-done _ input out)
 undone Upgrade input out exit e = inr (e, nothing-done _ input out)
 undone (Step is_traced) input out exit e = inr (e, nothing-done _ input out)
