@@ -3,7 +3,6 @@ pub mod DigitLemmas
 pub mod CutLemmas
 pub mod WordLemmas
 pub mod NumberLemmas
-pub mod RequestLemmas
 pub mod OpLemmas
 pub mod ReadBack
 pub mod BytesLemmas

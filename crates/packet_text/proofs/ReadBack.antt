@@ -27,11 +27,12 @@ use Rattle.trace_text.specs.Operations.{op_of}
 use Rattle.trace_text.specs.Texts.{op_text, op_words}
 use Rattle.packet_text.specs.declared.packet.Packet.{Packet}
 use Rattle.packet_text.specs.declared.packet.Packet.TheVariants as packets
-use Rattle.packet_text.specs.declared.origin.Origin.{Origin}
+use Rattle.requester_core.specs.declared.request.Origin.{Origin}
 use Rattle.packet_text.specs.Packets.{IsPacket, IsTlp}
 use Rattle.packet_text.specs.Texts.{octet_text, sequence_text, id_text, named, class_text, status_text, completer_text, tlp_text_by, tlp_text, credits_text, dllp_text, packet_text}
 use Rattle.packet_text.specs.Forms as forms
-use Rattle.packet_text.specs.Forms.{text_reading, tlp_read, request_of, request_by, unless}
+use Rattle.requester_core.specs.Request as requests
+use Rattle.packet_text.specs.Forms.{text_reading, tlp_read, request_of, request_by}
 use Rattle.packet_text.proofs.WordLemmas.{Lacks, lacks, lacks-is, lacks-append, IsPart, part, IsTail, tail-none, tail-last, tail-word}
 use Rattle.packet_text.proofs.CutLemmas.{cut-at}
 use Rattle.packet_text.proofs.DigitLemmas.{glyph-range, octet-reads, sequence-reads, id-reads, glyph-is}
@@ -189,8 +190,8 @@ request-back L k tc attr dw requester tag body bytes A hr ht h j =
     ap (λ (p : Option (List ℕ × List ℕ)). then_with p (λ q. request_by (op_of (words q.0)) (forms.origin (words q.1)))) (cut-at (op_text A.op) tail (origin_with_tail-lacks requester tag tc attr hr ht h j)) in
     let parts : request_by (op_of (words (op_text A.op))) (forms.origin (words tail)) ≡ request_by (Some A.op) (Some o) =
     ap₂ request_by (L.op_back (op_words A.op) A.op A.reads) (ap forms.origin (from-words L requester tag tc attr hr ht) ∙ origin-reads L requester tag tc attr hr ht h j) in
-    let sound : request_by (Some A.op) (Some o) ≡ Some (Ok (forms.request A.op o)) = ap (λ (f : Option TlpFault). Some (unless f (forms.request A.op o))) A.sound in
-    let same : forms.request A.op o ≡ t = rw (A.kind, A.dws, A.same, A.bytes) refl in
+    let sound : request_by (Some A.op) (Some o) ≡ Some (Ok (requests.request A.op o)) = ap (λ (f : Option TlpFault). Some (requests.unless f (requests.request A.op o))) A.sound in
+    let same : requests.request A.op o ≡ t = rw (A.kind, A.dws, A.same, A.bytes) refl in
     ap text_reading text ∙ A.begins (codes " from " ++ tail) ∙ ap tlp_read (cut ∙ parts ∙ sound) ∙ ap (λ (p : tlp.Packet). Ok (packets.Tlp p)) same
 
 -- ---- completions

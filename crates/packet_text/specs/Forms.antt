@@ -8,19 +8,19 @@ use Rattle.tlp_core.specs.declared.packet.Status.{Status}
 use Rattle.tlp_core.specs.declared.packet.Status.TheVariants as statuses
 use Rattle.tlp_core.specs.declared.fault.TlpFault.{TlpFault}
 use Rattle.tlp_core.specs.declared.fault.TlpFault.TheVariants as tlp_faults
-use Rattle.tlp_core.specs.Operation.{address_of, op_fault}
+use Rattle.tlp_core.specs.Operation.{op_fault}
 use Rattle.tlp_core.specs.Packet as tlp
 use Rattle.dllp_core.specs.declared.packet.Class.{Class}
 use Rattle.dllp_core.specs.declared.packet.Class.TheVariants as classes
 use Rattle.dllp_core.specs.declared.packet.Dllp.{Dllp}
 use Rattle.dllp_core.specs.declared.packet.Dllp.TheVariants as dllps
-use Rattle.requester_core.specs.Request.{kind_for, length_for, first_for, last_for, payload_for}
+use Rattle.requester_core.specs.declared.request.Origin.{Origin}
+use Rattle.requester_core.specs.Request.{request, unless}
 use Rattle.trace_text.specs.Words.{words, then_with, first_field, field, ended}
 use Rattle.trace_text.specs.Numbers.{numeral, byte_string}
 use Rattle.trace_text.specs.Operations as operations
 use Rattle.packet_text.specs.declared.packet.Packet.{Packet}
 use Rattle.packet_text.specs.declared.packet.Packet.TheVariants as packets
-use Rattle.packet_text.specs.declared.origin.Origin.{Origin}
 use Rattle.packet_text.specs.declared.completion.Completer.{Completer}
 use Rattle.packet_text.specs.declared.fault.TextFault.{TextFault}
 use Rattle.packet_text.specs.declared.fault.TextFault.TheVariants as faults
@@ -88,24 +88,6 @@ cut_from (c ∷ cs) = cut_by (cut_from cs) c cs
 
 abbrev pub origin : List (List ℕ) → Option Origin
 origin ws = then_with (id_and_tag ws) (λ s. origin_with s.0.0 s.0.1 s.1)
-
--- the request for an operation
-abbrev pub request : Op → Origin → tlp.Packet
-request op o = record {
-  kind = kind_for op;
-  tc = o.tc;
-  attr = o.attr;
-  length = length_for op;
-  requester = o.requester;
-  tag = o.tag;
-  body = bodies.Request (address_of op) (first_for op) (last_for op);
-  payload = payload_for op;
-}
-
--- the packet, if nothing keeps it from being one
-abbrev pub unless : Option TlpFault → tlp.Packet → Result tlp.Packet TlpFault
-unless (Some f) t = Err f
-unless None t = Ok t
 
 abbrev pub request_by : Option Op → Option Origin → Option (Result tlp.Packet TlpFault)
 request_by op o = then_with op (λ op. then_with o (λ o. Some (unless (op_fault op) (request op o))))

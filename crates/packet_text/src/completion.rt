@@ -4,8 +4,9 @@ ghost use Rattle.trace_text.specs.Words.{words_behind};
 ghost use Rattle.packet_text.specs.Forms as forms;
 
 use crate::fields::{byte_count, bytes_in, id, keyword, lower, next, status};
-use crate::origin::{Origin, id_and_tag, origin_with};
+use crate::origin::{id_and_tag, origin_with};
 use arrayvec::ArrayVec;
+use requester_core::Origin;
 use tlp_core::{Body, Kind, MAX_PAYLOAD, Status, Tlp, TlpFault};
 
 /// Completer ID, Byte Count and Lower Address.

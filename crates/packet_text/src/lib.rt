@@ -22,7 +22,6 @@ mod laws;
 mod origin;
 mod packet;
 mod reading;
-mod request;
 mod writing;
 
 pub use bytes::{decode, encode};

@@ -4,18 +4,8 @@ ghost use Rattle.trace_text.specs.Words.{words_behind};
 ghost use Rattle.packet_text.specs.Forms as forms;
 
 use crate::fields::{id, keyword, named, octet};
+use requester_core::Origin;
 use trace_text::is_ended;
-
-/// Requester ID, tag, Traffic Class and attributes.
-#[derive(Clone, Copy, Debug, PartialEq, Eq)]
-pub(crate) struct Origin {
-    pub requester: u16,
-    pub tag: u8,
-    /// 0 to 7.
-    pub tc: u8,
-    /// 0 to 7.
-    pub attr: u8,
-}
 
 /// Traffic Class and attributes, which end the line.
 fn class(rest: Option<&[u8]>) -> Option<(u8, u8)>

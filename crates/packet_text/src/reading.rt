@@ -1,6 +1,5 @@
 //! The packet that a line spells.
 ghost use Rattle.std.specs.Prelude.{◌≡◌, ◌<◌, ◌≤◌, take, codes, bytes_eq, option_map, IfOk, IfSome};
-ghost use Rattle.tlp_core.specs.Operation as operations;
 ghost use Rattle.dllp_core.specs.Layout as dllps;
 ghost use Rattle.trace_text.specs.Words.{words, words_behind, ended};
 ghost use Rattle.packet_text.specs.Packets as packets;
@@ -9,12 +8,12 @@ ghost use Rattle.packet_text.specs.Forms as forms;
 use crate::completion::completion;
 use crate::fault::TextFault;
 use crate::fields::{credits, sequence};
-use crate::origin::{Origin, id_and_tag, origin_with};
+use crate::origin::{id_and_tag, origin_with};
 use crate::packet::Packet;
-use crate::request::request;
 use dllp_core::Dllp;
+use requester_core::{Origin, request_with};
 use seq12::Seq12;
-use tlp_core::{Op, Tlp, TlpFault, op_fault};
+use tlp_core::{Tlp, TlpFault};
 use trace_text::{cut, is_ended, number, read_op};
 
 /// Whether the line begins with ` from `.
@@ -47,18 +46,6 @@ fn origin(text: &[u8]) -> Option<Origin>
     origin_with(requester, tag, rest)
 }
 
-/// The request for an operation, or what keeps it from being one.
-fn request_by(op: &Op, origin: Origin) -> Result<Tlp, TlpFault>
-    requires tc { origin.tc < 8 }
-    requires attr { origin.attr < 8 }
-    ensures { result ≡ forms.unless (operations.op_fault op.now) (forms.request op.now origin) }
-{
-    match op_fault(op) {
-        Some(fault) => Err(fault),
-        None => Ok(request(op, origin)),
-    }
-}
-
 /// The request that the line spells, or what keeps it from being one.
 fn request_of(line: &[u8]) -> Option<Result<Tlp, TlpFault>>
     ensures { result ≡ forms.request_of line.now }
@@ -66,7 +53,7 @@ fn request_of(line: &[u8]) -> Option<Result<Tlp, TlpFault>>
     let (text, behind) = cut_from(line)?;
     let op = read_op(text)?;
     let origin = origin(behind)?;
-    Some(request_by(&op, origin))
+    Some(request_with(&op, origin))
 }
 
 /// The DLLP, if the line ends here.

@@ -15,7 +15,8 @@ use Rattle.tlp_core.specs.declared.fault.TlpFault.TheVariants as faults
 use Rattle.tlp_core.specs.Enables.{are_enables}
 use Rattle.tlp_core.specs.Packet.{IsPacket, FitsKind}
 use Rattle.tlp_core.specs.Operation.{op_of, op_at, op_fault, size_of, address_of, wrong_length, wrong_enables, wrong_operand, wrong_address}
-use Rattle.requester_core.specs.Request.{kind_for, length_for, first_for, last_for, payload_for, request_for}
+use Rattle.requester_core.specs.Request.{kind_for, length_for, first_for, last_for, payload_for, request}
+use Rattle.requester_core.specs.declared.request.Origin.{Origin}
 
 -- the four tests of an operation
 record PassesTests (op : Op) : Type 0 where
@@ -85,8 +86,8 @@ fits_op (ops.FetchAdd a w x) p few = fits_add a x w p
 fits_op (ops.Swap a w x) p few = fits_add a x w (record { length_right = refl; enables_right = refl; operand_right = p.operand_right; address_right = p.address_right })
 fits_op (ops.Cas a w x y) p few = fits_cas a x y w p
 
-pub is_packet : (port tag : ℕ) (op : Op) → op_fault op ≡ None → length (payload_for op) ≤ 128 → IsPacket (request_for port tag op)
-is_packet port tag op e few = record { tc = omega arith; attr = omega arith; fits = fits_op op (passes op e) few }
+pub is_packet : (op : Op) (o : Origin) → op_fault op ≡ None → o.tc < 8 → o.attr < 8 → length (payload_for op) ≤ 128 → IsPacket (request op o)
+is_packet op o e tc attr few = record { tc = tc; attr = attr; fits = fits_op op (passes op e) few }
 
 -- ---- what it asks for
 
@@ -112,9 +113,9 @@ asks_cas a x y widths.Four p = let s = or_false _ _ p.operand_right in two_back 
 asks_cas a x y widths.Eight p = let s = or_false _ _ p.operand_right in two_back a 8 x y widths.Eight (below x (2 ^ 64) s.0) (below y (2 ^ 64) s.1) refl
 asks_cas a x y widths.Sixteen p = let s = or_false _ _ p.operand_right in two_back a 16 x y widths.Sixteen (below x (2 ^ 128) s.0) (below y (2 ^ 128) s.1) refl
 
-pub asks_for : (port tag : ℕ) (op : Op) → op_fault op ≡ None → op_of (request_for port tag op) ≡ Some op
-asks_for port tag (ops.Read a dw f l) e = refl
-asks_for port tag (ops.Write a f l bytes) e = refl
-asks_for port tag (ops.FetchAdd a w x) e = asks_add a x w (passes (ops.FetchAdd a w x) e)
-asks_for port tag (ops.Swap a w x) e = asks_swap a x w (passes (ops.Swap a w x) e)
-asks_for port tag (ops.Cas a w x y) e = asks_cas a x y w (passes (ops.Cas a w x y) e)
+pub asks_for : (op : Op) (o : Origin) → op_fault op ≡ None → op_of (request op o) ≡ Some op
+asks_for (ops.Read a dw f l) o e = refl
+asks_for (ops.Write a f l bytes) o e = refl
+asks_for (ops.FetchAdd a w x) o e = asks_add a x w (passes (ops.FetchAdd a w x) e)
+asks_for (ops.Swap a w x) o e = asks_swap a x w (passes (ops.Swap a w x) e)
+asks_for (ops.Cas a w x y) o e = asks_cas a x y w (passes (ops.Cas a w x y) e)

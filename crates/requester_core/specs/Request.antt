@@ -1,13 +1,15 @@
 -- The request for an operation (PCI Express Base 4.0, section 2.2.7).
-use Rattle.std.specs.Prelude.{ℕ, ◌*◌, ◌/◌, List, [], ◌++◌, length}
+use Rattle.std.specs.Prelude.{ℕ, ◌*◌, ◌/◌, List, [], ◌++◌, length, Option, Some, None, Result, Ok, Err}
 use Rattle.byteorder.specs.Endian.{little_bytes}
 use Rattle.tlp_core.specs.declared.operation.Op.{Op}
 use Rattle.tlp_core.specs.declared.operation.Op.TheVariants as ops
 use Rattle.tlp_core.specs.declared.packet.Kind.{Kind}
 use Rattle.tlp_core.specs.declared.packet.Kind.TheVariants as kinds
 use Rattle.tlp_core.specs.declared.packet.Body.TheVariants as bodies
+use Rattle.tlp_core.specs.declared.fault.TlpFault.{TlpFault}
 use Rattle.tlp_core.specs.Packet.{Packet}
 use Rattle.tlp_core.specs.Operation.{size_of, address_of}
+use Rattle.requester_core.specs.declared.request.Origin.{Origin}
 
 abbrev pub kind_for : Op → Kind
 kind_for (ops.Read a dw f l) = kinds.MemoryRead
@@ -43,7 +45,24 @@ payload_for (ops.FetchAdd a w x) = little_bytes (size_of w) x
 payload_for (ops.Swap a w x) = little_bytes (size_of w) x
 payload_for (ops.Cas a w x y) = little_bytes (size_of w) x ++ little_bytes (size_of w) y
 
--- the request of that port for the operation, with TC 0, attributes 0 and that tag
+-- the request for the operation
+abbrev pub request : Op → Origin → Packet
+request op o = record {
+  kind = kind_for op;
+  tc = o.tc;
+  attr = o.attr;
+  length = length_for op;
+  requester = o.requester;
+  tag = o.tag;
+  body = bodies.Request (address_of op) (first_for op) (last_for op);
+  payload = payload_for op;
+}
+
+-- the packet, if nothing keeps it from being one
+abbrev pub unless : Option TlpFault → Packet → Result Packet TlpFault
+unless (Some f) t = Err f
+unless None t = Ok t
+
+-- the request of that port, with TC 0, attributes 0 and that tag
 abbrev pub request_for : ℕ → ℕ → Op → Packet
-request_for port tag op =
-    record { kind = kind_for op; tc = 0; attr = 0; length = length_for op; requester = port * 256; tag = tag; body = bodies.Request (address_of op) (first_for op) (last_for op); payload = payload_for op }
+request_for port tag op = request op (record { requester = port * 256; tag = tag; tc = 0; attr = 0 })

@@ -10,4 +10,5 @@ mod requester;
 mod tests;
 
 pub use fault::{CompletionFault, SubmitRefusal};
+pub use request::{Origin, request_with};
 pub use requester::{Answer, Open, Requester, TAGS};

@@ -1,15 +1,27 @@
 //! The request for an operation.
-ghost use Rattle.std.specs.Prelude.{◌≡◌, ◌*◌, ◌<◌, ◌≤◌, ◌^◌, ◌++◌, ◌+◌, None, Some, length};
+ghost use Rattle.std.specs.Prelude.{◌≡◌, ◌*◌, ◌<◌, ◌≤◌, ◌++◌, ◌+◌, None, Some, IfOk, length};
 ghost use Rattle.byteorder.specs.Endian.{little_bytes};
 ghost use Rattle.arrayvec.specs.ArrayVec.{array_vec_len};
 ghost use Rattle.tlp_core.specs.Operation.{size_of, op_fault, op_of};
-ghost use Rattle.requester_core.specs.Request.{kind_for, length_for, first_for, last_for, payload_for, request_for};
+ghost use Rattle.requester_core.specs.Request as requests;
 
 use arrayvec::ArrayVec;
-use tlp_core::{Body, Kind, MAX_PAYLOAD, Op, Tlp, Width};
+use tlp_core::{Body, Kind, MAX_PAYLOAD, Op, Tlp, TlpFault, Width, op_fault};
+
+/// Whose request it is, under which tag, and with which Traffic Class and attributes.
+#[derive(Clone, Copy, Debug, PartialEq, Eq)]
+pub struct Origin {
+    /// Requester ID.
+    pub requester: u16,
+    pub tag: u8,
+    /// 0 to 7.
+    pub tc: u8,
+    /// 0 to 7.
+    pub attr: u8,
+}
 
 fn kind_for(op: &Op) -> Kind
-    ensures { result ≡ kind_for op.now }
+    ensures { result ≡ requests.kind_for op.now }
 {
     match op {
         Op::Read { .. } => Kind::MemoryRead,
@@ -20,8 +32,9 @@ fn kind_for(op: &Op) -> Kind
     }
 }
 
+/// Length, in DW.
 fn length_for(op: &Op) -> u16
-    ensures { result ≡ length_for op.now }
+    ensures { result ≡ requests.length_for op.now }
 {
     match op {
         Op::Read { dw, .. } => *dw,
@@ -33,8 +46,8 @@ fn length_for(op: &Op) -> u16
 
 /// First DW BE and Last DW BE.
 fn enables_for(op: &Op) -> (u8, u8)
-    ensures first { result.0 ≡ first_for op.now }
-    ensures last { result.1 ≡ last_for op.now }
+    ensures first { result.0 ≡ requests.first_for op.now }
+    ensures last { result.1 ≡ requests.last_for op.now }
 {
     match op {
         Op::Read { first, last, .. } | Op::Write { first, last, .. } => (*first, *last),
@@ -53,7 +66,7 @@ fn put_operand(payload: &mut ArrayVec<u8, MAX_PAYLOAD>, width: Width, operand: u
 }
 
 fn payload_for(op: &Op) -> ArrayVec<u8, MAX_PAYLOAD>
-    ensures items { result.items ≡ payload_for op.now }
+    ensures items { result.items ≡ requests.payload_for op.now }
     ensures range { length result.items ≤ 128 }
 {
     let mut payload = ArrayVec::new();
@@ -78,21 +91,22 @@ fn payload_for(op: &Op) -> ArrayVec<u8, MAX_PAYLOAD>
     payload
 }
 
-/// The request of a port for an operation without a fault, under that tag.
-pub(crate) fn request_for(port: u8, tag: u8, op: &Op) -> Tlp
-    requires port { port < 256 }
+/// The request for an operation without a fault.
+fn sound_request(op: &Op, origin: Origin) -> Tlp
     requires sound { op_fault op.now ≡ None }
-    ensures value { result ≡ request_for port tag op.now }
+    requires tc { origin.tc < 8 }
+    requires attr { origin.attr < 8 }
+    ensures value { result ≡ requests.request op.now origin }
     ensures asks { op_of result ≡ Some op.now }
 {
     let (first, last) = enables_for(op);
     Tlp {
         kind: kind_for(op),
-        tc: 0,
-        attr: 0,
+        tc: origin.tc,
+        attr: origin.attr,
         length: length_for(op),
-        requester: u16::from(port) * 256,
-        tag,
+        requester: origin.requester,
+        tag: origin.tag,
         body: Body::Request {
             address: op.address(),
             first,
@@ -100,4 +114,34 @@ pub(crate) fn request_for(port: u8, tag: u8, op: &Op) -> Tlp
         },
         payload: payload_for(op),
     }
+}
+
+/// The request for an operation, or the first fault of the operation, of which there is no request.
+/// Takes no memory.
+pub fn request_with(op: &Op, origin: Origin) -> Result<Tlp, TlpFault>
+    requires tc { origin.tc < 8 }
+    requires attr { origin.attr < 8 }
+    ensures value { result ≡ requests.unless (op_fault op.now) (requests.request op.now origin) }
+    ensures asks { IfOk result (λ t. op_of t ≡ Some op.now) }
+{
+    match op_fault(op) {
+        Some(fault) => Err(fault),
+        None => Ok(sound_request(op, origin)),
+    }
+}
+
+/// The request of a port for an operation without a fault, under that tag.
+pub(crate) fn request_for(port: u8, tag: u8, op: &Op) -> Tlp
+    requires port { port < 256 }
+    requires sound { op_fault op.now ≡ None }
+    ensures value { result ≡ requests.request_for port tag op.now }
+    ensures asks { op_of result ≡ Some op.now }
+{
+    let origin = Origin {
+        requester: u16::from(port) * 256,
+        tag,
+        tc: 0,
+        attr: 0,
+    };
+    sound_request(op, origin)
 }
