@@ -1,5 +1,4 @@
 pub mod Rooms
-pub mod FromParts
 pub mod Indexed
 pub mod Lanes
 pub mod Kept

@@ -4,8 +4,8 @@ use Rattle.fabric_core.specs.declared.event.Seen.TheVariants as seen
 use Rattle.fabric_core.specs.Footprints.{call_of}
 use Rattle.lane_core.specs.Calls.{happens}
 use Rattle.lane_core.specs.Steps.{dllp_of}
-use Rattle.fabric_core.proofs.FromParts.{links_at}
-use Rattle.fabric_core.proofs.laws.each_event_on_its_parts_happens.Goals as goal
+use Rattle.fabric_footprints.proofs.FromParts.{links_at}
+use Rattle.fabric_footprints.proofs.laws.each_event_on_its_parts_happens.Goals as goal
 
 pub returns : goal.returns
 returns c =

@@ -1,7 +1,7 @@
 use Rattle.std.proofs.Common.{inl, inr}
 use Rattle.fabric_core.specs.declared.event.LinkEvent.TheVariants as links
-use Rattle.fabric_core.proofs.FromParts.{link_refused_at}
-use Rattle.fabric_core.proofs.laws.each_refusal_on_its_parts_is_the_fabrics.Goals as goal
+use Rattle.fabric_footprints.proofs.FromParts.{link_refused_at}
+use Rattle.fabric_footprints.proofs.laws.each_refusal_on_its_parts_is_the_fabrics.Goals as goal
 
 pub returns : goal.returns
 returns c =
