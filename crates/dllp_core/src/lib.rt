@@ -13,6 +13,3 @@ pub use encoding::encode;
 pub use fault::DllpFault;
 pub use laws::{bytes_spell_one_dllp, canonical_is_read_back};
 pub use packet::{Class, Dllp};
-
-#[cfg(test)]
-mod rows;

@@ -12,8 +12,6 @@ mod laws;
 mod ledger;
 mod limits;
 mod needs;
-#[cfg(test)]
-mod rows;
 
 pub use gate::CreditGate;
 pub use laws::{

@@ -7,6 +7,3 @@ mod receiver;
 
 pub use laws::{hands_up_what_it_advanced_by, one_nak_until_a_packet_is_accepted};
 pub use receiver::{NakScheduled, Receiver, Reception};
-
-#[cfg(test)]
-mod rows;

@@ -14,6 +14,3 @@ pub use laws::{
     transmitted_under_its_own_number,
 };
 pub use sender::{Sender, WINDOW};
-
-#[cfg(test)]
-mod rows;

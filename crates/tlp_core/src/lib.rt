@@ -14,8 +14,6 @@ mod field;
 pub mod laws;
 mod operation;
 mod packet;
-#[cfg(test)]
-mod tests;
 
 pub use decoding::decode;
 pub use encoding::{MAX_TLP, encode};

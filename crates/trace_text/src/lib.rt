@@ -19,8 +19,6 @@ mod fields;
 mod laws;
 mod operations;
 mod replies;
-#[cfg(test)]
-mod tests;
 mod writing;
 
 pub use fields::{cut, is_ended, number};

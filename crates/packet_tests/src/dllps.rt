@@ -1,5 +1,5 @@
-//! Worked rows.
-use super::*;
+//! Worked packets of the data link layer, and bytes that are none.
+use dllp_core::{Class, Dllp, DllpFault, decode, encode};
 use seq12::Seq12;
 use std::test::Fail;
 

@@ -1,6 +1,6 @@
-//! Worked rows.
-use super::*;
+//! Worked rows of a receiver: what it answers to numbers, and what it sends back.
 use dllp_core::Dllp;
+use link_receiver::{NakScheduled, Receiver, Reception};
 use seq12::Seq12;
 
 /// The next DLLP, as bytes.

@@ -1,7 +1,7 @@
-//! Worked packets, and bytes that are none.
-use crate::{Op, TlpFault, Width, decode, encode, op_fault, op_of};
+//! Worked packets of the transaction layer, and bytes that are none.
 use arrayvec::ArrayVec;
 use std::test::Fail;
+use tlp_core::{Op, TlpFault, Width, decode, encode, op_fault, op_of};
 
 /// FetchAdd of 7 at 40h.
 const FETCH_ADD: [u8; 16] = [0x4C, 0, 0, 1, 1, 0, 5, 0, 0, 0, 0, 0x40, 7, 0, 0, 0];
