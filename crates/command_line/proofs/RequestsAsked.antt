@@ -6,7 +6,8 @@ use Rattle.clap.specs.Words.{Row, Text}
 use Rattle.counting.specs.declared.Counting.{Counting}
 use Rattle.command_line.specs.declared.words.Request.{Request}
 use Rattle.command_line.specs.declared.words.Request.TheVariants.{Tlp, Decode, Encode, Check, Upgrade, Step, Run}
-use Rattle.command_line.specs.Options.{WritesBase, WritesNumber, WritesGiven, WritesFlag, AsksRun, Asks}
+use Rattle.option_values.specs.Values.{WritesBase, WritesNumber, WritesGiven, WritesFlag}
+use Rattle.command_line.specs.Options.{AsksRun, Asks}
 
 pub if_none : {T P : Type 0} (o : Option T) → P → IfNone o P
 if_none None p = p

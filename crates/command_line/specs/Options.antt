@@ -1,11 +1,11 @@
 -- What the words of a command line ask for.
-use Rattle.std.specs.Prelude.{◌≡◌, ◌≤◌, ℕ, Bool, true, false, List, length, Option, Some, None, codes, bytes_eq}
-use Rattle.std.specs.Str.Parse.{IsNumeral, digits_value}
+use Rattle.std.specs.Prelude.{◌≡◌, ℕ, true, List, Option, Some, None, codes}
 use Rattle.clap.specs.declared.builder.action.ArgAction.TheVariants.{SetTrue}
 use Rattle.clap.specs.Words.{App, Row, Rule, Text, first_of, new_app, new_rule, with_rule, with_subcommand}
 use Rattle.counting.specs.declared.Counting.{Counting}
 use Rattle.counting.specs.Ranges.{IsCounting}
-use Rattle.seq_memory.specs.Limits.{IsSize, IsBase, IsBlock}
+use Rattle.seq_memory.specs.Limits.{IsWithinLimits}
+use Rattle.option_values.specs.Values.{WritesBase, WritesNumber, WritesGiven, WritesFlag}
 use Rattle.command_line.specs.declared.words.Request.{Request}
 use Rattle.command_line.specs.declared.words.Request.TheVariants.{Tlp, Decode, Encode, Check, Upgrade, Step, Run}
 
@@ -43,38 +43,12 @@ the_app =
     with_subcommand (with_subcommand (with_subcommand (with_subcommand (with_subcommand (with_subcommand (with_subcommand top_app tlp_app.top) (new_app (codes "decode")).top)
     (new_app (codes "encode")).top) (new_app (codes "check")).top) (new_app (codes "upgrade")).top) step_app.top) run_app.top
 
--- a base is written in 1 to 16 hexadecimal digits, and is 0 where none is given
-abbrev pub WritesBase : Option Text → ℕ → Type 0
-WritesBase None base = base ≡ 0
-WritesBase (Some text) base = (length text ≤ 16) × IsNumeral 16 text × (base ≡ digits_value 16 text)
-
--- a number is written in decimal digits, and is the default where none is given
-abbrev pub WritesNumber : ℕ → Option Text → ℕ → Type 0
-WritesNumber default None n = n ≡ default
-WritesNumber default (Some text) n = IsNumeral 10 text × (n ≡ digits_value 10 text)
-
--- a number that has to be given
-abbrev pub WritesGiven : Option Text → ℕ → Type 0
-WritesGiven None n = ⊥
-WritesGiven (Some text) n = IsNumeral 10 text × (n ≡ digits_value 10 text)
-
--- the memories that there can be
-pub record IsMemory (base size block : ℕ) : Type 0 where
-  pub in_size : IsSize size
-  pub in_base : IsBase base size
-  pub in_block : IsBlock block
-
 -- the values of `tlp` ask for this memory
 pub record AsksTlp (rows : List Row) (base size block : ℕ) : Type 0 where
   pub base_read : WritesBase (first_of (codes "base") rows) base
   pub size_read : WritesNumber 4096 (first_of (codes "size") rows) size
   pub block_read : WritesNumber 64 (first_of (codes "block") rows) block
-  pub memory : IsMemory base size block
-
--- a flag is set exactly where its value is `true`
-abbrev pub WritesFlag : Option Text → Bool → Type 0
-WritesFlag None b = b ≡ false
-WritesFlag (Some text) b = b ≡ bytes_eq text (codes "true")
+  pub memory : IsWithinLimits base size block
 
 -- the values of `run` ask for this counting
 pub record AsksRun (rows : List Row) (c : Counting) : Type 0 where

@@ -1,16 +1,16 @@
 //! The command line.
-ghost use Rattle.std.specs.Prelude.{◌≡◌, ◌^◌, ◌<◌, ℕ, IfOk, IfErr, IsTrue, ◌↔◌, IfSome, IfNone, map, option_map, true, false, codes, Some, []};
+ghost use Rattle.std.specs.Prelude.{◌≡◌, IfOk, IfErr, IfSome, IfNone, map, true, false, codes, Some, []};
 ghost use Rattle.clap.specs.Words.{FailsBy, HasKind, app_of, fault_of, kind_of, subcommand_of, subcommand_rows_of, has_subcommand, takes, rows_of, found_of, new_app, with_rule, with_subcommand};
 ghost use Rattle.clap.specs.Walk.{rule_of};
 ghost use Rattle.clap.specs.declared.builder.Command.TheViews.{out-Command};
 ghost use Rattle.command_line.specs.declared.words.Request.{Request};
 ghost use Rattle.command_line.specs.Faults.{WordsFault, RangeFault};
-ghost use Rattle.command_line.specs.Options.{the_app, top_app, tlp_app, step_app, run_app, option, required, flag, WritesFlag, IsMemory, WritesBase, WritesNumber, WritesGiven, Asks};
+ghost use Rattle.command_line.specs.Options.{the_app, top_app, tlp_app, step_app, run_app, option, required, flag, Asks};
 
 use clap::error::ErrorKind;
 use clap::{Arg, ArgAction, ArgMatches, Command};
 use counting::Counting;
-use seq_memory::{is_base, is_block, is_size};
+use option_values::{base_of, block_of, given_of, is_set, is_within_limits, number_of, size_of};
 use std::alloc::{AllocError, Global};
 use std::convert::AsStr;
 
@@ -247,55 +247,6 @@ fn matches_of<'a, S: AsStr>(alloc: Global, words: &'a [S]) -> Result<ArgMatches<
     command.try_get_matches_from(words)
 }
 
-/// A base as it is written.
-fn base_of(text: Option<&str>) -> Option<u64>
-    ensures some { IfSome result (WritesBase (option_map (λ t. t.now) text.entry)) }
-    ensures none { IfNone result ((n : ℕ) → n < 2 ^ 64 → WritesBase (option_map (λ t. t.now) text.entry) n → ⊥) }
-{
-    let Some(text) = text else {
-        return Some(0);
-    };
-    if text.len() > 16 || text.as_bytes().starts_with(b"+") {
-        return None;
-    }
-    u64::from_str_radix(text, 16).ok()
-}
-
-/// A size as it is written.
-fn size_of(text: Option<&str>) -> Option<usize>
-    ensures some { IfSome result (WritesNumber 4096 (option_map (λ t. t.now) text.entry)) }
-    ensures none { IfNone result ((n : ℕ) → n < 2 ^ 64 → WritesNumber 4096 (option_map (λ t. t.now) text.entry) n → ⊥) }
-{
-    let Some(text) = text else {
-        return Some(4096);
-    };
-    if text.as_bytes().starts_with(b"+") {
-        return None;
-    }
-    text.parse().ok()
-}
-
-/// A block as it is written.
-fn block_of(text: Option<&str>) -> Option<u16>
-    ensures some { IfSome result (WritesNumber 64 (option_map (λ t. t.now) text.entry)) }
-    ensures none { IfNone result ((n : ℕ) → n < 2 ^ 16 → WritesNumber 64 (option_map (λ t. t.now) text.entry) n → ⊥) }
-{
-    let Some(text) = text else {
-        return Some(64);
-    };
-    if text.as_bytes().starts_with(b"+") {
-        return None;
-    }
-    text.parse().ok()
-}
-
-/// Whether there can be such a memory.
-fn is_memory(base: u64, size: usize, block: u16) -> bool
-    ensures { IsTrue result ↔ IsMemory base size block }
-{
-    is_size(size) && is_base(base, size) && is_block(block)
-}
-
 /// What the values of `tlp` ask for.
 fn tlp_of(tlp: &ArgMatches<'_>) -> Option<Request>
     ensures some { IfSome result (Asks (Some (codes "tlp", rows_of (found_of tlp.now)))) }
@@ -304,20 +255,10 @@ fn tlp_of(tlp: &ArgMatches<'_>) -> Option<Request>
     let base = base_of(tlp.get_str("base"))?;
     let size = size_of(tlp.get_str("size"))?;
     let block = block_of(tlp.get_str("block"))?;
-    if !is_memory(base, size, block) {
+    if !is_within_limits(base, size, block) {
         return None;
     }
     Some(Request::Tlp { base, size, block })
-}
-
-/// Whether the flag is set, by its value.
-fn is_set(text: Option<&str>) -> bool
-    ensures { WritesFlag (option_map (λ t. t.now) text.entry) result }
-{
-    match text {
-        Some(text) => text == "true",
-        None => false,
-    }
 }
 
 /// What the values of `step` ask for.
@@ -326,31 +267,6 @@ fn step_of(step: &ArgMatches<'_>) -> Request
 {
     Request::Step {
         is_traced: is_set(step.get_str("trace")),
-    }
-}
-
-/// A number as it is written.
-fn number_of(text: Option<&str>, default: u64) -> Option<u64>
-    ensures some { IfSome result (WritesNumber default (option_map (λ t. t.now) text.entry)) }
-    ensures none { IfNone result ((n : ℕ) → n < 2 ^ 64 → WritesNumber default (option_map (λ t. t.now) text.entry) n → ⊥) }
-{
-    let Some(text) = text else {
-        return Some(default);
-    };
-    if text.as_bytes().starts_with(b"+") {
-        return None;
-    }
-    text.parse().ok()
-}
-
-/// A number that has to be written.
-fn given_of(text: Option<&str>) -> Option<u64>
-    ensures some { IfSome result (WritesGiven (option_map (λ t. t.now) text.entry)) }
-    ensures none { IfNone result ((n : ℕ) → n < 2 ^ 64 → WritesGiven (option_map (λ t. t.now) text.entry) n → ⊥) }
-{
-    match text {
-        Some(text) => number_of(Some(text), 0),
-        None => None,
     }
 }
 

@@ -3,7 +3,8 @@ use Rattle.clap.specs.Words.{rows_of, found_of, first_of, Row, Text}
 use Rattle.clap.proofs.WalkLemmas.{first_value-rows}
 use Rattle.counting.specs.declared.Counting.{Counting}
 use Rattle.counting.specs.Ranges.{IsCounting}
-use Rattle.command_line.specs.Options.{WritesNumber, WritesGiven, WritesFlag, AsksRun, Asks}
+use Rattle.option_values.specs.Values.{WritesNumber, WritesGiven, WritesFlag}
+use Rattle.command_line.specs.Options.{AsksRun, Asks}
 use Rattle.command_line.specs.declared.words.Request.{Request}
 use Rattle.command_line.specs.declared.words.Request.TheVariants.{Run}
 use Rattle.command_line.proofs.RequestsAsked.{same_number, same_given, same_counting, name_of, asks_name, differ, if_none}

@@ -1,7 +1,7 @@
 use Rattle.std.proofs.Common.{◌∙◌, refl, subst, codes, Option}
 use Rattle.clap.specs.Words.{found_of, Text}
 use Rattle.clap.proofs.WalkLemmas.{first_value-rows}
-use Rattle.command_line.specs.Options.{WritesFlag}
+use Rattle.option_values.specs.Values.{WritesFlag}
 use Rattle.command_line.proofs.words.step_of.Goals as goal
 
 pub returns : goal.returns
