@@ -9,8 +9,6 @@ ghost use Rattle.tlp_core.specs.Operation.{size_of};
 ghost use Rattle.atomic_op.specs.NewValue.{FitsWidth, new_value};
 
 pub mod laws;
-#[cfg(test)]
-mod tests;
 
 use tlp_core::Width;
 

@@ -6,7 +6,5 @@ mod completion;
 pub mod laws;
 mod serving;
 mod span;
-#[cfg(test)]
-mod tests;
 
 pub use serving::{serve, shape};

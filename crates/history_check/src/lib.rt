@@ -17,8 +17,6 @@ mod flaws;
 mod index;
 pub mod laws;
 mod replay;
-#[cfg(test)]
-mod tests;
 
 pub use checking::check;
 pub use flaws::{Flaw, FlawKind};

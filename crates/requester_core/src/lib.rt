@@ -6,8 +6,6 @@ mod fault;
 pub mod laws;
 mod request;
 mod requester;
-#[cfg(test)]
-mod tests;
 
 pub use fault::{CompletionFault, SubmitRefusal};
 pub use request::{Origin, request_with};

@@ -15,8 +15,6 @@ mod limits;
 mod memory;
 mod place;
 mod step;
-#[cfg(test)]
-mod tests;
 
 use arrayvec::ArrayVec;
 pub use limits::{ALIGNMENT, MAX_SIZE, MIN_SIZE, is_base, is_block, is_size};

@@ -1,6 +1,6 @@
 //! Worked requests and completions.
-use crate::{CompletionFault, Requester, SubmitRefusal};
 use arrayvec::ArrayVec;
+use requester_core::{CompletionFault, Requester, SubmitRefusal};
 use seq_memory::Reply;
 use std::test::Fail;
 use tlp_core::{Op, TlpFault, Width, decode, encode};

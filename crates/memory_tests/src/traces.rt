@@ -1,6 +1,6 @@
 //! Worked traces of one requester, of reads and writes at 40h.
-use crate::{Flaw, FlawKind, Record, Trace, check};
 use arrayvec::ArrayVec;
+use history_check::{Flaw, FlawKind, Record, Trace, check};
 use seq_memory::{Entry, Reply};
 use std::alloc::{AllocError, Global};
 use std::test::Fail;

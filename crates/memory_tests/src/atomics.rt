@@ -1,5 +1,5 @@
 //! Values that AtomicOps leave.
-use crate::{AtomicOp, apply};
+use atomic_op::{AtomicOp, apply};
 use std::test::Fail;
 use tlp_core::Width;
 

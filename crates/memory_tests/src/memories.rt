@@ -1,6 +1,6 @@
 //! What memories hold, answer and refuse.
-use crate::{Entry, Memory, Refusal, Reply, is_base, is_block, is_size, perform};
 use arrayvec::ArrayVec;
+use seq_memory::{Entry, Memory, Refusal, Reply, is_base, is_block, is_size, perform};
 use std::alloc::{AllocError, Global};
 use std::test::Fail;
 use tlp_core::{MAX_PAYLOAD, Op, Width};
@@ -235,10 +235,16 @@ fn a_refused_growth_changes_nothing(rt: HostRuntime) -> Result<(), Fail> {
 
 #[test]
 fn limits(rt: HostRuntime) {
-    assert_eq!(rt;
-        [0, 64, 128, 200, 1_048_576, 1_048_704].map(is_size),
-        [false, false, true, false, true, false]
-    );
+    for (size, want) in [
+        (0, false),
+        (64, false),
+        (128, true),
+        (200, false),
+        (1_048_576, true),
+        (1_048_704, false),
+    ] {
+        assert_eq!(rt; is_size(size), want, "{size} bytes");
+    }
     assert!(rt; is_base(0, 128) && !is_base(64, 128));
     let last = 0xFFFF_FFFF_FFFF_FF80;
     assert!(rt; is_base(last, 128) && !is_base(last, 256));

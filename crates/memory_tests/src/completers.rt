@@ -1,5 +1,5 @@
 //! Worked requests, served.
-use crate::{serve, shape};
+use completer_core::{serve, shape};
 use fc_credit::Need;
 use seq_memory::Memory;
 use std::alloc::Global;
