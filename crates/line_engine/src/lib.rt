@@ -14,8 +14,6 @@ mod engine;
 mod fault;
 mod output;
 mod responder;
-#[cfg(test)]
-mod tests;
 
 pub use engine::run;
 pub use fault::EngineFault;

@@ -7,12 +7,8 @@
 
 mod decoder;
 mod encoder;
-#[cfg(test)]
-mod example_tests;
 mod laws;
 mod telling;
-#[cfg(test)]
-mod tests;
 
 pub use decoder::run_decode;
 pub use encoder::run_encode;

@@ -32,8 +32,6 @@ mod events;
 mod fields;
 mod line;
 mod names;
-#[cfg(test)]
-mod tests;
 mod writing;
 
 pub use line::{Line, read_line};

@@ -4,10 +4,6 @@
 //! write, or a fault. It goes over any reader and writer, a block of input at a time.
 #![tactic(auto)]
 
-#[cfg(test)]
-mod example_tests;
-#[cfg(test)]
-mod tests;
 mod text;
 mod tlp;
 

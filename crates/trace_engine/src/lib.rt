@@ -8,8 +8,6 @@
 
 mod check;
 pub mod laws;
-#[cfg(test)]
-mod tests;
 mod traces;
 mod upgrade;
 

@@ -24,8 +24,6 @@ mod laws;
 mod line;
 mod reader;
 mod reading;
-#[cfg(test)]
-mod tests;
 mod writing;
 
 pub use fault::{ReadFault, ReadFaultKind};

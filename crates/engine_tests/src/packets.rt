@@ -1,5 +1,5 @@
-//! Worked lines.
-use crate::{run_decode, run_encode};
+//! Worked lines of `decode` and `encode`.
+use packet_engine::{run_decode, run_encode};
 use std::alloc::Global;
 use std::test::Fail;
 

@@ -1,10 +1,10 @@
-//! Worked texts, in both versions.
-use crate::{
-    ReadFault, ReadFaultKind, TraceReader, own_text_spells_trace, read_trace, write_trace,
-};
+//! Worked texts of traces, in both versions.
 use history_check::check;
 use std::alloc::Global;
 use std::test::Fail;
+use trace_file::{
+    ReadFault, ReadFaultKind, TraceReader, own_text_spells_trace, read_trace, write_trace,
+};
 
 /// The number of the fault's line, and the name of the fault; 0 and nothing where the text is read.
 fn fault_of(alloc: Global, text: &[u8]) -> (u64, &'static str) {

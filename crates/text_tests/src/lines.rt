@@ -1,6 +1,6 @@
 //! A small responder over worked inputs, and over streams that fail.
-use crate::{EngineFault, Responder, run, write_out};
 use arrayvec::ArrayVec;
+use line_engine::{EngineFault, Responder, run, write_out};
 use std::alloc::{AllocError, Global};
 use std::cell::Cell;
 use std::io;

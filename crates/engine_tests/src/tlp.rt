@@ -1,10 +1,10 @@
-//! Worked lines.
+//! Worked lines of `tlp`.
 ghost use Rattle.seq_memory.specs.Limits.{IsBase, IsBlock, IsSize};
 
-use crate::run_tlp;
 use line_engine::EngineFault;
 use std::alloc::Global;
 use std::test::Fail;
+use tlp_engine::run_tlp;
 
 /// What a run over a memory of these limits answered, and what was written.
 fn told(

@@ -1,8 +1,8 @@
 //! Worked traces, checked and upgraded, and the file of the folder `examples/` for `check`:
 //! `examples/check.sh` says whether it is the same.
-use crate::{run_check, run_upgrade};
 use std::alloc::Global;
 use std::test::Fail;
+use trace_engine::{run_check, run_upgrade};
 
 /// Whether `check` writes this.
 fn is_checked(alloc: Global, text: &[u8], want: &[u8]) -> bool {

@@ -1,5 +1,5 @@
 //! The files of the folder `examples/` for `tlp`, and what they print: `examples/check.sh` says whether they are the same.
-use crate::tests::answers;
+use crate::tlp::answers;
 
 const PACKETS: &str = "\
 # Packets for `pciex tlp`, one a line. Spaces and lines like this one are ignored.

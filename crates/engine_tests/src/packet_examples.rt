@@ -1,5 +1,5 @@
 //! The file of the folder `examples/` for `encode`, and what it prints: `examples/check.sh` says whether they are the same.
-use crate::tests::encodes;
+use crate::packets::encodes;
 
 const WORDS: &str = "\
 # Packets for `pciex encode`, one a line in words. Lines like this one are ignored.

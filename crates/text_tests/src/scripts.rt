@@ -1,5 +1,4 @@
-//! Worked lines, and lines of no known form.
-use crate::{Line, read_line, write_config_fault, write_refusal, write_seen};
+//! Worked lines of scripts, and lines of no known form.
 use arrayvec::{ArrayString, ArrayVec};
 use dllp_core::{Class, Dllp};
 use fabric_core::{Config, ConfigFault, Event, LaneName, Refusal, Seen};
@@ -8,6 +7,7 @@ use lane_core::{Arrival, DllpKind, DllpSeen, Fate, LaneRefusal};
 use link_receiver::Reception;
 use replay_sender::AckFault;
 use requester_core::{Answer, CompletionFault, SubmitRefusal};
+use script_text::{Line, read_line, write_config_fault, write_refusal, write_seen};
 use seq_memory::Reply;
 use seq12::Seq12;
 use std::test::Fail;
