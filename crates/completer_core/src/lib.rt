@@ -9,4 +9,4 @@ mod span;
 #[cfg(test)]
 mod tests;
 
-pub use serving::{serve, shape};
+pub use serving::{answer, serve, shape};
