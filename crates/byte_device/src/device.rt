@@ -14,8 +14,9 @@ use tlp_core::{Kind, MAX_TLP, Tlp, decode, encode};
 /// The bytes of room that a call asks for, whatever its completion has.
 pub const MAX_COMPLETION: usize = MAX_TLP;
 
-/// Puts the canonical bytes of the completion to the front of the room, and gives how many they are.
-fn put_completion(completion: &Tlp, room: &mut [u8]) -> u32
+/// Puts the canonical bytes of the completion to the front of a room of at least
+/// [`MAX_COMPLETION`] bytes, and gives how many they are.
+pub fn put_completion(completion: &Tlp, room: &mut [u8]) -> u32
     requires { 144 ≤ length room.old }
     ensures room { room.new ≡ filled room.old (canonical completion.now) }
     ensures length { result ≡ length (canonical completion.now) }
@@ -27,7 +28,8 @@ fn put_completion(completion: &Tlp, room: &mut [u8]) -> u32
     canonical.len() as u32
 }
 
-fn is_completion(kind: Kind) -> bool
+/// Whether the kind is a completion's, with data or without.
+pub fn is_completion(kind: Kind) -> bool
     ensures { result ≡ spec.is_completion kind }
 {
     matches!(kind, Kind::Completion | Kind::CompletionData)

@@ -19,6 +19,24 @@ pub const NO_REQUEST: u32 = 2002;
 /// Memory was refused.
 pub const NO_MEMORY: u32 = 2003;
 
+/// The size of a memory is out of its range.
+pub const WRONG_SIZE: u32 = 2004;
+
+/// The base address of a memory is none for its size.
+pub const WRONG_BASE: u32 = 2005;
+
+/// A history has no entry at that place.
+pub const NO_ENTRY: u32 = 2006;
+
+/// No fault has that number.
+pub const NO_FAULT: u32 = 2007;
+
+/// The line isn't one of the form that is asked for.
+pub const NO_LINE: u32 = 2008;
+
+/// The bytes of room that a line of text is asked for, whatever it has.
+pub const LINE_ROOM: usize = 512;
+
 /// Puts the bytes to the front of the room.
 pub fn fill(room: &mut [u8], bytes: &[u8])
     requires { length bytes.now ≤ length room.old }
