@@ -5,5 +5,5 @@
 mod names;
 mod words;
 
-pub use names::name_fault;
+pub use names::{name_fault, tell_version};
 pub use words::{tell_bytes, tell_packet};
