@@ -1,11 +1,11 @@
 -- A request is served: one step of the memory, one entry, and one completion or none.
-use Rattle.std.specs.Prelude.{ℕ, ◌/◌, [], ◌∷◌, ◌++◌, Option, option_and_then}
+use Rattle.std.specs.Prelude.{ℕ, ◌/◌, List, [], ◌∷◌, ◌++◌, Option, option_and_then}
 use Rattle.std.specs.Option.{option_map_or}
 use Rattle.tlp_core.specs.declared.operation.Op.{Op}
 use Rattle.tlp_core.specs.Packet.{Packet}
 use Rattle.tlp_core.specs.Operation.{op_of}
 use Rattle.seq_memory.specs.declared.Entry.{Entry}
-use Rattle.seq_memory.specs.Step.{answer}
+use Rattle.seq_memory.specs.Step.{after, answer}
 use Rattle.seq_memory.specs.History.{State, bytes_of}
 use Rattle.completer_core.specs.Completion.{completion_of}
 
@@ -21,6 +21,14 @@ with_entry s e = record s { entries = s.entries ++ e ∷ [] }
 abbrev pub after_serving : State → Packet → ℕ → State
 after_serving s t number = option_map_or (λ op. with_entry s (entry_of t number op)) (op_of t) s
 
--- the completion of the request, which carries the memory's reply
+-- the bytes, from an address on, after the request; a packet that asks for nothing changes nothing
+abbrev pub bytes_after : ℕ → ℕ → List ℕ → Packet → List ℕ
+bytes_after block base m t = option_map_or (λ op. after block base m op) (op_of t) m
+
+-- the completion of the request, which carries the reply of those bytes
+abbrev pub completion_over : ℕ → ℕ → List ℕ → Packet → Option Packet
+completion_over block base m t = option_and_then (λ op. completion_of t (answer block base m op)) (op_of t)
+
+-- the completion of the request by a memory
 abbrev pub completion_to : State → Packet → Option Packet
-completion_to s t = option_and_then (λ op. completion_of t (answer s.block s.base (bytes_of s) op)) (op_of t)
+completion_to s t = completion_over s.block s.base (bytes_of s) t

@@ -1,11 +1,14 @@
 //! Requests at the memory.
 ghost use Rattle.std.specs.Prelude.{◌≡◌, IfOk, OnOk, OnErr, option_map};
+ghost use Rattle.tlp_core.specs.Packet.{Packet};
+ghost use Rattle.seq_memory.specs.Limits.{IsBlock};
+ghost use Rattle.seq_memory.specs.History.{State, bytes_of};
 ghost use Rattle.fc_credit.specs.Needs.{need_of};
-ghost use Rattle.completer_core.specs.Serving.{after_serving, completion_to};
+ghost use Rattle.completer_core.specs.Serving.{after_serving, completion_to, bytes_after, completion_over};
 
 use crate::completion::completion_with;
 use fc_credit::Need;
-use seq_memory::{Entry, Memory, Refusal};
+use seq_memory::{Entry, Memory, Refusal, perform};
 use std::alloc::AllocError;
 use tlp_core::{Tlp, op_of};
 
@@ -29,6 +32,21 @@ pub fn serve(memory: &mut Memory, request: &Tlp, number: u32) -> Result<Option<T
         op,
     })?;
     Ok(completion_with(request, reply))
+}
+
+/// Answers a request over bytes that the caller keeps, whose first has the address `base`, by blocks
+/// of `block` bytes, 64 or 128: the bytes and the completion are those that [`serve`] would leave and
+/// give over the same bytes, and no history is kept. A completion in place of a request does
+/// nothing. Takes no memory.
+#[inline(always)]
+pub fn answer(base: u64, block: u16, bytes: &mut [u8], request: &Tlp) -> Option<Tlp>
+    requires { IsBlock block }
+    ensures bytes { bytes.new ≡ bytes_after block base bytes.old request.now }
+    ensures completion { result ≡ completion_over block base bytes.old request.now }
+{
+    let op = op_of(request)?;
+    let reply = perform(base, block, bytes, &op);
+    completion_with(request, reply)
 }
 
 /// What the request's completion would take of the credits, if it acted now; none for a posted

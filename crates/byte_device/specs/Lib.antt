@@ -1,0 +1,2 @@
+pub mod Call
+pub use Rattle.caller_room.specs.Room

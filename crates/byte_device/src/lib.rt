@@ -1,0 +1,7 @@
+//! A memory device over bytes that its caller keeps: the bytes of one TLP in, those of its
+//! completion out. There is no history, and no memory is taken.
+#![tactic(auto)]
+
+mod device;
+
+pub use device::{MAX_COMPLETION, answer_bytes, is_completion, put_completion};

@@ -1,0 +1,3 @@
+pub mod Session
+pub mod Slot
+pub use Rattle.caller_room.specs.Room

@@ -1,0 +1,190 @@
+//! Events.
+ghost use Rattle.std.specs.Prelude.{◌≡◌, ◌≤◌, ◌<◌, ◌+◌, ◌++◌, ◌∷◌, [], ℕ, List, Some, Ok, Err, true, length, vec_len, vec_capacity, if◌then◌else◌, option_to_list, IfOk, IfErr, OnOk, OnErr};
+ghost use Rattle.arrayvec.specs.ArrayString.{array_string_len};
+ghost use Rattle.history_check.specs.declared.Record.{Record};
+ghost use Rattle.fabric_laws.specs.Fabric.{whole_of};
+ghost use Rattle.fabric_laws.specs.Trace.{Belongs};
+ghost use Rattle.fabric_core.specs.Kept.{IsSoundFabric, records_of};
+ghost use Rattle.fabric_answers.specs.Answers.{answer, IsTold};
+ghost use Rattle.script_text.specs.Names.{refusal_name};
+ghost use Rattle.script_text.specs.Texts.{seen_text};
+ghost use Rattle.caller_room.specs.Room.{filled};
+ghost use Rattle.fabric_handle.specs.Session as spec;
+ghost use Rattle.fabric_handle.specs.Session.{happened, event_call};
+
+use crate::session::Session;
+use crate::slot::{Slot, close, open};
+use arrayvec::ArrayString;
+use caller_room::{LINE_ROOM, NO_LINE, NO_MEMORY, SMALL_ROOM, fill};
+use fabric_answers::laws::each_event_has_one_answer;
+use fabric_core::{Event, Fabric, Refusal, Seen};
+use fabric_laws::laws::the_trace_belongs;
+use history_check::Record;
+use lane_core::LaneRefusal;
+use script_text::{Line, read_line, write_refusal, write_seen};
+use tlp_core::copy_of;
+
+/// An event happens to the fabric.
+fn step(fabric: &mut Fabric, event: &Event) -> Result<Seen, Refusal>
+    ensures ok { IfOk result (λ what. answer fabric.old event.now ≡ Ok (what, fabric.new)) }
+    ensures belongs { IfOk result (λ what. (rs : List Record) → Belongs (whole_of fabric.old) rs → Belongs (whole_of fabric.new) (rs ++ records_of event.now what (length fabric.old.memory.entries))) }
+    ensures refused { IfErr result (λ r. IsTold r → answer fabric.old event.now ≡ Err r) }
+    ensures err { OnErr result (fabric.new ≡ fabric.old) }
+{
+    each_event_has_one_answer();
+    the_trace_belongs();
+    fabric.sound();
+    match fabric.step(event) {
+        Ok(seen) => Ok(seen),
+        Err(refusal) => Err(refusal),
+    }
+}
+
+/// What an event adds to a trace, `n` being the length of the history before it.
+fn record_of(event: &Event, seen: Seen, n: u64) -> Option<Record>
+    ensures { option_to_list result ≡ records_of event.now seen n }
+{
+    match event {
+        Event::Submit(port, op) => match seen {
+            Seen::Submitted(number) => Some(Record::Sub {
+                requester: *port,
+                number,
+                op: copy_of(op),
+                n,
+            }),
+            _ => None,
+        },
+        Event::Collect(port) => match seen {
+            Seen::Collected(answer) => Some(Record::Ans {
+                requester: *port,
+                number: answer.number,
+                reply: answer.reply,
+                n,
+            }),
+            _ => None,
+        },
+        _ => None,
+    }
+}
+
+/// Adds the record of an event, for which there is room.
+fn keep(records: &mut Vec<Record>, event: &Event, seen: Seen, n: u64)
+    requires { vec_len records.old < vec_capacity records.old }
+    ensures { records.new.items ≡ records.old.items ++ records_of event.now seen n }
+{
+    if let Some(record) = record_of(event, seen, n) {
+        let _ = records.push(record);
+    }
+}
+
+/// Puts what is seen of the event to the front of the room.
+fn put_seen(event: &Event, seen: &Seen, room: &mut [u8]) -> u32
+    requires { 512 ≤ length room.old }
+    ensures code { result ≡ length (seen_text event.now seen.now) }
+    ensures range { result < 1000 }
+    ensures room { room.new ≡ filled room.old (seen_text event.now seen.now) }
+{
+    let mut text = ArrayString::new();
+    write_seen(event, seen, &mut text);
+    fill(room, text.as_bytes());
+    text.len() as u32
+}
+
+/// Puts the name of a refusal to the front of the room, but for want of memory.
+fn put_refusal(refusal: Refusal, room: &mut [u8]) -> u32
+    requires { 512 ≤ length room.old }
+    ensures told { ¬ (result ≡ 2003) → IsTold refusal }
+    ensures code { ¬ (result ≡ 2003) → result ≡ 1000 + length (refusal_name refusal) }
+    ensures range { (1000 ≤ result) × (result ≤ 2003) }
+    ensures room { ¬ (result ≡ 2003) → room.new ≡ filled room.old (refusal_name refusal) }
+    ensures unchanged { 2000 ≤ result → room.new ≡ room.old }
+{
+    if let Refusal::Memory | Refusal::Lane(LaneRefusal::Memory) = refusal {
+        return NO_MEMORY;
+    }
+    let mut text = ArrayString::new();
+    write_refusal(&refusal, &mut text);
+    fill(room, text.as_bytes());
+    1000 + text.len() as u32
+}
+
+/// An event of a session that keeps no trace.
+fn happen_untraced(session: &mut Session, event: &Event, room: &mut [u8]) -> u32
+    requires room { 512 ≤ length room.old }
+    requires untraced { ¬ (session.old.is_traced ≡ true) }
+    ensures code { ¬ (result ≡ 2003) → result ≡ (happened session.old room.old event.now).code }
+    ensures session { ¬ (result ≡ 2003) → session.new ≡ (happened session.old room.old event.now).session }
+    ensures room { ¬ (result ≡ 2003) → room.new ≡ (happened session.old room.old event.now).room }
+    ensures unchanged { 1000 ≤ result → session.new ≡ session.old }
+    ensures unchanged_room { 2000 ≤ result → room.new ≡ room.old }
+{
+    match step(&mut session.fabric, event) {
+        Ok(seen) => put_seen(event, &seen, room),
+        Err(refusal) => put_refusal(refusal, room),
+    }
+}
+
+/// An event of a session that keeps its trace.
+fn happen_traced(session: &mut Session, event: &Event, room: &mut [u8]) -> u32
+    requires room { 512 ≤ length room.old }
+    requires traced { session.old.is_traced ≡ true }
+    ensures code { ¬ (result ≡ 2003) → result ≡ (happened session.old room.old event.now).code }
+    ensures session { ¬ (result ≡ 2003) → session.new ≡ (happened session.old room.old event.now).session }
+    ensures room { ¬ (result ≡ 2003) → room.new ≡ (happened session.old room.old event.now).room }
+    ensures unchanged { 1000 ≤ result → session.new ≡ session.old }
+    ensures unchanged_room { 2000 ≤ result → room.new ≡ room.old }
+{
+    if session.records.try_reserve(1).is_err() {
+        return NO_MEMORY;
+    }
+    let n = session.fabric.history().len() as u64;
+    match step(&mut session.fabric, event) {
+        Ok(seen) => {
+            let code = put_seen(event, &seen, room);
+            keep(&mut session.records, event, seen, n);
+            code
+        }
+        Err(refusal) => put_refusal(refusal, room),
+    }
+}
+
+/// A line of a script happens to the session.
+fn happen(session: &mut Session, line: &[u8], room: &mut [u8]) -> u32
+    ensures code { ¬ (result ≡ 2003) → result ≡ (event_call session.old line.now room.old).code }
+    ensures session { ¬ (result ≡ 2003) → session.new ≡ (event_call session.old line.now room.old).session }
+    ensures room { ¬ (result ≡ 2003) → room.new ≡ (event_call session.old line.now room.old).room }
+    ensures unchanged { 1000 ≤ result → session.new ≡ session.old }
+    ensures unchanged_room { 2000 ≤ result → room.new ≡ room.old }
+{
+    if room.len() < LINE_ROOM {
+        return SMALL_ROOM;
+    }
+    let Some(Line::Event(event)) = read_line(line) else {
+        return NO_LINE;
+    };
+    if session.is_traced {
+        happen_traced(session, &event, room)
+    } else {
+        happen_untraced(session, &event, room)
+    }
+}
+
+/// The event that the line of a script spells happens to the fabric of the slot, which goes to
+/// `back`. Below 1000 the result is how many bytes what is seen of it has, as `pciex step` prints it,
+/// at the front of `room`. From 1000 on the fabric stays as it was: 1000 and the length of its name
+/// for a refusal, which then stands there, `SMALL_ROOM` for fewer than 512 bytes, `NO_LINE` where the
+/// line is none of an event, or `NO_MEMORY`.
+pub fn tell_event(slot: Slot, line: &[u8], room: &mut [u8], back: &mut Slot) -> u32
+    ghost session: { spec.Session }
+    requires { slot.session ≡ Some session }
+    ensures code { ¬ (result ≡ 2003) → result ≡ (event_call session line.now room.old).code }
+    ensures session { ¬ (result ≡ 2003) → back.new.session ≡ Some (event_call session line.now room.old).session }
+    ensures room { ¬ (result ≡ 2003) → room.new ≡ (event_call session line.now room.old).room }
+    ensures unchanged { 1000 ≤ result → back.new.session ≡ Some session }
+    ensures unchanged_room { 2000 ≤ result → room.new ≡ room.old }
+{
+    let mut held = open(slot);
+    let code = happen(&mut held, line, room);
+    *back = close(held);
+    code
+}

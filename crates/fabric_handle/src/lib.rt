@@ -1,0 +1,14 @@
+//! A fabric in a slot that stands outside Rattle, driven by the lines of scripts.
+//!
+//! A slot holds a fabric or nothing, and only the slot that a call gave back holds it then: the one
+//! that the call took is used up.
+#![tactic(auto)]
+
+mod held;
+mod happening;
+mod session;
+mod slot;
+
+pub use held::{copy_bytes, history_length, is_quiet, tell_trace};
+pub use happening::tell_event;
+pub use slot::{Slot, free_fabric, new_fabric};

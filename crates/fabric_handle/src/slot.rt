@@ -1,0 +1,164 @@
+//! Slots.
+ghost use Rattle.std.specs.Prelude.{◌≡◌, ◌≤◌, ◌<◌, ◌+◌, Option, Some, None, IfOk, IfErr, length};
+ghost use Rattle.arrayvec.specs.ArrayString.{array_string_len};
+ghost use Rattle.fabric_laws.specs.Fabric.{whole_of};
+ghost use Rattle.fabric_laws.specs.Trace.{Belongs};
+ghost use Rattle.fabric_core.specs.declared.config.Config as configs;
+ghost use Rattle.fabric_answers.specs.New as new;
+ghost use Rattle.script_text.specs.Names.{config_fault_name};
+ghost use Rattle.caller_room.specs.Room.{filled};
+ghost use Rattle.fabric_handle.specs.Session as spec;
+ghost use Rattle.fabric_handle.specs.Session.{new_session, making, AsksFor};
+ghost use Rattle.fabric_handle.specs.Slot.{slot_owns, session_coded};
+
+use crate::session::Session;
+use arrayvec::ArrayString;
+use box_parts::Parts;
+use caller_room::{LINE_ROOM, NO_LINE, NO_MEMORY, SMALL_ROOM, fill};
+use fabric_answers::laws::a_configuration_has_one_answer;
+use fabric_core::{Config, ConfigFault, Fabric};
+use script_text::{Line, read_line, write_config_fault};
+use std::alloc::Global;
+use std::marker::Model;
+
+/// A fabric, or nothing. Where it is dropped, the fabric isn't freed.
+#[repr(C)]
+#[derive(Drop)]
+pub struct Slot {
+    at: *mut (),
+    alloc: Global,
+    pub ghost session: { Option spec.Session } by { session_coded },
+}
+
+impl Model for Slot {
+    ghost also_owns = { λ s. slot_owns s.alloc s.at s.session };
+}
+
+fn of_parts(parts: Parts<Session, Global>) -> Slot
+    ensures { result.session ≡ Some parts.value }
+{
+    let Parts { ptr, alloc } = parts;
+    Slot {
+        at: ptr as *mut (),
+        alloc,
+    }
+}
+
+fn into_parts(slot: Slot) -> Parts<Session, Global>
+    ghost session: { spec.Session }
+    requires { slot.session ≡ Some session }
+    ensures { result.value ≡ session }
+{
+    let Slot { at, alloc } = slot;
+    Parts {
+        ptr: at as *mut Session,
+        alloc,
+    }
+}
+
+/// Takes the session out of the slot.
+pub(crate) fn open(slot: Slot) -> Box<Session, Global>
+    ghost session: { spec.Session }
+    requires { slot.session ≡ Some session }
+    ensures { result.value ≡ session }
+{
+    into_parts(slot).into_box()
+}
+
+/// A slot that holds the session.
+pub(crate) fn close(held: Box<Session, Global>) -> Slot
+    ensures { result.session ≡ Some held.value }
+{
+    of_parts(Parts::of(held))
+}
+
+/// A session with a new fabric.
+fn make(alloc: Global, config: Config, is_traced: bool) -> Result<Session, ConfigFault>
+    ensures ok { IfOk result (λ s. (s ≡ new_session config is_traced) × (new.config_fault config ≡ None)) }
+    ensures fault { IfErr result (λ fault. (fault ≡ ConfigFault.Memory → ⊥) → new.config_fault config ≡ Some fault) }
+{
+    a_configuration_has_one_answer();
+    let fabric = Fabric::new(config, alloc)?;
+    Ok(Session {
+        fabric,
+        is_traced,
+        records: Vec::new(alloc),
+    })
+}
+
+/// Puts the name of a fault to the front of the room, but for want of memory.
+fn put_fault(fault: ConfigFault, room: &mut [u8]) -> u32
+    requires { 512 ≤ length room.old }
+    ensures told { ¬ (result ≡ 2003) → ¬ (fault ≡ ConfigFault.Memory) }
+    ensures code { ¬ (result ≡ 2003) → result ≡ 1000 + length (config_fault_name fault) }
+    ensures range { (1000 ≤ result) × (result ≤ 2003) }
+    ensures room { ¬ (result ≡ 2003) → room.new ≡ filled room.old (config_fault_name fault) }
+{
+    if let ConfigFault::Memory = fault {
+        return NO_MEMORY;
+    }
+    let mut text = ArrayString::new();
+    write_config_fault(&fault, &mut text);
+    fill(room, text.as_bytes());
+    1000 + text.len() as u32
+}
+
+/// Makes the fabric of a configuration.
+fn make_in(
+    alloc: Global,
+    config: Config,
+    is_traced: bool,
+    room: &mut [u8],
+    slot: &mut Slot,
+) -> u32
+    requires { 512 ≤ length room.old }
+    ensures code { ¬ (result ≡ 2003) → result ≡ (spec.made room.old (new.config_fault config)).code }
+    ensures room { ¬ (result ≡ 2003) → room.new ≡ (spec.made room.old (new.config_fault config)).room }
+    ensures made { result ≡ 0 → slot.new.session ≡ Some (new_session config is_traced) }
+    ensures unchanged { 1 ≤ result → slot.new ≡ slot.old }
+{
+    match make(alloc, config, is_traced) {
+        Ok(session) => match Box::new(alloc, session) {
+            Ok(held) => {
+                *slot = close(held);
+                0
+            }
+            Err(_) => NO_MEMORY,
+        },
+        Err(fault) => put_fault(fault, room),
+    }
+}
+
+/// Makes the fabric that the line of a script asks for in a slot that holds nothing; with `is_traced`
+/// it keeps a trace, which grows by a record for each submission and each answer. 0 where it is made,
+/// else the slot stays as it was: `SMALL_ROOM` for fewer than 512 bytes, `NO_LINE` where the line is
+/// none of a fabric, 1000 and the length of its name for a fault of the configuration, which then
+/// stands at the front of `room`, or `NO_MEMORY`.
+pub fn new_fabric(
+    alloc: Global,
+    line: &[u8],
+    is_traced: bool,
+    room: &mut [u8],
+    slot: &mut Slot,
+) -> u32
+    ensures code { ¬ (result ≡ 2003) → result ≡ (making line.now room.old).code }
+    ensures room { ¬ (result ≡ 2003) → room.new ≡ (making line.now room.old).room }
+    ensures made { result ≡ 0 → (c : configs.Config) × AsksFor line.now c × (slot.new.session ≡ Some (new_session c is_traced)) }
+    ensures unchanged { 1 ≤ result → slot.new ≡ slot.old }
+{
+    if room.len() < LINE_ROOM {
+        return SMALL_ROOM;
+    }
+    match read_line(line) {
+        Some(Line::Fabric(config)) => make_in(alloc, config, is_traced, room, slot),
+        _ => NO_LINE,
+    }
+}
+
+/// Frees the fabric of the slot.
+pub fn free_fabric(slot: Slot)
+    ghost session: { spec.Session }
+    requires { slot.session ≡ Some session }
+{
+    drop(open(slot));
+}

@@ -1,0 +1,2 @@
+pub mod Words
+pub use Rattle.caller_room.specs.Room

@@ -1,0 +1,9 @@
+//! Packets in words over rooms: the bytes of a TLP or a DLLP in, its line out, and back; and the names
+//! of a TLP's faults.
+#![tactic(auto)]
+
+mod names;
+mod words;
+
+pub use names::{name_fault, tell_version};
+pub use words::{tell_bytes, tell_packet};

@@ -1,0 +1,85 @@
+//! The calls without a handle.
+ghost use Rattle.std.specs.Prelude.{◌≡◌, ◌≤◌, ◌<◌, ◌⊎◌, Ok, codes, length};
+ghost use Rattle.tlp_core.specs.declared.fault.TlpFault as faults;
+ghost use Rattle.tlp_core.specs.Fault.{number_of, name_of};
+ghost use Rattle.history_check.specs.Claim.{Claim};
+ghost use Rattle.history_check.specs.Trace.{Explains};
+ghost use Rattle.trace_file.specs.Reading.{read_of};
+ghost use Rattle.caller_room.specs.Room.{filled};
+ghost use Rattle.byte_device.specs.Call.{call};
+ghost use Rattle.trace_verdict.specs.Verdict.{verdict};
+ghost use Rattle.packet_words.specs.Words.{in_words, in_bytes};
+
+use std::alloc::Global;
+
+/// One packet at a device over the caller's bytes, whose first has the address `base`.
+#[unsafe(no_mangle)]
+pub extern "C" fn pciex_raw_answer(
+    bytes: &mut [u8],
+    base: u64,
+    block: u16,
+    packet: &[u8],
+    room: &mut [u8],
+) -> u32
+    ensures code { result ≡ (call base block bytes.old packet.now room.old).code }
+    ensures bytes { bytes.new ≡ (call base block bytes.old packet.now room.old).bytes }
+    ensures room { room.new ≡ (call base block bytes.old packet.now room.old).room }
+    ensures unchanged { 1000 ≤ result → (bytes.new ≡ bytes.old) × (room.new ≡ room.old) }
+{
+    byte_device::answer_bytes(base, block, bytes, packet, room)
+}
+
+/// Whether the history of the text explains its trace.
+#[unsafe(no_mangle)]
+pub extern "C" fn pciex_raw_check(alloc: Global, text: &[u8], room: &mut [u8]) -> u32
+    ensures code { ¬ (result ≡ 2003) → result ≡ (verdict text.now room.old).code }
+    ensures room { ¬ (result ≡ 2003) → room.new ≡ (verdict text.now room.old).room }
+    ensures unchanged { (result ≡ 0) ⊎ (2000 ≤ result) → room.new ≡ room.old }
+    ensures explained { result ≡ 0 → (c : Claim) × (read_of text.now ≡ Ok c) × Explains c }
+    ensures unexplained { (c : Claim) → read_of text.now ≡ Ok c → Explains c → (result ≡ 0) ⊎ (result ≡ 2000) ⊎ (result ≡ 2003) }
+{
+    trace_verdict::check_text(alloc, text, room)
+}
+
+/// The words of a TLP or a DLLP.
+#[unsafe(no_mangle)]
+pub extern "C" fn pciex_raw_decode(packet: &[u8], room: &mut [u8]) -> u32
+    ensures code { result ≡ (in_words packet.now room.old).code }
+    ensures room { room.new ≡ (in_words packet.now room.old).room }
+    ensures unchanged { 2000 ≤ result → room.new ≡ room.old }
+{
+    packet_words::tell_packet(packet, room)
+}
+
+/// The bytes of the packet that the words spell.
+#[unsafe(no_mangle)]
+pub extern "C" fn pciex_raw_encode(line: &[u8], room: &mut [u8]) -> u32
+    ensures code { result ≡ (in_bytes line.now room.old).code }
+    ensures room { room.new ≡ (in_bytes line.now room.old).room }
+    ensures unchanged { 2000 ≤ result → room.new ≡ room.old }
+{
+    packet_words::tell_bytes(line, room)
+}
+
+/// The name of the TLP's fault with that number.
+#[unsafe(no_mangle)]
+pub extern "C" fn pciex_raw_fault_name(number: u32, room: &mut [u8]) -> u32
+    ensures code { (f : faults.TlpFault) → number ≡ number_of f → 512 ≤ length room.old → result ≡ length (name_of f) }
+    ensures room { (f : faults.TlpFault) → number ≡ number_of f → 512 ≤ length room.old → room.new ≡ filled room.old (name_of f) }
+    ensures small { length room.old < 512 → result ≡ 2000 }
+    ensures unchanged { 1000 ≤ result → room.new ≡ room.old }
+    ensures told { result < 1000 → (f : faults.TlpFault) × (number ≡ number_of f) }
+{
+    packet_words::name_fault(number, room)
+}
+
+/// The version of the library.
+#[unsafe(no_mangle)]
+pub extern "C" fn pciex_raw_version(room: &mut [u8]) -> u32
+    ensures code { 512 ≤ length room.old → result ≡ 9 }
+    ensures room { 512 ≤ length room.old → room.new ≡ filled room.old (codes "pciex_c 1") }
+    ensures small { length room.old < 512 → result ≡ 2000 }
+    ensures unchanged { 1000 ≤ result → room.new ≡ room.old }
+{
+    packet_words::tell_version(room)
+}

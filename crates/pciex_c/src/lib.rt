@@ -1,0 +1,7 @@
+//! The library for C: what `c/pciex.h` declares under `pciex_raw_`. Each function says what the crate
+//! below it says of the same call, and asks of its caller what the header asks.
+#![tactic(auto)]
+
+mod answers;
+mod device;
+mod fabric;

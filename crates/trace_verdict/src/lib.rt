@@ -1,0 +1,7 @@
+//! The checker of histories over texts and rooms: the text of a trace in, the line that `pciex check`
+//! prints of it out.
+#![tactic(auto)]
+
+mod verdict;
+
+pub use verdict::check_text;
