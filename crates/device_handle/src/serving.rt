@@ -49,13 +49,7 @@ fn serve_bytes(memory: &mut Memory, number: u32, packet: &[u8], room: &mut [u8])
 /// write. From 1000 on nothing has changed: `SMALL_ROOM` for fewer than 144 bytes, then 1000 and the
 /// number of the fault where `packet` is no packet, then `NO_REQUEST` for a completion, or `NO_MEMORY`
 /// where the history can't grow.
-pub fn serve_packet(
-    slot: Slot,
-    number: u32,
-    packet: &[u8],
-    room: &mut [u8],
-    back: &mut Slot,
-) -> u32
+pub fn serve_packet(slot: Slot, number: u32, packet: &[u8], room: &mut [u8], back: &mut Slot) -> u32
     ghost memory: { State }
     requires { slot.memory ≡ Some memory }
     ensures code { ¬ (result ≡ 2003) → result ≡ (service memory number packet.now room.old).code }

@@ -4,11 +4,11 @@
 //! that the call took is used up.
 #![tactic(auto)]
 
-mod held;
 mod happening;
+mod held;
 mod session;
 mod slot;
 
-pub use held::{copy_bytes, history_length, is_quiet, tell_trace};
 pub use happening::tell_event;
+pub use held::{copy_bytes, history_length, is_quiet, tell_trace};
 pub use slot::{Slot, free_fabric, new_fabric};

@@ -104,13 +104,7 @@ fn put_fault(fault: ConfigFault, room: &mut [u8]) -> u32
 }
 
 /// Makes the fabric of a configuration.
-fn make_in(
-    alloc: Global,
-    config: Config,
-    is_traced: bool,
-    room: &mut [u8],
-    slot: &mut Slot,
-) -> u32
+fn make_in(alloc: Global, config: Config, is_traced: bool, room: &mut [u8], slot: &mut Slot) -> u32
     requires { 512 ≤ length room.old }
     ensures code { ¬ (result ≡ 2003) → result ≡ (spec.made room.old (new.config_fault config)).code }
     ensures room { ¬ (result ≡ 2003) → room.new ≡ (spec.made room.old (new.config_fault config)).room }

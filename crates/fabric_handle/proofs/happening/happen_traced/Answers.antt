@@ -11,5 +11,5 @@ invariant_of-session-in-Ok c = λ traced.
     let before : List Record = c.session.inside.records.items in
     let of : List Entry → List Record = λ h. records_of c.args.event.now c.in-Ok.seen (length h) in
     let is : c.keep.new.records.items ≡ before ++ of c.session.inside.fabric.memory.entries =
-        c.keep.ensures ∙ ap (λ (rs : List Record). rs ++ of c.history.result.now) c.try_reserve.ensures.items ∙ ap (λ (h : List Entry). before ++ of h) c.history.ensures in
+    c.keep.ensures ∙ ap (λ (rs : List Record). rs ++ of c.history.result.now) c.try_reserve.ensures.items ∙ ap (λ (h : List Entry). before ++ of h) c.history.ensures in
     subst (λ (rs : List Record). Belongs (whole_of c.step.new.fabric) rs) (sym is) (c.in-Ok.ensures.belongs before (c.session.invariant traced))

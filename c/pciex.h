@@ -1,0 +1,392 @@
+/*
+ * pciex: a proved PCI Express 4.0 memory device, a fabric over links that lose packets, and a checker of histories.
+ *
+ * For C99 and C++. Link with libpciex_c.a, the library that `rt lib` builds of the proved crate `pciex_c`, and with
+ * liblibc_c.a of the toolchain, through which it calls malloc, realloc and free. A device without a handle, packets and
+ * names take no memory.
+ *
+ * Codes. Each call answers a number of 32 bits:
+ *
+ *   below 1000     it is done: 0, or where the call says so how many bytes its answer has
+ *   1000 to 1999   a fault: 1000 and a number, as the call says
+ *   from 2000 on   an argument that can't be right, or want of memory: one of the codes below
+ *
+ * From 1000 on nothing has changed, but for the text of a fault that some calls put into the room.
+ *
+ * Rooms. An answer goes into a room that the caller lends: `room` points to `room_length` bytes. It stands at the front,
+ * is not ended by a zero, and what is behind it stays as it was. PCIEX_LINE bytes are always enough for a line,
+ * PCIEX_PACKET for a packet, and a call asks for that many whatever it has to say.
+ *
+ * What can't be tested, and so is the caller's to keep:
+ *
+ *   - a pointer and its length name bytes that may be read, and for a room or a device's bytes written
+ *   - the bytes, the packet or the line, the room, the handle and a number that is told, of one call, don't overlap
+ *   - a handle is PCIEX_NONE before it is given to a call that makes something, only calls write into it, and it stays on
+ *     its thread; it has no copies, since a call through one copy uses up the others
+ *   - malloc, realloc and free are from one allocator, with blocks aligned to 16 bytes; no call comes from the handler of
+ *     a signal, nor from the child of a fork of a program with threads
+ *
+ * A null pointer and a handle that holds nothing are found by the functions of this header, and nothing is called then:
+ * PCIEX_NULL, PCIEX_EMPTY. The functions pciex_raw_* below them are the library's own, for callers in other languages:
+ * they test all but that.
+ *
+ * No call blocks, aborts, prints or keeps a pointer to what the caller lends. Calls on different threads, with handles of
+ * their own or without, may run at the same time.
+ */
+#ifndef PCIEX_H
+#define PCIEX_H
+
+#include <stdbool.h>
+#include <stddef.h>
+#include <stdint.h>
+
+#ifdef __cplusplus
+extern "C" {
+#endif
+
+/* The room has fewer bytes than the call asks for. */
+#define PCIEX_SMALL_ROOM 2000u
+/* A block has neither 64 nor 128 bytes. */
+#define PCIEX_WRONG_BLOCK 2001u
+/* The packet is a completion, and a request is asked for. */
+#define PCIEX_NO_REQUEST 2002u
+/* Memory was refused. */
+#define PCIEX_NO_MEMORY 2003u
+/* A memory has 128 to 1,048,576 bytes, a multiple of 128. */
+#define PCIEX_WRONG_SIZE 2004u
+/* A base address is a multiple of 128, from which on so many addresses are below 2^64. */
+#define PCIEX_WRONG_BASE 2005u
+/* The history has no entry at that place. */
+#define PCIEX_NO_ENTRY 2006u
+/* No fault has that number. */
+#define PCIEX_NO_FAULT 2007u
+/* The line isn't one of the form that is asked for. */
+#define PCIEX_NO_LINE 2008u
+/* A pointer is null. */
+#define PCIEX_NULL 3000u
+/* The handle holds nothing. */
+#define PCIEX_EMPTY 3001u
+/* The handle holds something already. */
+#define PCIEX_HELD 3002u
+
+/* The bytes of room that a packet is asked for, and a line. */
+#define PCIEX_PACKET 144
+#define PCIEX_LINE 512
+
+/* What a handle is before it is given to a call that makes something. */
+#define PCIEX_NONE {0}
+
+/* A device with a history. Made by pciex_device_new, freed by pciex_device_free. */
+typedef struct pciex_device {
+    void *at;
+} pciex_device;
+
+/* A fabric. Made by pciex_fabric_new, freed by pciex_fabric_free. */
+typedef struct pciex_fabric {
+    void *at;
+} pciex_fabric;
+
+/* ---- the library's own functions, which test no pointer and no handle */
+
+uint32_t pciex_raw_answer(uint8_t *bytes, size_t length, uint64_t base, uint16_t block, const uint8_t *packet,
+                          size_t packet_length, uint8_t *room, size_t room_length);
+uint32_t pciex_raw_device_new(uint64_t base, size_t size, uint16_t block, pciex_device *device);
+uint32_t pciex_raw_device_serve(pciex_device device, uint32_t number, const uint8_t *packet, size_t packet_length,
+                                uint8_t *room, size_t room_length, pciex_device *back);
+size_t pciex_raw_device_history_length(pciex_device device, pciex_device *back);
+uint32_t pciex_raw_device_entry(pciex_device device, size_t place, uint8_t *room, size_t room_length,
+                                pciex_device *back);
+uint32_t pciex_raw_device_bytes(pciex_device device, uint8_t *room, size_t room_length, pciex_device *back);
+void pciex_raw_device_free(pciex_device device);
+uint32_t pciex_raw_fabric_new(const uint8_t *line, size_t line_length, bool is_traced, uint8_t *room,
+                              size_t room_length, pciex_fabric *fabric);
+uint32_t pciex_raw_fabric_event(pciex_fabric fabric, const uint8_t *line, size_t line_length, uint8_t *room,
+                                size_t room_length, pciex_fabric *back);
+uint32_t pciex_raw_fabric_trace(pciex_fabric fabric, uint8_t *room, size_t room_length, size_t *length,
+                                pciex_fabric *back);
+bool pciex_raw_fabric_quiet(pciex_fabric fabric, pciex_fabric *back);
+size_t pciex_raw_fabric_history_length(pciex_fabric fabric, pciex_fabric *back);
+uint32_t pciex_raw_fabric_bytes(pciex_fabric fabric, uint8_t *room, size_t room_length, pciex_fabric *back);
+void pciex_raw_fabric_free(pciex_fabric fabric);
+uint32_t pciex_raw_check(const uint8_t *text, size_t length, uint8_t *room, size_t room_length);
+uint32_t pciex_raw_decode(const uint8_t *packet, size_t length, uint8_t *room, size_t room_length);
+uint32_t pciex_raw_encode(const uint8_t *line, size_t length, uint8_t *room, size_t room_length);
+uint32_t pciex_raw_fault_name(uint32_t number, uint8_t *room, size_t room_length);
+uint32_t pciex_raw_version(uint8_t *room, size_t room_length);
+
+/* ---- a device without a handle */
+
+/*
+ * One TLP at a memory device whose memory is the caller's `length` bytes, the first of them at the address `base`, and
+ * which serves accesses by naturally aligned blocks of `block` bytes, 64 or 128. The bytes change as the request says,
+ * and its completion goes into the room, of PCIEX_PACKET bytes or more. There is no history, and no memory is taken.
+ *
+ * Below 1000: how many bytes the completion has; 0 for a posted write, which has none. A request outside the bytes,
+ * across a block, or with an operand that can't be, is answered by a completion with that status, and changes no byte.
+ * 1000 to 1999: 1000 and the number of the packet's fault, 1 to 13; pciex_fault_name has its name.
+ * Tested in this order: PCIEX_WRONG_BLOCK, PCIEX_SMALL_ROOM, the packet's fault, PCIEX_NO_REQUEST.
+ */
+static inline uint32_t pciex_answer(uint8_t *bytes, size_t length, uint64_t base, uint16_t block,
+                                    const uint8_t *packet, size_t packet_length, uint8_t *room, size_t room_length)
+{
+    if (!bytes || !packet || !room) {
+        return PCIEX_NULL;
+    }
+    return pciex_raw_answer(bytes, length, base, block, packet, packet_length, room, room_length);
+}
+
+/* ---- a device with a history */
+
+/*
+ * Makes a device of `size` zeros at the address `base`, with an empty history, in a handle that holds nothing. 0 where it
+ * is made; PCIEX_WRONG_SIZE, PCIEX_WRONG_BASE, PCIEX_WRONG_BLOCK, tested in this order, or PCIEX_NO_MEMORY.
+ */
+static inline uint32_t pciex_device_new(uint64_t base, size_t size, uint16_t block, pciex_device *device)
+{
+    if (!device) {
+        return PCIEX_NULL;
+    }
+    if (device->at) {
+        return PCIEX_HELD;
+    }
+    return pciex_raw_device_new(base, size, block, device);
+}
+
+/*
+ * One TLP at the device, as pciex_answer has it. The request stands in the history from then on, under the port of its
+ * Requester ID (the upper 8 bits) and the number that the caller gives it; one that is aborted or unsupported, too.
+ * Tested in this order: PCIEX_SMALL_ROOM, the packet's fault, PCIEX_NO_REQUEST; or PCIEX_NO_MEMORY.
+ */
+static inline uint32_t pciex_device_serve(pciex_device *device, uint32_t number, const uint8_t *packet,
+                                          size_t packet_length, uint8_t *room, size_t room_length)
+{
+    if (!device || !packet || !room) {
+        return PCIEX_NULL;
+    }
+    if (!device->at) {
+        return PCIEX_EMPTY;
+    }
+    return pciex_raw_device_serve(*device, number, packet, packet_length, room, room_length, device);
+}
+
+/* Tells in `count` how many requests the history has. 0. */
+static inline uint32_t pciex_device_history_length(pciex_device *device, size_t *count)
+{
+    if (!device || !count) {
+        return PCIEX_NULL;
+    }
+    if (!device->at) {
+        return PCIEX_EMPTY;
+    }
+    *count = pciex_raw_device_history_length(*device, device);
+    return 0;
+}
+
+/*
+ * The request at a place of the history, from 0: its requester (0 to 255), its number and its operation, parted by
+ * spaces, `1 0 add 40 07000000`. The operation is spelled as in a trace. Below 1000: how many bytes that has.
+ * Tested in this order: PCIEX_SMALL_ROOM for fewer than PCIEX_LINE bytes, PCIEX_NO_ENTRY.
+ */
+static inline uint32_t pciex_device_entry(pciex_device *device, size_t place, uint8_t *room, size_t room_length)
+{
+    if (!device || !room) {
+        return PCIEX_NULL;
+    }
+    if (!device->at) {
+        return PCIEX_EMPTY;
+    }
+    return pciex_raw_device_entry(*device, place, room, room_length, device);
+}
+
+/* All bytes of the device as they are now, from its base address on: 0, or PCIEX_SMALL_ROOM. */
+static inline uint32_t pciex_device_bytes(pciex_device *device, uint8_t *room, size_t room_length)
+{
+    if (!device || !room) {
+        return PCIEX_NULL;
+    }
+    if (!device->at) {
+        return PCIEX_EMPTY;
+    }
+    return pciex_raw_device_bytes(*device, room, room_length, device);
+}
+
+/* Frees the device; the handle holds nothing then. One that holds nothing stays as it is. */
+static inline void pciex_device_free(pciex_device *device)
+{
+    if (device && device->at) {
+        pciex_raw_device_free(*device);
+        device->at = NULL;
+    }
+}
+
+/* ---- a fabric */
+
+/*
+ * Makes the fabric that the line asks for, in a handle that holds nothing: `fabric <requesters> <base> <size>`, then six
+ * credits or none, then `block <bytes>` or nothing, as docs/formats.md has it. No line feed ends the line. With
+ * `is_traced` the fabric keeps a trace, which grows by a record for each submission and each answer.
+ * 0 where it is made. 1000 to 1999: a fault of the configuration, whose name of so many bytes less 1000 stands in the
+ * room. Tested in this order: PCIEX_SMALL_ROOM for fewer than PCIEX_LINE bytes, PCIEX_NO_LINE, the fault; or
+ * PCIEX_NO_MEMORY.
+ */
+static inline uint32_t pciex_fabric_new(const uint8_t *line, size_t line_length, bool is_traced, uint8_t *room,
+                                        size_t room_length, pciex_fabric *fabric)
+{
+    if (!line || !room || !fabric) {
+        return PCIEX_NULL;
+    }
+    if (fabric->at) {
+        return PCIEX_HELD;
+    }
+    return pciex_raw_fabric_new(line, line_length, is_traced, room, room_length, fabric);
+}
+
+/*
+ * The event of a script's line happens to the fabric: `submit 1 add 40 07000000`, `transmit up1`. Below 1000: how many
+ * bytes what is seen of it has, `sub 1 0`, as `pciex step` prints it, without a line feed. 1000 to 1999: the fabric
+ * refuses it and stays as it was, and the refusal's name of so many bytes less 1000 stands in the room. Tested in this
+ * order: PCIEX_SMALL_ROOM for fewer than PCIEX_LINE bytes, PCIEX_NO_LINE, the refusal; or PCIEX_NO_MEMORY.
+ */
+static inline uint32_t pciex_fabric_event(pciex_fabric *fabric, const uint8_t *line, size_t line_length, uint8_t *room,
+                                          size_t room_length)
+{
+    if (!fabric || !line || !room) {
+        return PCIEX_NULL;
+    }
+    if (!fabric->at) {
+        return PCIEX_EMPTY;
+    }
+    return pciex_raw_fabric_event(*fabric, line, line_length, room, room_length, fabric);
+}
+
+/*
+ * The text of the trace and the history, as `pciex step --trace` writes it: 0, or PCIEX_SMALL_ROOM; `length` is how many
+ * bytes it has, in both cases. Or PCIEX_NO_MEMORY. A fabric that keeps no trace has a text without records.
+ */
+static inline uint32_t pciex_fabric_trace(pciex_fabric *fabric, uint8_t *room, size_t room_length, size_t *length)
+{
+    if (!fabric || !room || !length) {
+        return PCIEX_NULL;
+    }
+    if (!fabric->at) {
+        return PCIEX_EMPTY;
+    }
+    return pciex_raw_fabric_trace(*fabric, room, room_length, length, fabric);
+}
+
+/*
+ * Tells in `quiet` whether all that was entered into the fabric's lanes was taken: then each submission stands in the
+ * history once, and none waits for its completion. 0.
+ */
+static inline uint32_t pciex_fabric_quiet(pciex_fabric *fabric, bool *quiet)
+{
+    if (!fabric || !quiet) {
+        return PCIEX_NULL;
+    }
+    if (!fabric->at) {
+        return PCIEX_EMPTY;
+    }
+    *quiet = pciex_raw_fabric_quiet(*fabric, fabric);
+    return 0;
+}
+
+/* Tells in `count` how many requests have acted on the fabric's memory. 0. */
+static inline uint32_t pciex_fabric_history_length(pciex_fabric *fabric, size_t *count)
+{
+    if (!fabric || !count) {
+        return PCIEX_NULL;
+    }
+    if (!fabric->at) {
+        return PCIEX_EMPTY;
+    }
+    *count = pciex_raw_fabric_history_length(*fabric, fabric);
+    return 0;
+}
+
+/* All bytes of the fabric's memory as they are now, from its base address on: 0, or PCIEX_SMALL_ROOM. */
+static inline uint32_t pciex_fabric_bytes(pciex_fabric *fabric, uint8_t *room, size_t room_length)
+{
+    if (!fabric || !room) {
+        return PCIEX_NULL;
+    }
+    if (!fabric->at) {
+        return PCIEX_EMPTY;
+    }
+    return pciex_raw_fabric_bytes(*fabric, room, room_length, fabric);
+}
+
+/* Frees the fabric; the handle holds nothing then. One that holds nothing stays as it is. */
+static inline void pciex_fabric_free(pciex_fabric *fabric)
+{
+    if (fabric && fabric->at) {
+        pciex_raw_fabric_free(*fabric);
+        fabric->at = NULL;
+    }
+}
+
+/* ---- the checker */
+
+/*
+ * Whether the history of the text of a trace explains its records: 0 if and only if it does. 1000 to 1999: the line that
+ * `pciex check` prints, of so many bytes less 1000, stands in the room: `flaw 10 Reply 2`, or `fault 3 Line` where the
+ * text is none of a trace. PCIEX_SMALL_ROOM for fewer than PCIEX_LINE bytes, which is tested first, or PCIEX_NO_MEMORY:
+ * nothing is known then.
+ */
+static inline uint32_t pciex_check(const uint8_t *text, size_t length, uint8_t *room, size_t room_length)
+{
+    if (!text || !room) {
+        return PCIEX_NULL;
+    }
+    return pciex_raw_check(text, length, room, room_length);
+}
+
+/* ---- packets in words, and names */
+
+/*
+ * The words of a TLP, or of a DLLP where there are four bytes, as `pciex decode` writes them. Below 1000: how many bytes
+ * they have. 1000 to 1999: the text of the fault, `fault 1 Short`, of so many bytes less 1000, stands in the room.
+ * PCIEX_SMALL_ROOM for fewer than PCIEX_LINE bytes, which is tested first.
+ */
+static inline uint32_t pciex_decode(const uint8_t *packet, size_t length, uint8_t *room, size_t room_length)
+{
+    if (!packet || !room) {
+        return PCIEX_NULL;
+    }
+    return pciex_raw_decode(packet, length, room, room_length);
+}
+
+/* The other way: the canonical bytes of the packet that a line of words spells. The codes are the same. */
+static inline uint32_t pciex_encode(const uint8_t *line, size_t length, uint8_t *room, size_t room_length)
+{
+    if (!line || !room) {
+        return PCIEX_NULL;
+    }
+    return pciex_raw_encode(line, length, room, room_length);
+}
+
+/*
+ * The name of the fault of a TLP under its number, 1 to 13. Below 1000: how many bytes it has. Tested in this order:
+ * PCIEX_SMALL_ROOM for fewer than PCIEX_LINE bytes, PCIEX_NO_FAULT.
+ */
+static inline uint32_t pciex_fault_name(uint32_t number, uint8_t *room, size_t room_length)
+{
+    if (!room) {
+        return PCIEX_NULL;
+    }
+    return pciex_raw_fault_name(number, room, room_length);
+}
+
+/* The version of the library, `pciex_c 1`: how many bytes it has, or PCIEX_SMALL_ROOM for fewer than PCIEX_LINE. */
+static inline uint32_t pciex_version(uint8_t *room, size_t room_length)
+{
+    if (!room) {
+        return PCIEX_NULL;
+    }
+    return pciex_raw_version(room, room_length);
+}
+
+#ifdef __cplusplus
+}
+#endif
+
+#endif
