@@ -66,7 +66,7 @@ examples() {
     wants "device on packets.txt" 0 examples/packets.out examples/packets.txt "$@" "$room/device"
     wants "history" 0 "$room/history.out" /dev/null "$@" "$room/history"
     wants "fabric on lost_ack.txt" 0 examples/lost_ack.out examples/lost_ack.txt "$@" "$room/fabric"
-    [ $# -gt 0 ] || tells "fabric on lost_ack.txt" "1 in the history, not quiet, explained"
+    [ $# -gt 0 ] || tells "fabric on lost_ack.txt" "2 in the history, quiet, explained"
     for name in write_passes_read credits stopped_link; do
         wants "fabric on $name.txt" 0 examples/$name.out examples/$name.txt "$@" "$room/fabric"
     done
