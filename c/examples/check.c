@@ -1,0 +1,37 @@
+/* The checker: the text of a trace in, the line of `pciex check` out. */
+#include "../pciex.h"
+
+#include <stdio.h>
+#include <stdlib.h>
+
+int main(void)
+{
+    size_t room_for = 1 << 16, length = 0;
+    uint8_t *text = malloc(room_for);
+    while (text && !feof(stdin) && !ferror(stdin)) {
+        if (length == room_for) {
+            uint8_t *more = realloc(text, room_for *= 2);
+            if (!more) {
+                free(text);
+                return 2;
+            }
+            text = more;
+        }
+        length += fread(text + length, 1, room_for - length, stdin);
+    }
+    if (!text || ferror(stdin)) {
+        free(text);
+        return 2;
+    }
+    uint8_t room[PCIEX_LINE];
+    uint32_t code = pciex_check(text, length, room, sizeof room);
+    free(text);
+    if (code == 0) {
+        puts("ok");
+    } else if (code < 2000) {
+        printf("%.*s\n", (int)(code - 1000), (const char *)room);
+    } else {
+        printf("code %u\n", (unsigned)code);
+    }
+    return code != 0;
+}

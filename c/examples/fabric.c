@@ -1,0 +1,68 @@
+/* A lossy fabric: a script in, what is seen of its events out, as `pciex step` prints it. At the end, on standard error,
+   how often the requests acted and whether the checker explains the trace that the fabric kept. */
+#include "../pciex.h"
+
+#include <stdio.h>
+#include <stdlib.h>
+#include <string.h>
+
+/* Whether the history explains the trace. */
+static int explained(pciex_fabric *fabric)
+{
+    uint8_t small[1], room[PCIEX_LINE];
+    size_t length = 0;
+    uint32_t code = pciex_fabric_trace(fabric, small, sizeof small, &length);
+    uint8_t *text = code == PCIEX_SMALL_ROOM ? malloc(length) : NULL;
+    if (!text) {
+        return 0;
+    }
+    code = pciex_fabric_trace(fabric, text, length, &length);
+    if (code == 0) {
+        code = pciex_check(text, length, room, sizeof room);
+    }
+    free(text);
+    return code == 0;
+}
+
+static int finish(pciex_fabric *fabric)
+{
+    size_t count = 0;
+    bool quiet = false;
+    if (pciex_fabric_history_length(fabric, &count) || pciex_fabric_quiet(fabric, &quiet) || !explained(fabric)) {
+        return 1;
+    }
+    fprintf(stderr, "%lu in the history, %s, explained\n", (unsigned long)count, quiet ? "quiet" : "not quiet");
+    return 0;
+}
+
+int main(void)
+{
+    pciex_fabric fabric = PCIEX_NONE;
+    uint8_t room[PCIEX_LINE];
+    char line[2 * PCIEX_LINE];
+    unsigned long number = 0;
+    while (fgets(line, sizeof line, stdin)) {
+        size_t length = strcspn(line, "\n");
+        const uint8_t *bytes = (const uint8_t *)line;
+        number++;
+        if (length == 0 || line[0] == '#') {
+            continue;
+        }
+        uint32_t code = fabric.at ? pciex_fabric_event(&fabric, bytes, length, room, sizeof room)
+                                  : pciex_fabric_new(bytes, length, true, room, sizeof room, &fabric);
+        if (code >= 2000) {
+            printf("code %u %lu\n", (unsigned)code, number);
+        } else if (code >= 1000) {
+            printf("refused %lu %.*s\n", number, (int)(code - 1000), (const char *)room);
+        } else if (code > 0) {
+            printf("%.*s\n", (int)code, (const char *)room);
+        }
+        if (code >= 1000) {
+            pciex_fabric_free(&fabric);
+            return 1;
+        }
+    }
+    int status = finish(&fabric);
+    pciex_fabric_free(&fabric);
+    return status;
+}

@@ -1,0 +1,50 @@
+//! The proved PCI Express memory device, fabric and checker, as safe Rust.
+//!
+//! The proofs are of the library that is called. Of this crate nobody proves anything: it keeps the rules that
+//! `c/pciex.h` states, by types. Pointers and lengths are those of slices that are borrowed for the call and don't
+//! overlap, a handle is owned by one value, which frees it, and no value is `Send`, since a handle stays on its thread.
+
+mod device;
+mod error;
+mod fabric;
+mod raw;
+
+pub use device::{answer, Device};
+pub use error::Error;
+pub use fabric::Fabric;
+
+use error::{line, Room};
+
+/// Whether the history of the text of a trace explains its records: `Ok` if and only if it does, but for
+/// [`Error::NoMemory`]. Else the line that `pciex check` prints.
+pub fn check(text: &[u8]) -> Result<(), Error> {
+    let mut room = Room::new();
+    // SAFETY: the pointers and lengths are those of two slices that are borrowed for the call.
+    let code = unsafe { raw::pciex_raw_check(text.as_ptr(), text.len(), room.pointer(), room.length()) };
+    line(code, &room).map(|_| ())
+}
+
+/// The words of a TLP, or of a DLLP where there are four bytes, as `pciex decode` writes them.
+pub fn decode(packet: &[u8]) -> Result<String, Error> {
+    let mut room = Room::new();
+    // SAFETY: as in `check`.
+    let code = unsafe { raw::pciex_raw_decode(packet.as_ptr(), packet.len(), room.pointer(), room.length()) };
+    line(code, &room)
+}
+
+/// The canonical bytes of the packet that a line of words spells.
+pub fn encode(words: &str) -> Result<Vec<u8>, Error> {
+    let mut room = Room::new();
+    // SAFETY: as in `check`.
+    let code = unsafe { raw::pciex_raw_encode(words.as_ptr(), words.len(), room.pointer(), room.length()) };
+    line(code, &room)?;
+    Ok(room.front(code).to_vec())
+}
+
+/// The version of the library.
+pub fn version() -> String {
+    let mut room = Room::new();
+    // SAFETY: as in `check`.
+    let code = unsafe { raw::pciex_raw_version(room.pointer(), room.length()) };
+    room.text(code)
+}

@@ -1,0 +1,95 @@
+//! Each call once, and each of its refusals.
+use pciex::{answer, check, decode, encode, version, Device, Error, Fabric};
+
+const ADD: [u8; 16] = [0x4C, 0, 0, 1, 1, 0, 5, 0, 0, 0, 0, 0x40, 7, 0, 0, 0];
+const WRITE: [u8; 16] = [0x40, 0, 0, 1, 1, 0, 0, 0x0F, 0, 0, 0, 0x80, 1, 2, 3, 4];
+
+/// The completion of `ADD`, with the old value.
+fn old(value: u8) -> Vec<u8> {
+    vec![0x4A, 0, 0, 1, 0, 0, 0, 4, 1, 0, 5, 0, value, 0, 0, 0]
+}
+
+#[test]
+fn a_device_over_bytes() {
+    let mut bytes = [0; 256];
+    assert_eq!(answer(&mut bytes, 0, 64, &ADD), Ok(Some(old(0))));
+    assert_eq!(answer(&mut bytes, 0, 64, &ADD), Ok(Some(old(7))));
+    assert_eq!(answer(&mut bytes, 0, 64, &WRITE), Ok(None));
+    assert_eq!((bytes[0x40], &bytes[0x80..0x84]), (14, [1, 2, 3, 4].as_slice()));
+    let before = bytes;
+    assert_eq!(answer(&mut bytes, 0, 65, &ADD), Err(Error::Argument(2001)));
+    assert_eq!(answer(&mut bytes, 0, 64, &old(0)), Err(Error::Argument(2002)));
+    let short = answer(&mut bytes, 0, 64, &ADD[..3]).unwrap_err();
+    assert_eq!((short.clone(), short.to_string().as_str()), (Error::Packet(1), "fault 1 Short"));
+    assert_eq!(bytes, before);
+    assert_eq!(answer(&mut [], 0, 64, &ADD).map(|c| c.map(|c| c[6])), Ok(Some(0x20)));
+}
+
+#[test]
+fn a_device_with_a_history() {
+    assert_eq!(Device::new(0, 100, 64).err(), Some(Error::Argument(2004)));
+    assert_eq!(Device::new(64, 4096, 64).err(), Some(Error::Argument(2005)));
+    assert_eq!(Device::new(0, 4096, 32).err(), Some(Error::Argument(2001)));
+    let mut device = Device::new(0, 4096, 64).unwrap();
+    assert_eq!(device.serve(0, &ADD), Ok(Some(old(0))));
+    assert_eq!(device.serve(1, &WRITE), Ok(None));
+    assert_eq!(device.serve(2, &ADD[..3]), Err(Error::Packet(1)));
+    assert_eq!(device.serve(2, &old(0)), Err(Error::Argument(2002)));
+    assert_eq!(device.history_length(), 2);
+    assert_eq!(device.entry(0).as_deref(), Ok("1 0 add 40 07000000"));
+    assert_eq!(device.entry(1).as_deref(), Ok("1 1 write 80 F 0 01020304"));
+    assert_eq!(device.entry(2), Err(Error::Argument(2006)));
+    let bytes = device.bytes();
+    assert_eq!((bytes.len(), bytes[0x40], bytes[0x83]), (4096, 7, 4));
+}
+
+#[test]
+fn a_fabric_whose_counter_counts_once() {
+    assert_eq!(Fabric::new("fabric 8 0 4096", true).err(), Some(Error::Told("Requesters".into())));
+    assert_eq!(Fabric::new("transmit up1", true).err(), Some(Error::Argument(2008)));
+    let mut fabric = Fabric::new("fabric 1 0 4096", true).unwrap();
+    let steps = [
+        ("submit 1 add 40 07000000", "sub 1 0"),
+        ("transmit up1", "sent 000"),
+        ("deliver up1 good", "accept"),
+        ("dllp up1 ack", "00000000"),
+        ("deliver-dllp up1 lost", "gone"),
+        ("timer up1", "replay 1"),
+        ("transmit up1", "sent 000"),
+        ("deliver up1 good", "duplicate"),
+        ("forward up1 0", "to 0"),
+        ("transmit in", "sent 000"),
+        ("deliver in good", "accept"),
+        ("serve 0", "at 0"),
+    ];
+    for (event, seen) in steps {
+        assert_eq!(fabric.event(event).as_deref(), Ok(seen), "{event}");
+    }
+    assert_eq!(fabric.event("serve 0"), Err(Error::Told("NotTakeable".into())));
+    assert_eq!(fabric.event("serve"), Err(Error::Argument(2008)));
+    assert_eq!((fabric.history_length(), fabric.is_quiet()), (1, false));
+    let mut bytes = [1; 4096];
+    assert_eq!(fabric.copy_bytes(&mut bytes[..9]), Err(Error::Argument(2000)));
+    assert_eq!(fabric.copy_bytes(&mut bytes), Ok(()));
+    assert_eq!(bytes[0x40..0x48], [7, 0, 0, 0, 0, 0, 0, 0]);
+    assert_eq!(check(&fabric.trace().unwrap()), Ok(()));
+}
+
+#[test]
+fn the_checker() {
+    let trace = "pciex-trace 2\nmemory 0 4096 64\nsub 1 0 0 read 0 1 F 0\nans 1 0 1 data 00000000\nhistory\nent 1 0 read 0 1 F 0\nend\n";
+    assert_eq!(check(trace.as_bytes()), Ok(()));
+    let flawed = trace.replace("data 00000000", "data 00000001");
+    assert_eq!(check(flawed.as_bytes()), Err(Error::Told("flaw 10 Reply 1".into())));
+    assert_eq!(check(b""), Err(Error::Told("fault 1 Head".into())));
+}
+
+#[test]
+fn packets_in_words() {
+    let words = "add 40 07000000 from 0100 tag 05";
+    assert_eq!(decode(&ADD).as_deref(), Ok(words));
+    assert_eq!(encode(words), Ok(ADD.to_vec()));
+    assert_eq!(decode(&ADD[..3]), Err(Error::Told("fault 1 Short".into())));
+    assert_eq!(encode("add"), Err(Error::Told("fault words".into())));
+    assert_eq!(version(), "pciex_c 1");
+}
