@@ -1,12 +1,12 @@
 #!/bin/sh
 # Tells whether the tests of the engines have the text of each file here: each stands under its name in a test file of
-# crates/tlp_engine, crates/packet_engine, crates/trace_engine or crates/step_engine.
+# crates/tlp_engine, crates/packet_engine, crates/trace_engine, crates/step_engine or crates/settle_tests.
 cd "$(dirname "$0")" || exit 1
 differ=0
 for file in *.txt *.out; do
     name=$(echo "${file%.*}" | tr '[:lower:]' '[:upper:]')
     case $file in *.out) name=${name}_OUT ;; esac
-    tests=$(grep -ls "^const $name: &str = " ../crates/*_engine/src/*tests.rt)
+    tests=$(grep -ls "^const $name: &str = " ../crates/*_engine/src/*tests.rt ../crates/settle_tests/src/*tests.rt)
     if [ -z "$tests" ]; then
         echo "$file: no test has it"
         differ=1

@@ -19,7 +19,7 @@ use std::io;
 use std::io::{ErrorKind as IoErrorKind, Read, Write};
 use std::sync::Wait;
 use std::thread::Threads;
-use step_engine::run_step;
+use step_engine::{StepOptions, run_step_with};
 use tlp_engine::run_tlp;
 use trace_engine::{run_check, run_upgrade};
 
@@ -134,8 +134,17 @@ pub fn on_one_thread<S: AsStr, R: Read, W: Write, E: Write>(
         Ok(Request::Encode) => Outcome::Ended(ended(run_encode(alloc, reader, writer), errors)),
         Ok(Request::Check) => Outcome::Ended(ended(run_check(alloc, reader, writer), errors)),
         Ok(Request::Upgrade) => Outcome::Ended(ended(run_upgrade(alloc, reader, writer), errors)),
-        Ok(Request::Step { is_traced }) => {
-            Outcome::Ended(ended(run_step(alloc, is_traced, reader, writer), errors))
+        Ok(Request::Step {
+            is_traced,
+            keeps_going,
+            echoes,
+        }) => {
+            let options = StepOptions {
+                is_traced,
+                keeps_going,
+                echoes,
+            };
+            Outcome::Ended(ended(run_step_with(alloc, options, reader, writer), errors))
         }
         Ok(Request::Run { counting, is_told }) => Outcome::Run { counting, is_told },
         Err(fault) => Outcome::Ended(refused(&fault, writer, errors)),
