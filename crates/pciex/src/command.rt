@@ -11,7 +11,8 @@ use clap::error::ErrorKind;
 use command_line::{Request, RequestFault, options};
 use counting::Counting;
 use line_engine::EngineFault;
-use packet_engine::{run_decode, run_encode};
+use packet_engine::{run_decode, run_encode_with_reasons};
+use reasons::tell_options;
 use run_engine::run_counting;
 use std::alloc::Global;
 use std::convert::AsStr;
@@ -19,9 +20,9 @@ use std::io;
 use std::io::{ErrorKind as IoErrorKind, Read, Write};
 use std::sync::Wait;
 use std::thread::Threads;
-use step_engine::run_step;
+use step_engine::run_step_with_reasons;
 use tlp_engine::run_tlp;
-use trace_engine::{run_check, run_upgrade};
+use trace_engine::{run_check_with_reasons, run_upgrade_with_reasons};
 
 /// Tells what stopped an engine, and gives the exit status for that.
 fn stopped<E: Write>(fault: EngineFault, errors: &mut E) -> u8
@@ -61,7 +62,12 @@ fn told<W: Write, E: Write>(error: &clap::Error, writer: &mut W, errors: &mut E)
 }
 
 /// Tells why the words ask for nothing, and gives the exit status for that.
-fn refused<W: Write, E: Write>(fault: &RequestFault, writer: &mut W, errors: &mut E) -> u8
+fn refused<S: AsStr, W: Write, E: Write>(
+    fault: &RequestFault,
+    words: &[S],
+    writer: &mut W,
+    errors: &mut E,
+) -> u8
     ensures status { IsMemoryFault fault.now → result ≡ 1 }
     ensures same { IsMemoryFault fault.now → W.contents writer.new ≡ W.contents writer.old }
     ensures words { WordsFault (λ e. kind_of e ≢ ErrorKind.DisplayHelp → kind_of e ≢ ErrorKind.DisplayVersion
@@ -73,6 +79,7 @@ fn refused<W: Write, E: Write>(fault: &RequestFault, writer: &mut W, errors: &mu
         RequestFault::Words(error) => told(error, writer, errors),
         RequestFault::Range => {
             let _ = writeln!(errors, "pciex: options");
+            tell_options(words, errors);
             2
         }
     }
@@ -131,14 +138,32 @@ pub fn on_one_thread<S: AsStr, R: Read, W: Write, E: Write>(
             errors,
         )),
         Ok(Request::Decode) => Outcome::Ended(ended(run_decode(alloc, reader, writer), errors)),
-        Ok(Request::Encode) => Outcome::Ended(ended(run_encode(alloc, reader, writer), errors)),
-        Ok(Request::Check) => Outcome::Ended(ended(run_check(alloc, reader, writer), errors)),
-        Ok(Request::Upgrade) => Outcome::Ended(ended(run_upgrade(alloc, reader, writer), errors)),
+        Ok(Request::Encode) => {
+            Outcome::Ended(ended(
+                run_encode_with_reasons(alloc, reader, writer, errors),
+                errors,
+            ))
+        }
+        Ok(Request::Check) => {
+            Outcome::Ended(ended(
+                run_check_with_reasons(alloc, reader, writer, errors),
+                errors,
+            ))
+        }
+        Ok(Request::Upgrade) => {
+            Outcome::Ended(ended(
+                run_upgrade_with_reasons(alloc, reader, writer, errors),
+                errors,
+            ))
+        }
         Ok(Request::Step { is_traced }) => {
-            Outcome::Ended(ended(run_step(alloc, is_traced, reader, writer), errors))
+            Outcome::Ended(ended(
+                run_step_with_reasons(alloc, is_traced, reader, writer, errors),
+                errors,
+            ))
         }
         Ok(Request::Run { counting, is_told }) => Outcome::Run { counting, is_told },
-        Err(fault) => Outcome::Ended(refused(&fault, writer, errors)),
+        Err(fault) => Outcome::Ended(refused(&fault, words, writer, errors)),
     }
 }
 

@@ -2,7 +2,8 @@
 //!
 //! [`run_step`] makes the fabric that a script's first line names, does the event of each line behind it,
 //! and writes what is seen of it, or at the end the trace of the whole run with its history. It goes over
-//! any reader and writer, a block of input at a time.
+//! any reader and writer, a block of input at a time. [`run_step_with_reasons`] also tells why it answers
+//! a fault or a refusal, for people.
 #![tactic(auto)]
 
 #[cfg(test)]
@@ -12,4 +13,4 @@ mod step;
 #[cfg(test)]
 mod tests;
 
-pub use step::run_step;
+pub use step::{run_step, run_step_with_reasons};
