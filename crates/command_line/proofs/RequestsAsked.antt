@@ -5,7 +5,7 @@ use Rattle.std.proofs.lemmas.Slice.Eq.{bytes_eq-Decides}
 use Rattle.clap.specs.Words.{Row, Text}
 use Rattle.counting.specs.declared.Counting.{Counting}
 use Rattle.command_line.specs.declared.words.Request.{Request}
-use Rattle.command_line.specs.declared.words.Request.TheVariants.{Tlp, Decode, Encode, Check, Upgrade, Step, Run}
+use Rattle.command_line.specs.declared.words.Request.TheVariants.{Tlp, Decode, Encode, Check, Draw, Upgrade, Step, Run}
 use Rattle.command_line.specs.Options.{WritesBase, WritesNumber, WritesGiven, WritesFlag, AsksRun, Asks}
 
 pub if_none : {T P : Type 0} (o : Option T) → P → IfNone o P
@@ -33,6 +33,7 @@ name_of (Tlp base size block) = codes "tlp"
 name_of Decode = codes "decode"
 name_of Encode = codes "encode"
 name_of Check = codes "check"
+name_of (Draw from to) = codes "draw"
 name_of Upgrade = codes "upgrade"
 name_of (Step is_traced) = codes "step"
 name_of (Run counting is_told) = codes "run"
@@ -42,6 +43,7 @@ asks_name p (Tlp base size block) a = a.0
 asks_name p Decode a = a
 asks_name p Encode a = a
 asks_name p Check a = a
+asks_name p (Draw from to) a = a.0
 asks_name p Upgrade a = a
 asks_name p (Step is_traced) a = a.0
 asks_name p (Run counting is_told) a = a.0
@@ -67,6 +69,10 @@ asks_one (Some p) (Tlp base size block) (Tlp base' size' block') a b =
 asks_one (Some p) Decode Decode a b = refl
 asks_one (Some p) Encode Encode a b = refl
 asks_one (Some p) Check Check a b = refl
+asks_one (Some p) (Draw from to) (Draw from' to') a b =
+    let e = same_number 0 _ from from' a.1.from_read b.1.from_read in
+    let f = same_number 18446744073709551615 _ to to' a.1.to_read b.1.to_read in
+    ap (λ (x : ℕ). Draw x to) e ∙ ap (λ (x : ℕ). Draw from' x) f
 asks_one (Some p) Upgrade Upgrade a b = refl
 asks_one (Some p) (Step t) (Step u) a b = ap Step (same_flag _ t u a.1 b.1)
 asks_one (Some p) (Run c t) (Run d u) a b =

@@ -1,5 +1,5 @@
 -- What the words of a command line ask for.
-use Rattle.std.specs.Prelude.{◌≡◌, ◌≤◌, ℕ, Bool, true, false, List, length, Option, Some, None, codes, bytes_eq}
+use Rattle.std.specs.Prelude.{◌≡◌, ◌≤◌, ◌<◌, ◌^◌, ℕ, Bool, true, false, List, length, Option, Some, None, codes, bytes_eq}
 use Rattle.std.specs.Str.Parse.{IsNumeral, digits_value}
 use Rattle.clap.specs.declared.builder.action.ArgAction.TheVariants.{SetTrue}
 use Rattle.clap.specs.Words.{App, Row, Rule, Text, first_of, new_app, new_rule, with_rule, with_subcommand}
@@ -7,7 +7,7 @@ use Rattle.counting.specs.declared.Counting.{Counting}
 use Rattle.counting.specs.Ranges.{IsCounting}
 use Rattle.seq_memory.specs.Limits.{IsSize, IsBase, IsBlock}
 use Rattle.command_line.specs.declared.words.Request.{Request}
-use Rattle.command_line.specs.declared.words.Request.TheVariants.{Tlp, Decode, Encode, Check, Upgrade, Step, Run}
+use Rattle.command_line.specs.declared.words.Request.TheVariants.{Tlp, Decode, Encode, Check, Draw, Upgrade, Step, Run}
 
 -- an option with a value
 abbrev pub option : Text → Rule
@@ -15,6 +15,9 @@ option name = record (new_rule name) { long = Some name; value_names = 1 }
 
 abbrev pub tlp_app : App
 tlp_app = with_rule (with_rule (with_rule (new_app (codes "tlp")) (option (codes "base"))) (option (codes "size"))) (option (codes "block"))
+
+abbrev pub draw_app : App
+draw_app = with_rule (with_rule (new_app (codes "draw")) (option (codes "from"))) (option (codes "to"))
 
 -- a flag, whose value is `true` where it is given
 abbrev pub flag : Text → Rule
@@ -40,8 +43,8 @@ top_app = record (new_app (codes "pciex")) {
 -- the grammar of the command line
 unfoldable pub the_app : App
 the_app =
-    with_subcommand (with_subcommand (with_subcommand (with_subcommand (with_subcommand (with_subcommand (with_subcommand top_app tlp_app.top) (new_app (codes "decode")).top)
-    (new_app (codes "encode")).top) (new_app (codes "check")).top) (new_app (codes "upgrade")).top) step_app.top) run_app.top
+    with_subcommand (with_subcommand (with_subcommand (with_subcommand (with_subcommand (with_subcommand (with_subcommand (with_subcommand top_app tlp_app.top) (new_app (codes "decode")).top)
+    (new_app (codes "encode")).top) (new_app (codes "check")).top) draw_app.top) (new_app (codes "upgrade")).top) step_app.top) run_app.top
 
 -- a base is written in 1 to 16 hexadecimal digits, and is 0 where none is given
 abbrev pub WritesBase : Option Text → ℕ → Type 0
@@ -76,6 +79,13 @@ abbrev pub WritesFlag : Option Text → Bool → Type 0
 WritesFlag None b = b ≡ false
 WritesFlag (Some text) b = b ≡ bytes_eq text (codes "true")
 
+-- the values of `draw` ask for the points from one to another, 64-bit numbers
+pub record AsksDraw (rows : List Row) (from to : ℕ) : Type 0 where
+  pub from_read : WritesNumber 0 (first_of (codes "from") rows) from
+  pub to_read : WritesNumber 18446744073709551615 (first_of (codes "to") rows) to
+  pub from_fits : from < 2 ^ 64
+  pub to_fits : to < 2 ^ 64
+
 -- the values of `run` ask for this counting
 pub record AsksRun (rows : List Row) (c : Counting) : Type 0 where
   pub requesters_read : WritesGiven (first_of (codes "requesters") rows) c.requesters
@@ -92,6 +102,7 @@ Asks (Some p) (Tlp base size block) = (p.0 ≡ codes "tlp") × AsksTlp p.1 base 
 Asks (Some p) Decode = p.0 ≡ codes "decode"
 Asks (Some p) Encode = p.0 ≡ codes "encode"
 Asks (Some p) Check = p.0 ≡ codes "check"
+Asks (Some p) (Draw from to) = (p.0 ≡ codes "draw") × AsksDraw p.1 from to
 Asks (Some p) Upgrade = p.0 ≡ codes "upgrade"
 Asks (Some p) (Step is_traced) = (p.0 ≡ codes "step") × WritesFlag (first_of (codes "trace") p.1) is_traced
 Asks (Some p) (Run counting is_told) = (p.0 ≡ codes "run") × AsksRun p.1 counting × WritesFlag (first_of (codes "progress") p.1) is_told

@@ -5,7 +5,7 @@ ghost use Rattle.clap.specs.Walk.{rule_of};
 ghost use Rattle.clap.specs.declared.builder.Command.TheViews.{out-Command};
 ghost use Rattle.command_line.specs.declared.words.Request.{Request};
 ghost use Rattle.command_line.specs.Faults.{WordsFault, RangeFault};
-ghost use Rattle.command_line.specs.Options.{the_app, top_app, tlp_app, step_app, run_app, option, required, flag, WritesFlag, IsMemory, WritesBase, WritesNumber, WritesGiven, Asks};
+ghost use Rattle.command_line.specs.Options.{the_app, top_app, tlp_app, draw_app, step_app, run_app, option, required, flag, WritesFlag, IsMemory, WritesBase, WritesNumber, WritesGiven, Asks};
 
 use clap::error::ErrorKind;
 use clap::{Arg, ArgAction, ArgMatches, Command};
@@ -28,6 +28,15 @@ const ENCODE_ABOUT: &str =
 
 const CHECK_ABOUT: &str =
     "Tells whether a history explains what requesters were told. The input is one trace text. The answer is one line: 'ok'; or 'flaw' with the number, the name and the place of the first flaw; or 'fault' with the line that can't be read and why.";
+
+const DRAW_ABOUT: &str =
+    "Draws a picture of a history in SVG, which browsers show. The input is one trace text, as 'check' reads it. The points of the history go from left to right, with a row for each requester and a bar for each request; the first flaw that 'check' finds is marked in red. Of a text that can't be read the picture tells the fault.";
+
+const FROM_HELP: &str =
+    "The first point that is drawn: a length of the history, from 0. The default is 0.";
+
+const TO_HELP: &str =
+    "The last point that is drawn. The default is the length of the whole history.";
 
 const UPGRADE_ABOUT: &str =
     "Writes a trace text of version 1 or 2 in version 2, unchecked. The answer to a text that can't be read is 'fault' with the line and why.";
@@ -77,6 +86,8 @@ pub enum Request {
     Encode,
     /// The subcommand `check`.
     Check,
+    /// The subcommand `draw`, of the points from one to another.
+    Draw { from: u64, to: u64 },
     /// The subcommand `upgrade`.
     Upgrade,
     /// The subcommand `step`, which tells results, or the trace alone.
@@ -189,6 +200,16 @@ fn run_command<'a>(alloc: Global) -> Result<Command<'a>, AllocError>
     with_arg(turns, flag_of(alloc, "progress", PROGRESS_HELP))
 }
 
+/// The subcommand `draw`.
+fn draw_command<'a>(alloc: Global) -> Result<Command<'a>, AllocError>
+    ensures app { IfOk result (λ c. app_of c ≡ draw_app) }
+    ensures globals { IfOk result (λ c. (out-Command c).has_globals ≡ false) }
+{
+    let draw = plain_command(alloc, "draw", DRAW_ABOUT);
+    let from = with_arg(draw, option_of(alloc, "from", "POINT", FROM_HELP))?;
+    with_arg(from, option_of(alloc, "to", "POINT", TO_HELP))
+}
+
 /// The program without subcommands.
 fn top_command<'a>(alloc: Global) -> Command<'a>
     ensures app { app_of result ≡ top_app }
@@ -221,6 +242,16 @@ fn with_run<'a>(alloc: Global, top: Command<'a>) -> Result<Command<'a>, AllocErr
     with_command(top, run)
 }
 
+/// The program with the subcommand `draw`.
+fn with_draw<'a>(alloc: Global, top: Command<'a>) -> Result<Command<'a>, AllocError>
+    requires top { (out-Command top).has_globals ≡ false }
+    ensures app { IfOk result (λ c. app_of c ≡ with_subcommand (app_of top.entry) draw_app.top) }
+    ensures globals { IfOk result (λ c. (out-Command c).has_globals ≡ false) }
+{
+    let draw = draw_command(alloc)?;
+    with_command(top, draw)
+}
+
 /// The command line's grammar.
 fn grammar<'a>(alloc: Global) -> Result<Command<'a>, AllocError>
     ensures app { IfOk result (λ c. app_of c ≡ the_app) }
@@ -231,7 +262,8 @@ fn grammar<'a>(alloc: Global) -> Result<Command<'a>, AllocError>
     let with_decode = with_command(with_tlp, plain_command(alloc, "decode", DECODE_ABOUT))?;
     let with_encode = with_command(with_decode, plain_command(alloc, "encode", ENCODE_ABOUT))?;
     let with_check = with_command(with_encode, plain_command(alloc, "check", CHECK_ABOUT))?;
-    let with_upgrade = with_command(with_check, plain_command(alloc, "upgrade", UPGRADE_ABOUT))?;
+    let with_draw = with_draw(alloc, with_check)?;
+    let with_upgrade = with_command(with_draw, plain_command(alloc, "upgrade", UPGRADE_ABOUT))?;
     let with_step = with_step(alloc, with_upgrade)?;
     with_run(alloc, with_step)
 }
@@ -380,6 +412,16 @@ fn run_of(run: &ArgMatches<'_>) -> Option<Request>
     })
 }
 
+/// What the values of `draw` ask for.
+fn draw_of(draw: &ArgMatches<'_>) -> Option<Request>
+    ensures some { IfSome result (Asks (Some (codes "draw", rows_of (found_of draw.now)))) }
+    ensures none { IfNone result ((r : Request) → Asks (Some (codes "draw", rows_of (found_of draw.now))) r → ⊥) }
+{
+    let from = number_of(draw.get_str("from"), 0)?;
+    let to = number_of(draw.get_str("to"), u64::MAX)?;
+    Some(Request::Draw { from, to })
+}
+
 /// What a subcommand with these values asks for.
 fn request_of(name: &str, values: &ArgMatches<'_>) -> Option<Request>
     ensures some { IfSome result (Asks (Some (name.now, rows_of (found_of values.now)))) }
@@ -393,6 +435,8 @@ fn request_of(name: &str, values: &ArgMatches<'_>) -> Option<Request>
         Some(Request::Encode)
     } else if name == "check" {
         Some(Request::Check)
+    } else if name == "draw" {
+        draw_of(values)
     } else if name == "upgrade" {
         Some(Request::Upgrade)
     } else if name == "step" {

@@ -3,11 +3,12 @@ use Rattle.std.specs.Prelude.{◌≡◌, ◌≢◌, ◌⊎◌, ℕ, List, [], �
 use Rattle.clap.specs.Words.{Kinds}
 use Rattle.clap.specs.declared.error.kind.ErrorKind.TheVariants as kinds
 use Rattle.command_line.specs.declared.words.Request.{Request}
-use Rattle.command_line.specs.declared.words.Request.TheVariants.{Tlp, Decode, Encode, Check, Upgrade, Step, Run}
+use Rattle.command_line.specs.declared.words.Request.TheVariants.{Tlp, Decode, Encode, Check, Draw, Upgrade, Step, Run}
 use Rattle.counting.specs.Ranges.{IsCounting}
 use Rattle.line_engine.specs.Run.{IsRun}
 use Rattle.pciex.specs.declared.command.Outcome.{Outcome}
 use Rattle.pciex.specs.declared.command.Outcome.TheVariants as outcomes
+use Rattle.draw_engine.specs.Draw.{out_draw}
 use Rattle.packet_engine.specs.Lines.{out_decode, out_encode}
 use Rattle.run_engine.specs.Text.{IsRan}
 use Rattle.tlp_engine.specs.Tlp.{out_tlp}
@@ -21,6 +22,7 @@ IsDone (Tlp base size block) input rest out out' exit = IsRun (out_tlp base size
 IsDone Decode input rest out out' exit = IsRun out_decode input rest out out' exit
 IsDone Encode input rest out out' exit = IsRun out_encode input rest out out' exit
 IsDone Check input rest out out' exit = IsRun out_check input rest out out' exit
+IsDone (Draw from to) input rest out out' exit = IsRun (out_draw (record { from = from; to = to })) input rest out out' exit
 IsDone Upgrade input rest out out' exit = IsRun out_upgrade input rest out out' exit
 IsDone (Step is_traced) input rest out out' exit = IsRun (out_step is_traced) input rest out out' exit
 IsDone (Run counting is_told) input rest out out' exit = (rest ≡ input) × IsRan counting out out' exit

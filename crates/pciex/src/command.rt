@@ -10,6 +10,8 @@ ghost use Rattle.command_line.specs.declared.words.Request.{Request};
 use clap::error::ErrorKind;
 use command_line::{Request, RequestFault, options};
 use counting::Counting;
+use draw_engine::run_draw;
+use history_picture::Window;
 use line_engine::EngineFault;
 use packet_engine::{run_decode, run_encode};
 use run_engine::run_counting;
@@ -133,6 +135,10 @@ pub fn on_one_thread<S: AsStr, R: Read, W: Write, E: Write>(
         Ok(Request::Decode) => Outcome::Ended(ended(run_decode(alloc, reader, writer), errors)),
         Ok(Request::Encode) => Outcome::Ended(ended(run_encode(alloc, reader, writer), errors)),
         Ok(Request::Check) => Outcome::Ended(ended(run_check(alloc, reader, writer), errors)),
+        Ok(Request::Draw { from, to }) => {
+            let window = Window { from, to };
+            Outcome::Ended(ended(run_draw(alloc, window, reader, writer), errors))
+        }
         Ok(Request::Upgrade) => Outcome::Ended(ended(run_upgrade(alloc, reader, writer), errors)),
         Ok(Request::Step { is_traced }) => {
             Outcome::Ended(ended(run_step(alloc, is_traced, reader, writer), errors))
