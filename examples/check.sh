@@ -1,12 +1,12 @@
 #!/bin/sh
 # Tells whether the tests of the engines have the text of each file here: each stands under its name in a file of
-# crates/engine_tests, or in a test file of crates/step_engine.
+# crates/engine_tests.
 cd "$(dirname "$0")" || exit 1
 differ=0
 for file in *.txt *.out; do
     name=$(echo "${file%.*}" | tr '[:lower:]' '[:upper:]')
     case $file in *.out) name=${name}_OUT ;; esac
-    tests=$(grep -ls "^const $name: &str = " ../crates/engine_tests/src/*.rt ../crates/step_engine/src/*tests.rt)
+    tests=$(grep -ls "^const $name: &str = " ../crates/engine_tests/src/*.rt)
     if [ -z "$tests" ]; then
         echo "$file: no test has it"
         differ=1

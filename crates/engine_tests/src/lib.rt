@@ -1,11 +1,15 @@
-//! The engines of `tlp`, `decode`, `encode`, `check` and `upgrade` over worked lines, packets and traces, and over their
-//! files of the folder `examples/`.
+//! The engines of the subcommands over worked lines, packets, traces and scripts, and over the files of the folder
+//! `examples/`.
 #![tactic(auto)]
 
 #[cfg(test)]
 mod packet_examples;
 #[cfg(test)]
 mod packets;
+#[cfg(test)]
+mod step_examples;
+#[cfg(test)]
+mod steps;
 #[cfg(test)]
 mod tlp;
 #[cfg(test)]

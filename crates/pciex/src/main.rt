@@ -2,9 +2,8 @@
 #![tactic(auto)]
 
 mod command;
-#[cfg(test)]
-mod tests;
 
+use commands::no_words;
 use std::io;
 use std::io::IsTerminal;
 use std::process::ExitCode;
@@ -27,7 +26,7 @@ fn main(rt: HostRuntime) -> ExitCode {
             &mut rt.stdout(),
             &mut errors,
         ),
-        Err(fault) => command::no_words(&fault, &mut errors),
+        Err(fault) => no_words(&fault, &mut errors),
     };
     ExitCode::from(status)
 }

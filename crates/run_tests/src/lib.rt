@@ -1,5 +1,10 @@
-//! Runs of mixed operations by worker threads, checked as values and as text.
+//! Runs by worker threads: additions, each counted once; what ends a run; mixed operations, checked as values and as
+//! text; what a run writes.
 #![tactic(auto)]
 
 #[cfg(test)]
+mod additions;
+#[cfg(test)]
 mod mixed;
+#[cfg(test)]
+mod reports;

@@ -5,11 +5,7 @@
 //! any reader and writer, a block of input at a time.
 #![tactic(auto)]
 
-#[cfg(test)]
-mod example_tests;
 pub mod laws;
 mod step;
-#[cfg(test)]
-mod tests;
 
 pub use step::run_step;

@@ -8,8 +8,6 @@
 
 mod parts;
 mod running;
-#[cfg(test)]
-mod tests;
 mod threads;
 
 pub use run_report::{Report, RunHalt, RunPlan};

@@ -3,7 +3,7 @@ use Rattle.counting.specs.declared.Counting.{Counting}
 use Rattle.line_engine.specs.declared.fault.EngineFault.{EngineFault}
 use Rattle.command_line.specs.declared.words.Request.{Request}
 use Rattle.run_engine.specs.Text.{IsWhole, IsPart, IsRan}
-use Rattle.pciex.specs.Command.{IsDone}
+use Rattle.commands.specs.Command.{IsDone}
 use Rattle.pciex.proofs.command.command.Goals as goal
 
 -- a run, whole or stopped

@@ -1,6 +1,4 @@
-use super::*;
-use crate::running::run_workers;
-use arrayvec::ArrayVec;
+//! Additions by worker threads, each counted once; and what ends a run without a report.
 use fabric_core::{Config, Refusal};
 use fault_plan::Plan;
 use fc_credit::LaneCredits;
@@ -10,9 +8,10 @@ use seq_memory::Reply;
 use std::alloc::{AllocError, Global};
 use std::sync::Wait;
 use std::sync::atomic::{AtomicBool, AtomicU64, Ordering};
-use std::test::*;
+use std::test::Fail;
 use std::thread::Threads;
 use tlp_core::{Op, TlpFault, Width};
+use workers::{Gate, OpenGate, Report, RunHalt, RunPlan, run_workers};
 
 /// A plan of additions of 1 to the first word.
 #[derive(Clone, Copy)]

@@ -1,5 +1,5 @@
 //! The files of the folder `examples/` for `step`, and what they print: `examples/check.sh` says whether they are the same.
-use crate::tests::prints;
+use crate::steps::prints;
 
 const LOST_ACK: &str = "\
 # A script for `pciex step`: an Ack is lost and its packet sent once more, and the request still acts once.

@@ -1,12 +1,10 @@
 //! Words of the command line, a run of each subcommand, and streams that fail.
-use crate::command::{Outcome, command, no_words, on_one_thread};
+use crate::{Outcome, no_words, on_one_thread};
 use arrayvec::ArrayVec;
 use std::alloc::Global;
 use std::io;
 use std::io::{ErrorKind, Read, Write};
-use std::sync::Wait;
 use std::test::Fail;
-use std::thread::Threads;
 
 /// The exit status, 9 where a run is asked for.
 fn status_of(outcome: Outcome) -> u8 {
@@ -288,29 +286,4 @@ fn words_that_are_not_read(rt: HostRuntime) {
         let status = no_words(&kind.into(), &mut errors);
         assert!(rt; status == exit && errors.as_slice() == text.as_bytes());
     }
-}
-
-/// Whether a run of no additions writes its report, and nothing on the error stream.
-fn counts_nothing<T: Threads + Wait + Sync>(rt: &T, alloc: Global) -> bool {
-    let words = ["pciex", "run", "--requesters", "1", "--each", "0"];
-    let mut reader = b"".as_slice();
-    let mut out = Vec::new(alloc);
-    let mut errors = Vec::new(alloc);
-    let status = command(
-        rt,
-        alloc,
-        words.as_slice(),
-        false,
-        &mut reader,
-        &mut out,
-        &mut errors,
-    );
-    status == 0
-        && out.as_slice() == b"answered 0\nhistory 0\nword 0\ncheck ok\n".as_slice()
-        && errors.is_empty()
-}
-
-#[test]
-fn a_run_of_no_additions(rt: HostRuntime) {
-    assert!(rt; counts_nothing(&rt, rt.alloc()));
 }

@@ -6,8 +6,8 @@ use Rattle.command_line.specs.declared.words.Request.{Request}
 use Rattle.command_line.specs.declared.words.Request.TheVariants.{Tlp, Decode, Encode, Check, Upgrade, Step, Run}
 use Rattle.counting.specs.Ranges.{IsCounting}
 use Rattle.line_engine.specs.Run.{IsRun}
-use Rattle.pciex.specs.declared.command.Outcome.{Outcome}
-use Rattle.pciex.specs.declared.command.Outcome.TheVariants as outcomes
+use Rattle.commands.specs.declared.command.Outcome.{Outcome}
+use Rattle.commands.specs.declared.command.Outcome.TheVariants as outcomes
 use Rattle.packet_engine.specs.Lines.{out_decode, out_encode}
 use Rattle.run_engine.specs.Text.{IsRan}
 use Rattle.tlp_engine.specs.Tlp.{out_tlp}

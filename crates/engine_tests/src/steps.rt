@@ -1,8 +1,8 @@
-//! Worked scripts.
-use crate::run_step;
+//! Worked scripts of `step`.
 use line_engine::EngineFault;
 use std::alloc::Global;
 use std::test::Fail;
+use step_engine::run_step;
 use trace_engine::run_check;
 
 /// One requester and 4096 bytes.

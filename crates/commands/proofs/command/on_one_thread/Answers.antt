@@ -16,9 +16,9 @@ use Rattle.counting.specs.declared.Counting.{Counting}
 use Rattle.counting.specs.Ranges.{IsCounting}
 use Rattle.run_report.specs.declared.halt.RunHalt.TheVariants as halts
 use Rattle.run_engine.specs.Text.{IsPart, halt_text}
-use Rattle.pciex.specs.Command.{IsDone, AskForNoText, AreRefused}
+use Rattle.commands.specs.Command.{IsDone, AskForNoText, AreRefused}
 use Rattle.command_line.proofs.RequestsAsked.{asks_one}
-use Rattle.pciex.proofs.command.on_one_thread.Goals as goal
+use Rattle.commands.proofs.command.on_one_thread.Goals as goal
 
 -- words that `clap` takes and that ask for something are refused for want of memory alone
 want : (fault : RequestFault) (taken : Type 0) (o : Option (Text × List Row)) (r : Request)
