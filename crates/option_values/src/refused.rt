@@ -1,0 +1,58 @@
+//! Which option's value is refused, for people.
+use crate::options::ValueOption;
+use std::fmt;
+
+/// How many bytes are shown of a value.
+const SHOWN: usize = 40;
+
+/// An option whose value is refused.
+#[derive(Clone, Copy, Debug, PartialEq, Eq)]
+pub struct RefusedValue<'a> {
+    /// Which option.
+    pub option: ValueOption,
+    /// The value as it is written, none where the option is not given.
+    pub given: Option<&'a str>,
+}
+
+/// A byte of a value: as it is where it is printable ASCII, and else as `\xNN`.
+fn show_byte<W: fmt::Write>(byte: u8, f: &mut fmt::Formatter<W>) -> fmt::Result {
+    if byte.is_ascii_graphic() || byte == b' ' {
+        let glyph = char::from(byte);
+        write!(f, "{glyph}")
+    } else {
+        write!(f, "\\x{byte:02X}")
+    }
+}
+
+/// The first bytes of a value.
+fn show<W: fmt::Write>(value: &str, f: &mut fmt::Formatter<W>) -> fmt::Result {
+    let bytes = value.as_bytes();
+    for byte in &bytes[..bytes.len().min(SHOWN)] {
+        show_byte(*byte, f)?;
+    }
+    Ok(())
+}
+
+impl fmt::Display for RefusedValue<'_> {
+    /// The option, what is given, and what is allowed.
+    fn fmt<W: fmt::Write>(&self, f: &mut fmt::Formatter<W>) -> fmt::Result {
+        let RefusedValue { option, given } = *self;
+        let (name, allowed) = (option.name(), option.allowed());
+        match given {
+            Some(value) => {
+                write!(f, "--{name} is ")?;
+                show(value, f)?;
+            }
+            None => write!(f, "--{name} is not given")?,
+        }
+        match option {
+            ValueOption::Base => write!(
+                f,
+                ": 1 to 16 hexadecimal digits, a multiple of 80, and the memory ends at 2^64 or before"
+            ),
+            ValueOption::Block => write!(f, ": 64 or 128"),
+            ValueOption::To => write!(f, ": {allowed}, at least --from"),
+            _ => write!(f, ": {allowed}"),
+        }
+    }
+}
