@@ -1,2 +1,3 @@
 pub mod GrammarLemmas
 pub mod RequestsAsked
+pub mod RefusalsAskNothing

@@ -4,10 +4,11 @@ use Rattle.std.specs.Prelude.{bytes_eq}
 use Rattle.std.proofs.lemmas.Slice.Eq.{bytes_eq-Decides}
 use Rattle.clap.specs.Words.{Row, Text}
 use Rattle.counting.specs.declared.Counting.{Counting}
+use Rattle.storm.specs.declared.Storm.{Storm}
 use Rattle.command_line.specs.declared.words.Request.{Request}
-use Rattle.command_line.specs.declared.words.Request.TheVariants.{Tlp, Decode, Encode, Check, Upgrade, Step, Run}
+use Rattle.command_line.specs.declared.words.Request.TheVariants.{Tlp, Decode, Encode, Check, Draw, Upgrade, Step, Generate, Run}
 use Rattle.option_values.specs.Values.{WritesBase, WritesNumber, WritesGiven, WritesFlag}
-use Rattle.command_line.specs.Options.{AsksRun, Asks}
+use Rattle.command_line.specs.Options.{Asks}
 
 pub if_none : {T P : Type 0} (o : Option T) → P → IfNone o P
 if_none None p = p
@@ -28,14 +29,19 @@ same_given (Some t) a b h k = h.1 ∙ sym k.1
 pub same_counting : (c d : Counting) → c.requesters ≡ d.requesters → c.each ≡ d.each → c.lose ≡ d.lose → c.corrupt ≡ d.corrupt → c.turns ≡ d.turns → c ≡ d
 same_counting c d a b e f g j = record { requesters = a j; each = b j; lose = e j; corrupt = f j; turns = g j }
 
+pub same_storm : (s t : Storm) → s.seed ≡ t.seed → s.events ≡ t.events → s.requesters ≡ t.requesters → s.lose ≡ t.lose → s.corrupt ≡ t.corrupt → s.block ≡ t.block → s ≡ t
+same_storm s t a b e f g h j = record { seed = a j; events = b j; requesters = e j; lose = f j; corrupt = g j; block = h j }
+
 -- the name of the subcommand
 abbrev pub name_of : Request → Text
 name_of (Tlp base size block) = codes "tlp"
 name_of Decode = codes "decode"
 name_of Encode = codes "encode"
 name_of Check = codes "check"
+name_of (Draw from to) = codes "draw"
 name_of Upgrade = codes "upgrade"
-name_of (Step is_traced) = codes "step"
+name_of (Step is_traced keeps_going echoes) = codes "step"
+name_of (Generate storm) = codes "generate"
 name_of (Run counting is_told) = codes "run"
 
 pub asks_name : (p : Text × List Row) (r : Request) → Asks (Some p) r → p.0 ≡ name_of r
@@ -43,8 +49,10 @@ asks_name p (Tlp base size block) a = a.0
 asks_name p Decode a = a
 asks_name p Encode a = a
 asks_name p Check a = a
+asks_name p (Draw from to) a = a.0
 asks_name p Upgrade a = a
-asks_name p (Step is_traced) a = a.0
+asks_name p (Step is_traced keeps_going echoes) a = a.0
+asks_name p (Generate storm) a = a.0
 asks_name p (Run counting is_told) a = a.0
 
 pub differ : (x y : Text) → bytes_eq x y ≡ false → x ≡ y → ⊥
@@ -68,8 +76,21 @@ asks_one (Some p) (Tlp base size block) (Tlp base' size' block') a b =
 asks_one (Some p) Decode Decode a b = refl
 asks_one (Some p) Encode Encode a b = refl
 asks_one (Some p) Check Check a b = refl
+asks_one (Some p) (Draw from to) (Draw from' to') a b =
+    let e = same_number 0 _ from from' a.1.from_read b.1.from_read in
+    let f = same_number 18446744073709551615 _ to to' a.1.to_read b.1.to_read in
+    ap (λ (x : ℕ). Draw x to) e ∙ ap (λ (x : ℕ). Draw from' x) f
 asks_one (Some p) Upgrade Upgrade a b = refl
-asks_one (Some p) (Step t) (Step u) a b = ap Step (same_flag _ t u a.1 b.1)
+asks_one (Some p) (Step t k e) (Step u l f) a b =
+    let x = a.1 in
+    let y = b.1 in
+    ap (λ (z : Bool). Step z k e) (same_flag _ t u x.trace_read y.trace_read) ∙ ap (λ (z : Bool). Step u z e) (same_flag _ k l x.keep_going_read y.keep_going_read)
+    ∙ ap (λ (z : Bool). Step u l z) (same_flag _ e f x.echo_read y.echo_read)
+asks_one (Some p) (Generate s) (Generate t) a b =
+    let x = a.1 in
+    let y = b.1 in
+    ap Generate (same_storm s t (same_given _ _ _ x.seed_read y.seed_read) (same_given _ _ _ x.events_read y.events_read) (same_number 3 _ _ _ x.requesters_read y.requesters_read)
+    (same_number 0 _ _ _ x.lose_read y.lose_read) (same_number 0 _ _ _ x.corrupt_read y.corrupt_read) (same_number 64 _ _ _ x.block_read y.block_read))
 asks_one (Some p) (Run c t) (Run d u) a b =
     let x = a.1 in
     let y = b.1 in

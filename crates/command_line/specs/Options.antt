@@ -1,13 +1,15 @@
 -- What the words of a command line ask for.
-use Rattle.std.specs.Prelude.{◌≡◌, ℕ, true, List, Option, Some, None, codes}
+use Rattle.std.specs.Prelude.{◌≡◌, ◌≤◌, ◌<◌, ◌^◌, ℕ, Bool, true, List, Option, Some, None, codes}
 use Rattle.clap.specs.declared.builder.action.ArgAction.TheVariants.{SetTrue}
 use Rattle.clap.specs.Words.{App, Row, Rule, Text, first_of, new_app, new_rule, with_rule, with_subcommand}
 use Rattle.counting.specs.declared.Counting.{Counting}
 use Rattle.counting.specs.Ranges.{IsCounting}
 use Rattle.seq_memory.specs.Limits.{IsWithinLimits}
+use Rattle.storm.specs.declared.Storm.{Storm}
+use Rattle.storm.specs.Ranges.{IsStorm}
 use Rattle.option_values.specs.Values.{WritesBase, WritesNumber, WritesGiven, WritesFlag}
 use Rattle.command_line.specs.declared.words.Request.{Request}
-use Rattle.command_line.specs.declared.words.Request.TheVariants.{Tlp, Decode, Encode, Check, Upgrade, Step, Run}
+use Rattle.command_line.specs.declared.words.Request.TheVariants.{Tlp, Decode, Encode, Check, Draw, Upgrade, Step, Generate, Run}
 
 -- an option with a value
 abbrev pub option : Text → Rule
@@ -16,32 +18,48 @@ option name = record (new_rule name) { long = Some name; value_names = 1 }
 abbrev pub tlp_app : App
 tlp_app = with_rule (with_rule (with_rule (new_app (codes "tlp")) (option (codes "base"))) (option (codes "size"))) (option (codes "block"))
 
+abbrev pub draw_app : App
+draw_app = with_rule (with_rule (new_app (codes "draw")) (option (codes "from"))) (option (codes "to"))
+
 -- a flag, whose value is `true` where it is given
 abbrev pub flag : Text → Rule
 flag name = record (new_rule name) { long = Some name; action = Some SetTrue }
 
 abbrev pub step_app : App
-step_app = with_rule (new_app (codes "step")) (flag (codes "trace"))
+step_app = with_rule (with_rule (with_rule (new_app (codes "step")) (flag (codes "trace"))) (flag (codes "keep-going"))) (flag (codes "echo"))
 
 -- an option with a value, which has to be given
 abbrev pub required : Text → Rule
 required name = record (option name) { required = true }
 
+-- with the faults of links
+abbrev pub with_links : App → App
+with_links app = with_rule (with_rule app (option (codes "lose"))) (option (codes "corrupt"))
+
+abbrev pub generate_app : App
+generate_app =
+    with_rule (with_links (with_rule (with_rule (with_rule (new_app (codes "generate")) (required (codes "seed"))) (required (codes "events"))) (option (codes "requesters"))))
+    (option (codes "block"))
+
 abbrev pub run_app : App
 run_app =
-    with_rule (with_rule (with_rule (with_rule (with_rule (with_rule (new_app (codes "run")) (required (codes "requesters"))) (required (codes "each"))) (option (codes "lose")))
-    (option (codes "corrupt"))) (option (codes "turns"))) (flag (codes "progress"))
+    with_rule (with_rule (with_links (with_rule (with_rule (new_app (codes "run")) (required (codes "requesters"))) (required (codes "each")))) (option (codes "turns"))) (flag (codes "progress"))
 
 abbrev pub top_app : App
 top_app = record (new_app (codes "pciex")) {
   top = record ((new_app (codes "pciex")).top) { has_version = true; subcommand_required = true; disable_help_subcommand = true };
 }
 
+-- with the subcommands for packets, and with those for traces
+abbrev pub with_packets : App → App
+with_packets app = with_subcommand (with_subcommand (with_subcommand app tlp_app.top) (new_app (codes "decode")).top) (new_app (codes "encode")).top
+
+abbrev pub with_traces : App → App
+with_traces app = with_subcommand (with_subcommand (with_subcommand app (new_app (codes "check")).top) draw_app.top) (new_app (codes "upgrade")).top
+
 -- the grammar of the command line
 unfoldable pub the_app : App
-the_app =
-    with_subcommand (with_subcommand (with_subcommand (with_subcommand (with_subcommand (with_subcommand (with_subcommand top_app tlp_app.top) (new_app (codes "decode")).top)
-    (new_app (codes "encode")).top) (new_app (codes "check")).top) (new_app (codes "upgrade")).top) step_app.top) run_app.top
+the_app = with_subcommand (with_subcommand (with_subcommand (with_traces (with_packets top_app)) step_app.top) generate_app.top) run_app.top
 
 -- the values of `tlp` ask for this memory
 pub record AsksTlp (rows : List Row) (base size block : ℕ) : Type 0 where
@@ -49,6 +67,30 @@ pub record AsksTlp (rows : List Row) (base size block : ℕ) : Type 0 where
   pub size_read : WritesNumber 4096 (first_of (codes "size") rows) size
   pub block_read : WritesNumber 64 (first_of (codes "block") rows) block
   pub memory : IsWithinLimits base size block
+
+-- the values of `draw` ask for the points from one to another, numbers of 64 bits
+pub record AsksDraw (rows : List Row) (from to : ℕ) : Type 0 where
+  pub from_read : WritesNumber 0 (first_of (codes "from") rows) from
+  pub to_read : WritesNumber 18446744073709551615 (first_of (codes "to") rows) to
+  pub ordered : from ≤ to
+  pub fits : to < 2 ^ 64
+
+-- the values of `step` ask for the trace, to go on after refusals, to tell lines with their results
+pub record AsksStep (rows : List Row) (is_traced keeps_going echoes : Bool) : Type 0 where
+  pub trace_read : WritesFlag (first_of (codes "trace") rows) is_traced
+  pub keep_going_read : WritesFlag (first_of (codes "keep-going") rows) keeps_going
+  pub echo_read : WritesFlag (first_of (codes "echo") rows) echoes
+
+-- the values of `generate` ask for this storm, of a seed of 64 bits
+pub record AsksGenerate (rows : List Row) (s : Storm) : Type 0 where
+  pub seed_read : WritesGiven (first_of (codes "seed") rows) s.seed
+  pub events_read : WritesGiven (first_of (codes "events") rows) s.events
+  pub requesters_read : WritesNumber 3 (first_of (codes "requesters") rows) s.requesters
+  pub lose_read : WritesNumber 0 (first_of (codes "lose") rows) s.lose
+  pub corrupt_read : WritesNumber 0 (first_of (codes "corrupt") rows) s.corrupt
+  pub block_read : WritesNumber 64 (first_of (codes "block") rows) s.block
+  pub fits : s.seed < 2 ^ 64
+  pub right : IsStorm s
 
 -- the values of `run` ask for this counting
 pub record AsksRun (rows : List Row) (c : Counting) : Type 0 where
@@ -66,6 +108,8 @@ Asks (Some p) (Tlp base size block) = (p.0 ≡ codes "tlp") × AsksTlp p.1 base 
 Asks (Some p) Decode = p.0 ≡ codes "decode"
 Asks (Some p) Encode = p.0 ≡ codes "encode"
 Asks (Some p) Check = p.0 ≡ codes "check"
+Asks (Some p) (Draw from to) = (p.0 ≡ codes "draw") × AsksDraw p.1 from to
 Asks (Some p) Upgrade = p.0 ≡ codes "upgrade"
-Asks (Some p) (Step is_traced) = (p.0 ≡ codes "step") × WritesFlag (first_of (codes "trace") p.1) is_traced
+Asks (Some p) (Step is_traced keeps_going echoes) = (p.0 ≡ codes "step") × AsksStep p.1 is_traced keeps_going echoes
+Asks (Some p) (Generate storm) = (p.0 ≡ codes "generate") × AsksGenerate p.1 storm
 Asks (Some p) (Run counting is_told) = (p.0 ≡ codes "run") × AsksRun p.1 counting × WritesFlag (first_of (codes "progress") p.1) is_told

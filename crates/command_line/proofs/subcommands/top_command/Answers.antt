@@ -3,7 +3,7 @@ use Rattle.clap.specs.Words.{App, app_of, new_app}
 use Rattle.clap.specs.Simple.{app_of_fields}
 use Rattle.clap.specs.declared.builder.Command.{Command}
 use Rattle.clap.specs.declared.builder.Command.TheOpen.{Command-F}
-use Rattle.command_line.proofs.words.top_command.Goals as goal
+use Rattle.command_line.proofs.subcommands.top_command.Goals as goal
 
 pub returns-clause-app : goal.returns-clause-app
 returns-clause-app c =
