@@ -29,6 +29,7 @@ use Rattle.script_text.specs.Forms.{line_of}
 use Rattle.line_engine.specs.Lines.{lines_of, bare, said}
 use Rattle.line_engine.specs.Run.{Answer, Run as Output, with_answer, after_line, after_end, new_run}
 use Rattle.step_engine.specs.Script.{script_of, event_line, IsScript}
+use Rattle.step_engine.specs.Options.{plain}
 use Rattle.step_engine.specs.Step.{Stepping, nothing, counted, next_line, made, made_once, answered, by_line, step_long_line, step_responses, new_script, claim_with, out_step}
 
 -- ---- the history explains the records
@@ -64,20 +65,20 @@ is_explained l c f f' events rs n r =
 
 -- the traced script so far
 abbrev at : Option Fabric → List Record → ℕ → Stepping
-at o rs n = record { is_traced = true; fabric = o; records = rs; lines = n; has_ended = false }
+at o rs n = record { options = plain true; fabric = o; records = rs; lines = n; has_ended = false }
 
 abbrev runs_on : Stepping → List (List ℕ) → Output Stepping
 runs_on s ls = fold (after_line step_responses) (new_run s) ls
 
 -- one line, by its tests and what it says
-abbrev by_tests : Bool → Bool → Option Line → Stepping → Answer Stepping
-by_tests long skipped l s = if long then step_long_line s else (if s.has_ended then nothing s else (if skipped then nothing (counted s) else by_line s l))
+abbrev by_tests : Bool → Bool → List ℕ → Option Line → Stepping → Answer Stepping
+by_tests long skipped line l s = if long then step_long_line s else (if s.has_ended then nothing s else (if skipped then nothing (counted s) else by_line s line l))
 
 abbrev put : Bool → Bool → Option Line → List (Option Line) → List (Option Line)
 put long skipped l rest = if long then None ∷ rest else (if skipped then rest else l ∷ rest)
 
-abbrev on_from : Bool → Bool → Option Line → Stepping → List (List ℕ) → Output Stepping
-on_from long skipped l s ls = fold (after_line step_responses) (with_answer (new_run s) (by_tests long skipped l s)) ls
+abbrev on_from : Bool → Bool → List ℕ → Option Line → Stepping → List (List ℕ) → Output Stepping
+on_from long skipped line l s ls = fold (after_line step_responses) (with_answer (new_run s) (by_tests long skipped line l s)) ls
 
 first_same : {X : Type 0} (x y : X) (xs ys : List X) → x ∷ xs ≡ y ∷ ys → x ≡ y
 first_same x y xs ys e = cc
@@ -94,14 +95,14 @@ Ends s ls f' rs = (m : ℕ) × (runs_on s ls ≡ new_run (at (Some f') rs m))
 abbrev Events : List (List ℕ) → Type 0
 Events ls = (events : List Event) (f f' : Fabric) (before rs : List Record) (n : ℕ) → script_of ls ≡ map event_line events → Runs f events rs f' → Ends (at (Some f) before n) ls f' (before ++ rs)
 
-event_by : EachHappens → (long skipped : Bool) (l : Option Line) (ls : List (List ℕ)) → Events ls →
+event_by : EachHappens → (long skipped : Bool) (line : List ℕ) (l : Option Line) (ls : List (List ℕ)) → Events ls →
     (events : List Event) (f f' : Fabric) (before rs : List Record) (n : ℕ) → put long skipped l (script_of ls) ≡ map event_line events → Runs f events rs f'
-    → (m : ℕ) × (on_from long skipped l (at (Some f) before n) ls ≡ new_run (at (Some f') (before ++ rs) m))
-event_by h true skipped l ls more [] f f' before rs n e r = absurd cc
-event_by h true skipped l ls more (x ∷ xs) f f' before rs n e r = absurd cc
-event_by h false true l ls more events f f' before rs n e r = more events f f' before rs (next_line (at (Some f) before n)) e r
-event_by h false false l ls more [] f f' before rs n e r = absurd cc
-event_by h false false l ls more (x ∷ xs) f f' before rs n e r =
+    → (m : ℕ) × (on_from long skipped line l (at (Some f) before n) ls ≡ new_run (at (Some f') (before ++ rs) m))
+event_by h true skipped line l ls more [] f f' before rs n e r = absurd cc
+event_by h true skipped line l ls more (x ∷ xs) f f' before rs n e r = absurd cc
+event_by h false true line l ls more events f f' before rs n e r = more events f f' before rs (next_line (at (Some f) before n)) e r
+event_by h false false line l ls more [] f f' before rs n e r = absurd cc
+event_by h false false line l ls more (x ∷ xs) f f' before rs n e r =
     let what = r.0 in
     let next = r.1 in
     let later = r.2 in
@@ -109,8 +110,8 @@ event_by h false false l ls more (x ∷ xs) f f' before rs n e r =
     let first = records_of x what (length f.memory.entries) in
     let all = more xs next f' (before ++ first) later (next_line s) (rest_same l (event_line x) (script_of ls) (map event_line xs) e) r.4 in (
       all.0,
-      ap (λ (o : Option Line). on_from false false o s ls) (first_same l (event_line x) (script_of ls) (map event_line xs) e)
-          ∙ ap (λ (a : Result (Seen × Fabric) Refusal). fold (after_line step_responses) (with_answer (new_run s) (answered s x (length f.memory.entries) a)) ls) (h f next x what r.3)
+      ap (λ (o : Option Line). on_from false false line o s ls) (first_same l (event_line x) (script_of ls) (map event_line xs) e)
+          ∙ ap (λ (a : Result (Seen × Fabric) Refusal). fold (after_line step_responses) (with_answer (new_run s) (answered s line x (length f.memory.entries) a)) ls) (h f next x what r.3)
           ∙ all.1
           ∙ ap (λ (ys : List Record). new_run (at (Some f') ys all.0)) (append_assoc before first later ∙ ap (λ (ys : List Record). before ++ ys) (sym r.5)),
     )
@@ -120,22 +121,22 @@ events_run h [] [] f f' before rs n e r =
     (n, ap (λ (g : Fabric). new_run (at (Some g) before n)) (sym r.1) ∙ ap (λ (xs : List Record). new_run (at (Some f') xs n)) (sym (ap (λ (xs : List Record). before ++ xs) r.0 ∙ append-nil before)))
 events_run h [] (x ∷ xs) f f' before rs n e r = absurd cc
 events_run h (line ∷ ls) events f f' before rs n e r =
-    event_by h (nat_lt 512 (length (bare line))) (is_skipped (said line)) (line_of (words (said line))) ls (events_run h ls) events f f' before rs n e r
+    event_by h (nat_lt 512 (length (bare line))) (is_skipped (said line)) (said line) (line_of (words (said line))) ls (events_run h ls) events f f' before rs n e r
 
 abbrev Scripts : List (List ℕ) → Type 0
 Scripts ls = (c : Config) (events : List Event) (f' : Fabric) (rs : List Record) (n : ℕ) → config_fault c ≡ None → script_of ls ≡ Some (lines.Fabric c) ∷ map event_line events
     → Runs (new_fabric c) events rs f' → Ends (at None [] n) ls f' rs
 
-script_by : EachHappens → (long skipped : Bool) (l : Option Line) (ls : List (List ℕ)) → Scripts ls →
+script_by : EachHappens → (long skipped : Bool) (line : List ℕ) (l : Option Line) (ls : List (List ℕ)) → Scripts ls →
     (c : Config) (events : List Event) (f' : Fabric) (rs : List Record) (n : ℕ) → config_fault c ≡ None → put long skipped l (script_of ls) ≡ Some (lines.Fabric c) ∷ map event_line events
-    → Runs (new_fabric c) events rs f' → (m : ℕ) × (on_from long skipped l (at None [] n) ls ≡ new_run (at (Some f') rs m))
-script_by h true skipped l ls more c events f' rs n k e r = absurd cc
-script_by h false true l ls more c events f' rs n k e r = more c events f' rs (next_line (at None [] n)) k e r
-script_by h false false l ls more c events f' rs n k e r =
+    → Runs (new_fabric c) events rs f' → (m : ℕ) × (on_from long skipped line l (at None [] n) ls ≡ new_run (at (Some f') rs m))
+script_by h true skipped line l ls more c events f' rs n k e r = absurd cc
+script_by h false true line l ls more c events f' rs n k e r = more c events f' rs (next_line (at None [] n)) k e r
+script_by h false false line l ls more c events f' rs n k e r =
     let s = at None [] n in
     let all = events_run h ls events (new_fabric c) f' [] rs (next_line s) (rest_same l (Some (lines.Fabric c)) (script_of ls) (map event_line events) e) r in (
       all.0,
-      ap (λ (o : Option Line). on_from false false o s ls) (first_same l (Some (lines.Fabric c)) (script_of ls) (map event_line events) e)
+      ap (λ (o : Option Line). on_from false false line o s ls) (first_same l (Some (lines.Fabric c)) (script_of ls) (map event_line events) e)
           ∙ ap (λ (x : Option ConfigFault). fold (after_line step_responses) (with_answer (new_run s) (made s c x)) ls) k
           ∙ all.1,
     )
@@ -143,7 +144,7 @@ script_by h false false l ls more c events f' rs n k e r =
 scripts_run : EachHappens → (ls : List (List ℕ)) → Scripts ls
 scripts_run h [] c events f' rs n k e r = absurd cc
 scripts_run h (line ∷ ls) c events f' rs n k e r =
-    script_by h (nat_lt 512 (length (bare line))) (is_skipped (said line)) (line_of (words (said line))) ls (scripts_run h ls) c events f' rs n k e r
+    script_by h (nat_lt 512 (length (bare line))) (is_skipped (said line)) (said line) (line_of (words (said line))) ls (scripts_run h ls) c events f' rs n k e r
 
 -- the trace is told at the end
 abbrev told : ℕ → Fabric → List Record → Output Stepping
