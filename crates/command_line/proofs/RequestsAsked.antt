@@ -35,7 +35,7 @@ name_of Decode = codes "decode"
 name_of Encode = codes "encode"
 name_of Check = codes "check"
 name_of Upgrade = codes "upgrade"
-name_of (Step is_traced keeps_going echoes) = codes "step"
+name_of (Step is_traced) = codes "step"
 name_of (Run counting is_told) = codes "run"
 
 pub asks_name : (p : Text × List Row) (r : Request) → Asks (Some p) r → p.0 ≡ name_of r
@@ -44,7 +44,7 @@ asks_name p Decode a = a
 asks_name p Encode a = a
 asks_name p Check a = a
 asks_name p Upgrade a = a
-asks_name p (Step is_traced keeps_going echoes) a = a.0
+asks_name p (Step is_traced) a = a.0
 asks_name p (Run counting is_told) a = a.0
 
 pub differ : (x y : Text) → bytes_eq x y ≡ false → x ≡ y → ⊥
@@ -69,11 +69,7 @@ asks_one (Some p) Decode Decode a b = refl
 asks_one (Some p) Encode Encode a b = refl
 asks_one (Some p) Check Check a b = refl
 asks_one (Some p) Upgrade Upgrade a b = refl
-asks_one (Some p) (Step t k e) (Step u l f) a b =
-    let x = a.1 in
-    let y = b.1 in
-    ap (λ (z : Bool). Step z k e) (same_flag _ t u x.trace_read y.trace_read) ∙ ap (λ (z : Bool). Step u z e) (same_flag _ k l x.keep_going_read y.keep_going_read)
-        ∙ ap (λ (z : Bool). Step u l z) (same_flag _ e f x.echo_read y.echo_read)
+asks_one (Some p) (Step t) (Step u) a b = ap Step (same_flag _ t u a.1 b.1)
 asks_one (Some p) (Run c t) (Run d u) a b =
     let x = a.1 in
     let y = b.1 in

@@ -21,7 +21,7 @@ abbrev pub flag : Text → Rule
 flag name = record (new_rule name) { long = Some name; action = Some SetTrue }
 
 abbrev pub step_app : App
-step_app = with_rule (with_rule (with_rule (new_app (codes "step")) (flag (codes "trace"))) (flag (codes "keep-going"))) (flag (codes "echo"))
+step_app = with_rule (new_app (codes "step")) (flag (codes "trace"))
 
 -- an option with a value, which has to be given
 abbrev pub required : Text → Rule
@@ -59,12 +59,6 @@ pub record AsksRun (rows : List Row) (c : Counting) : Type 0 where
   pub turns_read : WritesNumber 50000000 (first_of (codes "turns") rows) c.turns
   pub right : IsCounting c
 
--- the values of `step` ask for the trace, to go on behind refusals, to tell lines with their results
-pub record AsksStep (rows : List Row) (is_traced keeps_going echoes : Bool) : Type 0 where
-  pub trace_read : WritesFlag (first_of (codes "trace") rows) is_traced
-  pub keep_going_read : WritesFlag (first_of (codes "keep-going") rows) keeps_going
-  pub echo_read : WritesFlag (first_of (codes "echo") rows) echoes
-
 -- the subcommand with its values asks for this
 abbrev pub Asks : Option (Text × List Row) → Request → Type 0
 Asks None request = ⊥
@@ -73,5 +67,5 @@ Asks (Some p) Decode = p.0 ≡ codes "decode"
 Asks (Some p) Encode = p.0 ≡ codes "encode"
 Asks (Some p) Check = p.0 ≡ codes "check"
 Asks (Some p) Upgrade = p.0 ≡ codes "upgrade"
-Asks (Some p) (Step is_traced keeps_going echoes) = (p.0 ≡ codes "step") × AsksStep p.1 is_traced keeps_going echoes
+Asks (Some p) (Step is_traced) = (p.0 ≡ codes "step") × WritesFlag (first_of (codes "trace") p.1) is_traced
 Asks (Some p) (Run counting is_told) = (p.0 ≡ codes "run") × AsksRun p.1 counting × WritesFlag (first_of (codes "progress") p.1) is_told

@@ -33,7 +33,7 @@ const UPGRADE_ABOUT: &str =
     "Writes a trace text of version 1 or 2 in version 2, unchecked. The answer to a text that can't be read is 'fault' with the line and why.";
 
 const STEP_ABOUT: &str =
-    "Runs a script of events on a fabric: one memory, one to seven requesters, the switch, and the lanes between them. The first line makes the fabric, as in 'fabric 1 0 4096'; each line behind it is an event, or 'settle', which runs the fabric until nothing moves. Each answer is a line: what was seen of the event, or what was collected, and then 'settled' or 'unsettled'. The first line that can't be read, or a fabric that can't be made, is answered with 'fault', and the first event that is refused with 'refused', the line and why; that ends the run.";
+    "Runs a script of events on a fabric: one memory, one to seven requesters, the switch, and the lanes between them. The first line makes the fabric, as in 'fabric 1 0 4096'; each line behind it is an event. Each answer is a line: what was seen of the event. The first line that can't be read, or a fabric that can't be made, is answered with 'fault', and the first event that is refused with 'refused', the line and why; that ends the run.";
 
 const RUN_ABOUT: &str =
     "Counts with worker threads: each requester adds 1 to one word of the memory, so many times, over links that lose and corrupt packets, and the history is checked. The answer is four lines: 'answered', 'history' and 'word' with their numbers, and 'check ok'; or 'halt' with the name of what ended the run. The exit status is 3 where a worker had used up its turns.";
@@ -57,12 +57,6 @@ const PROGRESS_HELP: &str =
 const TRACE_HELP: &str =
     "Prints the trace of a run that ends well, in place of the results: what was submitted and answered, and the history.";
 
-const KEEP_GOING_HELP: &str =
-    "Goes on behind a refused event, which changes nothing. The refusal is printed, but with '--trace', and the exit status is 1.";
-
-const ECHO_HELP: &str =
-    "Prints each result and each refusal behind its line, as in 'transmit up1 -> sent 000'.";
-
 const BASE_HELP: &str =
     "The first address of the memory, in 1 to 16 hexadecimal digits. It is a multiple of 80 (128 in decimal), and the memory ends at 2^64 or before. The default is 0.";
 
@@ -85,13 +79,8 @@ pub enum Request {
     Check,
     /// The subcommand `upgrade`.
     Upgrade,
-    /// The subcommand `step`, which tells results, or the trace alone; which may go on behind a refusal, and tell the lines
-    /// with their results.
-    Step {
-        is_traced: bool,
-        keeps_going: bool,
-        echoes: bool,
-    },
+    /// The subcommand `step`, which tells results, or the trace alone.
+    Step { is_traced: bool },
     /// The subcommand `run`, which may tell how far it is.
     Run { counting: Counting, is_told: bool },
 }
@@ -180,9 +169,7 @@ fn step_command<'a>(alloc: Global) -> Result<Command<'a>, AllocError>
     ensures globals { IfOk result (λ c. (out-Command c).has_globals ≡ false) }
 {
     let step = plain_command(alloc, "step", STEP_ABOUT);
-    let trace = with_arg(step, flag_of(alloc, "trace", TRACE_HELP))?;
-    let keep_going = with_arg(trace, flag_of(alloc, "keep-going", KEEP_GOING_HELP))?;
-    with_arg(keep_going, flag_of(alloc, "echo", ECHO_HELP))
+    with_arg(step, flag_of(alloc, "trace", TRACE_HELP))
 }
 
 /// The subcommand `run`.
@@ -280,8 +267,6 @@ fn step_of(step: &ArgMatches<'_>) -> Request
 {
     Request::Step {
         is_traced: is_set(step.get_str("trace")),
-        keeps_going: is_set(step.get_str("keep-going")),
-        echoes: is_set(step.get_str("echo")),
     }
 }
 

@@ -13,7 +13,7 @@ use Rattle.run_engine.specs.Text.{IsRan}
 use Rattle.tlp_engine.specs.Tlp.{out_tlp}
 use Rattle.trace_engine.specs.Check.{out_check}
 use Rattle.trace_engine.specs.Upgrade.{out_upgrade}
-use Rattle.step_engine.specs.Step.{out_step_with}
+use Rattle.step_engine.specs.Step.{out_step}
 
 -- the run of the subcommand, on the streams as they were and are, with its exit status
 abbrev pub IsDone : Request → Option (List ℕ) → Option (List ℕ) → Option (List ℕ) → Option (List ℕ) → ℕ → Type 0
@@ -22,8 +22,7 @@ IsDone Decode input rest out out' exit = IsRun out_decode input rest out out' ex
 IsDone Encode input rest out out' exit = IsRun out_encode input rest out out' exit
 IsDone Check input rest out out' exit = IsRun out_check input rest out out' exit
 IsDone Upgrade input rest out out' exit = IsRun out_upgrade input rest out out' exit
-IsDone (Step is_traced keeps_going echoes) input rest out out' exit =
-    IsRun (out_step_with (record { is_traced = is_traced; keeps_going = keeps_going; echoes = echoes })) input rest out out' exit
+IsDone (Step is_traced) input rest out out' exit = IsRun (out_step is_traced) input rest out out' exit
 IsDone (Run counting is_told) input rest out out' exit = (rest ≡ input) × IsRan counting out out' exit
 
 -- the same of what one thread did, which leaves a run undone

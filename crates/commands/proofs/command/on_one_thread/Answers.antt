@@ -69,7 +69,7 @@ undone Decode input out exit e = inr (e, nothing-done _ input out)
 undone Encode input out exit e = inr (e, nothing-done _ input out)
 undone Check input out exit e = inr (e, nothing-done _ input out)
 undone Upgrade input out exit e = inr (e, nothing-done _ input out)
-undone (Step is_traced keeps_going echoes) input out exit e = inr (e, nothing-done _ input out)
+undone (Step is_traced) input out exit e = inr (e, nothing-done _ input out)
 undone (run_words counting is_told) input out exit e = (refl, inr (e, nothing-counted counting out))
 
 -- an engine's run, whole or stopped
@@ -141,9 +141,9 @@ returns-in-Ok-Tlp g c = record {
 pub returns-in-Ok-Step : goal.returns-in-Ok-Step
 returns-in-Ok-Step g c = record {
   run = λ request takes asks.
-      asked _ (Step c.in-Ok-Step.is_traced c.in-Ok-Step.keeps_going c.in-Ok-Step.echoes) request _ _ _ _ _
+      asked _ (Step c.in-Ok-Step.is_traced) request _ _ _ _ _
       (subst (λ (r : Request). Asks (subcommand_of the_app (map g.S.AsStr.text c.args.words.now)) r) c.in-Ok-Step.field-0-is c.in-Ok-Step.ensures.ok) asks
-      (run_done _ c.run_step_with.result _ _ _ _ _ c.ended-in-Ok-Step.ensures.ok c.ended-in-Ok-Step.ensures.err c.run_step_with.ensures.ok c.run_step_with.ensures.err);
+      (run_done _ c.run_step.result _ _ _ _ _ c.ended-in-Ok-Step.ensures.ok c.ended-in-Ok-Step.ensures.err c.run_step.ensures.ok c.run_step.ensures.err);
   nothing = λ takes empty. absurd (empty c.in-Ok-Step.field-0 c.in-Ok-Step.ensures.ok);
   refused = not_refused _ c.in-Ok-Step.ensures.faultless;
   right = tt;
