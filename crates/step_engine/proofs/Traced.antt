@@ -1,6 +1,6 @@
 -- The run of a traced script to its end.
-use Rattle.std.proofs.Common.{◌≡◌, ◌∙◌, ◌++◌, ◌+◌, ℕ, Bool, true, false, List, [], ◌∷◌, length, refl, sym, ap, ap₂, subst, Option, Some, None, Result, Ok, Err, if◌then◌else◌}
-use Rattle.std.specs.Prelude.{◌-◌, ◌^◌, ◌⊎◌, min, fold, map, nat_lt}
+use Rattle.std.proofs.Common.{◌≡◌, ◌∙◌, ◌++◌, ◌+◌, inl, inr, ℕ, Bool, true, false, List, [], ◌∷◌, length, refl, sym, ap, ap₂, subst, Option, Some, None, Result, Ok, Err, if◌then◌else◌}
+use Rattle.std.specs.Prelude.{◌-◌, ◌^◌, min, fold, map, nat_lt}
 use Rattle.std.proofs.lemmas.List.{append-nil, append_assoc}
 use Rattle.history_check.specs.declared.Record.{Record}
 use Rattle.history_check.specs.Trace.{Explains}
@@ -17,7 +17,7 @@ use Rattle.fabric_core.specs.declared.fault.Refusal.{Refusal}
 use Rattle.fabric_core.specs.Config.{IsNewWith}
 use Rattle.fabric_core.specs.Kept.{IsSoundFabric, records_of}
 use Rattle.fabric_core.specs.Steps.{Happens, Refused}
-use Rattle.fabric_core.specs.Runs.{Runs, Recorded}
+use Rattle.fabric_core.specs.Runs.{Runs}
 use Rattle.fabric_answers.specs.Answers.{answer, IsTold}
 use Rattle.fabric_answers.specs.New.{new_fabric, config_fault}
 use Rattle.trace_text.specs.Words.{words}
@@ -29,8 +29,7 @@ use Rattle.script_text.specs.Forms.{line_of}
 use Rattle.script_text.specs.Names.{refusal_name}
 use Rattle.line_engine.specs.Lines.{lines_of, bare, said}
 use Rattle.line_engine.specs.Run.{Answer, Run as Output, with_answer, after_line, after_end, new_run}
-use Rattle.settling.specs.Reached.{Reached}
-use Rattle.step_engine.specs.Script.{script_of, event_line, IsScript, Progress, progress, EventHappens, EventIsPassed, Settles, LineDoes, LinesDo, RunsThrough}
+use Rattle.step_engine.specs.Script.{script_of, event_line, IsScript, Progress, progress, LineDoes, LinesDo, RunsThrough}
 use Rattle.step_engine.specs.Options.{traced}
 use Rattle.step_engine.specs.Step.{Stepping, nothing, counted, made, answered, refused, by_line, step_long_line, step_responses, claim_with, out_step_with}
 
@@ -141,15 +140,15 @@ after_one a keeps echoes line (Some (lines.Event event)) p p' n s (inl h) =
     let g = h.recorded in
     let start = at keeps echoes (Some p.fabric) p.records n in
     ap (λ (x : Result (Seen × Fabric) Refusal). with_answer (run_at keeps echoes p n) (answered start line event (length p.fabric.memory.entries) x)) (a.happens p.fabric p'.fabric event g.what g.happens)
-        ∙ ap₂ (λ (rs : List Record) (status : ℕ). run_at keeps echoes (progress p'.fabric rs status) (min (n + 1) (2 ^ 64 - 1))) (sym g.now) (sym h.status)
+    ∙ ap₂ (λ (rs : List Record) (status : ℕ). run_at keeps echoes (progress p'.fabric rs status) (min (n + 1) (2 ^ 64 - 1))) (sym g.now) (sym h.status)
 after_one a keeps echoes line (Some (lines.Event event)) p p' n s (inr h) =
     let start = at keeps echoes (Some p.fabric) p.records n in
     ap (λ (x : Result (Seen × Fabric) Refusal). with_answer (run_at keeps echoes p n) (answered start line event (length p.fabric.memory.entries) x)) (a.refused p.fabric event h.1.refusal s h.1.refused h.1.told)
-        ∙ passed keeps echoes p n line (refusal_name h.1.refusal) h.0
-        ∙ ap (λ (x : Progress). run_at keeps echoes x (min (n + 1) (2 ^ 64 - 1))) (sym h.1.now)
+    ∙ passed keeps echoes p n line (refusal_name h.1.refusal) h.0
+    ∙ ap (λ (x : Progress). run_at keeps echoes x (min (n + 1) (2 ^ 64 - 1))) (sym h.1.now)
 after_one a keeps echoes line (Some lines.Settle) p p' n s h =
     ap₂ (λ (f : Fabric) (rs : List Record). run_at keeps echoes (progress f rs p.status) (min (n + 1) (2 ^ 64 - 1))) (sym h.fabric) (sym h.records)
-        ∙ ap (λ (status : ℕ). run_at keeps echoes (progress p'.fabric p'.records status) (min (n + 1) (2 ^ 64 - 1))) (sym h.status)
+    ∙ ap (λ (status : ℕ). run_at keeps echoes (progress p'.fabric p'.records status) (min (n + 1) (2 ^ 64 - 1))) (sym h.status)
 
 abbrev Ends : Bool → Bool → Output Stepping → List (List ℕ) → Progress → Type 0
 Ends keeps echoes run ls p = (m : ℕ) × (runs_on run ls ≡ run_at keeps echoes p m)
@@ -222,7 +221,7 @@ events_do (event ∷ events) f f' before rs r =
       progress r.1 (before ++ first) 0,
       inl (record { recorded = record { what = r.0; happens = r.3; now = refl }; status = refl }),
       subst (λ (xs : List Record). LinesDo false (progress r.1 (before ++ first) 0) (map event_line events) (progress f' xs 0))
-      (append_assoc before first r.2 ∙ ap (λ (xs : List Record). before ++ xs) (sym r.5)) all,
+          (append_assoc before first r.2 ∙ ap (λ (xs : List Record). before ++ xs) (sym r.5)) all,
     )
 
 pub runs_through : (input : List ℕ) (c : Config) (f f' : Fabric) (events : List Event) (rs : List Record) → IsScript input c events → IsNewWith c f → Runs f events rs f'

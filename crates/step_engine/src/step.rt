@@ -42,12 +42,7 @@ fn ending(kind: &str, line: u64) -> ArrayString<512>
 }
 
 /// Adds a line of the script, and behind it the text.
-fn put_behind(
-    line: &[u8],
-    text: &[u8],
-    out: &mut Vec<u8>,
-    alloc: Global,
-) -> Result<(), AllocError>
+fn put_behind(line: &[u8], text: &[u8], out: &mut Vec<u8>, alloc: Global) -> Result<(), AllocError>
     ensures ok { OnOk result (out.new.items ≡ out.old.items ++ ((line.now ++ codes " -> ") ++ text.now)) }
     ensures err { OnErr result (out.new.items ≡ out.old.items) }
 {
@@ -307,12 +302,7 @@ impl Stepper {
     }
 
     /// An event happens.
-    fn happen(
-        &mut self,
-        line: &[u8],
-        event: &Event,
-        out: &mut Vec<u8>,
-    ) -> Result<bool, AllocError>
+    fn happen(&mut self, line: &[u8], event: &Event, out: &mut Vec<u8>) -> Result<bool, AllocError>
         ensures ok { IfOk result (λ told. IsAnswer self.new out.old.items out.new.items told (spec.happened self.old line.now self.old.fabric event.now)) }
         ensures err { OnErr result (out.new.items ≡ out.old.items) }
     {
