@@ -120,7 +120,7 @@ grep '^[0-9]* of 140000$' "$room/errors" > "$room/told"
 wants "run --progress" 0 "$room/counted" "$room/told"
 
 # A text that was asked for has status 0 and is not on the error stream.
-for words in "--help" "--version" "tlp --help" "decode --help" "encode --help" "draw --help" "step --help" "run --help"; do
+for words in "--help" "--version" "tlp --help" "decode --help" "encode --help" "step --help" "run --help"; do
     # shellcheck disable=SC2086
     of_file examples/packets.txt $words
     [ -s "$room/output" ] && cp "$room/output" "$room/told" || echo "a text" > "$room/told"
@@ -130,7 +130,7 @@ done
 # A reader and a writer that fail have status 1.
 echo "pciex: read" > "$room/read"
 echo "pciex: write" > "$room/write"
-for words in tlp decode encode check draw upgrade step "step --trace"; do
+for words in tlp decode encode check upgrade step "step --trace"; do
     # shellcheck disable=SC2086
     of_file / $words
     wants "$words, where standard input is a folder" 1 "$room/nothing" "$room/read"

@@ -98,8 +98,6 @@ each_refused stops_for_memory examples/packets.txt $pciex decode
 each_refused stops_for_memory examples/words.txt $pciex encode
 each_refused stops_for_memory examples/trace.txt $pciex check
 each_refused stops_for_memory examples/trace.txt $pciex upgrade
-each_refused stops_for_memory examples/overlaps.txt $pciex draw
-each_refused stops_for_memory examples/packets.txt $pciex draw
 for script in lost_ack write_passes_read credits_used_up stopped_link; do
     each_refused stops_for_memory examples/$script.txt $pciex step
     each_refused stops_for_memory examples/$script.txt $pciex step --trace

@@ -35,11 +35,8 @@ const SCRIPT: &str = "fabric 1 0 4096\nsubmit 1 add 40 07000000\n";
 
 const TRACE: &str = "pciex-trace 2\nmemory 0 4096 64\nsub 1 0 0 add 40 07000000\nhistory\nend\n";
 
-/// The picture of a text that can't be read.
-const UNREAD: &str = "<svg xmlns=\"http://www.w3.org/2000/svg\" width=\"640\" height=\"40\" viewBox=\"0 0 640 40\" font-family=\"monospace\"><rect x=\"0\" y=\"0\" width=\"640\" height=\"40\" fill=\"#FFFFFF\" stroke=\"#FFFFFF\" stroke-width=\"0\"><title></title></rect><text x=\"10\" y=\"22\" font-size=\"16\" fill=\"#C00000\" text-anchor=\"start\" pointer-events=\"none\">fault 1 Head</text></svg>\n";
-
 /// Words after the program's name, what standard input has, what is written, and the exit status.
-const RUNS: [(&[&str], &str, &str, u8); 13] = [
+const RUNS: [(&[&str], &str, &str, u8); 12] = [
     (
         &["tlp"],
         "00000002 01000CFF 0000003C\n4C0000\n",
@@ -73,7 +70,6 @@ const RUNS: [(&[&str], &str, &str, u8); 13] = [
         TRACE,
         0,
     ),
-    (&["draw", "--from", "2", "--to", "1"], "", UNREAD, 1),
     (&["step"], SCRIPT, "sub 1 0\n", 0),
     (&["step"], "stop\n", "fault 1 Script\n", 1),
     (&["step", "--trace"], SCRIPT, TRACE, 0),
@@ -95,7 +91,7 @@ fn each_subcommand(rt: HostRuntime) -> Result<(), Fail> {
 }
 
 /// Words after the program's name that give status 2, and whether they are out of a range.
-const WRONG: [(&[&str], bool); 31] = [
+const WRONG: [(&[&str], bool); 29] = [
     (&[], false),
     (&["tpl"], false),
     (&["tlp", "--bass", "0"], false),
@@ -116,8 +112,6 @@ const WRONG: [(&[&str], bool); 31] = [
     (&["tlp", "--size", "200"], true),
     (&["tlp", "--block", "96"], true),
     (&["tlp", "--block", "65600"], true),
-    (&["draw", "--from"], false),
-    (&["draw", "--to", "18446744073709551616"], true),
     (&["run", "--requesters", "1"], false),
     (&["run", "--each", "1"], false),
     (&["run", "--requesters", "0", "--each", "1"], true),
@@ -160,7 +154,7 @@ fn wrong_words(rt: HostRuntime) -> Result<(), Fail> {
 }
 
 /// Words that ask for a text, and how it begins.
-const TEXTS: [(&[&str], &str); 10] = [
+const TEXTS: [(&[&str], &str); 9] = [
     (&["pciex", "--help"], "A shared memory device"),
     (&["pciex", "-h"], "A shared memory device"),
     (&["pciex", "--version"], "pciex "),
@@ -168,7 +162,6 @@ const TEXTS: [(&[&str], &str); 10] = [
     (&["pciex", "tlp", "--help"], "Answers memory requests"),
     (&["pciex", "decode", "--help"], "Writes packets in words"),
     (&["pciex", "encode", "--help"], "Writes packets in bytes"),
-    (&["pciex", "draw", "--help"], "Draws a picture of a history"),
     (
         &["pciex", "step", "--help"],
         "Runs a script of events on a fabric",
@@ -232,12 +225,11 @@ impl Write for FailingWriter {
 }
 
 /// Each subcommand, and an input of it.
-const STREAMED: [(&[&str], &str); 8] = [
+const STREAMED: [(&[&str], &str); 7] = [
     (&["pciex", "tlp"], "4C0000\n"),
     (&["pciex", "decode"], "4C0000\n"),
     (&["pciex", "encode"], "nak FFF\n"),
     (&["pciex", "check"], TRACE),
-    (&["pciex", "draw"], TRACE),
     (&["pciex", "upgrade"], TRACE),
     (&["pciex", "step"], SCRIPT),
     (&["pciex", "step", "--trace"], SCRIPT),

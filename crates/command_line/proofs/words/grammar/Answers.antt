@@ -1,7 +1,7 @@
 use Rattle.std.proofs.Common.{ap, ap₂, ◌≡◌, ◌∙◌}
 use Rattle.std.proofs.lemmas.Result.{IfOk-weaker}
 use Rattle.clap.specs.Words.{App, with_subcommand}
-use Rattle.command_line.specs.Options.{the_app, draw_app, run_app, step_app}
+use Rattle.command_line.specs.Options.{the_app, run_app, step_app}
 use Rattle.command_line.proofs.words.grammar.Goals as goal
 
 pub returns-clause-app : goal.returns-clause-app
@@ -11,7 +11,6 @@ returns-clause-app c =
     let decode_added = c.in_ok-with_decode.ensures.app ∙ ap₂ with_subcommand tlp_added (ap (λ (a : App). a.top) c.plain_command.ensures.app) in
     let encode_added = c.in_ok-with_encode.ensures.app ∙ ap₂ with_subcommand decode_added (ap (λ (a : App). a.top) c.plain_command-2.ensures.app) in
     let check_added = c.in_ok-with_check.ensures.app ∙ ap₂ with_subcommand encode_added (ap (λ (a : App). a.top) c.plain_command-3.ensures.app) in
-    let draw_added = c.in_ok-with_draw.ensures.app ∙ ap (λ (a : App). with_subcommand a draw_app.top) check_added in
-    let upgrade_added = c.in_ok-with_upgrade.ensures.app ∙ ap₂ with_subcommand draw_added (ap (λ (a : App). a.top) c.plain_command-4.ensures.app) in
+    let upgrade_added = c.in_ok-with_upgrade.ensures.app ∙ ap₂ with_subcommand check_added (ap (λ (a : App). a.top) c.plain_command-4.ensures.app) in
     let step_added = c.in_ok-with_step.ensures.app ∙ ap (λ (a : App). with_subcommand a step_app.top) upgrade_added in
     IfOk-weaker c.with_run.result _ _ (λ new h. h ∙ ap (λ (a : App). with_subcommand a run_app.top) step_added) c.with_run.ensures.app

@@ -6,7 +6,7 @@ use Rattle.clap.specs.declared.error.kind.ErrorKind.{ErrorKind}
 use Rattle.clap.specs.declared.error.kind.ErrorKind.TheVariants as kinds
 use Rattle.line_engine.specs.declared.fault.EngineFault.{EngineFault}
 use Rattle.command_line.specs.declared.words.Request.{Request}
-use Rattle.command_line.specs.declared.words.Request.TheVariants.{Tlp, Decode, Encode, Check, Draw, Upgrade, Step, Run as run_words}
+use Rattle.command_line.specs.declared.words.Request.TheVariants.{Tlp, Decode, Encode, Check, Upgrade, Step, Run as run_words}
 use Rattle.command_line.specs.declared.words.RequestFault.{RequestFault}
 use Rattle.command_line.specs.declared.words.RequestFault.TheVariants as faults
 use Rattle.command_line.specs.Faults.{WordsFault, RangeFault, IsMemoryFault}
@@ -68,7 +68,6 @@ undone (Tlp base size block) input out exit e = inr (e, nothing-done _ input out
 undone Decode input out exit e = inr (e, nothing-done _ input out)
 undone Encode input out exit e = inr (e, nothing-done _ input out)
 undone Check input out exit e = inr (e, nothing-done _ input out)
-undone (Draw from to) input out exit e = inr (e, nothing-done _ input out)
 undone Upgrade input out exit e = inr (e, nothing-done _ input out)
 undone (Step is_traced) input out exit e = inr (e, nothing-done _ input out)
 undone (run_words counting is_told) input out exit e = (refl, inr (e, nothing-counted counting out))
@@ -136,17 +135,6 @@ returns-in-Ok-Tlp g c = record {
       (run_done _ c.run_tlp.result _ _ _ _ _ c.ended.ensures.ok c.ended.ensures.err c.run_tlp.ensures.ok c.run_tlp.ensures.err);
   nothing = λ takes empty. absurd (empty c.in-Ok-Tlp.field-0 c.in-Ok-Tlp.ensures.ok);
   refused = not_refused _ c.in-Ok-Tlp.ensures.faultless;
-  right = tt;
-}
-
-pub returns-in-Ok-Draw : goal.returns-in-Ok-Draw
-returns-in-Ok-Draw g c = record {
-  run = λ request takes asks.
-      asked _ (Draw c.in-Ok-Draw.from c.in-Ok-Draw.to) request _ _ _ _ _
-      (subst (λ (r : Request). Asks (subcommand_of the_app (map g.S.AsStr.text c.args.words.now)) r) c.in-Ok-Draw.field-0-is c.in-Ok-Draw.ensures.ok) asks
-      (run_done _ c.run_draw.result _ _ _ _ _ c.ended-in-Ok-Draw.ensures.ok c.ended-in-Ok-Draw.ensures.err c.run_draw.ensures.ok c.run_draw.ensures.err);
-  nothing = λ takes empty. absurd (empty c.in-Ok-Draw.field-0 c.in-Ok-Draw.ensures.ok);
-  refused = not_refused _ c.in-Ok-Draw.ensures.faultless;
   right = tt;
 }
 
