@@ -1,12 +1,13 @@
 -- Shapes that are added one after the other.
-use Rattle.std.proofs.Common.{◌≡◌, ◌∙◌, ◌+◌, ◌∷◌, ◌++◌, ◌<◌, ◌≤◌, List, ℕ, [], zero, suc, Option, ap, sym, refl, drop, length, get_or, append_assoc, drop-cons, arith}
+use Rattle.std.proofs.Common.{◌≡◌, ◌∙◌, ◌+◌, ◌∷◌, ◌++◌, ◌<◌, ◌≤◌, List, ℕ, [], zero, suc, Option, ap, sym, refl, drop, length, get_or, append_assoc, drop-cons, arith, Bool, false, cond}
+use Rattle.std.specs.Prelude.{◌==◌}
 use Rattle.std.proofs.lemmas.Grind.{flat_map-append}
 use Rattle.std.proofs.lemmas.List.{append-nil}
 use Rattle.seq_memory.specs.declared.Entry.{Entry}
 use Rattle.history_check.specs.declared.Record.{Record}
 use Rattle.svg_text.specs.Shapes.{Shape, shape_text, shapes_text}
 use Rattle.history_picture.specs.declared.marks.View.{View}
-use Rattle.history_picture.specs.Picture.{record_shapes, record_ends, bars, ends_of, frame_of, height_of, row_ends, row, row_height, rows, rows_bottom, tick, entry_shapes, entries}
+use Rattle.history_picture.specs.Picture.{record_shapes, record_ends, bars, ends_of, frame, frame_of, height_of, row_ends, row, row_height, rows, rows_bottom, tick, entry_shapes, entries}
 use Rattle.history_picture.specs.Layout.{acted_in, answer_in}
 
 pub text-append : (a b : List Shape) → shapes_text (a ++ b) ≡ shapes_text a ++ shapes_text b
@@ -105,6 +106,11 @@ pub entries-past : (v : View) (bottom offset : ℕ) (all : List Entry) (a : ℕ)
 entries-past v bottom offset all a o p le e = e ∙ ap (λ (x : List Entry). o ++ shapes_text (entries v bottom offset x)) (sym (past all a le))
 
 -- ---- a row
+
+pub frame-by : (width i top height : ℕ) (ends o p : List ℕ) → (length ends == 0) ≡ false → height ≡ height_of ends → p ≡ o ++ shapes_text (frame width i top height)
+    → p ≡ o ++ shapes_text (frame_of width i top ends)
+frame-by width i top height ends o p some e f =
+    f ∙ ap (λ (h : ℕ). o ++ shapes_text (frame width i top h)) e ∙ ap (λ (b : Bool). o ++ shapes_text (cond b [] (frame width i top (height_of ends)))) (sym some)
 
 ends-by : (v : View) (rs : List Record) (h : List Entry) (i : ℕ) (acted answer : ℕ → Option ℕ) (none ends : List ℕ)
     → acted ≡ acted_in h i → answer ≡ answer_in rs i → none ≡ [] → ends ≡ ends_of v rs acted answer i none rs → ends ≡ row_ends v rs h i

@@ -1,5 +1,5 @@
 -- The shapes of a picture.
-use Rattle.std.specs.Prelude.{ℕ, ◌+◌, ◌-◌, ◌*◌, ◌==◌, ◌&&◌, ◌||◌, nat_le, nat_lt, max, min, Bool, true, false, if◌then◌else◌, List, [], ◌∷◌, ◌++◌, length, take, drop, fold, codes, slice_get, Option, Some, None}
+use Rattle.std.specs.Prelude.{ℕ, ◌+◌, ◌-◌, ◌*◌, ◌==◌, ◌&&◌, nat_le, nat_lt, max, Bool, true, false, if◌then◌else◌, List, [], ◌∷◌, ◌++◌, length, take, drop, codes, slice_get, Option, Some, None}
 use Rattle.std.specs.Fmt.{decimal}
 use Rattle.tlp_core.specs.declared.operation.Op.{Op}
 use Rattle.tlp_core.specs.Operation.{is_posted}
@@ -10,13 +10,11 @@ use Rattle.history_check.specs.declared.flaws.Flaw.{Flaw}
 use Rattle.history_check.specs.declared.flaws.FlawKind.{FlawKind}
 use Rattle.history_check.specs.declared.flaws.FlawKind.TheVariants as flaws
 use Rattle.history_check.specs.Claim.{Claim}
-use Rattle.history_check.specs.Flaws.{moment}
 use Rattle.history_check.specs.Names.{name_of}
 use Rattle.svg_text.specs.declared.colour.Colour.{Colour}
 use Rattle.svg_text.specs.declared.colour.Colour.TheVariants as colours
 use Rattle.svg_text.specs.declared.shapes.Block.{Block}
 use Rattle.svg_text.specs.declared.shapes.Label.{Label}
-use Rattle.svg_text.specs.declared.shapes.Rule.{Rule}
 use Rattle.svg_text.specs.Shapes.{Shape, page_text}
 use Rattle.history_picture.specs.declared.scale.Window.{Window}
 use Rattle.history_picture.specs.declared.scale.Scale.{Scale}
@@ -239,22 +237,28 @@ swatch_block left right colour is_open = record {
   is_open = is_open;
 }
 
--- a colour and what it means
-abbrev pub swatch : ℕ → Colour → List ℕ → List Shape
-swatch x colour name = Shape.Filled (swatch_block x (x + 14) colour false) name ∷ Shape.Written (plain_label (x + 20) 46) name ∷ []
+-- a small bar and what it means
+abbrev pub swatch : Block → List ℕ → List Shape
+swatch block name = Shape.Filled block name ∷ Shape.Written (plain_label (block.right + 6) 46) name ∷ []
+
+-- the colour of a kind of operations
+abbrev pub kind_swatch : ℕ → Colour → List ℕ → List Shape
+kind_swatch x colour name = swatch (swatch_block x (x + 14) colour false) name
 
 abbrev pub kinds : List Shape
 kinds =
-    swatch 10 colours.SkyBlue (codes "read") ++ (swatch 80 colours.Orange (codes "write") ++ (swatch 156 colours.Green (codes "add")
-    ++ (swatch 216 colours.Yellow (codes "swap") ++ swatch 286 colours.Purple (codes "cas"))))
+    kind_swatch 10 colours.SkyBlue (codes "read") ++ (kind_swatch 80 colours.Orange (codes "write") ++ (kind_swatch 156 colours.Green (codes "add")
+    ++ (kind_swatch 216 colours.Yellow (codes "swap") ++ kind_swatch 286 colours.Purple (codes "cas"))))
 
+abbrev pub dot_sign : List Shape
+dot_sign = Shape.Dotted (record { x = 354; y = 41 }) ∷ Shape.Written (plain_label 364 46) (codes "acted") ∷ []
+
+abbrev pub open_sign : List Shape
+open_sign = swatch (swatch_block 426 456 colours.White true) (codes "posted, or no answer")
+
+-- a dot and an open bar, and what they mean
 abbrev pub signs : List Shape
-signs =
-    Shape.Dotted (record { x = 354; y = 41 })
-    ∷ Shape.Written (plain_label 364 46) (codes "acted")
-    ∷ Shape.Filled (swatch_block 426 456 colours.White true) (codes "posted, or no answer")
-    ∷ Shape.Written (plain_label 462 46) (codes "posted, or no answer")
-    ∷ []
+signs = dot_sign ++ open_sign
 
 abbrev pub has_flaw : Option Flaw → Bool
 has_flaw None = false
@@ -282,11 +286,11 @@ width_of s = max (x_at (s.span + 1) + 20) 640
 abbrev pub bottom_of : View → List Record → List Entry → ℕ
 bottom_of v rs h = rows_bottom v rs h 116 requesters
 
--- the shapes below the heading, whose rows end there
+-- the shapes below the heading: the history, the rows above its lines, and the mark above both
 abbrev pub body : View → List Record → List Entry → Option Flaw → List Shape
 body v rs h flaw =
-    rows v (width_of v.scale) rs h 116 requesters
-    ++ (entries v (bottom_of v rs h) 0 (shown_entries v.scale h) ++ mark_shapes v.scale rs flaw (bottom_of v rs h))
+    entries v (bottom_of v rs h) 0 (shown_entries v.scale h)
+    ++ (rows v (width_of v.scale) rs h 116 requesters ++ mark_shapes v.scale rs flaw (bottom_of v rs h))
 
 abbrev pub drawn : View → List Record → List Entry → Option Flaw → List Shape
 drawn v rs h flaw = captions v.scale (length h) flaw ++ (kinds ++ (signs ++ body v rs h flaw))

@@ -1,4 +1,4 @@
-//! What stands above a spec.
+//! What stands above a picture.
 ghost use Rattle.std.specs.Prelude.{◌≡◌, ◌≤◌, ◌+◌, ◌++◌, OnOk};
 ghost use Rattle.svg_text.specs.Shapes.{shapes_text};
 ghost use Rattle.history_picture.specs.Picture as spec;
@@ -39,39 +39,60 @@ fn swatch_block(left: u64, right: u64, colour: Colour, is_open: bool) -> Block
     }
 }
 
-/// Adds a colour and what it means.
+/// Adds a small bar and what it means.
 #[tactic(auto, unfolding(svg_text::specs::Shapes::shapes_text))]
-fn put_swatch(x: u64, colour: Colour, name: &str, out: &mut Vec<u8>) -> Result<(), AllocError>
-    requires { x ≤ 1000 }
-    ensures { OnOk result (out.new.items ≡ out.old.items ++ shapes_text (spec.swatch x colour name.now)) }
+fn put_swatch(block: &Block, name: &str, out: &mut Vec<u8>) -> Result<(), AllocError>
+    requires { block.now.right ≤ 1000 }
+    ensures { OnOk result (out.new.items ≡ out.old.items ++ shapes_text (spec.swatch block.now name.now)) }
 {
-    let block = swatch_block(x, x + 14, colour, false);
-    put_block(&block, name.as_bytes(), out)?;
-    put_label(&plain_label(x + 20, 46), name.as_bytes(), out)
+    put_block(block, name.as_bytes(), out)?;
+    put_label(&plain_label(block.right + 6, 46), name.as_bytes(), out)
+}
+
+/// Adds the colour of a kind of operations.
+fn put_kind(x: u64, colour: Colour, name: &str, out: &mut Vec<u8>) -> Result<(), AllocError>
+    requires { x ≤ 900 }
+    ensures { OnOk result (out.new.items ≡ out.old.items ++ shapes_text (spec.kind_swatch x colour name.now)) }
+{
+    put_swatch(&swatch_block(x, x + 14, colour, false), name, out)
 }
 
 /// Adds the colours of the kinds of operations.
 pub(crate) fn put_kinds(out: &mut Vec<u8>) -> Result<(), AllocError>
     ensures { OnOk result (out.new.items ≡ out.old.items ++ shapes_text spec.kinds) }
 {
-    put_swatch(10, Colour::SkyBlue, "read", out)?;
-    put_swatch(80, Colour::Orange, "write", out)?;
-    put_swatch(156, Colour::Green, "add", out)?;
-    put_swatch(216, Colour::Yellow, "swap", out)?;
-    put_swatch(286, Colour::Purple, "cas", out)?;
+    put_kind(10, Colour::SkyBlue, "read", out)?;
+    put_kind(80, Colour::Orange, "write", out)?;
+    put_kind(156, Colour::Green, "add", out)?;
+    put_kind(216, Colour::Yellow, "swap", out)?;
+    put_kind(286, Colour::Purple, "cas", out)?;
     Ok(())
 }
 
-/// Adds the dot and the open bar, and what they mean.
+/// Adds a dot, and what it means.
 #[tactic(auto, unfolding(svg_text::specs::Shapes::shapes_text))]
+fn put_dot_sign(out: &mut Vec<u8>) -> Result<(), AllocError>
+    ensures { OnOk result (out.new.items ≡ out.old.items ++ shapes_text spec.dot_sign) }
+{
+    put_dot(&Dot { x: 354, y: 41 }, out)?;
+    put_label(&plain_label(364, 46), b"acted", out)
+}
+
+/// Adds an open bar, and what it means.
+fn put_open_sign(out: &mut Vec<u8>) -> Result<(), AllocError>
+    ensures { OnOk result (out.new.items ≡ out.old.items ++ shapes_text spec.open_sign) }
+{
+    let block = swatch_block(426, 456, Colour::White, true);
+    put_swatch(&block, "posted, or no answer", out)
+}
+
+/// Adds the dot and the open bar, and what they mean.
 pub(crate) fn put_signs(out: &mut Vec<u8>) -> Result<(), AllocError>
     ensures { OnOk result (out.new.items ≡ out.old.items ++ shapes_text spec.signs) }
 {
-    put_dot(&Dot { x: 354, y: 41 }, out)?;
-    put_label(&plain_label(364, 46), b"acted", out)?;
-    let block = swatch_block(426, 456, Colour::White, true);
-    put_block(&block, b"posted, or no answer", out)?;
-    put_label(&plain_label(462, 46), b"posted, or no answer", out)
+    put_dot_sign(out)?;
+    put_open_sign(out)?;
+    Ok(())
 }
 
 /// Adds the first flaw, the window, and the names of the axis.

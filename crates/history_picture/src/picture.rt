@@ -35,8 +35,17 @@ fn put_body(
     ensures bottom { IfOk result (λ bottom. bottom ≡ spec.bottom_of view records.now history.now) }
     ensures range { IfOk result (λ bottom. bottom ≤ 100000) }
 {
-    let bottom = put_rows(alloc, view, width_of(view.scale), records, history, out)?;
+    let mut rows = Vec::new(alloc);
+    let bottom = put_rows(
+        alloc,
+        view,
+        width_of(view.scale),
+        records,
+        history,
+        &mut rows,
+    )?;
     put_entries(view, bottom, shown_entries(view.scale, history), out)?;
+    out.extend_from_slice(rows.as_slice())?;
     put_mark(view.scale, records, flaw, bottom, out)?;
     Ok(bottom)
 }

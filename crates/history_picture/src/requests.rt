@@ -3,7 +3,7 @@ ghost use Rattle.std.specs.Prelude.{ℕ, ◌≡◌, ◌≤◌, ◌+◌, ◌-◌,
 ghost use Rattle.std.specs.Ordering.{nat_cmp};
 ghost use Rattle.std.specs.BTreeMap.{get};
 ghost use Rattle.svg_text.specs.Shapes.{Shape, shape_text, shapes_text};
-ghost use Rattle.history_picture.specs.Layout.{x_at};
+ghost use Rattle.history_picture.specs.Layout as layout;
 ghost use Rattle.history_picture.specs.Picture as spec;
 ghost use Rattle.history_picture.specs.Words.{op_label};
 

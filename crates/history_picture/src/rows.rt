@@ -68,7 +68,8 @@ fn put_frame_of(
     if ends.is_empty() {
         return Ok(());
     }
-    put_frame(width, requester, top, height_of(ends), out)
+    put_frame(width, requester, top, height_of(ends), out)?;
+    Ok(())
 }
 
 /// Adds the row of a requester, and gives its height.

@@ -1,4 +1,4 @@
-use Rattle.std.proofs.Common.{◌∙◌, length}
+use Rattle.std.proofs.Common.{length}
 use Rattle.history_picture.specs.Picture.{captions, kinds, signs, body}
 use Rattle.history_picture.proofs.Steps.{both}
 use Rattle.history_picture.proofs.picture.put_drawn.Goals as goal

@@ -1,6 +1,6 @@
 use Rattle.std.proofs.Common.{◌∙◌, ◌+◌, ◌++◌, ap, ℕ, List}
 use Rattle.svg_text.specs.Shapes.{page_text, shapes_text}
-use Rattle.history_picture.specs.Picture.{drawn, width_of, bottom_of}
+use Rattle.history_picture.specs.Picture.{drawn, width_of}
 use Rattle.history_picture.proofs.picture.text_of.Goals as goal
 
 pub returns : goal.returns
