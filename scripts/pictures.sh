@@ -1,6 +1,6 @@
 #!/bin/sh
 # Draws the examples with the built program, and reads each picture with python's parser of XML, where there is python.
-# Tells each picture that is no XML, and whether docs/history.svg is the picture of its example. `rt ci` has to have
+# Tells each picture that is no XML, and whether docs/overlaps.svg is the picture of its example. `rt ci` has to have
 # built the program.
 cd "$(dirname "$0")/.." || exit 1
 pciex=crates/pciex/out/pciex
@@ -49,8 +49,8 @@ for text in "" "<&>\"" "pciex-trace 2"; do
     echo "$text" > "$room/input"
     draws "the text '$text'" 1
 done
-$pciex draw < examples/overlaps.txt | cmp -s - docs/history.svg || {
-    echo "pictures: docs/history.svg is not the picture of examples/overlaps.txt"
+$pciex draw < examples/overlaps.txt | cmp -s - docs/overlaps.svg || {
+    echo "pictures: docs/overlaps.svg is not the picture of examples/overlaps.txt"
     failed=1
 }
 command -v python3 > /dev/null || echo "pictures: not parsed, since there is no python3"

@@ -1,11 +1,13 @@
 -- What `draw` answers to the text of a trace.
-use Rattle.std.specs.Prelude.{ℕ, List, [], Bool, true, false, Option, Some, None, Result, Ok, Err, option_map, is_some}
+use Rattle.std.specs.Prelude.{ℕ, List, [], Bool, true, false, Option, Result, Ok, Err, option_map, is_some}
+use Rattle.std.specs.Io.KnownBytes.{Appends}
 use Rattle.history_check.specs.declared.flaws.Flaw.{Flaw}
 use Rattle.history_check.specs.declared.flaws.FlawKind.{FlawKind}
 use Rattle.history_check.specs.Claim.{Claim}
 use Rattle.history_check.specs.Flaws.{first_flaw}
 use Rattle.history_picture.specs.declared.scale.Window.{Window}
 use Rattle.history_picture.specs.Picture.{picture_text, line_text}
+use Rattle.svg_text.specs.Xml.{IsDocument}
 use Rattle.trace_file.specs.declared.fault.ReadFault.{ReadFault}
 use Rattle.trace_file.specs.Reading.{Reading, nothing_read, after_line, after_long_line, at_end}
 use Rattle.trace_engine.specs.Check.{fault_line}
@@ -38,6 +40,12 @@ draw_responses = record {
   on_long_line = λ d. has_read d (after_long_line d.reading);
   on_end = λ d. drawn d (at_end d.reading);
 }
+
+-- what was written is one well-formed document of XML
+pub record WritesDocument (out out' : Option (List ℕ)) : Type 0 where
+  pub text : List ℕ
+  pub written : Appends out out' text
+  pub document : IsDocument text
 
 -- the whole run of `draw` on an input
 abbrev pub out_draw : Window → List ℕ → Run Drawing

@@ -6,8 +6,9 @@ ghost use Rattle.history_picture.specs.Picture.{picture_text, line_text};
 ghost use Rattle.trace_file.specs.Reading.{nothing_read, at_end};
 ghost use Rattle.trace_engine.specs.Check.{fault_line};
 ghost use Rattle.line_engine.specs.Run.{IsAnswer, IsWhole, IsPart};
-ghost use Rattle.draw_engine.specs.Draw.{Drawing, drawn, flaw_of, out_draw};
+ghost use Rattle.draw_engine.specs.Draw.{Drawing, WritesDocument, flaw_of, out_draw};
 
+use crate::laws::pictures_are_well_formed;
 use arrayvec::ArrayString;
 use history_check::{Flaw, FlawKind, Trace, check};
 use history_picture::{Window, line_of, picture_of};
@@ -21,11 +22,7 @@ use trace_file::{ReadFault, TraceReader};
 use trace_text::write_decimal;
 
 /// The first flaw of the trace and its history, if there is one.
-fn flaw_in(
-    alloc: Global,
-    trace: &Trace,
-    history: &[Entry],
-) -> Result<Option<Flaw>, AllocError>
+fn flaw_in(alloc: Global, trace: &Trace, history: &[Entry]) -> Result<Option<Flaw>, AllocError>
     ensures { IfOk result (λ flaw. flaw ≡ flaw_of (first_flaw (claim_of trace.now history.now))) }
 {
     match check(alloc, trace, history) {
@@ -146,7 +143,12 @@ pub fn run_draw<R: Read, W: Write>(
 ) -> Result<u8, EngineFault>
     ensures ok { IfOk result (IsWhole (out_draw window) (R.remaining reader.old) (R.remaining reader.new) (W.contents writer.old) (W.contents writer.new)) }
     ensures err { OnErr result (IsPart (out_draw window) (R.remaining reader.old) (R.remaining reader.new) (W.contents writer.old) (W.contents writer.new)) }
+
+    // Whatever the input is, what is written is a well-formed document of XML.
+    ensures document { OnOk result (WritesDocument (W.contents writer.old) (W.contents writer.new)) }
 {
     let drawer = Drawer::new(alloc, window);
-    run(alloc, drawer, reader, writer)
+    let status = run(alloc, drawer, reader, writer)?;
+    pictures_are_well_formed();
+    Ok(status)
 }

@@ -6,7 +6,5 @@
 
 mod draw;
 pub mod laws;
-#[cfg(test)]
-mod tests;
 
 pub use draw::run_draw;
