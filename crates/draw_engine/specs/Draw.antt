@@ -1,0 +1,52 @@
+-- What `draw` answers to the text of a trace.
+use Rattle.std.specs.Prelude.{ℕ, List, [], Bool, true, false, Option, Result, Ok, Err, option_map, is_some}
+use Rattle.std.specs.Io.KnownBytes.{Appends}
+use Rattle.history_check.specs.declared.flaws.Flaw.{Flaw}
+use Rattle.history_check.specs.declared.flaws.FlawKind.{FlawKind}
+use Rattle.history_check.specs.Claim.{Claim}
+use Rattle.history_check.specs.Flaws.{first_flaw}
+use Rattle.history_picture.specs.declared.scale.Window.{Window}
+use Rattle.history_picture.specs.Picture.{picture_text, line_text}
+use Rattle.svg_text.specs.Xml.{IsDocument}
+use Rattle.trace_file.specs.declared.fault.ReadFault.{ReadFault}
+use Rattle.trace_file.specs.Reading.{Reading, nothing_read, after_line, after_long_line, at_end}
+use Rattle.trace_engine.specs.Check.{fault_line}
+use Rattle.line_engine.specs.Run.{Answer, Responses, Run, run_of}
+
+-- the window that is drawn, and what was read so far
+pub record Drawing : Type 0 where
+  pub window : Window
+  pub reading : Reading
+
+-- a line is read, and nothing written
+abbrev pub has_read : Drawing → Reading → Answer Drawing
+has_read d reading = record { state = record d { reading = reading }; text = []; is_fault = false }
+
+-- the text has ended: a picture is written, and nothing is left of what was read
+abbrev pub shows : Drawing → List ℕ → Bool → Answer Drawing
+shows d text is_fault = record { state = record d { reading = nothing_read }; text = text; is_fault = is_fault }
+
+abbrev pub flaw_of : Option (FlawKind × ℕ) → Option Flaw
+flaw_of o = option_map (λ f. record { kind = f.0; place = f.1 }) o
+
+-- a trace with its first flaw, if there is one, or else the line of what can't be read
+abbrev pub drawn : Drawing → Result Claim ReadFault → Answer Drawing
+drawn d (Err f) = shows d (line_text (fault_line f)) true
+drawn d (Ok c) = shows d (picture_text d.window c (flaw_of (first_flaw c))) (is_some (first_flaw c))
+
+abbrev pub draw_responses : Responses Drawing
+draw_responses = record {
+  on_line = λ d line. has_read d (after_line d.reading line);
+  on_long_line = λ d. has_read d (after_long_line d.reading);
+  on_end = λ d. drawn d (at_end d.reading);
+}
+
+-- what was written is one well-formed document of XML
+pub record WritesDocument (out out' : Option (List ℕ)) : Type 0 where
+  pub text : List ℕ
+  pub written : Appends out out' text
+  pub document : IsDocument text
+
+-- the whole run of `draw` on an input
+abbrev pub out_draw : Window → List ℕ → Run Drawing
+out_draw window input = run_of draw_responses (record { window = window; reading = nothing_read }) input

@@ -1,0 +1,154 @@
+//! The subcommand `draw`: a picture of a history.
+ghost use Rattle.std.specs.Prelude.{◌≡◌, ◌++◌, [], true, false, Some, None, Ok, Err, IfOk, IfErr, OnErr, OnOk, is_some};
+ghost use Rattle.history_check.specs.Claim.{claim_of};
+ghost use Rattle.history_check.specs.Flaws.{first_flaw};
+ghost use Rattle.history_picture.specs.Picture.{picture_text, line_text};
+ghost use Rattle.trace_file.specs.Reading.{nothing_read, at_end};
+ghost use Rattle.trace_engine.specs.Check.{fault_line};
+ghost use Rattle.line_engine.specs.Run.{IsAnswer, IsWhole, IsPart};
+ghost use Rattle.draw_engine.specs.Draw.{Drawing, WritesDocument, flaw_of, out_draw};
+
+use crate::laws::pictures_are_well_formed;
+use arrayvec::ArrayString;
+use history_check::{Flaw, FlawKind, Trace, check};
+use history_picture::{Window, line_of, picture_of};
+use line_engine::{EngineFault, Responder, run};
+use seq_memory::Entry;
+use std::alloc::{AllocError, Global};
+use std::io::{Read, Write};
+use std::marker::Model;
+use std::mem;
+use trace_file::{ReadFault, TraceReader};
+use trace_text::write_decimal;
+
+/// The first flaw of the trace and its history, if there is one.
+fn flaw_in(alloc: Global, trace: &Trace, history: &[Entry]) -> Result<Option<Flaw>, AllocError>
+    ensures { IfOk result (λ flaw. flaw ≡ flaw_of (first_flaw (claim_of trace.now history.now))) }
+{
+    match check(alloc, trace, history) {
+        Ok(()) => Ok(None),
+        Err(flaw) if flaw.kind == FlawKind::Memory => Err(AllocError),
+        Err(flaw) => Ok(Some(flaw)),
+    }
+}
+
+/// Adds the picture of a trace and its history, and tells whether there is a flaw.
+fn show(
+    alloc: Global,
+    window: Window,
+    trace: &Trace,
+    history: &[Entry],
+    out: &mut Vec<u8>,
+) -> Result<bool, AllocError>
+    ensures text { OnOk result (out.new.items ≡ out.old.items
+        ++ picture_text window (claim_of trace.now history.now) (flaw_of (first_flaw (claim_of trace.now history.now)))) }
+    ensures told { IfOk result (λ told. told ≡ is_some (first_flaw (claim_of trace.now history.now))) }
+    ensures err { OnErr result (out.new.items ≡ out.old.items) }
+{
+    let flaw = flaw_in(alloc, trace, history)?;
+    let picture = picture_of(alloc, trace, history, flaw, window)?;
+    out.extend_from_slice(picture.as_slice())?;
+    Ok(flaw.is_some())
+}
+
+/// Adds the picture of a text that can't be read.
+fn show_fault(alloc: Global, fault: ReadFault, out: &mut Vec<u8>) -> Result<bool, AllocError>
+    ensures text { OnOk result (out.new.items ≡ out.old.items ++ line_text (fault_line fault)) }
+    ensures told { IfOk result (λ told. told ≡ true) }
+    ensures err { OnErr result (out.new.items ≡ out.old.items) }
+{
+    let mut words = ArrayString::new();
+    words.push_str("fault ");
+    write_decimal(fault.line, &mut words);
+    words.push_str(" ");
+    words.push_str(fault.kind.name());
+    let picture = line_of(alloc, words.as_bytes())?;
+    out.extend_from_slice(picture.as_slice())?;
+    Ok(true)
+}
+
+/// A trace that is read, and then drawn.
+#[derive(Drop)]
+struct Drawer {
+    alloc: Global,
+    window: Window,
+    reader: TraceReader,
+}
+
+impl Model for Drawer {
+    ghost use Rattle.draw_engine.specs.Draw.{Drawing};
+
+    ghost Value = { Drawing };
+
+    ghost view = { λ d. record { window = d.window; reading = d.reader } };
+}
+
+impl Drawer {
+    fn new(alloc: Global, window: Window) -> Drawer
+        ensures { result ≡ record { window = window; reading = nothing_read } }
+    {
+        let reader = TraceReader::new(alloc);
+        Drawer {
+            alloc,
+            window,
+            reader,
+        }
+    }
+
+    /// Takes what was read: a trace and its history, or the first fault.
+    fn end(&mut self) -> Result<(Trace, Vec<Entry>), ReadFault>
+        ensures ok { IfOk result (λ t. at_end self.old.reading ≡ Ok (claim_of t.0 t.1.items)) }
+        ensures err { IfErr result (λ f. at_end self.old.reading ≡ Err f) }
+        ensures gone { self.new ≡ record { window = self.old.window; reading = nothing_read } }
+    {
+        let reader = mem::replace(&mut self.reader, TraceReader::new(self.alloc));
+        reader.end()
+    }
+}
+
+impl Responder for Drawer {
+    ghost use Rattle.draw_engine.specs.Draw.{draw_responses};
+
+    ghost responses = { draw_responses };
+
+    fn on_line(&mut self, line: &[u8], _out: &mut Vec<u8>) -> Result<bool, AllocError> {
+        self.reader.line(line)?;
+        Ok(false)
+    }
+
+    fn on_long_line(&mut self, _out: &mut Vec<u8>) -> Result<bool, AllocError> {
+        self.reader.long_line();
+        Ok(false)
+    }
+
+    fn on_end(&mut self, out: &mut Vec<u8>) -> Result<bool, AllocError> {
+        match self.end() {
+            Ok((trace, history)) => {
+                show(self.alloc, self.window, &trace, history.as_slice(), out)
+            }
+            Err(fault) => show_fault(self.alloc, fault, out),
+        }
+    }
+}
+
+/// Reads the text of a trace and writes a picture of its history in SVG: the points of the window,
+/// and the first flaw that `check` finds, or `ok`. Where the text can't be read, the picture has the
+/// line of the fault. `Ok` is the exit status, 0 for `ok` and else 1. After an `Err` what was written
+/// is a beginning of the whole output.
+pub fn run_draw<R: Read, W: Write>(
+    alloc: Global,
+    window: Window,
+    reader: &mut R,
+    writer: &mut W,
+) -> Result<u8, EngineFault>
+    ensures ok { IfOk result (IsWhole (out_draw window) (R.remaining reader.old) (R.remaining reader.new) (W.contents writer.old) (W.contents writer.new)) }
+    ensures err { OnErr result (IsPart (out_draw window) (R.remaining reader.old) (R.remaining reader.new) (W.contents writer.old) (W.contents writer.new)) }
+
+    // Whatever the input is, what is written is a well-formed document of XML.
+    ensures document { OnOk result (WritesDocument (W.contents writer.old) (W.contents writer.new)) }
+{
+    let drawer = Drawer::new(alloc, window);
+    let status = run(alloc, drawer, reader, writer)?;
+    pictures_are_well_formed();
+    Ok(status)
+}

@@ -1,0 +1,12 @@
+use Rattle.std.proofs.Common.{◌≡◌, ◌≤◌, ◌+◌, ◌*◌, ◌++◌, drop}
+use Rattle.svg_text.specs.Shapes.{shapes_text}
+use Rattle.history_picture.specs.Picture.{rows, rows_bottom}
+use Rattle.history_picture.proofs.rows.put_rows_of.Given as goal
+
+abbrev pub invariant-loop-requester : goal.invariant-loop-requester
+invariant-loop-requester l = record {
+  shapes : l.out.items ++ shapes_text (rows l.view l.width l.records l.history l.top (drop l.requester-index l.requesters))
+      ≡ l.fn.out.items ++ shapes_text (rows l.view l.width l.records l.history 116 l.requesters);
+  bottom : rows_bottom l.view l.records l.history l.top (drop l.requester-index l.requesters) ≡ rows_bottom l.view l.records l.history 116 l.requesters;
+  low : l.top ≤ 116 + 7184 * l.requester-index;
+}

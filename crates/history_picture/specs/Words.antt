@@ -1,0 +1,88 @@
+-- The words in a picture.
+use Rattle.std.specs.Prelude.{ℕ, ◌-◌, nat_lt, if◌then◌else◌, List, ◌∷◌, ◌++◌, length, codes, slice_get, Option, Some, None}
+use Rattle.std.specs.Fmt.{decimal}
+use Rattle.tlp_core.specs.declared.operation.Op.{Op}
+use Rattle.tlp_core.specs.declared.operation.Op.TheVariants as ops
+use Rattle.tlp_core.specs.Operation.{address_of}
+use Rattle.seq_memory.specs.declared.Reply.{Reply}
+use Rattle.history_check.specs.declared.Record.{Record}
+use Rattle.history_check.specs.declared.Record.TheVariants as records
+use Rattle.history_check.specs.declared.flaws.Flaw.{Flaw}
+use Rattle.history_check.specs.Names.{number_of, name_of}
+use Rattle.history_check.specs.Flaws.{moment}
+use Rattle.trace_text.specs.Texts.{hexadecimal, op_text, reply_text}
+use Rattle.svg_text.specs.declared.colour.Colour.{Colour}
+use Rattle.svg_text.specs.declared.colour.Colour.TheVariants as colours
+use Rattle.history_picture.specs.declared.words.Request.{Request}
+
+abbrev pub kind_name : Op → List ℕ
+kind_name (ops.Read a dw f l) = codes "read"
+kind_name (ops.Write a f l bytes) = codes "write"
+kind_name (ops.FetchAdd a w x) = codes "add"
+kind_name (ops.Swap a w x) = codes "swap"
+kind_name (ops.Cas a w x y) = codes "cas"
+
+abbrev pub kind_colour : Op → Colour
+kind_colour (ops.Read a dw f l) = colours.SkyBlue
+kind_colour (ops.Write a f l bytes) = colours.Orange
+kind_colour (ops.FetchAdd a w x) = colours.Green
+kind_colour (ops.Swap a w x) = colours.Yellow
+kind_colour (ops.Cas a w x y) = colours.Purple
+
+-- the kind and the address
+abbrev pub short_op : Op → List ℕ
+short_op op = kind_name op ++ (32 ∷ hexadecimal (address_of op))
+
+-- where there is room for so many characters, and else the kind
+abbrev pub op_label : ℕ → Op → List ℕ
+op_label room op = if nat_lt room (length (short_op op)) then kind_name op else short_op op
+
+-- request k of requester i
+abbrev pub pair_words : ℕ → ℕ → List ℕ
+pair_words i k = decimal i ++ (58 ∷ decimal k)
+
+abbrev pub request_words : ℕ → ℕ → Op → List ℕ
+request_words i k op = codes "request " ++ (pair_words i k ++ (32 ∷ op_text op))
+
+abbrev pub acted_words : Option ℕ → List ℕ
+acted_words None = codes "; no entry"
+acted_words (Some acted) = codes "; entry " ++ decimal (acted - 1)
+
+abbrev pub reply_words : ℕ → Reply → List ℕ
+reply_words n reply = codes "; answered at " ++ (decimal n ++ (codes ": " ++ reply_text reply))
+
+abbrev pub answered_words : Option Record → List ℕ
+answered_words (Some (records.Ans i k reply n)) = reply_words n reply
+answered_words _ = codes "; no answer"
+
+-- the answer at a place of the records
+abbrev pub answer_at : List Record → Option ℕ → Option Record
+answer_at rs None = None
+answer_at rs (Some place) = slice_get rs place
+
+abbrev pub moment_of : Option Record → Option ℕ
+moment_of None = None
+moment_of (Some r) = Some (moment r)
+
+-- what became of a request
+abbrev pub course_words : List Record → Request → List ℕ
+course_words rs q = codes "; submitted at " ++ (decimal q.n ++ (acted_words q.acted ++ answered_words (answer_at rs q.answer)))
+
+abbrev pub tooltip_words : List Record → Op → Request → List ℕ
+tooltip_words rs op q = request_words q.requester q.number op ++ course_words rs q
+
+abbrev pub entry_words : ℕ → ℕ → ℕ → Op → List ℕ
+entry_words p i k op = codes "entry " ++ (decimal p ++ (codes ": " ++ request_words i k op))
+
+abbrev pub requester_words : ℕ → List ℕ
+requester_words i = codes "requester " ++ decimal i
+
+abbrev pub flaw_words : Flaw → List ℕ
+flaw_words f = codes "flaw " ++ (decimal (number_of f.kind) ++ (32 ∷ (name_of f.kind ++ (32 ∷ decimal f.place))))
+
+abbrev pub verdict_words : Option Flaw → List ℕ
+verdict_words None = codes "ok"
+verdict_words (Some f) = flaw_words f
+
+abbrev pub window_words : ℕ → ℕ → ℕ → List ℕ
+window_words from to count = codes "points " ++ (decimal from ++ (codes " to " ++ (decimal to ++ (codes " of " ++ decimal count))))

@@ -1,0 +1,105 @@
+//! The history along the axis.
+ghost use Rattle.std.specs.Prelude.{ℕ, ◌≡◌, ◌≤◌, ◌<◌, ◌+◌, ◌^◌, ◌++◌, length, OnOk};
+ghost use Rattle.svg_text.specs.Shapes.{shapes_text};
+ghost use Rattle.history_picture.specs.Picture as spec;
+
+use crate::marks::{View, centred_label, edge_of, thickness_of};
+use crate::scale::{Scale, x_at};
+use crate::words::{kind_colour, put_entry_words, put_number_words, put_pair};
+use arrayvec::ArrayString;
+use seq_memory::Entry;
+use std::alloc::AllocError;
+use svg_text::{Block, Colour, Rule, put_block, put_label, put_rule};
+
+/// Adds a point's number, and a line down from it.
+#[tactic(auto, unfolding(svg_text::specs::Shapes::shapes_text))]
+fn put_tick(from: u64, offset: u64, bottom: u64, out: &mut Vec<u8>) -> Result<(), AllocError>
+    requires offset { offset ≤ 4294967295 }
+    requires point { from + offset < 2 ^ 64 }
+    ensures { OnOk result (out.new.items ≡ out.old.items ++ shapes_text (spec.tick from offset bottom)) }
+{
+    let mut number = ArrayString::new();
+    put_number_words(from + offset, &mut number);
+    let place = centred_label(x_at(offset), 72, Colour::Grey);
+    put_label(&place, number.as_bytes(), out)?;
+    let line = Rule {
+        left: x_at(offset),
+        top: 78,
+        right: x_at(offset),
+        bottom,
+        colour: Colour::Grey,
+        thickness: 1,
+        dash: 2,
+    };
+    put_rule(&line, out)
+}
+
+/// The block of an entry.
+fn entry_block(view: View, offset: u64, entry: &Entry) -> Block
+    requires { offset ≤ 4294967295 }
+    ensures { result ≡ spec.entry_block view offset entry.now }
+{
+    let is_flawed = view.is_flawed(entry.requester, entry.number);
+    Block {
+        left: x_at(offset) + 1,
+        top: 80,
+        right: x_at(offset) + 71,
+        bottom: 102,
+        fill: kind_colour(&entry.op),
+        edge: edge_of(is_flawed),
+        thickness: thickness_of(is_flawed),
+        is_open: false,
+    }
+}
+
+/// Adds an entry.
+#[tactic(auto, unfolding(svg_text::specs::Shapes::shapes_text))]
+fn put_entry(view: View, offset: u64, entry: &Entry, out: &mut Vec<u8>) -> Result<(), AllocError>
+    requires offset { offset ≤ 4294967295 }
+    requires point { view.scale.from + offset < 2 ^ 64 }
+    ensures { OnOk result (out.new.items ≡ out.old.items ++ shapes_text (spec.entry_shapes view offset entry.now)) }
+{
+    let mut text = ArrayString::new();
+    put_entry_words(
+        view.scale.from + offset,
+        entry.requester,
+        entry.number,
+        &entry.op,
+        &mut text,
+    );
+    put_block(&entry_block(view, offset, entry), text.as_bytes(), out)?;
+    text.clear();
+    put_pair(entry.requester, entry.number, &mut text);
+    let place = centred_label(x_at(offset) + 36, 95, Colour::Black);
+    put_label(&place, text.as_bytes(), out)
+}
+
+/// Adds the entries that are shown, each behind its point.
+pub(crate) fn put_entries(
+    view: View,
+    bottom: u64,
+    shown: &[Entry],
+    out: &mut Vec<u8>,
+) -> Result<(), AllocError>
+    requires span { length shown.now ≤ 4294967295 }
+    requires point { view.scale.from + length shown.now < 2 ^ 64 }
+    ensures { OnOk result (out.new.items ≡ out.old.items ++ shapes_text (spec.entries view bottom 0 shown.now)) }
+{
+    let mut offset = 0;
+    for entry in shown {
+        put_tick(view.scale.from, offset, bottom, out)?;
+        put_entry(view, offset, entry, out)?;
+        offset += 1;
+    }
+    put_tick(view.scale.from, offset, bottom, out)
+}
+
+/// The entries that are shown.
+pub(crate) fn shown_entries(scale: Scale, history: &[Entry]) -> &[Entry]
+    requires { scale.from + scale.span ≤ length history.now }
+    ensures shown { result.now ≡ spec.shown_entries scale history.now }
+    ensures length { length result.now ≡ scale.span }
+{
+    let from = scale.from as usize;
+    &history[from..from + scale.span as usize]
+}

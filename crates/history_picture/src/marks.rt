@@ -1,0 +1,64 @@
+//! What is marked, and how marks look.
+ghost use Rattle.std.specs.Prelude.{◌≡◌, option_map};
+ghost use Rattle.history_picture.specs.Picture as spec;
+
+use crate::scale::Scale;
+use svg_text::{Colour, Label};
+
+/// The points that are shown, and the request that the first flaw names.
+#[derive(Clone, Copy, Debug, PartialEq, Eq)]
+pub(crate) struct View {
+    pub(crate) scale: Scale,
+    pub(crate) flawed: Option<(u8, u32)>,
+}
+
+impl View {
+    pub(crate) fn is_flawed(self, requester: u8, number: u32) -> bool
+        ensures { result ≡ spec.is_flawed self.flawed requester number }
+    {
+        match self.flawed {
+            None => false,
+            Some(flawed) => flawed.0 == requester && flawed.1 == number,
+        }
+    }
+}
+
+pub(crate) fn edge_of(is_flawed: bool) -> Colour
+    ensures { result ≡ spec.edge_of is_flawed }
+{
+    if is_flawed {
+        Colour::Red
+    } else {
+        Colour::Black
+    }
+}
+
+pub(crate) fn thickness_of(is_flawed: bool) -> u64
+    ensures { result ≡ spec.thickness_of is_flawed }
+{
+    if is_flawed { 3 } else { 1 }
+}
+
+pub(crate) fn plain_label(x: u64, y: u64) -> Label
+    ensures { result ≡ spec.plain_label x y }
+{
+    Label {
+        x,
+        y,
+        size: 12,
+        colour: Colour::Black,
+        is_centred: false,
+    }
+}
+
+pub(crate) fn centred_label(x: u64, y: u64, colour: Colour) -> Label
+    ensures { result ≡ spec.centred_label x y colour }
+{
+    Label {
+        x,
+        y,
+        size: 12,
+        colour,
+        is_centred: true,
+    }
+}

@@ -1,0 +1,136 @@
+//! Whole pictures.
+ghost use Rattle.std.specs.Prelude.{◌≡◌, ◌≤◌, ◌+◌, ◌++◌, length, OnOk, IfOk};
+ghost use Rattle.history_check.specs.Claim.{claim_of};
+ghost use Rattle.svg_text.specs.Shapes.{shapes_text};
+ghost use Rattle.history_picture.specs.Picture as spec;
+
+use crate::entries::{put_entries, shown_entries};
+use crate::flaws::{flawed_request, put_mark};
+use crate::heading::{put_captions, put_kinds, put_signs, title_label};
+use crate::marks::View;
+use crate::rows::put_rows;
+use crate::scale::{Scale, Window, scale_of, x_at};
+use history_check::{Flaw, Record, Trace};
+use seq_memory::Entry;
+use std::alloc::{AllocError, Global};
+use svg_text::{page_of, put_label};
+
+fn width_of(scale: Scale) -> u64
+    ensures { result ≡ spec.width_of scale }
+{
+    (x_at(u64::from(scale.span) + 1) + 20).max(640)
+}
+
+/// Adds the shapes below the heading, and gives where the rows end.
+fn put_body(
+    alloc: Global,
+    view: View,
+    records: &[Record],
+    history: &[Entry],
+    flaw: Option<Flaw>,
+    out: &mut Vec<u8>,
+) -> Result<u64, AllocError>
+    requires { view.scale.from + view.scale.span ≤ length history.now }
+    ensures shapes { OnOk result (out.new.items ≡ out.old.items ++ shapes_text (spec.body view records.now history.now flaw)) }
+    ensures bottom { IfOk result (λ bottom. bottom ≡ spec.bottom_of view records.now history.now) }
+    ensures range { IfOk result (λ bottom. bottom ≤ 100000) }
+{
+    let mut rows = Vec::new(alloc);
+    let bottom = put_rows(
+        alloc,
+        view,
+        width_of(view.scale),
+        records,
+        history,
+        &mut rows,
+    )?;
+    put_entries(view, bottom, shown_entries(view.scale, history), out)?;
+    out.extend_from_slice(rows.as_slice())?;
+    put_mark(view.scale, records, flaw, bottom, out)?;
+    Ok(bottom)
+}
+
+/// Adds all shapes, and gives where the rows end.
+fn put_drawn(
+    alloc: Global,
+    view: View,
+    records: &[Record],
+    history: &[Entry],
+    flaw: Option<Flaw>,
+    out: &mut Vec<u8>,
+) -> Result<u64, AllocError>
+    requires { view.scale.from + view.scale.span ≤ length history.now }
+    ensures shapes { OnOk result (out.new.items ≡ out.old.items ++ shapes_text (spec.drawn view records.now history.now flaw)) }
+    ensures bottom { IfOk result (λ bottom. bottom ≡ spec.bottom_of view records.now history.now) }
+    ensures range { IfOk result (λ bottom. bottom ≤ 100000) }
+{
+    put_captions(view.scale, history.len() as u64, flaw, out)?;
+    put_kinds(out)?;
+    put_signs(out)?;
+    let bottom = put_body(alloc, view, records, history, flaw, out)?;
+    Ok(bottom)
+}
+
+/// The text of a view.
+fn text_of(
+    alloc: Global,
+    view: View,
+    records: &[Record],
+    history: &[Entry],
+    flaw: Option<Flaw>,
+) -> Result<Vec<u8>, AllocError>
+    requires { view.scale.from + view.scale.span ≤ length history.now }
+    ensures { IfOk result (λ text. text.items ≡ spec.view_text view records.now history.now flaw) }
+{
+    let mut shapes = Vec::new(alloc);
+    let bottom = put_drawn(alloc, view, records, history, flaw, &mut shapes)?;
+    let text = page_of(alloc, width_of(view.scale), bottom + 30, shapes.as_slice())?;
+    Ok(text)
+}
+
+/// What is shown of a trace and its history.
+fn view_of(window: Window, records: &[Record], history: &[Entry], flaw: Option<Flaw>) -> View
+    ensures view { result ≡ spec.view_of window records.now history.now flaw }
+    ensures within { result.scale.from + result.scale.span ≤ length history.now }
+{
+    View {
+        scale: scale_of(window, history.len()),
+        flawed: flawed_request(records, history, flaw),
+    }
+}
+
+/// The picture of a trace and its history in SVG, of which `flaw` is the first flaw. The window says
+/// which points of the history are shown, 4,294,967,295 of them at most behind the first. The rows
+/// are those of requesters 1 to 7. An error is want of memory.
+pub fn picture_of(
+    alloc: Global,
+    trace: &Trace,
+    history: &[Entry],
+    flaw: Option<Flaw>,
+    window: Window,
+) -> Result<Vec<u8>, AllocError>
+    ensures { IfOk result (λ text. text.items ≡ spec.picture_text window (claim_of trace.now history.now) flaw) }
+{
+    let records = trace.records.as_slice();
+    let view = view_of(window, records, history, flaw);
+    let text = text_of(alloc, view, records, history, flaw)?;
+    Ok(text)
+}
+
+/// Adds words in red.
+#[tactic(auto, unfolding(svg_text::specs::Shapes::shapes_text))]
+fn put_title(words: &[u8], out: &mut Vec<u8>) -> Result<(), AllocError>
+    ensures { OnOk result (out.new.items ≡ out.old.items ++ shapes_text (spec.title words.now)) }
+{
+    put_label(&title_label(true), words, out)
+}
+
+/// A picture in SVG that has these words alone. An error is want of memory.
+pub fn line_of(alloc: Global, words: &[u8]) -> Result<Vec<u8>, AllocError>
+    ensures { IfOk result (λ text. text.items ≡ spec.line_text words.now) }
+{
+    let mut shapes = Vec::new(alloc);
+    put_title(words, &mut shapes)?;
+    let text = page_of(alloc, 640, 40, shapes.as_slice())?;
+    Ok(text)
+}

@@ -1,0 +1,147 @@
+//! The rows of requesters.
+ghost use Rattle.std.specs.Prelude.{ℕ, ◌≡◌, ◌≤◌, ◌+◌, ◌*◌, ◌++◌, [], length, OnOk, IfOk};
+ghost use Rattle.svg_text.specs.Shapes.{shapes_text};
+ghost use Rattle.history_picture.specs.Layout.{rows_height};
+ghost use Rattle.history_picture.specs.Picture as spec;
+
+use crate::lookup::{acted_by, answers_by};
+use crate::marks::{View, plain_label};
+use crate::requests::put_bars;
+use crate::words::put_requester_words;
+use arrayvec::ArrayString;
+use history_check::Record;
+use seq_memory::Entry;
+use std::alloc::{AllocError, Global};
+use svg_text::{Colour, Rule, put_label, put_rule};
+
+/// Adds a requester's name, and the line below its bars.
+#[tactic(auto, unfolding(svg_text::specs::Shapes::shapes_text))]
+fn put_frame(
+    width: u64,
+    requester: u8,
+    top: u64,
+    height: u64,
+    out: &mut Vec<u8>,
+) -> Result<(), AllocError>
+    requires top { top ≤ 1000000 }
+    requires height { height ≤ 1000000 }
+    ensures { OnOk result (out.new.items ≡ out.old.items ++ shapes_text (spec.frame width requester top height)) }
+{
+    let mut name = ArrayString::new();
+    put_requester_words(requester, &mut name);
+    put_label(&plain_label(10, top + 16), name.as_bytes(), out)?;
+    let line = Rule {
+        left: 0,
+        top: top + height.saturating_sub(10),
+        right: width,
+        bottom: top + height.saturating_sub(10),
+        colour: Colour::Grey,
+        thickness: 1,
+        dash: 0,
+    };
+    put_rule(&line, out)
+}
+
+/// How high the sub-rows are that have these ends.
+fn height_of(ends: &[u64]) -> u64
+    ensures height { result ≡ spec.height_of ends.now }
+    ensures range { result ≤ 7184 }
+{
+    if ends.is_empty() {
+        return 0;
+    }
+    28 * (ends.len().min(256) as u64) + 16
+}
+
+/// Adds a requester's name and the line below its bars, if there are any.
+#[tactic(auto, unfolding(svg_text::specs::Shapes::shapes_text))]
+fn put_frame_of(
+    width: u64,
+    requester: u8,
+    top: u64,
+    ends: &[u64],
+    out: &mut Vec<u8>,
+) -> Result<(), AllocError>
+    requires { top ≤ 900000 }
+    ensures { OnOk result (out.new.items ≡ out.old.items ++ shapes_text (spec.frame_of width requester top ends.now)) }
+{
+    if ends.is_empty() {
+        return Ok(());
+    }
+    put_frame(width, requester, top, height_of(ends), out)?;
+    Ok(())
+}
+
+/// Adds the row of a requester, and gives its height.
+fn put_row(
+    alloc: Global,
+    view: View,
+    width: u64,
+    records: &[Record],
+    history: &[Entry],
+    requester: u8,
+    top: u64,
+    out: &mut Vec<u8>,
+) -> Result<u64, AllocError>
+    requires { top ≤ 900000 }
+    ensures shapes { OnOk result (out.new.items ≡ out.old.items ++ shapes_text (spec.row view width records.now history.now requester top)) }
+    ensures height { IfOk result (λ height. height ≡ spec.row_height view records.now history.now requester) }
+    ensures range { IfOk result (λ height. height ≤ 7184) }
+{
+    let acted = acted_by(alloc, history, requester)?;
+    let answers = answers_by(alloc, records, requester)?;
+    let mut ends = Vec::new(alloc);
+    let mut words = Vec::new(alloc);
+    put_bars(
+        view, records, &acted, &answers, requester, top, &mut ends, &mut words, out,
+    )?;
+    put_frame_of(width, requester, top, ends.as_slice(), out)?;
+    Ok(height_of(ends.as_slice()))
+}
+
+/// Adds the rows of these requesters, and gives where the last one ends.
+fn put_rows_of(
+    alloc: Global,
+    view: View,
+    width: u64,
+    records: &[Record],
+    history: &[Entry],
+    requesters: &[u8],
+    out: &mut Vec<u8>,
+) -> Result<u64, AllocError>
+    requires { length requesters.now ≤ 7 }
+    ensures shapes { OnOk result (out.new.items ≡ out.old.items ++ shapes_text (spec.rows view width records.now history.now 116 requesters.now)) }
+    ensures bottom { IfOk result (λ bottom. bottom ≡ spec.rows_bottom view records.now history.now 116 requesters.now) }
+    ensures range { IfOk result (λ bottom. bottom ≤ 100000) }
+{
+    let mut top = 116;
+    for requester in requesters {
+        let height = put_row(alloc, view, width, records, history, *requester, top, out)?;
+        top += height;
+    }
+    Ok(top)
+}
+
+/// Adds the rows of all requesters, and gives where the last one ends.
+pub(crate) fn put_rows(
+    alloc: Global,
+    view: View,
+    width: u64,
+    records: &[Record],
+    history: &[Entry],
+    out: &mut Vec<u8>,
+) -> Result<u64, AllocError>
+    ensures shapes { OnOk result (out.new.items ≡ out.old.items ++ shapes_text (spec.rows view width records.now history.now 116 spec.requesters)) }
+    ensures bottom { IfOk result (λ bottom. bottom ≡ spec.bottom_of view records.now history.now) }
+    ensures range { IfOk result (λ bottom. bottom ≤ 100000) }
+{
+    put_rows_of(
+        alloc,
+        view,
+        width,
+        records,
+        history,
+        &[1, 2, 3, 4, 5, 6, 7],
+        out,
+    )
+}

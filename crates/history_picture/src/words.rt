@@ -1,0 +1,244 @@
+//! The words in a picture.
+ghost use Rattle.std.specs.Prelude.{◌≡◌, ◌≤◌, ◌+◌, ◌++◌, [], length, option_map, slice_get, OnOk};
+ghost use Rattle.std.specs.Fmt.{decimal};
+ghost use Rattle.arrayvec.specs.ArrayString.{array_string_len};
+ghost use Rattle.history_picture.specs.Words as said;
+
+use arrayvec::ArrayString;
+use history_check::{Flaw, Record};
+use seq_memory::Reply;
+use std::alloc::AllocError;
+use svg_text::Colour;
+use tlp_core::Op;
+use trace_text::{write_decimal, write_hexadecimal, write_op, write_reply};
+
+/// A request, when it was submitted, how long the history was once it had acted, and the place of its
+/// answer among the records.
+#[derive(Clone, Copy, Debug, PartialEq, Eq)]
+pub(crate) struct Request {
+    pub(crate) requester: u8,
+    pub(crate) number: u32,
+    pub(crate) n: u64,
+    pub(crate) acted: Option<u64>,
+    pub(crate) answer: Option<u64>,
+}
+
+fn kind_name(op: &Op) -> &'static str
+    ensures name { result.now ≡ said.kind_name op.now }
+    ensures length { length result.now ≤ 5 }
+{
+    match op {
+        Op::Read { .. } => "read",
+        Op::Write { .. } => "write",
+        Op::FetchAdd { .. } => "add",
+        Op::Swap { .. } => "swap",
+        Op::Cas { .. } => "cas",
+    }
+}
+
+pub(crate) fn kind_colour(op: &Op) -> Colour
+    ensures { result ≡ said.kind_colour op.now }
+{
+    match op {
+        Op::Read { .. } => Colour::SkyBlue,
+        Op::Write { .. } => Colour::Orange,
+        Op::FetchAdd { .. } => Colour::Green,
+        Op::Swap { .. } => Colour::Yellow,
+        Op::Cas { .. } => Colour::Purple,
+    }
+}
+
+/// Writes the kind and the address.
+fn put_short_op(op: &Op, text: &mut ArrayString<512>)
+    requires { text.old.bytes ≡ [] }
+    ensures { text.new.bytes ≡ said.short_op op.now }
+{
+    text.push_str(kind_name(op));
+    text.push_str(" ");
+    write_hexadecimal(op.address(), text);
+}
+
+/// Writes the operation in so many characters, or its kind.
+pub(crate) fn put_op_label(room: u64, op: &Op, text: &mut ArrayString<512>)
+    requires { text.old.bytes ≡ [] }
+    ensures { text.new.bytes ≡ said.op_label room op.now }
+{
+    put_short_op(op, text);
+    if room < text.len() as u64 {
+        text.clear();
+        text.push_str(kind_name(op));
+    }
+}
+
+/// Adds a request's requester and number.
+pub(crate) fn put_pair(requester: u8, number: u32, text: &mut ArrayString<512>)
+    requires { array_string_len text.old ≤ 100 }
+    ensures text { text.new.bytes ≡ text.old.bytes ++ said.pair_words requester number }
+    ensures len { array_string_len text.new ≤ array_string_len text.old + 41 }
+{
+    write_decimal(u64::from(requester), text);
+    text.push_str(":");
+    write_decimal(u64::from(number), text);
+}
+
+/// Adds the words of a request.
+fn put_request(requester: u8, number: u32, op: &Op, text: &mut ArrayString<512>)
+    requires { array_string_len text.old ≤ 50 }
+    ensures text { text.new.bytes ≡ text.old.bytes ++ said.request_words requester number op.now }
+    ensures len { array_string_len text.new ≤ 430 }
+{
+    text.push_str("request ");
+    put_pair(requester, number, text);
+    text.push_str(" ");
+    write_op(op, text);
+}
+
+fn put_acted(acted: Option<u64>, text: &mut ArrayString<512>)
+    requires { array_string_len text.old ≤ 100 }
+    ensures text { text.new.bytes ≡ text.old.bytes ++ said.acted_words acted }
+    ensures len { array_string_len text.new ≤ array_string_len text.old + 28 }
+{
+    match acted {
+        None => text.push_str("; no entry"),
+        Some(acted) => {
+            text.push_str("; entry ");
+            write_decimal(acted.saturating_sub(1), text);
+        }
+    }
+}
+
+/// Adds when a request was answered, and how.
+fn put_reply(n: u64, reply: &Reply, text: &mut ArrayString<512>)
+    requires { array_string_len text.old ≤ 150 }
+    ensures { text.new.bytes ≡ text.old.bytes ++ said.reply_words n reply.now }
+{
+    text.push_str("; answered at ");
+    write_decimal(n, text);
+    text.push_str(": ");
+    write_reply(reply, text);
+}
+
+fn put_answered(answer: Option<&Record>, text: &mut ArrayString<512>)
+    requires { array_string_len text.old ≤ 150 }
+    ensures { text.new.bytes ≡ text.old.bytes ++ said.answered_words (option_map (λ r. r.now) answer.entry) }
+{
+    match answer {
+        Some(Record::Ans { reply, n, .. }) => put_reply(*n, reply, text),
+        _ => text.push_str("; no answer"),
+    }
+}
+
+/// The record at that place, if there is one.
+pub(crate) fn answer_at(records: &[Record], place: Option<u64>) -> Option<&Record>
+    ensures { option_map (λ r. r.now) result ≡ said.answer_at records.now place }
+{
+    records.get(place? as usize)
+}
+
+/// When a record was made.
+pub(crate) fn moment_of(answer: Option<&Record>) -> Option<u64>
+    ensures { result ≡ said.moment_of (option_map (λ r. r.now) answer.entry) }
+{
+    match answer? {
+        Record::Sub { n, .. } | Record::Ans { n, .. } => Some(*n),
+    }
+}
+
+/// Writes what became of a request.
+fn put_course(records: &[Record], request: &Request, text: &mut ArrayString<512>)
+    requires { text.old.bytes ≡ [] }
+    ensures { text.new.bytes ≡ said.course_words records.now request.now }
+{
+    text.push_str("; submitted at ");
+    write_decimal(request.n, text);
+    put_acted(request.acted, text);
+    put_answered(answer_at(records, request.answer), text);
+}
+
+/// Writes what is shown where one points at a bar.
+pub(crate) fn put_tooltip(
+    records: &[Record],
+    op: &Op,
+    request: &Request,
+    text: &mut Vec<u8>,
+) -> Result<(), AllocError>
+    requires { text.old.items ≡ [] }
+    ensures { OnOk result (text.new.items ≡ said.tooltip_words records.now op.now request.now) }
+{
+    let mut piece = ArrayString::new();
+    put_request(request.requester, request.number, op, &mut piece);
+    text.extend_from_slice(piece.as_bytes())?;
+    piece.clear();
+    put_course(records, request, &mut piece);
+    text.extend_from_slice(piece.as_bytes())
+}
+
+/// Writes what is shown where one points at an entry of the history.
+pub(crate) fn put_entry_words(
+    place: u64,
+    requester: u8,
+    number: u32,
+    op: &Op,
+    text: &mut ArrayString<512>,
+)
+    requires { text.old.bytes ≡ [] }
+    ensures { text.new.bytes ≡ said.entry_words place requester number op.now }
+{
+    text.push_str("entry ");
+    write_decimal(place, text);
+    text.push_str(": ");
+    put_request(requester, number, op, text);
+}
+
+pub(crate) fn put_requester_words(requester: u8, text: &mut ArrayString<512>)
+    requires { text.old.bytes ≡ [] }
+    ensures { text.new.bytes ≡ said.requester_words requester }
+{
+    text.push_str("requester ");
+    write_decimal(u64::from(requester), text);
+}
+
+/// Writes a flaw.
+fn put_flaw(flaw: Flaw, text: &mut ArrayString<512>)
+    requires { text.old.bytes ≡ [] }
+    ensures { text.new.bytes ≡ said.flaw_words flaw }
+{
+    text.push_str("flaw ");
+    write_decimal(u64::from(flaw.kind.number()), text);
+    text.push_str(" ");
+    text.push_str(flaw.kind.name());
+    text.push_str(" ");
+    write_decimal(flaw.place as u64, text);
+}
+
+/// Writes the first flaw, or that there is none.
+pub(crate) fn put_verdict(flaw: Option<Flaw>, text: &mut ArrayString<512>)
+    requires { text.old.bytes ≡ [] }
+    ensures { text.new.bytes ≡ said.verdict_words flaw }
+{
+    match flaw {
+        None => text.push_str("ok"),
+        Some(flaw) => put_flaw(flaw, text),
+    }
+}
+
+/// Writes which points of how many are shown.
+pub(crate) fn put_window(from: u64, to: u64, count: u64, text: &mut ArrayString<512>)
+    requires { text.old.bytes ≡ [] }
+    ensures { text.new.bytes ≡ said.window_words from to count }
+{
+    text.push_str("points ");
+    write_decimal(from, text);
+    text.push_str(" to ");
+    write_decimal(to, text);
+    text.push_str(" of ");
+    write_decimal(count, text);
+}
+
+/// Writes a number.
+pub(crate) fn put_number_words(number: u64, text: &mut ArrayString<512>)
+    requires { text.old.bytes ≡ [] }
+    ensures { text.new.bytes ≡ decimal number }
+{
+    write_decimal(number, text);
+}

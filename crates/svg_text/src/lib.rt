@@ -1,0 +1,18 @@
+//! Pictures as the text of SVG, which is XML.
+//!
+//! The text of a picture is that of a tree of elements: each is opened and closed by its name, its
+//! attributes have names of their own and values in quotation marks, and what marks tags, values and
+//! entities stands in texts and values as an entity. Functions add one shape each, and [`page_of`]
+//! makes a whole document of the text of shapes.
+#![tactic(auto)]
+
+mod colour;
+mod laws;
+mod pieces;
+mod shapes;
+mod writing;
+
+pub use colour::Colour;
+pub use laws::pages_are_well_formed;
+pub use shapes::{Block, Dot, Label, Rule};
+pub use writing::{page_of, put_block, put_dot, put_label, put_rule};
