@@ -233,6 +233,9 @@ pub fn options<'a, S: AsStr>(alloc: Global, words: &'a [S]) -> Result<Request, R
     // What the words ask for.
     ensures ok { IfOk result (Asks (subcommand_of the_app (map S.text words.now))) }
 
+    // They ask for nothing else.
+    ensures only { IfOk result (λ r. (other : Request) → Asks (subcommand_of the_app (map S.text words.now)) other → r ≡ other) }
+
     // Words that ask for something have no fault.
     ensures faultless { IfOk result (λ _. fault_of the_app (map S.text words.now) ≡ []) }
 

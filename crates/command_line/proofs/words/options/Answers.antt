@@ -1,5 +1,5 @@
 use Rattle.std.proofs.Common.{◌≡◌, ◌∙◌, List, Option, Some, None, map, option_map, subst}
-use Rattle.std.proofs.lemmas.Result.{IfErr-weaker}
+use Rattle.std.proofs.lemmas.Result.{IfErr-weaker, IfOk-weaker}
 use Rattle.clap.specs.Words.{Row, Text, found_of, rows_of, subcommand_of}
 use Rattle.command_line.specs.declared.words.Request.{Request}
 use Rattle.command_line.specs.declared.words.RequestFault.{RequestFault}
@@ -8,6 +8,7 @@ use Rattle.command_line.specs.Faults.{RangeFault, ValueFault, IsRefusal}
 use Rattle.command_line.specs.Options.{the_app, Asks}
 use Rattle.command_line.specs.Refusals.{Refuses}
 use Rattle.command_line.proofs.RefusalsAskNothing.{refused_nothing}
+use Rattle.command_line.proofs.RequestsAsked.{asks_one}
 use Rattle.command_line.proofs.words.options.Goals as goal
 
 -- a name and values that are found apart are found together
@@ -39,3 +40,9 @@ returns-in-Some-clause-range g c =
     let o = subcommand_of the_app (map g.S.AsStr.text c.args.words.now) in
     let asked : ◌≡◌ {A = Option (Text × List Row)} (Some (c.in-Some.name.now, rows_of (found_of c.in-Some.values.now))) o = together _ _ _ _ _ c.in-Some.ensures.name c.in-Some.ensures.rows ∙ c.in-Ok.ensures.rows in
     IfErr-weaker c.request_of.result _ _ (λ fault h. nothing_asked o fault (subst (λ (p : Option (Text × List Row)). IsRefusal p fault) asked h)) c.request_of.ensures.err
+
+pub returns-in-Some-clause-only : goal.returns-in-Some-clause-only
+returns-in-Some-clause-only g c =
+    let o = subcommand_of the_app (map g.S.AsStr.text c.args.words.now) in
+    let asked : ◌≡◌ {A = Option (Text × List Row)} (Some (c.in-Some.name.now, rows_of (found_of c.in-Some.values.now))) o = together _ _ _ _ _ c.in-Some.ensures.name c.in-Some.ensures.rows ∙ c.in-Ok.ensures.rows in
+    IfOk-weaker c.request_of.result _ _ (λ r h other a. asks_one o r other (subst (λ (p : Option (Text × List Row)). Asks p r) asked h) a) c.request_of.ensures.ok
