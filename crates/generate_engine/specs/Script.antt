@@ -1,0 +1,59 @@
+-- What `generate` writes.
+use Rattle.std.specs.Prelude.{ℕ, ◌≡◌, ◌≤◌, ◌⊎◌, List, [], ◌∷◌, length, map, All, Option}
+use Rattle.std.specs.Io.KnownBytes.{Appends}
+use Rattle.line_engine.specs.Run.{IsBeginning}
+use Rattle.history_check.specs.declared.Record.{Record}
+use Rattle.fabric_laws.specs.Fabric.{Fabric}
+use Rattle.fabric_core.specs.declared.config.Config.{Config}
+use Rattle.fabric_core.specs.declared.event.Event.{Event}
+use Rattle.fabric_core.specs.Config.{IsNewWith}
+use Rattle.fabric_core.specs.Runs.{Runs}
+use Rattle.trace_file.specs.Texts.{lines_text}
+use Rattle.script_lines.specs.Texts.{event_line, fabric_line}
+use Rattle.script_lines.specs.Spelled.{IsSpelledEvent}
+use Rattle.storm.specs.declared.Storm.{Storm}
+
+-- a memory of 4096 bytes at 0, and the credits that lanes have unless told otherwise
+abbrev pub config_of : Storm → Config
+config_of s = record { requesters = s.requesters; base = 0; size = 4096; credits = record { ph = 16; pd = 64; nph = 16; npd = 16; cplh = 16; cpld = 64 }; block = s.block }
+
+-- these events happened to a new fabric in turn, and left it so; some line spells each of them
+pub record Happened (c : Config) (events : List Event) (f : Fabric) : Type 0 where
+  pub new : Fabric
+  pub is_new : IsNewWith c new
+  pub records : List Record
+  pub run : Runs new events records f
+  pub spelled : All IsSpelledEvent events
+
+-- a line for the fabric, and one for each event
+abbrev pub text_of : Config → List Event → List ℕ
+text_of c events = lines_text (fabric_line c ∷ map event_line events)
+
+-- the text of so many events that happened, and the fabric after them
+pub record IsScriptOf (c : Config) (count : ℕ) (text : List ℕ) (f : Fabric) : Type 0 where
+  pub events : List Event
+  pub number : length events ≡ count
+  pub happened : Happened c events f
+  pub says : text ≡ text_of c events
+
+-- a first part of such a text, of at most so many events
+pub record BeginsScript (c : Config) (most : ℕ) (done : List ℕ) : Type 0 where
+  pub count : ℕ
+  pub few : count ≤ most
+  pub text : List ℕ
+  pub fabric : Fabric
+  pub script : IsScriptOf c count text fabric
+  pub begins : IsBeginning done text
+
+-- the script of all the storm's events was written
+pub record IsWhole (s : Storm) (out out' : Option (List ℕ)) : Type 0 where
+  pub text : List ℕ
+  pub fabric : Fabric
+  pub script : IsScriptOf (config_of s) s.events text fabric
+  pub written : Appends out out' text
+
+-- nothing was written, or a beginning of a script of the storm's fabric and of no more events than it has
+pub record IsPart (s : Storm) (out out' : Option (List ℕ)) : Type 0 where
+  pub done : List ℕ
+  pub begins : (done ≡ []) ⊎ BeginsScript (config_of s) s.events done
+  pub written : Appends out out' done

@@ -1,0 +1,187 @@
+//! The script of a storm, a block of events at a time.
+ghost use Rattle.std.specs.Prelude.{◌≡◌, ◌≢◌, ◌≤◌, ◌+◌, ◌*◌, ◌++◌, ◌∷◌, [], ℕ, List, IfOk, IfErr, OnOk, OnErr};
+ghost use Rattle.std.specs.Io.KnownBytes.{Appends};
+ghost use Rattle.line_engine.specs.Run.{IsBeginning};
+ghost use Rattle.fabric_laws.specs.Fabric.{Fabric};
+ghost use Rattle.fabric_core.specs.declared.config.Config.{Config};
+ghost use Rattle.fabric_core.specs.declared.event.Event.{Event};
+ghost use Rattle.fabric_core.specs.Config.{IsNewWith};
+ghost use Rattle.script_lines.specs.Texts.{event_line};
+ghost use Rattle.storm.specs.Ranges.{IsStorm};
+ghost use Rattle.storm_events.specs.Choice.{IsChosen};
+ghost use Rattle.generate_engine.specs.Script.{config_of, IsScriptOf, BeginsScript, IsWhole, IsPart};
+
+use crate::lines::{put_event, put_fabric};
+use fabric_core::{Config, Fabric};
+use fc_credit::LaneCredits;
+use line_engine::{EngineFault, write_out};
+use std::alloc::{AllocError, Global};
+use std::io::Write;
+use storm::Storm;
+use storm_events::Chooser;
+
+/// How many events are written at once.
+const BLOCK: u64 = 256;
+
+/// The fabric of a storm.
+fn config_of(storm: &Storm) -> Config
+    requires { IsStorm storm.now }
+    ensures { result ≡ config_of storm.now }
+{
+    Config {
+        requesters: storm.requesters as u8,
+        base: 0,
+        size: 4096,
+        credits: LaneCredits::DEFAULT,
+        block: storm.block as u16,
+    }
+}
+
+/// A new fabric. It has no fault but want of memory.
+fn make(config: Config, alloc: Global) -> Result<Fabric, AllocError>
+    ensures { IfOk result (λ f. IsNewWith config f) }
+{
+    match Fabric::new(config, alloc) {
+        Ok(fabric) => Ok(fabric),
+        Err(_) => Err(AllocError),
+    }
+}
+
+/// A storm that is written while it happens.
+#[derive(Drop)]
+struct Generator {
+    fabric: Fabric,
+    chooser: Chooser,
+    /// The lines that are to be written.
+    pending: Vec<u8>,
+}
+
+impl Generator {
+    fn new(storm: &Storm, alloc: Global) -> Result<Generator, AllocError>
+        requires { IsStorm storm.now }
+        ensures { IfOk result (λ g. IsScriptOf (config_of storm.now) 0 g.pending.items g.fabric) }
+    {
+        let config = config_of(storm);
+        let fabric = make(config, alloc)?;
+        let mut pending = Vec::new(alloc);
+        put_fabric(&config, &mut pending)?;
+        Ok(Generator {
+            fabric,
+            chooser: Chooser::new(storm),
+            pending,
+        })
+    }
+
+    /// One event more.
+    fn put_next(&mut self) -> Result<(), AllocError>
+        ensures ok { OnOk result ((event : Event) × IsChosen self.old.fabric event self.new.fabric
+            × (self.new.pending.items ≡ self.old.pending.items ++ (event_line event ++ 10 ∷ []))) }
+        ensures err { OnErr result (self.new.pending.items ≡ self.old.pending.items) }
+    {
+        let event = self.chooser.happen_next(&mut self.fabric)?;
+        put_event(&event, &mut self.pending)
+    }
+
+    /// So many events more. Also where one fails, the lines of those before it are there.
+    fn fill(&mut self, count: u64) -> Result<(), AllocError>
+        ensures ok { OnOk result ((c : Config) (n : ℕ) (written : List ℕ)
+            → IsScriptOf c n (written ++ self.old.pending.items) self.old.fabric
+            → IsScriptOf c (n + count) (written ++ self.new.pending.items) self.new.fabric) }
+        ensures err { OnErr result ((c : Config) (n : ℕ) (written : List ℕ)
+            → IsScriptOf c n (written ++ self.old.pending.items) self.old.fabric
+            → BeginsScript c (n + count) (written ++ self.new.pending.items)) }
+    {
+        for _event in 0..count {
+            self.put_next()?;
+        }
+        Ok(())
+    }
+
+    /// Writes the pending lines.
+    fn flush<W: Write>(&mut self, writer: &mut W) -> Result<(), EngineFault>
+        ensures text { OnOk result (Appends (W.contents writer.old) (W.contents writer.new) self.old.pending.items) }
+        ensures pending { OnOk result (self.new.pending.items ≡ []) }
+        ensures fabric { self.new.fabric ≡ self.old.fabric }
+        ensures fault { IfErr result (λ f. f ≡ EngineFault.Write) }
+        ensures part { OnErr result ((done : List ℕ) × IsBeginning done self.old.pending.items
+            × Appends (W.contents writer.old) (W.contents writer.new) done) }
+    {
+        write_out(writer, self.pending.as_slice())?;
+        self.pending.clear();
+        Ok(())
+    }
+
+    /// So many events more, and the lines of all written.
+    fn advance<W: Write>(&mut self, count: u64, writer: &mut W) -> Result<(), EngineFault>
+        ensures ok { OnOk result ((text : List ℕ) × Appends (W.contents writer.old) (W.contents writer.new) text
+            × ((c : Config) (n : ℕ) (written : List ℕ)
+            → IsScriptOf c n (written ++ self.old.pending.items) self.old.fabric
+            → IsScriptOf c (n + count) (written ++ text) self.new.fabric)) }
+        ensures pending { OnOk result (self.new.pending.items ≡ []) }
+        ensures fault { IfErr result (λ f. f ≢ EngineFault.Read) }
+        ensures err { OnErr result ((done : List ℕ) × Appends (W.contents writer.old) (W.contents writer.new) done
+            × ((c : Config) (n : ℕ) (written : List ℕ)
+            → IsScriptOf c n (written ++ self.old.pending.items) self.old.fabric
+            → BeginsScript c (n + count) (written ++ done))) }
+    {
+        let filled = self.fill(count);
+        self.flush(writer)?;
+        filled?;
+        Ok(())
+    }
+
+    /// So many blocks more.
+    fn put_blocks<W: Write>(&mut self, count: u64, writer: &mut W) -> Result<(), EngineFault>
+        ensures ok { OnOk result ((text : List ℕ) × Appends (W.contents writer.old) (W.contents writer.new) text
+            × ((c : Config) (n : ℕ) (written : List ℕ)
+            → IsScriptOf c n (written ++ self.old.pending.items) self.old.fabric
+            → IsScriptOf c (n + count * 256) ((written ++ text) ++ self.new.pending.items) self.new.fabric)) }
+        ensures fault { IfErr result (λ f. f ≢ EngineFault.Read) }
+        ensures err { OnErr result ((done : List ℕ) × Appends (W.contents writer.old) (W.contents writer.new) done
+            × ((c : Config) (n : ℕ) (written : List ℕ)
+            → IsScriptOf c n (written ++ self.old.pending.items) self.old.fabric
+            → BeginsScript c (n + count * 256) (written ++ done))) }
+    {
+        for _block in 0..count {
+            self.advance(BLOCK, writer)?;
+        }
+        Ok(())
+    }
+
+    /// So many events more, the lines written a block at a time.
+    fn put_all<W: Write>(&mut self, count: u64, writer: &mut W) -> Result<(), EngineFault>
+        ensures ok { OnOk result ((text : List ℕ) × Appends (W.contents writer.old) (W.contents writer.new) text
+            × ((c : Config)
+            → IsScriptOf c 0 self.old.pending.items self.old.fabric
+            → IsScriptOf c count text self.new.fabric)) }
+        ensures fault { IfErr result (λ f. f ≢ EngineFault.Read) }
+        ensures err { OnErr result ((done : List ℕ) × Appends (W.contents writer.old) (W.contents writer.new) done
+            × ((c : Config)
+            → IsScriptOf c 0 self.old.pending.items self.old.fabric
+            → BeginsScript c count done)) }
+    {
+        self.put_blocks(count / BLOCK, writer)?;
+        self.advance(count % BLOCK, writer)
+    }
+}
+
+/// Writes the script of a storm: a line for its fabric, and one for each of its events, which happened to that fabric in
+/// turn. `Ok` is the exit status, 0. After an `Err`, which is want of memory or the writer's, what was written is nothing
+/// or a beginning of such a script.
+pub fn run_generate<W: Write>(
+    alloc: Global,
+    storm: &Storm,
+    writer: &mut W,
+) -> Result<u8, EngineFault>
+    requires { IsStorm storm.now }
+    ensures status { IfOk result (λ status. status ≡ 0) }
+    ensures ok { OnOk result (IsWhole storm.now (W.contents writer.old) (W.contents writer.new)) }
+    ensures fault { IfErr result (λ f. f ≢ EngineFault.Read) }
+    ensures part { OnErr result (IsPart storm.now (W.contents writer.old) (W.contents writer.new)) }
+{
+    let mut generator = Generator::new(storm, alloc)?;
+    match generator.put_all(storm.events, writer) {
+        Ok(()) => Ok(0),
+        Err(fault) => Err(fault),
+    }
+}

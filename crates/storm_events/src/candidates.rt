@@ -1,0 +1,88 @@
+//! What may happen next: events that are drawn, whether or not the fabric takes them.
+ghost use Rattle.std.specs.Prelude.{◌≡◌, ◌≤◌, ◌<◌};
+ghost use Rattle.script_lines.specs.Spelled.{IsSpelledLane, IsSpelledEvent};
+
+use crate::draws::Draws;
+use crate::operations::operation;
+use dllp_core::Class;
+use fabric_core::{Event, LaneName};
+use lane_core::DllpKind;
+use script_lines::laws::an_operation_in_range_is_spelled;
+
+/// The port of one of so many requesters.
+fn port(draws: &mut Draws, requesters: u8) -> u8
+    requires { (1 ≤ requesters) × (requesters ≤ 7) }
+    ensures { (1 ≤ result) × (result ≤ 7) }
+{
+    draws.below(u32::from(requesters)) as u8 + 1
+}
+
+/// A lane: those of the memory as often as all of the requesters' of one direction.
+pub(crate) fn lane(draws: &mut Draws, requesters: u8) -> LaneName
+    requires { (1 ≤ requesters) × (requesters ≤ 7) }
+    ensures { IsSpelledLane result }
+{
+    match draws.below(4) {
+        0 => LaneName::Up(port(draws, requesters)),
+        1 => LaneName::Down(port(draws, requesters)),
+        2 => LaneName::Inward,
+        _ => LaneName::Outward,
+    }
+}
+
+/// A place in a queue: the first as often as all together.
+fn place(draws: &mut Draws) -> usize
+    ensures { result < 48 }
+{
+    if draws.chance(2) {
+        return 0;
+    }
+    let most = draws.below(48) + 1;
+    draws.below(most) as usize
+}
+
+fn kind(draws: &mut Draws) -> DllpKind {
+    match draws.below(4) {
+        0 => DllpKind::Update(Class::Posted),
+        1 => DllpKind::Update(Class::NonPosted),
+        2 => DllpKind::Update(Class::Completion),
+        _ => DllpKind::Answer,
+    }
+}
+
+fn submit(draws: &mut Draws, requesters: u8) -> Event
+    requires { (1 ≤ requesters) × (requesters ≤ 7) }
+    ensures { IsSpelledEvent result }
+{
+    an_operation_in_range_is_spelled();
+    Event::Submit(port(draws, requesters), operation(draws))
+}
+
+fn forward(draws: &mut Draws, requesters: u8) -> Event
+    requires { (1 ≤ requesters) × (requesters ≤ 7) }
+    ensures { IsSpelledEvent result }
+{
+    let lane = if draws.chance(2) {
+        LaneName::Outward
+    } else {
+        LaneName::Up(port(draws, requesters))
+    };
+    Event::Forward(lane, place(draws))
+}
+
+/// An event that no plan of faults is asked for. The replay timers expire seldom.
+pub(crate) fn plain(draws: &mut Draws, requesters: u8) -> Event
+    requires { (1 ≤ requesters) × (requesters ≤ 7) }
+    ensures { IsSpelledEvent result }
+{
+    match draws.below(40) {
+        0..=4 => submit(draws, requesters),
+        5..=14 => Event::Transmit(lane(draws, requesters)),
+        15..=20 => Event::SendDllp(lane(draws, requesters), kind(draws)),
+        21..=29 => forward(draws, requesters),
+        30..=34 => Event::Serve(place(draws)),
+        35..=37 => Event::Collect(port(draws, requesters)),
+        38 if draws.chance(4) => Event::Timer(lane(draws, requesters)),
+        _ => Event::Retrained(lane(draws, requesters)),
+    }
+}

@@ -1,0 +1,46 @@
+//! How many packets and DLLPs have reached the ends of each lane's wires.
+
+use fabric_core::LaneName;
+
+/// As many as there are lanes' names: two for each port, `in` and `out`.
+const LANES: usize = 16;
+
+/// The counts of one kind, by lanes.
+#[derive(Drop)]
+pub(crate) struct Counts {
+    counts: [u64; LANES],
+}
+
+/// The place of a lane.
+fn place_of(lane: LaneName) -> usize {
+    match lane {
+        LaneName::Inward => 0,
+        LaneName::Up(port) => usize::from(port),
+        LaneName::Outward => 8,
+        LaneName::Down(port) => usize::from(port) + 8,
+    }
+}
+
+impl Counts {
+    pub(crate) fn new() -> Counts {
+        Counts { counts: [0; LANES] }
+    }
+
+    /// The count of the next one on the lane, from 1.
+    pub(crate) fn next(&self, lane: LaneName) -> u64 {
+        let place = place_of(lane);
+        if place < LANES {
+            self.counts[place].saturating_add(1)
+        } else {
+            1
+        }
+    }
+
+    /// One more on the lane.
+    pub(crate) fn add(&mut self, lane: LaneName) {
+        let place = place_of(lane);
+        if place < LANES {
+            self.counts[place] = self.counts[place].saturating_add(1);
+        }
+    }
+}
