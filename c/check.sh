@@ -17,7 +17,7 @@ kit=$home/c
 # over_the_gate: builds the archive over the libraries that `rt ci` proved and left, which have no stamp, so that `rt lib`
 # would prove each of them once more. Only the exports are proved again.
 over_the_gate() {
-    set --
+    set -- --extern "std=$home/rlibs/std.rlib"
     for name in $(sed -n 's/^pciex_c staticlib://p' crates.txt); do
         if [ -d "crates/$name" ]; then
             set -- "$@" --extern "$name=$PWD/crates/$name/out/rlib/$name.rlib" -L "dependency=$PWD/crates/$name/out/rlib"

@@ -69,6 +69,7 @@ pub extern "C" fn pciex_raw_fault_name(number: u32, room: &mut [u8]) -> u32
     ensures small { length room.old < 512 → result ≡ 2000 }
     ensures unchanged { 1000 ≤ result → room.new ≡ room.old }
     ensures told { result < 1000 → (f : faults.TlpFault) × (number ≡ number_of f) }
+    ensures no_fault { 512 ≤ length room.old → ((f : faults.TlpFault) → ¬ (number ≡ number_of f)) → result ≡ 2007 }
 {
     packet_words::name_fault(number, room)
 }

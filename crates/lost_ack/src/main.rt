@@ -1,0 +1,90 @@
+//! A counter over a link that loses an Ack: the program of docs/use-the-crates.md.
+#![tactic(auto)]
+
+ghost use Rattle.std.specs.Prelude.{[], IfOk};
+ghost use Rattle.history_check.specs.Claim.{claim_of};
+ghost use Rattle.history_check.specs.Trace.{Explains};
+ghost use Rattle.fabric_laws.specs.Trace.{Belongs};
+ghost use Rattle.fabric_laws.specs.Fabric.{whole_of};
+
+use fabric_core::{Config, Event, Fabric, LaneName, Refusal};
+use history_check::{Trace, check};
+use lane_core::{DllpKind, Fate, LaneCredits};
+use std::alloc::Global;
+use std::io;
+use tlp_core::{Op, Width};
+
+/// One requester, and a memory of 4096 bytes at address 0.
+const SMALL: Config = Config {
+    requesters: 1,
+    base: 0,
+    size: 4096,
+    credits: LaneCredits::DEFAULT,
+    block: 64,
+};
+
+/// The lanes that the request takes, and those of its completion.
+const UP: LaneName = LaneName::Up(1);
+const DOWN: LaneName = LaneName::Down(1);
+const IN: LaneName = LaneName::Inward;
+const OUT: LaneName = LaneName::Outward;
+
+/// Requester 1 adds 7 to the four bytes at 40h. The Ack of its packet is lost, so the packet is sent once more.
+fn script() -> [Event; 18] {
+    [
+        Event::Submit(
+            1,
+            Op::FetchAdd {
+                address: 0x40,
+                width: Width::Four,
+                operand: 7,
+            },
+        ),
+        Event::Transmit(UP),
+        Event::Deliver(UP, Fate::Good),
+        Event::SendDllp(UP, DllpKind::Answer),
+        Event::DeliverDllp(UP, Fate::Lost),
+        Event::Timer(UP),
+        Event::Transmit(UP),
+        Event::Deliver(UP, Fate::Good),
+        Event::Forward(UP, 0),
+        Event::Transmit(IN),
+        Event::Deliver(IN, Fate::Good),
+        Event::Serve(0),
+        Event::Transmit(OUT),
+        Event::Deliver(OUT, Fate::Good),
+        Event::Forward(OUT, 0),
+        Event::Transmit(DOWN),
+        Event::Deliver(DOWN, Fate::Good),
+        Event::Collect(1),
+    ]
+}
+
+/// Runs the script on a fabric to which nothing has happened. The history explains the trace, whatever the script does.
+fn play(fabric: &mut Fabric, alloc: Global) -> Result<Trace, Refusal>
+    requires { Belongs (whole_of fabric.old) [] }
+    ensures { IfOk result (λ trace. Explains (claim_of trace fabric.new.memory.entries)) }
+{
+    match fabric.run(&script(), alloc) {
+        Ok(trace) => Ok(trace),
+        Err(fault) => Err(fault.refusal),
+    }
+}
+
+fn main(rt: HostRuntime) -> io::Result<()> {
+    let alloc = rt.alloc();
+    let mut fabric = match Fabric::new(SMALL, alloc) {
+        Ok(fabric) => fabric,
+        Err(fault) => return print!(rt; "no fabric: {fault}\n"),
+    };
+    let trace = match play(&mut fabric, alloc) {
+        Ok(trace) => trace,
+        Err(refusal) => return print!(rt; "refused: {refusal}\n"),
+    };
+    let word = fabric.bytes().get(0x40).copied().unwrap_or(0);
+    print!(rt; "history {}\nword {word}\n", fabric.history().len())?;
+    match check(alloc, &trace, fabric.history()) {
+        Ok(()) => print!(rt; "check ok\n"),
+        Err(flaw) => print!(rt; "flaw {}\n", flaw.place),
+    }
+}

@@ -1,0 +1,35 @@
+#!/bin/sh
+# Runs each command that a page shows behind `$ `, from the top of the repository and with the built program on the path,
+# and compares what it prints, on either stream, with what the page shows below it. Fails where one differs.
+cd "$(dirname "$0")/.." || exit 1
+room=$(mktemp -d) || exit 1
+trap 'rm -rf "$room"' EXIT
+PATH=$PWD/crates/pciex/out:$PATH
+export PATH
+if [ ! -x crates/pciex/out/pciex ]; then
+    echo "commands of pages: there is no crates/pciex/out/pciex"
+    exit 1
+fi
+runs=0
+failed=0
+for page in README.md docs/tutorial.md; do
+    rm -f "$room"/*
+    awk -v room="$room" '
+        /^```/ { inside = !inside; wanted = ""; next }
+        inside && /^\$ / { count++; wanted = room "/" count; print substr($0, 3) > (wanted ".command"); printf "" > (wanted ".wanted"); next }
+        inside && wanted { print > (wanted ".wanted") }
+    ' "$page"
+    number=1
+    while [ -e "$room/$number.command" ]; do
+        sh "$room/$number.command" > "$room/printed" 2>&1 < /dev/null
+        runs=$((runs + 1))
+        if ! cmp -s "$room/printed" "$room/$number.wanted"; then
+            echo "$page: $(cat "$room/$number.command")"
+            diff "$room/$number.wanted" "$room/printed" | head -n 8
+            failed=1
+        fi
+        number=$((number + 1))
+    done
+done
+[ $failed -ne 0 ] || echo "commands of pages: $runs, each as its page shows"
+exit $failed
