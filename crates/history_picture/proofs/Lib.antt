@@ -1,2 +1,3 @@
 mod Lookups
 mod Steps
+mod Drawings

@@ -11,6 +11,7 @@ mod bars;
 mod entries;
 mod flaws;
 mod heading;
+pub mod laws;
 mod lookup;
 mod marks;
 mod picture;

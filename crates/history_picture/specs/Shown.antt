@@ -1,0 +1,59 @@
+-- What a picture shows of each request.
+use Rattle.std.specs.Prelude.{ℕ, ◌≡◌, ◌≤◌, ◌<◌, ◌+◌, List, [], ◌∷◌, ◌++◌, false, length, slice_get, Option, Some}
+use Rattle.tlp_core.specs.declared.operation.Op.{Op}
+use Rattle.tlp_core.specs.Operation.{is_posted}
+use Rattle.seq_memory.specs.declared.Entry.{Entry}
+use Rattle.seq_memory.specs.declared.Reply.{Reply}
+use Rattle.history_check.specs.declared.Record.{Record}
+use Rattle.history_check.specs.declared.Record.TheVariants as records
+use Rattle.history_check.specs.declared.flaws.Flaw.{Flaw}
+use Rattle.history_check.specs.Flaws.{place_of}
+use Rattle.svg_text.specs.Shapes.{Shape}
+use Rattle.history_picture.specs.declared.scale.Window.{Window}
+use Rattle.history_picture.specs.declared.bars.Bar.{Bar}
+use Rattle.history_picture.specs.declared.words.Request.{Request}
+use Rattle.history_picture.specs.declared.marks.View.{View}
+use Rattle.history_picture.specs.Layout.{scale_of, x_at, acted_in, answer_in, dot_at}
+use Rattle.history_picture.specs.Picture.{bar_for, bar_shapes, dot_shapes, request_of, view_of, drawn}
+
+-- these shapes are among all of them, one after the other
+pub record Has (all part : List Shape) : Type 0 where
+  pub before : List Shape
+  pub after : List Shape
+  pub is : all ≡ before ++ (part ++ after)
+
+-- a record is the submission of this operation as request k of requester i, when the history had n entries
+abbrev pub IsSubmitted : List Record → ℕ → ℕ → Op → ℕ → Type 0
+IsSubmitted rs i k op n = (p : ℕ) × (slice_get rs p ≡ Some (records.Sub i k op n))
+
+-- what is known of that request
+abbrev pub request_in : List Record → List Entry → ℕ → ℕ → ℕ → Request
+request_in rs h i k n = request_of i (acted_in h i) (answer_in rs i) k n
+
+-- the picture has a bar of that request, with its label, its whole text and its dot
+abbrev pub HasBar : View → List Record → List Entry → Option Flaw → Op → Request → Bar → Type 0
+HasBar v rs h flaw op q bar = (top : ℕ) × Has (drawn v rs h flaw) (bar_shapes v rs op q bar top)
+
+-- the whole history is shown
+pub record IsWholeHistory (w : Window) (h : List Entry) : Type 0 where
+  pub from : w.from ≡ 0
+  pub to : length h ≤ w.to
+  pub count : length h ≤ 4294967295
+
+-- each request that was submitted has its bar, where part of it is within the window
+abbrev pub EachRequestHasItsBar : Type 0
+EachRequestHasItsBar = (v : View) (rs : List Record) (h : List Entry) (flaw : Option Flaw) (i k n : ℕ) (op : Op) (bar : Bar)
+    → 1 ≤ i → i ≤ 7 → IsSubmitted rs i k op n → bar_for v rs op (request_in rs h i k n) ≡ Some bar
+    → HasBar v rs h flaw op (request_in rs h i k n) bar
+
+-- in a picture of the whole history the bar of an answered request goes from the n of its submission to that of its answer
+abbrev pub BarsGoFromSubmissionToAnswer : Type 0
+BarsGoFromSubmissionToAnswer = (w : Window) (rs : List Record) (h : List Entry) (flaw : Option Flaw) (i k n m a : ℕ) (op : Op) (reply : Reply)
+    → IsWholeHistory w h → 1 ≤ i → i ≤ 7 → is_posted op ≡ false → IsSubmitted rs i k op n
+    → answer_in rs i k ≡ Some a → slice_get rs a ≡ Some (records.Ans i k reply m) → n < m → m ≤ length h
+    → HasBar (view_of w rs h flaw) rs h flaw op (request_in rs h i k n) (record { start = n; end = m; is_open = false })
+
+-- the dot of a request stands in the middle of its entry
+abbrev pub DotsStandAtEntries : Type 0
+DotsStandAtEntries = (w : Window) (h : List Entry) (i k e top : ℕ) → IsWholeHistory w h → place_of h i k ≡ Some e
+    → dot_shapes (dot_at (scale_of w (length h)) (acted_in h i k)) top ≡ Shape.Dotted (record { x = x_at e + 36; y = top + 18 }) ∷ []

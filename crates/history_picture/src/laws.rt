@@ -1,0 +1,9 @@
+//! What holds of all pictures.
+ghost use Rattle.history_picture.specs.Shown.{EachRequestHasItsBar, BarsGoFromSubmissionToAnswer, DotsStandAtEntries};
+
+/// Each request has its bar: from when it was submitted to its answer, with a dot at its entry.
+pub fn requests_are_drawn()
+    ensures each { EachRequestHasItsBar }
+    ensures answered { BarsGoFromSubmissionToAnswer }
+    ensures dots { DotsStandAtEntries }
+{}
