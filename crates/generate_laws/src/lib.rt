@@ -1,0 +1,36 @@
+//! What `step` and `check` answer to the scripts that `generate` writes.
+#![tactic(auto)]
+
+ghost use Rattle.std.specs.Prelude.{◌≡◌, true, ℕ, List, codes};
+ghost use Rattle.fabric_laws.specs.Fabric.{Fabric};
+ghost use Rattle.fabric_core.specs.declared.config.Config.{Config};
+ghost use Rattle.trace_engine.specs.Check.{out_check};
+ghost use Rattle.trace_file.specs.Tellable.{IsTellable};
+ghost use Rattle.trace_file.specs.Texts.{trace_text};
+ghost use Rattle.step_engine.specs.Script.{IsScript};
+ghost use Rattle.step_engine.specs.Step.{claim_with, out_step};
+ghost use Rattle.generate_engine.specs.Script.{IsScriptOf};
+
+use script_lines::laws::{own_line_spells_event, own_line_spells_fabric};
+use step_engine::laws::{a_traced_script_is_explained, a_traced_script_is_ok};
+
+/// What `generate` writes is read as the fabric and the events that happened.
+pub fn a_generated_script_is_read()
+    ensures { (c : Config) (count : ℕ) (text : List ℕ) (f : Fabric) (s : IsScriptOf c count text f) → IsScript text c s.events }
+{
+    own_line_spells_event();
+    own_line_spells_fabric();
+}
+
+/// `step --trace` refuses no line of what `generate` writes: it writes the trace of all its events, with the history that
+/// they left, and ends with status 0. And `check` says `ok` to that trace, if lines can tell it.
+pub fn nothing_generated_is_refused()
+    ensures text { (c : Config) (count : ℕ) (text : List ℕ) (f : Fabric) (s : IsScriptOf c count text f) → (out_step true text).text ≡ trace_text (claim_with f s.happened.records) }
+    ensures status { (c : Config) (count : ℕ) (text : List ℕ) (f : Fabric) (s : IsScriptOf c count text f) → (out_step true text).status ≡ 0 }
+    ensures ok { (c : Config) (count : ℕ) (text : List ℕ) (f : Fabric) (s : IsScriptOf c count text f) →
+        IsTellable (claim_with f s.happened.records) → (out_check (out_step true text).text).text ≡ codes "ok\n" }
+{
+    a_generated_script_is_read();
+    a_traced_script_is_explained();
+    a_traced_script_is_ok();
+}
