@@ -10,9 +10,10 @@ use crate::traces::{TraceInput, tell_fault};
 use arrayvec::ArrayString;
 use history_check::{Flaw, FlawKind, Trace, check};
 use line_engine::{EngineFault, Responder, run};
+use reasons::{TraceLines, tell_flaw as tell_reason};
 use seq_memory::Entry;
 use std::alloc::{AllocError, Global};
-use std::io::{Read, Write};
+use std::io::{Read, Write, sink};
 use std::marker::Model;
 use trace_text::write_decimal;
 
@@ -33,11 +34,13 @@ fn tell_flaw(flaw: Flaw, out: &mut Vec<u8>) -> Result<bool, AllocError>
     Ok(true)
 }
 
-/// Adds the line that tells whether the history explains the trace.
-fn judge(
+/// Adds the line that tells whether the history explains the trace, and tells the reason of a flaw.
+fn judge<E: Write>(
     alloc: Global,
     trace: &Trace,
     history: &[Entry],
+    lines: &TraceLines,
+    errors: &mut E,
     out: &mut Vec<u8>,
 ) -> Result<bool, AllocError>
     ensures ok { IfOk result (λ told. IsAnswer nothing_read out.old.items out.new.items told (judged (first_flaw (claim_of trace.now history.now)))) }
@@ -49,17 +52,23 @@ fn judge(
             Ok(false)
         }
         Err(flaw) if flaw.kind == FlawKind::Memory => Err(AllocError),
-        Err(flaw) => tell_flaw(flaw, out),
+        Err(flaw) => {
+            tell_reason(alloc, trace, history, flaw, lines, errors);
+            tell_flaw(flaw, out)
+        }
     }
 }
 
 /// A trace that is read, and then checked.
 #[derive(Drop)]
-struct Checker {
+struct Checker<E> {
     input: TraceInput,
+    lines: TraceLines,
+    /// Where reasons are told.
+    errors: E,
 }
 
-impl Model for Checker {
+impl<E> Model for Checker<E> {
     ghost use Rattle.trace_file.specs.Reading.{Reading};
 
     ghost Value = { Reading };
@@ -67,12 +76,13 @@ impl Model for Checker {
     ghost view = { λ c. c.input };
 }
 
-impl Responder for Checker {
+impl<E: Write + Drop> Responder for Checker<E> {
     ghost use Rattle.trace_engine.specs.Check.{check_responses};
 
     ghost responses = { check_responses };
 
     fn on_line(&mut self, line: &[u8], _out: &mut Vec<u8>) -> Result<bool, AllocError> {
+        self.lines.note(line)?;
         self.input.line(line)?;
         Ok(false)
     }
@@ -84,10 +94,35 @@ impl Responder for Checker {
 
     fn on_end(&mut self, out: &mut Vec<u8>) -> Result<bool, AllocError> {
         match self.input.end() {
-            Ok((trace, history)) => judge(self.input.alloc(), &trace, history.as_slice(), out),
+            Ok((trace, history)) => judge(
+                self.input.alloc(),
+                &trace,
+                history.as_slice(),
+                &self.lines,
+                &mut self.errors,
+                out,
+            ),
             Err(fault) => tell_fault(fault, out),
         }
     }
+}
+
+/// Does what [`run_check`] does, and tells on `errors` why it answers a flaw, in a line.
+pub fn run_check_with_reasons<R: Read, W: Write, E: Write>(
+    alloc: Global,
+    reader: &mut R,
+    writer: &mut W,
+    errors: &mut E,
+) -> Result<u8, EngineFault>
+    ensures ok { IfOk result (IsWhole out_check (R.remaining reader.old) (R.remaining reader.new) (W.contents writer.old) (W.contents writer.new)) }
+    ensures err { OnErr result (IsPart out_check (R.remaining reader.old) (R.remaining reader.new) (W.contents writer.old) (W.contents writer.new)) }
+{
+    let checker = Checker {
+        input: TraceInput::new(alloc),
+        lines: TraceLines::new(alloc),
+        errors,
+    };
+    run(alloc, checker, reader, writer)
 }
 
 /// Reads the text of a trace and writes one line: `ok` where its history explains its records, else
@@ -102,6 +137,5 @@ pub fn run_check<R: Read, W: Write>(
     ensures ok { IfOk result (IsWhole out_check (R.remaining reader.old) (R.remaining reader.new) (W.contents writer.old) (W.contents writer.new)) }
     ensures err { OnErr result (IsPart out_check (R.remaining reader.old) (R.remaining reader.new) (W.contents writer.old) (W.contents writer.new)) }
 {
-    let input = TraceInput::new(alloc);
-    run(alloc, Checker { input }, reader, writer)
+    run_check_with_reasons(alloc, reader, writer, &mut sink())
 }

@@ -1,0 +1,14 @@
+//! Why a line was refused or a trace is not explained, for people: one line each, on standard error.
+//!
+//! A reason says where something stands in a text, by the number of the line, from 1, and what is wrong
+//! there. It is told beside the answer, of which it changes nothing, and takes part in no promise: where
+//! the stream fails, it is lost.
+#![tactic(auto)]
+
+mod flaws;
+mod telling;
+mod trace_lines;
+
+pub use flaws::tell_flaw;
+pub use telling::{Reason, Shown};
+pub use trace_lines::TraceLines;
