@@ -5,7 +5,6 @@ use arrayvec::ArrayString;
 use history_check::{Flaw, FlawKind, Record, Trace};
 use seq_memory::{Entry, Reply, perform};
 use std::alloc::{AllocError, Global};
-use std::io::Write;
 use tlp_core::Op;
 use trace_text::write_reply;
 
@@ -432,29 +431,23 @@ fn of_record(alloc: Global, case: &Case<'_>, flaw: Flaw) -> Option<Reason> {
     Some(reason)
 }
 
-/// Tells on which line of the trace's text its first flaw lies, what stands there and what was
-/// expected. Takes the bytes of the memory and a byte for each record, where the flaw's kind asks
-/// for them; where they are refused, less is told.
-pub fn tell_flaw<E: Write>(
+/// The reason for the first flaw of a trace, none for want of memory.
+pub(crate) fn flaw_reason(
     alloc: Global,
     trace: &Trace,
     history: &[Entry],
     flaw: Flaw,
     lines: &TraceLines,
-    errors: &mut E,
-) {
+) -> Option<Reason> {
     let case = Case {
         trace,
         records: trace.records.as_slice(),
         history,
         lines,
     };
-    let reason = match flaw.kind {
+    match flaw.kind {
         FlawKind::Memory => None,
         FlawKind::Stranger | FlawKind::Twice | FlawKind::Order => of_entry(&case, flaw),
         _ => of_record(alloc, &case, flaw),
-    };
-    if let Some(reason) = reason {
-        reason.tell(errors);
     }
 }

@@ -6,9 +6,19 @@
 #![tactic(auto)]
 
 mod flaws;
+mod lines;
+mod operations;
+mod options;
+mod packets;
+mod reasoned;
+mod scripts;
 mod telling;
 mod trace_lines;
+mod traces;
+mod words;
 
-pub use flaws::tell_flaw;
-pub use telling::{Reason, Shown};
+pub use lines::Grammar;
+pub use options::tell_options;
+pub use reasoned::Reasoned;
 pub use trace_lines::TraceLines;
+pub use traces::TraceReasons;

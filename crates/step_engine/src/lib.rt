@@ -2,10 +2,11 @@
 //!
 //! [`run_step`] makes the fabric that a script's first line names, does the event of each line behind it,
 //! and writes what is seen of it, or at the end the trace of the whole run with its history. It goes over
-//! any reader and writer, a block of input at a time.
+//! any reader and writer, a block of input at a time. [`run_step_with_reasons`] also tells why it answers
+//! a fault or a refusal, for people.
 #![tactic(auto)]
 
 pub mod laws;
 mod step;
 
-pub use step::run_step;
+pub use step::{run_step, run_step_with_reasons};

@@ -16,9 +16,10 @@ use fabric_core::{Config, ConfigFault, Event, Fabric, Refusal, Seen};
 use history_check::Record;
 use lane_core::LaneRefusal;
 use line_engine::{EngineFault, Responder, run};
+use reasons::{Grammar, Reasoned};
 use script_text::{Line, read_line, write_config_fault, write_refusal, write_seen};
 use std::alloc::{AllocError, Global};
-use std::io::{Read, Write};
+use std::io::{Read, Write, sink};
 use std::marker::Model;
 use std::mem;
 use trace_engine::tell_trace;
@@ -270,6 +271,22 @@ impl Responder for Stepper {
     }
 }
 
+/// Does what [`run_step`] does, and tells on `errors` why it answers a fault or a refusal, in a line.
+pub fn run_step_with_reasons<R: Read, W: Write, E: Write>(
+    alloc: Global,
+    is_traced: bool,
+    reader: &mut R,
+    writer: &mut W,
+    errors: &mut E,
+) -> Result<u8, EngineFault>
+    ensures ok { IfOk result (IsWhole (spec.out_step is_traced) (R.remaining reader.old) (R.remaining reader.new) (W.contents writer.old) (W.contents writer.new)) }
+    ensures err { OnErr result (IsPart (spec.out_step is_traced) (R.remaining reader.old) (R.remaining reader.new) (W.contents writer.old) (W.contents writer.new)) }
+{
+    let stepper = Stepper::new(alloc, is_traced);
+    let stepper = Reasoned::new(stepper, Grammar::Script, errors);
+    run(alloc, stepper, reader, writer)
+}
+
 /// Runs a script: the first line makes a fabric, and each line behind it is an event, whose result is written in a line.
 /// The first line that is none, the first fault of the configuration and the first refusal end the run with one line. With
 /// `is_traced` the trace of a run that ends well is written in place of the results. `Ok` is the exit status, 1 where a
@@ -283,6 +300,5 @@ pub fn run_step<R: Read, W: Write>(
     ensures ok { IfOk result (IsWhole (spec.out_step is_traced) (R.remaining reader.old) (R.remaining reader.new) (W.contents writer.old) (W.contents writer.new)) }
     ensures err { OnErr result (IsPart (spec.out_step is_traced) (R.remaining reader.old) (R.remaining reader.new) (W.contents writer.old) (W.contents writer.new)) }
 {
-    let stepper = Stepper::new(alloc, is_traced);
-    run(alloc, stepper, reader, writer)
+    run_step_with_reasons(alloc, is_traced, reader, writer, &mut sink())
 }

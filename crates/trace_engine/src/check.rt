@@ -10,7 +10,7 @@ use crate::traces::{TraceInput, tell_fault};
 use arrayvec::ArrayString;
 use history_check::{Flaw, FlawKind, Trace, check};
 use line_engine::{EngineFault, Responder, run};
-use reasons::{TraceLines, tell_flaw as tell_reason};
+use reasons::{TraceLines, TraceReasons};
 use seq_memory::Entry;
 use std::alloc::{AllocError, Global};
 use std::io::{Read, Write, sink};
@@ -35,12 +35,12 @@ fn tell_flaw(flaw: Flaw, out: &mut Vec<u8>) -> Result<bool, AllocError>
 }
 
 /// Adds the line that tells whether the history explains the trace, and tells the reason of a flaw.
-fn judge<E: Write>(
+fn judge<E: Write + Drop>(
     alloc: Global,
     trace: &Trace,
     history: &[Entry],
     lines: &TraceLines,
-    errors: &mut E,
+    reasons: &mut TraceReasons<E>,
     out: &mut Vec<u8>,
 ) -> Result<bool, AllocError>
     ensures ok { IfOk result (λ told. IsAnswer nothing_read out.old.items out.new.items told (judged (first_flaw (claim_of trace.now history.now)))) }
@@ -53,7 +53,7 @@ fn judge<E: Write>(
         }
         Err(flaw) if flaw.kind == FlawKind::Memory => Err(AllocError),
         Err(flaw) => {
-            tell_reason(alloc, trace, history, flaw, lines, errors);
+            reasons.tell_flaw(alloc, trace, history, flaw, lines);
             tell_flaw(flaw, out)
         }
     }
@@ -64,8 +64,7 @@ fn judge<E: Write>(
 struct Checker<E> {
     input: TraceInput,
     lines: TraceLines,
-    /// Where reasons are told.
-    errors: E,
+    reasons: TraceReasons<E>,
 }
 
 impl<E> Model for Checker<E> {
@@ -84,11 +83,13 @@ impl<E: Write + Drop> Responder for Checker<E> {
     fn on_line(&mut self, line: &[u8], _out: &mut Vec<u8>) -> Result<bool, AllocError> {
         self.lines.note(line)?;
         self.input.line(line)?;
+        self.reasons.take_line(line, self.input.is_faulty());
         Ok(false)
     }
 
     fn on_long_line(&mut self, _out: &mut Vec<u8>) -> Result<bool, AllocError> {
         self.input.long_line();
+        self.reasons.take_long_line();
         Ok(false)
     }
 
@@ -99,15 +100,18 @@ impl<E: Write + Drop> Responder for Checker<E> {
                 &trace,
                 history.as_slice(),
                 &self.lines,
-                &mut self.errors,
+                &mut self.reasons,
                 out,
             ),
-            Err(fault) => tell_fault(fault, out),
+            Err(fault) => {
+                self.reasons.take_end();
+                tell_fault(fault, out)
+            }
         }
     }
 }
 
-/// Does what [`run_check`] does, and tells on `errors` why it answers a flaw, in a line.
+/// Does what [`run_check`] does, and tells on `errors` why it answers a flaw or a fault, in a line.
 pub fn run_check_with_reasons<R: Read, W: Write, E: Write>(
     alloc: Global,
     reader: &mut R,
@@ -120,7 +124,7 @@ pub fn run_check_with_reasons<R: Read, W: Write, E: Write>(
     let checker = Checker {
         input: TraceInput::new(alloc),
         lines: TraceLines::new(alloc),
-        errors,
+        reasons: TraceReasons::new(errors),
     };
     run(alloc, checker, reader, writer)
 }

@@ -42,6 +42,11 @@ impl TraceInput {
         self.alloc
     }
 
+    /// Whether a fault was found in the lines so far.
+    pub fn is_faulty(&self) -> bool {
+        self.reader.fault().is_some()
+    }
+
     /// Takes a line, without what ends it.
     pub fn line(&mut self, line: &[u8]) -> Result<(), AllocError>
         ensures ok { OnOk result (self.new ≡ after_line self.old line.now) }

@@ -1,0 +1,66 @@
+//! Answers with reasons beside them.
+ghost use Rattle.std.specs.Prelude.{◌≡◌, IfOk, OnErr};
+
+use crate::lines::{Grammar, tell_line, tell_long_line};
+use line_engine::Responder;
+use std::alloc::AllocError;
+use std::io::Write;
+use std::marker::Model;
+
+/// A responder whose answers are told the reasons of, where they tell faults: its answers stay as they
+/// are.
+#[derive(Drop)]
+pub struct Reasoned<P, E> {
+    responder: P,
+    grammar: Grammar,
+    lines: u64,
+    /// Where reasons are told.
+    errors: E,
+}
+
+impl<P, E> Model for Reasoned<P, E> {
+    ghost Value = { P };
+
+    ghost view = { λ r. r.responder };
+}
+
+impl<P, E> Reasoned<P, E> {
+    pub fn new(responder: P, grammar: Grammar, errors: E) -> Reasoned<P, E>
+        ensures { result ≡ responder }
+    {
+        Reasoned {
+            responder,
+            grammar,
+            lines: 0,
+            errors,
+        }
+    }
+}
+
+impl<P: Responder, E: Write + Drop> Responder for Reasoned<P, E> {
+    ghost responses = { P.responses };
+
+    fn on_line(&mut self, line: &[u8], out: &mut Vec<u8>) -> Result<bool, AllocError> {
+        let before = out.len();
+        self.lines = self.lines.saturating_add(1);
+        let told = self.responder.on_line(line, out)?;
+        if told {
+            let answer = out.get(before..).unwrap_or(b"");
+            tell_line(self.grammar, self.lines, line, answer, &mut self.errors);
+        }
+        Ok(told)
+    }
+
+    fn on_long_line(&mut self, out: &mut Vec<u8>) -> Result<bool, AllocError> {
+        self.lines = self.lines.saturating_add(1);
+        let told = self.responder.on_long_line(out)?;
+        if told {
+            tell_long_line(self.lines, &mut self.errors);
+        }
+        Ok(told)
+    }
+
+    fn on_end(&mut self, out: &mut Vec<u8>) -> Result<bool, AllocError> {
+        self.responder.on_end(out)
+    }
+}
