@@ -143,7 +143,7 @@ returns-in-Ok-Step g c = record {
   run = λ request takes asks.
       asked _ (Step c.in-Ok-Step.is_traced) request _ _ _ _ _
       (subst (λ (r : Request). Asks (subcommand_of the_app (map g.S.AsStr.text c.args.words.now)) r) c.in-Ok-Step.field-0-is c.in-Ok-Step.ensures.ok) asks
-      (run_done _ c.run_step_with_reasons.result _ _ _ _ _ c.ended-in-Ok-Step.ensures.ok c.ended-in-Ok-Step.ensures.err c.run_step_with_reasons.ensures.ok c.run_step_with_reasons.ensures.err);
+      (run_done _ c.run_step.result _ _ _ _ _ c.ended-in-Ok-Step.ensures.ok c.ended-in-Ok-Step.ensures.err c.run_step.ensures.ok c.run_step.ensures.err);
   nothing = λ takes empty. absurd (empty c.in-Ok-Step.field-0 c.in-Ok-Step.ensures.ok);
   refused = not_refused _ c.in-Ok-Step.ensures.faultless;
   right = tt;
