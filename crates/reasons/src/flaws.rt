@@ -407,47 +407,50 @@ fn put_of_answer(
     }
 }
 
-/// The reason for a flaw of an entry.
-fn of_entry(case: &Case<'_>, flaw: Flaw) -> Option<Reason> {
-    let entry = case.history.get(flaw.place)?;
-    let mut reason = Reason::at_line(case.entry_line(flaw.place));
+/// Adds what is wrong with the entry at the flaw's place.
+fn put_entry(case: &Case<'_>, flaw: Flaw, reason: &mut Reason) {
+    let Some(entry) = case.history.get(flaw.place) else {
+        return;
+    };
     let request = Request {
         requester: entry.requester,
         number: entry.number,
     };
-    put_of_entry(case, flaw.kind, flaw.place, request, &mut reason);
-    Some(reason)
+    put_of_entry(case, flaw.kind, flaw.place, request, reason);
 }
 
-/// The reason for a flaw of a record.
-fn of_record(alloc: Global, case: &Case<'_>, flaw: Flaw) -> Option<Reason> {
-    let record = case.records.get(flaw.place)?;
-    let mut reason = Reason::at_line(case.lines.of_record(flaw.place));
+/// Adds what is wrong with the record at the flaw's place.
+fn put_record(alloc: Global, case: &Case<'_>, flaw: Flaw, reason: &mut Reason) {
+    let Some(record) = case.records.get(flaw.place) else {
+        return;
+    };
     if flaw.kind == FlawKind::Numbering {
-        put_numbering(case, flaw.place, request_of(record), &mut reason);
+        put_numbering(case, flaw.place, request_of(record), reason);
     } else {
-        put_of_answer(alloc, case, flaw.kind, record, &mut reason);
+        put_of_answer(alloc, case, flaw.kind, record, reason);
     }
-    Some(reason)
 }
 
-/// The reason for the first flaw of a trace, none for want of memory.
+/// The reason for the first flaw of a trace.
 pub(crate) fn flaw_reason(
     alloc: Global,
     trace: &Trace,
     history: &[Entry],
     flaw: Flaw,
     lines: &TraceLines,
-) -> Option<Reason> {
+) -> Reason {
     let case = Case {
         trace,
         records: trace.records.as_slice(),
         history,
         lines,
     };
+    let mut reason = Reason::new();
     match flaw.kind {
-        FlawKind::Memory => None,
-        FlawKind::Stranger | FlawKind::Twice | FlawKind::Order => of_entry(&case, flaw),
-        _ => of_record(alloc, &case, flaw),
+        FlawKind::Stranger | FlawKind::Twice | FlawKind::Order => {
+            put_entry(&case, flaw, &mut reason);
+        }
+        _ => put_record(alloc, &case, flaw, &mut reason),
     }
+    reason
 }

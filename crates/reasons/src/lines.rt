@@ -1,8 +1,12 @@
 //! Why the line of a script or of a packet is refused.
+ghost use Rattle.std.specs.Prelude.{OnOk};
+ghost use Rattle.reasons.specs.Told.{IsTold};
+
 use crate::packets::packet_misfit;
 use crate::scripts::script_misfit;
 use crate::telling::{Reason, Shown};
 use crate::words::Misfit;
+use line_engine::EngineFault;
 use std::io::Write;
 use trace_text::cut;
 
@@ -120,33 +124,52 @@ fn misfit_of<'a>(grammar: Grammar, line: &'a [u8], told: &[u8]) -> Option<Misfit
     }
 }
 
-/// Tells why the line of that number is refused, by the answer to it.
-pub(crate) fn tell_line<E: Write>(
-    grammar: Grammar,
-    number: u64,
-    line: &[u8],
-    answer: &[u8],
-    errors: &mut E,
-) {
+/// Adds why the line is refused, by the answer to it.
+fn put_line(grammar: Grammar, line: &[u8], answer: &[u8], reason: &mut Reason) {
     let told = told_in(answer);
-    let mut reason = Reason::at_line(number);
     match misfit_of(grammar, line, told) {
-        Some(misfit) => misfit.put(&mut reason),
-        None => put_refused(line, name_in(told), &mut reason),
+        Some(misfit) => misfit.put(reason),
+        None => put_refused(line, name_in(told), reason),
     }
-    reason.tell(errors);
 }
 
-/// Adds that the line is too long.
-pub(crate) fn put_long_line(reason: &mut Reason) {
+/// Tells why the line of that number is refused, where there is an answer that tells a fault of it.
+/// After an `Err` the stream has no more than a part.
+pub(crate) fn tell_line<E: Write>(
+    grammar: Grammar,
+    line: &[u8],
+    answer: &[u8],
+    fault: Option<u64>,
+    errors: &mut E,
+) -> Result<(), EngineFault>
+    ensures { OnOk result (IsTold fault (E.contents errors.old) (E.contents errors.new)) }
+{
+    let Some(number) = fault else {
+        return Ok(());
+    };
+    let mut reason = Reason::new();
+    put_line(grammar, line, answer, &mut reason);
+    reason.tell_at(number, errors)
+}
+
+/// The reason of a line that is too long.
+pub(crate) fn long_line() -> Reason {
+    let mut reason = Reason::new();
     reason.put(
         ", column 513: more where the line's end is expected (a line has 512 bytes at most)",
     );
+    reason
 }
 
-/// Tells that the line of that number is too long.
-pub(crate) fn tell_long_line<E: Write>(number: u64, errors: &mut E) {
-    let mut reason = Reason::at_line(number);
-    put_long_line(&mut reason);
-    reason.tell(errors);
+/// Tells that the line of that number is too long, where that is told as a fault.
+pub(crate) fn tell_long_line<E: Write>(
+    fault: Option<u64>,
+    errors: &mut E,
+) -> Result<(), EngineFault>
+    ensures { OnOk result (IsTold fault (E.contents errors.old) (E.contents errors.new)) }
+{
+    match fault {
+        Some(number) => long_line().tell_at(number, errors),
+        None => Ok(()),
+    }
 }

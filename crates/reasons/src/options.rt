@@ -145,7 +145,7 @@ fn tell<E: Write>(name: &[u8], given: &[u8], values: &str, errors: &mut E) {
     let (name, given) = (Shown(name), Shown::first(given));
     let mut reason = Reason::new();
     reason.put(format_args!("--{name} is {given}: {values}"));
-    reason.tell(errors);
+    let _ = reason.tell(errors);
 }
 
 /// Tells which option's value is out of its range, and what the range is. The words are those of a

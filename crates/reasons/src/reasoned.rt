@@ -44,19 +44,16 @@ impl<P: Responder, E: Write + Drop> Responder for Reasoned<P, E> {
         let before = out.len();
         self.lines = self.lines.saturating_add(1);
         let told = self.responder.on_line(line, out)?;
-        if told {
-            let answer = out.get(before..).unwrap_or(b"");
-            tell_line(self.grammar, self.lines, line, answer, &mut self.errors);
-        }
+        let answer = out.get(before..).unwrap_or(b"");
+        let fault = told.then_some(self.lines);
+        let _ = tell_line(self.grammar, line, answer, fault, &mut self.errors);
         Ok(told)
     }
 
     fn on_long_line(&mut self, out: &mut Vec<u8>) -> Result<bool, AllocError> {
         self.lines = self.lines.saturating_add(1);
         let told = self.responder.on_long_line(out)?;
-        if told {
-            tell_long_line(self.lines, &mut self.errors);
-        }
+        let _ = tell_long_line(told.then_some(self.lines), &mut self.errors);
         Ok(told)
     }
 

@@ -1,9 +1,16 @@
 //! The line that tells a reason.
+ghost use Rattle.std.specs.Prelude.{◌≡◌, ◌≤◌, ◌++◌, codes, OnOk};
+ghost use Rattle.std.specs.Fmt.{decimal};
+ghost use Rattle.arrayvec.specs.ArrayString.{array_string_len};
+ghost use Rattle.reasons.specs.Told.{IsToldAt};
+
 use arrayvec::ArrayString;
+use line_engine::{EngineFault, write_out};
 use std::fmt::Write;
 use std::{fmt, io};
+use trace_text::write_decimal;
 
-/// The most bytes of a reason's line.
+/// The most bytes of a reason, without the line that it lies on.
 const ROOM: usize = 1024;
 
 /// How many bytes are shown of a word.
@@ -39,34 +46,56 @@ impl fmt::Display for Shown<'_> {
     }
 }
 
-/// A reason's line. What has no room in it is left out.
+/// What is wrong. What has no room in it is left out.
 #[derive(Debug, Drop)]
 pub(crate) struct Reason {
     text: ArrayString<ROOM>,
 }
 
+/// The beginning of a reason's line: the number of the line of the text at which it lies.
+fn beginning(line: u64) -> ArrayString<512>
+    ensures text { result.bytes ≡ codes "pciex: line " ++ decimal line }
+    ensures len { array_string_len result ≤ 32 }
+{
+    let mut text = ArrayString::new();
+    text.push_str("pciex: line ");
+    write_decimal(line, &mut text);
+    text
+}
+
 impl Reason {
     pub(crate) fn new() -> Reason {
-        let mut text = ArrayString::new();
-        let _ = text.try_push_str("pciex: ");
-        Reason { text }
+        Reason {
+            text: ArrayString::new(),
+        }
     }
 
-    /// A reason that lies on this line of the text.
-    pub(crate) fn at_line(line: u64) -> Reason {
-        let mut reason = Reason::new();
-        reason.put(format_args!("line {line}"));
-        reason
-    }
-
-    /// Adds to the line.
+    /// Adds to the reason.
     pub(crate) fn put<D: fmt::Display + Drop>(&mut self, part: D) {
         let _ = write!(self.text, "{part}");
     }
 
-    /// Writes the line.
-    pub(crate) fn tell<E: io::Write>(mut self, errors: &mut E) {
-        let _ = self.text.try_push('\n');
-        let _ = errors.write_all(self.text.as_bytes());
+    /// Writes the reason's line.
+    pub(crate) fn tell<E: io::Write>(&self, errors: &mut E) -> Result<(), EngineFault> {
+        let mut line: ArrayString<1032> = ArrayString::new();
+        line.push_str("pciex: ");
+        line.push_str(self.text.as_str());
+        line.push_str("\n");
+        write_out(errors, line.as_bytes())
+    }
+
+    /// Writes the line of a reason that lies on this line of the text.
+    pub(crate) fn tell_at<E: io::Write>(
+        &self,
+        number: u64,
+        errors: &mut E,
+    ) -> Result<(), EngineFault>
+        ensures { OnOk result (IsToldAt number (E.contents errors.old) (E.contents errors.new)) }
+    {
+        let mut line: ArrayString<1057> = ArrayString::new();
+        line.push_str(beginning(number).as_str());
+        line.push_str(self.text.as_str());
+        line.push_str("\n");
+        write_out(errors, line.as_bytes())
     }
 }

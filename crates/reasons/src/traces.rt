@@ -1,15 +1,20 @@
 //! Why a text is no trace.
+ghost use Rattle.std.specs.Prelude.{◌≡◌, length, Some, None, OnOk};
+ghost use Rattle.reasons.specs.Told.{IsTold, IsToldAt, first_of, news_of, flaw_line};
+
 use crate::flaws::flaw_reason;
-use crate::lines::put_long_line;
+use crate::lines::tell_long_line;
 use crate::operations::{take_operation, take_reply};
 use crate::scripts::{BLOCK, take_memory};
 use crate::telling::Reason;
 use crate::trace_lines::TraceLines;
 use crate::words::{Field, Form, Misfit, Radix, Walk, fields_of};
-use history_check::{Flaw, Trace};
+use history_check::{Flaw, FlawKind, Trace};
+use line_engine::EngineFault;
 use seq_memory::Entry;
 use std::alloc::Global;
 use std::io::Write;
+use std::marker::Model;
 
 const HEAD: Field = Field {
     name: "the head",
@@ -143,70 +148,105 @@ impl Due {
     }
 }
 
-/// Tells why the text of a trace can't be read, or the trace isn't explained: one line at most.
+/// Why a line of a trace is none that is due.
+fn refused(due: Due, line: &[u8]) -> Reason {
+    let mut reason = Reason::new();
+    match due.misfit(line) {
+        Some(misfit) => misfit.put(&mut reason),
+        None => reason.put(": the line is refused"),
+    }
+    reason
+}
+
+/// That the text ends where a line is due.
+fn ended(due: Due) -> Reason {
+    let mut reason = Reason::new();
+    let Field { name, values, .. } = due.first_word();
+    reason.put(format_args!(": the text ends where {name} is expected ({values})"));
+    reason
+}
+
+/// Tells why the text of a trace can't be read, or the trace isn't explained: one line at most. The
+/// calls tell the number of the first line that can't be read, once one was found. After an `Err` the
+/// stream has no more than a part of the reason.
 #[derive(Drop)]
-pub struct TraceReasons<E> {
+pub struct TraceReasons<E: Write> {
     due: Due,
-    lines: u64,
-    is_told: bool,
+    /// The line whose reason was told.
+    told: Option<u64>,
     errors: E,
 }
 
+impl<E: Write> Model for TraceReasons<E> {
+    ghost use Rattle.reasons.specs.Told.{Telling};
+
+    ghost Value = { Telling };
+
+    ghost view = { λ t. record { told = t.told; errors = E.contents t.errors } };
+}
+
 impl<E: Write + Drop> TraceReasons<E> {
-    pub fn new(errors: E) -> TraceReasons<E> {
+    pub fn new(errors: E) -> TraceReasons<E>
+        ensures told { result.told ≡ None }
+        ensures errors { result.errors ≡ E.contents errors }
+    {
         TraceReasons {
             due: Due::Head,
-            lines: 0,
-            is_told: false,
+            told: None,
             errors,
         }
     }
 
-    /// The beginning of a reason on the line behind those that were taken.
-    fn begin(&mut self) -> Reason {
-        self.is_told = true;
-        Reason::at_line(self.lines.saturating_add(1))
+    /// The line of the fault, where its reason is still to be told.
+    fn news(&mut self, fault: Option<u64>) -> Option<u64>
+        ensures result { result ≡ news_of self.old.told fault }
+        ensures told { self.new.told ≡ first_of self.old.told fault }
+        ensures errors { self.new.errors ≡ self.old.errors }
+    {
+        if self.told.is_some() {
+            return None;
+        }
+        self.told = fault;
+        fault
     }
 
-    /// Takes a line, which is a fault of the text or else fits. Behind the first fault nothing is
-    /// told.
-    pub fn take_line(&mut self, line: &[u8], is_faulty: bool) {
-        if self.is_told {
-            return;
+    /// Takes a line: without a fault so far, it fits.
+    pub fn take_line(&mut self, line: &[u8], fault: Option<u64>) -> Result<(), EngineFault>
+        ensures told { self.new.told ≡ first_of self.old.told fault }
+        ensures errors { OnOk result (IsTold (news_of self.old.told fault) self.old.errors self.new.errors) }
+    {
+        if let Some(number) = self.news(fault) {
+            return refused(self.due, line).tell_at(number, &mut self.errors);
         }
-        if !is_faulty {
-            self.lines = self.lines.saturating_add(1);
-            if !line.is_empty() && line[0] != b'#' {
-                self.due = self.due.behind(line);
-            }
-            return;
+        if !line.is_empty() && line[0] != b'#' {
+            self.due = self.due.behind(line);
         }
-        let mut reason = self.begin();
-        if let Some(misfit) = self.due.misfit(line) {
-            misfit.put(&mut reason);
-        }
-        reason.tell(&mut self.errors);
+        Ok(())
     }
 
     /// Takes a line of more bytes than a line may have.
-    pub fn take_long_line(&mut self) {
-        if self.is_told {
-            return;
-        }
-        let mut reason = self.begin();
-        put_long_line(&mut reason);
-        reason.tell(&mut self.errors);
+    pub fn take_long_line(&mut self, fault: Option<u64>) -> Result<(), EngineFault>
+        ensures told { self.new.told ≡ first_of self.old.told fault }
+        ensures errors { OnOk result (IsTold (news_of self.old.told fault) self.old.errors self.new.errors) }
+    {
+        let news = self.news(fault);
+        tell_long_line(news, &mut self.errors)
     }
 
-    /// Takes the end of a text that has a fault: a line is missing, if nothing was told.
-    pub fn take_end(&mut self) {
-        if self.is_told {
-            return;
+    /// Takes the end of a text that has a fault: a line is missing, if none was found before. Then it
+    /// begins anew.
+    pub fn take_end(&mut self, fault: u64) -> Result<(), EngineFault>
+        ensures told { self.new.told ≡ None }
+        ensures errors { OnOk result (IsTold (news_of self.old.told (Some fault)) self.old.errors self.new.errors) }
+    {
+        let news = self.news(Some(fault));
+        let due = self.due;
+        self.told = None;
+        self.due = Due::Head;
+        match news {
+            Some(number) => ended(due).tell_at(number, &mut self.errors),
+            None => Ok(()),
         }
-        let mut reason = self.begin();
-        let Field { name, values, .. } = self.due.first_word();
-        reason.put(format_args!(": the text ends where {name} is expected ({values})"));
-        reason.tell(&mut self.errors);
     }
 
     /// Tells on which line of the text the trace's first flaw lies, what stands there and what was
@@ -219,9 +259,25 @@ impl<E: Write + Drop> TraceReasons<E> {
         history: &[Entry],
         flaw: Flaw,
         lines: &TraceLines,
-    ) {
-        if let Some(reason) = flaw_reason(alloc, trace, history, flaw, lines) {
-            reason.tell(&mut self.errors);
+    ) -> Result<(), EngineFault>
+        ensures told { self.new.told ≡ self.old.told }
+        ensures errors { OnOk result (IsToldAt (flaw_line lines.now (length trace.now.records) flaw.kind flaw.place) self.old.errors self.new.errors) }
+    {
+        let reason = flaw_reason(alloc, trace, history, flaw, lines);
+        let line = line_of(flaw, trace, lines);
+        reason.tell_at(line, &mut self.errors)
+    }
+}
+
+/// On which line the flaw lies.
+fn line_of(flaw: Flaw, trace: &Trace, lines: &TraceLines) -> u64
+    ensures { result ≡ flaw_line lines.now (length trace.now.records) flaw.kind flaw.place }
+{
+    let records = trace.records.len();
+    match flaw.kind {
+        FlawKind::Stranger | FlawKind::Twice | FlawKind::Order => {
+            lines.of_entry(records, flaw.place)
         }
+        _ => lines.of_record(flaw.place),
     }
 }

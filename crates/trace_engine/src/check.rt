@@ -1,5 +1,6 @@
 //! The subcommand `check`: whether a history explains what requesters were told.
-ghost use Rattle.std.specs.Prelude.{◌≡◌, ◌++◌, ◌∷◌, [], true, IfOk, OnErr};
+ghost use Rattle.std.specs.Prelude.{◌≡◌, ◌++◌, ◌∷◌, [], true, false, IfOk, OnErr};
+ghost use Rattle.std.specs.Io.KnownBytes.{Keeps};
 ghost use Rattle.history_check.specs.Claim.{claim_of};
 ghost use Rattle.history_check.specs.Flaws.{first_flaw};
 ghost use Rattle.trace_file.specs.Reading.{nothing_read};
@@ -45,6 +46,8 @@ fn judge<E: Write + Drop>(
 ) -> Result<bool, AllocError>
     ensures ok { IfOk result (λ told. IsAnswer nothing_read out.old.items out.new.items told (judged (first_flaw (claim_of trace.now history.now)))) }
     ensures err { OnErr result (out.new.items ≡ out.old.items) }
+    ensures quiet { IfOk result (λ told. told ≡ false → Keeps reasons.old.errors reasons.new.errors) }
+    ensures told { reasons.new.told ≡ reasons.old.told }
 {
     match check(alloc, trace, history) {
         Ok(()) => {
@@ -53,7 +56,7 @@ fn judge<E: Write + Drop>(
         }
         Err(flaw) if flaw.kind == FlawKind::Memory => Err(AllocError),
         Err(flaw) => {
-            reasons.tell_flaw(alloc, trace, history, flaw, lines);
+            let _ = reasons.tell_flaw(alloc, trace, history, flaw, lines);
             tell_flaw(flaw, out)
         }
     }
@@ -61,18 +64,21 @@ fn judge<E: Write + Drop>(
 
 /// A trace that is read, and then checked.
 #[derive(Drop)]
-struct Checker<E> {
+struct Checker<E: Write> {
     input: TraceInput,
     lines: TraceLines,
     reasons: TraceReasons<E>,
 }
 
-impl<E> Model for Checker<E> {
+impl<E: Write> Model for Checker<E> {
     ghost use Rattle.trace_file.specs.Reading.{Reading};
+    ghost use Rattle.trace_engine.specs.Reasons.{Agrees};
 
     ghost Value = { Reading };
 
     ghost view = { λ c. c.input };
+
+    ghost invariant = { λ c. Agrees c.input c.reasons };
 }
 
 impl<E: Write + Drop> Responder for Checker<E> {
@@ -83,13 +89,13 @@ impl<E: Write + Drop> Responder for Checker<E> {
     fn on_line(&mut self, line: &[u8], _out: &mut Vec<u8>) -> Result<bool, AllocError> {
         self.lines.note(line)?;
         self.input.line(line)?;
-        self.reasons.take_line(line, self.input.is_faulty());
+        let _ = self.reasons.take_line(line, self.input.faulty_line());
         Ok(false)
     }
 
     fn on_long_line(&mut self, _out: &mut Vec<u8>) -> Result<bool, AllocError> {
         self.input.long_line();
-        self.reasons.take_long_line();
+        let _ = self.reasons.take_long_line(self.input.faulty_line());
         Ok(false)
     }
 
@@ -104,7 +110,7 @@ impl<E: Write + Drop> Responder for Checker<E> {
                 out,
             ),
             Err(fault) => {
-                self.reasons.take_end();
+                let _ = self.reasons.take_end(fault.line);
                 tell_fault(fault, out)
             }
         }

@@ -12,17 +12,20 @@ use std::marker::Model;
 
 /// A trace that is read, and then written.
 #[derive(Drop)]
-struct Upgrader<E> {
+struct Upgrader<E: Write> {
     input: TraceInput,
     reasons: TraceReasons<E>,
 }
 
-impl<E> Model for Upgrader<E> {
+impl<E: Write> Model for Upgrader<E> {
     ghost use Rattle.trace_file.specs.Reading.{Reading};
+    ghost use Rattle.trace_engine.specs.Reasons.{Agrees};
 
     ghost Value = { Reading };
 
     ghost view = { λ u. u.input };
+
+    ghost invariant = { λ u. Agrees u.input u.reasons };
 }
 
 impl<E: Write + Drop> Responder for Upgrader<E> {
@@ -32,13 +35,13 @@ impl<E: Write + Drop> Responder for Upgrader<E> {
 
     fn on_line(&mut self, line: &[u8], _out: &mut Vec<u8>) -> Result<bool, AllocError> {
         self.input.line(line)?;
-        self.reasons.take_line(line, self.input.is_faulty());
+        let _ = self.reasons.take_line(line, self.input.faulty_line());
         Ok(false)
     }
 
     fn on_long_line(&mut self, _out: &mut Vec<u8>) -> Result<bool, AllocError> {
         self.input.long_line();
-        self.reasons.take_long_line();
+        let _ = self.reasons.take_long_line(self.input.faulty_line());
         Ok(false)
     }
 
@@ -48,7 +51,7 @@ impl<E: Write + Drop> Responder for Upgrader<E> {
                 tell_trace(self.input.alloc(), &trace, history.as_slice(), out)
             }
             Err(fault) => {
-                self.reasons.take_end();
+                let _ = self.reasons.take_end(fault.line);
                 tell_fault(fault, out)
             }
         }
