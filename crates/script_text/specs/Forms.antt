@@ -135,9 +135,15 @@ event_by k ws =
 
 -- ---- lines
 
+-- `settle` alone runs the fabric until nothing moves
+abbrev pub settle_of : List (List ℕ) → Option Line
+settle_of ws = ended lines.Settle ws
+
 -- a line, by its first word
 abbrev pub line_by : List ℕ → List (List ℕ) → Option Line
-line_by k ws = if bytes_eq k (codes "fabric") then fabric_of ws else option_map lines.Event (event_by k ws)
+line_by k ws =
+    if bytes_eq k (codes "fabric") then fabric_of ws
+    else (if bytes_eq k (codes "settle") then settle_of ws else option_map lines.Event (event_by k ws))
 
 -- the line that the words spell
 abbrev pub line_of : List (List ℕ) → Option Line

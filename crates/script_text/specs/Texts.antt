@@ -1,5 +1,5 @@
 -- The text of what is seen of an event.
-use Rattle.std.specs.Prelude.{ℕ, ◌/◌, ◌%◌, true, List, [], ◌∷◌, codes}
+use Rattle.std.specs.Prelude.{ℕ, ◌/◌, ◌%◌, Bool, true, false, List, [], ◌∷◌, codes}
 use Rattle.std.specs.List.{join_with_byte}
 use Rattle.std.specs.Fmt.{decimal, digit_glyph}
 use Rattle.hex.specs.Hex.{encode_upper}
@@ -12,6 +12,8 @@ use Rattle.lane_core.specs.declared.packet.Arrival.{Arrival}
 use Rattle.lane_core.specs.declared.packet.Arrival.TheVariants as arrivals
 use Rattle.lane_core.specs.declared.packet.DllpSeen.{DllpSeen}
 use Rattle.lane_core.specs.declared.packet.DllpSeen.TheVariants as dllps_seen
+use Rattle.history_check.specs.declared.Record.{Record}
+use Rattle.history_check.specs.declared.Record.TheVariants as records
 use Rattle.fabric_core.specs.declared.event.Event.{Event}
 use Rattle.fabric_core.specs.declared.event.Event.TheVariants as events
 use Rattle.fabric_core.specs.declared.event.Seen.{Seen}
@@ -67,3 +69,13 @@ seen_text e seen.Retrained = codes "retrained"
 seen_text e (seen.To port) = spaced (codes "to" ∷ decimal port ∷ [])
 seen_text e (seen.At index) = spaced (codes "at" ∷ decimal index ∷ [])
 seen_text e (seen.Collected a) = spaced (codes "ans" ∷ decimal (port_of e) ∷ decimal a.number ∷ reply_text a.reply ∷ [])
+
+-- what was seen of the event of a record
+abbrev pub told_text : Record → List ℕ
+told_text (records.Sub i number op n) = spaced (codes "sub" ∷ decimal i ∷ decimal number ∷ [])
+told_text (records.Ans i number reply n) = spaced (codes "ans" ∷ decimal i ∷ decimal number ∷ reply_text reply ∷ [])
+
+-- whether a fabric is quiet in which nothing moves
+abbrev pub settled_text : Bool → List ℕ
+settled_text true = codes "settled"
+settled_text false = codes "unsettled"

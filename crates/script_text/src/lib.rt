@@ -21,6 +21,9 @@
 //! | `serve <place>` | `at <index in the history>` |
 //! | `collect <port>` | `ans <port> <number> <reply>` |
 //!
+//! or `settle`, by which the fabric is run until nothing moves: what its requesters collect is told as for `collect`, and
+//! then `settled` where the fabric is quiet, else `unsettled`.
+//!
 //! Lanes are `up1` to `up7`, `down1` to `down7`, `in` and `out`. Fields are parted by one space. The
 //! base is hexadecimal, all other numbers are decimal, none has leading zeros. Ports, the number of
 //! requesters and header credits have 8 bits, data credits and the bytes of a block 16, places and
@@ -36,4 +39,4 @@ mod writing;
 
 pub use line::{Line, read_line};
 pub use names::{write_config_fault, write_refusal};
-pub use writing::write_seen;
+pub use writing::{write_seen, write_settled, write_told};

@@ -19,6 +19,8 @@ pub enum Line {
     Fabric(Config),
     /// An event happens to it.
     Event(Event),
+    /// It is run until nothing moves.
+    Settle,
 }
 
 /// The six credits.
@@ -83,6 +85,16 @@ fn fabric(rest: Option<&[u8]>) -> Option<Line>
     }))
 }
 
+fn settle(rest: Option<&[u8]>) -> Option<Line>
+    ensures { result ≡ forms.settle_of (words_behind rest.entry) }
+{
+    if is_ended(rest) {
+        Some(Line::Settle)
+    } else {
+        None
+    }
+}
+
 /// The line that the text spells, which is given without what ends it. None where it has no known
 /// form, or a number is above the range of its field: the ranges of a configuration and the parts of
 /// a fabric are not looked at.
@@ -92,6 +104,9 @@ pub fn read_line(text: &[u8]) -> Option<Line>
     let (kind, rest) = cut(text);
     if kind == b"fabric".as_slice() {
         return fabric(rest);
+    }
+    if kind == b"settle".as_slice() {
+        return settle(rest);
     }
     Some(Line::Event(event_by(kind, rest)?))
 }

@@ -2,11 +2,12 @@
 ghost use Rattle.std.specs.Prelude.{◌≡◌, ◌≤◌, ◌<◌, ◌+◌, ◌/◌, ◌%◌, ◌++◌, ◌∷◌, [], true, length};
 ghost use Rattle.std.specs.Fmt.{decimal, digit_glyph};
 ghost use Rattle.arrayvec.specs.ArrayString.{array_string_len};
-ghost use Rattle.script_text.specs.Texts.{sequence_text, in_field, dllp_text, arrival_text, dllp_seen_text, port_of, seen_text};
+ghost use Rattle.script_text.specs.Texts.{sequence_text, in_field, dllp_text, arrival_text, dllp_seen_text, port_of, seen_text, told_text, settled_text};
 
 use arrayvec::ArrayString;
 use dllp_core::{Dllp, encode};
 use fabric_core::{Event, Seen};
+use history_check::Record;
 use lane_core::{Arrival, DllpSeen};
 use link_receiver::Reception;
 use seq12::Seq12;
@@ -154,4 +155,42 @@ pub fn write_seen(event: &Event, seen: &Seen, out: &mut ArrayString<512>)
             write_reply(&answer.reply, out);
         }
     }
+}
+
+/// Adds what was seen of the event of a record, at most 320 bytes.
+pub fn write_told(told: &Record, out: &mut ArrayString<512>)
+    requires { array_string_len out.old + 320 ≤ 512 }
+    ensures text { out.new.bytes ≡ out.old.bytes ++ told_text told.now }
+    ensures len { array_string_len out.new ≤ array_string_len out.old + 320 }
+{
+    match told {
+        Record::Sub {
+            requester,
+            number,
+            ..
+        } => {
+            put_number("sub ", u64::from(*requester), out);
+            put_number(" ", u64::from(*number), out);
+        }
+        Record::Ans {
+            requester,
+            number,
+            reply,
+            ..
+        } => {
+            put_number("ans ", u64::from(*requester), out);
+            put_number(" ", u64::from(*number), out);
+            out.push_str(" ");
+            write_reply(reply, out);
+        }
+    }
+}
+
+/// Adds whether the fabric is quiet in which nothing moves, at most 9 bytes.
+pub fn write_settled(is_quiet: bool, out: &mut ArrayString<512>)
+    requires { array_string_len out.old + 9 ≤ 512 }
+    ensures text { out.new.bytes ≡ out.old.bytes ++ settled_text is_quiet }
+    ensures len { array_string_len out.new ≤ array_string_len out.old + 9 }
+{
+    out.push_str(if is_quiet { "settled" } else { "unsettled" });
 }

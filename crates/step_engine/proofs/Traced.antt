@@ -1,6 +1,6 @@
--- The run of a traced script whose events all happen.
-use Rattle.std.proofs.Common.{◌≡◌, ◌∙◌, ◌++◌, ℕ, Bool, true, false, List, [], ◌∷◌, length, refl, sym, ap, subst, Option, Some, None, Result, Ok, Err, if◌then◌else◌}
-use Rattle.std.specs.Prelude.{fold, map, nat_lt}
+-- The run of a traced script to its end.
+use Rattle.std.proofs.Common.{◌≡◌, ◌∙◌, ◌++◌, ◌+◌, inl, inr, ℕ, Bool, true, false, List, [], ◌∷◌, length, refl, sym, ap, ap₂, subst, Option, Some, None, Result, Ok, Err, if◌then◌else◌}
+use Rattle.std.specs.Prelude.{◌-◌, ◌^◌, min, fold, map, nat_lt}
 use Rattle.std.proofs.lemmas.List.{append-nil, append_assoc}
 use Rattle.history_check.specs.declared.Record.{Record}
 use Rattle.history_check.specs.Trace.{Explains}
@@ -16,9 +16,9 @@ use Rattle.fabric_core.specs.declared.event.Seen.{Seen}
 use Rattle.fabric_core.specs.declared.fault.Refusal.{Refusal}
 use Rattle.fabric_core.specs.Config.{IsNewWith}
 use Rattle.fabric_core.specs.Kept.{IsSoundFabric, records_of}
-use Rattle.fabric_core.specs.Steps.{Happens}
+use Rattle.fabric_core.specs.Steps.{Happens, Refused}
 use Rattle.fabric_core.specs.Runs.{Runs}
-use Rattle.fabric_answers.specs.Answers.{answer}
+use Rattle.fabric_answers.specs.Answers.{answer, IsTold}
 use Rattle.fabric_answers.specs.New.{new_fabric, config_fault}
 use Rattle.trace_text.specs.Words.{words}
 use Rattle.trace_file.specs.Lines.{is_skipped}
@@ -26,10 +26,12 @@ use Rattle.trace_file.specs.Texts.{trace_text}
 use Rattle.script_text.specs.declared.line.Line.{Line}
 use Rattle.script_text.specs.declared.line.Line.TheVariants as lines
 use Rattle.script_text.specs.Forms.{line_of}
+use Rattle.script_text.specs.Names.{refusal_name}
 use Rattle.line_engine.specs.Lines.{lines_of, bare, said}
 use Rattle.line_engine.specs.Run.{Answer, Run as Output, with_answer, after_line, after_end, new_run}
-use Rattle.step_engine.specs.Script.{script_of, event_line, IsScript}
-use Rattle.step_engine.specs.Step.{Stepping, nothing, counted, next_line, made, made_once, answered, by_line, step_long_line, step_responses, new_script, claim_with, out_step}
+use Rattle.step_engine.specs.Script.{script_of, event_line, IsScript, Progress, progress, LineDoes, LinesDo, RunsThrough}
+use Rattle.step_engine.specs.Options.{traced}
+use Rattle.step_engine.specs.Step.{Stepping, nothing, counted, made, answered, refused, by_line, step_long_line, step_responses, claim_with, out_step_with}
 
 -- ---- the history explains the records
 
@@ -55,29 +57,67 @@ belongs l (event ∷ events) f f' before rs s b r =
     let all = belongs l events next f' (before ++ first) later kept more r.4 in
     (all.0, subst (Belongs (whole_of f')) (append_assoc before first later ∙ ap (λ (x : List Record). before ++ x) (sym r.5)) all.1)
 
-pub is_explained : Laws → (c : Config) (f f' : Fabric) (events : List Event) (rs : List Record) → IsNewWith c f → Runs f events rs f' → Explains (claim_with f' rs)
-is_explained l c f f' events rs n r =
-    let all = belongs l events f f' [] rs (l.sound c f n) (l.empty c f n) r in
-    l.explained (whole_of f') rs all.0.sound all.1
+-- ---- what the lines do
+
+-- the fabric is sound, and the records belong to it
+abbrev IsRight : Progress → Type 0
+IsRight p = IsSoundFabric p.fabric × Belongs (whole_of p.fabric) p.records
+
+right_at : (p p' : Progress) → p' ≡ p → IsRight p → IsRight p'
+right_at p p' e r = subst IsRight (sym e) r
+
+right_after : Laws → (keeps : Bool) (p : Progress) (l : Option Line) (p' : Progress) → LineDoes keeps p l p' → IsRight p → IsRight p'
+right_after l keeps p None p' h r = absurd h
+right_after l keeps p (Some (lines.Fabric c)) p' h r = absurd h
+right_after l keeps p (Some (lines.Event event)) p' (inl h) r =
+    let g = h.recorded in
+    let more = l.run (whole_of p.fabric) (whole_of p'.fabric) p.records (records_of event g.what (length p.fabric.memory.entries)) r.0.sound r.1
+    (goes stays (l.step p.fabric p'.fabric event g.what r.0 g.happens)) in
+    (l.keeps p.fabric p'.fabric event g.what r.0 g.happens, subst (Belongs (whole_of p'.fabric)) (sym g.now) more)
+right_after l keeps p (Some (lines.Event event)) p' (inr h) r = subst IsRight (sym h.1.now) r
+right_after l keeps p (Some lines.Settle) p' h r =
+    let g = h.reached in
+    let all = belongs l g.events p.fabric p'.fabric p.records g.told r.0 r.1 g.runs in
+    (all.0, subst (Belongs (whole_of p'.fabric)) (sym g.now) all.1)
+
+right_behind : Laws → (keeps : Bool) (ls : List (Option Line)) (p p' : Progress) → LinesDo keeps p ls p' → IsRight p → IsRight p'
+right_behind l keeps [] p p' h r = subst IsRight (sym h) r
+right_behind l keeps (x ∷ xs) p p' h r = right_behind l keeps xs h.0 p' h.2 (right_after l keeps p x h.0 h.1 r)
+
+new_right : Laws → (c : Config) (f : Fabric) → IsNewWith c f → IsRight (progress f [] 0)
+new_right l c f n = (l.sound c f n, l.empty c f n)
+
+pub is_explained : Laws → (keeps : Bool) (input : List ℕ) (p : Progress) → RunsThrough keeps input p → Explains (claim_with p.fabric p.records)
+is_explained l keeps input p h =
+    let all = right_behind l keeps h.behind (progress h.fabric [] 0) p h.goes_on (new_right l h.config h.fabric h.is_new) in
+    l.explained (whole_of p.fabric) p.records all.0.sound all.1
 
 -- ---- the run
 
--- the traced script so far
-abbrev at : Option Fabric → List Record → ℕ → Stepping
-at o rs n = record { is_traced = true; fabric = o; records = rs; lines = n; has_ended = false }
+pub record Answers : Type 0 where
+  pub new : (c : Config) (f : Fabric) → IsNewWith c f → (f ≡ new_fabric c) × (config_fault c ≡ None)
+  pub happens : (f f' : Fabric) (event : Event) (what : Seen) → Happens f event what f' → answer f event ≡ Ok (what, f')
+  pub refused : (f : Fabric) (event : Event) (r : Refusal) → IsSoundFabric f → Refused f event r → IsTold r → answer f event ≡ Err r
 
-abbrev runs_on : Stepping → List (List ℕ) → Output Stepping
-runs_on s ls = fold (after_line step_responses) (new_run s) ls
+-- the traced script so far
+abbrev at : Bool → Bool → Option Fabric → List Record → ℕ → Stepping
+at keeps echoes o rs n = record { options = traced keeps echoes; fabric = o; records = rs; lines = n; has_ended = false }
+
+abbrev run_at : Bool → Bool → Progress → ℕ → Output Stepping
+run_at keeps echoes p n = record { state = at keeps echoes (Some p.fabric) p.records n; text = []; status = p.status }
+
+abbrev runs_on : Output Stepping → List (List ℕ) → Output Stepping
+runs_on run ls = fold (after_line step_responses) run ls
 
 -- one line, by its tests and what it says
-abbrev by_tests : Bool → Bool → Option Line → Stepping → Answer Stepping
-by_tests long skipped l s = if long then step_long_line s else (if s.has_ended then nothing s else (if skipped then nothing (counted s) else by_line s l))
+abbrev by_tests : Bool → Bool → List ℕ → Option Line → Stepping → Answer Stepping
+by_tests long skipped line l s = if long then step_long_line s else (if s.has_ended then nothing s else (if skipped then nothing (counted s) else by_line s line l))
 
 abbrev put : Bool → Bool → Option Line → List (Option Line) → List (Option Line)
 put long skipped l rest = if long then None ∷ rest else (if skipped then rest else l ∷ rest)
 
-abbrev on_from : Bool → Bool → Option Line → Stepping → List (List ℕ) → Output Stepping
-on_from long skipped l s ls = fold (after_line step_responses) (with_answer (new_run s) (by_tests long skipped l s)) ls
+abbrev on_from : Bool → Bool → List ℕ → Option Line → Output Stepping → List (List ℕ) → Output Stepping
+on_from long skipped line l run ls = runs_on (with_answer run (by_tests long skipped line l run.state)) ls
 
 first_same : {X : Type 0} (x y : X) (xs ys : List X) → x ∷ xs ≡ y ∷ ys → x ≡ y
 first_same x y xs ys e = cc
@@ -85,74 +125,117 @@ first_same x y xs ys e = cc
 rest_same : {X : Type 0} (x y : X) (xs ys : List X) → x ∷ xs ≡ y ∷ ys → xs ≡ ys
 rest_same x y xs ys e = cc
 
-abbrev EachHappens : Type 0
-EachHappens = (f f' : Fabric) (event : Event) (what : Seen) → Happens f event what f' → answer f event ≡ Ok (what, f')
+-- a refusal that is passed over, in a run that goes on behind it
+passed : (keeps echoes : Bool) (p : Progress) (n : ℕ) (line name : List ℕ) → keeps ≡ true
+    → with_answer (run_at keeps echoes p n) (refused (at keeps echoes (Some p.fabric) p.records n) line name) ≡ run_at keeps echoes (progress p.fabric p.records 1) (min (n + 1) (2 ^ 64 - 1))
+passed true echoes p n line name e = refl
+passed false echoes p n line name e = absurd cc
 
-abbrev Ends : Stepping → List (List ℕ) → Fabric → List Record → Type 0
-Ends s ls f' rs = (m : ℕ) × (runs_on s ls ≡ new_run (at (Some f') rs m))
+-- the run after a line is that of what the line does
+after_one : Answers → (keeps echoes : Bool) (line : List ℕ) (l : Option Line) (p p' : Progress) (n : ℕ) → IsSoundFabric p.fabric → LineDoes keeps p l p'
+    → with_answer (run_at keeps echoes p n) (by_line (at keeps echoes (Some p.fabric) p.records n) line l) ≡ run_at keeps echoes p' (min (n + 1) (2 ^ 64 - 1))
+after_one a keeps echoes line None p p' n s h = absurd h
+after_one a keeps echoes line (Some (lines.Fabric c)) p p' n s h = absurd h
+after_one a keeps echoes line (Some (lines.Event event)) p p' n s (inl h) =
+    let g = h.recorded in
+    let start = at keeps echoes (Some p.fabric) p.records n in
+    ap (λ (x : Result (Seen × Fabric) Refusal). with_answer (run_at keeps echoes p n) (answered start line event (length p.fabric.memory.entries) x)) (a.happens p.fabric p'.fabric event g.what g.happens)
+    ∙ ap₂ (λ (rs : List Record) (status : ℕ). run_at keeps echoes (progress p'.fabric rs status) (min (n + 1) (2 ^ 64 - 1))) (sym g.now) (sym h.status)
+after_one a keeps echoes line (Some (lines.Event event)) p p' n s (inr h) =
+    let start = at keeps echoes (Some p.fabric) p.records n in
+    ap (λ (x : Result (Seen × Fabric) Refusal). with_answer (run_at keeps echoes p n) (answered start line event (length p.fabric.memory.entries) x)) (a.refused p.fabric event h.1.refusal s h.1.refused h.1.told)
+    ∙ passed keeps echoes p n line (refusal_name h.1.refusal) h.0
+    ∙ ap (λ (x : Progress). run_at keeps echoes x (min (n + 1) (2 ^ 64 - 1))) (sym h.1.now)
+after_one a keeps echoes line (Some lines.Settle) p p' n s h =
+    ap₂ (λ (f : Fabric) (rs : List Record). run_at keeps echoes (progress f rs p.status) (min (n + 1) (2 ^ 64 - 1))) (sym h.fabric) (sym h.records)
+    ∙ ap (λ (status : ℕ). run_at keeps echoes (progress p'.fabric p'.records status) (min (n + 1) (2 ^ 64 - 1))) (sym h.status)
 
-abbrev Events : List (List ℕ) → Type 0
-Events ls = (events : List Event) (f f' : Fabric) (before rs : List Record) (n : ℕ) → script_of ls ≡ map event_line events → Runs f events rs f' → Ends (at (Some f) before n) ls f' (before ++ rs)
+abbrev Ends : Bool → Bool → Output Stepping → List (List ℕ) → Progress → Type 0
+Ends keeps echoes run ls p = (m : ℕ) × (runs_on run ls ≡ run_at keeps echoes p m)
 
-event_by : EachHappens → (long skipped : Bool) (l : Option Line) (ls : List (List ℕ)) → Events ls →
-    (events : List Event) (f f' : Fabric) (before rs : List Record) (n : ℕ) → put long skipped l (script_of ls) ≡ map event_line events → Runs f events rs f'
-    → (m : ℕ) × (on_from long skipped l (at (Some f) before n) ls ≡ new_run (at (Some f') (before ++ rs) m))
-event_by h true skipped l ls more [] f f' before rs n e r = absurd cc
-event_by h true skipped l ls more (x ∷ xs) f f' before rs n e r = absurd cc
-event_by h false true l ls more events f f' before rs n e r = more events f f' before rs (next_line (at (Some f) before n)) e r
-event_by h false false l ls more [] f f' before rs n e r = absurd cc
-event_by h false false l ls more (x ∷ xs) f f' before rs n e r =
-    let what = r.0 in
-    let next = r.1 in
-    let later = r.2 in
-    let s = at (Some f) before n in
-    let first = records_of x what (length f.memory.entries) in
-    let all = more xs next f' (before ++ first) later (next_line s) (rest_same l (event_line x) (script_of ls) (map event_line xs) e) r.4 in (
+abbrev Behind : Bool → Bool → List (List ℕ) → Type 0
+Behind keeps echoes ls = (p p' : Progress) (n : ℕ) → IsRight p → LinesDo keeps p (script_of ls) p' → Ends keeps echoes (run_at keeps echoes p n) ls p'
+
+behind_by : Laws → Answers → (keeps echoes : Bool) (long skipped : Bool) (line : List ℕ) (l : Option Line) (ls : List (List ℕ)) → Behind keeps echoes ls →
+    (p p' : Progress) (n : ℕ) → IsRight p → LinesDo keeps p (put long skipped l (script_of ls)) p' → (m : ℕ) × (on_from long skipped line l (run_at keeps echoes p n) ls ≡ run_at keeps echoes p' m)
+behind_by w a keeps echoes true skipped line l ls more p p' n r h = absurd h.1
+behind_by w a keeps echoes false true line l ls more p p' n r h = more p p' (min (n + 1) (2 ^ 64 - 1)) r h
+behind_by w a keeps echoes false false line l ls more p p' n r h =
+    let all = more h.0 p' (min (n + 1) (2 ^ 64 - 1)) (right_after w keeps p l h.0 h.1 r) h.2 in
+    (all.0, ap (λ (x : Output Stepping). runs_on x ls) (after_one a keeps echoes line l p h.0 n r.0 h.1) ∙ all.1)
+
+lines_run : Laws → Answers → (keeps echoes : Bool) (ls : List (List ℕ)) → Behind keeps echoes ls
+lines_run w a keeps echoes [] p p' n r h = (n, ap (λ (x : Progress). run_at keeps echoes x n) (sym h))
+lines_run w a keeps echoes (line ∷ ls) p p' n r h =
+    behind_by w a keeps echoes (nat_lt 512 (length (bare line))) (is_skipped (said line)) (said line) (line_of (words (said line))) ls (lines_run w a keeps echoes ls) p p' n r h
+
+abbrev start_at : Bool → Bool → ℕ → Output Stepping
+start_at keeps echoes n = new_run (at keeps echoes None [] n)
+
+abbrev Scripts : Bool → Bool → List (List ℕ) → Type 0
+Scripts keeps echoes ls = (c : Config) (behind : List (Option Line)) (p : Progress) (n : ℕ) → config_fault c ≡ None → IsRight (progress (new_fabric c) [] 0)
+    → script_of ls ≡ Some (lines.Fabric c) ∷ behind → LinesDo keeps (progress (new_fabric c) [] 0) behind p → Ends keeps echoes (start_at keeps echoes n) ls p
+
+script_by : Laws → Answers → (keeps echoes : Bool) (long skipped : Bool) (line : List ℕ) (l : Option Line) (ls : List (List ℕ)) → Scripts keeps echoes ls →
+    (c : Config) (behind : List (Option Line)) (p : Progress) (n : ℕ) → config_fault c ≡ None → IsRight (progress (new_fabric c) [] 0)
+    → put long skipped l (script_of ls) ≡ Some (lines.Fabric c) ∷ behind → LinesDo keeps (progress (new_fabric c) [] 0) behind p
+    → (m : ℕ) × (on_from long skipped line l (start_at keeps echoes n) ls ≡ run_at keeps echoes p m)
+script_by w a keeps echoes true skipped line l ls more c behind p n k r e h = absurd cc
+script_by w a keeps echoes false true line l ls more c behind p n k r e h = more c behind p (min (n + 1) (2 ^ 64 - 1)) k r e h
+script_by w a keeps echoes false false line l ls more c behind p n k r e h =
+    let s = at keeps echoes None [] n in
+    let all = lines_run w a keeps echoes ls (progress (new_fabric c) [] 0) p (min (n + 1) (2 ^ 64 - 1)) r
+    (subst (λ (xs : List (Option Line)). LinesDo keeps (progress (new_fabric c) [] 0) xs p) (sym (rest_same l (Some (lines.Fabric c)) (script_of ls) behind e)) h) in (
       all.0,
-      ap (λ (o : Option Line). on_from false false o s ls) (first_same l (event_line x) (script_of ls) (map event_line xs) e)
-          ∙ ap (λ (a : Result (Seen × Fabric) Refusal). fold (after_line step_responses) (with_answer (new_run s) (answered s x (length f.memory.entries) a)) ls) (h f next x what r.3)
-          ∙ all.1
-          ∙ ap (λ (ys : List Record). new_run (at (Some f') ys all.0)) (append_assoc before first later ∙ ap (λ (ys : List Record). before ++ ys) (sym r.5)),
-    )
-
-events_run : EachHappens → (ls : List (List ℕ)) → Events ls
-events_run h [] [] f f' before rs n e r =
-    (n, ap (λ (g : Fabric). new_run (at (Some g) before n)) (sym r.1) ∙ ap (λ (xs : List Record). new_run (at (Some f') xs n)) (sym (ap (λ (xs : List Record). before ++ xs) r.0 ∙ append-nil before)))
-events_run h [] (x ∷ xs) f f' before rs n e r = absurd cc
-events_run h (line ∷ ls) events f f' before rs n e r =
-    event_by h (nat_lt 512 (length (bare line))) (is_skipped (said line)) (line_of (words (said line))) ls (events_run h ls) events f f' before rs n e r
-
-abbrev Scripts : List (List ℕ) → Type 0
-Scripts ls = (c : Config) (events : List Event) (f' : Fabric) (rs : List Record) (n : ℕ) → config_fault c ≡ None → script_of ls ≡ Some (lines.Fabric c) ∷ map event_line events
-    → Runs (new_fabric c) events rs f' → Ends (at None [] n) ls f' rs
-
-script_by : EachHappens → (long skipped : Bool) (l : Option Line) (ls : List (List ℕ)) → Scripts ls →
-    (c : Config) (events : List Event) (f' : Fabric) (rs : List Record) (n : ℕ) → config_fault c ≡ None → put long skipped l (script_of ls) ≡ Some (lines.Fabric c) ∷ map event_line events
-    → Runs (new_fabric c) events rs f' → (m : ℕ) × (on_from long skipped l (at None [] n) ls ≡ new_run (at (Some f') rs m))
-script_by h true skipped l ls more c events f' rs n k e r = absurd cc
-script_by h false true l ls more c events f' rs n k e r = more c events f' rs (next_line (at None [] n)) k e r
-script_by h false false l ls more c events f' rs n k e r =
-    let s = at None [] n in
-    let all = events_run h ls events (new_fabric c) f' [] rs (next_line s) (rest_same l (Some (lines.Fabric c)) (script_of ls) (map event_line events) e) r in (
-      all.0,
-      ap (λ (o : Option Line). on_from false false o s ls) (first_same l (Some (lines.Fabric c)) (script_of ls) (map event_line events) e)
-          ∙ ap (λ (x : Option ConfigFault). fold (after_line step_responses) (with_answer (new_run s) (made s c x)) ls) k
+      ap (λ (o : Option Line). on_from false false line o (start_at keeps echoes n) ls) (first_same l (Some (lines.Fabric c)) (script_of ls) behind e)
+          ∙ ap (λ (x : Option ConfigFault). runs_on (with_answer (start_at keeps echoes n) (made s c x)) ls) k
           ∙ all.1,
     )
 
-scripts_run : EachHappens → (ls : List (List ℕ)) → Scripts ls
-scripts_run h [] c events f' rs n k e r = absurd cc
-scripts_run h (line ∷ ls) c events f' rs n k e r =
-    script_by h (nat_lt 512 (length (bare line))) (is_skipped (said line)) (line_of (words (said line))) ls (scripts_run h ls) c events f' rs n k e r
+scripts_run : Laws → Answers → (keeps echoes : Bool) (ls : List (List ℕ)) → Scripts keeps echoes ls
+scripts_run w a keeps echoes [] c behind p n k r e h = absurd cc
+scripts_run w a keeps echoes (line ∷ ls) c behind p n k r e h =
+    script_by w a keeps echoes (nat_lt 512 (length (bare line))) (is_skipped (said line)) (said line) (line_of (words (said line))) ls (scripts_run w a keeps echoes ls) c behind p n k r e h
 
 -- the trace is told at the end
-abbrev told : ℕ → Fabric → List Record → Output Stepping
-told m f rs = record { state = at (Some f) [] m; text = trace_text (claim_with f rs); status = 0 }
+abbrev told : Bool → Bool → ℕ → Progress → Output Stepping
+told keeps echoes m p = record { state = at keeps echoes (Some p.fabric) [] m; text = trace_text (claim_with p.fabric p.records); status = p.status }
 
-pub is_told : ((c : Config) (f : Fabric) → IsNewWith c f → (f ≡ new_fabric c) × (config_fault c ≡ None)) → EachHappens →
-    (input : List ℕ) (c : Config) (f f' : Fabric) (events : List Event) (rs : List Record) → IsScript input c events → IsNewWith c f → Runs f events rs f'
-    → (m : ℕ) × (out_step true input ≡ told m f' rs)
-is_told new h input c f f' events rs s n r =
-    let made = new c f n in
-    let all = scripts_run h (lines_of input) c events f' rs 0 made.1 s (subst (λ (g : Fabric). Runs g events rs f') made.0 r) in
+pub is_told : Laws → Answers → (keeps echoes : Bool) (input : List ℕ) (p : Progress) → RunsThrough keeps input p
+    → (m : ℕ) × (out_step_with (traced keeps echoes) input ≡ told keeps echoes m p)
+is_told w a keeps echoes input p h =
+    let made_is = a.new h.config h.fabric h.is_new in
+    let all = scripts_run w a keeps echoes (lines_of input) h.config h.behind p 0 made_is.1
+    (subst (λ (f : Fabric). IsRight (progress f [] 0)) made_is.0 (new_right w h.config h.fabric h.is_new)) h.says
+    (subst (λ (f : Fabric). LinesDo keeps (progress f [] 0) h.behind p) made_is.0 h.goes_on) in
     (all.0, ap (after_end step_responses) all.1)
+
+-- ---- scripts of events that all happen
+
+events_do : (events : List Event) (f f' : Fabric) (before rs : List Record) → Runs f events rs f' → LinesDo false (progress f before 0) (map event_line events) (progress f' (before ++ rs) 0)
+events_do [] f f' before rs r =
+    ap₂ (λ (g : Fabric) (xs : List Record). progress g xs 0) r.1 (ap (λ (xs : List Record). before ++ xs) r.0 ∙ append-nil before)
+events_do (event ∷ events) f f' before rs r =
+    let first = records_of event r.0 (length f.memory.entries) in
+    let all = events_do events r.1 f' (before ++ first) r.2 r.4 in (
+      progress r.1 (before ++ first) 0,
+      inl (record { recorded = record { what = r.0; happens = r.3; now = refl }; status = refl }),
+      subst (λ (xs : List Record). LinesDo false (progress r.1 (before ++ first) 0) (map event_line events) (progress f' xs 0))
+          (append_assoc before first r.2 ∙ ap (λ (xs : List Record). before ++ xs) (sym r.5)) all,
+    )
+
+pub runs_through : (input : List ℕ) (c : Config) (f f' : Fabric) (events : List Event) (rs : List Record) → IsScript input c events → IsNewWith c f → Runs f events rs f'
+    → RunsThrough false input (progress f' rs 0)
+runs_through input c f f' events rs s n r = record {
+  config = c;
+  fabric = f;
+  behind = map event_line events;
+  says = s;
+  is_new = n;
+  goes_on = events_do events f f' [] rs r;
+}
+
+pub runs_explained : Laws → (c : Config) (f f' : Fabric) (events : List Event) (rs : List Record) → IsNewWith c f → Runs f events rs f' → Explains (claim_with f' rs)
+runs_explained l c f f' events rs n r =
+    let all = belongs l events f f' [] rs (l.sound c f n) (l.empty c f n) r in
+    l.explained (whole_of f') rs all.0.sound all.1

@@ -1,12 +1,21 @@
--- What the lines of a script say.
-use Rattle.std.specs.Prelude.{ℕ, ◌≡◌, nat_lt, if◌then◌else◌, List, [], ◌∷◌, length, map, Option, Some, None}
+-- What the lines of a script say, and what they do to its fabric.
+use Rattle.std.specs.Prelude.{ℕ, ◌≡◌, ◌⊎◌, nat_lt, if◌then◌else◌, Bool, true, List, [], ◌∷◌, length, map, Option, Some, None}
+use Rattle.history_check.specs.declared.Record.{Record}
+use Rattle.fabric_laws.specs.Fabric.{Fabric}
 use Rattle.fabric_core.specs.declared.config.Config.{Config}
 use Rattle.fabric_core.specs.declared.event.Event.{Event}
+use Rattle.fabric_core.specs.declared.fault.Refusal.{Refusal}
+use Rattle.fabric_core.specs.Config.{IsNewWith}
+use Rattle.fabric_core.specs.Steps.{Refused}
+use Rattle.fabric_core.specs.Runs.{Recorded}
+use Rattle.fabric_answers.specs.Answers.{IsTold}
 use Rattle.trace_text.specs.Words.{words}
 use Rattle.trace_file.specs.Lines.{is_skipped}
 use Rattle.script_text.specs.declared.line.Line.{Line}
 use Rattle.script_text.specs.declared.line.Line.TheVariants as lines
 use Rattle.script_text.specs.Forms.{line_of}
+use Rattle.settling.specs.Reached.{Reached}
+use Rattle.settling.specs.Rounds.{settlement}
 use Rattle.line_engine.specs.Lines.{lines_of, bare, said}
 
 -- what a line says, before what the others say: nothing where it is skipped, and none of a script where it is too long
@@ -25,3 +34,53 @@ event_line event = Some (lines.Event event)
 -- the script makes a fabric of this configuration, to which these events happen
 abbrev pub IsScript : List ℕ → Config → List Event → Type 0
 IsScript input c events = script_of (lines_of input) ≡ Some (lines.Fabric c) ∷ map event_line events
+
+-- ---- scripts that run to their end
+
+-- the fabric of a script, the records of what happened to it, and the exit status so far
+pub record Progress : Type 0 where
+  pub fabric : Fabric
+  pub records : List Record
+  pub status : ℕ
+
+abbrev pub progress : Fabric → List Record → ℕ → Progress
+progress f rs status = record { fabric = f; records = rs; status = status }
+
+-- an event happens
+pub record EventHappens (p : Progress) (event : Event) (p' : Progress) : Type 0 where
+  pub recorded : Recorded p.fabric event p.records p'.fabric p'.records
+  pub status : p'.status ≡ p.status
+
+-- it is refused, for another cause than want of memory, and nothing changes but the exit status
+pub record EventIsPassed (p : Progress) (event : Event) (p' : Progress) : Type 0 where
+  pub refusal : Refusal
+  pub refused : Refused p.fabric event refusal
+  pub told : IsTold refusal
+  pub now : p' ≡ progress p.fabric p.records 1
+
+-- rounds of events lead to a fabric in which nothing moves
+pub record Settles (p : Progress) (p' : Progress) : Type 0 where
+  pub reached : Reached p.fabric p.records p'.fabric p'.records
+  pub fabric : p'.fabric ≡ (settlement p.fabric p.records).fabric
+  pub records : p'.records ≡ (settlement p.fabric p.records).records
+  pub status : p'.status ≡ p.status
+
+-- a line behind the first, in a run that goes on behind refusals or ends there
+abbrev pub LineDoes : Bool → Progress → Option Line → Progress → Type 0
+LineDoes keeps_going p None p' = ⊥
+LineDoes keeps_going p (Some (lines.Fabric c)) p' = ⊥
+LineDoes keeps_going p (Some (lines.Event event)) p' = EventHappens p event p' ⊎ ((keeps_going ≡ true) × EventIsPassed p event p')
+LineDoes keeps_going p (Some lines.Settle) p' = Settles p p'
+
+abbrev pub LinesDo : Bool → Progress → List (Option Line) → Progress → Type 0
+LinesDo keeps_going p [] p' = p' ≡ p
+LinesDo keeps_going p (l ∷ ls) p' = (next : Progress) × LineDoes keeps_going p l next × LinesDo keeps_going next ls p'
+
+-- the first line makes a fabric, and those behind it leave this
+pub record RunsThrough (keeps_going : Bool) (input : List ℕ) (p : Progress) : Type 0 where
+  pub config : Config
+  pub fabric : Fabric
+  pub behind : List (Option Line)
+  pub says : script_of (lines_of input) ≡ Some (lines.Fabric config) ∷ behind
+  pub is_new : IsNewWith config fabric
+  pub goes_on : LinesDo keeps_going (progress fabric [] 0) behind p

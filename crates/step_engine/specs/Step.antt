@@ -19,13 +19,16 @@ use Rattle.script_text.specs.declared.line.Line.{Line}
 use Rattle.script_text.specs.declared.line.Line.TheVariants as lines
 use Rattle.script_text.specs.Forms.{line_of}
 use Rattle.script_text.specs.Names.{config_fault_name, refusal_name}
-use Rattle.script_text.specs.Texts.{seen_text}
+use Rattle.script_text.specs.Texts.{seen_text, told_text, settled_text}
+use Rattle.settling.specs.Rounds.{Settling, settlement, is_quiet}
 use Rattle.line_engine.specs.Run.{Answer, Responses, Run, run_of}
+use Rattle.step_engine.specs.declared.options.StepOptions.{StepOptions}
+use Rattle.step_engine.specs.Options.{plain}
 
--- a script so far: whether its trace is told in place of the results, the fabric, the trace's records, the number of
--- lines, skipped ones counted, and whether the run has ended
+-- a script so far: what is asked of its run, the fabric, the trace's records, the number of lines, skipped ones counted,
+-- and whether the run has ended
 pub record Stepping : Type 0 where
-  pub is_traced : Bool
+  pub options : StepOptions
   pub fabric : Option Fabric
   pub records : List Record
   pub lines : ℕ
@@ -43,6 +46,13 @@ counted s = record s { lines = next_line s }
 abbrev pub nothing : Stepping → Answer Stepping
 nothing s = record { state = s; text = []; is_fault = false }
 
+-- what answers a line is a line of its own, behind the other where that is asked for
+abbrev pub echo_of : Stepping → List ℕ → List ℕ
+echo_of s line = if s.options.echoes then line ++ codes " -> " else []
+
+abbrev pub shown : Stepping → List ℕ → List ℕ → List ℕ
+shown s line text = echo_of s line ++ (text ++ 10 ∷ [])
+
 -- ---- what ends a run
 
 abbrev pub fault_line : Stepping → List ℕ → List ℕ
@@ -51,17 +61,32 @@ fault_line s name = codes "fault " ++ (decimal (next_line s) ++ 32 ∷ name)
 abbrev pub refused_line : Stepping → List ℕ → List ℕ
 refused_line s name = codes "refused " ++ (decimal (next_line s) ++ 32 ∷ name)
 
--- the run ends with this line
+abbrev pub ended : Stepping → Stepping
+ended s = record s { lines = next_line s; has_ended = true }
+
+-- the run ends with this text
 abbrev pub ends : Stepping → List ℕ → Answer Stepping
-ends s line = record { state = record s { lines = next_line s; has_ended = true }; text = line ++ 10 ∷ []; is_fault = true }
+ends s text = record { state = ended s; text = text; is_fault = true }
+
+abbrev pub fault : Stepping → List ℕ → Answer Stepping
+fault s name = ends s (fault_line s name ++ 10 ∷ [])
 
 abbrev pub no_line : Stepping → Answer Stepping
-no_line s = ends s (fault_line s (codes "Script"))
+no_line s = fault s (codes "Script")
+
+-- the run goes on behind this text, of which a trace has nothing
+abbrev pub passes : Stepping → List ℕ → Answer Stepping
+passes s text = record { state = counted s; text = if s.options.is_traced then [] else text; is_fault = true }
+
+-- a refusal ends the run, or is told and changes nothing
+abbrev pub refused : Stepping → List ℕ → List ℕ → Answer Stepping
+refused s line name =
+    if s.options.keeps_going then passes s (shown s line (refused_line s name)) else ends s (shown s line (refused_line s name))
 
 -- ---- the first line
 
 abbrev pub made : Stepping → Config → Option ConfigFault → Answer Stepping
-made s c (Some fault) = ends s (fault_line s (config_fault_name fault))
+made s c (Some x) = fault s (config_fault_name x)
 made s c None = record { state = record s { lines = next_line s; fabric = Some (new_fabric c) }; text = []; is_fault = false }
 
 -- a script has one fabric
@@ -72,17 +97,17 @@ made_once s (Some f) c = no_line s
 -- ---- events
 
 -- the result is told, or the trace grows
-abbrev pub result_text : Bool → Event → Seen → List ℕ
-result_text traced event what = if traced then [] else seen_text event what ++ 10 ∷ []
+abbrev pub result_text : Stepping → List ℕ → Event → Seen → List ℕ
+result_text s line event what = if s.options.is_traced then [] else shown s line (seen_text event what)
 
 abbrev pub recorded : Bool → List Record → Event → Seen → ℕ → List Record
 recorded traced rs event what n = if traced then rs ++ records_of event what n else rs
 
 -- n is the length of the history before the event
-abbrev pub told_of : Stepping → Event → Seen → ℕ → Answer Stepping
-told_of s event what n = record {
-  state = record s { lines = next_line s; records = recorded s.is_traced s.records event what n };
-  text = result_text s.is_traced event what;
+abbrev pub told_of : Stepping → List ℕ → Event → Seen → ℕ → Answer Stepping
+told_of s line event what n = record {
+  state = record s { lines = next_line s; records = recorded s.options.is_traced s.records event what n };
+  text = result_text s line event what;
   is_fault = false;
 }
 
@@ -94,26 +119,47 @@ kept s rs = record s { lines = next_line s; records = s.records ++ rs }
 abbrev pub IsRecorded : Result (Seen × Fabric) Refusal → Event → ℕ → Fabric → List Record → Type 0
 IsRecorded a event n f' rs = (what : Seen) × (a ≡ Ok (what, f')) × (rs ≡ records_of event what n)
 
-abbrev pub answered : Stepping → Event → ℕ → Result (Seen × Fabric) Refusal → Answer Stepping
-answered s event n (Ok p) = told_of (record s { fabric = Some p.1 }) event p.0 n
-answered s event n (Err r) = ends s (refused_line s (refusal_name r))
+abbrev pub answered : Stepping → List ℕ → Event → ℕ → Result (Seen × Fabric) Refusal → Answer Stepping
+answered s line event n (Ok p) = told_of (record s { fabric = Some p.1 }) line event p.0 n
+answered s line event n (Err r) = refused s line (refusal_name r)
 
-abbrev pub happened : Stepping → Option Fabric → Event → Answer Stepping
-happened s None event = no_line s
-happened s (Some f) event = answered s event (length f.memory.entries) (answer f event)
+abbrev pub happened : Stepping → List ℕ → Option Fabric → Event → Answer Stepping
+happened s line None event = no_line s
+happened s line (Some f) event = answered s line event (length f.memory.entries) (answer f event)
+
+-- ---- rounds of events until nothing moves
+
+-- what is collected is told as by events, each in a line
+unfoldable pub told_lines : Stepping → List ℕ → List Record → List ℕ
+told_lines s line [] = []
+told_lines s line (r ∷ rs) = shown s line (told_text r) ++ told_lines s line rs
+
+abbrev pub settled_lines : Stepping → List ℕ → Settling → List ℕ
+settled_lines s line t = told_lines s line t.records ++ shown s line (settled_text (is_quiet t.fabric))
+
+abbrev pub settles_telling : Stepping → List ℕ → Settling → Answer Stepping
+settles_telling s line t = record { state = record s { lines = next_line s; fabric = Some t.fabric }; text = settled_lines s line t; is_fault = false }
+
+abbrev pub settles_traced : Stepping → Settling → Answer Stepping
+settles_traced s t = record { state = record s { lines = next_line s; fabric = Some t.fabric; records = t.records }; text = []; is_fault = false }
+
+abbrev pub settled : Stepping → List ℕ → Option Fabric → Answer Stepping
+settled s line None = no_line s
+settled s line (Some f) = if s.options.is_traced then settles_traced s (settlement f s.records) else settles_telling s line (settlement f [])
 
 -- ---- lines
 
-abbrev pub by_line : Stepping → Option Line → Answer Stepping
-by_line s None = no_line s
-by_line s (Some (lines.Fabric c)) = made_once s s.fabric c
-by_line s (Some (lines.Event event)) = happened s s.fabric event
+abbrev pub by_line : Stepping → List ℕ → Option Line → Answer Stepping
+by_line s line None = no_line s
+by_line s line (Some (lines.Fabric c)) = made_once s s.fabric c
+by_line s line (Some (lines.Event event)) = happened s line s.fabric event
+by_line s line (Some lines.Settle) = settled s line s.fabric
 
 -- behind the end of the run nothing is read
 abbrev pub step_line : Stepping → List ℕ → Answer Stepping
 step_line s line =
     if s.has_ended then nothing s
-    else (if is_skipped line then nothing (counted s) else by_line s (line_of (words line)))
+    else (if is_skipped line then nothing (counted s) else by_line s line (line_of (words line)))
 
 abbrev pub step_long_line : Stepping → Answer Stepping
 step_long_line s = if s.has_ended then nothing s else no_line s
@@ -135,16 +181,20 @@ fabric_trace (Some f) rs = trace_text (claim_with f rs)
 abbrev pub step_end : Stepping → Answer Stepping
 step_end s = record {
   state = record s { records = [] };
-  text = if s.is_traced && not s.has_ended then fabric_trace s.fabric s.records else [];
+  text = if s.options.is_traced && not s.has_ended then fabric_trace s.fabric s.records else [];
   is_fault = false;
 }
 
 abbrev pub step_responses : Responses Stepping
 step_responses = record { on_line = step_line; on_long_line = step_long_line; on_end = step_end }
 
-abbrev pub new_script : Bool → Stepping
-new_script traced = record { is_traced = traced; fabric = None; records = []; lines = 0; has_ended = false }
+abbrev pub new_script : StepOptions → Stepping
+new_script options = record { options = options; fabric = None; records = []; lines = 0; has_ended = false }
 
 -- the whole run of `step` on an input
+abbrev pub out_step_with : StepOptions → List ℕ → Run Stepping
+out_step_with options input = run_of step_responses (new_script options) input
+
+-- the same with no option, or with `--trace` alone
 abbrev pub out_step : Bool → List ℕ → Run Stepping
-out_step traced input = run_of step_responses (new_script traced) input
+out_step traced input = out_step_with (plain traced) input

@@ -1,5 +1,5 @@
 //! What holds of the traces of scripts.
-ghost use Rattle.std.specs.Prelude.{◌≡◌, true, ℕ, List, codes};
+ghost use Rattle.std.specs.Prelude.{◌≡◌, Bool, true, ℕ, List, codes};
 ghost use Rattle.history_check.specs.declared.Record.{Record};
 ghost use Rattle.history_check.specs.Trace.{Explains};
 ghost use Rattle.fabric_laws.specs.Fabric.{Fabric};
@@ -10,14 +10,44 @@ ghost use Rattle.fabric_core.specs.Runs.{Runs};
 ghost use Rattle.trace_engine.specs.Check.{out_check};
 ghost use Rattle.trace_file.specs.Tellable.{IsTellable};
 ghost use Rattle.trace_file.specs.Texts.{trace_text};
-ghost use Rattle.step_engine.specs.Script.{IsScript};
-ghost use Rattle.step_engine.specs.Step.{claim_with, out_step};
+ghost use Rattle.step_engine.specs.Options.{traced};
+ghost use Rattle.step_engine.specs.Script.{IsScript, Progress, RunsThrough};
+ghost use Rattle.step_engine.specs.Step.{claim_with, out_step, out_step_with};
 
 use fabric_answers::laws::{a_configuration_has_one_answer, each_event_has_one_answer};
 use fabric_core::laws::{a_new_fabric_is_sound, each_event_keeps_it_sound};
 use fabric_laws::laws::the_trace_belongs;
 use trace_engine::laws::an_explained_trace_is_ok;
 use trace_file::told_trace_is_read_back;
+
+/// Where each line of a script is an event that happens, or `settle`, or with `--keep-going` an event that is refused, its
+/// run with `--trace` writes the trace of what happened with the fabric's history, and ends with status 1 where an event
+/// was refused, else 0; and the history explains that trace.
+pub fn what_a_script_does_is_explained()
+    ensures text { (keeps_going echoes : Bool) (input : List ℕ) (p : Progress) →
+        RunsThrough keeps_going input p → (out_step_with (traced keeps_going echoes) input).text ≡ trace_text (claim_with p.fabric p.records) }
+    ensures status { (keeps_going echoes : Bool) (input : List ℕ) (p : Progress) →
+        RunsThrough keeps_going input p → (out_step_with (traced keeps_going echoes) input).status ≡ p.status }
+    ensures explained { (keeps_going : Bool) (input : List ℕ) (p : Progress) → RunsThrough keeps_going input p → Explains (claim_with p.fabric p.records) }
+{
+    a_configuration_has_one_answer();
+    a_new_fabric_is_sound();
+    each_event_has_one_answer();
+    each_event_keeps_it_sound();
+    the_trace_belongs();
+}
+
+/// `check` says `ok`, with status 0, to the trace of what such a script does, if lines can tell that trace.
+pub fn what_a_script_does_is_ok()
+    ensures ok { (keeps_going echoes : Bool) (input : List ℕ) (p : Progress) →
+        RunsThrough keeps_going input p → IsTellable (claim_with p.fabric p.records) → (out_check (out_step_with (traced keeps_going echoes) input).text).text ≡ codes "ok\n" }
+    ensures status { (keeps_going echoes : Bool) (input : List ℕ) (p : Progress) →
+        RunsThrough keeps_going input p → IsTellable (claim_with p.fabric p.records) → (out_check (out_step_with (traced keeps_going echoes) input).text).status ≡ 0 }
+{
+    what_a_script_does_is_explained();
+    told_trace_is_read_back();
+    an_explained_trace_is_ok();
+}
 
 /// Where all events of a script happen to a new fabric of its configuration, its run with `--trace` writes the trace of
 /// those events with the fabric's history, and ends with status 0; and the history explains that trace.
@@ -29,11 +59,10 @@ pub fn a_traced_script_is_explained()
     ensures explained { (c : Config) (f f' : Fabric) (events : List Event) (rs : List Record) →
         IsNewWith c f → Runs f events rs f' → Explains (claim_with f' rs) }
 {
-    a_configuration_has_one_answer();
     a_new_fabric_is_sound();
-    each_event_has_one_answer();
     each_event_keeps_it_sound();
     the_trace_belongs();
+    what_a_script_does_is_explained();
 }
 
 /// Where all events of a script happen to a new fabric of its configuration, `check` says `ok`, with status 0, to what the

@@ -1,25 +1,28 @@
 //! The subcommand `step`: scripts of events for a fabric.
-ghost use Rattle.std.specs.Prelude.{◌≡◌, ◌≤◌, ◌+◌, ◌++◌, ◌∷◌, [], true, false, length, option_to_list, Some, None, Ok, Err, IfOk, IfErr, OnOk, OnErr};
+ghost use Rattle.std.specs.Prelude.{◌≡◌, ◌≤◌, ◌+◌, ◌++◌, ◌∷◌, [], true, false, length, codes, option_to_list, Some, None, Ok, Err, IfOk, IfErr, OnOk, OnErr};
 ghost use Rattle.std.specs.Fmt.{decimal};
 ghost use Rattle.arrayvec.specs.ArrayString.{array_string_len};
 ghost use Rattle.fabric_answers.specs.Answers.{answer, IsTold};
 ghost use Rattle.fabric_answers.specs.New.{new_fabric, config_fault};
 ghost use Rattle.script_text.specs.Names.{config_fault_name, refusal_name};
-ghost use Rattle.script_text.specs.Texts.{seen_text};
+ghost use Rattle.script_text.specs.Texts.{seen_text, settled_text};
 ghost use Rattle.line_engine.specs.Run.{IsAnswer, IsWhole, IsPart};
 ghost use Rattle.step_engine.specs.Step as spec;
 ghost use Rattle.step_engine.specs.Step.{IsRecorded};
 
+use crate::options::StepOptions;
 use arrayvec::ArrayString;
 use fabric_answers::laws::{a_configuration_has_one_answer, each_event_has_one_answer};
 use fabric_core::{Config, ConfigFault, Event, Fabric, Refusal, Seen};
 use history_check::Record;
 use lane_core::LaneRefusal;
 use line_engine::{EngineFault, Responder, run};
-use reasons::{Grammar, Reasoned};
-use script_text::{Line, read_line, write_config_fault, write_refusal, write_seen};
+use script_text::{
+    Line, read_line, write_config_fault, write_refusal, write_seen, write_settled, write_told,
+};
+use settling::settle;
 use std::alloc::{AllocError, Global};
-use std::io::{Read, Write, sink};
+use std::io::{Read, Write};
 use std::marker::Model;
 use std::mem;
 use trace_engine::tell_trace;
@@ -36,6 +39,19 @@ fn ending(kind: &str, line: u64) -> ArrayString<512>
     write_decimal(line, &mut text);
     text.push_str(" ");
     text
+}
+
+/// Adds a line of the script, and behind it the text.
+fn put_behind(line: &[u8], text: &[u8], out: &mut Vec<u8>, alloc: Global) -> Result<(), AllocError>
+    ensures ok { OnOk result (out.new.items ≡ out.old.items ++ ((line.now ++ codes " -> ") ++ text.now)) }
+    ensures err { OnErr result (out.new.items ≡ out.old.items) }
+{
+    let mut whole = Vec::new(alloc);
+    whole.extend_from_slice(line)?;
+    whole.extend_from_slice(" -> ".as_bytes())?;
+    whole.extend_from_slice(text)?;
+    out.extend_from_slice(whole.as_slice())?;
+    Ok(())
 }
 
 /// A new fabric.
@@ -73,7 +89,7 @@ fn happen_recorded(fabric: &mut Fabric, event: &Event) -> Result<Option<Record>,
 #[derive(Drop)]
 struct Stepper {
     alloc: Global,
-    is_traced: bool,
+    options: StepOptions,
     fabric: Option<Fabric>,
     records: Vec<Record>,
     lines: u64,
@@ -85,16 +101,16 @@ impl Model for Stepper {
 
     ghost Value = { Stepping };
 
-    ghost view = { λ s. record { is_traced = s.is_traced; fabric = s.fabric; records = s.records.items; lines = s.lines; has_ended = s.has_ended } };
+    ghost view = { λ s. record { options = s.options; fabric = s.fabric; records = s.records.items; lines = s.lines; has_ended = s.has_ended } };
 }
 
 impl Stepper {
-    fn new(alloc: Global, is_traced: bool) -> Stepper
-        ensures { result ≡ spec.new_script is_traced }
+    fn new(alloc: Global, options: StepOptions) -> Stepper
+        ensures { result ≡ spec.new_script options }
     {
         Stepper {
             alloc,
-            is_traced,
+            options,
             fabric: None,
             records: Vec::new(alloc),
             lines: 0,
@@ -115,16 +131,23 @@ impl Stepper {
         self.lines = self.next_line();
     }
 
+    /// The line is the last one.
+    fn finish(&mut self)
+        ensures { self.new ≡ spec.ended self.old }
+    {
+        self.count();
+        self.has_ended = true;
+    }
+
     /// Ends the run with this line.
     fn end(&mut self, mut line: ArrayString<512>, out: &mut Vec<u8>) -> Result<bool, AllocError>
         requires { array_string_len line ≤ 64 }
-        ensures ok { IfOk result (λ told. IsAnswer self.new out.old.items out.new.items told (spec.ends self.old line.bytes)) }
+        ensures ok { IfOk result (λ told. IsAnswer self.new out.old.items out.new.items told (spec.ends self.old (line.bytes ++ 10 ∷ []))) }
         ensures err { OnErr result (out.new.items ≡ out.old.items) }
     {
         line.push_str("\n");
         out.extend_from_slice(line.as_bytes())?;
-        self.count();
-        self.has_ended = true;
+        self.finish();
         Ok(true)
     }
 
@@ -140,25 +163,89 @@ impl Stepper {
 
     /// There is no fabric of the configuration.
     fn not_made(&mut self, fault: ConfigFault, out: &mut Vec<u8>) -> Result<bool, AllocError>
-        ensures ok { IfOk result (λ told. IsAnswer self.new out.old.items out.new.items told (spec.ends self.old (spec.fault_line self.old (config_fault_name fault)))) }
+        ensures ok { IfOk result (λ told. IsAnswer self.new out.old.items out.new.items told (spec.fault self.old (config_fault_name fault))) }
         ensures err { OnErr result (out.new.items ≡ out.old.items) }
     {
         let mut line = ending("fault ", self.next_line());
         write_config_fault(&fault, &mut line);
         self.end(line, out)
     }
+}
+
+impl Stepper {
+    /// Adds what answers a line of the script, behind it where that is asked for.
+    fn put(
+        &self,
+        line: &[u8],
+        text: &mut ArrayString<512>,
+        out: &mut Vec<u8>,
+    ) -> Result<(), AllocError>
+        requires { array_string_len text.old ≤ 320 }
+        ensures ok { OnOk result (out.new.items ≡ out.old.items ++ spec.shown self.now line.now text.old.bytes) }
+        ensures err { OnErr result (out.new.items ≡ out.old.items) }
+    {
+        text.push_str("\n");
+        if self.options.echoes {
+            put_behind(line, text.as_bytes(), out, self.alloc)?;
+        } else {
+            out.extend_from_slice(text.as_bytes())?;
+        }
+        Ok(())
+    }
+
+    /// Goes on behind a refusal, which changes nothing.
+    fn pass(
+        &mut self,
+        line: &[u8],
+        text: &mut ArrayString<512>,
+        out: &mut Vec<u8>,
+    ) -> Result<bool, AllocError>
+        requires { array_string_len text.old ≤ 320 }
+        ensures ok { IfOk result (λ told. IsAnswer self.new out.old.items out.new.items told (spec.passes self.old (spec.shown self.old line.now text.old.bytes))) }
+        ensures err { OnErr result (out.new.items ≡ out.old.items) }
+    {
+        if !self.options.is_traced {
+            self.put(line, text, out)?;
+        }
+        self.count();
+        Ok(true)
+    }
+
+    /// Ends the run with a refusal.
+    fn stop(
+        &mut self,
+        line: &[u8],
+        text: &mut ArrayString<512>,
+        out: &mut Vec<u8>,
+    ) -> Result<bool, AllocError>
+        requires { array_string_len text.old ≤ 320 }
+        ensures ok { IfOk result (λ told. IsAnswer self.new out.old.items out.new.items told (spec.ends self.old (spec.shown self.old line.now text.old.bytes))) }
+        ensures err { OnErr result (out.new.items ≡ out.old.items) }
+    {
+        self.put(line, text, out)?;
+        self.finish();
+        Ok(true)
+    }
 
     /// An event was refused; want of memory is no answer.
-    fn refused(&mut self, refusal: Refusal, out: &mut Vec<u8>) -> Result<bool, AllocError>
-        ensures ok { IfOk result (λ told. IsTold refusal × IsAnswer self.new out.old.items out.new.items told (spec.ends self.old (spec.refused_line self.old (refusal_name refusal)))) }
+    fn refused(
+        &mut self,
+        line: &[u8],
+        refusal: Refusal,
+        out: &mut Vec<u8>,
+    ) -> Result<bool, AllocError>
+        ensures ok { IfOk result (λ told. IsTold refusal × IsAnswer self.new out.old.items out.new.items told (spec.refused self.old line.now (refusal_name refusal))) }
         ensures err { OnErr result (out.new.items ≡ out.old.items) }
     {
         if let Refusal::Memory | Refusal::Lane(LaneRefusal::Memory) = refusal {
             return Err(AllocError);
         }
-        let mut line = ending("refused ", self.next_line());
-        write_refusal(&refusal, &mut line);
-        self.end(line, out)
+        let mut text = ending("refused ", self.next_line());
+        write_refusal(&refusal, &mut text);
+        if self.options.keeps_going {
+            return self.pass(line, &mut text, out);
+        }
+        self.stop(line, &mut text, out)
     }
 }
 
@@ -183,16 +270,21 @@ impl Stepper {
     }
 
     /// Tells what was seen of an event.
-    fn tell(&mut self, event: &Event, seen: &Seen, out: &mut Vec<u8>) -> Result<bool, AllocError>
+    fn tell(
+        &mut self,
+        line: &[u8],
+        event: &Event,
+        seen: &Seen,
+        out: &mut Vec<u8>,
+    ) -> Result<bool, AllocError>
         ensures state { OnOk result (self.new ≡ spec.counted self.old) }
-        ensures text { OnOk result (out.new.items ≡ out.old.items ++ (seen_text event.now seen.now ++ 10 ∷ [])) }
+        ensures text { OnOk result (out.new.items ≡ out.old.items ++ spec.shown self.old line.now (seen_text event.now seen.now)) }
         ensures told { IfOk result (λ told. told ≡ false) }
         ensures err { OnErr result (out.new.items ≡ out.old.items) }
     {
-        let mut line = ArrayString::new();
-        write_seen(event, seen, &mut line);
-        line.push_str("\n");
-        out.extend_from_slice(line.as_bytes())?;
+        let mut text = ArrayString::new();
+        write_seen(event, seen, &mut text);
+        self.put(line, &mut text, out)?;
         self.count();
         Ok(false)
     }
@@ -210,24 +302,84 @@ impl Stepper {
     }
 
     /// An event happens.
-    fn happen(&mut self, event: &Event, out: &mut Vec<u8>) -> Result<bool, AllocError>
-        ensures ok { IfOk result (λ told. IsAnswer self.new out.old.items out.new.items told (spec.happened self.old self.old.fabric event.now)) }
+    fn happen(&mut self, line: &[u8], event: &Event, out: &mut Vec<u8>) -> Result<bool, AllocError>
+        ensures ok { IfOk result (λ told. IsAnswer self.new out.old.items out.new.items told (spec.happened self.old line.now self.old.fabric event.now)) }
         ensures err { OnErr result (out.new.items ≡ out.old.items) }
     {
         let Some(fabric) = &mut self.fabric else {
             return self.no_line(out);
         };
-        if self.is_traced {
+        if self.options.is_traced {
             match happen_recorded(fabric, event) {
                 Ok(told) => self.keep(told),
-                Err(refusal) => self.refused(refusal, out),
+                Err(refusal) => self.refused(line, refusal, out),
             }
         } else {
             match happen(fabric, event) {
-                Ok(seen) => self.tell(event, &seen, out),
-                Err(refusal) => self.refused(refusal, out),
+                Ok(seen) => self.tell(line, event, &seen, out),
+                Err(refusal) => self.refused(line, refusal, out),
             }
         }
+    }
+}
+
+impl Stepper {
+    /// Adds a line for each answer that was collected.
+    fn put_answers(
+        &self,
+        line: &[u8],
+        answers: &[Record],
+        out: &mut Vec<u8>,
+    ) -> Result<(), AllocError>
+        ensures { OnOk result (out.new.items ≡ out.old.items ++ spec.told_lines self.now line.now answers.now) }
+    {
+        for answer in answers {
+            let mut text = ArrayString::new();
+            write_told(answer, &mut text);
+            self.put(line, &mut text, out)?;
+        }
+        Ok(())
+    }
+
+    /// Tells what was collected, and whether the fabric is quiet.
+    fn tell_settled(
+        &mut self,
+        line: &[u8],
+        answers: &[Record],
+        is_quiet: bool,
+        out: &mut Vec<u8>,
+    ) -> Result<bool, AllocError>
+        ensures state { OnOk result (self.new ≡ spec.counted self.old) }
+        ensures text { OnOk result (out.new.items ≡ out.old.items ++ (spec.told_lines self.old line.now answers.now ++ spec.shown self.old line.now (settled_text is_quiet))) }
+        ensures told { IfOk result (λ told. told ≡ false) }
+        ensures err { OnErr result (out.new.items ≡ out.old.items) }
+    {
+        let mut lines = Vec::new(self.alloc);
+        self.put_answers(line, answers, &mut lines)?;
+        let mut text = ArrayString::new();
+        write_settled(is_quiet, &mut text);
+        self.put(line, &mut text, &mut lines)?;
+        out.extend_from_slice(lines.as_slice())?;
+        self.count();
+        Ok(false)
+    }
+
+    /// The fabric is run until nothing moves.
+    fn settle(&mut self, line: &[u8], out: &mut Vec<u8>) -> Result<bool, AllocError>
+        ensures ok { IfOk result (λ told. IsAnswer self.new out.old.items out.new.items told (spec.settled self.old line.now self.old.fabric)) }
+        ensures err { OnErr result (out.new.items ≡ out.old.items) }
+    {
+        let Some(fabric) = &mut self.fabric else {
+            return self.no_line(out);
+        };
+        if self.options.is_traced {
+            settle(fabric, &mut self.records)?;
+            self.count();
+            return Ok(false);
+        }
+        let mut answers = Vec::new(self.alloc);
+        let is_quiet = settle(fabric, &mut answers)?;
+        self.tell_settled(line, answers.as_slice(), is_quiet, out)
     }
 }
 
@@ -247,7 +399,8 @@ impl Responder for Stepper {
         match read_line(line) {
             None => self.no_line(out),
             Some(Line::Fabric(config)) => self.make(config, out),
-            Some(Line::Event(event)) => self.happen(&event, out),
+            Some(Line::Event(event)) => self.happen(line, &event, out),
+            Some(Line::Settle) => self.settle(line, out),
         }
     }
 
@@ -260,7 +413,7 @@ impl Responder for Stepper {
 
     fn on_end(&mut self, out: &mut Vec<u8>) -> Result<bool, AllocError> {
         let records = mem::replace(&mut self.records, Vec::new(self.alloc));
-        if self.has_ended || !self.is_traced {
+        if self.has_ended || !self.options.is_traced {
             return Ok(false);
         }
         let Some(fabric) = &self.fabric else {
@@ -271,26 +424,26 @@ impl Responder for Stepper {
     }
 }
 
-/// Does what [`run_step`] does, and tells on `errors` why it answers a fault or a refusal, in a line.
-pub fn run_step_with_reasons<R: Read, W: Write, E: Write>(
+/// Runs a script: the first line makes a fabric, and each line behind it is an event, whose result is written in a line, or
+/// `settle`, which is answered by a line for each answer that it collects and one that tells whether the fabric is quiet.
+/// The first line that is none, the first fault of the configuration and the first refusal end the run with one line;
+/// with `keeps_going` a refusal doesn't end it. With `echoes` what answers an event or `settle` stands behind its line.
+/// With `is_traced` the trace of a run that ends well is written in place of the results. `Ok` is the exit status, 1 where
+/// a fault or a refusal was told. After an `Err` what was written is a beginning of the whole output.
+pub fn run_step_with<R: Read, W: Write>(
     alloc: Global,
-    is_traced: bool,
+    options: StepOptions,
     reader: &mut R,
     writer: &mut W,
-    errors: &mut E,
 ) -> Result<u8, EngineFault>
-    ensures ok { IfOk result (IsWhole (spec.out_step is_traced) (R.remaining reader.old) (R.remaining reader.new) (W.contents writer.old) (W.contents writer.new)) }
-    ensures err { OnErr result (IsPart (spec.out_step is_traced) (R.remaining reader.old) (R.remaining reader.new) (W.contents writer.old) (W.contents writer.new)) }
+    ensures ok { IfOk result (IsWhole (spec.out_step_with options) (R.remaining reader.old) (R.remaining reader.new) (W.contents writer.old) (W.contents writer.new)) }
+    ensures err { OnErr result (IsPart (spec.out_step_with options) (R.remaining reader.old) (R.remaining reader.new) (W.contents writer.old) (W.contents writer.new)) }
 {
-    let stepper = Stepper::new(alloc, is_traced);
-    let stepper = Reasoned::new(stepper, Grammar::Script, errors);
+    let stepper = Stepper::new(alloc, options);
     run(alloc, stepper, reader, writer)
 }
 
-/// Runs a script: the first line makes a fabric, and each line behind it is an event, whose result is written in a line.
-/// The first line that is none, the first fault of the configuration and the first refusal end the run with one line. With
-/// `is_traced` the trace of a run that ends well is written in place of the results. `Ok` is the exit status, 1 where a
-/// fault or a refusal was told. After an `Err` what was written is a beginning of the whole output.
+/// The run of a script that ends at the first refusal and tells results alone, or with `is_traced` the trace alone.
 pub fn run_step<R: Read, W: Write>(
     alloc: Global,
     is_traced: bool,
@@ -300,5 +453,5 @@ pub fn run_step<R: Read, W: Write>(
     ensures ok { IfOk result (IsWhole (spec.out_step is_traced) (R.remaining reader.old) (R.remaining reader.new) (W.contents writer.old) (W.contents writer.new)) }
     ensures err { OnErr result (IsPart (spec.out_step is_traced) (R.remaining reader.old) (R.remaining reader.new) (W.contents writer.old) (W.contents writer.new)) }
 {
-    run_step_with_reasons(alloc, is_traced, reader, writer, &mut sink())
+    run_step_with(alloc, StepOptions::plain(is_traced), reader, writer)
 }

@@ -1,0 +1,208 @@
+//! What `step` prints of scripts with `settle`, and with its options. `examples/check.sh` says whether the texts of the
+//! folder `examples/` are those here.
+use std::alloc::Global;
+use step_engine::{StepOptions, run_step_with};
+use trace_engine::run_check;
+
+const FIRST_SCRIPT: &str = "\
+# A first script for `pciex step`: requester 1 adds 7 to the four bytes at 40h, and is answered the old value.
+fabric 1 0 4096
+submit 1 add 40 07000000
+settle
+";
+
+const FIRST_SCRIPT_OUT: &str = "\
+sub 1 0
+ans 1 0 data 00000000
+settled
+";
+
+/// The first packet of requester 1 is lost, so requester 2 is served before it.
+const ONE_LOST: &str = "\
+fabric 2 0 4096
+submit 2 add 40 01000000
+submit 1 add 40 01000000
+transmit up1
+deliver up1 lost
+settle
+";
+
+const ONE_LOST_OUT: &str = "\
+sub 2 0
+sub 1 0
+sent 000
+gone
+ans 2 0 data 00000000
+ans 1 0 data 01000000
+settled
+";
+
+const ONE_LOST_TRACE: &str = "\
+pciex-trace 2
+memory 0 4096 64
+sub 2 0 0 add 40 01000000
+sub 1 0 0 add 40 01000000
+ans 2 0 2 data 00000000
+ans 1 0 2 data 01000000
+history
+ent 2 0 add 40 01000000
+ent 1 0 add 40 01000000
+end
+";
+
+/// A packet is lost four times, so its link has stopped.
+const STOPPED: &str = "\
+fabric 1 0 4096
+submit 1 add 40 01000000
+transmit up1
+deliver up1 lost
+timer up1
+transmit up1
+deliver up1 lost
+timer up1
+transmit up1
+deliver up1 lost
+timer up1
+transmit up1
+deliver up1 lost
+timer up1
+settle
+settle
+";
+
+const STOPPED_OUT: &str = "\
+sub 1 0
+sent 000
+gone
+replay 1
+sent 000
+gone
+replay 1
+sent 000
+gone
+replay 1
+sent 000
+gone
+replay 1
+ans 1 0 data 00000000
+settled
+settled
+";
+
+const REFUSED: &str = "\
+fabric 1 0 4096
+transmit up1
+submit 1 add 40 07000000
+forward up1 0
+settle
+";
+
+const REFUSED_TRACE: &str = "\
+pciex-trace 2
+memory 0 4096 64
+sub 1 0 0 add 40 07000000
+ans 1 0 1 data 00000000
+history
+ent 1 0 add 40 07000000
+end
+";
+
+const PLAIN: StepOptions = StepOptions {
+    is_traced: false,
+    keeps_going: false,
+    echoes: false,
+};
+
+const TRACED: StepOptions = StepOptions {
+    is_traced: true,
+    keeps_going: false,
+    echoes: false,
+};
+
+const GOING: StepOptions = StepOptions {
+    is_traced: false,
+    keeps_going: true,
+    echoes: false,
+};
+
+const GOING_TRACED: StepOptions = StepOptions {
+    is_traced: true,
+    keeps_going: true,
+    echoes: false,
+};
+
+const ECHOED: StepOptions = StepOptions {
+    is_traced: false,
+    keeps_going: false,
+    echoes: true,
+};
+
+/// The options, the script, its output and its exit status.
+const ROWS: [(StepOptions, &str, &str, u8); 14] = [
+    (PLAIN, FIRST_SCRIPT, FIRST_SCRIPT_OUT, 0),
+    (PLAIN, ONE_LOST, ONE_LOST_OUT, 0),
+    (PLAIN, STOPPED, STOPPED_OUT, 0),
+    (PLAIN, "fabric 1 0 4096\nsettle\n", "settled\n", 0),
+    (PLAIN, "settle\n", "fault 1 Script\n", 1),
+    (PLAIN, "fabric 1 0 4096\nsettle now\n", "fault 2 Script\n", 1),
+    (PLAIN, REFUSED, "refused 2 Idle\n", 1),
+    (
+        GOING,
+        REFUSED,
+        "refused 2 Idle\nsub 1 0\nrefused 4 NotTakeable\nans 1 0 data 00000000\nsettled\n",
+        1,
+    ),
+    (
+        GOING,
+        "fabric 1 0 4096\ntransmit up1\ntransmit\nsettle\n",
+        "refused 2 Idle\nfault 3 Script\n",
+        1,
+    ),
+    (GOING, FIRST_SCRIPT, FIRST_SCRIPT_OUT, 0),
+    (
+        ECHOED,
+        FIRST_SCRIPT,
+        "submit 1 add 40 07000000 -> sub 1 0\nsettle -> ans 1 0 data 00000000\nsettle -> settled\n",
+        0,
+    ),
+    (ECHOED, REFUSED, "transmit up1 -> refused 2 Idle\n", 1),
+    (TRACED, ONE_LOST, ONE_LOST_TRACE, 0),
+    (GOING_TRACED, REFUSED, REFUSED_TRACE, 1),
+];
+
+/// Whether `step` prints this of a script, with this exit status.
+fn prints(alloc: Global, options: StepOptions, script: &[u8], want: &[u8], exit: u8) -> bool {
+    let mut reader = script;
+    let mut out = Vec::new(alloc);
+    let result = run_step_with(alloc, options, &mut reader, &mut out);
+    result == Ok(exit) && out.as_slice() == want
+}
+
+/// Whether `check` says `ok` to a trace.
+fn is_explained(alloc: Global, text: &[u8]) -> bool {
+    let mut reader = text;
+    let mut out = Vec::new(alloc);
+    run_check(alloc, &mut reader, &mut out) == Ok(0) && out.as_slice() == b"ok\n".as_slice()
+}
+
+#[test]
+fn scripts(rt: HostRuntime) {
+    for (options, script, want, exit) in ROWS {
+        let is_well = prints(
+            rt.alloc(),
+            options,
+            script.as_bytes(),
+            want.as_bytes(),
+            exit,
+        );
+        assert!(rt; is_well, "{script}");
+    }
+}
+
+#[test]
+fn traces(rt: HostRuntime) {
+    for trace in [ONE_LOST_TRACE, REFUSED_TRACE] {
+        let is_ok = is_explained(rt.alloc(), trace.as_bytes());
+        assert!(rt; is_ok, "{trace}");
+    }
+}

@@ -1,0 +1,3 @@
+pub mod RoundLemmas
+pub mod ReachedLemmas
+pub mod QuietLemmas

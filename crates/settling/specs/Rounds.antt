@@ -1,0 +1,156 @@
+-- Running a fabric by rounds of events until one moves nothing.
+use Rattle.std.specs.Prelude.{ℕ, zero, suc, ◌-◌, ◌^◌, ◌||◌, ◌&&◌, Bool, true, false, if◌then◌else◌, List, [], ◌∷◌, ◌++◌, length, fold, Result, Ok, Err, is_ok}
+use Rattle.std.specs.List.{list_all}
+use Rattle.history_check.specs.declared.Record.{Record}
+use Rattle.dllp_core.specs.declared.packet.Class.TheVariants.{Posted, NonPosted, Completion}
+use Rattle.lane_core.specs.declared.packet.Fate.TheVariants.{Good}
+use Rattle.lane_core.specs.declared.packet.DllpKind.{DllpKind}
+use Rattle.lane_core.specs.declared.packet.DllpKind.TheVariants as kinds
+use Rattle.vc_queue.specs.Queue.{Item}
+use Rattle.lane_core.specs.Steps.{Ends}
+use Rattle.lane_core.specs.Calls.{content}
+use Rattle.fabric_laws.specs.Fabric.{Fabric}
+use Rattle.fabric_core.specs.declared.event.Event.{Event}
+use Rattle.fabric_core.specs.declared.event.Event.TheVariants as events
+use Rattle.fabric_core.specs.declared.event.LaneName.{LaneName}
+use Rattle.fabric_core.specs.declared.event.LaneName.TheVariants as lanes
+use Rattle.fabric_core.specs.Kept.{records_of}
+use Rattle.fabric_answers.specs.Answers.{Answered, answer}
+
+-- a fabric that is being settled, what its requesters collected, oldest first, and whether the round has moved something
+pub record Settling : Type 0 where
+  pub fabric : Fabric
+  pub records : List Record
+  pub moved : Bool
+
+abbrev pub at : Fabric → List Record → Bool → Settling
+at f rs moved = record { fabric = f; records = rs; moved = moved }
+
+-- ---- events
+
+-- a DLLP can always be sent, and a link that is up again has moved nothing yet
+abbrev pub is_move : Event → Bool
+is_move (events.SendDllp lane kind) = false
+is_move (events.DeliverDllp lane fate) = false
+is_move (events.Retrained lane) = false
+is_move _ = true
+
+-- an event that happens is one step of the fabric, and one that is refused changes nothing
+abbrev pub answered : Settling → Event → Answered Fabric → Settling
+answered s event (Ok p) = at p.1 (s.records ++ records_of event p.0 (length s.fabric.memory.entries)) (s.moved || is_move event)
+answered s event (Err r) = s
+
+unfoldable pub tried : Settling → Event → Settling
+tried s event = answered s event (answer s.fabric event)
+
+-- whether the event happens
+unfoldable pub goes : Settling → Event → Bool
+goes s event = is_ok (answer s.fabric event)
+
+unfoldable pub times : ℕ → Settling → Event → Settling
+times zero s event = s
+times (suc n) s event = times n (tried s event) event
+
+-- the event until it is refused
+abbrev pub all : Settling → Event → Settling
+all s event = times (2 ^ 64 - 1) s event
+
+-- ---- the turn of a lane
+
+-- a link that was stopped is up again
+abbrev pub retrained : Settling → LaneName → Settling
+retrained s lane = tried s (events.Retrained lane)
+
+-- the first packet goes, and then the others
+abbrev pub transmitted : Settling → LaneName → Settling
+transmitted s lane = all (tried s (events.Transmit lane)) (events.Transmit lane)
+
+-- and they arrive
+abbrev pub with_packets : Settling → LaneName → Settling
+with_packets s lane = all (transmitted (retrained s lane) lane) (events.Deliver lane Good)
+
+-- an answer and the updates of each class go, and arrive
+abbrev pub kinds_sent : List DllpKind
+kinds_sent = kinds.Answer ∷ kinds.Update Posted ∷ kinds.Update NonPosted ∷ kinds.Update Completion ∷ []
+
+abbrev pub sent_dllp : LaneName → Settling → DllpKind → Settling
+sent_dllp lane s kind = tried s (events.SendDllp lane kind)
+
+unfoldable pub with_sent : Settling → LaneName → Settling
+with_sent s lane = fold (sent_dllp lane) s kinds_sent
+
+abbrev pub with_dllps : Settling → LaneName → Settling
+with_dllps s lane = all (with_sent s lane) (events.DeliverDllp lane Good)
+
+-- the replay timer expires, where no packet went
+abbrev pub timed : Bool → Settling → LaneName → Settling
+timed sent s lane = if sent then s else tried s (events.Timer lane)
+
+unfoldable pub lane_turn : Settling → LaneName → Settling
+lane_turn s lane = timed (goes (retrained s lane) (events.Transmit lane)) (with_dllps (with_packets s lane) lane) lane
+
+-- ---- a round
+
+-- a fabric with fewer requesters refuses what is tried of the lanes that it hasn't
+abbrev pub all_lanes : List LaneName
+all_lanes =
+    lanes.Up 1 ∷ lanes.Up 2 ∷ lanes.Up 3 ∷ lanes.Up 4 ∷ lanes.Up 5 ∷ lanes.Up 6 ∷ lanes.Up 7 ∷ lanes.Inward ∷ lanes.Outward
+    ∷ lanes.Down 1 ∷ lanes.Down 2 ∷ lanes.Down 3 ∷ lanes.Down 4 ∷ lanes.Down 5 ∷ lanes.Down 6 ∷ lanes.Down 7 ∷ []
+
+abbrev pub forwarding_lanes : List LaneName
+forwarding_lanes = lanes.Up 1 ∷ lanes.Up 2 ∷ lanes.Up 3 ∷ lanes.Up 4 ∷ lanes.Up 5 ∷ lanes.Up 6 ∷ lanes.Up 7 ∷ lanes.Outward ∷ []
+
+abbrev pub ports : List ℕ
+ports = 1 ∷ 2 ∷ 3 ∷ 4 ∷ 5 ∷ 6 ∷ 7 ∷ []
+
+-- the packets at the places 0 and 1 go on to their ports
+abbrev pub forwarded : Settling → LaneName → Settling
+forwarded s lane = tried (tried s (events.Forward lane 0)) (events.Forward lane 1)
+
+-- the requests at the places 0 and 1 act on the memory
+abbrev pub served : Settling → Settling
+served s = tried (tried s (events.Serve 0)) (events.Serve 1)
+
+-- the completions that wait are collected
+abbrev pub collected : Settling → ℕ → Settling
+collected s port = all s (events.Collect port)
+
+unfoldable pub with_lanes : Settling → Settling
+with_lanes s = fold lane_turn s all_lanes
+
+unfoldable pub with_forwards : Settling → Settling
+with_forwards s = fold forwarded s forwarding_lanes
+
+unfoldable pub with_answers : Settling → Settling
+with_answers s = fold collected s ports
+
+-- the links, the switch, the memory, the requesters
+abbrev pub round : Settling → Settling
+round s = with_answers (served (with_forwards (with_lanes (at s.fabric s.records false))))
+
+-- ---- all rounds
+
+abbrev pub if_moved : (Settling → Settling) → Settling → Settling
+if_moved more s = if s.moved then more s else s
+
+-- a round, and others behind one that moved something, at most so many
+unfoldable pub rounds : ℕ → Settling → Settling
+rounds zero s = s
+rounds (suc n) s = if_moved (rounds n) (round s)
+
+-- the fabric and the records after all rounds
+abbrev pub settlement : Fabric → List Record → Settling
+settlement f rs = rounds 10000 (at f rs false)
+
+-- ---- quiet
+
+abbrev pub is_empty : List Item → Bool
+is_empty [] = true
+is_empty (x ∷ xs) = false
+
+abbrev pub holds_nothing : Ends → Bool
+holds_nothing e = is_empty (content e)
+
+-- all that was entered was taken
+abbrev pub is_quiet : Fabric → Bool
+is_quiet f = holds_nothing f.inward && holds_nothing f.outward && list_all holds_nothing f.up && list_all holds_nothing f.down

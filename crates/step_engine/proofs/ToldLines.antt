@@ -1,0 +1,62 @@
+-- What is collected, line by line.
+use Rattle.std.proofs.Common.{◌≡◌, ◌∙◌, ◌++◌, ◌+◌, ◌∷◌, ◌<◌, ◌≤◌, Bool, false, List, ℕ, [], zero, suc, Option, Some, Result, Ok, Err, IfOk, OnOk, if◌then◌else◌, refl, ap, ap₂, sym, subst, drop, length, get_or, append_assoc, drop-cons, arith}
+use Rattle.std.proofs.lemmas.List.{append-nil}
+use Rattle.history_check.specs.declared.Record.{Record}
+use Rattle.fabric_laws.specs.Fabric.{Fabric}
+use Rattle.script_text.specs.Texts.{told_text, settled_text}
+use Rattle.settling.specs.Rounds.{settlement, is_quiet}
+use Rattle.line_engine.specs.Run.{IsAnswer}
+use Rattle.step_engine.specs.Step.{Stepping, counted, shown, told_lines, settled_lines, settles_telling, settles_traced, settled}
+
+-- one line more
+pub told-next : (s : Stepping) (line : List ℕ) (rs : List Record) (i : ℕ) (r : Record) (text text' : List ℕ) → i < length rs → r ≡ get_or rs i r
+    → text' ≡ text ++ shown s line (told_text r) → text' ++ told_lines s line (drop (i + 1) rs) ≡ text ++ told_lines s line (drop i rs)
+unfolding told_lines
+told-next s line rs i r text text' lt is g =
+    let next : i + 1 ≡ suc i = omega arith in
+    let cut : drop i rs ≡ r ∷ drop (suc i) rs = drop-cons rs i r lt ∙ ap (λ (y : Record). y ∷ drop (suc i) rs) (sym is) in
+    let whole : told_lines s line (drop i rs) ≡ shown s line (told_text r) ++ told_lines s line (drop (suc i) rs) = ap (λ (ys : List Record). told_lines s line ys) cut in
+    ap (λ (t : List ℕ). t ++ told_lines s line (drop (i + 1) rs)) g
+    ∙ ap (λ (n : ℕ). (text ++ shown s line (told_text r)) ++ told_lines s line (drop n rs)) next
+    ∙ append_assoc text (shown s line (told_text r)) (told_lines s line (drop (suc i) rs))
+    ∙ ap (λ (t : List ℕ). text ++ t) (sym whole)
+
+-- no line is left
+pub told-past : (s : Stepping) (line : List ℕ) (rs : List Record) (i : ℕ) (text : List ℕ) → length rs ≤ i → text ≡ text ++ told_lines s line (drop i rs)
+unfolding told_lines
+told-past s line [] zero text le = sym (append-nil text)
+told-past s line [] (suc i) text le = sym (append-nil text)
+told-past s line (x ∷ xs) zero text le = absurd (omega arith)
+told-past s line (x ∷ xs) (suc i) text le = told-past s line xs i text (omega arith)
+
+-- the fabric says nothing of how lines are told
+told-alike : (s : Stepping) (o : Option Fabric) (line : List ℕ) (rs : List Record) → told_lines (record s { fabric = o }) line rs ≡ told_lines s line rs
+unfolding told_lines
+told-alike s o line [] = refl
+told-alike s o line (r ∷ rs) = ap (λ (t : List ℕ). shown s line (told_text r) ++ t) (told-alike s o line rs)
+
+-- what is told of the fabric that rounds of events leave
+telling : (s : Stepping) (line : List ℕ) (f f' : Fabric) (answers : List Record) (quiet : Bool) (new : Stepping) (before after : List ℕ) (told : Bool)
+    → s.fabric ≡ Some f → s.options.is_traced ≡ false → f' ≡ (settlement f []).fabric → answers ≡ (settlement f []).records → quiet ≡ is_quiet f'
+    → new ≡ counted (record s { fabric = Some f' })
+    → after ≡ before ++ (told_lines (record s { fabric = Some f' }) line answers ++ shown s line (settled_text quiet)) → told ≡ false
+    → IsAnswer new before after told (settled s line s.fabric)
+telling s line f f' answers quiet new before after told has plain fabric records is_quiet_so state text fault =
+    let t = settlement f [] in
+    let same : settled_lines s line t ≡ told_lines (record s { fabric = Some f' }) line answers ++ shown s line (settled_text quiet) =
+    sym (ap (λ (rs : List ℕ). rs ++ shown s line (settled_text quiet)) (told-alike s (Some f') line answers)
+    ∙ ap₂ (λ (rs : List Record) (q : Bool). told_lines s line rs ++ shown s line (settled_text q)) records (is_quiet_so ∙ ap is_quiet fabric)) in
+    subst (IsAnswer new before after told) (sym (ap (settled s line) has ∙ ap (λ (b : Bool). if b then settles_traced s (settlement f s.records) else settles_telling s line t) plain))
+    (record {
+      state = state ∙ ap (λ (g : Fabric). counted (record s { fabric = Some g })) fabric;
+      text = text ∙ ap (λ (x : List ℕ). before ++ x) (sym same);
+      is_fault = fault;
+    })
+
+pub told_settled : {E : Type 0} (r : Result Bool E) (s : Stepping) (line : List ℕ) (f f' : Fabric) (answers : List Record) (quiet : Bool) (new : Stepping) (before after : List ℕ)
+    → s.fabric ≡ Some f → s.options.is_traced ≡ false → f' ≡ (settlement f []).fabric → answers ≡ (settlement f []).records → quiet ≡ is_quiet f'
+    → OnOk r (new ≡ counted (record s { fabric = Some f' }))
+    → OnOk r (after ≡ before ++ (told_lines (record s { fabric = Some f' }) line answers ++ shown s line (settled_text quiet))) → IfOk r (λ told. told ≡ false)
+    → IfOk r (λ told. IsAnswer new before after told (settled s line s.fabric))
+told_settled (Ok x) s line f f' answers quiet new before after a b c d e state text fault = telling s line f f' answers quiet new before after x a b c d e state text fault
+told_settled (Err x) s line f f' answers quiet new before after a b c d e state text fault = fault

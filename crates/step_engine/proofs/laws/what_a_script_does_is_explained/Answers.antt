@@ -1,0 +1,29 @@
+use Rattle.std.proofs.Common.{ap}
+use Rattle.line_engine.specs.Run.{Run}
+use Rattle.step_engine.specs.Step.{Stepping}
+use Rattle.step_engine.proofs.Traced.{Laws, Answers, is_told, is_explained}
+use Rattle.step_engine.proofs.laws.what_a_script_does_is_explained.Goals as goal
+
+laws_of : goal.After-the_trace_belongs → Laws
+laws_of c = record {
+  sound = c.a_new_fabric_is_sound.ensures.sound;
+  empty = c.a_new_fabric_is_sound.ensures.belongs;
+  step = c.each_event_keeps_it_sound.ensures.step;
+  keeps = c.each_event_keeps_it_sound.ensures.sound;
+  run = c.the_trace_belongs.ensures.run;
+  explained = c.the_trace_belongs.ensures.explained;
+}
+
+answers_of : goal.After-the_trace_belongs → Answers
+answers_of c = record {
+  new = c.a_configuration_has_one_answer.ensures.new;
+  happens = c.each_event_has_one_answer.ensures.happens;
+  refused = c.each_event_has_one_answer.ensures.refused;
+}
+
+pub returns : goal.returns
+returns c = record {
+  text = λ keeps echoes input p h. ap (λ (x : Run Stepping). x.text) (is_told (laws_of c) (answers_of c) keeps echoes input p h).1;
+  status = λ keeps echoes input p h. ap (λ (x : Run Stepping). x.status) (is_told (laws_of c) (answers_of c) keeps echoes input p h).1;
+  explained = is_explained (laws_of c);
+}
