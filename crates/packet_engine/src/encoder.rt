@@ -7,7 +7,7 @@ ghost use Rattle.packet_engine.specs.Lines.{out_encode, encode_reading};
 use crate::telling::{tell, tell_bytes, tell_text_fault};
 use line_engine::{EngineFault, Responder, run};
 use packet_text::read_packet;
-use reasons::{Grammar, Reasoned};
+use reasons::Reasoned;
 use std::alloc::{AllocError, Global};
 use std::io::{Read, Write, sink};
 use std::marker::Model;
@@ -66,7 +66,7 @@ pub fn run_encode_with_reasons<R: Read, W: Write, E: Write>(
     ensures ok { IfOk result (IsWhole out_encode (R.remaining reader.old) (R.remaining reader.new) (W.contents writer.old) (W.contents writer.new)) }
     ensures err { OnErr result (IsPart out_encode (R.remaining reader.old) (R.remaining reader.new) (W.contents writer.old) (W.contents writer.new)) }
 {
-    let encoder = Reasoned::new(Encoder {}, Grammar::Packets, errors);
+    let encoder = Reasoned::new(Encoder {}, errors);
     run(alloc, encoder, reader, writer)
 }
 

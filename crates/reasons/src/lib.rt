@@ -17,7 +17,7 @@ mod trace_lines;
 mod traces;
 mod words;
 
-pub use lines::Grammar;
+pub use lines::{tell_long_line, tell_script_line};
 pub use options::tell_options;
 pub use reasoned::Reasoned;
 pub use trace_lines::TraceLines;

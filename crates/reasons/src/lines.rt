@@ -5,19 +5,9 @@ ghost use Rattle.reasons.specs.Told.{IsTold};
 use crate::packets::packet_misfit;
 use crate::scripts::script_misfit;
 use crate::telling::{Reason, Shown};
-use crate::words::Misfit;
 use line_engine::EngineFault;
 use std::io::Write;
 use trace_text::cut;
-
-/// What the lines of a text spell.
-#[derive(Clone, Copy, Debug, PartialEq, Eq)]
-pub enum Grammar {
-    /// A fabric and events.
-    Script,
-    /// Packets in words.
-    Packets,
-}
 
 /// What refusals and faults mean, by their names.
 const MEANINGS: [(&str, &str); 13] = [
@@ -82,21 +72,10 @@ fn meaning_of(name: &[u8]) -> &'static str {
     ""
 }
 
-/// What an answer tells of a line, without the line that it may repeat before ` -> `.
-fn told_in(answer: &[u8]) -> &[u8] {
+/// What is behind the first two words of an answer: the name of a fault.
+fn name_in(answer: &[u8]) -> &[u8] {
     let answer = answer.strip_suffix(b"\n").unwrap_or(answer);
-    let mut told = answer;
-    for at in 0..answer.len() {
-        if let Some(behind) = answer[at..].strip_prefix(b" -> ") {
-            told = behind;
-        }
-    }
-    told
-}
-
-/// What is behind the first two words.
-fn name_in(told: &[u8]) -> &[u8] {
-    let behind = cut(told).1.unwrap_or(b"");
+    let behind = cut(answer).1.unwrap_or(b"");
     cut(behind).1.unwrap_or(b"")
 }
 
@@ -114,29 +93,35 @@ fn put_refused(line: &[u8], name: &[u8], reason: &mut Reason) {
     }
 }
 
-/// The first word of the line that doesn't fit, none where an event is refused: that may be told by the
-/// exit status alone.
-fn misfit_of<'a>(grammar: Grammar, line: &'a [u8], told: &[u8]) -> Option<Misfit<'a>> {
-    match grammar {
-        Grammar::Script if told.is_empty() || told.starts_with(b"refused ") => None,
-        Grammar::Script => script_misfit(line),
-        Grammar::Packets => packet_misfit(line),
+/// Why a packet's line is refused, by the answer to it: the first word that doesn't fit, or the
+/// packet's fault where all do.
+fn packet_reason(line: &[u8], answer: &[u8]) -> Reason {
+    let mut reason = Reason::new();
+    match packet_misfit(line) {
+        Some(misfit) => misfit.put(&mut reason),
+        None => put_refused(line, name_in(answer), &mut reason),
     }
+    reason
 }
 
-/// Adds why the line is refused, by the answer to it.
-fn put_line(grammar: Grammar, line: &[u8], answer: &[u8], reason: &mut Reason) {
-    let told = told_in(answer);
-    match misfit_of(grammar, line, told) {
-        Some(misfit) => misfit.put(reason),
-        None => put_refused(line, name_in(told), reason),
+/// Why a script's line is refused: the fabric's refusal of its event by name, or else the first word
+/// that doesn't fit.
+fn script_reason(line: &[u8], refusal: Option<&str>) -> Reason {
+    let mut reason = Reason::new();
+    match refusal {
+        Some(name) => put_refused(line, name.as_bytes(), &mut reason),
+        None => {
+            if let Some(misfit) = script_misfit(line) {
+                misfit.put(&mut reason);
+            }
+        }
     }
+    reason
 }
 
-/// Tells why the line of that number is refused, where there is an answer that tells a fault of it.
-/// After an `Err` the stream has no more than a part.
-pub(crate) fn tell_line<E: Write>(
-    grammar: Grammar,
+/// Tells why a packet's line is refused by the answer to it, where that is a fault: this is the line's
+/// number then. After an `Err` the stream has no more than a part.
+pub(crate) fn tell_packet_line<E: Write>(
     line: &[u8],
     answer: &[u8],
     fault: Option<u64>,
@@ -144,12 +129,27 @@ pub(crate) fn tell_line<E: Write>(
 ) -> Result<(), EngineFault>
     ensures { OnOk result (IsTold fault (E.contents errors.old) (E.contents errors.new)) }
 {
-    let Some(number) = fault else {
-        return Ok(());
-    };
-    let mut reason = Reason::new();
-    put_line(grammar, line, answer, &mut reason);
-    reason.tell_at(number, errors)
+    match fault {
+        Some(number) => packet_reason(line, answer).tell_at(number, errors),
+        None => Ok(()),
+    }
+}
+
+/// Tells why a script's line is refused, where it is: this is its number then. A refusal of the fabric
+/// is given by its name; without one the line is none of a script at its place. After an `Err` the
+/// stream has no more than a part.
+pub fn tell_script_line<E: Write>(
+    line: &[u8],
+    refusal: Option<&str>,
+    fault: Option<u64>,
+    errors: &mut E,
+) -> Result<(), EngineFault>
+    ensures { OnOk result (IsTold fault (E.contents errors.old) (E.contents errors.new)) }
+{
+    match fault {
+        Some(number) => script_reason(line, refusal).tell_at(number, errors),
+        None => Ok(()),
+    }
 }
 
 /// The reason of a line that is too long.
@@ -161,11 +161,8 @@ pub(crate) fn long_line() -> Reason {
     reason
 }
 
-/// Tells that the line of that number is too long, where that is told as a fault.
-pub(crate) fn tell_long_line<E: Write>(
-    fault: Option<u64>,
-    errors: &mut E,
-) -> Result<(), EngineFault>
+/// Tells that a line is too long, where that is told as a fault: this is its number then.
+pub fn tell_long_line<E: Write>(fault: Option<u64>, errors: &mut E) -> Result<(), EngineFault>
     ensures { OnOk result (IsTold fault (E.contents errors.old) (E.contents errors.new)) }
 {
     match fault {

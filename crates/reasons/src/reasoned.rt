@@ -1,18 +1,17 @@
-//! Answers with reasons beside them.
+//! Answers to packets in words, with reasons beside them.
 ghost use Rattle.std.specs.Prelude.{◌≡◌, IfOk, OnErr};
 
-use crate::lines::{Grammar, tell_line, tell_long_line};
+use crate::lines::{tell_long_line, tell_packet_line};
 use line_engine::Responder;
 use std::alloc::AllocError;
 use std::io::Write;
 use std::marker::Model;
 
-/// A responder whose answers are told the reasons of, where they tell faults: its answers stay as they
-/// are.
+/// A responder to packets in words, whose answers are told the reasons of where they tell faults: the
+/// answers stay as they are.
 #[derive(Drop)]
 pub struct Reasoned<P, E> {
     responder: P,
-    grammar: Grammar,
     lines: u64,
     /// Where reasons are told.
     errors: E,
@@ -25,12 +24,11 @@ impl<P, E> Model for Reasoned<P, E> {
 }
 
 impl<P, E> Reasoned<P, E> {
-    pub fn new(responder: P, grammar: Grammar, errors: E) -> Reasoned<P, E>
+    pub fn new(responder: P, errors: E) -> Reasoned<P, E>
         ensures { result ≡ responder }
     {
         Reasoned {
             responder,
-            grammar,
             lines: 0,
             errors,
         }
@@ -46,7 +44,7 @@ impl<P: Responder, E: Write + Drop> Responder for Reasoned<P, E> {
         let told = self.responder.on_line(line, out)?;
         let answer = out.get(before..).unwrap_or(b"");
         let fault = told.then_some(self.lines);
-        let _ = tell_line(self.grammar, line, answer, fault, &mut self.errors);
+        let _ = tell_packet_line(line, answer, fault, &mut self.errors);
         Ok(told)
     }
 
