@@ -2,13 +2,17 @@
 use packet_engine::run_encode_with_reasons;
 use std::alloc::{AllocError, Global};
 use std::test::Fail;
-use step_engine::run_step_with_reasons;
+use step_engine::{StepOptions, run_step_with_reasons};
 use trace_engine::{run_check_with_reasons, run_upgrade_with_reasons};
 
 /// A subcommand.
 #[derive(Clone, Copy, Debug, PartialEq, Eq)]
 enum Engine {
     Step,
+    /// Refusals don't end it.
+    StepOn,
+    /// The same with a trace.
+    StepOnTraced,
     Check,
     Upgrade,
     Encode,
@@ -20,7 +24,26 @@ fn is_told(alloc: Global, engine: Engine, input: &[u8], want: &str) -> bool {
     let mut out = Vec::new(alloc);
     let mut errors = Vec::new(alloc);
     let result = match engine {
-        Engine::Step => run_step_with_reasons(alloc, false, &mut reader, &mut out, &mut errors),
+        Engine::Step => {
+            let options = StepOptions::plain(false);
+            run_step_with_reasons(alloc, options, &mut reader, &mut out, &mut errors)
+        }
+        Engine::StepOn => {
+            let options = StepOptions {
+                is_traced: false,
+                keeps_going: true,
+                echoes: true,
+            };
+            run_step_with_reasons(alloc, options, &mut reader, &mut out, &mut errors)
+        }
+        Engine::StepOnTraced => {
+            let options = StepOptions {
+                is_traced: true,
+                keeps_going: true,
+                echoes: false,
+            };
+            run_step_with_reasons(alloc, options, &mut reader, &mut out, &mut errors)
+        }
         Engine::Check => run_check_with_reasons(alloc, &mut reader, &mut out, &mut errors),
         Engine::Upgrade => run_upgrade_with_reasons(alloc, &mut reader, &mut out, &mut errors),
         Engine::Encode => run_encode_with_reasons(alloc, &mut reader, &mut out, &mut errors),
@@ -29,7 +52,7 @@ fn is_told(alloc: Global, engine: Engine, input: &[u8], want: &str) -> bool {
 }
 
 /// What an engine reads, and what it tells.
-const ROWS: [(Engine, &str, &str); 38] = [
+const ROWS: [(Engine, &str, &str); 40] = [
     (
         Engine::Step,
         "fabric 1 0 4096\ntransmit lanes\n",
@@ -124,6 +147,16 @@ const ROWS: [(Engine, &str, &str); 38] = [
         Engine::Step,
         "fabric 1 0 4096 1 8 1 2 1 8\nsubmit 1 add 40 01000000\nsubmit 1 add 40 01000000\n",
         "pciex: line 3: 'submit 1 add 40 01000000' is refused: NoCredits NP (the lane that the packet would enter has not the non-posted credits)\n",
+    ),
+    (
+        Engine::StepOn,
+        "fabric 1 0 4096\n# idle\ncollect 1\nsubmit 1 add 40 01000000\nsettle\nserve 0\nserve x\nserve 0\n",
+        "pciex: line 3: 'collect 1' is refused: Idle (there is nothing to send, to deliver, to replay or to collect, or no stopped sender to retrain)\npciex: line 6: 'serve 0' is refused: NotTakeable (there is no packet at the place, or it may not pass one before it)\npciex: line 7, column 7: 'x' where a place is expected (a number from 0 on)\n",
+    ),
+    (
+        Engine::StepOnTraced,
+        "fabric 1 0 4096\ncollect 2\nsettle up1\n",
+        "pciex: line 2: 'collect 2' is refused: NoSuchPart (the fabric has no such requester or lane, or the lane is not one that the switch forwards from)\npciex: line 3, column 8: 'up1' where the line's end is expected\n",
     ),
     (
         Engine::Check,
