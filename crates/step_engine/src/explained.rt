@@ -1,5 +1,6 @@
 //! Answers to scripts, with reasons beside them.
-ghost use Rattle.std.specs.Prelude.{◌≡◌, IfOk, OnOk, OnErr, then_some};
+ghost use Rattle.std.specs.Prelude.{◌≡◌, IfOk, OnOk, OnErr};
+ghost use Rattle.std.specs.Bool.{then_some};
 ghost use Rattle.line_engine.specs.Run.{IsWhole, IsPart};
 ghost use Rattle.reasons.specs.Told.{IsTold};
 ghost use Rattle.step_engine.specs.Step as spec;
