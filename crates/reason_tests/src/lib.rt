@@ -1,9 +1,7 @@
-//! What is told on standard error of faults, refusals, flaws and options.
+//! What is told on standard error of faults, refusals and flaws.
 #![tactic(auto)]
 
 #[cfg(test)]
 mod flaws;
 #[cfg(test)]
 mod lines;
-#[cfg(test)]
-mod options;

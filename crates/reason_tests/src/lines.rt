@@ -52,7 +52,7 @@ fn is_told(alloc: Global, engine: Engine, input: &[u8], want: &str) -> bool {
 }
 
 /// What an engine reads, and what it tells.
-const ROWS: [(Engine, &str, &str); 40] = [
+const ROWS: [(Engine, &str, &str); 41] = [
     (
         Engine::Step,
         "fabric 1 0 4096\ntransmit lanes\n",
@@ -227,6 +227,11 @@ const ROWS: [(Engine, &str, &str); 40] = [
         Engine::Encode,
         "add 40 07000000 from 0100 tag 05 tc 8\n",
         "pciex: line 1, column 37: '8' where a number is expected (0 to 7)\n",
+    ),
+    (
+        Engine::Encode,
+        "add 40 07000000 from 0100 tag 05 attr 1 tc 1\n",
+        "pciex: line 1, column 41: 'tc' where the line's end is expected\n",
     ),
     (
         Engine::Encode,

@@ -135,13 +135,16 @@ const DLLPS: [(&str, &[Field]); 3] = [
 
 /// Takes Traffic Class and attributes, to the line's end.
 fn take_class(walk: &mut Walk<'_>) {
+    let mut due = "'tc', 'attr' or the line's end";
     if walk.comes(b"tc") {
         walk.take_all(&[TC_WORD, UP_TO_7]);
+        due = "'attr' or the line's end";
     }
     if walk.comes(b"attr") {
         walk.take_all(&[ATTR_WORD, UP_TO_7]);
+        due = "the line's end";
     }
-    walk.end("'tc', 'attr' or the line's end");
+    walk.end(due);
 }
 
 /// Takes the words of a completion.

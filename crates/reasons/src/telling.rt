@@ -75,15 +75,6 @@ impl Reason {
         let _ = write!(self.text, "{part}");
     }
 
-    /// Writes the reason's line.
-    pub(crate) fn tell<E: io::Write>(&self, errors: &mut E) -> Result<(), EngineFault> {
-        let mut line: ArrayString<1032> = ArrayString::new();
-        line.push_str("pciex: ");
-        line.push_str(self.text.as_str());
-        line.push_str("\n");
-        write_out(errors, line.as_bytes())
-    }
-
     /// Writes the line of a reason that lies on this line of the text.
     pub(crate) fn tell_at<E: io::Write>(
         &self,
