@@ -51,7 +51,7 @@ pub fn transmit(
             });
         }
     };
-    match events::transmit(&mut sender, &mut wire) {
+    match events::transmit(&mut sender.inner, &mut wire.inner) {
         Ok(seen) => {
             place.turn();
             event::<Brand, _>(
@@ -106,7 +106,7 @@ pub fn deliver(
             });
         }
     };
-    match events::deliver(&mut wire, &mut receiver, fate) {
+    match events::deliver(&mut wire.inner, &mut receiver.inner, fate) {
         Ok(seen) => {
             place.turn();
             event::<Brand, _>(
@@ -176,7 +176,7 @@ pub fn send_dllp(
             });
         }
     };
-    match events::send_dllp(&mut receiver, &mut wire, kind) {
+    match events::send_dllp(&mut receiver.inner, &mut wire.inner, kind) {
         Ok(seen) => {
             place.turn();
             event::<Brand, _>(
@@ -236,7 +236,7 @@ pub fn deliver_dllp(
             });
         }
     };
-    match events::deliver_dllp(&mut wire, &mut sender, fate) {
+    match events::deliver_dllp(&mut wire.inner, &mut sender.inner, fate) {
         Ok(seen) => {
             place.turn();
             event::<Brand, _>(
@@ -280,7 +280,7 @@ pub fn timer(
             word,
         }),
     };
-    match events::timer(&mut sender) {
+    match events::timer(&mut sender.inner) {
         Ok(seen) => {
             event::<Brand, _>(
                 steps,
@@ -321,7 +321,7 @@ pub fn retrained(
             word,
         }),
     };
-    match events::retrained(&mut sender) {
+    match events::retrained(&mut sender.inner) {
         Ok(()) => {
             event::<Brand, _>(
                 steps,

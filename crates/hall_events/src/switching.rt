@@ -16,7 +16,7 @@ use crate::refusal::HallRefusal;
 use fabric_core::{LaneName, Refusal, Seen, events};
 use hall_laws::duties::{forwarding_out, forwarding_up, serving};
 use hall_laws::laws::{Place, Steps, event, put_back};
-use hall_laws::part::{Part, PartValue, lane_slot};
+use hall_laws::part::{Boxed, Part, PartValue, lane_slot};
 use hall_laws::takes::{take_memory, take_receiver, take_sender};
 use lane_core::{ReceiverEnd, SenderEnd};
 use seq_memory::Memory;
@@ -48,7 +48,7 @@ pub fn forward_up(
             word,
         }),
     };
-    let to = match events::destination(&receiver, at, Port::new(port)) {
+    let to = match events::destination(&receiver.inner, at, Port::new(port)) {
         Ok(to) => to,
         Err(refusal) => {
             put_back(
@@ -75,7 +75,7 @@ pub fn forward_up(
             });
         }
     };
-    match events::forward(&mut receiver, at, &mut sender) {
+    match events::forward(&mut receiver.inner, at, &mut sender.inner) {
         Ok(()) => {
             place.turn();
             event::<Brand, _>(
@@ -140,7 +140,7 @@ pub fn forward_out(
             word,
         }),
     };
-    let to = match port_down(&receiver, at, requesters) {
+    let to = match port_down(&receiver.inner, at, requesters) {
         Ok(to) => to,
         Err(refusal) => {
             put_back(steps, place, 8, PartValue::Receiver(receiver));
@@ -158,7 +158,7 @@ pub fn forward_out(
             });
         }
     };
-    match events::forward(&mut receiver, at, &mut sender) {
+    match events::forward(&mut receiver.inner, at, &mut sender.inner) {
         Ok(()) => {
             place.turn();
             event::<Brand, _>(
@@ -185,7 +185,7 @@ fn take_to_serve(
     place: &mut Place,
     number: usize,
     requesters: u8,
-) -> Result<(ReceiverEnd, Memory, SenderEnd), HallRefusal>
+) -> Result<(Boxed<ReceiverEnd>, Boxed<Memory>, Boxed<SenderEnd>), HallRefusal>
     requires table { IsSized steps.now.table_id requesters × IsOf steps.now.table_id requesters number place.old }
     requires idle { IsIdle place.old.me }
     ensures seat { (place.new.table_id ≡ place.old.table_id) × (place.new.id ≡ place.old.id) }
@@ -246,7 +246,7 @@ pub fn serve(
         Ok(parts) => parts,
         Err(busy) => return Err(busy),
     };
-    match events::serve(&mut receiver, at, &mut memory, &mut sender) {
+    match events::serve(&mut receiver.inner, at, &mut memory.inner, &mut sender.inner) {
         Ok(n) => {
             place.turn();
             place.turn();

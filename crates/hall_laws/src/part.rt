@@ -10,70 +10,47 @@ use std::alloc::{AllocError, Global};
 use std::marker::Model;
 use tlp_core::Op;
 
-/// A requester in a place of its own, so that what moves into its slot and out of it is one address: a requester's table
-/// of tags takes 3 KB.
+/// A part in a place of its own, so that what moves into its slot and out of it is one address: a requester's table of
+/// tags takes 3 KB, the ends of a lane 40 to 176 bytes.
 #[derive(Drop)]
-pub struct BoxedRequester {
-    requester: Box<Requester>,
+pub struct Boxed<T> {
+    pub inner: Box<T>,
 }
 
-impl Model for BoxedRequester {
-    ghost use Rattle.requester_core.specs.Requesting.{Requesting};
+impl<T> Model for Boxed<T> {
+    ghost Value = { T };
 
-    ghost Value = { Requesting };
-
-    ghost view = { λ b. b.requester.value };
+    ghost view = { λ b. b.inner.value };
 }
 
-impl BoxedRequester {
-    ghost use Rattle.std.specs.Prelude.{IfOk, IfErr, OnErr};
-    ghost use Rattle.fabric_core.specs.Footprints.{Submits, SubmitRefused, Collects, CollectRefused};
+impl<T: Drop> Boxed<T> {
+    ghost use Rattle.std.specs.Prelude.{IfOk};
 
-    /// Puts a requester into a place of its own.
-    pub fn new(requester: Requester, alloc: Global) -> Result<BoxedRequester, AllocError>
-        ensures { IfOk result (λ b. b ≡ requester) }
+    /// Puts a part into a place of its own.
+    pub fn new(part: T, alloc: Global) -> Result<Boxed<T>, AllocError>
+        ensures { IfOk result (λ b. b ≡ part) }
     {
-        let requester = Box::new(alloc, requester)?;
-        Ok(BoxedRequester { requester })
+        let inner = Box::new(alloc, part)?;
+        Ok(Boxed { inner })
     }
 
-    /// The requester.
-    pub fn into_inner(self) -> Requester
+    /// The part.
+    pub fn into_inner(self) -> T
         ensures { result ≡ self }
     {
-        Box::into_inner(self.requester)
-    }
-
-    /// The requester submits an operation, as [`events::submit`] has it.
-    pub fn submit(&mut self, sender: &mut SenderEnd, op: &Op) -> Result<u32, Refusal>
-        ensures ok { IfOk result (λ number. Submits self.old sender.old op.now number self.new sender.new) }
-        ensures refused { IfErr result (λ r. SubmitRefused self.old sender.old op.now r) }
-        ensures err_requester { OnErr result (self.new ≡ self.old) }
-        ensures err_sender { OnErr result (sender.new ≡ sender.old) }
-    {
-        events::submit(&mut self.requester, sender, op)
-    }
-
-    /// The requester takes its oldest completion, as [`events::collect`] has it.
-    pub fn collect(&mut self, receiver: &mut ReceiverEnd) -> Result<Answer, Refusal>
-        ensures ok { IfOk result (λ a. Collects receiver.old self.old a receiver.new self.new) }
-        ensures refused { IfErr result (λ r. CollectRefused receiver.old self.old r) }
-        ensures err_receiver { OnErr result (receiver.new ≡ receiver.old) }
-        ensures err_requester { OnErr result (self.new ≡ self.old) }
-    {
-        events::collect(receiver, &mut self.requester)
+        Box::into_inner(self.inner)
     }
 }
 
 /// A part that is at home in its slot, or held by a seat.
 #[derive(Drop)]
 pub enum PartValue {
-    Memory(Memory),
-    Requester(BoxedRequester),
-    Sender(SenderEnd),
-    Forward(ForwardWire),
-    Back(BackWire),
-    Receiver(ReceiverEnd),
+    Memory(Boxed<Memory>),
+    Requester(Boxed<Requester>),
+    Sender(Boxed<SenderEnd>),
+    Forward(Boxed<ForwardWire>),
+    Back(Boxed<BackWire>),
+    Receiver(Boxed<ReceiverEnd>),
 }
 
 /// The name of a part.
