@@ -11,7 +11,8 @@ ghost use Rattle.hall_laws.specs.declared.token.Start.{Start};
 ghost use Rattle.hall_laws.specs.Standing.{Table};
 ghost use Rattle.hall_laws.specs.Rule.{Traced, IsSoundTraced, Fits, Kept, Known, Releases, Goes, dropped_first, dropped_seen};
 
-use crate::part::{Boxed, PartValue};
+use crate::boxed::Boxed;
+use crate::part::PartValue;
 use crate::token::{Start, Token};
 use atomic_table::{Join, Play, Seat, Shared, Split, TableRule};
 use fabric_core::laws::each_event_keeps_it_sound;

@@ -3,11 +3,12 @@ ghost use Rattle.std.specs.Prelude.{◌≡◌, ◌≢◌, ◌+◌, ◌<◌, ◌�
 ghost use Rattle.hall_laws.specs.Parts.{slot, lane_slot, IsLaneName};
 ghost use Rattle.hall_laws.specs.Calls.{IsSized, IsOf, Took};
 
+use crate::boxed::Boxed;
 use crate::laws::{Place, Steps, take};
-use crate::part::{Boxed, PartValue, lane_slot};
+use crate::part::{PartValue, lane_slot};
 use fabric_core::LaneName;
-use requester_core::Requester;
 use lane_core::{BackWire, ForwardWire, ReceiverEnd, SenderEnd};
+use requester_core::Requester;
 use seq_memory::Memory;
 
 pub fn take_memory(
