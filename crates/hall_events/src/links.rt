@@ -7,8 +7,9 @@ ghost use Rattle.hall_laws.specs.Parts.{IsLaneName};
 ghost use Rattle.hall_laws.specs.Shows.{Shows};
 ghost use Rattle.hall_laws.specs.Standing.{token_of};
 
+use crate::events;
 use crate::refusal::HallRefusal;
-use fabric_core::{LaneName, Seen, events};
+use fabric_core::{LaneName, Seen};
 use hall_laws::duties::{
     delivering, delivering_a_dllp, expiring, retraining, sending_a_dllp, transmitting,
 };
@@ -51,7 +52,7 @@ pub fn transmit(
             });
         }
     };
-    match events::transmit(&mut sender.inner, &mut wire.inner) {
+    match events::transmit(&mut sender, &mut wire) {
         Ok(seen) => {
             place.turn();
             event::<Brand, _>(
@@ -106,7 +107,7 @@ pub fn deliver(
             });
         }
     };
-    match events::deliver(&mut wire.inner, &mut receiver.inner, fate) {
+    match events::deliver(&mut wire, &mut receiver, fate) {
         Ok(seen) => {
             place.turn();
             event::<Brand, _>(
@@ -176,7 +177,7 @@ pub fn send_dllp(
             });
         }
     };
-    match events::send_dllp(&mut receiver.inner, &mut wire.inner, kind) {
+    match events::send_dllp(&mut receiver, &mut wire, kind) {
         Ok(seen) => {
             place.turn();
             event::<Brand, _>(
@@ -236,7 +237,7 @@ pub fn deliver_dllp(
             });
         }
     };
-    match events::deliver_dllp(&mut wire.inner, &mut sender.inner, fate) {
+    match events::deliver_dllp(&mut wire, &mut sender, fate) {
         Ok(seen) => {
             place.turn();
             event::<Brand, _>(
@@ -280,7 +281,7 @@ pub fn timer(
             word,
         }),
     };
-    match events::timer(&mut sender.inner) {
+    match events::timer(&mut sender) {
         Ok(seen) => {
             event::<Brand, _>(
                 steps,
@@ -321,7 +322,7 @@ pub fn retrained(
             word,
         }),
     };
-    match events::retrained(&mut sender.inner) {
+    match events::retrained(&mut sender) {
         Ok(()) => {
             event::<Brand, _>(
                 steps,

@@ -10,9 +10,10 @@ ghost use Rattle.hall_laws.specs.Tells.{Met};
 ghost use Rattle.hall_events.specs.Refusals.{IsBusy};
 
 use crate::refusal::HallRefusal;
+use hall_laws::boxed::Boxed;
 use hall_laws::duties::meeting;
 use hall_laws::laws::{Place, Steps, join, put_back_seen, split};
-use hall_laws::part::{Boxed, Part, PartValue};
+use hall_laws::part::{Part, PartValue};
 use hall_laws::takes::take_memory;
 use seq_memory::Memory;
 

@@ -10,11 +10,13 @@ ghost use Rattle.hall_laws.specs.Tells.{SubmitTells, CollectTells, SeesTells};
 ghost use Rattle.hall_events.specs.Holds.{having};
 ghost use Rattle.hall_events.specs.Refusals.{IsRefused, IsBusy};
 
+use crate::events;
 use crate::refusal::HallRefusal;
-use fabric_core::{LaneName, Refusal, events};
+use fabric_core::{LaneName, Refusal};
+use hall_laws::boxed::Boxed;
 use hall_laws::duties::{collecting, submitting};
 use hall_laws::laws::{Place, Steps, event, put_back, put_back_seen};
-use hall_laws::part::{Boxed, Part, PartValue, lane_slot};
+use hall_laws::part::{Part, PartValue, lane_slot};
 use hall_laws::takes::{take_memory, take_receiver, take_requester, take_sender};
 use lane_core::{ReceiverEnd, SenderEnd};
 use requester_core::{Answer, Requester};
@@ -137,7 +139,7 @@ pub fn submit_as(
     let up = LaneName::Up(port);
     let at = 9 * usize::from(port);
     let n = memory.inner.entries().len();
-    match events::submit(&mut requester.inner, &mut sender.inner, op) {
+    match events::submit(&mut requester, &mut sender, op) {
         Ok(given) => {
             place.turn();
             let told = (given, port, op, &memory, &sender);
@@ -214,7 +216,7 @@ pub fn collect_as(
     let down = LaneName::Down(port);
     let at = 9 * usize::from(port);
     let n = memory.inner.entries().len();
-    match events::collect(&mut receiver.inner, &mut requester.inner) {
+    match events::collect(&mut receiver, &mut requester) {
         Ok(answer) => {
             place.turn();
             let told = (port, &answer, &memory, &receiver);

@@ -12,11 +12,13 @@ ghost use Rattle.hall_events.specs.Holds.{having};
 ghost use Rattle.hall_events.specs.Refusals.{IsRefused, IsBusy};
 ghost use Rattle.hall_events.specs.Ways.{GoesDown, HasNoWayDown};
 
+use crate::events;
 use crate::refusal::HallRefusal;
-use fabric_core::{LaneName, Refusal, Seen, events};
+use fabric_core::{LaneName, Refusal, Seen};
+use hall_laws::boxed::Boxed;
 use hall_laws::duties::{forwarding_out, forwarding_up, serving};
 use hall_laws::laws::{Place, Steps, event, put_back};
-use hall_laws::part::{Boxed, Part, PartValue, lane_slot};
+use hall_laws::part::{Part, PartValue, lane_slot};
 use hall_laws::takes::{take_memory, take_receiver, take_sender};
 use lane_core::{ReceiverEnd, SenderEnd};
 use seq_memory::Memory;
@@ -48,7 +50,7 @@ pub fn forward_up(
             word,
         }),
     };
-    let to = match events::destination(&receiver.inner, at, Port::new(port)) {
+    let to = match events::destination(&receiver, at, Port::new(port)) {
         Ok(to) => to,
         Err(refusal) => {
             put_back(
@@ -75,7 +77,7 @@ pub fn forward_up(
             });
         }
     };
-    match events::forward(&mut receiver.inner, at, &mut sender.inner) {
+    match events::forward(&mut receiver, at, &mut sender) {
         Ok(()) => {
             place.turn();
             event::<Brand, _>(
@@ -103,7 +105,7 @@ pub fn forward_up(
 
 /// The port of the requester to which the packet at this place of `out` goes. `NotTakeable` where there is none or it may
 /// not pass an earlier one, then `Route`.
-fn port_down(receiver: &ReceiverEnd, at: usize, requesters: u8) -> Result<u8, Refusal>
+fn port_down(receiver: &Boxed<ReceiverEnd>, at: usize, requesters: u8) -> Result<u8, Refusal>
     ensures ok { IfOk result (λ to. GoesDown receiver.now at requesters to) }
     ensures refused { IfErr result (λ r. HasNoWayDown receiver.now at requesters r) }
 {
@@ -140,7 +142,7 @@ pub fn forward_out(
             word,
         }),
     };
-    let to = match port_down(&receiver.inner, at, requesters) {
+    let to = match port_down(&receiver, at, requesters) {
         Ok(to) => to,
         Err(refusal) => {
             put_back(steps, place, 8, PartValue::Receiver(receiver));
@@ -158,7 +160,7 @@ pub fn forward_out(
             });
         }
     };
-    match events::forward(&mut receiver.inner, at, &mut sender.inner) {
+    match events::forward(&mut receiver, at, &mut sender) {
         Ok(()) => {
             place.turn();
             event::<Brand, _>(
@@ -246,7 +248,7 @@ pub fn serve(
         Ok(parts) => parts,
         Err(busy) => return Err(busy),
     };
-    match events::serve(&mut receiver.inner, at, &mut memory.inner, &mut sender.inner) {
+    match events::serve(&mut receiver, at, &mut memory, &mut sender) {
         Ok(n) => {
             place.turn();
             place.turn();
