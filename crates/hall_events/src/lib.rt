@@ -2,6 +2,7 @@
 //! them back one at a time. What its seat learns and what is seen are told by the fabric's own steps.
 #![tactic(auto)]
 
+mod events;
 pub mod links;
 pub mod meeting;
 pub mod refusal;

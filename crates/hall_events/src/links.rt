@@ -7,8 +7,9 @@ ghost use Rattle.hall_laws.specs.Parts.{IsLaneName};
 ghost use Rattle.hall_laws.specs.Shows.{Shows};
 ghost use Rattle.hall_laws.specs.Standing.{token_of};
 
+use crate::events;
 use crate::refusal::HallRefusal;
-use fabric_core::{LaneName, Seen, events};
+use fabric_core::{LaneName, Seen};
 use hall_laws::duties::{
     delivering, delivering_a_dllp, expiring, retraining, sending_a_dllp, transmitting,
 };

@@ -10,6 +10,7 @@ ghost use Rattle.hall_laws.specs.Tells.{Met};
 ghost use Rattle.hall_events.specs.Refusals.{IsBusy};
 
 use crate::refusal::HallRefusal;
+use hall_laws::boxed::Boxed;
 use hall_laws::duties::meeting;
 use hall_laws::laws::{Place, Steps, join, put_back_seen, split};
 use hall_laws::part::{Part, PartValue};
@@ -17,7 +18,7 @@ use hall_laws::takes::take_memory;
 use seq_memory::Memory;
 
 /// The memory goes home, and all tokens of the seat have seen its history then, whose length is given.
-fn see(steps: &Steps, place: &mut Place, memory: Memory) -> u64
+fn see(steps: &Steps, place: &mut Place, memory: Boxed<Memory>) -> u64
     requires table { (place.old.table_id ≡ steps.now.table_id) × (0 < steps.now.table_id.words) × (0 < steps.now.table_id.slots) }
     requires token { (0 < length place.old.me.0) × (place.old.me.1 ≡ (0, None) ∷ rest place.old.me.1) }
     requires held { let h = (token_of place.old.me.0).held in (h ≡ (0, PartValue.Memory memory) ∷ drop 1 h) × Outside 0 (drop 1 h) }
@@ -25,7 +26,7 @@ fn see(steps: &Steps, place: &mut Place, memory: Memory) -> u64
     ensures seen { place.new.me ≡ (dropped_seen memory.entries place.old.me.0, rest place.old.me.1) }
     ensures number { result ≡ length memory.entries }
 {
-    let n = memory.entries().len();
+    let n = memory.inner.entries().len();
     put_back_seen(steps, place, 0, memory);
     n as u64
 }

@@ -10,14 +10,16 @@ ghost use Rattle.hall_laws.specs.Tells.{SubmitTells, CollectTells, SeesTells};
 ghost use Rattle.hall_events.specs.Holds.{having};
 ghost use Rattle.hall_events.specs.Refusals.{IsRefused, IsBusy};
 
+use crate::events;
 use crate::refusal::HallRefusal;
 use fabric_core::{LaneName, Refusal};
+use hall_laws::boxed::Boxed;
 use hall_laws::duties::{collecting, submitting};
 use hall_laws::laws::{Place, Steps, event, put_back, put_back_seen};
-use hall_laws::part::{BoxedRequester, Part, PartValue, lane_slot};
+use hall_laws::part::{Part, PartValue, lane_slot};
 use hall_laws::takes::{take_memory, take_receiver, take_requester, take_sender};
 use lane_core::{ReceiverEnd, SenderEnd};
-use requester_core::Answer;
+use requester_core::{Answer, Requester};
 use seq_memory::Memory;
 use std::marker::Brand;
 use tlp_core::Op;
@@ -29,7 +31,7 @@ fn take_both(
     number: usize,
     requesters: u8,
     port: u8,
-) -> Result<(Memory, BoxedRequester), HallRefusal>
+) -> Result<(Boxed<Memory>, Boxed<Requester>), HallRefusal>
     requires table { IsSized steps.now.table_id requesters × IsOf steps.now.table_id requesters number place.old × (port ≡ number + 1) × (port ≤ requesters) }
     requires idle { IsIdle place.old.me }
     ensures seat { (place.new.table_id ≡ place.old.table_id) × (place.new.id ≡ place.old.id) }
@@ -61,8 +63,8 @@ fn put_both_back(
     steps: &Steps,
     place: &mut Place,
     port: u8,
-    memory: Memory,
-    requester: BoxedRequester,
+    memory: Boxed<Memory>,
+    requester: Boxed<Requester>,
 )
     requires table { (place.old.table_id ≡ steps.now.table_id) × (9 * port < steps.now.table_id.words) × (9 * port < steps.now.table_id.slots) × (0 < port) }
     requires held { (w : Knowledge) × (place.old.me ≡ having w ((slot port 0, PartValue.Requester requester) ∷ ((0, PartValue.Memory memory) ∷ []))) }
@@ -85,7 +87,7 @@ fn take_to_submit(
     number: usize,
     requesters: u8,
     port: u8,
-) -> Result<(Memory, BoxedRequester, SenderEnd), HallRefusal>
+) -> Result<(Boxed<Memory>, Boxed<Requester>, Boxed<SenderEnd>), HallRefusal>
     requires table { IsSized steps.now.table_id requesters × IsOf steps.now.table_id requesters number place.old × (port ≡ number + 1) × (port ≤ requesters) }
     requires idle { IsIdle place.old.me }
     ensures seat { (place.new.table_id ≡ place.old.table_id) × (place.new.id ≡ place.old.id) }
@@ -136,8 +138,8 @@ pub fn submit_as(
     };
     let up = LaneName::Up(port);
     let at = 9 * usize::from(port);
-    let n = memory.entries().len();
-    match requester.submit(&mut sender, op) {
+    let n = memory.inner.entries().len();
+    match events::submit(&mut requester, &mut sender, op) {
         Ok(given) => {
             place.turn();
             let told = (given, port, op, &memory, &sender);
@@ -162,7 +164,7 @@ fn take_to_collect(
     number: usize,
     requesters: u8,
     port: u8,
-) -> Result<(Memory, BoxedRequester, ReceiverEnd), HallRefusal>
+) -> Result<(Boxed<Memory>, Boxed<Requester>, Boxed<ReceiverEnd>), HallRefusal>
     requires table { IsSized steps.now.table_id requesters × IsOf steps.now.table_id requesters number place.old × (port ≡ number + 1) × (port ≤ requesters) }
     requires idle { IsIdle place.old.me }
     ensures seat { (place.new.table_id ≡ place.old.table_id) × (place.new.id ≡ place.old.id) }
@@ -213,8 +215,8 @@ pub fn collect_as(
     };
     let down = LaneName::Down(port);
     let at = 9 * usize::from(port);
-    let n = memory.entries().len();
-    match requester.collect(&mut receiver) {
+    let n = memory.inner.entries().len();
+    match events::collect(&mut receiver, &mut requester) {
         Ok(answer) => {
             place.turn();
             let told = (port, &answer, &memory, &receiver);

@@ -12,8 +12,10 @@ ghost use Rattle.hall_events.specs.Holds.{having};
 ghost use Rattle.hall_events.specs.Refusals.{IsRefused, IsBusy};
 ghost use Rattle.hall_events.specs.Ways.{GoesDown, HasNoWayDown};
 
+use crate::events;
 use crate::refusal::HallRefusal;
-use fabric_core::{LaneName, Refusal, Seen, events};
+use fabric_core::{LaneName, Refusal, Seen};
+use hall_laws::boxed::Boxed;
 use hall_laws::duties::{forwarding_out, forwarding_up, serving};
 use hall_laws::laws::{Place, Steps, event, put_back};
 use hall_laws::part::{Part, PartValue, lane_slot};
@@ -103,7 +105,7 @@ pub fn forward_up(
 
 /// The port of the requester to which the packet at this place of `out` goes. `NotTakeable` where there is none or it may
 /// not pass an earlier one, then `Route`.
-fn port_down(receiver: &ReceiverEnd, at: usize, requesters: u8) -> Result<u8, Refusal>
+fn port_down(receiver: &Boxed<ReceiverEnd>, at: usize, requesters: u8) -> Result<u8, Refusal>
     ensures ok { IfOk result (λ to. GoesDown receiver.now at requesters to) }
     ensures refused { IfErr result (λ r. HasNoWayDown receiver.now at requesters r) }
 {
@@ -185,7 +187,7 @@ fn take_to_serve(
     place: &mut Place,
     number: usize,
     requesters: u8,
-) -> Result<(ReceiverEnd, Memory, SenderEnd), HallRefusal>
+) -> Result<(Boxed<ReceiverEnd>, Boxed<Memory>, Boxed<SenderEnd>), HallRefusal>
     requires table { IsSized steps.now.table_id requesters × IsOf steps.now.table_id requesters number place.old }
     requires idle { IsIdle place.old.me }
     ensures seat { (place.new.table_id ≡ place.old.table_id) × (place.new.id ≡ place.old.id) }

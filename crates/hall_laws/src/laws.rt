@@ -11,6 +11,7 @@ ghost use Rattle.hall_laws.specs.declared.token.Start.{Start};
 ghost use Rattle.hall_laws.specs.Standing.{Table};
 ghost use Rattle.hall_laws.specs.Rule.{Traced, IsSoundTraced, Fits, Kept, Known, Releases, Goes, dropped_first, dropped_seen};
 
+use crate::boxed::Boxed;
 use crate::part::PartValue;
 use crate::token::{Start, Token};
 use atomic_table::{Join, Play, Seat, Shared, Split, TableRule};
@@ -137,7 +138,7 @@ pub fn put_back(steps: &Steps, place: &mut Place, slot: usize, value: PartValue)
 }
 
 /// Kind 3 of the memory, whose history all tokens of the seat then have seen.
-pub fn put_back_seen(steps: &Steps, place: &mut Place, slot: usize, memory: Memory)
+pub fn put_back_seen(steps: &Steps, place: &mut Place, slot: usize, memory: Boxed<Memory>)
     requires table { (place.old.table_id ≡ steps.now.table_id) × (slot < steps.now.table_id.words) × (slot < steps.now.table_id.slots) }
     requires token { (0 < length place.old.me.0) × (place.old.me.1 ≡ (slot, None) ∷ rest place.old.me.1) × (slot ≡ 0) }
     requires held { let h = (token_of place.old.me.0).held in (h ≡ (slot, PartValue.Memory memory) ∷ drop 1 h) × Outside slot (drop 1 h) }

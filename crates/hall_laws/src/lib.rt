@@ -2,6 +2,7 @@
 //! between any two steps on the words, those steps, and the duty of each event.
 #![tactic(auto)]
 
+pub mod boxed;
 pub mod duties;
 pub mod laws;
 pub mod part;

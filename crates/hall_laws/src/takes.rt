@@ -3,10 +3,12 @@ ghost use Rattle.std.specs.Prelude.{◌≡◌, ◌≢◌, ◌+◌, ◌<◌, ◌�
 ghost use Rattle.hall_laws.specs.Parts.{slot, lane_slot, IsLaneName};
 ghost use Rattle.hall_laws.specs.Calls.{IsSized, IsOf, Took};
 
+use crate::boxed::Boxed;
 use crate::laws::{Place, Steps, take};
-use crate::part::{BoxedRequester, PartValue, lane_slot};
+use crate::part::{PartValue, lane_slot};
 use fabric_core::LaneName;
 use lane_core::{BackWire, ForwardWire, ReceiverEnd, SenderEnd};
+use requester_core::Requester;
 use seq_memory::Memory;
 
 pub fn take_memory(
@@ -14,7 +16,7 @@ pub fn take_memory(
     place: &mut Place,
     number: usize,
     requesters: u8,
-) -> Result<Memory, u64>
+) -> Result<Boxed<Memory>, u64>
     requires { IsSized steps.now.table_id requesters × IsOf steps.now.table_id requesters number place.old }
     ensures seat { (place.new.table_id ≡ place.old.table_id) × (place.new.id ≡ place.old.id) }
     ensures taken { MatchResult result (λ m. Took place.old.me 0 (PartValue.Memory m) place.new.me) (λ w. (w ≢ 0) × (place.new.me ≡ place.old.me)) }
@@ -32,7 +34,7 @@ pub fn take_requester(
     number: usize,
     requesters: u8,
     port: u8,
-) -> Result<BoxedRequester, u64>
+) -> Result<Boxed<Requester>, u64>
     requires { IsSized steps.now.table_id requesters × IsOf steps.now.table_id requesters number place.old × (0 < port) × (port ≤ requesters) }
     ensures seat { (place.new.table_id ≡ place.old.table_id) × (place.new.id ≡ place.old.id) }
     ensures taken { MatchResult result (λ q. Took place.old.me (slot port 0) (PartValue.Requester q) place.new.me) (λ w. (w ≢ 0) × (place.new.me ≡ place.old.me)) }
@@ -50,7 +52,7 @@ pub fn take_sender(
     number: usize,
     requesters: u8,
     name: LaneName,
-) -> Result<SenderEnd, u64>
+) -> Result<Boxed<SenderEnd>, u64>
     requires { IsSized steps.now.table_id requesters × IsOf steps.now.table_id requesters number place.old × IsLaneName requesters name }
     ensures seat { (place.new.table_id ≡ place.old.table_id) × (place.new.id ≡ place.old.id) }
     ensures within { (lane_slot name < steps.now.table_id.words) × (lane_slot name < steps.now.table_id.slots) }
@@ -69,7 +71,7 @@ pub fn take_forward(
     number: usize,
     requesters: u8,
     name: LaneName,
-) -> Result<ForwardWire, u64>
+) -> Result<Boxed<ForwardWire>, u64>
     requires { IsSized steps.now.table_id requesters × IsOf steps.now.table_id requesters number place.old × IsLaneName requesters name }
     ensures seat { (place.new.table_id ≡ place.old.table_id) × (place.new.id ≡ place.old.id) }
     ensures within { (lane_slot name + 1 < steps.now.table_id.words) × (lane_slot name + 1 < steps.now.table_id.slots) }
@@ -88,7 +90,7 @@ pub fn take_back(
     number: usize,
     requesters: u8,
     name: LaneName,
-) -> Result<BackWire, u64>
+) -> Result<Boxed<BackWire>, u64>
     requires { IsSized steps.now.table_id requesters × IsOf steps.now.table_id requesters number place.old × IsLaneName requesters name }
     ensures seat { (place.new.table_id ≡ place.old.table_id) × (place.new.id ≡ place.old.id) }
     ensures within { (lane_slot name + 2 < steps.now.table_id.words) × (lane_slot name + 2 < steps.now.table_id.slots) }
@@ -107,7 +109,7 @@ pub fn take_receiver(
     number: usize,
     requesters: u8,
     name: LaneName,
-) -> Result<ReceiverEnd, u64>
+) -> Result<Boxed<ReceiverEnd>, u64>
     requires { IsSized steps.now.table_id requesters × IsOf steps.now.table_id requesters number place.old × IsLaneName requesters name }
     ensures seat { (place.new.table_id ≡ place.old.table_id) × (place.new.id ≡ place.old.id) }
     ensures within { (lane_slot name + 3 < steps.now.table_id.words) × (lane_slot name + 3 < steps.now.table_id.slots) }

@@ -55,10 +55,10 @@ fn next_lane(closed: &mut Slots, at: usize) -> LaneParts
         unreachable!()
     };
     LaneParts {
-        sender,
-        forward,
-        back,
-        receiver,
+        sender: sender.into_inner(),
+        forward: forward.into_inner(),
+        back: back.into_inner(),
+        receiver: receiver.into_inner(),
     }
 }
 
@@ -118,7 +118,7 @@ fn rebuild(mut closed: Slots, mut shelves: Shelves, config: &Config) -> Parts
     } = shelves;
     Parts {
         credits: config.credits,
-        memory,
+        memory: memory.into_inner(),
         requesters,
         inward,
         outward,

@@ -10,8 +10,9 @@ ghost use Rattle.hall_laws.specs.Rule.{HasConfig, newcomers};
 use atomic_table::Table;
 use fabric_core::{Config, Fabric, LaneParts, Parts};
 use fabric_laws::laws::{quiet_is_all_acted, the_trace_belongs};
+use hall_laws::boxed::Boxed;
 use hall_laws::laws::{FabricRule, Place};
-use hall_laws::part::{BoxedRequester, PartValue};
+use hall_laws::part::PartValue;
 use hall_laws::token::{Start, Token};
 use requester_core::Requester;
 use std::alloc::{AllocError, Global};
@@ -28,11 +29,15 @@ pub struct Shelves {
 }
 
 /// A lane by its ends.
-fn push_lane(slots: &mut Vec<Option<PartValue>>, lane: LaneParts)
+fn push_lane(
+    slots: &mut Vec<Option<PartValue>>,
+    lane: LaneParts,
+    alloc: Global,
+) -> Result<(), AllocError>
     requires { vec_len slots.old + 4 ≤ vec_capacity slots.old }
-    ensures items { slots.new.items ≡ slots.old.items ++ map Some (ends lane) }
-    ensures len { vec_len slots.new ≡ vec_len slots.old + 4 }
-    ensures capacity { vec_capacity slots.new ≡ vec_capacity slots.old }
+    ensures items { OnOk result (slots.new.items ≡ slots.old.items ++ map Some (ends lane)) }
+    ensures len { OnOk result (vec_len slots.new ≡ vec_len slots.old + 4) }
+    ensures capacity { OnOk result (vec_capacity slots.new ≡ vec_capacity slots.old) }
 {
     let LaneParts {
         sender,
@@ -40,10 +45,15 @@ fn push_lane(slots: &mut Vec<Option<PartValue>>, lane: LaneParts)
         back,
         receiver,
     } = lane;
+    let sender = Boxed::new(sender, alloc)?;
     slots.push_reserved(Some(PartValue::Sender(sender)));
+    let forward = Boxed::new(forward, alloc)?;
     slots.push_reserved(Some(PartValue::Forward(forward)));
+    let back = Boxed::new(back, alloc)?;
     slots.push_reserved(Some(PartValue::Back(back)));
+    let receiver = Boxed::new(receiver, alloc)?;
     slots.push_reserved(Some(PartValue::Receiver(receiver)));
+    Ok(())
 }
 
 /// What stands at a port.
@@ -52,15 +62,17 @@ fn push_station(
     node: PartValue,
     first: LaneParts,
     second: LaneParts,
-)
+    alloc: Global,
+) -> Result<(), AllocError>
     requires { vec_len slots.old + 9 ≤ vec_capacity slots.old }
-    ensures items { slots.new.items ≡ slots.old.items ++ map Some (nine (record { node = node; first = first; second = second })) }
-    ensures len { vec_len slots.new ≡ vec_len slots.old + 9 }
-    ensures capacity { vec_capacity slots.new ≡ vec_capacity slots.old }
+    ensures items { OnOk result (slots.new.items ≡ slots.old.items ++ map Some (nine (record { node = node; first = first; second = second }))) }
+    ensures len { OnOk result (vec_len slots.new ≡ vec_len slots.old + 9) }
+    ensures capacity { OnOk result (vec_capacity slots.new ≡ vec_capacity slots.old) }
 {
     slots.push_reserved(Some(node));
-    push_lane(slots, first);
-    push_lane(slots, second);
+    push_lane(slots, first, alloc)?;
+    push_lane(slots, second, alloc)?;
+    Ok(())
 }
 
 /// The parts of the ports from 1 on.
@@ -80,8 +92,8 @@ fn push_stations(
         let requester = shelves.requesters.remove(0);
         let up = shelves.up.remove(0);
         let down = shelves.down.remove(0);
-        let requester = BoxedRequester::new(requester, alloc)?;
-        push_station(slots, PartValue::Requester(requester), up, down);
+        let requester = Boxed::new(requester, alloc)?;
+        push_station(slots, PartValue::Requester(requester), up, down, alloc)?;
     }
     Ok(())
 }
@@ -110,7 +122,14 @@ fn slots_of(parts: Parts, alloc: Global) -> Result<(Vec<Option<PartValue>>, Shel
         down,
     };
     let mut slots = Vec::with_capacity(alloc, 9 * (1 + count))?;
-    push_station(&mut slots, PartValue::Memory(memory), inward, outward);
+    let memory = Boxed::new(memory, alloc)?;
+    push_station(
+        &mut slots,
+        PartValue::Memory(memory),
+        inward,
+        outward,
+        alloc,
+    )?;
     push_stations(&mut slots, &mut shelves, count, alloc)?;
     Ok((slots, shelves))
 }

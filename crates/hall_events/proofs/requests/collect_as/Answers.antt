@@ -1,4 +1,4 @@
-use Rattle.std.proofs.Common.{rules, ◌≡◌, ◌+◌, ◌*◌, ℕ, suc, List, [], ◌∷◌, length, arith, inl, refl, sym, subst}
+use Rattle.std.proofs.Common.{rules, ◌≡◌, ◌+◌, ◌*◌, ℕ, suc, List, [], ◌∷◌, length, arith, inl, refl, sym, subst, ◌∙◌}
 use Rattle.fabric_core.specs.declared.event.Event.TheVariants.{Collect}
 use Rattle.fabric_core.specs.declared.event.Seen.TheVariants.{Collected}
 use Rattle.seq_memory.specs.declared.Entry.{Entry}
@@ -21,10 +21,10 @@ event-requires-clause-event c =
     let many : t.knows.config.requesters ≡ c.args.requesters = search rules in
     let mine : t.knows.number ≡ c.args.number = search rules in
     let at : 9 * c.from-at.result ≡ slot port 0 = search rules in
-    let F : ℕ → Type 0 = λ n. Goes (Collect port) (Collected x) t n (Requester c.collect.new.self) (after_event (Collect port) (Collected x) m.entries ((slot port 5 + 3, Receiver c.collect.new.receiver) ∷ ((0, Memory m) ∷ [])) t) in (
+    let F : ℕ → Type 0 = λ n. Goes (Collect port) (Collected x) t n (Requester c.collect.new.requester) (after_event (Collect port) (Collected x) m.entries ((slot port 5 + 3, Receiver c.collect.new.receiver) ∷ ((0, Memory m) ∷ [])) t) in (
       Collect port,
       Collected x,
-      subst F (sym at) (c.collecting.ensures.owes t port x m q c.collect.new.self v c.collect.new.receiver (omega (arith, mine, c.requires.table.2), omega (arith, many, c.requires.table.3)) held c.in-Ok-collect.ensures.ok),
+      subst F (sym at) (c.collecting.ensures.owes t port x m q c.collect.new.requester v c.collect.new.receiver (omega (arith, mine, c.requires.table.2), omega (arith, many, c.requires.table.3)) held c.in-Ok-collect.ensures.ok),
     )
 
 pub returns-in-Ok-collect-clause-collected : goal.returns-in-Ok-collect-clause-collected
@@ -39,13 +39,14 @@ returns-in-Ok-collect-clause-collected c =
     let mine : w.number ≡ c.args.number = search rules in
     let own : port ≡ suc w.number = omega (arith, mine, c.requires.table.2) in
     let after : Token = after_event (Collect port) (Collected x) m.entries ((slot port 5 + 3, Receiver c.collect.new.receiver) ∷ ((0, Memory m) ∷ [])) t in
-    let goes : Goes (Collect port) (Collected x) t (slot port 0) (Requester c.collect.new.self) after =
-    c.collecting.ensures.owes t port x m q c.collect.new.self v c.collect.new.receiver (own, omega (arith, many, c.requires.table.3)) refl c.in-Ok-collect.ensures.ok in
-    let G : ℕ → Type 0 = λ p. Goes (Collect p) (Collected x) t (slot port 0) (Requester c.collect.new.self) after in
+    let goes : Goes (Collect port) (Collected x) t (slot port 0) (Requester c.collect.new.requester) after =
+    c.collecting.ensures.owes t port x m q c.collect.new.requester v c.collect.new.receiver (own, omega (arith, many, c.requires.table.3)) refl c.in-Ok-collect.ensures.ok in
+    let G : ℕ → Type 0 = λ p. Goes (Collect p) (Collected x) t (slot port 0) (Requester c.collect.new.requester) after in
     let tells : CollectTells w x.number x.reply (length m.entries) (learned (Collect port) (Collected x) m.entries w) =
-    c.collecting.ensures.tells t after [] (slot port 5 + 3) (slot port 0) (Receiver v) (Requester q) (Requester c.collect.new.self) m x known refl (subst G own goes) in
+    c.collecting.ensures.tells t after [] (slot port 5 + 3) (slot port 0) (Receiver v) (Requester q) (Requester c.collect.new.requester) m x known refl (subst G own goes) in
+    let there : c.deref.result.now.entries ≡ m.entries = search rules in
     let N : List Entry → Type 0 = λ h. CollectTells w x.number x.reply (length h) (learned (Collect port) (Collected x) m.entries w) in
-    (learned (Collect port) (Collected x) m.entries w, search rules, subst N (sym c.entries-n.ensures) tells)
+    (learned (Collect port) (Collected x) m.entries w, search rules, subst N (sym (c.entries-n.ensures ∙ there)) tells)
 
 pub returns-in-Err-collect-clause-why : goal.returns-in-Err-collect-clause-why
 returns-in-Err-collect-clause-why c =

@@ -1,4 +1,4 @@
-use Rattle.std.proofs.Common.{rules, ◌≡◌, ◌*◌, ℕ, suc, List, [], ◌∷◌, length, arith, inl, refl, sym, subst}
+use Rattle.std.proofs.Common.{rules, ◌≡◌, ◌*◌, ℕ, suc, List, [], ◌∷◌, length, arith, inl, refl, sym, subst, ◌∙◌}
 use Rattle.fabric_core.specs.declared.event.Event.TheVariants.{Submit}
 use Rattle.fabric_core.specs.declared.event.Seen.TheVariants.{Submitted}
 use Rattle.hall_laws.specs.declared.part.PartValue.TheVariants.{Memory, Requester, Sender}
@@ -20,10 +20,10 @@ event-requires-clause-event c =
     let many : t.knows.config.requesters ≡ c.args.requesters = search rules in
     let mine : t.knows.number ≡ c.args.number = search rules in
     let at : 9 * c.from-at.result ≡ slot port 0 = search rules in
-    let F : ℕ → Type 0 = λ n. Goes (Submit port c.args.op.now) (Submitted c.in-Ok-submit.given) t n (Requester c.submit.new.self) (after_event (Submit port c.args.op.now) (Submitted c.in-Ok-submit.given) m.entries ((slot port 1, Sender c.submit.new.sender) ∷ ((0, Memory m) ∷ [])) t) in (
+    let F : ℕ → Type 0 = λ n. Goes (Submit port c.args.op.now) (Submitted c.in-Ok-submit.given) t n (Requester c.submit.new.requester) (after_event (Submit port c.args.op.now) (Submitted c.in-Ok-submit.given) m.entries ((slot port 1, Sender c.submit.new.sender) ∷ ((0, Memory m) ∷ [])) t) in (
       Submit port c.args.op.now,
       Submitted c.in-Ok-submit.given,
-      subst F (sym at) (c.submitting.ensures.owes t port c.in-Ok-submit.given c.args.op.now m q c.submit.new.self s c.submit.new.sender (omega (arith, mine, c.requires.table.2), omega (arith, many, c.requires.table.3)) held c.in-Ok-submit.ensures.ok),
+      subst F (sym at) (c.submitting.ensures.owes t port c.in-Ok-submit.given c.args.op.now m q c.submit.new.requester s c.submit.new.sender (omega (arith, mine, c.requires.table.2), omega (arith, many, c.requires.table.3)) held c.in-Ok-submit.ensures.ok),
     )
 
 pub returns-in-Ok-submit-clause-submitted : goal.returns-in-Ok-submit-clause-submitted
@@ -38,12 +38,13 @@ returns-in-Ok-submit-clause-submitted c =
     let mine : w.number ≡ c.args.number = search rules in
     let own : port ≡ suc w.number = omega (arith, mine, c.requires.table.2) in
     let after : Token = after_event (Submit port c.args.op.now) (Submitted k) m.entries ((slot port 1, Sender c.submit.new.sender) ∷ ((0, Memory m) ∷ [])) t in
-    let goes : Goes (Submit port c.args.op.now) (Submitted k) t (slot port 0) (Requester c.submit.new.self) after =
-    c.submitting.ensures.owes t port k c.args.op.now m q c.submit.new.self s c.submit.new.sender (own, omega (arith, many, c.requires.table.3)) refl c.in-Ok-submit.ensures.ok in
-    let G : ℕ → Type 0 = λ p. Goes (Submit p c.args.op.now) (Submitted k) t (slot port 0) (Requester c.submit.new.self) after in
-    let tells : SubmitTells w k c.args.op.now (length m.entries) (learned (Submit port c.args.op.now) (Submitted k) m.entries w) = c.submitting.ensures.tells t after [] (slot port 1) (slot port 0) k (Sender s) (Requester q) (Requester c.submit.new.self) m c.args.op.now known refl (subst G own goes) in
+    let goes : Goes (Submit port c.args.op.now) (Submitted k) t (slot port 0) (Requester c.submit.new.requester) after =
+    c.submitting.ensures.owes t port k c.args.op.now m q c.submit.new.requester s c.submit.new.sender (own, omega (arith, many, c.requires.table.3)) refl c.in-Ok-submit.ensures.ok in
+    let G : ℕ → Type 0 = λ p. Goes (Submit p c.args.op.now) (Submitted k) t (slot port 0) (Requester c.submit.new.requester) after in
+    let tells : SubmitTells w k c.args.op.now (length m.entries) (learned (Submit port c.args.op.now) (Submitted k) m.entries w) = c.submitting.ensures.tells t after [] (slot port 1) (slot port 0) k (Sender s) (Requester q) (Requester c.submit.new.requester) m c.args.op.now known refl (subst G own goes) in
+    let there : c.deref.result.now.entries ≡ m.entries = search rules in
     let N : List Entry → Type 0 = λ h. SubmitTells w k c.args.op.now (length h) (learned (Submit port c.args.op.now) (Submitted k) m.entries w) in
-    (learned (Submit port c.args.op.now) (Submitted k) m.entries w, search rules, subst N (sym c.entries-n.ensures) tells)
+    (learned (Submit port c.args.op.now) (Submitted k) m.entries w, search rules, subst N (sym (c.entries-n.ensures ∙ there)) tells)
 
 pub returns-in-Err-submit-clause-why : goal.returns-in-Err-submit-clause-why
 returns-in-Err-submit-clause-why c =

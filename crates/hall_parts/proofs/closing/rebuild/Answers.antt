@@ -29,10 +29,10 @@ returns c f lanes count credits is =
     let a = c.next.ensures.rest in let b = c.next_lane-inward.ensures.rest in let d = c.next_lane-outward.ensures.rest in
     let inward = c.next_lane-inward.result in let outward = c.next_lane-outward.result in
     let lists = c.next_stations.new.shelves in
-    let memory : PartAt xs 0 (Memory c.in-Memory.memory) = c.in-Memory.ensures.value in
+    let memory : PartAt xs 0 (Memory c.into_inner.result) = subst (λ m. PartAt xs 0 (Memory m)) (sym c.into_inner.ensures) c.in-Memory.ensures.value in
     let first : EndsAt xs 1 inward = subst (λ (l : List (Option PartValue)). EndsAt l 1 inward) a.1 c.next_lane-inward.ensures.value in
     let second : EndsAt xs 5 outward = subst (λ (l : List (Option PartValue)). EndsAt l 5 outward) (b.1 ∙ a.1) c.next_lane-outward.ensures.value in
     let rest : StationsAt xs c.args.config.now.requesters lists.requesters.items lists.up.items lists.down.items =
     subst (λ (l : List (Option PartValue)). StationsAt l c.args.config.now.requesters lists.requesters.items lists.up.items lists.down.items) (d.1 ∙ (b.1 ∙ a.1)) c.next_stations.ensures.value in
-    let g : Fabric = record { credits = c.args.config.now.credits; memory = c.in-Memory.memory; requesters = lists.requesters.items; inward = inward; outward = outward; up = lists.up.items; down = lists.down.items } in
+    let g : Fabric = record { credits = c.args.config.now.credits; memory = c.into_inner.result; requesters = lists.requesters.items; inward = inward; outward = outward; up = lists.up.items; down = lists.down.items } in
     same_fabric (record { requester = c.each_part_has_its_slot.ensures.requester; end = c.each_part_has_its_slot.ensures.end }) f g xs lanes is (sym credits) memory first second (subst (λ (n : ℕ). StationsAt xs n lists.requesters.items lists.up.items lists.down.items) (sym count) rest)

@@ -9,4 +9,4 @@ returns-clause-items c =
     let node : List (Option PartValue) = Some c.args.node ∷ [] in
     let a : List (Option PartValue) = map Some (ends c.args.first) in
     let b : List (Option PartValue) = map Some (ends c.args.second) in
-    c.push_lane-2.ensures.items ∙ (ap (λ (l : List (Option PartValue)). l ++ b) (c.push_lane.ensures.items ∙ ap (λ (l : List (Option PartValue)). l ++ a) c.push_reserved.ensures.items) ∙ (append_assoc (old ++ node) a b ∙ append_assoc old node (a ++ b)))
+    c.in_ok-push_lane-2.ensures.items ∙ (ap (λ (l : List (Option PartValue)). l ++ b) (c.in_ok-push_lane.ensures.items ∙ ap (λ (l : List (Option PartValue)). l ++ a) c.push_reserved.ensures.items) ∙ (append_assoc (old ++ node) a b ∙ append_assoc old node (a ++ b)))
