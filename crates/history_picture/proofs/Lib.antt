@@ -1,3 +1,4 @@
 mod Lookups
 mod Steps
 mod Drawings
+mod Overlaps

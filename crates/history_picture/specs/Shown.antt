@@ -1,5 +1,5 @@
 -- What a picture shows of each request.
-use Rattle.std.specs.Prelude.{ℕ, ◌≡◌, ◌≤◌, ◌<◌, ◌+◌, List, [], ◌∷◌, ◌++◌, false, length, slice_get, Option, Some}
+use Rattle.std.specs.Prelude.{ℕ, ◌≡◌, ◌≤◌, ◌<◌, ◌+◌, ◌*◌, List, [], ◌∷◌, ◌++◌, false, length, slice_get, Option, Some}
 use Rattle.tlp_core.specs.declared.operation.Op.{Op}
 use Rattle.tlp_core.specs.Operation.{is_posted}
 use Rattle.seq_memory.specs.declared.Entry.{Entry}
@@ -8,13 +8,14 @@ use Rattle.history_check.specs.declared.Record.{Record}
 use Rattle.history_check.specs.declared.Record.TheVariants as records
 use Rattle.history_check.specs.declared.flaws.Flaw.{Flaw}
 use Rattle.history_check.specs.Flaws.{place_of}
+use Rattle.svg_text.specs.declared.shapes.Block.{Block}
 use Rattle.svg_text.specs.Shapes.{Shape}
 use Rattle.history_picture.specs.declared.scale.Window.{Window}
 use Rattle.history_picture.specs.declared.bars.Bar.{Bar}
 use Rattle.history_picture.specs.declared.words.Request.{Request}
 use Rattle.history_picture.specs.declared.marks.View.{View}
 use Rattle.history_picture.specs.Layout.{scale_of, x_at, acted_in, answer_in, dot_at}
-use Rattle.history_picture.specs.Picture.{bar_for, bar_shapes, dot_shapes, request_of, view_of, drawn}
+use Rattle.history_picture.specs.Picture.{bar_for, bar_shapes, bars, dot_shapes, request_of, view_of, drawn}
 
 -- these shapes are among all of them, one after the other
 pub record Has (all part : List Shape) : Type 0 where
@@ -57,3 +58,13 @@ BarsGoFromSubmissionToAnswer = (w : Window) (rs : List Record) (h : List Entry) 
 abbrev pub DotsStandAtEntries : Type 0
 DotsStandAtEntries = (w : Window) (h : List Entry) (i k e top : ℕ) → IsWholeHistory w h → place_of h i k ≡ Some e
     → dot_shapes (dot_at (scale_of w (length h)) (acted_in h i k)) top ≡ Shape.Dotted (record { x = x_at e + 36; y = top + 18 }) ∷ []
+
+-- the bars of requester i, in a row whose first sub-row begins at top
+abbrev pub bars_of : View → List Record → List Entry → ℕ → ℕ → List Shape
+bars_of v rs h i top = bars v rs (acted_in h i) (answer_in rs i) i top [] rs
+
+-- of two bars of a requester in one sub-row, but for the last, the later one begins to the right of the earlier one's end
+abbrev pub BarsDoNotOverlap : Type 0
+BarsDoNotOverlap = (v : View) (rs : List Record) (h : List Entry) (i top p q : ℕ) (a b : Block) (text words : List ℕ)
+    → slice_get (bars_of v rs h i top) p ≡ Some (Shape.Filled a text) → slice_get (bars_of v rs h i top) q ≡ Some (Shape.Filled b words)
+    → p < q → a.top ≡ b.top → a.top < top + 28 * 255 → a.right < b.left
