@@ -10,13 +10,37 @@ if ! command -v rt > /dev/null || ! command -v cc > /dev/null; then
 fi
 room=$(mktemp -d) || exit 1
 trap 'rm -rf "$room"' EXIT
-if ! (cd crates/pciex_c && rt lib) > "$room/log" 2>&1; then
+folder=$PWD/crates/pciex_c/out
+home=$(dirname "$(rt doc)")
+kit=$home/c
+
+# over_the_gate: builds the archive over the libraries that `rt ci` proved and left, which have no stamp, so that `rt lib`
+# would prove each of them once more. Only the exports are proved again.
+over_the_gate() {
+    set --
+    for name in $(sed -n 's/^pciex_c staticlib://p' crates.txt); do
+        if [ -d "crates/$name" ]; then
+            set -- "$@" --extern "$name=$PWD/crates/$name/out/rlib/$name.rlib" -L "dependency=$PWD/crates/$name/out/rlib"
+        else
+            set -- "$@" --extern "$name=$home/rlibs/$name.rlib"
+        fi
+    done
+    cd crates/pciex_c && "$home/bin/rattle" build --crate-name pciex_c src/lib.rt "$@" -L "dependency=$home/rlibs" \
+        --antt-project "$home/rattle/logic/antt-project.json" --logic-built "$home/logic_built" --links pciex_c= \
+        --crate-type staticlib --toolchain "$home/toolchain" --backend llvm -o out/libpciex_c.a
+}
+build() {
+    if [ -d crates/fabric_handle/out/rlib ] && [ ! -e crates/fabric_handle/out/rlib/stamp ]; then
+        mkdir -p "$folder" && (over_the_gate)
+    else
+        (cd crates/pciex_c && rt lib)
+    fi
+}
+if ! build > "$room/log" 2>&1; then
     tail -n 20 "$room/log"
-    say "rt lib failed"
+    say "the library isn't proved and built"
     exit 1
 fi
-folder=$PWD/crates/pciex_c/out
-kit=$(dirname "$(rt doc)")/c
 runs=0
 failed=0
 left_out=

@@ -245,7 +245,8 @@ static inline uint32_t pciex_fabric_new(const uint8_t *line, size_t line_length,
  * The event of a script's line happens to the fabric: `submit 1 add 40 07000000`, `transmit up1`. Below 1000: how many
  * bytes what is seen of it has, `sub 1 0`, as `pciex step` prints it, without a line feed. 1000 to 1999: the fabric
  * refuses it and stays as it was, and the refusal's name of so many bytes less 1000 stands in the room. Tested in this
- * order: PCIEX_SMALL_ROOM for fewer than PCIEX_LINE bytes, PCIEX_NO_LINE, the refusal; or PCIEX_NO_MEMORY.
+ * order: PCIEX_SMALL_ROOM for fewer than PCIEX_LINE bytes, PCIEX_NO_LINE, the refusal; or PCIEX_NO_MEMORY. One call is
+ * one event: `settle`, which is many, is answered PCIEX_NO_LINE.
  */
 static inline uint32_t pciex_fabric_event(pciex_fabric *fabric, const uint8_t *line, size_t line_length, uint8_t *room,
                                           size_t room_length)

@@ -7,6 +7,8 @@ mod packet_examples;
 #[cfg(test)]
 mod packets;
 #[cfg(test)]
+mod settled;
+#[cfg(test)]
 mod step_examples;
 #[cfg(test)]
 mod steps;
