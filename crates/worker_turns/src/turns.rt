@@ -1,8 +1,9 @@
 //! Turns of a worker, and how a run ends.
-ghost use Rattle.std.specs.Prelude.{◌≡◌, ◌+◌, ◌≤◌, IsTrue};
+ghost use Rattle.std.specs.Prelude.{◌≡◌, ◌+◌, ◌≤◌, true, false};
 
 use crate::gate::Gate;
 use crate::stop::Stop;
+use std::marker::Model;
 use std::sync::OnceLock;
 use std::sync::atomic::{AtomicBool, AtomicU64, Ordering};
 
@@ -59,9 +60,21 @@ pub struct Turns<'a, G> {
     shared: &'a Shared,
 }
 
+impl<'a, G> Model for Turns<'a, G> {
+    ghost use Rattle.worker_turns.specs.Turning.{Turning, IsWithin};
+
+    ghost Value = { Turning };
+
+    ghost view = { λ t. record { done = t.done; limit = t.limit } };
+
+    ghost invariant = { λ t. IsWithin (record { done = t.done; limit = t.limit }) };
+}
+
 impl<'a, G: Gate> Turns<'a, G> {
     /// The worker has begun no turn.
-    pub fn new(worker: u32, limit: u64, gate: &'a G, shared: &'a Shared) -> Turns<'a, G> {
+    pub fn new(worker: u32, limit: u64, gate: &'a G, shared: &'a Shared) -> Turns<'a, G>
+        ensures { (result.done ≡ 0) × (result.limit ≡ limit) }
+    {
         Turns {
             worker,
             done: 0,
@@ -74,7 +87,8 @@ impl<'a, G: Gate> Turns<'a, G> {
     /// Before a record is pushed. `false` ends the worker.
     pub fn push(&mut self) -> bool
         ensures limit { self.new.limit ≡ self.old.limit }
-        ensures turn { IsTrue result → (self.new.done ≡ self.old.done + 1) × (self.new.done ≤ self.new.limit) }
+        ensures turn { result ≡ true → (self.new.done ≡ self.old.done + 1) × (self.new.done ≤ self.new.limit) }
+        ensures ended { result ≡ false → self.new.done ≡ self.old.done }
     {
         if self.shared.is_over() {
             return false;
@@ -90,7 +104,8 @@ impl<'a, G: Gate> Turns<'a, G> {
     /// Before a call of the hall. `false` ends the worker.
     pub fn call(&mut self) -> bool
         ensures limit { self.new.limit ≡ self.old.limit }
-        ensures turn { IsTrue result → (self.new.done ≡ self.old.done + 1) × (self.new.done ≤ self.new.limit) }
+        ensures turn { result ≡ true → (self.new.done ≡ self.old.done + 1) × (self.new.done ≤ self.new.limit) }
+        ensures ended { result ≡ false → (self.old.done ≤ self.new.done) × (self.new.done ≤ self.old.done + 1) }
     {
         if !self.push() {
             return false;
