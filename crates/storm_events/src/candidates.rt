@@ -41,12 +41,17 @@ fn place(draws: &mut Draws) -> usize
     draws.below(most) as usize
 }
 
-fn kind(draws: &mut Draws) -> DllpKind {
-    match draws.below(4) {
-        0 => DllpKind::Update(Class::Posted),
-        1 => DllpKind::Update(Class::NonPosted),
-        2 => DllpKind::Update(Class::Completion),
-        _ => DllpKind::Answer,
+/// A DLLP of a lane: an Ack as often as all updates together, and updates mostly of the classes that its packets have.
+fn kind(draws: &mut Draws, lane: LaneName) -> DllpKind {
+    if draws.chance(2) {
+        return DllpKind::Answer;
+    }
+    if draws.chance(4) {
+        return DllpKind::Update(Class::Posted);
+    }
+    match lane {
+        LaneName::Up(_) | LaneName::Inward => DllpKind::Update(Class::NonPosted),
+        LaneName::Down(_) | LaneName::Outward => DllpKind::Update(Class::Completion),
     }
 }
 
@@ -70,19 +75,39 @@ fn forward(draws: &mut Draws, requesters: u8) -> Event
     Event::Forward(lane, place(draws))
 }
 
-/// An event that no plan of faults is asked for. The replay timers expire seldom.
+fn dllp(draws: &mut Draws, requesters: u8) -> Event
+    requires { (1 ≤ requesters) × (requesters ≤ 7) }
+    ensures { IsSpelledEvent result }
+{
+    let lane = lane(draws, requesters);
+    Event::SendDllp(lane, kind(draws, lane))
+}
+
+/// A replay timer expires, which is seldom, or a link is retrained.
+fn repair(draws: &mut Draws, requesters: u8) -> Event
+    requires { (1 ≤ requesters) × (requesters ≤ 7) }
+    ensures { IsSpelledEvent result }
+{
+    let lane = lane(draws, requesters);
+    if draws.chance(8) {
+        Event::Timer(lane)
+    } else {
+        Event::Retrained(lane)
+    }
+}
+
+/// An event that no plan of faults is asked for.
 pub(crate) fn plain(draws: &mut Draws, requesters: u8) -> Event
     requires { (1 ≤ requesters) × (requesters ≤ 7) }
     ensures { IsSpelledEvent result }
 {
     match draws.below(40) {
-        0..=4 => submit(draws, requesters),
-        5..=14 => Event::Transmit(lane(draws, requesters)),
-        15..=20 => Event::SendDllp(lane(draws, requesters), kind(draws)),
+        0..=5 => submit(draws, requesters),
+        6..=14 => Event::Transmit(lane(draws, requesters)),
+        15..=20 => dllp(draws, requesters),
         21..=29 => forward(draws, requesters),
         30..=34 => Event::Serve(place(draws)),
-        35..=37 => Event::Collect(port(draws, requesters)),
-        38 if draws.chance(4) => Event::Timer(lane(draws, requesters)),
-        _ => Event::Retrained(lane(draws, requesters)),
+        35..=38 => Event::Collect(port(draws, requesters)),
+        _ => repair(draws, requesters),
     }
 }
