@@ -67,6 +67,7 @@ fn a_fabric_whose_counter_counts_once() {
     }
     assert_eq!(fabric.event("serve 0"), Err(Error::Told("NotTakeable".into())));
     assert_eq!(fabric.event("serve"), Err(Error::Argument(2008)));
+    assert_eq!(fabric.event("settle"), Err(Error::Argument(2008)));
     assert_eq!((fabric.history_length(), fabric.is_quiet()), (1, false));
     let mut bytes = [1; 4096];
     assert_eq!(fabric.copy_bytes(&mut bytes[..9]), Err(Error::Argument(2000)));

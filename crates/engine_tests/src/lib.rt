@@ -9,6 +9,8 @@ mod packets;
 #[cfg(test)]
 mod pictures;
 #[cfg(test)]
+mod settled;
+#[cfg(test)]
 mod step_examples;
 #[cfg(test)]
 mod steps;

@@ -1,6 +1,19 @@
 //! The files of the folder `examples/` for `step`, and what they print: `examples/check.sh` says whether they are the same.
 use crate::steps::prints;
 
+const FIRST_SCRIPT: &str = "\
+# A first script for `pciex step`: requester 1 adds 7 to the four bytes at 40h, and is answered the old value.
+fabric 1 0 4096
+submit 1 add 40 07000000
+settle
+";
+
+const FIRST_SCRIPT_OUT: &str = "\
+sub 1 0
+ans 1 0 data 00000000
+settled
+";
+
 const LOST_ACK: &str = "\
 # A script for `pciex step`: an Ack is lost and its packet sent once more, and the request still acts once.
 
@@ -288,7 +301,8 @@ end
 ";
 
 /// A script, its output and its exit status.
-const EXAMPLES: [(&str, &str, u8); 5] = [
+const EXAMPLES: [(&str, &str, u8); 6] = [
+    (FIRST_SCRIPT, FIRST_SCRIPT_OUT, 0),
     (LOST_ACK, LOST_ACK_OUT, 0),
     (WRITE_PASSES_READ, WRITE_PASSES_READ_OUT, 0),
     (CREDITS, CREDITS_OUT, 0),

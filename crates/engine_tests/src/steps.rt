@@ -194,7 +194,7 @@ pub fn prints(alloc: Global, is_traced: bool, script: &[u8], want: &[u8], exit: 
 }
 
 /// Whether `check` says `ok` to a trace.
-fn is_explained(alloc: Global, text: &[u8]) -> bool {
+pub fn is_explained(alloc: Global, text: &[u8]) -> bool {
     let mut reader = text;
     let mut out = Vec::new(alloc);
     run_check(alloc, &mut reader, &mut out) == Ok(0) && out.as_slice() == b"ok\n".as_slice()

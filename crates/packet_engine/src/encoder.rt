@@ -7,8 +7,9 @@ ghost use Rattle.packet_engine.specs.Lines.{out_encode, encode_reading};
 use crate::telling::{tell, tell_bytes, tell_text_fault};
 use line_engine::{EngineFault, Responder, run};
 use packet_text::read_packet;
+use reasons::Reasoned;
 use std::alloc::{AllocError, Global};
-use std::io::{Read, Write};
+use std::io::{Read, Write, sink};
 use std::marker::Model;
 
 /// Nothing is remembered from line to line.
@@ -55,6 +56,20 @@ impl Responder for Encoder {
     }
 }
 
+/// Does what [`run_encode`] does, and tells on `errors` why it answers faults, a line each.
+pub fn run_encode_with_reasons<R: Read, W: Write, E: Write>(
+    alloc: Global,
+    reader: &mut R,
+    writer: &mut W,
+    errors: &mut E,
+) -> Result<u8, EngineFault>
+    ensures ok { IfOk result (IsWhole out_encode (R.remaining reader.old) (R.remaining reader.new) (W.contents writer.old) (W.contents writer.new)) }
+    ensures err { OnErr result (IsPart out_encode (R.remaining reader.old) (R.remaining reader.new) (W.contents writer.old) (W.contents writer.new)) }
+{
+    let encoder = Reasoned::new(Encoder {}, errors);
+    run(alloc, encoder, reader, writer)
+}
+
 /// Answers each line of the reader's input with a line: it has the text of a packet. The answer is
 /// the packet's canonical bytes, in capitals in groups of four, or a fault. `Ok` is the exit status,
 /// 1 where a fault was told. After an `Err` what was written is a beginning of the whole output.
@@ -66,5 +81,5 @@ pub fn run_encode<R: Read, W: Write>(
     ensures ok { IfOk result (IsWhole out_encode (R.remaining reader.old) (R.remaining reader.new) (W.contents writer.old) (W.contents writer.new)) }
     ensures err { OnErr result (IsPart out_encode (R.remaining reader.old) (R.remaining reader.new) (W.contents writer.old) (W.contents writer.new)) }
 {
-    run(alloc, Encoder {}, reader, writer)
+    run_encode_with_reasons(alloc, reader, writer, &mut sink())
 }

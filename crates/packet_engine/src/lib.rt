@@ -2,7 +2,8 @@
 //!
 //! [`run_decode`] reads a TLP or a DLLP a line in hexadecimal digits and writes it in words,
 //! [`run_encode`] reads such words and writes the canonical bytes. Both go over any reader and
-//! writer, a block of input at a time.
+//! writer, a block of input at a time. [`run_encode_with_reasons`] also tells why it answers faults, for
+//! people.
 #![tactic(auto)]
 
 mod decoder;
@@ -11,5 +12,5 @@ mod laws;
 mod telling;
 
 pub use decoder::run_decode;
-pub use encoder::run_encode;
+pub use encoder::{run_encode, run_encode_with_reasons};
 pub use laws::decoded_packets_are_encoded;

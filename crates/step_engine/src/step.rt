@@ -10,19 +10,20 @@ ghost use Rattle.line_engine.specs.Run.{IsAnswer, IsWhole, IsPart};
 ghost use Rattle.step_engine.specs.Step as spec;
 ghost use Rattle.step_engine.specs.Step.{IsRecorded};
 
+use crate::explained::run_step_with_reasons;
 use crate::options::StepOptions;
 use arrayvec::ArrayString;
 use fabric_answers::laws::{a_configuration_has_one_answer, each_event_has_one_answer};
 use fabric_core::{Config, ConfigFault, Event, Fabric, Refusal, Seen};
 use history_check::Record;
 use lane_core::LaneRefusal;
-use line_engine::{EngineFault, Responder, run};
+use line_engine::{EngineFault, Responder};
 use script_text::{
     Line, read_line, write_config_fault, write_refusal, write_seen, write_settled, write_told,
 };
 use settling::settle;
 use std::alloc::{AllocError, Global};
-use std::io::{Read, Write};
+use std::io::{Read, Write, sink};
 use std::marker::Model;
 use std::mem;
 use trace_engine::tell_trace;
@@ -87,13 +88,15 @@ fn happen_recorded(fabric: &mut Fabric, event: &Event) -> Result<Option<Record>,
 
 /// A script that is run line by line.
 #[derive(Drop)]
-struct Stepper {
+pub(crate) struct Stepper {
     alloc: Global,
     options: StepOptions,
     fabric: Option<Fabric>,
     records: Vec<Record>,
     lines: u64,
     has_ended: bool,
+    /// Why the fabric refused the event that was refused last, as long as nobody took it.
+    refusal: Option<Refusal>,
 }
 
 impl Model for Stepper {
@@ -105,7 +108,7 @@ impl Model for Stepper {
 }
 
 impl Stepper {
-    fn new(alloc: Global, options: StepOptions) -> Stepper
+    pub(crate) fn new(alloc: Global, options: StepOptions) -> Stepper
         ensures { result ≡ spec.new_script options }
     {
         Stepper {
@@ -115,7 +118,22 @@ impl Stepper {
             records: Vec::new(alloc),
             lines: 0,
             has_ended: false,
+            refusal: None,
         }
+    }
+
+    /// The number of lines so far, skipped ones counted.
+    pub(crate) fn lines(&self) -> u64
+        ensures { result ≡ self.now.lines }
+    {
+        self.lines
+    }
+
+    /// Why the fabric refused the event that was refused last, where nobody took it yet.
+    pub(crate) fn take_refusal(&mut self) -> Option<Refusal>
+        ensures { self.new ≡ self.old }
+    {
+        self.refusal.take()
     }
 
     /// The number of the line that comes next, from 1; it stays at 2^64 - 1.
@@ -242,6 +260,7 @@ impl Stepper {
         }
         let mut text = ending("refused ", self.next_line());
         write_refusal(&refusal, &mut text);
+        self.refusal = Some(refusal);
         if self.options.keeps_going {
             return self.pass(line, &mut text, out);
         }
@@ -439,8 +458,7 @@ pub fn run_step_with<R: Read, W: Write>(
     ensures ok { IfOk result (IsWhole (spec.out_step_with options) (R.remaining reader.old) (R.remaining reader.new) (W.contents writer.old) (W.contents writer.new)) }
     ensures err { OnErr result (IsPart (spec.out_step_with options) (R.remaining reader.old) (R.remaining reader.new) (W.contents writer.old) (W.contents writer.new)) }
 {
-    let stepper = Stepper::new(alloc, options);
-    run(alloc, stepper, reader, writer)
+    run_step_with_reasons(alloc, options, reader, writer, &mut sink())
 }
 
 /// The run of a script that ends at the first refusal and tells results alone, or with `is_traced` the trace alone.

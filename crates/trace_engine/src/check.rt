@@ -1,5 +1,6 @@
 //! The subcommand `check`: whether a history explains what requesters were told.
-ghost use Rattle.std.specs.Prelude.{◌≡◌, ◌++◌, ◌∷◌, [], true, IfOk, OnErr};
+ghost use Rattle.std.specs.Prelude.{◌≡◌, ◌++◌, ◌∷◌, [], true, false, IfOk, OnErr};
+ghost use Rattle.std.specs.Io.KnownBytes.{Keeps};
 ghost use Rattle.history_check.specs.Claim.{claim_of};
 ghost use Rattle.history_check.specs.Flaws.{first_flaw};
 ghost use Rattle.trace_file.specs.Reading.{nothing_read};
@@ -10,9 +11,10 @@ use crate::traces::{TraceInput, tell_fault};
 use arrayvec::ArrayString;
 use history_check::{Flaw, FlawKind, Trace, check};
 use line_engine::{EngineFault, Responder, run};
+use reasons::{TraceLines, TraceReasons};
 use seq_memory::Entry;
 use std::alloc::{AllocError, Global};
-use std::io::{Read, Write};
+use std::io::{Read, Write, sink};
 use std::marker::Model;
 use trace_text::write_decimal;
 
@@ -33,15 +35,19 @@ fn tell_flaw(flaw: Flaw, out: &mut Vec<u8>) -> Result<bool, AllocError>
     Ok(true)
 }
 
-/// Adds the line that tells whether the history explains the trace.
-fn judge(
+/// Adds the line that tells whether the history explains the trace, and tells the reason of a flaw.
+fn judge<E: Write + Drop>(
     alloc: Global,
     trace: &Trace,
     history: &[Entry],
+    lines: &TraceLines,
+    reasons: &mut TraceReasons<E>,
     out: &mut Vec<u8>,
 ) -> Result<bool, AllocError>
     ensures ok { IfOk result (λ told. IsAnswer nothing_read out.old.items out.new.items told (judged (first_flaw (claim_of trace.now history.now)))) }
     ensures err { OnErr result (out.new.items ≡ out.old.items) }
+    ensures quiet { IfOk result (λ told. told ≡ false → Keeps reasons.old.errors reasons.new.errors) }
+    ensures told { reasons.new.told ≡ reasons.old.told }
 {
     match check(alloc, trace, history) {
         Ok(()) => {
@@ -49,45 +55,84 @@ fn judge(
             Ok(false)
         }
         Err(flaw) if flaw.kind == FlawKind::Memory => Err(AllocError),
-        Err(flaw) => tell_flaw(flaw, out),
+        Err(flaw) => {
+            let _ = reasons.tell_flaw(alloc, trace, history, flaw, lines);
+            tell_flaw(flaw, out)
+        }
     }
 }
 
 /// A trace that is read, and then checked.
 #[derive(Drop)]
-struct Checker {
+struct Checker<E: Write> {
     input: TraceInput,
+    lines: TraceLines,
+    reasons: TraceReasons<E>,
 }
 
-impl Model for Checker {
+impl<E: Write> Model for Checker<E> {
     ghost use Rattle.trace_file.specs.Reading.{Reading};
+    ghost use Rattle.trace_engine.specs.Reasons.{Agrees};
 
     ghost Value = { Reading };
 
     ghost view = { λ c. c.input };
+
+    ghost invariant = { λ c. Agrees c.input c.reasons };
 }
 
-impl Responder for Checker {
+impl<E: Write + Drop> Responder for Checker<E> {
     ghost use Rattle.trace_engine.specs.Check.{check_responses};
 
     ghost responses = { check_responses };
 
     fn on_line(&mut self, line: &[u8], _out: &mut Vec<u8>) -> Result<bool, AllocError> {
+        self.lines.note(line)?;
         self.input.line(line)?;
+        let _ = self.reasons.take_line(line, self.input.faulty_line());
         Ok(false)
     }
 
     fn on_long_line(&mut self, _out: &mut Vec<u8>) -> Result<bool, AllocError> {
         self.input.long_line();
+        let _ = self.reasons.take_long_line(self.input.faulty_line());
         Ok(false)
     }
 
     fn on_end(&mut self, out: &mut Vec<u8>) -> Result<bool, AllocError> {
         match self.input.end() {
-            Ok((trace, history)) => judge(self.input.alloc(), &trace, history.as_slice(), out),
-            Err(fault) => tell_fault(fault, out),
+            Ok((trace, history)) => judge(
+                self.input.alloc(),
+                &trace,
+                history.as_slice(),
+                &self.lines,
+                &mut self.reasons,
+                out,
+            ),
+            Err(fault) => {
+                let _ = self.reasons.take_end(fault.line);
+                tell_fault(fault, out)
+            }
         }
     }
+}
+
+/// Does what [`run_check`] does, and tells on `errors` why it answers a flaw or a fault, in a line.
+pub fn run_check_with_reasons<R: Read, W: Write, E: Write>(
+    alloc: Global,
+    reader: &mut R,
+    writer: &mut W,
+    errors: &mut E,
+) -> Result<u8, EngineFault>
+    ensures ok { IfOk result (IsWhole out_check (R.remaining reader.old) (R.remaining reader.new) (W.contents writer.old) (W.contents writer.new)) }
+    ensures err { OnErr result (IsPart out_check (R.remaining reader.old) (R.remaining reader.new) (W.contents writer.old) (W.contents writer.new)) }
+{
+    let checker = Checker {
+        input: TraceInput::new(alloc),
+        lines: TraceLines::new(alloc),
+        reasons: TraceReasons::new(errors),
+    };
+    run(alloc, checker, reader, writer)
 }
 
 /// Reads the text of a trace and writes one line: `ok` where its history explains its records, else
@@ -102,6 +147,5 @@ pub fn run_check<R: Read, W: Write>(
     ensures ok { IfOk result (IsWhole out_check (R.remaining reader.old) (R.remaining reader.new) (W.contents writer.old) (W.contents writer.new)) }
     ensures err { OnErr result (IsPart out_check (R.remaining reader.old) (R.remaining reader.new) (W.contents writer.old) (W.contents writer.new)) }
 {
-    let input = TraceInput::new(alloc);
-    run(alloc, Checker { input }, reader, writer)
+    run_check_with_reasons(alloc, reader, writer, &mut sink())
 }

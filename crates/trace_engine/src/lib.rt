@@ -3,7 +3,8 @@
 //!
 //! [`run_check`] tells whether a trace's history explains its records, [`run_upgrade`] writes a trace of
 //! either version in the second one, unchecked. Both go over any reader and writer, a block of input at
-//! a time, and answer at the end of the input.
+//! a time, and answer at the end of the input. Beside each stands one that also tells the reason of its
+//! answer, for people.
 #![tactic(auto)]
 
 mod check;
@@ -11,6 +12,6 @@ pub mod laws;
 mod traces;
 mod upgrade;
 
-pub use check::run_check;
+pub use check::{run_check, run_check_with_reasons};
 pub use traces::tell_trace;
-pub use upgrade::run_upgrade;
+pub use upgrade::{run_upgrade, run_upgrade_with_reasons};

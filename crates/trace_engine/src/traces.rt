@@ -4,6 +4,7 @@ ghost use Rattle.history_check.specs.Claim.{claim_of};
 ghost use Rattle.trace_file.specs.Texts.{trace_text};
 ghost use Rattle.trace_file.specs.Reading.{nothing_read, after_line, after_long_line, at_end};
 ghost use Rattle.trace_engine.specs.Check.{fault_line};
+ghost use Rattle.trace_engine.specs.Reasons.{faulty_line};
 
 use arrayvec::ArrayString;
 use history_check::Trace;
@@ -42,9 +43,20 @@ impl TraceInput {
         self.alloc
     }
 
+    /// The number of the first line that can't be read, if one was found so far.
+    pub fn faulty_line(&self) -> Option<u64>
+        ensures { result ≡ faulty_line self.now }
+    {
+        match self.reader.fault() {
+            Some(fault) => Some(fault.line),
+            None => None,
+        }
+    }
+
     /// Takes a line, without what ends it.
     pub fn line(&mut self, line: &[u8]) -> Result<(), AllocError>
         ensures ok { OnOk result (self.new ≡ after_line self.old line.now) }
+        ensures err { OnErr result (self.new ≡ self.old) }
     {
         self.reader.line(line)
     }

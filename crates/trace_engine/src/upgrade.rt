@@ -5,36 +5,43 @@ ghost use Rattle.trace_engine.specs.Upgrade.{out_upgrade};
 
 use crate::traces::{TraceInput, tell_fault, tell_trace};
 use line_engine::{EngineFault, Responder, run};
+use reasons::TraceReasons;
 use std::alloc::{AllocError, Global};
-use std::io::{Read, Write};
+use std::io::{Read, Write, sink};
 use std::marker::Model;
 
 /// A trace that is read, and then written.
 #[derive(Drop)]
-struct Upgrader {
+struct Upgrader<E: Write> {
     input: TraceInput,
+    reasons: TraceReasons<E>,
 }
 
-impl Model for Upgrader {
+impl<E: Write> Model for Upgrader<E> {
     ghost use Rattle.trace_file.specs.Reading.{Reading};
+    ghost use Rattle.trace_engine.specs.Reasons.{Agrees};
 
     ghost Value = { Reading };
 
     ghost view = { λ u. u.input };
+
+    ghost invariant = { λ u. Agrees u.input u.reasons };
 }
 
-impl Responder for Upgrader {
+impl<E: Write + Drop> Responder for Upgrader<E> {
     ghost use Rattle.trace_engine.specs.Upgrade.{upgrade_responses};
 
     ghost responses = { upgrade_responses };
 
     fn on_line(&mut self, line: &[u8], _out: &mut Vec<u8>) -> Result<bool, AllocError> {
         self.input.line(line)?;
+        let _ = self.reasons.take_line(line, self.input.faulty_line());
         Ok(false)
     }
 
     fn on_long_line(&mut self, _out: &mut Vec<u8>) -> Result<bool, AllocError> {
         self.input.long_line();
+        let _ = self.reasons.take_long_line(self.input.faulty_line());
         Ok(false)
     }
 
@@ -43,9 +50,29 @@ impl Responder for Upgrader {
             Ok((trace, history)) => {
                 tell_trace(self.input.alloc(), &trace, history.as_slice(), out)
             }
-            Err(fault) => tell_fault(fault, out),
+            Err(fault) => {
+                let _ = self.reasons.take_end(fault.line);
+                tell_fault(fault, out)
+            }
         }
     }
+}
+
+/// Does what [`run_upgrade`] does, and tells on `errors` why it answers a fault, in a line.
+pub fn run_upgrade_with_reasons<R: Read, W: Write, E: Write>(
+    alloc: Global,
+    reader: &mut R,
+    writer: &mut W,
+    errors: &mut E,
+) -> Result<u8, EngineFault>
+    ensures ok { IfOk result (IsWhole out_upgrade (R.remaining reader.old) (R.remaining reader.new) (W.contents writer.old) (W.contents writer.new)) }
+    ensures err { OnErr result (IsPart out_upgrade (R.remaining reader.old) (R.remaining reader.new) (W.contents writer.old) (W.contents writer.new)) }
+{
+    let upgrader = Upgrader {
+        input: TraceInput::new(alloc),
+        reasons: TraceReasons::new(errors),
+    };
+    run(alloc, upgrader, reader, writer)
 }
 
 /// Reads the text of a trace, of version 1 or 2, and writes it in version 2, unchecked; or `fault`
@@ -59,6 +86,5 @@ pub fn run_upgrade<R: Read, W: Write>(
     ensures ok { IfOk result (IsWhole out_upgrade (R.remaining reader.old) (R.remaining reader.new) (W.contents writer.old) (W.contents writer.new)) }
     ensures err { OnErr result (IsPart out_upgrade (R.remaining reader.old) (R.remaining reader.new) (W.contents writer.old) (W.contents writer.new)) }
 {
-    let input = TraceInput::new(alloc);
-    run(alloc, Upgrader { input }, reader, writer)
+    run_upgrade_with_reasons(alloc, reader, writer, &mut sink())
 }

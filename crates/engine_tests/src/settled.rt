@@ -1,20 +1,12 @@
-//! What `step` prints of scripts with `settle`, and with its options. `examples/check.sh` says whether the texts of the
-//! folder `examples/` are those here.
+//! What `step` prints of scripts with `settle`, and with its options.
+use crate::steps::is_explained;
 use std::alloc::Global;
 use step_engine::{StepOptions, run_step_with};
-use trace_engine::run_check;
 
-const FIRST_SCRIPT: &str = "\
-# A first script for `pciex step`: requester 1 adds 7 to the four bytes at 40h, and is answered the old value.
+const ONE_ADDED: &str = "\
 fabric 1 0 4096
 submit 1 add 40 07000000
 settle
-";
-
-const FIRST_SCRIPT_OUT: &str = "\
-sub 1 0
-ans 1 0 data 00000000
-settled
 ";
 
 /// The first packet of requester 1 is lost, so requester 2 is served before it.
@@ -89,6 +81,28 @@ settled
 settled
 ";
 
+/// Each lane has one header credit of a class, which is used twice.
+const LEAST_CREDITS: &str = "\
+fabric 2 0 4096 1 8 1 2 1 8
+submit 1 write 40 F 0 01020304
+submit 2 read 40 1 F 0
+settle
+submit 1 write 40 F 0 05060708
+submit 2 read 40 1 F 0
+settle
+";
+
+const LEAST_CREDITS_OUT: &str = "\
+sub 1 0
+sub 2 0
+ans 2 0 data 01020304
+settled
+sub 1 1
+sub 2 1
+ans 2 1 data 05060708
+settled
+";
+
 const REFUSED: &str = "\
 fabric 1 0 4096
 transmit up1
@@ -139,12 +153,17 @@ const ECHOED: StepOptions = StepOptions {
 
 /// The options, the script, its output and its exit status.
 const ROWS: [(StepOptions, &str, &str, u8); 14] = [
-    (PLAIN, FIRST_SCRIPT, FIRST_SCRIPT_OUT, 0),
     (PLAIN, ONE_LOST, ONE_LOST_OUT, 0),
     (PLAIN, STOPPED, STOPPED_OUT, 0),
+    (PLAIN, LEAST_CREDITS, LEAST_CREDITS_OUT, 0),
     (PLAIN, "fabric 1 0 4096\nsettle\n", "settled\n", 0),
     (PLAIN, "settle\n", "fault 1 Script\n", 1),
-    (PLAIN, "fabric 1 0 4096\nsettle now\n", "fault 2 Script\n", 1),
+    (
+        PLAIN,
+        "fabric 1 0 4096\nsettle now\n",
+        "fault 2 Script\n",
+        1,
+    ),
     (PLAIN, REFUSED, "refused 2 Idle\n", 1),
     (
         GOING,
@@ -158,10 +177,15 @@ const ROWS: [(StepOptions, &str, &str, u8); 14] = [
         "refused 2 Idle\nfault 3 Script\n",
         1,
     ),
-    (GOING, FIRST_SCRIPT, FIRST_SCRIPT_OUT, 0),
+    (
+        GOING,
+        ONE_ADDED,
+        "sub 1 0\nans 1 0 data 00000000\nsettled\n",
+        0,
+    ),
     (
         ECHOED,
-        FIRST_SCRIPT,
+        ONE_ADDED,
         "submit 1 add 40 07000000 -> sub 1 0\nsettle -> ans 1 0 data 00000000\nsettle -> settled\n",
         0,
     ),
@@ -178,15 +202,8 @@ fn prints(alloc: Global, options: StepOptions, script: &[u8], want: &[u8], exit:
     result == Ok(exit) && out.as_slice() == want
 }
 
-/// Whether `check` says `ok` to a trace.
-fn is_explained(alloc: Global, text: &[u8]) -> bool {
-    let mut reader = text;
-    let mut out = Vec::new(alloc);
-    run_check(alloc, &mut reader, &mut out) == Ok(0) && out.as_slice() == b"ok\n".as_slice()
-}
-
 #[test]
-fn scripts(rt: HostRuntime) {
+fn settled_scripts(rt: HostRuntime) {
     for (options, script, want, exit) in ROWS {
         let is_well = prints(
             rt.alloc(),
@@ -200,7 +217,7 @@ fn scripts(rt: HostRuntime) {
 }
 
 #[test]
-fn traces(rt: HostRuntime) {
+fn traces_of_settled_scripts(rt: HostRuntime) {
     for trace in [ONE_LOST_TRACE, REFUSED_TRACE] {
         let is_ok = is_explained(rt.alloc(), trace.as_bytes());
         assert!(rt; is_ok, "{trace}");

@@ -1,0 +1,295 @@
+//! Why a line is refused, by each engine that reads words.
+use packet_engine::run_encode_with_reasons;
+use std::alloc::{AllocError, Global};
+use std::test::Fail;
+use step_engine::{StepOptions, run_step_with_reasons};
+use trace_engine::{run_check_with_reasons, run_upgrade_with_reasons};
+
+/// A subcommand.
+#[derive(Clone, Copy, Debug, PartialEq, Eq)]
+enum Engine {
+    Step,
+    /// Refusals don't end it.
+    StepOn,
+    /// The same with a trace.
+    StepOnTraced,
+    Check,
+    Upgrade,
+    Encode,
+}
+
+/// Whether the engine tells this on the error stream.
+fn is_told(alloc: Global, engine: Engine, input: &[u8], want: &str) -> bool {
+    let mut reader = input;
+    let mut out = Vec::new(alloc);
+    let mut errors = Vec::new(alloc);
+    let result = match engine {
+        Engine::Step => {
+            let options = StepOptions::plain(false);
+            run_step_with_reasons(alloc, options, &mut reader, &mut out, &mut errors)
+        }
+        Engine::StepOn => {
+            let options = StepOptions {
+                is_traced: false,
+                keeps_going: true,
+                echoes: true,
+            };
+            run_step_with_reasons(alloc, options, &mut reader, &mut out, &mut errors)
+        }
+        Engine::StepOnTraced => {
+            let options = StepOptions {
+                is_traced: true,
+                keeps_going: true,
+                echoes: false,
+            };
+            run_step_with_reasons(alloc, options, &mut reader, &mut out, &mut errors)
+        }
+        Engine::Check => run_check_with_reasons(alloc, &mut reader, &mut out, &mut errors),
+        Engine::Upgrade => run_upgrade_with_reasons(alloc, &mut reader, &mut out, &mut errors),
+        Engine::Encode => run_encode_with_reasons(alloc, &mut reader, &mut out, &mut errors),
+    };
+    result == Ok(1) && errors.as_slice() == want.as_bytes()
+}
+
+/// What an engine reads, and what it tells.
+const ROWS: [(Engine, &str, &str); 41] = [
+    (
+        Engine::Step,
+        "fabric 1 0 4096\ntransmit lanes\n",
+        "pciex: line 2, column 10: 'lanes' where a lane is expected (up1 to up7, down1 to down7, in, out)\n",
+    ),
+    (
+        Engine::Step,
+        "# small\r\n\r\nfabric 1 0 100\r\n",
+        "pciex: line 3, column 12: '100' where a size is expected (128 to 1048576, a multiple of 128)\n",
+    ),
+    (
+        Engine::Step,
+        "fabric 9 0 4096\n",
+        "pciex: line 1, column 8: '9' where a number of requesters is expected (1 to 7)\n",
+    ),
+    (
+        Engine::Step,
+        "fabric 1 FFFFFFFFFFFFFF80 4096\n",
+        "pciex: line 1, column 10: 'FFFFFFFFFFFFFF80' where a base is expected (hexadecimal, a multiple of 80, and the memory ends at 2^64 at the latest)\n",
+    ),
+    (
+        Engine::Step,
+        "fabric 1 0 4096 1 8 1 1 1 8\n",
+        "pciex: line 1, column 23: '1' where the number of NP data credits is expected (2 to 2047)\n",
+    ),
+    (
+        Engine::Step,
+        "fabric 1 0 4096 block 96\n",
+        "pciex: line 1, column 23: '96' where a block is expected (64, 128)\n",
+    ),
+    (
+        Engine::Step,
+        "transmit up1\n",
+        "pciex: line 1, column 1: 'transmit' where a fabric is expected (fabric <requesters> <base> <size>)\n",
+    ),
+    (
+        Engine::Step,
+        "fabric 1 0 4096\nfabric 1 0 4096\n",
+        "pciex: line 2, column 1: 'fabric' where an event is expected (submit, transmit, deliver, dllp, deliver-dllp, timer, retrained, forward, serve, collect, settle)\n",
+    ),
+    (
+        Engine::Step,
+        "fabric 1 0 4096\nsubmit 1 add 40 0700\n",
+        "pciex: line 2, column 17: '0700' where an operand is expected (two hexadecimal digits a byte, 4, 8 or 16 bytes)\n",
+    ),
+    (
+        Engine::Step,
+        "fabric 1 0 4096\nsubmit 1 cas 40 07000000 0700000000000000\n",
+        "pciex: line 2, column 26: '0700000000000000' where an operand is expected (of as many bytes as the compare value)\n",
+    ),
+    (
+        Engine::Step,
+        "fabric 1 0 4096\ntransmit up1 \n",
+        "pciex: line 2, column 13: ' ' where the line's end is expected\n",
+    ),
+    (
+        Engine::Step,
+        "fabric 1 0 4096\ntransmit  up1\n",
+        "pciex: line 2, column 10: ' ' where a lane is expected (up1 to up7, down1 to down7, in, out)\n",
+    ),
+    (
+        Engine::Step,
+        "fabric 1 0 4096\ndeliver up1\n",
+        "pciex: line 2, column 12: the line ends where a fate is expected (good, failed, lost)\n",
+    ),
+    (
+        Engine::Step,
+        "fabric 1 0 4096\nserve \u{7}é\n",
+        "pciex: line 2, column 7: '\\x07\\xC3\\xA9' where a place is expected (a number from 0 on)\n",
+    ),
+    (
+        Engine::Step,
+        "fabric 1 0 4096\nserve 12345678901234567890123456789012345678901234567890\n",
+        "pciex: line 2, column 7: '1234567890123456789012345678901234567890' where a place is expected (a number from 0 on)\n",
+    ),
+    (
+        Engine::Step,
+        "fabric 1 0 4096\nforward up1 0\n",
+        "pciex: line 2: 'forward up1 0' is refused: NotTakeable (there is no packet at the place, or it may not pass one before it)\n",
+    ),
+    (
+        Engine::Step,
+        "fabric 1 0 4096\ncollect 1\n",
+        "pciex: line 2: 'collect 1' is refused: Idle (there is nothing to send, to deliver, to replay or to collect, or no stopped sender to retrain)\n",
+    ),
+    (
+        Engine::Step,
+        "fabric 1 0 4096\nsubmit 1 read 42 1 F 0\n",
+        "pciex: line 2: 'submit 1 read 42 1 F 0' is refused: Profile Unaligned (an operand's address is a multiple of its size, any other of 4)\n",
+    ),
+    (
+        Engine::Step,
+        "fabric 1 0 4096 1 8 1 2 1 8\nsubmit 1 add 40 01000000\nsubmit 1 add 40 01000000\n",
+        "pciex: line 3: 'submit 1 add 40 01000000' is refused: NoCredits NP (the lane that the packet would enter has not the non-posted credits)\n",
+    ),
+    (
+        Engine::StepOn,
+        "fabric 1 0 4096\n# idle\ncollect 1\nsubmit 1 add 40 01000000\nsettle\nserve 0\nserve x\nserve 0\n",
+        "pciex: line 3: 'collect 1' is refused: Idle (there is nothing to send, to deliver, to replay or to collect, or no stopped sender to retrain)\npciex: line 6: 'serve 0' is refused: NotTakeable (there is no packet at the place, or it may not pass one before it)\npciex: line 7, column 7: 'x' where a place is expected (a number from 0 on)\n",
+    ),
+    (
+        Engine::StepOnTraced,
+        "fabric 1 0 4096\ncollect 2\nsettle up1\n",
+        "pciex: line 2: 'collect 2' is refused: NoSuchPart (the fabric has no such requester or lane, or the lane is not one that the switch forwards from)\npciex: line 3, column 8: 'up1' where the line's end is expected\n",
+    ),
+    (
+        Engine::Check,
+        "pciex-trace 3\n",
+        "pciex: line 1, column 13: '3' where a version is expected (1, 2)\n",
+    ),
+    (
+        Engine::Check,
+        "",
+        "pciex: line 1: the text ends where the head is expected (pciex-trace 1, pciex-trace 2)\n",
+    ),
+    (
+        Engine::Check,
+        "pciex-trace 2\nmemory 0 4096\nend\n",
+        "pciex: line 2, column 14: the line ends where a block is expected (64, 128)\n",
+    ),
+    (
+        Engine::Check,
+        "pciex-trace 1\nmemory 0 4096 64\n",
+        "pciex: line 2, column 15: '64' where the line's end is expected\n",
+    ),
+    (
+        Engine::Check,
+        "pciex-trace 1\nmemory 40 4096\n",
+        "pciex: line 2, column 8: '40' where a base is expected (hexadecimal, a multiple of 80, and the memory ends at 2^64 at the latest)\n",
+    ),
+    (
+        Engine::Check,
+        "pciex-trace 2\n#\nmemory 0 4096 64\nsub 8 0 0 read 40 1 F 0\nsub 9\n",
+        "pciex: line 4, column 5: '8' where a requester is expected (1 to 7)\n",
+    ),
+    (
+        Engine::Check,
+        "pciex-trace 1\nmemory 0 4096\nans 1 0 1 date 00\n",
+        "pciex: line 3, column 11: 'date' where a reply is expected (data, ur, ca)\n",
+    ),
+    (
+        Engine::Check,
+        "pciex-trace 1\nmemory 0 4096\nent 1 0 read 40 1 F 0\n",
+        "pciex: line 3, column 1: 'ent' where a record or the history is expected (sub, ans, history)\n",
+    ),
+    (
+        Engine::Upgrade,
+        "pciex-trace 1\nmemory 0 4096\nhistory\n\nent 1 0 read 40 1 G 0\n",
+        "pciex: line 5, column 19: 'G' where the First DW BE is expected (0 to F)\n",
+    ),
+    (
+        Engine::Upgrade,
+        "pciex-trace 1\nmemory 0 4096\nhistory\n#\n",
+        "pciex: line 5: the text ends where an entry or the end is expected (ent, end)\n",
+    ),
+    (
+        Engine::Upgrade,
+        "pciex-trace 1\nmemory 0 4096\nhistory\nend\nend\n",
+        "pciex: line 5, column 1: 'end' where the text's end is expected\n",
+    ),
+    (
+        Engine::Encode,
+        "# numbers\nack 1000\nack 000\nnak\n",
+        "pciex: line 2, column 5: '1000' where a sequence number is expected (three hexadecimal digits)\npciex: line 4, column 4: the line ends where a sequence number is expected (three hexadecimal digits)\n",
+    ),
+    (
+        Engine::Encode,
+        "add 40 07000000 form 0100 tag 05\n",
+        "pciex: line 1, column 17: 'form' where 'from' is expected\n",
+    ),
+    (
+        Engine::Encode,
+        "add 40 07000000 from 0100 tag 05 tc 8\n",
+        "pciex: line 1, column 37: '8' where a number is expected (0 to 7)\n",
+    ),
+    (
+        Engine::Encode,
+        "add 40 07000000 from 0100 tag 05 attr 1 tc 1\n",
+        "pciex: line 1, column 41: 'tc' where the line's end is expected\n",
+    ),
+    (
+        Engine::Encode,
+        "completion sc 0000000 to 0100 tag 05 by 0000 count 4 lower 00\n",
+        "pciex: line 1, column 15: '0000000' where a byte string is expected (two hexadecimal digits a byte, 1 to 128 bytes)\n",
+    ),
+    (
+        Engine::Encode,
+        "completion ur to 0100 tag 05 by 0000 count 4 lower 80\n",
+        "pciex: line 1, column 52: '80' where a Lower Address is expected (00 to 7F)\n",
+    ),
+    (
+        Engine::Encode,
+        "update x 2 16\n",
+        "pciex: line 1, column 8: 'x' where a class is expected (p, np, cpl)\n",
+    ),
+    (
+        Engine::Encode,
+        "reed 40 1 F 0\n",
+        "pciex: line 1, column 1: 'reed' where a packet is expected (read, write, add, swap, cas, completion, ack, nak, update)\n",
+    ),
+    (
+        Engine::Encode,
+        "read 40 0 F 0 from 0100 tag 05\n",
+        "pciex: line 1: 'read 40 0 F 0 from 0100 tag 05' is refused: LengthMismatch (a read has 1 to 1024 DW, and data are whole DW)\n",
+    ),
+];
+
+#[test]
+fn reasons_of_lines(rt: HostRuntime) {
+    for (engine, input, want) in ROWS {
+        assert!(rt;
+            is_told(rt.alloc(), engine, input.as_bytes(), want),
+            "{engine:?} {input}"
+        );
+    }
+}
+
+/// A line of 513 bytes behind a comment.
+fn long_line(alloc: Global) -> Result<Vec<u8>, AllocError> {
+    let mut text = vec![in alloc; b'x'; 515]?;
+    if let [first, second, ..] = text.as_mut_slice() {
+        *first = b'#';
+        *second = b'\n';
+    }
+    Ok(text)
+}
+
+#[test]
+fn reasons_of_long_lines(rt: HostRuntime) -> Result<(), Fail> {
+    let text = long_line(rt.alloc())?;
+    for engine in [Engine::Step, Engine::Check, Engine::Upgrade, Engine::Encode] {
+        let want =
+            "pciex: line 2, column 513: more where the line's end is expected (a line has 512 bytes at most)\n";
+        assert!(rt;
+            is_told(rt.alloc(), engine, text.as_slice(), want),
+            "{engine:?}"
+        );
+    }
+    Ok(())
+}

@@ -1,0 +1,172 @@
+//! Why the line of a script or of a packet is refused.
+ghost use Rattle.std.specs.Prelude.{OnOk};
+ghost use Rattle.reasons.specs.Told.{IsTold};
+
+use crate::packets::packet_misfit;
+use crate::scripts::script_misfit;
+use crate::telling::{Reason, Shown};
+use line_engine::EngineFault;
+use std::io::Write;
+use trace_text::cut;
+
+/// What refusals and faults mean, by their names.
+const MEANINGS: [(&str, &str); 13] = [
+    (
+        "NoSuchPart",
+        "the fabric has no such requester or lane, or the lane is not one that the switch forwards from",
+    ),
+    (
+        "Idle",
+        "there is nothing to send, to deliver, to replay or to collect, or no stopped sender to retrain",
+    ),
+    (
+        "NotTakeable",
+        "there is no packet at the place, or it may not pass one before it",
+    ),
+    ("TagsUsed", "the requester has 256 open requests"),
+    (
+        "NumbersUsed",
+        "the requester has had all 4294967295 numbers",
+    ),
+    (
+        "NoCredits P",
+        "the lane that the packet would enter has not the posted credits",
+    ),
+    (
+        "NoCredits NP",
+        "the lane that the packet would enter has not the non-posted credits",
+    ),
+    (
+        "NoCredits Cpl",
+        "the lane that the packet would enter has not the completion credits",
+    ),
+    (
+        "WindowFull",
+        "the lane that the packet would enter keeps 2047 packets",
+    ),
+    (
+        "LengthMismatch",
+        "a read has 1 to 1024 DW, and data are whole DW",
+    ),
+    (
+        "ByteEnables",
+        "the byte enables are against the rule for this many DW at this address",
+    ),
+    (
+        "OperandSize",
+        "FetchAdd and Swap have operands of 4 or 8 bytes, CAS of 4, 8 or 16",
+    ),
+    (
+        "Unaligned",
+        "an operand's address is a multiple of its size, any other of 4",
+    ),
+];
+
+/// What the name means, nothing where it says it all.
+fn meaning_of(name: &[u8]) -> &'static str {
+    for meaning in &MEANINGS {
+        if name == meaning.0.as_bytes() {
+            return meaning.1;
+        }
+    }
+    ""
+}
+
+/// What is behind the first two words of an answer: the name of a fault.
+fn name_in(answer: &[u8]) -> &[u8] {
+    let answer = answer.strip_suffix(b"\n").unwrap_or(answer);
+    let behind = cut(answer).1.unwrap_or(b"");
+    cut(behind).1.unwrap_or(b"")
+}
+
+/// Adds that the line is refused for what that name says.
+fn put_refused(line: &[u8], name: &[u8], reason: &mut Reason) {
+    let (line, told) = (Shown(line), Shown(name));
+    reason.put(format_args!(": '{line}' is refused"));
+    if name.is_empty() {
+        return;
+    }
+    reason.put(format_args!(": {told}"));
+    let meaning = meaning_of(name.strip_prefix(b"Profile ").unwrap_or(name));
+    if !meaning.is_empty() {
+        reason.put(format_args!(" ({meaning})"));
+    }
+}
+
+/// Why a packet's line is refused, by the answer to it: the first word that doesn't fit, or the
+/// packet's fault where all do.
+fn packet_reason(line: &[u8], answer: &[u8]) -> Reason {
+    let mut reason = Reason::new();
+    match packet_misfit(line) {
+        Some(misfit) => misfit.put(&mut reason),
+        None => put_refused(line, name_in(answer), &mut reason),
+    }
+    reason
+}
+
+/// Why a script's line is refused: the fabric's refusal of its event by name, or else the first word
+/// that doesn't fit.
+fn script_reason(line: &[u8], refusal: Option<&str>) -> Reason {
+    let mut reason = Reason::new();
+    match refusal {
+        Some(name) => put_refused(line, name.as_bytes(), &mut reason),
+        None => {
+            if let Some(misfit) = script_misfit(line) {
+                misfit.put(&mut reason);
+            }
+        }
+    }
+    reason
+}
+
+/// Tells why a packet's line is refused by the answer to it, where that is a fault: this is the line's
+/// number then. After an `Err` the stream has no more than a part.
+pub(crate) fn tell_packet_line<E: Write>(
+    line: &[u8],
+    answer: &[u8],
+    fault: Option<u64>,
+    errors: &mut E,
+) -> Result<(), EngineFault>
+    ensures { OnOk result (IsTold fault (E.contents errors.old) (E.contents errors.new)) }
+{
+    match fault {
+        Some(number) => packet_reason(line, answer).tell_at(number, errors),
+        None => Ok(()),
+    }
+}
+
+/// Tells why a script's line is refused, where it is: this is its number then. A refusal of the fabric
+/// is given by its name; without one the line is none of a script at its place. After an `Err` the
+/// stream has no more than a part.
+pub fn tell_script_line<E: Write>(
+    line: &[u8],
+    refusal: Option<&str>,
+    fault: Option<u64>,
+    errors: &mut E,
+) -> Result<(), EngineFault>
+    ensures { OnOk result (IsTold fault (E.contents errors.old) (E.contents errors.new)) }
+{
+    match fault {
+        Some(number) => script_reason(line, refusal).tell_at(number, errors),
+        None => Ok(()),
+    }
+}
+
+/// The reason of a line that is too long.
+pub(crate) fn long_line() -> Reason {
+    let mut reason = Reason::new();
+    reason.put(
+        ", column 513: more where the line's end is expected (a line has 512 bytes at most)",
+    );
+    reason
+}
+
+/// Tells that a line is too long, where that is told as a fault: this is its number then.
+pub fn tell_long_line<E: Write>(fault: Option<u64>, errors: &mut E) -> Result<(), EngineFault>
+    ensures { OnOk result (IsTold fault (E.contents errors.old) (E.contents errors.new)) }
+{
+    match fault {
+        Some(number) => long_line().tell_at(number, errors),
+        None => Ok(()),
+    }
+}

@@ -1,0 +1,80 @@
+//! The words of operations and replies.
+use crate::words::{Field, Form, Radix, Walk, fields_of};
+
+const OPERATION: Field = Field {
+    name: "an operation",
+    values: "read, write, add, swap, cas",
+    form: Form::OneOf(&["read", "write", "add", "swap", "cas"]),
+};
+
+const ADDRESS: Field = Field {
+    name: "an address",
+    values: "hexadecimal, 0 to FFFFFFFFFFFFFFFF, without leading zeros",
+    form: Form::Number(Radix::Hexadecimal, 0, u64::MAX, 1),
+};
+
+const DW: Field = Field {
+    name: "a number of DW",
+    values: "1 to 1024",
+    form: Form::Number(Radix::Decimal, 0, 65535, 1),
+};
+
+const FIRST: Field = Field {
+    name: "the First DW BE",
+    values: "0 to F",
+    form: Form::Number(Radix::Hexadecimal, 0, 15, 1),
+};
+
+const LAST: Field = Field {
+    name: "the Last DW BE",
+    values: "0 to F",
+    form: Form::Number(Radix::Hexadecimal, 0, 15, 1),
+};
+
+pub(crate) const BYTES: Field = Field {
+    name: "a byte string",
+    values: "two hexadecimal digits a byte, 1 to 128 bytes",
+    form: Form::Bytes(1, 128),
+};
+
+const OPERAND: Field = Field {
+    name: "an operand",
+    values: "two hexadecimal digits a byte, 4, 8 or 16 bytes",
+    form: Form::Operand,
+};
+
+const REPLY: Field = Field {
+    name: "a reply",
+    values: "data, ur, ca",
+    form: Form::OneOf(&["data", "ur", "ca"]),
+};
+
+const SWAP_OPERAND: Field = Field {
+    name: "an operand",
+    values: "of as many bytes as the compare value",
+    form: Form::SecondOperand,
+};
+
+/// What is behind the name of an operation.
+const OPERATIONS: [(&str, &[Field]); 5] = [
+    ("read", &[ADDRESS, DW, FIRST, LAST]),
+    ("write", &[ADDRESS, FIRST, LAST, BYTES]),
+    ("add", &[ADDRESS, OPERAND]),
+    ("swap", &[ADDRESS, OPERAND]),
+    ("cas", &[ADDRESS, OPERAND, SWAP_OPERAND]),
+];
+
+/// What is behind the name of a reply, where there is more.
+const REPLIES: [(&str, &[Field]); 1] = [("data", &[BYTES])];
+
+/// Takes the words of an operation.
+pub(crate) fn take_operation(walk: &mut Walk<'_>) {
+    let kind = walk.take(&OPERATION);
+    walk.take_all(fields_of(kind, &OPERATIONS));
+}
+
+/// Takes the words of a reply.
+pub(crate) fn take_reply(walk: &mut Walk<'_>) {
+    let kind = walk.take(&REPLY);
+    walk.take_all(fields_of(kind, &REPLIES));
+}

@@ -1,0 +1,71 @@
+//! On which lines of a text the parts of a trace stand.
+ghost use Rattle.std.specs.Prelude.{◌≡◌, OnOk, OnErr};
+ghost use Rattle.reasons.specs.Told.{number_at, record_line, entry_line, nothing_numbered, numbered};
+
+use std::alloc::{AllocError, Global};
+use std::marker::Model;
+
+/// On which lines of its text the records and entries of a trace stand.
+#[derive(Drop)]
+pub struct TraceLines {
+    lines: u64,
+    /// The numbers of those that aren't skipped.
+    told: Vec<u64>,
+}
+
+impl Model for TraceLines {
+    ghost use Rattle.reasons.specs.Told.{Numbered};
+
+    ghost Value = { Numbered };
+
+    ghost view = { λ t. record { lines = t.lines; told = t.told.items } };
+}
+
+impl TraceLines {
+    pub fn new(alloc: Global) -> TraceLines
+        ensures { result ≡ nothing_numbered }
+    {
+        TraceLines {
+            lines: 0,
+            told: Vec::new(alloc),
+        }
+    }
+
+    /// Takes a line of the text. It grows where the line isn't skipped.
+    pub fn note(&mut self, line: &[u8]) -> Result<(), AllocError>
+        ensures ok { OnOk result (self.new ≡ numbered self.old line.now) }
+        ensures err { OnErr result (self.new ≡ self.old) }
+    {
+        let number = self.lines.saturating_add(1);
+        if !line.is_empty() && line[0] != b'#' {
+            self.told.push(number)?;
+        }
+        self.lines = number;
+        Ok(())
+    }
+
+    /// The number of the line, from 1, that is the nth one that isn't skipped, from 0; 0 where there is
+    /// none.
+    fn line(&self, nth: usize) -> u64
+        ensures { result ≡ number_at self.now nth }
+    {
+        match self.told.get(nth) {
+            Some(number) => *number,
+            None => 0,
+        }
+    }
+
+    /// The line of the record at that place.
+    pub fn of_record(&self, place: usize) -> u64
+        ensures { result ≡ record_line self.now place }
+    {
+        self.line(place.saturating_add(2))
+    }
+
+    /// The line of the entry at that index of the history, behind so many records.
+    pub fn of_entry(&self, records: usize, index: usize) -> u64
+        ensures { result ≡ entry_line self.now records index }
+    {
+        self.line(index.saturating_add(records.saturating_add(3)))
+    }
+}

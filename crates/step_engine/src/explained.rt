@@ -1,0 +1,90 @@
+//! Answers to scripts, with reasons beside them.
+ghost use Rattle.std.specs.Prelude.{◌≡◌, IfOk, OnOk, OnErr};
+ghost use Rattle.std.specs.Bool.{then_some};
+ghost use Rattle.line_engine.specs.Run.{IsWhole, IsPart};
+ghost use Rattle.reasons.specs.Told.{IsTold};
+ghost use Rattle.step_engine.specs.Step as spec;
+
+use crate::options::StepOptions;
+use crate::step::Stepper;
+use arrayvec::ArrayString;
+use line_engine::{EngineFault, Responder, run};
+use reasons::{tell_long_line, tell_script_line};
+use script_text::write_refusal;
+use std::alloc::{AllocError, Global};
+use std::io::{Read, Write};
+use std::marker::Model;
+
+/// Tells why the line that was answered last is refused, exactly where its answer is a fault or a
+/// refusal, and by the number that is told there.
+fn explain<E: Write>(
+    stepper: &mut Stepper,
+    line: &[u8],
+    is_fault: bool,
+    errors: &mut E,
+) -> Result<(), EngineFault>
+    ensures stepper { stepper.new ≡ stepper.old }
+    ensures errors { OnOk result (IsTold (then_some is_fault stepper.old.lines) (E.contents errors.old) (E.contents errors.new)) }
+{
+    let fault = is_fault.then_some(stepper.lines());
+    let Some(refusal) = stepper.take_refusal() else {
+        return tell_script_line(line, None, fault, errors);
+    };
+    let mut name = ArrayString::new();
+    write_refusal(&refusal, &mut name);
+    tell_script_line(line, Some(name.as_str()), fault, errors)
+}
+
+/// A script that is run line by line, and the stream on which reasons are told.
+#[derive(Drop)]
+struct Explained<E> {
+    stepper: Stepper,
+    errors: E,
+}
+
+impl<E> Model for Explained<E> {
+    ghost use Rattle.step_engine.specs.Step.{Stepping};
+
+    ghost Value = { Stepping };
+
+    ghost view = { λ e. e.stepper };
+}
+
+impl<E: Write + Drop> Responder for Explained<E> {
+    ghost use Rattle.step_engine.specs.Step.{step_responses};
+
+    ghost responses = { step_responses };
+
+    fn on_line(&mut self, line: &[u8], out: &mut Vec<u8>) -> Result<bool, AllocError> {
+        let told = self.stepper.on_line(line, out)?;
+        let _ = explain(&mut self.stepper, line, told, &mut self.errors);
+        Ok(told)
+    }
+
+    fn on_long_line(&mut self, out: &mut Vec<u8>) -> Result<bool, AllocError> {
+        let told = self.stepper.on_long_line(out)?;
+        let fault = told.then_some(self.stepper.lines());
+        let _ = tell_long_line(fault, &mut self.errors);
+        Ok(told)
+    }
+
+    fn on_end(&mut self, out: &mut Vec<u8>) -> Result<bool, AllocError> {
+        self.stepper.on_end(out)
+    }
+}
+
+/// Does what [`run_step_with`](crate::run_step_with) does, and tells on `errors` why it answers a fault
+/// or a refusal, a line each.
+pub fn run_step_with_reasons<R: Read, W: Write, E: Write>(
+    alloc: Global,
+    options: StepOptions,
+    reader: &mut R,
+    writer: &mut W,
+    errors: &mut E,
+) -> Result<u8, EngineFault>
+    ensures ok { IfOk result (IsWhole (spec.out_step_with options) (R.remaining reader.old) (R.remaining reader.new) (W.contents writer.old) (W.contents writer.new)) }
+    ensures err { OnErr result (IsPart (spec.out_step_with options) (R.remaining reader.old) (R.remaining reader.new) (W.contents writer.old) (W.contents writer.new)) }
+{
+    let stepper = Stepper::new(alloc, options);
+    run(alloc, Explained { stepper, errors }, reader, writer)
+}
