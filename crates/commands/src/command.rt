@@ -14,14 +14,14 @@ use draw_engine::run_draw;
 use generate_engine::run_generate;
 use history_picture::Window;
 use line_engine::EngineFault;
-use packet_engine::{run_decode, run_encode};
+use packet_engine::{run_decode, run_encode_with_reasons};
 use std::alloc::Global;
 use std::convert::AsStr;
 use std::io;
 use std::io::{ErrorKind as IoErrorKind, Read, Write};
-use step_engine::{StepOptions, run_step_with};
+use step_engine::{StepOptions, run_step_with_reasons};
 use tlp_engine::run_tlp;
-use trace_engine::{run_check, run_upgrade};
+use trace_engine::{run_check_with_reasons, run_upgrade_with_reasons};
 
 /// Tells what stopped an engine, and gives the exit status for that.
 fn stopped<E: Write>(fault: EngineFault, errors: &mut E) -> u8
@@ -122,13 +122,22 @@ fn begin<R: Read, W: Write, E: Write>(
             errors,
         )),
         Request::Decode => Outcome::Ended(ended(run_decode(alloc, reader, writer), errors)),
-        Request::Encode => Outcome::Ended(ended(run_encode(alloc, reader, writer), errors)),
-        Request::Check => Outcome::Ended(ended(run_check(alloc, reader, writer), errors)),
+        Request::Encode => {
+            let run = run_encode_with_reasons(alloc, reader, writer, errors);
+            Outcome::Ended(ended(run, errors))
+        }
+        Request::Check => {
+            let run = run_check_with_reasons(alloc, reader, writer, errors);
+            Outcome::Ended(ended(run, errors))
+        }
         Request::Draw { from, to } => {
             let window = Window { from, to };
             Outcome::Ended(ended(run_draw(alloc, window, reader, writer), errors))
         }
-        Request::Upgrade => Outcome::Ended(ended(run_upgrade(alloc, reader, writer), errors)),
+        Request::Upgrade => {
+            let run = run_upgrade_with_reasons(alloc, reader, writer, errors);
+            Outcome::Ended(ended(run, errors))
+        }
         Request::Step {
             is_traced,
             keeps_going,
@@ -139,7 +148,8 @@ fn begin<R: Read, W: Write, E: Write>(
                 keeps_going,
                 echoes,
             };
-            Outcome::Ended(ended(run_step_with(alloc, options, reader, writer), errors))
+            let run = run_step_with_reasons(alloc, options, reader, writer, errors);
+            Outcome::Ended(ended(run, errors))
         }
         Request::Generate { storm } => {
             Outcome::Ended(ended(run_generate(alloc, &storm, writer), errors))

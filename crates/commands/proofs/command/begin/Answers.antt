@@ -33,7 +33,7 @@ returns-in-Draw g c = record {
 
 pub returns-in-Step : goal.returns-in-Step
 returns-in-Step g c = record {
-  begun = rw c.in-Step.is (run_done _ c.run_step_with.result _ _ _ _ _ c.ended-in-Step.ensures.ok c.ended-in-Step.ensures.err c.run_step_with.ensures.ok c.run_step_with.ensures.err);
+  begun = rw c.in-Step.is (run_done _ c.run_step_with_reasons-run.result _ _ _ _ _ c.ended-in-Step.ensures.ok c.ended-in-Step.ensures.err c.run_step_with_reasons-run.ensures.ok c.run_step_with_reasons-run.ensures.err);
   right = tt;
 }
 
