@@ -45,7 +45,7 @@ of_file "$room/words" encode
 wants "encode on the packets of words.txt" 0 "$room/bytes" "$room/nothing"
 of_file "$room/bytes" decode
 wants "decode on what encode prints of them" 0 "$room/words" "$room/nothing"
-for name in lost_ack write_passes_read credits stopped_link; do
+for name in lost_ack write_passes_read credits stopped_link first_script; do
     of_file examples/$name.txt step
     wants "step on $name.txt" 0 examples/$name.out "$room/nothing"
 done
@@ -65,6 +65,35 @@ for name in lost_ack write_passes_read credits stopped_link; do
     wants "check on what step --trace prints of $name.txt" 0 "$room/ok" "$room/nothing"
 done
 
+# A script goes on after a refusal where it is to, and shows its lines where it is to.
+sed 's/^submit/collect 1\nsubmit/' examples/first_script.txt > "$room/refused.txt"
+printf 'refused 3 Idle\n' | cat - examples/first_script.out > "$room/told"
+of_file "$room/refused.txt" step --keep-going
+wants "step --keep-going on a refusal" 1 "$room/told" "$room/nothing"
+printf 'fabric 1 0 4096\nsubmit 1 read 40 1 F 0\n' > "$room/short_script"
+echo 'submit 1 read 40 1 F 0 -> sub 1 0' > "$room/told"
+of_file "$room/short_script" step --echo
+wants "step --echo" 0 "$room/told" "$room/nothing"
+
+# A storm is the same each time, each of its events happens, and its history is explained; its picture is one of XML.
+for words in "--seed 1 --events 0" "--seed 7 --events 3000 --lose 8" "--seed 18446744073709551615 --events 2000 --requesters 7 --corrupt 5 --block 128"; do
+    # shellcheck disable=SC2086
+    of_file /dev/null generate $words
+    cp "$room/output" "$room/storm"
+    # shellcheck disable=SC2086
+    of_file /dev/null generate $words
+    wants "generate $words, once more" 0 "$room/storm" "$room/nothing"
+    $pciex step --trace < "$room/storm" > "$room/told"
+    of_file "$room/told" check
+    wants "check on the storm of $words" 0 "$room/ok" "$room/nothing"
+    of_file "$room/told" draw --to 20
+    if command -v python3 > /dev/null; then
+        python3 -c 'import sys, xml.dom.minidom; xml.dom.minidom.parse(sys.argv[1])' "$room/output" || : > "$room/output"
+    fi
+    [ -s "$room/output" ] && cp "$room/output" "$room/picture" || echo "a picture" > "$room/picture"
+    wants "draw on the storm of $words" 0 "$room/picture" "$room/nothing"
+done
+
 # Faults and flaws have status 1.
 echo 4C0000 > "$room/short"
 echo "fault 1 Short" > "$room/fault"
@@ -76,11 +105,24 @@ sed 's/^ans 1 0 2 data 01020304/ans 1 0 2 data 00000000/' examples/trace.txt > "
 echo "flaw 10 Reply 2" > "$room/flaw"
 of_file "$room/flawed" check
 wants "check on a trace with a wrong reply" 1 "$room/flaw" "$room/nothing"
+of_file "$room/flawed" draw
+[ -s "$room/output" ] && cp "$room/output" "$room/picture" || echo "a picture" > "$room/picture"
+wants "draw on a trace with a wrong reply" 1 "$room/picture" "$room/nothing"
 
-# Wrong words have status 2 and write nothing on standard output; values out of a range are told in one line.
+# Wrong words have status 2 and write nothing on standard output; a value out of its range is told in two lines.
 echo "pciex: options" > "$room/options"
-of_file examples/packets.txt tlp --size 100
-wants "tlp --size 100" 2 "$room/nothing" "$room/options"
+# refuses TEXT WORD..: whether the words are refused, with this told of an option.
+refuses() {
+    printf 'pciex: options\npciex: %s\n' "$1" > "$room/told"
+    shift
+    of_file /dev/null "$@"
+    wants "$*" 2 "$room/nothing" "$room/told"
+}
+refuses "--size is 100: 128 to 1048576, a multiple of 128" tlp --size 100 --block 1
+refuses "--block is 1: 64 or 128" tlp --block 1
+refuses "--to is 2: 0 to 18446744073709551615, at least --from" draw --from 3 --to 2
+refuses "--seed is x: 0 to 18446744073709551615" generate --seed x --events 1
+refuses "--requesters is 8: 1 to 7" run --requesters 8 --each 1
 of_file examples/packets.txt tlp "$(printf '\377')"
 wants "a word that is no text" 2 "$room/nothing" "$room/options"
 for words in "" "tpl" "tlp 0" "step --trace=no" "check --trace"; do
@@ -108,8 +150,6 @@ for words in "--requesters 1 --each 1 --lose 1" "--requesters 2 --each 1 --corru
     of_file /dev/null run $words --turns 1000
     wants "run $words --turns 1000" 3 "$room/halt" "$room/nothing"
 done
-of_file /dev/null run --requesters 8 --each 1
-wants "run --requesters 8" 2 "$room/nothing" "$room/options"
 
 # With --progress the error stream tells how far the run is, and nothing else.
 printf 'answered %s\nhistory %s\nword %s\ncheck ok\n' 140000 140000 140000 > "$room/counted"
@@ -120,7 +160,7 @@ grep '^[0-9]* of 140000$' "$room/errors" > "$room/told"
 wants "run --progress" 0 "$room/counted" "$room/told"
 
 # A text that was asked for has status 0 and is not on the error stream.
-for words in "--help" "--version" "tlp --help" "decode --help" "encode --help" "step --help" "run --help"; do
+for words in "--help" "--version" "tlp --help" "decode --help" "encode --help" "draw --help" "step --help" "generate --help" "run --help"; do
     # shellcheck disable=SC2086
     of_file examples/packets.txt $words
     [ -s "$room/output" ] && cp "$room/output" "$room/told" || echo "a text" > "$room/told"
@@ -130,7 +170,7 @@ done
 # A reader and a writer that fail have status 1.
 echo "pciex: read" > "$room/read"
 echo "pciex: write" > "$room/write"
-for words in tlp decode encode check upgrade step "step --trace"; do
+for words in tlp decode encode check draw upgrade step "step --trace" "step --keep-going --echo"; do
     # shellcheck disable=SC2086
     of_file / $words
     wants "$words, where standard input is a folder" 1 "$room/nothing" "$room/read"
@@ -143,6 +183,9 @@ if [ -c /dev/full ]; then
     timeout 10 $pciex run --requesters 1 --each 1 < /dev/null > /dev/full 2> "$room/errors"
     status=$?
     wants "run, where standard output is full" 1 "$room/nothing" "$room/write"
+    timeout 10 $pciex generate --seed 1 --events 9 < /dev/null > /dev/full 2> "$room/errors"
+    status=$?
+    wants "generate, where standard output is full" 1 "$room/nothing" "$room/write"
 fi
 
 # Each answer is written before more is read: this user waits for it, and the input has not ended.

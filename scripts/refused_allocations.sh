@@ -97,8 +97,11 @@ each_refused stops_for_memory examples/packets.txt $pciex step --help
 each_refused stops_for_memory examples/packets.txt $pciex decode
 each_refused stops_for_memory examples/words.txt $pciex encode
 each_refused stops_for_memory examples/trace.txt $pciex check
+each_refused stops_for_memory examples/trace.txt $pciex draw
 each_refused stops_for_memory examples/trace.txt $pciex upgrade
-for script in lost_ack write_passes_read credits_used_up stopped_link; do
+each_refused stops_for_memory /dev/null $pciex generate --seed 1 --events 300 --lose 8 --corrupt 9
+each_refused stops_for_memory examples/credits_used_up.txt $pciex step --keep-going --echo
+for script in lost_ack write_passes_read credits_used_up stopped_link first_script; do
     each_refused stops_for_memory examples/$script.txt $pciex step
     each_refused stops_for_memory examples/$script.txt $pciex step --trace
 done

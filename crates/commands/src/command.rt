@@ -2,23 +2,26 @@
 ghost use Rattle.std.specs.Prelude.{◌≡◌, ◌≢◌, ◌⊎◌, map, true, IfOk, OnErr};
 ghost use Rattle.std.specs.IoError.{error_kind};
 ghost use Rattle.clap.specs.Words.{fault_of, kind_of, subcommand_of, takes};
-ghost use Rattle.command_line.specs.Faults.{IsMemoryFault, WordsFault};
+ghost use Rattle.command_line.specs.Faults.{IsMemoryFault, RangeFault, WordsFault};
 ghost use Rattle.command_line.specs.Options.{the_app, Asks};
-ghost use Rattle.commands.specs.Command.{IsBegun, EndsWrong, IsRight, AreRefused};
+ghost use Rattle.commands.specs.Command.{IsBegun, EndsWrong, IsRight, IsRightRequest, AreRefused};
 ghost use Rattle.command_line.specs.declared.words.Request.{Request};
 
 use clap::error::ErrorKind;
 use command_line::{Request, RequestFault, options};
 use counting::Counting;
+use draw_engine::run_draw;
+use generate_engine::run_generate;
+use history_picture::Window;
 use line_engine::EngineFault;
-use packet_engine::{run_decode, run_encode};
+use packet_engine::{run_decode, run_encode_with_reasons};
 use std::alloc::Global;
 use std::convert::AsStr;
 use std::io;
 use std::io::{ErrorKind as IoErrorKind, Read, Write};
-use step_engine::run_step;
+use step_engine::{StepOptions, run_step_with_reasons};
 use tlp_engine::run_tlp;
-use trace_engine::{run_check, run_upgrade};
+use trace_engine::{run_check_with_reasons, run_upgrade_with_reasons};
 
 /// Tells what stopped an engine, and gives the exit status for that.
 fn stopped<E: Write>(fault: EngineFault, errors: &mut E) -> u8
@@ -58,17 +61,21 @@ fn told<W: Write, E: Write>(error: &clap::Error, writer: &mut W, errors: &mut E)
 }
 
 /// Tells why the words ask for nothing, and gives the exit status for that.
-fn refused<W: Write, E: Write>(fault: &RequestFault, writer: &mut W, errors: &mut E) -> u8
+fn refused<W: Write, E: Write>(fault: &RequestFault<'_>, writer: &mut W, errors: &mut E) -> u8
     ensures status { IsMemoryFault fault.now → result ≡ 1 }
     ensures same { IsMemoryFault fault.now → W.contents writer.new ≡ W.contents writer.old }
     ensures words { WordsFault (λ e. kind_of e ≢ ErrorKind.DisplayHelp → kind_of e ≢ ErrorKind.DisplayVersion
         → ((result ≡ 1) ⊎ (result ≡ 2)) × (W.contents writer.new ≡ W.contents writer.old)) fault.now }
-    ensures range { fault.now ≡ RequestFault.Range → result ≡ 2 }
-    ensures range_same { fault.now ≡ RequestFault.Range → W.contents writer.new ≡ W.contents writer.old }
+    ensures range { RangeFault (result ≡ 2) fault.now }
+    ensures range_same { RangeFault (W.contents writer.new ≡ W.contents writer.old) fault.now }
 {
     match fault {
         RequestFault::Words(error) => told(error, writer, errors),
-        RequestFault::Range => {
+        RequestFault::Value(refused) => {
+            let _ = writeln!(errors, "pciex: options\npciex: {refused}");
+            2
+        }
+        RequestFault::Nothing => {
             let _ = writeln!(errors, "pciex: options");
             2
         }
@@ -97,6 +104,60 @@ pub enum Outcome {
     Run { counting: Counting, is_told: bool },
 }
 
+/// Does what is asked for, but for a run, and gives the exit status.
+fn begin<R: Read, W: Write, E: Write>(
+    alloc: Global,
+    request: Request,
+    reader: &mut R,
+    writer: &mut W,
+    errors: &mut E,
+) -> Outcome
+    requires { IsRightRequest request }
+    ensures begun { IsBegun request (R.remaining reader.old) (R.remaining reader.new) (W.contents writer.old) (W.contents writer.new) result }
+    ensures right { IsRight result }
+{
+    match request {
+        Request::Tlp { base, size, block } => Outcome::Ended(ended(
+            run_tlp(alloc, base, size, block, reader, writer),
+            errors,
+        )),
+        Request::Decode => Outcome::Ended(ended(run_decode(alloc, reader, writer), errors)),
+        Request::Encode => {
+            let run = run_encode_with_reasons(alloc, reader, writer, errors);
+            Outcome::Ended(ended(run, errors))
+        }
+        Request::Check => {
+            let run = run_check_with_reasons(alloc, reader, writer, errors);
+            Outcome::Ended(ended(run, errors))
+        }
+        Request::Draw { from, to } => {
+            let window = Window { from, to };
+            Outcome::Ended(ended(run_draw(alloc, window, reader, writer), errors))
+        }
+        Request::Upgrade => {
+            let run = run_upgrade_with_reasons(alloc, reader, writer, errors);
+            Outcome::Ended(ended(run, errors))
+        }
+        Request::Step {
+            is_traced,
+            keeps_going,
+            echoes,
+        } => {
+            let options = StepOptions {
+                is_traced,
+                keeps_going,
+                echoes,
+            };
+            let run = run_step_with_reasons(alloc, options, reader, writer, errors);
+            Outcome::Ended(ended(run, errors))
+        }
+        Request::Generate { storm } => {
+            Outcome::Ended(ended(run_generate(alloc, &storm, writer), errors))
+        }
+        Request::Run { counting, is_told } => Outcome::Run { counting, is_told },
+    }
+}
+
 /// Does what the words of the command line ask for, the program's name before them, but for a run, and gives
 /// the exit status: 0 done; 1 a fault, a flaw or a refusal was told, or reading, writing or memory failed; 2 the
 /// words ask for nothing. It waits for no thread, so what is said of it needs no return.
@@ -123,18 +184,7 @@ pub fn on_one_thread<S: AsStr, R: Read, W: Write, E: Write>(
     ensures right { IsRight result }
 {
     match options(alloc, words) {
-        Ok(Request::Tlp { base, size, block }) => Outcome::Ended(ended(
-            run_tlp(alloc, base, size, block, reader, writer),
-            errors,
-        )),
-        Ok(Request::Decode) => Outcome::Ended(ended(run_decode(alloc, reader, writer), errors)),
-        Ok(Request::Encode) => Outcome::Ended(ended(run_encode(alloc, reader, writer), errors)),
-        Ok(Request::Check) => Outcome::Ended(ended(run_check(alloc, reader, writer), errors)),
-        Ok(Request::Upgrade) => Outcome::Ended(ended(run_upgrade(alloc, reader, writer), errors)),
-        Ok(Request::Step { is_traced }) => {
-            Outcome::Ended(ended(run_step(alloc, is_traced, reader, writer), errors))
-        }
-        Ok(Request::Run { counting, is_told }) => Outcome::Run { counting, is_told },
+        Ok(request) => begin(alloc, request, reader, writer, errors),
         Err(fault) => Outcome::Ended(refused(&fault, writer, errors)),
     }
 }

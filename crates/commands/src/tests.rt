@@ -36,7 +36,7 @@ const SCRIPT: &str = "fabric 1 0 4096\nsubmit 1 add 40 07000000\n";
 const TRACE: &str = "pciex-trace 2\nmemory 0 4096 64\nsub 1 0 0 add 40 07000000\nhistory\nend\n";
 
 /// Words after the program's name, what standard input has, what is written, and the exit status.
-const RUNS: [(&[&str], &str, &str, u8); 12] = [
+const RUNS: [(&[&str], &str, &str, u8); 15] = [
     (
         &["tlp"],
         "00000002 01000CFF 0000003C\n4C0000\n",
@@ -73,6 +73,24 @@ const RUNS: [(&[&str], &str, &str, u8); 12] = [
     (&["step"], SCRIPT, "sub 1 0\n", 0),
     (&["step"], "stop\n", "fault 1 Script\n", 1),
     (&["step", "--trace"], SCRIPT, TRACE, 0),
+    (
+        &["step", "--keep-going", "--echo"],
+        "fabric 1 0 4096\ncollect 1\nsubmit 1 add 40 07000000\n",
+        "collect 1 -> refused 2 Idle\nsubmit 1 add 40 07000000 -> sub 1 0\n",
+        1,
+    ),
+    (
+        &["step", "--keep-going", "--trace"],
+        "fabric 1 0 4096\ncollect 1\nsubmit 1 add 40 07000000\n",
+        TRACE,
+        1,
+    ),
+    (
+        &["generate", "--seed", "1", "--events=0", "--block", "128"],
+        "",
+        "fabric 3 0 4096 16 64 16 16 16 64 block 128\n",
+        0,
+    ),
     (&["run", "--requesters", "7", "--each", "100000"], "", "", 9),
 ];
 
@@ -90,71 +108,149 @@ fn each_subcommand(rt: HostRuntime) -> Result<(), Fail> {
     Ok(())
 }
 
-/// Words after the program's name that give status 2, and whether they are out of a range.
-const WRONG: [(&[&str], bool); 29] = [
-    (&[], false),
-    (&["tpl"], false),
-    (&["tlp", "--bass", "0"], false),
-    (&["tlp", "0"], false),
-    (&["tlp", "--size"], false),
-    (&["tlp", "--size", "128", "--size", "128"], false),
-    (&["step", "--traces"], false),
-    (&["step", "--trace=no"], false),
-    (&["step", "0"], false),
-    (&["tlp", "--base", "40"], true),
-    (&["tlp", "--base", "00000000000000080"], true),
-    (&["tlp", "--base", "+80"], true),
-    (&["tlp", "--base", ""], true),
-    (&["tlp", "--base", "FFFFFFFFFFFFFF80"], true),
-    (&["tlp", "--size", "0"], true),
-    (&["tlp", "--size", "64"], true),
-    (&["tlp", "--size", "1048704"], true),
-    (&["tlp", "--size", "200"], true),
-    (&["tlp", "--block", "96"], true),
-    (&["tlp", "--block", "65600"], true),
-    (&["run", "--requesters", "1"], false),
-    (&["run", "--each", "1"], false),
-    (&["run", "--requesters", "0", "--each", "1"], true),
-    (&["run", "--requesters", "8", "--each", "1"], true),
-    (&["run", "--requesters", "1", "--each", "100001"], true),
+/// Words after the program's name that give status 2, and which option is told with what is allowed, none where
+/// they have no form of the grammar.
+const WRONG: [(&[&str], &str); 37] = [
+    (&[], ""),
+    (&["tpl"], ""),
+    (&["tlp", "--bass", "0"], ""),
+    (&["tlp", "0"], ""),
+    (&["tlp", "--size"], ""),
+    (&["tlp", "--size", "128", "--size", "128"], ""),
+    (&["step", "--traces"], ""),
+    (&["step", "--trace=no"], ""),
+    (&["step", "0"], ""),
+    (
+        &["tlp", "--base", "40"],
+        "--base is 40: 1 to 16 hexadecimal digits, a multiple of 80, and the memory ends at 2^64 or before",
+    ),
+    (
+        &["tlp", "--base", "00000000000000080", "--size", "0"],
+        "--base is 00000000000000080: 1 to 16 hexadecimal digits, a multiple of 80, and the memory ends at 2^64 or before",
+    ),
+    (
+        &["tlp", "--base", "+80"],
+        "--base is +80: 1 to 16 hexadecimal digits, a multiple of 80, and the memory ends at 2^64 or before",
+    ),
+    (
+        &["tlp", "--base", ""],
+        "--base is : 1 to 16 hexadecimal digits, a multiple of 80, and the memory ends at 2^64 or before",
+    ),
+    (
+        &["tlp", "--base", "FFFFFFFFFFFFFF80"],
+        "--base is FFFFFFFFFFFFFF80: 1 to 16 hexadecimal digits, a multiple of 80, and the memory ends at 2^64 or before",
+    ),
+    (
+        &["tlp", "--base", "FFFFFFFFFFFFFF80", "--size", "100"],
+        "--size is 100: 128 to 1048576, a multiple of 128",
+    ),
+    (
+        &["tlp", "--size", "0", "--block=1"],
+        "--size is 0: 128 to 1048576, a multiple of 128",
+    ),
+    (
+        &["tlp", "--size", "64"],
+        "--size is 64: 128 to 1048576, a multiple of 128",
+    ),
+    (
+        &["tlp", "--size", "1048704"],
+        "--size is 1048704: 128 to 1048576, a multiple of 128",
+    ),
+    (
+        &["tlp", "--size", "\u{1b}[2Jééééééééééééééééééé"],
+        "--size is \\x1B[2J\\xC3\\xA9\\xC3\\xA9\\xC3\\xA9\\xC3\\xA9\\xC3\\xA9\\xC3\\xA9\\xC3\\xA9\\xC3\\xA9\\xC3\\xA9\\xC3\\xA9\\xC3\\xA9\\xC3\\xA9\\xC3\\xA9\\xC3\\xA9\\xC3\\xA9\\xC3\\xA9\\xC3\\xA9\\xC3\\xA9: 128 to 1048576, a multiple of 128",
+    ),
+    (&["tlp", "--block", "96"], "--block is 96: 64 or 128"),
+    (&["tlp", "--block", "65600"], "--block is 65600: 64 or 128"),
+    (&["draw", "--from"], ""),
+    (
+        &["draw", "--from", "18446744073709551616"],
+        "--from is 18446744073709551616: 0 to 18446744073709551615",
+    ),
+    (
+        &["draw", "--from", "3", "--to", "2"],
+        "--to is 2: 0 to 18446744073709551615, at least --from",
+    ),
+    (&["generate", "--seed", "1"], ""),
+    (
+        &["generate", "--seed=0x", "--events", "1"],
+        "--seed is 0x: 0 to 18446744073709551615",
+    ),
+    (
+        &["generate", "--seed", "1", "--events", "1000000001"],
+        "--events is 1000000001: 0 to 1000000000",
+    ),
+    (
+        &[
+            "generate",
+            "--seed",
+            "1",
+            "--events",
+            "1",
+            "--requesters",
+            "8",
+        ],
+        "--requesters is 8: 1 to 7",
+    ),
+    (&["run", "--requesters", "1"], ""),
+    (&["run", "--each", "1"], ""),
+    (
+        &["run", "--requesters", "0", "--each", "1"],
+        "--requesters is 0: 1 to 7",
+    ),
+    (
+        &["run", "--each", "100001", "--requesters", "8"],
+        "--requesters is 8: 1 to 7",
+    ),
+    (
+        &["run", "--requesters", "1", "--each", "100001"],
+        "--each is 100001: 0 to 100000",
+    ),
     (
         &["run", "--requesters", "1", "--each", "1", "--lose", "65537"],
-        true,
+        "--lose is 65537: 0 to 65536",
     ),
     (
         &["run", "--requesters", "1", "--each", "1", "--corrupt", "-1"],
-        false,
+        "",
     ),
     (
         &["run", "--requesters", "1", "--each", "1", "--turns", "0"],
-        true,
+        "--turns is 0: 1 to 1000000000",
     ),
-    (&["run", "--requesters", "1", "--each", "+1"], true),
+    (
+        &["run", "--requesters", "1", "--each", "+1"],
+        "--each is +1: 0 to 100000",
+    ),
 ];
 
-/// Whether words are refused, and told of as wrong words or as values out of a range.
-fn is_wrong(alloc: Global, words: &[&str], is_range: bool) -> bool {
-    let (status, _out, errors) = told(alloc, words, b"zz\n");
-    let is_told = errors.as_slice() == b"pciex: options\n".as_slice();
-    status == 2 && !errors.is_empty() && is_told == is_range
+/// Whether the error stream tells this option, or where it is none something else.
+fn is_option_told(errors: &[u8], option: &str) -> bool {
+    match errors.strip_prefix(b"pciex: options\npciex: ") {
+        Some(rest) => !option.is_empty() && rest.strip_suffix(b"\n") == Some(option.as_bytes()),
+        None => option.is_empty() && !errors.is_empty(),
+    }
+}
+
+/// Whether words are refused, with this option told.
+fn is_wrong(alloc: Global, words: &[&str], option: &str) -> bool {
+    let (status, out, errors) = told(alloc, words, b"zz\n");
+    status == 2 && out.is_empty() && is_option_told(errors.as_slice(), option)
 }
 
 #[test]
 fn wrong_words(rt: HostRuntime) -> Result<(), Fail> {
-    for (given, is_range) in WRONG {
+    for (given, option) in WRONG {
         let mut words = Vec::new(rt.alloc());
         words.push("pciex")?;
         words.extend_from_slice(given)?;
-        assert!(rt;
-            is_wrong(rt.alloc(), words.as_slice(), is_range),
-            "{given:?}"
-        );
+        assert!(rt; is_wrong(rt.alloc(), words.as_slice(), option), "{given:?}");
     }
     Ok(())
 }
 
 /// Words that ask for a text, and how it begins.
-const TEXTS: [(&[&str], &str); 9] = [
+const TEXTS: [(&[&str], &str); 11] = [
     (&["pciex", "--help"], "A shared memory device"),
     (&["pciex", "-h"], "A shared memory device"),
     (&["pciex", "--version"], "pciex "),
@@ -162,9 +258,14 @@ const TEXTS: [(&[&str], &str); 9] = [
     (&["pciex", "tlp", "--help"], "Answers memory requests"),
     (&["pciex", "decode", "--help"], "Writes packets in words"),
     (&["pciex", "encode", "--help"], "Writes packets in bytes"),
+    (&["pciex", "draw", "--help"], "Draws a picture of a history"),
     (
         &["pciex", "step", "--help"],
         "Runs a script of events on a fabric",
+    ),
+    (
+        &["pciex", "generate", "--help"],
+        "Writes a script for 'step'",
     ),
     (&["pciex", "run", "--help"], "Counts with worker threads"),
 ];
@@ -225,13 +326,15 @@ impl Write for FailingWriter {
 }
 
 /// Each subcommand, and an input of it.
-const STREAMED: [(&[&str], &str); 7] = [
+const STREAMED: [(&[&str], &str); 9] = [
     (&["pciex", "tlp"], "4C0000\n"),
     (&["pciex", "decode"], "4C0000\n"),
     (&["pciex", "encode"], "nak FFF\n"),
     (&["pciex", "check"], TRACE),
+    (&["pciex", "draw", "--from", "0", "--to=7"], TRACE),
     (&["pciex", "upgrade"], TRACE),
     (&["pciex", "step"], SCRIPT),
+    (&["pciex", "step", "--echo", "--keep-going"], SCRIPT),
     (&["pciex", "step", "--trace"], SCRIPT),
 ];
 
@@ -273,6 +376,13 @@ fn a_writer_fails(rt: HostRuntime) {
         assert!(rt; is_write_told(rt.alloc(), words, input), "{words:?}");
     }
     assert!(rt; is_write_told(rt.alloc(), &["pciex", "--help"], ""));
+    assert!(rt;
+        is_write_told(
+            rt.alloc(),
+            &["pciex", "generate", "--seed", "1", "--events", "0"],
+            ""
+        )
+    );
 }
 
 #[test]

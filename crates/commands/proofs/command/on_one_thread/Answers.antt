@@ -1,23 +1,20 @@
-use Rattle.std.proofs.Common.{◌≡◌, ◌≢◌, ◌⊎◌, ◌∙◌, Bool, List, ℕ, [], ◌∷◌, Option, Some, None, Result, Ok, Err, IfOk, IfSome, OnErr, map, sym, subst, inl, inr, refl}
+use Rattle.std.proofs.Common.{◌≡◌, ◌≢◌, ◌⊎◌, ◌∙◌, Bool, List, ℕ, [], ◌∷◌, Option, Some, None, IfSome, map, sym, subst, inl, inr, refl}
 use Rattle.std.proofs.lemmas.List.{append-nil}
 use Rattle.std.specs.Io.KnownBytes.{Appends, Consumes}
 use Rattle.clap.specs.Words.{HasKind, IsAmong, Kinds, Row, Text, fault_of, kind_of, subcommand_of}
 use Rattle.clap.specs.declared.error.kind.ErrorKind.{ErrorKind}
 use Rattle.clap.specs.declared.error.kind.ErrorKind.TheVariants as kinds
-use Rattle.line_engine.specs.declared.fault.EngineFault.{EngineFault}
 use Rattle.command_line.specs.declared.words.Request.{Request}
-use Rattle.command_line.specs.declared.words.Request.TheVariants.{Tlp, Decode, Encode, Check, Upgrade, Step, Run as run_words}
+use Rattle.command_line.specs.declared.words.Request.TheVariants.{Tlp, Decode, Encode, Check, Draw, Upgrade, Step, Generate, Run as run_words}
 use Rattle.command_line.specs.declared.words.RequestFault.{RequestFault}
 use Rattle.command_line.specs.declared.words.RequestFault.TheVariants as faults
 use Rattle.command_line.specs.Faults.{WordsFault, RangeFault, IsMemoryFault}
 use Rattle.command_line.specs.Options.{the_app, Asks}
-use Rattle.line_engine.specs.Run.{Run, IsBeginning, IsRun, IsWhole, IsPart as IsPartOf}
+use Rattle.line_engine.specs.Run.{Run, IsBeginning, IsPart as IsPartOf}
 use Rattle.counting.specs.declared.Counting.{Counting}
-use Rattle.counting.specs.Ranges.{IsCounting}
 use Rattle.run_report.specs.declared.halt.RunHalt.TheVariants as halts
 use Rattle.run_engine.specs.Text.{IsPart, halt_text}
-use Rattle.commands.specs.Command.{IsDone, AskForNoText, AreRefused}
-use Rattle.command_line.proofs.RequestsAsked.{asks_one}
+use Rattle.commands.specs.Command.{IsBegun, IsDone, IsRightRequest, AskForNoText, AreRefused}
 use Rattle.commands.proofs.command.on_one_thread.Goals as goal
 
 -- words that `clap` takes and that ask for something are refused for want of memory alone
@@ -25,7 +22,8 @@ want : (fault : RequestFault) (taken : Type 0) (o : Option (Text × List Row)) (
     → WordsFault (λ e. taken → kind_of e ≡ kinds.OutOfMemory) fault → RangeFault ((r : Request) → Asks o r → ⊥) fault
     → taken → Asks o r → IsMemoryFault fault
 want (faults.Words e) taken o r words range t a = words t
-want faults.Range taken o r words range t a = range r a
+want (faults.Value v) taken o r words range t a = range r a
+want faults.Nothing taken o r words range t a = range r a
 
 -- nothing written
 appends : (w : Option (List ℕ)) → Appends w w []
@@ -69,27 +67,18 @@ undone Decode input out exit e = inr (e, nothing-done _ input out)
 undone Encode input out exit e = inr (e, nothing-done _ input out)
 undone Check input out exit e = inr (e, nothing-done _ input out)
 undone Upgrade input out exit e = inr (e, nothing-done _ input out)
-undone (Step is_traced) input out exit e = inr (e, nothing-done _ input out)
+undone (Draw from to) input out exit e = inr (e, nothing-done _ input out)
+undone (Step is_traced keeps_going echoes) input out exit e = inr (e, nothing-done _ input out)
+undone (Generate storm) input out exit e = (refl, inr (e, record { done = []; begins = inl refl; written = appends out }))
 undone (run_words counting is_told) input out exit e = (refl, inr (e, nothing-counted counting out))
-
--- an engine's run, whole or stopped
-run_done : {S : Type 0} (run : List ℕ → Run S) (r : Result ℕ EngineFault) (input rest out out' : Option (List ℕ)) (exit : ℕ)
-    → IfOk r (λ status. exit ≡ status) → OnErr r (exit ≡ 1)
-    → IfOk r (IsWhole run input rest out out') → OnErr r (IsPartOf run input rest out out') → IsRun run input rest out out' exit
-run_done run (Ok status) input rest out out' exit ok err whole part = inl (subst (λ (n : ℕ). IsWhole run input rest out out' n) (sym ok) whole)
-run_done run (Err fault) input rest out out' exit ok err whole part = inr (err, part)
-
--- what was done is what was asked for
-asked : (o : Option (Text × List Row)) (r s : Request) (input rest out out' : Option (List ℕ)) (exit : ℕ)
-    → Asks o r → Asks o s → IsDone r input rest out out' exit → IsDone s input rest out out' exit
-asked o r s input rest out out' exit a b d = subst (λ (r : Request). IsDone r input rest out out' exit) (asks_one o r s a b) d
 
 -- words that ask for nothing are refused, and nothing is written
 none : {A : Type 0} (fault : RequestFault) (taken : Type 0) (status : ℕ) (old new : A) → WordsFault (λ e. taken → kind_of e ≡ kinds.OutOfMemory) fault → taken
-    → (IsMemoryFault fault → status ≡ 1) → (IsMemoryFault fault → new ≡ old) → (fault ≡ faults.Range → status ≡ 2) → (fault ≡ faults.Range → new ≡ old)
+    → (IsMemoryFault fault → status ≡ 1) → (IsMemoryFault fault → new ≡ old) → RangeFault (status ≡ 2) fault → RangeFault (new ≡ old) fault
     → ((status ≡ 1) ⊎ (status ≡ 2)) × (new ≡ old)
 none (faults.Words e) taken status old new words t m same r range_same = (inl (m (words t)), same (words t))
-none faults.Range taken status old new words t m same r range_same = (inr (r refl), range_same refl)
+none (faults.Value v) taken status old new words t m same r range_same = (inr r, range_same)
+none faults.Nothing taken status old new words t m same r range_same = (inr r, range_same)
 
 -- words without a fault are not refused
 not_refused : {X : Type 0} (faults : Kinds) → faults ≡ [] → AreRefused faults → X
@@ -121,32 +110,28 @@ refused_words : {A : Type 0} (fault : RequestFault) (faults : Kinds) (status : �
 refused_words (faults.Words e) kinds_of status old new kind range told refused =
     let none = no_text_of (kind_of e) kinds_of refused.1 kind in
     told none.0 none.1
-refused_words faults.Range kinds_of status old new kind range told refused = not_refused kinds_of range refused
+refused_words (faults.Value v) kinds_of status old new kind range told refused = not_refused kinds_of range refused
+refused_words faults.Nothing kinds_of status old new kind range told refused = not_refused kinds_of range refused
 
-right_of : (o : Option (Text × List Row)) (counting : Counting) (is_told : Bool) → Asks o (run_words counting is_told) → IsCounting counting
-right_of None counting is_told a = absurd a
-right_of (Some p) counting is_told a = a.1.right
+-- what is asked for can be done
+right_request : (o : Option (Text × List Row)) (r : Request) → Asks o r → IsRightRequest r
+right_request None r a = absurd a
+right_request (Some p) (Tlp base size block) a = a.1.memory
+right_request (Some p) (Generate storm) a = a.1.right
+right_request (Some p) (run_words counting is_told) a = a.1.right
+right_request (Some p) r a = tt
 
-pub returns-in-Ok-Tlp : goal.returns-in-Ok-Tlp
-returns-in-Ok-Tlp g c = record {
+pub begin-requires : goal.begin-requires
+begin-requires g c = right_request (subcommand_of the_app (map g.S.AsStr.text c.args.words.now)) c.in-Ok.request c.in-Ok.ensures.ok
+
+pub returns-in-Ok : goal.returns-in-Ok
+returns-in-Ok g c = record {
   run = λ request takes asks.
-      asked _ (Tlp c.in-Ok-Tlp.base c.in-Ok-Tlp.size c.in-Ok-Tlp.block) request _ _ _ _ _
-      (subst (λ (r : Request). Asks (subcommand_of the_app (map g.S.AsStr.text c.args.words.now)) r) c.in-Ok-Tlp.field-0-is c.in-Ok-Tlp.ensures.ok) asks
-      (run_done _ c.run_tlp.result _ _ _ _ _ c.ended.ensures.ok c.ended.ensures.err c.run_tlp.ensures.ok c.run_tlp.ensures.err);
-  nothing = λ takes empty. absurd (empty c.in-Ok-Tlp.field-0 c.in-Ok-Tlp.ensures.ok);
-  refused = not_refused _ c.in-Ok-Tlp.ensures.faultless;
-  right = tt;
-}
-
-pub returns-in-Ok-Step : goal.returns-in-Ok-Step
-returns-in-Ok-Step g c = record {
-  run = λ request takes asks.
-      asked _ (Step c.in-Ok-Step.is_traced) request _ _ _ _ _
-      (subst (λ (r : Request). Asks (subcommand_of the_app (map g.S.AsStr.text c.args.words.now)) r) c.in-Ok-Step.field-0-is c.in-Ok-Step.ensures.ok) asks
-      (run_done _ c.run_step.result _ _ _ _ _ c.ended-in-Ok-Step.ensures.ok c.ended-in-Ok-Step.ensures.err c.run_step.ensures.ok c.run_step.ensures.err);
-  nothing = λ takes empty. absurd (empty c.in-Ok-Step.field-0 c.in-Ok-Step.ensures.ok);
-  refused = not_refused _ c.in-Ok-Step.ensures.faultless;
-  right = tt;
+      subst (λ (r : Request). IsBegun r (g.R.Read.remaining c.args.reader.now) (g.R.Read.remaining c.begin.new.reader) (g.W.Write.contents c.args.writer.now) (g.W.Write.contents c.begin.new.writer) c.begin.result)
+      (c.in-Ok.ensures.only request asks) c.begin.ensures.begun;
+  nothing = λ takes empty. absurd (empty c.in-Ok.request c.in-Ok.ensures.ok);
+  refused = not_refused _ c.in-Ok.ensures.faultless;
+  right = c.begin.ensures.right;
 }
 
 pub returns-in-Err : goal.returns-in-Err
@@ -161,14 +146,3 @@ returns-in-Err g c = record {
   refused = refused_words _ _ _ _ _ c.in-Err.ensures.kinds c.in-Err.ensures.range_faultless c.refused.ensures.words;
   right = tt;
 }
-
-pub returns-in-Ok-Run : goal.returns-in-Ok-Run
-returns-in-Ok-Run g c =
-    let counting = c.in-Ok-Run.counting in
-    let is_told = c.in-Ok-Run.is_told in
-    let asks_run = subst (λ (r : Request). Asks (subcommand_of the_app (map g.S.AsStr.text c.args.words.now)) r) c.in-Ok-Run.field-0-is c.in-Ok-Run.ensures.ok in record {
-      run = λ request takes asks. (asks_one _ request (run_words counting is_told) asks asks_run, refl, refl);
-      nothing = λ takes empty. absurd (empty c.in-Ok-Run.field-0 c.in-Ok-Run.ensures.ok);
-      refused = not_refused _ c.in-Ok-Run.ensures.faultless;
-      right = right_of (subcommand_of the_app (map g.S.AsStr.text c.args.words.now)) counting is_told asks_run;
-    }
