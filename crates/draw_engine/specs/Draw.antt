@@ -1,12 +1,13 @@
 -- What `draw` answers to the text of a trace.
-use Rattle.std.specs.Prelude.{ℕ, List, [], Bool, true, false, Option, Result, Ok, Err, option_map, is_some}
+use Rattle.std.specs.Prelude.{ℕ, ◌≡◌, List, [], ◌∷◌, ◌++◌, if◌then◌else◌, Bool, true, false, Option, Result, Ok, Err, option_map, is_some}
 use Rattle.std.specs.Io.KnownBytes.{Appends}
 use Rattle.history_check.specs.declared.flaws.Flaw.{Flaw}
 use Rattle.history_check.specs.declared.flaws.FlawKind.{FlawKind}
 use Rattle.history_check.specs.Claim.{Claim}
 use Rattle.history_check.specs.Flaws.{first_flaw}
 use Rattle.history_picture.specs.declared.scale.Window.{Window}
-use Rattle.history_picture.specs.Picture.{picture_text, line_text}
+use Rattle.history_picture.specs.Picture.{title_label, picture_text, line_text}
+use Rattle.svg_text.specs.Shapes.{Shape, page_text}
 use Rattle.svg_text.specs.Xml.{IsDocument}
 use Rattle.trace_file.specs.declared.fault.ReadFault.{ReadFault}
 use Rattle.trace_file.specs.Reading.{Reading, nothing_read, after_line, after_long_line, at_end}
@@ -50,3 +51,15 @@ pub record WritesDocument (out out' : Option (List ℕ)) : Type 0 where
 -- the whole run of `draw` on an input
 abbrev pub out_draw : Window → List ℕ → Run Drawing
 out_draw window input = run_of draw_responses (record { window = window; reading = nothing_read }) input
+
+-- one run draws what another tells: the line stands above the picture, in red where the exit status is 1
+pub record SaysTheSame {S : Type 0} (draw : Run Drawing) (check : Run S) : Type 0 where
+  pub line : List ℕ
+  pub flawed : Bool
+  pub width : ℕ
+  pub height : ℕ
+  pub below : List Shape
+  pub told : check.text ≡ line ++ 10 ∷ []
+  pub drawn_as : draw.text ≡ page_text width height (Shape.Written (title_label flawed) line ∷ below)
+  pub check_status : check.status ≡ (if flawed then 1 else 0)
+  pub draw_status : draw.status ≡ (if flawed then 1 else 0)

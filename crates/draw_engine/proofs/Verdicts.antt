@@ -1,0 +1,108 @@
+-- What is drawn is what `check` tells.
+use Rattle.std.proofs.Common.{append_assoc, ◌≡◌, ◌∙◌, ◌+◌, ◌++◌, ℕ, Bool, true, false, List, [], ◌∷◌, length, sym, ap, refl, subst, drop, fold, cond, Result, Ok, Err}
+use Rattle.std.proofs.lemmas.List.{append-nil}
+use Rattle.std.specs.Prelude.{nat_lt, codes, Option, Some, None, is_some}
+use Rattle.history_check.specs.declared.flaws.FlawKind.{FlawKind}
+use Rattle.history_check.specs.Claim.{Claim}
+use Rattle.history_check.specs.Flaws.{first_flaw}
+use Rattle.history_picture.specs.declared.scale.Window.{Window}
+use Rattle.history_picture.specs.Picture.{picture_text, line_text, view_of, width_of, bottom_of}
+use Rattle.history_picture.specs.Words.{flaw_words}
+use Rattle.history_picture.specs.Picture as picture
+use Rattle.line_engine.specs.Lines.{lines_of, bare, said}
+use Rattle.line_engine.specs.Run.{Run, with_answer, after_line, new_run}
+use Rattle.trace_file.specs.declared.fault.ReadFault.{ReadFault}
+use Rattle.trace_file.specs.Reading as read
+use Rattle.trace_engine.specs.Check.{fault_line, flaw_line, judged, checked, check_responses, out_check}
+use Rattle.draw_engine.specs.Draw.{Drawing, shows, drawn, flaw_of, draw_responses, out_draw, SaysTheSame}
+
+abbrev has_next : Drawing → read.Reading → Drawing
+has_next d reading = record { window = d.window; reading = reading }
+
+-- both have read the same, and nothing is written
+record IsAlong (w : Window) (a : Run Drawing) (b : Run read.Reading) : Type 0 where
+  state : a.state ≡ record { window = w; reading = b.state }
+  a_text : a.text ≡ []
+  b_text : b.text ≡ []
+  a_status : a.status ≡ 0
+  b_status : b.status ≡ 0
+
+step_by : (t : Bool) (w : Window) (a : Run Drawing) (b : Run read.Reading) (line : List ℕ) → IsAlong w a b
+    → IsAlong w (with_answer a (cond t (draw_responses.on_long_line a.state) (draw_responses.on_line a.state line)))
+    (with_answer b (cond t (check_responses.on_long_line b.state) (check_responses.on_line b.state line)))
+step_by true w a b line s = record {
+  state = ap (λ (d : Drawing). has_next d (read.after_long_line d.reading)) s.state;
+  a_text = append-nil a.text ∙ s.a_text;
+  b_text = append-nil b.text ∙ s.b_text;
+  a_status = s.a_status;
+  b_status = s.b_status;
+}
+step_by false w a b line s = record {
+  state = ap (λ (d : Drawing). has_next d (read.after_line d.reading line)) s.state;
+  a_text = append-nil a.text ∙ s.a_text;
+  b_text = append-nil b.text ∙ s.b_text;
+  a_status = s.a_status;
+  b_status = s.b_status;
+}
+
+along : (w : Window) (ls : List (List ℕ)) (a : Run Drawing) (b : Run read.Reading) → IsAlong w a b
+    → IsAlong w (fold (after_line draw_responses) a ls) (fold (after_line check_responses) b ls)
+along w [] a b s = s
+along w (l ∷ ls) a b s = along w ls (after_line draw_responses a l) (after_line check_responses b l) (step_by (nat_lt 512 (length (bare l))) w a b (said l) s)
+
+line_same : (kind : FlawKind) (place : ℕ) → flaw_line kind place ≡ flaw_words (record { kind = kind; place = place })
+line_same kind place = simp append_assoc
+
+-- the picture of a trace, by its first flaw
+of_flaw : (w : Window) (c : Claim) (o : Option (FlawKind × ℕ)) (d : Drawing) (a : Run Drawing) (b : Run read.Reading) → IsAlong w a b
+    → SaysTheSame (with_answer a (shows d (picture_text w c (flaw_of o)) (is_some o))) (with_answer b (judged o))
+of_flaw w c None d a b s = record {
+  line = codes "ok";
+  flawed = false;
+  width = width_of (view_of w c.records c.memory.entries None).scale;
+  height = bottom_of (view_of w c.records c.memory.entries None) c.records c.memory.entries + 30;
+  below = drop 1 (picture.drawn (view_of w c.records c.memory.entries None) c.records c.memory.entries None);
+  told = ap (λ (t : List ℕ). t ++ (codes "ok" ++ 10 ∷ [])) s.b_text;
+  drawn_as = ap (λ (t : List ℕ). t ++ picture_text w c None) s.a_text;
+  check_status = s.b_status;
+  draw_status = s.a_status;
+}
+of_flaw w c (Some f) d a b s =
+    let flaw = flaw_of (Some f) in
+    record {
+      line = flaw_words (record { kind = f.0; place = f.1 });
+      flawed = true;
+      width = width_of (view_of w c.records c.memory.entries flaw).scale;
+      height = bottom_of (view_of w c.records c.memory.entries flaw) c.records c.memory.entries + 30;
+      below = drop 1 (picture.drawn (view_of w c.records c.memory.entries flaw) c.records c.memory.entries flaw);
+      told = ap (λ (t : List ℕ). t ++ (flaw_line f.0 f.1 ++ 10 ∷ [])) s.b_text ∙ ap (λ (t : List ℕ). t ++ 10 ∷ []) (line_same f.0 f.1);
+      drawn_as = ap (λ (t : List ℕ). t ++ picture_text w c flaw) s.a_text;
+      check_status = refl;
+      draw_status = refl;
+    }
+
+ended : (w : Window) (d : Drawing) (r : Result Claim ReadFault) (a : Run Drawing) (b : Run read.Reading) → d.window ≡ w → IsAlong w a b
+    → SaysTheSame (with_answer a (drawn d r)) (with_answer b (checked r))
+ended w d (Err f) a b e s = record {
+  line = fault_line f;
+  flawed = true;
+  width = 640;
+  height = 40;
+  below = [];
+  told = ap (λ (t : List ℕ). t ++ (fault_line f ++ 10 ∷ [])) s.b_text;
+  drawn_as = ap (λ (t : List ℕ). t ++ line_text (fault_line f)) s.a_text;
+  check_status = refl;
+  draw_status = refl;
+}
+ended w d (Ok c) a b e s =
+    subst (λ (x : Window). SaysTheSame (with_answer a (shows d (picture_text x c (flaw_of (first_flaw c))) (is_some (first_flaw c)))) (with_answer b (judged (first_flaw c)))) (sym e)
+    (of_flaw w c (first_flaw c) d a b s)
+
+pub same : (window : Window) (input : List ℕ) → SaysTheSame (out_draw window input) (out_check input)
+same window input =
+    let start : Drawing = record { window = window; reading = read.nothing_read } in
+    let a : Run Drawing = fold (after_line draw_responses) (new_run start) (lines_of input) in
+    let b : Run read.Reading = fold (after_line check_responses) (new_run read.nothing_read) (lines_of input) in
+    let s : IsAlong window a b = along window (lines_of input) (new_run start) (new_run read.nothing_read) (record { state = refl; a_text = refl; b_text = refl; a_status = refl; b_status = refl }) in
+    subst (λ (d : Drawing). SaysTheSame (with_answer a (drawn d (read.at_end d.reading))) (with_answer b (checked (read.at_end b.state)))) (sym s.state)
+    (ended window (record { window = window; reading = b.state }) (read.at_end b.state) a b refl s)
