@@ -165,9 +165,9 @@ impl Generator {
     }
 }
 
-/// Writes the script of a storm: a line for its fabric, and one for each of its events, which happened to that fabric in
-/// turn. `Ok` is the exit status, 0. After an `Err`, which is want of memory or the writer's, what was written is nothing
-/// or a beginning of such a script.
+/// Writes the script of a storm: a line for its fabric, and one for each of its events, which happened to that fabric
+/// in turn. `Ok` is the exit status, 0. After an `Err`, which is want of memory or the writer's, what was written is
+/// nothing or a beginning of such a script.
 pub fn run_generate<W: Write>(
     alloc: Global,
     storm: &Storm,

@@ -22,8 +22,8 @@ pub fn a_generated_script_is_read()
     own_line_spells_fabric();
 }
 
-/// `step --trace` refuses no line of what `generate` writes: it writes the trace of all its events, with the history that
-/// they left, and ends with status 0. And `check` says `ok` to that trace, if lines can tell it.
+/// `step --trace` refuses no line of what `generate` writes: it writes the trace of all its events, with the history
+/// that they left, and ends with status 0. And `check` says `ok` to that trace, if lines can tell it.
 pub fn nothing_generated_is_refused()
     ensures text { (c : Config) (count : ℕ) (text : List ℕ) (f : Fabric) (s : IsScriptOf c count text f) → (out_step true text).text ≡ trace_text (claim_with f s.happened.records) }
     ensures status { (c : Config) (count : ℕ) (text : List ℕ) (f : Fabric) (s : IsScriptOf c count text f) → (out_step true text).status ≡ 0 }

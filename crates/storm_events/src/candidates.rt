@@ -41,7 +41,7 @@ fn place(draws: &mut Draws) -> usize
     draws.below(most) as usize
 }
 
-/// A DLLP of a lane: an Ack as often as all updates together, and updates mostly of the classes that its packets have.
+/// A DLLP of a lane: an Ack as often as all updates together, and updates mostly of its packets' classes.
 fn kind(draws: &mut Draws, lane: LaneName) -> DllpKind {
     if draws.chance(2) {
         return DllpKind::Answer;

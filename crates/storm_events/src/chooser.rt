@@ -107,8 +107,8 @@ impl Chooser {
         Ok(None)
     }
 
-    /// Lets the next event happen to the fabric, and tells it. A DLLP can always be sent: so a fault is want of memory
-    /// alone, and the fabric is as it was.
+    /// Lets the next event happen to the fabric, and tells it. A DLLP can always be sent: so a fault is want of
+    /// memory alone, and the fabric is as it was.
     pub fn happen_next(&mut self, fabric: &mut Fabric) -> Result<Event, AllocError>
         ensures ok { IfOk result (λ event. IsChosen fabric.old event fabric.new) }
         ensures err { OnErr result (fabric.new ≡ fabric.old) }

@@ -7,8 +7,8 @@ use crate::draws::Draws;
 use arrayvec::ArrayVec;
 use tlp_core::{MAX_PAYLOAD, Op, Width};
 
-/// Where the operations of all requesters meet: aligned for each width, and at two of them a few DW reach over the bounds
-/// of a block.
+/// Where the operations of all requesters meet: aligned for each width, and at two of them a few DW reach over the
+/// bounds of a block.
 const PLACES: [u64; 4] = [0, 48, 1024, 4080];
 
 /// An address outside of the memory.
