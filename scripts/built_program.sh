@@ -37,8 +37,12 @@ of_file examples/packets.txt tlp
 wants "tlp on packets.txt" 1 examples/packets.out "$room/nothing"
 grep -v '^4C0000' examples/packets.txt | grep -v ' 01000500 .* 07000000$' > "$room/sound.txt"
 grep -v '^fault' examples/packets.out > "$room/faultless"
+cat > "$room/reasons" << 'end'
+pciex: line 17: 'add 41 07000000 from 0100 tag 05' is refused: Unaligned (an operand's address is a multiple of its size, any other of 4)
+pciex: line 18, column 16: the line ends where 'from' is expected
+end
 of_file examples/words.txt encode
-wants "encode on words.txt" 1 examples/words.out "$room/nothing"
+wants "encode on words.txt" 1 examples/words.out "$room/reasons"
 grep -v '^#' examples/words.txt | sed '/^$/d' | head -n 9 > "$room/words"
 grep -v '^fault' examples/words.out > "$room/bytes"
 of_file "$room/words" encode
@@ -49,8 +53,11 @@ for name in lost_ack write_passes_read credits stopped_link first_script; do
     of_file examples/$name.txt step
     wants "step on $name.txt" 0 examples/$name.out "$room/nothing"
 done
+cat > "$room/reasons" << 'end'
+pciex: line 9: 'submit 1 add 40 01000000' is refused: NoCredits NP (the lane that the packet would enter has not the non-posted credits)
+end
 of_file examples/credits_used_up.txt step
-wants "step on credits_used_up.txt" 1 examples/credits_used_up.out "$room/nothing"
+wants "step on credits_used_up.txt" 1 examples/credits_used_up.out "$room/reasons"
 echo ok > "$room/ok"
 of_file examples/trace.txt check
 wants "check on trace.txt" 0 "$room/ok" "$room/nothing"
@@ -68,8 +75,11 @@ done
 # A script goes on after a refusal where it is to, and shows its lines where it is to.
 sed 's/^submit/collect 1\nsubmit/' examples/first_script.txt > "$room/refused.txt"
 printf 'refused 3 Idle\n' | cat - examples/first_script.out > "$room/told"
+cat > "$room/reasons" << 'end'
+pciex: line 3: 'collect 1' is refused: Idle (there is nothing to send, to deliver, to replay or to collect, or no stopped sender to retrain)
+end
 of_file "$room/refused.txt" step --keep-going
-wants "step --keep-going on a refusal" 1 "$room/told" "$room/nothing"
+wants "step --keep-going on a refusal" 1 "$room/told" "$room/reasons"
 printf 'fabric 1 0 4096\nsubmit 1 read 40 1 F 0\n' > "$room/short_script"
 echo 'submit 1 read 40 1 F 0 -> sub 1 0' > "$room/told"
 of_file "$room/short_script" step --echo
@@ -103,8 +113,11 @@ of_file "$room/short" decode
 wants "decode on three bytes" 1 "$room/fault" "$room/nothing"
 sed 's/^ans 1 0 2 data 01020304/ans 1 0 2 data 00000000/' examples/trace.txt > "$room/flawed"
 echo "flaw 10 Reply 2" > "$room/flaw"
+cat > "$room/reasons" << 'end'
+pciex: line 6: data 00000000 where data 01020304 is expected, and the request is at index 1 (line 9)
+end
 of_file "$room/flawed" check
-wants "check on a trace with a wrong reply" 1 "$room/flaw" "$room/nothing"
+wants "check on a trace with a wrong reply" 1 "$room/flaw" "$room/reasons"
 of_file "$room/flawed" draw
 [ -s "$room/output" ] && cp "$room/output" "$room/picture" || echo "a picture" > "$room/picture"
 wants "draw on a trace with a wrong reply" 1 "$room/picture" "$room/nothing"

@@ -21,14 +21,14 @@ is_xml() {
 
 # draws NAME STATUS WORD..: draws the file $room/input, and looks at the status and the picture.
 draws() {
-    name=$1
+    what=$1
     want=$2
     shift 2
     timeout 10 $pciex draw "$@" < "$room/input" > "$room/picture" 2> "$room/errors"
     status=$?
     count=$((count + 1))
     if [ $status -ne "$want" ] || [ -s "$room/errors" ] || ! is_xml "$room/picture"; then
-        echo "pictures: $name: status $status, and not $want, or no XML"
+        echo "pictures: $what: status $status, and not $want, or no XML"
         failed=1
     fi
 }
@@ -37,7 +37,7 @@ for name in trace overlaps; do
     cp examples/$name.txt "$room/input"
     draws $name.txt 0
     draws "points 1 to 2 of $name.txt" 0 --from 1 --to 2
-    draws "points 9 to 1 of $name.txt" 0 --from 9 --to 1
+    draws "points 9 to 9 of $name.txt" 0 --from 9 --to 9
 done
 for name in lost_ack write_passes_read credits stopped_link; do
     $pciex step --trace < examples/$name.txt > "$room/input"
