@@ -19,10 +19,12 @@ is_as_ever() {
     [ "$1" -eq "$whole_status" ] && cmp -s "$room/whole" "$room/output" && cmp -s "$room/whole_errors" "$room/errors"
 }
 
-# What a run that was refused an allocation has to be: status 1, `pciex: memory` alone on the error stream, and a
-# beginning of the output that is written where nothing is refused; or as it is there.
+# What a run that was refused an allocation has to be: status 1, `pciex: memory` on the error stream after a beginning of
+# the reasons, and a beginning of the output, of those that are written where nothing is refused; or as it is there.
 stops_for_memory() {
-    if [ "$1" -eq 1 ] && [ "$(cat "$room/errors")" = "pciex: memory" ]; then
+    reasons=$(($(wc -l < "$room/errors") - 1))
+    if [ "$1" -eq 1 ] && [ "$(tail -n 1 "$room/errors")" = "pciex: memory" ] &&
+        [ "$(head -n "$reasons" "$room/errors")" = "$(head -n "$reasons" "$room/whole_errors")" ]; then
         head -c "$(wc -c < "$room/output")" "$room/whole" | cmp -s - "$room/output"
     else
         is_as_ever "$1"
