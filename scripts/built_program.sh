@@ -37,8 +37,15 @@ of_file examples/packets.txt tlp
 wants "tlp on packets.txt" 1 examples/packets.out "$room/nothing"
 grep -v '^4C0000' examples/packets.txt | grep -v ' 01000500 .* 07000000$' > "$room/sound.txt"
 grep -v '^fault' examples/packets.out > "$room/faultless"
+# one_reason_each TEXT: the error stream of the last run has as many lines as the output has lines with that text, and
+# leaves them in $room/reasons; else nothing is there.
+one_reason_each() {
+    : > "$room/reasons"
+    [ "$(grep -c '^pciex: line ' "$room/errors")" -eq "$(grep -c "$1" "$room/output")" ] && cp "$room/errors" "$room/reasons"
+}
 of_file examples/words.txt encode
-wants "encode on words.txt" 1 examples/words.out "$room/nothing"
+one_reason_each '^fault'
+wants "encode on words.txt" 1 examples/words.out "$room/reasons"
 grep -v '^#' examples/words.txt | sed '/^$/d' | head -n 9 > "$room/words"
 grep -v '^fault' examples/words.out > "$room/bytes"
 of_file "$room/words" encode
@@ -50,7 +57,8 @@ for name in lost_ack write_passes_read credits stopped_link first_script; do
     wants "step on $name.txt" 0 examples/$name.out "$room/nothing"
 done
 of_file examples/credits_used_up.txt step
-wants "step on credits_used_up.txt" 1 examples/credits_used_up.out "$room/nothing"
+one_reason_each '^refused'
+wants "step on credits_used_up.txt" 1 examples/credits_used_up.out "$room/reasons"
 echo ok > "$room/ok"
 of_file examples/trace.txt check
 wants "check on trace.txt" 0 "$room/ok" "$room/nothing"
@@ -69,7 +77,8 @@ done
 sed 's/^submit/collect 1\nsubmit/' examples/first_script.txt > "$room/refused.txt"
 printf 'refused 3 Idle\n' | cat - examples/first_script.out > "$room/told"
 of_file "$room/refused.txt" step --keep-going
-wants "step --keep-going on a refusal" 1 "$room/told" "$room/nothing"
+one_reason_each '^refused'
+wants "step --keep-going on a refusal" 1 "$room/told" "$room/reasons"
 printf 'fabric 1 0 4096\nsubmit 1 read 40 1 F 0\n' > "$room/short_script"
 echo 'submit 1 read 40 1 F 0 -> sub 1 0' > "$room/told"
 of_file "$room/short_script" step --echo
@@ -104,7 +113,8 @@ wants "decode on three bytes" 1 "$room/fault" "$room/nothing"
 sed 's/^ans 1 0 2 data 01020304/ans 1 0 2 data 00000000/' examples/trace.txt > "$room/flawed"
 echo "flaw 10 Reply 2" > "$room/flaw"
 of_file "$room/flawed" check
-wants "check on a trace with a wrong reply" 1 "$room/flaw" "$room/nothing"
+one_reason_each '^flaw'
+wants "check on a trace with a wrong reply" 1 "$room/flaw" "$room/reasons"
 of_file "$room/flawed" draw
 [ -s "$room/output" ] && cp "$room/output" "$room/picture" || echo "a picture" > "$room/picture"
 wants "draw on a trace with a wrong reply" 1 "$room/picture" "$room/nothing"

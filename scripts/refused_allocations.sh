@@ -19,11 +19,17 @@ is_as_ever() {
     [ "$1" -eq "$whole_status" ] && cmp -s "$room/whole" "$room/output" && cmp -s "$room/whole_errors" "$room/errors"
 }
 
-# What a run that was refused an allocation has to be: status 1, `pciex: memory` alone on the error stream, and a
-# beginning of the output that is written where nothing is refused; or as it is there.
+# begins PART WHOLE: whether the one file is a beginning of the other.
+begins() {
+    head -c "$(wc -c < "$1")" "$2" | cmp -s - "$1"
+}
+
+# What a run that was refused an allocation has to be: status 1, `pciex: memory` on the error stream after a beginning of
+# the reasons, and a beginning of the output, that are written where nothing is refused; or as it is there.
 stops_for_memory() {
-    if [ "$1" -eq 1 ] && [ "$(cat "$room/errors")" = "pciex: memory" ]; then
-        head -c "$(wc -c < "$room/output")" "$room/whole" | cmp -s - "$room/output"
+    sed '$d' "$room/errors" > "$room/reasons"
+    if [ "$1" -eq 1 ] && [ "$(tail -n 1 "$room/errors")" = "pciex: memory" ]; then
+        begins "$room/output" "$room/whole" && begins "$room/reasons" "$room/whole_errors"
     else
         is_as_ever "$1"
     fi
