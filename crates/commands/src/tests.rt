@@ -24,10 +24,11 @@ fn told(alloc: Global, words: &[&str], input: &[u8]) -> (u8, Vec<u8>, Vec<u8>) {
 }
 
 /// Whether the words write this on standard output, with this exit status, and nothing on the error
-/// stream.
+/// stream but the reason of a fault or a refusal.
 fn writes(alloc: Global, words: &[&str], input: &str, want: &str, exit: u8) -> bool {
     let (status, out, errors) = told(alloc, words, input.as_bytes());
-    status == exit && out.as_slice() == want.as_bytes() && errors.is_empty()
+    let is_silent = errors.is_empty() || exit == 1 && errors.starts_with(b"pciex: line ");
+    status == exit && out.as_slice() == want.as_bytes() && is_silent
 }
 
 /// A script, and its trace.
