@@ -1,5 +1,5 @@
 //! Worked rows.
-ghost use Rattle.std.specs.Prelude.{◌≡◌};
+ghost use Rattle.std.specs.Prelude.{◌≡◌, IfSome};
 ghost use Rattle.hall_core.specs.Views.{IsSeatOf};
 
 use crate::drive::{
@@ -88,42 +88,77 @@ fn a_write_is_read_in_blocks_of_128(rt: HostRuntime) -> Result<(), Fail> {
     Ok(())
 }
 
+/// An addition of each requester, of which the first is served. The number of steps that went as they should.
+fn both_add(hall: &Hall, one: &mut ReqSeat, two: &mut ReqSeat, worker: &mut WorkSeat) -> u32
+    requires { IsSeatOf hall.now one.old × IsSeatOf hall.now two.old × IsSeatOf hall.now worker.old }
+    ensures { IsSeatOf hall.now one.new × IsSeatOf hall.now two.new × IsSeatOf hall.now worker.new }
+{
+    if !is_submitted(hall, one, add_one(), 0, 0) || play(hall, worker, &out_and_served(1)) != 6 {
+        return 0;
+    }
+    if is_submitted(hall, two, add_one(), 0, 1) {
+        2
+    } else {
+        1
+    }
+}
+
+/// Whether both answers come back.
+fn both_hear(hall: &Hall, one: &mut ReqSeat, two: &mut ReqSeat, worker: &mut WorkSeat) -> bool
+    requires { IsSeatOf hall.now one.old × IsSeatOf hall.now two.old × IsSeatOf hall.now worker.old }
+{
+    play(hall, worker, &back(1)) == 5
+        && play(hall, worker, &back(2)) == 5
+        && is_answer(&collect(hall, one), 0, &[0, 0, 0, 0], 2)
+        && is_answer(&collect(hall, two), 0, &[1, 0, 0, 0], 2)
+}
+
+/// The seats, if they meet at this length of the history.
+fn met(hall: &Hall, one: ReqSeat, two: ReqSeat, n: u64) -> Option<(ReqSeat, ReqSeat)>
+    requires { IsSeatOf hall.now one × IsSeatOf hall.now two }
+    ensures { IfSome result (λ s. IsSeatOf hall.now s.0 × IsSeatOf hall.now s.1) }
+{
+    match hall.meet(one, two) {
+        Ok((one, two, length)) if length == n => Some((one, two)),
+        _ => None,
+    }
+}
+
 /// Two requesters add, meet and are answered. The number of steps that went as they should.
+fn add_and_meet(hall: &Hall, one: ReqSeat, two: ReqSeat, worker: &mut WorkSeat) -> u32
+    requires { IsSeatOf hall.now one × IsSeatOf hall.now two × IsSeatOf hall.now worker.old }
+{
+    let mut one = one;
+    let mut two = two;
+    let done = both_add(hall, &mut one, &mut two, worker);
+    if done < 2 {
+        return done;
+    }
+    let Some((one, two)) = met(hall, one, two, 1) else {
+        return 2;
+    };
+    if play(hall, worker, &out_and_served(2)) != 6 {
+        return 3;
+    }
+    let Some((mut one, mut two)) = met(hall, one, two, 2) else {
+        return 4;
+    };
+    if both_hear(hall, &mut one, &mut two, worker) {
+        6
+    } else {
+        5
+    }
+}
+
 fn meeting(alloc: Global) -> Result<u32, Fail> {
-    let (hall, mut one, mut two, mut worker) = two_and_a_worker(small(2), alloc)?;
-    if !is_submitted(&hall, &mut one, add_one(), 0, 0)
-        || play(&hall, &mut worker, &out_and_served(1)) != 6
-    {
-        return Ok(0);
-    }
-    if !is_submitted(&hall, &mut two, add_one(), 0, 1) {
-        return Ok(1);
-    }
-    let Ok((one, two, 1)) = hall.meet(one, two) else {
-        return Ok(2);
-    };
-    if play(&hall, &mut worker, &out_and_served(2)) != 6 {
-        return Ok(3);
-    }
-    let Ok((mut one, mut two, 2)) = hall.meet(one, two) else {
-        return Ok(4);
-    };
-    if play(&hall, &mut worker, &back(1)) != 5 || play(&hall, &mut worker, &back(2)) != 5 {
-        return Ok(5);
-    }
-    if !is_answer(&collect(&hall, &mut one), 0, &[0, 0, 0, 0], 2) {
-        return Ok(6);
-    }
-    if !is_answer(&collect(&hall, &mut two), 0, &[1, 0, 0, 0], 2) {
-        return Ok(7);
-    }
-    Ok(8)
+    let (hall, one, two, mut worker) = two_and_a_worker(small(2), alloc)?;
+    Ok(add_and_meet(&hall, one, two, &mut worker))
 }
 
 #[test]
 fn seats_meet(rt: HostRuntime) -> Result<(), Fail> {
     let steps = meeting(rt.alloc())?;
-    assert!(rt; steps == 8);
+    assert!(rt; steps == 6);
     Ok(())
 }
 

@@ -266,21 +266,41 @@ fn ends_so(hall: Hall, seat: ReqSeat, fabric: &Fabric) -> bool
     }
 }
 
+/// Whether the hall tells the script as the fabric does, with these records.
+fn told_so(
+    hall: &Hall,
+    seat: &mut ReqSeat,
+    worker: &mut WorkSeat,
+    fabric: &mut Fabric,
+    script: &[Event],
+    want: &Vec<Record>,
+    alloc: Global,
+) -> bool
+    requires { IsSeatOf hall.now seat.old × IsSeatOf hall.now worker.old }
+    ensures { IsSeatOf hall.now seat.new }
+{
+    let mut records = Vec::new(alloc);
+    play_both(hall, seat, worker, fabric, script, &mut records) && records == *want
+}
+
+/// Whether a hall of this configuration tells the script as the fabric does, with these records, and ends as it.
+fn hall_goes_so(
+    config: Config,
+    fabric: &mut Fabric,
+    script: &[Event],
+    want: &Vec<Record>,
+    alloc: Global,
+) -> Result<bool, Fail> {
+    let (hall, mut seat, mut worker) = one_and_a_worker(config, alloc)?;
+    let same = told_so(&hall, &mut seat, &mut worker, fabric, script, want, alloc);
+    Ok(same && ends_so(hall, seat, fabric))
+}
+
 /// Whether a hall of this configuration tells the script as the fabric does, and its records are those of the trace.
 fn goes_so(config: Config, script: &[Event], alloc: Global) -> Result<bool, Fail> {
     let want = records_of(config, script, alloc)?;
     let mut fabric = Fabric::new(config, alloc)?;
-    let (hall, mut seat, mut worker) = one_and_a_worker(config, alloc)?;
-    let mut records = Vec::new(alloc);
-    let same = play_both(
-        &hall,
-        &mut seat,
-        &mut worker,
-        &mut fabric,
-        script,
-        &mut records,
-    );
-    Ok(same && records == want && ends_so(hall, seat, &fabric))
+    hall_goes_so(config, &mut fabric, script, &want, alloc)
 }
 
 /// Whether each script goes through a hall as through a fabric.
