@@ -25,8 +25,11 @@ const SMALL: Config = Config {
 
 /// The lanes that the request takes, and those of its completion.
 const UP: LaneName = LaneName::Up(1);
+
 const DOWN: LaneName = LaneName::Down(1);
+
 const IN: LaneName = LaneName::Inward;
+
 const OUT: LaneName = LaneName::Outward;
 
 /// Requester 1 adds 7 to the four bytes at 40h. The Ack of its packet is lost, so the packet is sent once more.
