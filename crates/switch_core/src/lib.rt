@@ -5,8 +5,6 @@
 mod fault;
 mod forwarding;
 mod routing;
-#[cfg(test)]
-mod tests;
 
 pub use fault::{ForwardRefusal, RouteFault};
 pub use forwarding::{forward, forward_ends};

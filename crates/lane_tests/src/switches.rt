@@ -1,10 +1,10 @@
 //! Worked routes, and a packet that is forwarded.
-use crate::{ForwardRefusal, Port, RouteFault, forward, forward_ends, route};
 use dllp_core::Class;
 use fc_credit::LaneCredits;
 use lane_core::{Fate, Lane, LaneRefusal, SenderEnd};
 use std::alloc::Global;
 use std::test::Fail;
+use switch_core::{ForwardRefusal, Port, RouteFault, forward, forward_ends, route};
 use tlp_core::{Tlp, TlpFault, decode};
 
 const WRITE: [u8; 16] = [0x40, 0, 0, 1, 3, 0, 0, 15, 0, 0, 0, 0x40, 1, 2, 3, 4];
