@@ -3,6 +3,8 @@
 #![tactic(auto)]
 
 #[cfg(test)]
+mod ended;
+#[cfg(test)]
 mod packet_examples;
 #[cfg(test)]
 mod packets;

@@ -4,7 +4,7 @@ use std::alloc::Global;
 use std::test::Fail;
 
 /// Whether a run of `decode` writes this and has this exit status.
-pub fn decodes(alloc: Global, input: &str, want: &str, exit: u8) -> bool {
+pub(crate) fn decodes(alloc: Global, input: &str, want: &str, exit: u8) -> bool {
     let mut reader = input.as_bytes();
     let mut out = Vec::new(alloc);
     let result = run_decode(alloc, &mut reader, &mut out);
@@ -12,7 +12,7 @@ pub fn decodes(alloc: Global, input: &str, want: &str, exit: u8) -> bool {
 }
 
 /// Whether a run of `encode` writes this and has this exit status.
-pub fn encodes(alloc: Global, input: &str, want: &str, exit: u8) -> bool {
+pub(crate) fn encodes(alloc: Global, input: &str, want: &str, exit: u8) -> bool {
     let mut reader = input.as_bytes();
     let mut out = Vec::new(alloc);
     let result = run_encode(alloc, &mut reader, &mut out);

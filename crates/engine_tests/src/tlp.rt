@@ -25,7 +25,7 @@ fn told(
 }
 
 /// Whether a run over 4096 bytes at 0 with blocks of 64 writes this and has this exit status.
-pub fn answers(alloc: Global, input: &str, want: &str, exit: u8) -> bool {
+pub(crate) fn answers(alloc: Global, input: &str, want: &str, exit: u8) -> bool {
     let (result, out) = told(alloc, 0, 4096, 64, input.as_bytes());
     result == Ok(exit) && out.as_slice() == want.as_bytes()
 }
