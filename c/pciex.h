@@ -9,12 +9,12 @@
  *
  *   below 1000     it is done: 0, or where the call says so how many bytes its answer has
  *   1000 to 1999   a fault: 1000 and a number, as the call says
- *   from 2000 on   an argument that can't be right, or want of memory: one of the codes below
+ *   from 2000 on   an argument that can't be right, or out of memory: one of the codes below
  *
  * From 1000 on nothing has changed, but for the text of a fault that some calls put into the room.
  *
  * Rooms. An answer goes into a room that the caller lends: `room` points to `room_length` bytes. It stands at the front,
- * is not ended by a zero, and what is behind it stays as it was. PCIEX_LINE bytes are always enough for a line,
+ * is not ended by a zero, and what follows it stays as it was. PCIEX_LINE bytes are always enough for a line,
  * PCIEX_PACKET for a packet, and a call asks for that many whatever it has to say.
  *
  * What can't be tested, and so is the caller's to keep:
