@@ -3,7 +3,7 @@ ghost use Rattle.std.specs.Prelude.{◌≡◌, ◌<◌, List, ◌∷◌, length,
 ghost use Rattle.atomic_table.specs.Table.{rest};
 ghost use Rattle.seq_memory.specs.declared.Entry.{Entry};
 ghost use Rattle.hall_laws.specs.declared.token.Knowledge.{Knowledge};
-ghost use Rattle.hall_laws.specs.Calls.{IsSized, IsOf, IsIdle, knowing};
+ghost use Rattle.hall_laws.specs.Calls.{IsSized, HasSlot, IsOf, IsIdle, knowing};
 ghost use Rattle.hall_laws.specs.Standing.{token_of, Outside};
 ghost use Rattle.hall_laws.specs.Rule.{dropped_seen};
 ghost use Rattle.hall_laws.specs.Tells.{Met};
@@ -19,7 +19,7 @@ use seq_memory::Memory;
 
 /// The memory goes home, and all tokens of the seat have seen its history then, whose length is given.
 fn see(steps: &Steps, place: &mut Place, memory: Boxed<Memory>) -> u64
-    requires table { (place.old.table_id ≡ steps.now.table_id) × (0 < steps.now.table_id.words) × (0 < steps.now.table_id.slots) }
+    requires table { (place.old.table_id ≡ steps.now.table_id) × HasSlot steps.now.table_id 0 }
     requires token { (0 < length place.old.me.0) × (place.old.me.1 ≡ (0, None) ∷ rest place.old.me.1) }
     requires held { let h = (token_of place.old.me.0).held in (h ≡ (0, PartValue.Memory memory) ∷ drop 1 h) × Outside 0 (drop 1 h) }
     ensures seat { (place.new.table_id ≡ place.old.table_id) × (place.new.id ≡ place.old.id) }

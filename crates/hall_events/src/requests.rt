@@ -3,7 +3,7 @@ ghost use Rattle.std.specs.Prelude.{◌≡◌, ◌≢◌, ◌+◌, ◌*◌, ◌<
 ghost use Rattle.fabric_core.specs.declared.event.Event.TheVariants.{Submit, Collect};
 ghost use Rattle.hall_laws.specs.declared.token.Knowledge.{Knowledge};
 ghost use Rattle.hall_laws.specs.Parts.{slot};
-ghost use Rattle.hall_laws.specs.Calls.{IsSized, IsOf, IsIdle, knowing};
+ghost use Rattle.hall_laws.specs.Calls.{IsSized, HasSlot, IsOf, IsIdle, knowing};
 ghost use Rattle.hall_laws.specs.Rule.{Known};
 ghost use Rattle.hall_laws.specs.Standing.{token_of};
 ghost use Rattle.hall_laws.specs.Tells.{SubmitTells, CollectTells, SeesTells};
@@ -66,7 +66,7 @@ fn put_both_back(
     memory: Boxed<Memory>,
     requester: Boxed<Requester>,
 )
-    requires table { (place.old.table_id ≡ steps.now.table_id) × (9 * port < steps.now.table_id.words) × (9 * port < steps.now.table_id.slots) × (0 < port) }
+    requires table { (place.old.table_id ≡ steps.now.table_id) × HasSlot steps.now.table_id (slot port 0) × (0 < port) }
     requires held { (w : Knowledge) × (place.old.me ≡ having w ((slot port 0, PartValue.Requester requester) ∷ ((0, PartValue.Memory memory) ∷ []))) }
     ensures seat { (place.new.table_id ≡ place.old.table_id) × (place.new.id ≡ place.old.id) }
     ensures idle { place.new.me ≡ knowing (token_of place.old.me.0).knows }

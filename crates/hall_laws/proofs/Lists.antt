@@ -13,6 +13,7 @@ use Rattle.seq_memory.specs.declared.Reply.{Reply}
 use Rattle.history_check.specs.declared.Record.{Record}
 use Rattle.history_check.specs.declared.Record.TheVariants.{Sub, Ans}
 use Rattle.history_check.specs.Trace.{submission, submissions, answers_to}
+use Rattle.hall_laws.specs.Standing.{word_of}
 pub use Rattle.fabric_laws.specs.ListFacts.{each_at, get_before, get_seam}
 
 -- ---- elements by number
@@ -58,6 +59,10 @@ module _ {A : Type 0} where
   at_snoc [] a b (suc j) e = absurd (some-ne-none b (sym e))
   at_snoc (x ∷ xs) a b zero e = inl e
   at_snoc (x ∷ xs) a b (suc j) e = at_snoc xs a b j e
+
+-- what stands at the word of a slot after that of another is set
+pub at_set_word : (words : List ℕ) (k j x y : ℕ) → get_elem? (set words (word_of k) x) (word_of j) ≡ some y → ((j ≡ k) × (x ≡ y)) ⊎ ((j ≢ k) × (get_elem? words (word_of j) ≡ some y))
+at_set_word words k j x y e = ⊎_elim (λ h. let same = h.0 in inl ((omega arith), h.1)) (λ h. inr ((λ (same : j ≡ k). h.0 (ap word_of same)), h.1)) (at_set words (word_of k) (word_of j) x y e)
 
 pub exchanged : (n old new : ℕ) (F : ℕ → Type 0) → (n ≡ old → F new) → (n ≢ old → F n) → F (either (eqb n old) new n)
 exchanged n old new F hit miss = dite (ℕ_discrete n old) (λ e. subst (λ b. F (either b new n)) (sym (eq-eqb n old e)) (hit e)) (λ ne. subst (λ b. F (either b new n)) (sym (ne_eqb n old ne)) (miss ne))

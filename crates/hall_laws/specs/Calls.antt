@@ -5,12 +5,16 @@ use Rattle.atomic_table.specs.declared.shared.Seat.{Seat}
 use Rattle.hall_laws.specs.declared.part.PartValue.{PartValue}
 use Rattle.hall_laws.specs.declared.token.Token.{Token}
 use Rattle.hall_laws.specs.declared.token.Knowledge.{Knowledge}
-use Rattle.hall_laws.specs.Standing.{Sat, token_of, holding_first}
+use Rattle.hall_laws.specs.Standing.{Sat, word_of, token_of, holding_first}
 use Rattle.hall_laws.specs.Rule.{Known}
 
--- a word and a slot for each part of a fabric with so many requesters
+-- a slot and its word for each part of a fabric with so many requesters
 abbrev pub IsSized : TableId → ℕ → Type 0
-IsSized z r = (z.words ≡ 9 * (1 + r)) × (z.slots ≡ 9 * (1 + r)) × (r ≤ 7)
+IsSized z r = (z.words ≡ word_of (9 * (1 + r))) × (z.slots ≡ 9 * (1 + r)) × (r ≤ 7)
+
+-- the table has this slot and its word, as one of the parts of at most eight ports
+abbrev pub HasSlot : TableId → ℕ → Type 0
+HasSlot z k = (word_of k < z.words) × (k < z.slots) × (z.slots ≤ 72)
 
 -- the seat is of this table, and its first token has this number
 abbrev pub IsOf : TableId → ℕ → ℕ → Seat (Option PartValue) (List Token) → Type 0

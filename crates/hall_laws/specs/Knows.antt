@@ -12,7 +12,7 @@ use Rattle.fabric_core.specs.Kept.{IsSoundFabric}
 use Rattle.hall_laws.specs.declared.part.PartValue.{PartValue}
 use Rattle.hall_laws.specs.declared.token.Token.{Token}
 use Rattle.hall_laws.specs.Parts.{parts_of}
-use Rattle.hall_laws.specs.Standing.{Table, Found, total, named, serving}
+use Rattle.hall_laws.specs.Standing.{Table, word_of, Found, total, named, serving}
 use Rattle.hall_laws.specs.Rule.{Begins, HasConfig}
 use Rattle.hall_laws.specs.Tells.{Has, AnsweredStand}
 
@@ -38,12 +38,12 @@ pub record IsRuled (s : Table) : Type 0 where
   pub state : Fabric
   pub sound : IsSoundFabric state
   -- a part whose word is 0 is at home in its slot
-  pub at_home : (k : ℕ) (v : PartValue) → get_elem? s.words k ≡ some 0 → get_elem? (parts_of state) k ≡ some v → get_elem? s.homes k ≡ some (some (Some v))
+  pub at_home : (k : ℕ) (v : PartValue) → get_elem? s.words (word_of k) ≡ some 0 → get_elem? (parts_of state) k ≡ some v → get_elem? s.homes k ≡ some (some (Some v))
   -- any other is held by a token of the seat that its word names
-  pub held : (k n : ℕ) → get_elem? s.words k ≡ some (suc n) → Found s.views n k
+  pub held : (k n : ℕ) → get_elem? s.words (word_of k) ≡ some (suc n) → Found s.views n k
   -- a part that a token holds has the word of its seat, and the value that the token says
   pub holds : (j : ℕ) (ts : List Token) → get_elem? s.views j ≡ some ts
-      → Each (λ (t : Token). Each (λ (kv : ℕ × PartValue). (get_elem? s.words kv.0 ≡ some (suc t.knows.number)) × (get_elem? (parts_of state) kv.0 ≡ some kv.1)) t.held) ts
+      → Each (λ (t : Token). Each (λ (kv : ℕ × PartValue). (get_elem? s.words (word_of kv.0) ≡ some (suc t.knows.number)) × (get_elem? (parts_of state) kv.0 ≡ some kv.1)) t.held) ts
   -- no seat number stands in two tokens
   pub one_seat : (n : ℕ) → total (named n) s.views ≤ 1
   -- no place of the history stands twice in all that was served

@@ -1,5 +1,5 @@
 -- The rule of the table, over any whole that is told by the values of its parts.
-use Rattle.std.specs.Prelude.{◌≡◌, ◌≢◌, ◌==◌, ◌⊎◌, ℕ, suc, ◌+◌, ◌<◌, ◌≤◌, cond, List, [], ◌∷◌, length, Option, Some}
+use Rattle.std.specs.Prelude.{◌≡◌, ◌≢◌, ◌==◌, ◌⊎◌, ℕ, suc, ◌+◌, ◌*◌, ◌<◌, ◌≤◌, cond, List, [], ◌∷◌, length, Option, Some}
 use mathlib.Core.Option.{some}
 use lib.ListN.{get_elem?}
 use Rattle.atomic_table.specs.Table.{State, Me, Step, rest}
@@ -36,6 +36,10 @@ Sat = Me (Option PartValue) (List Token)
 
 abbrev pub Table : Type 0
 Table = State (Option PartValue) (List Token)
+
+-- where the word of a slot stands: no two are in one cache line, which is 8 words of 64 bits
+abbrev pub word_of : ℕ → ℕ
+word_of k = 8 * k
 
 abbrev pub nobody : Knowledge
 nobody = record { number = 0; config = record { requesters = 0; base = 0; size = 0; credits = record { ph = 0; pd = 0; nph = 0; npd = 0; cplh = 0; cpld = 0 }; block = 0 }; seen = []; made = []; pending = []; served = [] }
@@ -92,7 +96,7 @@ module _ {P : Type 0} (parts : P → List PartValue) (Sound : P → Type 0) (Fit
 
   -- each part that the token holds has its word, and the value that the token says
   abbrev pub Holds : P → List ℕ → Token → Type 0
-  Holds p words t = Each (λ (kv : ℕ × PartValue). (get_elem? words kv.0 ≡ some (suc t.knows.number)) × (get_elem? (parts p) kv.0 ≡ some kv.1)) t.held
+  Holds p words t = Each (λ (kv : ℕ × PartValue). (get_elem? words (word_of kv.0) ≡ some (suc t.knows.number)) × (get_elem? (parts p) kv.0 ≡ some kv.1)) t.held
 
   abbrev pub Seated : P → List ℕ → Token → Type 0
   Seated p words t = Holds p words t × Fits p t.knows
@@ -101,10 +105,10 @@ module _ {P : Type 0} (parts : P → List PartValue) (Sound : P → Type 0) (Fit
   pub record Standing (s : Table) : Type 0 where
     pub whole : P
     pub sound : Sound whole
-    pub wide : length s.words ≡ length (parts whole)
+    pub wide : length s.words ≡ word_of (length (parts whole))
     pub deep : length s.homes ≡ length (parts whole)
-    pub at_home : (k : ℕ) (v : PartValue) → get_elem? s.words k ≡ some 0 → get_elem? (parts whole) k ≡ some v → get_elem? s.homes k ≡ some (some (Some v))
-    pub holder : (j n : ℕ) → get_elem? s.words j ≡ some (suc n) → Found s.views n j
+    pub at_home : (k : ℕ) (v : PartValue) → get_elem? s.words (word_of k) ≡ some 0 → get_elem? (parts whole) k ≡ some v → get_elem? s.homes k ≡ some (some (Some v))
+    pub holder : (j n : ℕ) → get_elem? s.words (word_of j) ≡ some (suc n) → Found s.views n j
     pub tokens : (j : ℕ) (ts : List Token) → get_elem? s.views j ≡ some ts → Each (Seated whole s.words) ts
     pub apart : (n : ℕ) → total (named n) s.views ≤ 1
     pub served : (n : ℕ) → total (serving n) s.views ≤ 1
@@ -116,10 +120,10 @@ module _ {P : Type 0} (parts : P → List PartValue) (Sound : P → Type 0) (Fit
   abbrev pub Known : List Token → Type 0
   Known ts = (p : P) × Sound p × Each (FitsToken p) ts
 
-  -- kind 1: the part was free and is held by the first token; or nothing changed
+  -- kind 1, at the word of the part k: it was free and is held by the first token; or nothing changed
   abbrev pub taken : Step (Option PartValue) → Sat → ℕ → Sat → Type 0
-  taken st m found m' =
-      (found ≡ 0 → (v : PartValue) × (m' ≡ (holding_first st.word v m.0, (st.word, Some v) ∷ m.1)) × Known (holding_first st.word v m.0))
+  taken st m found m' = (k : ℕ) → st.word ≡ word_of k
+      → (found ≡ 0 → (v : PartValue) × (m' ≡ (holding_first k v m.0, (k, Some v) ∷ m.1)) × Known (holding_first k v m.0))
       × (found ≢ 0 → m' ≡ m)
 
   -- What the whole may become while a view, of whose tokens the first steps, turns into another: it stays sound, the parts that the first did not hold stay, all tokens fit, and these places have these values

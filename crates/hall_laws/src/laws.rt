@@ -5,6 +5,7 @@ ghost use Rattle.fabric_core.specs.declared.event.Event.{Event};
 ghost use Rattle.fabric_core.specs.declared.event.Seen.{Seen};
 ghost use Rattle.hall_laws.specs.declared.token.Token.{Token};
 ghost use Rattle.hall_laws.specs.Standing.{token_of, others_of, holding_first, Outside};
+ghost use Rattle.hall_laws.specs.Calls.{HasSlot};
 ghost use Rattle.hall_laws.specs.declared.token.Knowledge.{Knowledge};
 ghost use Rattle.hall_laws.specs.Knows.{IsTrueOf, IsRuled};
 ghost use Rattle.hall_laws.specs.declared.token.Start.{Start};
@@ -13,6 +14,7 @@ ghost use Rattle.hall_laws.specs.Rule.{Traced, IsSoundTraced, Fits, Kept, Known,
 
 use crate::boxed::Boxed;
 use crate::part::PartValue;
+use crate::slots::WORDS_APART;
 use crate::token::{Start, Token};
 use atomic_table::{Join, Play, Seat, Shared, Split, TableRule};
 use fabric_core::laws::each_event_keeps_it_sound;
@@ -69,12 +71,12 @@ impl<C: After> Play<Option<PartValue>, LinkedList<Token>> for Releasing<C> {
 /// Kind 1: the first token of the seat takes the part if its word is 0, which then names it. The error is the word that
 /// was found.
 pub fn take(steps: &Steps, place: &mut Place, slot: usize, number: u64) -> Result<PartValue, u64>
-    requires table { (place.old.table_id ≡ steps.now.table_id) × (slot < steps.now.table_id.words) × (slot < steps.now.table_id.slots) }
+    requires table { (place.old.table_id ≡ steps.now.table_id) × HasSlot steps.now.table_id slot }
     requires token { (0 < length place.old.me.0) × (number ≡ (token_of place.old.me.0).knows.number) × (number < 2 ^ 32) }
     ensures seat { (place.new.table_id ≡ place.old.table_id) × (place.new.id ≡ place.old.id) }
     ensures taken { MatchResult result (λ v. (place.new.me ≡ (holding_first slot v place.old.me.0, (slot, None) ∷ place.old.me.1)) × Known (holding_first slot v place.old.me.0)) (λ w. (w ≢ 0) × (place.new.me ≡ place.old.me)) }
 {
-    let found = steps.compare_exchange::<Taking>(place, slot, 0, number + 1);
+    let found = steps.compare_exchange::<Taking>(place, WORDS_APART * slot, 0, number + 1);
     if found != 0 {
         return Err(found);
     }
@@ -84,14 +86,14 @@ pub fn take(steps: &Steps, place: &mut Place, slot: usize, number: u64) -> Resul
 
 // Kinds 2 to 4: the part goes home with this value, and its word is 0.
 fn release<C: After>(steps: &Steps, place: &mut Place, slot: usize, value: PartValue)
-    requires table { (place.old.table_id ≡ steps.now.table_id) × (slot < steps.now.table_id.words) × (slot < steps.now.table_id.slots) }
+    requires table { (place.old.table_id ≡ steps.now.table_id) × HasSlot steps.now.table_id slot }
     requires token { (0 < length place.old.me.0) × (place.old.me.1 ≡ (slot, None) ∷ rest place.old.me.1) }
     requires rule { Releases place.old.me.0 slot value C.after }
     ensures seat { (place.new.table_id ≡ place.old.table_id) × (place.new.id ≡ place.old.id) }
     ensures released { (place.new.me ≡ (C.after, rest place.old.me.1)) × Known C.after }
 {
     steps.exchange(place, slot, Some(value));
-    steps.store::<Releasing<C>>(place, slot, 0);
+    steps.store::<Releasing<C>>(place, WORDS_APART * slot, 0);
 }
 
 /// The token of a seat after an event. Each call picks it.
@@ -113,7 +115,7 @@ pub fn event<C: AfterEvent, T>(
     value: PartValue,
     told: &T,
 )
-    requires table { (place.old.table_id ≡ steps.now.table_id) × (slot < steps.now.table_id.words) × (slot < steps.now.table_id.slots) }
+    requires table { (place.old.table_id ≡ steps.now.table_id) × HasSlot steps.now.table_id slot }
     requires token { (0 < length place.old.me.0) × (place.old.me.1 ≡ (slot, None) ∷ rest place.old.me.1) × (C.token.knows.number ≡ (token_of place.old.me.0).knows.number) }
     requires event { (e : Event) × (what : Seen) × Goes e what (token_of place.old.me.0) slot value C.token }
     ensures seat { (place.new.table_id ≡ place.old.table_id) × (place.new.id ≡ place.old.id) }
@@ -128,7 +130,7 @@ pub fn event<C: AfterEvent, T>(
 
 /// Kinds 3 and 4: the part goes home with the value that the token says.
 pub fn put_back(steps: &Steps, place: &mut Place, slot: usize, value: PartValue)
-    requires table { (place.old.table_id ≡ steps.now.table_id) × (slot < steps.now.table_id.words) × (slot < steps.now.table_id.slots) }
+    requires table { (place.old.table_id ≡ steps.now.table_id) × HasSlot steps.now.table_id slot }
     requires token { (0 < length place.old.me.0) × (place.old.me.1 ≡ (slot, None) ∷ rest place.old.me.1) }
     requires held { let h = (token_of place.old.me.0).held in (h ≡ (slot, value) ∷ drop 1 h) × Outside slot (drop 1 h) }
     ensures seat { (place.new.table_id ≡ place.old.table_id) × (place.new.id ≡ place.old.id) }
@@ -139,7 +141,7 @@ pub fn put_back(steps: &Steps, place: &mut Place, slot: usize, value: PartValue)
 
 /// Kind 3 of the memory, whose history all tokens of the seat then have seen.
 pub fn put_back_seen(steps: &Steps, place: &mut Place, slot: usize, memory: Boxed<Memory>)
-    requires table { (place.old.table_id ≡ steps.now.table_id) × (slot < steps.now.table_id.words) × (slot < steps.now.table_id.slots) }
+    requires table { (place.old.table_id ≡ steps.now.table_id) × HasSlot steps.now.table_id slot }
     requires token { (0 < length place.old.me.0) × (place.old.me.1 ≡ (slot, None) ∷ rest place.old.me.1) × (slot ≡ 0) }
     requires held { let h = (token_of place.old.me.0).held in (h ≡ (slot, PartValue.Memory memory) ∷ drop 1 h) × Outside slot (drop 1 h) }
     ensures seat { (place.new.table_id ≡ place.old.table_id) × (place.new.id ≡ place.old.id) }

@@ -1,7 +1,7 @@
 //! The parts by their kinds.
 ghost use Rattle.std.specs.Prelude.{◌≡◌, ◌≢◌, ◌+◌, ◌<◌, ◌≤◌, ℕ, MatchResult};
 ghost use Rattle.hall_laws.specs.Parts.{slot, lane_slot, IsLaneName};
-ghost use Rattle.hall_laws.specs.Calls.{IsSized, IsOf, Took};
+ghost use Rattle.hall_laws.specs.Calls.{IsSized, HasSlot, IsOf, Took};
 
 use crate::boxed::Boxed;
 use crate::laws::{Place, Steps, take};
@@ -55,7 +55,7 @@ pub fn take_sender(
 ) -> Result<Boxed<SenderEnd>, u64>
     requires { IsSized steps.now.table_id requesters × IsOf steps.now.table_id requesters number place.old × IsLaneName requesters name }
     ensures seat { (place.new.table_id ≡ place.old.table_id) × (place.new.id ≡ place.old.id) }
-    ensures within { (lane_slot name < steps.now.table_id.words) × (lane_slot name < steps.now.table_id.slots) }
+    ensures within { HasSlot steps.now.table_id (lane_slot name) }
     ensures taken { MatchResult result (λ e. Took place.old.me (lane_slot name) (PartValue.Sender e) place.new.me) (λ w. (w ≢ 0) × (place.new.me ≡ place.old.me)) }
 {
     let value = take(steps, place, lane_slot(name), number as u64)?;
@@ -74,7 +74,7 @@ pub fn take_forward(
 ) -> Result<Boxed<ForwardWire>, u64>
     requires { IsSized steps.now.table_id requesters × IsOf steps.now.table_id requesters number place.old × IsLaneName requesters name }
     ensures seat { (place.new.table_id ≡ place.old.table_id) × (place.new.id ≡ place.old.id) }
-    ensures within { (lane_slot name + 1 < steps.now.table_id.words) × (lane_slot name + 1 < steps.now.table_id.slots) }
+    ensures within { HasSlot steps.now.table_id (lane_slot name + 1) }
     ensures taken { MatchResult result (λ e. Took place.old.me (lane_slot name + 1) (PartValue.Forward e) place.new.me) (λ w. (w ≢ 0) × (place.new.me ≡ place.old.me)) }
 {
     let value = take(steps, place, lane_slot(name) + 1, number as u64)?;
@@ -93,7 +93,7 @@ pub fn take_back(
 ) -> Result<Boxed<BackWire>, u64>
     requires { IsSized steps.now.table_id requesters × IsOf steps.now.table_id requesters number place.old × IsLaneName requesters name }
     ensures seat { (place.new.table_id ≡ place.old.table_id) × (place.new.id ≡ place.old.id) }
-    ensures within { (lane_slot name + 2 < steps.now.table_id.words) × (lane_slot name + 2 < steps.now.table_id.slots) }
+    ensures within { HasSlot steps.now.table_id (lane_slot name + 2) }
     ensures taken { MatchResult result (λ e. Took place.old.me (lane_slot name + 2) (PartValue.Back e) place.new.me) (λ w. (w ≢ 0) × (place.new.me ≡ place.old.me)) }
 {
     let value = take(steps, place, lane_slot(name) + 2, number as u64)?;
@@ -112,7 +112,7 @@ pub fn take_receiver(
 ) -> Result<Boxed<ReceiverEnd>, u64>
     requires { IsSized steps.now.table_id requesters × IsOf steps.now.table_id requesters number place.old × IsLaneName requesters name }
     ensures seat { (place.new.table_id ≡ place.old.table_id) × (place.new.id ≡ place.old.id) }
-    ensures within { (lane_slot name + 3 < steps.now.table_id.words) × (lane_slot name + 3 < steps.now.table_id.slots) }
+    ensures within { HasSlot steps.now.table_id (lane_slot name + 3) }
     ensures taken { MatchResult result (λ e. Took place.old.me (lane_slot name + 3) (PartValue.Receiver e) place.new.me) (λ w. (w ≢ 0) × (place.new.me ≡ place.old.me)) }
 {
     let value = take(steps, place, lane_slot(name) + 3, number as u64)?;

@@ -22,7 +22,7 @@ use Rattle.hall_laws.specs.declared.part.PartValue.{PartValue}
 use Rattle.hall_laws.specs.declared.token.Token.{Token}
 use Rattle.hall_laws.specs.declared.token.Start.{Start}
 use Rattle.hall_laws.specs.Parts.{parts_of}
-use Rattle.hall_laws.specs.Standing.{Standing, total, named, serving, one_if_same, token_of}
+use Rattle.hall_laws.specs.Standing.{Standing, word_of, total, named, serving, one_if_same, token_of}
 use Rattle.hall_laws.specs.Standing as hall
 use Rattle.hall_laws.specs.Rule.{Traced, IsSoundTraced, Fits, Kept, HasConfig, newcomer, newcomers, parts}
 use Rattle.hall_parts.specs.Opens.{IsUnused, Left}
@@ -100,7 +100,7 @@ all_seated : (f : Fabric) (words : List ℕ) (c : Config) (m count : ℕ) → Ha
 all_seated f words c m zero config = tt
 all_seated f words c m (suc count) config = ((tt, new_fits f c m config), all_seated f words c (suc m) count config)
 
-pub opens : (f : Fabric) (n m : ℕ) (xs : List (Option PartValue)) (key : Start) → IsSoundFabric f → Belongs (whole_of f) [] → HasConfig f key.config → xs ≡ map Some (parts_of f) → n ≡ length xs → Kept key (opening (replicate n 0) xs (newcomers key.config 0 m))
+pub opens : (f : Fabric) (n m : ℕ) (xs : List (Option PartValue)) (key : Start) → IsSoundFabric f → Belongs (whole_of f) [] → HasConfig f key.config → xs ≡ map Some (parts_of f) → n ≡ word_of (length xs) → Kept key (opening (replicate n 0) xs (newcomers key.config 0 m))
 opens f n m xs key sound belongs config is count =
     let long : length xs ≡ length (parts_of f) = ap length is ∙ length-map (parts_of f) Some in record {
       whole = record { fabric = f; records = [] };
@@ -108,7 +108,7 @@ opens f n m xs key sound belongs config is count =
       wide = omega (arith, length-replicate {A = ℕ} n 0);
       deep = length-map xs some ∙ long;
       at_home = λ k v free at. at_map some xs k (Some v) (ap (λ (l : List (Option PartValue)). get_elem? l k) is ∙ at_map Some (parts_of f) k v at);
-      holder = λ j k e. let z = all_zero n j (suc k) e in absurd (omega arith);
+      holder = λ j k e. let z = all_zero n (word_of j) (suc k) e in absurd (omega arith);
       tokens = λ j us e. ⊎_elim (λ (h : get_elem? [] j ≡ some us). absurd (some-ne-none us (sym h)))
           (λ (h : newcomers key.config 0 m ≡ us). subst (Each (hall.Seated parts IsSoundTraced Fits (record { fabric = f; records = [] }) (replicate n 0))) h (all_seated f (replicate n 0) key.config 0 m config)) (at_snoc [] (newcomers key.config 0 m) us j e);
       apart = λ k. let h = (numbered key.config 0 m k).0 in omega arith;
@@ -127,7 +127,7 @@ same_config : (f : Fabric) (c : Config) → HasConfig f c → config_of f ≡ c
 same_config f c h = λ i. record { requesters = h.requesters i; base = h.base i; size = h.size i; credits = h.credits i; block = h.block i }
 
 -- where each word is 0, the slots are the parts of a sound fabric that the seat leaves
-pub closes : (key : Start) (id : ℕ) (v : List Token) (ws : List ℕ) (xs : List (Option PartValue)) → 0 < length v → Final (Seen (Kept key) id v) ws xs → ((k : ℕ) → k < length ws → get_elem? ws k ≡ some 0) → Left (token_of v).knows xs
+pub closes : (key : Start) (id : ℕ) (v : List Token) (ws : List ℕ) (xs : List (Option PartValue)) → 0 < length v → Final (Seen (Kept key) id v) ws xs → ((k : ℕ) → k < length xs → get_elem? ws (word_of k) ≡ some 0) → Left (token_of v).knows xs
 closes key id [] ws xs some_token (s, (r, at), words, count, home) free = absurd (omega arith)
 closes key id (t ∷ ts) ws xs some_token (s, (r, at), words, count, home) free =
     let p : Traced = r.whole in
@@ -143,6 +143,6 @@ closes key id (t ∷ ts) ws xs some_token (s, (r, at), words, count, home) free 
       same_lists xs (map Some (parts p)) (omega (arith, r.deep, count, length-map {A = PartValue} (parts p) Some))
           (λ k y e. let x : (v : PartValue) × (get_elem? (parts p) k ≡ some v) = there (parts p) k (omega (arith, at_length (map Some (parts p)) k y e, length-map {A = PartValue} (parts p) Some)) in
           let small : k < length (parts p) = at_length (parts p) k x.0 x.1 in
-          let zero_word : get_elem? s.words k ≡ some 0 = ap (λ (l : List ℕ). get_elem? l k) words ∙ free k (omega (arith, r.wide, ap length words)) in
+          let zero_word : get_elem? s.words (word_of k) ≡ some 0 = ap (λ (l : List ℕ). get_elem? l (word_of k)) words ∙ free k (omega (arith, r.deep, count)) in
           home k (Some x.0) (r.at_home k x.0 zero_word x.1) ∙ (sym (at_map Some (parts p) k x.0 x.1) ∙ e)),
     )

@@ -11,7 +11,7 @@ ghost use Rattle.fabric_core.specs.Steps.{HasLanes};
 ghost use Rattle.hall_laws.specs.Calls.{IsSized};
 ghost use Rattle.hall_parts.specs.Opens.{Leaves};
 ghost use Rattle.hall_laws.specs.Parts.{parts_of, part_slot};
-ghost use Rattle.hall_laws.specs.Standing.{token_of};
+ghost use Rattle.hall_laws.specs.Standing.{word_of, token_of};
 ghost use Rattle.hall_parts.specs.Closes.{IsEmptiedTo, PartAt, EndsAt, StationFrom, StationsAt};
 
 use crate::opening::{Board, Shelves};
@@ -19,7 +19,7 @@ use atomic_table::Closed;
 use fabric_core::{Config, Fabric, LaneName, LaneParts, Parts};
 use hall_laws::laws::Place;
 use hall_laws::part::{Part, PartValue};
-use hall_laws::slots::each_part_has_its_slot;
+use hall_laws::slots::{WORDS_APART, each_part_has_its_slot};
 use std::alloc::Global;
 
 pub type Slots = Closed<Option<PartValue>, Global>;
@@ -139,11 +139,11 @@ fn discard(mut closed: Slots)
 }
 
 fn first_taken(closed: &Slots, count: usize) -> Option<(usize, u64)>
-    requires { IsFull closed.now.words × (count ≡ slots_len closed.now.words) }
-    ensures { MatchOption result ((k : ℕ) → k < count → get_elem? (slots_items closed.now.words) k ≡ some 0) (λ f. (f.0 < count) × (f.1 ≢ 0) × (get_elem? (slots_items closed.now.words) f.0 ≡ some f.1)) }
+    requires { IsFull closed.now.words × (slots_len closed.now.words ≡ word_of count) × (count ≤ 72) }
+    ensures { MatchOption result ((k : ℕ) → k < count → get_elem? (slots_items closed.now.words) (word_of k) ≡ some 0) (λ f. (f.0 < count) × (f.1 ≢ 0) × (get_elem? (slots_items closed.now.words) (word_of f.0) ≡ some f.1)) }
 {
     for k in 0..count {
-        let word = closed.word(k);
+        let word = closed.word(WORDS_APART * k);
         if word != 0 {
             return Some((k, word));
         }
@@ -196,7 +196,7 @@ pub fn close(
     ensures closed { IfOk result (λ f. Leaves (token_of place.me.0).knows f) }
     ensures held { IfErr result (λ e. e.word ≢ 0) }
 {
-    let count = board.word_count();
+    let count = board.slot_count();
     let closed = board.close_with(place);
     if let Some((slot, word)) = first_taken(&closed, count) {
         discard(closed);

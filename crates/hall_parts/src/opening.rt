@@ -13,6 +13,7 @@ use fabric_laws::laws::{quiet_is_all_acted, the_trace_belongs};
 use hall_laws::boxed::Boxed;
 use hall_laws::laws::{FabricRule, Place};
 use hall_laws::part::PartValue;
+use hall_laws::slots::WORDS_APART;
 use hall_laws::token::{Start, Token};
 use requester_core::Requester;
 use std::alloc::{AllocError, Global};
@@ -147,7 +148,7 @@ fn config_of(parts: &Parts) -> Config
     }
 }
 
-/// A word for each part, of which none is taken.
+/// So many words, none of which names a seat.
 fn free_words(count: usize, alloc: Global) -> Result<Vec<u64>, AllocError>
     ensures { IfOk result (λ v. v.items ≡ replicate count 0) }
 {
@@ -176,7 +177,7 @@ pub fn open(fabric: Fabric, work: usize, alloc: Global) -> Result<Opened, AllocE
     let parts = fabric.into_parts();
     let config = config_of(&parts);
     let (slots, shelves) = slots_of(parts, alloc)?;
-    let words = free_words(slots.len(), alloc)?;
+    let words = free_words(WORDS_APART * slots.len(), alloc)?;
     let about = Start {
         config,
         seats: u64::from(config.requesters) + work as u64,

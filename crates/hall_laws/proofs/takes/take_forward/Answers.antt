@@ -6,7 +6,7 @@ use Rattle.hall_laws.proofs.takes.take_forward.Goals as goal
 
 pub take-requires-clause-table : goal.take-requires-clause-table
 take-requires-clause-table c = let z = c.requires.0 in let small = in_table c.args.requesters c.args.name 1 c.requires.2 (omega arith) in
-    let is = c.lane_slot.ensures in (c.requires.1.0, omega (arith, z.0, small, is), omega (arith, z.1, small, is))
+    let is = c.lane_slot.ensures in (c.requires.1.0, (omega (arith, z.0, small, is), omega (arith, z.1, small, is), omega (arith, z.1, z.2)))
 
 pub unreachable-requires : goal.unreachable-requires
 unreachable-requires c =
@@ -14,4 +14,4 @@ unreachable-requires c =
     let e = forward_there c.args.place.now.me.0 _ c.in_ok-value.value c.in_ok-value.ensures.taken.1 c.args.name named (omega (arith, c.lane_slot.ensures)) in c.in_default.not-Forward e.0 e.1
 
 pub returns-clause-within : goal.returns-clause-within
-returns-clause-within c = let z = c.requires.0 in let small = in_table c.args.requesters c.args.name 1 c.requires.2 (omega arith) in (omega (arith, z.0, small), omega (arith, z.1, small))
+returns-clause-within c = let z = c.requires.0 in let small = in_table c.args.requesters c.args.name 1 c.requires.2 (omega arith) in (omega (arith, z.0, small), omega (arith, z.1, small), omega (arith, z.1, z.2))

@@ -1,8 +1,9 @@
-use Rattle.std.proofs.Common.{rules, ◌≡◌, ◌+◌, ℕ, List, [], length, sym, ◌∙◌, subst}
+use Rattle.std.proofs.Common.{rules, ◌≡◌, ◌+◌, ◌*◌, ℕ, List, [], length, sym, ap, ◌∙◌, subst}
 use Rattle.atomic_table.specs.Table.{opening}
 use Rattle.fabric_laws.specs.Fabric.{Fabric, whole_of}
 use Rattle.fabric_laws.specs.Trace.{Belongs}
 use Rattle.fabric_core.specs.Kept.{IsSoundFabric}
+use Rattle.hall_laws.specs.Standing.{word_of}
 use Rattle.hall_laws.specs.Rule.{Kept, HasConfig, newcomers}
 use Rattle.hall_laws.specs.declared.token.Start.{Start}
 use Rattle.hall_parts.proofs.Opened.{opens, unused_is_new}
@@ -20,4 +21,4 @@ new-requires c =
     let belongs : Belongs (whole_of f) [] = c.the_trace_belongs.ensures.new (whole_of f) (unused_is_new (record { acted = c.quiet_is_all_acted.ensures.acted; answered = c.quiet_is_all_acted.ensures.answered }) f sound c.requires.0) in
     let len : c.len.result ≡ length slots = search rules in
     let F : List ℕ → Type 0 = λ ws. Kept key (opening ws slots (newcomers key.config 0 seats)) in
-    subst F (sym (c.as_slice.ensures.value ∙ c.in_ok-words.ensures)) (opens f c.len.result seats slots key sound belongs config (search rules) len)
+    subst F (sym (c.as_slice.ensures.value ∙ c.in_ok-words.ensures)) (opens f (8 * c.len.result) seats slots key sound belongs config (search rules) (ap word_of len))
