@@ -1,119 +1,137 @@
 //! The lines of events.
-ghost use Rattle.std.specs.Prelude.{◌≡◌};
-ghost use Rattle.trace_text.specs.Words.{words_behind, ended};
+ghost use Rattle.std.specs.Prelude.{◌≡◌, true, false, MatchOption, option_map};
+ghost use Rattle.trace_text.specs.Words.{words_behind, has_ended};
 ghost use Rattle.script_text.specs.Forms as forms;
 
-use crate::fields::{count, fate, kind, lane, octet};
+use crate::fields::{count, fate, is_name, kind, lane, octet};
+use crate::line::Line;
 use fabric_core::Event;
 use trace_text::{is_ended, op_behind};
 
-/// The event, if the line ends here.
-fn alone(event: Event, rest: Option<&[u8]>) -> Option<Event>
-    ensures { result ≡ ended event (words_behind rest.entry) }
+/// Some where the line ends here.
+fn end(rest: Option<&[u8]>) -> Option<()>
+    ensures { MatchOption result (has_ended (words_behind rest.entry) ≡ false) (λ _. has_ended (words_behind rest.entry) ≡ true) }
 {
-    if is_ended(rest) { Some(event) } else { None }
+    if is_ended(rest) { Some(()) } else { None }
 }
 
-fn submit(rest: Option<&[u8]>) -> Option<Event>
-    ensures { result ≡ forms.submit_of (words_behind rest.entry) }
+fn submit(rest: Option<&[u8]>) -> Option<Line>
+    ensures { result ≡ option_map Line.Event (forms.submit_of (words_behind rest.entry)) }
 {
     let (port, rest) = octet(rest)?;
     let op = op_behind(rest)?;
-    Some(Event::Submit(port, op))
+    Some(Line::Event(Event::Submit(port, op)))
 }
 
-fn transmit(rest: Option<&[u8]>) -> Option<Event>
-    ensures { result ≡ forms.transmit_of (words_behind rest.entry) }
+fn transmit(rest: Option<&[u8]>) -> Option<Line>
+    ensures { result ≡ option_map Line.Event (forms.transmit_of (words_behind rest.entry)) }
 {
     let (lane, rest) = lane(rest)?;
-    alone(Event::Transmit(lane), rest)
+    end(rest)?;
+    Some(Line::Event(Event::Transmit(lane)))
 }
 
-fn deliver(rest: Option<&[u8]>) -> Option<Event>
-    ensures { result ≡ forms.deliver_of (words_behind rest.entry) }
+fn deliver(rest: Option<&[u8]>) -> Option<Line>
+    ensures { result ≡ option_map Line.Event (forms.deliver_of (words_behind rest.entry)) }
 {
     let (lane, rest) = lane(rest)?;
     let (fate, rest) = fate(rest)?;
-    alone(Event::Deliver(lane, fate), rest)
+    end(rest)?;
+    Some(Line::Event(Event::Deliver(lane, fate)))
 }
 
-fn dllp(rest: Option<&[u8]>) -> Option<Event>
-    ensures { result ≡ forms.dllp_of (words_behind rest.entry) }
+fn dllp(rest: Option<&[u8]>) -> Option<Line>
+    ensures { result ≡ option_map Line.Event (forms.dllp_of (words_behind rest.entry)) }
 {
     let (lane, rest) = lane(rest)?;
     let (kind, rest) = kind(rest)?;
-    alone(Event::SendDllp(lane, kind), rest)
+    end(rest)?;
+    Some(Line::Event(Event::SendDllp(lane, kind)))
 }
 
-fn deliver_dllp(rest: Option<&[u8]>) -> Option<Event>
-    ensures { result ≡ forms.deliver_dllp_of (words_behind rest.entry) }
+fn deliver_dllp(rest: Option<&[u8]>) -> Option<Line>
+    ensures { result ≡ option_map Line.Event (forms.deliver_dllp_of (words_behind rest.entry)) }
 {
     let (lane, rest) = lane(rest)?;
     let (fate, rest) = fate(rest)?;
-    alone(Event::DeliverDllp(lane, fate), rest)
+    end(rest)?;
+    Some(Line::Event(Event::DeliverDllp(lane, fate)))
 }
 
-fn timer(rest: Option<&[u8]>) -> Option<Event>
-    ensures { result ≡ forms.timer_of (words_behind rest.entry) }
+fn timer(rest: Option<&[u8]>) -> Option<Line>
+    ensures { result ≡ option_map Line.Event (forms.timer_of (words_behind rest.entry)) }
 {
     let (lane, rest) = lane(rest)?;
-    alone(Event::Timer(lane), rest)
+    end(rest)?;
+    Some(Line::Event(Event::Timer(lane)))
 }
 
-fn retrained(rest: Option<&[u8]>) -> Option<Event>
-    ensures { result ≡ forms.retrained_of (words_behind rest.entry) }
+fn retrained(rest: Option<&[u8]>) -> Option<Line>
+    ensures { result ≡ option_map Line.Event (forms.retrained_of (words_behind rest.entry)) }
 {
     let (lane, rest) = lane(rest)?;
-    alone(Event::Retrained(lane), rest)
+    end(rest)?;
+    Some(Line::Event(Event::Retrained(lane)))
 }
 
-fn forward(rest: Option<&[u8]>) -> Option<Event>
-    ensures { result ≡ forms.forward_of (words_behind rest.entry) }
+fn forward(rest: Option<&[u8]>) -> Option<Line>
+    ensures { result ≡ option_map Line.Event (forms.forward_of (words_behind rest.entry)) }
 {
     let (lane, rest) = lane(rest)?;
     let (place, rest) = count(rest)?;
-    alone(Event::Forward(lane, place), rest)
+    end(rest)?;
+    Some(Line::Event(Event::Forward(lane, place)))
 }
 
-fn serve(rest: Option<&[u8]>) -> Option<Event>
-    ensures { result ≡ forms.serve_of (words_behind rest.entry) }
+fn serve(rest: Option<&[u8]>) -> Option<Line>
+    ensures { result ≡ option_map Line.Event (forms.serve_of (words_behind rest.entry)) }
 {
     let (place, rest) = count(rest)?;
-    alone(Event::Serve(place), rest)
+    end(rest)?;
+    Some(Line::Event(Event::Serve(place)))
 }
 
-fn collect(rest: Option<&[u8]>) -> Option<Event>
-    ensures { result ≡ forms.collect_of (words_behind rest.entry) }
+fn collect(rest: Option<&[u8]>) -> Option<Line>
+    ensures { result ≡ option_map Line.Event (forms.collect_of (words_behind rest.entry)) }
 {
     let (port, rest) = octet(rest)?;
-    alone(Event::Collect(port), rest)
+    end(rest)?;
+    Some(Line::Event(Event::Collect(port)))
 }
 
 /// The event of that kind that the rest of a line spells.
-pub(crate) fn event_by(kind: &[u8], rest: Option<&[u8]>) -> Option<Event>
-    ensures { result ≡ forms.event_by kind.now (words_behind rest.entry) }
+pub(crate) fn event_by(kind: &[u8], rest: Option<&[u8]>) -> Option<Line>
+    ensures { result ≡ option_map Line.Event (forms.event_by kind.now (words_behind rest.entry)) }
 {
-    if kind == b"submit".as_slice() {
-        submit(rest)
-    } else if kind == b"transmit".as_slice() {
-        transmit(rest)
-    } else if kind == b"deliver".as_slice() {
-        deliver(rest)
-    } else if kind == b"dllp".as_slice() {
-        dllp(rest)
-    } else if kind == b"deliver-dllp".as_slice() {
-        deliver_dllp(rest)
-    } else if kind == b"timer".as_slice() {
-        timer(rest)
-    } else if kind == b"retrained".as_slice() {
-        retrained(rest)
-    } else if kind == b"forward".as_slice() {
-        forward(rest)
-    } else if kind == b"serve".as_slice() {
-        serve(rest)
-    } else if kind == b"collect".as_slice() {
-        collect(rest)
-    } else {
-        None
+    if is_name(kind, b"submit") {
+        return submit(rest);
     }
+    if is_name(kind, b"transmit") {
+        return transmit(rest);
+    }
+    if is_name(kind, b"deliver") {
+        return deliver(rest);
+    }
+    if is_name(kind, b"dllp") {
+        return dllp(rest);
+    }
+    if is_name(kind, b"deliver-dllp") {
+        return deliver_dllp(rest);
+    }
+    if is_name(kind, b"timer") {
+        return timer(rest);
+    }
+    if is_name(kind, b"retrained") {
+        return retrained(rest);
+    }
+    if is_name(kind, b"forward") {
+        return forward(rest);
+    }
+    if is_name(kind, b"serve") {
+        return serve(rest);
+    }
+    if is_name(kind, b"collect") {
+        return collect(rest);
+    }
+    None
 }

@@ -1,5 +1,5 @@
 //! The fields of a script's line.
-ghost use Rattle.std.specs.Prelude.{◌≡◌, [], ◌∷◌, option_map, MatchOption};
+ghost use Rattle.std.specs.Prelude.{◌≡◌, [], ◌∷◌, option_map, MatchOption, bytes_eq};
 ghost use Rattle.trace_text.specs.Words.{words_behind, first_field};
 ghost use Rattle.script_text.specs.Forms as forms;
 
@@ -7,6 +7,19 @@ use dllp_core::Class;
 use fabric_core::LaneName;
 use lane_core::{DllpKind, Fate};
 use trace_text::{cut, number};
+
+/// Whether the word is that name.
+pub(crate) fn is_name(word: &[u8], name: &[u8]) -> bool
+    ensures { result ≡ bytes_eq word.now name.now }
+{
+    let [first, word @ ..] = word else {
+        return name.is_empty();
+    };
+    let [wanted, name @ ..] = name else {
+        return false;
+    };
+    *first == *wanted && is_name(word, name)
+}
 
 /// The next word, and what is behind it; none at the end of the line.
 pub(crate) fn next(rest: Option<&[u8]>) -> Option<(&[u8], Option<&[u8]>)>
@@ -50,10 +63,10 @@ fn port(digits: &[u8]) -> Option<u8>
 fn lane_in(word: &[u8]) -> Option<LaneName>
     ensures { result ≡ forms.lane word.now }
 {
-    if word == b"in".as_slice() {
+    if is_name(word, b"in") {
         return Some(LaneName::Inward);
     }
-    if word == b"out".as_slice() {
+    if is_name(word, b"out") {
         return Some(LaneName::Outward);
     }
     match word {
@@ -73,11 +86,11 @@ pub(crate) fn lane(rest: Option<&[u8]>) -> Option<(LaneName, Option<&[u8]>)>
 fn fate_in(word: &[u8]) -> Option<Fate>
     ensures { result ≡ forms.fate word.now }
 {
-    if word == b"good".as_slice() {
+    if is_name(word, b"good") {
         Some(Fate::Good)
-    } else if word == b"failed".as_slice() {
+    } else if is_name(word, b"failed") {
         Some(Fate::Failed)
-    } else if word == b"lost".as_slice() {
+    } else if is_name(word, b"lost") {
         Some(Fate::Lost)
     } else {
         None
@@ -94,13 +107,13 @@ pub(crate) fn fate(rest: Option<&[u8]>) -> Option<(Fate, Option<&[u8]>)>
 fn kind_in(word: &[u8]) -> Option<DllpKind>
     ensures { result ≡ forms.kind word.now }
 {
-    if word == b"ack".as_slice() {
+    if is_name(word, b"ack") {
         Some(DllpKind::Answer)
-    } else if word == b"p".as_slice() {
+    } else if is_name(word, b"p") {
         Some(DllpKind::Update(Class::Posted))
-    } else if word == b"np".as_slice() {
+    } else if is_name(word, b"np") {
         Some(DllpKind::Update(Class::NonPosted))
-    } else if word == b"cpl".as_slice() {
+    } else if is_name(word, b"cpl") {
         Some(DllpKind::Update(Class::Completion))
     } else {
         None

@@ -4,7 +4,7 @@ ghost use Rattle.trace_text.specs.Words.{words, words_behind};
 ghost use Rattle.script_text.specs.Forms as forms;
 
 use crate::events::event_by;
-use crate::fields::{count, next, octet, short};
+use crate::fields::{count, is_name, next, octet, short};
 use fabric_core::{Config, Event};
 use fc_credit::LaneCredits;
 use trace_text::{cut, is_ended, number};
@@ -102,11 +102,11 @@ pub fn read_line(text: &[u8]) -> Option<Line>
     ensures { result ≡ forms.line_of (words text.now) }
 {
     let (kind, rest) = cut(text);
-    if kind == b"fabric".as_slice() {
+    if is_name(kind, b"fabric") {
         return fabric(rest);
     }
-    if kind == b"settle".as_slice() {
+    if is_name(kind, b"settle") {
         return settle(rest);
     }
-    Some(Line::Event(event_by(kind, rest)?))
+    event_by(kind, rest)
 }

@@ -6,6 +6,7 @@
 //! result behind its line; [`run_step_with_reasons`] also tells why it answers a fault or a refusal, for people.
 #![tactic(auto)]
 
+mod answering;
 mod explained;
 pub mod laws;
 mod options;

@@ -10,6 +10,7 @@ ghost use Rattle.line_engine.specs.Run.{IsAnswer, IsWhole, IsPart};
 ghost use Rattle.step_engine.specs.Step as spec;
 ghost use Rattle.step_engine.specs.Step.{IsRecorded};
 
+use crate::answering::{ending, put_shown};
 use crate::explained::run_step_with_reasons;
 use crate::options::StepOptions;
 use arrayvec::ArrayString;
@@ -27,33 +28,6 @@ use std::io::{Read, Write, sink};
 use std::marker::Model;
 use std::mem;
 use trace_engine::tell_trace;
-use trace_text::write_decimal;
-
-/// The beginning of the line that ends a run.
-fn ending(kind: &str, line: u64) -> ArrayString<512>
-    requires { length kind.now ≤ 8 }
-    ensures text { result.bytes ≡ kind.now ++ (decimal line ++ 32 ∷ []) }
-    ensures len { array_string_len result ≤ 29 }
-{
-    let mut text = ArrayString::new();
-    text.push_str(kind);
-    write_decimal(line, &mut text);
-    text.push_str(" ");
-    text
-}
-
-/// Adds a line of the script, and behind it the text.
-fn put_behind(line: &[u8], text: &[u8], out: &mut Vec<u8>, alloc: Global) -> Result<(), AllocError>
-    ensures ok { OnOk result (out.new.items ≡ out.old.items ++ ((line.now ++ codes " -> ") ++ text.now)) }
-    ensures err { OnErr result (out.new.items ≡ out.old.items) }
-{
-    let mut whole = Vec::new(alloc);
-    whole.extend_from_slice(line)?;
-    whole.extend_from_slice(" -> ".as_bytes())?;
-    whole.extend_from_slice(text)?;
-    out.extend_from_slice(whole.as_slice())?;
-    Ok(())
-}
 
 /// A new fabric.
 fn make(config: Config, alloc: Global) -> Result<Fabric, ConfigFault>
@@ -97,6 +71,8 @@ pub(crate) struct Stepper {
     has_ended: bool,
     /// Why the fabric refused the event that was refused last, as long as nobody took it.
     refusal: Option<Refusal>,
+    /// Room for the text that answers a line.
+    text: ArrayString<512>,
 }
 
 impl Model for Stepper {
@@ -119,6 +95,7 @@ impl Stepper {
             lines: 0,
             has_ended: false,
             refusal: None,
+            text: ArrayString::new(),
         }
     }
 
@@ -202,13 +179,7 @@ impl Stepper {
         ensures ok { OnOk result (out.new.items ≡ out.old.items ++ spec.shown self.now line.now text.old.bytes) }
         ensures err { OnErr result (out.new.items ≡ out.old.items) }
     {
-        text.push_str("\n");
-        if self.options.echoes {
-            put_behind(line, text.as_bytes(), out, self.alloc)?;
-        } else {
-            out.extend_from_slice(text.as_bytes())?;
-        }
-        Ok(())
+        put_shown(self.options.echoes, line, text, out, self.alloc)
     }
 
     /// Goes on behind a refusal, which changes nothing.
@@ -301,21 +272,28 @@ impl Stepper {
         ensures told { IfOk result (λ told. told ≡ false) }
         ensures err { OnErr result (out.new.items ≡ out.old.items) }
     {
-        let mut text = ArrayString::new();
-        write_seen(event, seen, &mut text);
-        self.put(line, &mut text, out)?;
+        self.text.clear();
+        write_seen(event, seen, &mut self.text);
+        put_shown(self.options.echoes, line, &mut self.text, out, self.alloc)?;
         self.count();
         Ok(false)
     }
 
-    /// The trace grows by what an event adds to it.
-    fn keep(&mut self, told: Option<Record>) -> Result<bool, AllocError>
-        ensures state { OnOk result (self.new ≡ spec.kept self.old (option_to_list told)) }
+    /// The event has no record.
+    fn go_on(&mut self) -> Result<bool, AllocError>
+        ensures state { OnOk result (self.new ≡ spec.kept self.old []) }
         ensures told { IfOk result (λ is_fault. is_fault ≡ false) }
     {
-        if let Some(record) = told {
-            self.records.push(record)?;
-        }
+        self.count();
+        Ok(false)
+    }
+
+    /// The trace grows by the record of the event.
+    fn keep(&mut self, last: Record) -> Result<bool, AllocError>
+        ensures state { OnOk result (self.new ≡ spec.kept self.old (last ∷ [])) }
+        ensures told { IfOk result (λ is_fault. is_fault ≡ false) }
+    {
+        self.records.push(last)?;
         self.count();
         Ok(false)
     }
@@ -330,13 +308,15 @@ impl Stepper {
         };
         if self.options.is_traced {
             match happen_recorded(fabric, event) {
-                Ok(told) => self.keep(told),
+                Ok(None) => self.go_on(),
+                Ok(Some(record)) => self.keep(record),
                 Err(refusal) => self.refused(line, refusal, out),
             }
         } else {
-            match happen(fabric, event) {
-                Ok(seen) => self.tell(line, event, &seen, out),
-                Err(refusal) => self.refused(line, refusal, out),
+            let seen = happen(fabric, event);
+            match &seen {
+                Ok(seen) => self.tell(line, event, seen, out),
+                Err(refusal) => self.refused(line, *refusal, out),
             }
         }
     }
@@ -415,10 +395,11 @@ impl Responder for Stepper {
             self.count();
             return Ok(false);
         }
-        match read_line(line) {
+        let asked = read_line(line);
+        match &asked {
             None => self.no_line(out),
-            Some(Line::Fabric(config)) => self.make(config, out),
-            Some(Line::Event(event)) => self.happen(line, &event, out),
+            Some(Line::Fabric(config)) => self.make(*config, out),
+            Some(Line::Event(event)) => self.happen(line, event, out),
             Some(Line::Settle) => self.settle(line, out),
         }
     }
