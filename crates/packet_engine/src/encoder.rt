@@ -6,8 +6,8 @@ ghost use Rattle.packet_engine.specs.Lines.{out_encode, encode_reading};
 
 use crate::telling::{tell, tell_bytes, tell_text_fault};
 use line_engine::{EngineFault, Responder, run};
+use line_reasons::Reasoned;
 use packet_text::read_packet;
-use reasons::Reasoned;
 use std::alloc::{AllocError, Global};
 use std::io::{Read, Write, sink};
 use std::marker::Model;

@@ -1,22 +1,7 @@
--- What is told of reasons on the error stream.
-use Rattle.std.specs.Prelude.{ℕ, ◌+◌, ◌-◌, ◌^◌, ◌==◌, min, Bool, true, if◌then◌else◌, List, [], ◌∷◌, ◌++◌, codes, slice_get, Option, Some, None, unwrap_or}
-use Rattle.std.specs.Fmt.{decimal}
-use Rattle.std.specs.Io.KnownBytes.{Appends, Keeps}
+-- Of which line of a trace's text a reason is told, and when.
+use Rattle.std.specs.Prelude.{ℕ, ◌+◌, ◌-◌, ◌^◌, ◌==◌, min, Bool, true, if◌then◌else◌, List, [], ◌∷◌, ◌++◌, slice_get, Option, Some, None, unwrap_or}
 use Rattle.history_check.specs.declared.flaws.FlawKind.{FlawKind}
-use Rattle.history_check.specs.declared.flaws.FlawKind.TheVariants as flaws
-
--- the line that tells why something is wrong on that line of a text
-abbrev pub reason_line : ℕ → List ℕ → List ℕ
-reason_line n why = ((codes "pciex: line " ++ decimal n) ++ why) ++ 10 ∷ []
-
--- a reason that lies on that line was written
-abbrev pub IsToldAt : ℕ → Option (List ℕ) → Option (List ℕ) → Type 0
-IsToldAt n old new = (why : List ℕ) × Appends old new (reason_line n why)
-
--- a reason was written where there is a fault, and lies on the fault's line; else nothing
-abbrev pub IsTold : Option ℕ → Option (List ℕ) → Option (List ℕ) → Type 0
-IsTold None old new = Keeps old new
-IsTold (Some n) old new = IsToldAt n old new
+use Rattle.flaw_places.specs.Places.{is_of_entry}
 
 -- the first fault: one that is known, or else one that is found
 abbrev pub first_of : Option ℕ → Option ℕ → Option ℕ
@@ -31,10 +16,10 @@ news_of None found = found
 -- the lines of a text so far: how many, and the numbers of those that aren't skipped, from 1
 pub record Numbered : Type 0 where
   pub lines : ℕ
-  pub told : List ℕ
+  pub unskipped : List ℕ
 
 abbrev pub nothing_numbered : Numbered
-nothing_numbered = record { lines = 0; told = [] }
+nothing_numbered = record { lines = 0; unskipped = [] }
 
 -- an empty line and one that begins with `#` are skipped
 abbrev pub is_skipped : List ℕ → Bool
@@ -46,11 +31,11 @@ abbrev pub next_line : Numbered → ℕ
 next_line s = min (s.lines + 1) (2 ^ 64 - 1)
 
 abbrev pub numbered : Numbered → List ℕ → Numbered
-numbered s line = record { lines = next_line s; told = if is_skipped line then s.told else s.told ++ next_line s ∷ [] }
+numbered s line = record { lines = next_line s; unskipped = if is_skipped line then s.unskipped else s.unskipped ++ next_line s ∷ [] }
 
 -- the number of the nth line that isn't skipped, from 0
 abbrev pub number_at : Numbered → ℕ → ℕ
-number_at s n = unwrap_or (slice_get s.told n) 0
+number_at s n = unwrap_or (slice_get s.unskipped n) 0
 
 -- places are numbers of 64 bits
 abbrev pub plus : ℕ → ℕ → ℕ
@@ -65,11 +50,8 @@ abbrev pub entry_line : Numbered → ℕ → ℕ → ℕ
 entry_line s records index = number_at s (plus index (plus records 3))
 
 -- the place of a flaw is that of an entry, or of a record
-abbrev pub flaw_line : Numbered → ℕ → FlawKind → ℕ → ℕ
-flaw_line s records flaws.Stranger place = entry_line s records place
-flaw_line s records flaws.Twice place = entry_line s records place
-flaw_line s records flaws.Order place = entry_line s records place
-flaw_line s records _ place = record_line s place
+abbrev pub line_of_flaw : Numbered → ℕ → FlawKind → ℕ → ℕ
+line_of_flaw s records kind place = if is_of_entry kind then entry_line s records place else record_line s place
 
 -- of a text that is read: the line whose fault was told, and what the error stream holds
 pub record Telling : Type 0 where

@@ -1,8 +1,9 @@
 //! Why a history doesn't explain a trace.
-use crate::telling::Reason;
 use crate::trace_lines::TraceLines;
 use arrayvec::ArrayString;
+use flaw_places::{flawed_request, is_of_entry, request_of_record};
 use history_check::{Flaw, FlawKind, Record, Trace};
+use line_reasons::Reason;
 use seq_memory::{Entry, Reply, perform};
 use std::alloc::{AllocError, Global};
 use tlp_core::Op;
@@ -19,47 +20,19 @@ fn is_of(entry: &Entry, request: Request) -> bool {
     entry.requester == request.requester && entry.number == request.number
 }
 
+/// The record is of the request.
+fn names(record: &Record, request: Request) -> bool {
+    request_of_record(Some(record)) == Some((request.requester, request.number))
+}
+
 /// The record submits the request.
 fn submits(record: &Record, request: Request) -> bool {
-    match record {
-        Record::Sub {
-            requester,
-            number,
-            ..
-        } => *requester == request.requester && *number == request.number,
-        Record::Ans { .. } => false,
-    }
+    matches!(record, Record::Sub { .. }) && names(record, request)
 }
 
 /// The record answers the request.
 fn answers(record: &Record, request: Request) -> bool {
-    match record {
-        Record::Sub { .. } => false,
-        Record::Ans {
-            requester,
-            number,
-            ..
-        } => *requester == request.requester && *number == request.number,
-    }
-}
-
-/// The request of a record.
-fn request_of(record: &Record) -> Request {
-    match record {
-        Record::Sub {
-            requester,
-            number,
-            ..
-        }
-        | Record::Ans {
-            requester,
-            number,
-            ..
-        } => Request {
-            requester: *requester,
-            number: *number,
-        },
-    }
+    matches!(record, Record::Ans { .. }) && names(record, request)
 }
 
 /// The length of the history at the record.
@@ -368,31 +341,28 @@ fn put_stale(alloc: Global, case: &Case<'_>, request: Request, reason: &mut Reas
     }
 }
 
-/// What is wrong with an entry.
-fn put_of_entry(
-    case: &Case<'_>,
-    kind: FlawKind,
-    index: usize,
-    request: Request,
-    reason: &mut Reason,
-) {
-    match kind {
+/// Adds what is wrong with the entry at the flaw's place.
+fn put_of_entry(case: &Case<'_>, flaw: Flaw, request: Request, reason: &mut Reason) {
+    match flaw.kind {
         FlawKind::Stranger => put_stranger(case, request, reason),
         FlawKind::Twice => put_twice(case, request, reason),
-        _ => put_order(case, index, request, reason),
+        _ => put_order(case, flaw.place, request, reason),
     }
 }
 
-/// What is wrong with an answer.
-fn put_of_answer(
+/// Adds what is wrong with the record at the flaw's place.
+fn put_of_record(
     alloc: Global,
     case: &Case<'_>,
-    kind: FlawKind,
-    record: &Record,
+    flaw: Flaw,
+    request: Request,
     reason: &mut Reason,
 ) {
-    let request = request_of(record);
-    match kind {
+    let Some(record) = case.records.get(flaw.place) else {
+        return;
+    };
+    match flaw.kind {
+        FlawKind::Numbering => put_numbering(case, flaw.place, request, reason),
         FlawKind::Unasked => put_unasked(case, request, reason),
         FlawKind::Again => put_again(case, request, reason),
         FlawKind::Absent => put_absent(request, reason),
@@ -404,30 +374,6 @@ fn put_of_answer(
             }
         }
         _ => put_stale(alloc, case, request, reason),
-    }
-}
-
-/// Adds what is wrong with the entry at the flaw's place.
-fn put_entry(case: &Case<'_>, flaw: Flaw, reason: &mut Reason) {
-    let Some(entry) = case.history.get(flaw.place) else {
-        return;
-    };
-    let request = Request {
-        requester: entry.requester,
-        number: entry.number,
-    };
-    put_of_entry(case, flaw.kind, flaw.place, request, reason);
-}
-
-/// Adds what is wrong with the record at the flaw's place.
-fn put_record(alloc: Global, case: &Case<'_>, flaw: Flaw, reason: &mut Reason) {
-    let Some(record) = case.records.get(flaw.place) else {
-        return;
-    };
-    if flaw.kind == FlawKind::Numbering {
-        put_numbering(case, flaw.place, request_of(record), reason);
-    } else {
-        put_of_answer(alloc, case, flaw.kind, record, reason);
     }
 }
 
@@ -446,11 +392,13 @@ pub(crate) fn flaw_reason(
         lines,
     };
     let mut reason = Reason::new();
-    match flaw.kind {
-        FlawKind::Stranger | FlawKind::Twice | FlawKind::Order => {
-            put_entry(&case, flaw, &mut reason);
+    if let Some((requester, number)) = flawed_request(case.records, history, Some(flaw)) {
+        let request = Request { requester, number };
+        if is_of_entry(flaw.kind) {
+            put_of_entry(&case, flaw, request, &mut reason);
+        } else {
+            put_of_record(alloc, &case, flaw, request, &mut reason);
         }
-        _ => put_record(alloc, &case, flaw, &mut reason),
     }
     reason
 }

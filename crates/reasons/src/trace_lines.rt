@@ -10,7 +10,7 @@ use std::marker::Model;
 pub struct TraceLines {
     lines: u64,
     /// The numbers of those that aren't skipped.
-    told: Vec<u64>,
+    unskipped: Vec<u64>,
 }
 
 impl Model for TraceLines {
@@ -18,16 +18,17 @@ impl Model for TraceLines {
 
     ghost Value = { Numbered };
 
-    ghost view = { λ t. record { lines = t.lines; told = t.told.items } };
+    ghost view = { λ t. record { lines = t.lines; unskipped = t.unskipped.items } };
 }
 
 impl TraceLines {
+    /// No line so far.
     pub fn new(alloc: Global) -> TraceLines
         ensures { result ≡ nothing_numbered }
     {
         TraceLines {
             lines: 0,
-            told: Vec::new(alloc),
+            unskipped: Vec::new(alloc),
         }
     }
 
@@ -38,7 +39,7 @@ impl TraceLines {
     {
         let number = self.lines.saturating_add(1);
         if !line.is_empty() && line[0] != b'#' {
-            self.told.push(number)?;
+            self.unskipped.push(number)?;
         }
         self.lines = number;
         Ok(())
@@ -49,7 +50,7 @@ impl TraceLines {
     fn line(&self, nth: usize) -> u64
         ensures { result ≡ number_at self.now nth }
     {
-        match self.told.get(nth) {
+        match self.unskipped.get(nth) {
             Some(number) => *number,
             None => 0,
         }

@@ -2,14 +2,14 @@
 ghost use Rattle.std.specs.Prelude.{◌≡◌, IfOk, OnOk, OnErr};
 ghost use Rattle.std.specs.Bool.{then_some};
 ghost use Rattle.line_engine.specs.Run.{IsWhole, IsPart};
-ghost use Rattle.reasons.specs.Told.{IsTold};
+ghost use Rattle.line_reasons.specs.Told.{IsReasonTold};
 ghost use Rattle.step_engine.specs.Step as spec;
 
 use crate::options::StepOptions;
 use crate::step::Stepper;
 use arrayvec::ArrayString;
 use line_engine::{EngineFault, Responder, run};
-use reasons::{tell_long_line, tell_script_line};
+use line_reasons::{tell_long_line, tell_script_line};
 use script_text::write_refusal;
 use std::alloc::{AllocError, Global};
 use std::io::{Read, Write};
@@ -24,7 +24,7 @@ fn explain<E: Write>(
     errors: &mut E,
 ) -> Result<(), EngineFault>
     ensures stepper { stepper.new ≡ stepper.old }
-    ensures errors { OnOk result (IsTold (then_some is_fault stepper.old.lines) (E.contents errors.old) (E.contents errors.new)) }
+    ensures errors { OnOk result (IsReasonTold (then_some is_fault stepper.old.lines) (E.contents errors.old) (E.contents errors.new)) }
 {
     let fault = is_fault.then_some(stepper.lines());
     let Some(refusal) = stepper.take_refusal() else {

@@ -96,14 +96,68 @@ impl Form {
     }
 }
 
-/// A field of a line: what it is called, which values it has, and its form.
+/// A field of a line. Of its form there may be more words than it has values: those are refused by
+/// what reads the values.
 #[derive(Clone, Copy, Debug)]
 pub(crate) struct Field {
+    /// What it is called.
     pub name: &'static str,
-    /// Nothing where the name says it all.
+    /// Which values it has. Nothing where the name says it all.
     pub values: &'static str,
     pub form: Form,
 }
+
+/// A field of that name that is one of the words.
+macro_rules! choice {
+    ($name:literal, $first:literal $(, $word:literal)*) => {
+        Field {
+            name: $name,
+            values: concat!($first $(, ", ", $word)*),
+            form: Form::OneOf(&[$first $(, $word)*]),
+        }
+    };
+}
+
+pub(crate) use choice;
+
+/// The field that is this word.
+macro_rules! word {
+    ($word:literal) => {
+        Field {
+            name: concat!("'", $word, "'"),
+            values: "",
+            form: Form::OneOf(&[$word]),
+        }
+    };
+}
+
+pub(crate) use word;
+
+/// A field of that name with these values, a number in the radix, of at least and at most so much.
+macro_rules! numeral {
+    ($name:literal, $values:literal, $radix:expr, $least:expr, $most:expr) => {
+        Field {
+            name: $name,
+            values: $values,
+            form: Form::Number($radix, $least, $most, 1),
+        }
+    };
+}
+
+pub(crate) use numeral;
+
+/// A field of that name with these values, so many hexadecimal digits of at most that value.
+macro_rules! digits {
+    ($name:literal, $values:literal, $count:expr, $most:expr) => {
+        Field {
+            name: $name,
+            values: $values,
+            form: Form::Digits($count, $most),
+        }
+    };
+}
+
+pub(crate) use digits;
 
 /// The fields behind a word of that kind, none where it is none of them.
 pub(crate) fn fields_of(kind: &[u8], forms: &[(&str, &'static [Field])]) -> &'static [Field] {

@@ -1,8 +1,8 @@
 use Rattle.std.proofs.Common.{◌≡◌, refl, subst}
 use Rattle.std.specs.Io.KnownBytes.{Appends}
 use Rattle.std.proofs.lemmas.Result.{on_ok_weaker}
-use Rattle.reasons.specs.Told.{reason_line}
-use Rattle.reasons.proofs.telling.Reason.tell_at.Goals as goal
+use Rattle.line_reasons.specs.Told.{reason_line}
+use Rattle.line_reasons.proofs.telling.Reason.tell_at.Goals as goal
 
 pub returns : goal.returns
 returns g c =

@@ -1,35 +1,21 @@
 //! The words of operations and replies.
-use crate::words::{Field, Form, Radix, Walk, fields_of};
+use crate::words::{Field, Form, Radix, Walk, choice, fields_of, numeral};
 
-const OPERATION: Field = Field {
-    name: "an operation",
-    values: "read, write, add, swap, cas",
-    form: Form::OneOf(&["read", "write", "add", "swap", "cas"]),
-};
+const OPERATION: Field = choice!("an operation", "read", "write", "add", "swap", "cas");
 
-const ADDRESS: Field = Field {
-    name: "an address",
-    values: "hexadecimal, 0 to FFFFFFFFFFFFFFFF, without leading zeros",
-    form: Form::Number(Radix::Hexadecimal, 0, u64::MAX, 1),
-};
+const ADDRESS: Field = numeral!(
+    "an address",
+    "hexadecimal, 0 to FFFFFFFFFFFFFFFF, without leading zeros",
+    Radix::Hexadecimal,
+    0,
+    u64::MAX
+);
 
-const DW: Field = Field {
-    name: "a number of DW",
-    values: "1 to 1024",
-    form: Form::Number(Radix::Decimal, 0, 65535, 1),
-};
+const DW: Field = numeral!("a number of DW", "1 to 1024", Radix::Decimal, 0, 65535);
 
-const FIRST: Field = Field {
-    name: "the First DW BE",
-    values: "0 to F",
-    form: Form::Number(Radix::Hexadecimal, 0, 15, 1),
-};
+const FIRST: Field = numeral!("the First DW BE", "0 to F", Radix::Hexadecimal, 0, 15);
 
-const LAST: Field = Field {
-    name: "the Last DW BE",
-    values: "0 to F",
-    form: Form::Number(Radix::Hexadecimal, 0, 15, 1),
-};
+const LAST: Field = numeral!("the Last DW BE", "0 to F", Radix::Hexadecimal, 0, 15);
 
 pub(crate) const BYTES: Field = Field {
     name: "a byte string",
@@ -43,11 +29,7 @@ const OPERAND: Field = Field {
     form: Form::Operand,
 };
 
-const REPLY: Field = Field {
-    name: "a reply",
-    values: "data, ur, ca",
-    form: Form::OneOf(&["data", "ur", "ca"]),
-};
+const REPLY: Field = choice!("a reply", "data", "ur", "ca");
 
 const SWAP_OPERAND: Field = Field {
     name: "an operand",

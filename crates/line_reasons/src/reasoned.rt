@@ -24,6 +24,7 @@ impl<P, E> Model for Reasoned<P, E> {
 }
 
 impl<P, E> Reasoned<P, E> {
+    /// The responder, before its first line, and the stream on which its reasons are told.
     pub fn new(responder: P, errors: E) -> Reasoned<P, E>
         ensures { result ≡ responder }
     {

@@ -1,6 +1,6 @@
 //! Why the line of a script or of a packet is refused.
 ghost use Rattle.std.specs.Prelude.{OnOk};
-ghost use Rattle.reasons.specs.Told.{IsTold};
+ghost use Rattle.line_reasons.specs.Told.{IsReasonTold};
 
 use crate::packets::packet_misfit;
 use crate::scripts::script_misfit;
@@ -127,7 +127,7 @@ pub(crate) fn tell_packet_line<E: Write>(
     fault: Option<u64>,
     errors: &mut E,
 ) -> Result<(), EngineFault>
-    ensures { OnOk result (IsTold fault (E.contents errors.old) (E.contents errors.new)) }
+    ensures { OnOk result (IsReasonTold fault (E.contents errors.old) (E.contents errors.new)) }
 {
     match fault {
         Some(number) => packet_reason(line, answer).tell_at(number, errors),
@@ -144,7 +144,7 @@ pub fn tell_script_line<E: Write>(
     fault: Option<u64>,
     errors: &mut E,
 ) -> Result<(), EngineFault>
-    ensures { OnOk result (IsTold fault (E.contents errors.old) (E.contents errors.new)) }
+    ensures { OnOk result (IsReasonTold fault (E.contents errors.old) (E.contents errors.new)) }
 {
     match fault {
         Some(number) => script_reason(line, refusal).tell_at(number, errors),
@@ -153,7 +153,7 @@ pub fn tell_script_line<E: Write>(
 }
 
 /// The reason of a line that is too long.
-pub(crate) fn long_line() -> Reason {
+fn long_line() -> Reason {
     let mut reason = Reason::new();
     reason.put(
         ", column 513: more where the line's end is expected (a line has 512 bytes at most)",
@@ -163,7 +163,7 @@ pub(crate) fn long_line() -> Reason {
 
 /// Tells that a line is too long, where that is told as a fault: this is its number then.
 pub fn tell_long_line<E: Write>(fault: Option<u64>, errors: &mut E) -> Result<(), EngineFault>
-    ensures { OnOk result (IsTold fault (E.contents errors.old) (E.contents errors.new)) }
+    ensures { OnOk result (IsReasonTold fault (E.contents errors.old) (E.contents errors.new)) }
 {
     match fault {
         Some(number) => long_line().tell_at(number, errors),

@@ -2,10 +2,11 @@
 ghost use Rattle.std.specs.Prelude.{◌≡◌, ◌≤◌, ◌++◌, codes, OnOk};
 ghost use Rattle.std.specs.Fmt.{decimal};
 ghost use Rattle.arrayvec.specs.ArrayString.{array_string_len};
-ghost use Rattle.reasons.specs.Told.{IsToldAt};
+ghost use Rattle.line_reasons.specs.Told.{IsReasonToldAt};
 
 use arrayvec::ArrayString;
 use line_engine::{EngineFault, write_out};
+use shown_bytes::shown_byte;
 use std::fmt::Write;
 use std::{fmt, io};
 use trace_text::write_decimal;
@@ -15,16 +16,6 @@ const ROOM: usize = 1024;
 
 /// How many bytes are shown of a word.
 const SHOWN: usize = 40;
-
-/// A byte as it is shown.
-fn show_byte<W: fmt::Write>(byte: u8, f: &mut fmt::Formatter<W>) -> fmt::Result {
-    if byte.is_ascii_graphic() || byte == b' ' {
-        let glyph = char::from(byte);
-        write!(f, "{glyph}")
-    } else {
-        write!(f, "\\x{byte:02X}")
-    }
-}
 
 /// Bytes of a text, those that aren't printable ASCII as `\xNN`.
 #[derive(Clone, Copy, Debug)]
@@ -40,15 +31,15 @@ impl<'a> Shown<'a> {
 impl fmt::Display for Shown<'_> {
     fn fmt<W: fmt::Write>(&self, f: &mut fmt::Formatter<W>) -> fmt::Result {
         for byte in self.0 {
-            show_byte(*byte, f)?;
+            f.write_str(shown_byte(*byte).as_str())?;
         }
         Ok(())
     }
 }
 
-/// What is wrong. What has no room in it is left out.
+/// What is wrong, in at most 1024 bytes: what has no room is left out.
 #[derive(Debug, Drop)]
-pub(crate) struct Reason {
+pub struct Reason {
     text: ArrayString<ROOM>,
 }
 
@@ -64,24 +55,22 @@ fn beginning(line: u64) -> ArrayString<512>
 }
 
 impl Reason {
-    pub(crate) fn new() -> Reason {
+    /// Nothing so far.
+    pub fn new() -> Reason {
         Reason {
             text: ArrayString::new(),
         }
     }
 
     /// Adds to the reason.
-    pub(crate) fn put<D: fmt::Display + Drop>(&mut self, part: D) {
+    pub fn put<D: fmt::Display + Drop>(&mut self, part: D) {
         let _ = write!(self.text, "{part}");
     }
 
-    /// Writes the line of a reason that lies on this line of the text.
-    pub(crate) fn tell_at<E: io::Write>(
-        &self,
-        number: u64,
-        errors: &mut E,
-    ) -> Result<(), EngineFault>
-        ensures { OnOk result (IsToldAt number (E.contents errors.old) (E.contents errors.new)) }
+    /// Writes the line of a reason that lies on the line of this number. After an `Err` the stream has no
+    /// more than a part of it.
+    pub fn tell_at<E: io::Write>(&self, number: u64, errors: &mut E) -> Result<(), EngineFault>
+        ensures { OnOk result (IsReasonToldAt number (E.contents errors.old) (E.contents errors.new)) }
     {
         let mut line: ArrayString<1057> = ArrayString::new();
         line.push_str(beginning(number).as_str());

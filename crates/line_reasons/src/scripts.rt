@@ -1,6 +1,6 @@
 //! The words of scripts.
 use crate::operations::take_operation;
-use crate::words::{Field, Form, Misfit, Radix, Walk, fields_of, value_of};
+use crate::words::{Field, Form, Misfit, Radix, Walk, choice, fields_of, numeral, value_of, word};
 use seq_memory::is_base;
 
 const EVENT: Field = Field {
@@ -31,41 +31,23 @@ const LANE: Field = Field {
     ]),
 };
 
-const REQUESTER: Field = Field {
-    name: "a requester",
-    values: "1 to 7",
-    form: Form::Number(Radix::Decimal, 0, 255, 1),
-};
+const REQUESTER: Field = numeral!("a requester", "1 to 7", Radix::Decimal, 0, 255);
 
-const FATE: Field = Field {
-    name: "a fate",
-    values: "good, failed, lost",
-    form: Form::OneOf(&["good", "failed", "lost"]),
-};
+const FATE: Field = choice!("a fate", "good", "failed", "lost");
 
-const DLLP: Field = Field {
-    name: "a kind of DLLP",
-    values: "ack, p, np, cpl",
-    form: Form::OneOf(&["ack", "p", "np", "cpl"]),
-};
+const DLLP: Field = choice!("a kind of DLLP", "ack", "p", "np", "cpl");
 
-const PLACE: Field = Field {
-    name: "a place",
-    values: "a number from 0 on",
-    form: Form::Number(Radix::Decimal, 0, u64::MAX, 1),
-};
+const PLACE: Field = numeral!("a place", "a number from 0 on", Radix::Decimal, 0, u64::MAX);
 
-const REQUESTERS: Field = Field {
-    name: "a number of requesters",
-    values: "1 to 7",
-    form: Form::Number(Radix::Decimal, 1, 7, 1),
-};
+const REQUESTERS: Field = numeral!("a number of requesters", "1 to 7", Radix::Decimal, 1, 7);
 
-const BASE: Field = Field {
-    name: "a base",
-    values: "hexadecimal, a multiple of 80, and the memory ends at 2^64 at the latest",
-    form: Form::Number(Radix::Hexadecimal, 0, u64::MAX, 1),
-};
+const BASE: Field = numeral!(
+    "a base",
+    "hexadecimal, a multiple of 80, and the memory ends at 2^64 at the latest",
+    Radix::Hexadecimal,
+    0,
+    u64::MAX
+);
 
 pub(crate) const SIZE: Field = Field {
     name: "a size",
@@ -73,52 +55,56 @@ pub(crate) const SIZE: Field = Field {
     form: Form::Number(Radix::Decimal, 128, 1_048_576, 128),
 };
 
-pub(crate) const BLOCK: Field = Field {
-    name: "a block",
-    values: "64, 128",
-    form: Form::OneOf(&["64", "128"]),
-};
+pub(crate) const BLOCK: Field = choice!("a block", "64", "128");
 
-const BLOCK_WORD: Field = Field {
-    name: "'block'",
-    values: "",
-    form: Form::OneOf(&["block"]),
-};
+const BLOCK_WORD: Field = word!("block");
 
 /// What a script begins with.
 const FABRIC: (&str, &str) = ("a fabric", "fabric <requesters> <base> <size>");
 
 const CREDITS: [Field; 6] = [
-    Field {
-        name: "the number of P header credits",
-        values: "1 to 127",
-        form: Form::Number(Radix::Decimal, 1, 127, 1),
-    },
-    Field {
-        name: "the number of P data credits",
-        values: "8 to 2047",
-        form: Form::Number(Radix::Decimal, 8, 2047, 1),
-    },
-    Field {
-        name: "the number of NP header credits",
-        values: "1 to 127",
-        form: Form::Number(Radix::Decimal, 1, 127, 1),
-    },
-    Field {
-        name: "the number of NP data credits",
-        values: "2 to 2047",
-        form: Form::Number(Radix::Decimal, 2, 2047, 1),
-    },
-    Field {
-        name: "the number of Cpl header credits",
-        values: "1 to 127",
-        form: Form::Number(Radix::Decimal, 1, 127, 1),
-    },
-    Field {
-        name: "the number of Cpl data credits",
-        values: "8 to 2047",
-        form: Form::Number(Radix::Decimal, 8, 2047, 1),
-    },
+    numeral!(
+        "the number of P header credits",
+        "1 to 127",
+        Radix::Decimal,
+        1,
+        127
+    ),
+    numeral!(
+        "the number of P data credits",
+        "8 to 2047",
+        Radix::Decimal,
+        8,
+        2047
+    ),
+    numeral!(
+        "the number of NP header credits",
+        "1 to 127",
+        Radix::Decimal,
+        1,
+        127
+    ),
+    numeral!(
+        "the number of NP data credits",
+        "2 to 2047",
+        Radix::Decimal,
+        2,
+        2047
+    ),
+    numeral!(
+        "the number of Cpl header credits",
+        "1 to 127",
+        Radix::Decimal,
+        1,
+        127
+    ),
+    numeral!(
+        "the number of Cpl data credits",
+        "8 to 2047",
+        Radix::Decimal,
+        8,
+        2047
+    ),
 ];
 
 /// What is behind the word of an event, before the operation of a submission.
