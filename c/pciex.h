@@ -1,37 +1,39 @@
 /*
  * pciex: a proved PCI Express 4.0 memory device, a fabric over links that lose packets, and a checker of histories.
  *
- * For C99 and C++. Link with libpciex_c.a, the library that `rt lib` builds of the proved crate `pciex_c`, and with
- * liblibc_c.a of the toolchain, through which it calls malloc, realloc and free. A device without a handle, packets and
- * names take no memory.
+ * For C99 and C++. Link with libpciex_c.a, the library that `rt lib` builds of the proved crate `pciex_c` for Linux on
+ * x86-64, and with liblibc_c.a of the toolchain, through which it calls malloc, realloc and free. A device without a
+ * handle, packets and names take no memory. A history and a trace grow, until their device or fabric is freed.
  *
  * Codes. Each call answers a number of 32 bits:
  *
  *   below 1000     it is done: 0, or where the call says so how many bytes its answer has
- *   1000 to 1999   a fault: 1000 and a number, as the call says
+ *   1000 to 1999   a fault, a refusal or a flaw: 1000 and a number, as the call says: that of the fault, or how many
+ *                  bytes its text in the room has
  *   from 2000 on   an argument that can't be right, or out of memory: one of the codes below
  *
- * From 1000 on nothing has changed, but for the text of a fault that some calls put into the room.
+ * From 1000 on nothing has changed, but for that text, and for the length that pciex_fabric_trace tells.
  *
- * Rooms. An answer goes into a room that the caller lends: `room` points to `room_length` bytes. It stands at the front,
- * is not ended by a zero, and what follows it stays as it was. PCIEX_LINE bytes are always enough for a line,
- * PCIEX_PACKET for a packet, and a call asks for that many whatever it has to say.
+ * Rooms. An answer goes into a room that the caller lends: `room` points to `room_length` bytes. It stands at the
+ * front, is not ended by a zero, and what follows it stays as it was. PCIEX_PACKET bytes are always enough for a
+ * completion, PCIEX_LINE for all else that isn't a whole memory or trace, and a call asks for that many whatever it has
+ * to say.
  *
  * What can't be tested, and so is the caller's to keep:
  *
  *   - a pointer and its length name bytes that may be read, and for a room or a device's bytes written
  *   - the bytes, the packet or the line, the room, the handle and a number that is told, of one call, don't overlap
- *   - a handle is PCIEX_NONE before it is given to a call that makes something, only calls write into it, and it stays on
- *     its thread; it has no copies, since a call through one copy uses up the others
- *   - malloc, realloc and free are from one allocator, with blocks aligned to 16 bytes; no call comes from the handler of
- *     a signal, nor from the child of a fork of a program with threads
+ *   - a handle is PCIEX_NONE before it is given to a call that makes something, only calls write into it, and it stays
+ *     on its thread; it has no copies, since a call through one copy uses up the others
+ *   - malloc, realloc and free are from one allocator, with blocks aligned to 16 bytes; no call comes from the handler
+ *     of a signal, nor from the child of a fork of a program with threads
  *
  * A null pointer and a handle that holds nothing are found by the functions of this header, and nothing is called then:
  * PCIEX_NULL, PCIEX_EMPTY. The functions pciex_raw_* below them are the library's own, for callers in other languages:
  * they test all but that.
  *
- * No call blocks, aborts, prints or keeps a pointer to what the caller lends. Calls on different threads, with handles of
- * their own or without, may run at the same time.
+ * No call blocks, aborts, prints or keeps a pointer to what the caller lends. Calls on different threads, with handles
+ * of their own or without, may run at the same time.
  */
 #ifndef PCIEX_H
 #define PCIEX_H
@@ -69,7 +71,7 @@ extern "C" {
 /* The handle holds something already. */
 #define PCIEX_HELD 3002u
 
-/* The bytes of room that a packet is asked for, and a line. */
+/* The bytes of room that a completion is asked for, and a line. */
 #define PCIEX_PACKET 144
 #define PCIEX_LINE 512
 
@@ -120,9 +122,11 @@ uint32_t pciex_raw_version(uint8_t *room, size_t room_length);
  * One TLP at a memory device whose memory is the caller's `length` bytes, the first of them at the address `base`, and
  * which serves accesses by naturally aligned blocks of `block` bytes, 64 or 128. The bytes change as the request says,
  * and its completion goes into the room, of PCIEX_PACKET bytes or more. There is no history, and no memory is taken.
+ * Any base and any length will do.
  *
- * Below 1000: how many bytes the completion has; 0 for a posted write, which has none. A request outside the bytes,
- * across a block, or with an operand that can't be, is answered by a completion with that status, and changes no byte.
+ * Below 1000: how many bytes the completion has; 0 for a posted write, which has none. A request that isn't served
+ * changes no byte: its completion says Completer Abort where it crosses a block, else Unsupported Request where it
+ * leaves the bytes. A posted write that isn't served is answered 0, as one that is.
  * 1000 to 1999: 1000 and the number of the packet's fault, 1 to 13; pciex_fault_name has its name.
  * Tested in this order: PCIEX_WRONG_BLOCK, PCIEX_SMALL_ROOM, the packet's fault, PCIEX_NO_REQUEST.
  */
@@ -138,8 +142,8 @@ static inline uint32_t pciex_answer(uint8_t *bytes, size_t length, uint64_t base
 /* ---- a device with a history */
 
 /*
- * Makes a device of `size` zeros at the address `base`, with an empty history, in a handle that holds nothing. 0 where it
- * is made; PCIEX_WRONG_SIZE, PCIEX_WRONG_BASE, PCIEX_WRONG_BLOCK, tested in this order, or PCIEX_NO_MEMORY.
+ * Makes a device of `size` zeros at the address `base`, with an empty history, in a handle that holds nothing. 0 where
+ * it is made; PCIEX_WRONG_SIZE, PCIEX_WRONG_BASE, PCIEX_WRONG_BLOCK, tested in this order, or PCIEX_NO_MEMORY.
  */
 static inline uint32_t pciex_device_new(uint64_t base, size_t size, uint16_t block, pciex_device *device)
 {
@@ -155,6 +159,7 @@ static inline uint32_t pciex_device_new(uint64_t base, size_t size, uint16_t blo
 /*
  * One TLP at the device, as pciex_answer has it. The request stands in the history from then on, under the port of its
  * Requester ID (the upper 8 bits) and the number that the caller gives it; one that is aborted or unsupported, too.
+ * Below 1000: how many bytes the completion has, as there. 1000 to 1999: 1000 and the number of the packet's fault.
  * Tested in this order: PCIEX_SMALL_ROOM, the packet's fault, PCIEX_NO_REQUEST; or PCIEX_NO_MEMORY.
  */
 static inline uint32_t pciex_device_serve(pciex_device *device, uint32_t number, const uint8_t *packet,
@@ -198,7 +203,7 @@ static inline uint32_t pciex_device_entry(pciex_device *device, size_t place, ui
     return pciex_raw_device_entry(*device, place, room, room_length, device);
 }
 
-/* All bytes of the device as they are now, from its base address on: 0, or PCIEX_SMALL_ROOM. */
+/* All bytes of the device as they are now, from its base address on: 0, or PCIEX_SMALL_ROOM for fewer than it has. */
 static inline uint32_t pciex_device_bytes(pciex_device *device, uint8_t *room, size_t room_length)
 {
     if (!device || !room) {
@@ -222,8 +227,8 @@ static inline void pciex_device_free(pciex_device *device)
 /* ---- a fabric */
 
 /*
- * Makes the fabric that the line asks for, in a handle that holds nothing: `fabric <requesters> <base> <size>`, then six
- * credits or none, then `block <bytes>` or nothing, as docs/formats.md has it. No line feed ends the line. With
+ * Makes the fabric that the line asks for, in a handle that holds nothing: `fabric <requesters> <base> <size>`, then
+ * six credits or none, then `block <bytes>` or nothing, as docs/formats.md has it. No line feed ends the line. With
  * `is_traced` the fabric keeps a trace, which grows by a record for each submission and each answer.
  * 0 where it is made. 1000 to 1999: a fault of the configuration, whose name of so many bytes less 1000 stands in the
  * room. Tested in this order: PCIEX_SMALL_ROOM for fewer than PCIEX_LINE bytes, PCIEX_NO_LINE, the fault; or
@@ -246,7 +251,7 @@ static inline uint32_t pciex_fabric_new(const uint8_t *line, size_t line_length,
  * bytes what is seen of it has, `sub 1 0`, as `pciex step` prints it, without a line feed. 1000 to 1999: the fabric
  * refuses it and stays as it was, and the refusal's name of so many bytes less 1000 stands in the room. Tested in this
  * order: PCIEX_SMALL_ROOM for fewer than PCIEX_LINE bytes, PCIEX_NO_LINE, the refusal; or PCIEX_NO_MEMORY. One call is
- * one event: `settle`, which is many, is answered PCIEX_NO_LINE.
+ * one event: `settle`, which is many, is answered PCIEX_NO_LINE, as a comment and an empty line are, which are none.
  */
 static inline uint32_t pciex_fabric_event(pciex_fabric *fabric, const uint8_t *line, size_t line_length, uint8_t *room,
                                           size_t room_length)
@@ -261,8 +266,9 @@ static inline uint32_t pciex_fabric_event(pciex_fabric *fabric, const uint8_t *l
 }
 
 /*
- * The text of the trace and the history, as `pciex step --trace` writes it: 0, or PCIEX_SMALL_ROOM; `length` is how many
- * bytes it has, in both cases. Or PCIEX_NO_MEMORY. A fabric that keeps no trace has a text without records.
+ * The text of the trace and the history, as `pciex step --trace` writes it: 0, or PCIEX_SMALL_ROOM; `length` is how
+ * many bytes it has, in both cases. Or PCIEX_NO_MEMORY: `length` says nothing then. A fabric that keeps no trace has a
+ * text without records. The call takes memory for the text while it runs.
  */
 static inline uint32_t pciex_fabric_trace(pciex_fabric *fabric, uint8_t *room, size_t room_length, size_t *length)
 {
@@ -304,7 +310,10 @@ static inline uint32_t pciex_fabric_history_length(pciex_fabric *fabric, size_t 
     return 0;
 }
 
-/* All bytes of the fabric's memory as they are now, from its base address on: 0, or PCIEX_SMALL_ROOM. */
+/*
+ * All bytes of the fabric's memory as they are now, from its base address on: 0, or PCIEX_SMALL_ROOM for fewer than it
+ * has, which are as many as the line of pciex_fabric_new asked for.
+ */
 static inline uint32_t pciex_fabric_bytes(pciex_fabric *fabric, uint8_t *room, size_t room_length)
 {
     if (!fabric || !room) {
@@ -328,10 +337,10 @@ static inline void pciex_fabric_free(pciex_fabric *fabric)
 /* ---- the checker */
 
 /*
- * Whether the history of the text of a trace explains its records: 0 if and only if it does. 1000 to 1999: the line that
- * `pciex check` prints, of so many bytes less 1000, stands in the room: `flaw 10 Reply 2`, or `fault 3 Line` where the
- * text is none of a trace. PCIEX_SMALL_ROOM for fewer than PCIEX_LINE bytes, which is tested first, or PCIEX_NO_MEMORY:
- * nothing is known then.
+ * Whether the history of the text of a trace explains its records: 0 if and only if it does. 1000 to 1999: the line
+ * that `pciex check` prints, of so many bytes less 1000, stands in the room: `flaw 10 Reply 2`, or `fault 3 Line` where
+ * the text is none of a trace. PCIEX_SMALL_ROOM for fewer than PCIEX_LINE bytes, which is tested first, or
+ * PCIEX_NO_MEMORY: nothing is known then.
  */
 static inline uint32_t pciex_check(const uint8_t *text, size_t length, uint8_t *room, size_t room_length)
 {
@@ -344,9 +353,9 @@ static inline uint32_t pciex_check(const uint8_t *text, size_t length, uint8_t *
 /* ---- packets in words, and names */
 
 /*
- * The words of a TLP, or of a DLLP where there are four bytes, as `pciex decode` writes them. Below 1000: how many bytes
- * they have. 1000 to 1999: the text of the fault, `fault 1 Short`, of so many bytes less 1000, stands in the room.
- * PCIEX_SMALL_ROOM for fewer than PCIEX_LINE bytes, which is tested first.
+ * The words of a TLP, or of a DLLP where there are four bytes, as `pciex decode` writes them. Below 1000: how many
+ * bytes they have. 1000 to 1999: the text of the fault, `fault 1 Short`, of so many bytes less 1000, stands in the
+ * room. PCIEX_SMALL_ROOM for fewer than PCIEX_LINE bytes, which is tested first.
  */
 static inline uint32_t pciex_decode(const uint8_t *packet, size_t length, uint8_t *room, size_t room_length)
 {
@@ -356,7 +365,10 @@ static inline uint32_t pciex_decode(const uint8_t *packet, size_t length, uint8_
     return pciex_raw_decode(packet, length, room, room_length);
 }
 
-/* The other way: the canonical bytes of the packet that a line of words spells. The codes are the same. */
+/*
+ * The other way: the canonical bytes of the packet that a line of words spells. The codes are the same, and so is the
+ * room that is asked for, since a fault is told in words.
+ */
 static inline uint32_t pciex_encode(const uint8_t *line, size_t length, uint8_t *room, size_t room_length)
 {
     if (!line || !room) {

@@ -1,5 +1,5 @@
-/* A device loop: a TLP a line in hexadecimal in, its completion out, `-` for a posted write, as `pciex tlp` prints them.
-   With a number, that many FetchAdds, and how long one takes. */
+/* A device loop: a TLP a line in hexadecimal in, its completion out, `-` for a posted write, as `pciex tlp` prints
+   them. A line that isn't one of bytes is passed over. With a number, that many FetchAdds, and how long one takes. */
 #include "../pciex.h"
 
 #include <ctype.h>
@@ -28,7 +28,7 @@ static size_t read_packet(const char *line, uint8_t *packet, size_t most)
         packet[digits / 2] = digits % 2 ? (uint8_t)(packet[digits / 2] | value) : (uint8_t)(value << 4);
         digits++;
     }
-    return digits / 2;
+    return digits % 2 ? 0 : digits / 2;
 }
 
 static void tell(uint32_t code, const uint8_t *room)

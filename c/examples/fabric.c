@@ -1,5 +1,5 @@
-/* A lossy fabric: a script in, what is seen of its events out, as `pciex step` prints it. At the end, on standard error,
-   how often the requests acted and whether the checker explains the trace that the fabric kept. */
+/* A lossy fabric: a script in, what is seen of its events out, as `pciex step` prints it. At the end, on standard
+   error, how often the requests acted and whether the checker explains the trace that the fabric kept. */
 #include "../pciex.h"
 
 #include <stdio.h>
@@ -53,7 +53,7 @@ int main(void)
         if (code >= 2000) {
             printf("code %u %lu\n", (unsigned)code, number);
         } else if (code >= 1000) {
-            printf("refused %lu %.*s\n", number, (int)(code - 1000), (const char *)room);
+            printf("%s %lu %.*s\n", fabric.at ? "refused" : "fault", number, (int)(code - 1000), (const char *)room);
         } else if (code > 0) {
             printf("%.*s\n", (int)code, (const char *)room);
         }

@@ -1,5 +1,5 @@
-"""The checker from Python: the text of a trace in, the line of `pciex check` out. The first word names the shared object
-that `c/check.sh` links."""
+"""The checker from Python: the text of a trace in, the line of `pciex check` out. The first word names the shared
+object, which docs/use-from-c.md says how to link."""
 
 import ctypes
 import sys

@@ -30,7 +30,8 @@ pub struct Device {
 }
 
 impl Device {
-    /// A device of `size` zeros at `base`, 128 to 1,048,576 of them, a multiple of 128, with an empty history.
+    /// A device of `size` zeros at the address `base`, with an empty history, which serves accesses by blocks of `block`
+    /// bytes, 64 or 128. The size is 128 to 1,048,576, and both it and the base are multiples of 128.
     pub fn new(base: u64, size: usize, block: u16) -> Result<Device, Error> {
         let mut slot = Slot::NONE;
         // SAFETY: the slot holds nothing.
@@ -39,7 +40,8 @@ impl Device {
         Ok(Device { slot, size })
     }
 
-    /// The request acts under that number: the bytes of its completion, none for a posted write.
+    /// The request acts under that number, and stands in the history from then on: the bytes of its completion, none for
+    /// a posted write.
     pub fn serve(&mut self, number: u32, request: &[u8]) -> Result<Option<Vec<u8>>, Error> {
         let mut room = Room::new();
         let back: *mut Slot = &mut self.slot;

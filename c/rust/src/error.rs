@@ -7,9 +7,9 @@ use std::fmt;
 pub enum Error {
     /// The packet has the fault of that number, 1 to 13.
     Packet(u32),
-    /// The text of a fault, a flaw or a refusal.
+    /// The text of a fault, a flaw or a refusal, as `pciex` prints it.
     Told(String),
-    /// An argument can't be right: one of the codes of `c/pciex.h` from 2000 on.
+    /// An argument can't be right: the code under which `c/pciex.h` names it, from 2000 on.
     Argument(u32),
     /// Memory was refused.
     NoMemory,

@@ -39,7 +39,7 @@ impl Fabric {
         line(code, &room)
     }
 
-    /// The text of the trace and the history.
+    /// The text of the trace and the history, as `pciex step --trace` writes it. Without a trace it has no records.
     pub fn trace(&mut self) -> Result<Vec<u8>, Error> {
         let mut text = Vec::new();
         loop {

@@ -7,6 +7,7 @@ ghost use Rattle.trace_file.specs.Reading.{nothing_read};
 ghost use Rattle.line_engine.specs.Run.{IsAnswer, IsWhole, IsPart};
 ghost use Rattle.trace_engine.specs.Check.{flaw_line, judged, out_check};
 
+use crate::lines::write_flaw;
 use crate::traces::{TraceInput, tell_fault};
 use arrayvec::ArrayString;
 use history_check::{Flaw, FlawKind, Trace, check};
@@ -16,7 +17,6 @@ use seq_memory::Entry;
 use std::alloc::{AllocError, Global};
 use std::io::{Read, Write, sink};
 use std::marker::Model;
-use trace_text::write_decimal;
 
 /// Adds the line of a flaw.
 fn tell_flaw(flaw: Flaw, out: &mut Vec<u8>) -> Result<bool, AllocError>
@@ -24,12 +24,7 @@ fn tell_flaw(flaw: Flaw, out: &mut Vec<u8>) -> Result<bool, AllocError>
     ensures err { OnErr result (out.new.items ≡ out.old.items) }
 {
     let mut text = ArrayString::new();
-    text.push_str("flaw ");
-    write_decimal(u64::from(flaw.kind.number()), &mut text);
-    text.push_str(" ");
-    text.push_str(flaw.kind.name());
-    text.push_str(" ");
-    write_decimal(flaw.place as u64, &mut text);
+    write_flaw(flaw, &mut text);
     text.push_str("\n");
     out.extend_from_slice(text.as_bytes())?;
     Ok(true)
@@ -65,20 +60,16 @@ fn judge<E: Write + Drop>(
 /// A trace that is read, and then checked.
 #[derive(Drop)]
 struct Checker<E: Write> {
-    input: TraceInput,
+    input: TraceInput<E>,
     lines: TraceLines,
-    reasons: TraceReasons<E>,
 }
 
 impl<E: Write> Model for Checker<E> {
     ghost use Rattle.trace_file.specs.Reading.{Reading};
-    ghost use Rattle.trace_engine.specs.Reasons.{Agrees};
 
     ghost Value = { Reading };
 
     ghost view = { λ c. c.input };
-
-    ghost invariant = { λ c. Agrees c.input c.reasons };
 }
 
 impl<E: Write + Drop> Responder for Checker<E> {
@@ -89,13 +80,11 @@ impl<E: Write + Drop> Responder for Checker<E> {
     fn on_line(&mut self, line: &[u8], _out: &mut Vec<u8>) -> Result<bool, AllocError> {
         self.lines.note(line)?;
         self.input.line(line)?;
-        let _ = self.reasons.take_line(line, self.input.faulty_line());
         Ok(false)
     }
 
     fn on_long_line(&mut self, _out: &mut Vec<u8>) -> Result<bool, AllocError> {
         self.input.long_line();
-        let _ = self.reasons.take_long_line(self.input.faulty_line());
         Ok(false)
     }
 
@@ -106,13 +95,10 @@ impl<E: Write + Drop> Responder for Checker<E> {
                 &trace,
                 history.as_slice(),
                 &self.lines,
-                &mut self.reasons,
+                &mut self.input.reasons,
                 out,
             ),
-            Err(fault) => {
-                let _ = self.reasons.take_end(fault.line);
-                tell_fault(fault, out)
-            }
+            Err(fault) => tell_fault(fault, out),
         }
     }
 }
@@ -128,9 +114,8 @@ pub fn run_check_with_reasons<R: Read, W: Write, E: Write>(
     ensures err { OnErr result (IsPart out_check (R.remaining reader.old) (R.remaining reader.new) (W.contents writer.old) (W.contents writer.new)) }
 {
     let checker = Checker {
-        input: TraceInput::new(alloc),
+        input: TraceInput::new(alloc, errors),
         lines: TraceLines::new(alloc),
-        reasons: TraceReasons::new(errors),
     };
     run(alloc, checker, reader, writer)
 }

@@ -6,36 +6,56 @@ ghost use Rattle.trace_file.specs.Reading.{nothing_read, after_line, after_long_
 ghost use Rattle.trace_engine.specs.Check.{fault_line};
 ghost use Rattle.trace_engine.specs.Reasons.{faulty_line};
 
+use crate::lines::write_fault;
 use arrayvec::ArrayString;
 use history_check::Trace;
+use reasons::TraceReasons;
 use seq_memory::Entry;
 use std::alloc::{AllocError, Global};
+use std::io::Write;
 use std::marker::Model;
 use std::mem;
 use trace_file::{ReadFault, TraceReader, write_trace};
-use trace_text::write_decimal;
 
-/// A trace that is read line by line.
-#[derive(Drop)]
-pub struct TraceInput {
-    alloc: Global,
-    reader: TraceReader,
+/// The number of the first line that can't be read, if one was found so far.
+fn faulty_line(reader: &TraceReader) -> Option<u64>
+    ensures { result ≡ faulty_line reader.now }
+{
+    match reader.fault() {
+        Some(fault) => Some(fault.line),
+        None => None,
+    }
 }
 
-impl Model for TraceInput {
+/// A trace that is read line by line, and the reasons that are told of it: where a line can't be read,
+/// that of the first such line.
+#[derive(Drop)]
+pub struct TraceInput<E: Write> {
+    alloc: Global,
+    reader: TraceReader,
+    pub(crate) reasons: TraceReasons<E>,
+}
+
+impl<E: Write> Model for TraceInput<E> {
     ghost use Rattle.trace_file.specs.Reading.{Reading};
+    ghost use Rattle.trace_engine.specs.Reasons.{Agrees};
 
     ghost Value = { Reading };
 
     ghost view = { λ t. t.reader };
+
+    ghost invariant = { λ t. Agrees t.reader t.reasons };
 }
 
-impl TraceInput {
-    pub fn new(alloc: Global) -> TraceInput
+impl<E: Write + Drop> TraceInput<E> {
+    pub fn new(alloc: Global, errors: E) -> TraceInput<E>
         ensures { result ≡ nothing_read }
     {
-        let reader = TraceReader::new(alloc);
-        TraceInput { alloc, reader }
+        TraceInput {
+            alloc,
+            reader: TraceReader::new(alloc),
+            reasons: TraceReasons::new(errors),
+        }
     }
 
     /// Where the lists grow.
@@ -43,22 +63,14 @@ impl TraceInput {
         self.alloc
     }
 
-    /// The number of the first line that can't be read, if one was found so far.
-    pub fn faulty_line(&self) -> Option<u64>
-        ensures { result ≡ faulty_line self.now }
-    {
-        match self.reader.fault() {
-            Some(fault) => Some(fault.line),
-            None => None,
-        }
-    }
-
     /// Takes a line, without what ends it.
     pub fn line(&mut self, line: &[u8]) -> Result<(), AllocError>
         ensures ok { OnOk result (self.new ≡ after_line self.old line.now) }
         ensures err { OnErr result (self.new ≡ self.old) }
     {
-        self.reader.line(line)
+        self.reader.line(line)?;
+        let _ = self.reasons.take_line(line, faulty_line(&self.reader));
+        Ok(())
     }
 
     /// Takes a line of more bytes than a line may have.
@@ -66,6 +78,7 @@ impl TraceInput {
         ensures { self.new ≡ after_long_line self.old }
     {
         self.reader.long_line();
+        let _ = self.reasons.take_long_line(faulty_line(&self.reader));
     }
 
     /// Takes the end of the text: gives what was read, or the first fault, and keeps nothing.
@@ -75,7 +88,13 @@ impl TraceInput {
         ensures gone { self.new ≡ nothing_read }
     {
         let reader = mem::replace(&mut self.reader, TraceReader::new(self.alloc));
-        reader.end()
+        match reader.end() {
+            Ok(read) => Ok(read),
+            Err(fault) => {
+                let _ = self.reasons.take_end(fault.line);
+                Err(fault)
+            }
+        }
     }
 }
 
@@ -85,10 +104,7 @@ pub fn tell_fault(fault: ReadFault, out: &mut Vec<u8>) -> Result<bool, AllocErro
     ensures err { OnErr result (out.new.items ≡ out.old.items) }
 {
     let mut text = ArrayString::new();
-    text.push_str("fault ");
-    write_decimal(fault.line, &mut text);
-    text.push_str(" ");
-    text.push_str(fault.kind.name());
+    write_fault(fault, &mut text);
     text.push_str("\n");
     out.extend_from_slice(text.as_bytes())?;
     Ok(true)

@@ -5,7 +5,6 @@ ghost use Rattle.trace_engine.specs.Upgrade.{out_upgrade};
 
 use crate::traces::{TraceInput, tell_fault, tell_trace};
 use line_engine::{EngineFault, Responder, run};
-use reasons::TraceReasons;
 use std::alloc::{AllocError, Global};
 use std::io::{Read, Write, sink};
 use std::marker::Model;
@@ -13,19 +12,15 @@ use std::marker::Model;
 /// A trace that is read, and then written.
 #[derive(Drop)]
 struct Upgrader<E: Write> {
-    input: TraceInput,
-    reasons: TraceReasons<E>,
+    input: TraceInput<E>,
 }
 
 impl<E: Write> Model for Upgrader<E> {
     ghost use Rattle.trace_file.specs.Reading.{Reading};
-    ghost use Rattle.trace_engine.specs.Reasons.{Agrees};
 
     ghost Value = { Reading };
 
     ghost view = { λ u. u.input };
-
-    ghost invariant = { λ u. Agrees u.input u.reasons };
 }
 
 impl<E: Write + Drop> Responder for Upgrader<E> {
@@ -35,13 +30,11 @@ impl<E: Write + Drop> Responder for Upgrader<E> {
 
     fn on_line(&mut self, line: &[u8], _out: &mut Vec<u8>) -> Result<bool, AllocError> {
         self.input.line(line)?;
-        let _ = self.reasons.take_line(line, self.input.faulty_line());
         Ok(false)
     }
 
     fn on_long_line(&mut self, _out: &mut Vec<u8>) -> Result<bool, AllocError> {
         self.input.long_line();
-        let _ = self.reasons.take_long_line(self.input.faulty_line());
         Ok(false)
     }
 
@@ -50,10 +43,7 @@ impl<E: Write + Drop> Responder for Upgrader<E> {
             Ok((trace, history)) => {
                 tell_trace(self.input.alloc(), &trace, history.as_slice(), out)
             }
-            Err(fault) => {
-                let _ = self.reasons.take_end(fault.line);
-                tell_fault(fault, out)
-            }
+            Err(fault) => tell_fault(fault, out),
         }
     }
 }
@@ -69,8 +59,7 @@ pub fn run_upgrade_with_reasons<R: Read, W: Write, E: Write>(
     ensures err { OnErr result (IsPart out_upgrade (R.remaining reader.old) (R.remaining reader.new) (W.contents writer.old) (W.contents writer.new)) }
 {
     let upgrader = Upgrader {
-        input: TraceInput::new(alloc),
-        reasons: TraceReasons::new(errors),
+        input: TraceInput::new(alloc, errors),
     };
     run(alloc, upgrader, reader, writer)
 }

@@ -15,8 +15,8 @@ use caller_room::{LINE_ROOM, NO_MEMORY, SMALL_ROOM, fill};
 use history_check::{Flaw, FlawKind, Trace, check};
 use seq_memory::Entry;
 use std::alloc::Global;
+use trace_engine::{write_fault, write_flaw};
 use trace_file::{ReadFault, ReadFaultKind, read_trace};
-use trace_text::write_decimal;
 
 /// Puts the line of a flaw to the front of the room.
 fn put_flaw(flaw: Flaw, room: &mut [u8]) -> u32
@@ -26,12 +26,7 @@ fn put_flaw(flaw: Flaw, room: &mut [u8]) -> u32
     ensures room { room.new ≡ filled room.old (flaw_line flaw.kind flaw.place) }
 {
     let mut text = ArrayString::new();
-    text.push_str("flaw ");
-    write_decimal(u64::from(flaw.kind.number()), &mut text);
-    text.push_str(" ");
-    text.push_str(flaw.kind.name());
-    text.push_str(" ");
-    write_decimal(flaw.place as u64, &mut text);
+    write_flaw(flaw, &mut text);
     fill(room, text.as_bytes());
     1000 + text.len() as u32
 }
@@ -44,10 +39,7 @@ fn put_fault(fault: ReadFault, room: &mut [u8]) -> u32
     ensures room { room.new ≡ filled room.old (fault_line fault) }
 {
     let mut text = ArrayString::new();
-    text.push_str("fault ");
-    write_decimal(fault.line, &mut text);
-    text.push_str(" ");
-    text.push_str(fault.kind.name());
+    write_fault(fault, &mut text);
     fill(room, text.as_bytes());
     1000 + text.len() as u32
 }
