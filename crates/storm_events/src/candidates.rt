@@ -1,5 +1,5 @@
 //! What may happen next: events that are drawn, whether or not the fabric takes them.
-ghost use Rattle.std.specs.Prelude.{◌≡◌, ◌≤◌, ◌<◌};
+ghost use Rattle.std.specs.Prelude.{◌≤◌, ◌<◌};
 ghost use Rattle.script_lines.specs.Spelled.{IsSpelledLane, IsSpelledEvent};
 
 use crate::draws::Draws;

@@ -84,7 +84,9 @@ impl Chooser {
     }
 
     /// Counts what arrived.
-    fn count(&mut self, event: &Event) {
+    fn count(&mut self, event: &Event)
+        requires { IsSpelledEvent event.now }
+    {
         match event {
             Event::Deliver(lane, _) => self.packets.add(*lane),
             Event::DeliverDllp(lane, _) => self.dllps.add(*lane),

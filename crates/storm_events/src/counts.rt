@@ -1,4 +1,6 @@
 //! How many packets and DLLPs have reached the ends of each lane's wires.
+ghost use Rattle.std.specs.Prelude.{◌<◌};
+ghost use Rattle.script_lines.specs.Spelled.{IsSpelledLane};
 
 use fabric_core::LaneName;
 
@@ -12,7 +14,10 @@ pub(crate) struct Counts {
 }
 
 /// The place of a lane.
-fn place_of(lane: LaneName) -> usize {
+fn place_of(lane: LaneName) -> usize
+    requires { IsSpelledLane lane }
+    ensures { result < 16 }
+{
     match lane {
         LaneName::Inward => 0,
         LaneName::Up(port) => usize::from(port),
@@ -27,20 +32,17 @@ impl Counts {
     }
 
     /// The count of the next one on the lane, from 1.
-    pub(crate) fn next(&self, lane: LaneName) -> u64 {
-        let place = place_of(lane);
-        if place < LANES {
-            self.counts[place].saturating_add(1)
-        } else {
-            1
-        }
+    pub(crate) fn next(&self, lane: LaneName) -> u64
+        requires { IsSpelledLane lane }
+    {
+        self.counts[place_of(lane)].saturating_add(1)
     }
 
     /// One more on the lane.
-    pub(crate) fn add(&mut self, lane: LaneName) {
+    pub(crate) fn add(&mut self, lane: LaneName)
+        requires { IsSpelledLane lane }
+    {
         let place = place_of(lane);
-        if place < LANES {
-            self.counts[place] = self.counts[place].saturating_add(1);
-        }
+        self.counts[place] = self.counts[place].saturating_add(1);
     }
 }

@@ -1,8 +1,9 @@
 //! The events of a storm: each is drawn from a seed, tried on the fabric, and told where it happened.
 //!
 //! A [`Chooser`] draws from the generator PCG-XSH-RR with 64 bits of state (O'Neill's `pcg32`), so that one seed
-//! gives the same events on every machine. Operations meet at a few places, and every kind of event comes, each of a
-//! link's on every lane. What becomes of packets and DLLPs is a plan of faults over each lane's counts.
+//! gives the same events on every machine. Operations meet at a few places, and every kind of event is drawn, each of a
+//! link's for every lane; a link is retrained only where its sender has stopped behind replays that brought no Ack.
+//! What becomes of packets and DLLPs is a plan of faults over each lane's counts.
 #![tactic(auto)]
 
 mod candidates;

@@ -1,14 +1,13 @@
 //! The operations of a storm.
-ghost use Rattle.std.specs.Prelude.{◌≡◌, ◌≤◌, ◌<◌, ◌*◌, length};
-ghost use Rattle.arrayvec.specs.ArrayVec.{array_vec_len};
+ghost use Rattle.std.specs.Prelude.{◌≤◌, ◌<◌, ◌*◌};
 ghost use Rattle.script_lines.specs.Spelled.{AreEnables, IsData, IsOperand, IsInRange};
 
 use crate::draws::Draws;
 use arrayvec::ArrayVec;
 use tlp_core::{MAX_PAYLOAD, Op, Width};
 
-/// Where the operations of all requesters meet: aligned for each width, and at two of them a few DW reach over the
-/// bounds of a block.
+/// Where the operations of all requesters meet: aligned for each width, and from two of them 5 or 6 DW reach over a
+/// bound of 64 bytes.
 const PLACES: [u64; 4] = [0, 48, 1024, 4080];
 
 /// An address outside of the memory.
