@@ -142,11 +142,12 @@ impl HexLine {
         }
     }
 
-    /// Reads the bytes that the line spells, and says whether it spells bytes.
+    /// Reads the bytes that the line spells, and says whether it spells bytes; where it doesn't, there are none.
     pub fn read(&mut self, line: &[u8]) -> bool
         requires { length line.now ≤ 512 }
         ensures read { result ≡ true → decode_of (digits_of line.now) ≡ Ok self.new }
         ensures not_read { result ≡ false → IsErr (decode_of (digits_of line.now)) }
+        ensures nothing { result ≡ false → self.new ≡ [] }
     {
         let Some(count) = read_line(line, &mut self.digits, &mut self.bytes) else {
             self.count = 0;
