@@ -57,8 +57,8 @@ fn answer_packet(base: u64, block: u16, bytes: &mut [u8], packet: &Tlp, room: &m
 /// `block` bytes. Below 1000 the result is how many bytes the completion at the front of `room` has,
 /// 0 for a posted write, which has none. From 1000 on nothing has changed: `WRONG_BLOCK`, then
 /// `SMALL_ROOM` for fewer than 144 bytes, then 1000 and the number of the fault where `packet` is no
-/// packet, then `NO_REQUEST` for a completion. Accesses outside the bytes, across a block or with a
-/// fault of their own are answered by completions with that status.
+/// packet, then `NO_REQUEST` for a completion. A request across a block or outside the bytes changes
+/// none of them, and its completion, if it has one, says so.
 pub fn answer_bytes(base: u64, block: u16, bytes: &mut [u8], packet: &[u8], room: &mut [u8]) -> u32
     ensures code { result ≡ (call base block bytes.old packet.now room.old).code }
     ensures bytes { bytes.new ≡ (call base block bytes.old packet.now room.old).bytes }

@@ -18,8 +18,8 @@ use std::alloc::{AllocError, Global};
 use std::io::{Read, Write};
 use std::marker::Model;
 use std::mem;
+use trace_engine::write_fault;
 use trace_file::{ReadFault, TraceReader};
-use trace_text::write_decimal;
 
 /// The first flaw of the trace and its history, if there is one.
 fn flaw_in(alloc: Global, trace: &Trace, history: &[Entry]) -> Result<Option<Flaw>, AllocError>
@@ -58,10 +58,7 @@ fn show_fault(alloc: Global, fault: ReadFault, out: &mut Vec<u8>) -> Result<bool
     ensures err { OnErr result (out.new.items ≡ out.old.items) }
 {
     let mut words = ArrayString::new();
-    words.push_str("fault ");
-    write_decimal(fault.line, &mut words);
-    words.push_str(" ");
-    words.push_str(fault.kind.name());
+    write_fault(fault, &mut words);
     let picture = line_of(alloc, words.as_bytes())?;
     out.extend_from_slice(picture.as_slice())?;
     Ok(true)

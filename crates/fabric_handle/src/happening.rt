@@ -1,13 +1,14 @@
 //! Events.
-ghost use Rattle.std.specs.Prelude.{◌≡◌, ◌≤◌, ◌<◌, ◌+◌, ◌++◌, ◌∷◌, [], ℕ, List, Some, Ok, Err, true, length, vec_len, vec_capacity, if◌then◌else◌, option_to_list, IfOk, IfErr, OnOk, OnErr};
+ghost use Rattle.std.specs.Prelude.{◌≡◌, ◌≤◌, ◌<◌, ◌+◌, ◌++◌, ◌∷◌, [], ℕ, List, Some, Ok, Err, true, false, length, vec_len, vec_capacity, if◌then◌else◌, IfOk, IfErr, OnOk, OnErr};
 ghost use Rattle.arrayvec.specs.ArrayString.{array_string_len};
 ghost use Rattle.history_check.specs.declared.Record.{Record};
 ghost use Rattle.fabric_laws.specs.Fabric.{whole_of};
 ghost use Rattle.fabric_laws.specs.Trace.{Belongs};
-ghost use Rattle.fabric_core.specs.Kept.{IsSoundFabric, records_of};
+ghost use Rattle.fabric_core.specs.Kept.{IsSoundFabric};
+ghost use Rattle.fabric_core.specs.Runs.{has_record};
 ghost use Rattle.fabric_answers.specs.Answers.{answer, IsTold};
 ghost use Rattle.script_text.specs.Names.{refusal_name};
-ghost use Rattle.script_text.specs.Texts.{seen_text};
+ghost use Rattle.script_text.specs.Texts.{seen_text, told_text};
 ghost use Rattle.caller_room.specs.Room.{filled};
 ghost use Rattle.fabric_handle.specs.Session as spec;
 ghost use Rattle.fabric_handle.specs.Session.{happened, event_call};
@@ -21,13 +22,12 @@ use fabric_core::{Event, Fabric, Refusal, Seen};
 use fabric_laws::laws::the_trace_belongs;
 use history_check::Record;
 use lane_core::LaneRefusal;
-use script_text::{Line, read_line, write_refusal, write_seen};
-use tlp_core::copy_of;
+use script_text::{Line, read_line, write_refusal, write_seen, write_told};
 
 /// An event happens to the fabric.
 fn step(fabric: &mut Fabric, event: &Event) -> Result<Seen, Refusal>
     ensures ok { IfOk result (λ what. answer fabric.old event.now ≡ Ok (what, fabric.new)) }
-    ensures belongs { IfOk result (λ what. (rs : List Record) → Belongs (whole_of fabric.old) rs → Belongs (whole_of fabric.new) (rs ++ records_of event.now what (length fabric.old.memory.entries))) }
+    ensures belongs { has_record event.now ≡ false → (rs : List Record) → Belongs (whole_of fabric.old) rs → Belongs (whole_of fabric.new) rs }
     ensures refused { IfErr result (λ r. IsTold r → answer fabric.old event.now ≡ Err r) }
     ensures err { OnErr result (fabric.new ≡ fabric.old) }
 {
@@ -40,41 +40,19 @@ fn step(fabric: &mut Fabric, event: &Event) -> Result<Seen, Refusal>
     }
 }
 
-/// What an event adds to a trace, `n` being the length of the history before it.
-fn record_of(event: &Event, seen: Seen, n: u64) -> Option<Record>
-    ensures { option_to_list result ≡ records_of event.now seen n }
+/// Whether a trace has a record of the event.
+fn is_recorded(event: &Event) -> bool
+    ensures { result ≡ has_record event.now }
 {
-    match event {
-        Event::Submit(port, op) => match seen {
-            Seen::Submitted(number) => Some(Record::Sub {
-                requester: *port,
-                number,
-                op: copy_of(op),
-                n,
-            }),
-            _ => None,
-        },
-        Event::Collect(port) => match seen {
-            Seen::Collected(answer) => Some(Record::Ans {
-                requester: *port,
-                number: answer.number,
-                reply: answer.reply,
-                n,
-            }),
-            _ => None,
-        },
-        _ => None,
-    }
+    matches!(event, Event::Submit(_, _) | Event::Collect(_))
 }
 
-/// Adds the record of an event, for which there is room.
-fn keep(records: &mut Vec<Record>, event: &Event, seen: Seen, n: u64)
+/// Keeps a record for which there is room.
+fn keep(records: &mut Vec<Record>, told: Record)
     requires { vec_len records.old < vec_capacity records.old }
-    ensures { records.new.items ≡ records.old.items ++ records_of event.now seen n }
+    ensures { records.new.items ≡ records.old.items ++ told ∷ [] }
 {
-    if let Some(record) = record_of(event, seen, n) {
-        let _ = records.push(record);
-    }
+    let _ = records.push(told);
 }
 
 /// Puts what is seen of the event to the front of the room.
@@ -86,6 +64,19 @@ fn put_seen(event: &Event, seen: &Seen, room: &mut [u8]) -> u32
 {
     let mut text = ArrayString::new();
     write_seen(event, seen, &mut text);
+    fill(room, text.as_bytes());
+    text.len() as u32
+}
+
+/// Puts what was seen of the event of a record to the front of the room.
+fn put_told(told: &Record, room: &mut [u8]) -> u32
+    requires { 512 ≤ length room.old }
+    ensures code { result ≡ length (told_text told.now) }
+    ensures range { result < 1000 }
+    ensures room { room.new ≡ filled room.old (told_text told.now) }
+{
+    let mut text = ArrayString::new();
+    write_told(told, &mut text);
     fill(room, text.as_bytes());
     text.len() as u32
 }
@@ -108,10 +99,10 @@ fn put_refusal(refusal: Refusal, room: &mut [u8]) -> u32
     1000 + text.len() as u32
 }
 
-/// An event of a session that keeps no trace.
-fn happen_untraced(session: &mut Session, event: &Event, room: &mut [u8]) -> u32
+/// An event of which no record is kept.
+fn happen_unrecorded(session: &mut Session, event: &Event, room: &mut [u8]) -> u32
     requires room { 512 ≤ length room.old }
-    requires untraced { ¬ (session.old.is_traced ≡ true) }
+    requires unrecorded { session.old.is_traced ≡ true → has_record event.now ≡ false }
     ensures code { ¬ (result ≡ 2003) → result ≡ (happened session.old room.old event.now).code }
     ensures session { ¬ (result ≡ 2003) → session.new ≡ (happened session.old room.old event.now).session }
     ensures room { ¬ (result ≡ 2003) → room.new ≡ (happened session.old room.old event.now).room }
@@ -124,26 +115,29 @@ fn happen_untraced(session: &mut Session, event: &Event, room: &mut [u8]) -> u32
     }
 }
 
-/// An event of a session that keeps its trace.
-fn happen_traced(session: &mut Session, event: &Event, room: &mut [u8]) -> u32
+/// An event that has a record, of a session that keeps its trace.
+fn happen_recorded(session: &mut Session, event: &Event, room: &mut [u8]) -> u32
     requires room { 512 ≤ length room.old }
     requires traced { session.old.is_traced ≡ true }
+    requires recorded { has_record event.now ≡ true }
     ensures code { ¬ (result ≡ 2003) → result ≡ (happened session.old room.old event.now).code }
     ensures session { ¬ (result ≡ 2003) → session.new ≡ (happened session.old room.old event.now).session }
     ensures room { ¬ (result ≡ 2003) → room.new ≡ (happened session.old room.old event.now).room }
     ensures unchanged { 1000 ≤ result → session.new ≡ session.old }
     ensures unchanged_room { 2000 ≤ result → room.new ≡ room.old }
 {
+    each_event_has_one_answer();
+    session.fabric.sound();
     if session.records.try_reserve(1).is_err() {
         return NO_MEMORY;
     }
-    let n = session.fabric.history().len() as u64;
-    match step(&mut session.fabric, event) {
-        Ok(seen) => {
-            let code = put_seen(event, &seen, room);
-            keep(&mut session.records, event, seen, n);
+    match session.fabric.step_recorded(event) {
+        Ok(Some(told)) => {
+            let code = put_told(&told, room);
+            keep(&mut session.records, told);
             code
         }
+        Ok(None) => 0,
         Err(refusal) => put_refusal(refusal, room),
     }
 }
@@ -162,10 +156,10 @@ fn happen(session: &mut Session, line: &[u8], room: &mut [u8]) -> u32
     let Some(Line::Event(event)) = read_line(line) else {
         return NO_LINE;
     };
-    if session.is_traced {
-        happen_traced(session, &event, room)
+    if session.is_traced && is_recorded(&event) {
+        happen_recorded(session, &event, room)
     } else {
-        happen_untraced(session, &event, room)
+        happen_unrecorded(session, &event, room)
     }
 }
 

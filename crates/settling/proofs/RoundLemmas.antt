@@ -1,5 +1,5 @@
 -- Events that are tried, once and until they are refused.
-use Rattle.std.proofs.Common.{◌≡◌, ◌∙◌, ℕ, zero, suc, ◌+◌, ◌-◌, ◌≤◌, ◌<◌, Bool, true, false, if◌then◌else◌, List, [], ◌++◌, length, take, get_or, refl, sym, ap, Result, Ok, Err, arith}
+use Rattle.std.proofs.Common.{◌≡◌, ◌∙◌, ℕ, zero, suc, ◌+◌, ◌-◌, ◌≤◌, ◌<◌, Bool, true, false, if◌then◌else◌, List, [], ◌∷◌, ◌++◌, length, take, get_or, refl, sym, ap, Result, Ok, Err, arith}
 use Rattle.std.specs.Prelude.{is_ok, ◌||◌, fold}
 use Rattle.std.proofs.lemmas.List.Sums.{fold_more}
 use Rattle.history_check.specs.declared.Record.{Record}
@@ -11,7 +11,15 @@ use Rattle.fabric_core.specs.Kept.{records_of}
 use Rattle.fabric_answers.specs.Answers.{Answered, answer}
 use Rattle.fabric_core.specs.Steps.{Happens}
 use Rattle.fabric_core.specs.Runs.{Recorded}
-use Rattle.settling.specs.Rounds.{Settling, at, answered, tried, goes, times, is_move, round, rounds, if_moved}
+use Rattle.dllp_core.specs.declared.packet.Class.TheVariants.{Posted, NonPosted, Completion}
+use Rattle.lane_core.specs.declared.packet.Fate.TheVariants.{Good}
+use Rattle.lane_core.specs.declared.packet.DllpKind.TheVariants as kinds
+use Rattle.fabric_core.specs.declared.event.Event.TheVariants as events
+use Rattle.fabric_core.specs.declared.event.LaneName.{LaneName}
+use Rattle.fabric_core.specs.declared.event.LaneName.TheVariants as lanes
+use Rattle.settling.specs.declared.turns.Attempt.{Attempt}
+use Rattle.settling.specs.declared.turns.Attempt.TheVariants as attempts
+use Rattle.settling.specs.Rounds.{Settling, at, answered, tried, goes, times, is_move, round, rounds, if_moved, attempted, retrained, with_packets, with_sent, with_dllps, lane_turn, all_lanes, with_lanes, with_forwards, with_answers}
 
 -- an event that happens
 pub happened : (f f' : Fabric) (rs : List Record) (b : Bool) (e : Event) (what : Seen) → answer f e ≡ Ok (what, f')
@@ -118,3 +126,35 @@ pub fold_next : {X : Type 0} (f : Settling → X → Settling) (start here next 
     → here ≡ fold f start (take i xs) → next ≡ f here (get_or xs i d) → next ≡ fold f start (take (i + 1) xs)
 fold_next f start here next xs i d inside so_far step =
     step ∙ ap (λ (t : Settling). f t (get_or xs i d)) so_far ∙ sym (fold_more f start xs i d inside)
+
+-- ---- lists of attempts
+
+-- what is tried of a lane behind its first packet
+abbrev pub lane_attempts : LaneName → List Attempt
+lane_attempts lane =
+    attempts.All (events.Transmit lane) ∷ attempts.All (events.Deliver lane Good) ∷ attempts.Once (events.SendDllp lane kinds.Answer)
+    ∷ attempts.Once (events.SendDllp lane (kinds.Update Posted)) ∷ attempts.Once (events.SendDllp lane (kinds.Update NonPosted))
+    ∷ attempts.Once (events.SendDllp lane (kinds.Update Completion)) ∷ attempts.All (events.DeliverDllp lane Good) ∷ []
+
+pub lane_attempts_are : (s t : Settling) (lane : LaneName) → t ≡ tried (retrained s lane) (events.Transmit lane)
+    → fold attempted t (lane_attempts lane) ≡ with_dllps (with_packets s lane) lane
+unfolding with_sent
+lane_attempts_are s t lane e = ap (λ (u : Settling). fold attempted u (lane_attempts lane)) e
+
+-- and behind the lanes
+abbrev pub behind_lanes : List Attempt
+behind_lanes =
+    attempts.Once (events.Forward (lanes.Up 1) 0) ∷ attempts.Once (events.Forward (lanes.Up 1) 1)
+    ∷ attempts.Once (events.Forward (lanes.Up 2) 0) ∷ attempts.Once (events.Forward (lanes.Up 2) 1)
+    ∷ attempts.Once (events.Forward (lanes.Up 3) 0) ∷ attempts.Once (events.Forward (lanes.Up 3) 1)
+    ∷ attempts.Once (events.Forward (lanes.Up 4) 0) ∷ attempts.Once (events.Forward (lanes.Up 4) 1)
+    ∷ attempts.Once (events.Forward (lanes.Up 5) 0) ∷ attempts.Once (events.Forward (lanes.Up 5) 1)
+    ∷ attempts.Once (events.Forward (lanes.Up 6) 0) ∷ attempts.Once (events.Forward (lanes.Up 6) 1)
+    ∷ attempts.Once (events.Forward (lanes.Up 7) 0) ∷ attempts.Once (events.Forward (lanes.Up 7) 1)
+    ∷ attempts.Once (events.Forward lanes.Outward 0) ∷ attempts.Once (events.Forward lanes.Outward 1)
+    ∷ attempts.Once (events.Serve 0) ∷ attempts.Once (events.Serve 1)
+    ∷ attempts.All (events.Collect 1) ∷ attempts.All (events.Collect 2) ∷ attempts.All (events.Collect 3) ∷ attempts.All (events.Collect 4) ∷ attempts.All (events.Collect 5) ∷ attempts.All (events.Collect 6) ∷ attempts.All (events.Collect 7) ∷ []
+
+pub round_is : (s : Settling) → fold attempted (fold lane_turn (at s.fabric s.records false) all_lanes) behind_lanes ≡ round s
+unfolding with_lanes with_forwards with_answers
+round_is s = refl

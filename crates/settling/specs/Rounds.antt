@@ -16,6 +16,8 @@ use Rattle.fabric_core.specs.declared.event.LaneName.{LaneName}
 use Rattle.fabric_core.specs.declared.event.LaneName.TheVariants as lanes
 use Rattle.fabric_core.specs.Kept.{records_of}
 use Rattle.fabric_answers.specs.Answers.{Answered, answer}
+use Rattle.settling.specs.declared.turns.Attempt.{Attempt}
+use Rattle.settling.specs.declared.turns.Attempt.TheVariants as attempts
 
 -- a fabric that is being settled, what its requesters collected, oldest first, and whether the round has moved something
 pub record Settling : Type 0 where
@@ -54,6 +56,11 @@ times (suc n) s event = times n (tried s event) event
 -- the event until it is refused
 abbrev pub all : Settling → Event → Settling
 all s event = times (2 ^ 64 - 1) s event
+
+-- one of the two
+abbrev pub attempted : Settling → Attempt → Settling
+attempted s (attempts.Once event) = tried s event
+attempted s (attempts.All event) = all s event
 
 -- ---- the turn of a lane
 

@@ -1,5 +1,5 @@
 //! A round of events.
-ghost use Rattle.std.specs.Prelude.{◌≡◌, ◌<◌, ◌++◌, false, vec_len, vec_capacity, option_to_list, IfOk, OnOk};
+ghost use Rattle.std.specs.Prelude.{◌≡◌, ◌<◌, ◌++◌, false, vec_len, vec_capacity, option_to_list, fold, IfOk, OnOk};
 ghost use Rattle.fabric_answers.specs.Answers.{IsTold};
 ghost use Rattle.settling.specs.Reached.{Reached};
 ghost use Rattle.settling.specs.Rounds as spec;
@@ -31,26 +31,42 @@ const LANES: [LaneName; 16] = [
     LaneName::Down(7),
 ];
 
-/// Those that the switch forwards from.
-const FORWARDING: [LaneName; 8] = [
-    LaneName::Up(1),
-    LaneName::Up(2),
-    LaneName::Up(3),
-    LaneName::Up(4),
-    LaneName::Up(5),
-    LaneName::Up(6),
-    LaneName::Up(7),
-    LaneName::Outward,
-];
+/// An event that a round tries.
+#[derive(Drop)]
+enum Attempt {
+    /// It is tried once.
+    Once(Event),
+    /// It is tried until it is refused.
+    All(Event),
+}
 
-const PORTS: [u8; 7] = [1, 2, 3, 4, 5, 6, 7];
-
-/// The DLLPs that a receiver sends in a round.
-const DLLPS: [DllpKind; 4] = [
-    DllpKind::Answer,
-    DllpKind::Update(Class::Posted),
-    DllpKind::Update(Class::NonPosted),
-    DllpKind::Update(Class::Completion),
+/// Behind the turns of the lanes the switch forwards, the memory acts, and the requesters collect.
+const BEHIND_LANES: [Attempt; 25] = [
+    Attempt::Once(Event::Forward(LaneName::Up(1), 0)),
+    Attempt::Once(Event::Forward(LaneName::Up(1), 1)),
+    Attempt::Once(Event::Forward(LaneName::Up(2), 0)),
+    Attempt::Once(Event::Forward(LaneName::Up(2), 1)),
+    Attempt::Once(Event::Forward(LaneName::Up(3), 0)),
+    Attempt::Once(Event::Forward(LaneName::Up(3), 1)),
+    Attempt::Once(Event::Forward(LaneName::Up(4), 0)),
+    Attempt::Once(Event::Forward(LaneName::Up(4), 1)),
+    Attempt::Once(Event::Forward(LaneName::Up(5), 0)),
+    Attempt::Once(Event::Forward(LaneName::Up(5), 1)),
+    Attempt::Once(Event::Forward(LaneName::Up(6), 0)),
+    Attempt::Once(Event::Forward(LaneName::Up(6), 1)),
+    Attempt::Once(Event::Forward(LaneName::Up(7), 0)),
+    Attempt::Once(Event::Forward(LaneName::Up(7), 1)),
+    Attempt::Once(Event::Forward(LaneName::Outward, 0)),
+    Attempt::Once(Event::Forward(LaneName::Outward, 1)),
+    Attempt::Once(Event::Serve(0)),
+    Attempt::Once(Event::Serve(1)),
+    Attempt::All(Event::Collect(1)),
+    Attempt::All(Event::Collect(2)),
+    Attempt::All(Event::Collect(3)),
+    Attempt::All(Event::Collect(4)),
+    Attempt::All(Event::Collect(5)),
+    Attempt::All(Event::Collect(6)),
+    Attempt::All(Event::Collect(7)),
 ];
 
 /// Whether a round in which the event happens has moved something.
@@ -126,41 +142,29 @@ fn all(
     Ok(())
 }
 
-/// The link is retrained where its sender is stopped, and the packets go and arrive. Tells whether one went.
-fn packets(
+/// Tries events in turn.
+fn try_each(
     fabric: &mut Fabric,
     records: &mut Vec<Record>,
     moved: &mut bool,
-    lane: LaneName,
-) -> Result<bool, AllocError>
-    ensures state { OnOk result (spec.at fabric.new records.new.items moved.new ≡ spec.with_packets (spec.at fabric.old records.old.items moved.old) lane) }
-    ensures went { IfOk result (λ went. went ≡ spec.goes (spec.retrained (spec.at fabric.old records.old.items moved.old) lane) (Event.Transmit lane)) }
-    ensures reached { Reached fabric.old records.old.items fabric.new records.new.items }
-{
-    once(fabric, records, moved, &Event::Retrained(lane))?;
-    let went = once(fabric, records, moved, &Event::Transmit(lane))?;
-    all(fabric, records, moved, &Event::Transmit(lane))?;
-    all(fabric, records, moved, &Event::Deliver(lane, Fate::Good))?;
-    Ok(went)
-}
-
-/// An answer and the updates of each class go.
-fn send_dllps(
-    fabric: &mut Fabric,
-    records: &mut Vec<Record>,
-    moved: &mut bool,
-    lane: LaneName,
+    attempts: &[Attempt],
 ) -> Result<(), AllocError>
-    ensures state { OnOk result (spec.at fabric.new records.new.items moved.new ≡ spec.with_sent (spec.at fabric.old records.old.items moved.old) lane) }
+    ensures state { OnOk result (spec.at fabric.new records.new.items moved.new ≡ fold spec.attempted (spec.at fabric.old records.old.items moved.old) attempts.now) }
     ensures reached { Reached fabric.old records.old.items fabric.new records.new.items }
 {
-    for kind in DLLPS {
-        once(fabric, records, moved, &Event::SendDllp(lane, kind))?;
+    for attempt in attempts {
+        match attempt {
+            Attempt::Once(event) => {
+                once(fabric, records, moved, event)?;
+            }
+            Attempt::All(event) => all(fabric, records, moved, event)?,
+        }
     }
     Ok(())
 }
 
-/// The turn of a lane.
+/// The turn of a lane: the link is retrained where its sender is stopped, the packets go and arrive, and then the DLLPs.
+/// The replay timer expires where no packet went.
 fn lane_turn(
     fabric: &mut Fabric,
     records: &mut Vec<Record>,
@@ -170,86 +174,20 @@ fn lane_turn(
     ensures state { OnOk result (spec.at fabric.new records.new.items moved.new ≡ spec.lane_turn (spec.at fabric.old records.old.items moved.old) lane) }
     ensures reached { Reached fabric.old records.old.items fabric.new records.new.items }
 {
-    let went = packets(fabric, records, moved, lane)?;
-    send_dllps(fabric, records, moved, lane)?;
-    all(
-        fabric,
-        records,
-        moved,
-        &Event::DeliverDllp(lane, Fate::Good),
-    )?;
+    once(fabric, records, moved, &Event::Retrained(lane))?;
+    let went = once(fabric, records, moved, &Event::Transmit(lane))?;
+    let attempts = [
+        Attempt::All(Event::Transmit(lane)),
+        Attempt::All(Event::Deliver(lane, Fate::Good)),
+        Attempt::Once(Event::SendDllp(lane, DllpKind::Answer)),
+        Attempt::Once(Event::SendDllp(lane, DllpKind::Update(Class::Posted))),
+        Attempt::Once(Event::SendDllp(lane, DllpKind::Update(Class::NonPosted))),
+        Attempt::Once(Event::SendDllp(lane, DllpKind::Update(Class::Completion))),
+        Attempt::All(Event::DeliverDllp(lane, Fate::Good)),
+    ];
+    try_each(fabric, records, moved, &attempts)?;
     if !went {
         once(fabric, records, moved, &Event::Timer(lane))?;
-    }
-    Ok(())
-}
-
-/// The turns of all lanes.
-fn lane_turns(
-    fabric: &mut Fabric,
-    records: &mut Vec<Record>,
-    moved: &mut bool,
-) -> Result<(), AllocError>
-    ensures state { OnOk result (spec.at fabric.new records.new.items moved.new ≡ spec.with_lanes (spec.at fabric.old records.old.items moved.old)) }
-    ensures reached { Reached fabric.old records.old.items fabric.new records.new.items }
-{
-    for lane in LANES {
-        lane_turn(fabric, records, moved, lane)?;
-    }
-    Ok(())
-}
-
-/// The packets at the places 0 and 1 of a lane's queue go on.
-fn forward(
-    fabric: &mut Fabric,
-    records: &mut Vec<Record>,
-    moved: &mut bool,
-    lane: LaneName,
-) -> Result<(), AllocError>
-    ensures state { OnOk result (spec.at fabric.new records.new.items moved.new ≡ spec.forwarded (spec.at fabric.old records.old.items moved.old) lane) }
-    ensures reached { Reached fabric.old records.old.items fabric.new records.new.items }
-{
-    once(fabric, records, moved, &Event::Forward(lane, 0))?;
-    once(fabric, records, moved, &Event::Forward(lane, 1))?;
-    Ok(())
-}
-
-/// The switch forwards from each lane.
-fn forwards(
-    fabric: &mut Fabric,
-    records: &mut Vec<Record>,
-    moved: &mut bool,
-) -> Result<(), AllocError>
-    ensures state { OnOk result (spec.at fabric.new records.new.items moved.new ≡ spec.with_forwards (spec.at fabric.old records.old.items moved.old)) }
-    ensures reached { Reached fabric.old records.old.items fabric.new records.new.items }
-{
-    for lane in FORWARDING {
-        forward(fabric, records, moved, lane)?;
-    }
-    Ok(())
-}
-
-/// The requests at the places 0 and 1 act on the memory.
-fn serve(fabric: &mut Fabric, records: &mut Vec<Record>, moved: &mut bool) -> Result<(), AllocError>
-    ensures state { OnOk result (spec.at fabric.new records.new.items moved.new ≡ spec.served (spec.at fabric.old records.old.items moved.old)) }
-    ensures reached { Reached fabric.old records.old.items fabric.new records.new.items }
-{
-    once(fabric, records, moved, &Event::Serve(0))?;
-    once(fabric, records, moved, &Event::Serve(1))?;
-    Ok(())
-}
-
-/// The requesters collect what has arrived.
-fn collect(
-    fabric: &mut Fabric,
-    records: &mut Vec<Record>,
-    moved: &mut bool,
-) -> Result<(), AllocError>
-    ensures state { OnOk result (spec.at fabric.new records.new.items moved.new ≡ spec.with_answers (spec.at fabric.old records.old.items moved.old)) }
-    ensures reached { Reached fabric.old records.old.items fabric.new records.new.items }
-{
-    for port in PORTS {
-        all(fabric, records, moved, &Event::Collect(port))?;
     }
     Ok(())
 }
@@ -264,8 +202,8 @@ pub(crate) fn round(
     ensures reached { Reached fabric.old records.old.items fabric.new records.new.items }
 {
     *moved = false;
-    lane_turns(fabric, records, moved)?;
-    forwards(fabric, records, moved)?;
-    serve(fabric, records, moved)?;
-    collect(fabric, records, moved)
+    for lane in LANES {
+        lane_turn(fabric, records, moved, lane)?;
+    }
+    try_each(fabric, records, moved, &BEHIND_LANES)
 }
