@@ -49,15 +49,19 @@ impl<'a> Promise<Ended> for Keeps<'a> {
 }
 
 /// What a requester's thread does.
-fn one<G: Gate>(run: Run<'_>, gate: &G, requester: Requester<'_>, number: u8) -> Ended
+fn one<G: Gate>(
+    requester: Requester<'_>,
+    mut turns: Turns<'_, G>,
+    shared: &Shared,
+    requesters: u8,
+) -> Ended
     requires { Follows requester }
     ensures seat { IsSeatOf requester.entry.hall.now result.seat }
     ensures pusher { (result.pusher.queue ≡ requester.entry.recorder.now) × (result.pusher.pushed.requester ≡ requester.entry.number) }
     ensures whole { IsTrue result.whole → Finishes requester.entry.script.now result.pusher.pushed }
 {
-    let mut turns = Turns::new(u32::from(number), run.limit, gate, run.shared);
     let ended = requester.run(&mut turns);
-    run.shared.end_one(run.requesters);
+    shared.end_one(requesters);
     ended
 }
 
@@ -79,10 +83,9 @@ fn start<'s, E, G: Gate + Sync>(
         hall,
         recorder,
         shared,
-        answered,
-        plan,
         limit,
         requesters,
+        ..
     } = run;
     let keeps = Keeps {
         hall,
@@ -91,20 +94,11 @@ fn start<'s, E, G: Gate + Sync>(
         requester: number,
     };
     let handle = scope.spawn_with(keeps, move || {
-        let run = Run {
-            hall,
-            recorder,
-            shared,
-            answered,
-            plan,
-            limit,
-            requesters,
-        };
         one(
-            run,
-            gate,
             Requester::new(hall, recorder, script, number, seat, pusher),
-            number,
+            Turns::new(u32::from(number), limit, gate, shared),
+            shared,
+            requesters,
         )
     })?;
     Ok(handle)
@@ -140,11 +134,9 @@ fn start_all<'s, E, G: Gate + Sync>(
 }
 
 /// What another worker's thread does.
-fn one_work<G: Gate>(run: Run<'_>, gate: &G, seat: WorkSeat, part: Part, number: u32)
-    requires { IsSeatOf run.hall.now seat }
+fn one_work<G: Gate>(mut worker: Worker<'_>, part: Part, mut turns: Turns<'_, G>)
+    requires { IsSeatOf worker.hall.now worker.seat }
 {
-    let mut turns = Turns::new(number, run.limit, gate, run.shared);
-    let mut worker = Worker::new(run.hall, seat, run.plan, run.requesters);
     worker.run(part, &mut turns);
 }
 
@@ -161,24 +153,18 @@ fn start_work<'s, E, G: Gate + Sync>(
 {
     let Run {
         hall,
-        recorder,
         shared,
-        answered,
         plan,
         limit,
         requesters,
+        ..
     } = run;
     let handle = scope.spawn(move || {
-        let run = Run {
-            hall,
-            recorder,
-            shared,
-            answered,
-            plan,
-            limit,
-            requesters,
-        };
-        one_work(run, gate, seat, part, number)
+        one_work(
+            Worker::new(hall, seat, plan, requesters),
+            part,
+            Turns::new(number, limit, gate, shared),
+        )
     })?;
     drop(handle);
     Ok(())
