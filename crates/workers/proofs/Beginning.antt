@@ -1,27 +1,19 @@
 -- How a run begins, and why it ends.
-use Rattle.std.proofs.Common.{◌≡◌, ℕ, suc, ◌+◌, ◌<◌, List, [], length, get_or, inl, refl, sym, ap, subst, Bool, true, ◌∙◌}
-use Rattle.std.specs.Prelude.{Option, Some, Result, Ok, Err, IfOk, IfErr, slice_get}
+use Rattle.std.proofs.Common.{◌≡◌, ℕ, List, get_or, inl, sym, ap, subst, Bool, true, ◌∙◌}
+use Rattle.std.specs.Prelude.{Result, Ok, Err, IfOk, IfErr}
 use Rattle.std.proofs.lemmas.Option.{slice_get-get_or}
-use Rattle.seq_memory.specs.declared.Entry.{Entry}
 use Rattle.seq_memory.specs.History.{State}
-use Rattle.history_check.specs.Observation.{Observation}
-use Rattle.history_check.specs.declared.flaws.FlawKind.{FlawKind}
-use Rattle.history_check.specs.Claim.{claim_of}
-use Rattle.history_check.specs.Flaws.{first_flaw}
-use Rattle.lane_core.specs.Calls.{content}
 use Rattle.fabric_laws.specs.Fabric.{Fabric}
 use Rattle.fabric_core.specs.declared.config.Config.{Config}
 use Rattle.fabric_core.specs.Config.{IsNewWith}
-use Rattle.hall_core.specs.Opens.{IsUnused}
-use Rattle.hall_laws.specs.Rule.{HasConfig, newcomer}
+use Rattle.hall_laws.specs.Rule.{HasConfig}
 use Rattle.hall_core.specs.Views.{SeatView, HallView, AreNewSeats}
 use Rattle.run_report.specs.declared.halt.RunHalt.{RunHalt}
-use Rattle.run_report.specs.declared.halt.RunHalt.TheVariants as halts
 use Rattle.run_report.specs.declared.plan.RunPlan.{RunPlan}
 use Rattle.run_report.specs.declared.report.Report.{Report}
 use Rattle.tlp_core.specs.declared.operation.Op.{Op}
 use Rattle.history_check.specs.declared.Record.{Record}
-use Rattle.run_report.specs.Halts.{IsPlan, IsOfMemory, IsFlaw, IsEndBy, IsCause, halt_of}
+use Rattle.run_report.specs.Halts.{IsPlan, IsEndBy, IsCause, halt_of}
 use Rattle.worker_turns.specs.declared.stop.Stop.{Stop}
 use Rattle.worker_turns.specs.declared.stop.Stop.TheVariants as stops
 use Rattle.workers.specs.Running.{AreUnusedSeats, AreWorkSeats, AreDone}

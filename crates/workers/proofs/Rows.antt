@@ -1,7 +1,7 @@
 -- Seats, threads and records in the order of their requesters.
 use Rattle.std.proofs.Math.Seq.{take-suc, drop-cons}
 use Rattle.std.proofs.lemmas.List.{map-append, length-map, length-take-le}
-use Rattle.std.proofs.Common.{◌≡◌, ℕ, zero, suc, ◌+◌, ◌<◌, Vec, Global, Bool, true, false, cond, eqb, ◌&&◌, ◌||◌, List, [], ◌∷◌, ◌++◌, length, map, take, drop, get_or, refl, add-one, subst, ◌∙◌, sym, ap, arith}
+use Rattle.std.proofs.Common.{◌≡◌, ℕ, suc, ◌+◌, ◌<◌, Vec, Global, Bool, true, false, cond, eqb, ◌&&◌, ◌||◌, List, [], ◌∷◌, ◌++◌, length, map, take, drop, get_or, refl, add-one, subst, ◌∙◌, sym, ap, arith}
 use Rattle.std.specs.Prelude.{remove, Some, None, slice_get}
 use Rattle.std.specs.declared.thread.PromisedHandle.{PromisedHandle}
 use Rattle.std.specs.List.{AllByRecursion as Each, list_any, cons_option}
@@ -11,9 +11,8 @@ use Rattle.history_check.specs.declared.Record.{Record}
 use Rattle.history_check.specs.declared.Record.TheVariants as records
 use Rattle.history_check.specs.Lookup.{requester_of}
 use Rattle.history_check.specs.Trace.{submission, submissions, answers_to}
-use Rattle.fabric_core.specs.declared.config.Config.{Config}
 use Rattle.hall_laws.specs.Rule.{newcomer}
-use Rattle.hall_core.specs.Views.{SeatView, HallView, AreNewSeats, IsSeatOf}
+use Rattle.hall_core.specs.Views.{SeatView, HallView, IsSeatOf}
 use Rattle.recorder.specs.declared.laws.Pushed.{Pushed}
 use Rattle.recorder.specs.declared.laws.Taken.{Taken}
 use Rattle.recorder.specs.Rule.{records_by, IsWhole}

@@ -1,5 +1,5 @@
 -- Seats, threads and records in the order of their requesters.
-use Rattle.std.specs.Prelude.{◌≡◌, ℕ, suc, ◌+◌, List, [], ◌∷◌}
+use Rattle.std.specs.Prelude.{◌≡◌, ℕ, ◌+◌, List, [], ◌∷◌}
 use Rattle.std.specs.List.{All}
 use Rattle.std.specs.declared.thread.PromisedHandle.{PromisedHandle}
 use Rattle.atomic_table.specs.Seated.{TableId}
@@ -41,7 +41,8 @@ AreFinished i [] (p ∷ ps) = ⊥
 AreFinished i (s ∷ ss) [] = ⊥
 AreFinished i (s ∷ ss) (p ∷ ps) = (p.requester ≡ i) × Finishes s p × AreFinished (i + 1) ss ps
 
--- the records' submissions of the requesters from that number on are these scripts, and each operation of theirs that isn't posted is answered
+-- the records' submissions of the requesters from that number on are these scripts, and each operation of theirs that
+-- isn't posted is answered
 abbrev pub AreDone : List Record → ℕ → List (List Op) → Type 0
 AreDone rs i [] = Unit {0}
 AreDone rs i (s ∷ ss) = (submissions rs i ≡ s) × IsAnswered i s rs × AreDone rs (i + 1) ss

@@ -1,4 +1,4 @@
-use Rattle.std.proofs.Common.{◌∙◌, ap, sym, subst, map, length, arith}
+use Rattle.std.proofs.Common.{ap, sym, subst, length, arith}
 use Rattle.run_report.specs.Halts.{IsCause}
 use Rattle.workers.proofs.Beginning.{first_seats, work_seats, stopped, ends, configured, all_done}
 use Rattle.workers.proofs.running.run_workers_counting.Goals as goal
