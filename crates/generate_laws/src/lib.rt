@@ -1,7 +1,7 @@
 //! What `step` and `check` answer to the scripts that `generate` writes.
 #![tactic(auto)]
 
-ghost use Rattle.std.specs.Prelude.{◌≡◌, true, ℕ, List, codes};
+ghost use Rattle.std.specs.Prelude.{◌≡◌, true, false, ℕ, List, codes};
 ghost use Rattle.fabric_laws.specs.Fabric.{Fabric};
 ghost use Rattle.fabric_core.specs.declared.config.Config.{Config};
 ghost use Rattle.trace_engine.specs.Check.{out_check};
@@ -11,6 +11,7 @@ ghost use Rattle.step_engine.specs.Script.{IsScript};
 ghost use Rattle.step_engine.specs.Step.{claim_with, out_step};
 ghost use Rattle.generate_engine.specs.Script.{IsScriptOf};
 
+use fabric_answers::laws::{a_configuration_has_one_answer, each_event_has_one_answer};
 use script_lines::laws::{own_line_spells_event, own_line_spells_fabric};
 use step_engine::laws::{a_traced_script_is_explained, a_traced_script_is_ok};
 
@@ -22,14 +23,18 @@ pub fn a_generated_script_is_read()
     own_line_spells_fabric();
 }
 
-/// `step --trace` refuses no line of what `generate` writes: it writes the trace of all its events, with the history
-/// that they left, and ends with status 0. And `check` says `ok` to that trace, if lines can tell it.
+/// `step` refuses no line of what `generate` writes: with no option it ends with status 0. With `--trace` it does too,
+/// and writes the trace of all its events, with the history that they left. And `check` says `ok` to that trace, if
+/// lines can tell it.
 pub fn nothing_generated_is_refused()
+    ensures plain { (c : Config) (count : ℕ) (text : List ℕ) (f : Fabric) (s : IsScriptOf c count text f) → (out_step false text).status ≡ 0 }
     ensures text { (c : Config) (count : ℕ) (text : List ℕ) (f : Fabric) (s : IsScriptOf c count text f) → (out_step true text).text ≡ trace_text (claim_with f s.happened.records) }
     ensures status { (c : Config) (count : ℕ) (text : List ℕ) (f : Fabric) (s : IsScriptOf c count text f) → (out_step true text).status ≡ 0 }
     ensures ok { (c : Config) (count : ℕ) (text : List ℕ) (f : Fabric) (s : IsScriptOf c count text f) →
         IsTellable (claim_with f s.happened.records) → (out_check (out_step true text).text).text ≡ codes "ok\n" }
 {
+    a_configuration_has_one_answer();
+    each_event_has_one_answer();
     a_generated_script_is_read();
     a_traced_script_is_explained();
     a_traced_script_is_ok();
