@@ -211,7 +211,9 @@ fn storms_have_all_events(rt: HostRuntime) {
 
 #[test]
 fn stopped_links_are_retrained(rt: HostRuntime) {
-    let script = script_of(rt.alloc(), &storm_of(HALF_LOST, EVENTS)).unwrap_or(Vec::new(rt.alloc()));
+    let script = script_of(rt.alloc(), &storm_of(HALF_LOST, EVENTS)).unwrap_or(Vec::new(
+        rt.alloc(),
+    ));
     for beginning in ["retrained up1", "retrained down1", "retrained in"] {
         assert!(rt; has_line(script.as_slice(), beginning), "{beginning}");
     }

@@ -7,7 +7,7 @@ returns c =
     let traced = c.a_traced_script_is_explained.ensures in
     record {
       plain = λ config count text f s. ends_well (record { new = c.a_configuration_has_one_answer.ensures.new; happens = c.each_event_has_one_answer.ensures.happens })
-      text config s.happened.new f s.events s.happened.records (read config count text f s) s.happened.is_new s.happened.run;
+          text config s.happened.new f s.events s.happened.records (read config count text f s) s.happened.is_new s.happened.run;
       text = λ config count text f s. traced.text text config s.happened.new f s.events s.happened.records (read config count text f s) s.happened.is_new s.happened.run;
       status = λ config count text f s. traced.status text config s.happened.new f s.events s.happened.records (read config count text f s) s.happened.is_new s.happened.run;
       ok = λ config count text f s told. c.a_traced_script_is_ok.ensures.ok text config s.happened.new f s.events s.happened.records (read config count text f s) s.happened.is_new s.happened.run told;
