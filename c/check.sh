@@ -20,10 +20,13 @@ over_the_gate() {
     set -- --extern "std=$home/rlibs/std.rlib"
     for name in $(sed -n 's/^pciex_c staticlib://p' crates.txt); do
         if [ -d "crates/$name" ]; then
-            set -- "$@" --extern "$name=$PWD/crates/$name/out/rlib/$name.rlib" -L "dependency=$PWD/crates/$name/out/rlib"
+            set -- "$@" --extern "$name=$PWD/crates/$name/out/rlib/$name.rlib"
         else
             set -- "$@" --extern "$name=$home/rlibs/$name.rlib"
         fi
+    done
+    for built in crates/*/out/rlib; do
+        set -- "$@" -L "dependency=$PWD/$built"
     done
     cd crates/pciex_c && "$home/bin/rattle" build --crate-name pciex_c src/lib.rt "$@" -L "dependency=$home/rlibs" \
         --antt-project "$home/rattle/logic/antt-project.json" --logic-built "$home/logic_built" --links pciex_c= \
