@@ -1,5 +1,5 @@
 -- The calls of a device with a history: what its memory and the caller's room hold after them, and their codes.
-use Rattle.std.specs.Prelude.{ℕ, ◌+◌, ◌==◌, ◌||◌, not, nat_lt, if◌then◌else◌, List, ◌∷◌, ◌++◌, length, slice_get, Option, Some, None, Result, Ok, Err}
+use Rattle.std.specs.Prelude.{ℕ, ◌≡◌, ◌+◌, ◌≤◌, ◌==◌, ◌||◌, not, false, nat_lt, if◌then◌else◌, List, ◌∷◌, ◌++◌, length, slice_get, Option, Some, None, Result, Ok, Err}
 use Rattle.std.specs.Fmt.{decimal}
 use Rattle.tlp_core.specs.declared.fault.TlpFault.{TlpFault}
 use Rattle.tlp_core.specs.Fault.{number_of}
@@ -53,6 +53,10 @@ read s number room (Ok t) = served s number room t
 abbrev pub service : State → ℕ → List ℕ → List ℕ → Service
 service s number packet room =
     if nat_lt (length room) 144 then refused 2000 s room else read s number room (reading packet)
+
+-- there is nothing to refuse but memory: the room is large enough, and the bytes spell a request
+abbrev pub IsRequestCall : List ℕ → List ℕ → Type 0
+IsRequestCall packet room = (144 ≤ length room) × (t : Packet) × (reading packet ≡ Ok t) × (is_completion t.kind ≡ false)
 
 -- ---- what is held
 

@@ -1,7 +1,8 @@
 //! Packets at a device with a history.
-ghost use Rattle.std.specs.Prelude.{◌≡◌, ◌≤◌, Some, length};
+ghost use Rattle.std.specs.Prelude.{◌≡◌, ◌≤◌, Some, false, length};
+ghost use Rattle.tlp_core.specs.Operation as spec;
 ghost use Rattle.seq_memory.specs.History.{State};
-ghost use Rattle.device_handle.specs.Calls.{served, service};
+ghost use Rattle.device_handle.specs.Calls.{served, service, IsRequestCall};
 
 use crate::slot::{Slot, close, open};
 use byte_device::{MAX_COMPLETION, is_completion, put_completion};
@@ -16,6 +17,7 @@ fn serve_tlp(memory: &mut Memory, number: u32, packet: &Tlp, room: &mut [u8]) ->
     ensures code { ¬ (result ≡ 2003) → result ≡ (served memory.old number room.old packet.now).code }
     ensures memory { ¬ (result ≡ 2003) → memory.new ≡ (served memory.old number room.old packet.now).memory }
     ensures room { ¬ (result ≡ 2003) → room.new ≡ (served memory.old number room.old packet.now).room }
+    ensures no_memory { result ≡ 2003 → spec.is_completion packet.now.kind ≡ false }
     ensures unchanged { 1000 ≤ result → (memory.new ≡ memory.old) × (room.new ≡ room.old) }
 {
     if is_completion(packet.kind) {
@@ -33,6 +35,7 @@ fn serve_bytes(memory: &mut Memory, number: u32, packet: &[u8], room: &mut [u8])
     ensures code { ¬ (result ≡ 2003) → result ≡ (service memory.old number packet.now room.old).code }
     ensures memory { ¬ (result ≡ 2003) → memory.new ≡ (service memory.old number packet.now room.old).memory }
     ensures room { ¬ (result ≡ 2003) → room.new ≡ (service memory.old number packet.now room.old).room }
+    ensures no_memory { result ≡ 2003 → IsRequestCall packet.now room.old }
     ensures unchanged { 1000 ≤ result → (memory.new ≡ memory.old) × (room.new ≡ room.old) }
 {
     if room.len() < MAX_COMPLETION {
@@ -47,14 +50,15 @@ fn serve_bytes(memory: &mut Memory, number: u32, packet: &[u8], room: &mut [u8])
 /// Lets a request act on the device of the slot under that number, and gives the device to `back`.
 /// Below 1000 the result is how many bytes the completion at the front of `room` has, 0 for a posted
 /// write. From 1000 on nothing has changed: `SMALL_ROOM` for fewer than 144 bytes, then 1000 and the
-/// number of the fault where `packet` is no packet, then `NO_REQUEST` for a completion, or `NO_MEMORY`
-/// where the history can't grow.
+/// number of the fault where `packet` is no packet, then `NO_REQUEST` for a completion, then
+/// `NO_MEMORY` where the history can't grow.
 pub fn serve_packet(slot: Slot, number: u32, packet: &[u8], room: &mut [u8], back: &mut Slot) -> u32
     ghost memory: { State }
     requires { slot.memory ≡ Some memory }
     ensures code { ¬ (result ≡ 2003) → result ≡ (service memory number packet.now room.old).code }
     ensures memory { ¬ (result ≡ 2003) → back.new.memory ≡ Some (service memory number packet.now room.old).memory }
     ensures room { ¬ (result ≡ 2003) → room.new ≡ (service memory number packet.now room.old).room }
+    ensures no_memory { result ≡ 2003 → IsRequestCall packet.now room.old }
     ensures unchanged { 1000 ≤ result → (back.new.memory ≡ Some memory) × (room.new ≡ room.old) }
 {
     let mut held = open(slot);

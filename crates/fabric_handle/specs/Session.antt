@@ -1,5 +1,5 @@
 -- A fabric that scripts' lines drive one by one: what it and the caller's room hold after each call, and the calls' codes.
-use Rattle.std.specs.Prelude.{ℕ, ◌≡◌, ◌+◌, nat_lt, if◌then◌else◌, Bool, true, List, [], ◌++◌, length, Option, Some, None, Result, Ok, Err}
+use Rattle.std.specs.Prelude.{ℕ, ◌≡◌, ◌+◌, ◌≤◌, nat_lt, if◌then◌else◌, Bool, true, List, [], ◌++◌, length, Option, Some, None, Result, Ok, Err}
 use Rattle.seq_memory.specs.History.{State, bytes_of}
 use Rattle.history_check.specs.declared.Record.{Record}
 use Rattle.history_check.specs.Claim.{Claim}
@@ -7,6 +7,7 @@ use Rattle.fabric_laws.specs.Fabric.{Fabric, whole_of}
 use Rattle.fabric_laws.specs.Trace.{Belongs}
 use Rattle.fabric_core.specs.declared.config.Config.{Config}
 use Rattle.fabric_core.specs.declared.config.ConfigFault.{ConfigFault}
+use Rattle.fabric_core.specs.Config.{IsConfig}
 use Rattle.fabric_core.specs.declared.event.Event.{Event}
 use Rattle.fabric_core.specs.declared.event.Seen.{Seen}
 use Rattle.fabric_core.specs.declared.fault.Refusal.{Refusal}
@@ -53,6 +54,10 @@ making line room = if nat_lt (length room) 512 then untold room 2000 else made_b
 abbrev pub AsksFor : List ℕ → Config → Type 0
 AsksFor line c = line_of (words line) ≡ Some (lines.Fabric c)
 
+-- there is nothing to refuse but memory: the room is large enough, and the line asks for a fabric that can be
+abbrev pub IsFabricCall : List ℕ → List ℕ → Type 0
+IsFabricCall line room = (512 ≤ length room) × (c : Config) × AsksFor line c × IsConfig c
+
 -- ---- events
 
 pub record Outcome : Type 0 where
@@ -90,6 +95,10 @@ happened s room event = answered s room event (length s.fabric.memory.entries) (
 abbrev pub happened_by : Session → List ℕ → Option Line → Outcome
 happened_by s room (Some (lines.Event event)) = happened s room event
 happened_by s room _ = unmoved s room 2008
+
+-- the room is large enough, and the line spells an event
+abbrev pub IsEventCall : List ℕ → List ℕ → Type 0
+IsEventCall line room = (512 ≤ length room) × (event : Event) × (line_of (words line) ≡ Some (lines.Event event))
 
 -- the room is tested first, then the line
 abbrev pub event_call : Session → List ℕ → List ℕ → Outcome

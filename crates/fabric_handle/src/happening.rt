@@ -11,7 +11,7 @@ ghost use Rattle.script_text.specs.Names.{refusal_name};
 ghost use Rattle.script_text.specs.Texts.{seen_text, told_text};
 ghost use Rattle.caller_room.specs.Room.{filled};
 ghost use Rattle.fabric_handle.specs.Session as spec;
-ghost use Rattle.fabric_handle.specs.Session.{happened, event_call};
+ghost use Rattle.fabric_handle.specs.Session.{happened, event_call, IsEventCall};
 
 use crate::session::Session;
 use crate::slot::{Slot, close, open};
@@ -85,6 +85,7 @@ fn put_told(told: &Record, room: &mut [u8]) -> u32
 fn put_refusal(refusal: Refusal, room: &mut [u8]) -> u32
     requires { 512 ≤ length room.old }
     ensures told { ¬ (result ≡ 2003) → IsTold refusal }
+    ensures no_memory { result ≡ 2003 → ¬ IsTold refusal }
     ensures code { ¬ (result ≡ 2003) → result ≡ 1000 + length (refusal_name refusal) }
     ensures range { (1000 ≤ result) × (result ≤ 2003) }
     ensures room { ¬ (result ≡ 2003) → room.new ≡ filled room.old (refusal_name refusal) }
@@ -147,6 +148,7 @@ fn happen(session: &mut Session, line: &[u8], room: &mut [u8]) -> u32
     ensures code { ¬ (result ≡ 2003) → result ≡ (event_call session.old line.now room.old).code }
     ensures session { ¬ (result ≡ 2003) → session.new ≡ (event_call session.old line.now room.old).session }
     ensures room { ¬ (result ≡ 2003) → room.new ≡ (event_call session.old line.now room.old).room }
+    ensures no_memory { result ≡ 2003 → IsEventCall line.now room.old }
     ensures unchanged { 1000 ≤ result → session.new ≡ session.old }
     ensures unchanged_room { 2000 ≤ result → room.new ≡ room.old }
 {
@@ -166,14 +168,15 @@ fn happen(session: &mut Session, line: &[u8], room: &mut [u8]) -> u32
 /// The event that the line of a script spells happens to the fabric of the slot, which goes to
 /// `back`. Below 1000 the result is how many bytes what is seen of it has, as `pciex step` prints it,
 /// at the front of `room`. From 1000 on the fabric stays as it was: 1000 and the length of its name
-/// for a refusal, which then stands there, `SMALL_ROOM` for fewer than 512 bytes, `NO_LINE` where the
-/// line is none of an event, or `NO_MEMORY`.
+/// for a refusal, which then stands there, `SMALL_ROOM` for fewer than 512 bytes, then `NO_LINE` where
+/// the line is none of an event, or `NO_MEMORY`. With the last three the room stays as it was, too.
 pub fn tell_event(slot: Slot, line: &[u8], room: &mut [u8], back: &mut Slot) -> u32
     ghost session: { spec.Session }
     requires { slot.session ≡ Some session }
     ensures code { ¬ (result ≡ 2003) → result ≡ (event_call session line.now room.old).code }
     ensures session { ¬ (result ≡ 2003) → back.new.session ≡ Some (event_call session line.now room.old).session }
     ensures room { ¬ (result ≡ 2003) → room.new ≡ (event_call session line.now room.old).room }
+    ensures no_memory { result ≡ 2003 → IsEventCall line.now room.old }
     ensures unchanged { 1000 ≤ result → back.new.session ≡ Some session }
     ensures unchanged_room { 2000 ≤ result → room.new ≡ room.old }
 {

@@ -40,6 +40,7 @@ fn text_of(alloc: Global, session: &mut Session) -> Result<String, AllocError>
 fn put_whole(bytes: &[u8], room: &mut [u8]) -> u32
     ensures code { result ≡ (whole_told bytes.now room.old).code }
     ensures room { room.new ≡ (whole_told bytes.now room.old).room }
+    ensures range { result ≤ 2000 }
     ensures unchanged { 1 ≤ result → room.new ≡ room.old }
 {
     if room.len() < bytes.len() {
@@ -51,8 +52,8 @@ fn put_whole(bytes: &[u8], room: &mut [u8]) -> u32
 
 /// Puts the text of the trace and the history of the fabric, as `pciex step --trace` writes it, to the
 /// front of `room`: 0, or `SMALL_ROOM` for fewer bytes than it has, and in both cases `size` is how
-/// many it has; or `NO_MEMORY`. Where the fabric keeps no trace, there are no records. The fabric
-/// goes to `back`, as it was. The history explains a kept trace.
+/// many it has; or `NO_MEMORY`, and then `size` stays as it was. Where the fabric keeps no trace, there
+/// are no records. The fabric goes to `back`, as it was. The history explains a kept trace.
 pub fn tell_trace(
     alloc: Global,
     slot: Slot,
@@ -65,6 +66,7 @@ pub fn tell_trace(
     ensures code { ¬ (result ≡ 2003) → result ≡ (whole_told (trace_text (claim session)) room.old).code }
     ensures room { ¬ (result ≡ 2003) → room.new ≡ (whole_told (trace_text (claim session)) room.old).room }
     ensures size { ¬ (result ≡ 2003) → size.new ≡ length (trace_text (claim session)) }
+    ensures unchanged_size { result ≡ 2003 → size.new ≡ size.old }
     ensures unchanged { back.new.session ≡ Some session }
     ensures unchanged_room { 1 ≤ result → room.new ≡ room.old }
     ensures explained { session.is_traced ≡ true → Explains (claim session) }

@@ -1,14 +1,15 @@
 //! Slots.
-ghost use Rattle.std.specs.Prelude.{◌≡◌, ◌≤◌, ◌<◌, ◌+◌, Option, Some, None, IfOk, IfErr, length};
+ghost use Rattle.std.specs.Prelude.{◌≡◌, ◌≤◌, ◌<◌, ◌+◌, Option, Some, None, IfOk, IfErr, OnOk, length};
 ghost use Rattle.arrayvec.specs.ArrayString.{array_string_len};
 ghost use Rattle.fabric_laws.specs.Fabric.{whole_of};
 ghost use Rattle.fabric_laws.specs.Trace.{Belongs};
 ghost use Rattle.fabric_core.specs.declared.config.Config as configs;
+ghost use Rattle.fabric_core.specs.Config.{IsConfig};
 ghost use Rattle.fabric_answers.specs.New as new;
 ghost use Rattle.script_text.specs.Names.{config_fault_name};
 ghost use Rattle.caller_room.specs.Room.{filled};
 ghost use Rattle.fabric_handle.specs.Session as spec;
-ghost use Rattle.fabric_handle.specs.Session.{new_session, making, AsksFor};
+ghost use Rattle.fabric_handle.specs.Session.{new_session, making, AsksFor, IsFabricCall};
 ghost use Rattle.fabric_handle.specs.Slot.{slot_owns, session_coded};
 
 use crate::session::Session;
@@ -76,6 +77,8 @@ pub(crate) fn close(held: Box<Session, Global>) -> Slot
 fn make(alloc: Global, config: Config, is_traced: bool) -> Result<Session, ConfigFault>
     ensures ok { IfOk result (λ s. (s ≡ new_session config is_traced) × (new.config_fault config ≡ None)) }
     ensures fault { IfErr result (λ fault. (fault ≡ ConfigFault.Memory → ⊥) → new.config_fault config ≡ Some fault) }
+    ensures config { OnOk result (IsConfig config) }
+    ensures no_memory { IfErr result (λ fault. fault ≡ ConfigFault.Memory → IsConfig config) }
 {
     a_configuration_has_one_answer();
     let fabric = Fabric::new(config, alloc)?;
@@ -90,9 +93,11 @@ fn make(alloc: Global, config: Config, is_traced: bool) -> Result<Session, Confi
 fn put_fault(fault: ConfigFault, room: &mut [u8]) -> u32
     requires { 512 ≤ length room.old }
     ensures told { ¬ (result ≡ 2003) → ¬ (fault ≡ ConfigFault.Memory) }
+    ensures no_memory { result ≡ 2003 → fault ≡ ConfigFault.Memory }
     ensures code { ¬ (result ≡ 2003) → result ≡ 1000 + length (config_fault_name fault) }
     ensures range { (1000 ≤ result) × (result ≤ 2003) }
     ensures room { ¬ (result ≡ 2003) → room.new ≡ filled room.old (config_fault_name fault) }
+    ensures unchanged { 2000 ≤ result → room.new ≡ room.old }
 {
     if let ConfigFault::Memory = fault {
         return NO_MEMORY;
@@ -108,8 +113,10 @@ fn make_in(alloc: Global, config: Config, is_traced: bool, room: &mut [u8], slot
     requires { 512 ≤ length room.old }
     ensures code { ¬ (result ≡ 2003) → result ≡ (spec.made room.old (new.config_fault config)).code }
     ensures room { ¬ (result ≡ 2003) → room.new ≡ (spec.made room.old (new.config_fault config)).room }
+    ensures no_memory { result ≡ 2003 → IsConfig config }
     ensures made { result ≡ 0 → slot.new.session ≡ Some (new_session config is_traced) }
     ensures unchanged { 1 ≤ result → slot.new ≡ slot.old }
+    ensures unchanged_room { 2000 ≤ result → room.new ≡ room.old }
 {
     match make(alloc, config, is_traced) {
         Ok(session) => match Box::new(alloc, session) {
@@ -125,9 +132,10 @@ fn make_in(alloc: Global, config: Config, is_traced: bool, room: &mut [u8], slot
 
 /// Makes the fabric that the line of a script asks for in a slot that holds nothing; with `is_traced`
 /// it keeps a trace, which grows by a record for each submission and each answer. 0 where it is made,
-/// else the slot stays as it was: `SMALL_ROOM` for fewer than 512 bytes, `NO_LINE` where the line is
-/// none of a fabric, 1000 and the length of its name for a fault of the configuration, which then
-/// stands at the front of `room`, or `NO_MEMORY`.
+/// else the slot stays as it was: `SMALL_ROOM` for fewer than 512 bytes, then `NO_LINE` where the line
+/// is none of a fabric, then 1000 and the length of its name for a fault of the configuration, which
+/// then stands at the front of `room`, or `NO_MEMORY` where it has no fault. With the others the room
+/// stays as it was, too.
 pub fn new_fabric(
     alloc: Global,
     line: &[u8],
@@ -137,8 +145,10 @@ pub fn new_fabric(
 ) -> u32
     ensures code { ¬ (result ≡ 2003) → result ≡ (making line.now room.old).code }
     ensures room { ¬ (result ≡ 2003) → room.new ≡ (making line.now room.old).room }
+    ensures no_memory { result ≡ 2003 → IsFabricCall line.now room.old }
     ensures made { result ≡ 0 → (c : configs.Config) × AsksFor line.now c × (slot.new.session ≡ Some (new_session c is_traced)) }
     ensures unchanged { 1 ≤ result → slot.new ≡ slot.old }
+    ensures unchanged_room { 2000 ≤ result → room.new ≡ room.old }
 {
     if room.len() < LINE_ROOM {
         return SMALL_ROOM;
