@@ -106,15 +106,14 @@ fn packet_reason(line: &[u8], answer: &[u8]) -> Reason {
 
 /// Why a script's line is refused: the fabric's refusal of its event by name, or else the first word
 /// that doesn't fit.
-fn script_reason(line: &[u8], refusal: Option<&str>) -> Reason {
+fn script_reason(line: &[u8], has_fabric: bool, refusal: Option<&str>) -> Reason {
     let mut reason = Reason::new();
     match refusal {
         Some(name) => put_refused(line, name.as_bytes(), &mut reason),
-        None => {
-            if let Some(misfit) = script_misfit(line) {
-                misfit.put(&mut reason);
-            }
-        }
+        None => match script_misfit(line, has_fabric) {
+            Some(misfit) => misfit.put(&mut reason),
+            None => put_refused(line, b"", &mut reason),
+        },
     }
     reason
 }
@@ -136,10 +135,11 @@ pub(crate) fn tell_packet_line<E: Write>(
 }
 
 /// Tells why a script's line is refused, where it is: this is its number then. A refusal of the fabric
-/// is given by its name; without one the line is none of a script at its place. After an `Err` the
-/// stream has no more than a part.
+/// is given by its name; without one the line is none that is due, an event where the script has its
+/// fabric. After an `Err` the stream has no more than a part.
 pub fn tell_script_line<E: Write>(
     line: &[u8],
+    has_fabric: bool,
     refusal: Option<&str>,
     fault: Option<u64>,
     errors: &mut E,
@@ -147,7 +147,7 @@ pub fn tell_script_line<E: Write>(
     ensures { OnOk result (IsReasonTold fault (E.contents errors.old) (E.contents errors.new)) }
 {
     match fault {
-        Some(number) => script_reason(line, refusal).tell_at(number, errors),
+        Some(number) => script_reason(line, has_fabric, refusal).tell_at(number, errors),
         None => Ok(()),
     }
 }

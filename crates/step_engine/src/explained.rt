@@ -27,12 +27,13 @@ fn explain<E: Write>(
     ensures errors { OnOk result (IsReasonTold (then_some is_fault stepper.old.lines) (E.contents errors.old) (E.contents errors.new)) }
 {
     let fault = is_fault.then_some(stepper.lines());
+    let has_fabric = stepper.has_fabric();
     let Some(refusal) = stepper.take_refusal() else {
-        return tell_script_line(line, None, fault, errors);
+        return tell_script_line(line, has_fabric, None, fault, errors);
     };
     let mut name = ArrayString::new();
     write_refusal(&refusal, &mut name);
-    tell_script_line(line, Some(name.as_str()), fault, errors)
+    tell_script_line(line, has_fabric, Some(name.as_str()), fault, errors)
 }
 
 /// A script that is run line by line, and the stream on which reasons are told.

@@ -1,5 +1,5 @@
 //! The subcommand `step`: scripts of events for a fabric.
-ghost use Rattle.std.specs.Prelude.{◌≡◌, ◌≤◌, ◌+◌, ◌++◌, ◌∷◌, [], true, false, length, codes, option_to_list, Some, None, Ok, Err, IfOk, IfErr, OnOk, OnErr};
+ghost use Rattle.std.specs.Prelude.{◌≡◌, ◌≤◌, ◌+◌, ◌++◌, ◌∷◌, [], true, false, length, codes, option_to_list, is_some, Some, None, Ok, Err, IfOk, IfErr, OnOk, OnErr};
 ghost use Rattle.std.specs.Fmt.{decimal};
 ghost use Rattle.arrayvec.specs.ArrayString.{array_string_len};
 ghost use Rattle.fabric_answers.specs.Answers.{answer, IsTold};
@@ -104,6 +104,13 @@ impl Stepper {
         ensures { result ≡ self.now.lines }
     {
         self.lines
+    }
+
+    /// Whether the script has its fabric.
+    pub(crate) fn has_fabric(&self) -> bool
+        ensures { result ≡ is_some self.now.fabric }
+    {
+        self.fabric.is_some()
     }
 
     /// Why the fabric refused the event that was refused last, where nobody took it yet.
