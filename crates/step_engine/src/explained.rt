@@ -1,7 +1,7 @@
 //! Answers to scripts, with reasons beside them.
-ghost use Rattle.std.specs.Prelude.{◌≡◌, IfOk, OnOk, OnErr};
+ghost use Rattle.std.specs.Prelude.{◌≡◌, IfOk, IfErr, OnOk, OnErr};
 ghost use Rattle.std.specs.Bool.{then_some};
-ghost use Rattle.line_engine.specs.Run.{IsWhole, IsPart};
+ghost use Rattle.line_engine.specs.Run.{IsCaughtUp, IsWhole, IsPart};
 ghost use Rattle.line_reasons.specs.Told.{IsReasonTold};
 ghost use Rattle.step_engine.specs.Step as spec;
 
@@ -87,6 +87,7 @@ pub fn run_step_with_reasons<R: Read, W: Write, E: Write>(
 ) -> Result<u8, EngineFault>
     ensures ok { IfOk result (IsWhole (spec.out_step_with options) (R.remaining reader.old) (R.remaining reader.new) (W.contents writer.old) (W.contents writer.new)) }
     ensures err { OnErr result (IsPart (spec.out_step_with options) (R.remaining reader.old) (R.remaining reader.new) (W.contents writer.old) (W.contents writer.new)) }
+    ensures read { IfErr result (λ f. f ≡ EngineFault.Read → IsCaughtUp spec.step_responses (spec.new_script options) (R.remaining reader.old) (R.remaining reader.new) (W.contents writer.old) (W.contents writer.new)) }
 {
     let stepper = Stepper::new(alloc, options);
     run(alloc, Explained { stepper, errors }, reader, writer)
