@@ -1,6 +1,6 @@
 //! Why the line of a script or of a packet is refused.
-ghost use Rattle.std.specs.Prelude.{OnOk};
-ghost use Rattle.line_reasons.specs.Told.{IsReasonTold};
+ghost use Rattle.std.specs.Prelude.{◌≡◌, IfErr, OnOk, OnErr};
+ghost use Rattle.line_reasons.specs.Told.{IsReasonTold, IsReasonBegun};
 
 use crate::packets::packet_misfit;
 use crate::scripts::script_misfit;
@@ -119,14 +119,16 @@ fn script_reason(line: &[u8], has_fabric: bool, refusal: Option<&str>) -> Reason
 }
 
 /// Tells why a packet's line is refused by the answer to it, where that is a fault: this is the line's
-/// number then. After an `Err` the stream has no more than a part.
+/// number then. After an `Err` a beginning of the reason was written.
 pub(crate) fn tell_packet_line<E: Write>(
     line: &[u8],
     answer: &[u8],
     fault: Option<u64>,
     errors: &mut E,
 ) -> Result<(), EngineFault>
-    ensures { OnOk result (IsReasonTold fault (E.contents errors.old) (E.contents errors.new)) }
+    ensures ok { OnOk result (IsReasonTold fault (E.contents errors.old) (E.contents errors.new)) }
+    ensures fault { IfErr result (λ f. f ≡ EngineFault.Write) }
+    ensures part { OnErr result (IsReasonBegun fault (E.contents errors.old) (E.contents errors.new)) }
 {
     match fault {
         Some(number) => packet_reason(line, answer).tell_at(number, errors),
@@ -136,7 +138,7 @@ pub(crate) fn tell_packet_line<E: Write>(
 
 /// Tells why a script's line is refused, where it is: this is its number then. A refusal of the fabric
 /// is given by its name; without one the line is none that is due, an event where the script has its
-/// fabric. After an `Err` the stream has no more than a part.
+/// fabric. After an `Err` a beginning of the reason was written.
 pub fn tell_script_line<E: Write>(
     line: &[u8],
     has_fabric: bool,
@@ -144,7 +146,9 @@ pub fn tell_script_line<E: Write>(
     fault: Option<u64>,
     errors: &mut E,
 ) -> Result<(), EngineFault>
-    ensures { OnOk result (IsReasonTold fault (E.contents errors.old) (E.contents errors.new)) }
+    ensures ok { OnOk result (IsReasonTold fault (E.contents errors.old) (E.contents errors.new)) }
+    ensures fault { IfErr result (λ f. f ≡ EngineFault.Write) }
+    ensures part { OnErr result (IsReasonBegun fault (E.contents errors.old) (E.contents errors.new)) }
 {
     match fault {
         Some(number) => script_reason(line, has_fabric, refusal).tell_at(number, errors),
@@ -161,9 +165,12 @@ fn long_line() -> Reason {
     reason
 }
 
-/// Tells that a line is too long, where that is told as a fault: this is its number then.
+/// Tells that a line is too long, where that is told as a fault: this is its number then. After an `Err`
+/// a beginning of the reason was written.
 pub fn tell_long_line<E: Write>(fault: Option<u64>, errors: &mut E) -> Result<(), EngineFault>
-    ensures { OnOk result (IsReasonTold fault (E.contents errors.old) (E.contents errors.new)) }
+    ensures ok { OnOk result (IsReasonTold fault (E.contents errors.old) (E.contents errors.new)) }
+    ensures fault { IfErr result (λ f. f ≡ EngineFault.Write) }
+    ensures part { OnErr result (IsReasonBegun fault (E.contents errors.old) (E.contents errors.new)) }
 {
     match fault {
         Some(number) => long_line().tell_at(number, errors),

@@ -2,7 +2,7 @@
 ghost use Rattle.std.specs.Prelude.{◌≡◌, IfOk, IfErr, OnOk, OnErr};
 ghost use Rattle.std.specs.Bool.{then_some};
 ghost use Rattle.line_engine.specs.Run.{IsCaughtUp, IsWhole, IsPart};
-ghost use Rattle.line_reasons.specs.Told.{IsReasonTold};
+ghost use Rattle.line_reasons.specs.Told.{IsReasonTold, IsReasonBegun};
 ghost use Rattle.step_engine.specs.Step as spec;
 
 use crate::options::StepOptions;
@@ -25,6 +25,8 @@ fn explain<E: Write>(
 ) -> Result<(), EngineFault>
     ensures stepper { stepper.new ≡ stepper.old }
     ensures errors { OnOk result (IsReasonTold (then_some is_fault stepper.old.lines) (E.contents errors.old) (E.contents errors.new)) }
+    ensures fault { IfErr result (λ f. f ≡ EngineFault.Write) }
+    ensures part { OnErr result (IsReasonBegun (then_some is_fault stepper.old.lines) (E.contents errors.old) (E.contents errors.new)) }
 {
     let fault = is_fault.then_some(stepper.lines());
     let has_fabric = stepper.has_fabric();
