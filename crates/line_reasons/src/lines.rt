@@ -72,11 +72,11 @@ fn meaning_of(name: &[u8]) -> &'static str {
     ""
 }
 
-/// What is behind the first two words of an answer: the name of a fault.
+/// What comes after the first two words of an answer: the name of a fault.
 fn name_in(answer: &[u8]) -> &[u8] {
     let answer = answer.strip_suffix(b"\n").unwrap_or(answer);
-    let behind = cut(answer).1.unwrap_or(b"");
-    cut(behind).1.unwrap_or(b"")
+    let after = cut(answer).1.unwrap_or(b"");
+    cut(after).1.unwrap_or(b"")
 }
 
 /// Adds that the line is refused for what that name says.

@@ -107,7 +107,7 @@ const CREDITS: [Field; 6] = [
     ),
 ];
 
-/// What is behind the word of an event, before the operation of a submission.
+/// What comes after the word of an event, before the operation of a submission.
 const EVENTS: [(&str, &[Field]); 10] = [
     ("submit", &[REQUESTER]),
     ("transmit", &[LANE]),

@@ -285,7 +285,7 @@ fn reasons_of_lines(rt: HostRuntime) {
     }
 }
 
-/// A line of 513 bytes behind a comment.
+/// A line of 513 bytes after a comment.
 fn long_line(alloc: Global) -> Result<Vec<u8>, AllocError> {
     let mut text = vec![in alloc; b'x'; 515]?;
     if let [first, second, ..] = text.as_mut_slice() {

@@ -63,7 +63,7 @@ impl TraceLines {
         self.line(place.saturating_add(2))
     }
 
-    /// The line of the entry at that index of the history, behind so many records.
+    /// The line of the entry at that index of the history, after so many records.
     pub fn of_entry(&self, records: usize, index: usize) -> u64
         ensures { result ≡ entry_line self.now records index }
     {

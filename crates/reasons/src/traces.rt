@@ -71,7 +71,7 @@ impl<E: Write + Drop> TraceReasons<E> {
             return reason.tell_at(number, &mut self.errors);
         }
         if !line.is_empty() && line[0] != b'#' {
-            self.due = self.due.behind(line);
+            self.due = self.due.after(line);
         }
         Ok(())
     }

@@ -20,8 +20,8 @@ pub(crate) fn ending(kind: &str, line: u64) -> ArrayString<512>
     text
 }
 
-/// Adds a line of the script, and behind it the text.
-fn put_behind(line: &[u8], text: &[u8], out: &mut Vec<u8>, alloc: Global) -> Result<(), AllocError>
+/// Adds a line of the script, and after it the text.
+fn put_after(line: &[u8], text: &[u8], out: &mut Vec<u8>, alloc: Global) -> Result<(), AllocError>
     ensures ok { OnOk result (out.new.items ≡ out.old.items ++ ((line.now ++ codes " -> ") ++ text.now)) }
     ensures err { OnErr result (out.new.items ≡ out.old.items) }
 {
@@ -33,7 +33,7 @@ fn put_behind(line: &[u8], text: &[u8], out: &mut Vec<u8>, alloc: Global) -> Res
     Ok(())
 }
 
-/// Adds what answers a line of the script as a line of its own, behind the other where that is asked for.
+/// Adds what answers a line of the script as a line of its own, after the other where that is asked for.
 pub(crate) fn put_shown(
     echoes: bool,
     line: &[u8],
@@ -47,7 +47,7 @@ pub(crate) fn put_shown(
 {
     text.push_str("\n");
     if echoes {
-        put_behind(line, text.as_bytes(), out, alloc)?;
+        put_after(line, text.as_bytes(), out, alloc)?;
     } else {
         out.extend_from_slice(text.as_bytes())?;
     }

@@ -176,7 +176,7 @@ impl Stepper {
 }
 
 impl Stepper {
-    /// Adds what answers a line of the script, behind it where that is asked for.
+    /// Adds what answers a line of the script, after it where that is asked for.
     fn put(
         &self,
         line: &[u8],
@@ -190,7 +190,7 @@ impl Stepper {
         put_shown(self.options.echoes, line, text, out, self.alloc)
     }
 
-    /// Goes on behind a refusal, which changes nothing.
+    /// Goes on after a refusal, which changes nothing.
     fn pass(
         &mut self,
         line: &[u8],
@@ -224,7 +224,7 @@ impl Stepper {
         Ok(true)
     }
 
-    /// An event was refused; want of memory is no answer.
+    /// An event was refused; out of memory is no answer.
     fn refused(
         &mut self,
         line: &[u8],
@@ -432,10 +432,10 @@ impl Responder for Stepper {
     }
 }
 
-/// Runs a script: the first line makes a fabric, and each line behind it is an event, whose result is written in a line, or
+/// Runs a script: the first line makes a fabric, and each line after it is an event, whose result is written in a line, or
 /// `settle`, which is answered by a line for each answer that it collects and one that tells whether the fabric is quiet.
 /// The first line that is none, the first fault of the configuration and the first refusal end the run with one line;
-/// with `keeps_going` a refusal doesn't end it. With `echoes` what answers an event or `settle` stands behind its line.
+/// with `keeps_going` a refusal doesn't end it. With `echoes` what answers an event or `settle` follows its line.
 /// With `is_traced` the trace of a run that ends well is written in place of the results. `Ok` is the exit status, 1 where
 /// a fault or a refusal was told. After an `Err` what was written is a beginning of the whole output.
 pub fn run_step_with<R: Read, W: Write>(
