@@ -60,9 +60,7 @@ impl<E: Write + Drop> Responder for Explained<E> {
 
     fn on_line(&mut self, line: &[u8], out: &mut Vec<u8>) -> Result<bool, AllocError> {
         let told = self.stepper.on_line(line, out)?;
-        if told {
-            let _ = explain(&mut self.stepper, line, told, &mut self.errors);
-        }
+        let _ = explain(&mut self.stepper, line, told, &mut self.errors);
         Ok(told)
     }
 

@@ -187,7 +187,7 @@ impl Stepper {
         ensures ok { OnOk result (out.new.items ≡ out.old.items ++ spec.shown self.now line.now text.old.bytes) }
         ensures err { OnErr result (out.new.items ≡ out.old.items) }
     {
-        put_shown(self.options.echoes, line, text, out, self.alloc)
+        put_shown(self.options.echoes, line, text, out)
     }
 
     /// Goes on after a refusal, which changes nothing.
@@ -282,7 +282,7 @@ impl Stepper {
     {
         self.text.clear();
         write_seen(event, seen, &mut self.text);
-        put_shown(self.options.echoes, line, &mut self.text, out, self.alloc)?;
+        put_shown(self.options.echoes, line, &mut self.text, out)?;
         self.count();
         Ok(false)
     }
