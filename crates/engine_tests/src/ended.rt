@@ -79,7 +79,7 @@ const ENDED: [(&str, &str); 51] = [
     ("fabric 1 0 4096\ntransmit up8\n", "fault 2 Script\n"),
     ("fabric 1 0 4096\ntransmit up1 \n", "fault 2 Script\n"),
     ("fabric 1 0 4096\nstop\n", "fault 2 Script\n"),
-    // A script has one fabric, which its events stand behind.
+    // A script has one fabric, which its events come after.
     ("fabric 1 0 4096\nfabric 1 0 4096\n", "fault 2 Script\n"),
     ("fabric 1 0 4096\nfabric 8 0 4096\n", "fault 2 Script\n"),
     ("timer up1\n", "fault 1 Script\n"),
@@ -101,7 +101,7 @@ const ENDED: [(&str, &str); 51] = [
     ("fabric 1 0 4096\ntimer up1", "refused 2 Idle\n"),
     ("fabric 1 0 4096\ntimer up1\r", "fault 2 Script\n"),
     ("fabric 1 0 4096\r\r\n", "fault 1 Script\n"),
-    // Nothing is read behind the end of a run.
+    // Nothing is read after the end of a run.
     (
         "fabric 1 0 4096\ntimer up1\nsubmit 1 read 40 1 F 0\ntimer up1\n",
         "refused 2 Idle\n",

@@ -220,7 +220,7 @@ fn no_words(rt: HostRuntime) {
     }
 }
 
-/// What is written of a line of so many bytes, and a worked line behind it.
+/// What is written of a line of so many bytes, and a worked line after it.
 fn is_long(alloc: Global, length: usize, decoded: &str, encoded: &str) -> Result<bool, Fail> {
     let mut text = vec![in alloc; b'x'; length]?;
     text.extend_from_slice(b"\n")?;

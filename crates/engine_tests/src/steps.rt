@@ -77,7 +77,7 @@ const WRITE_PASSES: [(&str, &str); 20] = [
     ("collect 1", "ans 1 0 data 01020304"),
 ];
 
-/// A read stands behind an earlier write.
+/// A read comes after an earlier write.
 const WRITE_FIRST: [(&str, &str); 6] = [
     ("submit 1 write 40 F 0 01020304", "sub 1 0"),
     ("submit 1 read 40 1 F 0", "sub 1 1"),
@@ -133,7 +133,7 @@ const TWO_READS: [(&str, &str); 14] = [
     ("serve 0", "refused 15 NoCredits Cpl"),
 ];
 
-/// A read of two DW, the second of them behind a bound of 64 bytes; the answer is left out.
+/// A read of two DW, the second of them past a bound of 64 bytes; the answer is left out.
 const READ_ACROSS: [(&str, &str); 12] = [
     ("submit 1 read 3C 2 F F", "sub 1 0"),
     ("transmit up1", "sent 000"),
@@ -200,7 +200,7 @@ pub(crate) fn is_explained(alloc: Global, text: &[u8]) -> bool {
     run_check(alloc, &mut reader, &mut out) == Ok(0) && out.as_slice() == b"ok\n".as_slice()
 }
 
-/// The first line, the events, more events, and the trace behind its head, or the last line of a
+/// The first line, the events, more events, and the trace after its head, or the last line of a
 /// script that ends refused.
 const WORKED: [(&str, &[(&str, &str)], &[(&str, &str)], &str); 12] = [
     (

@@ -169,7 +169,7 @@ fn elsewhere(rt: HostRuntime) {
     assert_eq!(rt; out.as_slice(), want.as_slice());
 }
 
-/// What is written of a line of so many bytes, and a worked line behind it.
+/// What is written of a line of so many bytes, and a worked line after it.
 fn of_long_line(alloc: Global, first: u8, length: usize) -> Result<Vec<u8>, Fail> {
     let mut text = vec![in alloc; first; length]?;
     text.extend_from_slice(b"\n4C000001 01000500 00000040 07000000")?;

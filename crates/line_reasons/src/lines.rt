@@ -1,6 +1,6 @@
 //! Why the line of a script or of a packet is refused.
-ghost use Rattle.std.specs.Prelude.{OnOk};
-ghost use Rattle.line_reasons.specs.Told.{IsReasonTold};
+ghost use Rattle.std.specs.Prelude.{◌≡◌, IfErr, OnOk, OnErr};
+ghost use Rattle.line_reasons.specs.Told.{IsReasonTold, IsReasonBegun};
 
 use crate::packets::packet_misfit;
 use crate::scripts::script_misfit;
@@ -72,11 +72,11 @@ fn meaning_of(name: &[u8]) -> &'static str {
     ""
 }
 
-/// What is behind the first two words of an answer: the name of a fault.
+/// What comes after the first two words of an answer: the name of a fault.
 fn name_in(answer: &[u8]) -> &[u8] {
     let answer = answer.strip_suffix(b"\n").unwrap_or(answer);
-    let behind = cut(answer).1.unwrap_or(b"");
-    cut(behind).1.unwrap_or(b"")
+    let after = cut(answer).1.unwrap_or(b"");
+    cut(after).1.unwrap_or(b"")
 }
 
 /// Adds that the line is refused for what that name says.
@@ -106,28 +106,29 @@ fn packet_reason(line: &[u8], answer: &[u8]) -> Reason {
 
 /// Why a script's line is refused: the fabric's refusal of its event by name, or else the first word
 /// that doesn't fit.
-fn script_reason(line: &[u8], refusal: Option<&str>) -> Reason {
+fn script_reason(line: &[u8], has_fabric: bool, refusal: Option<&str>) -> Reason {
     let mut reason = Reason::new();
     match refusal {
         Some(name) => put_refused(line, name.as_bytes(), &mut reason),
-        None => {
-            if let Some(misfit) = script_misfit(line) {
-                misfit.put(&mut reason);
-            }
-        }
+        None => match script_misfit(line, has_fabric) {
+            Some(misfit) => misfit.put(&mut reason),
+            None => put_refused(line, b"", &mut reason),
+        },
     }
     reason
 }
 
 /// Tells why a packet's line is refused by the answer to it, where that is a fault: this is the line's
-/// number then. After an `Err` the stream has no more than a part.
+/// number then. After an `Err` a beginning of the reason was written.
 pub(crate) fn tell_packet_line<E: Write>(
     line: &[u8],
     answer: &[u8],
     fault: Option<u64>,
     errors: &mut E,
 ) -> Result<(), EngineFault>
-    ensures { OnOk result (IsReasonTold fault (E.contents errors.old) (E.contents errors.new)) }
+    ensures ok { OnOk result (IsReasonTold fault (E.contents errors.old) (E.contents errors.new)) }
+    ensures fault { IfErr result (λ f. f ≡ EngineFault.Write) }
+    ensures part { OnErr result (IsReasonBegun fault (E.contents errors.old) (E.contents errors.new)) }
 {
     match fault {
         Some(number) => packet_reason(line, answer).tell_at(number, errors),
@@ -136,18 +137,21 @@ pub(crate) fn tell_packet_line<E: Write>(
 }
 
 /// Tells why a script's line is refused, where it is: this is its number then. A refusal of the fabric
-/// is given by its name; without one the line is none of a script at its place. After an `Err` the
-/// stream has no more than a part.
+/// is given by its name; without one the line is none that is due, an event where the script has its
+/// fabric. After an `Err` a beginning of the reason was written.
 pub fn tell_script_line<E: Write>(
     line: &[u8],
+    has_fabric: bool,
     refusal: Option<&str>,
     fault: Option<u64>,
     errors: &mut E,
 ) -> Result<(), EngineFault>
-    ensures { OnOk result (IsReasonTold fault (E.contents errors.old) (E.contents errors.new)) }
+    ensures ok { OnOk result (IsReasonTold fault (E.contents errors.old) (E.contents errors.new)) }
+    ensures fault { IfErr result (λ f. f ≡ EngineFault.Write) }
+    ensures part { OnErr result (IsReasonBegun fault (E.contents errors.old) (E.contents errors.new)) }
 {
     match fault {
-        Some(number) => script_reason(line, refusal).tell_at(number, errors),
+        Some(number) => script_reason(line, has_fabric, refusal).tell_at(number, errors),
         None => Ok(()),
     }
 }
@@ -161,9 +165,12 @@ fn long_line() -> Reason {
     reason
 }
 
-/// Tells that a line is too long, where that is told as a fault: this is its number then.
+/// Tells that a line is too long, where that is told as a fault: this is its number then. After an `Err`
+/// a beginning of the reason was written.
 pub fn tell_long_line<E: Write>(fault: Option<u64>, errors: &mut E) -> Result<(), EngineFault>
-    ensures { OnOk result (IsReasonTold fault (E.contents errors.old) (E.contents errors.new)) }
+    ensures ok { OnOk result (IsReasonTold fault (E.contents errors.old) (E.contents errors.new)) }
+    ensures fault { IfErr result (λ f. f ≡ EngineFault.Write) }
+    ensures part { OnErr result (IsReasonBegun fault (E.contents errors.old) (E.contents errors.new)) }
 {
     match fault {
         Some(number) => long_line().tell_at(number, errors),

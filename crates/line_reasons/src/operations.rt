@@ -37,7 +37,7 @@ const SWAP_OPERAND: Field = Field {
     form: Form::SecondOperand,
 };
 
-/// What is behind the name of an operation.
+/// What comes after the name of an operation.
 const OPERATIONS: [(&str, &[Field]); 5] = [
     ("read", &[ADDRESS, DW, FIRST, LAST]),
     ("write", &[ADDRESS, FIRST, LAST, BYTES]),
@@ -46,7 +46,7 @@ const OPERATIONS: [(&str, &[Field]); 5] = [
     ("cas", &[ADDRESS, OPERAND, SWAP_OPERAND]),
 ];
 
-/// What is behind the name of a reply, where there is more.
+/// What comes after the name of a reply, where there is more.
 const REPLIES: [(&str, &[Field]); 1] = [("data", &[BYTES])];
 
 /// Takes the words of an operation.

@@ -51,7 +51,7 @@ const TC_WORD: Field = word!("tc");
 
 const ATTR_WORD: Field = word!("attr");
 
-/// What is behind the word of a DLLP.
+/// What comes after the word of a DLLP.
 const DLLPS: [(&str, &[Field]); 3] = [
     ("ack", &[SEQUENCE]),
     ("nak", &[SEQUENCE]),

@@ -3,24 +3,27 @@ use crate::operations::take_operation;
 use crate::words::{Field, Form, Misfit, Radix, Walk, choice, fields_of, numeral, value_of, word};
 use seq_memory::is_base;
 
-const EVENT: Field = Field {
-    name: "an event",
-    values: "submit, transmit, deliver, dllp, deliver-dllp, timer, retrained, forward, serve, collect, settle",
-    form: Form::OneOf(&[
-        "fabric",
-        "submit",
-        "transmit",
-        "deliver",
-        "dllp",
-        "deliver-dllp",
-        "timer",
-        "retrained",
-        "forward",
-        "serve",
-        "collect",
-        "settle",
-    ]),
+/// What a script begins with.
+const FABRIC: Field = Field {
+    name: "a fabric",
+    values: "fabric <requesters> <base> <size>",
+    form: Form::OneOf(&["fabric"]),
 };
+
+const EVENT: Field = choice!(
+    "an event",
+    "submit",
+    "transmit",
+    "deliver",
+    "dllp",
+    "deliver-dllp",
+    "timer",
+    "retrained",
+    "forward",
+    "serve",
+    "collect",
+    "settle"
+);
 
 const LANE: Field = Field {
     name: "a lane",
@@ -58,9 +61,6 @@ pub(crate) const SIZE: Field = Field {
 pub(crate) const BLOCK: Field = choice!("a block", "64", "128");
 
 const BLOCK_WORD: Field = word!("block");
-
-/// What a script begins with.
-const FABRIC: (&str, &str) = ("a fabric", "fabric <requesters> <base> <size>");
 
 const CREDITS: [Field; 6] = [
     numeral!(
@@ -107,7 +107,7 @@ const CREDITS: [Field; 6] = [
     ),
 ];
 
-/// What is behind the word of an event, before the operation of a submission.
+/// What comes after the word of an event, before the operation of a submission.
 const EVENTS: [(&str, &[Field]); 10] = [
     ("submit", &[REQUESTER]),
     ("transmit", &[LANE]),
@@ -134,21 +134,24 @@ pub(crate) fn take_memory(walk: &mut Walk<'_>) {
     }
 }
 
-/// Takes the words of a configuration.
+/// Takes the words of a fabric's line, to its end.
 fn take_fabric(walk: &mut Walk<'_>) {
-    walk.take(&REQUESTERS);
+    let mut due = "'block' or the line's end";
+    walk.take_all(&[FABRIC, REQUESTERS]);
     take_memory(walk);
     if !walk.is_ended() && !walk.comes(b"block") {
         walk.take_all(&CREDITS);
     }
     if walk.comes(b"block") {
         walk.take_all(&[BLOCK_WORD, BLOCK]);
+        due = "the line's end";
     }
-    walk.end("'block' or the line's end");
+    walk.end(due);
 }
 
-/// Takes the words of an event of that kind.
-fn take_event(kind: &[u8], walk: &mut Walk<'_>) {
+/// Takes the words of an event's line, to its end.
+fn take_event(walk: &mut Walk<'_>) {
+    let kind = walk.take(&EVENT);
     walk.take_all(fields_of(kind, &EVENTS));
     if kind == b"submit".as_slice() {
         take_operation(walk);
@@ -156,24 +159,14 @@ fn take_event(kind: &[u8], walk: &mut Walk<'_>) {
     walk.end("the line's end");
 }
 
-/// The first word of a script's line that doesn't fit. Where all do, the line stands at the wrong
-/// place: an event before the fabric, or a second fabric.
-pub(crate) fn script_misfit(line: &[u8]) -> Option<Misfit<'_>> {
+/// The first word of a script's line that doesn't fit: an event is due where the script has its fabric,
+/// and else that.
+pub(crate) fn script_misfit(line: &[u8], has_fabric: bool) -> Option<Misfit<'_>> {
     let mut walk = Walk::new(line);
-    let kind = walk.take(&EVENT);
-    let is_fabric = kind == b"fabric".as_slice();
-    if is_fabric {
-        take_fabric(&mut walk);
+    if has_fabric {
+        take_event(&mut walk);
     } else {
-        take_event(kind, &mut walk);
-    }
-    if walk.misfit().is_none() {
-        walk = Walk::new(line);
-        if is_fabric {
-            walk.refuse(EVENT.name, EVENT.values);
-        } else {
-            walk.refuse(FABRIC.0, FABRIC.1);
-        }
+        take_fabric(&mut walk);
     }
     walk.misfit()
 }

@@ -1,8 +1,8 @@
 //! The line that tells a reason.
-ghost use Rattle.std.specs.Prelude.{◌≡◌, ◌≤◌, ◌++◌, codes, OnOk};
+ghost use Rattle.std.specs.Prelude.{◌≡◌, ◌≤◌, ◌++◌, codes, IfErr, OnOk, OnErr};
 ghost use Rattle.std.specs.Fmt.{decimal};
 ghost use Rattle.arrayvec.specs.ArrayString.{array_string_len};
-ghost use Rattle.line_reasons.specs.Told.{IsReasonToldAt};
+ghost use Rattle.line_reasons.specs.Told.{IsReasonToldAt, IsReasonBegunAt};
 
 use arrayvec::ArrayString;
 use line_engine::{EngineFault, write_out};
@@ -67,10 +67,12 @@ impl Reason {
         let _ = write!(self.text, "{part}");
     }
 
-    /// Writes the line of a reason that lies on the line of this number. After an `Err` the stream has no
-    /// more than a part of it.
+    /// Writes the line of a reason that lies on the line of this number. After an `Err` a beginning of it
+    /// was written.
     pub fn tell_at<E: io::Write>(&self, number: u64, errors: &mut E) -> Result<(), EngineFault>
-        ensures { OnOk result (IsReasonToldAt number (E.contents errors.old) (E.contents errors.new)) }
+        ensures ok { OnOk result (IsReasonToldAt number (E.contents errors.old) (E.contents errors.new)) }
+        ensures fault { IfErr result (λ f. f ≡ EngineFault.Write) }
+        ensures part { OnErr result (IsReasonBegunAt number (E.contents errors.old) (E.contents errors.new)) }
     {
         let mut line: ArrayString<1057> = ArrayString::new();
         line.push_str(beginning(number).as_str());

@@ -45,7 +45,7 @@ pub enum DueLine {
     Nothing,
 }
 
-/// What is behind the word of a record, before its operation or reply.
+/// What comes after the word of a record, before its operation or reply.
 const RECORDS: [(&str, &[Field]); 2] = [
     ("sub", &[REQUESTER, NUMBER, LENGTH]),
     ("ans", &[REQUESTER, NUMBER, LENGTH]),
@@ -94,8 +94,8 @@ impl DueLine {
         walk.misfit()
     }
 
-    /// What is due behind this line, which fits.
-    pub fn behind(self, line: &[u8]) -> DueLine {
+    /// What is due after this line, which fits.
+    pub fn after(self, line: &[u8]) -> DueLine {
         match self {
             DueLine::Head => DueLine::Memory {
                 has_block: line.ends_with(b"2"),

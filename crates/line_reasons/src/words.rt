@@ -81,7 +81,7 @@ fn is_operand(word: &[u8]) -> bool {
 }
 
 impl Form {
-    /// Whether the word fits behind the one before it.
+    /// Whether the word fits after the one before it.
     fn fits(self, word: &[u8], before: &[u8]) -> bool {
         match self {
             Form::OneOf(words) => is_one_of(word, words),
@@ -159,7 +159,7 @@ macro_rules! digits {
 
 pub(crate) use digits;
 
-/// The fields behind a word of that kind, none where it is none of them.
+/// The fields after a word of that kind, none where it is none of them.
 pub(crate) fn fields_of(kind: &[u8], forms: &[(&str, &'static [Field])]) -> &'static [Field] {
     for form in forms {
         if kind == form.0.as_bytes() {
@@ -204,12 +204,12 @@ impl Misfit<'_> {
     }
 }
 
-/// A line whose words are taken one after the other, up to the first that doesn't fit: what is behind
-/// that is not looked at.
+/// A line whose words are taken one after the other, up to the first that doesn't fit: what comes
+/// after that is not looked at.
 #[derive(Clone, Copy, Debug)]
 pub(crate) struct Walk<'a> {
     line: &'a [u8],
-    /// What is behind the words that were taken, none where the line ends.
+    /// What comes after the words that were taken, none where the line ends.
     rest: Option<&'a [u8]>,
     /// The word that was taken last.
     last: &'a [u8],
@@ -233,11 +233,11 @@ impl<'a> Walk<'a> {
 
     /// Where the next word begins, from 1.
     fn column(&self) -> usize {
-        let behind = match self.rest {
+        let left = match self.rest {
             Some(rest) => rest.len(),
             None => 0,
         };
-        self.line.len().saturating_sub(behind).saturating_add(1)
+        self.line.len().saturating_sub(left).saturating_add(1)
     }
 
     /// What stands there, none where the line ends. Of two spaces the second one stands there.
@@ -282,9 +282,9 @@ impl<'a> Walk<'a> {
     /// Takes the next word, which is to fit the field. Nothing is taken where it doesn't.
     pub(crate) fn take(&mut self, field: &Field) -> &'a [u8] {
         if let Some(rest) = self.rest {
-            let (word, behind) = cut(rest);
+            let (word, after) = cut(rest);
             if field.form.fits(word, self.last) {
-                self.rest = behind;
+                self.rest = after;
                 self.last = word;
                 return word;
             }

@@ -1,8 +1,8 @@
 //! The subcommand `decode`: bytes to words.
-ghost use Rattle.std.specs.Prelude.{◌≡◌, IfOk, OnErr};
+ghost use Rattle.std.specs.Prelude.{◌≡◌, IfOk, IfErr, OnErr};
 ghost use Rattle.packet_text.specs.Packets.{reading};
-ghost use Rattle.line_engine.specs.Run.{IsAnswer, IsWhole, IsPart};
-ghost use Rattle.packet_engine.specs.Lines.{out_decode, decode_reading};
+ghost use Rattle.line_engine.specs.Run.{IsAnswer, IsCaughtUp, IsWhole, IsPart};
+ghost use Rattle.packet_engine.specs.Lines.{out_decode, decode_reading, decode_responses};
 
 use crate::telling::{tell, tell_bytes_fault, tell_words};
 use hex_line::HexLine;
@@ -71,6 +71,7 @@ pub fn run_decode<R: Read, W: Write>(
 ) -> Result<u8, EngineFault>
     ensures ok { IfOk result (IsWhole out_decode (R.remaining reader.old) (R.remaining reader.new) (W.contents writer.old) (W.contents writer.new)) }
     ensures err { OnErr result (IsPart out_decode (R.remaining reader.old) (R.remaining reader.new) (W.contents writer.old) (W.contents writer.new)) }
+    ensures read { IfErr result (λ f. f ≡ EngineFault.Read → IsCaughtUp decode_responses tt (R.remaining reader.old) (R.remaining reader.new) (W.contents writer.old) (W.contents writer.new)) }
 {
     let line = HexLine::new();
     run(alloc, Decoder { line }, reader, writer)

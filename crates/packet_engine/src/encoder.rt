@@ -1,8 +1,8 @@
 //! The subcommand `encode`: words to bytes.
-ghost use Rattle.std.specs.Prelude.{◌≡◌, IfOk, OnErr};
+ghost use Rattle.std.specs.Prelude.{◌≡◌, IfOk, IfErr, OnErr};
 ghost use Rattle.packet_text.specs.Forms.{text_reading};
-ghost use Rattle.line_engine.specs.Run.{IsAnswer, IsWhole, IsPart};
-ghost use Rattle.packet_engine.specs.Lines.{out_encode, encode_reading};
+ghost use Rattle.line_engine.specs.Run.{IsAnswer, IsCaughtUp, IsWhole, IsPart};
+ghost use Rattle.packet_engine.specs.Lines.{out_encode, encode_reading, encode_responses};
 
 use crate::telling::{tell, tell_bytes, tell_text_fault};
 use line_engine::{EngineFault, Responder, run};
@@ -65,6 +65,7 @@ pub fn run_encode_with_reasons<R: Read, W: Write, E: Write>(
 ) -> Result<u8, EngineFault>
     ensures ok { IfOk result (IsWhole out_encode (R.remaining reader.old) (R.remaining reader.new) (W.contents writer.old) (W.contents writer.new)) }
     ensures err { OnErr result (IsPart out_encode (R.remaining reader.old) (R.remaining reader.new) (W.contents writer.old) (W.contents writer.new)) }
+    ensures read { IfErr result (λ f. f ≡ EngineFault.Read → IsCaughtUp encode_responses tt (R.remaining reader.old) (R.remaining reader.new) (W.contents writer.old) (W.contents writer.new)) }
 {
     let encoder = Reasoned::new(Encoder {}, errors);
     run(alloc, encoder, reader, writer)
@@ -80,6 +81,7 @@ pub fn run_encode<R: Read, W: Write>(
 ) -> Result<u8, EngineFault>
     ensures ok { IfOk result (IsWhole out_encode (R.remaining reader.old) (R.remaining reader.new) (W.contents writer.old) (W.contents writer.new)) }
     ensures err { OnErr result (IsPart out_encode (R.remaining reader.old) (R.remaining reader.new) (W.contents writer.old) (W.contents writer.new)) }
+    ensures read { IfErr result (λ f. f ≡ EngineFault.Read → IsCaughtUp encode_responses tt (R.remaining reader.old) (R.remaining reader.new) (W.contents writer.old) (W.contents writer.new)) }
 {
     run_encode_with_reasons(alloc, reader, writer, &mut sink())
 }

@@ -3,7 +3,7 @@ use std::alloc::Global;
 use std::test::Fail;
 use trace_engine::run_check_with_reasons;
 
-/// The text of a trace with comments: its records begin on line 4, and its entries behind two more
+/// The text of a trace with comments: its records begin on line 4, and its entries after two more
 /// lines that are skipped and `history`.
 fn text_of(alloc: Global, records: &str, history: &str) -> Result<String, Fail> {
     Ok(format!(in alloc;

@@ -52,7 +52,7 @@ fn is_told(alloc: Global, engine: Engine, input: &[u8], want: &str) -> bool {
 }
 
 /// What an engine reads, and what it tells.
-const ROWS: [(Engine, &str, &str); 41] = [
+const ROWS: [(Engine, &str, &str); 44] = [
     (
         Engine::Step,
         "fabric 1 0 4096\ntransmit lanes\n",
@@ -82,6 +82,21 @@ const ROWS: [(Engine, &str, &str); 41] = [
         Engine::Step,
         "fabric 1 0 4096 block 96\n",
         "pciex: line 1, column 23: '96' where a block is expected (64, 128)\n",
+    ),
+    (
+        Engine::Step,
+        "fabric 1 0 4096 block 64 x\n",
+        "pciex: line 1, column 26: 'x' where the line's end is expected\n",
+    ),
+    (
+        Engine::Step,
+        "fabric 1 0 4096 16 64 16 16 16 64 x\n",
+        "pciex: line 1, column 35: 'x' where 'block' or the line's end is expected\n",
+    ),
+    (
+        Engine::Step,
+        "fabrik 1 0 4096\n",
+        "pciex: line 1, column 1: 'fabrik' where a fabric is expected (fabric <requesters> <base> <size>)\n",
     ),
     (
         Engine::Step,
@@ -270,7 +285,7 @@ fn reasons_of_lines(rt: HostRuntime) {
     }
 }
 
-/// A line of 513 bytes behind a comment.
+/// A line of 513 bytes after a comment.
 fn long_line(alloc: Global) -> Result<Vec<u8>, AllocError> {
     let mut text = vec![in alloc; b'x'; 515]?;
     if let [first, second, ..] = text.as_mut_slice() {

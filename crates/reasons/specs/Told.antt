@@ -1,5 +1,5 @@
 -- Of which line of a trace's text a reason is told, and when.
-use Rattle.std.specs.Prelude.{ℕ, ◌+◌, ◌-◌, ◌^◌, ◌==◌, min, Bool, true, if◌then◌else◌, List, [], ◌∷◌, ◌++◌, slice_get, Option, Some, None, unwrap_or}
+use Rattle.std.specs.Prelude.{ℕ, ◌+◌, ◌-◌, ◌^◌, ◌==◌, nat_le, min, Bool, true, if◌then◌else◌, List, [], ◌∷◌, ◌++◌, Option, Some, None}
 use Rattle.history_check.specs.declared.flaws.FlawKind.{FlawKind}
 use Rattle.flaw_places.specs.Places.{is_of_entry}
 
@@ -13,13 +13,13 @@ abbrev pub news_of : Option ℕ → Option ℕ → Option ℕ
 news_of (Some n) found = None
 news_of None found = found
 
--- the lines of a text so far: how many, and the numbers of those that aren't skipped, from 1
+-- the lines of a text so far: how many, and the numbers of those that are skipped, from 1
 pub record Numbered : Type 0 where
   pub lines : ℕ
-  pub unskipped : List ℕ
+  pub skipped : List ℕ
 
 abbrev pub nothing_numbered : Numbered
-nothing_numbered = record { lines = 0; unskipped = [] }
+nothing_numbered = record { lines = 0; skipped = [] }
 
 -- an empty line and one that begins with `#` are skipped
 abbrev pub is_skipped : List ℕ → Bool
@@ -31,15 +31,20 @@ abbrev pub next_line : Numbered → ℕ
 next_line s = min (s.lines + 1) (2 ^ 64 - 1)
 
 abbrev pub numbered : Numbered → List ℕ → Numbered
-numbered s line = record { lines = next_line s; unskipped = if is_skipped line then s.unskipped else s.unskipped ++ next_line s ∷ [] }
-
--- the number of the nth line that isn't skipped, from 0
-abbrev pub number_at : Numbered → ℕ → ℕ
-number_at s n = unwrap_or (slice_get s.unskipped n) 0
+numbered s line = record { lines = next_line s; skipped = if is_skipped line then s.skipped ++ next_line s ∷ [] else s.skipped }
 
 -- places are numbers of 64 bits
 abbrev pub plus : ℕ → ℕ → ℕ
 plus a b = min (a + b) (2 ^ 64 - 1)
+
+-- each skipped line, taken in order, puts the lines from its number on one further
+abbrev pub further : List ℕ → ℕ → ℕ
+further [] n = n
+further (k ∷ ks) n = further ks (if nat_le k n then plus n 1 else n)
+
+-- the number of the nth line that isn't skipped, from 0
+abbrev pub number_at : Numbered → ℕ → ℕ
+number_at s n = further s.skipped (plus n 1)
 
 -- the head and the memory's line stand before the records
 abbrev pub record_line : Numbered → ℕ → ℕ

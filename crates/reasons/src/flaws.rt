@@ -233,7 +233,7 @@ fn put_early(case: &Case<'_>, request: Request, reason: &mut Reason) {
     case.put_point(request, reason);
 }
 
-/// An answered request stands in the history behind its answer.
+/// An answered request stands in the history after its answer.
 fn put_late(case: &Case<'_>, request: Request, n: u64, reason: &mut Reason) {
     let Request { requester, number } = request;
     reason.put(format_args!(": request {number} of requester {requester} is answered at n {n}"));

@@ -1,5 +1,6 @@
 //! On which lines of a text the parts of a trace stand.
 ghost use Rattle.std.specs.Prelude.{◌≡◌, OnOk, OnErr};
+ghost use Rattle.reasons.specs.Told as spec;
 ghost use Rattle.reasons.specs.Told.{number_at, record_line, entry_line, nothing_numbered, numbered};
 
 use std::alloc::{AllocError, Global};
@@ -9,8 +10,8 @@ use std::marker::Model;
 #[derive(Drop)]
 pub struct TraceLines {
     lines: u64,
-    /// The numbers of those that aren't skipped.
-    unskipped: Vec<u64>,
+    /// The numbers of those that are skipped.
+    skipped: Vec<u64>,
 }
 
 impl Model for TraceLines {
@@ -18,7 +19,21 @@ impl Model for TraceLines {
 
     ghost Value = { Numbered };
 
-    ghost view = { λ t. record { lines = t.lines; unskipped = t.unskipped.items } };
+    ghost view = { λ t. record { lines = t.lines; skipped = t.skipped.items } };
+}
+
+/// The number of a line where each of the skipped lines, in their order, puts those from its number on one
+/// further.
+fn further(skipped: &[u64], line: u64) -> u64
+    ensures { result ≡ spec.further skipped.now line }
+{
+    let mut number = line;
+    for other in skipped {
+        if *other <= number {
+            number = number.saturating_add(1);
+        }
+    }
+    number
 }
 
 impl TraceLines {
@@ -28,32 +43,28 @@ impl TraceLines {
     {
         TraceLines {
             lines: 0,
-            unskipped: Vec::new(alloc),
+            skipped: Vec::new(alloc),
         }
     }
 
-    /// Takes a line of the text. It grows where the line isn't skipped.
+    /// Takes a line of the text. It grows where the line is skipped.
     pub fn note(&mut self, line: &[u8]) -> Result<(), AllocError>
         ensures ok { OnOk result (self.new ≡ numbered self.old line.now) }
         ensures err { OnErr result (self.new ≡ self.old) }
     {
         let number = self.lines.saturating_add(1);
-        if !line.is_empty() && line[0] != b'#' {
-            self.unskipped.push(number)?;
+        if line.is_empty() || line[0] == b'#' {
+            self.skipped.push(number)?;
         }
         self.lines = number;
         Ok(())
     }
 
-    /// The number of the line, from 1, that is the nth one that isn't skipped, from 0; 0 where there is
-    /// none.
+    /// The number of the line, from 1, that is the nth one that isn't skipped, from 0.
     fn line(&self, nth: usize) -> u64
         ensures { result ≡ number_at self.now nth }
     {
-        match self.unskipped.get(nth) {
-            Some(number) => *number,
-            None => 0,
-        }
+        further(self.skipped.as_slice(), (nth as u64).saturating_add(1))
     }
 
     /// The line of the record at that place.
@@ -63,7 +74,7 @@ impl TraceLines {
         self.line(place.saturating_add(2))
     }
 
-    /// The line of the entry at that index of the history, behind so many records.
+    /// The line of the entry at that index of the history, after so many records.
     pub fn of_entry(&self, records: usize, index: usize) -> u64
         ensures { result ≡ entry_line self.now records index }
     {

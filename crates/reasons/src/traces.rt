@@ -1,6 +1,6 @@
 //! Why a text is no trace.
-ghost use Rattle.std.specs.Prelude.{◌≡◌, length, Some, None, OnOk};
-ghost use Rattle.line_reasons.specs.Told.{IsReasonTold, IsReasonToldAt};
+ghost use Rattle.std.specs.Prelude.{◌≡◌, length, Some, None, IfErr, OnOk, OnErr};
+ghost use Rattle.line_reasons.specs.Told.{IsReasonTold, IsReasonToldAt, IsReasonBegun, IsReasonBegunAt};
 ghost use Rattle.reasons.specs.Told.{first_of, news_of, line_of_flaw};
 
 use crate::flaws::flaw_reason;
@@ -15,8 +15,8 @@ use std::io::Write;
 use std::marker::Model;
 
 /// Tells why the text of a trace can't be read, or the trace isn't explained: one line at most. The
-/// calls tell the number of the first line that can't be read, once one was found. After an `Err` the
-/// stream has no more than a part of the reason.
+/// calls tell the number of the first line that can't be read, once one was found. After an `Err` a
+/// beginning of the reason was written.
 #[derive(Drop)]
 pub struct TraceReasons<E: Write> {
     due: DueLine,
@@ -63,13 +63,15 @@ impl<E: Write + Drop> TraceReasons<E> {
     pub fn take_line(&mut self, line: &[u8], fault: Option<u64>) -> Result<(), EngineFault>
         ensures told { self.new.told ≡ first_of self.old.told fault }
         ensures errors { OnOk result (IsReasonTold (news_of self.old.told fault) self.old.errors self.new.errors) }
+        ensures fault { IfErr result (λ f. f ≡ EngineFault.Write) }
+        ensures part { OnErr result (IsReasonBegun (news_of self.old.told fault) self.old.errors self.new.errors) }
     {
         if let Some(number) = self.news(fault) {
             let reason = self.due.refusal_reason(line);
             return reason.tell_at(number, &mut self.errors);
         }
         if !line.is_empty() && line[0] != b'#' {
-            self.due = self.due.behind(line);
+            self.due = self.due.after(line);
         }
         Ok(())
     }
@@ -78,6 +80,8 @@ impl<E: Write + Drop> TraceReasons<E> {
     pub fn take_long_line(&mut self, fault: Option<u64>) -> Result<(), EngineFault>
         ensures told { self.new.told ≡ first_of self.old.told fault }
         ensures errors { OnOk result (IsReasonTold (news_of self.old.told fault) self.old.errors self.new.errors) }
+        ensures fault { IfErr result (λ f. f ≡ EngineFault.Write) }
+        ensures part { OnErr result (IsReasonBegun (news_of self.old.told fault) self.old.errors self.new.errors) }
     {
         let news = self.news(fault);
         tell_long_line(news, &mut self.errors)
@@ -88,6 +92,8 @@ impl<E: Write + Drop> TraceReasons<E> {
     pub fn take_end(&mut self, fault: u64) -> Result<(), EngineFault>
         ensures told { self.new.told ≡ None }
         ensures errors { OnOk result (IsReasonTold (news_of self.old.told (Some fault)) self.old.errors self.new.errors) }
+        ensures fault { IfErr result (λ f. f ≡ EngineFault.Write) }
+        ensures part { OnErr result (IsReasonBegun (news_of self.old.told (Some fault)) self.old.errors self.new.errors) }
     {
         let news = self.news(Some(fault));
         let due = self.due;
@@ -112,6 +118,8 @@ impl<E: Write + Drop> TraceReasons<E> {
     ) -> Result<(), EngineFault>
         ensures told { self.new.told ≡ self.old.told }
         ensures errors { OnOk result (IsReasonToldAt (line_of_flaw lines.now (length trace.now.records) flaw.kind flaw.place) self.old.errors self.new.errors) }
+        ensures fault { IfErr result (λ f. f ≡ EngineFault.Write) }
+        ensures part { OnErr result (IsReasonBegunAt (line_of_flaw lines.now (length trace.now.records) flaw.kind flaw.place) self.old.errors self.new.errors) }
     {
         let reason = flaw_reason(alloc, trace, history, flaw, lines);
         let line = line_of(flaw, trace, lines);

@@ -80,16 +80,16 @@ right_after l keeps p (Some lines.Settle) p' h r =
     let all = belongs l g.events p.fabric p'.fabric p.records g.told r.0 r.1 g.runs in
     (all.0, subst (Belongs (whole_of p'.fabric)) (sym g.now) all.1)
 
-right_behind : Laws → (keeps : Bool) (ls : List (Option Line)) (p p' : Progress) → LinesDo keeps p ls p' → IsRight p → IsRight p'
-right_behind l keeps [] p p' h r = subst IsRight (sym h) r
-right_behind l keeps (x ∷ xs) p p' h r = right_behind l keeps xs h.0 p' h.2 (right_after l keeps p x h.0 h.1 r)
+right_later : Laws → (keeps : Bool) (ls : List (Option Line)) (p p' : Progress) → LinesDo keeps p ls p' → IsRight p → IsRight p'
+right_later l keeps [] p p' h r = subst IsRight (sym h) r
+right_later l keeps (x ∷ xs) p p' h r = right_later l keeps xs h.0 p' h.2 (right_after l keeps p x h.0 h.1 r)
 
 new_right : Laws → (c : Config) (f : Fabric) → IsNewWith c f → IsRight (progress f [] 0)
 new_right l c f n = (l.sound c f n, l.empty c f n)
 
 pub is_explained : Laws → (keeps : Bool) (input : List ℕ) (p : Progress) → RunsThrough keeps input p → Explains (claim_with p.fabric p.records)
 is_explained l keeps input p h =
-    let all = right_behind l keeps h.behind (progress h.fabric [] 0) p h.goes_on (new_right l h.config h.fabric h.is_new) in
+    let all = right_later l keeps h.after (progress h.fabric [] 0) p h.goes_on (new_right l h.config h.fabric h.is_new) in
     l.explained (whole_of p.fabric) p.records all.0.sound all.1
 
 -- ---- the run
@@ -125,7 +125,7 @@ first_same x y xs ys e = cc
 rest_same : {X : Type 0} (x y : X) (xs ys : List X) → x ∷ xs ≡ y ∷ ys → xs ≡ ys
 rest_same x y xs ys e = cc
 
--- a refusal that is passed over, in a run that goes on behind it
+-- a refusal that is passed over, in a run that goes on after it
 passed : (keeps echoes : Bool) (p : Progress) (n : ℕ) (line name : List ℕ) → keeps ≡ true
     → with_answer (run_at keeps echoes p n) (refused (at keeps echoes (Some p.fabric) p.records n) line name) ≡ run_at keeps echoes (progress p.fabric p.records 1) (min (n + 1) (2 ^ 64 - 1))
 passed true echoes p n line name e = refl
@@ -153,49 +153,49 @@ after_one a keeps echoes line (Some lines.Settle) p p' n s h =
 abbrev Ends : Bool → Bool → Output Stepping → List (List ℕ) → Progress → Type 0
 Ends keeps echoes run ls p = (m : ℕ) × (runs_on run ls ≡ run_at keeps echoes p m)
 
-abbrev Behind : Bool → Bool → List (List ℕ) → Type 0
-Behind keeps echoes ls = (p p' : Progress) (n : ℕ) → IsRight p → LinesDo keeps p (script_of ls) p' → Ends keeps echoes (run_at keeps echoes p n) ls p'
+abbrev Later : Bool → Bool → List (List ℕ) → Type 0
+Later keeps echoes ls = (p p' : Progress) (n : ℕ) → IsRight p → LinesDo keeps p (script_of ls) p' → Ends keeps echoes (run_at keeps echoes p n) ls p'
 
-behind_by : Laws → Answers → (keeps echoes : Bool) (long skipped : Bool) (line : List ℕ) (l : Option Line) (ls : List (List ℕ)) → Behind keeps echoes ls →
+later_by : Laws → Answers → (keeps echoes : Bool) (long skipped : Bool) (line : List ℕ) (l : Option Line) (ls : List (List ℕ)) → Later keeps echoes ls →
     (p p' : Progress) (n : ℕ) → IsRight p → LinesDo keeps p (put long skipped l (script_of ls)) p' → (m : ℕ) × (on_from long skipped line l (run_at keeps echoes p n) ls ≡ run_at keeps echoes p' m)
-behind_by w a keeps echoes true skipped line l ls more p p' n r h = absurd h.1
-behind_by w a keeps echoes false true line l ls more p p' n r h = more p p' (min (n + 1) (2 ^ 64 - 1)) r h
-behind_by w a keeps echoes false false line l ls more p p' n r h =
+later_by w a keeps echoes true skipped line l ls more p p' n r h = absurd h.1
+later_by w a keeps echoes false true line l ls more p p' n r h = more p p' (min (n + 1) (2 ^ 64 - 1)) r h
+later_by w a keeps echoes false false line l ls more p p' n r h =
     let all = more h.0 p' (min (n + 1) (2 ^ 64 - 1)) (right_after w keeps p l h.0 h.1 r) h.2 in
     (all.0, ap (λ (x : Output Stepping). runs_on x ls) (after_one a keeps echoes line l p h.0 n r.0 h.1) ∙ all.1)
 
-lines_run : Laws → Answers → (keeps echoes : Bool) (ls : List (List ℕ)) → Behind keeps echoes ls
+lines_run : Laws → Answers → (keeps echoes : Bool) (ls : List (List ℕ)) → Later keeps echoes ls
 lines_run w a keeps echoes [] p p' n r h = (n, ap (λ (x : Progress). run_at keeps echoes x n) (sym h))
 lines_run w a keeps echoes (line ∷ ls) p p' n r h =
-    behind_by w a keeps echoes (nat_lt 512 (length (bare line))) (is_skipped (said line)) (said line) (line_of (words (said line))) ls (lines_run w a keeps echoes ls) p p' n r h
+    later_by w a keeps echoes (nat_lt 512 (length (bare line))) (is_skipped (said line)) (said line) (line_of (words (said line))) ls (lines_run w a keeps echoes ls) p p' n r h
 
 abbrev start_at : Bool → Bool → ℕ → Output Stepping
 start_at keeps echoes n = new_run (at keeps echoes None [] n)
 
 abbrev Scripts : Bool → Bool → List (List ℕ) → Type 0
-Scripts keeps echoes ls = (c : Config) (behind : List (Option Line)) (p : Progress) (n : ℕ) → config_fault c ≡ None → IsRight (progress (new_fabric c) [] 0)
-    → script_of ls ≡ Some (lines.Fabric c) ∷ behind → LinesDo keeps (progress (new_fabric c) [] 0) behind p → Ends keeps echoes (start_at keeps echoes n) ls p
+Scripts keeps echoes ls = (c : Config) (after : List (Option Line)) (p : Progress) (n : ℕ) → config_fault c ≡ None → IsRight (progress (new_fabric c) [] 0)
+    → script_of ls ≡ Some (lines.Fabric c) ∷ after → LinesDo keeps (progress (new_fabric c) [] 0) after p → Ends keeps echoes (start_at keeps echoes n) ls p
 
 script_by : Laws → Answers → (keeps echoes : Bool) (long skipped : Bool) (line : List ℕ) (l : Option Line) (ls : List (List ℕ)) → Scripts keeps echoes ls →
-    (c : Config) (behind : List (Option Line)) (p : Progress) (n : ℕ) → config_fault c ≡ None → IsRight (progress (new_fabric c) [] 0)
-    → put long skipped l (script_of ls) ≡ Some (lines.Fabric c) ∷ behind → LinesDo keeps (progress (new_fabric c) [] 0) behind p
+    (c : Config) (after : List (Option Line)) (p : Progress) (n : ℕ) → config_fault c ≡ None → IsRight (progress (new_fabric c) [] 0)
+    → put long skipped l (script_of ls) ≡ Some (lines.Fabric c) ∷ after → LinesDo keeps (progress (new_fabric c) [] 0) after p
     → (m : ℕ) × (on_from long skipped line l (start_at keeps echoes n) ls ≡ run_at keeps echoes p m)
-script_by w a keeps echoes true skipped line l ls more c behind p n k r e h = absurd cc
-script_by w a keeps echoes false true line l ls more c behind p n k r e h = more c behind p (min (n + 1) (2 ^ 64 - 1)) k r e h
-script_by w a keeps echoes false false line l ls more c behind p n k r e h =
+script_by w a keeps echoes true skipped line l ls more c after p n k r e h = absurd cc
+script_by w a keeps echoes false true line l ls more c after p n k r e h = more c after p (min (n + 1) (2 ^ 64 - 1)) k r e h
+script_by w a keeps echoes false false line l ls more c after p n k r e h =
     let s = at keeps echoes None [] n in
     let all = lines_run w a keeps echoes ls (progress (new_fabric c) [] 0) p (min (n + 1) (2 ^ 64 - 1)) r
-    (subst (λ (xs : List (Option Line)). LinesDo keeps (progress (new_fabric c) [] 0) xs p) (sym (rest_same l (Some (lines.Fabric c)) (script_of ls) behind e)) h) in (
+    (subst (λ (xs : List (Option Line)). LinesDo keeps (progress (new_fabric c) [] 0) xs p) (sym (rest_same l (Some (lines.Fabric c)) (script_of ls) after e)) h) in (
       all.0,
-      ap (λ (o : Option Line). on_from false false line o (start_at keeps echoes n) ls) (first_same l (Some (lines.Fabric c)) (script_of ls) behind e)
+      ap (λ (o : Option Line). on_from false false line o (start_at keeps echoes n) ls) (first_same l (Some (lines.Fabric c)) (script_of ls) after e)
           ∙ ap (λ (x : Option ConfigFault). runs_on (with_answer (start_at keeps echoes n) (made s c x)) ls) k
           ∙ all.1,
     )
 
 scripts_run : Laws → Answers → (keeps echoes : Bool) (ls : List (List ℕ)) → Scripts keeps echoes ls
-scripts_run w a keeps echoes [] c behind p n k r e h = absurd cc
-scripts_run w a keeps echoes (line ∷ ls) c behind p n k r e h =
-    script_by w a keeps echoes (nat_lt 512 (length (bare line))) (is_skipped (said line)) (said line) (line_of (words (said line))) ls (scripts_run w a keeps echoes ls) c behind p n k r e h
+scripts_run w a keeps echoes [] c after p n k r e h = absurd cc
+scripts_run w a keeps echoes (line ∷ ls) c after p n k r e h =
+    script_by w a keeps echoes (nat_lt 512 (length (bare line))) (is_skipped (said line)) (said line) (line_of (words (said line))) ls (scripts_run w a keeps echoes ls) c after p n k r e h
 
 -- the trace is told at the end
 abbrev told : Bool → Bool → ℕ → Progress → Output Stepping
@@ -205,9 +205,9 @@ pub is_told : Laws → Answers → (keeps echoes : Bool) (input : List ℕ) (p :
     → (m : ℕ) × (out_step_with (traced keeps echoes) input ≡ told keeps echoes m p)
 is_told w a keeps echoes input p h =
     let made_is = a.new h.config h.fabric h.is_new in
-    let all = scripts_run w a keeps echoes (lines_of input) h.config h.behind p 0 made_is.1
+    let all = scripts_run w a keeps echoes (lines_of input) h.config h.after p 0 made_is.1
     (subst (λ (f : Fabric). IsRight (progress f [] 0)) made_is.0 (new_right w h.config h.fabric h.is_new)) h.says
-    (subst (λ (f : Fabric). LinesDo keeps (progress f [] 0) h.behind p) made_is.0 h.goes_on) in
+    (subst (λ (f : Fabric). LinesDo keeps (progress f [] 0) h.after p) made_is.0 h.goes_on) in
     (all.0, ap (after_end step_responses) all.1)
 
 -- ---- scripts of events that all happen
@@ -229,7 +229,7 @@ pub runs_through : (input : List ℕ) (c : Config) (f f' : Fabric) (events : Lis
 runs_through input c f f' events rs s n r = record {
   config = c;
   fabric = f;
-  behind = map event_line events;
+  after = map event_line events;
   says = s;
   is_new = n;
   goes_on = events_do events f f' [] rs r;

@@ -51,7 +51,7 @@ pub record EventHappens (p : Progress) (event : Event) (p' : Progress) : Type 0 
   pub recorded : Recorded p.fabric event p.records p'.fabric p'.records
   pub status : p'.status ≡ p.status
 
--- it is refused, for another cause than want of memory, and nothing changes but the exit status
+-- it is refused, for another cause than being out of memory, and nothing changes but the exit status
 pub record EventIsPassed (p : Progress) (event : Event) (p' : Progress) : Type 0 where
   pub refusal : Refusal
   pub refused : Refused p.fabric event refusal
@@ -65,7 +65,7 @@ pub record Settles (p : Progress) (p' : Progress) : Type 0 where
   pub records : p'.records ≡ (settlement p.fabric p.records).records
   pub status : p'.status ≡ p.status
 
--- a line behind the first, in a run that goes on behind refusals or ends there
+-- a line after the first, in a run that goes on after refusals or ends there
 abbrev pub LineDoes : Bool → Progress → Option Line → Progress → Type 0
 LineDoes keeps_going p None p' = ⊥
 LineDoes keeps_going p (Some (lines.Fabric c)) p' = ⊥
@@ -76,11 +76,11 @@ abbrev pub LinesDo : Bool → Progress → List (Option Line) → Progress → T
 LinesDo keeps_going p [] p' = p' ≡ p
 LinesDo keeps_going p (l ∷ ls) p' = (next : Progress) × LineDoes keeps_going p l next × LinesDo keeps_going next ls p'
 
--- the first line makes a fabric, and those behind it leave this
+-- the first line makes a fabric, and those after it leave this
 pub record RunsThrough (keeps_going : Bool) (input : List ℕ) (p : Progress) : Type 0 where
   pub config : Config
   pub fabric : Fabric
-  pub behind : List (Option Line)
-  pub says : script_of (lines_of input) ≡ Some (lines.Fabric config) ∷ behind
+  pub after : List (Option Line)
+  pub says : script_of (lines_of input) ≡ Some (lines.Fabric config) ∷ after
   pub is_new : IsNewWith config fabric
-  pub goes_on : LinesDo keeps_going (progress fabric [] 0) behind p
+  pub goes_on : LinesDo keeps_going (progress fabric [] 0) after p

@@ -46,7 +46,7 @@ counted s = record s { lines = next_line s }
 abbrev pub nothing : Stepping → Answer Stepping
 nothing s = record { state = s; text = []; is_fault = false }
 
--- what answers a line is a line of its own, behind the other where that is asked for
+-- what answers a line is a line of its own, after the other where that is asked for
 abbrev pub echo_of : Stepping → List ℕ → List ℕ
 echo_of s line = if s.options.echoes then line ++ codes " -> " else []
 
@@ -74,7 +74,7 @@ fault s name = ends s (fault_line s name ++ 10 ∷ [])
 abbrev pub no_line : Stepping → Answer Stepping
 no_line s = fault s (codes "Script")
 
--- the run goes on behind this text, of which a trace has nothing
+-- the run goes on after this text, of which a trace has nothing
 abbrev pub passes : Stepping → List ℕ → Answer Stepping
 passes s text = record { state = counted s; text = if s.options.is_traced then [] else text; is_fault = true }
 
@@ -155,7 +155,7 @@ by_line s line (Some (lines.Fabric c)) = made_once s s.fabric c
 by_line s line (Some (lines.Event event)) = happened s line s.fabric event
 by_line s line (Some lines.Settle) = settled s line s.fabric
 
--- behind the end of the run nothing is read
+-- after the end of the run nothing is read
 abbrev pub step_line : Stepping → List ℕ → Answer Stepping
 step_line s line =
     if s.has_ended then nothing s

@@ -1,8 +1,8 @@
 //! Answers to scripts, with reasons beside them.
-ghost use Rattle.std.specs.Prelude.{◌≡◌, IfOk, OnOk, OnErr};
+ghost use Rattle.std.specs.Prelude.{◌≡◌, IfOk, IfErr, OnOk, OnErr};
 ghost use Rattle.std.specs.Bool.{then_some};
-ghost use Rattle.line_engine.specs.Run.{IsWhole, IsPart};
-ghost use Rattle.line_reasons.specs.Told.{IsReasonTold};
+ghost use Rattle.line_engine.specs.Run.{IsCaughtUp, IsWhole, IsPart};
+ghost use Rattle.line_reasons.specs.Told.{IsReasonTold, IsReasonBegun};
 ghost use Rattle.step_engine.specs.Step as spec;
 
 use crate::options::StepOptions;
@@ -25,14 +25,17 @@ fn explain<E: Write>(
 ) -> Result<(), EngineFault>
     ensures stepper { stepper.new ≡ stepper.old }
     ensures errors { OnOk result (IsReasonTold (then_some is_fault stepper.old.lines) (E.contents errors.old) (E.contents errors.new)) }
+    ensures fault { IfErr result (λ f. f ≡ EngineFault.Write) }
+    ensures part { OnErr result (IsReasonBegun (then_some is_fault stepper.old.lines) (E.contents errors.old) (E.contents errors.new)) }
 {
     let fault = is_fault.then_some(stepper.lines());
+    let has_fabric = stepper.has_fabric();
     let Some(refusal) = stepper.take_refusal() else {
-        return tell_script_line(line, None, fault, errors);
+        return tell_script_line(line, has_fabric, None, fault, errors);
     };
     let mut name = ArrayString::new();
     write_refusal(&refusal, &mut name);
-    tell_script_line(line, Some(name.as_str()), fault, errors)
+    tell_script_line(line, has_fabric, Some(name.as_str()), fault, errors)
 }
 
 /// A script that is run line by line, and the stream on which reasons are told.
@@ -57,9 +60,7 @@ impl<E: Write + Drop> Responder for Explained<E> {
 
     fn on_line(&mut self, line: &[u8], out: &mut Vec<u8>) -> Result<bool, AllocError> {
         let told = self.stepper.on_line(line, out)?;
-        if told {
-            let _ = explain(&mut self.stepper, line, told, &mut self.errors);
-        }
+        let _ = explain(&mut self.stepper, line, told, &mut self.errors);
         Ok(told)
     }
 
@@ -86,6 +87,7 @@ pub fn run_step_with_reasons<R: Read, W: Write, E: Write>(
 ) -> Result<u8, EngineFault>
     ensures ok { IfOk result (IsWhole (spec.out_step_with options) (R.remaining reader.old) (R.remaining reader.new) (W.contents writer.old) (W.contents writer.new)) }
     ensures err { OnErr result (IsPart (spec.out_step_with options) (R.remaining reader.old) (R.remaining reader.new) (W.contents writer.old) (W.contents writer.new)) }
+    ensures read { IfErr result (λ f. f ≡ EngineFault.Read → IsCaughtUp spec.step_responses (spec.new_script options) (R.remaining reader.old) (R.remaining reader.new) (W.contents writer.old) (W.contents writer.new)) }
 {
     let stepper = Stepper::new(alloc, options);
     run(alloc, Explained { stepper, errors }, reader, writer)

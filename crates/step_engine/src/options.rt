@@ -9,7 +9,7 @@ pub struct StepOptions {
     pub is_traced: bool,
     /// A refusal is told, and doesn't end the run.
     pub keeps_going: bool,
-    /// Each result and each refusal stands behind the line that it answers.
+    /// Each result and each refusal follows the line that it answers.
     pub echoes: bool,
 }
 

@@ -1,12 +1,13 @@
 //! The subcommand `step`: scripts of events for a fabric.
-ghost use Rattle.std.specs.Prelude.{◌≡◌, ◌≤◌, ◌+◌, ◌++◌, ◌∷◌, [], true, false, length, codes, option_to_list, Some, None, Ok, Err, IfOk, IfErr, OnOk, OnErr};
+ghost use Rattle.std.specs.Prelude.{◌≡◌, ◌≤◌, ◌+◌, ◌++◌, ◌∷◌, [], true, false, length, codes, option_to_list, is_some, Some, None, Ok, Err, IfOk, IfErr, OnOk, OnErr};
 ghost use Rattle.std.specs.Fmt.{decimal};
 ghost use Rattle.arrayvec.specs.ArrayString.{array_string_len};
 ghost use Rattle.fabric_answers.specs.Answers.{answer, IsTold};
 ghost use Rattle.fabric_answers.specs.New.{new_fabric, config_fault};
 ghost use Rattle.script_text.specs.Names.{config_fault_name, refusal_name};
 ghost use Rattle.script_text.specs.Texts.{seen_text, settled_text};
-ghost use Rattle.line_engine.specs.Run.{IsAnswer, IsWhole, IsPart};
+ghost use Rattle.line_engine.specs.Run.{IsAnswer, IsCaughtUp, IsWhole, IsPart};
+ghost use Rattle.step_engine.specs.Options.{plain};
 ghost use Rattle.step_engine.specs.Step as spec;
 ghost use Rattle.step_engine.specs.Step.{IsRecorded};
 
@@ -106,6 +107,13 @@ impl Stepper {
         self.lines
     }
 
+    /// Whether the script has its fabric.
+    pub(crate) fn has_fabric(&self) -> bool
+        ensures { result ≡ is_some self.now.fabric }
+    {
+        self.fabric.is_some()
+    }
+
     /// Why the fabric refused the event that was refused last, where nobody took it yet.
     pub(crate) fn take_refusal(&mut self) -> Option<Refusal>
         ensures { self.new ≡ self.old }
@@ -168,7 +176,7 @@ impl Stepper {
 }
 
 impl Stepper {
-    /// Adds what answers a line of the script, behind it where that is asked for.
+    /// Adds what answers a line of the script, after it where that is asked for.
     fn put(
         &self,
         line: &[u8],
@@ -179,10 +187,10 @@ impl Stepper {
         ensures ok { OnOk result (out.new.items ≡ out.old.items ++ spec.shown self.now line.now text.old.bytes) }
         ensures err { OnErr result (out.new.items ≡ out.old.items) }
     {
-        put_shown(self.options.echoes, line, text, out, self.alloc)
+        put_shown(self.options.echoes, line, text, out)
     }
 
-    /// Goes on behind a refusal, which changes nothing.
+    /// Goes on after a refusal, which changes nothing.
     fn pass(
         &mut self,
         line: &[u8],
@@ -216,7 +224,7 @@ impl Stepper {
         Ok(true)
     }
 
-    /// An event was refused; want of memory is no answer.
+    /// An event was refused; out of memory is no answer.
     fn refused(
         &mut self,
         line: &[u8],
@@ -274,7 +282,7 @@ impl Stepper {
     {
         self.text.clear();
         write_seen(event, seen, &mut self.text);
-        put_shown(self.options.echoes, line, &mut self.text, out, self.alloc)?;
+        put_shown(self.options.echoes, line, &mut self.text, out)?;
         self.count();
         Ok(false)
     }
@@ -424,10 +432,10 @@ impl Responder for Stepper {
     }
 }
 
-/// Runs a script: the first line makes a fabric, and each line behind it is an event, whose result is written in a line, or
+/// Runs a script: the first line makes a fabric, and each line after it is an event, whose result is written in a line, or
 /// `settle`, which is answered by a line for each answer that it collects and one that tells whether the fabric is quiet.
 /// The first line that is none, the first fault of the configuration and the first refusal end the run with one line;
-/// with `keeps_going` a refusal doesn't end it. With `echoes` what answers an event or `settle` stands behind its line.
+/// with `keeps_going` a refusal doesn't end it. With `echoes` what answers an event or `settle` follows its line.
 /// With `is_traced` the trace of a run that ends well is written in place of the results. `Ok` is the exit status, 1 where
 /// a fault or a refusal was told. After an `Err` what was written is a beginning of the whole output.
 pub fn run_step_with<R: Read, W: Write>(
@@ -438,6 +446,7 @@ pub fn run_step_with<R: Read, W: Write>(
 ) -> Result<u8, EngineFault>
     ensures ok { IfOk result (IsWhole (spec.out_step_with options) (R.remaining reader.old) (R.remaining reader.new) (W.contents writer.old) (W.contents writer.new)) }
     ensures err { OnErr result (IsPart (spec.out_step_with options) (R.remaining reader.old) (R.remaining reader.new) (W.contents writer.old) (W.contents writer.new)) }
+    ensures read { IfErr result (λ f. f ≡ EngineFault.Read → IsCaughtUp spec.step_responses (spec.new_script options) (R.remaining reader.old) (R.remaining reader.new) (W.contents writer.old) (W.contents writer.new)) }
 {
     run_step_with_reasons(alloc, options, reader, writer, &mut sink())
 }
@@ -451,6 +460,7 @@ pub fn run_step<R: Read, W: Write>(
 ) -> Result<u8, EngineFault>
     ensures ok { IfOk result (IsWhole (spec.out_step is_traced) (R.remaining reader.old) (R.remaining reader.new) (W.contents writer.old) (W.contents writer.new)) }
     ensures err { OnErr result (IsPart (spec.out_step is_traced) (R.remaining reader.old) (R.remaining reader.new) (W.contents writer.old) (W.contents writer.new)) }
+    ensures read { IfErr result (λ f. f ≡ EngineFault.Read → IsCaughtUp spec.step_responses (spec.new_script (plain is_traced)) (R.remaining reader.old) (R.remaining reader.new) (W.contents writer.old) (W.contents writer.new)) }
 {
     run_step_with(alloc, StepOptions::plain(is_traced), reader, writer)
 }

@@ -1,11 +1,11 @@
 //! The subcommand `tlp`: requests in, completions out, over one memory.
-ghost use Rattle.std.specs.Prelude.{◌≡◌, ◌/◌, ◌<◌, ◌++◌, ◌∷◌, [], ℕ, true, false, IfOk, OnOk, OnErr, slice_index};
+ghost use Rattle.std.specs.Prelude.{◌≡◌, ◌/◌, ◌<◌, ◌++◌, ◌∷◌, [], ℕ, true, false, IfOk, IfErr, OnOk, OnErr, slice_index};
 ghost use Rattle.seq_memory.specs.Limits.{IsSize, IsBase, IsBlock};
 ghost use Rattle.tlp_core.specs.Faults.{reading};
 ghost use Rattle.tlp_core.specs.Operation.{is_completion};
 ghost use Rattle.completer_core.specs.Serving.{after_serving, completion_to};
-ghost use Rattle.line_engine.specs.Run.{IsAnswer, IsWhole, IsPart};
-ghost use Rattle.tlp_engine.specs.Tlp.{new_state, out_tlp, answer_request, answer_packet, answer_reading, count_of, fault_text, completion_text};
+ghost use Rattle.line_engine.specs.Run.{IsAnswer, IsCaughtUp, IsWhole, IsPart};
+ghost use Rattle.tlp_engine.specs.Tlp.{new_state, out_tlp, tlp_responses, answer_request, answer_packet, answer_reading, count_of, fault_text, completion_text};
 
 use crate::text::{put_fault, put_packet};
 use arrayvec::ArrayVec;
@@ -239,6 +239,7 @@ pub fn run_tlp<R: Read, W: Write>(
     requires block { IsBlock block }
     ensures ok { IfOk result (IsWhole (out_tlp base size block) (R.remaining reader.old) (R.remaining reader.new) (W.contents writer.old) (W.contents writer.new)) }
     ensures err { OnErr result (IsPart (out_tlp base size block) (R.remaining reader.old) (R.remaining reader.new) (W.contents writer.old) (W.contents writer.new)) }
+    ensures read { IfErr result (λ f. f ≡ EngineFault.Read → IsCaughtUp tlp_responses (new_state base size block) (R.remaining reader.old) (R.remaining reader.new) (W.contents writer.old) (W.contents writer.new)) }
 {
     let completer = Completer::new(alloc, base, size, block)?;
     run(alloc, completer, reader, writer)

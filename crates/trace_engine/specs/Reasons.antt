@@ -1,8 +1,11 @@
 -- Of which line of a trace's text a reason is told.
-use Rattle.std.specs.Prelude.{ℕ, ◌≡◌, Option, Some, None}
+use Rattle.std.specs.Prelude.{ℕ, ◌≡◌, length, Option, Some, None}
+use Rattle.history_check.specs.declared.flaws.FlawKind.{FlawKind}
+use Rattle.history_check.specs.Claim.{Claim}
+use Rattle.history_check.specs.Flaws.{first_flaw}
 use Rattle.trace_file.specs.declared.fault.ReadFault.{ReadFault}
 use Rattle.trace_file.specs.Reading.{Reading}
-use Rattle.reasons.specs.Told.{Telling}
+use Rattle.reasons.specs.Told.{Telling, Numbered, line_of_flaw}
 
 abbrev pub line_of_fault : Option ReadFault → Option ℕ
 line_of_fault None = None
@@ -15,3 +18,11 @@ faulty_line s = line_of_fault s.fault
 -- a reason was told exactly where there is a fault, and its line is the fault's
 abbrev pub Agrees : Reading → Telling → Type 0
 Agrees s t = t.told ≡ faulty_line s
+
+abbrev pub line_of_first : Numbered → ℕ → Option (FlawKind × ℕ) → Option ℕ
+line_of_first lines records None = None
+line_of_first lines records (Some f) = Some (line_of_flaw lines records f.0 f.1)
+
+-- the number of the line on which the trace's first flaw lies, if it has one
+abbrev pub flawed_line : Numbered → Claim → Option ℕ
+flawed_line lines c = line_of_first lines (length c.records) (first_flaw c)

@@ -1,11 +1,12 @@
 //! The subcommand `check`: whether a history explains what requesters were told.
-ghost use Rattle.std.specs.Prelude.{◌≡◌, ◌++◌, ◌∷◌, [], true, false, IfOk, OnErr};
-ghost use Rattle.std.specs.Io.KnownBytes.{Keeps};
+ghost use Rattle.std.specs.Prelude.{◌≡◌, ◌++◌, ◌∷◌, [], true, false, IfOk, IfErr, OnOk, OnErr};
 ghost use Rattle.history_check.specs.Claim.{claim_of};
 ghost use Rattle.history_check.specs.Flaws.{first_flaw};
 ghost use Rattle.trace_file.specs.Reading.{nothing_read};
 ghost use Rattle.line_engine.specs.Run.{IsAnswer, IsWhole, IsPart};
+ghost use Rattle.line_reasons.specs.Told.{IsReasonTold, IsReasonBegun};
 ghost use Rattle.trace_engine.specs.Check.{flaw_line, judged, out_check};
+ghost use Rattle.trace_engine.specs.Reasons.{flawed_line};
 
 use crate::lines::write_flaw;
 use crate::traces::{TraceInput, tell_fault};
@@ -30,7 +31,8 @@ fn tell_flaw(flaw: Flaw, out: &mut Vec<u8>) -> Result<bool, AllocError>
     Ok(true)
 }
 
-/// Adds the line that tells whether the history explains the trace, and tells the reason of a flaw.
+/// Adds the line that tells whether the history explains the trace, and tells the reason of a flaw: whether
+/// there is one, and whether the stream took its reason.
 fn judge<E: Write + Drop>(
     alloc: Global,
     trace: &Trace,
@@ -38,21 +40,24 @@ fn judge<E: Write + Drop>(
     lines: &TraceLines,
     reasons: &mut TraceReasons<E>,
     out: &mut Vec<u8>,
-) -> Result<bool, AllocError>
-    ensures ok { IfOk result (λ told. IsAnswer nothing_read out.old.items out.new.items told (judged (first_flaw (claim_of trace.now history.now)))) }
+) -> Result<(bool, Result<(), EngineFault>), AllocError>
+    ensures ok { IfOk result (λ told. IsAnswer nothing_read out.old.items out.new.items told.0 (judged (first_flaw (claim_of trace.now history.now)))) }
     ensures err { OnErr result (out.new.items ≡ out.old.items) }
-    ensures quiet { IfOk result (λ told. told ≡ false → Keeps reasons.old.errors reasons.new.errors) }
+    ensures reason { IfOk result (λ told. OnOk told.1 (IsReasonTold (flawed_line lines.now (claim_of trace.now history.now)) reasons.old.errors reasons.new.errors)) }
+    ensures fault { IfOk result (λ told. IfErr told.1 (λ f. f ≡ EngineFault.Write)) }
+    ensures part { IfOk result (λ told. OnErr told.1 (IsReasonBegun (flawed_line lines.now (claim_of trace.now history.now)) reasons.old.errors reasons.new.errors)) }
     ensures told { reasons.new.told ≡ reasons.old.told }
 {
     match check(alloc, trace, history) {
         Ok(()) => {
             out.extend_from_slice(b"ok\n")?;
-            Ok(false)
+            Ok((false, Ok(())))
         }
         Err(flaw) if flaw.kind == FlawKind::Memory => Err(AllocError),
         Err(flaw) => {
-            let _ = reasons.tell_flaw(alloc, trace, history, flaw, lines);
-            tell_flaw(flaw, out)
+            let reason = reasons.tell_flaw(alloc, trace, history, flaw, lines);
+            let told = tell_flaw(flaw, out)?;
+            Ok((told, reason))
         }
     }
 }
@@ -90,14 +95,17 @@ impl<E: Write + Drop> Responder for Checker<E> {
 
     fn on_end(&mut self, out: &mut Vec<u8>) -> Result<bool, AllocError> {
         match self.input.end() {
-            Ok((trace, history)) => judge(
-                self.input.alloc(),
-                &trace,
-                history.as_slice(),
-                &self.lines,
-                &mut self.input.reasons,
-                out,
-            ),
+            Ok((trace, history)) => {
+                let (told, _) = judge(
+                    self.input.alloc(),
+                    &trace,
+                    history.as_slice(),
+                    &self.lines,
+                    &mut self.input.reasons,
+                    out,
+                )?;
+                Ok(told)
+            }
             Err(fault) => tell_fault(fault, out),
         }
     }

@@ -1,5 +1,6 @@
 use Rattle.std.proofs.Common.{ℕ, List, [], Option, Some, None, Result, Ok, Err, IfSome, OnErr, sym, refl}
 use Rattle.std.proofs.lemmas.List.{append-nil}
+use Rattle.std.proofs.lemmas.Result.{err_from_is_err_and}
 use Rattle.std.specs.Io.KnownBytes.{Appends, Consumes}
 use Rattle.line_engine.specs.Run.{Run, IsBeginning, IsPart}
 use Rattle.tlp_engine.specs.Tlp.{out_tlp}
@@ -35,3 +36,8 @@ on_err (Err e) p = p
 pub returns-in_err-completer-clause-err : goal.returns-in_err-completer-clause-err
 returns-in_err-completer-clause-err g c =
     on_err c.from_residual.result (nothing-done (out_tlp c.args.base c.args.size c.args.block) (g.R.Read.remaining c.args.reader.now) (g.W.Write.contents c.args.writer.now))
+
+pub returns-in_err-completer-clause-read : goal.returns-in_err-completer-clause-read
+returns-in_err-completer-clause-read g c =
+    let p = err_from_is_err_and c.from_residual.result c.from_residual.ensures.1 in
+    rw (p.1, p.2) (λ is. absurd (cc is))
