@@ -5,11 +5,12 @@ ghost use Rattle.svg_text.specs.Shapes.{shapes_text};
 ghost use Rattle.history_picture.specs.Picture as spec;
 
 use crate::entries::{put_entries, shown_entries};
-use crate::flaws::{flawed_request, put_mark};
+use crate::flaws::put_mark;
 use crate::heading::{put_captions, put_kinds, put_signs, title_label};
 use crate::marks::View;
 use crate::rows::put_rows;
 use crate::scale::{Scale, Window, scale_of, x_at};
+use flaw_places::flawed_request;
 use history_check::{Flaw, Record, Trace};
 use seq_memory::Entry;
 use std::alloc::{AllocError, Global};
