@@ -165,7 +165,7 @@ entry_shapes v offset e =
     ∷ Shape.Written (centred_label (x_at offset + 36) 95 colours.Black) (pair_words e.requester e.number)
     ∷ []
 
--- the entries, from an offset on, each behind its point
+-- the entries, from an offset on, each after its point
 abbrev pub entries : View → ℕ → ℕ → List Entry → List Shape
 entries v bottom offset [] = tick v.scale.from offset bottom
 entries v bottom offset (e ∷ es) = (tick v.scale.from offset bottom ++ entry_shapes v offset e) ++ entries v bottom (offset + 1) es

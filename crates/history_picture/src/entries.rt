@@ -74,7 +74,7 @@ fn put_entry(view: View, offset: u64, entry: &Entry, out: &mut Vec<u8>) -> Resul
     put_label(&place, text.as_bytes(), out)
 }
 
-/// Adds the entries that are shown, each behind its point.
+/// Adds the entries that are shown, each after its point.
 pub(crate) fn put_entries(
     view: View,
     bottom: u64,

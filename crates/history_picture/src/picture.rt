@@ -101,8 +101,8 @@ fn view_of(window: Window, records: &[Record], history: &[Entry], flaw: Option<F
 }
 
 /// The picture of a trace and its history in SVG, of which `flaw` is the first flaw. The window says
-/// which points of the history are shown, 4,294,967,295 of them at most behind the first. The rows
-/// are those of requesters 1 to 7. An error is want of memory.
+/// which points of the history are shown, 4,294,967,295 of them at most after the first. The rows
+/// are those of requesters 1 to 7. An error is out of memory.
 pub fn picture_of(
     alloc: Global,
     trace: &Trace,
@@ -126,7 +126,7 @@ fn put_title(words: &[u8], out: &mut Vec<u8>) -> Result<(), AllocError>
     put_label(&title_label(true), words, out)
 }
 
-/// A picture in SVG that has these words alone. An error is want of memory.
+/// A picture in SVG that has these words alone. An error is out of memory.
 pub fn line_of(alloc: Global, words: &[u8]) -> Result<Vec<u8>, AllocError>
     ensures { IfOk result (λ text. text.items ≡ spec.line_text words.now) }
 {

@@ -140,7 +140,7 @@ round s = with_answers (served (with_forwards (with_lanes (at s.fabric s.records
 abbrev pub if_moved : (Settling → Settling) → Settling → Settling
 if_moved more s = if s.moved then more s else s
 
--- a round, and others behind one that moved something, at most so many
+-- a round, and others after one that moved something, at most so many
 unfoldable pub rounds : ℕ → Settling → Settling
 rounds zero s = s
 rounds (suc n) s = if_moved (rounds n) (round s)

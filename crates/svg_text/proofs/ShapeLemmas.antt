@@ -6,20 +6,20 @@ use Rattle.svg_text.specs.declared.shapes.Block.{Block}
 use Rattle.svg_text.specs.Shapes.{Shape, three_edges, rectangle, circle, line, placed, tooltip, block_before, before, contents, shape_text, shapes_text, page, page_attributes, page_background, page_text}
 use Rattle.svg_text.specs.Xml.{Content, text_of, opening, closing, IsWellFormed, IsDocument}
 
--- an element, and what stands behind it
-behind : (o i c r : List ℕ) → o ++ (i ++ (c ++ r)) ≡ (o ++ (i ++ (c ++ []))) ++ r
-behind o i c r = simp (append_assoc, append-nil)
+-- an element, and what stands after it
+followed : (o i c r : List ℕ) → o ++ (i ++ (c ++ r)) ≡ (o ++ (i ++ (c ++ []))) ++ r
+followed o i c r = simp (append_assoc, append-nil)
 
-behind_block : (t : Bool) (b : Block) (text : List ℕ) (rest : Content) → text_of (block_before t b text rest) ≡ text_of (block_before t b text Content.Nothing) ++ text_of rest
-behind_block true b text rest = behind (opening (codes "polyline") (three_edges b)) (text_of (tooltip text)) (closing (codes "polyline")) (text_of rest)
-behind_block false b text rest = behind (opening (codes "rect") (rectangle b)) (text_of (tooltip text)) (closing (codes "rect")) (text_of rest)
+followed_block : (t : Bool) (b : Block) (text : List ℕ) (rest : Content) → text_of (block_before t b text rest) ≡ text_of (block_before t b text Content.Nothing) ++ text_of rest
+followed_block true b text rest = followed (opening (codes "polyline") (three_edges b)) (text_of (tooltip text)) (closing (codes "polyline")) (text_of rest)
+followed_block false b text rest = followed (opening (codes "rect") (rectangle b)) (text_of (tooltip text)) (closing (codes "rect")) (text_of rest)
 
 before-text : (s : Shape) (rest : Content) → text_of (before s rest) ≡ shape_text s ++ text_of rest
 unfolding shape_text
-before-text (Shape.Filled b text) rest = behind_block b.is_open b text rest
-before-text (Shape.Dotted d) rest = behind (opening (codes "circle") (circle d)) [] (closing (codes "circle")) (text_of rest)
-before-text (Shape.Ruled r) rest = behind (opening (codes "line") (line r)) [] (closing (codes "line")) (text_of rest)
-before-text (Shape.Written l text) rest = behind (opening (codes "text") (placed l)) (text_of (Content.Characters text Content.Nothing)) (closing (codes "text")) (text_of rest)
+before-text (Shape.Filled b text) rest = followed_block b.is_open b text rest
+before-text (Shape.Dotted d) rest = followed (opening (codes "circle") (circle d)) [] (closing (codes "circle")) (text_of rest)
+before-text (Shape.Ruled r) rest = followed (opening (codes "line") (line r)) [] (closing (codes "line")) (text_of rest)
+before-text (Shape.Written l text) rest = followed (opening (codes "text") (placed l)) (text_of (Content.Characters text Content.Nothing)) (closing (codes "text")) (text_of rest)
 
 contents-text : (ss : List Shape) → text_of (contents ss) ≡ shapes_text ss
 unfolding shapes_text

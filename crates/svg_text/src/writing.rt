@@ -186,7 +186,7 @@ fn put_three_edges(block: &Block, text: &[u8], out: &mut Vec<u8>) -> Result<(), 
     out.extend_from_slice(b"</polyline>")
 }
 
-/// Adds a block. Its text is shown where one points at it. After an `Err`, which is want of memory,
+/// Adds a block. Its text is shown where one points at it. After an `Err`, which is out of memory,
 /// some of it may be added.
 #[tactic(auto, unfolding(crate::specs::Shapes::shape_text))]
 pub fn put_block(block: &Block, text: &[u8], out: &mut Vec<u8>) -> Result<(), AllocError>
