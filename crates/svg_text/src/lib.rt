@@ -13,6 +13,6 @@ mod shapes;
 mod writing;
 
 pub use colour::Colour;
-pub use laws::pages_are_well_formed;
+pub use laws::{escaped_texts_are_plain, pages_are_well_formed};
 pub use shapes::{Block, Dot, Label, Rule};
 pub use writing::{page_of, put_block, put_dot, put_label, put_rule};
