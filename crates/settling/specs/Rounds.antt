@@ -1,5 +1,5 @@
 -- Running a fabric by rounds of events until one moves nothing.
-use Rattle.std.specs.Prelude.{ℕ, zero, suc, ◌-◌, ◌^◌, ◌||◌, ◌&&◌, Bool, true, false, if◌then◌else◌, List, [], ◌∷◌, ◌++◌, length, fold, Result, Ok, Err, is_ok}
+use Rattle.std.specs.Prelude.{ℕ, zero, suc, ◌≡◌, ◌<◌, ◌⊎◌, ◌+◌, ◌-◌, ◌^◌, ◌||◌, ◌&&◌, Bool, true, false, if◌then◌else◌, List, [], ◌∷◌, ◌++◌, length, fold, Result, Ok, Err, is_ok}
 use Rattle.std.specs.List.{list_all}
 use Rattle.history_check.specs.declared.Record.{Record}
 use Rattle.dllp_core.specs.declared.packet.Class.TheVariants.{Posted, NonPosted, Completion}
@@ -148,6 +148,19 @@ rounds (suc n) s = if_moved (rounds n) (round s)
 -- the fabric and the records after all rounds
 abbrev pub settlement : Fabric → List Record → Settling
 settlement f rs = rounds 10000 (at f rs false)
+
+-- so many rounds, one after the other
+unfoldable pub after_rounds : ℕ → Settling → Settling
+after_rounds zero s = s
+after_rounds (suc n) s = after_rounds n (round s)
+
+-- the fabric and the records are left by a last round, before which there were so many: it moved nothing, or it is round 10,000
+pub record HasEnded (f : Fabric) (rs : List Record) (f' : Fabric) (rs' : List Record) : Type 0 where
+  pub before : ℕ
+  pub few : before < 10000
+  pub moved : Bool
+  pub last : at f' rs' moved ≡ round (after_rounds before (at f rs false))
+  pub ended : (moved ≡ false) ⊎ (before + 1 ≡ 10000)
 
 -- ---- quiet
 
