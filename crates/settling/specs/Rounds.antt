@@ -154,7 +154,7 @@ unfoldable pub after_rounds : ℕ → Settling → Settling
 after_rounds zero s = s
 after_rounds (suc n) s = after_rounds n (round s)
 
--- the fabric and the records are left by a last round, before which there were so many: it moved nothing, or it is round 10,000
+-- a last round left this fabric and these records, after so many others: it moved nothing, or it is the 10,000th
 pub record HasEnded (f : Fabric) (rs : List Record) (f' : Fabric) (rs' : List Record) : Type 0 where
   pub before : ℕ
   pub few : before < 10000
