@@ -19,7 +19,7 @@ use Rattle.fabric_answers.specs.Answers.{Answered, answer}
 use Rattle.settling.specs.declared.turns.Attempt.{Attempt}
 use Rattle.settling.specs.declared.turns.Attempt.TheVariants as attempts
 
--- a fabric that is being settled, what its requesters collected, oldest first, and whether the round has moved something
+-- a fabric that is being settled, what its requesters collected, oldest first, and whether the round moved something
 pub record Settling : Type 0 where
   pub fabric : Fabric
   pub records : List Record
