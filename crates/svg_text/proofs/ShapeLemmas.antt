@@ -57,7 +57,7 @@ well_page width height ss = record {
 around : (o b s : List ℕ) → (((o ++ b) ++ s) ++ codes "</svg>\n") ≡ (o ++ ((b ++ s) ++ (codes "</svg>" ++ []))) ++ 10 ∷ []
 around o b s = simp append_assoc
 
-pub page-by : (width height : ℕ) (ss : List Shape) (head background shapes : List ℕ)
+page-by : (width height : ℕ) (ss : List Shape) (head background shapes : List ℕ)
     → head ≡ opening (codes "svg") (page_attributes width height) → background ≡ shape_text (Shape.Filled (page_background width height) []) → shapes ≡ shapes_text ss
     → ((head ++ background) ++ shapes) ++ codes "</svg>\n" ≡ page_text width height ss
 unfolding page_text
@@ -65,3 +65,12 @@ page-by width height ss head background shapes a b c =
     let s = Shape.Filled (page_background width height) [] in
     let inner : background ++ shapes ≡ text_of (contents (s ∷ ss)) = rw (b, c, ← contents-text ss) (sym (before-text s (contents ss))) in
     around head background shapes ∙ ap (λ (t : List ℕ). (head ++ (t ++ codes "</svg>")) ++ 10 ∷ []) inner ∙ ap (λ (h : List ℕ). (h ++ (text_of (contents (s ∷ ss)) ++ codes "</svg>")) ++ 10 ∷ []) a
+
+regroup : (o h s e : List ℕ) → (o ++ h) ++ (s ++ e) ≡ o ++ ((h ++ s) ++ e)
+regroup o h s e = simp append_assoc
+
+pub page-after : (width height : ℕ) (ss : List Shape) (o head background shapes : List ℕ)
+    → head ≡ opening (codes "svg") (page_attributes width height) → background ≡ shape_text (Shape.Filled (page_background width height) []) → shapes ≡ shapes_text ss
+    → (o ++ (head ++ background)) ++ (shapes ++ codes "</svg>\n") ≡ o ++ page_text width height ss
+page-after width height ss o head background shapes a b c =
+    regroup o (head ++ background) shapes (codes "</svg>\n") ∙ ap (λ (t : List ℕ). o ++ t) (page-by width height ss head background shapes a b c)
