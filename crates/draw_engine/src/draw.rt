@@ -11,7 +11,7 @@ ghost use Rattle.draw_engine.specs.Draw.{Drawing, WritesDocument, flaw_of, out_d
 use crate::laws::pictures_are_well_formed;
 use arrayvec::ArrayString;
 use history_check::{Flaw, FlawKind, Trace, check};
-use history_picture::{Window, line_of, picture_of};
+use history_picture::{Window, put_line_picture, put_picture};
 use line_engine::{EngineFault, Responder, run};
 use seq_memory::Entry;
 use std::alloc::{AllocError, Global};
@@ -46,8 +46,7 @@ fn show(
     ensures err { OnErr result (out.new.items ≡ out.old.items) }
 {
     let flaw = flaw_in(alloc, trace, history)?;
-    let picture = picture_of(alloc, trace, history, flaw, window)?;
-    out.extend_from_slice(picture.as_slice())?;
+    put_picture(alloc, trace, history, flaw, window, out)?;
     Ok(flaw.is_some())
 }
 
@@ -59,8 +58,7 @@ fn show_fault(alloc: Global, fault: ReadFault, out: &mut Vec<u8>) -> Result<bool
 {
     let mut words = ArrayString::new();
     write_fault(fault, &mut words);
-    let picture = line_of(alloc, words.as_bytes())?;
-    out.extend_from_slice(picture.as_slice())?;
+    put_line_picture(alloc, words.as_bytes(), out)?;
     Ok(true)
 }
 

@@ -1,7 +1,7 @@
 //! What the first flaw of a trace is found at, and which request it names.
 #![tactic(auto)]
 
-ghost use Rattle.std.specs.Prelude.{◌≡◌, option_map};
+ghost use Rattle.std.specs.Prelude.{◌≡◌};
 ghost use Rattle.flaw_places.specs.Places as spec;
 
 use history_check::{Flaw, FlawKind, Record};
@@ -16,18 +16,17 @@ pub fn is_of_entry(kind: FlawKind) -> bool
 }
 
 /// The requester and the number of an entry's request.
-fn request_of_entry(entry: Option<&Entry>) -> Option<(u8, u32)>
-    ensures { result ≡ spec.request_of_entry (option_map (λ e. e.now) entry.entry) }
+fn request_of_entry(entry: &Entry) -> (u8, u32)
+    ensures { result ≡ spec.request_of_entry entry.now }
 {
-    let entry = entry?;
-    Some((entry.requester, entry.number))
+    (entry.requester, entry.number)
 }
 
 /// The requester and the number of a record's request.
-pub fn request_of_record(seen: Option<&Record>) -> Option<(u8, u32)>
-    ensures { result ≡ spec.request_of_record (option_map (λ r. r.now) seen.entry) }
+pub fn request_of_record(seen: &Record) -> (u8, u32)
+    ensures { result ≡ spec.request_of_record seen.now }
 {
-    match seen? {
+    match seen {
         Record::Sub {
             requester,
             number,
@@ -37,7 +36,7 @@ pub fn request_of_record(seen: Option<&Record>) -> Option<(u8, u32)>
             requester,
             number,
             ..
-        } => Some((*requester, *number)),
+        } => (*requester, *number),
     }
 }
 
@@ -52,8 +51,10 @@ pub fn flawed_request(
 {
     let flaw = flaw?;
     if is_of_entry(flaw.kind) {
-        request_of_entry(history.get(flaw.place))
+        let entry = history.get(flaw.place)?;
+        Some(request_of_entry(entry))
     } else {
-        request_of_record(records.get(flaw.place))
+        let seen = records.get(flaw.place)?;
+        Some(request_of_record(seen))
     }
 }

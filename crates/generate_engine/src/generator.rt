@@ -37,7 +37,7 @@ fn config_of(storm: &Storm) -> Config
     }
 }
 
-/// A new fabric. It has no fault but want of memory.
+/// A new fabric. It has no fault but out of memory.
 fn make(config: Config, alloc: Global) -> Result<Fabric, AllocError>
     ensures { IfOk result (λ f. IsNewWith config f) }
 {
@@ -166,7 +166,7 @@ impl Generator {
 }
 
 /// Writes the script of a storm: a line for its fabric, and one for each of its events, which happened to that fabric
-/// in turn. `Ok` is the exit status, 0. After an `Err`, which is want of memory or the writer's, what was written is
+/// in turn. `Ok` is the exit status, 0. After an `Err`, which is out of memory or the writer's, what was written is
 /// nothing or a beginning of such a script.
 pub fn run_generate<W: Write>(
     alloc: Global,

@@ -25,15 +25,15 @@ use Rattle.history_picture.specs.Shown.{Has, IsSubmitted, IsWholeHistory, EachRe
 at_first : (part rest : List Shape) → Has (part ++ rest) part
 at_first part rest = record { before = []; after = rest; is = refl }
 
-behind : (xs all part : List Shape) → Has all part → Has (xs ++ all) part
-behind xs all part s = record {
+has_after : (xs all part : List Shape) → Has all part → Has (xs ++ all) part
+has_after xs all part s = record {
   before = xs ++ s.before;
   after = s.after;
   is = ap (λ (l : List Shape). xs ++ l) s.is ∙ sym (append_assoc xs s.before (part ++ s.after));
 }
 
-ahead : (all rest part : List Shape) → Has all part → Has (all ++ rest) part
-ahead all rest part s = record {
+has_before : (all rest part : List Shape) → Has all part → Has (all ++ rest) part
+has_before all rest part s = record {
   before = s.before;
   after = s.after ++ rest;
   is = ap (λ (l : List Shape). l ++ rest) s.is ∙ append_assoc s.before (part ++ s.after) rest ∙ ap (λ (l : List Shape). s.before ++ l) (append_assoc part s.after rest);
@@ -55,7 +55,7 @@ in_bars v rs acted answer i top ends (x ∷ xs) zero r e = (
 in_bars v rs acted answer i top ends (x ∷ xs) (suc p) r e =
     let next = record_ends v rs acted answer i ends x in
     let found : (at : List ℕ) × Has (bars v rs acted answer i top next xs) (record_shapes v rs acted answer i top at r) = in_bars v rs acted answer i top next xs p r e in
-    (found.0, behind (record_shapes v rs acted answer i top ends x) (bars v rs acted answer i top next xs) (record_shapes v rs acted answer i top found.0 r) found.1)
+    (found.0, has_after (record_shapes v rs acted answer i top ends x) (bars v rs acted answer i top next xs) (record_shapes v rs acted answer i top found.0 r) found.1)
 
 in_rows : (v : View) (width : ℕ) (rs : List Record) (h : List Entry) (top : ℕ) (is : List ℕ) (p i : ℕ) → slice_get is p ≡ Some i
     → (at : ℕ) × Has (rows v width rs h top is) (row v width rs h i at)
@@ -65,7 +65,7 @@ in_rows v width rs h top (x ∷ xs) zero i e =
 in_rows v width rs h top (x ∷ xs) (suc p) i e =
     let next = top + row_height v rs h x in
     let found : (at : ℕ) × Has (rows v width rs h next xs) (row v width rs h i at) = in_rows v width rs h next xs p i e in
-    (found.0, behind (row v width rs h x top) (rows v width rs h next xs) (row v width rs h i found.0) found.1)
+    (found.0, has_after (row v width rs h x top) (rows v width rs h next xs) (row v width rs h i found.0) found.1)
 
 place : (i : ℕ) → 1 ≤ i → i ≤ 7 → (p : ℕ) × (slice_get requesters p ≡ Some i)
 place zero a b = absurd (omega arith)
@@ -93,7 +93,7 @@ in_row v width rs h i k n top op bar submitted e =
     in_bars v rs (acted_in h i) (answer_in rs i) i top [] rs submitted.0 (records.Sub i k op n) submitted.1 in
     let at = top + 28 * row_for found.0 bar.start in
     let part = bar_shapes v rs op (request_in rs h i k n) bar at in
-    (at, ahead all (frame_of width i top (row_ends v rs h i)) part (subst (λ (ss : List Shape). Has all ss) (of_record v rs h i k n top op bar found.0 e) found.1))
+    (at, has_before all (frame_of width i top (row_ends v rs h i)) part (subst (λ (ss : List Shape). Has all ss) (of_record v rs h i k n top op bar found.0 e) found.1))
 
 within : (all part part' : List Shape) → Has all part → Has part part' → Has all part'
 within all part part' s t = record {
@@ -114,8 +114,8 @@ each v rs h flaw i k n op bar low high submitted e =
     let first = entries v (bottom_of v rs h) 0 (shown_entries v.scale h) in
     let in_all : Has all part = within all (row v width rs h i found.0) part found.1 bar_is.1 in (
       bar_is.0,
-      behind (captions v.scale (length h) flaw) (kinds ++ (signs ++ body v rs h flaw)) part
-          (behind kinds (signs ++ body v rs h flaw) part (behind signs (body v rs h flaw) part (behind first (all ++ last) part (ahead all last part in_all)))),
+      has_after (captions v.scale (length h) flaw) (kinds ++ (signs ++ body v rs h flaw)) part
+          (has_after kinds (signs ++ body v rs h flaw) part (has_after signs (body v rs h flaw) part (has_after first (all ++ last) part (has_before all last part in_all)))),
     )
 
 -- ---- the whole history

@@ -243,9 +243,9 @@ apart_placed true v rs op request top ends (Some bar) rest after all (suc (suc p
     let d = dot_at v.scale request.acted in
     let first : (r : ℕ) × (slice_get (rest (ends_with ends bar)) r ≡ Some (Shape.Filled a text)) × (p ≡ r + dots d) = past_dot d _ (rest (ends_with ends bar)) p a text e in
     let second : (r : ℕ) × (slice_get (rest (ends_with ends bar)) r ≡ Some (Shape.Filled b words)) × (q ≡ r + dots d) = past_dot d _ (rest (ends_with ends bar)) q b words f in
-    let before : p ≡ first.0 + dots d = first.2 in
-    let behind : q ≡ second.0 + dots d = second.2 in
-    all (ends_with ends bar) first.0 second.0 a b text words first.1 second.1 (omega (arith, lt, before, behind)) same small
+    let first_at : p ≡ first.0 + dots d = first.2 in
+    let second_at : q ≡ second.0 + dots d = second.2 in
+    all (ends_with ends bar) first.0 second.0 a b text words first.1 second.1 (omega (arith, lt, first_at, second_at)) same small
 
 all_apart : (v : View) (rs : List Record) (acted answer : ℕ → Option ℕ) (i top : ℕ) (all : List Record) → AllApart top (λ ends. bars v rs acted answer i top ends all)
 all_apart v rs acted answer i top [] ends p q a b text words e f = absurd cc

@@ -42,7 +42,7 @@ abbrev pub is_shown : Scale → ℕ → Option ℕ → Bool
 is_shown s n None = nat_le (n - s.from) s.span
 is_shown s n (Some end) = nat_le (n - s.from) s.span && (nat_lt s.from end || nat_le s.from n)
 
--- a bar is one point long at least, and one that goes on ends behind the last point
+-- a bar is one point long at least, and one that goes on ends after the last point
 abbrev pub end_of : Scale → ℕ → Option ℕ → ℕ
 end_of s start None = s.span + 1
 end_of s start (Some end) = max (min (end - s.from) (s.span + 1)) (start + 1)

@@ -7,10 +7,9 @@ use Rattle.seq_memory.specs.declared.Entry.{Entry}
 use Rattle.history_check.specs.declared.Record.{Record}
 use Rattle.history_check.specs.declared.Record.TheVariants as records
 use Rattle.history_check.specs.declared.flaws.Flaw.{Flaw}
-use Rattle.history_check.specs.declared.flaws.FlawKind.{FlawKind}
-use Rattle.history_check.specs.declared.flaws.FlawKind.TheVariants as flaws
 use Rattle.history_check.specs.Claim.{Claim}
 use Rattle.history_check.specs.Names.{name_of}
+use Rattle.flaw_places.specs.Places.{is_of_entry, flawed_request}
 use Rattle.svg_text.specs.declared.colour.Colour.{Colour}
 use Rattle.svg_text.specs.declared.colour.Colour.TheVariants as colours
 use Rattle.svg_text.specs.declared.shapes.Block.{Block}
@@ -166,7 +165,7 @@ entry_shapes v offset e =
     ∷ Shape.Written (centred_label (x_at offset + 36) 95 colours.Black) (pair_words e.requester e.number)
     ∷ []
 
--- the entries, from an offset on, each behind its point
+-- the entries, from an offset on, each after its point
 abbrev pub entries : View → ℕ → ℕ → List Entry → List Shape
 entries v bottom offset [] = tick v.scale.from offset bottom
 entries v bottom offset (e ∷ es) = (tick v.scale.from offset bottom ++ entry_shapes v offset e) ++ entries v bottom (offset + 1) es
@@ -175,27 +174,6 @@ abbrev pub shown_entries : Scale → List Entry → List Entry
 shown_entries s h = take s.span (drop s.from h)
 
 -- ---- the first flaw
-
--- it is found at an index of the history, and else at a record
-abbrev pub is_of_entry : FlawKind → Bool
-is_of_entry flaws.Stranger = true
-is_of_entry flaws.Twice = true
-is_of_entry flaws.Order = true
-is_of_entry _ = false
-
-abbrev pub request_of_entry : Option Entry → Option (ℕ × ℕ)
-request_of_entry None = None
-request_of_entry (Some e) = Some (e.requester, e.number)
-
-abbrev pub request_of_record : Option Record → Option (ℕ × ℕ)
-request_of_record None = None
-request_of_record (Some (records.Sub i k op n)) = Some (i, k)
-request_of_record (Some (records.Ans i k reply n)) = Some (i, k)
-
--- the request that it names
-abbrev pub flawed_request : List Record → List Entry → Option Flaw → Option (ℕ × ℕ)
-flawed_request rs h None = None
-flawed_request rs h (Some f) = if is_of_entry f.kind then request_of_entry (slice_get h f.place) else request_of_record (slice_get rs f.place)
 
 -- where it is marked: at the entry, or at the length that the history had at the record
 abbrev pub entry_mark : Scale → ℕ → Option ℕ

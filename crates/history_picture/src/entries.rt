@@ -5,11 +5,12 @@ ghost use Rattle.history_picture.specs.Picture as spec;
 
 use crate::marks::{View, centred_label, edge_of, thickness_of};
 use crate::scale::{Scale, x_at};
-use crate::words::{kind_colour, put_entry_words, put_number_words, put_pair};
+use crate::words::{kind_colour, put_entry_words, put_pair};
 use arrayvec::ArrayString;
 use seq_memory::Entry;
 use std::alloc::AllocError;
 use svg_text::{Block, Colour, Rule, put_block, put_label, put_rule};
+use trace_text::write_decimal;
 
 /// Adds a point's number, and a line down from it.
 #[tactic(auto, unfolding(svg_text::specs::Shapes::shapes_text))]
@@ -19,7 +20,7 @@ fn put_tick(from: u64, offset: u64, bottom: u64, out: &mut Vec<u8>) -> Result<()
     ensures { OnOk result (out.new.items ≡ out.old.items ++ shapes_text (spec.tick from offset bottom)) }
 {
     let mut number = ArrayString::new();
-    put_number_words(from + offset, &mut number);
+    write_decimal(from + offset, &mut number);
     let place = centred_label(x_at(offset), 72, Colour::Grey);
     put_label(&place, number.as_bytes(), out)?;
     let line = Rule {
@@ -74,7 +75,7 @@ fn put_entry(view: View, offset: u64, entry: &Entry, out: &mut Vec<u8>) -> Resul
     put_label(&place, text.as_bytes(), out)
 }
 
-/// Adds the entries that are shown, each behind its point.
+/// Adds the entries that are shown, each after its point.
 pub(crate) fn put_entries(
     view: View,
     bottom: u64,

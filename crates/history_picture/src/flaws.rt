@@ -1,62 +1,15 @@
 //! The mark of the first flaw.
-ghost use Rattle.std.specs.Prelude.{◌≡◌, ◌≤◌, ◌+◌, ◌++◌, option_map, OnOk, IfSome};
+ghost use Rattle.std.specs.Prelude.{◌≡◌, ◌≤◌, ◌++◌, OnOk};
 ghost use Rattle.svg_text.specs.Shapes.{shapes_text};
 ghost use Rattle.history_picture.specs.Picture as spec;
 
 use crate::marks::centred_label;
 use crate::scale::{Scale, x_at};
 use crate::words::moment_of;
-use history_check::{Flaw, FlawKind, Record};
-use seq_memory::Entry;
+use flaw_places::is_of_entry;
+use history_check::{Flaw, Record};
 use std::alloc::AllocError;
 use svg_text::{Colour, Rule, put_label, put_rule};
-
-/// A flaw of this kind is found at an index of the history, and not at a record.
-fn is_of_entry(kind: FlawKind) -> bool
-    ensures { result ≡ spec.is_of_entry kind }
-{
-    matches!(kind, FlawKind::Stranger | FlawKind::Twice | FlawKind::Order)
-}
-
-fn request_of_entry(entry: Option<&Entry>) -> Option<(u8, u32)>
-    ensures { result ≡ spec.request_of_entry (option_map (λ e. e.now) entry.entry) }
-{
-    let entry = entry?;
-    Some((entry.requester, entry.number))
-}
-
-fn request_of_record(seen: Option<&Record>) -> Option<(u8, u32)>
-    ensures { result ≡ spec.request_of_record (option_map (λ r. r.now) seen.entry) }
-{
-    match seen? {
-        Record::Sub {
-            requester,
-            number,
-            ..
-        }
-        | Record::Ans {
-            requester,
-            number,
-            ..
-        } => Some((*requester, *number)),
-    }
-}
-
-/// The request that the first flaw names.
-pub(crate) fn flawed_request(
-    records: &[Record],
-    history: &[Entry],
-    flaw: Option<Flaw>,
-) -> Option<(u8, u32)>
-    ensures { result ≡ spec.flawed_request records.now history.now flaw }
-{
-    let flaw = flaw?;
-    if is_of_entry(flaw.kind) {
-        request_of_entry(history.get(flaw.place))
-    } else {
-        request_of_record(records.get(flaw.place))
-    }
-}
 
 fn entry_mark(scale: Scale, place: u64) -> Option<u64>
     ensures mark { result ≡ spec.entry_mark scale place }

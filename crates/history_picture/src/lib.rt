@@ -1,6 +1,6 @@
 //! Pictures of histories.
 //!
-//! [`picture_of`] draws a trace and its history as SVG: the points of the history from left to right,
+//! [`put_picture`] draws a trace and its history as SVG: the points of the history from left to right,
 //! its entries along the axis, and a row for each requester. Each request is a bar from the length
 //! that the history had at its submission to that at its answer, with a dot where it acted. A bar that
 //! a posted request or one without an answer has is open at its right. Bars of one requester that
@@ -20,5 +20,5 @@ mod rows;
 mod scale;
 mod words;
 
-pub use picture::{line_of, picture_of};
+pub use picture::{put_line_picture, put_picture};
 pub use scale::Window;

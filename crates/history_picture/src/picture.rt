@@ -1,19 +1,20 @@
 //! Whole pictures.
-ghost use Rattle.std.specs.Prelude.{◌≡◌, ◌≤◌, ◌+◌, ◌++◌, length, OnOk, IfOk};
+ghost use Rattle.std.specs.Prelude.{◌≡◌, ◌≤◌, ◌+◌, ◌++◌, length, OnOk, OnErr, IfOk};
 ghost use Rattle.history_check.specs.Claim.{claim_of};
 ghost use Rattle.svg_text.specs.Shapes.{shapes_text};
 ghost use Rattle.history_picture.specs.Picture as spec;
 
 use crate::entries::{put_entries, shown_entries};
-use crate::flaws::{flawed_request, put_mark};
+use crate::flaws::put_mark;
 use crate::heading::{put_captions, put_kinds, put_signs, title_label};
 use crate::marks::View;
 use crate::rows::put_rows;
 use crate::scale::{Scale, Window, scale_of, x_at};
+use flaw_places::flawed_request;
 use history_check::{Flaw, Record, Trace};
 use seq_memory::Entry;
 use std::alloc::{AllocError, Global};
-use svg_text::{page_of, put_label};
+use svg_text::{put_label, put_page};
 
 fn width_of(scale: Scale) -> u64
     ensures { result ≡ spec.width_of scale }
@@ -71,21 +72,23 @@ fn put_drawn(
     Ok(bottom)
 }
 
-/// The text of a view.
-fn text_of(
+/// Adds the text of a view.
+fn put_whole(
     alloc: Global,
     view: View,
     records: &[Record],
     history: &[Entry],
     flaw: Option<Flaw>,
-) -> Result<Vec<u8>, AllocError>
+    out: &mut Vec<u8>,
+) -> Result<(), AllocError>
     requires { view.scale.from + view.scale.span ≤ length history.now }
-    ensures { IfOk result (λ text. text.items ≡ spec.view_text view records.now history.now flaw) }
+    ensures ok { OnOk result (out.new.items ≡ out.old.items ++ spec.view_text view records.now history.now flaw) }
+    ensures err { OnErr result (out.new.items ≡ out.old.items) }
 {
     let mut shapes = Vec::new(alloc);
     let bottom = put_drawn(alloc, view, records, history, flaw, &mut shapes)?;
-    let text = page_of(alloc, width_of(view.scale), bottom + 30, shapes.as_slice())?;
-    Ok(text)
+    put_page(alloc, width_of(view.scale), bottom + 30, shapes, out)?;
+    Ok(())
 }
 
 /// What is shown of a trace and its history.
@@ -99,22 +102,24 @@ fn view_of(window: Window, records: &[Record], history: &[Entry], flaw: Option<F
     }
 }
 
-/// The picture of a trace and its history in SVG, of which `flaw` is the first flaw. The window says
-/// which points of the history are shown, 4,294,967,295 of them at most behind the first. The rows
-/// are those of requesters 1 to 7. An error is want of memory.
-pub fn picture_of(
+/// Adds the picture of a trace and its history in SVG, of which `flaw` is the first flaw. The window says
+/// which points of the history are shown, 4,294,967,295 of them at most after the first. The rows
+/// are those of requesters 1 to 7. After an `Err`, which is out of memory, nothing is added.
+pub fn put_picture(
     alloc: Global,
     trace: &Trace,
     history: &[Entry],
     flaw: Option<Flaw>,
     window: Window,
-) -> Result<Vec<u8>, AllocError>
-    ensures { IfOk result (λ text. text.items ≡ spec.picture_text window (claim_of trace.now history.now) flaw) }
+    out: &mut Vec<u8>,
+) -> Result<(), AllocError>
+    ensures ok { OnOk result (out.new.items ≡ out.old.items ++ spec.picture_text window (claim_of trace.now history.now) flaw) }
+    ensures err { OnErr result (out.new.items ≡ out.old.items) }
 {
     let records = trace.records.as_slice();
     let view = view_of(window, records, history, flaw);
-    let text = text_of(alloc, view, records, history, flaw)?;
-    Ok(text)
+    put_whole(alloc, view, records, history, flaw, out)?;
+    Ok(())
 }
 
 /// Adds words in red.
@@ -125,12 +130,13 @@ fn put_title(words: &[u8], out: &mut Vec<u8>) -> Result<(), AllocError>
     put_label(&title_label(true), words, out)
 }
 
-/// A picture in SVG that has these words alone. An error is want of memory.
-pub fn line_of(alloc: Global, words: &[u8]) -> Result<Vec<u8>, AllocError>
-    ensures { IfOk result (λ text. text.items ≡ spec.line_text words.now) }
+/// Adds a picture in SVG that has these words alone. After an `Err`, which is out of memory, nothing is added.
+pub fn put_line_picture(alloc: Global, words: &[u8], out: &mut Vec<u8>) -> Result<(), AllocError>
+    ensures ok { OnOk result (out.new.items ≡ out.old.items ++ spec.line_text words.now) }
+    ensures err { OnErr result (out.new.items ≡ out.old.items) }
 {
     let mut shapes = Vec::new(alloc);
     put_title(words, &mut shapes)?;
-    let text = page_of(alloc, 640, 40, shapes.as_slice())?;
-    Ok(text)
+    put_page(alloc, 640, 40, shapes, out)?;
+    Ok(())
 }

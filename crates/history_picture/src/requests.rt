@@ -18,6 +18,20 @@ use std::collections::BTreeMap;
 use svg_text::{Block, Dot, put_block, put_dot, put_label};
 use tlp_core::Op;
 
+/// What the bars of a requester are drawn of.
+#[derive(Clone, Copy)]
+pub(crate) struct Row<'a> {
+    pub(crate) view: View,
+    pub(crate) records: &'a [Record],
+    /// By the numbers of its requests, how long the history was once each had acted.
+    pub(crate) acted: &'a BTreeMap<u32, u64>,
+    /// By the same, the place of the first answer to each.
+    pub(crate) answers: &'a BTreeMap<u32, u64>,
+    pub(crate) requester: u8,
+    /// Where its first sub-row begins, in pixels from the top.
+    pub(crate) top: u64,
+}
+
 /// The block of a bar whose sub-row begins so many pixels from the top.
 fn bar_block(top: u64, is_flawed: bool, op: &Op, bar: Bar) -> Block
     requires start { bar.start ≤ 4294967295 }
@@ -71,11 +85,11 @@ fn put_dot_at(offset: Option<u64>, top: u64, out: &mut Vec<u8>) -> Result<(), Al
     }
 }
 
-/// Adds a bar, its label and its dot. `words` is room for its words.
+/// Adds a bar, its label and its dot, in a sub-row that begins so many pixels from the top. `words` is room for its
+/// words.
 #[tactic(auto, unfolding(svg_text::specs::Shapes::shapes_text))]
 fn put_bar(
-    view: View,
-    records: &[Record],
+    row: Row<'_>,
     op: &Op,
     request: &Request,
     bar: Bar,
@@ -86,37 +100,37 @@ fn put_bar(
     requires start { bar.start ≤ 4294967295 }
     requires end { bar.end ≤ 4294967296 }
     requires top { top ≤ 1000000 }
-    ensures { OnOk result (out.new.items ≡ out.old.items ++ shapes_text (spec.bar_shapes view records.now op.now request.now bar top)) }
+    ensures { OnOk result (out.new.items ≡ out.old.items ++ shapes_text (spec.bar_shapes row.entry.view row.entry.records.now op.now request.now bar top)) }
 {
     words.clear();
-    put_tooltip(records, op, request, words)?;
-    let is_flawed = view.is_flawed(request.requester, request.number);
+    put_tooltip(row.records, op, request, words)?;
+    let is_flawed = row.view.is_flawed(request.requester, request.number);
     let block = bar_block(top, is_flawed, op, bar);
     put_block(&block, words.as_slice(), out)?;
     put_bar_label(top, op, bar, out)?;
-    put_dot_at(dot_at(view.scale, request.acted), top, out)
+    put_dot_at(dot_at(row.view.scale, request.acted), top, out)
 }
 
 /// Adds the bar of a request, if any of it is shown, in the first sub-row that is free.
 #[tactic(auto, unfolding(svg_text::specs::Shapes::shapes_text))]
 fn put_request(
-    view: View,
-    records: &[Record],
+    row: Row<'_>,
     op: &Op,
     request: &Request,
-    top: u64,
     ends: &mut Vec<u64>,
     words: &mut Vec<u8>,
     out: &mut Vec<u8>,
 ) -> Result<(), AllocError>
-    requires { top ≤ 900000 }
+    requires { row.top ≤ 900000 }
     ensures shapes { OnOk result (out.new.items ≡ out.old.items
-        ++ shapes_text (spec.placed_shapes view records.now op.now request.now top ends.old.items (spec.bar_for view records.now op.now request.now))) }
-    ensures ends { OnOk result (ends.new.items ≡ spec.placed_ends ends.old.items (spec.bar_for view records.now op.now request.now)) }
+        ++ shapes_text (spec.placed_shapes row.entry.view row.entry.records.now op.now request.now row.entry.top ends.old.items
+        (spec.bar_for row.entry.view row.entry.records.now op.now request.now))) }
+    ensures ends { OnOk result (ends.new.items
+        ≡ spec.placed_ends ends.old.items (spec.bar_for row.entry.view row.entry.records.now op.now request.now)) }
 {
-    let answered = moment_of(answer_at(records, request.answer));
+    let answered = moment_of(answer_at(row.records, request.answer));
     let bar = bar_of(
-        view.scale,
+        row.view.scale,
         op.is_posted(),
         request.n,
         answered,
@@ -125,39 +139,28 @@ fn put_request(
     let Some(bar) = bar else {
         return Ok(());
     };
-    let row = row_for(ends, bar.start);
-    put_end(ends, row, bar.end)?;
-    put_bar(
-        view,
-        records,
-        op,
-        request,
-        bar,
-        top + 28 * row as u64,
-        words,
-        out,
-    )
+    let place = row_for(ends, bar.start);
+    put_end(ends, place, bar.end)?;
+    let top = row.top + 28 * place as u64;
+    put_bar(row, op, request, bar, top, words, out)
 }
 
 /// Adds the bar of a record, if it is a submission of the requester.
 #[tactic(auto, unfolding(svg_text::specs::Shapes::shapes_text))]
 fn put_record(
-    view: View,
-    records: &[Record],
-    acted: &BTreeMap<u32, u64>,
-    answers: &BTreeMap<u32, u64>,
-    requester: u8,
+    row: Row<'_>,
     seen: &Record,
-    top: u64,
     ends: &mut Vec<u64>,
     words: &mut Vec<u8>,
     out: &mut Vec<u8>,
 ) -> Result<(), AllocError>
-    requires { top ≤ 900000 }
+    requires { row.top ≤ 900000 }
     ensures shapes { OnOk result (out.new.items ≡ out.old.items
-        ++ shapes_text (spec.record_shapes view records.now (get nat_cmp acted.now) (get nat_cmp answers.now) requester top ends.old.items seen.now)) }
+        ++ shapes_text (spec.record_shapes row.entry.view row.entry.records.now (get nat_cmp row.entry.acted.now) (get nat_cmp row.entry.answers.now)
+        row.entry.requester row.entry.top ends.old.items seen.now)) }
     ensures ends { OnOk result (ends.new.items
-        ≡ spec.record_ends view records.now (get nat_cmp acted.now) (get nat_cmp answers.now) requester ends.old.items seen.now) }
+        ≡ spec.record_ends row.entry.view row.entry.records.now (get nat_cmp row.entry.acted.now) (get nat_cmp row.entry.answers.now)
+        row.entry.requester ends.old.items seen.now) }
 {
     match seen {
         Record::Sub {
@@ -165,15 +168,15 @@ fn put_record(
             number,
             op,
             n,
-        } if *other == requester => {
+        } if *other == row.requester => {
             let request = Request {
-                requester,
+                requester: row.requester,
                 number: *number,
                 n: *n,
-                acted: acted.get(number).copied(),
-                answer: answers.get(number).copied(),
+                acted: row.acted.get(number).copied(),
+                answer: row.answers.get(number).copied(),
             };
-            put_request(view, records, op, &request, top, ends, words, out)
+            put_request(row, op, &request, ends, words, out)
         }
         _ => Ok(()),
     }
@@ -181,26 +184,21 @@ fn put_record(
 
 /// Adds the bars of a requester, and gives the ends of the sub-rows that they take to `ends`.
 pub(crate) fn put_bars(
-    view: View,
-    records: &[Record],
-    acted: &BTreeMap<u32, u64>,
-    answers: &BTreeMap<u32, u64>,
-    requester: u8,
-    top: u64,
+    row: Row<'_>,
     ends: &mut Vec<u64>,
     words: &mut Vec<u8>,
     out: &mut Vec<u8>,
 ) -> Result<(), AllocError>
-    requires { top ≤ 900000 }
+    requires { row.top ≤ 900000 }
     ensures shapes { OnOk result (out.new.items ≡ out.old.items
-        ++ shapes_text (spec.bars view records.now (get nat_cmp acted.now) (get nat_cmp answers.now) requester top ends.old.items records.now)) }
+        ++ shapes_text (spec.bars row.entry.view row.entry.records.now (get nat_cmp row.entry.acted.now) (get nat_cmp row.entry.answers.now)
+        row.entry.requester row.entry.top ends.old.items row.entry.records.now)) }
     ensures ends { OnOk result (ends.new.items
-        ≡ spec.ends_of view records.now (get nat_cmp acted.now) (get nat_cmp answers.now) requester ends.old.items records.now) }
+        ≡ spec.ends_of row.entry.view row.entry.records.now (get nat_cmp row.entry.acted.now) (get nat_cmp row.entry.answers.now)
+        row.entry.requester ends.old.items row.entry.records.now) }
 {
-    for seen in records {
-        put_record(
-            view, records, acted, answers, requester, seen, top, ends, words, out,
-        )?;
+    for seen in row.records {
+        put_record(row, seen, ends, words, out)?;
     }
     Ok(())
 }

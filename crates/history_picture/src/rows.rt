@@ -6,7 +6,7 @@ ghost use Rattle.history_picture.specs.Picture as spec;
 
 use crate::lookup::{acted_by, answers_by};
 use crate::marks::{View, plain_label};
-use crate::requests::put_bars;
+use crate::requests::{Row, put_bars};
 use crate::words::put_requester_words;
 use arrayvec::ArrayString;
 use history_check::Record;
@@ -92,9 +92,15 @@ fn put_row(
     let answers = answers_by(alloc, records, requester)?;
     let mut ends = Vec::new(alloc);
     let mut words = Vec::new(alloc);
-    put_bars(
-        view, records, &acted, &answers, requester, top, &mut ends, &mut words, out,
-    )?;
+    let row = Row {
+        view,
+        records,
+        acted: &acted,
+        answers: &answers,
+        requester,
+        top,
+    };
+    put_bars(row, &mut ends, &mut words, out)?;
     put_frame_of(width, requester, top, ends.as_slice(), out)?;
     Ok(height_of(ends.as_slice()))
 }

@@ -1,6 +1,5 @@
 //! The words in a picture.
 ghost use Rattle.std.specs.Prelude.{◌≡◌, ◌≤◌, ◌+◌, ◌++◌, [], length, option_map, slice_get, OnOk};
-ghost use Rattle.std.specs.Fmt.{decimal};
 ghost use Rattle.arrayvec.specs.ArrayString.{array_string_len};
 ghost use Rattle.history_picture.specs.Words as said;
 
@@ -233,12 +232,4 @@ pub(crate) fn put_window(from: u64, to: u64, count: u64, text: &mut ArrayString<
     write_decimal(to, text);
     text.push_str(" of ");
     write_decimal(count, text);
-}
-
-/// Writes a number.
-pub(crate) fn put_number_words(number: u64, text: &mut ArrayString<512>)
-    requires { text.old.bytes ≡ [] }
-    ensures { text.new.bytes ≡ decimal number }
-{
-    write_decimal(number, text);
 }

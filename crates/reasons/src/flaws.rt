@@ -22,7 +22,7 @@ fn is_of(entry: &Entry, request: Request) -> bool {
 
 /// The record is of the request.
 fn names(record: &Record, request: Request) -> bool {
-    request_of_record(Some(record)) == Some((request.requester, request.number))
+    request_of_record(record) == (request.requester, request.number)
 }
 
 /// The record submits the request.

@@ -1,3 +1,4 @@
 pub mod RoundLemmas
 pub mod ReachedLemmas
 pub mod QuietLemmas
+pub mod EndLemmas

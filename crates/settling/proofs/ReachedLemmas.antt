@@ -1,4 +1,4 @@
--- Lists of events, one behind the other.
+-- Lists of events, one after the other.
 use Rattle.std.proofs.Common.{◌≡◌, ◌∙◌, ◌++◌, List, [], ◌∷◌, length, refl, sym, ap, subst}
 use Rattle.std.proofs.lemmas.List.{append-nil, append_assoc}
 use Rattle.history_check.specs.declared.Record.{Record}

@@ -129,7 +129,7 @@ fold_next f start here next xs i d inside so_far step =
 
 -- ---- lists of attempts
 
--- what is tried of a lane behind its first packet
+-- what is tried of a lane after its first packet
 abbrev pub lane_attempts : LaneName → List Attempt
 lane_attempts lane =
     attempts.All (events.Transmit lane) ∷ attempts.All (events.Deliver lane Good) ∷ attempts.Once (events.SendDllp lane kinds.Answer)
@@ -141,9 +141,9 @@ pub lane_attempts_are : (s t : Settling) (lane : LaneName) → t ≡ tried (retr
 unfolding with_sent
 lane_attempts_are s t lane e = ap (λ (u : Settling). fold attempted u (lane_attempts lane)) e
 
--- and behind the lanes
-abbrev pub behind_lanes : List Attempt
-behind_lanes =
+-- and after the lanes
+abbrev pub after_lanes : List Attempt
+after_lanes =
     attempts.Once (events.Forward (lanes.Up 1) 0) ∷ attempts.Once (events.Forward (lanes.Up 1) 1)
     ∷ attempts.Once (events.Forward (lanes.Up 2) 0) ∷ attempts.Once (events.Forward (lanes.Up 2) 1)
     ∷ attempts.Once (events.Forward (lanes.Up 3) 0) ∷ attempts.Once (events.Forward (lanes.Up 3) 1)
@@ -155,6 +155,6 @@ behind_lanes =
     ∷ attempts.Once (events.Serve 0) ∷ attempts.Once (events.Serve 1)
     ∷ attempts.All (events.Collect 1) ∷ attempts.All (events.Collect 2) ∷ attempts.All (events.Collect 3) ∷ attempts.All (events.Collect 4) ∷ attempts.All (events.Collect 5) ∷ attempts.All (events.Collect 6) ∷ attempts.All (events.Collect 7) ∷ []
 
-pub round_is : (s : Settling) → fold attempted (fold lane_turn (at s.fabric s.records false) all_lanes) behind_lanes ≡ round s
+pub round_is : (s : Settling) → fold attempted (fold lane_turn (at s.fabric s.records false) all_lanes) after_lanes ≡ round s
 unfolding with_lanes with_forwards with_answers
 round_is s = refl

@@ -5,7 +5,7 @@ use Rattle.fabric_laws.specs.Fabric.{Fabric}
 use Rattle.fabric_core.specs.declared.event.Event.{Event}
 use Rattle.fabric_core.specs.Runs.{Runs}
 
--- the events happen in turn to the fabric and leave the other, and their records stand behind the earlier ones
+-- the events happen in turn to the fabric and leave the other, and their records stand after the earlier ones
 pub record Reached (f : Fabric) (rs : List Record) (f' : Fabric) (rs' : List Record) : Type 0 where
   pub events : List Event
   pub told : List Record

@@ -1,5 +1,5 @@
 -- Running a fabric by rounds of events until one moves nothing.
-use Rattle.std.specs.Prelude.{ℕ, zero, suc, ◌-◌, ◌^◌, ◌||◌, ◌&&◌, Bool, true, false, if◌then◌else◌, List, [], ◌∷◌, ◌++◌, length, fold, Result, Ok, Err, is_ok}
+use Rattle.std.specs.Prelude.{ℕ, zero, suc, ◌≡◌, ◌<◌, ◌⊎◌, ◌+◌, ◌-◌, ◌^◌, ◌||◌, ◌&&◌, Bool, true, false, if◌then◌else◌, List, [], ◌∷◌, ◌++◌, length, fold, Result, Ok, Err, is_ok}
 use Rattle.std.specs.List.{list_all}
 use Rattle.history_check.specs.declared.Record.{Record}
 use Rattle.dllp_core.specs.declared.packet.Class.TheVariants.{Posted, NonPosted, Completion}
@@ -19,7 +19,7 @@ use Rattle.fabric_answers.specs.Answers.{Answered, answer}
 use Rattle.settling.specs.declared.turns.Attempt.{Attempt}
 use Rattle.settling.specs.declared.turns.Attempt.TheVariants as attempts
 
--- a fabric that is being settled, what its requesters collected, oldest first, and whether the round has moved something
+-- a fabric that is being settled, what its requesters collected, oldest first, and whether the round moved something
 pub record Settling : Type 0 where
   pub fabric : Fabric
   pub records : List Record
@@ -140,7 +140,7 @@ round s = with_answers (served (with_forwards (with_lanes (at s.fabric s.records
 abbrev pub if_moved : (Settling → Settling) → Settling → Settling
 if_moved more s = if s.moved then more s else s
 
--- a round, and others behind one that moved something, at most so many
+-- a round, and others after one that moved something, at most so many
 unfoldable pub rounds : ℕ → Settling → Settling
 rounds zero s = s
 rounds (suc n) s = if_moved (rounds n) (round s)
@@ -148,6 +148,19 @@ rounds (suc n) s = if_moved (rounds n) (round s)
 -- the fabric and the records after all rounds
 abbrev pub settlement : Fabric → List Record → Settling
 settlement f rs = rounds 10000 (at f rs false)
+
+-- so many rounds, one after the other
+unfoldable pub after_rounds : ℕ → Settling → Settling
+after_rounds zero s = s
+after_rounds (suc n) s = after_rounds n (round s)
+
+-- a last round left this fabric and these records, after so many others: it moved nothing, or it is the 10,000th
+pub record HasEnded (f : Fabric) (rs : List Record) (f' : Fabric) (rs' : List Record) : Type 0 where
+  pub before : ℕ
+  pub few : before < 10000
+  pub moved : Bool
+  pub last : at f' rs' moved ≡ round (after_rounds before (at f rs false))
+  pub ended : (moved ≡ false) ⊎ (before + 1 ≡ 10000)
 
 -- ---- quiet
 

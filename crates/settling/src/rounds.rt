@@ -41,6 +41,9 @@ pub fn settle(fabric: &mut Fabric, records: &mut Vec<Record>) -> Result<bool, Al
     ensures quiet { IfOk result (λ quiet. IsTrue quiet ↔ IsQuiet fabric.new) }
     ensures told { IfOk result (λ quiet. quiet ≡ spec.is_quiet fabric.new) }
 
+    // The last round moved nothing, or it was the 10,000th.
+    ensures ended { OnOk result (spec.HasEnded fabric.old records.old.items fabric.new records.new.items) }
+
     // In any case the fabric is one that a list of events leads to, and the records are those of these events.
     ensures reached { Reached fabric.old records.old.items fabric.new records.new.items }
 {

@@ -40,8 +40,8 @@ enum Attempt {
     All(Event),
 }
 
-/// Behind the turns of the lanes the switch forwards, the memory acts, and the requesters collect.
-const BEHIND_LANES: [Attempt; 25] = [
+/// After the turns of the lanes the switch forwards, the memory acts, and the requesters collect.
+const AFTER_LANES: [Attempt; 25] = [
     Attempt::Once(Event::Forward(LaneName::Up(1), 0)),
     Attempt::Once(Event::Forward(LaneName::Up(1), 1)),
     Attempt::Once(Event::Forward(LaneName::Up(2), 0)),
@@ -205,5 +205,5 @@ pub(crate) fn round(
     for lane in LANES {
         lane_turn(fabric, records, moved, lane)?;
     }
-    try_each(fabric, records, moved, &BEHIND_LANES)
+    try_each(fabric, records, moved, &AFTER_LANES)
 }

@@ -6,20 +6,20 @@ use Rattle.svg_text.specs.declared.shapes.Block.{Block}
 use Rattle.svg_text.specs.Shapes.{Shape, three_edges, rectangle, circle, line, placed, tooltip, block_before, before, contents, shape_text, shapes_text, page, page_attributes, page_background, page_text}
 use Rattle.svg_text.specs.Xml.{Content, text_of, opening, closing, IsWellFormed, IsDocument}
 
--- an element, and what stands behind it
-behind : (o i c r : List ℕ) → o ++ (i ++ (c ++ r)) ≡ (o ++ (i ++ (c ++ []))) ++ r
-behind o i c r = simp (append_assoc, append-nil)
+-- an element, and what stands after it
+followed : (o i c r : List ℕ) → o ++ (i ++ (c ++ r)) ≡ (o ++ (i ++ (c ++ []))) ++ r
+followed o i c r = simp (append_assoc, append-nil)
 
-behind_block : (t : Bool) (b : Block) (text : List ℕ) (rest : Content) → text_of (block_before t b text rest) ≡ text_of (block_before t b text Content.Nothing) ++ text_of rest
-behind_block true b text rest = behind (opening (codes "polyline") (three_edges b)) (text_of (tooltip text)) (closing (codes "polyline")) (text_of rest)
-behind_block false b text rest = behind (opening (codes "rect") (rectangle b)) (text_of (tooltip text)) (closing (codes "rect")) (text_of rest)
+followed_block : (t : Bool) (b : Block) (text : List ℕ) (rest : Content) → text_of (block_before t b text rest) ≡ text_of (block_before t b text Content.Nothing) ++ text_of rest
+followed_block true b text rest = followed (opening (codes "polyline") (three_edges b)) (text_of (tooltip text)) (closing (codes "polyline")) (text_of rest)
+followed_block false b text rest = followed (opening (codes "rect") (rectangle b)) (text_of (tooltip text)) (closing (codes "rect")) (text_of rest)
 
 before-text : (s : Shape) (rest : Content) → text_of (before s rest) ≡ shape_text s ++ text_of rest
 unfolding shape_text
-before-text (Shape.Filled b text) rest = behind_block b.is_open b text rest
-before-text (Shape.Dotted d) rest = behind (opening (codes "circle") (circle d)) [] (closing (codes "circle")) (text_of rest)
-before-text (Shape.Ruled r) rest = behind (opening (codes "line") (line r)) [] (closing (codes "line")) (text_of rest)
-before-text (Shape.Written l text) rest = behind (opening (codes "text") (placed l)) (text_of (Content.Characters text Content.Nothing)) (closing (codes "text")) (text_of rest)
+before-text (Shape.Filled b text) rest = followed_block b.is_open b text rest
+before-text (Shape.Dotted d) rest = followed (opening (codes "circle") (circle d)) [] (closing (codes "circle")) (text_of rest)
+before-text (Shape.Ruled r) rest = followed (opening (codes "line") (line r)) [] (closing (codes "line")) (text_of rest)
+before-text (Shape.Written l text) rest = followed (opening (codes "text") (placed l)) (text_of (Content.Characters text Content.Nothing)) (closing (codes "text")) (text_of rest)
 
 contents-text : (ss : List Shape) → text_of (contents ss) ≡ shapes_text ss
 unfolding shapes_text
@@ -57,7 +57,7 @@ well_page width height ss = record {
 around : (o b s : List ℕ) → (((o ++ b) ++ s) ++ codes "</svg>\n") ≡ (o ++ ((b ++ s) ++ (codes "</svg>" ++ []))) ++ 10 ∷ []
 around o b s = simp append_assoc
 
-pub page-by : (width height : ℕ) (ss : List Shape) (head background shapes : List ℕ)
+page-by : (width height : ℕ) (ss : List Shape) (head background shapes : List ℕ)
     → head ≡ opening (codes "svg") (page_attributes width height) → background ≡ shape_text (Shape.Filled (page_background width height) []) → shapes ≡ shapes_text ss
     → ((head ++ background) ++ shapes) ++ codes "</svg>\n" ≡ page_text width height ss
 unfolding page_text
@@ -65,3 +65,12 @@ page-by width height ss head background shapes a b c =
     let s = Shape.Filled (page_background width height) [] in
     let inner : background ++ shapes ≡ text_of (contents (s ∷ ss)) = rw (b, c, ← contents-text ss) (sym (before-text s (contents ss))) in
     around head background shapes ∙ ap (λ (t : List ℕ). (head ++ (t ++ codes "</svg>")) ++ 10 ∷ []) inner ∙ ap (λ (h : List ℕ). (h ++ (text_of (contents (s ∷ ss)) ++ codes "</svg>")) ++ 10 ∷ []) a
+
+regroup : (o h s e : List ℕ) → (o ++ h) ++ (s ++ e) ≡ o ++ ((h ++ s) ++ e)
+regroup o h s e = simp append_assoc
+
+pub page-after : (width height : ℕ) (ss : List Shape) (o head background shapes : List ℕ)
+    → head ≡ opening (codes "svg") (page_attributes width height) → background ≡ shape_text (Shape.Filled (page_background width height) []) → shapes ≡ shapes_text ss
+    → (o ++ (head ++ background)) ++ (shapes ++ codes "</svg>\n") ≡ o ++ page_text width height ss
+page-after width height ss o head background shapes a b c =
+    regroup o (head ++ background) shapes (codes "</svg>\n") ∙ ap (λ (t : List ℕ). o ++ t) (page-by width height ss head background shapes a b c)

@@ -1,5 +1,5 @@
 -- A small grammar of XML: elements that nest, their attributes, and characters between them.
-use Rattle.std.specs.Prelude.{ℕ, ◌≡◌, ◌≢◌, ◌≤◌, ◌==◌, ◌&&◌, ◌||◌, not, nat_le, Bool, true, false, if◌then◌else◌, List, [], ◌∷◌, ◌++◌, codes, flat_map, bytes_eq}
+use Rattle.std.specs.Prelude.{ℕ, ◌≡◌, ◌==◌, ◌&&◌, ◌||◌, not, nat_le, Bool, true, false, if◌then◌else◌, List, [], ◌∷◌, ◌++◌, codes, flat_map, bytes_eq}
 use Rattle.std.specs.List.{list_any}
 use Rattle.std.specs.Fmt.{decimal}
 
@@ -64,9 +64,26 @@ text_of Nothing = []
 text_of (Characters text rest) = escaped text ++ text_of rest
 text_of (Element name attributes inner rest) = opening name attributes ++ (text_of inner ++ (closing name ++ text_of rest))
 
--- printed in ASCII, and no mark of a tag or a value
-abbrev pub IsPlain : ℕ → Type 0
-IsPlain c = (32 ≤ c) × (c ≤ 126) × (c ≢ 60) × (c ≢ 62) × (c ≢ 34)
+-- ---- what marks no tag and no value
+
+-- printed in ASCII, and none of `<`, `>` and `"`
+abbrev pub is_plain : ℕ → Bool
+is_plain c = (nat_le 32 c && nat_le c 126) && not ((c == 60) || (c == 62) || (c == 34))
+
+abbrev pub is_entity : List ℕ → Bool
+is_entity name = bytes_eq name (codes "&amp;") || bytes_eq name (codes "&lt;") || bytes_eq name (codes "&gt;") || bytes_eq name (codes "&quot;")
+
+-- an entity stands first
+pub record BeginsWithEntity (text : List ℕ) : Type 0 where
+  pub first : List ℕ
+  pub rest : List ℕ
+  pub is : text ≡ first ++ rest
+  pub known : is_entity first ≡ true
+
+-- each character is one of these, and an `&` only where an entity begins
+abbrev pub IsPlain : List ℕ → Type 0
+IsPlain [] = Unit {0}
+IsPlain (c ∷ cs) = (is_plain c ≡ true) × (c ≡ 38 → BeginsWithEntity (c ∷ cs)) × IsPlain cs
 
 -- ---- what is well formed
 

@@ -18,7 +18,7 @@ pub enum Colour {
 }
 
 impl Colour {
-    /// The colour in six hexadecimal digits behind a `#`.
+    /// The colour in six hexadecimal digits after a `#`.
     pub fn code(self) -> &'static str
         ensures code { result.now ≡ colour_code self }
         ensures plain { escaped result.now ≡ result.now }

@@ -2,8 +2,8 @@
 //!
 //! The text of a picture is that of a tree of elements: each is opened and closed by its name, its
 //! attributes have names of their own and values in quotation marks, and what marks tags, values and
-//! entities stands in texts and values as an entity. Functions add one shape each, and [`page_of`]
-//! makes a whole document of the text of shapes.
+//! entities stands in texts and values as an entity. Functions add one shape each, and [`put_page`]
+//! a whole document, given the text of its shapes.
 #![tactic(auto)]
 
 mod colour;
@@ -13,6 +13,6 @@ mod shapes;
 mod writing;
 
 pub use colour::Colour;
-pub use laws::pages_are_well_formed;
+pub use laws::{escaped_texts_are_plain, pages_are_well_formed};
 pub use shapes::{Block, Dot, Label, Rule};
-pub use writing::{page_of, put_block, put_dot, put_label, put_rule};
+pub use writing::{put_block, put_dot, put_label, put_page, put_rule};

@@ -1,5 +1,5 @@
 //! Adding shapes, and the page around them.
-ghost use Rattle.std.specs.Prelude.{◌≡◌, ◌≤◌, ◌+◌, ◌++◌, ◌∷◌, [], ℕ, List, true, false, length, codes, OnOk, IfOk};
+ghost use Rattle.std.specs.Prelude.{◌≡◌, ◌≤◌, ◌+◌, ◌++◌, ◌∷◌, [], ℕ, List, true, false, length, codes, OnOk, OnErr};
 ghost use Rattle.std.specs.Fmt.{decimal};
 ghost use Rattle.arrayvec.specs.ArrayString.{array_string_len};
 ghost use Rattle.svg_text.specs.Shapes.{Shape, painted, rectangle, corners, three_edges, circle, line, anchor, placed, tooltip, block_before, view, page_attributes, page_background, shape_text, shapes_text, page_text};
@@ -186,7 +186,7 @@ fn put_three_edges(block: &Block, text: &[u8], out: &mut Vec<u8>) -> Result<(), 
     out.extend_from_slice(b"</polyline>")
 }
 
-/// Adds a block. Its text is shown where one points at it. After an `Err`, which is want of memory,
+/// Adds a block. Its text is shown where one points at it. After an `Err`, which is out of memory,
 /// some of it may be added.
 #[tactic(auto, unfolding(crate::specs::Shapes::shape_text))]
 pub fn put_block(block: &Block, text: &[u8], out: &mut Vec<u8>) -> Result<(), AllocError>
@@ -288,14 +288,38 @@ fn put_background(width: u64, height: u64, out: &mut Vec<u8>) -> Result<(), Allo
     put_block(&background, b"", out)
 }
 
-/// The document of a page of that width and height in pixels, given the text of its shapes.
-pub fn page_of(alloc: Global, width: u64, height: u64, shapes: &[u8]) -> Result<Vec<u8>, AllocError>
-    ensures { IfOk result (λ text. (ss : List Shape) → shapes.now ≡ shapes_text ss → text.items ≡ page_text width height ss) }
+/// Adds two texts, or nothing where there is no room for both.
+fn put_both(first: &[u8], second: &[u8], out: &mut Vec<u8>) -> Result<(), AllocError>
+    ensures ok { OnOk result (out.new.items ≡ (out.old.items ++ first.now) ++ second.now) }
+    ensures err { OnErr result (out.new.items ≡ out.old.items) }
 {
-    let mut text = Vec::new(alloc);
-    put_opening(width, height, &mut text)?;
-    put_background(width, height, &mut text)?;
-    text.extend_from_slice(shapes)?;
-    text.extend_from_slice(b"</svg>\n")?;
-    Ok(text)
+    let before = out.len();
+    out.extend_from_slice(first)?;
+    match out.extend_from_slice(second) {
+        Ok(()) => Ok(()),
+        Err(fault) => {
+            out.truncate(before);
+            Err(fault)
+        }
+    }
+}
+
+/// Adds the document of a page of that width and height in pixels, given the text of its shapes. After an `Err`
+/// nothing is added.
+pub fn put_page(
+    alloc: Global,
+    width: u64,
+    height: u64,
+    mut shapes: Vec<u8>,
+    out: &mut Vec<u8>,
+) -> Result<(), AllocError>
+    ensures ok { OnOk result ((ss : List Shape) → shapes.items ≡ shapes_text ss → out.new.items ≡ out.old.items ++ page_text width height ss) }
+    ensures err { OnErr result (out.new.items ≡ out.old.items) }
+{
+    let mut head = Vec::new(alloc);
+    put_opening(width, height, &mut head)?;
+    put_background(width, height, &mut head)?;
+    shapes.extend_from_slice(b"</svg>\n")?;
+    put_both(head.as_slice(), shapes.as_slice(), out)?;
+    Ok(())
 }

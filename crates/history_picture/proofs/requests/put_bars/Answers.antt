@@ -7,24 +7,24 @@ use Rattle.history_picture.proofs.requests.put_bars.Goals as goal
 pub loop-seen-preserved : goal.loop-seen-preserved
 loop-seen-preserved c = record {
   shapes =
-      bars-next c.args.view c.args.records.now (get nat_cmp c.args.acted.now) (get nat_cmp c.args.answers.now) c.args.requester c.args.top c.loop-seen.ends.items c.put_record.new.ends.items
-      c.args.records.now c.loop-seen.seen-index c.seen-item.result c.loop-seen.out.items c.put_record.new.out.items
+      bars-next c.args.row.view c.args.row.records.now (get nat_cmp c.args.row.acted.now) (get nat_cmp c.args.row.answers.now) c.args.row.requester c.args.row.top c.loop-seen.ends.items c.put_record.new.ends.items
+      c.args.row.records.now c.loop-seen.seen-index c.seen-item.result c.loop-seen.out.items c.put_record.new.out.items
       c.loop-seen-test.true c.seen-item.is c.in_ok-put_record.ensures.shapes c.in_ok-put_record.ensures.ends
       ∙ c.loop-seen.invariant.shapes;
   ends =
-      ends-next c.args.view c.args.records.now (get nat_cmp c.args.acted.now) (get nat_cmp c.args.answers.now) c.args.requester c.loop-seen.ends.items c.put_record.new.ends.items
-      c.args.records.now c.loop-seen.seen-index c.seen-item.result c.loop-seen-test.true c.seen-item.is c.in_ok-put_record.ensures.ends
+      ends-next c.args.row.view c.args.row.records.now (get nat_cmp c.args.row.acted.now) (get nat_cmp c.args.row.answers.now) c.args.row.requester c.loop-seen.ends.items c.put_record.new.ends.items
+      c.args.row.records.now c.loop-seen.seen-index c.seen-item.result c.loop-seen-test.true c.seen-item.is c.in_ok-put_record.ensures.ends
       ∙ c.loop-seen.invariant.ends;
 }
 
 pub returns : goal.returns
 returns c = record {
   shapes =
-      bars-past c.args.view c.args.records.now (get nat_cmp c.args.acted.now) (get nat_cmp c.args.answers.now) c.args.requester c.args.top c.loop-seen.ends.items
-      c.args.records.now c.loop-seen.seen-index c.loop-seen.out.items c.loop-seen-test.false
+      bars-past c.args.row.view c.args.row.records.now (get nat_cmp c.args.row.acted.now) (get nat_cmp c.args.row.answers.now) c.args.row.requester c.args.row.top c.loop-seen.ends.items
+      c.args.row.records.now c.loop-seen.seen-index c.loop-seen.out.items c.loop-seen-test.false
       ∙ c.loop-seen.invariant.shapes;
   ends =
-      ends-past c.args.view c.args.records.now (get nat_cmp c.args.acted.now) (get nat_cmp c.args.answers.now) c.args.requester c.loop-seen.ends.items
-      c.args.records.now c.loop-seen.seen-index c.loop-seen-test.false
+      ends-past c.args.row.view c.args.row.records.now (get nat_cmp c.args.row.acted.now) (get nat_cmp c.args.row.answers.now) c.args.row.requester c.loop-seen.ends.items
+      c.args.row.records.now c.loop-seen.seen-index c.loop-seen-test.false
       ∙ c.loop-seen.invariant.ends;
 }

@@ -7,8 +7,8 @@ use Rattle.history_picture.proofs.requests.put_bars.Given as goal
 
 abbrev pub invariant-loop-seen : goal.invariant-loop-seen
 invariant-loop-seen l = record {
-  shapes : l.out.items ++ shapes_text (bars l.view l.records (get nat_cmp l.acted) (get nat_cmp l.answers) l.requester l.top l.ends.items (drop l.seen-index l.records))
-      ≡ l.fn.out.items ++ shapes_text (bars l.view l.records (get nat_cmp l.acted) (get nat_cmp l.answers) l.requester l.top l.fn.ends.items l.records);
-  ends : ends_of l.view l.records (get nat_cmp l.acted) (get nat_cmp l.answers) l.requester l.ends.items (drop l.seen-index l.records)
-      ≡ ends_of l.view l.records (get nat_cmp l.acted) (get nat_cmp l.answers) l.requester l.fn.ends.items l.records;
+  shapes : l.out.items ++ shapes_text (bars l.row.view l.row.records.now (get nat_cmp l.row.acted.now) (get nat_cmp l.row.answers.now) l.row.requester l.row.top l.ends.items (drop l.seen-index l.row.records.now))
+      ≡ l.fn.out.items ++ shapes_text (bars l.row.view l.row.records.now (get nat_cmp l.row.acted.now) (get nat_cmp l.row.answers.now) l.row.requester l.row.top l.fn.ends.items l.row.records.now);
+  ends : ends_of l.row.view l.row.records.now (get nat_cmp l.row.acted.now) (get nat_cmp l.row.answers.now) l.row.requester l.ends.items (drop l.seen-index l.row.records.now)
+      ≡ ends_of l.row.view l.row.records.now (get nat_cmp l.row.acted.now) (get nat_cmp l.row.answers.now) l.row.requester l.fn.ends.items l.row.records.now;
 }

@@ -3,7 +3,7 @@ use Rattle.std.specs.Prelude.{fold}
 use Rattle.std.proofs.lemmas.Result.{on_ok_weaker}
 use Rattle.fabric_core.specs.declared.event.LaneName.TheVariants as lanes
 use Rattle.settling.specs.Rounds.{Settling, at, lane_turn, all_lanes, attempted}
-use Rattle.settling.proofs.RoundLemmas.{fold_next, behind_lanes, round_is}
+use Rattle.settling.proofs.RoundLemmas.{fold_next, after_lanes, round_is}
 use Rattle.settling.proofs.ReachedLemmas.{then}
 use Rattle.settling.proofs.turns.round.Goals as goal
 
@@ -26,7 +26,7 @@ returns-clause-state c =
     let start = at c.args.fabric.now c.args.records.now.items false in
     let all_of : c.loop-lane.lane-index ≡ 16 = omega arith in
     let after = c.loop-lane.invariant.state ∙ ap (λ (n : ℕ). fold lane_turn start (take n all_lanes)) all_of in
-    on_ok_weaker c.try_each.result (λ d. d ∙ ap (λ (s : Settling). fold attempted s behind_lanes) after ∙ round_is (at c.args.fabric.now c.args.records.now.items c.args.moved.now)) c.try_each.ensures.state
+    on_ok_weaker c.try_each.result (λ d. d ∙ ap (λ (s : Settling). fold attempted s after_lanes) after ∙ round_is (at c.args.fabric.now c.args.records.now.items c.args.moved.now)) c.try_each.ensures.state
 
 pub returns-clause-reached : goal.returns-clause-reached
 returns-clause-reached c = then c.loop-lane.invariant.reached c.try_each.ensures.reached
