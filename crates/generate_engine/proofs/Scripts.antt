@@ -16,8 +16,10 @@ use Rattle.fabric_core.specs.Runs.{Runs}
 use Rattle.trace_file.specs.Texts.{lines_text}
 use Rattle.script_lines.specs.Texts.{event_line, fabric_line}
 use Rattle.script_lines.specs.Spelled.{IsSpelledEvent}
-use Rattle.storm_events.specs.Choice.{IsChosen}
-use Rattle.generate_engine.specs.Script.{text_of, IsScriptOf, BeginsScript}
+use Rattle.storm.specs.declared.Storm.{Storm}
+use Rattle.storm_events.specs.Arrivals.{IsAfter}
+use Rattle.storm_events.specs.Choice.{Choosing, IsChosen}
+use Rattle.generate_engine.specs.Script.{config_of, text_of, IsUnderWay, BeginsScript}
 
 -- ---- one event more
 
@@ -62,51 +64,76 @@ text-next c events event =
     ∙ lines-append (fabric_line c ∷ map event_line events) (event_line event ∷ [])
     ∙ ap (λ (t : List ℕ). text_of c events ++ t) (lines-one (event_line event))
 
-pub script-next : (c : Config) (n m : ℕ) (text text' : List ℕ) (f f' : Fabric) (event : Event) → m ≡ n + 1 → IsScriptOf c n text f → IsChosen f event f'
-    → text' ≡ text ++ (event_line event ++ 10 ∷ []) → IsScriptOf c m text' f'
-script-next c n m text text' f f' event count s chosen now =
-    let h = s.happened in
+pub script-next : (s : Storm) (n m : ℕ) (text text' : List ℕ) (f f' : Fabric) (c c' : Choosing) (event : Event) (u : IsUnderWay s n text f c) → m ≡ n + 1 → IsChosen f event f'
+    → IsAfter s.lose s.corrupt (u.script.events ++ event ∷ []) c'.arrived → text' ≡ text ++ (event_line event ++ 10 ∷ []) → IsUnderWay s m text' f' c'
+script-next s n m text text' f f' c c' event u count chosen counted now =
+    let h = u.script.happened in
+    let events = u.script.events in
     record {
-      events = s.events ++ event ∷ [];
-      number = let e = s.number in omega (arith, length-append s.events (event ∷ []), e, count);
-      happened = record {
-        new = h.new;
-        is_new = h.is_new;
-        records = h.records ++ records_of event chosen.what (length f.memory.entries);
-        run = runs-next h.new f f' s.events event chosen.what h.records h.run chosen.happened;
-        spelled = All-append IsSpelledEvent s.events (event ∷ []) h.spelled (All-cons IsSpelledEvent event [] chosen.spelled (All-nil IsSpelledEvent));
+      script = record {
+        events = u.script.events ++ event ∷ [];
+        number = let e = u.script.number in omega (arith, length-append events (event ∷ []), e, count);
+        happened = record {
+          new = h.new;
+          is_new = h.is_new;
+          records = h.records ++ records_of event chosen.what (length f.memory.entries);
+          run = runs-next h.new f f' events event chosen.what h.records h.run chosen.happened;
+          spelled = All-append IsSpelledEvent events (event ∷ []) h.spelled (All-cons IsSpelledEvent event [] chosen.spelled (All-nil IsSpelledEvent));
+        };
+        says = now ∙ ap (λ (t : List ℕ). t ++ (event_line event ++ 10 ∷ [])) u.script.says ∙ sym (text-next (config_of s) events event);
       };
-      says = now ∙ ap (λ (t : List ℕ). t ++ (event_line event ++ 10 ∷ [])) s.says ∙ sym (text-next c s.events event);
+      counted = counted;
     }
 
 -- ---- the first line
 
-pub script-new : (c : Config) (text none : List ℕ) (f : Fabric) → IsNewWith c f → none ≡ [] → text ≡ none ++ (fabric_line c ++ 10 ∷ []) → IsScriptOf c 0 text f
-script-new c text none f new empty now = record {
-  events = [];
-  number = refl;
-  happened = record { new = f; is_new = new; records = []; run = (refl, refl); spelled = All-nil IsSpelledEvent };
-  says = now ∙ ap (λ (t : List ℕ). t ++ (fabric_line c ++ 10 ∷ [])) empty ∙ sym (lines-one (fabric_line c));
+pub script-new : (s : Storm) (config : Config) (text none : List ℕ) (f : Fabric) (c : Choosing) → config ≡ config_of s → IsNewWith config f → IsAfter s.lose s.corrupt [] c.arrived → none ≡ []
+    → text ≡ none ++ (fabric_line config ++ 10 ∷ []) → IsUnderWay s 0 text f c
+script-new s config text none f c is new counted empty now = record {
+  script = record {
+    events = [];
+    number = refl;
+    happened = record { new = f; is_new = subst (λ (x : Config). IsNewWith x f) is new; records = []; run = (refl, refl); spelled = All-nil IsSpelledEvent };
+    says = now ∙ ap (λ (t : List ℕ). t ++ (fabric_line config ++ 10 ∷ [])) empty ∙ ap (λ (x : Config). fabric_line x ++ 10 ∷ []) is ∙ sym (lines-one (fabric_line (config_of s)));
+  };
+  counted = counted;
 }
 
 -- ---- beginnings
 
-pub begins-all : (c : Config) (n most : ℕ) (text : List ℕ) (f : Fabric) → n ≤ most → IsScriptOf c n text f → BeginsScript c most text
-begins-all c n most text f few s = record { count = n; few = few; text = text; fabric = f; script = s; begins = ([], sym (append-nil text)) }
+pub begins-all : (s : Storm) (n most : ℕ) (text : List ℕ) (f : Fabric) (c : Choosing) → n ≤ most → IsUnderWay s n text f c → BeginsScript s most text
+begins-all s n most text f c few u = record {
+  count = n;
+  few = few;
+  text = text;
+  fabric = f;
+  script = u.script;
+  fated = u.counted.fated;
+  begins = ([], sym (append-nil text));
+}
 
-pub begins-more : (c : Config) (most more : ℕ) (done : List ℕ) → most ≤ more → BeginsScript c most done → BeginsScript c more done
-begins-more c most more done le b = record { count = b.count; few = let few = b.few in omega arith; text = b.text; fabric = b.fabric; script = b.script; begins = b.begins }
+pub begins-more : (s : Storm) (most more : ℕ) (done : List ℕ) → most ≤ more → BeginsScript s most done → BeginsScript s more done
+begins-more s most more done le b = record {
+  count = b.count;
+  few = let few = b.few in omega arith;
+  text = b.text;
+  fabric = b.fabric;
+  script = b.script;
+  fated = b.fated;
+  begins = b.begins;
+}
 
 regroup : (x y z w : List ℕ) → (x ++ (y ++ z)) ++ w ≡ (x ++ y) ++ (z ++ w)
 regroup x y z w = simp append_assoc
 
-pub begins-part : (c : Config) (most : ℕ) (written done pending : List ℕ) → IsBeginning done pending → BeginsScript c most (written ++ pending) → BeginsScript c most (written ++ done)
-begins-part c most written done pending a b = record {
+pub begins-part : (s : Storm) (most : ℕ) (written done pending : List ℕ) → IsBeginning done pending → BeginsScript s most (written ++ pending) → BeginsScript s most (written ++ done)
+begins-part s most written done pending a b = record {
   count = b.count;
   few = b.few;
   text = b.text;
   fabric = b.fabric;
   script = b.script;
+  fated = b.fated;
   begins = (a.0 ++ b.begins.0, b.begins.1 ∙ ap (λ (t : List ℕ). (written ++ t) ++ b.begins.0) a.1 ∙ regroup written done a.0 b.begins.0);
 }
 
@@ -134,5 +161,8 @@ Appends-then (Some xs) (Some ys) (Some zs) a b x y = y ∙ ap (λ (t : List ℕ)
 
 -- ---- one script, counted and written otherwise
 
-pub script-same : (c : Config) (n m : ℕ) (text text' : List ℕ) (f : Fabric) → IsScriptOf c n text f → m ≡ n → text' ≡ text → IsScriptOf c m text' f
-script-same c n m text text' f s count now = record { events = s.events; number = s.number ∙ sym count; happened = s.happened; says = now ∙ s.says }
+pub script-same : (s : Storm) (n m : ℕ) (text text' : List ℕ) (f : Fabric) (c : Choosing) → IsUnderWay s n text f c → m ≡ n → text' ≡ text → IsUnderWay s m text' f c
+script-same s n m text text' f c u count now = record {
+  script = record { events = u.script.events; number = u.script.number ∙ sym count; happened = u.script.happened; says = now ∙ u.script.says };
+  counted = u.counted;
+}

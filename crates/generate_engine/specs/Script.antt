@@ -12,6 +12,8 @@ use Rattle.trace_file.specs.Texts.{lines_text}
 use Rattle.script_lines.specs.Texts.{event_line, fabric_line}
 use Rattle.script_lines.specs.Spelled.{IsSpelledEvent}
 use Rattle.storm.specs.declared.Storm.{Storm}
+use Rattle.storm_events.specs.Arrivals.{AreFated, IsAfter}
+use Rattle.storm_events.specs.Choice.{Choosing}
 
 -- a memory of 4096 bytes at 0, and the credits that lanes have unless told otherwise
 abbrev pub config_of : Storm → Config
@@ -36,24 +38,31 @@ pub record IsScriptOf (c : Config) (count : ℕ) (text : List ℕ) (f : Fabric) 
   pub happened : Happened c events f
   pub says : text ≡ text_of c events
 
--- a first part of such a text, of at most so many events
-pub record BeginsScript (c : Config) (most : ℕ) (done : List ℕ) : Type 0 where
+-- such a text of the storm so far, and the chooser after its events
+pub record IsUnderWay (s : Storm) (count : ℕ) (text : List ℕ) (f : Fabric) (c : Choosing) : Type 0 where
+  pub script : IsScriptOf (config_of s) count text f
+  pub counted : IsAfter s.lose s.corrupt script.events c.arrived
+
+-- a first part of a text of the storm's fabric and of at most so many events, each fate that of the storm's plan
+pub record BeginsScript (s : Storm) (most : ℕ) (done : List ℕ) : Type 0 where
   pub count : ℕ
   pub few : count ≤ most
   pub text : List ℕ
   pub fabric : Fabric
-  pub script : IsScriptOf c count text fabric
+  pub script : IsScriptOf (config_of s) count text fabric
+  pub fated : AreFated s.lose s.corrupt script.events
   pub begins : IsBeginning done text
 
--- the script of all the storm's events was written
+-- the script of all the storm's events was written, each fate that of its plan
 pub record IsWhole (s : Storm) (out out' : Option (List ℕ)) : Type 0 where
   pub text : List ℕ
   pub fabric : Fabric
   pub script : IsScriptOf (config_of s) s.events text fabric
+  pub fated : AreFated s.lose s.corrupt script.events
   pub written : Appends out out' text
 
 -- nothing was written, or a beginning of a script of the storm's fabric and of no more events than it has
 pub record IsPart (s : Storm) (out out' : Option (List ℕ)) : Type 0 where
   pub done : List ℕ
-  pub begins : (done ≡ []) ⊎ BeginsScript (config_of s) s.events done
+  pub begins : (done ≡ []) ⊎ BeginsScript s s.events done
   pub written : Appends out out' done

@@ -2,14 +2,14 @@
 ghost use Rattle.std.specs.Prelude.{◌≡◌, ◌≢◌, ◌+◌, ◌*◌, ◌++◌, ◌∷◌, [], ℕ, List, IfOk, IfErr, OnOk, OnErr};
 ghost use Rattle.std.specs.Io.KnownBytes.{Appends};
 ghost use Rattle.line_engine.specs.Run.{IsBeginning};
-ghost use Rattle.fabric_laws.specs.Fabric.{Fabric};
-ghost use Rattle.fabric_core.specs.declared.config.Config.{Config};
 ghost use Rattle.fabric_core.specs.declared.event.Event.{Event};
 ghost use Rattle.fabric_core.specs.Config.{IsNewWith};
 ghost use Rattle.script_lines.specs.Texts.{event_line};
+ghost use Rattle.storm.specs.declared.Storm.{Storm};
 ghost use Rattle.storm.specs.Ranges.{IsStorm};
+ghost use Rattle.storm_events.specs.Arrivals.{IsCounted};
 ghost use Rattle.storm_events.specs.Choice.{IsChosen};
-ghost use Rattle.generate_engine.specs.Script.{config_of, IsScriptOf, BeginsScript, IsWhole, IsPart};
+ghost use Rattle.generate_engine.specs.Script.{config_of, IsUnderWay, BeginsScript, IsWhole, IsPart};
 
 use crate::lines::{put_event, put_fabric};
 use fabric_core::{Config, Fabric};
@@ -19,6 +19,7 @@ use std::alloc::{AllocError, Global};
 use std::io::Write;
 use storm::Storm;
 use storm_events::Chooser;
+use storm_events::laws::counted_events_are_fated;
 
 /// How many events are written at once.
 const BLOCK: u64 = 256;
@@ -37,7 +38,7 @@ fn config_of(storm: &Storm) -> Config
     }
 }
 
-/// A new fabric. It has no fault but out of memory.
+/// A new fabric. The only fault is being out of memory.
 fn make(config: Config, alloc: Global) -> Result<Fabric, AllocError>
     ensures { IfOk result (λ f. IsNewWith config f) }
 {
@@ -59,15 +60,17 @@ struct Generator {
 impl Generator {
     fn new(storm: &Storm, alloc: Global) -> Result<Generator, AllocError>
         requires { IsStorm storm.now }
-        ensures { IfOk result (λ g. IsScriptOf (config_of storm.now) 0 g.pending.items g.fabric) }
+        ensures { IfOk result (λ g. IsUnderWay storm.now 0 g.pending.items g.fabric g.chooser) }
     {
+        counted_events_are_fated();
         let config = config_of(storm);
         let fabric = make(config, alloc)?;
         let mut pending = Vec::new(alloc);
         put_fabric(&config, &mut pending)?;
+        let chooser = Chooser::new(storm);
         Ok(Generator {
             fabric,
-            chooser: Chooser::new(storm),
+            chooser,
             pending,
         })
     }
@@ -75,6 +78,7 @@ impl Generator {
     /// One event more.
     fn put_next(&mut self) -> Result<(), AllocError>
         ensures ok { OnOk result ((event : Event) × IsChosen self.old.fabric event self.new.fabric
+            × IsCounted self.old.chooser.arrived event self.new.chooser.arrived
             × (self.new.pending.items ≡ self.old.pending.items ++ (event_line event ++ 10 ∷ []))) }
         ensures err { OnErr result (self.new.pending.items ≡ self.old.pending.items) }
     {
@@ -84,13 +88,14 @@ impl Generator {
 
     /// So many events more. Also where one fails, the lines of those before it are there.
     fn fill(&mut self, count: u64) -> Result<(), AllocError>
-        ensures ok { OnOk result ((c : Config) (n : ℕ) (written : List ℕ)
-            → IsScriptOf c n (written ++ self.old.pending.items) self.old.fabric
-            → IsScriptOf c (n + count) (written ++ self.new.pending.items) self.new.fabric) }
-        ensures err { OnErr result ((c : Config) (n : ℕ) (written : List ℕ)
-            → IsScriptOf c n (written ++ self.old.pending.items) self.old.fabric
-            → BeginsScript c (n + count) (written ++ self.new.pending.items)) }
+        ensures ok { OnOk result ((s : Storm) (n : ℕ) (written : List ℕ)
+            → IsUnderWay s n (written ++ self.old.pending.items) self.old.fabric self.old.chooser
+            → IsUnderWay s (n + count) (written ++ self.new.pending.items) self.new.fabric self.new.chooser) }
+        ensures err { OnErr result ((s : Storm) (n : ℕ) (written : List ℕ)
+            → IsUnderWay s n (written ++ self.old.pending.items) self.old.fabric self.old.chooser
+            → BeginsScript s (n + count) (written ++ self.new.pending.items)) }
     {
+        counted_events_are_fated();
         for _event in 0..count {
             self.put_next()?;
         }
@@ -102,6 +107,7 @@ impl Generator {
         ensures text { OnOk result (Appends (W.contents writer.old) (W.contents writer.new) self.old.pending.items) }
         ensures pending { OnOk result (self.new.pending.items ≡ []) }
         ensures fabric { self.new.fabric ≡ self.old.fabric }
+        ensures chooser { self.new.chooser ≡ self.old.chooser }
         ensures fault { IfErr result (λ f. f ≡ EngineFault.Write) }
         ensures part { OnErr result ((done : List ℕ) × IsBeginning done self.old.pending.items
             × Appends (W.contents writer.old) (W.contents writer.new) done) }
@@ -114,15 +120,15 @@ impl Generator {
     /// So many events more, and the lines of all written.
     fn advance<W: Write>(&mut self, count: u64, writer: &mut W) -> Result<(), EngineFault>
         ensures ok { OnOk result ((text : List ℕ) × Appends (W.contents writer.old) (W.contents writer.new) text
-            × ((c : Config) (n : ℕ) (written : List ℕ)
-            → IsScriptOf c n (written ++ self.old.pending.items) self.old.fabric
-            → IsScriptOf c (n + count) (written ++ text) self.new.fabric)) }
+            × ((s : Storm) (n : ℕ) (written : List ℕ)
+            → IsUnderWay s n (written ++ self.old.pending.items) self.old.fabric self.old.chooser
+            → IsUnderWay s (n + count) (written ++ text) self.new.fabric self.new.chooser)) }
         ensures pending { OnOk result (self.new.pending.items ≡ []) }
         ensures fault { IfErr result (λ f. f ≢ EngineFault.Read) }
         ensures err { OnErr result ((done : List ℕ) × Appends (W.contents writer.old) (W.contents writer.new) done
-            × ((c : Config) (n : ℕ) (written : List ℕ)
-            → IsScriptOf c n (written ++ self.old.pending.items) self.old.fabric
-            → BeginsScript c (n + count) (written ++ done))) }
+            × ((s : Storm) (n : ℕ) (written : List ℕ)
+            → IsUnderWay s n (written ++ self.old.pending.items) self.old.fabric self.old.chooser
+            → BeginsScript s (n + count) (written ++ done))) }
     {
         let filled = self.fill(count);
         self.flush(writer)?;
@@ -133,14 +139,14 @@ impl Generator {
     /// So many blocks more.
     fn put_blocks<W: Write>(&mut self, count: u64, writer: &mut W) -> Result<(), EngineFault>
         ensures ok { OnOk result ((text : List ℕ) × Appends (W.contents writer.old) (W.contents writer.new) text
-            × ((c : Config) (n : ℕ) (written : List ℕ)
-            → IsScriptOf c n (written ++ self.old.pending.items) self.old.fabric
-            → IsScriptOf c (n + count * 256) ((written ++ text) ++ self.new.pending.items) self.new.fabric)) }
+            × ((s : Storm) (n : ℕ) (written : List ℕ)
+            → IsUnderWay s n (written ++ self.old.pending.items) self.old.fabric self.old.chooser
+            → IsUnderWay s (n + count * 256) ((written ++ text) ++ self.new.pending.items) self.new.fabric self.new.chooser)) }
         ensures fault { IfErr result (λ f. f ≢ EngineFault.Read) }
         ensures err { OnErr result ((done : List ℕ) × Appends (W.contents writer.old) (W.contents writer.new) done
-            × ((c : Config) (n : ℕ) (written : List ℕ)
-            → IsScriptOf c n (written ++ self.old.pending.items) self.old.fabric
-            → BeginsScript c (n + count * 256) (written ++ done))) }
+            × ((s : Storm) (n : ℕ) (written : List ℕ)
+            → IsUnderWay s n (written ++ self.old.pending.items) self.old.fabric self.old.chooser
+            → BeginsScript s (n + count * 256) (written ++ done))) }
     {
         for _block in 0..count {
             self.advance(BLOCK, writer)?;
@@ -151,14 +157,14 @@ impl Generator {
     /// So many events more, the lines written a block at a time.
     fn put_all<W: Write>(&mut self, count: u64, writer: &mut W) -> Result<(), EngineFault>
         ensures ok { OnOk result ((text : List ℕ) × Appends (W.contents writer.old) (W.contents writer.new) text
-            × ((c : Config)
-            → IsScriptOf c 0 self.old.pending.items self.old.fabric
-            → IsScriptOf c count text self.new.fabric)) }
+            × ((s : Storm)
+            → IsUnderWay s 0 self.old.pending.items self.old.fabric self.old.chooser
+            → IsUnderWay s count text self.new.fabric self.new.chooser)) }
         ensures fault { IfErr result (λ f. f ≢ EngineFault.Read) }
         ensures err { OnErr result ((done : List ℕ) × Appends (W.contents writer.old) (W.contents writer.new) done
-            × ((c : Config)
-            → IsScriptOf c 0 self.old.pending.items self.old.fabric
-            → BeginsScript c count done)) }
+            × ((s : Storm)
+            → IsUnderWay s 0 self.old.pending.items self.old.fabric self.old.chooser
+            → BeginsScript s count done)) }
     {
         self.put_blocks(count / BLOCK, writer)?;
         self.advance(count % BLOCK, writer)
@@ -166,8 +172,9 @@ impl Generator {
 }
 
 /// Writes the script of a storm: a line for its fabric, and one for each of its events, which happened to that fabric
-/// in turn. `Ok` is the exit status, 0. After an `Err`, which is out of memory or the writer's, what was written is
-/// nothing or a beginning of such a script.
+/// in turn. Each packet and DLLP has the fate that the storm's plan gives to its count on its lane. `Ok` is the exit
+/// status, 0. After an `Err`, which is out of memory or the writer's, what was written is nothing or a beginning of such
+/// a script.
 pub fn run_generate<W: Write>(
     alloc: Global,
     storm: &Storm,

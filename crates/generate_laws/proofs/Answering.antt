@@ -67,18 +67,18 @@ after_event : Answers → (line : List ℕ) (event : Event) (what : Seen) (f f' 
 after_event a line event what f f' n text h =
     ap (λ (x : Result (Seen × Fabric) Refusal). with_answer (run_at (Some f) n text) (answered (at (Some f) n) line event (length f.memory.entries) x)) (a.happens f f' event what h)
 
-abbrev Behind : List (List ℕ) → Type 0
-Behind ls = (events : List Event) (f f' : Fabric) (rs : List Record) (n : ℕ) (text : List ℕ) → Runs f events rs f' → script_of ls ≡ map event_of events
+abbrev After : List (List ℕ) → Type 0
+After ls = (events : List Event) (f f' : Fabric) (rs : List Record) (n : ℕ) (text : List ℕ) → Runs f events rs f' → script_of ls ≡ map event_of events
     → ComesTo (runs_on (run_at (Some f) n text) ls) f'
 
-behind_by : Answers → (long skipped : Bool) (line : List ℕ) (l : Option Line) (ls : List (List ℕ)) → Behind ls
+after_by : Answers → (long skipped : Bool) (line : List ℕ) (l : Option Line) (ls : List (List ℕ)) → After ls
     → (events : List Event) (f f' : Fabric) (rs : List Record) (n : ℕ) (text : List ℕ) → Runs f events rs f' → put long skipped l (script_of ls) ≡ map event_of events
     → ComesTo (on_from long skipped line l (run_at (Some f) n text) ls) f'
-behind_by a true skipped line l ls more [] f f' rs n text r e = absurd cc
-behind_by a true skipped line l ls more (event ∷ events) f f' rs n text r e = absurd cc
-behind_by a false true line l ls more events f f' rs n text r e = more events f f' rs (next n) (text ++ []) r e
-behind_by a false false line l ls more [] f f' rs n text r e = absurd cc
-behind_by a false false line l ls more (event ∷ events) f f' rs n text r e =
+after_by a true skipped line l ls more [] f f' rs n text r e = absurd cc
+after_by a true skipped line l ls more (event ∷ events) f f' rs n text r e = absurd cc
+after_by a false true line l ls more events f f' rs n text r e = more events f f' rs (next n) (text ++ []) r e
+after_by a false false line l ls more [] f f' rs n text r e = absurd cc
+after_by a false false line l ls more (event ∷ events) f f' rs n text r e =
     let all = more events r.1 f' r.2 (next n) (text ++ result_text (at (Some f) n) line event r.0) r.4 (rest_same l (event_of event) (script_of ls) (map event_of events) e) in (
       all.0,
       all.1,
@@ -87,11 +87,11 @@ behind_by a false false line l ls more (event ∷ events) f f' rs n text r e =
           ∙ all.2,
     )
 
-lines_run : Answers → (ls : List (List ℕ)) → Behind ls
+lines_run : Answers → (ls : List (List ℕ)) → After ls
 lines_run a [] [] f f' rs n text r e = (n, text, ap (λ (g : Fabric). run_at (Some g) n text) (sym r.1))
 lines_run a [] (event ∷ events) f f' rs n text r e = absurd cc
 lines_run a (line ∷ ls) events f f' rs n text r e =
-    behind_by a (nat_lt 512 (length (bare line))) (is_skipped (said line)) (said line) (line_of (words (said line))) ls (lines_run a ls) events f f' rs n text r e
+    after_by a (nat_lt 512 (length (bare line))) (is_skipped (said line)) (said line) (line_of (words (said line))) ls (lines_run a ls) events f f' rs n text r e
 
 abbrev Scripts : List (List ℕ) → Type 0
 Scripts ls = (c : Config) (events : List Event) (f' : Fabric) (rs : List Record) (n : ℕ) (text : List ℕ) → config_fault c ≡ None → Runs (new_fabric c) events rs f'
@@ -103,11 +103,11 @@ script_by : Answers → (long skipped : Bool) (line : List ℕ) (l : Option Line
 script_by a true skipped line l ls more c events f' rs n text k r e = absurd cc
 script_by a false true line l ls more c events f' rs n text k r e = more c events f' rs (next n) (text ++ []) k r e
 script_by a false false line l ls more c events f' rs n text k r e =
-    let behind = map event_of events in
-    let all = lines_run a ls events (new_fabric c) f' rs (next n) (text ++ []) r (rest_same l (Some (lines.Fabric c)) (script_of ls) behind e) in (
+    let rest = map event_of events in
+    let all = lines_run a ls events (new_fabric c) f' rs (next n) (text ++ []) r (rest_same l (Some (lines.Fabric c)) (script_of ls) rest e) in (
       all.0,
       all.1,
-      ap (λ (o : Option Line). on_from false false line o (run_at None n text) ls) (first_same l (Some (lines.Fabric c)) (script_of ls) behind e)
+      ap (λ (o : Option Line). on_from false false line o (run_at None n text) ls) (first_same l (Some (lines.Fabric c)) (script_of ls) rest e)
           ∙ ap (λ (x : Option ConfigFault). runs_on (with_answer (run_at None n text) (made (at None n) c x)) ls) k
           ∙ all.2,
     )

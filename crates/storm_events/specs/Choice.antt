@@ -1,10 +1,23 @@
 -- What a storm does to a fabric, an event at a time.
 use Rattle.std.specs.Prelude.{◌≡◌, Bool, true, false, Option, Some, None}
+use Rattle.rand_pcg.specs.Lcg.{Lcg, started, increment_of}
+use Rattle.rand_pcg.specs.Pcg.{multiplier_64}
 use Rattle.fabric_laws.specs.Fabric.{Fabric}
 use Rattle.fabric_core.specs.declared.event.Event.{Event}
 use Rattle.fabric_core.specs.declared.event.Seen.{Seen}
 use Rattle.fabric_core.specs.Steps.{Happens}
 use Rattle.script_lines.specs.Spelled.{IsSpelledEvent}
+use Rattle.storm.specs.declared.Storm.{Storm}
+use Rattle.storm_events.specs.Arrivals.{Arrived, nothing_arrived}
+
+-- a chooser: the generator that it draws from, the plan and the counts
+pub record Choosing : Type 0 where
+  pub draws : Lcg
+  pub arrived : Arrived
+
+-- it begins with the storm's seed and plan
+abbrev pub new_choosing : Storm → Choosing
+new_choosing s = record { draws = started 64 multiplier_64 s.seed (increment_of 64 0); arrived = nothing_arrived s.lose s.corrupt }
 
 -- the event happened to the fabric, and a line of a script can tell it
 pub record IsChosen (f : Fabric) (event : Event) (f' : Fabric) : Type 0 where

@@ -1,6 +1,7 @@
 //! What may happen next: events that are drawn, whether or not the fabric takes them.
 ghost use Rattle.std.specs.Prelude.{◌≤◌, ◌<◌};
 ghost use Rattle.script_lines.specs.Spelled.{IsSpelledLane, IsSpelledEvent};
+ghost use Rattle.storm_events.specs.Arrivals.{Arrived, HasFate};
 
 use crate::draws::Draws;
 use crate::operations::operation;
@@ -57,7 +58,8 @@ fn kind(draws: &mut Draws, lane: LaneName) -> DllpKind {
 
 fn submit(draws: &mut Draws, requesters: u8) -> Event
     requires { (1 ≤ requesters) × (requesters ≤ 7) }
-    ensures { IsSpelledEvent result }
+    ensures spelled { IsSpelledEvent result }
+    ensures fate { (a : Arrived) → HasFate a result }
 {
     an_operation_in_range_is_spelled();
     Event::Submit(port(draws, requesters), operation(draws))
@@ -65,7 +67,8 @@ fn submit(draws: &mut Draws, requesters: u8) -> Event
 
 fn forward(draws: &mut Draws, requesters: u8) -> Event
     requires { (1 ≤ requesters) × (requesters ≤ 7) }
-    ensures { IsSpelledEvent result }
+    ensures spelled { IsSpelledEvent result }
+    ensures fate { (a : Arrived) → HasFate a result }
 {
     let lane = if draws.chance(2) {
         LaneName::Outward
@@ -77,7 +80,8 @@ fn forward(draws: &mut Draws, requesters: u8) -> Event
 
 fn dllp(draws: &mut Draws, requesters: u8) -> Event
     requires { (1 ≤ requesters) × (requesters ≤ 7) }
-    ensures { IsSpelledEvent result }
+    ensures spelled { IsSpelledEvent result }
+    ensures fate { (a : Arrived) → HasFate a result }
 {
     let lane = lane(draws, requesters);
     Event::SendDllp(lane, kind(draws, lane))
@@ -86,7 +90,8 @@ fn dllp(draws: &mut Draws, requesters: u8) -> Event
 /// A replay timer expires, which is seldom, or a link is retrained.
 fn repair(draws: &mut Draws, requesters: u8) -> Event
     requires { (1 ≤ requesters) × (requesters ≤ 7) }
-    ensures { IsSpelledEvent result }
+    ensures spelled { IsSpelledEvent result }
+    ensures fate { (a : Arrived) → HasFate a result }
 {
     let lane = lane(draws, requesters);
     if draws.chance(8) {
@@ -99,7 +104,8 @@ fn repair(draws: &mut Draws, requesters: u8) -> Event
 /// An event that no plan of faults is asked for.
 pub(crate) fn plain(draws: &mut Draws, requesters: u8) -> Event
     requires { (1 ≤ requesters) × (requesters ≤ 7) }
-    ensures { IsSpelledEvent result }
+    ensures spelled { IsSpelledEvent result }
+    ensures fate { (a : Arrived) → HasFate a result }
 {
     match draws.below(40) {
         0..=5 => submit(draws, requesters),

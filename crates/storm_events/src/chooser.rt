@@ -2,15 +2,16 @@
 ghost use Rattle.std.specs.Prelude.{◌≡◌, ◌≤◌, true, false, IfOk, OnErr};
 ghost use Rattle.storm.specs.Ranges.{IsStorm};
 ghost use Rattle.script_lines.specs.Spelled.{IsSpelledEvent};
-ghost use Rattle.storm_events.specs.Choice.{IsChosen, IsTried, IsDrawn};
+ghost use Rattle.storm_events.specs.Arrivals.{HasFate, IsCounted, IsCountedIfAny};
+ghost use Rattle.storm_events.specs.Choice.{IsChosen, IsTried, IsDrawn, new_choosing};
 
+use crate::arrivals::Arrivals;
 use crate::candidates::{lane, plain};
-use crate::counts::Counts;
 use crate::draws::Draws;
 use fabric_core::{Event, Fabric, LaneName, Refusal};
-use fault_plan::Plan;
 use lane_core::{DllpKind, LaneRefusal};
 use std::alloc::AllocError;
+use std::marker::Model;
 use storm::Storm;
 
 /// How many candidates are tried before an event comes that can always happen.
@@ -21,13 +22,21 @@ const TRIES: u32 = 256;
 pub struct Chooser {
     draws: Draws,
     requesters: u8,
-    plan: Plan,
-    packets: Counts,
-    dllps: Counts,
-    ghost ports: { (1 ≤ requesters) × (requesters ≤ 7) },
+    arrivals: Arrivals,
 }
 
-/// Whether the event happens to the fabric. A fault is want of memory alone.
+impl Model for Chooser {
+    ghost use Rattle.std.specs.Prelude.{◌≤◌};
+    ghost use Rattle.storm_events.specs.Choice.{Choosing};
+
+    ghost Value = { Choosing };
+
+    ghost view = { λ c. record { draws = c.draws; arrived = c.arrivals } };
+
+    ghost invariant = { λ c. (1 ≤ c.requesters) × (c.requesters ≤ 7) };
+}
+
+/// Whether the event happens to the fabric. The only fault is being out of memory.
 fn happens(fabric: &mut Fabric, event: &Event) -> Result<bool, AllocError>
     ensures ok { IfOk result (λ happened. IsTried happened fabric.old event.now fabric.new) }
     ensures err { OnErr result (fabric.new ≡ fabric.old) }
@@ -39,83 +48,82 @@ fn happens(fabric: &mut Fabric, event: &Event) -> Result<bool, AllocError>
     }
 }
 
+/// The oldest packet of a lane arrives as the plan says.
+fn arrival(draws: &mut Draws, requesters: u8, arrivals: &Arrivals) -> Event
+    requires { (1 ≤ requesters) × (requesters ≤ 7) }
+    ensures spelled { IsSpelledEvent result }
+    ensures fate { HasFate arrivals.now result }
+{
+    let lane = lane(draws, requesters);
+    Event::Deliver(lane, arrivals.packet_fate(lane))
+}
+
+/// The oldest DLLP of a lane arrives as the plan says.
+fn dllp_arrival(draws: &mut Draws, requesters: u8, arrivals: &Arrivals) -> Event
+    requires { (1 ≤ requesters) × (requesters ≤ 7) }
+    ensures spelled { IsSpelledEvent result }
+    ensures fate { HasFate arrivals.now result }
+{
+    let lane = lane(draws, requesters);
+    Event::DeliverDllp(lane, arrivals.dllp_fate(lane))
+}
+
+/// What may happen next.
+fn candidate(draws: &mut Draws, requesters: u8, arrivals: &Arrivals) -> Event
+    requires { (1 ≤ requesters) × (requesters ≤ 7) }
+    ensures spelled { IsSpelledEvent result }
+    ensures fate { HasFate arrivals.now result }
+{
+    match draws.below(5) {
+        0 => arrival(draws, requesters, arrivals),
+        1 => dllp_arrival(draws, requesters, arrivals),
+        _ => plain(draws, requesters),
+    }
+}
+
+/// A candidate that happens, if one of so many does.
+fn drawn(
+    draws: &mut Draws,
+    requesters: u8,
+    arrivals: &mut Arrivals,
+    fabric: &mut Fabric,
+) -> Result<Option<Event>, AllocError>
+    requires { (1 ≤ requesters) × (requesters ≤ 7) }
+    ensures ok { IfOk result (λ drawn. IsDrawn drawn fabric.old fabric.new) }
+    ensures counted { IfOk result (λ drawn. IsCountedIfAny arrivals.old drawn arrivals.new) }
+    ensures err { OnErr result (fabric.new ≡ fabric.old) }
+{
+    for _try in 0..TRIES {
+        let event = candidate(draws, requesters, arrivals);
+        if happens(fabric, &event)? {
+            arrivals.count(&event);
+            return Ok(Some(event));
+        }
+    }
+    Ok(None)
+}
+
 impl Chooser {
     /// The storm's choice before its first event.
     pub fn new(storm: &Storm) -> Chooser
         requires { IsStorm storm.now }
+        ensures { result ≡ new_choosing storm.now }
     {
         Chooser {
             draws: Draws::new(storm.seed),
             requesters: storm.requesters as u8,
-            plan: Plan {
-                lose_every: storm.lose as u32,
-                corrupt_every: storm.corrupt as u32,
-            },
-            packets: Counts::new(),
-            dllps: Counts::new(),
+            arrivals: Arrivals::new(storm),
         }
     }
 
-    /// The oldest packet of a lane arrives as the plan says.
-    fn arrival(&mut self) -> Event
-        ensures { IsSpelledEvent result }
-    {
-        let lane = lane(&mut self.draws, self.requesters);
-        Event::Deliver(lane, self.plan.fate(self.packets.next(lane)))
-    }
-
-    /// The oldest DLLP of a lane arrives as the plan says.
-    fn dllp_arrival(&mut self) -> Event
-        ensures { IsSpelledEvent result }
-    {
-        let lane = lane(&mut self.draws, self.requesters);
-        Event::DeliverDllp(lane, self.plan.fate(self.dllps.next(lane)))
-    }
-
-    /// What may happen next.
-    fn candidate(&mut self) -> Event
-        ensures { IsSpelledEvent result }
-    {
-        match self.draws.below(5) {
-            0 => self.arrival(),
-            1 => self.dllp_arrival(),
-            _ => plain(&mut self.draws, self.requesters),
-        }
-    }
-
-    /// Counts what arrived.
-    fn count(&mut self, event: &Event)
-        requires { IsSpelledEvent event.now }
-    {
-        match event {
-            Event::Deliver(lane, _) => self.packets.add(*lane),
-            Event::DeliverDllp(lane, _) => self.dllps.add(*lane),
-            _ => {}
-        }
-    }
-
-    /// A candidate that happens, if one of so many does.
-    fn drawn(&mut self, fabric: &mut Fabric) -> Result<Option<Event>, AllocError>
-        ensures ok { IfOk result (λ drawn. IsDrawn drawn fabric.old fabric.new) }
-        ensures err { OnErr result (fabric.new ≡ fabric.old) }
-    {
-        for _try in 0..TRIES {
-            let event = self.candidate();
-            if happens(fabric, &event)? {
-                self.count(&event);
-                return Ok(Some(event));
-            }
-        }
-        Ok(None)
-    }
-
-    /// Lets the next event happen to the fabric, and tells it. A DLLP can always be sent: so a fault is want of
-    /// memory alone, and the fabric is as it was.
+    /// Lets the next event happen to the fabric, counts it, and tells it. A DLLP can always be sent: so the only fault
+    /// is being out of memory, and then the fabric is as it was.
     pub fn happen_next(&mut self, fabric: &mut Fabric) -> Result<Event, AllocError>
         ensures ok { IfOk result (λ event. IsChosen fabric.old event fabric.new) }
+        ensures counted { IfOk result (λ event. IsCounted self.old.arrived event self.new.arrived) }
         ensures err { OnErr result (fabric.new ≡ fabric.old) }
     {
-        if let Some(event) = self.drawn(fabric)? {
+        if let Some(event) = drawn(&mut self.draws, self.requesters, &mut self.arrivals, fabric)? {
             return Ok(event);
         }
         let event = Event::SendDllp(LaneName::Inward, DllpKind::Answer);

@@ -21,7 +21,7 @@ pub returns-in_err-put_blocks-clause-err : goal.returns-in_err-put_blocks-clause
 returns-in_err-put_blocks-clause-err g c =
     let n = c.args.count in
     let k = c.in_err-put_blocks.ensures.err in
-    on_err c.from_residual.result (k.0, k.1, λ config s. begins-more config (0 + n / 256 * 256) n k.0 (whole n) (k.2 config 0 [] s))
+    on_err c.from_residual.result (k.0, k.1, λ storm u. begins-more storm (0 + n / 256 * 256) n k.0 (whole n) (k.2 storm 0 [] u))
 
 pub returns-clause-ok : goal.returns-clause-ok
 returns-clause-ok g c =
@@ -30,9 +30,9 @@ returns-clause-ok g c =
     weaker_ok c.advance.result (λ a. (
       b.0 ++ a.0,
       Appends-then _ _ _ b.0 a.0 b.1 a.1,
-      λ config s.
-          script-same config ((0 + n / 256 * 256) + n % 256) n (b.0 ++ a.0) (b.0 ++ a.0) c.advance.new.self.fabric
-          (a.2 config (0 + n / 256 * 256) b.0 (b.2 config 0 [] s)) (divided n) refl,
+      λ storm u.
+          script-same storm ((0 + n / 256 * 256) + n % 256) n (b.0 ++ a.0) (b.0 ++ a.0) c.advance.new.self.fabric c.advance.new.self.chooser
+          (a.2 storm (0 + n / 256 * 256) b.0 (b.2 storm 0 [] u)) (divided n) refl,
     )) c.advance.ensures.ok
 
 pub returns-clause-err : goal.returns-clause-err
@@ -42,7 +42,7 @@ returns-clause-err g c =
     weaker_err c.advance.result (λ k. (
       b.0 ++ k.0,
       Appends-then _ _ _ b.0 k.0 b.1 k.1,
-      λ config s.
-          begins-more config ((0 + n / 256 * 256) + n % 256) n (b.0 ++ k.0) (let e = divided n in omega (arith, e))
-          (k.2 config (0 + n / 256 * 256) b.0 (b.2 config 0 [] s)),
+      λ storm u.
+          begins-more storm ((0 + n / 256 * 256) + n % 256) n (b.0 ++ k.0) (let e = divided n in omega (arith, e))
+          (k.2 storm (0 + n / 256 * 256) b.0 (b.2 storm 0 [] u)),
     )) c.advance.ensures.err

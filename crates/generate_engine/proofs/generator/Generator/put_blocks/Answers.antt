@@ -8,9 +8,9 @@ pub loop-block-init : goal.loop-block-init
 loop-block-init g c = (
   [],
   Appends-none _,
-  λ config n written s.
+  λ storm n written u.
       let pending = c.args.self.now.pending.items in
-      script-same config n (n + 0) (written ++ pending) ((written ++ []) ++ pending) c.args.self.now.fabric s (omega arith) (ap (λ (t : List ℕ). t ++ pending) (append-nil written)),
+      script-same storm n (n + 0) (written ++ pending) ((written ++ []) ++ pending) c.args.self.now.fabric c.args.self.now.chooser u (omega arith) (ap (λ (t : List ℕ). t ++ pending) (append-nil written)),
 )
 
 pub loop-block-preserved : goal.loop-block-preserved
@@ -20,10 +20,10 @@ loop-block-preserved g c =
     let new = c.advance.new.self in (
       h.0 ++ k.0,
       Appends-then _ _ _ h.0 k.0 h.1 k.1,
-      λ config n written s.
+      λ storm n written u.
           let count = n + c.loop-block._block * 256 in
-          script-same config (count + 256) (n + (c.loop-block._block + 1) * 256) ((written ++ h.0) ++ k.0) ((written ++ (h.0 ++ k.0)) ++ new.pending.items) new.fabric
-          (k.2 config count (written ++ h.0) (h.2 config n written s)) (omega arith)
+          script-same storm (count + 256) (n + (c.loop-block._block + 1) * 256) ((written ++ h.0) ++ k.0) ((written ++ (h.0 ++ k.0)) ++ new.pending.items) new.fabric new.chooser
+          (k.2 storm count (written ++ h.0) (h.2 storm n written u)) (omega arith)
           (ap (λ (t : List ℕ). (written ++ (h.0 ++ k.0)) ++ t) c.in_ok-advance.ensures.pending ∙ append-nil (written ++ (h.0 ++ k.0)) ∙ sym (append_assoc written h.0 k.0)),
     )
 
@@ -35,10 +35,10 @@ returns-in_err-advance-clause-err g c =
     on_err c.from_residual.result (
       h.0 ++ k.0,
       Appends-then _ _ _ h.0 k.0 h.1 k.1,
-      λ config n written s.
+      λ storm n written u.
           let count = n + c.loop-block._block * 256 in
-          begins-more config (count + 256) (n + c.args.count * 256) (written ++ (h.0 ++ k.0)) (omega arith)
-          (subst (BeginsScript config (count + 256)) (append_assoc written h.0 k.0) (k.2 config count (written ++ h.0) (h.2 config n written s))),
+          begins-more storm (count + 256) (n + c.args.count * 256) (written ++ (h.0 ++ k.0)) (omega arith)
+          (subst (BeginsScript storm (count + 256)) (append_assoc written h.0 k.0) (k.2 storm count (written ++ h.0) (h.2 storm n written u))),
     )
 
 pub returns-clause-ok : goal.returns-clause-ok
@@ -49,7 +49,7 @@ returns-clause-ok g c =
     let end = c.loop-block.self in (
       h.0,
       h.1,
-      λ config n written s.
-          script-same config (n + c.loop-block._block * 256) (n + c.args.count * 256) ((written ++ h.0) ++ end.pending.items) ((written ++ h.0) ++ end.pending.items) end.fabric
-          (h.2 config n written s) (omega arith) refl,
+      λ storm n written u.
+          script-same storm (n + c.loop-block._block * 256) (n + c.args.count * 256) ((written ++ h.0) ++ end.pending.items) ((written ++ h.0) ++ end.pending.items) end.fabric end.chooser
+          (h.2 storm n written u) (omega arith) refl,
     )
