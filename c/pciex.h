@@ -143,7 +143,7 @@ static inline uint32_t pciex_answer(uint8_t *bytes, size_t length, uint64_t base
 
 /*
  * Makes a device of `size` zeros at the address `base`, with an empty history, in a handle that holds nothing. 0 where
- * it is made; PCIEX_WRONG_SIZE, PCIEX_WRONG_BASE, PCIEX_WRONG_BLOCK, tested in this order, or PCIEX_NO_MEMORY.
+ * it is made; PCIEX_WRONG_SIZE, PCIEX_WRONG_BASE, PCIEX_WRONG_BLOCK, PCIEX_NO_MEMORY, tested in this order.
  */
 static inline uint32_t pciex_device_new(uint64_t base, size_t size, uint16_t block, pciex_device *device)
 {
@@ -160,7 +160,7 @@ static inline uint32_t pciex_device_new(uint64_t base, size_t size, uint16_t blo
  * One TLP at the device, as pciex_answer has it. The request stands in the history from then on, under the port of its
  * Requester ID (the upper 8 bits) and the number that the caller gives it; one that is aborted or unsupported, too.
  * Below 1000: how many bytes the completion has, as there. 1000 to 1999: 1000 and the number of the packet's fault.
- * Tested in this order: PCIEX_SMALL_ROOM, the packet's fault, PCIEX_NO_REQUEST; or PCIEX_NO_MEMORY.
+ * Tested in this order: PCIEX_SMALL_ROOM, the packet's fault, PCIEX_NO_REQUEST, PCIEX_NO_MEMORY.
  */
 static inline uint32_t pciex_device_serve(pciex_device *device, uint32_t number, const uint8_t *packet,
                                           size_t packet_length, uint8_t *room, size_t room_length)
@@ -231,7 +231,7 @@ static inline void pciex_device_free(pciex_device *device)
  * six credits or none, then `block <bytes>` or nothing, as docs/formats.md has it. No line feed ends the line. With
  * `is_traced` the fabric keeps a trace, which grows by a record for each submission and each answer.
  * 0 where it is made. 1000 to 1999: a fault of the configuration, whose name of so many bytes less 1000 stands in the
- * room. Tested in this order: PCIEX_SMALL_ROOM for fewer than PCIEX_LINE bytes, PCIEX_NO_LINE, the fault; or
+ * room. Tested in this order: PCIEX_SMALL_ROOM for fewer than PCIEX_LINE bytes, PCIEX_NO_LINE, the fault,
  * PCIEX_NO_MEMORY.
  */
 static inline uint32_t pciex_fabric_new(const uint8_t *line, size_t line_length, bool is_traced, uint8_t *room,
@@ -250,7 +250,7 @@ static inline uint32_t pciex_fabric_new(const uint8_t *line, size_t line_length,
  * The event of a script's line happens to the fabric: `submit 1 add 40 07000000`, `transmit up1`. Below 1000: how many
  * bytes what is seen of it has, `sub 1 0`, as `pciex step` prints it, without a line feed. 1000 to 1999: the fabric
  * refuses it and stays as it was, and the refusal's name of so many bytes less 1000 stands in the room. Tested in this
- * order: PCIEX_SMALL_ROOM for fewer than PCIEX_LINE bytes, PCIEX_NO_LINE, the refusal; or PCIEX_NO_MEMORY. One call is
+ * order: PCIEX_SMALL_ROOM for fewer than PCIEX_LINE bytes, PCIEX_NO_LINE, the refusal or PCIEX_NO_MEMORY. One call is
  * one event: `settle`, which is many, is answered PCIEX_NO_LINE, as a comment and an empty line are, which are none.
  */
 static inline uint32_t pciex_fabric_event(pciex_fabric *fabric, const uint8_t *line, size_t line_length, uint8_t *room,
@@ -267,7 +267,7 @@ static inline uint32_t pciex_fabric_event(pciex_fabric *fabric, const uint8_t *l
 
 /*
  * The text of the trace and the history, as `pciex step --trace` writes it: 0, or PCIEX_SMALL_ROOM; `length` is how
- * many bytes it has, in both cases. Or PCIEX_NO_MEMORY: `length` says nothing then. A fabric that keeps no trace has a
+ * many bytes it has, in both cases. Or PCIEX_NO_MEMORY: `length` stays as it was. A fabric that keeps no trace has a
  * text without records. The call takes memory for the text while it runs.
  */
 static inline uint32_t pciex_fabric_trace(pciex_fabric *fabric, uint8_t *room, size_t room_length, size_t *length)

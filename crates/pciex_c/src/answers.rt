@@ -34,6 +34,7 @@ pub extern "C" fn pciex_raw_answer(
 pub extern "C" fn pciex_raw_check(alloc: Global, text: &[u8], room: &mut [u8]) -> u32
     ensures code { ¬ (result ≡ 2003) → result ≡ (verdict text.now room.old).code }
     ensures room { ¬ (result ≡ 2003) → room.new ≡ (verdict text.now room.old).room }
+    ensures no_memory { result ≡ 2003 → 512 ≤ length room.old }
     ensures unchanged { (result ≡ 0) ⊎ (2000 ≤ result) → room.new ≡ room.old }
     ensures explained { result ≡ 0 → (c : Claim) × (read_of text.now ≡ Ok c) × Explains c }
     ensures unexplained { (c : Claim) → read_of text.now ≡ Ok c → Explains c → (result ≡ 0) ⊎ (result ≡ 2000) ⊎ (result ≡ 2003) }

@@ -1,7 +1,7 @@
 //! The device with a history.
 ghost use Rattle.std.specs.Prelude.{◌≡◌, ◌≤◌, ◌⊎◌, Some, [], length};
 ghost use Rattle.seq_memory.specs.History.{State};
-ghost use Rattle.device_handle.specs.Calls.{wrong_limits, service, entry_told, bytes_told};
+ghost use Rattle.device_handle.specs.Calls.{wrong_limits, service, IsRequestCall, entry_told, bytes_told};
 
 use device_handle::Slot;
 use std::alloc::Global;
@@ -36,6 +36,7 @@ pub extern "C" fn pciex_raw_device_serve(
     ensures code { ¬ (result ≡ 2003) → result ≡ (service memory number packet.now room.old).code }
     ensures memory { ¬ (result ≡ 2003) → back.new.memory ≡ Some (service memory number packet.now room.old).memory }
     ensures room { ¬ (result ≡ 2003) → room.new ≡ (service memory number packet.now room.old).room }
+    ensures no_memory { result ≡ 2003 → IsRequestCall packet.now room.old }
     ensures unchanged { 1000 ≤ result → (back.new.memory ≡ Some memory) × (room.new ≡ room.old) }
 {
     device_handle::serve_packet(device, number, packet, room, back)
