@@ -12,6 +12,7 @@ use Rattle.seq_memory.specs.History.{State, bytes_of}
 use Rattle.seq_memory.specs.Limits.{is_size, is_base}
 use Rattle.completer_core.specs.Serving.{after_serving, completion_to}
 use Rattle.trace_text.specs.Texts.{op_text}
+use Rattle.caller_room.specs.declared.TheConstants.{SMALL_ROOM, WRONG_BLOCK, NO_REQUEST, WRONG_SIZE, WRONG_BASE, NO_ENTRY}
 use Rattle.caller_room.specs.Room.{filled, Told, untold, told}
 
 -- ---- making
@@ -19,9 +20,9 @@ use Rattle.caller_room.specs.Room.{filled, Told, untold, told}
 -- the code of the first limit that is not kept, or 0
 abbrev pub wrong_limits : ℕ → ℕ → ℕ → ℕ
 wrong_limits base size block =
-    if not (is_size size) then 2004
-    else (if not (is_base base size) then 2005
-    else (if (block == 64) || (block == 128) then 0 else 2001))
+    if not (is_size size) then WRONG_SIZE
+    else (if not (is_base base size) then WRONG_BASE
+    else (if (block == 64) || (block == 128) then 0 else WRONG_BLOCK))
 
 -- ---- serving
 
@@ -42,7 +43,7 @@ answered s room (Some c) = record { code = length (canonical c); memory = s; roo
 -- a packet is served if it is a request
 abbrev pub served : State → ℕ → List ℕ → Packet → Service
 served s number room t =
-    if is_completion t.kind then refused 2002 s room
+    if is_completion t.kind then refused NO_REQUEST s room
     else answered (after_serving s t number) room (completion_to s t)
 
 abbrev pub read : State → ℕ → List ℕ → Result Packet TlpFault → Service
@@ -52,7 +53,7 @@ read s number room (Ok t) = served s number room t
 -- the room is tested first, then the packet
 abbrev pub service : State → ℕ → List ℕ → List ℕ → Service
 service s number packet room =
-    if nat_lt (length room) 144 then refused 2000 s room else read s number room (reading packet)
+    if nat_lt (length room) 144 then refused SMALL_ROOM s room else read s number room (reading packet)
 
 -- there is nothing to refuse but memory: the room is large enough, and the bytes spell a request
 abbrev pub IsRequestCall : List ℕ → List ℕ → Type 0
@@ -65,14 +66,14 @@ abbrev pub entry_text : Entry → List ℕ
 entry_text e = decimal e.requester ++ 32 ∷ decimal e.number ++ 32 ∷ op_text e.op
 
 abbrev pub found : List ℕ → Option Entry → Told
-found room None = untold room 2006
+found room None = untold room NO_ENTRY
 found room (Some e) = told room (entry_text e)
 
 abbrev pub entry_told : List Entry → ℕ → List ℕ → Told
 entry_told entries place room =
-    if nat_lt (length room) 512 then untold room 2000 else found room (slice_get entries place)
+    if nat_lt (length room) 512 then untold room SMALL_ROOM else found room (slice_get entries place)
 
 abbrev pub bytes_told : State → List ℕ → Told
 bytes_told s room =
-    if nat_lt (length room) (length (bytes_of s)) then untold room 2000
+    if nat_lt (length room) (length (bytes_of s)) then untold room SMALL_ROOM
     else record { code = 0; room = filled room (bytes_of s) }

@@ -14,10 +14,10 @@ use tlp_core::{Tlp, decode};
 /// Serves a packet.
 fn serve_tlp(memory: &mut Memory, number: u32, packet: &Tlp, room: &mut [u8]) -> u32
     requires { 144 ≤ length room.old }
-    ensures code { ¬ (result ≡ 2003) → result ≡ (served memory.old number room.old packet.now).code }
-    ensures memory { ¬ (result ≡ 2003) → memory.new ≡ (served memory.old number room.old packet.now).memory }
-    ensures room { ¬ (result ≡ 2003) → room.new ≡ (served memory.old number room.old packet.now).room }
-    ensures no_memory { result ≡ 2003 → spec.is_completion packet.now.kind ≡ false }
+    ensures code { ¬ (result ≡ NO_MEMORY) → result ≡ (served memory.old number room.old packet.now).code }
+    ensures memory { ¬ (result ≡ NO_MEMORY) → memory.new ≡ (served memory.old number room.old packet.now).memory }
+    ensures room { ¬ (result ≡ NO_MEMORY) → room.new ≡ (served memory.old number room.old packet.now).room }
+    ensures no_memory { result ≡ NO_MEMORY → spec.is_completion packet.now.kind ≡ false }
     ensures unchanged { 1000 ≤ result → (memory.new ≡ memory.old) × (room.new ≡ room.old) }
 {
     if is_completion(packet.kind) {
@@ -32,10 +32,10 @@ fn serve_tlp(memory: &mut Memory, number: u32, packet: &Tlp, room: &mut [u8]) ->
 
 /// Serves the bytes of a packet.
 fn serve_bytes(memory: &mut Memory, number: u32, packet: &[u8], room: &mut [u8]) -> u32
-    ensures code { ¬ (result ≡ 2003) → result ≡ (service memory.old number packet.now room.old).code }
-    ensures memory { ¬ (result ≡ 2003) → memory.new ≡ (service memory.old number packet.now room.old).memory }
-    ensures room { ¬ (result ≡ 2003) → room.new ≡ (service memory.old number packet.now room.old).room }
-    ensures no_memory { result ≡ 2003 → IsRequestCall packet.now room.old }
+    ensures code { ¬ (result ≡ NO_MEMORY) → result ≡ (service memory.old number packet.now room.old).code }
+    ensures memory { ¬ (result ≡ NO_MEMORY) → memory.new ≡ (service memory.old number packet.now room.old).memory }
+    ensures room { ¬ (result ≡ NO_MEMORY) → room.new ≡ (service memory.old number packet.now room.old).room }
+    ensures no_memory { result ≡ NO_MEMORY → IsRequestCall packet.now room.old }
     ensures unchanged { 1000 ≤ result → (memory.new ≡ memory.old) × (room.new ≡ room.old) }
 {
     if room.len() < MAX_COMPLETION {
@@ -55,10 +55,10 @@ fn serve_bytes(memory: &mut Memory, number: u32, packet: &[u8], room: &mut [u8])
 pub fn serve_packet(slot: Slot, number: u32, packet: &[u8], room: &mut [u8], back: &mut Slot) -> u32
     ghost memory: { State }
     requires { slot.memory ≡ Some memory }
-    ensures code { ¬ (result ≡ 2003) → result ≡ (service memory number packet.now room.old).code }
-    ensures memory { ¬ (result ≡ 2003) → back.new.memory ≡ Some (service memory number packet.now room.old).memory }
-    ensures room { ¬ (result ≡ 2003) → room.new ≡ (service memory number packet.now room.old).room }
-    ensures no_memory { result ≡ 2003 → IsRequestCall packet.now room.old }
+    ensures code { ¬ (result ≡ NO_MEMORY) → result ≡ (service memory number packet.now room.old).code }
+    ensures memory { ¬ (result ≡ NO_MEMORY) → back.new.memory ≡ Some (service memory number packet.now room.old).memory }
+    ensures room { ¬ (result ≡ NO_MEMORY) → room.new ≡ (service memory number packet.now room.old).room }
+    ensures no_memory { result ≡ NO_MEMORY → IsRequestCall packet.now room.old }
     ensures unchanged { 1000 ≤ result → (back.new.memory ≡ Some memory) × (room.new ≡ room.old) }
 {
     let mut held = open(slot);

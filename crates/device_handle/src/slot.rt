@@ -65,7 +65,7 @@ pub(crate) fn close(held: Box<Memory, Global>) -> Slot
 /// `block` bytes, in a slot that holds nothing. 0 where it is made, else the slot stays as it was:
 /// `WRONG_SIZE`, `WRONG_BASE`, `WRONG_BLOCK`, `NO_MEMORY`, tested in this order.
 pub fn new_device(alloc: Global, base: u64, size: usize, block: u16, slot: &mut Slot) -> u32
-    ensures code { (result ≡ wrong_limits base size block) ⊎ ((wrong_limits base size block ≡ 0) × (result ≡ 2003)) }
+    ensures code { (result ≡ wrong_limits base size block) ⊎ ((wrong_limits base size block ≡ 0) × (result ≡ NO_MEMORY)) }
     ensures made { result ≡ 0 → slot.new.memory ≡ Some (record { base = base; size = size; block = block; entries = [] }) }
     ensures unchanged { 1 ≤ result → slot.new ≡ slot.old }
 {

@@ -21,6 +21,7 @@ use Rattle.script_text.specs.declared.line.Line.TheVariants as lines
 use Rattle.script_text.specs.Forms.{line_of}
 use Rattle.script_text.specs.Names.{config_fault_name, refusal_name}
 use Rattle.script_text.specs.Texts.{seen_text}
+use Rattle.caller_room.specs.declared.TheConstants.{SMALL_ROOM, NO_LINE}
 use Rattle.caller_room.specs.Room.{filled, Told, untold, told, told_fault}
 
 -- the fabric, and where a trace is kept its records so far
@@ -44,11 +45,11 @@ made room (Some f) = told_fault room (config_fault_name f)
 
 abbrev pub made_by : List ℕ → Option Line → Told
 made_by room (Some (lines.Fabric c)) = made room (config_fault c)
-made_by room _ = untold room 2008
+made_by room _ = untold room NO_LINE
 
 -- the room is tested first, then the line, then its configuration
 abbrev pub making : List ℕ → List ℕ → Told
-making line room = if nat_lt (length room) 512 then untold room 2000 else made_by room (line_of (words line))
+making line room = if nat_lt (length room) 512 then untold room SMALL_ROOM else made_by room (line_of (words line))
 
 -- the line asks for a fabric of this configuration
 abbrev pub AsksFor : List ℕ → Config → Type 0
@@ -94,7 +95,7 @@ happened s room event = answered s room event (length s.fabric.memory.entries) (
 
 abbrev pub happened_by : Session → List ℕ → Option Line → Outcome
 happened_by s room (Some (lines.Event event)) = happened s room event
-happened_by s room _ = unmoved s room 2008
+happened_by s room _ = unmoved s room NO_LINE
 
 -- the room is large enough, and the line spells an event
 abbrev pub IsEventCall : List ℕ → List ℕ → Type 0
@@ -102,7 +103,7 @@ IsEventCall line room = (512 ≤ length room) × (event : Event) × (line_of (wo
 
 -- the room is tested first, then the line
 abbrev pub event_call : Session → List ℕ → List ℕ → Outcome
-event_call s line room = if nat_lt (length room) 512 then unmoved s room 2000 else happened_by s room (line_of (words line))
+event_call s line room = if nat_lt (length room) 512 then unmoved s room SMALL_ROOM else happened_by s room (line_of (words line))
 
 -- ---- what is held
 
@@ -113,4 +114,4 @@ claim s = record { memory = s.fabric.memory; records = s.records }
 -- a text or bytes of any length, in a room with at least as many
 abbrev pub whole_told : List ℕ → List ℕ → Told
 whole_told text room =
-    if nat_lt (length room) (length text) then untold room 2000 else record { code = 0; room = filled room text }
+    if nat_lt (length room) (length text) then untold room SMALL_ROOM else record { code = 0; room = filled room text }

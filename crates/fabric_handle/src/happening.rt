@@ -81,14 +81,14 @@ fn put_told(told: &Record, room: &mut [u8]) -> u32
     text.len() as u32
 }
 
-/// Puts the name of a refusal to the front of the room, but for want of memory.
+/// Puts the name of a refusal other than out of memory to the front of the room.
 fn put_refusal(refusal: Refusal, room: &mut [u8]) -> u32
     requires { 512 ≤ length room.old }
-    ensures told { ¬ (result ≡ 2003) → IsTold refusal }
-    ensures no_memory { result ≡ 2003 → ¬ IsTold refusal }
-    ensures code { ¬ (result ≡ 2003) → result ≡ 1000 + length (refusal_name refusal) }
-    ensures range { (1000 ≤ result) × (result ≤ 2003) }
-    ensures room { ¬ (result ≡ 2003) → room.new ≡ filled room.old (refusal_name refusal) }
+    ensures told { ¬ (result ≡ NO_MEMORY) → IsTold refusal }
+    ensures no_memory { result ≡ NO_MEMORY → ¬ IsTold refusal }
+    ensures code { ¬ (result ≡ NO_MEMORY) → result ≡ 1000 + length (refusal_name refusal) }
+    ensures range { (1000 ≤ result) × (result ≤ NO_MEMORY) }
+    ensures room { ¬ (result ≡ NO_MEMORY) → room.new ≡ filled room.old (refusal_name refusal) }
     ensures unchanged { 2000 ≤ result → room.new ≡ room.old }
 {
     if let Refusal::Memory | Refusal::Lane(LaneRefusal::Memory) = refusal {
@@ -104,9 +104,9 @@ fn put_refusal(refusal: Refusal, room: &mut [u8]) -> u32
 fn happen_unrecorded(session: &mut Session, event: &Event, room: &mut [u8]) -> u32
     requires room { 512 ≤ length room.old }
     requires unrecorded { session.old.is_traced ≡ true → has_record event.now ≡ false }
-    ensures code { ¬ (result ≡ 2003) → result ≡ (happened session.old room.old event.now).code }
-    ensures session { ¬ (result ≡ 2003) → session.new ≡ (happened session.old room.old event.now).session }
-    ensures room { ¬ (result ≡ 2003) → room.new ≡ (happened session.old room.old event.now).room }
+    ensures code { ¬ (result ≡ NO_MEMORY) → result ≡ (happened session.old room.old event.now).code }
+    ensures session { ¬ (result ≡ NO_MEMORY) → session.new ≡ (happened session.old room.old event.now).session }
+    ensures room { ¬ (result ≡ NO_MEMORY) → room.new ≡ (happened session.old room.old event.now).room }
     ensures unchanged { 1000 ≤ result → session.new ≡ session.old }
     ensures unchanged_room { 2000 ≤ result → room.new ≡ room.old }
 {
@@ -121,9 +121,9 @@ fn happen_recorded(session: &mut Session, event: &Event, room: &mut [u8]) -> u32
     requires room { 512 ≤ length room.old }
     requires traced { session.old.is_traced ≡ true }
     requires recorded { has_record event.now ≡ true }
-    ensures code { ¬ (result ≡ 2003) → result ≡ (happened session.old room.old event.now).code }
-    ensures session { ¬ (result ≡ 2003) → session.new ≡ (happened session.old room.old event.now).session }
-    ensures room { ¬ (result ≡ 2003) → room.new ≡ (happened session.old room.old event.now).room }
+    ensures code { ¬ (result ≡ NO_MEMORY) → result ≡ (happened session.old room.old event.now).code }
+    ensures session { ¬ (result ≡ NO_MEMORY) → session.new ≡ (happened session.old room.old event.now).session }
+    ensures room { ¬ (result ≡ NO_MEMORY) → room.new ≡ (happened session.old room.old event.now).room }
     ensures unchanged { 1000 ≤ result → session.new ≡ session.old }
     ensures unchanged_room { 2000 ≤ result → room.new ≡ room.old }
 {
@@ -145,10 +145,10 @@ fn happen_recorded(session: &mut Session, event: &Event, room: &mut [u8]) -> u32
 
 /// A line of a script happens to the session.
 fn happen(session: &mut Session, line: &[u8], room: &mut [u8]) -> u32
-    ensures code { ¬ (result ≡ 2003) → result ≡ (event_call session.old line.now room.old).code }
-    ensures session { ¬ (result ≡ 2003) → session.new ≡ (event_call session.old line.now room.old).session }
-    ensures room { ¬ (result ≡ 2003) → room.new ≡ (event_call session.old line.now room.old).room }
-    ensures no_memory { result ≡ 2003 → IsEventCall line.now room.old }
+    ensures code { ¬ (result ≡ NO_MEMORY) → result ≡ (event_call session.old line.now room.old).code }
+    ensures session { ¬ (result ≡ NO_MEMORY) → session.new ≡ (event_call session.old line.now room.old).session }
+    ensures room { ¬ (result ≡ NO_MEMORY) → room.new ≡ (event_call session.old line.now room.old).room }
+    ensures no_memory { result ≡ NO_MEMORY → IsEventCall line.now room.old }
     ensures unchanged { 1000 ≤ result → session.new ≡ session.old }
     ensures unchanged_room { 2000 ≤ result → room.new ≡ room.old }
 {
@@ -173,10 +173,10 @@ fn happen(session: &mut Session, line: &[u8], room: &mut [u8]) -> u32
 pub fn tell_event(slot: Slot, line: &[u8], room: &mut [u8], back: &mut Slot) -> u32
     ghost session: { spec.Session }
     requires { slot.session ≡ Some session }
-    ensures code { ¬ (result ≡ 2003) → result ≡ (event_call session line.now room.old).code }
-    ensures session { ¬ (result ≡ 2003) → back.new.session ≡ Some (event_call session line.now room.old).session }
-    ensures room { ¬ (result ≡ 2003) → room.new ≡ (event_call session line.now room.old).room }
-    ensures no_memory { result ≡ 2003 → IsEventCall line.now room.old }
+    ensures code { ¬ (result ≡ NO_MEMORY) → result ≡ (event_call session line.now room.old).code }
+    ensures session { ¬ (result ≡ NO_MEMORY) → back.new.session ≡ Some (event_call session line.now room.old).session }
+    ensures room { ¬ (result ≡ NO_MEMORY) → room.new ≡ (event_call session line.now room.old).room }
+    ensures no_memory { result ≡ NO_MEMORY → IsEventCall line.now room.old }
     ensures unchanged { 1000 ≤ result → back.new.session ≡ Some session }
     ensures unchanged_room { 2000 ≤ result → room.new ≡ room.old }
 {

@@ -40,7 +40,7 @@ fn text_of(alloc: Global, session: &mut Session) -> Result<String, AllocError>
 fn put_whole(bytes: &[u8], room: &mut [u8]) -> u32
     ensures code { result ≡ (whole_told bytes.now room.old).code }
     ensures room { room.new ≡ (whole_told bytes.now room.old).room }
-    ensures range { result ≤ 2000 }
+    ensures range { result ≤ SMALL_ROOM }
     ensures unchanged { 1 ≤ result → room.new ≡ room.old }
 {
     if room.len() < bytes.len() {
@@ -63,10 +63,10 @@ pub fn tell_trace(
 ) -> u32
     ghost session: { spec.Session }
     requires { slot.session ≡ Some session }
-    ensures code { ¬ (result ≡ 2003) → result ≡ (whole_told (trace_text (claim session)) room.old).code }
-    ensures room { ¬ (result ≡ 2003) → room.new ≡ (whole_told (trace_text (claim session)) room.old).room }
-    ensures size { ¬ (result ≡ 2003) → size.new ≡ length (trace_text (claim session)) }
-    ensures unchanged_size { result ≡ 2003 → size.new ≡ size.old }
+    ensures code { ¬ (result ≡ NO_MEMORY) → result ≡ (whole_told (trace_text (claim session)) room.old).code }
+    ensures room { ¬ (result ≡ NO_MEMORY) → room.new ≡ (whole_told (trace_text (claim session)) room.old).room }
+    ensures size { ¬ (result ≡ NO_MEMORY) → size.new ≡ length (trace_text (claim session)) }
+    ensures unchanged_size { result ≡ NO_MEMORY → size.new ≡ size.old }
     ensures unchanged { back.new.session ≡ Some session }
     ensures unchanged_room { 1 ≤ result → room.new ≡ room.old }
     ensures explained { session.is_traced ≡ true → Explains (claim session) }

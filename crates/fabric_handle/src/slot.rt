@@ -89,14 +89,14 @@ fn make(alloc: Global, config: Config, is_traced: bool) -> Result<Session, Confi
     })
 }
 
-/// Puts the name of a fault to the front of the room, but for want of memory.
+/// Puts the name of a fault other than `Memory` to the front of the room.
 fn put_fault(fault: ConfigFault, room: &mut [u8]) -> u32
     requires { 512 ≤ length room.old }
-    ensures told { ¬ (result ≡ 2003) → ¬ (fault ≡ ConfigFault.Memory) }
-    ensures no_memory { result ≡ 2003 → fault ≡ ConfigFault.Memory }
-    ensures code { ¬ (result ≡ 2003) → result ≡ 1000 + length (config_fault_name fault) }
-    ensures range { (1000 ≤ result) × (result ≤ 2003) }
-    ensures room { ¬ (result ≡ 2003) → room.new ≡ filled room.old (config_fault_name fault) }
+    ensures told { ¬ (result ≡ NO_MEMORY) → ¬ (fault ≡ ConfigFault.Memory) }
+    ensures no_memory { result ≡ NO_MEMORY → fault ≡ ConfigFault.Memory }
+    ensures code { ¬ (result ≡ NO_MEMORY) → result ≡ 1000 + length (config_fault_name fault) }
+    ensures range { (1000 ≤ result) × (result ≤ NO_MEMORY) }
+    ensures room { ¬ (result ≡ NO_MEMORY) → room.new ≡ filled room.old (config_fault_name fault) }
     ensures unchanged { 2000 ≤ result → room.new ≡ room.old }
 {
     if let ConfigFault::Memory = fault {
@@ -111,9 +111,9 @@ fn put_fault(fault: ConfigFault, room: &mut [u8]) -> u32
 /// Makes the fabric of a configuration.
 fn make_in(alloc: Global, config: Config, is_traced: bool, room: &mut [u8], slot: &mut Slot) -> u32
     requires { 512 ≤ length room.old }
-    ensures code { ¬ (result ≡ 2003) → result ≡ (spec.made room.old (new.config_fault config)).code }
-    ensures room { ¬ (result ≡ 2003) → room.new ≡ (spec.made room.old (new.config_fault config)).room }
-    ensures no_memory { result ≡ 2003 → IsConfig config }
+    ensures code { ¬ (result ≡ NO_MEMORY) → result ≡ (spec.made room.old (new.config_fault config)).code }
+    ensures room { ¬ (result ≡ NO_MEMORY) → room.new ≡ (spec.made room.old (new.config_fault config)).room }
+    ensures no_memory { result ≡ NO_MEMORY → IsConfig config }
     ensures made { result ≡ 0 → slot.new.session ≡ Some (new_session config is_traced) }
     ensures unchanged { 1 ≤ result → slot.new ≡ slot.old }
     ensures unchanged_room { 2000 ≤ result → room.new ≡ room.old }
@@ -143,9 +143,9 @@ pub fn new_fabric(
     room: &mut [u8],
     slot: &mut Slot,
 ) -> u32
-    ensures code { ¬ (result ≡ 2003) → result ≡ (making line.now room.old).code }
-    ensures room { ¬ (result ≡ 2003) → room.new ≡ (making line.now room.old).room }
-    ensures no_memory { result ≡ 2003 → IsFabricCall line.now room.old }
+    ensures code { ¬ (result ≡ NO_MEMORY) → result ≡ (making line.now room.old).code }
+    ensures room { ¬ (result ≡ NO_MEMORY) → room.new ≡ (making line.now room.old).room }
+    ensures no_memory { result ≡ NO_MEMORY → IsFabricCall line.now room.old }
     ensures made { result ≡ 0 → (c : configs.Config) × AsksFor line.now c × (slot.new.session ≡ Some (new_session c is_traced)) }
     ensures unchanged { 1 ≤ result → slot.new ≡ slot.old }
     ensures unchanged_room { 2000 ≤ result → room.new ≡ room.old }

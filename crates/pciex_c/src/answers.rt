@@ -5,6 +5,7 @@ ghost use Rattle.tlp_core.specs.Fault.{number_of, name_of};
 ghost use Rattle.history_check.specs.Claim.{Claim};
 ghost use Rattle.history_check.specs.Trace.{Explains};
 ghost use Rattle.trace_file.specs.Reading.{read_of};
+ghost use Rattle.caller_room.specs.declared.TheConstants.{SMALL_ROOM, NO_MEMORY, NO_FAULT};
 ghost use Rattle.caller_room.specs.Room.{filled};
 ghost use Rattle.byte_device.specs.Call.{call};
 ghost use Rattle.trace_verdict.specs.Verdict.{verdict};
@@ -32,12 +33,12 @@ pub extern "C" fn pciex_raw_answer(
 /// Whether the history of the text explains its trace.
 #[unsafe(no_mangle)]
 pub extern "C" fn pciex_raw_check(alloc: Global, text: &[u8], room: &mut [u8]) -> u32
-    ensures code { ¬ (result ≡ 2003) → result ≡ (verdict text.now room.old).code }
-    ensures room { ¬ (result ≡ 2003) → room.new ≡ (verdict text.now room.old).room }
-    ensures no_memory { result ≡ 2003 → 512 ≤ length room.old }
+    ensures code { ¬ (result ≡ NO_MEMORY) → result ≡ (verdict text.now room.old).code }
+    ensures room { ¬ (result ≡ NO_MEMORY) → room.new ≡ (verdict text.now room.old).room }
+    ensures no_memory { result ≡ NO_MEMORY → 512 ≤ length room.old }
     ensures unchanged { (result ≡ 0) ⊎ (2000 ≤ result) → room.new ≡ room.old }
     ensures explained { result ≡ 0 → (c : Claim) × (read_of text.now ≡ Ok c) × Explains c }
-    ensures unexplained { (c : Claim) → read_of text.now ≡ Ok c → Explains c → (result ≡ 0) ⊎ (result ≡ 2000) ⊎ (result ≡ 2003) }
+    ensures unexplained { (c : Claim) → read_of text.now ≡ Ok c → Explains c → (result ≡ 0) ⊎ (result ≡ SMALL_ROOM) ⊎ (result ≡ NO_MEMORY) }
 {
     trace_verdict::check_text(alloc, text, room)
 }
@@ -67,10 +68,10 @@ pub extern "C" fn pciex_raw_encode(line: &[u8], room: &mut [u8]) -> u32
 pub extern "C" fn pciex_raw_fault_name(number: u32, room: &mut [u8]) -> u32
     ensures code { (f : faults.TlpFault) → number ≡ number_of f → 512 ≤ length room.old → result ≡ length (name_of f) }
     ensures room { (f : faults.TlpFault) → number ≡ number_of f → 512 ≤ length room.old → room.new ≡ filled room.old (name_of f) }
-    ensures small { length room.old < 512 → result ≡ 2000 }
+    ensures small { length room.old < 512 → result ≡ SMALL_ROOM }
     ensures unchanged { 1000 ≤ result → room.new ≡ room.old }
     ensures told { result < 1000 → (f : faults.TlpFault) × (number ≡ number_of f) }
-    ensures no_fault { 512 ≤ length room.old → ((f : faults.TlpFault) → ¬ (number ≡ number_of f)) → result ≡ 2007 }
+    ensures no_fault { 512 ≤ length room.old → ((f : faults.TlpFault) → ¬ (number ≡ number_of f)) → result ≡ NO_FAULT }
 {
     packet_words::name_fault(number, room)
 }
@@ -80,7 +81,7 @@ pub extern "C" fn pciex_raw_fault_name(number: u32, room: &mut [u8]) -> u32
 pub extern "C" fn pciex_raw_version(room: &mut [u8]) -> u32
     ensures code { 512 ≤ length room.old → result ≡ 9 }
     ensures room { 512 ≤ length room.old → room.new ≡ filled room.old (codes "pciex_c 1") }
-    ensures small { length room.old < 512 → result ≡ 2000 }
+    ensures small { length room.old < 512 → result ≡ SMALL_ROOM }
     ensures unchanged { 1000 ≤ result → room.new ≡ room.old }
 {
     packet_words::tell_version(room)

@@ -1,6 +1,7 @@
 //! The device with a history.
 ghost use Rattle.std.specs.Prelude.{◌≡◌, ◌≤◌, ◌⊎◌, Some, [], length};
 ghost use Rattle.seq_memory.specs.History.{State};
+ghost use Rattle.caller_room.specs.declared.TheConstants.{NO_MEMORY};
 ghost use Rattle.device_handle.specs.Calls.{wrong_limits, service, IsRequestCall, entry_told, bytes_told};
 
 use device_handle::Slot;
@@ -15,7 +16,7 @@ pub extern "C" fn pciex_raw_device_new(
     block: u16,
     device: &mut Slot,
 ) -> u32
-    ensures code { (result ≡ wrong_limits base size block) ⊎ ((wrong_limits base size block ≡ 0) × (result ≡ 2003)) }
+    ensures code { (result ≡ wrong_limits base size block) ⊎ ((wrong_limits base size block ≡ 0) × (result ≡ NO_MEMORY)) }
     ensures made { result ≡ 0 → device.new.memory ≡ Some (record { base = base; size = size; block = block; entries = [] }) }
     ensures unchanged { 1 ≤ result → device.new ≡ device.old }
 {
@@ -33,10 +34,10 @@ pub extern "C" fn pciex_raw_device_serve(
 ) -> u32
     ghost memory: { State }
     requires { device.memory ≡ Some memory }
-    ensures code { ¬ (result ≡ 2003) → result ≡ (service memory number packet.now room.old).code }
-    ensures memory { ¬ (result ≡ 2003) → back.new.memory ≡ Some (service memory number packet.now room.old).memory }
-    ensures room { ¬ (result ≡ 2003) → room.new ≡ (service memory number packet.now room.old).room }
-    ensures no_memory { result ≡ 2003 → IsRequestCall packet.now room.old }
+    ensures code { ¬ (result ≡ NO_MEMORY) → result ≡ (service memory number packet.now room.old).code }
+    ensures memory { ¬ (result ≡ NO_MEMORY) → back.new.memory ≡ Some (service memory number packet.now room.old).memory }
+    ensures room { ¬ (result ≡ NO_MEMORY) → room.new ≡ (service memory number packet.now room.old).room }
+    ensures no_memory { result ≡ NO_MEMORY → IsRequestCall packet.now room.old }
     ensures unchanged { 1000 ≤ result → (back.new.memory ≡ Some memory) × (room.new ≡ room.old) }
 {
     device_handle::serve_packet(device, number, packet, room, back)

@@ -6,6 +6,7 @@ ghost use Rattle.trace_file.specs.Texts.{trace_text};
 ghost use Rattle.fabric_laws.specs.Trace.{submitted_by};
 ghost use Rattle.fabric_core.specs.declared.config.Config.{Config};
 ghost use Rattle.fabric_core.specs.Quiet.{IsQuiet};
+ghost use Rattle.caller_room.specs.declared.TheConstants.{NO_MEMORY};
 ghost use Rattle.fabric_handle.specs.Session.{Session, new_session, making, AsksFor, IsFabricCall, event_call, IsEventCall, claim, whole_told};
 
 use fabric_handle::Slot;
@@ -20,9 +21,9 @@ pub extern "C" fn pciex_raw_fabric_new(
     room: &mut [u8],
     fabric: &mut Slot,
 ) -> u32
-    ensures code { ¬ (result ≡ 2003) → result ≡ (making line.now room.old).code }
-    ensures room { ¬ (result ≡ 2003) → room.new ≡ (making line.now room.old).room }
-    ensures no_memory { result ≡ 2003 → IsFabricCall line.now room.old }
+    ensures code { ¬ (result ≡ NO_MEMORY) → result ≡ (making line.now room.old).code }
+    ensures room { ¬ (result ≡ NO_MEMORY) → room.new ≡ (making line.now room.old).room }
+    ensures no_memory { result ≡ NO_MEMORY → IsFabricCall line.now room.old }
     ensures made { result ≡ 0 → (c : Config) × AsksFor line.now c × (fabric.new.session ≡ Some (new_session c is_traced)) }
     ensures unchanged { 1 ≤ result → fabric.new ≡ fabric.old }
     ensures unchanged_room { 2000 ≤ result → room.new ≡ room.old }
@@ -40,10 +41,10 @@ pub extern "C" fn pciex_raw_fabric_event(
 ) -> u32
     ghost session: { Session }
     requires { fabric.session ≡ Some session }
-    ensures code { ¬ (result ≡ 2003) → result ≡ (event_call session line.now room.old).code }
-    ensures session { ¬ (result ≡ 2003) → back.new.session ≡ Some (event_call session line.now room.old).session }
-    ensures room { ¬ (result ≡ 2003) → room.new ≡ (event_call session line.now room.old).room }
-    ensures no_memory { result ≡ 2003 → IsEventCall line.now room.old }
+    ensures code { ¬ (result ≡ NO_MEMORY) → result ≡ (event_call session line.now room.old).code }
+    ensures session { ¬ (result ≡ NO_MEMORY) → back.new.session ≡ Some (event_call session line.now room.old).session }
+    ensures room { ¬ (result ≡ NO_MEMORY) → room.new ≡ (event_call session line.now room.old).room }
+    ensures no_memory { result ≡ NO_MEMORY → IsEventCall line.now room.old }
     ensures unchanged { 1000 ≤ result → back.new.session ≡ Some session }
     ensures unchanged_room { 2000 ≤ result → room.new ≡ room.old }
 {
@@ -61,10 +62,10 @@ pub extern "C" fn pciex_raw_fabric_trace(
 ) -> u32
     ghost session: { Session }
     requires { fabric.session ≡ Some session }
-    ensures code { ¬ (result ≡ 2003) → result ≡ (whole_told (trace_text (claim session)) room.old).code }
-    ensures room { ¬ (result ≡ 2003) → room.new ≡ (whole_told (trace_text (claim session)) room.old).room }
-    ensures size { ¬ (result ≡ 2003) → size.new ≡ length (trace_text (claim session)) }
-    ensures unchanged_size { result ≡ 2003 → size.new ≡ size.old }
+    ensures code { ¬ (result ≡ NO_MEMORY) → result ≡ (whole_told (trace_text (claim session)) room.old).code }
+    ensures room { ¬ (result ≡ NO_MEMORY) → room.new ≡ (whole_told (trace_text (claim session)) room.old).room }
+    ensures size { ¬ (result ≡ NO_MEMORY) → size.new ≡ length (trace_text (claim session)) }
+    ensures unchanged_size { result ≡ NO_MEMORY → size.new ≡ size.old }
     ensures unchanged { back.new.session ≡ Some session }
     ensures unchanged_room { 1 ≤ result → room.new ≡ room.old }
     ensures explained { session.is_traced ≡ true → Explains (claim session) }

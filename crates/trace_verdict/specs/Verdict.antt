@@ -6,6 +6,7 @@ use Rattle.history_check.specs.Flaws.{first_flaw}
 use Rattle.trace_file.specs.declared.fault.ReadFault.{ReadFault}
 use Rattle.trace_file.specs.Reading.{read_of}
 use Rattle.trace_engine.specs.Check.{fault_line, flaw_line}
+use Rattle.caller_room.specs.declared.TheConstants.{SMALL_ROOM}
 use Rattle.caller_room.specs.Room.{Told, untold, told_fault}
 
 -- by the first flaw, if there is one
@@ -19,4 +20,4 @@ checked room (Err f) = told_fault room (fault_line f)
 checked room (Ok c) = judged room (first_flaw c)
 
 abbrev pub verdict : List ℕ → List ℕ → Told
-verdict text room = if nat_lt (length room) 512 then untold room 2000 else checked room (read_of text)
+verdict text room = if nat_lt (length room) 512 then untold room SMALL_ROOM else checked room (read_of text)

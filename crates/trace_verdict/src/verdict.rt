@@ -47,11 +47,11 @@ fn put_fault(fault: ReadFault, room: &mut [u8]) -> u32
 /// Whether the history explains the trace.
 fn judge(alloc: Global, trace: &Trace, history: &[Entry], room: &mut [u8]) -> u32
     requires { 512 ≤ length room.old }
-    ensures code { ¬ (result ≡ 2003) → result ≡ (judged room.old (first_flaw (claim_of trace.now history.now))).code }
-    ensures room { ¬ (result ≡ 2003) → room.new ≡ (judged room.old (first_flaw (claim_of trace.now history.now))).room }
+    ensures code { ¬ (result ≡ NO_MEMORY) → result ≡ (judged room.old (first_flaw (claim_of trace.now history.now))).code }
+    ensures room { ¬ (result ≡ NO_MEMORY) → room.new ≡ (judged room.old (first_flaw (claim_of trace.now history.now))).room }
     ensures unchanged { (result ≡ 0) ⊎ (2000 ≤ result) → room.new ≡ room.old }
     ensures explained { result ≡ 0 → Explains (claim_of trace.now history.now) }
-    ensures unexplained { Explains (claim_of trace.now history.now) → (result ≡ 0) ⊎ (result ≡ 2003) }
+    ensures unexplained { Explains (claim_of trace.now history.now) → (result ≡ 0) ⊎ (result ≡ NO_MEMORY) }
 {
     match check(alloc, trace, history) {
         Ok(()) => 0,
@@ -66,12 +66,12 @@ fn judge(alloc: Global, trace: &Trace, history: &[Entry], room: &mut [u8]) -> u3
 /// which is tested first, or `NO_MEMORY`, where nothing is known; with these, and 0, the room stays as
 /// it was.
 pub fn check_text(alloc: Global, text: &[u8], room: &mut [u8]) -> u32
-    ensures code { ¬ (result ≡ 2003) → result ≡ (verdict text.now room.old).code }
-    ensures room { ¬ (result ≡ 2003) → room.new ≡ (verdict text.now room.old).room }
-    ensures no_memory { result ≡ 2003 → 512 ≤ length room.old }
+    ensures code { ¬ (result ≡ NO_MEMORY) → result ≡ (verdict text.now room.old).code }
+    ensures room { ¬ (result ≡ NO_MEMORY) → room.new ≡ (verdict text.now room.old).room }
+    ensures no_memory { result ≡ NO_MEMORY → 512 ≤ length room.old }
     ensures unchanged { (result ≡ 0) ⊎ (2000 ≤ result) → room.new ≡ room.old }
     ensures explained { result ≡ 0 → (c : Claim) × (read_of text.now ≡ Ok c) × Explains c }
-    ensures unexplained { (c : Claim) → read_of text.now ≡ Ok c → Explains c → (result ≡ 0) ⊎ (result ≡ 2000) ⊎ (result ≡ 2003) }
+    ensures unexplained { (c : Claim) → read_of text.now ≡ Ok c → Explains c → (result ≡ 0) ⊎ (result ≡ SMALL_ROOM) ⊎ (result ≡ NO_MEMORY) }
 {
     if room.len() < LINE_ROOM {
         return SMALL_ROOM;
