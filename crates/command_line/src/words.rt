@@ -62,7 +62,7 @@ pub enum Request {
 /// Why the words ask for nothing.
 #[derive(Debug, Drop)]
 pub enum RequestFault<'a> {
-    /// What `clap` says of the words, also a text that was asked for, and want of memory.
+    /// What `clap` says of the words, also a text that was asked for, and that memory ran out.
     Words(clap::Error),
     /// An option has a value that it may not have.
     Value(RefusedValue<'a>),

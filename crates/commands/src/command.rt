@@ -172,7 +172,7 @@ pub fn on_one_thread<S: AsStr, R: Read, W: Write, E: Write>(
     ensures run { (request : Request) → takes the_app (map S.text words.now) ≡ true → Asks (subcommand_of the_app (map S.text words.now)) request
         → IsBegun request (R.remaining reader.old) (R.remaining reader.new) (W.contents writer.old) (W.contents writer.new) result }
 
-    // Words that `clap` takes and that ask for nothing have status 2, or 1 for want of memory, and nothing is written.
+    // Words that `clap` takes and that ask for nothing have status 2, or 1 where out of memory, and nothing is written.
     ensures nothing { takes the_app (map S.text words.now) ≡ true → ((r : Request) → Asks (subcommand_of the_app (map S.text words.now)) r → ⊥)
         → EndsWrong result × (W.contents writer.new ≡ W.contents writer.old) }
 

@@ -1,4 +1,4 @@
--- A configuration has one new fabric, or one fault that isn't want of memory.
+-- A configuration has one new fabric, or one fault that isn't being out of memory.
 use Rattle.std.proofs.Common.{◌≡◌, ◌∙◌, ◌&&◌, ◌==◌, ◌+◌, ◌%◌, ◌^◌, ◌≤◌, ℕ, zero, suc, Bool, true, false, not, List, [], ◌∷◌, length, refl, ap, ap₂, arith, Option, Some, None, if◌then◌else◌}
 use Rattle.std.specs.Prelude.{slice_get, nat_le, replicate}
 use Rattle.std.specs.Bool.{Decides}

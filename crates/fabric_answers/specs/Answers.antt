@@ -191,7 +191,7 @@ answer f (events.Forward (lanes.Down port) place) = Err refusals.NoSuchPart
 answer f (events.Serve place) = serve_item f place (takeable_at f.inward.receiver place)
 answer f (events.Collect port) = collect_with f port (part f.requesters port) (part f.down port)
 
--- another refusal than want of memory
+-- another refusal than being out of memory
 abbrev pub IsTold : Refusal → Type 0
 IsTold refusals.Memory = ⊥
 IsTold (refusals.Lane Memory) = ⊥

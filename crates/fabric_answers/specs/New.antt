@@ -50,7 +50,7 @@ are_credits c = are_header_credits c && are_data_credits c
 abbrev pub is_block : ℕ → Bool
 is_block block = block == 64 || block == 128
 
--- the first fault that isn't want of memory
+-- the first fault that isn't being out of memory
 abbrev pub config_fault : Config → Option ConfigFault
 config_fault c =
     if not (is_between 1 7 c.requesters) then Some faults.Requesters

@@ -37,7 +37,7 @@ config_of f = record { requesters = length f.requesters; base = f.memory.base; s
 abbrev pub down_credits : LaneCredits → LaneCredits
 down_credits c = record { ph = c.ph; pd = c.pd; nph = c.nph; npd = c.npd; cplh = 0; cpld = 0 }
 
--- the first fault, in this order: Requesters, Size, Base, Credits, Block; want of memory comes only where there is none
+-- the first fault, in this order: Requesters, Size, Base, Credits, Block; `Memory` comes only where there is none
 abbrev pub HasFault : Config → ConfigFault → Type 0
 HasFault c faults.Requesters = ¬ IsBetween 1 7 c.requesters
 HasFault c faults.Size = IsBetween 1 7 c.requesters × (¬ IsSize c.size)

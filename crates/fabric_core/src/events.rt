@@ -54,7 +54,7 @@ pub fn submit(requester: &mut Requester, sender: &mut SenderEnd, op: &Op) -> Res
 }
 
 /// The sender's next packet goes onto the wire. Gives its sequence number. `Idle` where there is none to send, or while
-/// the sender is stopped; then `Lane` for want of memory.
+/// the sender is stopped; then `Lane` for being out of memory.
 pub fn transmit(sender: &mut SenderEnd, wire: &mut ForwardWire) -> Result<Seq12, Refusal>
     ensures number { IfOk result (λ number. transmitted sender.old ≡ Some number) }
     ensures sender { OnOk result (sender.new ≡ after_transmission sender.old) }
@@ -75,7 +75,7 @@ pub fn transmit(sender: &mut SenderEnd, wire: &mut ForwardWire) -> Result<Seq12,
 }
 
 /// The oldest packet of the wire reaches the receiver, or doesn't. Gives what became of it. `Idle` where the wire is
-/// empty; then `Lane` for want of memory.
+/// empty; then `Lane` for being out of memory.
 pub fn deliver(
     wire: &mut ForwardWire,
     receiver: &mut ReceiverEnd,
@@ -99,7 +99,7 @@ pub fn deliver(
     }
 }
 
-/// The receiver puts a DLLP on the back wire, and gives it. `Lane` for want of memory.
+/// The receiver puts a DLLP on the back wire, and gives it. `Lane` for being out of memory.
 pub fn send_dllp(
     receiver: &mut ReceiverEnd,
     wire: &mut BackWire,

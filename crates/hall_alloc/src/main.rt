@@ -1,4 +1,4 @@
-//! Two worked rows of a hall. A call that is refused for want of memory is told and made again, so that a run in which one
+//! Two worked rows of a hall. A call that is out of memory is told and made again, so that a run in which one
 //! allocation is refused prints what a whole run prints, and one line `refused` besides.
 #![tactic(auto)]
 
@@ -17,7 +17,7 @@ use std::alloc::Global;
 use std::io;
 use tlp_core::Op;
 
-/// Whether the refusal is want of memory.
+/// Whether the refusal is for being out of memory.
 fn lacks_memory(refusal: HallRefusal) -> bool {
     matches!(
         refusal,

@@ -7,7 +7,7 @@ use Rattle.hall_core.specs.declared.fault.HallFault.TheVariants.{Seats, Memory}
 abbrev pub IsSeatCount : ℕ → Type 0
 IsSeatCount work = (1 ≤ work) × (work ≤ 64)
 
--- the number of work seats is tested first; want of memory comes only where it is right
+-- the number of work seats is tested first; `Memory` comes only where it is right
 abbrev pub HasHallFault : ℕ → HallFault → Type 0
 HasHallFault work Seats = ¬ IsSeatCount work
 HasHallFault work Memory = IsSeatCount work

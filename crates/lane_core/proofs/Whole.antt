@@ -55,7 +55,7 @@ room credits calls need l k h u = (
         let finite : 0 < first_of need.class p credits = omega (arith, e) in
         ((whole_numbers credits calls need.class p l k finite).room (pick p need.header need.units) (small p need.header need.units h u)).1 (r finite)
 
--- a call refuses for want of credits exactly where there is no room
+-- a call refuses for lack of credits exactly where there is no room
 
 turned : (b : Bool) (R : Type 0) → IsTrue b ↔ R → (b ≡ false) ↔ (¬ R)
 turned true R h = (λ e. cc, λ n. absurd (n (h.0 refl)))

@@ -13,7 +13,7 @@ use Rattle.lane_core.specs.declared.packet.DllpKind.{DllpKind}
 use Rattle.lane_core.specs.Content.{items_of, unaccepted_of}
 use Rattle.lane_core.specs.Steps.{Ends, Incoming, new_lane, may_enter, entered, with_room, without_room, after_timer, after_retraining, after_transmission, wire_after_transmit, all_but_first, arrival_of, taken_on, after_deliver, after_send, wire_after_send, sender_after, after_take}
 
--- a call of a lane; one that is refused for want of memory changes nothing and is left out
+-- a call of a lane; one that is refused for being out of memory changes nothing and is left out
 pub data Call : Type 0 where
   MakeRoom : Need → Call
   Release : Call

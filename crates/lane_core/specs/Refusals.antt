@@ -12,7 +12,7 @@ number_of (lanes.NoCredits class) = 1
 number_of lanes.WindowFull = 2
 number_of lanes.Memory = 3
 
--- why there is no room for a packet of this need: want of memory comes only where credits and window have room
+-- why there is no room for a packet of this need: `Memory` comes only where credits and window have room
 abbrev pub LacksRoom : Outgoing → Need → LaneRefusal → Type 0
 LacksRoom s need (lanes.NoCredits class) = (class ≡ need.class) × (gate_covers s.gate need ≡ false)
 LacksRoom s need lanes.WindowFull = (gate_covers s.gate need ≡ true) × (2047 ≤ length s.sending.kept)

@@ -6,7 +6,7 @@ use link_receiver::Reception;
 use std::test::Fail;
 use tlp_core::Tlp;
 
-/// Whether a write is refused for want of credits.
+/// Whether a write is refused for lack of credits.
 fn waits(lane: &mut Lane, tlp: &Tlp) -> bool {
     enter(lane, tlp, 0) == Err(LaneRefusal::NoCredits(Class::Posted))
 }

@@ -29,7 +29,7 @@ pub fn command<T: Threads + Wait + Sync, S: AsStr, R: Read, W: Write, E: Write +
     ensures run { (request : Request) → takes the_app (map S.text words.now) ≡ true → Asks (subcommand_of the_app (map S.text words.now)) request
         → IsDone request (R.remaining reader.old) (R.remaining reader.new) (W.contents writer.old) (W.contents writer.new) result }
 
-    // Words that `clap` takes and that ask for nothing have status 2, or 1 for want of memory, and nothing is written.
+    // Words that `clap` takes and that ask for nothing have status 2, or 1 where out of memory, and nothing is written.
     ensures nothing { takes the_app (map S.text words.now) ≡ true → ((r : Request) → Asks (subcommand_of the_app (map S.text words.now)) r → ⊥)
         → ((result ≡ 1) ⊎ (result ≡ 2)) × (W.contents writer.new ≡ W.contents writer.old) }
 

@@ -3,7 +3,7 @@ use Rattle.std.specs.Prelude.{◌≡◌, ℕ, ◌+◌, ◌%◌, ◌<◌, ◌≤�
 use Rattle.replay_sender.specs.Carried.{Carried}
 use Rattle.replay_sender.specs.Sending.{Sending, with_accepted, with_reserved, released, after_transmit, after_ack, after_nak, from_oldest, trained}
 
--- a call of a sender; one that is refused for want of memory changes nothing and is left out
+-- a call of a sender; one that is refused for being out of memory changes nothing and is left out
 pub data Call : Type 0 where
   Accept : Carried → Call
   Reserve : Call

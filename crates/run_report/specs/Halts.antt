@@ -43,7 +43,7 @@ halt_of (stops.Core r) = halts.Core r
 abbrev pub IsPlan : RunPlan → Type 0
 IsPlan p = IsConfig p.config × (length p.scripts.items ≡ p.config.requesters) × (0 < p.turns)
 
--- what the check of a trace ends a run with: its first flaw, or want of memory
+-- what the check of a trace ends a run with: its first flaw, or being out of memory
 abbrev pub IsFlaw : Option (FlawKind × ℕ) → RunHalt → Type 0
 IsFlaw first (halts.Flaw f) = first ≡ Some (f.kind, f.place)
 IsFlaw first halts.Memory = Unit {0}

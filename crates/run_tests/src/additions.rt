@@ -231,7 +231,7 @@ fn a_gate_ends_the_run(rt: HostRuntime) -> Result<(), Fail> {
     Ok(())
 }
 
-/// The halts of three runs over links that carry nothing, or for want of turns.
+/// The halts of three runs over links that carry nothing, or for lack of turns.
 fn halts_of_turns<R: Threads + Wait + Sync>(
     rt: &R,
     alloc: Global,

@@ -17,7 +17,7 @@ use Rattle.run_engine.specs.Text.{IsPart, halt_text}
 use Rattle.commands.specs.Command.{IsBegun, IsDone, IsRightRequest, AskForNoText, AreRefused}
 use Rattle.commands.proofs.command.on_one_thread.Goals as goal
 
--- words that `clap` takes and that ask for something are refused for want of memory alone
+-- words that `clap` takes and that ask for something are refused for being out of memory alone
 want : (fault : RequestFault) (taken : Type 0) (o : Option (Text × List Row)) (r : Request)
     → WordsFault (λ e. taken → kind_of e ≡ kinds.OutOfMemory) fault → RangeFault ((r : Request) → Asks o r → ⊥) fault
     → taken → Asks o r → IsMemoryFault fault
@@ -49,7 +49,7 @@ nothing-done run u w = record {
     all None = tt
     all (Some input) = ((run input).text, refl)
 
--- nothing written is a beginning of what want of memory writes
+-- nothing written is a beginning of what being out of memory writes
 nothing-counted : (counting : Counting) (w : Option (List ℕ)) → IsPart counting w w
 nothing-counted counting w = record {
   text = halt_text halts.Memory;
