@@ -9,7 +9,7 @@ use clap::{Arg, ArgAction, Command};
 use std::alloc::{AllocError, Global};
 
 const ABOUT: &str =
-    "A shared memory device on a PCI Express fabric. Each subcommand reads lines from standard input and answers on standard output. The exit status is 0 if all went well, 1 if a fault, a flaw or a refusal was told, or if reading, writing or memory failed, and 2 if the words of the command line are wrong.";
+    "A shared memory device on a PCI Express fabric. All subcommands but 'generate' and 'run' read lines from standard input; all answer on standard output. The exit status is 0 if all went well, 1 if a fault, a flaw or a refusal was told, or if reading, writing or memory failed, 2 if the words of the command line are wrong, and 3 if a worker of 'run' had used up its turns.";
 
 const TLP_ABOUT: &str =
     "Answers memory requests and AtomicOps with their completions. Each line of the input has the bytes of one TLP in hexadecimal digits; spaces, empty lines and lines that begin with '#' are ignored. Each answer is a line: the completion, '-' for a posted write, or 'fault' and what is wrong.";
@@ -33,7 +33,7 @@ const GENERATE_ABOUT: &str =
     "Writes a script for 'step': a fabric, and a storm of events of which each happens to it. Operations of all kinds go to a few places of the memory, packets and DLLPs are lost and fail their checks, and whatever may be done next is chosen by numbers from the seed. The same words give the same script on every machine.";
 
 const DRAW_ABOUT: &str =
-    "Draws a picture of a history in SVG, which browsers show. The input is one trace text, as 'check' reads it. The points of the history go from left to right, with a row for each requester and a bar for each request; the first flaw that 'check' finds is marked in red. For a text that can't be read the picture tells the fault.";
+    "Draws a picture of a history in SVG, which browsers show. The input is one trace text, as 'check' reads it. The points of the history go from left to right, with a row for each requester and a bar for each request; the first flaw that 'check' finds is marked in red where it is drawn. For a text that can't be read the picture tells the fault.";
 
 const RUN_ABOUT: &str =
     "Counts with worker threads: each requester adds 1 to one word of the memory, so many times, over links that lose and corrupt packets, and the history is checked. The answer is four lines: 'answered', 'history' and 'word' with their numbers, and 'check ok'; or 'halt' with the name of what ended the run. The exit status is 3 where a worker had used up its turns.";
@@ -75,7 +75,7 @@ const EVENTS_HELP: &str = "How many events happen, 0 to 1000000000.";
 const STORM_REQUESTERS_HELP: &str = "The number of requesters, 1 to 7. The default is 3.";
 
 const BASE_HELP: &str =
-    "The first address of the memory, in 1 to 16 hexadecimal digits. It is a multiple of 80 (128 in decimal), and the memory ends at 2^64 or before. The default is 0.";
+    "The first address of the memory, in 1 to 16 hexadecimal digits. It is a multiple of 80h (128), and the memory ends at 2^64 or before. The default is 0.";
 
 const SIZE_HELP: &str =
     "The number of bytes of the memory, in decimal. It is a multiple of 128 from 128 to 1048576. The default is 4096.";

@@ -123,23 +123,23 @@ const WRONG: [(&[&str], &str); 37] = [
     (&["step", "0"], ""),
     (
         &["tlp", "--base", "40"],
-        "--base is 40: 1 to 16 hexadecimal digits, a multiple of 80, and the memory ends at 2^64 or before",
+        "--base is 40: 1 to 16 hexadecimal digits, a multiple of 80h, and the memory ends at 2^64 or before",
     ),
     (
         &["tlp", "--base", "00000000000000080", "--size", "0"],
-        "--base is 00000000000000080: 1 to 16 hexadecimal digits, a multiple of 80, and the memory ends at 2^64 or before",
+        "--base is 00000000000000080: 1 to 16 hexadecimal digits, a multiple of 80h, and the memory ends at 2^64 or before",
     ),
     (
         &["tlp", "--base", "+80"],
-        "--base is +80: 1 to 16 hexadecimal digits, a multiple of 80, and the memory ends at 2^64 or before",
+        "--base is +80: 1 to 16 hexadecimal digits, a multiple of 80h, and the memory ends at 2^64 or before",
     ),
     (
         &["tlp", "--base", ""],
-        "--base is : 1 to 16 hexadecimal digits, a multiple of 80, and the memory ends at 2^64 or before",
+        "--base is : 1 to 16 hexadecimal digits, a multiple of 80h, and the memory ends at 2^64 or before",
     ),
     (
         &["tlp", "--base", "FFFFFFFFFFFFFF80"],
-        "--base is FFFFFFFFFFFFFF80: 1 to 16 hexadecimal digits, a multiple of 80, and the memory ends at 2^64 or before",
+        "--base is FFFFFFFFFFFFFF80: 1 to 16 hexadecimal digits, a multiple of 80h, and the memory ends at 2^64 or before",
     ),
     (
         &["tlp", "--base", "FFFFFFFFFFFFFF80", "--size", "100"],

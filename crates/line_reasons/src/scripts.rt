@@ -46,7 +46,7 @@ const REQUESTERS: Field = numeral!("a number of requesters", "1 to 7", Radix::De
 
 const BASE: Field = numeral!(
     "a base",
-    "hexadecimal, a multiple of 80, and the memory ends at 2^64 at the latest",
+    "hexadecimal, a multiple of 80h, and the memory ends at 2^64 at the latest",
     Radix::Hexadecimal,
     0,
     u64::MAX

@@ -48,7 +48,7 @@ impl fmt::Display for RefusedValue<'_> {
         match option {
             ValueOption::Base => write!(
                 f,
-                ": 1 to 16 hexadecimal digits, a multiple of 80, and the memory ends at 2^64 or before"
+                ": 1 to 16 hexadecimal digits, a multiple of 80h, and the memory ends at 2^64 or before"
             ),
             ValueOption::Block => write!(f, ": 64 or 128"),
             ValueOption::To => write!(f, ": {allowed}, at least --from"),

@@ -71,7 +71,7 @@ const ROWS: [(Engine, &str, &str); 44] = [
     (
         Engine::Step,
         "fabric 1 FFFFFFFFFFFFFF80 4096\n",
-        "pciex: line 1, column 10: 'FFFFFFFFFFFFFF80' where a base is expected (hexadecimal, a multiple of 80, and the memory ends at 2^64 at the latest)\n",
+        "pciex: line 1, column 10: 'FFFFFFFFFFFFFF80' where a base is expected (hexadecimal, a multiple of 80h, and the memory ends at 2^64 at the latest)\n",
     ),
     (
         Engine::Step,
@@ -196,7 +196,7 @@ const ROWS: [(Engine, &str, &str); 44] = [
     (
         Engine::Check,
         "pciex-trace 1\nmemory 40 4096\n",
-        "pciex: line 2, column 8: '40' where a base is expected (hexadecimal, a multiple of 80, and the memory ends at 2^64 at the latest)\n",
+        "pciex: line 2, column 8: '40' where a base is expected (hexadecimal, a multiple of 80h, and the memory ends at 2^64 at the latest)\n",
     ),
     (
         Engine::Check,

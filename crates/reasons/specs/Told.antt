@@ -1,5 +1,5 @@
 -- Of which line of a trace's text a reason is told, and when.
-use Rattle.std.specs.Prelude.{ℕ, ◌+◌, ◌-◌, ◌^◌, ◌==◌, nat_le, min, Bool, true, if◌then◌else◌, List, [], ◌∷◌, ◌++◌, Option, Some, None}
+use Rattle.std.specs.Prelude.{ℕ, ◌≡◌, ◌+◌, ◌-◌, ◌^◌, ◌<◌, ◌==◌, nat_le, min, Bool, true, if◌then◌else◌, List, [], ◌∷◌, ◌++◌, length, Option, Some, None, slice_get}
 use Rattle.history_check.specs.declared.flaws.FlawKind.{FlawKind}
 use Rattle.flaw_places.specs.Places.{is_of_entry}
 
@@ -45,6 +45,21 @@ further (k ∷ ks) n = further ks (if nat_le k n then plus n 1 else n)
 -- the number of the nth line that isn't skipped, from 0
 abbrev pub number_at : Numbered → ℕ → ℕ
 number_at s n = further s.skipped (plus n 1)
+
+-- after these lines, in their order
+abbrev pub numbered_all : Numbered → List (List ℕ) → Numbered
+numbered_all s [] = s
+numbered_all s (line ∷ rest) = numbered_all (numbered s line) rest
+
+-- the numbers of the lines that aren't skipped, where the first line has this number
+abbrev pub unskipped : ℕ → List (List ℕ) → List ℕ
+unskipped number [] = []
+unskipped number (line ∷ rest) = if is_skipped line then unskipped (number + 1) rest else number ∷ unskipped (number + 1) rest
+
+-- of the lines of a text, numbered from 1, the nth one that isn't skipped has the number that is told
+abbrev pub LinesHaveTheirNumbers : Type 0
+LinesHaveTheirNumbers = (lines : List (List ℕ)) (n number : ℕ) → length lines < 2 ^ 64
+    → slice_get (unskipped 1 lines) n ≡ Some number → number_at (numbered_all nothing_numbered lines) n ≡ number
 
 -- the head and the memory's line stand before the records
 abbrev pub record_line : Numbered → ℕ → ℕ

@@ -6,6 +6,7 @@
 #![tactic(auto)]
 
 mod flaws;
+pub mod laws;
 mod trace_lines;
 mod traces;
 

@@ -10,11 +10,11 @@ use thiserror::Error;
 pub enum ReadFaultKind {
     /// The first line is not `pciex-trace 1` or `pciex-trace 2`, or there is none.
     Head,
-    /// A line has no known form, more than 512 bytes or a value out of range, or the memory's line is
-    /// missing.
+    /// A line after the head has no known form, more than 512 bytes or a value out of range, wherever it
+    /// stands; or the text ends before the memory's line.
     Line,
-    /// A line is in the wrong section, the line `history` or `end` is missing, or a line follows
-    /// `end`.
+    /// A line of a known form isn't due: another than the memory's after the head, or one of another
+    /// section, or any after `end`; or the text ends before `history` or before `end`.
     Section,
     /// A growth was refused: nothing is known of the text from that line on.
     Memory,

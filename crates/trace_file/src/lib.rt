@@ -10,8 +10,8 @@
 //! end
 //! ```
 //!
-//! Fields are parted by one space, bases are hexadecimal, all other numbers decimal, none with leading
-//! zeros. A block is 64 or 128. Requesters are 1 to 7, and a request's number is below 2^32 - 1. The
+//! Fields are parted by one space. Bases are hexadecimal, and all other numbers but those of operations
+//! decimal, none with leading zeros. A block is 64 or 128. Requesters are 1 to 7, and a request's number is below 2^32 - 1. The
 //! `sub` and `ans` lines come in the order of events, the `ent` lines in the history's order. Empty
 //! lines and lines that begin with `#` are skipped, and counted.
 //!
