@@ -1,19 +1,13 @@
 -- The numbers of lines: what each skipped line adds, and what it leaves.
 use Rattle.std.proofs.Common.{◌≡◌, ℕ, zero, suc, ◌+◌, ◌-◌, ◌^◌, ◌<◌, ◌≤◌, Bool, true, false, List, [], ◌∷◌, ◌++◌, length, Option, Some, None, refl, sym, ap, subst, ◌∙◌, arith}
 use Rattle.std.specs.Prelude.{nat_le, min, slice_get, if◌then◌else◌}
-use Rattle.std.proofs.lemmas.Bool.Decides.{nat_tests}
+use Rattle.std.proofs.lemmas.Bool.{le-leb, lt-leb}
 use Rattle.std.proofs.lemmas.Option.{slice_get_within}
 use Rattle.std.proofs.Math.Nat.{min-eq_left}
 use Rattle.reasons.specs.Told.{Numbered, nothing_numbered, is_skipped, numbered, numbered_all, plus, further, unskipped, LinesHaveTheirNumbers}
 
 small : (a b : ℕ) → a + b < 2 ^ 64 → plus a b ≡ a + b
 small a b h = min-eq_left (omega (arith, h))
-
-not_le : (x y : ℕ) → y < x → nat_le x y ≡ false
-not_le x y h = grind (arith, nat_tests)
-
-is_le : (x y : ℕ) → x ≤ y → nat_le x y ≡ true
-is_le x y h = grind (arith, nat_tests)
 
 abbrev number_of : Option ℕ → ℕ
 number_of (Some n) = n
@@ -26,10 +20,10 @@ further-push [] k n = refl
 further-push (j ∷ ks) k n = further-push ks k (if nat_le j n then plus n 1 else n)
 
 stays : (ks : List ℕ) (k n m : ℕ) → further ks n ≡ m → m < k → further (ks ++ k ∷ []) n ≡ m
-stays ks k n m e h = further-push ks k n ∙ rw (e, not_le k m h) refl
+stays ks k n m e h = further-push ks k n ∙ rw (e, lt-leb k m h) refl
 
 moves : (ks : List ℕ) (k n m : ℕ) → further ks n ≡ m → k ≤ m → m + 1 < 2 ^ 64 → further (ks ++ k ∷ []) n ≡ m + 1
-moves ks k n m e h w = further-push ks k n ∙ rw (e, is_le k m h) (small m 1 w)
+moves ks k n m e h w = further-push ks k n ∙ rw (e, le-leb k m h) (small m 1 w)
 
 -- ---- one line more
 
