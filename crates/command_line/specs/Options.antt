@@ -66,7 +66,7 @@ pub record AsksTlp (rows : List Row) (base size block : ℕ) : Type 0 where
   pub base_read : WritesBase (first_of (codes "base") rows) base
   pub size_read : WritesNumber 4096 (first_of (codes "size") rows) size
   pub block_read : WritesNumber 64 (first_of (codes "block") rows) block
-  pub memory : IsWithinLimits base size block
+  pub memory : IsWithinLimits (record { base = base; size = size; block = block })
 
 -- the values of `draw` ask for the points from one to another, numbers of 64 bits
 pub record AsksDraw (rows : List Row) (from to : ℕ) : Type 0 where

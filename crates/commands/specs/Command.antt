@@ -54,7 +54,7 @@ IsRight (outcomes.Run counting is_told) = IsCounting counting
 
 -- the numbers of what is asked for are in their ranges
 abbrev pub IsRightRequest : Request → Type 0
-IsRightRequest (Tlp base size block) = IsWithinLimits base size block
+IsRightRequest (Tlp base size block) = IsWithinLimits (record { base = base; size = size; block = block })
 IsRightRequest (Generate storm) = IsStorm storm
 IsRightRequest (Run counting is_told) = IsCounting counting
 IsRightRequest request = Unit {0}

@@ -10,8 +10,8 @@ use Rattle.seq_memory.specs.History.{State, bytes_of}
 use Rattle.completer_core.specs.Completion.{completion_of}
 
 -- the entry of a request: its requester is the port of its Requester ID
-abbrev pub entry_of : Packet → ℕ → Op → Entry
-entry_of t number op = record { requester = t.requester / 256; number = number; op = op }
+abbrev pub request_entry : Packet → ℕ → Op → Entry
+request_entry t number op = record { requester = t.requester / 256; number = number; op = op }
 
 -- the history with one more entry
 abbrev pub with_entry : State → Entry → State
@@ -19,7 +19,7 @@ with_entry s e = record s { entries = s.entries ++ e ∷ [] }
 
 -- the memory after the request with that number; a packet that asks for nothing changes nothing
 abbrev pub after_serving : State → Packet → ℕ → State
-after_serving s t number = option_map_or (λ op. with_entry s (entry_of t number op)) (op_of t) s
+after_serving s t number = option_map_or (λ op. with_entry s (request_entry t number op)) (op_of t) s
 
 -- the bytes, from an address on, after the request; a packet that asks for nothing changes nothing
 abbrev pub bytes_after : ℕ → ℕ → List ℕ → Packet → List ℕ

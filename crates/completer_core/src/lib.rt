@@ -7,4 +7,4 @@ pub mod laws;
 mod serving;
 mod span;
 
-pub use serving::{answer, serve, shape};
+pub use serving::{answer, need_to_answer, serve};

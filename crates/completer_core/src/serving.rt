@@ -1,8 +1,6 @@
 //! Requests at the memory.
 ghost use Rattle.std.specs.Prelude.{◌≡◌, IfOk, OnOk, OnErr, option_map};
-ghost use Rattle.tlp_core.specs.Packet.{Packet};
 ghost use Rattle.seq_memory.specs.Limits.{IsBlock};
-ghost use Rattle.seq_memory.specs.History.{State, bytes_of};
 ghost use Rattle.fc_credit.specs.Needs.{need_of};
 ghost use Rattle.completer_core.specs.Serving.{after_serving, completion_to, bytes_after, completion_over};
 
@@ -51,7 +49,7 @@ pub fn answer(base: u64, block: u16, bytes: &mut [u8], request: &Tlp) -> Option<
 
 /// What the request's completion would take of the credits, if it acted now; none for a posted
 /// write (section 2.6.1). Takes no memory.
-pub fn shape(memory: &Memory, request: &Tlp) -> Option<Need>
+pub fn need_to_answer(memory: &Memory, request: &Tlp) -> Option<Need>
     ensures { result ≡ option_map need_of (completion_to memory.now request.now) }
 {
     let op = op_of(request)?;

@@ -1,5 +1,5 @@
 //! Byte Count and Lower Address of a read, from its byte enables.
-ghost use Rattle.std.specs.Prelude.{◌≡◌, ◌≢◌, ◌≤◌, ◌<◌, ◌*◌, ◌%◌, IsTrue, reverse};
+ghost use Rattle.std.specs.Prelude.{◌≡◌, ◌≤◌, ◌<◌, ◌*◌, ◌%◌, IsTrue, reverse};
 ghost use Rattle.tlp_core.specs.Enables.{dw_enables, enables, are_enables};
 ghost use Rattle.completer_core.specs.Span.{lead, span, low_address};
 

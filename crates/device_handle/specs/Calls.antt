@@ -11,7 +11,7 @@ use Rattle.seq_memory.specs.declared.Entry.{Entry}
 use Rattle.seq_memory.specs.History.{State, bytes_of}
 use Rattle.seq_memory.specs.Limits.{is_size, is_base}
 use Rattle.completer_core.specs.Serving.{after_serving, completion_to}
-use Rattle.trace_text.specs.Texts.{op_text}
+use Rattle.operation_text.specs.Texts.{op_text}
 use Rattle.caller_room.specs.declared.TheConstants.{SMALL_ROOM, WRONG_BLOCK, NO_REQUEST, WRONG_SIZE, WRONG_BASE, NO_ENTRY}
 use Rattle.caller_room.specs.Room.{filled, Told, untold, told}
 

@@ -8,8 +8,8 @@ ghost use Rattle.device_handle.specs.Calls.{entry_text, entry_told, bytes_told};
 use crate::slot::{Slot, close, open};
 use arrayvec::ArrayString;
 use caller_room::{LINE_ROOM, NO_ENTRY, SMALL_ROOM, fill};
+use operation_text::{write_decimal, write_op};
 use seq_memory::{Entry, Memory};
-use trace_text::{write_decimal, write_op};
 
 /// Writes an entry.
 fn write_entry(entry: &Entry, text: &mut ArrayString<512>)

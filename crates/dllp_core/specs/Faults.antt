@@ -1,5 +1,5 @@
 -- Why bytes are no DLLP, in the order in which it is told.
-use Rattle.std.specs.Prelude.{ℕ, Bool, false, not, ◌||◌, ◌==◌, List, [], ◌∷◌, length, slice_index, Option, Some, None, is_none, find, Result, Ok, Err}
+use Rattle.std.specs.Prelude.{ℕ, Bool, false, not, ◌||◌, ◌==◌, List, [], ◌∷◌, length, slice_index, Option, Some, None, is_none, find, Result, Ok, Err, codes}
 use Rattle.dllp_core.specs.declared.packet.Kind.{Kind}
 use Rattle.dllp_core.specs.declared.packet.Kind.TheVariants as kinds
 use Rattle.dllp_core.specs.declared.packet.Dllp.{Dllp}
@@ -13,6 +13,11 @@ abbrev pub number_of : DllpFault → ℕ
 number_of faults.Short = 1
 number_of faults.Kind = 2
 number_of faults.Scaled = 3
+
+abbrev pub name_of : DllpFault → List ℕ
+name_of faults.Short = codes "Short"
+name_of faults.Kind = codes "Kind"
+name_of faults.Scaled = codes "Scaled"
 
 -- only an UpdateFC has scale bits
 abbrev pub is_scaled : Option Kind → List ℕ → Bool

@@ -1,7 +1,7 @@
 //! Bytes to DLLPs.
-ghost use Rattle.std.specs.Prelude.{◌≡◌, ◌+◌, ◌*◌, ◌/◌, ◌%◌, ◌<◌, ◌||◌, ◌==◌, not, ℕ, length, slice_index, IfOk, IfErr};
+ghost use Rattle.std.specs.Prelude.{◌≡◌, ◌+◌, ◌*◌, ◌/◌, ◌%◌, ◌<◌, ◌||◌, length, IfOk, IfErr};
 ghost use Rattle.dllp_core.specs.declared.packet.Dllp.{Dllp};
-ghost use Rattle.dllp_core.specs.Layout.{kind_of, low_twelve, header_scale, data_scale, header_credits, Spells, FitsFields};
+ghost use Rattle.dllp_core.specs.Layout.{kind_of, low_twelve, Spells, FitsFields};
 ghost use Rattle.dllp_core.specs.Faults.{first_fault, reading};
 
 use crate::fault::DllpFault;

@@ -1,5 +1,5 @@
 //! DLLPs to bytes.
-ghost use Rattle.std.specs.Prelude.{◌≡◌, ◌/◌, ◌%◌, ◌<◌, [], ◌∷◌, ℕ};
+ghost use Rattle.std.specs.Prelude.{◌≡◌, ◌/◌, ◌%◌, ◌<◌, [], ◌∷◌};
 ghost use Rattle.dllp_core.specs.Layout.{update_code, canonical, Spells, FitsDataFC};
 
 use crate::packet::{Class, Dllp};

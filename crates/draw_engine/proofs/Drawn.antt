@@ -12,8 +12,8 @@ use Rattle.line_engine.specs.Lines.{lines_of, bare, said}
 use Rattle.line_engine.specs.Run.{Answer, IsAnswer, Run, after_line, new_run, run_of}
 use Rattle.svg_text.specs.Shapes.{Shape, page_text}
 use Rattle.svg_text.specs.Xml.{IsDocument}
-use Rattle.trace_file.specs.declared.fault.ReadFault.{ReadFault}
-use Rattle.trace_file.specs.Reading.{nothing_read, at_end}
+use Rattle.trace_format.specs.declared.fault.ReadFault.{ReadFault}
+use Rattle.trace_format.specs.Reading.{nothing_read, at_end}
 use Rattle.draw_engine.specs.Draw.{Drawing, flaw_of, shows, drawn, draw_responses, out_draw, WritesDocument}
 
 -- a line more, and nothing is written

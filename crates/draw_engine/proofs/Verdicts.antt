@@ -1,5 +1,5 @@
 -- What is drawn is what `check` tells.
-use Rattle.std.proofs.Common.{append_assoc, ◌≡◌, ◌∙◌, ◌+◌, ◌++◌, ℕ, Bool, true, false, List, [], ◌∷◌, length, sym, ap, refl, subst, drop, fold, cond, Result, Ok, Err}
+use Rattle.std.proofs.Common.{◌≡◌, ◌∙◌, ◌+◌, ◌++◌, ℕ, Bool, true, false, List, [], ◌∷◌, length, sym, ap, refl, subst, drop, fold, cond, Result, Ok, Err}
 use Rattle.std.proofs.lemmas.List.{append-nil}
 use Rattle.std.specs.Prelude.{nat_lt, codes, Option, Some, None, is_some}
 use Rattle.history_check.specs.declared.flaws.FlawKind.{FlawKind}
@@ -11,8 +11,8 @@ use Rattle.history_picture.specs.Words.{flaw_words}
 use Rattle.history_picture.specs.Picture as picture
 use Rattle.line_engine.specs.Lines.{lines_of, bare, said}
 use Rattle.line_engine.specs.Run.{Run, with_answer, after_line, new_run}
-use Rattle.trace_file.specs.declared.fault.ReadFault.{ReadFault}
-use Rattle.trace_file.specs.Reading as read
+use Rattle.trace_format.specs.declared.fault.ReadFault.{ReadFault}
+use Rattle.trace_format.specs.Reading as read
 use Rattle.trace_engine.specs.Check.{fault_line, flaw_line, judged, checked, check_responses, out_check}
 use Rattle.draw_engine.specs.Draw.{Drawing, shows, drawn, flaw_of, draw_responses, out_draw, SaysTheSame}
 
@@ -51,7 +51,7 @@ along w [] a b s = s
 along w (l ∷ ls) a b s = along w ls (after_line draw_responses a l) (after_line check_responses b l) (step_by (nat_lt 512 (length (bare l))) w a b (said l) s)
 
 line_same : (kind : FlawKind) (place : ℕ) → flaw_line kind place ≡ flaw_words (record { kind = kind; place = place })
-line_same kind place = simp append_assoc
+line_same kind place = refl
 
 -- the picture of a trace, by its first flaw
 of_flaw : (w : Window) (c : Claim) (o : Option (FlawKind × ℕ)) (d : Drawing) (a : Run Drawing) (b : Run read.Reading) → IsAlong w a b

@@ -1,11 +1,11 @@
 //! The subcommand `draw`: a picture of a history.
-ghost use Rattle.std.specs.Prelude.{◌≡◌, ◌++◌, [], true, false, Some, None, Ok, Err, IfOk, IfErr, OnErr, OnOk, is_some};
+ghost use Rattle.std.specs.Prelude.{◌≡◌, ◌++◌, true, false, Some, None, Ok, Err, IfOk, IfErr, OnErr, OnOk, is_some};
 ghost use Rattle.history_check.specs.Claim.{claim_of};
 ghost use Rattle.history_check.specs.Flaws.{first_flaw};
 ghost use Rattle.history_picture.specs.Picture.{picture_text, line_text};
-ghost use Rattle.trace_file.specs.Reading.{nothing_read, at_end};
+ghost use Rattle.trace_format.specs.Reading.{nothing_read, at_end};
 ghost use Rattle.trace_engine.specs.Check.{fault_line};
-ghost use Rattle.line_engine.specs.Run.{IsAnswer, IsWhole, IsPart};
+ghost use Rattle.line_engine.specs.Run.{IsWhole, IsPart};
 ghost use Rattle.draw_engine.specs.Draw.{Drawing, WritesDocument, flaw_of, out_draw};
 
 use crate::laws::pictures_are_well_formed;
@@ -19,7 +19,7 @@ use std::io::{Read, Write};
 use std::marker::Model;
 use std::mem;
 use trace_engine::write_fault;
-use trace_file::{ReadFault, TraceReader};
+use trace_format::{ReadFault, TraceReader};
 
 /// The first flaw of the trace and its history, if there is one.
 fn flaw_in(alloc: Global, trace: &Trace, history: &[Entry]) -> Result<Option<Flaw>, AllocError>

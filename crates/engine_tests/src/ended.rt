@@ -87,7 +87,8 @@ const ENDED: [(&str, &str); 51] = [
         "submit 1 read 40 1 F 0\nfabric 1 0 4096\n",
         "fault 1 Script\n",
     ),
-    // Comments and empty lines are skipped and counted; a line of a space, or one with a space before its comment, is none.
+    // Comments and empty lines are skipped and counted; a line of a space, or one with a space before its comment, is
+    // none.
     (
         "# a\n\nfabric 1 0 4096\n\r\n#b\ntimer up1\n",
         "refused 6 Idle\n",

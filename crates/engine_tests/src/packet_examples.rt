@@ -1,4 +1,5 @@
-//! The file of the folder `examples/` for `encode`, and what it prints: `examples/check.sh` says whether they are the same.
+//! The file of the folder `examples/` for `encode`, and what it prints: `examples/check.sh` says whether they are the
+//! same.
 use crate::packets::encodes;
 
 const WORDS: &str = "\

@@ -1,4 +1,5 @@
-//! The files of the folder `examples/` for `step`, and what they print: `examples/check.sh` says whether they are the same.
+//! The files of the folder `examples/` for `step`, and what they print: `examples/check.sh` says whether they are the
+//! same.
 use crate::steps::prints;
 
 const FIRST_SCRIPT: &str = "\

@@ -15,7 +15,7 @@ use Rattle.lane_core.specs.declared.packet.Fate.{Fate}
 use Rattle.lane_core.specs.declared.packet.DllpKind.{DllpKind}
 use Rattle.lane_core.specs.declared.packet.LaneRefusal.TheVariants.{NoCredits, WindowFull}
 use Rattle.lane_core.specs.Steps.{Ends, Incoming, Outgoing, entered, after_take}
-use Rattle.lane_core.specs.Calls.{happens}
+use Rattle.lane_core.specs.Calls.{after_call}
 use Rattle.fabric_laws.specs.Fabric.{Fabric}
 use Rattle.fabric_core.specs.declared.event.Event.{Event}
 use Rattle.fabric_core.specs.declared.event.Event.TheVariants as events
@@ -42,7 +42,7 @@ some_is x y e = cc
 -- ---- calls of a link
 
 abbrev seen_by : Ends → LinkEvent → Seen → Type 0
-seen_by e event what = link_answer e event ≡ Ok (what, happens e (call_of event))
+seen_by e event what = link_answer e event ≡ Ok (what, after_call e (call_of event))
 
 transmits : (e : Ends) (what : Seen) → IsSeen e links.Transmit what → seen_by e links.Transmit what
 transmits e (seen.Submitted n) h = absurd h
@@ -72,7 +72,7 @@ sends : (e : Ends) (kind : DllpKind) (what : Seen) → IsSeen e (links.SendDllp 
 sends e kind (seen.Submitted n) h = absurd h
 sends e kind (seen.Sent n) h = absurd h
 sends e kind (seen.Delivered a) h = absurd h
-sends e kind (seen.SentDllp d) h = ap (λ x. Ok (seen.SentDllp x, happens e (call_of (links.SendDllp kind)))) (sym h)
+sends e kind (seen.SentDllp d) h = ap (λ x. Ok (seen.SentDllp x, after_call e (call_of (links.SendDllp kind)))) (sym h)
 sends e kind (seen.SeenDllp d) h = absurd h
 sends e kind (seen.Back n) h = absurd h
 sends e kind seen.Retrained h = absurd h
@@ -111,7 +111,7 @@ times_out e (seen.Sent n) h = absurd h
 times_out e (seen.Delivered a) h = absurd h
 times_out e (seen.SentDllp d) h = absurd h
 times_out e (seen.SeenDllp d) h = absurd h
-times_out e (seen.Back n) h = moved e.sender.sending.place n (happens e (call_of links.Timer)) h.0 h.1
+times_out e (seen.Back n) h = moved e.sender.sending.place n (after_call e (call_of links.Timer)) h.0 h.1
 times_out e seen.Retrained h = absurd h
 times_out e (seen.To n) h = absurd h
 times_out e (seen.At n) h = absurd h
@@ -124,7 +124,7 @@ retrains e (seen.Delivered a) h = absurd h
 retrains e (seen.SentDllp d) h = absurd h
 retrains e (seen.SeenDllp d) h = absurd h
 retrains e (seen.Back n) h = absurd h
-retrains e seen.Retrained h = ap (retrained_or_idle (happens e (call_of links.Retrained))) h
+retrains e seen.Retrained h = ap (retrained_or_idle (after_call e (call_of links.Retrained))) h
 retrains e (seen.To n) h = absurd h
 retrains e (seen.At n) h = absurd h
 retrains e (seen.Collected a) h = absurd h

@@ -16,7 +16,7 @@ use Rattle.lane_core.specs.declared.packet.DllpKind.{DllpKind}
 use Rattle.lane_core.specs.declared.packet.LaneRefusal.{LaneRefusal}
 use Rattle.lane_core.specs.declared.packet.LaneRefusal.TheVariants.{NoCredits, WindowFull, Memory}
 use Rattle.lane_core.specs.Steps.{Ends, Incoming, Outgoing, entered, delivered, dllp_seen}
-use Rattle.lane_core.specs.Calls.{happens}
+use Rattle.lane_core.specs.Calls.{after_call}
 use Rattle.lane_core.specs.Refusals.{LacksRoom}
 use Rattle.fabric_laws.specs.Fabric.{Fabric}
 use Rattle.fabric_core.specs.declared.event.Event.{Event}
@@ -103,7 +103,7 @@ zero_is n e = grind (arith, nat_tests)
 
 times_out : (e : Ends) (r : Refusal) → LinkRefused e links.Timer r → IsTold r → link_answer e links.Timer ≡ Err r
 times_out e refusals.NoSuchPart h k = absurd h
-times_out e refusals.Idle h k = ap (back_or_idle e.sender.sending.place (happens e (call_of links.Timer))) (zero_is e.sender.sending.place h)
+times_out e refusals.Idle h k = ap (back_or_idle e.sender.sending.place (after_call e (call_of links.Timer))) (zero_is e.sender.sending.place h)
 times_out e refusals.NotTakeable h k = absurd h
 times_out e (refusals.Submit x) h k = absurd h
 times_out e (refusals.Lane (NoCredits c)) h k = absurd h
@@ -116,7 +116,7 @@ times_out e (refusals.Route x) h k = absurd h
 
 retrains : (e : Ends) (r : Refusal) → LinkRefused e links.Retrained r → IsTold r → link_answer e links.Retrained ≡ Err r
 retrains e refusals.NoSuchPart h k = absurd h
-retrains e refusals.Idle h k = ap (retrained_or_idle (happens e (call_of links.Retrained))) h
+retrains e refusals.Idle h k = ap (retrained_or_idle (after_call e (call_of links.Retrained))) h
 retrains e refusals.NotTakeable h k = absurd h
 retrains e (refusals.Submit x) h k = absurd h
 retrains e (refusals.Lane (NoCredits c)) h k = absurd h

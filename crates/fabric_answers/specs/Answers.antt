@@ -19,7 +19,7 @@ use Rattle.lane_core.specs.declared.packet.Arrival.{Arrival}
 use Rattle.lane_core.specs.declared.packet.DllpSeen.{DllpSeen}
 use Rattle.lane_core.specs.declared.packet.LaneRefusal.TheVariants.{NoCredits, WindowFull, Memory}
 use Rattle.lane_core.specs.Steps.{Ends, Incoming, Outgoing, entered, transmitted, delivered, dllp_of, dllp_seen, after_take}
-use Rattle.lane_core.specs.Calls.{happens}
+use Rattle.lane_core.specs.Calls.{after_call}
 use Rattle.fabric_laws.specs.Fabric.{Fabric}
 use Rattle.fabric_core.specs.declared.event.Event.{Event}
 use Rattle.fabric_core.specs.declared.event.Event.TheVariants as events
@@ -52,26 +52,26 @@ part parts (suc place) = slice_get parts place
 
 abbrev pub sent : Ends → Option Seq12 → Answered Ends
 sent e None = Err refusals.Idle
-sent e (Some n) = Ok (seen.Sent n, happens e (call_of links.Transmit))
+sent e (Some n) = Ok (seen.Sent n, after_call e (call_of links.Transmit))
 
 abbrev pub arrived : Ends → LinkEvent → Option Arrival → Answered Ends
 arrived e event None = Err refusals.Idle
-arrived e event (Some a) = Ok (seen.Delivered a, happens e (call_of event))
+arrived e event (Some a) = Ok (seen.Delivered a, after_call e (call_of event))
 
 abbrev pub dllp_arrived : Ends → LinkEvent → Result (Option DllpSeen) AckFault → Answered Ends
 dllp_arrived e event (Ok None) = Err refusals.Idle
-dllp_arrived e event (Ok (Some what)) = Ok (seen.SeenDllp what, happens e (call_of event))
+dllp_arrived e event (Ok (Some what)) = Ok (seen.SeenDllp what, after_call e (call_of event))
 dllp_arrived e event (Err fault) = Err (refusals.Protocol fault)
 
 abbrev pub link_answer : Ends → LinkEvent → Answered Ends
 link_answer e links.Transmit = sent e (transmitted e.sender)
 link_answer e (links.Deliver fate) = arrived e (links.Deliver fate) (delivered e.forward e.receiver fate)
-link_answer e (links.SendDllp kind) = Ok (seen.SentDllp (dllp_of e.receiver kind), happens e (call_of (links.SendDllp kind)))
+link_answer e (links.SendDllp kind) = Ok (seen.SentDllp (dllp_of e.receiver kind), after_call e (call_of (links.SendDllp kind)))
 link_answer e (links.DeliverDllp fate) = dllp_arrived e (links.DeliverDllp fate) (dllp_seen e.back e.sender fate)
 link_answer e links.Timer =
-    if e.sender.sending.place == 0 then Err refusals.Idle else Ok (seen.Back e.sender.sending.place, happens e (call_of links.Timer))
+    if e.sender.sending.place == 0 then Err refusals.Idle else Ok (seen.Back e.sender.sending.place, after_call e (call_of links.Timer))
 link_answer e links.Retrained =
-    if e.sender.sending.stopped then Ok (seen.Retrained, happens e (call_of links.Retrained)) else Err refusals.Idle
+    if e.sender.sending.stopped then Ok (seen.Retrained, after_call e (call_of links.Retrained)) else Err refusals.Idle
 
 abbrev pub link_in : List Ends → ℕ → LinkEvent → Option Ends → Answered (List Ends)
 link_in parts port event None = Err refusals.NoSuchPart

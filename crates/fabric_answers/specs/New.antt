@@ -1,4 +1,5 @@
--- What is answered where a fabric is to be made, where there is memory for it: the fabric of a configuration, or its first fault.
+-- What is answered where a fabric is to be made, where there is memory for it: the fabric of a configuration, or its
+-- first fault.
 use Rattle.std.specs.Prelude.{ℕ, zero, suc, ◌+◌, ◌%◌, ◌^◌, ◌==◌, nat_le, Bool, not, ◌&&◌, ◌||◌, if◌then◌else◌, List, [], ◌∷◌, replicate, Option, Some, None}
 use Rattle.fc_credit.specs.declared.limits.LaneCredits.{LaneCredits}
 use Rattle.requester_core.specs.Requesting.{Requesting, fresh}

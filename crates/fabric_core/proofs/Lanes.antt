@@ -7,7 +7,7 @@ use Rattle.fc_credit.specs.declared.limits.LaneCredits.{LaneCredits}
 use Rattle.fc_credit.specs.Needs.{need_of}
 use Rattle.vc_queue.specs.Queue.{is_takeable}
 use Rattle.lane_core.specs.Steps.{Ends, Incoming, Outgoing, may_enter, entered, after_take}
-use Rattle.lane_core.specs.Calls.{Call, Enter, Take, IsCall, happens, content, content_after, IsRightWith, IsRight}
+use Rattle.lane_core.specs.Calls.{Call, Enter, Take, IsCall, after_call, content, content_after, IsRightWith, IsRight}
 pub use Rattle.fabric_laws.specs.ListFacts.{each_at, get_before}
 use Rattle.fabric_laws.specs.Events.{IsTakenAt, are_entered}
 use Rattle.fabric_core.specs.declared.event.LinkEvent.{LinkEvent}
@@ -16,10 +16,10 @@ use Rattle.fabric_core.specs.declared.event.Seen.{Seen}
 use Rattle.fabric_core.specs.Footprints.{Enters, EntersIfAny, IsAt, Links, call_of}
 
 abbrev pub KeepsRight : Type 0
-KeepsRight = (credits : LaneCredits) (e : Ends) (call : Call) → IsCall call → IsRightWith credits e → IsRightWith credits (happens e call)
+KeepsRight = (credits : LaneCredits) (e : Ends) (call : Call) → IsCall call → IsRightWith credits e → IsRightWith credits (after_call e call)
 
 abbrev pub KeepsContent : Type 0
-KeepsContent = (e : Ends) (call : Call) → IsCall call → IsRight e → content (happens e call) ≡ content_after e call
+KeepsContent = (e : Ends) (call : Call) → IsCall call → IsRight e → content (after_call e call) ≡ content_after e call
 
 -- ---- lists
 

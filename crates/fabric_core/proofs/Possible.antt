@@ -29,7 +29,7 @@ use Rattle.fabric_core.specs.declared.event.LinkEvent.{LinkEvent}
 use Rattle.fabric_core.specs.declared.event.LinkEvent.TheVariants as links
 use Rattle.fabric_core.specs.declared.fault.Refusal.{Refusal}
 use Rattle.fabric_core.specs.declared.fault.Refusal.TheVariants as refusals
-use Rattle.fabric_core.specs.Footprints.{IsAt, IsRoutedAs, LinkRefused}
+use Rattle.fabric_core.specs.Footprints.{IsAt, LinkRefused}
 use Rattle.fabric_core.specs.Steps.{LinkAtRefused, ForwardUpRefusedBy, IsWithoutLane, Refused}
 use Rattle.fabric_core.specs.Kept.{IsSoundFabric, IsPossible, down_credits}
 use Rattle.fabric_core.proofs.Lanes.{each_at, get_before, right}

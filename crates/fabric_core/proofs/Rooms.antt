@@ -1,18 +1,15 @@
 -- Room in a lane, and calls of a link that change nothing.
-use Rattle.std.proofs.Common.{ℕ, ◌≡◌, ◌↔◌, ◌<◌, ◌≤◌, Bool, true, false, IsTrue, List, [], ◌∷◌, length, take, drop, zero, suc, refl, sym, ap, ◌∙◌, subst, arith, Option, Some, None, Result, Ok, Err, IsOk, OnOk}
+use Rattle.std.proofs.Common.{ℕ, ◌≡◌, ◌↔◌, ◌<◌, Bool, true, false, IsTrue, List, [], ◌∷◌, length, refl, sym, ◌∙◌, arith, Option, Some, None, Result, Ok, Err, IsOk, OnOk}
 use Rattle.std.specs.Prelude.{slice_get, nat_lt, ◌&&◌, option_map, if◌then◌else◌}
-use Rattle.std.proofs.Math.Nat.{lt_of_not-le}
 use Rattle.std.proofs.lemmas.Bool.Decides.{nat_tests}
 use Rattle.fc_credit.specs.declared.needs.Need.{Need}
 use Rattle.fc_credit.specs.Credits.{gate_covers}
 use Rattle.lane_core.specs.declared.packet.LaneRefusal.{LaneRefusal}
-use Rattle.lane_core.specs.declared.packet.LaneRefusal.TheVariants.{NoCredits, WindowFull, Memory}
 use Rattle.tlp_core.specs.Packet.{Packet}
 use Rattle.tlp_core.specs.Layout.{Spells, canonical}
 use Rattle.dllp_core.specs.declared.packet.Dllp.{Dllp}
 use Rattle.dllp_core.specs.declared.packet.Dllp.TheVariants.{Ack, Nak, Update}
-use Rattle.dllp_core.specs.declared.packet.Class.{Class}
-use Rattle.vc_queue.specs.Queue.{Item, first_passes, is_takeable}
+use Rattle.vc_queue.specs.Queue.{Item, is_takeable}
 use Rattle.replay_sender.specs.Sending.{is_outstanding}
 use Rattle.replay_sender.specs.declared.fault.AckFault.{AckFault}
 use Rattle.replay_sender.specs.declared.fault.AckFault.TheVariants.{NotOutstanding}

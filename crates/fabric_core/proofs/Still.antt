@@ -4,16 +4,16 @@ use Rattle.std.specs.Prelude.{slice_get}
 use Rattle.std.proofs.lemmas.Option.{slice_get_read, slice_get_within, get_or_from_slice_get}
 use borrow.Author.Count.{below_more}
 use Rattle.lane_core.specs.Steps.{Ends}
-use Rattle.lane_core.specs.Calls.{content, IsRight}
+use Rattle.lane_core.specs.Calls.{content, IsStill, IsRight}
 use Rattle.tlp_core.specs.Packet.{Packet}
 use Rattle.requester_core.specs.Requesting.{Requesting}
 use Rattle.fabric_laws.specs.Fabric.{Fabric, items, whole_of}
-use Rattle.fabric_laws.specs.Packets.{item_of}
-use Rattle.fabric_laws.specs.Whole.{Whole, up_of, down_of, requester_of, open_at, unused}
+use Rattle.fabric_laws.specs.Packets.{marked_packet}
+use Rattle.fabric_laws.specs.Whole.{Whole, up_of, down_of, requester_of, open_number, unused}
 use Rattle.fabric_laws.specs.Sound.{Sound, times}
 use Rattle.fabric_laws.specs.Trace.{submitted_by}
 use Rattle.fabric_core.specs.Kept.{IsSoundFabric, down_credits}
-use Rattle.fabric_core.specs.Quiet.{IsStill, AreStill, IsStillFabric, IsQuiet}
+use Rattle.fabric_core.specs.Quiet.{AreStill, IsStillFabric, IsQuiet}
 use Rattle.fabric_core.proofs.Lanes.{right}
 
 abbrev pub Nothing : Type 0
@@ -64,10 +64,10 @@ abbrev pub Acted : Type 0
 Acted = (p : Whole) (i k : ℕ) → Sound p → p.inward ≡ [] → up_of p i ≡ [] → k < (requester_of p i).next → times i k p.history ≡ 1
 
 abbrev pub Answered : Type 0
-Answered = (p : Whole) (i t k : ℕ) → Sound p → p.inward ≡ [] → up_of p i ≡ [] → p.outward ≡ [] → down_of p i ≡ [] → open_at (requester_of p i) t ≢ Some k
+Answered = (p : Whole) (i t k : ℕ) → Sound p → p.inward ≡ [] → up_of p i ≡ [] → p.outward ≡ [] → down_of p i ≡ [] → open_number (requester_of p i) t ≢ Some k
 
 no_items : (e : Ends) → content e ≡ [] → items e ≡ []
-no_items e h = ap (map (λ (x : Packet × ℕ). item_of x.0 x.1)) h
+no_items e h = ap (map (λ (x : Packet × ℕ). marked_packet x.0 x.1)) h
 
 pub all_acted : Acted → (f : Fabric) → IsSoundFabric f → IsQuiet f → (i k : ℕ) (q : Requesting) → slice_get f.requesters i ≡ Some q → k < q.next → times (suc i) k f.memory.entries ≡ 1
 all_acted law f s h i k q has below =
@@ -75,9 +75,9 @@ all_acted law f s h i k q has below =
     (part_is items [] f.up i (λ n e at. no_items e (h.up n e at)))
     (subst (λ (x : Requesting). k < x.next) (sym (get_or_from_slice_get f.requesters i q unused has)) below)
 
-pub all_answered : Answered → (f : Fabric) → IsSoundFabric f → IsQuiet f → (i t k : ℕ) (q : Requesting) → slice_get f.requesters i ≡ Some q → open_at q t ≢ Some k
+pub all_answered : Answered → (f : Fabric) → IsSoundFabric f → IsQuiet f → (i t k : ℕ) (q : Requesting) → slice_get f.requesters i ≡ Some q → open_number q t ≢ Some k
 all_answered law f s h i t k q has =
-    subst (λ (x : Requesting). open_at x t ≢ Some k) (get_or_from_slice_get f.requesters i q unused has)
+    subst (λ (x : Requesting). open_number x t ≢ Some k) (get_or_from_slice_get f.requesters i q unused has)
     (law (whole_of f) (suc i) t k s.sound (no_items f.inward h.inward)
     (part_is items [] f.up i (λ n e at. no_items e (h.up n e at)))
     (no_items f.outward h.outward)

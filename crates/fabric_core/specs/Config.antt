@@ -1,5 +1,5 @@
 -- What a fabric is made of, and a new fabric.
-use Rattle.std.specs.Prelude.{ℕ, ◌≡◌, ◌≤◌, suc, List, [], length, Some, slice_get}
+use Rattle.std.specs.Prelude.{ℕ, ◌≡◌, ◌≤◌, suc, List, [], length, Some, slice_get, codes}
 use Rattle.fc_credit.specs.declared.limits.LaneCredits.{LaneCredits}
 use Rattle.seq_memory.specs.Limits.{IsSize, IsBase, IsBlock}
 use Rattle.requester_core.specs.Requesting.{Requesting, fresh}
@@ -53,6 +53,14 @@ fault_number faults.Base = 3
 fault_number faults.Credits = 4
 fault_number faults.Memory = 5
 fault_number faults.Block = 6
+
+abbrev pub fault_name : ConfigFault → List ℕ
+fault_name faults.Requesters = codes "Requesters"
+fault_name faults.Size = codes "Size"
+fault_name faults.Base = codes "Base"
+fault_name faults.Credits = codes "Credits"
+fault_name faults.Memory = codes "Memory"
+fault_name faults.Block = codes "Block"
 
 -- so many new lanes with these credits
 pub record AreNewLanes (count : ℕ) (credits : LaneCredits) (lanes : List Ends) : Type 0 where

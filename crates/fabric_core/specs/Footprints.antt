@@ -1,5 +1,5 @@
 -- Each event on the parts that it uses: what it leaves, and when it is refused.
-use Rattle.std.specs.Prelude.{ℕ, ◌≡◌, ◌≢◌, ◌<◌, ◌≤◌, false, true, List, [], length, Option, Some, None, Result, Ok, Err, slice_get}
+use Rattle.std.specs.Prelude.{ℕ, ◌≡◌, ◌≢◌, ◌<◌, false, true, List, [], length, Option, Some, None, Result, Ok, Err, slice_get}
 use Rattle.tlp_core.specs.declared.operation.Op.{Op}
 use Rattle.tlp_core.specs.Packet.{Packet}
 use Rattle.tlp_core.specs.Operation.{op_of}
@@ -22,7 +22,7 @@ use Rattle.lane_core.specs.Refusals.{LacksRoom}
 use Rattle.lane_core.specs.declared.packet.Arrival.TheVariants.{Answered}
 use Rattle.link_receiver.specs.declared.receiver.Reception.TheVariants.{Accept}
 use Rattle.lane_core.specs.Steps.{Ends, Incoming, Outgoing, may_enter, entered, transmitted, delivered, dllp_of, dllp_seen, after_take}
-use Rattle.lane_core.specs.Calls.{Call, Transmit, Deliver, SendDllp, DeliverDllp, Timer, Retrained, happens}
+use Rattle.lane_core.specs.Calls.{Call, Transmit, Deliver, SendDllp, DeliverDllp, Timer, Retrained, after_call}
 use Rattle.fabric_core.specs.declared.event.LinkEvent.{LinkEvent}
 use Rattle.fabric_core.specs.declared.event.LinkEvent.TheVariants as links
 use Rattle.fabric_core.specs.declared.event.Seen.{Seen}
@@ -87,7 +87,7 @@ IsSeen e _ _ = ⊥
 -- what is seen of the call, and the ends after it
 pub record Links (e : Ends) (event : LinkEvent) (what : Seen) (e' : Ends) : Type 0 where
   pub sees : IsSeen e event what
-  pub now : e' ≡ happens e (call_of event)
+  pub now : e' ≡ after_call e (call_of event)
 
 -- there is no packet to send; or the wire can't grow for the one that there is
 abbrev pub TransmitRefused : Outgoing → Refusal → Type 0

@@ -17,7 +17,8 @@ use Rattle.fabric_core.specs.Steps.{HasLanes}
 use Rattle.fabric_core.specs.Config.{IsConfig, config_of}
 pub use Rattle.fabric_core.specs.Config.{down_credits}
 
--- a fabric of its configuration can be made, each lane is right with its credits, every packet has its port, and the whole is sound
+-- a fabric of its configuration can be made, each lane is right with its credits, every packet has its port, and the
+-- whole is sound
 pub record IsSoundFabric (f : Fabric) : Type 0 where
   pub config : IsConfig (config_of f)
   pub lanes : HasLanes f

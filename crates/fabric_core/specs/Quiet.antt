@@ -1,13 +1,8 @@
 -- Lanes that hold nothing.
 use Rattle.std.specs.Prelude.{ℕ, ◌≡◌, List, [], Some, slice_get}
-use Rattle.replay_sender.specs.Sending.{next_number}
 use Rattle.lane_core.specs.Steps.{Ends}
-use Rattle.lane_core.specs.Calls.{content}
+use Rattle.lane_core.specs.Calls.{content, IsStill}
 use Rattle.fabric_laws.specs.Fabric.{Fabric}
-
--- no accepted packet waits, and the receiver waits for the number that the sender gives next
-abbrev pub IsStill : Ends → Type 0
-IsStill e = (e.receiver.queue ≡ []) × (e.receiver.receiving.next ≡ next_number e.sender.sending)
 
 abbrev pub AreStill : List Ends → Type 0
 AreStill lanes = (i : ℕ) (e : Ends) → slice_get lanes i ≡ Some e → IsStill e

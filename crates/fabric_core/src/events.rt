@@ -1,5 +1,5 @@
 //! Each event over the parts that it uses. A refused event leaves them as they were.
-ghost use Rattle.std.specs.Prelude.{◌≡◌, ◌↔◌, ◌⊎◌, ◌<◌, ℕ, [], true, false, length, option_map, Some, IfOk, IfErr, OnOk, OnErr};
+ghost use Rattle.std.specs.Prelude.{◌≡◌, ◌↔◌, ◌<◌, [], true, false, length, option_map, Some, IfOk, IfErr, OnOk, OnErr};
 ghost use Rattle.dllp_core.specs.Layout.{FitsDataFC};
 ghost use Rattle.dllp_core.specs.declared.packet.Dllp.{Dllp};
 ghost use Rattle.fc_credit.specs.Needs.{need_of};
@@ -7,14 +7,16 @@ ghost use Rattle.completer_core.specs.Serving.{completion_to, after_serving};
 ghost use Rattle.lane_core.specs.Steps.{may_enter, with_room, after_timer, after_retraining, transmitted, after_transmission, wire_after_transmit, all_but_first, delivered, after_deliver, dllp_of, after_send, wire_after_send, dllp_seen, sender_after};
 ghost use Rattle.lane_core.specs.Refusals.{LacksRoom};
 ghost use Rattle.switch_core.specs.Forwarding.{Forwards};
-ghost use Rattle.fabric_core.specs.Footprints.{Enters, Submits, SubmitRefused, TransmitRefused, DeliverRefused, SendDllpRefused, DllpRefused, TimerRefused, RetrainedRefused, ForwardRefused, IsRoutedAs, DestinationRefused, Acts, ActRefused, Serves, ServeRefused, Collects, CollectRefused};
+ghost use Rattle.fabric_core.specs.Footprints.{Enters, Submits, SubmitRefused, TransmitRefused, DeliverRefused, SendDllpRefused, DllpRefused, TimerRefused, RetrainedRefused, Links, LinkRefused, ForwardRefused, IsRoutedAs, DestinationRefused, Acts, ActRefused, Serves, ServeRefused, Collects, CollectRefused};
 
+use crate::event::{LinkEvent, Seen};
 use crate::fault::Refusal;
-use completer_core::{serve as serve_request, shape};
+use completer_core::{need_to_answer, serve as serve_request};
 use dllp_core::Dllp;
 use fc_credit::Need;
 use lane_core::{
-    Arrival, BackWire, DllpKind, DllpSeen, Fate, ForwardWire, LaneRefusal, ReceiverEnd, SenderEnd,
+    Arrival, BackWire, DllpKind, DllpSeen, Fate, ForwardWire, LaneEnds, LaneRefusal, ReceiverEnd,
+    SenderEnd,
 };
 use requester_core::{Answer, Requester};
 use seq_memory::Memory;
@@ -171,6 +173,46 @@ pub fn retrained(sender: &mut SenderEnd) -> Result<(), Refusal>
     Ok(())
 }
 
+/// A call of the link, and what is seen of it.
+pub fn link(lane: &mut LaneEnds, event: LinkEvent) -> Result<Seen, Refusal>
+    ensures ok { IfOk result (λ what. Links lane.old event what lane.new) }
+    ensures refused { IfErr result (λ r. LinkRefused lane.old event r) }
+    ensures err { OnErr result (lane.new ≡ lane.old) }
+{
+    match event {
+        LinkEvent::Transmit => match transmit(&mut lane.sender, &mut lane.forward) {
+            Ok(number) => Ok(Seen::Sent(number)),
+            Err(refusal) => Err(refusal),
+        },
+        LinkEvent::Deliver(fate) => {
+            match deliver(&mut lane.forward, &mut lane.receiver, fate) {
+                Ok(arrival) => Ok(Seen::Delivered(arrival)),
+                Err(refusal) => Err(refusal),
+            }
+        }
+        LinkEvent::SendDllp(kind) => {
+            match send_dllp(&mut lane.receiver, &mut lane.back, kind) {
+                Ok(dllp) => Ok(Seen::SentDllp(dllp)),
+                Err(refusal) => Err(refusal),
+            }
+        }
+        LinkEvent::DeliverDllp(fate) => {
+            match deliver_dllp(&mut lane.back, &mut lane.sender, fate) {
+                Ok(seen) => Ok(Seen::SeenDllp(seen)),
+                Err(refusal) => Err(refusal),
+            }
+        }
+        LinkEvent::Timer => match timer(&mut lane.sender) {
+            Ok(moved) => Ok(Seen::Back(moved)),
+            Err(refusal) => Err(refusal),
+        },
+        LinkEvent::Retrained => match retrained(&mut lane.sender) {
+            Ok(()) => Ok(Seen::Retrained),
+            Err(refusal) => Err(refusal),
+        },
+    }
+}
+
 /// The port to which the packet at this place goes that came in from another. `NotTakeable` where there is none or it
 /// may not pass an earlier one, then `Route`.
 pub fn destination(receiver: &ReceiverEnd, place: usize, from: Port) -> Result<Port, Refusal>
@@ -189,8 +231,8 @@ pub fn destination(receiver: &ReceiverEnd, place: usize, from: Port) -> Result<P
     }
 }
 
-/// The packet at this place goes into the next lane, with its mark. `NotTakeable` where there is none or it may not pass
-/// an earlier one, then `Lane`.
+/// The packet at this place goes into the next lane, with its mark. `NotTakeable` where there is none or it may not
+/// pass an earlier one, then `Lane`.
 pub fn forward(
     receiver: &mut ReceiverEnd,
     place: usize,
@@ -304,7 +346,7 @@ fn act(
     ensures err_memory { OnErr result (memory.new ≡ memory.old) }
     ensures err_sender { OnErr result (sender.new ≡ sender.old) }
 {
-    match shape(memory, request) {
+    match need_to_answer(memory, request) {
         Some(need) => act_and_answer(memory, request, mark, sender, need),
         None => act_alone(memory, request, mark),
     }

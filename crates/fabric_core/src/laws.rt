@@ -53,8 +53,8 @@ pub fn each_event_keeps_it_sound()
     packets_keep_their_ports();
 }
 
-/// The history of a sound fabric is legal for what its requesters submitted. That is one list for each, read off its path,
-/// and an event adds to it what its record says, which is nothing but for that requester's submission.
+/// The history of a sound fabric is legal for what its requesters submitted. That is one list for each, read off its
+/// path, and an event adds to it what its record says, which is nothing but for that requester's submission.
 pub fn the_history_is_legal_for_what_was_submitted()
     ensures legal { (f : Fabric) → IsSoundFabric f → (s : ℕ → List Op) × ((i : ℕ) → IsMade i (view (whole_of f) i) (s i)) × IsLegal s f.memory.entries }
     ensures one { (f : Fabric) (i : ℕ) (ops others : List Op) → IsSoundFabric f → IsMade i (view (whole_of f) i) ops → IsMade i (view (whole_of f) i) others → ops ≡ others }
@@ -66,8 +66,8 @@ pub fn the_history_is_legal_for_what_was_submitted()
     what_was_submitted_is_one_list();
 }
 
-/// The history of a quiet fabric has as many entries as its requesters submitted operations. Where all that the requesters
-/// of a sound fabric submitted is one operation, each entry of the history is that one.
+/// The history of a quiet fabric has as many entries as its requesters submitted operations. Where all that the
+/// requesters of a sound fabric submitted is one operation, each entry of the history is that one.
 pub fn a_quiet_fabric_has_every_submission()
     ensures all { (f : Fabric) → IsSoundFabric f → IsQuiet f → length f.memory.entries ≡ submitted_by f.requesters }
     ensures same { (f : Fabric) (op : Op) → IsSoundFabric f → ((i : ℕ) (ops : List Op) → IsMade i (view (whole_of f) i) ops → Each (λ x. x ≡ op) ops) →
@@ -77,9 +77,9 @@ pub fn a_quiet_fabric_has_every_submission()
     what_was_submitted_is_one_list();
 }
 
-/// A counter counts each request once, whatever the links do: where all that was submitted is FetchAdds of 1 at one place,
-/// which are served, and the fabric is quiet, the number there is the number of submissions, modulo 2 to the number of the
-/// operand's bits.
+/// A counter counts each request once, whatever the links do: where all that was submitted is FetchAdds of 1 at one
+/// place, which are served, and the fabric is quiet, the number there is the number of submissions, modulo 2 to the
+/// number of the operand's bits.
 pub fn a_quiet_counter_is_the_number_of_submissions()
     ensures { (f : Fabric) (a : ℕ) (w : Width) → IsSoundFabric f → IsQuiet f → refusal f.memory.block f.memory.base f.memory.size (ops.FetchAdd a w 1) ≡ None →
         ((i : ℕ) (made : List Op) → IsMade i (view (whole_of f) i) made → Each (λ x. x ≡ ops.FetchAdd a w 1) made) →
@@ -98,7 +98,8 @@ pub fn every_refusal_is_possible()
     no_completion_is_strange();
 }
 
-/// A new fabric is sound, has the configuration that it was made of, and holds nothing; and the empty trace belongs to it.
+/// A new fabric is sound, has the configuration that it was made of, and holds nothing; and the empty trace belongs to
+/// it.
 pub fn a_new_fabric_is_sound()
     ensures sound { (c : Config) (f : Fabric) → IsNewWith c f → IsSoundFabric f }
     ensures config { (c : Config) (f : Fabric) → IsNewWith c f → config_of f ≡ c }

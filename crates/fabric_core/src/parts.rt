@@ -1,116 +1,34 @@
 //! The parts of a fabric, and the events by their ports and lanes.
-ghost use Rattle.std.specs.Prelude.{◌≡◌, ◌↔◌, ◌<◌, ◌≤◌, ℕ, [], suc, length, IsTrue, IfOk, IfErr, OnOk, OnErr};
+ghost use Rattle.std.specs.Prelude.{◌≡◌, ◌↔◌, ◌<◌, ◌≤◌, suc, length, IsTrue, IfOk, IfErr, OnErr};
 
 use crate::config::Config;
 use crate::event::{Event, LaneName, LinkEvent, Seen};
 use crate::events;
 use crate::fault::Refusal;
 use fc_credit::LaneCredits;
-use lane_core::{BackWire, ForwardWire, ReceiverEnd, SenderEnd};
+use lane_core::LaneEnds;
 use requester_core::{Answer, Requester};
 use seq_memory::Memory;
-use std::alloc::Global;
 use std::marker::Model;
 use switch_core::{Port, RouteFault};
 use tlp_core::Op;
 
-/// A lane by its four ends.
-#[derive(Drop)]
-pub struct LaneParts {
-    pub sender: SenderEnd,
-    pub forward: ForwardWire,
-    pub back: BackWire,
-    pub receiver: ReceiverEnd,
-}
-
-impl Model for LaneParts {
-    ghost use Rattle.lane_core.specs.Steps.{Ends};
-
-    ghost Value = { Ends };
-
-    ghost view = { λ l. record { sender = l.sender; forward = l.forward; back = l.back; receiver = l.receiver } };
-}
-
-impl LaneParts {
-    ghost use Rattle.lane_core.specs.Steps.{new_lane};
-    ghost use Rattle.fabric_core.specs.Quiet.{IsStill};
-    ghost use Rattle.fabric_core.specs.Footprints.{Links, LinkRefused};
-
-    /// A lane whose receiver advertised these credits. It allocates nothing.
-    pub fn new(credits: LaneCredits, alloc: Global) -> LaneParts
-        ensures { result ≡ new_lane credits }
-    {
-        LaneParts {
-            sender: SenderEnd::new(credits, alloc),
-            forward: ForwardWire::new(alloc),
-            back: BackWire::new(alloc),
-            receiver: ReceiverEnd::new(credits, alloc),
-        }
-    }
-
-    /// A call of the link, and what is seen of it.
-    pub fn link(&mut self, event: LinkEvent) -> Result<Seen, Refusal>
-        ensures ok { IfOk result (λ what. Links self.old event what self.new) }
-        ensures refused { IfErr result (λ r. LinkRefused self.old event r) }
-        ensures err { OnErr result (self.new ≡ self.old) }
-    {
-        match event {
-            LinkEvent::Transmit => match events::transmit(&mut self.sender, &mut self.forward) {
-                Ok(number) => Ok(Seen::Sent(number)),
-                Err(refusal) => Err(refusal),
-            },
-            LinkEvent::Deliver(fate) => {
-                match events::deliver(&mut self.forward, &mut self.receiver, fate) {
-                    Ok(arrival) => Ok(Seen::Delivered(arrival)),
-                    Err(refusal) => Err(refusal),
-                }
-            }
-            LinkEvent::SendDllp(kind) => {
-                match events::send_dllp(&mut self.receiver, &mut self.back, kind) {
-                    Ok(dllp) => Ok(Seen::SentDllp(dllp)),
-                    Err(refusal) => Err(refusal),
-                }
-            }
-            LinkEvent::DeliverDllp(fate) => {
-                match events::deliver_dllp(&mut self.back, &mut self.sender, fate) {
-                    Ok(seen) => Ok(Seen::SeenDllp(seen)),
-                    Err(refusal) => Err(refusal),
-                }
-            }
-            LinkEvent::Timer => match events::timer(&mut self.sender) {
-                Ok(moved) => Ok(Seen::Back(moved)),
-                Err(refusal) => Err(refusal),
-            },
-            LinkEvent::Retrained => match events::retrained(&mut self.sender) {
-                Ok(()) => Ok(Seen::Retrained),
-                Err(refusal) => Err(refusal),
-            },
-        }
-    }
-
-    /// Whether no accepted packet waits, and the receiver waits for the number that the sender gives next.
-    pub fn quiet(&self) -> bool
-        ensures { IsTrue result ↔ IsStill self.now }
-    {
-        self.receiver.is_empty() && self.receiver.next_rcv_seq() == self.sender.next_transmit_seq()
-    }
-}
-
 /// The parts of a fabric by name; in each list that of port 1 is the first.
 #[derive(Drop)]
 pub struct Parts {
-    /// The credits that the lanes advertised when they were new, but that `down` lanes have infinite completion credits.
+    /// The credits that the lanes advertised when they were new, but that `down` lanes have infinite completion
+    /// credits.
     pub credits: LaneCredits,
     pub memory: Memory,
     pub requesters: Vec<Requester>,
     /// From the switch to the memory.
-    pub inward: LaneParts,
+    pub inward: LaneEnds,
     /// From the memory to the switch.
-    pub outward: LaneParts,
+    pub outward: LaneEnds,
     /// From each requester to the switch.
-    pub up: Vec<LaneParts>,
+    pub up: Vec<LaneEnds>,
     /// From the switch to each requester.
-    pub down: Vec<LaneParts>,
+    pub down: Vec<LaneEnds>,
 }
 
 impl Model for Parts {
@@ -138,18 +56,17 @@ fn place_of(port: u8, count: usize) -> Result<usize, Refusal>
 }
 
 /// A call of the link of a port.
-fn link_in(lanes: &mut Vec<LaneParts>, port: u8, event: LinkEvent) -> Result<Seen, Refusal>
+fn link_in(lanes: &mut Vec<LaneEnds>, port: u8, event: LinkEvent) -> Result<Seen, Refusal>
     ensures ok { IfOk result (λ what. LinksIn lanes.old.items port event what lanes.new.items) }
     ensures refused { IfErr result (λ r. LinkInRefused lanes.old.items port event r) }
     ensures err { OnErr result (lanes.new.items ≡ lanes.old.items) }
 {
     let place = place_of(port, lanes.len())?;
-    let lane = &mut lanes[place];
-    lane.link(event)
+    events::link(&mut lanes[place], event)
 }
 
 /// Whether each of these lanes is still.
-fn are_still(lanes: &[LaneParts]) -> bool
+fn are_still(lanes: &[LaneEnds]) -> bool
     ensures { IsTrue result ↔ AreStill lanes.now }
 {
     for lane in lanes {
@@ -197,8 +114,8 @@ impl Parts {
         match name {
             LaneName::Up(port) => link_in(&mut self.up, port, event),
             LaneName::Down(port) => link_in(&mut self.down, port, event),
-            LaneName::Inward => self.inward.link(event),
-            LaneName::Outward => self.outward.link(event),
+            LaneName::Inward => events::link(&mut self.inward, event),
+            LaneName::Outward => events::link(&mut self.outward, event),
         }
     }
 

@@ -1,5 +1,5 @@
 //! Lists of events, and their traces.
-ghost use Rattle.std.specs.Prelude.{◌≡◌, ◌<◌, ◌⊎◌, ◌++◌, ◌∷◌, [], ℕ, List, length, take, vec_len, vec_capacity, true, option_to_list, IfOk, IfErr, OnOk, OnErr};
+ghost use Rattle.std.specs.Prelude.{◌≡◌, ◌<◌, ◌⊎◌, ◌++◌, ◌∷◌, [], List, length, vec_len, vec_capacity, true, option_to_list, IfOk, IfErr, OnOk, OnErr};
 ghost use Rattle.history_check.specs.declared.Record.{Record};
 ghost use Rattle.history_check.specs.Claim.{claim_of};
 ghost use Rattle.history_check.specs.Observation.{HasLimits};
@@ -159,7 +159,8 @@ impl Fabric {
 
     /// The events in turn, up to the first that is refused. Gives the trace: each submission and each answer, with the
     /// length of the history before its event. A refusal is that of [`step`](Self::step), or, of a
-    /// submission or a collection, `Memory` where the trace can't grow; the events before its place have happened then, and their trace is told, too.
+    /// submission or a collection, `Memory` where the trace can't grow; the events before its place have happened then,
+    /// and their trace is told, too.
     ///
     /// The history only grows. A trace that belonged to the fabric before, followed by this one, belongs to the fabric
     /// after, and the history explains it; so that of the first run of a new fabric is right under
@@ -172,7 +173,7 @@ impl Fabric {
         ensures size { (trace_in result).size ≡ self.new.memory.size }
         ensures block { (trace_in result).block ≡ self.new.memory.block }
         ensures limits { HasLimits (trace_in result) }
-        ensures shape { (whole_of self.new).shape ≡ (whole_of self.old).shape }
+        ensures extent { (whole_of self.new).extent ≡ (whole_of self.old).extent }
         ensures begins { (later : List Entry) × (self.new.memory.entries ≡ self.old.memory.entries ++ later) }
         ensures belongs { (rs : List Record) → Belongs (whole_of self.old) rs → Belongs (whole_of self.new) (rs ++ (trace_in result).records) }
         ensures explained { (rs : List Record) → Belongs (whole_of self.old) rs → Explains (record { memory = self.new.memory; records = rs ++ (trace_in result).records }) }

@@ -1,15 +1,15 @@
 -- Events and refusals over the parts that they use, as those of the fabric that has these parts.
 use Rattle.std.proofs.Common.{ℕ, ◌≡◌, List, refl, sym, ap, subst, inr}
 use Rattle.std.specs.Prelude.{slice_set}
-use Rattle.lane_core.specs.Steps.{Ends, Incoming}
+use Rattle.lane_core.specs.Steps.{Ends}
 use Rattle.fabric_laws.specs.Fabric.{Fabric}
 use Rattle.fabric_core.specs.declared.event.LaneName.{LaneName}
 use Rattle.fabric_core.specs.declared.event.LaneName.TheVariants as lanes
 use Rattle.fabric_core.specs.declared.event.LinkEvent.{LinkEvent}
 use Rattle.fabric_core.specs.declared.event.Seen.{Seen}
 use Rattle.fabric_core.specs.declared.fault.Refusal.{Refusal}
-use Rattle.fabric_core.specs.Footprints.{Links, LinkRefused, DestinationRefused}
-use Rattle.fabric_core.specs.Steps.{HasPart, HasLane, with_part, with_lane, LinksAt, LinkAtRefused, ForwardUpRefused}
+use Rattle.fabric_core.specs.Footprints.{Links, LinkRefused}
+use Rattle.fabric_core.specs.Steps.{HasPart, HasLane, with_part, with_lane, LinksAt, LinkAtRefused}
 
 set_part : {X : Type 0} (parts : List X) (port place : ℕ) (x y : X) → HasPart parts port place x → with_part parts port y ≡ slice_set parts place y
 set_part parts port place x y h = ap (λ (n : ℕ). with_part parts n y) h.is_port

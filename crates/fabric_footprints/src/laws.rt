@@ -19,8 +19,8 @@ ghost use Rattle.fabric_core.specs.declared.fault.Refusal.{Refusal};
 ghost use Rattle.fabric_core.specs.Footprints.{Submits, SubmitRefused, TransmitRefused, DeliverRefused, SendDllpRefused, DllpRefused, TimerRefused, RetrainedRefused, IsRoutedAs, DestinationRefused, ForwardRefused, Serves, ServeRefused, Collects, CollectRefused};
 ghost use Rattle.fabric_core.specs.Steps.{HasPart, HasLane, with_lane, Happens, Refused};
 
-/// An event over the parts that it uses, as the functions of [`events`](fabric_core::events) tell it, is that event of the
-/// whole fabric that has those parts, and leaves it with the parts as they are then.
+/// An event over the parts that it uses, as the functions of [`events`](fabric_core::events) tell it, is that event of
+/// the whole fabric that has those parts, and leaves it with the parts as they are then.
 pub fn each_event_on_its_parts_happens()
     ensures submitted { (f : Fabric) (port place number : ℕ) (op : Op) (q q' : Requesting) (e : Ends) (s' : Outgoing) →
         HasPart f.requesters port place q → HasPart f.up port place e → Submits q e.sender op number q' s' →
@@ -50,8 +50,8 @@ pub fn each_event_on_its_parts_happens()
         Happens f (events.Collect port) (seen.Collected a) (record f { down = slice_set f.down place (record e { receiver = r' }); requesters = slice_set f.requesters place q' }) }
 {}
 
-/// A refusal of an event over the parts that it uses, as the functions of [`events`](fabric_core::events) tell it, is one of
-/// the whole fabric that has those parts.
+/// A refusal of an event over the parts that it uses, as the functions of [`events`](fabric_core::events) tell it, is
+/// one of the whole fabric that has those parts.
 pub fn each_refusal_on_its_parts_is_the_fabrics()
     ensures submit { (f : Fabric) (port place : ℕ) (op : Op) (q : Requesting) (e : Ends) (r : Refusal) →
         HasPart f.requesters port place q → HasPart f.up port place e → SubmitRefused q e.sender op r → Refused f (events.Submit port op) r }

@@ -1,28 +1,27 @@
--- A fabric that scripts' lines drive one by one: what it and the caller's room hold after each call, and the calls' codes.
+-- A fabric that scripts' lines drive one by one: what it and the caller's room hold after each call, and the calls'
+-- codes.
 use Rattle.std.specs.Prelude.{ℕ, ◌≡◌, ◌+◌, ◌≤◌, nat_lt, if◌then◌else◌, Bool, true, List, [], ◌++◌, length, Option, Some, None, Result, Ok, Err}
-use Rattle.seq_memory.specs.History.{State, bytes_of}
 use Rattle.history_check.specs.declared.Record.{Record}
 use Rattle.history_check.specs.Claim.{Claim}
 use Rattle.fabric_laws.specs.Fabric.{Fabric, whole_of}
 use Rattle.fabric_laws.specs.Trace.{Belongs}
 use Rattle.fabric_core.specs.declared.config.Config.{Config}
 use Rattle.fabric_core.specs.declared.config.ConfigFault.{ConfigFault}
-use Rattle.fabric_core.specs.Config.{IsConfig}
+use Rattle.fabric_core.specs.Config.{IsConfig, fault_name}
 use Rattle.fabric_core.specs.declared.event.Event.{Event}
 use Rattle.fabric_core.specs.declared.event.Seen.{Seen}
 use Rattle.fabric_core.specs.declared.fault.Refusal.{Refusal}
 use Rattle.fabric_core.specs.Kept.{records_of}
 use Rattle.fabric_answers.specs.Answers.{answer}
 use Rattle.fabric_answers.specs.New.{new_fabric, config_fault}
-use Rattle.trace_text.specs.Words.{words}
-use Rattle.trace_file.specs.Texts.{trace_text}
+use Rattle.operation_text.specs.Words.{words}
 use Rattle.script_text.specs.declared.line.Line.{Line}
 use Rattle.script_text.specs.declared.line.Line.TheVariants as lines
 use Rattle.script_text.specs.Forms.{line_of}
-use Rattle.script_text.specs.Names.{config_fault_name, refusal_name}
+use Rattle.script_text.specs.Names.{refusal_text}
 use Rattle.script_text.specs.Texts.{seen_text}
 use Rattle.caller_room.specs.declared.TheConstants.{SMALL_ROOM, NO_LINE}
-use Rattle.caller_room.specs.Room.{filled, Told, untold, told, told_fault}
+use Rattle.caller_room.specs.Room.{filled, Told, untold, told_fault}
 
 -- the fabric, and where a trace is kept its records so far
 pub record Session : Type 0 where
@@ -41,7 +40,7 @@ new_session c traced = record { fabric = new_fabric c; is_traced = traced; recor
 
 abbrev pub made : List ℕ → Option ConfigFault → Told
 made room None = untold room 0
-made room (Some f) = told_fault room (config_fault_name f)
+made room (Some f) = told_fault room (fault_name f)
 
 abbrev pub made_by : List ℕ → Option Line → Told
 made_by room (Some (lines.Fabric c)) = made room (config_fault c)
@@ -85,9 +84,9 @@ answered s room event n (Ok p) = record {
   room = filled room (seen_text event p.0);
 }
 answered s room event n (Err r) = record {
-  code = 1000 + length (refusal_name r);
+  code = 1000 + length (refusal_text r);
   session = s;
-  room = filled room (refusal_name r);
+  room = filled room (refusal_text r);
 }
 
 abbrev pub happened : Session → List ℕ → Event → Outcome

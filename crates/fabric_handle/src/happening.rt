@@ -1,13 +1,11 @@
 //! Events.
-ghost use Rattle.std.specs.Prelude.{◌≡◌, ◌≤◌, ◌<◌, ◌+◌, ◌++◌, ◌∷◌, [], ℕ, List, Some, Ok, Err, true, false, length, vec_len, vec_capacity, if◌then◌else◌, IfOk, IfErr, OnOk, OnErr};
-ghost use Rattle.arrayvec.specs.ArrayString.{array_string_len};
+ghost use Rattle.std.specs.Prelude.{◌≡◌, ◌≤◌, ◌<◌, ◌+◌, ◌++◌, ◌∷◌, [], List, Some, Ok, Err, true, false, length, vec_len, vec_capacity, if◌then◌else◌, IfOk, IfErr, OnErr};
 ghost use Rattle.history_check.specs.declared.Record.{Record};
 ghost use Rattle.fabric_laws.specs.Fabric.{whole_of};
 ghost use Rattle.fabric_laws.specs.Trace.{Belongs};
-ghost use Rattle.fabric_core.specs.Kept.{IsSoundFabric};
 ghost use Rattle.fabric_core.specs.Runs.{has_record};
 ghost use Rattle.fabric_answers.specs.Answers.{answer, IsTold};
-ghost use Rattle.script_text.specs.Names.{refusal_name};
+ghost use Rattle.script_text.specs.Names.{refusal_text};
 ghost use Rattle.script_text.specs.Texts.{seen_text, told_text};
 ghost use Rattle.caller_room.specs.Room.{filled};
 ghost use Rattle.fabric_handle.specs.Session as spec;
@@ -86,9 +84,9 @@ fn put_refusal(refusal: Refusal, room: &mut [u8]) -> u32
     requires { 512 ≤ length room.old }
     ensures told { ¬ (result ≡ NO_MEMORY) → IsTold refusal }
     ensures no_memory { result ≡ NO_MEMORY → ¬ IsTold refusal }
-    ensures code { ¬ (result ≡ NO_MEMORY) → result ≡ 1000 + length (refusal_name refusal) }
+    ensures code { ¬ (result ≡ NO_MEMORY) → result ≡ 1000 + length (refusal_text refusal) }
     ensures range { (1000 ≤ result) × (result ≤ NO_MEMORY) }
-    ensures room { ¬ (result ≡ NO_MEMORY) → room.new ≡ filled room.old (refusal_name refusal) }
+    ensures room { ¬ (result ≡ NO_MEMORY) → room.new ≡ filled room.old (refusal_text refusal) }
     ensures unchanged { 2000 ≤ result → room.new ≡ room.old }
 {
     if let Refusal::Memory | Refusal::Lane(LaneRefusal::Memory) = refusal {

@@ -1,8 +1,8 @@
 //! What a fabric holds.
-ghost use Rattle.std.specs.Prelude.{◌≡◌, ◌≤◌, ◌↔◌, ◌⊎◌, IsTrue, true, Some, length, string_bytes, IfOk};
+ghost use Rattle.std.specs.Prelude.{◌≡◌, ◌≤◌, ◌↔◌, IsTrue, true, Some, length, string_bytes, IfOk};
 ghost use Rattle.seq_memory.specs.History.{bytes_of};
 ghost use Rattle.history_check.specs.Trace.{Explains};
-ghost use Rattle.trace_file.specs.Texts.{trace_text};
+ghost use Rattle.trace_format.specs.Texts.{trace_text};
 ghost use Rattle.fabric_laws.specs.Trace.{submitted_by};
 ghost use Rattle.fabric_core.specs.Quiet.{IsQuiet};
 ghost use Rattle.fabric_handle.specs.Session as spec;
@@ -14,7 +14,7 @@ use caller_room::{NO_MEMORY, SMALL_ROOM, fill};
 use fabric_laws::laws::the_trace_belongs;
 use std::alloc::{AllocError, Global};
 use std::mem;
-use trace_file::write_trace;
+use trace_format::write_trace;
 
 /// The history explains a kept trace.
 fn explain(session: &Session)

@@ -1,12 +1,8 @@
 //! Slots.
 ghost use Rattle.std.specs.Prelude.{◌≡◌, ◌≤◌, ◌<◌, ◌+◌, Option, Some, None, IfOk, IfErr, OnOk, length};
-ghost use Rattle.arrayvec.specs.ArrayString.{array_string_len};
-ghost use Rattle.fabric_laws.specs.Fabric.{whole_of};
-ghost use Rattle.fabric_laws.specs.Trace.{Belongs};
 ghost use Rattle.fabric_core.specs.declared.config.Config as configs;
-ghost use Rattle.fabric_core.specs.Config.{IsConfig};
+ghost use Rattle.fabric_core.specs.Config.{IsConfig, fault_name};
 ghost use Rattle.fabric_answers.specs.New as new;
-ghost use Rattle.script_text.specs.Names.{config_fault_name};
 ghost use Rattle.caller_room.specs.Room.{filled};
 ghost use Rattle.fabric_handle.specs.Session as spec;
 ghost use Rattle.fabric_handle.specs.Session.{new_session, making, AsksFor, IsFabricCall};
@@ -94,9 +90,9 @@ fn put_fault(fault: ConfigFault, room: &mut [u8]) -> u32
     requires { 512 ≤ length room.old }
     ensures told { ¬ (result ≡ NO_MEMORY) → ¬ (fault ≡ ConfigFault.Memory) }
     ensures no_memory { result ≡ NO_MEMORY → fault ≡ ConfigFault.Memory }
-    ensures code { ¬ (result ≡ NO_MEMORY) → result ≡ 1000 + length (config_fault_name fault) }
+    ensures code { ¬ (result ≡ NO_MEMORY) → result ≡ 1000 + length (fault_name fault) }
     ensures range { (1000 ≤ result) × (result ≤ NO_MEMORY) }
-    ensures room { ¬ (result ≡ NO_MEMORY) → room.new ≡ filled room.old (config_fault_name fault) }
+    ensures room { ¬ (result ≡ NO_MEMORY) → room.new ≡ filled room.old (fault_name fault) }
     ensures unchanged { 2000 ≤ result → room.new ≡ room.old }
 {
     if let ConfigFault::Memory = fault {

@@ -5,7 +5,7 @@ use Rattle.std.proofs.lemmas.List.{length_push}
 use native.Mathlib.Decide.{ℕ_discrete, dec_lt}
 use mathlib.Core.Logic.{dite}
 use Rattle.fabric_laws.specs.Lists.{Each, one_if, count}
-use Rattle.fabric_laws.specs.Whole.{Op, is_posted, Entry, Item, reply_of, Requesting, View, Whole, view, path, up_of, down_of, requester_of, open_at, entry_of, request_item, memory, memory_of, Shape, Reply}
+use Rattle.fabric_laws.specs.Whole.{Op, is_posted, Entry, MarkedPacket, reply_after, Requesting, View, Whole, view, path, up_of, down_of, requester_of, open_number, entry_of, marked_request, memory, memory_of, Extent, Reply}
 use Rattle.history_check.specs.Trace.{is_request}
 use Rattle.fabric_laws.specs.Sound.{times, Sound, SoundAt, IsReply}
 use Rattle.fabric_laws.specs.Trace.{IsMade}
@@ -35,7 +35,7 @@ get_push (z ∷ xs) y (suc n) x e = ⊎_elim
 
 -- explanations as history and trace grow
 
-grown : (g : Shape) (h t : List Entry) (before : List Record) (i k : ℕ) (r : Reply) (n : ℕ) → IsExplained (memory g h) before i k r n → IsExplained (memory g (h ++ t)) before i k r n
+grown : (g : Extent) (h t : List Entry) (before : List Record) (i k : ℕ) (r : Reply) (n : ℕ) → IsExplained (memory g h) before i k r n → IsExplained (memory g (h ++ t)) before i k r n
 grown g h t before i k r n x =
     let w : x.point < length h = get_within h x.point (record { requester = i; number = k; op = x.op }) x.acted in
     let same : take x.point (h ++ t) ≡ take x.point h = take_before h t x.point (omega arith) in
@@ -51,12 +51,12 @@ grown g h t before i k r n x =
       after_submission = x.after_submission;
       before_answer = x.before_answer;
       replied = reply_there g (h ++ t) x.point (record { requester = i; number = k; op = x.op }) (get_before h t x.point (record { requester = i; number = k; op = x.op }) x.acted)
-          ∙ (ap (λ (l : List Entry). Some (reply_of g l x.op)) same ∙ (sym (reply_there g h x.point (record { requester = i; number = k; op = x.op }) x.acted) ∙ x.replied));
+          ∙ (ap (λ (l : List Entry). Some (reply_after g l x.op)) same ∙ (sym (reply_there g h x.point (record { requester = i; number = k; op = x.op }) x.acted) ∙ x.replied));
       above = λ c j m a less at. subst (λ (l : List Entry). stands l i j ≡ true) (sym same) (x.above c j m a less at);
     }
 
 pub record Silent (p p' : Whole) : Type 1 where
-  pub same_shape : p'.shape ≡ p.shape
+  pub same_extent : p'.extent ≡ p.extent
   pub new : List Entry
   pub grows : p'.history ≡ p.history ++ new
   pub requesters : (j : ℕ) → requester_of p' j ≡ requester_of p j
@@ -64,7 +64,7 @@ pub record Silent (p p' : Whole) : Type 1 where
 
 pub silent_belongs : (p p' : Whole) (rs : List Record) → Silent p p' → Belongs p rs → Belongs p' rs
 silent_belongs p p' rs c b = record {
-  linear = subst (λ (m : Shape). IsLinear (memory m p'.history) rs) (sym c.same_shape) (subst (λ (h : List Entry). IsLinear (memory p.shape h) rs) (sym c.grows) (λ a i k n r at. grown p.shape p.history c.new (take a rs) i k r n (b.linear a i k n r at)));
+  linear = subst (λ (m : Extent). IsLinear (memory m p'.history) rs) (sym c.same_extent) (subst (λ (h : List Entry). IsLinear (memory p.extent h) rs) (sym c.grows) (λ a i k n r at. grown p.extent p.history c.new (take a rs) i k r n (b.linear a i k n r at)));
   numbered = b.numbered;
   rising = b.rising;
   within = λ a r at.
@@ -76,8 +76,8 @@ silent_belongs p p' rs c b = record {
     spent = (b.made i).spent ∙ ap (λ (q : Requesting). q.next) (sym (c.requesters i));
     each = c.paths i (λ (e : Entry). e.requester ≡ i → slice_get (made i rs) e.number ≡ Some e.op) (λ e ne own. absurd (ne own)) (b.made i).each;
   };
-  pending = λ i t k e. b.pending i t k (ap (λ (q : Requesting). open_at q t) (sym (c.requesters i)) ∙ e);
-  opened = λ a i k n o at np un. let (t, e) = b.opened a i k n o at np un in (t, ap (λ (q : Requesting). open_at q t) (c.requesters i) ∙ e);
+  pending = λ i t k e. b.pending i t k (ap (λ (q : Requesting). open_number q t) (sym (c.requesters i)) ∙ e);
+  opened = λ a i k n o at np un. let (t, e) = b.opened a i k n o at np un in (t, ap (λ (q : Requesting). open_number q t) (c.requesters i) ∙ e);
   later = λ a i k n o at.
       let w : n ≤ length p.history = b.within a (Sub i k o n) at in
       ap (λ (h : List Entry). stands (take n h) i k) c.grows ∙ (ap (λ (h : List Entry). stands h i k) (take_before p.history c.new n w) ∙ b.later a i k n o at);
@@ -134,13 +134,13 @@ module _ (p : Whole) (i tag : ℕ) (op : Op) (q' : Requesting) (rs : List Record
   said = Sub i next op (length p.history)
 
   abbrev now : Whole
-  now = record p { up = set p.up i (up_of p i ++ request_item i tag next op ∷ []); requesters = set p.requesters i q' }
+  now = record p { up = set p.up i (up_of p i ++ marked_request i tag next op ∷ []); requesters = set p.requesters i q' }
 
   requester_now : requester_of now i ≡ q'
-  requester_now = ap (λ (v : View). v.requester) (view_submit p i (up_of p i ++ request_item i tag next op ∷ []) q' has_up known)
+  requester_now = ap (λ (v : View). v.requester) (view_submit p i (up_of p i ++ marked_request i tag next op ∷ []) q' has_up known)
 
   requester_else : (j : ℕ) → j ≢ i → requester_of now j ≡ requester_of p j
-  requester_else j ne = ap (λ (v : View). v.requester) (view_submit_other p i j (up_of p i ++ request_item i tag next op ∷ []) q' ne)
+  requester_else j ne = ap (λ (v : View). v.requester) (view_submit_other p i j (up_of p i ++ marked_request i tag next op ∷ []) q' ne)
 
   linear : IsLinear (memory_of p) (rs ++ said ∷ [])
   linear a j k n r e = ⊎_elim
@@ -166,17 +166,17 @@ module _ (p : Whole) (i tag : ℕ) (op : Op) (q' : Requesting) (rs : List Record
   submissions : (j : ℕ) → IsMade j (view now j) (made j (rs ++ said ∷ []))
   submissions j = dite (ℕ_discrete j i)
       (λ is. subst (λ (m : ℕ). IsMade m (view now m) (made m (rs ++ said ∷ []))) (sym is)
-      (subst (λ (v : View). IsMade i v (made i (rs ++ said ∷ []))) (sym (view_submit p i (up_of p i ++ request_item i tag next op ∷ []) q' has_up known))
-      (subst (IsMade i (record (view p i) { up = up_of p i ++ request_item i tag next op ∷ []; requester = q' })) (sym (made_own i next (length p.history) op rs))
+      (subst (λ (v : View). IsMade i v (made i (rs ++ said ∷ []))) (sym (view_submit p i (up_of p i ++ marked_request i tag next op ∷ []) q' has_up known))
+      (subst (IsMade i (record (view p i) { up = up_of p i ++ marked_request i tag next op ∷ []; requester = q' })) (sym (made_own i next (length p.history) op rs))
       (record {
         spent = length_push (made i rs) op ∙ (ap (λ (n : ℕ). n + 1) (b.made i).spent ∙ sym o.next);
         each = subst (Each (λ (e : Entry). e.requester ≡ i → slice_get (made i rs ++ op ∷ []) e.number ≡ Some e.op)) (sym (longer i tag op (view p i) q' (s i) o))
-            (each_append (λ (e : Entry). e.requester ≡ i → slice_get (made i rs ++ op ∷ []) e.number ≡ Some e.op) (path (view p i)) (entry_of (request_item i tag next op) ∷ [])
+            (each_append (λ (e : Entry). e.requester ≡ i → slice_get (made i rs ++ op ∷ []) e.number ≡ Some e.op) (path (view p i)) (entry_of (marked_request i tag next op) ∷ [])
             (each_weaken (λ (e : Entry). e.requester ≡ i → slice_get (made i rs) e.number ≡ Some e.op) (λ (e : Entry). e.requester ≡ i → slice_get (made i rs ++ op ∷ []) e.number ≡ Some e.op) (path (view p i))
             (λ e f own. get_before (made i rs) (op ∷ []) e.number e.op (f own)) (b.made i).each)
             ((λ own. subst (λ (n : ℕ). slice_get (made i rs ++ op ∷ []) n ≡ Some op) (b.made i).spent (get_seam (made i rs) [] op)), tt));
       }))))
-      (λ ne. subst (λ (v : View). IsMade j v (made j (rs ++ said ∷ []))) (sym (view_submit_other p i j (up_of p i ++ request_item i tag next op ∷ []) q' ne))
+      (λ ne. subst (λ (v : View). IsMade j v (made j (rs ++ said ∷ []))) (sym (view_submit_other p i j (up_of p i ++ marked_request i tag next op ∷ []) q' ne))
       (subst (IsMade j (view p j)) (sym (made_other j i next (length p.history) op rs (λ h. ne (sym h)))) (b.made j)))
 
   older : (j k : ℕ) → IsPending rs j k → IsPending (rs ++ said ∷ []) j k
@@ -185,7 +185,7 @@ module _ (p : Whole) (i tag : ℕ) (op : Op) (q' : Requesting) (rs : List Record
       let u : count (answers_to j k) rs ≡ 0 = none_counted (answers_to j k) rs x.unanswered in
       record { place = x.place; op = x.op; since = x.since; asked = get_before rs (said ∷ []) x.place (Sub j k x.op x.since) x.asked; not_posted = x.not_posted; unanswered = none_any (answers_to j k) (rs ++ said ∷ []) (omega arith) }
 
-  pending_own : (t k : ℕ) → open_at q' t ≡ Some k → IsPending (rs ++ said ∷ []) i k
+  pending_own : (t k : ℕ) → open_number q' t ≡ Some k → IsPending (rs ++ said ∷ []) i k
   pending_own t k e = elim (opening (requester_of p i) tag op q' o t) [
     | old h ↦ older i k (b.pending i t k (sym h ∙ e))
     | new at n ↦
@@ -203,8 +203,8 @@ module _ (p : Whole) (i tag : ℕ) (op : Op) (q' : Requesting) (rs : List Record
     within = still_within p.history rs said refl b.within;
     made = submissions;
     pending = λ j t k e. dite (ℕ_discrete j i)
-        (λ is. subst (λ (m : ℕ). IsPending (rs ++ said ∷ []) m k) (sym is) (pending_own t k (ap (λ (q : Requesting). open_at q t) (sym requester_now) ∙ (ap (λ (m : ℕ). open_at (requester_of now m) t) (sym is) ∙ e))))
-        (λ ne. older j k (b.pending j t k (ap (λ (q : Requesting). open_at q t) (sym (requester_else j ne)) ∙ e)));
+        (λ is. subst (λ (m : ℕ). IsPending (rs ++ said ∷ []) m k) (sym is) (pending_own t k (ap (λ (q : Requesting). open_number q t) (sym requester_now) ∙ (ap (λ (m : ℕ). open_number (requester_of now m) t) (sym is) ∙ e))))
+        (λ ne. older j k (b.pending j t k (ap (λ (q : Requesting). open_number q t) (sym (requester_else j ne)) ∙ e)));
     opened = λ a j k n z e np un.
         let c : count (answers_to j k) (rs ++ said ∷ []) ≡ count (answers_to j k) rs + 0 = count_push (answers_to j k) rs said in
         ⊎_elim
@@ -212,15 +212,15 @@ module _ (p : Whole) (i tag : ℕ) (op : Op) (q' : Requesting) (rs : List Record
         let (t, f) = b.opened a j k n z g.1 np (none_any (answers_to j k) rs (let w : count (answers_to j k) (rs ++ said ∷ []) ≡ 0 = none_counted (answers_to j k) (rs ++ said ∷ []) un in omega arith)) in (
           t,
           dite (ℕ_discrete j i)
-              (λ is. ap (λ (m : ℕ). open_at (requester_of now m) t) is ∙ (ap (λ (q : Requesting). open_at q t) requester_now ∙ still_open i tag op (view p i) q' (s i) o t k (ap (λ (m : ℕ). open_at (requester_of p m) t) (sym is) ∙ f)))
-              (λ ne. ap (λ (q : Requesting). open_at q t) (requester_else j ne) ∙ f),
+              (λ is. ap (λ (m : ℕ). open_number (requester_of now m) t) is ∙ (ap (λ (q : Requesting). open_number q t) requester_now ∙ still_open i tag op (view p i) q' (s i) o t k (ap (λ (m : ℕ). open_number (requester_of p m) t) (sym is) ∙ f)))
+              (λ ne. ap (λ (q : Requesting). open_number q t) (requester_else j ne) ∙ f),
         ))
         (λ (g : (a ≡ length rs) × (said ≡ Sub j k z n)).
         let h : said ≡ Sub j k z n = g.1 in
         let own : i ≡ j = cc in
         let num : next ≡ k = cc in
         let same_op : op ≡ z = cc in
-        (tag, ap (λ (m : ℕ). open_at (requester_of now m) tag) (sym own) ∙ (ap (λ (q : Requesting). open_at q tag) requester_now ∙ (o.opened (ap is_posted same_op ∙ np) ∙ ap Some num))))
+        (tag, ap (λ (m : ℕ). open_number (requester_of now m) tag) (sym own) ∙ (ap (λ (q : Requesting). open_number q tag) requester_now ∙ (o.opened (ap is_posted same_op ∙ np) ∙ ap Some num))))
         (get_push rs said a (Sub j k z n) e);
     later = λ a j k n z e. ⊎_elim
         (λ (g : (a < length rs) × (slice_get rs a ≡ Some (Sub j k z n))). b.later a j k n z g.1)
@@ -236,7 +236,7 @@ module _ (p : Whole) (i tag : ℕ) (op : Op) (q' : Requesting) (rs : List Record
 
 -- Collect
 
-module _ (p : Whole) (i number : ℕ) (reply : Reply) (rest : List Item) (c : Item) (q' : Requesting) (rs : List Record) (s : Sound p) (b : Belongs p rs)
+module _ (p : Whole) (i number : ℕ) (reply : Reply) (rest : List MarkedPacket) (c : MarkedPacket) (q' : Requesting) (rs : List Record) (s : Sound p) (b : Belongs p rs)
     (first : down_of p i ≡ c ∷ rest) (z : IsClosed (requester_of p i) c.tag number q') (is_reply : reply ≡ c.reply) (has_down : i < length p.down) (known : i < length p.requesters) where
   abbrev answer : Record
   answer = Ans i number reply (length p.history)
@@ -251,13 +251,13 @@ module _ (p : Whole) (i number : ℕ) (reply : Reply) (rest : List Item) (c : It
   requester_kept j ne = ap (λ (v : View). v.requester) (view_collect_other p i j rest q' ne)
 
   sound_here : SoundAt i (record (view p i) { down = c ∷ rest })
-  sound_here = subst (λ (d : List Item). SoundAt i (record (view p i) { down = d })) first (s i)
+  sound_here = subst (λ (d : List MarkedPacket). SoundAt i (record (view p i) { down = d })) first (s i)
 
-  pub the_reply : IsReply p.shape i (requester_of p i) p.history c
-  the_reply = collected i p.shape p.history p.inward p.outward (up_of p i) rest (requester_of p i) q' c number sound_here z
+  pub the_reply : IsReply p.extent i (requester_of p i) p.history c
+  the_reply = collected i p.extent p.history p.inward p.outward (up_of p i) rest (requester_of p i) q' c number sound_here z
 
   number_is : the_reply.number ≡ number
-  number_is = let a : open_at (requester_of p i) c.tag ≡ Some the_reply.number = the_reply.open_tag in let d : open_at (requester_of p i) c.tag ≡ Some number = z.was_open in cc
+  number_is = let a : open_number (requester_of p i) c.tag ≡ Some the_reply.number = the_reply.open_tag in let d : open_number (requester_of p i) c.tag ≡ Some number = z.was_open in cc
 
   acted_there : slice_get p.history the_reply.point ≡ Some (record { requester = i; number = number; op = the_reply.op })
   acted_there = subst (λ (k : ℕ). slice_get p.history the_reply.point ≡ Some (record { requester = i; number = k; op = the_reply.op })) number_is the_reply.acted
@@ -295,7 +295,7 @@ module _ (p : Whole) (i number : ℕ) (reply : Reply) (rest : List Item) (c : It
     acted = acted_there ∙ ap (λ (o : Op). Some (record { requester = i; number = number; op = o })) (sym same_op);
     after_submission = since_before;
     before_answer = get_within p.history the_reply.point (record { requester = i; number = number; op = the_reply.op }) acted_there;
-    replied = reply_there p.shape p.history the_reply.point (record { requester = i; number = number; op = the_reply.op }) acted_there ∙ ap Some (sym (is_reply ∙ the_reply.replied));
+    replied = reply_there p.extent p.history the_reply.point (record { requester = i; number = number; op = the_reply.op }) acted_there ∙ ap Some (sym (is_reply ∙ the_reply.replied));
     above = λ d j m r less at.
         let e : IsExplained (memory_of p) (take d rs) i j r m = b.linear d i j m r at in
         let l : m ≤ asked_for.since = b.rising d asked_for.place (Ans i j r m) (Sub i number asked_for.op asked_for.since) (omega arith) at asked_for.asked in
@@ -342,9 +342,9 @@ module _ (p : Whole) (i number : ℕ) (reply : Reply) (rest : List Item) (c : It
       let u : count (answers_to j k) rs ≡ 0 = none_counted (answers_to j k) rs x.unanswered in
       record { place = x.place; op = x.op; since = x.since; asked = get_before rs (answer ∷ []) x.place (Sub j k x.op x.since) x.asked; not_posted = x.not_posted; unanswered = none_any (answers_to j k) (rs ++ answer ∷ []) (omega arith) }
 
-  pending_after : (t k : ℕ) → open_at q' t ≡ Some k → IsPending (rs ++ answer ∷ []) i k
+  pending_after : (t k : ℕ) → open_number q' t ≡ Some k → IsPending (rs ++ answer ∷ []) i k
   pending_after t k e =
-      let f : (t ≢ c.tag) × (open_at (requester_of p i) t ≡ Some k) = still i p.shape p.history p.inward p.outward (up_of p i) rest (requester_of p i) q' c number sound_here z t k e in
+      let f : (t ≢ c.tag) × (open_number (requester_of p i) t ≡ Some k) = still i p.extent p.history p.inward p.outward (up_of p i) rest (requester_of p i) q' c number sound_here z t k e in
       older_pending i k (miss_right i k i number (λ is. f.0 ((s i).open_once t c.tag k f.1 (z.was_open ∙ ap Some is)))) (b.pending i t k f.1)
 
   pub collect_belongs : Belongs after (rs ++ answer ∷ [])
@@ -360,8 +360,8 @@ module _ (p : Whole) (i number : ℕ) (reply : Reply) (rest : List Item) (c : It
       each = subst (λ (l : List Op). Each (λ (e : Entry). e.requester ≡ j → slice_get l e.number ≡ Some e.op) (path (view p j))) (sym (made_ans j i number reply (length p.history) rs)) (b.made j).each;
     };
     pending = λ j t k e. dite (ℕ_discrete j i)
-        (λ is. subst (λ (m : ℕ). IsPending (rs ++ answer ∷ []) m k) (sym is) (pending_after t k (ap (λ (q : Requesting). open_at q t) (sym requester_after) ∙ (ap (λ (m : ℕ). open_at (requester_of after m) t) (sym is) ∙ e))))
-        (λ ne. older_pending j k (miss_left j k i number (λ h. ne (sym h))) (b.pending j t k (ap (λ (q : Requesting). open_at q t) (sym (requester_kept j ne)) ∙ e)));
+        (λ is. subst (λ (m : ℕ). IsPending (rs ++ answer ∷ []) m k) (sym is) (pending_after t k (ap (λ (q : Requesting). open_number q t) (sym requester_after) ∙ (ap (λ (m : ℕ). open_number (requester_of after m) t) (sym is) ∙ e))))
+        (λ ne. older_pending j k (miss_left j k i number (λ h. ne (sym h))) (b.pending j t k (ap (λ (q : Requesting). open_number q t) (sym (requester_kept j ne)) ∙ e)));
     opened = λ a j k n y e np un.
         let d : count (answers_to j k) (rs ++ answer ∷ []) ≡ count (answers_to j k) rs + one_if (answers_to j k answer) = count_push (answers_to j k) rs answer in
         let w : count (answers_to j k) (rs ++ answer ∷ []) ≡ 0 = none_counted (answers_to j k) (rs ++ answer ∷ []) un in
@@ -369,13 +369,13 @@ module _ (p : Whole) (i number : ℕ) (reply : Reply) (rest : List Item) (c : It
           t,
           dite (ℕ_discrete j i)
               (λ is.
-              let here : open_at (requester_of p i) t ≡ Some k = ap (λ (m : ℕ). open_at (requester_of p m) t) (sym is) ∙ f in
-              ap (λ (m : ℕ). open_at (requester_of after m) t) is ∙ (ap (λ (q : Requesting). open_at q t) requester_after ∙ (z.others t (λ at. absurd (
-              let g : open_at (requester_of p i) t ≡ Some number = ap (open_at (requester_of p i)) at ∙ z.was_open in
+              let here : open_number (requester_of p i) t ≡ Some k = ap (λ (m : ℕ). open_number (requester_of p m) t) (sym is) ∙ f in
+              ap (λ (m : ℕ). open_number (requester_of after m) t) is ∙ (ap (λ (q : Requesting). open_number q t) requester_after ∙ (z.others t (λ at. absurd (
+              let g : open_number (requester_of p i) t ≡ Some number = ap (open_number (requester_of p i)) at ∙ z.was_open in
               let same_number : number ≡ k = cc in
               let one : one_if (answers_to j k answer) ≡ 1 = hit j k i number (sym is) same_number in
               omega arith)) ∙ here)))
-              (λ ne. ap (λ (q : Requesting). open_at q t) (requester_kept j ne) ∙ f),
+              (λ ne. ap (λ (q : Requesting). open_number q t) (requester_kept j ne) ∙ f),
         );
     later = λ a j k n y e. b.later a j k n y (older_sub a j k n y e);
   }

@@ -4,7 +4,7 @@ use Rattle.std.specs.Prelude.{nat_lt, slice_get}
 use mathlib.Core.Logic.{dite}
 use native.Mathlib.Decide.{ℕ_discrete}
 use Rattle.fabric_laws.specs.Lists.{Each, one_if}
-use Rattle.fabric_laws.specs.Whole.{Entry, Item, Op, View, Requesting, open_at, path, entry_of, Shape}
+use Rattle.fabric_laws.specs.Whole.{Entry, MarkedPacket, Op, View, Requesting, open_number, path, entry_of, Extent}
 use Rattle.history_check.specs.Trace.{is_request}
 use Rattle.fabric_laws.specs.Sound.{times, is_answer, answers, served, IsTagged, IsSized, IsReply, IsReplyFor, SoundAt}
 use Rattle.fabric_laws.specs.Steps.{IsClosed}
@@ -16,15 +16,15 @@ at_most_one true = omega arith
 at_most_one false = omega arith
 
 -- what waits on the path isn't in the history
-pub not_yet : (i : ℕ) (v : View) → SoundAt i v → Each (λ (y : Item). y.requester ≡ i → times i y.mark v.history ≡ 0) (v.inward ++ v.up)
+pub not_yet : (i : ℕ) (v : View) → SoundAt i v → Each (λ (y : MarkedPacket). y.requester ≡ i → times i y.mark v.history ≡ 0) (v.inward ++ v.up)
 not_yet i v s =
-    let there : (ys : List Item) → Each (λ (y : Item). 1 ≤ times y.requester y.mark (map entry_of ys)) ys =
+    let there : (ys : List MarkedPacket) → Each (λ (y : MarkedPacket). 1 ≤ times y.requester y.mark (map entry_of ys)) ys =
     λ ys. each_unmap (λ (e : Entry). 1 ≤ times e.requester e.number (map entry_of ys)) entry_of ys
     (each_counted (λ (e : Entry). 1 ≤ times e.requester e.number (map entry_of ys)) (λ (e : Entry). is_request e.requester e.number) (map entry_of ys) (λ e. both_same e.requester e.number) (λ e h. h)) in
-    each_append (λ (y : Item). y.requester ≡ i → times i y.mark v.history ≡ 0) v.inward v.up
-    (each_weaken (λ (y : Item). 1 ≤ times y.requester y.mark (map entry_of v.inward)) (λ (y : Item). y.requester ≡ i → times i y.mark v.history ≡ 0) v.inward
+    each_append (λ (y : MarkedPacket). y.requester ≡ i → times i y.mark v.history ≡ 0) v.inward v.up
+    (each_weaken (λ (y : MarkedPacket). 1 ≤ times y.requester y.mark (map entry_of v.inward)) (λ (y : MarkedPacket). y.requester ≡ i → times i y.mark v.history ≡ 0) v.inward
     (λ y n own. none y.mark (let m : 1 ≤ times i y.mark (map entry_of v.inward) = subst (λ (j : ℕ). 1 ≤ times j y.mark (map entry_of v.inward)) own n in omega arith)) (there v.inward))
-    (each_weaken (λ (y : Item). 1 ≤ times y.requester y.mark (map entry_of v.up)) (λ (y : Item). y.requester ≡ i → times i y.mark v.history ≡ 0) v.up
+    (each_weaken (λ (y : MarkedPacket). 1 ≤ times y.requester y.mark (map entry_of v.up)) (λ (y : MarkedPacket). y.requester ≡ i → times i y.mark v.history ≡ 0) v.up
     (λ y n own. none y.mark (let m : 1 ≤ times i y.mark (map entry_of v.up) = subst (λ (j : ℕ). 1 ≤ times j y.mark (map entry_of v.up)) own n in omega arith)) (there v.up))
   where
     none : (k : ℕ) → 1 ≤ times i k (map entry_of v.inward) + times i k (map entry_of v.up) → times i k v.history ≡ 0
@@ -37,12 +37,12 @@ not_yet i v s =
 pub acted_counted : (i k : ℕ) (o : Op) (h : List Entry) (n : ℕ) → slice_get h n ≡ Some (record { requester = i; number = k; op = o }) → 1 ≤ times i k h
 acted_counted i k o h n e = count_at (is_request i k) h n (record { requester = i; number = k; op = o }) e (both_same i k)
 
-module _ (i : ℕ) (g : Shape) (h : List Entry) (w o u rest : List Item) (q q' : Requesting) (c : Item) (number : ℕ) where
+module _ (i : ℕ) (g : Extent) (h : List Entry) (w o u rest : List MarkedPacket) (q q' : Requesting) (c : MarkedPacket) (number : ℕ) where
   abbrev was : View
-  was = record { shape = g; history = h; inward = w; outward = o; up = u; down = c ∷ rest; requester = q }
+  was = record { extent = g; history = h; inward = w; outward = o; up = u; down = c ∷ rest; requester = q }
 
   abbrev now : View
-  now = record { shape = g; history = h; inward = w; outward = o; up = u; down = rest; requester = q' }
+  now = record { extent = g; history = h; inward = w; outward = o; up = u; down = rest; requester = q' }
 
   module _ (s : SoundAt i was) (z : IsClosed q c.tag number q') where
     mine : c.requester ≡ i
@@ -53,21 +53,21 @@ module _ (i : ℕ) (g : Shape) (h : List Entry) (w o u rest : List Item) (q q' :
     collected = (each_split (IsReplyFor g i q h) o (c ∷ rest) s.replies).1.0 mine
 
     pub collected_number : collected.number ≡ number
-    collected_number = let a : open_at q c.tag ≡ Some collected.number = collected.open_tag in let b : open_at q c.tag ≡ Some number = z.was_open in cc
+    collected_number = let a : open_number q c.tag ≡ Some collected.number = collected.open_tag in let b : open_number q c.tag ≡ Some number = z.was_open in cc
 
     in_history : 1 ≤ times i number h
     in_history = subst (λ (k : ℕ). 1 ≤ times i k h) collected_number (acted_counted i collected.number collected.op h collected.point collected.acted)
 
-    pub still : (t k : ℕ) → open_at q' t ≡ Some k → (t ≢ c.tag) × (open_at q t ≡ Some k)
+    pub still : (t k : ℕ) → open_number q' t ≡ Some k → (t ≢ c.tag) × (open_number q t ≡ Some k)
     still t k e = dite (ℕ_discrete t c.tag)
-        (λ at. absurd (let n : open_at q' t ≡ None = ap (open_at q') at ∙ z.closed in cc))
+        (λ at. absurd (let n : open_number q' t ≡ None = ap (open_number q') at ∙ z.closed in cc))
         (λ ne. (ne, sym (z.others t ne) ∙ e))
 
     -- no other completion has the tag
     alone : answers i c.tag o + answers i c.tag rest ≡ 0
     alone =
-        let a : answers i c.tag o + answers i c.tag (c ∷ rest) ≡ served i (open_at q c.tag) h = s.under_way c.tag in
-        let b : served i (open_at q c.tag) h ≡ times i number h = ap (λ (m : Option ℕ). served i m h) z.was_open in
+        let a : answers i c.tag o + answers i c.tag (c ∷ rest) ≡ served i (open_number q c.tag) h = s.under_way c.tag in
+        let b : served i (open_number q c.tag) h ≡ times i number h = ap (λ (m : Option ℕ). served i m h) z.was_open in
         let e : answers i c.tag (c ∷ rest) ≡ one_if (is_answer i c.tag c) + answers i c.tag rest = count_cons (is_answer i c.tag) c rest in
         let f : one_if (is_answer i c.tag c) ≡ 1 = hit i c.tag c.requester c.tag mine refl in
         let g : times i number (path was) ≡ times i number h + (times i number (map entry_of w) + times i number (map entry_of u)) = path_times i number was in
@@ -76,18 +76,18 @@ module _ (i : ℕ) (g : Shape) (h : List Entry) (w o u rest : List Item) (q q' :
         omega arith
 
     tagged : Each (IsTagged i q') (w ++ u)
-    tagged = each_join (IsTagged i q) (λ (y : Item). y.requester ≡ i → times i y.mark h ≡ 0) (IsTagged i q') (w ++ u)
+    tagged = each_join (IsTagged i q) (λ (y : MarkedPacket). y.requester ≡ i → times i y.mark h ≡ 0) (IsTagged i q') (w ++ u)
         (λ y t free own n. z.others y.tag (λ at. absurd (
-        let a : open_at q y.tag ≡ Some y.mark = t own n in
-        let b : open_at q y.tag ≡ Some number = ap (open_at q) at ∙ z.was_open in
+        let a : open_number q y.tag ≡ Some y.mark = t own n in
+        let b : open_number q y.tag ≡ Some number = ap (open_number q) at ∙ z.was_open in
         let m : y.mark ≡ number = cc in
         let f : times i y.mark h ≡ 0 = free own in
         let g : 1 ≤ times i y.mark h = subst (λ (k : ℕ). 1 ≤ times i k h) (sym m) in_history in
         omega arith)) ∙ t own n)
         s.tagged (not_yet i was s)
 
-    other_tags : Each (λ (y : Item). y.requester ≡ i → y.tag ≢ c.tag) (o ++ rest)
-    other_tags = each_counted (λ (y : Item). y.requester ≡ i → y.tag ≢ c.tag) (λ (y : Item). is_answer y.requester y.tag) (o ++ rest) (λ y. both_same y.requester y.tag)
+    other_tags : Each (λ (y : MarkedPacket). y.requester ≡ i → y.tag ≢ c.tag) (o ++ rest)
+    other_tags = each_counted (λ (y : MarkedPacket). y.requester ≡ i → y.tag ≢ c.tag) (λ (y : MarkedPacket). is_answer y.requester y.tag) (o ++ rest) (λ y. both_same y.requester y.tag)
         (λ y n own at. absurd (
         let a : 1 ≤ answers i y.tag (o ++ rest) = subst (λ (j : ℕ). 1 ≤ answers j y.tag (o ++ rest)) own n in
         let b : 1 ≤ answers i c.tag (o ++ rest) = subst (λ (t : ℕ). 1 ≤ answers i t (o ++ rest)) at a in
@@ -111,14 +111,14 @@ module _ (i : ℕ) (g : Shape) (h : List Entry) (w o u rest : List Item) (q q' :
           open_sized = λ t k e. subst (λ (n : ℕ). Each (IsSized i k n) (path now)) (sym (z.sizes t (still t k e).0)) (s.open_sized t k (still t k e).1);
           open_once = λ t r k e f. s.open_once t r k (still t k e).1 (still r k f).1;
           under_way = λ t. dite (ℕ_discrete t c.tag)
-              (λ at. subst (λ (n : ℕ). answers i n o + answers i n rest ≡ served i (open_at q' n) h) (sym at) (alone ∙ ap (λ (m : Option ℕ). served i m h) (sym z.closed)))
+              (λ at. subst (λ (n : ℕ). answers i n o + answers i n rest ≡ served i (open_number q' n) h) (sym at) (alone ∙ ap (λ (m : Option ℕ). served i m h) (sym z.closed)))
               (λ ne.
-              let a : answers i t o + answers i t (c ∷ rest) ≡ served i (open_at q t) h = s.under_way t in
+              let a : answers i t o + answers i t (c ∷ rest) ≡ served i (open_number q t) h = s.under_way t in
               let b : answers i t (c ∷ rest) ≡ one_if (is_answer i t c) + answers i t rest = count_cons (is_answer i t) c rest in
               let e : one_if (is_answer i t c) ≡ 0 = miss_right i t c.requester c.tag (λ is. ne (sym is)) in
-              let f : answers i t o + answers i t rest ≡ served i (open_at q t) h = omega arith in
+              let f : answers i t o + answers i t rest ≡ served i (open_number q t) h = omega arith in
               f ∙ ap (λ (m : Option ℕ). served i m h) (sym (z.others t ne)));
-          replies = each_join (IsReplyFor g i q h) (λ (y : Item). y.requester ≡ i → y.tag ≢ c.tag) (IsReplyFor g i q' h) (o ++ rest)
+          replies = each_join (IsReplyFor g i q h) (λ (y : MarkedPacket). y.requester ≡ i → y.tag ≢ c.tag) (IsReplyFor g i q' h) (o ++ rest)
               (λ y r other own. let a : IsReply g i q h y = r own in record { number = a.number; point = a.point; op = a.op; open_tag = z.others y.tag (other own) ∙ a.open_tag; acted = a.acted; sized = a.sized; replied = a.replied })
               (each_append (IsReplyFor g i q h) o rest all.0 all.1.1) other_tags;
         }

@@ -33,8 +33,8 @@ use Rattle.lane_core.specs.Steps.{Ends}
 use Rattle.lane_core.specs.Calls.{content, on_the_way}
 use Rattle.history_check.specs.declared.Record.TheVariants.{Sub, Ans}
 use Rattle.fabric_laws.specs.Lists.{Each}
-use Rattle.fabric_laws.specs.Whole.{Item, Whole, class_of_op, no_op, request_item, completion_item, completions_for, requester_of, up_of, down_of, unused, reply_of, FitsSize, entry_of}
-use Rattle.fabric_laws.specs.Packets.{item_of, reply_in}
+use Rattle.fabric_laws.specs.Whole.{MarkedPacket, Whole, class_of_op, no_op, marked_request, completions_for, unused, reply_after, FitsSize}
+use Rattle.fabric_laws.specs.Packets.{marked_packet, reply_in}
 use Rattle.fabric_laws.specs.Fabric.{Fabric, items, whole_of}
 use Rattle.fabric_laws.specs.Events.{IsEntered, IsTakenAt, are_entered, IsSubmitted, IsForwarded, IsServed, IsReturned, IsCollected, IsLinked}
 use Rattle.fabric_laws.specs.Steps.{IsTaken, IsOpened, IsClosed, Step, submits, forwards, serves, returns, collects, links}
@@ -54,23 +54,23 @@ get_items [] i l e = absurd (cc)
 get_items (m ∷ ls) zero l e = let is : m ≡ l = cc in ap items is
 get_items (m ∷ ls) (suc i) l e = get_items ls i l e
 
-set_items : (ls : List Ends) (i : ℕ) (l : Ends) (new : List Item) → items l ≡ new → map items (slice_set ls i l) ≡ slice_set (map items ls) i new
-set_items ls i l new e = map-set items ls i l ∙ ap (λ (n : List Item). slice_set (map items ls) i n) e
+set_items : (ls : List Ends) (i : ℕ) (l : Ends) (new : List MarkedPacket) → items l ≡ new → map items (slice_set ls i l) ≡ slice_set (map items ls) i new
+set_items ls i l new e = map-set items ls i l ∙ ap (λ (n : List MarkedPacket). slice_set (map items ls) i n) e
 
 kept_items : (ls : List Ends) (i : ℕ) (l l' : Ends) → slice_get ls i ≡ Some l → items l' ≡ items l → map items (slice_set ls i l') ≡ map items ls
 kept_items [] i l l' e same = absurd (cc)
-kept_items (m ∷ ls) zero l l' e same = let is : l ≡ m = cc in ap (λ (c : List Item). c ∷ map items ls) (same ∙ ap items is)
-kept_items (m ∷ ls) (suc i) l l' e same = ap (λ (c : List (List Item)). items m ∷ c) (kept_items ls i l l' e same)
+kept_items (m ∷ ls) zero l l' e same = let is : l ≡ m = cc in ap (λ (c : List MarkedPacket). c ∷ map items ls) (same ∙ ap items is)
+kept_items (m ∷ ls) (suc i) l l' e same = ap (λ (c : List (List MarkedPacket)). items m ∷ c) (kept_items ls i l l' e same)
 
 there : (ls : List Ends) (i : ℕ) (l : Ends) → slice_get ls i ≡ Some l → suc i < length ([] ∷ map items ls)
 there ls i l e = let w : i < length ls = get_within ls i l e in let n : length (map items ls) ≡ length ls = length-map ls items in omega arith
 
 -- ---- what enters and what is taken
 
-abbrev as_item : Packet × ℕ → Item
-as_item x = item_of x.0 x.1
+abbrev as_item : Packet × ℕ → MarkedPacket
+as_item x = marked_packet x.0 x.1
 
-entered_items : (e : Ends) (t : Packet) (mark : ℕ) (e' : Ends) → IsEntered e t mark e' → items e' ≡ items e ++ item_of t mark ∷ []
+entered_items : (e : Ends) (t : Packet) (mark : ℕ) (e' : Ends) → IsEntered e t mark e' → items e' ≡ items e ++ marked_packet t mark ∷ []
 entered_items e t mark e' h = ap (map as_item) h ∙ map-append as_item (content e) ((t, mark) ∷ [])
 
 passes_posted : (l : Class) (b : Bool) → passes l classes.Posted b ≡ false
@@ -86,7 +86,7 @@ and_both : (a b : Bool) → (a && b) ≡ true → (a ≡ true) × (b ≡ true)
 and_both true b e = (refl, e)
 and_both false b e = absurd (cc)
 
-all_passed : (t : Packet) (xs : List (Packet × ℕ)) → passes_each t xs ≡ true → Each (λ (a : Item). a.class ≢ classes.Posted) (map as_item xs)
+all_passed : (t : Packet) (xs : List (Packet × ℕ)) → passes_each t xs ≡ true → Each (λ (a : MarkedPacket). a.class ≢ classes.Posted) (map as_item xs)
 all_passed t [] h = tt
 all_passed t (x ∷ xs) h = let b = and_both (may_pass t x.0) (passes_each t xs) h in (not_posted t x.0 b.0, all_passed t xs b.1)
 
@@ -100,7 +100,7 @@ split [] ys n x e = absurd (cc)
 split (y ∷ xs) ys zero x e = let is : y ≡ x = cc in (xs ++ ys, ap (λ (z : Packet × ℕ). z ∷ (xs ++ ys)) is, refl)
 split (y ∷ xs) ys (suc n) x e = let (b, was, now) = split xs ys n x e in (b, ap (λ (l : List (Packet × ℕ)). y ∷ l) was, ap (λ (l : List (Packet × ℕ)). y ∷ l) now)
 
-taken_items : (e : Ends) (place : ℕ) (t : Packet) (mark : ℕ) (e' : Ends) → IsTakenAt e place t mark e' → IsTaken (items e) (item_of t mark) (items e')
+taken_items : (e : Ends) (place : ℕ) (t : Packet) (mark : ℕ) (e' : Ends) → IsTakenAt e place t mark e' → IsTaken (items e) (marked_packet t mark) (items e')
 taken_items e place t mark e' h =
     let (behind, was, now) = split e.receiver.queue (on_the_way e) place (t, mark) h.item in
     record {
@@ -115,8 +115,8 @@ pub head_is : (q way : List (Packet × ℕ)) (x : Packet × ℕ) → slice_get q
 head_is [] way x e = absurd (cc)
 head_is (y ∷ q) way x e = let is : y ≡ x = cc in ap (λ (z : Packet × ℕ). z ∷ (q ++ way)) is
 
-first_items : (e : Ends) (t : Packet) (mark : ℕ) (e' : Ends) → IsTakenAt e 0 t mark e' → items e ≡ item_of t mark ∷ items e'
-first_items e t mark e' h = ap (map as_item) (head_is e.receiver.queue (on_the_way e) (t, mark) h.item) ∙ ap (λ (l : List (Packet × ℕ)). item_of t mark ∷ map as_item l) (sym h.content)
+first_items : (e : Ends) (t : Packet) (mark : ℕ) (e' : Ends) → IsTakenAt e 0 t mark e' → items e ≡ marked_packet t mark ∷ items e'
+first_items e t mark e' h = ap (map as_item) (head_is e.receiver.queue (on_the_way e) (t, mark) h.item) ∙ ap (λ (l : List (Packet × ℕ)). marked_packet t mark ∷ map as_item l) (sym h.content)
 
 -- ---- a submission
 
@@ -137,7 +137,7 @@ no_reply (ops.Cas a w x y) b bytes = refl
 port_of : (p : ℕ) → p * 256 / 256 ≡ p
 port_of p = omega arith
 
-request_is : (s : Requesting) (i : ℕ) (op : Op) (n : ℕ) (t : Packet) → IsReady s op n t → s.port ≡ suc i → op_of t ≡ Some op → item_of t n ≡ request_item (suc i) t.tag s.next op
+request_is : (s : Requesting) (i : ℕ) (op : Op) (n : ℕ) (t : Packet) → IsReady s op n t → s.port ≡ suc i → op_of t ≡ Some op → marked_packet t n ≡ marked_request (suc i) t.tag s.next op
 request_is s i op n t r port asks = λ k. record {
   requester = (ap (λ (u : Packet). u.requester / 256) r.request ∙ (port_of s.port ∙ port)) k;
   tag = t.tag;
@@ -163,19 +163,19 @@ submit_is f i op f' e = submits (suc i) op (record {
     own : get_or f.requesters i unused ≡ e.requester
     own = get_is f.requesters i e.requester unused e.has_requester
 
-    lane_now : items e.lane_after ≡ get_or (map items f.up) i [] ++ request_item (suc i) e.request.tag (get_or f.requesters i unused).next op ∷ []
+    lane_now : items e.lane_after ≡ get_or (map items f.up) i [] ++ marked_request (suc i) e.request.tag (get_or f.requesters i unused).next op ∷ []
     lane_now = entered_items e.lane e.request e.number e.lane_after e.entered
-        ∙ (ap (λ (l : List Item). l ++ item_of e.request e.number ∷ []) (sym (get_items f.up i e.lane e.has_lane))
-        ∙ ap (λ (x : Item). get_or (map items f.up) i [] ++ x ∷ []) (request_is e.requester i op e.number e.request r e.own_port e.asks ∙ ap (λ (m : ℕ). request_item (suc i) e.request.tag m op) (ap (λ (q : Requesting). q.next) (sym own))))
+        ∙ (ap (λ (l : List MarkedPacket). l ++ marked_packet e.request e.number ∷ []) (sym (get_items f.up i e.lane e.has_lane))
+        ∙ ap (λ (x : MarkedPacket). get_or (map items f.up) i [] ++ x ∷ []) (request_is e.requester i op e.number e.request r e.own_port e.asks ∙ ap (λ (m : ℕ). marked_request (suc i) e.request.tag m op) (ap (λ (q : Requesting). q.next) (sym own))))
 
 -- ---- on the way
 
 pub forward_is : (f : Fabric) (i place : ℕ) (f' : Fabric) → IsForwarded f i place f' → Step (whole_of f) (whole_of f') []
 forward_is f i place f' e = forwards (suc i) (record {
   has_up = there f.up i e.lane e.has_lane;
-  item = item_of e.packet e.mark;
+  item = marked_packet e.packet e.mark;
   rest = items e.lane_after;
-  taken = subst (λ (l : List Item). IsTaken l (item_of e.packet e.mark) (items e.lane_after)) (sym (get_items f.up i e.lane e.has_lane)) (taken_items e.lane place e.packet e.mark e.lane_after e.taken);
+  taken = subst (λ (l : List MarkedPacket). IsTaken l (marked_packet e.packet e.mark) (items e.lane_after)) (sym (get_items f.up i e.lane e.has_lane)) (taken_items e.lane place e.packet e.mark e.lane_after e.taken);
   now = ap whole_of e.now ∙ (λ k. record (whole_of f) { up = [] ∷ set_items f.up i e.lane_after (items e.lane_after) refl k; inward = entered_items f.inward e.packet e.mark e.memory_lane e.entered k });
 }) refl
 
@@ -189,17 +189,17 @@ return_is f i place f' e = returns (record {
       ∙ ap (λ (n : ℕ). record (whole_of f) { outward = items e.lane_after; down = slice_set ([] ∷ map items f.down) n (get_or ([] ∷ map items f.down) n [] ++ x ∷ []) }) (sym e.port));
 }) refl
   where
-    x : Item
-    x = item_of e.packet e.mark
+    x : MarkedPacket
+    x = marked_packet e.packet e.mark
 
-    lane_now : items e.port_lane ≡ get_or (map items f.down) i [] ++ item_of e.packet e.mark ∷ []
-    lane_now = entered_items e.lane e.packet e.mark e.port_lane e.entered ∙ ap (λ (l : List Item). l ++ item_of e.packet e.mark ∷ []) (sym (get_items f.down i e.lane e.has_lane))
+    lane_now : items e.port_lane ≡ get_or (map items f.down) i [] ++ marked_packet e.packet e.mark ∷ []
+    lane_now = entered_items e.lane e.packet e.mark e.port_lane e.entered ∙ ap (λ (l : List MarkedPacket). l ++ marked_packet e.packet e.mark ∷ []) (sym (get_items f.down i e.lane e.has_lane))
 
 pub collect_is : (f : Fabric) (i : ℕ) (a : Answer) (f' : Fabric) → IsCollected f i a f' → Step (whole_of f) (whole_of f') (Ans (suc i) a.number a.reply (length f.memory.entries) ∷ [])
 collect_is f i a f' e = collects (suc i) a.number a.reply (record {
   known = (let w : i < length f.requesters = get_within f.requesters i e.requester e.has_requester in omega arith);
   has_down = there f.down i e.lane e.has_lane;
-  item = item_of e.packet e.mark;
+  item = marked_packet e.packet e.mark;
   rest = items e.lane_after;
   first = get_items f.down i e.lane e.has_lane ∙ first_items e.lane e.packet e.mark e.lane_after e.taken;
   requester = after_finish e.requester e.packet;
@@ -264,13 +264,13 @@ completed t replies.Unsupported n = (_, refl)
 completed t replies.Aborted n = (_, refl)
 
 entered_for : (t : Packet) (mark : ℕ) (op : Op) (r : Reply) → op_of t ≡ Some op → (is_posted op ≡ false → r ≢ replies.Done) → (b : Bool) → is_posted op ≡ b
-    → map as_item (are_entered (completion_of t r) mark) ≡ completions_for (record (item_of t mark) { op = op }) r
+    → map as_item (are_entered (completion_of t r) mark) ≡ completions_for (record (marked_packet t mark) { op = op }) r
 entered_for t mark op r asks n true p =
     ap (λ (c : Option Packet). map as_item (are_entered c mark)) (written t.kind t.body t.length t.payload op (completion_for t r) asks p) ∙ rw p refl
 entered_for t mark op r asks n false p =
     let (c, is) = completed t r (n p) in
     let made : completion_of t r ≡ Some c = asked t.kind t.body t.length t.payload op (completion_for t r) asks p ∙ is in
-    ap (λ (c : Option Packet). map as_item (are_entered c mark)) made ∙ (ap (λ (x : Item). x ∷ []) (completion_is t c mark r made) ∙ rw p refl)
+    ap (λ (c : Option Packet). map as_item (are_entered c mark)) made ∙ (ap (λ (x : MarkedPacket). x ∷ []) (completion_is t c mark r made) ∙ rw p refl)
 
 sized_as : (op : Op) (r : Reply) → IsSizedFor op r → FitsSize (count_of op) r
 sized_as op (replies.Data bytes) h = h
@@ -279,14 +279,14 @@ sized_as op replies.Unsupported h = tt
 sized_as op replies.Aborted h = tt
 
 module _ (f : Fabric) (place : ℕ) (f' : Fabric) (e : IsServed f place f') (is_sized : IsSizedFor e.op (answer f.memory.block f.memory.base (bytes_of f.memory) e.op)) where
-  abbrev g : Rattle.fabric_laws.specs.Whole.Shape
-  g = (whole_of f).shape
+  abbrev g : Rattle.fabric_laws.specs.Whole.Extent
+  g = (whole_of f).extent
 
   abbrev h : List Entry
   h = f.memory.entries
 
-  abbrev x : Item
-  x = item_of e.packet e.mark
+  abbrev x : MarkedPacket
+  x = marked_packet e.packet e.mark
 
   op_is : unwrap_or (op_of e.packet) no_op ≡ e.op
   op_is = ap (λ (o : Option Op). unwrap_or o no_op) e.asks
@@ -303,12 +303,12 @@ module _ (f : Fabric) (place : ℕ) (f' : Fabric) (e : IsServed f place f') (is_
   completion_made : completion_to f.memory e.packet ≡ completion_of e.packet reply
   completion_made = ap (λ (o : Option Op). option_and_then (λ p. completion_of e.packet (answer f.memory.block f.memory.base (bytes_of f.memory) p)) o) e.asks
 
-  back : completions_for (record x { op = e.op }) reply ≡ completions_for x (reply_of g h x.op)
-  back = unfold reply_of in ap (λ (o : Op). completions_for (record x { op = o }) (answer f.memory.block f.memory.base (bytes_of f.memory) o)) (sym op_is)
+  back : completions_for (record x { op = e.op }) reply ≡ completions_for x (reply_after g h x.op)
+  back = unfold reply_after in ap (λ (o : Op). completions_for (record x { op = o }) (answer f.memory.block f.memory.base (bytes_of f.memory) o)) (sym op_is)
 
-  lane_now : items e.completion_lane ≡ items f.outward ++ completions_for x (reply_of g h x.op)
+  lane_now : items e.completion_lane ≡ items f.outward ++ completions_for x (reply_after g h x.op)
   lane_now = ap (map as_item) e.entered ∙ (map-append as_item (content f.outward) (are_entered (completion_to f.memory e.packet) e.mark)
-      ∙ ap (λ (l : List Item). items f.outward ++ l)
+      ∙ ap (λ (l : List MarkedPacket). items f.outward ++ l)
       (ap (λ (c : Option Packet). map as_item (are_entered c e.mark)) completion_made
       ∙ (entered_for e.packet e.mark e.op reply e.asks (λ p. never_done (refusal f.memory.block f.memory.base (length (bytes_of f.memory)) e.op) e.op _ p) (is_posted e.op) refl ∙ back)))
 
@@ -317,7 +317,7 @@ module _ (f : Fabric) (place : ℕ) (f' : Fabric) (e : IsServed f place f') (is_
     item = x;
     rest = items e.lane_after;
     taken = taken_items f.inward place e.packet e.mark e.lane_after e.taken;
-    sized = subst (λ (o : Op). FitsSize (count_of o) (reply_of g h o)) (sym op_is) (unfold reply_of in sized_as e.op _ is_sized);
+    sized = subst (λ (o : Op). FitsSize (count_of o) (reply_after g h o)) (sym op_is) (unfold reply_after in sized_as e.op _ is_sized);
     now = ap whole_of e.now ∙ (ap (λ (m : State). whole_of (record f { memory = m; inward = e.lane_after; outward = e.completion_lane })) grows
         ∙ (λ k. record (whole_of f) { history = h ++ record { requester = e.packet.requester / 256; number = e.mark; op = sym op_is k } ∷ []; inward = items e.lane_after; outward = lane_now k }));
   }) refl

@@ -3,7 +3,7 @@ use Rattle.std.proofs.Common.{◌≡◌, ◌≢◌, ℕ, ◌+◌, Bool, true, fa
 use Rattle.std.proofs.lemmas.List.{map-append}
 use Rattle.dllp_core.specs.declared.packet.Class.TheVariants as classes
 use Rattle.fabric_laws.specs.Lists.{Each, Pairs, one_if}
-use Rattle.fabric_laws.specs.Whole.{Entry, Item, Op, Class, class_of_op, is_posted, View, Requesting, size_at, path, entry_of, Shape}
+use Rattle.fabric_laws.specs.Whole.{Entry, MarkedPacket, Op, Class, class_of_op, is_posted, View, Requesting, size_at, path, entry_of, Extent}
 use Rattle.history_check.specs.Trace.{is_request}
 use Rattle.fabric_laws.specs.Sound.{times, is_answer, answers, InOrder, IsRequest, IsRequestOf, IsCompletion, IsCompletionFor, IsTagged, IsAskedBy, IsSized, IsReplyFor, SoundAt}
 use Rattle.fabric_laws.proofs.Lists.{each_append, each_split, each_weaken, each_always, each_insert, each_remove, each_overtake, pairs_insert, pairs_overtake, count_insert, count_push, count_map_insert, count_map_push}
@@ -17,19 +17,19 @@ overtaken o c e n = go (is_posted o) refl
     go true is = absurd (n (e ∙ rw is refl))
 
 -- what is passed is no posted request
-pub passed : (a : Item) → IsRequest a → a.class ≢ classes.Posted → is_posted a.op ≡ false
+pub passed : (a : MarkedPacket) → IsRequest a → a.class ≢ classes.Posted → is_posted a.op ≡ false
 passed a r n = overtaken a.op a.class r n
 
-pub passed_in_order : (i : ℕ) (x : Item) (before : List Item) → Each IsRequest before → Each (λ (a : Item). a.class ≢ classes.Posted) before → Each (InOrder i (entry_of x)) (map entry_of before)
+pub passed_in_order : (i : ℕ) (x : MarkedPacket) (before : List MarkedPacket) → Each IsRequest before → Each (λ (a : MarkedPacket). a.class ≢ classes.Posted) before → Each (InOrder i (entry_of x)) (map entry_of before)
 passed_in_order i x [] r p = tt
 passed_in_order i x (a ∷ as') r p = ((λ own its posted_a. absurd (let n : is_posted a.op ≡ false = passed a r.0 p.0 in let y : is_posted a.op ≡ true = posted_a in cc)), passed_in_order i x as' r.1 p.1)
 
-module _ (i : ℕ) (g : Shape) (h : List Entry) (w o d before behind : List Item) (q : Requesting) (x : Item) where
+module _ (i : ℕ) (g : Extent) (h : List Entry) (w o d before behind : List MarkedPacket) (q : Requesting) (x : MarkedPacket) where
   abbrev was_up : View
-  was_up = record { shape = g; history = h; inward = w; outward = o; up = before ++ x ∷ behind; down = d; requester = q }
+  was_up = record { extent = g; history = h; inward = w; outward = o; up = before ++ x ∷ behind; down = d; requester = q }
 
   abbrev now_up : View
-  now_up = record { shape = g; history = h; inward = w ++ x ∷ []; outward = o; up = before ++ behind; down = d; requester = q }
+  now_up = record { extent = g; history = h; inward = w ++ x ∷ []; outward = o; up = before ++ behind; down = d; requester = q }
 
   path_was : path was_up ≡ (h ++ map entry_of w) ++ (map entry_of before ++ entry_of x ∷ map entry_of behind)
   path_was = simp (map-append, append_assoc)
@@ -41,7 +41,7 @@ module _ (i : ℕ) (g : Shape) (h : List Entry) (w o d before behind : List Item
   pub forward_path : (P : Entry → Type 0) → Each P (path was_up) → Each P (path now_up)
   forward_path P a = subst (Each P) (sym path_now) (each_overtake P (h ++ map entry_of w) (map entry_of before) (map entry_of behind) (entry_of x) (subst (Each P) path_was a))
 
-  pub forward_keeps : SoundAt i was_up → Each (λ (a : Item). a.class ≢ classes.Posted) before → SoundAt i now_up
+  pub forward_keeps : SoundAt i was_up → Each (λ (a : MarkedPacket). a.class ≢ classes.Posted) before → SoundAt i now_up
   forward_keeps s p =
       let parts : IsRequestOf i x × Each (IsRequestOf i) (before ++ behind) = each_remove (IsRequestOf i) before behind x s.own_requests in
       let asked : Each IsRequest before = each_weaken (IsRequestOf i) IsRequest before (λ a r. r.1) (each_split (IsRequestOf i) before behind parts.1).0 in
@@ -68,7 +68,7 @@ module _ (i : ℕ) (g : Shape) (h : List Entry) (w o d before behind : List Item
       }
 
 -- of another requester
-module _ (j : ℕ) (v : View) (x : Item) (ne : x.requester ≢ j) where
+module _ (j : ℕ) (v : View) (x : MarkedPacket) (ne : x.requester ≢ j) where
   abbrev more : View
   more = record v { inward = v.inward ++ x ∷ [] }
 
@@ -108,9 +108,9 @@ module _ (j : ℕ) (v : View) (x : Item) (ne : x.requester ≢ j) where
 
 -- a completion
 
-module _ (i : ℕ) (g : Shape) (h : List Entry) (w u d before behind : List Item) (q : Requesting) (c : Item) where
+module _ (i : ℕ) (g : Extent) (h : List Entry) (w u d before behind : List MarkedPacket) (q : Requesting) (c : MarkedPacket) where
   abbrev was_out : View
-  was_out = record { shape = g; history = h; inward = w; outward = before ++ c ∷ behind; up = u; down = d; requester = q }
+  was_out = record { extent = g; history = h; inward = w; outward = before ++ c ∷ behind; up = u; down = d; requester = q }
 
   pub back_keeps : SoundAt i was_out → c.requester ≡ i → SoundAt i (record was_out { outward = before ++ behind; down = d ++ c ∷ [] })
   back_keeps s own =

@@ -4,7 +4,7 @@ use Rattle.std.proofs.lemmas.List.{append-nil}
 use mathlib.Core.Logic.{dite}
 use native.Mathlib.Decide.{ℕ_discrete}
 use Rattle.fabric_laws.specs.Lists.{Each}
-use Rattle.fabric_laws.specs.Whole.{Entry, Item, Whole, View, view, path, up_of, down_of, requester_of, entry_of, memory_of}
+use Rattle.fabric_laws.specs.Whole.{Entry, MarkedPacket, Whole, View, view, path, up_of, down_of, requester_of, entry_of, memory_of}
 use Rattle.fabric_laws.specs.Sound.{Sound, IsRequestOf}
 use Rattle.history_check.specs.declared.Record.{Record}
 use Rattle.history_check.specs.declared.Record.TheVariants.{Sub, Ans}
@@ -21,14 +21,14 @@ use Rattle.fabric_laws.proofs.Belongs.{Silent, silent_belongs, submit_belongs, c
 
 pub forward_silent : (p : Whole) (i : ℕ) (p' : Whole) → Sound p → IsForward p i p' → Silent p p'
 forward_silent p i p' s e = subst (Silent p) (sym e.now) (record {
-  same_shape = refl;
+  same_extent = refl;
   new = [];
   grows = sym (append-nil p.history);
   requesters = λ j. refl;
   paths = λ j P f a. dite (ℕ_discrete j i)
-      (λ is. subst (λ (v : View). Each P (path v)) (sym (view_up p (p.inward ++ e.item ∷ []) i j e.rest is e.has_up ∙ ap (λ (u : List Item). record (view p j) { up = u; inward = p.inward ++ e.item ∷ [] }) e.taken.now))
-      (forward_path j p.shape p.history p.inward p.outward (down_of p j) e.taken.before e.taken.behind (requester_of p j) e.item P
-      (subst (λ (u : List Item). Each P (path (record (view p j) { up = u }))) (ap (up_of p) is ∙ e.taken.was) a)))
+      (λ is. subst (λ (v : View). Each P (path v)) (sym (view_up p (p.inward ++ e.item ∷ []) i j e.rest is e.has_up ∙ ap (λ (u : List MarkedPacket). record (view p j) { up = u; inward = p.inward ++ e.item ∷ [] }) e.taken.now))
+      (forward_path j p.extent p.history p.inward p.outward (down_of p j) e.taken.before e.taken.behind (requester_of p j) e.item P
+      (subst (λ (u : List MarkedPacket). Each P (path (record (view p j) { up = u }))) (ap (up_of p) is ∙ e.taken.was) a)))
       (λ ne. subst (λ (v : View). Each P (path v)) (sym (view_up_other p (p.inward ++ e.item ∷ []) i j e.rest ne))
       (other_path j (view p j) e.item (λ h. ne (sym h ∙ own)) P f a));
 })
@@ -38,18 +38,18 @@ forward_silent p i p' s e = subst (Silent p) (sym e.now) (record {
 
 pub serve_silent : (p p' : Whole) → IsServe p p' → Silent p p'
 serve_silent p p' e = subst (Silent p) (sym e.now) (record {
-  same_shape = refl;
+  same_extent = refl;
   new = entry_of e.item ∷ [];
   grows = refl;
   requesters = λ j. refl;
-  paths = λ j P f a. subst (λ (w : List Item). Each P (path (record (view p j) { history = p.history ++ entry_of e.item ∷ []; inward = w }))) (sym e.taken.now)
-      (serve_path j p.shape p.history p.outward (up_of p j) (down_of p j) e.taken.before e.taken.behind (requester_of p j) e.item P
-      (subst (λ (w : List Item). Each P (path (record (view p j) { inward = w }))) e.taken.was a));
+  paths = λ j P f a. subst (λ (w : List MarkedPacket). Each P (path (record (view p j) { history = p.history ++ entry_of e.item ∷ []; inward = w }))) (sym e.taken.now)
+      (serve_path j p.extent p.history p.outward (up_of p j) (down_of p j) e.taken.before e.taken.behind (requester_of p j) e.item P
+      (subst (λ (w : List MarkedPacket). Each P (path (record (view p j) { inward = w }))) e.taken.was a));
 })
 
 pub return_silent : (p p' : Whole) → IsReturn p p' → Silent p p'
 return_silent p p' e = subst (Silent p) (sym e.now) (record {
-  same_shape = refl;
+  same_extent = refl;
   new = [];
   grows = sym (append-nil p.history);
   requesters = λ j. refl;

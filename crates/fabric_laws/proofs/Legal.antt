@@ -5,7 +5,7 @@ use Rattle.std.proofs.lemmas.Bool.Decides.{nat_tests}
 use native.Mathlib.Decide.{dec_lt}
 use mathlib.Core.Logic.{dite}
 use Rattle.fabric_laws.specs.Lists.{one_if, count}
-use Rattle.fabric_laws.specs.Whole.{Op, is_posted, Entry, Item, View, Whole, view, path, entry_of, open_at}
+use Rattle.fabric_laws.specs.Whole.{Op, is_posted, Entry, MarkedPacket, View, Whole, view, path, entry_of, open_number}
 use Rattle.history_check.specs.Trace.{is_request}
 use Rattle.fabric_laws.specs.Sound.{is_answer, times, answers, served, Sound, SoundAt, InOrder}
 use Rattle.history_check.specs.Trace.{stands, IsLegal}
@@ -65,16 +65,16 @@ legal p s sound m n e at = record {
 pub quiet_acted : (i : ℕ) (v : View) → SoundAt i v → v.inward ≡ [] → v.up ≡ [] → (k : ℕ) → k < v.requester.next → times i k v.history ≡ 1
 quiet_acted i v s a b k less =
     let c : times i k (path v) ≡ times i k v.history + (times i k (map entry_of v.inward) + times i k (map entry_of v.up)) = path_times i k v in
-    let d : times i k (map entry_of v.inward) ≡ 0 = ap (λ (l : List Item). times i k (map entry_of l)) a ∙ count_nil (is_request i k) in
-    let e : times i k (map entry_of v.up) ≡ 0 = ap (λ (l : List Item). times i k (map entry_of l)) b ∙ count_nil (is_request i k) in
+    let d : times i k (map entry_of v.inward) ≡ 0 = ap (λ (l : List MarkedPacket). times i k (map entry_of l)) a ∙ count_nil (is_request i k) in
+    let e : times i k (map entry_of v.up) ≡ 0 = ap (λ (l : List MarkedPacket). times i k (map entry_of l)) b ∙ count_nil (is_request i k) in
     let f : times i k (path v) ≡ 1 = s.whole k ∙ below_counted v.requester.next k less in
     omega arith
 
-pub quiet_open : (i : ℕ) (v : View) → SoundAt i v → v.inward ≡ [] → v.up ≡ [] → v.outward ≡ [] → v.down ≡ [] → (t k : ℕ) → open_at v.requester t ≢ Some k
+pub quiet_open : (i : ℕ) (v : View) → SoundAt i v → v.inward ≡ [] → v.up ≡ [] → v.outward ≡ [] → v.down ≡ [] → (t k : ℕ) → open_number v.requester t ≢ Some k
 quiet_open i v s a b c d t k o =
     let one : times i k v.history ≡ 1 = quiet_acted i v s a b k (s.open_below t k o) in
     let e : answers i t v.outward ≡ 0 = ap (answers i t) c ∙ count_nil (is_answer i t) in
     let f : answers i t v.down ≡ 0 = ap (answers i t) d ∙ count_nil (is_answer i t) in
-    let g : served i (open_at v.requester t) v.history ≡ times i k v.history = ap (λ (x : Option ℕ). served i x v.history) o in
-    let h : answers i t v.outward + answers i t v.down ≡ served i (open_at v.requester t) v.history = s.under_way t in
+    let g : served i (open_number v.requester t) v.history ≡ times i k v.history = ap (λ (x : Option ℕ). served i x v.history) o in
+    let h : answers i t v.outward + answers i t v.down ≡ served i (open_number v.requester t) v.history = s.under_way t in
     omega arith

@@ -10,10 +10,10 @@ use Rattle.tlp_core.specs.Operation.{op_of, op_at}
 use Rattle.seq_memory.specs.declared.Reply.{Reply}
 use Rattle.seq_memory.specs.declared.Reply.TheVariants as replies
 use Rattle.completer_core.specs.Completion.{completion_of, completion_for, unless_posted}
-use Rattle.fabric_laws.specs.Whole.{Op, class_of_op, no_op, completion_item}
+use Rattle.fabric_laws.specs.Whole.{Op, class_of_op, no_op, marked_completion}
 use Rattle.fabric_laws.specs.Sound.{IsRequest}
 use Rattle.fc_credit.specs.Needs.{class_of}
-use Rattle.fabric_laws.specs.Packets.{item_of}
+use Rattle.fabric_laws.specs.Packets.{marked_packet}
 
 class_at : (k : Kind) (b : Body) (dw : ℕ) (bytes : List ℕ) (op : Op) → op_at k b dw bytes ≡ Some op → class_of k ≡ class_of_op (unwrap_or (op_at k b dw bytes) no_op)
 class_at kinds.MemoryRead (bodies.Request a f l) dw bytes op e = refl
@@ -29,20 +29,20 @@ class_at kinds.FetchAdd (bodies.Completion c s n l) dw bytes op e = absurd (cc)
 class_at kinds.Swap (bodies.Completion c s n l) dw bytes op e = absurd (cc)
 class_at kinds.Cas (bodies.Completion c s n l) dw bytes op e = absurd (cc)
 
-pub request_is : (t : Packet) (mark : ℕ) (op : Op) → op_of t ≡ Some op → IsRequest (item_of t mark)
+pub request_is : (t : Packet) (mark : ℕ) (op : Op) → op_of t ≡ Some op → IsRequest (marked_packet t mark)
 request_is t mark op e = class_at t.kind t.body t.length t.payload op e
 
-carries : (t c : Packet) (mark : ℕ) (reply : Reply) → completion_for t reply ≡ Some c → item_of c mark ≡ completion_item (item_of t mark) reply
+carries : (t c : Packet) (mark : ℕ) (reply : Reply) → completion_for t reply ≡ Some c → marked_packet c mark ≡ marked_completion (marked_packet t mark) reply
 carries t c mark replies.Done e = absurd (cc)
-carries t c mark (replies.Data bytes) e = let P : Packet → Type 0 = λ x. item_of x mark ≡ completion_item (item_of t mark) (replies.Data bytes) in let is : _ ≡ c = some_is e in subst P is refl
+carries t c mark (replies.Data bytes) e = let P : Packet → Type 0 = λ x. marked_packet x mark ≡ marked_completion (marked_packet t mark) (replies.Data bytes) in let is : _ ≡ c = some_is e in subst P is refl
   where
     some_is : {x y : Packet} → Some x ≡ Some y → x ≡ y
     some_is h = cc
-carries t c mark replies.Unsupported e = let P : Packet → Type 0 = λ x. item_of x mark ≡ completion_item (item_of t mark) replies.Unsupported in subst P (some_is e) refl
+carries t c mark replies.Unsupported e = let P : Packet → Type 0 = λ x. marked_packet x mark ≡ marked_completion (marked_packet t mark) replies.Unsupported in subst P (some_is e) refl
   where
     some_is : {x y : Packet} → Some x ≡ Some y → x ≡ y
     some_is h = cc
-carries t c mark replies.Aborted e = let P : Packet → Type 0 = λ x. item_of x mark ≡ completion_item (item_of t mark) replies.Aborted in subst P (some_is e) refl
+carries t c mark replies.Aborted e = let P : Packet → Type 0 = λ x. marked_packet x mark ≡ marked_completion (marked_packet t mark) replies.Aborted in subst P (some_is e) refl
   where
     some_is : {x y : Packet} → Some x ≡ Some y → x ≡ y
     some_is h = cc
@@ -57,5 +57,5 @@ not_written kinds.Completion o c e = e
 not_written kinds.CompletionData o c e = e
 
 -- the completion of a request, as an item
-pub completion_is : (t c : Packet) (mark : ℕ) (reply : Reply) → completion_of t reply ≡ Some c → item_of c mark ≡ completion_item (item_of t mark) reply
+pub completion_is : (t c : Packet) (mark : ℕ) (reply : Reply) → completion_of t reply ≡ Some c → marked_packet c mark ≡ marked_completion (marked_packet t mark) reply
 completion_is t c mark reply e = carries t c mark reply (not_written t.kind (completion_for t reply) c e)

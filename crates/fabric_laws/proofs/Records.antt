@@ -15,7 +15,7 @@ use Rattle.history_check.specs.declared.Record.{Record}
 use Rattle.history_check.specs.declared.Record.TheVariants.{Sub, Ans}
 use Rattle.history_check.specs.Trace.{submission, submissions, answers_to}
 use Rattle.fabric_laws.specs.Lists.{one_if, count}
-use Rattle.fabric_laws.specs.Whole.{Shape, reply_of}
+use Rattle.fabric_laws.specs.Whole.{Extent, reply_after}
 
 test : (b : Bool) → (b ≡ true) ⊎ (b ≡ false)
 test true = inl refl
@@ -82,5 +82,5 @@ some_any p xs h = ⊎_elim
 -- ---- replies
 
 -- the reply at the place of an entry
-pub reply_there : (g : Shape) (h : List Entry) (p : ℕ) (e : Entry) → slice_get h p ≡ Some e → reply_at g.block g.base g.size h p ≡ Some (reply_of g (take p h) e.op)
-reply_there g h p e at = unfold reply_of in ap (option_map (λ (e : Entry). answer g.block g.base (contents g.block g.base g.size (take p h)) e.op)) at
+pub reply_there : (g : Extent) (h : List Entry) (p : ℕ) (e : Entry) → slice_get h p ≡ Some e → reply_at g h p ≡ Some (reply_after g (take p h) e.op)
+reply_there g h p e at = unfold reply_after in ap (option_map (λ (e : Entry). answer g.block g.base (contents g (take p h)) e.op)) at

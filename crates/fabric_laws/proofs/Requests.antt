@@ -18,12 +18,12 @@ use Rattle.tlp_core.specs.Packet.{Packet}
 use Rattle.tlp_core.specs.Operation.{is_posted, count_of, size_of}
 use Rattle.seq_memory.specs.declared.Reply.{Reply}
 use Rattle.seq_memory.specs.declared.Reply.TheVariants as replies
-use Rattle.requester_core.specs.declared.requester.Open.{Open}
+use Rattle.requester_core.specs.declared.requester.OpenRequest.{OpenRequest}
 use Rattle.requester_core.specs.declared.requester.Answer.{Answer}
 use Rattle.requester_core.specs.declared.fault.CompletionFault.{CompletionFault}
 use Rattle.requester_core.specs.Request.{request_for}
-use Rattle.requester_core.specs.Requesting.{Requesting, lowest_free, lacks_tag, tag_for, prepared, prepared_by, after_opened, completed, is_ours, reply_of, answered, finished, finished_by, closes, after_finish, IsSound}
-use Rattle.fabric_laws.specs.Whole.{open_at, size_in}
+use Rattle.requester_core.specs.Requesting.{Requesting, lowest_free, lacks_tag, tag_for, prepared, prepared_by, after_opened, completed, is_ours, reply_carried, answered, finished, finished_by, closes, after_finish, IsSound}
+use Rattle.fabric_laws.specs.Whole.{open_number, size_in}
 use Rattle.fabric_laws.specs.Packets.{reply_in}
 use Rattle.fabric_laws.specs.Steps.{IsOpened, IsClosed}
 
@@ -45,22 +45,22 @@ ready s op n t e =
     let r = prepared_as (Rattle.tlp_core.specs.Operation.op_fault op) (lacks_tag s op) (s.next == 4294967295) s.next (request_for s.port (tag_for s op) op) n t e in
     record { has_tag = r.0; number = r.1; request = r.2 }
 
-free_there : (tags : List (Option Open)) → get_or tags (lowest_free tags) None ≡ None
+free_there : (tags : List (Option OpenRequest)) → get_or tags (lowest_free tags) None ≡ None
 free_there [] = refl
 free_there (None ∷ xs) = refl
 free_there (Some o ∷ xs) = let n : suc (lowest_free xs) ≡ lowest_free (Some o ∷ xs) = omega arith in subst (λ (n : ℕ). get_or (Some o ∷ xs) n None ≡ None) n (free_there xs)
 
-opened_at : (s : Requesting) (op : Op) (o : Open) → is_posted op ≡ false → lowest_free s.open_tags < length s.open_tags → o.number ≡ s.next → o.size ≡ count_of op
+opened_at : (s : Requesting) (op : Op) (o : OpenRequest) → is_posted op ≡ false → lowest_free s.open_tags < length s.open_tags → o.number ≡ s.next → o.size ≡ count_of op
     → IsOpened s (lowest_free s.open_tags) op (record { port = s.port; next = s.next + 1; open_tags = slice_set s.open_tags (lowest_free s.open_tags) (Some o) })
 opened_at s op o n l number size = record {
   next = refl;
   posted = λ p. absurd (cc);
-  free = λ _. ap (option_map (λ (o : Open). o.number)) (free_there s.open_tags);
-  opened = λ _. ap (option_map (λ (o : Open). o.number)) (get_or-set_same s.open_tags (lowest_free s.open_tags) (Some o) None l) ∙ ap Some number;
-  others = λ t ne. ap (option_map (λ (o : Open). o.number)) (get_or-set_other s.open_tags (lowest_free s.open_tags) t (Some o) None ne);
+  free = λ _. ap (option_map (λ (o : OpenRequest). o.number)) (free_there s.open_tags);
+  opened = λ _. ap (option_map (λ (o : OpenRequest). o.number)) (get_or-set_same s.open_tags (lowest_free s.open_tags) (Some o) None l) ∙ ap Some number;
+  others = λ t ne. ap (option_map (λ (o : OpenRequest). o.number)) (get_or-set_other s.open_tags (lowest_free s.open_tags) t (Some o) None ne);
   sized = λ _. ap size_in (get_or-set_same s.open_tags (lowest_free s.open_tags) (Some o) None l) ∙ size;
   kept = λ t k e. ap size_in (get_or-set_other s.open_tags (lowest_free s.open_tags) t (Some o) None
-      (λ at. absurd (let z : open_at s t ≡ None = ap (open_at s) at ∙ ap (option_map (λ (o : Open). o.number)) (free_there s.open_tags) in cc)));
+      (λ at. absurd (let z : open_number s t ≡ None = ap (open_number s) at ∙ ap (option_map (λ (o : OpenRequest). o.number)) (free_there s.open_tags) in cc)));
 }
 
 in_range : (s : Requesting) → IsSound s → (lowest_free s.open_tags == 256) ≡ false → lowest_free s.open_tags < length s.open_tags
@@ -101,7 +101,7 @@ opened_is s op n t h e =
 
 -- ---- a completion is finished
 
-finished_as : (c : Option Open) (t : Packet) (a : Answer) → finished_by c t ≡ Ok a → (o : Open) × (c ≡ Some o) × (answered o.number (reply_of o.size t.kind t.body t.payload) ≡ Ok a)
+finished_as : (c : Option OpenRequest) (t : Packet) (a : Answer) → finished_by c t ≡ Ok a → (o : OpenRequest) × (c ≡ Some o) × (answered o.number (reply_carried o.size t.kind t.body t.payload) ≡ Ok a)
 finished_as None t a e = absurd (cc)
 finished_as (Some o) t a e = (o, refl, e)
 
@@ -111,7 +111,7 @@ answered_as n (Some x) a e =
     let is : record { number = n; reply = x } ≡ a = cc in
     (x, refl, ap (λ (y : Answer). y.number) (sym is), ap (λ (y : Answer). y.reply) (sym is))
 
-chosen : (b : Bool) (x : Option Open) (o : Open) → (if b then x else None) ≡ Some o → x ≡ Some o
+chosen : (b : Bool) (x : Option OpenRequest) (o : OpenRequest) → (if b then x else None) ≡ Some o → x ≡ Some o
 chosen true x o e = e
 chosen false x o e = absurd (cc)
 
@@ -119,7 +119,7 @@ if_some : (b : Bool) (x r : Reply) → (if b then Some x else None) ≡ Some r �
 if_some true x r e = cc
 if_some false x r e = absurd (cc)
 
-pub reply_is : (size : ℕ) (k : Kind) (b : Body) (bytes : List ℕ) (r : Reply) → reply_of size k b bytes ≡ Some r → reply_in k b bytes ≡ r
+pub reply_is : (size : ℕ) (k : Kind) (b : Body) (bytes : List ℕ) (r : Reply) → reply_carried size k b bytes ≡ Some r → reply_in k b bytes ≡ r
 reply_is size kinds.CompletionData (bodies.Completion c statuses.Success n l) bytes r e = if_some (length bytes == size) (replies.Data (record { items = bytes })) r e
 reply_is size kinds.CompletionData (bodies.Completion c statuses.Unsupported n l) bytes r e = absurd (cc)
 reply_is size kinds.CompletionData (bodies.Completion c statuses.Aborted n l) bytes r e = absurd (cc)
@@ -135,7 +135,7 @@ reply_is size kinds.Swap b bytes r e = absurd (cc)
 reply_is size kinds.Cas b bytes r e = absurd (cc)
 
 -- a tag that is set to none is not open
-closed_at : (tags : List (Option Open)) (t : ℕ) → get_or (slice_set tags t None) t None ≡ None
+closed_at : (tags : List (Option OpenRequest)) (t : ℕ) → get_or (slice_set tags t None) t None ≡ None
 closed_at [] t = refl
 closed_at (x ∷ xs) zero = refl
 closed_at (x ∷ xs) (suc t) = closed_at xs t
@@ -147,14 +147,14 @@ pub record IsFinished (s : Requesting) (t : Packet) (a : Answer) : Type 0 where
 pub finished_is : (s : Requesting) (t : Packet) (a : Answer) → finished s t ≡ Ok a → IsFinished s t a
 finished_is s t a e =
     let (o, c, f) = finished_as (completed s t) t a e in
-    let (x, r, number, reply) = answered_as o.number (reply_of o.size t.kind t.body t.payload) a f in
+    let (x, r, number, reply) = answered_as o.number (reply_carried o.size t.kind t.body t.payload) a f in
     let there : get_or s.open_tags t.tag None ≡ Some o = chosen (is_ours s t) (get_or s.open_tags t.tag None) o c in
     record {
       closed = subst (λ (q : Requesting). IsClosed s t.tag a.number q) (sym (ap (λ (r : Result Answer CompletionFault). closes r s t.tag) e)) (record {
         next = refl;
-        was_open = ap (option_map (λ (o : Open). o.number)) there ∙ ap Some (sym number);
-        closed = ap (option_map (λ (o : Open). o.number)) (closed_at s.open_tags t.tag);
-        others = λ u ne. ap (option_map (λ (o : Open). o.number)) (get_or-set_other s.open_tags t.tag u None None ne);
+        was_open = ap (option_map (λ (o : OpenRequest). o.number)) there ∙ ap Some (sym number);
+        closed = ap (option_map (λ (o : OpenRequest). o.number)) (closed_at s.open_tags t.tag);
+        others = λ u ne. ap (option_map (λ (o : OpenRequest). o.number)) (get_or-set_other s.open_tags t.tag u None None ne);
         sizes = λ u ne. ap size_in (get_or-set_other s.open_tags t.tag u None None ne);
       });
       replied = reply ∙ sym (reply_is o.size t.kind t.body t.payload x r);

@@ -16,16 +16,16 @@ use Rattle.seq_memory.specs.Step.{answer}
 use Rattle.seq_memory.specs.History.{bytes_of}
 use Rattle.completer_core.specs.Completion.{completion_for, completion_of}
 use Rattle.completer_core.specs.Serving.{completion_to}
-use Rattle.requester_core.specs.declared.requester.Open.{Open}
+use Rattle.requester_core.specs.declared.requester.OpenRequest.{OpenRequest}
 use Rattle.requester_core.specs.declared.requester.Answer.{Answer}
 use Rattle.requester_core.specs.declared.fault.CompletionFault.{CompletionFault}
-use Rattle.requester_core.specs.Requesting.{Requesting, after_opened, after_finish, completed, is_ours, reply_of, answered, finished, finished_by, closes}
+use Rattle.requester_core.specs.Requesting.{Requesting, after_opened, after_finish, completed, is_ours, reply_carried, answered, finished, finished_by, closes}
 use Rattle.lane_core.specs.Steps.{Ends}
 use Rattle.lane_core.specs.Calls.{content, on_the_way}
 use Rattle.fabric_laws.specs.Lists.{Each}
-use Rattle.fabric_laws.specs.Whole.{view, open_at, size_at, size_in, FitsSize, unused}
+use Rattle.fabric_laws.specs.Whole.{view, open_number, size_at, size_in, FitsSize, unused}
 use Rattle.fabric_laws.specs.Sound.{Sound}
-use Rattle.fabric_laws.specs.Packets.{item_of, reply_in}
+use Rattle.fabric_laws.specs.Packets.{marked_packet, reply_in}
 use Rattle.fabric_laws.specs.Fabric.{Fabric, items, whole_of}
 use Rattle.fabric_laws.specs.Events.{IsEntered, IsTakenAt, are_entered, IsSubmitted, IsForwarded, IsServed, IsReturned, IsCollected, IsLinked}
 use Rattle.fabric_laws.specs.Expected.{IsExpected}
@@ -162,11 +162,11 @@ serve_routed f place f' r e =
 
 -- ---- what is collected is finished
 
-open_there : (o : Option Open) (n : ℕ) → option_map (λ (x : Open). x.number) o ≡ Some n → (x : Open) × (o ≡ Some x)
+open_there : (o : Option OpenRequest) (n : ℕ) → option_map (λ (x : OpenRequest). x.number) o ≡ Some n → (x : OpenRequest) × (o ≡ Some x)
 open_there None n e = absurd (cc)
 open_there (Some x) n e = (x, refl)
 
-fits_reply : (k : Kind) (b : Body) (bytes : List ℕ) (size : ℕ) → FitsStatus k b → FitsSize size (reply_in k b bytes) → (r : Reply) × (reply_of size k b bytes ≡ Some r)
+fits_reply : (k : Kind) (b : Body) (bytes : List ℕ) (size : ℕ) → FitsStatus k b → FitsSize size (reply_in k b bytes) → (r : Reply) × (reply_carried size k b bytes ≡ Some r)
 fits_reply kinds.CompletionData (bodies.Completion c statuses.Success n l) bytes size s f = (replies.Data (record { items = bytes }), rw (eq-eqb (length bytes) size f) refl)
 fits_reply kinds.CompletionData (bodies.Completion c statuses.Unsupported n l) bytes size s f = absurd s
 fits_reply kinds.CompletionData (bodies.Completion c statuses.Aborted n l) bytes size s f = absurd s
@@ -197,17 +197,17 @@ pub finishes : (f : Fabric) (i : ℕ) (q : Requesting) (l : Ends) (t : Packet) (
     → (a : Answer) × (finished q t ≡ Ok a)
 finishes f i q l t mark s r has_q has_l first =
     let own : get_or f.requesters i unused ≡ q = get_is f.requesters i q unused has_q in
-    let held : get_or (map items f.down) i [] ≡ item_of t mark ∷ map (λ x. item_of x.0 x.1) (remove (content l) 0) =
-    get_items f.down i l has_l ∙ ap (map (λ (x : Packet × ℕ). item_of x.0 x.1)) (head_is l.receiver.queue (on_the_way l) (t, mark) first) in
-    let x : IsExpected (suc i) (get_or f.requesters i unused) (item_of t mark) = expected (suc i) (view (whole_of f) (suc i)) (item_of t mark) (map (λ x. item_of x.0 x.1) (remove (content l) 0)) (s (suc i)) held in
+    let held : get_or (map items f.down) i [] ≡ marked_packet t mark ∷ map (λ x. marked_packet x.0 x.1) (remove (content l) 0) =
+    get_items f.down i l has_l ∙ ap (map (λ (x : Packet × ℕ). marked_packet x.0 x.1)) (head_is l.receiver.queue (on_the_way l) (t, mark) first) in
+    let x : IsExpected (suc i) (get_or f.requesters i unused) (marked_packet t mark) = expected (suc i) (view (whole_of f) (suc i)) (marked_packet t mark) (map (λ x. marked_packet x.0 x.1) (remove (content l) 0)) (s (suc i)) held in
     let fit : HasPort (length f.requesters) t × FitsStatus t.kind t.body = each_at (λ (x : Packet × ℕ). HasPort (length f.requesters) x.0 × FitsStatus x.0.kind x.0.body) (content l) 0 (t, mark) (get_before l.receiver.queue (on_the_way l) 0 (t, mark) first) (r.down i l has_l) in
     let id : t.requester ≡ q.port * 256 = own_id t.requester fit.0.place i fit.0.id x.own ∙ ap (λ (p : ℕ). p * 256) (sym (r.ports i q has_q)) in
-    let (o, there) = open_there (get_or q.open_tags t.tag None) x.number (ap (λ (q : Requesting). open_at q t.tag) (sym own) ∙ x.tag_open) in
+    let (o, there) = open_there (get_or q.open_tags t.tag None) x.number (ap (λ (q : Requesting). open_number q t.tag) (sym own) ∙ x.tag_open) in
     let size : size_at (get_or f.requesters i unused) t.tag ≡ o.size = ap (λ (q : Requesting). size_at q t.tag) own ∙ ap size_in there in
     let (reply, is) = fits_reply t.kind t.body t.payload o.size fit.1 (subst (λ (n : ℕ). FitsSize n (reply_in t.kind t.body t.payload)) size x.size) in
     let ours : is_ours q t ≡ true = rw (completes t.kind t.body fit.1) (eq-eqb t.requester (q.port * 256) id) in
     let found : completed q t ≡ Some o = ap (λ (b : Bool). if b then get_or q.open_tags t.tag None else None) ours ∙ there in
-    (record { number = o.number; reply = reply }, ap (λ (c : Option Open). finished_by c t) found ∙ ap (answered o.number) is)
+    (record { number = o.number; reply = reply }, ap (λ (c : Option OpenRequest). finished_by c t) found ∙ ap (answered o.number) is)
 
 -- ---- calls of links
 
@@ -245,16 +245,16 @@ of_each P (x ∷ xs) d p f (suc i) = of_each P xs d p (λ i. f (suc i)) i
 all_empty : (ls : List Ends) → ((i : ℕ) (e : Ends) → slice_get ls i ≡ Some e → content e ≡ []) → (i : ℕ) → get_or ([] ∷ map items ls) i [] ≡ []
 all_empty ls f zero = refl
 all_empty [] f (suc i) = refl
-all_empty (l ∷ ls) f (suc zero) = ap (map (λ (x : Packet × ℕ). item_of x.0 x.1)) (f zero l refl)
+all_empty (l ∷ ls) f (suc zero) = ap (map (λ (x : Packet × ℕ). marked_packet x.0 x.1)) (f zero l refl)
 all_empty (l ∷ ls) f (suc (suc i)) = all_empty ls (λ i. f (suc i)) (suc i)
 
-none_in : (n t : ℕ) → get_or {A = Option Open} (replicate n None) t None ≡ None
+none_in : (n t : ℕ) → get_or {A = Option OpenRequest} (replicate n None) t None ≡ None
 none_in zero t = refl
 none_in (suc n) zero = refl
 none_in (suc n) (suc t) = none_in n t
 
 IsUnasked : Requesting → Type 0
-IsUnasked q = (q.next ≡ 0) × ((t : ℕ) → open_at q t ≡ None)
+IsUnasked q = (q.next ≡ 0) × ((t : ℕ) → open_number q t ≡ None)
 
 unasked : (f : Fabric) → IsNewFabric f → (i : ℕ) → IsUnasked (get_or (unused ∷ f.requesters) i unused)
 unfolding IsUnasked
@@ -262,14 +262,14 @@ unasked f n = of_each IsUnasked (unused ∷ f.requesters) unused (refl, λ t. re
   where
     at : (i : ℕ) (q : Requesting) → slice_get (unused ∷ f.requesters) i ≡ Some q → IsUnasked q
     at zero q e = let is : unused ≡ q = cc in subst IsUnasked is (refl, λ t. refl)
-    at (suc i) q e = subst IsUnasked (sym (n.requesters i q e)) (refl, λ t. ap (option_map (λ (o : Open). o.number)) (none_in 256 t))
+    at (suc i) q e = subst IsUnasked (sym (n.requesters i q e)) (refl, λ t. ap (option_map (λ (o : OpenRequest). o.number)) (none_in 256 t))
 
 pub new_whole : (f : Fabric) → IsNewFabric f → IsNew (whole_of f)
 unfolding IsUnasked
 new_whole f n = record {
   history = n.history;
-  inward = ap (map (λ (x : Packet × ℕ). item_of x.0 x.1)) n.inward;
-  outward = ap (map (λ (x : Packet × ℕ). item_of x.0 x.1)) n.outward;
+  inward = ap (map (λ (x : Packet × ℕ). marked_packet x.0 x.1)) n.inward;
+  outward = ap (map (λ (x : Packet × ℕ). marked_packet x.0 x.1)) n.outward;
   up = all_empty f.up n.up;
   down = all_empty f.down n.down;
   next = λ i. (unasked f n i).0;

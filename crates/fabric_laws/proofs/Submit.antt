@@ -5,7 +5,7 @@ use Rattle.std.proofs.lemmas.List.{map-append}
 use mathlib.Core.Logic.{dite}
 use native.Mathlib.Decide.{ℕ_discrete}
 use Rattle.fabric_laws.specs.Lists.{Each, Pairs, one_if}
-use Rattle.fabric_laws.specs.Whole.{Entry, Item, Op, is_posted, View, Requesting, open_at, size_at, path, entry_of, request_item}
+use Rattle.fabric_laws.specs.Whole.{Entry, MarkedPacket, Op, is_posted, View, Requesting, open_number, size_at, path, entry_of, marked_request}
 use Rattle.history_check.specs.Trace.{is_request}
 use Rattle.fabric_laws.specs.Sound.{times, answers, served, InOrder, IsRequestOf, IsTagged, IsAskedBy, IsSized, IsReply, IsReplyFor, SoundAt}
 use Rattle.fabric_laws.specs.Steps.{IsOpened}
@@ -14,7 +14,7 @@ use Rattle.fabric_laws.proofs.Numbers.{below_next, same, path_times, numbers_bel
 
 -- of an open tag: it was, or it is the new one
 pub data Opening (q : Requesting) (tag : ℕ) (op : Op) (q' : Requesting) (t : ℕ) : Type 0 where
-  old : open_at q' t ≡ open_at q t → Opening q tag op q' t
+  old : open_number q' t ≡ open_number q t → Opening q tag op q' t
   new : t ≡ tag → is_posted op ≡ false → Opening q tag op q' t
 
 test_of : (b : Bool) → (b ≡ true) ⊎ (b ≡ false)
@@ -28,8 +28,8 @@ opening q tag op q' o t = ⊎_elim
     (test_of (is_posted op))
 
 module _ (i tag : ℕ) (op : Op) (v : View) (q' : Requesting) (s : SoundAt i v) (o : IsOpened v.requester tag op q') where
-  abbrev x : Item
-  x = request_item i tag v.requester.next op
+  abbrev x : MarkedPacket
+  x = marked_request i tag v.requester.next op
 
   abbrev after : View
   after = record v { up = v.up ++ x ∷ []; requester = q' }
@@ -37,14 +37,14 @@ module _ (i tag : ℕ) (op : Op) (v : View) (q' : Requesting) (s : SoundAt i v) 
   pub longer : path after ≡ path v ++ entry_of x ∷ []
   longer = simp (map-append, append_assoc)
 
-  pub still_open : (t k : ℕ) → open_at v.requester t ≡ Some k → open_at q' t ≡ Some k
+  pub still_open : (t k : ℕ) → open_number v.requester t ≡ Some k → open_number q' t ≡ Some k
   still_open t k e = elim (opening v.requester tag op q' o t) [
     | old h ↦ h ∙ e
-    | new at n ↦ absurd (let was : open_at v.requester t ≡ None = ap (open_at v.requester) at ∙ o.free n in cc)
+    | new at n ↦ absurd (let was : open_number v.requester t ≡ None = ap (open_number v.requester) at ∙ o.free n in cc)
   ]
 
-  pub new_number : (t k : ℕ) → t ≡ tag → is_posted op ≡ false → open_at q' t ≡ Some k → k ≡ v.requester.next
-  new_number t k at n e = let is : open_at q' t ≡ Some v.requester.next = ap (open_at q') at ∙ o.opened n in cc
+  pub new_number : (t k : ℕ) → t ≡ tag → is_posted op ≡ false → open_number q' t ≡ Some k → k ≡ v.requester.next
+  new_number t k at n e = let is : open_number q' t ≡ Some v.requester.next = ap (open_number q') at ∙ o.opened n in cc
 
   whole : (k : ℕ) → times i k (path after) ≡ one_if (nat_lt k q'.next)
   whole k =
@@ -63,13 +63,13 @@ module _ (i tag : ℕ) (op : Op) (v : View) (q' : Requesting) (s : SoundAt i v) 
       (each_weaken (IsTagged i v.requester) (IsTagged i q') (v.inward ++ v.up) (λ y h own n. still_open y.tag y.mark (h own n)) s.tagged)
       ((λ own n. o.opened n), tt))
 
-  open_below : (t k : ℕ) → open_at q' t ≡ Some k → k < q'.next
+  open_below : (t k : ℕ) → open_number q' t ≡ Some k → k < q'.next
   open_below t k e = elim (opening v.requester tag op q' o t) [
     | old h ↦ let b : k < v.requester.next = s.open_below t k (sym h ∙ e) in let n : q'.next ≡ v.requester.next + 1 = o.next in omega arith
     | new at n ↦ let b : k ≡ v.requester.next = new_number t k at n e in let m : q'.next ≡ v.requester.next + 1 = o.next in omega arith
   ]
 
-  open_asked : (t k : ℕ) → open_at q' t ≡ Some k → Each (IsAskedBy i k) (path after)
+  open_asked : (t k : ℕ) → open_number q' t ≡ Some k → Each (IsAskedBy i k) (path after)
   open_asked t k e = subst (Each (IsAskedBy i k)) (sym longer) (elim (opening v.requester tag op q' o t) [
     | old h ↦ each_append (IsAskedBy i k) (path v) (entry_of x ∷ []) (s.open_asked t k (sym h ∙ e))
         ((λ own is. absurd (let b : k < v.requester.next = s.open_below t k (sym h ∙ e) in let f : v.requester.next ≡ k = is in omega arith)), tt)
@@ -79,7 +79,7 @@ module _ (i tag : ℕ) (op : Op) (v : View) (q' : Requesting) (s : SoundAt i v) 
         ((λ own is. n), tt)
   ])
 
-  open_sized : (t k : ℕ) → open_at q' t ≡ Some k → Each (IsSized i k (size_at q' t)) (path after)
+  open_sized : (t k : ℕ) → open_number q' t ≡ Some k → Each (IsSized i k (size_at q' t)) (path after)
   open_sized t k e = subst (Each (IsSized i k (size_at q' t))) (sym longer) (elim (opening v.requester tag op q' o t) [
     | old h ↦ each_append (IsSized i k (size_at q' t)) (path v) (entry_of x ∷ [])
         (subst (λ (n : ℕ). Each (IsSized i k n) (path v)) (sym (o.kept t k (sym h ∙ e))) (s.open_sized t k (sym h ∙ e)))
@@ -90,7 +90,7 @@ module _ (i tag : ℕ) (op : Op) (v : View) (q' : Requesting) (s : SoundAt i v) 
         ((λ own is. sym (ap (size_at q') at ∙ o.sized n)), tt)
   ])
 
-  open_once : (t u k : ℕ) → open_at q' t ≡ Some k → open_at q' u ≡ Some k → t ≡ u
+  open_once : (t u k : ℕ) → open_number q' t ≡ Some k → open_number q' u ≡ Some k → t ≡ u
   open_once t u k e f = elim (opening v.requester tag op q' o t) [
     | old h ↦ elim (opening v.requester tag op q' o u) [
       | old g ↦ s.open_once t u k (sym h ∙ e) (sym g ∙ f)
@@ -102,21 +102,21 @@ module _ (i tag : ℕ) (op : Op) (v : View) (q' : Requesting) (s : SoundAt i v) 
     ]
   ]
 
-  under_way : (t : ℕ) → answers i t v.outward + answers i t v.down ≡ served i (open_at q' t) v.history
+  under_way : (t : ℕ) → answers i t v.outward + answers i t v.down ≡ served i (open_number q' t) v.history
   under_way t = elim (opening v.requester tag op q' o t) [
     | old h ↦ s.under_way t ∙ ap (λ (a : Option ℕ). served i a v.history) (sym h)
     | new at n ↦
-        let was : served i (open_at v.requester t) v.history ≡ 0 = ap (λ (a : Option ℕ). served i a v.history) (ap (open_at v.requester) at ∙ o.free n) in
-        let is : served i (open_at q' t) v.history ≡ times i v.requester.next v.history = ap (λ (a : Option ℕ). served i a v.history) (ap (open_at q') at ∙ o.opened n) in
+        let was : served i (open_number v.requester t) v.history ≡ 0 = ap (λ (a : Option ℕ). served i a v.history) (ap (open_number v.requester) at ∙ o.free n) in
+        let is : served i (open_number q' t) v.history ≡ times i v.requester.next v.history = ap (λ (a : Option ℕ). served i a v.history) (ap (open_number q') at ∙ o.opened n) in
         let none : times i v.requester.next (path v) ≡ 0 = s.whole v.requester.next ∙ not_counted v.requester.next v.requester.next (omega arith) in
         let parts : times i v.requester.next (path v) ≡ times i v.requester.next v.history + (times i v.requester.next (map entry_of v.inward) + times i v.requester.next (map entry_of v.up)) = path_times i v.requester.next v in
         let here : times i v.requester.next v.history ≡ 0 = omega arith in
         s.under_way t ∙ (was ∙ (sym here ∙ sym is))
   ]
 
-  replies : Each (IsReplyFor v.shape i q' v.history) (v.outward ++ v.down)
-  replies = each_weaken (IsReplyFor v.shape i v.requester v.history) (IsReplyFor v.shape i q' v.history) (v.outward ++ v.down)
-      (λ c h own. let r : IsReply v.shape i v.requester v.history c = h own in record { number = r.number; point = r.point; op = r.op; open_tag = still_open c.tag r.number r.open_tag; acted = r.acted; sized = r.sized; replied = r.replied })
+  replies : Each (IsReplyFor v.extent i q' v.history) (v.outward ++ v.down)
+  replies = each_weaken (IsReplyFor v.extent i v.requester v.history) (IsReplyFor v.extent i q' v.history) (v.outward ++ v.down)
+      (λ c h own. let r : IsReply v.extent i v.requester v.history c = h own in record { number = r.number; point = r.point; op = r.op; open_tag = still_open c.tag r.number r.open_tag; acted = r.acted; sized = r.sized; replied = r.replied })
       s.replies
 
   pub submit_keeps : SoundAt i after

@@ -1,5 +1,5 @@
 -- What a requester submitted is one list, read off its path.
-use Rattle.std.proofs.Common.{◌≡◌, ◌≢◌, ℕ, zero, suc, ◌+◌, ◌<◌, ◌≤◌, Bool, true, false, if◌then◌else◌, List, [], ◌∷◌, ◌++◌, length, refl, sym, ap, ◌∙◌, subst, arith, inl, inr, ◌⊎◌, ⊎_elim, Some, set}
+use Rattle.std.proofs.Common.{◌≡◌, ℕ, zero, suc, ◌+◌, ◌<◌, ◌≤◌, Bool, true, false, if◌then◌else◌, List, [], ◌∷◌, ◌++◌, length, refl, sym, ap, ◌∙◌, subst, arith, inl, inr, ◌⊎◌, ⊎_elim, Some, set}
 use Rattle.std.specs.Prelude.{slice_get}
 use Rattle.std.proofs.lemmas.List.{append-nil, length_push}
 use Rattle.std.proofs.lemmas.Bool.Decides.{nat_tests}
@@ -7,11 +7,11 @@ use Rattle.std.proofs.lemmas.Option.{none-some, same_Some, slice_get_within}
 use native.Mathlib.Decide.{ℕ_discrete, dec_lt}
 use mathlib.Core.Logic.{dite}
 use Rattle.history_check.specs.declared.Record.{Record}
-use Rattle.history_check.specs.declared.Record.TheVariants.{Sub, Ans}
+use Rattle.history_check.specs.declared.Record.TheVariants.{Sub}
 use Rattle.history_check.specs.Trace.{is_request, submissions, IsLegal}
 use Rattle.fabric_laws.specs.Lists.{Each, one_if, count}
-use Rattle.fabric_laws.specs.ListFacts.{each_at, get_before, get_seam, get_push}
-use Rattle.fabric_laws.specs.Whole.{Op, no_op, Entry, Item, Requesting, View, Whole, view, path, up_of, requester_of, entry_of, request_item, Reply}
+use Rattle.fabric_laws.specs.ListFacts.{each_at, get_before, get_seam}
+use Rattle.fabric_laws.specs.Whole.{Op, no_op, Entry, MarkedPacket, Requesting, View, Whole, view, path, up_of, requester_of, entry_of, marked_request, Reply}
 use Rattle.fabric_laws.specs.Sound.{times, Sound, SoundAt}
 use Rattle.fabric_laws.specs.Steps.{IsOpened, IsSubmit, IsCollect, Step, submits, forwards, serves, returns, collects, links}
 use Rattle.fabric_laws.specs.Trace.{IsMade}
@@ -111,11 +111,11 @@ only_one i v ops others s m n = same_list ops others (m.spent ∙ sym n.spent) (
 -- ---- what a step adds
 
 own_submission : (i tag : ℕ) (op : Op) (v : View) (q' : Requesting) (ops : List Op) → SoundAt i v → IsOpened v.requester tag op q' → IsMade i v ops →
-    IsMade i (record v { up = v.up ++ request_item i tag v.requester.next op ∷ []; requester = q' }) (ops ++ op ∷ [])
+    IsMade i (record v { up = v.up ++ marked_request i tag v.requester.next op ∷ []; requester = q' }) (ops ++ op ∷ [])
 own_submission i tag op v q' ops s o m = record {
   spent = length_push ops op ∙ (ap (λ (n : ℕ). n + 1) m.spent ∙ sym o.next);
   each = subst (Each (λ (e : Entry). e.requester ≡ i → slice_get (ops ++ op ∷ []) e.number ≡ Some e.op)) (sym (longer i tag op v q' s o))
-      (each_append (λ (e : Entry). e.requester ≡ i → slice_get (ops ++ op ∷ []) e.number ≡ Some e.op) (path v) (entry_of (request_item i tag v.requester.next op) ∷ [])
+      (each_append (λ (e : Entry). e.requester ≡ i → slice_get (ops ++ op ∷ []) e.number ≡ Some e.op) (path v) (entry_of (marked_request i tag v.requester.next op) ∷ [])
       (each_weaken (λ (e : Entry). e.requester ≡ i → slice_get ops e.number ≡ Some e.op) (λ (e : Entry). e.requester ≡ i → slice_get (ops ++ op ∷ []) e.number ≡ Some e.op) (path v)
       (λ e f own. get_before ops (op ∷ []) e.number e.op (f own)) m.each)
       ((λ own. subst (λ (n : ℕ). slice_get (ops ++ op ∷ []) n ≡ Some op) m.spent (get_seam ops [] op)), tt));
@@ -133,8 +133,8 @@ submit_adds p i op p' n j ops s e m = subst (λ (q : Whole). IsMade j (view q j)
     said : Record
     said = Sub i (requester_of p i).next op n
 
-    u : List Item
-    u = up_of p i ++ request_item i e.tag (requester_of p i).next op ∷ []
+    u : List MarkedPacket
+    u = up_of p i ++ marked_request i e.tag (requester_of p i).next op ∷ []
 
     now : Whole
     now = record p { up = set p.up i u; requesters = set p.requesters i e.requester }

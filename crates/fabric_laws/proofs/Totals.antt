@@ -1,13 +1,12 @@
 -- The history of a whole whose lanes hold no request has as many entries as were submitted.
-use Rattle.std.proofs.Common.{◌≡◌, ◌≢◌, ℕ, zero, suc, ◌+◌, ◌<◌, ◌≤◌, ◌==◌, ◌&&◌, List, [], ◌∷◌, ◌++◌, length, map, get_or, refl, sym, ap, ◌∙◌, subst, arith, eq-eqb, Some}
-use Rattle.std.specs.Prelude.{slice_get}
+use Rattle.std.proofs.Common.{◌≡◌, ◌≢◌, ℕ, zero, suc, ◌+◌, ◌<◌, ◌≤◌, ◌==◌, ◌&&◌, List, [], ◌∷◌, ◌++◌, length, map, get_or, refl, sym, ap, ◌∙◌, subst, arith, eq-eqb}
 use Rattle.std.proofs.lemmas.Bool.{ne_eqb}
 use native.Mathlib.Decide.{ℕ_discrete, dec_lt}
 use mathlib.Core.Logic.{dite}
 use Rattle.history_check.specs.Trace.{is_request}
 use Rattle.fabric_laws.specs.Lists.{Each, one_if}
 use Rattle.fabric_laws.specs.ListFacts.{each_at, get_before, count_nil}
-use Rattle.fabric_laws.specs.Whole.{Entry, Item, Requesting, Whole, view, path, up_of, requester_of, entry_of, unused}
+use Rattle.fabric_laws.specs.Whole.{Entry, Requesting, Whole, view, path, up_of, requester_of, entry_of, unused}
 use Rattle.fabric_laws.specs.Sound.{times, Sound}
 use Rattle.fabric_laws.specs.Trace.{submitted_by}
 use Rattle.fabric_laws.proofs.Lists.{count_cons}

@@ -1,11 +1,11 @@
 -- A fabric by its parts, and what the laws see of them.
 use Rattle.std.specs.Prelude.{List, [], ◌∷◌, map}
-use Rattle.seq_memory.specs.History.{State}
+use Rattle.seq_memory.specs.History.{State, extent_of}
 use Rattle.fc_credit.specs.declared.limits.LaneCredits.{LaneCredits}
 use Rattle.lane_core.specs.Steps.{Ends}
 use Rattle.lane_core.specs.Calls.{content}
-use Rattle.fabric_laws.specs.Whole.{Item, Whole, Requesting, unused}
-use Rattle.fabric_laws.specs.Packets.{item_of}
+use Rattle.fabric_laws.specs.Whole.{MarkedPacket, Whole, Requesting, unused}
+use Rattle.fabric_laws.specs.Packets.{marked_packet}
 
 -- the parts; those of port 1 stand at place 0
 pub record Fabric : Type 0 where
@@ -19,13 +19,13 @@ pub record Fabric : Type 0 where
   pub down : List Ends
 
 -- what a lane holds
-abbrev pub items : Ends → List Item
-items e = map (λ x. item_of x.0 x.1) (content e)
+abbrev pub items : Ends → List MarkedPacket
+items e = map (λ x. marked_packet x.0 x.1) (content e)
 
 -- the parts of port i stand at place i, and port 0 has none
 abbrev pub whole_of : Fabric → Whole
 whole_of f = record {
-  shape = record { base = f.memory.base; size = f.memory.size; block = f.memory.block };
+  extent = extent_of f.memory;
   history = f.memory.entries;
   inward = items f.inward;
   outward = items f.outward;

@@ -4,7 +4,7 @@ use Rattle.requester_core.specs.Requesting.{Requesting, fresh}
 use Rattle.lane_core.specs.Steps.{Ends}
 use Rattle.lane_core.specs.Calls.{content}
 use Rattle.fabric_laws.specs.Fabric.{Fabric}
-use Rattle.fabric_laws.specs.Whole.{Whole, up_of, down_of, requester_of, open_at}
+use Rattle.fabric_laws.specs.Whole.{Whole, up_of, down_of, requester_of, open_number}
 
 pub record IsNew (p : Whole) : Type 0 where
   pub history : p.history ≡ []
@@ -13,7 +13,7 @@ pub record IsNew (p : Whole) : Type 0 where
   pub up : (i : ℕ) → up_of p i ≡ []
   pub down : (i : ℕ) → down_of p i ≡ []
   pub next : (i : ℕ) → (requester_of p i).next ≡ 0
-  pub tags : (i t : ℕ) → open_at (requester_of p i) t ≡ None
+  pub tags : (i t : ℕ) → open_number (requester_of p i) t ≡ None
 
 -- a fabric with an empty history, requesters that have asked for nothing, and lanes that hold nothing
 pub record IsNewFabric (f : Fabric) : Type 0 where

@@ -3,16 +3,16 @@ use Rattle.std.specs.Prelude.{ℕ, ◌≡◌, ◌+◌, ◌<◌, Bool, true, fals
 use Rattle.history_check.specs.Trace.{is_request}
 use Rattle.dllp_core.specs.declared.packet.Class.TheVariants as classes
 use Rattle.fabric_laws.specs.Lists.{Each, Pairs, one_if, count}
-use Rattle.fabric_laws.specs.Whole.{Op, is_posted, Entry, Item, reply_of, Requesting, Whole, View, view, open_at, size_of, FitsSize, size_at, path, class_of_op, Shape}
+use Rattle.fabric_laws.specs.Whole.{Op, is_posted, Entry, MarkedPacket, reply_after, Requesting, Whole, View, view, open_number, count_of, FitsSize, size_at, path, class_of_op, Extent}
 
 -- how often the request stands there
 abbrev pub times : ℕ → ℕ → List Entry → ℕ
 times i k es = count (is_request i k) es
 
-abbrev pub is_answer : ℕ → ℕ → Item → Bool
+abbrev pub is_answer : ℕ → ℕ → MarkedPacket → Bool
 is_answer i t c = (i == c.requester) && (t == c.tag)
 
-abbrev pub answers : ℕ → ℕ → List Item → ℕ
+abbrev pub answers : ℕ → ℕ → List MarkedPacket → ℕ
 answers i t cs = count (is_answer i t) cs
 
 -- 1 if what is open is in the history
@@ -24,38 +24,38 @@ served i (Some k) h = times i k h
 abbrev pub InOrder : ℕ → Entry → Entry → Type 0
 InOrder i a b = a.requester ≡ i → b.requester ≡ i → is_posted b.op ≡ true → a.number < b.number
 
-abbrev pub IsRequest : Item → Type 0
+abbrev pub IsRequest : MarkedPacket → Type 0
 IsRequest x = x.class ≡ class_of_op x.op
 
-abbrev pub IsRequestOf : ℕ → Item → Type 0
+abbrev pub IsRequestOf : ℕ → MarkedPacket → Type 0
 IsRequestOf i x = (x.requester ≡ i) × IsRequest x
 
-abbrev pub IsCompletion : Item → Type 0
+abbrev pub IsCompletion : MarkedPacket → Type 0
 IsCompletion x = x.class ≡ classes.Completion
 
-abbrev pub IsCompletionFor : ℕ → Item → Type 0
+abbrev pub IsCompletionFor : ℕ → MarkedPacket → Type 0
 IsCompletionFor i x = (x.requester ≡ i) × IsCompletion x
 
-abbrev pub IsTagged : ℕ → Requesting → Item → Type 0
-IsTagged i q x = x.requester ≡ i → is_posted x.op ≡ false → open_at q x.tag ≡ Some x.mark
+abbrev pub IsTagged : ℕ → Requesting → MarkedPacket → Type 0
+IsTagged i q x = x.requester ≡ i → is_posted x.op ≡ false → open_number q x.tag ≡ Some x.mark
 
 abbrev pub IsAskedBy : ℕ → ℕ → Entry → Type 0
 IsAskedBy i k e = e.requester ≡ i → e.number ≡ k → is_posted e.op ≡ false
 
 abbrev pub IsSized : ℕ → ℕ → ℕ → Entry → Type 0
-IsSized i k n e = e.requester ≡ i → e.number ≡ k → size_of e.op ≡ n
+IsSized i k n e = e.requester ≡ i → e.number ≡ k → count_of e.op ≡ n
 
 -- the completion has the reply at the point of the open request
-pub record IsReply (g : Shape) (i : ℕ) (q : Requesting) (h : List Entry) (c : Item) : Type 0 where
+pub record IsReply (g : Extent) (i : ℕ) (q : Requesting) (h : List Entry) (c : MarkedPacket) : Type 0 where
   pub number : ℕ
   pub point : ℕ
   pub op : Op
-  pub open_tag : open_at q c.tag ≡ Some number
+  pub open_tag : open_number q c.tag ≡ Some number
   pub acted : slice_get h point ≡ Some (record { requester = i; number = number; op = op })
-  pub sized : FitsSize (size_of op) c.reply
-  pub replied : c.reply ≡ reply_of g (take point h) op
+  pub sized : FitsSize (count_of op) c.reply
+  pub replied : c.reply ≡ reply_after g (take point h) op
 
-abbrev pub IsReplyFor : Shape → ℕ → Requesting → List Entry → Item → Type 0
+abbrev pub IsReplyFor : Extent → ℕ → Requesting → List Entry → MarkedPacket → Type 0
 IsReplyFor g i q h c = c.requester ≡ i → IsReply g i q h c
 
 pub record SoundAt (i : ℕ) (v : View) : Type 0 where
@@ -68,13 +68,13 @@ pub record SoundAt (i : ℕ) (v : View) : Type 0 where
   pub own_completions : Each (IsCompletionFor i) v.down
   -- what has not acted is open under its tag
   pub tagged : Each (IsTagged i v.requester) (v.inward ++ v.up)
-  pub open_below : (t k : ℕ) → open_at v.requester t ≡ Some k → k < v.requester.next
-  pub open_asked : (t k : ℕ) → open_at v.requester t ≡ Some k → Each (IsAskedBy i k) (path v)
-  pub open_sized : (t k : ℕ) → open_at v.requester t ≡ Some k → Each (IsSized i k (size_at v.requester t)) (path v)
-  pub open_once : (t s k : ℕ) → open_at v.requester t ≡ Some k → open_at v.requester s ≡ Some k → t ≡ s
+  pub open_below : (t k : ℕ) → open_number v.requester t ≡ Some k → k < v.requester.next
+  pub open_asked : (t k : ℕ) → open_number v.requester t ≡ Some k → Each (IsAskedBy i k) (path v)
+  pub open_sized : (t k : ℕ) → open_number v.requester t ≡ Some k → Each (IsSized i k (size_at v.requester t)) (path v)
+  pub open_once : (t s k : ℕ) → open_number v.requester t ≡ Some k → open_number v.requester s ≡ Some k → t ≡ s
   -- one completion for each open number in the history, and no other
-  pub under_way : (t : ℕ) → answers i t v.outward + answers i t v.down ≡ served i (open_at v.requester t) v.history
-  pub replies : Each (IsReplyFor v.shape i v.requester v.history) (v.outward ++ v.down)
+  pub under_way : (t : ℕ) → answers i t v.outward + answers i t v.down ≡ served i (open_number v.requester t) v.history
+  pub replies : Each (IsReplyFor v.extent i v.requester v.history) (v.outward ++ v.down)
 
 abbrev pub Sound : Whole → Type 0
 Sound p = (i : ℕ) → SoundAt i (view p i)

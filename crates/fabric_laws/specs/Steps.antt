@@ -4,30 +4,30 @@ use Rattle.dllp_core.specs.declared.packet.Class.TheVariants as classes
 use Rattle.fabric_laws.specs.Lists.{Each}
 use Rattle.history_check.specs.declared.Record.{Record}
 use Rattle.history_check.specs.declared.Record.TheVariants.{Sub, Ans}
-use Rattle.fabric_laws.specs.Whole.{Op, is_posted, Item, reply_of, Requesting, Whole, up_of, down_of, requester_of, open_at, size_of, FitsSize, size_at, entry_of, request_item, completions_for, Reply}
+use Rattle.fabric_laws.specs.Whole.{Op, is_posted, MarkedPacket, reply_after, Requesting, Whole, up_of, down_of, requester_of, open_number, count_of, FitsSize, size_at, entry_of, marked_request, completions_for, Reply}
 
 -- the requester after a submission
 pub record IsOpened (q : Requesting) (tag : ℕ) (op : Op) (q' : Requesting) : Type 0 where
   pub next : q'.next ≡ q.next + 1
-  pub posted : is_posted op ≡ true → (t : ℕ) → open_at q' t ≡ open_at q t
-  pub free : is_posted op ≡ false → open_at q tag ≡ None
-  pub opened : is_posted op ≡ false → open_at q' tag ≡ Some q.next
-  pub others : (t : ℕ) → t ≢ tag → open_at q' t ≡ open_at q t
-  pub sized : is_posted op ≡ false → size_at q' tag ≡ size_of op
-  pub kept : (t k : ℕ) → open_at q t ≡ Some k → size_at q' t ≡ size_at q t
+  pub posted : is_posted op ≡ true → (t : ℕ) → open_number q' t ≡ open_number q t
+  pub free : is_posted op ≡ false → open_number q tag ≡ None
+  pub opened : is_posted op ≡ false → open_number q' tag ≡ Some q.next
+  pub others : (t : ℕ) → t ≢ tag → open_number q' t ≡ open_number q t
+  pub sized : is_posted op ≡ false → size_at q' tag ≡ count_of op
+  pub kept : (t k : ℕ) → open_number q t ≡ Some k → size_at q' t ≡ size_at q t
 
 -- the requester after an answer
 pub record IsClosed (q : Requesting) (tag number : ℕ) (q' : Requesting) : Type 0 where
   pub next : q'.next ≡ q.next
-  pub was_open : open_at q tag ≡ Some number
-  pub closed : open_at q' tag ≡ None
-  pub others : (t : ℕ) → t ≢ tag → open_at q' t ≡ open_at q t
+  pub was_open : open_number q tag ≡ Some number
+  pub closed : open_number q' tag ≡ None
+  pub others : (t : ℕ) → t ≢ tag → open_number q' t ≡ open_number q t
   pub sizes : (t : ℕ) → t ≢ tag → size_at q' t ≡ size_at q t
 
 -- an item leaves, and it passes no posted request
-pub record IsTaken (old : List Item) (x : Item) (new : List Item) : Type 0 where
-  pub before : List Item
-  pub behind : List Item
+pub record IsTaken (old : List MarkedPacket) (x : MarkedPacket) (new : List MarkedPacket) : Type 0 where
+  pub before : List MarkedPacket
+  pub behind : List MarkedPacket
   pub was : old ≡ before ++ x ∷ behind
   pub now : new ≡ before ++ behind
   pub passes : Each (λ a. a.class ≢ classes.Posted) before
@@ -40,25 +40,25 @@ pub record IsSubmit (p : Whole) (i : ℕ) (op : Op) (p' : Whole) : Type 0 where
   pub tag : ℕ
   pub requester : Requesting
   pub opened : IsOpened (requester_of p i) tag op requester
-  pub now : p' ≡ record p { up = slice_set p.up i (up_of p i ++ request_item i tag (requester_of p i).next op ∷ []); requesters = slice_set p.requesters i requester }
+  pub now : p' ≡ record p { up = slice_set p.up i (up_of p i ++ marked_request i tag (requester_of p i).next op ∷ []); requesters = slice_set p.requesters i requester }
 
 pub record IsForward (p : Whole) (i : ℕ) (p' : Whole) : Type 0 where
   pub has_up : i < length p.up
-  pub item : Item
-  pub rest : List Item
+  pub item : MarkedPacket
+  pub rest : List MarkedPacket
   pub taken : IsTaken (up_of p i) item rest
   pub now : p' ≡ record p { up = slice_set p.up i rest; inward = p.inward ++ item ∷ [] }
 
 pub record IsServe (p p' : Whole) : Type 0 where
-  pub item : Item
-  pub rest : List Item
+  pub item : MarkedPacket
+  pub rest : List MarkedPacket
   pub taken : IsTaken p.inward item rest
-  pub sized : FitsSize (size_of item.op) (reply_of p.shape p.history item.op)
-  pub now : p' ≡ record p { history = p.history ++ entry_of item ∷ []; inward = rest; outward = p.outward ++ completions_for item (reply_of p.shape p.history item.op) }
+  pub sized : FitsSize (count_of item.op) (reply_after p.extent p.history item.op)
+  pub now : p' ≡ record p { history = p.history ++ entry_of item ∷ []; inward = rest; outward = p.outward ++ completions_for item (reply_after p.extent p.history item.op) }
 
 pub record IsReturn (p p' : Whole) : Type 0 where
-  pub item : Item
-  pub rest : List Item
+  pub item : MarkedPacket
+  pub rest : List MarkedPacket
   pub taken : IsTaken p.outward item rest
   pub has_down : item.requester < length p.down
   pub now : p' ≡ record p { outward = rest; down = slice_set p.down item.requester (down_of p item.requester ++ item ∷ []) }
@@ -66,8 +66,8 @@ pub record IsReturn (p p' : Whole) : Type 0 where
 pub record IsCollect (p : Whole) (i number : ℕ) (reply : Reply) (p' : Whole) : Type 0 where
   pub known : i < length p.requesters
   pub has_down : i < length p.down
-  pub item : Item
-  pub rest : List Item
+  pub item : MarkedPacket
+  pub rest : List MarkedPacket
   pub first : down_of p i ≡ item ∷ rest
   pub requester : Requesting
   pub closed : IsClosed (requester_of p i) item.tag number requester

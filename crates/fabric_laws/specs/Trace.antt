@@ -4,12 +4,14 @@ use Rattle.std.specs.List.{list_any}
 use Rattle.tlp_core.specs.declared.operation.Op.{Op}
 use Rattle.tlp_core.specs.Operation.{is_posted}
 use Rattle.history_check.specs.declared.Record.{Record}
-use Rattle.history_check.specs.declared.Record.TheVariants.{Sub, Ans}
+use Rattle.history_check.specs.declared.Record.TheVariants.{Sub}
+pub use Rattle.history_check.specs.Flaws.{moment}
 use Rattle.history_check.specs.Trace.{submissions, IsNumbered, answers_to, stands, IsLinear}
 use Rattle.fabric_laws.specs.Lists.{Each}
-use Rattle.fabric_laws.specs.Whole.{Whole, Requesting, View, view, memory_of, open_at, requester_of, path}
+use Rattle.fabric_laws.specs.Whole.{Whole, Requesting, View, view, memory_of, open_number, requester_of, path}
 
--- the operations are those that requester i submitted: as many as its next number, and each request on its path is as submitted
+-- the operations are those that requester i submitted: as many as its next number, and each request on its path is as
+-- submitted
 pub record IsMade (i : ℕ) (v : View) (ops : List Op) : Type 0 where
   pub spent : length ops ≡ v.requester.next
   pub each : Each (λ e. e.requester ≡ i → slice_get ops e.number ≡ Some e.op) (path v)
@@ -18,11 +20,6 @@ pub record IsMade (i : ℕ) (v : View) (ops : List Op) : Type 0 where
 abbrev pub submitted_by : List Requesting → ℕ
 submitted_by [] = 0
 submitted_by (q ∷ qs) = q.next + submitted_by qs
-
--- the length of the history at the record
-abbrev pub moment : Record → ℕ
-moment (Sub i k op n) = n
-moment (Ans i k reply n) = n
 
 abbrev pub IsRising : List Record → Type 0
 IsRising rs = (a b : ℕ) (r s : Record) → a ≤ b → slice_get rs a ≡ Some r → slice_get rs b ≡ Some s → moment r ≤ moment s
@@ -38,7 +35,7 @@ pub record IsPending (rs : List Record) (i k : ℕ) : Type 0 where
 
 -- the number waits for its completion
 abbrev pub IsOpen : Whole → ℕ → ℕ → Type 0
-IsOpen p i k = (t : ℕ) × (open_at (requester_of p i) t ≡ Some k)
+IsOpen p i k = (t : ℕ) × (open_number (requester_of p i) t ≡ Some k)
 
 pub record Belongs (p : Whole) (rs : List Record) : Type 0 where
   -- the fabric's history explains each answer
@@ -50,7 +47,7 @@ pub record Belongs (p : Whole) (rs : List Record) : Type 0 where
   -- what was submitted is what the fabric has
   pub made : (i : ℕ) → IsMade i (view p i) (submissions rs i)
   -- the unanswered non-posted numbers are the open ones
-  pub pending : (i t k : ℕ) → open_at (requester_of p i) t ≡ Some k → IsPending rs i k
+  pub pending : (i t k : ℕ) → open_number (requester_of p i) t ≡ Some k → IsPending rs i k
   pub opened : (a i k n : ℕ) (op : Op) → slice_get rs a ≡ Some (Sub i k op n) → is_posted op ≡ false → list_any (answers_to i k) rs ≡ false → IsOpen p i k
   -- no request acted before its submission
   pub later : (a i k n : ℕ) (op : Op) → slice_get rs a ≡ Some (Sub i k op n) → stands (take n p.history) i k ≡ false

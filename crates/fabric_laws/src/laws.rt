@@ -12,7 +12,7 @@ ghost use Rattle.lane_core.specs.Calls.{content};
 ghost use Rattle.history_check.specs.declared.Record.{Record};
 ghost use Rattle.history_check.specs.declared.Record.TheVariants.{Sub, Ans};
 ghost use Rattle.history_check.specs.Trace.{Explains, IsLegal, answers_to, submissions};
-ghost use Rattle.fabric_laws.specs.Whole.{Whole, Item, view, memory_of, up_of, down_of, requester_of, open_at};
+ghost use Rattle.fabric_laws.specs.Whole.{Whole, MarkedPacket, view, memory_of, up_of, down_of, requester_of, open_number};
 ghost use Rattle.fabric_laws.specs.Sound.{Sound, times};
 ghost use Rattle.fabric_laws.specs.Trace.{Belongs, IsMade, submitted_by};
 ghost use Rattle.fabric_laws.specs.Steps.{Step, Run};
@@ -98,10 +98,11 @@ pub fn what_a_record_adds()
 /// in the history, and none waits for its completion.
 pub fn quiet_is_all_acted()
     ensures acted { (p : Whole) (i k : ℕ) → Sound p → p.inward ≡ [] → up_of p i ≡ [] → k < (requester_of p i).next → times i k p.history ≡ 1 }
-    ensures answered { (p : Whole) (i t k : ℕ) → Sound p → p.inward ≡ [] → up_of p i ≡ [] → p.outward ≡ [] → down_of p i ≡ [] → open_at (requester_of p i) t ≢ Some k }
+    ensures answered { (p : Whole) (i t k : ℕ) → Sound p → p.inward ≡ [] → up_of p i ≡ [] → p.outward ≡ [] → down_of p i ≡ [] → open_number (requester_of p i) t ≢ Some k }
 {}
 
-/// The history of a sound fabric whose lanes hold no request has as many entries as its requesters submitted operations.
+/// The history of a sound fabric whose lanes hold no request has as many entries as its requesters submitted
+/// operations.
 pub fn a_quiet_history_has_every_submission()
     ensures { (p : Whole) → Sound p → p.inward ≡ [] → ((i : ℕ) → up_of p i ≡ []) → length p.history ≡ submitted_by p.requesters }
 {}
@@ -124,7 +125,7 @@ pub fn packets_keep_their_ports()
 /// What a requester of a sound fabric collects is a completion that it expects, so it is never
 /// refused; and every completion on its way back has a port to go to.
 pub fn no_completion_is_strange()
-    ensures expected { (p : Whole) (i : ℕ) (c : Item) (rest : List Item) → Sound p → down_of p i ≡ c ∷ rest → IsExpected i (requester_of p i) c }
+    ensures expected { (p : Whole) (i : ℕ) (c : MarkedPacket) (rest : List MarkedPacket) → Sound p → down_of p i ≡ c ∷ rest → IsExpected i (requester_of p i) c }
     ensures finished { (f : Fabric) (i mark : ℕ) (q : Requesting) (lane : Ends) (t : Packet) → Sound (whole_of f) → IsRouted f →
         slice_get f.requesters i ≡ Some q → slice_get f.down i ≡ Some lane → slice_get lane.receiver.queue 0 ≡ Some (t, mark) →
         (a : Answer) × (finished q t ≡ Ok a) }

@@ -1,9 +1,8 @@
 -- Of 65,536 counts in a row each has its own value.
-use Rattle.std.proofs.Common.{inl, inr, ◌≡◌, ◌≢◌, ℕ, zero, suc, ◌+◌, ◌-◌, ◌*◌, ◌/◌, ◌%◌, ◌<◌, ◌≤◌, Bool, true, false, refl, sym, ◌∙◌, ap, arith}
+use Rattle.std.proofs.Common.{inl, inr, ◌≡◌, ◌≢◌, ℕ, zero, suc, ◌+◌, ◌-◌, ◌*◌, ◌/◌, ◌%◌, ◌<◌, ◌≤◌, Bool, true, false, refl, ◌∙◌, arith}
 use Rattle.std.specs.Prelude.{◌⊎◌, nat_lt, nat_le, ◌==◌, ◌&&◌, min, if◌then◌else◌}
 use Rattle.std.proofs.lemmas.Bool.Decides.{nat_tests}
 use Rattle.std.proofs.Math.Nat.{div-le_self}
-use Rattle.lane_core.specs.declared.packet.Fate.{Fate}
 use Rattle.lane_core.specs.declared.packet.Fate.TheVariants.{Good, Failed, Lost}
 use Rattle.fault_plan.specs.Fates.{spread, fate_of, is_lost, is_failed, one_if, how_many}
 
@@ -11,8 +10,8 @@ use Rattle.fault_plan.specs.Fates.{spread, fate_of, is_lost, is_failed, one_if, 
 value_of : (k y : ℕ) → spread k ≡ y → k % 65536 ≡ y * 30599 % 65536
 value_of k y e = omega (arith, e)
 
-count_of : (k y : ℕ) → y < 65536 → k % 65536 ≡ y * 30599 % 65536 → spread k ≡ y
-count_of k y h e = omega (arith, e)
+spread_back : (k y : ℕ) → y < 65536 → k % 65536 ≡ y * 30599 % 65536 → spread k ≡ y
+spread_back k y h e = omega (arith, e)
 
 -- the count of a value, among 65,536 in a row
 abbrev its_count : ℕ → ℕ → ℕ
@@ -24,7 +23,7 @@ is_its_count start y i h l e =
     omega (arith, v)
 
 has_value : (start y i : ℕ) → y < 65536 → start + i ≡ its_count start y → spread (start + i) ≡ y
-has_value start y i h e = count_of (start + i) y h (omega (arith, e))
+has_value start y i h e = spread_back (start + i) y h (omega (arith, e))
 
 same_test : (a b c d : ℕ) → (a ≡ b → c ≡ d) → (c ≡ d → a ≡ b) → (a == b) ≡ (c == d)
 same_test a b c d f g = grind (arith, nat_tests)

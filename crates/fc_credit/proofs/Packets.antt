@@ -12,7 +12,7 @@ use Rattle.fc_credit.specs.declared.limits.LaneCredits.{LaneCredits}
 use Rattle.fc_credit.specs.declared.counter.Part.{Part}
 use Rattle.fc_credit.specs.declared.counter.Part.TheVariants.{Header, Data}
 use Rattle.fc_credit.specs.Needs.{units_of, need_at, need_of}
-use Rattle.fc_credit.specs.Limits.{IsBetween, IsInLimits, least_units}
+use Rattle.fc_credit.specs.Limits.{IsInfiniteOrBetween, IsInLimits, least_units}
 use Rattle.fc_credit.specs.Credits.{most, covers, gate_covers, first_gate, new_allowance}
 use Rattle.fc_credit.proofs.Fits.{room_covered, infinite_counter, join}
 use Rattle.fc_credit.proofs.Runs.{zero_wraps}
@@ -56,7 +56,7 @@ pub units_few : (t : Packet) → IsPacket t → (need_of t).units ≤ least_unit
 units_few t k = few_units t.kind t.body t.length (length t.payload) k.fits
 
 -- a new counter covers what is at most the least of its first values
-new_covers : (p : Part) (least first units : ℕ) → IsBetween least (most p) first → units ≤ least → least ≤ most p → IsTrue (covers p (new_allowance p first) units)
+new_covers : (p : Part) (least first units : ℕ) → IsInfiniteOrBetween least (most p) first → units ≤ least → least ≤ most p → IsTrue (covers p (new_allowance p first) units)
 new_covers p least first units (inl e) u m = infinite_counter p (new_allowance p first) units e
 new_covers p least first units (inr h) u m =
     room_covered p (new_allowance p first) first 0 units

@@ -1,5 +1,5 @@
 -- Whatever calls come, the counters of a new direction stand for whole numbers.
-use Rattle.std.proofs.Common.{◌≡◌, ℕ, ◌%◌, ◌<◌, ◌≤◌, Bool, true, false, IsTrue, List, [], ◌∷◌, Option, Some, None, refl, ap, subst, arith}
+use Rattle.std.proofs.Common.{◌≡◌, ◌↔◌, ℕ, zero, suc, ◌+◌, ◌%◌, ◌<◌, ◌≤◌, Bool, true, false, IsTrue, List, [], ◌∷◌, Option, Some, None, refl, ap, ◌∙◌, subst, arith}
 use Rattle.std.specs.Prelude.{nat_le, slice_get}
 use Rattle.std.proofs.Common.{inl, inr}
 use Rattle.std.proofs.lemmas.Bool.Decides.{nat_tests}
@@ -12,10 +12,10 @@ use Rattle.fc_credit.specs.declared.limits.LaneCredits.{LaneCredits}
 use Rattle.fc_credit.specs.declared.counter.Part.{Part}
 use Rattle.fc_credit.specs.declared.counter.Part.TheVariants.{Header, Data}
 use Rattle.fc_credit.specs.declared.ledger.CreditLedger.{CreditLedger}
-use Rattle.fc_credit.specs.Limits.{IsBetween, IsInLimits}
-use Rattle.fc_credit.specs.Credits.{Gate, modulus, most, pick, gate_covers, first_of, allowance, grant, first_gate, first_ledger, new_allowance, new_grant}
-use Rattle.fc_credit.specs.Account.{Accounts, IsCredit, HasCredit, IsRight, demand, updates_in, Direction, Event, Consume, Receive, Free, Tell, Learn, Lose, is_small, may_go, consumed_if, used_if, received_from, received_by, freed_at, given_by, learned_from, known_from, lost_from, unlearned_from, happens, numbers_after, new_direction, first_numbers, after_events, numbers_in}
-use Rattle.fc_credit.proofs.Fits.{both, small}
+use Rattle.fc_credit.specs.Limits.{IsInfiniteOrBetween, IsInLimits}
+use Rattle.fc_credit.specs.Credits.{Gate, modulus, most, pick, covers, gate_of, gate_covers, first_of, allowance, grant, first_gate, first_ledger, new_allowance, new_grant}
+use Rattle.fc_credit.specs.Account.{Accounts, IsCredit, HasCredit, IsRight, demand, updates_in, Direction, Event, Consume, Receive, Free, Tell, Learn, Lose, is_small, may_go, consumed_if, used_if, received_from, received_by, freed_at, given_by, learned_from, known_from, lost_from, unlearned_from, after_event, numbers_after, new_direction, first_numbers, after_events, numbers_in}
+use Rattle.fc_credit.proofs.Fits.{both, small, covered_parts, parts_covered, infinite_counter}
 use Rattle.fc_credit.proofs.Counters.{right}
 use Rattle.fc_credit.proofs.Six.{consumed_credit, received_credit, freed_credit, told_credit, lost_credit, known_credit}
 
@@ -76,7 +76,7 @@ lost_by_list credits d numbers (Nak a ∷ dllps) e k =
 
 pub kept : (credits : LaneCredits) (d : Direction) (numbers : Accounts) (event : Event) →
     HasCredit credits d.gate d.ledger numbers d.queue d.on_the_way d.wire →
-    HasCredit credits (happens d event).gate (happens d event).ledger (numbers_after d numbers event) (happens d event).queue (happens d event).on_the_way (happens d event).wire
+    HasCredit credits (after_event d event).gate (after_event d event).ledger (numbers_after d numbers event) (after_event d event).queue (after_event d event).on_the_way (after_event d event).wire
 kept credits d numbers (Consume need) k = consumed_by_test credits d numbers need (may_go d.gate need) refl k
 kept credits d numbers Receive k = received_by_list credits d numbers d.on_the_way refl k
 kept credits d numbers (Free place) k = freed_by_option credits d numbers place (slice_get d.queue place) refl k
@@ -86,7 +86,7 @@ kept credits d numbers Lose k = lost_by_list credits d numbers d.wire refl k
 
 -- a new direction
 
-between_most : (least first : ℕ) (high : ℕ) → IsBetween least high first → first ≤ high
+between_most : (least first : ℕ) (high : ℕ) → IsInfiniteOrBetween least high first → first ≤ high
 between_most least first high (inl e) = omega arith
 between_most least first high (inr h) = h.1
 
@@ -150,7 +150,7 @@ pub run_credit : (credits : LaneCredits) (d : Direction) (numbers : Accounts) (e
     HasCredit credits (after_events d events).gate (after_events d events).ledger (numbers_in d numbers events) (after_events d events).queue (after_events d events).on_the_way (after_events d events).wire
 run_credit credits d numbers [] k = k
 run_credit credits d numbers (event ∷ events) k =
-    run_credit credits (happens d event) (numbers_after d numbers event) events (kept credits d numbers event k)
+    run_credit credits (after_event d event) (numbers_after d numbers event) events (kept credits d numbers event k)
 
 pub account : (credits : LaneCredits) (events : List Event) → IsInLimits credits →
     HasCredit credits (after_events (new_direction credits) events).gate (after_events (new_direction credits) events).ledger
@@ -173,3 +173,24 @@ pub whole : (credits : LaneCredits) (events : List Event) (c : Class) (p : Part)
 whole credits events c p l q =
     let d = after_events (new_direction credits) events in
     credit_right credits d.gate d.ledger (numbers_in (new_direction credits) (first_numbers credits) events) d.queue d.on_the_way d.wire c p (account credits events l) q
+
+-- the gate covers exactly the needs that there is room for
+pub room : (credits : LaneCredits) (events : List Event) (need : Need) → IsInLimits credits → need.header ≤ 127 → need.units ≤ 2047 →
+    IsTrue (gate_covers (after_events (new_direction credits) events).gate need) ↔ ((p : Part) → 0 < first_of need.class p credits →
+    (numbers_in (new_direction credits) (first_numbers credits) events need.class p).used + pick p need.header need.units ≤ (numbers_in (new_direction credits) (first_numbers credits) events need.class p).known)
+room credits events need l h u = (
+  λ t p f. ((whole credits events need.class p l f).room (pick p need.header need.units) (small p need.header need.units h u)).0
+      (covered_parts (gate_of need.class (after_events (new_direction credits) events).gate) need.header need.units t p),
+  λ r. parts_covered (gate_of need.class (after_events (new_direction credits) events).gate) need.header need.units
+      (λ p. by_first p (first_of need.class p credits) refl (r p)),
+)
+  where
+    by_first : (p : Part) (first : ℕ) → first_of need.class p credits ≡ first →
+        (0 < first_of need.class p credits → (numbers_in (new_direction credits) (first_numbers credits) events need.class p).used + pick p need.header need.units ≤ (numbers_in (new_direction credits) (first_numbers credits) events need.class p).known) →
+        IsTrue (covers p (allowance need.class p (after_events (new_direction credits) events).gate) (pick p need.header need.units))
+    by_first p zero e r =
+        infinite_counter p (allowance need.class p (after_events (new_direction credits) events).gate) (pick p need.header need.units)
+        ((account credits events l need.class p).gate_first ∙ e)
+    by_first p (suc first) e r =
+        let finite : 0 < first_of need.class p credits = omega (arith, e) in
+        ((whole credits events need.class p l finite).room (pick p need.header need.units) (small p need.header need.units h u)).1 (r finite)

@@ -5,10 +5,9 @@ use Rattle.dllp_core.specs.declared.packet.Class.{Class}
 use Rattle.dllp_core.specs.declared.packet.Class.TheVariants.{Posted, NonPosted, Completion}
 use Rattle.fc_credit.specs.declared.counter.Part.{Part}
 use Rattle.fc_credit.specs.declared.counter.Part.TheVariants.{Header, Data}
-use Rattle.fc_credit.specs.declared.counter.Allowance.{Allowance}
 use Rattle.fc_credit.specs.declared.gate.ClassGate.{ClassGate}
 use Rattle.fc_credit.specs.declared.limits.LaneCredits.{LaneCredits}
-use Rattle.fc_credit.specs.Credits.{Gate, modulus, spent, limited, new_allowance, allowance_in, gate_of, with_gate, class_gate, class_spent, class_limited, first_gate, IsWrapped, IsWithin}
+use Rattle.fc_credit.specs.Credits.{Gate, modulus, allowance_in, with_gate, class_gate, class_spent, class_limited, first_gate, IsWrapped, IsWithin}
 
 wrapped : (p : Part) (n : ℕ) → n % modulus p < modulus p
 wrapped Header n = omega arith

@@ -169,13 +169,13 @@ abbrev pub lost_from : List Dllp → Direction → Direction
 lost_from [] d = d
 lost_from (dllp ∷ dllps) d = record d { wire = dllps }
 
-abbrev pub happens : Direction → Event → Direction
-happens d (Consume need) = consumed_if (may_go d.gate need) d need
-happens d Receive = received_from d.on_the_way d
-happens d (Free place) = freed_at (slice_get d.queue place) d place
-happens d (Tell class) = record d { wire = d.wire ++ update_of d.ledger class ∷ [] }
-happens d Learn = learned_from d.wire d
-happens d Lose = lost_from d.wire d
+abbrev pub after_event : Direction → Event → Direction
+after_event d (Consume need) = consumed_if (may_go d.gate need) d need
+after_event d Receive = received_from d.on_the_way d
+after_event d (Free place) = freed_at (slice_get d.queue place) d place
+after_event d (Tell class) = record d { wire = d.wire ++ update_of d.ledger class ∷ [] }
+after_event d Learn = learned_from d.wire d
+after_event d Lose = lost_from d.wire d
 
 -- the numbers after it
 
@@ -229,11 +229,11 @@ first_numbers credits =
 
 abbrev pub after_events : Direction → List Event → Direction
 after_events d [] = d
-after_events d (event ∷ events) = after_events (happens d event) events
+after_events d (event ∷ events) = after_events (after_event d event) events
 
 abbrev pub numbers_in : Direction → Accounts → List Event → Accounts
 numbers_in d numbers [] = numbers
-numbers_in d numbers (event ∷ events) = numbers_in (happens d event) (numbers_after d numbers event) events
+numbers_in d numbers (event ∷ events) = numbers_in (after_event d event) (numbers_after d numbers event) events
 
 -- ---- what follows for one finite counter
 

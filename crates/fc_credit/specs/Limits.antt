@@ -5,8 +5,8 @@ use Rattle.dllp_core.specs.declared.packet.Class.TheVariants.{Posted, NonPosted,
 use Rattle.fc_credit.specs.declared.limits.LaneCredits.{LaneCredits}
 
 -- infinite, or at least so many and at most so many
-abbrev pub IsBetween : ℕ → ℕ → ℕ → Type 0
-IsBetween least most first = (first ≡ 0) ⊎ ((least ≤ first) × (first ≤ most))
+abbrev pub IsInfiniteOrBetween : ℕ → ℕ → ℕ → Type 0
+IsInfiniteOrBetween least most first = (first ≡ 0) ⊎ ((least ≤ first) × (first ≤ most))
 
 -- the least finite data credit of a class: the greatest payload of 128 bytes, for AtomicOps 32
 abbrev pub least_units : Class → ℕ
@@ -16,9 +16,9 @@ least_units Completion = 8
 
 -- each packet can pass, and unused credit never exceeds 127 header and 2047 data units
 pub record IsInLimits (credits : LaneCredits) : Type 0 where
-  pub ph : IsBetween 1 127 credits.ph
-  pub pd : IsBetween 8 2047 credits.pd
-  pub nph : IsBetween 1 127 credits.nph
-  pub npd : IsBetween 2 2047 credits.npd
-  pub cplh : IsBetween 1 127 credits.cplh
-  pub cpld : IsBetween 8 2047 credits.cpld
+  pub ph : IsInfiniteOrBetween 1 127 credits.ph
+  pub pd : IsInfiniteOrBetween 8 2047 credits.pd
+  pub nph : IsInfiniteOrBetween 1 127 credits.nph
+  pub npd : IsInfiniteOrBetween 2 2047 credits.npd
+  pub cplh : IsInfiniteOrBetween 1 127 credits.cplh
+  pub cpld : IsInfiniteOrBetween 8 2047 credits.cpld

@@ -1,5 +1,5 @@
 //! One counter of a gate or of a ledger.
-ghost use Rattle.std.specs.Prelude.{◌≡◌, ◌+◌, ◌%◌, ◌<◌, ◌≤◌, ℕ};
+ghost use Rattle.std.specs.Prelude.{◌≡◌, ◌+◌, ◌%◌, ◌<◌, ◌≤◌};
 ghost use Rattle.fc_credit.specs.Credits.{modulus};
 
 /// Which of the two counters of a class.

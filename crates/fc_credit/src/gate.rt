@@ -16,8 +16,8 @@ pub(crate) struct ClassGate {
 
 /// The transmitter's counters (section 2.6.1.2): for each class what it may use and what it used.
 ///
-/// CREDIT_LIMIT and CREDITS_CONSUMED are always below 256 for headers and below 4096 for data, so a gate alone tells the
-/// room: their difference modulo 256 or 4096.
+/// CREDIT_LIMIT and CREDITS_CONSUMED are always below 256 for headers and below 4096 for data, so a gate alone tells
+/// the room: their difference modulo 256 or 4096.
 #[derive(Clone, Copy, Debug, PartialEq, Eq)]
 pub struct CreditGate {
     posted: ClassGate,
@@ -71,7 +71,7 @@ impl ClassGate {
 }
 
 impl CreditGate {
-    ghost use Rattle.fc_credit.specs.Credits.{modulus, most, pick, gate_of, allowance, gate_covers, after_consume, after_limit, first_gate, StandsFor, HasRoom, room_of};
+    ghost use Rattle.fc_credit.specs.Credits.{most, pick, allowance, gate_covers, after_consume, after_limit, first_gate, StandsFor, HasRoom, room_of};
     ghost use Rattle.fc_credit.specs.declared.counter.Part.{Part};
 
     /// The gate as these credits were advertised and nothing used.

@@ -1,5 +1,5 @@
 //! What holds of credits, whatever calls come.
-ghost use Rattle.std.specs.Prelude.{◌≡◌, IsTrue, ℕ, ◌*◌, ◌<◌, ◌≤◌, List, []};
+ghost use Rattle.std.specs.Prelude.{◌≡◌, ◌↔◌, IsTrue, ℕ, ◌+◌, ◌*◌, ◌<◌, ◌≤◌, List, []};
 ghost use Rattle.dllp_core.specs.declared.packet.Class.{Class};
 ghost use Rattle.dllp_core.specs.declared.packet.Dllp.{Dllp};
 ghost use Rattle.tlp_core.specs.Packet.{Packet, IsPacket};
@@ -9,8 +9,8 @@ ghost use Rattle.fc_credit.specs.declared.needs.Need.{Need};
 ghost use Rattle.fc_credit.specs.declared.ledger.CreditLedger.{CreditLedger};
 ghost use Rattle.fc_credit.specs.Needs.{units_of, need_of};
 ghost use Rattle.fc_credit.specs.Limits.{IsInLimits, least_units};
-ghost use Rattle.fc_credit.specs.Credits.{Gate, first_of, allowance, grant, gate_covers, first_gate};
-ghost use Rattle.fc_credit.specs.Account.{Accounts, Direction, Event, HasCredit, IsRight, demand, happens, numbers_after, new_direction, first_numbers, after_events, numbers_in};
+ghost use Rattle.fc_credit.specs.Credits.{Gate, pick, first_of, allowance, grant, gate_covers, first_gate};
+ghost use Rattle.fc_credit.specs.Account.{Accounts, Direction, Event, HasCredit, IsRight, demand, after_event, numbers_after, new_direction, first_numbers, after_events, numbers_in};
 
 /// The data units of a payload are the least number of units of 16 bytes that hold it.
 pub fn units_are_the_least()
@@ -32,7 +32,7 @@ pub fn each_event_keeps_the_account()
         HasCredit credits (new_direction credits).gate (new_direction credits).ledger (first_numbers credits) [] [] [] }
     ensures kept { (credits : LaneCredits) (d : Direction) (numbers : Accounts) (event : Event) →
         HasCredit credits d.gate d.ledger numbers d.queue d.on_the_way d.wire →
-        HasCredit credits (happens d event).gate (happens d event).ledger (numbers_after d numbers event) (happens d event).queue (happens d event).on_the_way (happens d event).wire }
+        HasCredit credits (after_event d event).gate (after_event d event).ledger (numbers_after d numbers event) (after_event d event).queue (after_event d event).on_the_way (after_event d event).wire }
 {}
 
 /// Where whole numbers stand behind the counters: for each finite counter what was used is at most what is known, that
@@ -45,7 +45,8 @@ pub fn an_account_is_right()
 {}
 
 /// After any events in a new direction, whatever updates are lost and however often the counters wrap, whole numbers
-/// stand behind the counters, and all is right with them.
+/// stand behind the counters, and all is right with them. The gate covers a need exactly where each finite counter has
+/// the room, what is known less what was used.
 pub fn counters_stand_for_whole_numbers()
     ensures account { (credits : LaneCredits) (events : List Event) → IsInLimits credits →
         HasCredit credits (after_events (new_direction credits) events).gate (after_events (new_direction credits) events).ledger
@@ -55,4 +56,9 @@ pub fn counters_stand_for_whole_numbers()
         IsRight p (first_of c p credits) (allowance c p (after_events (new_direction credits) events).gate) (grant c p (after_events (new_direction credits) events).ledger)
         (numbers_in (new_direction credits) (first_numbers credits) events c p)
         (demand c p (after_events (new_direction credits) events).queue) (demand c p (after_events (new_direction credits) events).on_the_way) }
+    ensures room { (credits : LaneCredits) (events : List Event) (need : Need) → IsInLimits credits → need.header ≤ 127 → need.units ≤ 2047 →
+        IsTrue (gate_covers (after_events (new_direction credits) events).gate need) ↔
+        ((p : Part) → 0 < first_of need.class p credits →
+        (numbers_in (new_direction credits) (first_numbers credits) events need.class p).used + pick p need.header need.units ≤
+        (numbers_in (new_direction credits) (first_numbers credits) events need.class p).known) }
 {}

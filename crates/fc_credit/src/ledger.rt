@@ -1,5 +1,5 @@
 //! The receiver's side.
-ghost use Rattle.std.specs.Prelude.{◌≡◌, ℕ, ◌<◌, ◌||◌};
+ghost use Rattle.std.specs.Prelude.{◌≡◌, ◌||◌};
 ghost use Rattle.fc_credit.specs.declared.counter.Part.TheVariants as parts;
 
 use crate::counter::{Grant, Part};

@@ -1,6 +1,6 @@
 //! What a lane advertises.
 ghost use Rattle.std.specs.Prelude.{◌↔◌, IsTrue};
-ghost use Rattle.fc_credit.specs.Limits.{IsBetween, IsInLimits};
+ghost use Rattle.fc_credit.specs.Limits.{IsInfiniteOrBetween, IsInLimits};
 
 /// The first values of the credits of a lane, in header units and in data units of 16 bytes. 0 is infinite.
 #[derive(Clone, Copy, Debug, PartialEq, Eq)]
@@ -32,13 +32,13 @@ const MIN_DATA: u16 = 8;
 const MIN_ATOMIC: u16 = 2;
 
 fn is_header(first: u8) -> bool
-    ensures { IsTrue result ↔ IsBetween 1 127 first }
+    ensures { IsTrue result ↔ IsInfiniteOrBetween 1 127 first }
 {
     first <= MAX_HEADER
 }
 
 fn is_data(least: u16, first: u16) -> bool
-    ensures { IsTrue result ↔ IsBetween least 2047 first }
+    ensures { IsTrue result ↔ IsInfiniteOrBetween least 2047 first }
 {
     first == 0 || least <= first && first <= MAX_DATA
 }

@@ -1,5 +1,5 @@
 //! What a packet takes of the credits.
-ghost use Rattle.std.specs.Prelude.{◌≡◌, ◌≤◌, ℕ};
+ghost use Rattle.std.specs.Prelude.{◌≡◌, ◌≤◌};
 ghost use Rattle.fc_credit.specs.Needs as spec;
 
 use dllp_core::Class;

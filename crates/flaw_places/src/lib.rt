@@ -1,10 +1,13 @@
-//! What the first flaw of a trace is found at, and which request it names.
+//! What the first flaw of a trace is found at, which request it names, and the line that tells it.
 #![tactic(auto)]
 
-ghost use Rattle.std.specs.Prelude.{◌≡◌};
+ghost use Rattle.std.specs.Prelude.{◌≡◌, ◌≤◌, ◌+◌, ◌++◌};
+ghost use Rattle.arrayvec.specs.ArrayString.{array_string_len};
 ghost use Rattle.flaw_places.specs.Places as spec;
 
+use arrayvec::ArrayString;
 use history_check::{Flaw, FlawKind, Record};
+use operation_text::write_decimal;
 use seq_memory::Entry;
 
 /// Whether a flaw of this kind is found at an entry of the history: then its place is the entry's index.
@@ -57,4 +60,18 @@ pub fn flawed_request(
         let seen = records.get(flaw.place)?;
         Some(request_of_record(seen))
     }
+}
+
+/// Adds `flaw`, the flaw's number, its name and its place, at most 56 bytes.
+pub fn write_flaw(flaw: Flaw, out: &mut ArrayString<512>)
+    requires { array_string_len out.old + 56 ≤ 512 }
+    ensures text { out.new.bytes ≡ out.old.bytes ++ spec.flaw_line flaw.kind flaw.place }
+    ensures len { array_string_len out.new ≤ array_string_len out.old + 56 }
+{
+    out.push_str("flaw ");
+    write_decimal(u64::from(flaw.kind.number()), out);
+    out.push_str(" ");
+    out.push_str(flaw.kind.name());
+    out.push_str(" ");
+    write_decimal(flaw.place as u64, out);
 }

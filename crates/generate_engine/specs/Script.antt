@@ -8,7 +8,7 @@ use Rattle.fabric_core.specs.declared.config.Config.{Config}
 use Rattle.fabric_core.specs.declared.event.Event.{Event}
 use Rattle.fabric_core.specs.Config.{IsNewWith}
 use Rattle.fabric_core.specs.Runs.{Runs}
-use Rattle.trace_file.specs.Texts.{lines_text}
+use Rattle.trace_format.specs.Texts.{lines_text}
 use Rattle.script_lines.specs.Texts.{event_line, fabric_line}
 use Rattle.script_lines.specs.Spelled.{IsSpelledEvent}
 use Rattle.storm.specs.declared.Storm.{Storm}

@@ -9,8 +9,8 @@ use Rattle.std.proofs.lemmas.List.Elements.{All-head, All-drop, All-get_or}
 use Rattle.fabric_core.specs.declared.config.Config.{Config}
 use Rattle.fabric_core.specs.declared.event.Event.{Event}
 use Rattle.fabric_core.specs.Config.{IsConfig}
-use Rattle.trace_text.specs.Texts.{IsPrinted, IsPrintedChar}
-use Rattle.trace_file.specs.Texts.{lines_text}
+use Rattle.operation_text.specs.Texts.{IsPrinted, IsPrintedChar}
+use Rattle.trace_format.specs.Texts.{lines_text}
 use Rattle.line_engine.specs.Lines.{lines_of, bare}
 use Rattle.script_text.specs.declared.line.Line.{Line}
 use Rattle.script_text.specs.declared.line.Line.TheVariants as lines

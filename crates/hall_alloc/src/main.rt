@@ -2,7 +2,7 @@
 //! allocation is refused prints what a whole run prints, and one line `refused` besides.
 #![tactic(auto)]
 
-ghost use Rattle.std.specs.Prelude.{◌≡◌, IfOk, IfSome};
+ghost use Rattle.std.specs.Prelude.{IfOk, IfSome};
 ghost use Rattle.hall_core.specs.Views.{IsSeatOf, AreSeatsOf};
 
 use fabric_core::{ConfigFault, Refusal};
@@ -52,7 +52,7 @@ enum Asked {
     Add,
 }
 
-fn op_of(asked: Asked) -> Op {
+fn operation_asked(asked: Asked) -> Op {
     match asked {
         Asked::Write => write(),
         Asked::Read => read(),
@@ -66,7 +66,7 @@ fn ask<R: Print>(rt: &R, hall: &Hall, seat: &mut ReqSeat, asked: Asked) -> io::R
     ensures { IsSeatOf hall.now seat.new }
 {
     for _again in 0..3u8 {
-        match submit(hall, seat, op_of(asked)) {
+        match submit(hall, seat, operation_asked(asked)) {
             Ok(given) => return print!(rt; "submitted {} {}\n", given.number, given.n),
             Err(refusal) if lacks_memory(refusal) => print!(rt; "refused submit\n")?,
             Err(refusal) => return print!(rt; "{refusal}\n"),

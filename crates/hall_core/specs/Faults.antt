@@ -1,5 +1,5 @@
 -- Why a hall isn't made.
-use Rattle.std.specs.Prelude.{◌≤◌, ℕ}
+use Rattle.std.specs.Prelude.{◌≤◌, ℕ, List, codes}
 use Rattle.hall_core.specs.declared.fault.HallFault.{HallFault}
 use Rattle.hall_core.specs.declared.fault.HallFault.TheVariants.{Seats, Memory}
 
@@ -15,3 +15,7 @@ HasHallFault work Memory = IsSeatCount work
 abbrev pub hall_fault_number : HallFault → ℕ
 hall_fault_number Seats = 1
 hall_fault_number Memory = 2
+
+abbrev pub hall_fault_name : HallFault → List ℕ
+hall_fault_name Seats = codes "Seats"
+hall_fault_name Memory = codes "Memory"

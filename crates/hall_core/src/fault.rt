@@ -1,17 +1,16 @@
 //! Why a hall isn't made.
 ghost use Rattle.std.specs.Prelude.{◌≡◌};
-ghost use Rattle.hall_core.specs.Faults.{hall_fault_number};
+ghost use Rattle.hall_core.specs.Faults.{hall_fault_number, hall_fault_name};
 
 use thiserror::Error;
 
 /// Why no hall is made. The fabric is spent.
 #[derive(Clone, Copy, Debug, PartialEq, Eq, Error)]
+#[error("{}", self.name())]
 pub enum HallFault {
     /// There would be no work seat, or more than 64.
-    #[error("Seats")]
     Seats,
     /// There is no memory for the hall.
-    #[error("Memory")]
     Memory,
 }
 
@@ -23,6 +22,16 @@ impl HallFault {
         match self {
             HallFault::Seats => 1,
             HallFault::Memory => 2,
+        }
+    }
+
+    /// The name under which it is told.
+    pub fn name(self) -> &'static str
+        ensures { result.now ≡ hall_fault_name self }
+    {
+        match self {
+            HallFault::Seats => "Seats",
+            HallFault::Memory => "Memory",
         }
     }
 }

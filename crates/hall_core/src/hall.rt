@@ -1,5 +1,5 @@
 //! The hall and its calls.
-ghost use Rattle.std.specs.Prelude.{◌≡◌, ◌≢◌, ◌+◌, ◌<◌, ◌≤◌, ℕ, List, [], ◌∷◌, length, IfOk, IfErr, MatchOption};
+ghost use Rattle.std.specs.Prelude.{◌≡◌, ◌≢◌, ◌+◌, ◌<◌, ◌≤◌, List, length, IfOk, IfErr, MatchOption};
 ghost use Rattle.seq_memory.specs.declared.Entry.{Entry};
 ghost use Rattle.fabric_core.specs.declared.event.Event.TheVariants.{Submit, Collect};
 ghost use Rattle.hall_laws.specs.Shows.{Shows};
@@ -13,7 +13,7 @@ ghost use Rattle.hall_core.specs.Faults.{HasHallFault};
 ghost use Rattle.hall_core.specs.Views.{AreNewSeats, IsSeatOf};
 
 use crate::fault::HallFault;
-use crate::seats::{ReqSeat, WorkSeat, req_seats, work_seats};
+use crate::seats::{ReqSeat, WorkSeat, req_seats, seat, work_seats};
 use crate::told::{Answered, Submitted};
 use fabric_core::{Config, Fabric, Seen};
 use hall_events::meeting::meet_as;
@@ -53,9 +53,9 @@ impl Model for Hall {
 }
 
 impl Hall {
-    /// A hall of a fabric, with a seat for each requester, in their order, and `work` work seats, 1 to 64. The caller owes
-    /// a fabric that is quiet, with an empty history, as a new one is. With R requesters the seat of requester i has the
-    /// number i - 1, and the work seats have R, R + 1 and so on.
+    /// A hall of a fabric, with a seat for each requester, in their order, and `work` work seats, 1 to 64. The caller
+    /// owes a fabric that is quiet, with an empty history, as a new one is. With R requesters the seat of requester i
+    /// has the number i - 1, and the work seats have R, R + 1 and so on.
     ///
     /// The faults are `Seats` where `work` isn't 1 to 64, then `Memory`; either way the fabric is spent.
     pub fn new(
@@ -105,8 +105,8 @@ impl Hall {
         &self.board.shared
     }
 
-    /// The requester of the seat submits an operation: its request enters the lane to the switch. Gives the number of the
-    /// request, and the length of the history, which the seat then has seen.
+    /// The requester of the seat submits an operation: its request enters the lane to the switch. Gives the number of
+    /// the request, and the length of the history, which the seat then has seen.
     ///
     /// `Busy` where another seat has the memory, the requester or the sender's end of its lane, in this order; then the
     /// refusal of the fabric.
@@ -132,9 +132,9 @@ impl Hall {
         }
     }
 
-    /// The requester of the seat takes its oldest completion. Gives the number of the request, the reply, and the length
-    /// of the history, which the seat then has seen. None where no completion had arrived; the seat then has seen the
-    /// history, too.
+    /// The requester of the seat takes its oldest completion. Gives the number of the request, the reply, and the
+    /// length of the history, which the seat then has seen. None where no completion had arrived; the seat then has
+    /// seen the history, too.
     ///
     /// `Busy` where another seat has the memory, the requester or the receiver's end of its lane, in this order.
     pub fn collect(&self, seat: &mut ReqSeat) -> Result<Option<Answered>, HallRefusal>
@@ -188,28 +188,8 @@ impl Hall {
             usize::from(one),
             requesters,
         ) {
-            Ok((a, b, n)) => Ok((
-                ReqSeat {
-                    place: a,
-                    number: one,
-                },
-                ReqSeat {
-                    place: b,
-                    number: two,
-                },
-                n,
-            )),
-            Err((refusal, a, b)) => Err((
-                refusal,
-                ReqSeat {
-                    place: a,
-                    number: one,
-                },
-                ReqSeat {
-                    place: b,
-                    number: two,
-                },
-            )),
+            Ok((a, b, n)) => Ok((seat(a, one), seat(b, two), n)),
+            Err((refusal, a, b)) => Err((refusal, seat(a, one), seat(b, two))),
         }
     }
 
@@ -217,7 +197,8 @@ impl Hall {
     /// gives.
     ///
     /// `Busy` where another seat has a part that the event uses, in the order of their taking; then the refusal of the
-    /// fabric. It is never `Protocol`, `Strange` or `Route`.
+    /// fabric. Where the first part shows that there is nothing to do, no further part is taken. It is never
+    /// `Protocol`, `Strange` or `Route`.
     pub fn pump(&self, seat: &mut WorkSeat, event: WorkEvent) -> Result<Seen, HallRefusal>
         requires { IsSeatOf self.now seat.old }
         ensures seat { IsSeatOf self.now seat.new }

@@ -2,14 +2,14 @@
 //!
 //! Each part of the fabric lies in a slot of one table, and a word says who has it: 0 while it is free, else 1 plus the
 //! number of the seat that has it. A call takes the words of the few parts that its event uses, one at a time, does the
-//! event on them, and gives them back one at a time. No call waits, and none tries again: a part that another seat has is
-//! answered as [`HallRefusal::Busy`].
+//! event on them, and gives them back one at a time. No call waits, and none tries again: a part that another seat has
+//! is answered as [`HallRefusal::Busy`].
 //!
 //! Whatever the threads do, there is one history of requests that acted, it only grows, and each seat knows a beginning
 //! of it.
 //!
-//! A [`Hall`] is `Sync`, so that threads share it by `&`; seats are `Send`, and each moves to the thread that uses it. A
-//! seat is used with the hall that it came from.
+//! A [`Hall`] is `Sync`, so that threads share it by `&`; seats are `Send`, and each moves to the thread that uses it.
+//! A seat is used with the hall that it came from.
 #![tactic(auto)]
 
 mod fault;

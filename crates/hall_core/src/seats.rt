@@ -1,6 +1,8 @@
 //! The seats of a hall.
 ghost use Rattle.std.specs.Prelude.{◌≡◌, ◌+◌, ◌-◌, ◌<◌, ◌≤◌, ◌^◌, ℕ, List, [], ◌∷◌, length, IfOk, IfErr};
+ghost use Rattle.hall_laws.specs.Calls.{IsIdle};
 ghost use Rattle.hall_laws.specs.Rule.{newcomers};
+ghost use Rattle.hall_laws.specs.Standing.{token_of};
 ghost use Rattle.hall_core.specs.Views.{AreNewSeats};
 
 use fabric_core::Config;
@@ -68,6 +70,14 @@ impl WorkSeat {
     {
         self.place
     }
+}
+
+/// The seat of a requester at this place.
+pub(crate) fn seat(place: Place, number: u8) -> ReqSeat
+    requires { IsIdle place.me × ((token_of place.me.0).knows.number ≡ number) × (number < (token_of place.me.0).knows.config.requesters) × ((token_of place.me.0).knows.config.requesters ≤ 7) }
+    ensures { (result.table_id ≡ place.table_id) × (result.knows ≡ (token_of place.me.0).knows) }
+{
+    ReqSeat { place, number }
 }
 
 /// A seat for each requester, in their order. The rest of the tokens stays.

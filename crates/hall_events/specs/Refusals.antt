@@ -1,5 +1,5 @@
 -- Why a call is refused.
-use Rattle.std.specs.Prelude.{ℕ, ◌≡◌, ◌≢◌, ◌⊎◌, length}
+use Rattle.std.specs.Prelude.{ℕ, ◌≡◌, ◌≢◌, ◌⊎◌, length, List, codes}
 use Rattle.fabric_laws.specs.Fabric.{Fabric}
 use Rattle.fabric_core.specs.declared.event.Event.{Event}
 use Rattle.fabric_core.specs.declared.fault.Refusal.{Refusal}
@@ -10,6 +10,7 @@ use Rattle.hall_events.specs.declared.refusal.HallRefusal.{HallRefusal}
 use Rattle.hall_events.specs.declared.refusal.HallRefusal.TheVariants.{Busy, Core}
 use Rattle.hall_laws.specs.declared.token.Knowledge.{Knowledge}
 use Rattle.hall_laws.specs.Shows.{MayRefuse}
+use Rattle.fabric_core.specs.Faults.{refusal_name}
 
 -- no fabric with so many requesters has the part
 abbrev pub HasNoPart : ℕ → Event → Refusal → Type 0
@@ -37,3 +38,7 @@ RefusalsArePossible = (w : Knowledge) (event : Event) (r : HallRefusal) → IsRe
 abbrev pub hall_refusal_number : HallRefusal → ℕ
 hall_refusal_number (Busy part word) = 1
 hall_refusal_number (Core r) = 2
+
+abbrev pub hall_refusal_name : HallRefusal → List ℕ
+hall_refusal_name (Busy part word) = codes "Busy"
+hall_refusal_name (Core r) = refusal_name r

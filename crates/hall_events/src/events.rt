@@ -1,5 +1,6 @@
 //! The events of the fabric over parts in places of their own.
-ghost use Rattle.std.specs.Prelude.{◌≡◌, ◌<◌, true, Some, Ok, IfOk, IfErr, OnOk, OnErr};
+ghost use Rattle.std.specs.Prelude.{◌≡◌, ◌↔◌, ◌<◌, true, [], Some, None, Ok, IsTrue, IfOk, IfErr, OnOk, OnErr};
+ghost use Rattle.vc_queue.specs.Queue.{is_takeable};
 ghost use Rattle.lane_core.specs.Steps.{after_timer, after_retraining, transmitted, after_transmission, wire_after_transmit, all_but_first, delivered, after_deliver, dllp_of, after_send, wire_after_send, dllp_seen, sender_after};
 ghost use Rattle.switch_core.specs.Forwarding.{Forwards};
 ghost use Rattle.fabric_core.specs.Footprints.{Submits, SubmitRefused, TransmitRefused, DeliverRefused, SendDllpRefused, DllpRefused, TimerRefused, RetrainedRefused, ForwardRefused, IsRoutedAs, DestinationRefused, Serves, ServeRefused, Collects, CollectRefused};
@@ -28,6 +29,13 @@ pub fn submit(
     events::submit(&mut requester.inner, &mut sender.inner, op)
 }
 
+/// The sender has no packet to send, or is stopped.
+pub fn has_nothing_to_send(sender: &Boxed<SenderEnd>) -> bool
+    ensures { IsTrue result ↔ (transmitted sender.now ≡ None) }
+{
+    !sender.inner.can_transmit()
+}
+
 /// [`events::transmit`].
 pub fn transmit(
     sender: &mut Boxed<SenderEnd>,
@@ -41,6 +49,13 @@ pub fn transmit(
     ensures err_wire { OnErr result (wire.new ≡ wire.old) }
 {
     events::transmit(&mut sender.inner, &mut wire.inner)
+}
+
+/// The forward wire is empty.
+pub fn has_nothing_forward(wire: &Boxed<ForwardWire>) -> bool
+    ensures { IsTrue result ↔ (wire.now ≡ []) }
+{
+    wire.inner.is_empty()
 }
 
 /// [`events::deliver`].
@@ -73,6 +88,13 @@ pub fn send_dllp(
     ensures err_wire { OnErr result (wire.new ≡ wire.old) }
 {
     events::send_dllp(&mut receiver.inner, &mut wire.inner, kind)
+}
+
+/// The back wire is empty.
+pub fn has_nothing_back(wire: &Boxed<BackWire>) -> bool
+    ensures { IsTrue result ↔ (wire.now ≡ []) }
+{
+    wire.inner.is_empty()
 }
 
 /// [`events::deliver_dllp`].
@@ -131,6 +153,13 @@ pub fn forward(
     ensures err_sender { OnErr result (sender.new ≡ sender.old) }
 {
     events::forward(&mut receiver.inner, place, &mut sender.inner)
+}
+
+/// There is a packet at this place, and it may pass each earlier one.
+pub fn is_takeable(receiver: &Boxed<ReceiverEnd>, place: usize) -> bool
+    ensures { result ≡ is_takeable receiver.now.queue place }
+{
+    receiver.inner.takeable(place)
 }
 
 /// [`events::serve`].

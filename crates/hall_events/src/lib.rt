@@ -1,5 +1,6 @@
-//! The events of a hall: each takes the parts that it uses, one at a time, does the event of the fabric on them, and gives
-//! them back one at a time. What its seat learns and what is seen are told by the fabric's own steps.
+//! The events of a hall: each takes the parts that it uses, one at a time, does the event of the fabric on them, and
+//! gives them back one at a time. Where the first part shows that there is nothing to do, no further part is taken.
+//! What its seat learns and what is seen are told by the fabric's own steps.
 #![tactic(auto)]
 
 mod events;

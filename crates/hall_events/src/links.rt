@@ -1,5 +1,5 @@
 //! The events of a link, each over the ends that it uses.
-ghost use Rattle.std.specs.Prelude.{◌≡◌, ◌≢◌, ◌+◌, ◌<◌, ◌≤◌, ℕ, List, [], ◌∷◌, length, IfOk, IfErr};
+ghost use Rattle.std.specs.Prelude.{◌≡◌, ◌+◌, ◌<◌, IfOk, IfErr};
 ghost use Rattle.fabric_core.specs.declared.event.Event.TheVariants as events;
 ghost use Rattle.hall_events.specs.Refusals.{IsRefused};
 ghost use Rattle.hall_laws.specs.Calls.{IsSized, IsOf, IsIdle};
@@ -9,7 +9,7 @@ ghost use Rattle.hall_laws.specs.Standing.{token_of};
 
 use crate::events;
 use crate::refusal::HallRefusal;
-use fabric_core::{LaneName, Seen};
+use fabric_core::{LaneName, Refusal, Seen};
 use hall_laws::duties::{
     delivering, delivering_a_dllp, expiring, retraining, sending_a_dllp, transmitting,
 };
@@ -42,6 +42,10 @@ pub fn transmit(
             word,
         }),
     };
+    if events::has_nothing_to_send(&sender) {
+        put_back(steps, place, lane_slot(name), PartValue::Sender(sender));
+        return Err(HallRefusal::Core(Refusal::Idle));
+    }
     let mut wire = match take_forward(steps, place, number, requesters, name) {
         Ok(wire) => wire,
         Err(word) => {
@@ -97,6 +101,10 @@ pub fn deliver(
             word,
         }),
     };
+    if events::has_nothing_forward(&wire) {
+        put_back(steps, place, lane_slot(name) + 1, PartValue::Forward(wire));
+        return Err(HallRefusal::Core(Refusal::Idle));
+    }
     let mut receiver = match take_receiver(steps, place, number, requesters, name) {
         Ok(receiver) => receiver,
         Err(word) => {
@@ -227,6 +235,10 @@ pub fn deliver_dllp(
             word,
         }),
     };
+    if events::has_nothing_back(&wire) {
+        put_back(steps, place, lane_slot(name) + 2, PartValue::Back(wire));
+        return Err(HallRefusal::Core(Refusal::Idle));
+    }
     let mut sender = match take_sender(steps, place, number, requesters, name) {
         Ok(sender) => sender,
         Err(word) => {

@@ -1,6 +1,6 @@
 //! Why a call is refused.
 ghost use Rattle.std.specs.Prelude.{◌≡◌};
-ghost use Rattle.hall_events.specs.Refusals.{RefusalsArePossible, hall_refusal_number};
+ghost use Rattle.hall_events.specs.Refusals.{RefusalsArePossible, hall_refusal_number, hall_refusal_name};
 
 use fabric_core::Refusal;
 use fabric_core::laws::every_refusal_is_possible;
@@ -26,6 +26,16 @@ impl HallRefusal {
         match self {
             HallRefusal::Busy { .. } => 1,
             HallRefusal::Core(_) => 2,
+        }
+    }
+
+    /// The name under which it is told.
+    pub fn name(self) -> &'static str
+        ensures { result.now ≡ hall_refusal_name self }
+    {
+        match self {
+            HallRefusal::Busy { .. } => "Busy",
+            HallRefusal::Core(refusal) => refusal.name(),
         }
     }
 }

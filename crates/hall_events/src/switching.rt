@@ -1,15 +1,14 @@
 //! Packets that go on, and requests that act.
-ghost use Rattle.std.specs.Prelude.{◌≡◌, ◌≢◌, ◌+◌, ◌<◌, ◌≤◌, ℕ, List, [], ◌∷◌, ◌++◌, length, IfOk, IfErr};
+ghost use Rattle.std.specs.Prelude.{◌≡◌, ◌+◌, ◌<◌, ◌≤◌, [], ◌∷◌, IfOk, IfErr, OnErr};
 ghost use Rattle.fabric_core.specs.declared.event.Event.TheVariants as events;
 ghost use Rattle.fabric_core.specs.declared.event.LaneName.TheVariants as lanes;
 ghost use Rattle.fabric_core.specs.declared.event.Seen.TheVariants as seen;
-ghost use Rattle.hall_laws.specs.declared.token.Knowledge.{Knowledge};
 ghost use Rattle.hall_laws.specs.Shows.{Shows};
 ghost use Rattle.hall_laws.specs.Calls.{IsSized, IsOf, IsIdle, knowing, serving_also};
 ghost use Rattle.hall_laws.specs.Rule.{Known};
 ghost use Rattle.hall_laws.specs.Standing.{token_of};
 ghost use Rattle.hall_events.specs.Holds.{having};
-ghost use Rattle.hall_events.specs.Refusals.{IsRefused, IsBusy};
+ghost use Rattle.hall_events.specs.Refusals.{IsRefused};
 ghost use Rattle.hall_events.specs.Ways.{GoesDown, HasNoWayDown};
 
 use crate::events;
@@ -103,8 +102,8 @@ pub fn forward_up(
     }
 }
 
-/// The port of the requester to which the packet at this place of `out` goes. `NotTakeable` where there is none or it may
-/// not pass an earlier one, then `Route`.
+/// The port of the requester to which the packet at this place of `out` goes. `NotTakeable` where there is none or it
+/// may not pass an earlier one, then `Route`.
 fn port_down(receiver: &Boxed<ReceiverEnd>, at: usize, requesters: u8) -> Result<u8, Refusal>
     ensures ok { IfOk result (λ to. GoesDown receiver.now at requesters to) }
     ensures refused { IfErr result (λ r. HasNoWayDown receiver.now at requesters r) }
@@ -181,20 +180,24 @@ pub fn forward_out(
     }
 }
 
-/// The parts of a serving, in the order of their taking.
+/// The parts of a serving, in the order of their taking. `NotTakeable` where `in` alone shows that no request of this
+/// place may act.
 fn take_to_serve(
     steps: &Steps,
     place: &mut Place,
     number: usize,
     requesters: u8,
+    at: usize,
 ) -> Result<(Boxed<ReceiverEnd>, Boxed<Memory>, Boxed<SenderEnd>), HallRefusal>
     requires table { IsSized steps.now.table_id requesters × IsOf steps.now.table_id requesters number place.old }
     requires idle { IsIdle place.old.me }
     ensures seat { (place.new.table_id ≡ place.old.table_id) × (place.new.id ≡ place.old.id) }
     ensures taken { IfOk result (λ t. place.new.me ≡ having (token_of place.old.me.0).knows ((5, PartValue.Sender t.2) ∷ ((0, PartValue.Memory t.1) ∷ ((4, PartValue.Receiver t.0) ∷ [])))) }
     ensures known { IfOk result (λ _. Known place.new.me.0) }
-    ensures busy { IfErr result (λ r. IsBusy r × (place.new.me ≡ place.old.me)) }
+    ensures same { OnErr result (place.new.me ≡ place.old.me) }
+    ensures why { IfErr result (λ r. IsRefused (token_of place.old.me.0).knows (events.Serve at) r) }
 {
+    serving();
     let receiver = match take_receiver(steps, place, number, requesters, LaneName::Inward) {
         Ok(receiver) => receiver,
         Err(word) => return Err(HallRefusal::Busy {
@@ -202,6 +205,10 @@ fn take_to_serve(
             word,
         }),
     };
+    if !events::is_takeable(&receiver, at) {
+        put_back(steps, place, 4, PartValue::Receiver(receiver));
+        return Err(HallRefusal::Core(Refusal::NotTakeable));
+    }
     let memory = match take_memory(steps, place, number, requesters) {
         Ok(memory) => memory,
         Err(word) => {
@@ -243,10 +250,10 @@ pub fn serve(
 {
     serving();
     let (mut receiver, mut memory, mut sender) = match take_to_serve(
-        steps, place, number, requesters,
+        steps, place, number, requesters, at,
     ) {
         Ok(parts) => parts,
-        Err(busy) => return Err(busy),
+        Err(refusal) => return Err(refusal),
     };
     match events::serve(&mut receiver, at, &mut memory, &mut sender) {
         Ok(n) => {

@@ -1,5 +1,5 @@
 //! All events but submissions and collections.
-ghost use Rattle.std.specs.Prelude.{◌≡◌, ◌≢◌, ◌↔◌, ◌+◌, ◌<◌, ◌≤◌, ℕ, List, [], ◌∷◌, length, IsTrue, IfOk, IfErr, OnErr};
+ghost use Rattle.std.specs.Prelude.{◌≡◌, ◌↔◌, ◌<◌, IsTrue, IfOk, IfErr};
 ghost use Rattle.fabric_core.specs.declared.event.Event.TheVariants as events;
 ghost use Rattle.hall_events.specs.Refusals.{IsRefused};
 ghost use Rattle.hall_events.specs.Works.{Pumped, event_of, link_event};
@@ -123,48 +123,22 @@ pub fn pump_as(
     ensures shows { IfOk result (λ what. Shows (token_of place.old.me.0).knows (event_of event) what) }
     ensures why { IfErr result (λ r. IsRefused (token_of place.old.me.0).knows (event_of event) r) }
 {
-    match event {
-        WorkEvent::Transmit(name) => {
-            link(steps, place, number, requesters, name, LinkEvent::Transmit)
+    let (name, call) = match event {
+        WorkEvent::Transmit(name) => (name, LinkEvent::Transmit),
+        WorkEvent::Deliver(name, fate) => (name, LinkEvent::Deliver(fate)),
+        WorkEvent::SendDllp(name, kind) => (name, LinkEvent::SendDllp(kind)),
+        WorkEvent::DeliverDllp(name, fate) => (name, LinkEvent::DeliverDllp(fate)),
+        WorkEvent::Timer(name) => (name, LinkEvent::Timer),
+        WorkEvent::Retrained(name) => (name, LinkEvent::Retrained),
+        WorkEvent::Forward(name, at) => {
+            return forward(steps, place, number, requesters, name, at);
         }
-        WorkEvent::Deliver(name, fate) => {
-            link(
-                steps,
-                place,
-                number,
-                requesters,
-                name,
-                LinkEvent::Deliver(fate),
-            )
+        WorkEvent::Serve(at) => {
+            return match serve(steps, place, number, requesters, at) {
+                Ok(n) => Ok(Seen::At(n)),
+                Err(refusal) => Err(refusal),
+            };
         }
-        WorkEvent::SendDllp(name, kind) => {
-            link(
-                steps,
-                place,
-                number,
-                requesters,
-                name,
-                LinkEvent::SendDllp(kind),
-            )
-        }
-        WorkEvent::DeliverDllp(name, fate) => {
-            link(
-                steps,
-                place,
-                number,
-                requesters,
-                name,
-                LinkEvent::DeliverDllp(fate),
-            )
-        }
-        WorkEvent::Timer(name) => link(steps, place, number, requesters, name, LinkEvent::Timer),
-        WorkEvent::Retrained(name) => {
-            link(steps, place, number, requesters, name, LinkEvent::Retrained)
-        }
-        WorkEvent::Forward(name, at) => forward(steps, place, number, requesters, name, at),
-        WorkEvent::Serve(at) => match serve(steps, place, number, requesters, at) {
-            Ok(n) => Ok(Seen::At(n)),
-            Err(refusal) => Err(refusal),
-        },
-    }
+    };
+    link(steps, place, number, requesters, name, call)
 }

@@ -1,16 +1,18 @@
 -- What submissions, collections and meetings tell, by the view that holds their parts.
-use Rattle.std.proofs.Common.{◌≡◌, ◌≢◌, ℕ, zero, suc, ◌+◌, ◌<◌, ◌≤◌, List, [], ◌∷◌, ◌++◌, length, map, refl, sym, ap, ◌∙◌, subst, arith, Some}
+use Rattle.std.proofs.Common.{◌≡◌, ℕ, suc, ◌+◌, ◌<◌, List, [], ◌∷◌, ◌++◌, length, refl, sym, ap, ◌∙◌, subst, Some}
 use Rattle.std.specs.Prelude.{slice_get}
 use mathlib.Core.Option.{some-injective}
 use Rattle.tlp_core.specs.declared.operation.Op.{Op}
 use Rattle.seq_memory.specs.declared.Entry.{Entry}
 use Rattle.seq_memory.specs.declared.Reply.{Reply}
-use Rattle.seq_memory.specs.History.{State, reply_at}
+use Rattle.seq_memory.specs.History.{State, extent_of, reply_at}
+use Rattle.seq_memory.specs.Limits.{Extent}
 use Rattle.requester_core.specs.declared.requester.Answer.{Answer}
 use Rattle.history_check.specs.declared.Record.TheVariants.{Sub, Ans}
 use Rattle.history_check.specs.Trace.{stands}
 use Rattle.fabric_laws.specs.Fabric.{Fabric, whole_of}
 use Rattle.fabric_laws.specs.Trace.{Belongs}
+use Rattle.fabric_core.specs.declared.config.Config.{Config}
 use Rattle.fabric_core.specs.declared.event.Event.{Event}
 use Rattle.fabric_core.specs.declared.event.Event.TheVariants as events
 use Rattle.fabric_core.specs.declared.event.Seen.{Seen}
@@ -20,7 +22,7 @@ use Rattle.hall_laws.specs.declared.part.PartValue.{PartValue}
 use Rattle.hall_laws.specs.declared.part.PartValue.TheVariants.{Memory}
 use Rattle.hall_laws.specs.declared.token.Token.{Token}
 use Rattle.hall_laws.specs.declared.token.Knowledge.{Knowledge}
-use Rattle.hall_laws.specs.Rule.{Traced, IsSoundTraced, Fits, Begins, Known, Agrees, Goes, learned, HasConfig}
+use Rattle.hall_laws.specs.Rule.{Traced, IsSoundTraced, Fits, Begins, Known, Agrees, Goes, learned, HasConfig, extent_for}
 use Rattle.hall_laws.specs.Shows.{Shows}
 use Rattle.hall_laws.specs.Tells.{Has, IsLegalFor, AnsweredStand, SubmitTells, CollectTells, SeesTells, Met}
 use Rattle.hall_laws.proofs.Events.{Laws, stays_sound}
@@ -48,7 +50,7 @@ submit_tells laws t t' ts u r k x y v m op known held g =
     let new = new_request (whole_of after) s.records i k op b' in
     record {
       begins = subst (λ (z : State). Begins t.knows.seen z.entries) is_m f.seen;
-      moment = refl;
+      is_length = refl;
       number = new.0 ∙ ap length (sym f.made);
       new = subst (λ (z : State). stands z.entries i k ≡ Rattle.std.proofs.Common.false) (same ∙ is_m) new.1;
       knows = refl;
@@ -73,7 +75,7 @@ collect_tells laws explains t t' ts u r x y v m answer known held g =
     let there : slice_get m.entries e.point ≡ Some (record { requester = i; number = k; op = e.op }) = ap (λ (z : State). slice_get z.entries e.point) (sym (same ∙ is_m)) ∙ e.acted in
     record {
       begins = subst (λ (z : State). Begins t.knows.seen z.entries) is_m f.seen;
-      moment = refl;
+      is_length = refl;
       since = e.since;
       waited = subst (Has (k, e.since)) (sym f.pending) (waits i k e.since e.place e.op s.records e.asked e.not_posted e.unanswered);
       knows = refl;
@@ -87,14 +89,18 @@ collect_tells laws explains t t' ts u r x y v m answer known held g =
       legal = legal;
     }
   where
+    same_extent : (f : Fabric) (c : Config) → HasConfig f c → extent_for c ≡ extent_of f.memory
+    same_extent f c h =
+        ap {B = Extent} (λ (n : ℕ). record { base = n; size = c.size; block = c.block }) (sym h.base) ∙
+        (ap {B = Extent} (λ (n : ℕ). record { base = f.memory.base; size = n; block = c.block }) (sym h.size) ∙
+        ap {B = Extent} (λ (n : ℕ). record { base = f.memory.base; size = f.memory.size; block = n }) (sym h.block))
+
     reply_there : (s : Traced) (after : Fabric) → after.memory ≡ s.fabric.memory → s.fabric.memory ≡ m → HasConfig s.fabric t.knows.config → (point : ℕ) (reply : Reply)
-        → reply_at after.memory.block after.memory.base after.memory.size after.memory.entries point ≡ Some reply → reply_at t.knows.config.block t.knows.config.base t.knows.config.size m.entries point ≡ Some reply
+        → reply_at (extent_of after.memory) after.memory.entries point ≡ Some reply → reply_at (extent_for t.knows.config) m.entries point ≡ Some reply
     reply_there s after same is_m c point reply e =
-        ap (λ (n : ℕ). reply_at n t.knows.config.base t.knows.config.size m.entries point) (sym c.block) ∙
-        (ap (λ (n : ℕ). reply_at s.fabric.memory.block n t.knows.config.size m.entries point) (sym c.base) ∙
-        (ap (λ (n : ℕ). reply_at s.fabric.memory.block s.fabric.memory.base n m.entries point) (sym c.size) ∙
-        (ap (λ (l : List Entry). reply_at s.fabric.memory.block s.fabric.memory.base s.fabric.memory.size l point) (ap (λ (z : State). z.entries) (sym is_m)) ∙
-        (ap (λ (z : State). reply_at z.block z.base z.size z.entries point) (sym same) ∙ e))))
+        ap (λ (x : Extent). reply_at x m.entries point) (same_extent s.fabric t.knows.config c) ∙
+        (ap (λ (l : List Entry). reply_at (extent_of s.fabric.memory) l point) (ap (λ (z : State). z.entries) (sym is_m)) ∙
+        (ap (λ (z : State). reply_at (extent_of z) z.entries point) (sym same) ∙ e))
 
 -- the view that holds the memory alone: each of its tokens may have seen all of the history
 pub sees_tells : (t : Token) (ts : List Token) (m : State) → Known (t ∷ ts) → t.held ≡ (0, Memory m) ∷ [] → SeesTells t.knows (record t.knows { seen = m.entries })

@@ -8,7 +8,7 @@ use Rattle.tlp_core.specs.Operation.{is_posted, op_of}
 use Rattle.seq_memory.specs.declared.Entry.{Entry}
 use Rattle.seq_memory.specs.History.{State}
 use Rattle.requester_core.specs.declared.requester.Answer.{Answer}
-use Rattle.completer_core.specs.Serving.{after_serving, entry_of, with_entry}
+use Rattle.completer_core.specs.Serving.{after_serving, request_entry, with_entry}
 use Rattle.lane_core.specs.Calls.{content}
 use Rattle.history_check.specs.declared.Record.{Record}
 use Rattle.history_check.specs.declared.Record.TheVariants.{Sub, Ans}
@@ -34,7 +34,7 @@ use Rattle.hall_laws.specs.Rule.{HasConfig, learned}
 serving_keeps : (m : State) (t : Packet) (mark : ℕ) → ((after_serving m t mark).base ≡ m.base) × ((after_serving m t mark).size ≡ m.size) × ((after_serving m t mark).block ≡ m.block)
 serving_keeps m t mark = kept (op_of t)
   where
-    kept : (o : Option Op) → ((option_map_or (λ op. with_entry m (entry_of t mark op)) o m).base ≡ m.base) × ((option_map_or (λ op. with_entry m (entry_of t mark op)) o m).size ≡ m.size) × ((option_map_or (λ op. with_entry m (entry_of t mark op)) o m).block ≡ m.block)
+    kept : (o : Option Op) → ((option_map_or (λ op. with_entry m (request_entry t mark op)) o m).base ≡ m.base) × ((option_map_or (λ op. with_entry m (request_entry t mark op)) o m).size ≡ m.size) × ((option_map_or (λ op. with_entry m (request_entry t mark op)) o m).block ≡ m.block)
     kept None = (refl, refl, refl)
     kept (Some op) = (refl, refl, refl)
 
@@ -75,9 +75,9 @@ pub data Learning (h : List Entry) (event : Event) (what : Seen) (w : Knowledge)
 grown : (m : State) (t : Packet) (mark : ℕ) → is_some (op_of t) ≡ true → length m.entries < length (after_serving m t mark).entries
 grown m t mark e = go (op_of t) e
   where
-    go : (o : Option Op) → is_some o ≡ true → length m.entries < length (option_map_or (λ op. with_entry m (entry_of t mark op)) o m).entries
+    go : (o : Option Op) → is_some o ≡ true → length m.entries < length (option_map_or (λ op. with_entry m (request_entry t mark op)) o m).entries
     go None n = absurd (cc)
-    go (Some op) n = let l = length-append m.entries (entry_of t mark op ∷ []) in omega arith
+    go (Some op) n = let l = length-append m.entries (request_entry t mark op ∷ []) in omega arith
 
 module _ (asks : (f : Fabric) (place mark : ℕ) (t : Packet) → IsRouted f → slice_get (content f.inward) place ≡ Some (t, mark) → is_some (op_of t) ≡ true) where
   pub learning : (f : Fabric) (event : Event) (what : Seen) (f' : Fabric) (w : Knowledge) → IsRouted f → Happens f event what f'

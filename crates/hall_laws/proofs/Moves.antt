@@ -1,6 +1,6 @@
 -- A step of one seat keeps the rule.
 use Rattle.std.proofs.Common.{◌≡◌, ◌≢◌, ℕ, eqb, subst, suc, ◌<◌, ◌≤◌, ◌⊎◌, List, [], ◌∷◌, ◌++◌, length, get_or, set, sym, refl, ap, ◌∙◌, inl, inr, ⊎_elim, arith, length-set, Option, Some}
-use mathlib.Core.Option.{none, some, some-injective, some-ne-none}
+use mathlib.Core.Option.{none, some, some-injective}
 use mathlib.Core.Option as maybe
 use lib.ListN.{get_elem?}
 use Rattle.atomic_table.specs.Table.{step, Act, keeps, takes, gives, stepped, carried_after, Valid, Allows, Splits, Joins}
@@ -13,7 +13,7 @@ use Rattle.hall_laws.specs.declared.part.PartValue.{PartValue}
 use Rattle.hall_laws.specs.declared.token.Token.{Token}
 use Rattle.hall_laws.specs.declared.token.Knowledge.{Knowledge}
 use Rattle.hall_laws.specs.Standing as hall
-use Rattle.hall_laws.specs.Standing.{Standing, Values, Table, word_of, Sat, total, times, named, serving, one_if_same, Covers, Outside, holding, holding_first, token_of, others_of, Alike, AreAlike}
+use Rattle.hall_laws.specs.Standing.{Standing, Values, Table, word_of, Sat, total, times, named, serving, one_if_same, Covers, holding, holding_first, token_of, others_of, Alike, AreAlike}
 use Rattle.hall_laws.proofs.Totals.{each_map, each_two, at_number, total_set, total_one, total_two, total_none, total_append, total_join, each_append, holds_left, holds_right, not_among, named_self, covered, there, serves_none, at_length, same_alike, alike_named, alike_serving, alike_holds}
 
 module _ {P : Type 0} (parts : P → List PartValue) (Sound : P → Type 0) (Fits : P → Knowledge → Type 0) where

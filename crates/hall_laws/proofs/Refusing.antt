@@ -1,16 +1,17 @@
 -- A refusal by the parts that are held is one by the fabric.
-use Rattle.std.proofs.Common.{◌≡◌, ◌⊎◌, ℕ, zero, suc, ◌+◌, ◌<◌, ◌≤◌, List, [], ◌∷◌, Ok, refl, sym, ap, ◌∙◌, inl, inr, ⊎_elim, subst, arith, Some}
+use Rattle.std.proofs.Common.{◌≡◌, ◌⊎◌, ℕ, zero, suc, ◌+◌, ◌<◌, ◌≤◌, false, List, [], ◌∷◌, None, Ok, refl, sym, ap, ◌∙◌, inl, inr, ⊎_elim, subst, arith, Some}
 use mathlib.Core.Option.{some}
 use lib.ListN.{get_elem?}
 use Rattle.tlp_core.specs.declared.operation.Op.{Op}
 use Rattle.dllp_core.specs.declared.packet.Dllp.{Dllp}
 use Rattle.seq_memory.specs.History.{State}
 use Rattle.requester_core.specs.Requesting.{Requesting}
+use Rattle.vc_queue.specs.Queue.{is_takeable}
 use Rattle.switch_core.specs.declared.fault.RouteFault.TheVariants.{NoPort}
 use Rattle.lane_core.specs.declared.packet.WirePacket.{WirePacket}
 use Rattle.lane_core.specs.declared.packet.Fate.{Fate}
 use Rattle.lane_core.specs.declared.packet.DllpKind.{DllpKind}
-use Rattle.lane_core.specs.Steps.{Ends, Incoming, Outgoing}
+use Rattle.lane_core.specs.Steps.{Ends, Incoming, Outgoing, transmitted}
 use Rattle.fabric_laws.specs.Fabric.{Fabric}
 use Rattle.fabric_core.specs.declared.event.Event.{Event}
 use Rattle.fabric_core.specs.declared.event.Event.TheVariants as events
@@ -244,3 +245,40 @@ serve_refused t ts place v m s r k why =
     let is_m : f.memory ≡ m = is_memory f.memory m b.1.0 in
     let is_v : f.inward.receiver ≡ v = is_receiver f.inward.receiver v b.1.1.0 in
     (k.0.0, k.0.1, k.0.2.0.1, subst (λ (z : Incoming). ServeRefused z place f.memory f.outward.sender r) (sym is_v) (subst (λ (z : State). ServeRefused v place z f.outward.sender r) (sym is_m) (subst (λ (z : Outgoing). ServeRefused v place m z r) (sym is_s) why)))
+
+-- ---- where the first part shows that there is nothing to do
+
+pub sender_has_nothing : (t : Token) (ts : List Token) (name : LaneName) (s : Outgoing) → KnowsLane t name
+    → KnownHolding t ts ((lane_slot name, Sender s) ∷ [])
+    → transmitted s ≡ None → MayRefuse t.knows (events.Transmit name) refusals.Idle
+sender_has_nothing t ts name s named k none =
+    let h : Values = (lane_slot name, Sender s) ∷ [] in
+    let e = lane t ts h k name named in
+    let is : e.0.sender ≡ s = is_sender e.0.sender s (end t ts h k name named 0 (lane_slot name) (Sender s) (omega arith) (omega arith) (there t ts h k).0) in
+    may t ts h k name named (events.Transmit name) links.Transmit refusals.Idle (λ f x. x) (subst (λ (z : Outgoing). TransmitRefused z refusals.Idle) (sym is) none)
+
+pub wire_has_nothing : (t : Token) (ts : List Token) (name : LaneName) (w : List WirePacket) (fate : Fate) → KnowsLane t name
+    → KnownHolding t ts ((lane_slot name + 1, Forward w) ∷ [])
+    → w ≡ [] → MayRefuse t.knows (events.Deliver name fate) refusals.Idle
+wire_has_nothing t ts name w fate named k none =
+    let h : Values = (lane_slot name + 1, Forward w) ∷ [] in
+    let e = lane t ts h k name named in
+    let is : e.0.forward ≡ w = is_forward e.0.forward w (end t ts h k name named 1 (lane_slot name + 1) (Forward w) (omega arith) (omega arith) (there t ts h k).0) in
+    may t ts h k name named (events.Deliver name fate) (links.Deliver fate) refusals.Idle (λ f x. x) (is ∙ none)
+
+pub back_has_nothing : (t : Token) (ts : List Token) (name : LaneName) (b : List Dllp) (fate : Fate) → KnowsLane t name
+    → KnownHolding t ts ((lane_slot name + 2, Back b) ∷ [])
+    → b ≡ [] → MayRefuse t.knows (events.DeliverDllp name fate) refusals.Idle
+back_has_nothing t ts name b fate named k none =
+    let h : Values = (lane_slot name + 2, Back b) ∷ [] in
+    let e = lane t ts h k name named in
+    let is : e.0.back ≡ b = is_back e.0.back b (end t ts h k name named 2 (lane_slot name + 2) (Back b) (omega arith) (omega arith) (there t ts h k).0) in
+    may t ts h k name named (events.DeliverDllp name fate) (links.DeliverDllp fate) refusals.Idle (λ f x. x) (is ∙ none)
+
+pub in_has_nothing : (t : Token) (ts : List Token) (place : ℕ) (v : Incoming)
+    → KnownHolding t ts ((4, Receiver v) ∷ [])
+    → is_takeable v.queue place ≡ false → MayRefuse t.knows (events.Serve place) refusals.NotTakeable
+in_has_nothing t ts place v k none =
+    let f : Fabric = k.0.0.fabric in
+    let is : f.inward.receiver ≡ v = is_receiver f.inward.receiver v (there t ts ((4, Receiver v) ∷ []) k).0 in
+    (k.0.0, k.0.1, k.0.2.0.1, subst (λ (z : Incoming). ServeRefused z place f.memory f.outward.sender refusals.NotTakeable) (sym is) none)

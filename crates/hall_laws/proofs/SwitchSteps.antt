@@ -63,7 +63,8 @@ goes_up t (suc i) place to j r r' s s' named held at routed forwards = record {
       };
 }
 
--- the packet of a place of `out` goes into the `down` lane of its port: its receiver was taken at 8, the sender's end at j
+-- the packet of a place of `out` goes into the `down` lane of its port: its receiver was taken at 8, the sender's end
+-- at j
 pub goes_out : (t : Token) (place to j : ℕ) (r r' : Incoming) (s s' : Outgoing) → (0 < to) × (to ≤ t.knows.config.requesters) → t.held ≡ (j, Sender s) ∷ ((8, Receiver r) ∷ []) → j ≡ slot to 5
     → IsRoutedAs r place 0 (Ok to) → Forwards r r' place s s' → Goes (events.Forward lanes.Outward place) (seen.To to) t 8 (Receiver r') (record t { held = (j, Sender s') ∷ [] })
 goes_out t place zero j r r' s s' named held at routed forwards = absurd (let z = named.0 in omega arith)
@@ -104,7 +105,8 @@ goes_out t place (suc i) j r r' s s' named held at routed forwards = record {
       };
 }
 
--- the request of a place of `in` acts on the memory: its receiver was taken at 4, the memory at 0, the sender's end of `out` at 5
+-- the request of a place of `in` acts on the memory: its receiver was taken at 4, the memory at 0, the sender's end of
+-- `out` at 5
 pub goes_serve : (t : Token) (place at : ℕ) (r r' : Incoming) (m m' : State) (s s' : Outgoing) → t.held ≡ (5, Sender s) ∷ ((0, Memory m) ∷ ((4, Receiver r) ∷ [])) → Serves r place m s at r' m' s'
     → Goes (events.Serve place) (seen.At at) t 4 (Receiver r') (after_event (events.Serve place) (seen.At at) m.entries ((0, Memory m') ∷ ((5, Sender s') ∷ [])) t)
 goes_serve t place at r r' m m' s s' held did = record {

@@ -1,13 +1,14 @@
 -- A refusal by the parts that a token holds is one by the fabric.
-use Rattle.std.specs.Prelude.{◌≡◌, ◌⊎◌, ℕ, ◌+◌, ◌<◌, List, [], ◌∷◌, Ok}
+use Rattle.std.specs.Prelude.{◌≡◌, ◌⊎◌, ℕ, ◌+◌, ◌<◌, false, List, [], ◌∷◌, None, Ok}
 use Rattle.tlp_core.specs.declared.operation.Op.{Op}
 use Rattle.dllp_core.specs.declared.packet.Dllp.{Dllp}
 use Rattle.seq_memory.specs.History.{State}
 use Rattle.requester_core.specs.Requesting.{Requesting}
+use Rattle.vc_queue.specs.Queue.{is_takeable}
 use Rattle.lane_core.specs.declared.packet.WirePacket.{WirePacket}
 use Rattle.lane_core.specs.declared.packet.Fate.{Fate}
 use Rattle.lane_core.specs.declared.packet.DllpKind.{DllpKind}
-use Rattle.lane_core.specs.Steps.{Incoming, Outgoing}
+use Rattle.lane_core.specs.Steps.{Incoming, Outgoing, transmitted}
 use Rattle.switch_core.specs.declared.fault.RouteFault.TheVariants.{NoPort}
 use Rattle.fabric_core.specs.declared.event.Event.TheVariants as events
 use Rattle.fabric_core.specs.declared.event.LaneName.{LaneName}
@@ -32,10 +33,22 @@ TransmitIsRefused = (t : Token) (ts : List Token) (name : LaneName) (s : Outgoin
     → KnownHolding t ts ((lane_slot name + 1, Forward w) ∷ ((lane_slot name, Sender s) ∷ []))
     → TransmitRefused s r → MayRefuse t.knows (events.Transmit name) r
 
+-- the sender has no packet to send, whatever the wire has
+abbrev pub SenderHasNothing : Type 0
+SenderHasNothing = (t : Token) (ts : List Token) (name : LaneName) (s : Outgoing) → KnowsLane t name
+    → KnownHolding t ts ((lane_slot name, Sender s) ∷ [])
+    → transmitted s ≡ None → MayRefuse t.knows (events.Transmit name) refusals.Idle
+
 abbrev pub DeliverIsRefused : Type 0
 DeliverIsRefused = (t : Token) (ts : List Token) (name : LaneName) (w : List WirePacket) (v : Incoming) (fate : Fate) (r : Refusal) → KnowsLane t name
     → KnownHolding t ts ((lane_slot name + 3, Receiver v) ∷ ((lane_slot name + 1, Forward w) ∷ []))
     → DeliverRefused w v fate r → MayRefuse t.knows (events.Deliver name fate) r
+
+-- the forward wire is empty, whatever the receiver has
+abbrev pub WireHasNothing : Type 0
+WireHasNothing = (t : Token) (ts : List Token) (name : LaneName) (w : List WirePacket) (fate : Fate) → KnowsLane t name
+    → KnownHolding t ts ((lane_slot name + 1, Forward w) ∷ [])
+    → w ≡ [] → MayRefuse t.knows (events.Deliver name fate) refusals.Idle
 
 abbrev pub SendDllpIsRefused : Type 0
 SendDllpIsRefused = (t : Token) (ts : List Token) (name : LaneName) (v : Incoming) (b : List Dllp) (kind : DllpKind) (r : Refusal) → KnowsLane t name
@@ -46,6 +59,12 @@ abbrev pub DeliverDllpIsRefused : Type 0
 DeliverDllpIsRefused = (t : Token) (ts : List Token) (name : LaneName) (b : List Dllp) (s : Outgoing) (fate : Fate) (r : Refusal) → KnowsLane t name
     → KnownHolding t ts ((lane_slot name, Sender s) ∷ ((lane_slot name + 2, Back b) ∷ []))
     → DllpRefused b s fate r → MayRefuse t.knows (events.DeliverDllp name fate) r
+
+-- the back wire is empty, whatever the sender has
+abbrev pub BackHasNothing : Type 0
+BackHasNothing = (t : Token) (ts : List Token) (name : LaneName) (b : List Dllp) (fate : Fate) → KnowsLane t name
+    → KnownHolding t ts ((lane_slot name + 2, Back b) ∷ [])
+    → b ≡ [] → MayRefuse t.knows (events.DeliverDllp name fate) refusals.Idle
 
 abbrev pub TimerIsRefused : Type 0
 TimerIsRefused = (t : Token) (ts : List Token) (name : LaneName) (s : Outgoing) (r : Refusal) → KnowsLane t name
@@ -89,6 +108,12 @@ abbrev pub ServeIsRefused : Type 0
 ServeIsRefused = (t : Token) (ts : List Token) (place : ℕ) (v : Incoming) (m : State) (s : Outgoing) (r : Refusal)
     → KnownHolding t ts ((5, Sender s) ∷ ((0, Memory m) ∷ ((4, Receiver v) ∷ [])))
     → ServeRefused v place m s r → MayRefuse t.knows (events.Serve place) r
+
+-- `in` has no request at the place that may be taken, whatever the memory and `out` have
+abbrev pub InHasNothing : Type 0
+InHasNothing = (t : Token) (ts : List Token) (place : ℕ) (v : Incoming)
+    → KnownHolding t ts ((4, Receiver v) ∷ [])
+    → is_takeable v.queue place ≡ false → MayRefuse t.knows (events.Serve place) refusals.NotTakeable
 
 abbrev pub SubmitIsRefused : Type 0
 SubmitIsRefused = (t : Token) (ts : List Token) (port : ℕ) (op : Op) (m : State) (q : Requesting) (s : Outgoing) (r : Refusal) → IsAtPort t port

@@ -1,4 +1,5 @@
--- The duty of each event: over the parts that its token holds it is a step of the fabric, of which the part that was taken first is released.
+-- The duty of each event: over the parts that its token holds it is a step of the fabric, of which the part that was
+-- taken first is released.
 use Rattle.std.specs.Prelude.{◌≡◌, ℕ, suc, ◌+◌, ◌<◌, ◌≤◌, true, List, [], ◌∷◌, Some, Ok}
 use Rattle.tlp_core.specs.declared.operation.Op.{Op}
 use Rattle.dllp_core.specs.declared.packet.Dllp.{Dllp}

@@ -1,4 +1,5 @@
--- The parts of a fabric in one list: those of port 0, the memory and its two lanes, then those of each requester's port.
+-- The parts of a fabric in one list: those of port 0, the memory and its two lanes, then those of each requester's
+-- port.
 use Rattle.std.specs.Prelude.{ℕ, ◌≡◌, ◌<◌, ◌≤◌, suc, ◌+◌, ◌*◌, List, [], ◌∷◌, ◌++◌, Some, slice_get}
 use mathlib.Core.Option.{some}
 use lib.ListN.{get_elem?}

@@ -3,6 +3,7 @@ use Rattle.std.specs.Prelude.{◌≡◌, ◌≢◌, if◌then◌else◌, ℕ, ze
 use Rattle.atomic_table.specs.Table as table
 use Rattle.tlp_core.specs.Operation.{is_posted}
 use Rattle.seq_memory.specs.declared.Entry.{Entry}
+use Rattle.seq_memory.specs.Limits.{Extent}
 use Rattle.history_check.specs.declared.Record.{Record}
 use Rattle.history_check.specs.Trace.{submissions}
 use Rattle.fabric_laws.specs.Lists.{Each}
@@ -41,6 +42,10 @@ pub record IsSoundTraced (s : Traced) : Type 0 where
 abbrev pub Begins : {X : Type 0} → List X → List X → Type 0
 Begins {X} xs ys = (zs : List X) × (ys ≡ xs ++ zs)
 
+-- where the memory of such a fabric lies
+abbrev pub extent_for : Config → Extent
+extent_for c = record { base = c.base; size = c.size; block = c.block }
+
 pub record HasConfig (f : Fabric) (c : Config) : Type 0 where
   pub requesters : length f.requesters ≡ c.requesters
   pub base : f.memory.base ≡ c.base
@@ -48,7 +53,8 @@ pub record HasConfig (f : Fabric) (c : Config) : Type 0 where
   pub block : f.memory.block ≡ c.block
   pub credits : f.credits ≡ c.credits
 
--- What a seat knows is true of the fabric and its trace. The seat with the number n has the records of the requester n + 1
+-- What a seat knows is true of the fabric and its trace. The seat with the number n has the records of the requester n
+-- + 1
 pub record Fits (s : Traced) (w : Knowledge) : Type 0 where
   pub config : HasConfig s.fabric w.config
   pub seen : Begins w.seen s.fabric.memory.entries
@@ -123,14 +129,16 @@ learned (events.Collect port) (seen.Collected a) h w = record w { seen = h; pend
 learned (events.Serve place) (seen.At at) h w = record w { served = w.served ++ at ∷ [] }
 learned _ _ h w = w
 
--- the fabric goes over by the event, the released part has this value then and what is still held these, and the seat has learned this
+-- the fabric goes over by the event, the released part has this value then and what is still held these, and the seat
+-- has learned this
 pub record GoesOver (f : Fabric) (event : Event) (what : Seen) (w : Knowledge) (k : ℕ) (v : PartValue) (t : Token) : Type 0 where
   pub after : Fabric
   pub happens : Happens f event what after
   pub parts : parts_of after ≡ write (parts_of f) ((k, v) ∷ t.held)
   pub knows : t.knows ≡ learned event what f.memory.entries w
 
--- Kind 2: the token that holds the footprint of the event releases its first part. What it held goes over by the event, and the token by what it learns
+-- Kind 2: the token that holds the footprint of the event releases its first part. What it held goes over by the event,
+-- and the token by what it learns
 pub record Goes (event : Event) (what : Seen) (t : Token) (k : ℕ) (v : PartValue) (t' : Token) : Type 0 where
   pub covers : hall.Covers t.held k
   pub others : Each (λ (kv : ℕ × PartValue). (kv.0 ≢ k) × hall.Covers t.held kv.0) t'.held

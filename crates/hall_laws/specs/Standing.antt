@@ -101,7 +101,8 @@ module _ {P : Type 0} (parts : P → List PartValue) (Sound : P → Type 0) (Fit
   abbrev pub Seated : P → List ℕ → Token → Type 0
   Seated p words t = Holds p words t × Fits p t.knows
 
-  -- Each part is at home where its word is 0, and else has the value that the token named by the word says. The whole of these values is sound
+  -- Each part is at home where its word is 0, and else has the value that the token named by the word says. The whole
+  -- of these values is sound
   pub record Standing (s : Table) : Type 0 where
     pub whole : P
     pub sound : Sound whole
@@ -126,7 +127,8 @@ module _ {P : Type 0} (parts : P → List PartValue) (Sound : P → Type 0) (Fit
       → (found ≡ 0 → (v : PartValue) × (m' ≡ (holding_first k v m.0, (k, Some v) ∷ m.1)) × Known (holding_first k v m.0))
       × (found ≢ 0 → m' ≡ m)
 
-  -- What the whole may become while a view, of whose tokens the first steps, turns into another: it stays sound, the parts that the first did not hold stay, all tokens fit, and these places have these values
+  -- What the whole may become while a view, of whose tokens the first steps, turns into another: it stays sound, the
+  -- parts that the first did not hold stay, all tokens fit, and these places have these values
   abbrev pub Becomes : P → List Token → ℕ → PartValue → List Token → P → Type 0
   Becomes p ts k v us p' =
       Sound p' × (length (parts p') ≡ length (parts p))

@@ -8,14 +8,15 @@ use Rattle.seq_memory.specs.History.{reply_at}
 use Rattle.history_check.specs.Trace.{stands, IsLawful}
 use Rattle.hall_laws.specs.declared.token.Knowledge.{Knowledge}
 use Rattle.hall_laws.specs.Waiting.{without}
-use Rattle.hall_laws.specs.Rule.{Begins}
+use Rattle.hall_laws.specs.Rule.{Begins, extent_for}
 
 -- one of them is x
 abbrev pub Has : {X : Type 0} → X → List X → Type 0
 Has x [] = ⊥
 Has x (y ∷ ys) = (y ≡ x) ⊎ Has x ys
 
--- requester i submitted these operations, and of its requests the history has those alone, each once, as submitted, and each after the posted writes that were submitted before it
+-- requester i submitted these operations, and of its requests the history has those alone, each once, as submitted, and
+-- each after the posted writes that were submitted before it
 abbrev pub IsLegalFor : ℕ → List Op → List Entry → Type 0
 IsLegalFor i ops h = (p : ℕ) (e : Entry) → slice_get h p ≡ Some e → e.requester ≡ i → IsLawful (λ _. ops) (take p h) e
 
@@ -23,7 +24,7 @@ IsLegalFor i ops h = (p : ℕ) (e : Entry) → slice_get h p ≡ Some e → e.re
 pub record SubmitTells (w : Knowledge) (k : ℕ) (op : Op) (n : ℕ) (w' : Knowledge) : Type 0 where
   -- what it has seen is the history
   pub begins : Begins w.seen w'.seen
-  pub moment : n ≡ length w'.seen
+  pub is_length : n ≡ length w'.seen
   -- the operation stands at its number; the request isn't in the history, and waits if it isn't posted
   pub number : k ≡ length w.made
   pub new : stands w'.seen (suc w.number) k ≡ false
@@ -32,7 +33,7 @@ pub record SubmitTells (w : Knowledge) (k : ℕ) (op : Op) (n : ℕ) (w' : Knowl
 -- the seat collected the reply to its request k at the length n of the history
 pub record CollectTells (w : Knowledge) (k : ℕ) (reply : Reply) (n : ℕ) (w' : Knowledge) : Type 0 where
   pub begins : Begins w.seen w'.seen
-  pub moment : n ≡ length w'.seen
+  pub is_length : n ≡ length w'.seen
   -- it waited since the history had the length `since`, and waits no more
   pub since : ℕ
   pub waited : Has (k, since) w.pending
@@ -44,7 +45,7 @@ pub record CollectTells (w : Knowledge) (k : ℕ) (reply : Reply) (n : ℕ) (w' 
   pub before_answer : point < n
   pub acted : slice_get w'.seen point ≡ Some (record { requester = suc w.number; number = k; op = op })
   pub submitted : slice_get w.made k ≡ Some op
-  pub replied : reply_at w.config.block w.config.base w.config.size w'.seen point ≡ Some reply
+  pub replied : reply_at (extent_for w.config) w'.seen point ≡ Some reply
   pub legal : IsLegalFor (suc w.number) w.made w'.seen
 
 -- the seat has seen the history, and knows else what it knew

@@ -1,25 +1,27 @@
 //! The duty of each event: what it is by the parts that its seat holds, why it is refused, and what may be concluded of
 //! both.
 ghost use Rattle.hall_laws.specs.Duties.{TransmitOwes, DeliverOwes, SendDllpOwes, DeliverDllpOwes, TimerOwes, RetrainedOwes, ForwardUpOwes, ForwardOutOwes, ServeOwes, SubmitOwes, CollectOwes};
-ghost use Rattle.hall_laws.specs.Causes.{TransmitIsRefused, DeliverIsRefused, SendDllpIsRefused, DeliverDllpIsRefused, TimerIsRefused, RetrainedIsRefused, UpHasNoWay, UpIsKept, OutHasNoWay, OutHasNoLane, OutIsKept, ServeIsRefused, SubmitIsRefused, CollectIsRefused};
+ghost use Rattle.hall_laws.specs.Causes.{TransmitIsRefused, SenderHasNothing, DeliverIsRefused, WireHasNothing, SendDllpIsRefused, DeliverDllpIsRefused, BackHasNothing, TimerIsRefused, RetrainedIsRefused, UpHasNoWay, UpIsKept, OutHasNoWay, OutHasNoLane, OutIsKept, ServeIsRefused, InHasNothing, SubmitIsRefused, CollectIsRefused};
 ghost use Rattle.hall_laws.specs.Telling.{SubmissionTells, CollectionTells, LookTells, MeetingTells, EventShows};
 
 use fabric_core::laws::each_event_keeps_it_sound;
 use fabric_laws::laws::{packets_keep_their_ports, the_trace_belongs};
 
 /// A transmission over a sender's end and its forward wire is that event of the fabric, which shows what is seen of it;
-/// where the parts refuse it, so does the fabric.
+/// where the parts refuse it, so does the fabric, and so it does where the sender's end alone has nothing to send.
 pub fn transmitting()
     ensures owes { TransmitOwes }
     ensures refused { TransmitIsRefused }
+    ensures nothing { SenderHasNothing }
     ensures shown { EventShows }
 {}
 
 /// A delivery over a forward wire and its receiver's end is that event of the fabric, which shows what is seen of it;
-/// where the parts refuse it, so does the fabric.
+/// where the parts refuse it, so does the fabric, and so it does where the wire alone is known to be empty.
 pub fn delivering()
     ensures owes { DeliverOwes }
     ensures refused { DeliverIsRefused }
+    ensures nothing { WireHasNothing }
     ensures shown { EventShows }
 {}
 
@@ -32,10 +34,11 @@ pub fn sending_a_dllp()
 {}
 
 /// A DLLP that is delivered, over a back wire and its sender's end, is that event of the fabric, which shows what is
-/// seen of it; where the parts refuse it, so does the fabric.
+/// seen of it; where the parts refuse it, so does the fabric, and so it does where the wire alone is known to be empty.
 pub fn delivering_a_dllp()
     ensures owes { DeliverDllpOwes }
     ensures refused { DeliverDllpIsRefused }
+    ensures nothing { BackHasNothing }
     ensures shown { EventShows }
 {}
 
@@ -75,10 +78,12 @@ pub fn forwarding_out()
 {}
 
 /// A request that acts, over the receiver's end of `in`, the memory and the sender's end of `out`, is that event of the
-/// fabric, which shows what is seen of it; where the parts refuse it, so does the fabric.
+/// fabric, which shows what is seen of it; where the parts refuse it, so does the fabric, and so it does where the
+/// receiver's end alone shows that no request may be taken from the place.
 pub fn serving()
     ensures owes { ServeOwes }
     ensures refused { ServeIsRefused }
+    ensures nothing { InHasNothing }
     ensures shown { EventShows }
 {}
 

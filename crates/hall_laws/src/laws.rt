@@ -1,5 +1,5 @@
 //! The steps on the words.
-ghost use Rattle.std.specs.Prelude.{◌≡◌, ◌≢◌, ◌+◌, ◌<◌, ◌^◌, ℕ, [], ◌∷◌, ◌++◌, length, drop, MatchResult, Some, None};
+ghost use Rattle.std.specs.Prelude.{◌≡◌, ◌≢◌, ◌+◌, ◌<◌, ◌^◌, [], ◌∷◌, ◌++◌, length, drop, MatchResult, Some, None};
 ghost use Rattle.atomic_table.specs.Table.{rest};
 ghost use Rattle.fabric_core.specs.declared.event.Event.{Event};
 ghost use Rattle.fabric_core.specs.declared.event.Seen.{Seen};
@@ -195,9 +195,9 @@ pub fn what_a_seat_knows_is_true()
     ensures { (s : Traced) (w : Knowledge) → IsSoundTraced s → Fits s w → IsTrueOf s.fabric w }
 {}
 
-/// The rule of the hall, between any two steps on the words, line by line: the values at home and those that tokens hold
-/// are the parts of one sound fabric; no seat number stands in two tokens, and no place of the history was served twice;
-/// and what each seat knows is true of that fabric.
+/// The rule of the hall, between any two steps on the words, line by line: the values at home and those that tokens
+/// hold are the parts of one sound fabric; no seat number stands in two tokens, and no place of the history was served
+/// twice; and what each seat knows is true of that fabric.
 pub fn the_rule_line_by_line()
     ensures { (about : Start) (s : Table) → Kept about s → IsRuled s }
 {}

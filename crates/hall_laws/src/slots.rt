@@ -1,5 +1,4 @@
 //! Where the parts stand, and their words.
-ghost use Rattle.std.specs.Prelude.{◌≡◌};
 ghost use Rattle.hall_laws.specs.Parts.{RequestersAreInSlots, EndsAreInSlots};
 
 /// The words of two slots are so many words of 8 bytes apart: no cache line has both, so that threads that step on them

@@ -1,5 +1,5 @@
 //! The parts by their kinds.
-ghost use Rattle.std.specs.Prelude.{◌≡◌, ◌≢◌, ◌+◌, ◌<◌, ◌≤◌, ℕ, MatchResult};
+ghost use Rattle.std.specs.Prelude.{◌≡◌, ◌≢◌, ◌+◌, ◌<◌, ◌≤◌, MatchResult};
 ghost use Rattle.hall_laws.specs.Parts.{slot, lane_slot, IsLaneName};
 ghost use Rattle.hall_laws.specs.Calls.{IsSized, HasSlot, IsOf, Took};
 

@@ -10,7 +10,7 @@ use Rattle.hall_parts.proofs.Lists.{at_map, at_snoc, count_nil, there, at_length
 use Rattle.lane_core.specs.Steps.{Ends}
 use Rattle.lane_core.specs.Calls.{content}
 use Rattle.fabric_laws.specs.Lists.{Each, count}
-use Rattle.fabric_laws.specs.Whole.{Whole, Item, up_of, down_of, requester_of, open_at}
+use Rattle.fabric_laws.specs.Whole.{Whole, up_of, down_of, requester_of, open_number}
 use Rattle.fabric_laws.specs.Sound.{Sound, times as stands_times}
 use Rattle.fabric_laws.specs.New.{IsNew}
 use Rattle.fabric_laws.specs.Trace.{Belongs}
@@ -22,7 +22,7 @@ use Rattle.hall_laws.specs.declared.part.PartValue.{PartValue}
 use Rattle.hall_laws.specs.declared.token.Token.{Token}
 use Rattle.hall_laws.specs.declared.token.Start.{Start}
 use Rattle.hall_laws.specs.Parts.{parts_of}
-use Rattle.hall_laws.specs.Standing.{Standing, word_of, total, named, serving, one_if_same, token_of}
+use Rattle.hall_laws.specs.Standing.{word_of, named, serving, token_of}
 use Rattle.hall_laws.specs.Standing as hall
 use Rattle.hall_laws.specs.Rule.{Traced, IsSoundTraced, Fits, Kept, HasConfig, newcomer, newcomers, parts}
 use Rattle.hall_parts.specs.Opens.{IsUnused, Left}
@@ -45,7 +45,7 @@ none_open (Some k) h = absurd (h k refl)
 -- the laws of quiet fabrics
 pub record QuietLaws : Type 0 where
   pub acted : (p : Whole) (i k : ℕ) → Sound p → p.inward ≡ [] → up_of p i ≡ [] → k < (requester_of p i).next → stands_times i k p.history ≡ 1
-  pub answered : (p : Whole) (i t k : ℕ) → Sound p → p.inward ≡ [] → up_of p i ≡ [] → p.outward ≡ [] → down_of p i ≡ [] → open_at (requester_of p i) t ≢ Some k
+  pub answered : (p : Whole) (i t k : ℕ) → Sound p → p.inward ≡ [] → up_of p i ≡ [] → p.outward ≡ [] → down_of p i ≡ [] → open_number (requester_of p i) t ≢ Some k
 
 pub unused_is_new : QuietLaws → (f : Fabric) → IsSoundFabric f → IsUnused f → IsNew (whole_of f)
 unused_is_new laws f s u =
@@ -66,7 +66,7 @@ unused_is_new laws f s u =
           let none : stands_times i 0 p.history ≡ 0 = ap (stands_times i 0) u.1 ∙ count_nil (Rattle.history_check.specs.Trace.is_request i 0) in
           omega arith))
           (λ none. omega arith);
-      tags = λ i t. none_open (open_at (requester_of p i) t) (λ k. laws.answered p i t k s.sound inward (up i) outward (down i));
+      tags = λ i t. none_open (open_number (requester_of p i) t) (λ k. laws.answered p i t k s.sound inward (up i) outward (down i));
     }
 
 -- ---- the rule at the start

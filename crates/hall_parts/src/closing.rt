@@ -1,5 +1,5 @@
 //! The parts come back.
-ghost use Rattle.std.specs.Prelude.{◌≡◌, ◌≢◌, ◌+◌, ◌*◌, ◌<◌, ◌≤◌, ℕ, false, List, [], ◌∷◌, ◌++◌, length, map, Some, IfOk, IfErr, MatchOption};
+ghost use Rattle.std.specs.Prelude.{◌≡◌, ◌≢◌, ◌+◌, ◌*◌, ◌<◌, ◌≤◌, ℕ, [], ◌∷◌, ◌++◌, length, map, Some, IfOk, IfErr, MatchOption};
 ghost use Rattle.std.specs.Mem.Slots.{slots_items, slots_filled, slots_len, IsFull};
 ghost use Rattle.std.specs.Vec.{vec_len, vec_capacity};
 ghost use mathlib.Core.Option.{some};
@@ -16,10 +16,11 @@ ghost use Rattle.hall_parts.specs.Closes.{IsEmptiedTo, PartAt, EndsAt, StationFr
 
 use crate::opening::{Board, Shelves};
 use atomic_table::Closed;
-use fabric_core::{Config, Fabric, LaneName, LaneParts, Parts};
+use fabric_core::{Config, Fabric, LaneName, Parts};
 use hall_laws::laws::Place;
 use hall_laws::part::{Part, PartValue};
 use hall_laws::slots::{WORDS_APART, each_part_has_its_slot};
+use lane_core::LaneEnds;
 use std::alloc::Global;
 
 pub type Slots = Closed<Option<PartValue>, Global>;
@@ -37,7 +38,7 @@ fn next(closed: &mut Slots, at: usize) -> PartValue
 }
 
 /// The lane whose ends are in this slot and the three after it.
-fn next_lane(closed: &mut Slots, at: usize) -> LaneParts
+fn next_lane(closed: &mut Slots, at: usize) -> LaneEnds
     requires { IsEmptiedTo (slots_filled closed.old.slots) (slots_len closed.old.slots) at × (at + 3 < slots_len closed.old.slots) × (e : Ends) × EndsAt (slots_items closed.old.slots) at e }
     ensures value { EndsAt (slots_items closed.old.slots) at result }
     ensures rest { IsEmptiedTo (slots_filled closed.new.slots) (slots_len closed.new.slots) (at + 4) × (slots_items closed.new.slots ≡ slots_items closed.old.slots) × (slots_len closed.new.slots ≡ slots_len closed.old.slots) }
@@ -54,7 +55,7 @@ fn next_lane(closed: &mut Slots, at: usize) -> LaneParts
     let PartValue::Receiver(receiver) = next(closed, at + 3) else {
         unreachable!()
     };
-    LaneParts {
+    LaneEnds {
         sender: sender.into_inner(),
         forward: forward.into_inner(),
         back: back.into_inner(),

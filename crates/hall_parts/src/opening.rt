@@ -1,5 +1,5 @@
 //! The parts go into the slots.
-ghost use Rattle.std.specs.Prelude.{◌≡◌, ◌+◌, ◌*◌, ◌<◌, ◌≤◌, ℕ, List, [], ◌∷◌, ◌++◌, length, map, replicate, Some, IfOk, OnOk, IfErr};
+ghost use Rattle.std.specs.Prelude.{◌≡◌, ◌+◌, ◌*◌, ◌<◌, ◌≤◌, [], ◌++◌, length, map, replicate, Some, IfOk, OnOk};
 ghost use Rattle.std.specs.Vec.{vec_len, vec_capacity};
 ghost use Rattle.fabric_core.specs.Steps.{HasLanes};
 ghost use Rattle.hall_laws.specs.Calls.{IsSized};
@@ -8,13 +8,14 @@ ghost use Rattle.hall_laws.specs.Parts.{ends, nine, flat, stations, parts_of};
 ghost use Rattle.hall_laws.specs.Rule.{HasConfig, newcomers};
 
 use atomic_table::Table;
-use fabric_core::{Config, Fabric, LaneParts, Parts};
+use fabric_core::{Config, Fabric, Parts};
 use fabric_laws::laws::{quiet_is_all_acted, the_trace_belongs};
 use hall_laws::boxed::Boxed;
 use hall_laws::laws::{FabricRule, Place};
 use hall_laws::part::PartValue;
 use hall_laws::slots::WORDS_APART;
 use hall_laws::token::{Start, Token};
+use lane_core::LaneEnds;
 use requester_core::Requester;
 use std::alloc::{AllocError, Global};
 use std::collections::LinkedList;
@@ -25,14 +26,14 @@ pub type Board = Table<Option<PartValue>, LinkedList<Token>, Start, FabricRule, 
 #[derive(Drop)]
 pub struct Shelves {
     pub requesters: Vec<Requester>,
-    pub up: Vec<LaneParts>,
-    pub down: Vec<LaneParts>,
+    pub up: Vec<LaneEnds>,
+    pub down: Vec<LaneEnds>,
 }
 
 /// A lane by its ends.
 fn push_lane(
     slots: &mut Vec<Option<PartValue>>,
-    lane: LaneParts,
+    lane: LaneEnds,
     alloc: Global,
 ) -> Result<(), AllocError>
     requires { vec_len slots.old + 4 ≤ vec_capacity slots.old }
@@ -40,7 +41,7 @@ fn push_lane(
     ensures len { OnOk result (vec_len slots.new ≡ vec_len slots.old + 4) }
     ensures capacity { OnOk result (vec_capacity slots.new ≡ vec_capacity slots.old) }
 {
-    let LaneParts {
+    let LaneEnds {
         sender,
         forward,
         back,
@@ -61,8 +62,8 @@ fn push_lane(
 fn push_station(
     slots: &mut Vec<Option<PartValue>>,
     node: PartValue,
-    first: LaneParts,
-    second: LaneParts,
+    first: LaneEnds,
+    second: LaneEnds,
     alloc: Global,
 ) -> Result<(), AllocError>
     requires { vec_len slots.old + 9 ≤ vec_capacity slots.old }
@@ -139,13 +140,7 @@ fn config_of(parts: &Parts) -> Config
     requires { HasLanes parts.now }
     ensures { HasConfig parts.now result }
 {
-    Config {
-        requesters: parts.requesters.len() as u8,
-        base: parts.memory.base(),
-        size: parts.memory.bytes().len(),
-        credits: parts.credits,
-        block: parts.memory.block(),
-    }
+    parts.config()
 }
 
 /// So many words, none of which names a seat.

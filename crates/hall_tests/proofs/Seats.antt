@@ -1,5 +1,5 @@
 -- Seats that come out of their list are the hall's.
-use Rattle.std.proofs.Common.{◌≡◌, ℕ, List, [], ◌∷◌, ◌++◌, length, ap, ◌∙◌, Option, Some, None, IfSome}
+use Rattle.std.proofs.Common.{◌≡◌, ℕ, List, [], ◌++◌, length, ap, ◌∙◌, Option, Some, None, IfSome}
 use Rattle.std.specs.Prelude.{slice_get, option_to_list}
 use Rattle.fabric_laws.specs.ListFacts.{get_before, get_seam}
 use Rattle.hall_core.specs.Views.{HallView, SeatView, AreNewSeats, IsSeatOf, AreSeatsOf}

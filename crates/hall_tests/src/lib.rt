@@ -1,4 +1,5 @@
-//! Halls driven for tests: calls that say no more than that the seats stay the hall's, worked rows and scripts, and threads.
+//! Halls driven for tests: calls that say no more than that the seats stay the hall's, worked rows and scripts, and
+//! threads.
 #![tactic(auto)]
 
 pub mod drive;

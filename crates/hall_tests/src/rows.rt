@@ -199,8 +199,8 @@ fn what_cannot_happen_is_refused_by_the_core(rt: HostRuntime) -> Result<(), Fail
     Ok(())
 }
 
-/// The first seat takes the sender's end of `up1`, and later puts it back. How many calls of the second were answered as
-/// they should be.
+/// The first seat takes the sender's end of `up1`, and later puts it back. How many calls of the second were answered
+/// as they should be.
 fn busy(hall: &Hall, first: WorkSeat, second: &mut WorkSeat) -> u32
     requires hall { IsSeatOf hall.now first × IsSeatOf hall.now second.old × (hall.now.config.requesters ≡ 1) }
 {

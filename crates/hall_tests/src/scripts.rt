@@ -1,5 +1,4 @@
 //! Worked scripts, each event given to a hall and to a fabric.
-ghost use Rattle.std.specs.Prelude.{◌≡◌};
 ghost use Rattle.hall_core.specs.Views.{IsSeatOf};
 
 use crate::drive::{collect, one_and_a_worker, pump, read, small, submit, two_and_a_worker, write};

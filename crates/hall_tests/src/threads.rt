@@ -46,8 +46,8 @@ fn add_often(hall: &Hall, seat: ReqSeat, count: u32, done: &AtomicU64) -> (ReqSe
     (seat, taken)
 }
 
-/// The lane's oldest DLLP arrives. Where there is none, an Ack and the credits of this class are sent: so no more than two
-/// are on their way, however often a part is busy.
+/// The lane's oldest DLLP arrives. Where there is none, an Ack and the credits of this class are sent: so no more than
+/// two are on their way, however often a part is busy.
 fn answer(hall: &Hall, seat: &mut WorkSeat, lane: LaneName, class: Class)
     requires { IsSeatOf hall.now seat.old }
     ensures { IsSeatOf hall.now seat.new }
@@ -244,8 +244,8 @@ fn serve(hall: &Hall, worker: &mut WorkSeat) -> bool
     pump(hall, worker, WorkEvent::Serve(0)).is_ok()
 }
 
-/// Submits the packets, and serves them. Gives the seat, and how many were served. A round has up to 11 calls, beside the
-/// submissions that are done.
+/// Submits the packets, and serves them. Gives the seat, and how many were served. A round has up to 11 calls, beside
+/// the submissions that are done.
 fn serve_often(hall: &Hall, seat: ReqSeat, worker: WorkSeat) -> (ReqSeat, u32)
     requires { IsSeatOf hall.now seat × IsSeatOf hall.now worker }
     ensures { IsSeatOf hall.now result.0 }
@@ -268,8 +268,8 @@ fn serve_often(hall: &Hall, seat: ReqSeat, worker: WorkSeat) -> (ReqSeat, u32)
     (seat, served)
 }
 
-/// The lane's packets are delivered in a thread, and all other calls made in this one. Gives the requester's seat, and how
-/// many were accepted, and served.
+/// The lane's packets are delivered in a thread, and all other calls made in this one. Gives the requester's seat, and
+/// how many were accepted, and served.
 fn deliver_and_serve<R: Threads + Sync>(
     rt: &R,
     hall: &Hall,

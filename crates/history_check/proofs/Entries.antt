@@ -137,7 +137,7 @@ place_other h i k e n = place-push h i k e ∙ ap (λ (t : Bool). option_or (pla
 place_same : (h : List Entry) (e : Entry) → place_of h e.requester e.number ≡ None → place_of (h ++ e ∷ []) e.requester e.number ≡ Some (length h)
 place_same h e n = place-push h e.requester e.number e ∙ rw (n, eq-eqb e.requester e.requester refl, eq-eqb e.number e.number refl) refl
 
-is_it : (i k : ℕ) (e : Entry) → is_request i k e ≡ true → (i ≡ e.requester) × (k ≡ e.number)
+pub is_it : (i k : ℕ) (e : Entry) → is_request i k e ≡ true → (i ≡ e.requester) × (k ≡ e.number)
 is_it i k e t = let (e1, e2) = and_parts (i == e.requester) (k == e.number) t in (eqb-true i e.requester e1, eqb-true k e.number e2)
 
 pub points_push : (points : List (Option ℕ)) (rs : List Record) (h : List Entry) (e : Entry) (b : ℕ) → ArePoints points rs h → sub_place rs e.requester e.number ≡ Some b → place_of h e.requester e.number ≡ None → ArePoints (set points b (Some (length h))) rs (h ++ e ∷ [])

@@ -1,18 +1,20 @@
--- What each requester had seen, and which requests were answered, record by record.
-use Rattle.std.proofs.Common.{◌≡◌, ℕ, ◌+◌, ◌<◌, Bool, true, false, List, [], ◌∷◌, ◌++◌, length, take, set, get_or, Option, Some, None, refl, sym, ap, ◌∙◌, inl, inr, arith}
+-- What each requester had seen, and where each request was answered first, record by record.
+use Rattle.std.proofs.Common.{◌≡◌, ℕ, ◌+◌, ◌<◌, Bool, true, false, cond, List, [], ◌∷◌, ◌++◌, length, take, set, get_or, Option, Some, None, refl, sym, ap, subst, ◌∙◌, inl, inr, arith}
 use Rattle.std.specs.Prelude.{slice_get, ◌==◌, ◌&&◌, ◌||◌, nat_le, replicate}
 use Rattle.std.specs.List.{list_any}
+use Rattle.std.specs.Option.{option_or}
 use Rattle.std.proofs.lemmas.Bool.{cases_eq, cases_lt, cases_Bool, eqb-true, eq-eqb, ne_eqb, and_parts}
-use Rattle.std.proofs.lemmas.List.{length-set, get_or-set_same, get_or-set_other, get_or-replicate, length-replicate, take_more, length_push, get_or_append_left, take-append-le, get_or_push, take_at, get_or_read}
+use Rattle.std.proofs.lemmas.List.{length-set, get_or-set_same, get_or-set_other, get_or-replicate, length-replicate, take_more, length_push, get_or_append_left, take-append-le, length-take-le, get_or_push, take_at, get_or_read}
 use Rattle.std.proofs.lemmas.List.Folds.{list_any-append}
-use Rattle.std.proofs.lemmas.Option.{slice_get_within, get_or_from_slice_get, slice_get-get_or, same_Some}
+use Rattle.std.proofs.lemmas.Option.{slice_get_within, get_or_from_slice_get, slice_get-get_or, same_Some, none-some}
 use Rattle.seq_memory.specs.declared.Reply.{Reply}
 use Rattle.tlp_core.specs.declared.operation.Op.{Op}
 use Rattle.history_check.specs.declared.Record.{Record}
 use Rattle.history_check.specs.declared.Record.TheVariants as records
 use Rattle.history_check.specs.Trace.{answers_to}
-use Rattle.history_check.specs.Flaws.{sub_place, is_sub, some_and, had_later}
-use Rattle.history_check.specs.Lookup.{AreFloors, AreAnswered, requester_of}
+use Rattle.history_check.specs.Flaws.{sub_place, is_sub, first_place, some_and, had_later}
+use Rattle.history_check.specs.Lookup.{IsIndex, AreFloors, AreFirsts, place_in, requester_of}
+use Rattle.history_check.proofs.Firsts.{first_place-push, or_none}
 use Rattle.history_check.proofs.Entries.{one_request, set_same, set_other, within}
 
 abbrev Places : Type 0
@@ -82,44 +84,71 @@ floors_none place = record { len = refl; at = λ b p r at. absurd (let l : b < 0
 pub next_record : (rs : List Record) (a : ℕ) (r : Record) → slice_get rs a ≡ Some r → take (a + 1) rs ≡ take a rs ++ r ∷ []
 next_record rs a r at = take_more rs a r (slice_get_within rs a r at) ∙ ap (λ (r : Record). take a rs ++ r ∷ []) (get_or_from_slice_get rs a r r at)
 
--- ---- answered
+-- ---- first answers
 
 same_ans : (i j k m : ℕ) (reply : Reply) (n : ℕ) → answers_to i k (records.Ans j m reply n) ≡ true → (i ≡ j) × (k ≡ m)
 same_ans i j k m reply n e = let (e1, e2) = and_parts (i == j) (k == m) e in (eqb-true i j e1, eqb-true k m e2)
 
-or_true : (a b : Bool) → b ≡ true → (a || b) ≡ true
-or_true true b e = refl
-or_true false b e = e
-
-pub answered_sub : (answered : List Bool) (rs before : List Record) (j m : ℕ) (op : Op) (n : ℕ) → AreAnswered answered rs before → AreAnswered answered rs (before ++ records.Sub j m op n ∷ [])
-answered_sub answered rs before j m op n a = record {
+-- a record that answers no submission changes nothing
+firsts_other : (firsts : List (Option ℕ)) (rs before : List Record) (r : Record) → AreFirsts firsts rs before → ((i k b : ℕ) → sub_place rs i k ≡ Some b → answers_to i k r ≡ false) → AreFirsts firsts rs (before ++ r ∷ [])
+firsts_other firsts rs before r a none = record {
   len = a.len;
-  at = λ i k b s. a.at i k b s ∙ ap Some (sym (any-push (answers_to i k) before (records.Sub j m op n) ∙ or_false _ false refl));
+  at = λ i k b s. a.at i k b s ∙ ap Some (sym (first_place-push (answers_to i k) before r ∙ ap (λ t. option_or (first_place (answers_to i k) before) (cond t (Some (length before)) None)) (none i k b s) ∙ or_none (first_place (answers_to i k) before)));
 }
 
-pub answered_ans : (answered : List Bool) (rs before : List Record) (j m b : ℕ) (reply : Reply) (n : ℕ) → AreAnswered answered rs before → sub_place rs j m ≡ Some b → AreAnswered (set answered b true) rs (before ++ records.Ans j m reply n ∷ [])
-answered_ans answered rs before j m b reply n a here = record {
-  len = length-set answered b true ∙ a.len;
-  at = λ i k c s. elim (cases_eq c b) [
-    | inl e ↦
-        let (e1, e2) = one_request rs i j k m b (s ∙ ap Some e) here in
-        ap (λ c. slice_get (set answered b true) c) e
-        ∙ set_same answered b true (omega (arith, a.len, within (is_sub j m) rs b here))
-        ∙ ap Some (sym (any-push (answers_to i k) before (records.Ans j m reply n) ∙ or_true _ (answers_to i k (records.Ans j m reply n)) (rw (eq-eqb i j e1, eq-eqb k m e2) refl)))
-    | inr d ↦
-        set_other answered b c true d ∙ a.at i k c s
-        ∙ ap Some (sym (any-push (answers_to i k) before (records.Ans j m reply n) ∙ or_false _ (answers_to i k (records.Ans j m reply n)) (elim (cases_Bool (answers_to i k (records.Ans j m reply n))) [
-          | inl t ↦ let (e1, e2) = same_ans i j k m reply n t in absurd (d (same_Some c b (sym s ∙ ap (λ i. sub_place rs i k) e1 ∙ ap (λ k. sub_place rs j k) e2 ∙ here)))
-          | inr f ↦ f
-        ])))
-  ];
-}
+firsts_ans : (firsts : List (Option ℕ)) (rs before : List Record) (j m b : ℕ) (reply : Reply) (n : ℕ) (old : Option ℕ) → AreFirsts firsts rs before → sub_place rs j m ≡ Some b → old ≡ first_place (answers_to j m) before → AreFirsts (set firsts b (option_or old (Some (length before)))) rs (before ++ records.Ans j m reply n ∷ [])
+firsts_ans firsts rs before j m b reply n old a here is =
+    let new : Option ℕ = option_or old (Some (length before)) in
+    record {
+      len = length-set firsts b new ∙ a.len;
+      at = λ i k c s. elim (cases_eq c b) [
+        | inl e ↦
+            let (e1, e2) = one_request rs i j k m b (s ∙ ap Some e) here in
+            let itself : answers_to i k (records.Ans j m reply n) ≡ true = rw (eq-eqb i j e1, eq-eqb k m e2) refl in
+            ap (λ c. slice_get (set firsts b new) c) e
+            ∙ set_same firsts b new (omega (arith, a.len, within (is_sub j m) rs b here))
+            ∙ ap (λ o. Some (option_or o (Some (length before)))) (is ∙ ap (λ j. first_place (answers_to j m) before) (sym e1) ∙ ap (λ m. first_place (answers_to i m) before) (sym e2))
+            ∙ ap Some (sym (first_place-push (answers_to i k) before (records.Ans j m reply n) ∙ ap (λ t. option_or (first_place (answers_to i k) before) (cond t (Some (length before)) None)) itself))
+        | inr d ↦
+            let miss : answers_to i k (records.Ans j m reply n) ≡ false = elim (cases_Bool (answers_to i k (records.Ans j m reply n))) [
+              | inl t ↦ let (e1, e2) = same_ans i j k m reply n t in absurd (d (same_Some c b (sym s ∙ ap (λ i. sub_place rs i k) e1 ∙ ap (λ k. sub_place rs j k) e2 ∙ here)))
+              | inr f ↦ f
+            ] in
+            set_other firsts b c new d ∙ a.at i k c s
+            ∙ ap Some (sym (first_place-push (answers_to i k) before (records.Ans j m reply n)
+            ∙ ap (λ t. option_or (first_place (answers_to i k) before) (cond t (Some (length before)) None)) miss
+            ∙ or_none (first_place (answers_to i k) before)))
+      ];
+    }
 
-pub answered_none : (rs : List Record) (n : ℕ) → n ≡ length rs → AreAnswered (replicate n false) rs []
-answered_none rs n e = record {
-  len = length-replicate n false ∙ e;
-  at = λ i k b s. slice_get-get_or (replicate n false) b false (omega (arith, length-replicate n false, within (is_sub i k) rs b s)) ∙ ap Some (get_or-replicate n b false false (omega (arith, within (is_sub i k) rs b s)));
-}
+pub firsts_none : (rs : List Record) (n : ℕ) → n ≡ length rs → AreFirsts (replicate n None) rs []
+firsts_none rs n e =
+    let nothing : Option ℕ = None in
+    record {
+      len = length-replicate n nothing ∙ e;
+      at = λ i k b s. slice_get-get_or (replicate n nothing) b nothing (omega (arith, length-replicate n nothing, within (is_sub i k) rs b s)) ∙ ap Some (get_or-replicate n b nothing nothing (omega (arith, within (is_sub i k) rs b s)));
+    }
+
+-- where a submission is looked up, the table has its row
+pub in_firsts : (rows : List (List ℕ)) (firsts : List (Option ℕ)) (rs before : List Record) (i k b : ℕ) (o : Option ℕ) → IsIndex rows rs → AreFirsts firsts rs before → i < 256 → o ≡ place_in rows i k → o ≡ Some b → b < length firsts
+in_firsts rows firsts rs before i k b o x f small looked is = omega (arith, f.len, within (is_sub i k) rs b (sym (x.at i k small) ∙ sym looked ∙ is))
+
+pub firsts_next_sub : (firsts : List (Option ℕ)) (rs : List Record) (a j m : ℕ) (op : Op) (n : ℕ) → slice_get rs a ≡ Some (records.Sub j m op n) → AreFirsts firsts rs (take a rs) → AreFirsts firsts rs (take (a + 1) rs)
+firsts_next_sub firsts rs a j m op n at f = rw (next_record rs a (records.Sub j m op n) at) (firsts_other firsts rs (take a rs) (records.Sub j m op n) f (λ i k b s. refl))
+
+-- an answer to what was not submitted
+pub firsts_next_none : (firsts : List (Option ℕ)) (rs : List Record) (a j m : ℕ) (reply : Reply) (n : ℕ) → slice_get rs a ≡ Some (records.Ans j m reply n) → sub_place rs j m ≡ None → AreFirsts firsts rs (take a rs) → AreFirsts firsts rs (take (a + 1) rs)
+firsts_next_none firsts rs a j m reply n at none f =
+    rw (next_record rs a (records.Ans j m reply n) at) (firsts_other firsts rs (take a rs) (records.Ans j m reply n) f (λ i k b s. elim (cases_Bool (answers_to i k (records.Ans j m reply n))) [
+      | inl t ↦ let (e1, e2) = same_ans i j k m reply n t in absurd (none-some b (sym none ∙ ap (λ j. sub_place rs j m) (sym e1) ∙ ap (λ m. sub_place rs i m) (sym e2) ∙ s))
+      | inr f ↦ f
+    ]))
+
+pub firsts_next_ans : (firsts new : List (Option ℕ)) (rs : List Record) (a j m b : ℕ) (reply : Reply) (n : ℕ) (old made : Option ℕ) → slice_get rs a ≡ Some (records.Ans j m reply n) → sub_place rs j m ≡ Some b → old ≡ get_or firsts b old → made ≡ option_or old (Some a) → new ≡ set firsts b made → AreFirsts firsts rs (take a rs) → AreFirsts new rs (take (a + 1) rs)
+firsts_next_ans firsts new rs a j m b reply n old made at here read is written f =
+    let len : length (take a rs) ≡ a = length-take-le a rs (let l = slice_get_within rs a (records.Ans j m reply n) at in omega arith) in
+    let old_is : old ≡ first_place (answers_to j m) (take a rs) = read ∙ get_or_from_slice_get firsts b (first_place (answers_to j m) (take a rs)) old (f.at j m b here) in
+    rw (next_record rs a (records.Ans j m reply n) at, written, is) (subst (λ v. AreFirsts (set firsts b (option_or old (Some v))) rs (take a rs ++ records.Ans j m reply n ∷ [])) len (firsts_ans firsts rs (take a rs) j m b reply n old f here old_is))
 
 -- ---- what the loops read
 

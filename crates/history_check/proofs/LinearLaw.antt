@@ -9,7 +9,7 @@ use Rattle.tlp_core.specs.declared.operation.Op.{Op}
 use Rattle.tlp_core.specs.Operation.{is_posted}
 use Rattle.seq_memory.specs.declared.Entry.{Entry}
 use Rattle.seq_memory.specs.declared.Reply.{Reply}
-use Rattle.seq_memory.specs.History.{reply_at}
+use Rattle.seq_memory.specs.History.{extent_of, reply_at}
 use Rattle.history_check.specs.declared.Record.{Record}
 use Rattle.history_check.specs.declared.Record.TheVariants as records
 use Rattle.history_check.specs.declared.flaws.Flaw.{Flaw}
@@ -37,7 +37,7 @@ record Clean (x : Claim) (a i k n : ℕ) (reply : Reply) : Type 0 where
   acted : place_of x.memory.entries i k ≡ Some point
   not_early : at_place (λ r. nat_lt point (moment r)) x.records place ≡ false
   not_late : nat_le n point ≡ false
-  replied : some_and (reply_at x.memory.block x.memory.base x.memory.size x.memory.entries point) (same_reply reply) ≡ true
+  replied : some_and (reply_at (extent_of x.memory) x.memory.entries point) (same_reply reply) ≡ true
   not_stale : list_any (had_later (place_of x.memory.entries) i point) (take place x.records) ≡ false
 
 four : (a b c d : Bool) (w x y z : FlawKind) → (if a then Some w else (if b then Some x else (if not c then Some y else (if d then Some z else None)))) ≡ None → (a ≡ false) × (b ≡ false) × (c ≡ true) × (d ≡ false)
@@ -54,7 +54,7 @@ two true false x y rest e = (refl, refl, e)
 
 clean_at : (x : Claim) (a i k n b p : ℕ) (reply : Reply) → sub_place x.records i k ≡ Some b → b < a → at_place asks x.records b ≡ true → list_any (answers_to i k) (take a x.records) ≡ false → place_of x.memory.entries i k ≡ Some p → acted_flaw x i reply n b p ≡ None → Clean x a i k n reply
 clean_at x a i k n b p reply s l asking new acted e =
-    let (f1, f2, f3, f4) = four (at_place (λ r. nat_lt p (moment r)) x.records b) (nat_le n p) (some_and (reply_at x.memory.block x.memory.base x.memory.size x.memory.entries p) (same_reply reply)) (list_any (had_later (place_of x.memory.entries) i p) (take b x.records)) flaws.Early flaws.Late flaws.Reply flaws.Stale e in
+    let (f1, f2, f3, f4) = four (at_place (λ r. nat_lt p (moment r)) x.records b) (nat_le n p) (some_and (reply_at (extent_of x.memory) x.memory.entries p) (same_reply reply)) (list_any (had_later (place_of x.memory.entries) i p) (take b x.records)) flaws.Early flaws.Late flaws.Reply flaws.Stale e in
     record { place = b; submitted = s; earlier = l; asking = asking; unanswered = new; point = p; acted = acted; not_early = f1; not_late = f2; replied = f3; not_stale = f4 }
 
 clean_point : (x : Claim) (a i k n b : ℕ) (reply : Reply) (o : Option ℕ) → sub_place x.records i k ≡ Some b → b < a → at_place asks x.records b ≡ true → list_any (answers_to i k) (take a x.records) ≡ false → place_of x.memory.entries i k ≡ o → point_flaw x i reply n b o ≡ None → Clean x a i k n reply
@@ -138,7 +138,7 @@ explained x a i k n reply link legal all c =
       acted = acted_there x i k c.place c.point asked.since asked.op link legal c.submitted asked.is c.acted;
       after_submission = ltb-false c.point asked.since (sym (ap (λ (o : Option Record). some_and o (λ r. nat_lt c.point (moment r))) asked.is) ∙ c.not_early);
       before_answer = leb-false n c.point c.not_late;
-      replied = reply_is (reply_at x.memory.block x.memory.base x.memory.size x.memory.entries c.point) reply c.replied;
+      replied = reply_is (reply_at (extent_of x.memory) x.memory.entries c.point) reply c.replied;
       above = λ d j m r l at.
           let (there, within) = take_at x.records a d (records.Ans i j r m) at in
           let q = all d i j m r there in

@@ -1,45 +1,49 @@
--- The replies, entry by entry.
-use Rattle.std.proofs.Common.{◌≡◌, ℕ, ◌+◌, ◌<◌, ◌≤◌, cond, List, [], ◌∷◌, ◌++◌, length, take, Option, Some, None, refl, sym, ap, ◌∙◌, inl, inr, arith}
+-- The memory's bytes and the comparisons, entry by entry.
+use Rattle.std.proofs.Common.{◌≡◌, ℕ, ◌+◌, ◌<◌, ◌≤◌, Bool, cond, List, [], ◌∷◌, ◌++◌, length, take, Option, Some, None, refl, sym, ap, ◌∙◌, inl, inr, arith}
 use Rattle.std.specs.Prelude.{slice_get, option_map, ◌==◌, replicate}
 use Rattle.std.specs.Option.{option_or}
 use Rattle.std.proofs.lemmas.Bool.{cases_eq, cases_lt, eq-eqb, ne_eqb}
 use Rattle.std.proofs.lemmas.List.Sums.{fold-append}
 use Rattle.std.proofs.lemmas.Option.{slice_get_past}
 use Rattle.seq_memory.specs.declared.Entry.{Entry}
-use Rattle.seq_memory.specs.declared.Reply.{Reply}
+use Rattle.seq_memory.specs.Limits.{Extent}
 use Rattle.seq_memory.specs.Step.{after, answer}
-use Rattle.seq_memory.specs.History.{contents, reply_at}
+use Rattle.seq_memory.specs.History.{extent_of, contents}
+use Rattle.history_check.specs.Claim.{Claim}
+use Rattle.history_check.specs.Lookup.{is_told_in, right_in}
 use Rattle.history_check.proofs.Firsts.{slice_get-push, or_none}
 use Rattle.history_check.proofs.Entries.{next}
 
-pub contents_none : (block base size : ℕ) → contents block base size [] ≡ replicate size 0
+pub contents_none : (x : Extent) → contents x [] ≡ replicate x.size 0
 unfolding contents
-contents_none block base size = refl
+contents_none x = refl
 
-contents_push : (block base size : ℕ) (h : List Entry) (e : Entry) → contents block base size (h ++ e ∷ []) ≡ after block base (contents block base size h) e.op
+contents_push : (x : Extent) (h : List Entry) (e : Entry) → contents x (h ++ e ∷ []) ≡ after x.block x.base (contents x h) e.op
 unfolding contents
-contents_push block base size h e = fold-append (λ m e. after block base m e.op) (replicate size 0) h (e ∷ [])
+contents_push x h e = fold-append (λ m e. after x.block x.base m e.op) (replicate x.size 0) h (e ∷ [])
 
-pub contents_next : (block base size : ℕ) (h : List Entry) (p : ℕ) (e : Entry) (old new : List ℕ) → slice_get h p ≡ Some e → old ≡ contents block base size (take p h) → new ≡ after block base old e.op → new ≡ contents block base size (take (p + 1) h)
-contents_next block base size h p e old new at is step =
-    step ∙ ap (λ (m : List ℕ). after block base m e.op) is ∙ sym (contents_push block base size (take p h) e) ∙ ap (contents block base size) (sym (next h p e at))
+pub contents_next : (x : Extent) (h : List Entry) (p : ℕ) (e : Entry) (old new : List ℕ) → slice_get h p ≡ Some e → old ≡ contents x (take p h) → new ≡ after x.block x.base old e.op → new ≡ contents x (take (p + 1) h)
+contents_next x h p e old new at is step =
+    step ∙ ap (λ (m : List ℕ). after x.block x.base m e.op) is ∙ sym (contents_push x (take p h) e) ∙ ap (contents x) (sym (next h p e at))
 
-pub replies_next : (block base size : ℕ) (h : List Entry) (replies new : List Reply) (p : ℕ) (e : Entry) (r : Reply) (old : List ℕ) → slice_get h p ≡ Some e → length replies ≡ p → ((q : ℕ) → q < p → slice_get replies q ≡ reply_at block base size h q) → old ≡ contents block base size (take p h) → r ≡ answer block base old e.op → new ≡ replies ++ r ∷ [] → (q : ℕ) → q < p + 1 → slice_get new q ≡ reply_at block base size h q
-replies_next block base size h replies new p e r old at len before is made grown q l =
-    ap (λ (xs : List Reply). slice_get xs q) grown ∙ slice_get-push replies r q ∙ elim (cases_eq q p) [
+-- the entry's comparison is pushed behind those before
+pub right_next : (rows : List (List ℕ)) (firsts : List (Option ℕ)) (x : Claim) (right new : List Bool) (p : ℕ) (e : Entry) (v : Bool) (old : List ℕ) → slice_get x.memory.entries p ≡ Some e → length right ≡ p → ((q : ℕ) → q < p → slice_get right q ≡ right_in rows firsts x q) → old ≡ contents (extent_of x.memory) (take p x.memory.entries) → v ≡ is_told_in rows firsts x.records e (answer x.memory.block x.memory.base old e.op) → new ≡ right ++ v ∷ [] → (q : ℕ) → q < p + 1 → slice_get new q ≡ right_in rows firsts x q
+right_next rows firsts x right new p e v old at len before is made grown q l =
+    let m = x.memory in
+    ap (λ (xs : List Bool). slice_get xs q) grown ∙ slice_get-push right v q ∙ elim (cases_eq q p) [
       | inl s ↦
-          ap (λ (o : Option Reply). option_or o (cond (q == length replies) (Some r) None)) (slice_get_past replies q (omega arith))
-          ∙ ap (λ t. cond t (Some r) None) (eq-eqb q (length replies) (omega arith))
-          ∙ ap Some (made ∙ ap (λ (m : List ℕ). answer block base m e.op) is)
-          ∙ sym (ap (option_map (λ (e : Entry). answer block base (contents block base size (take p h)) e.op)) at)
-          ∙ ap (reply_at block base size h) (sym s)
+          ap (λ (o : Option Bool). option_or o (cond (q == length right) (Some v) None)) (slice_get_past right q (omega arith))
+          ∙ ap (λ t. cond t (Some v) None) (eq-eqb q (length right) (omega arith))
+          ∙ ap Some (made ∙ ap (λ (bytes : List ℕ). is_told_in rows firsts x.records e (answer m.block m.base bytes e.op)) is)
+          ∙ sym (ap (option_map (λ (e : Entry). is_told_in rows firsts x.records e (answer m.block m.base (contents (extent_of m) (take p m.entries)) e.op))) at)
+          ∙ ap (right_in rows firsts x) (sym s)
       | inr d ↦
-          ap (λ t. option_or (slice_get replies q) (cond t (Some r) None)) (ne_eqb q (length replies) (λ s. d (omega arith)))
-          ∙ or_none (slice_get replies q) ∙ before q (omega arith)
+          ap (λ t. option_or (slice_get right q) (cond t (Some v) None)) (ne_eqb q (length right) (λ s. d (omega arith)))
+          ∙ or_none (slice_get right q) ∙ before q (omega arith)
     ]
 
-pub replies_all : (block base size : ℕ) (h : List Entry) (replies : List Reply) (p : ℕ) → length replies ≡ p → length h ≤ p → ((q : ℕ) → q < p → slice_get replies q ≡ reply_at block base size h q) → (q : ℕ) → slice_get replies q ≡ reply_at block base size h q
-replies_all block base size h replies p len all before q = elim (cases_lt q p) [
+pub right_all : (rows : List (List ℕ)) (firsts : List (Option ℕ)) (x : Claim) (right : List Bool) (p : ℕ) → length right ≡ p → length x.memory.entries ≤ p → ((q : ℕ) → q < p → slice_get right q ≡ right_in rows firsts x q) → (q : ℕ) → slice_get right q ≡ right_in rows firsts x q
+right_all rows firsts x right p len all before q = elim (cases_lt q p) [
   | inl l ↦ before q l
-  | inr m ↦ slice_get_past replies q (omega arith) ∙ sym (ap (option_map (λ (e : Entry). answer block base (contents block base size (take q h)) e.op)) (slice_get_past h q (omega arith)))
+  | inr m ↦ slice_get_past right q (omega arith) ∙ sym (ap (option_map (λ (e : Entry). is_told_in rows firsts x.records e (answer x.memory.block x.memory.base (contents (extent_of x.memory) (take q x.memory.entries)) e.op))) (slice_get_past x.memory.entries q (omega arith)))
 ]

@@ -8,7 +8,7 @@ use Rattle.tlp_core.specs.declared.operation.Op.TheVariants as ops
 use Rattle.seq_memory.specs.declared.Reply.TheVariants as replies
 use Rattle.seq_memory.specs.declared.Entry.{Entry}
 use Rattle.seq_memory.specs.declared.Reply.{Reply}
-use Rattle.seq_memory.specs.History.{reply_at}
+use Rattle.seq_memory.specs.History.{extent_of, reply_at}
 use Rattle.history_check.specs.Claim.{Claim}
 use Rattle.history_check.specs.declared.Record.{Record}
 use Rattle.history_check.specs.declared.Record.TheVariants as records
@@ -142,7 +142,7 @@ abbrev pub acted_flaw : Claim → ℕ → Reply → ℕ → ℕ → ℕ → Opti
 acted_flaw x i reply n b p =
     if at_place (λ r. nat_lt p (moment r)) x.records b then Some flaws.Early
     else (if nat_le n p then Some flaws.Late
-    else (if not (some_and (reply_at x.memory.block x.memory.base x.memory.size x.memory.entries p) (same_reply reply)) then Some flaws.Reply
+    else (if not (some_and (reply_at (extent_of x.memory) x.memory.entries p) (same_reply reply)) then Some flaws.Reply
     else (if list_any (had_later (place_of x.memory.entries) i p) (take b x.records) then Some flaws.Stale else None)))
 
 abbrev pub point_flaw : Claim → ℕ → Reply → ℕ → ℕ → Option ℕ → Option FlawKind

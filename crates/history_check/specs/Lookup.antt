@@ -1,15 +1,16 @@
 -- What the checker's tables hold, and what it looks up in them.
-use Rattle.std.specs.Prelude.{ℕ, ◌≡◌, ◌<◌, ◌&&◌, not, nat_lt, nat_le, take, Bool, List, [], length, Option, Some, None, is_none, slice_get, get_or, if◌then◌else◌}
+use Rattle.std.specs.Prelude.{ℕ, ◌≡◌, ◌<◌, ◌&&◌, not, nat_lt, nat_le, take, Bool, false, List, [], length, Option, Some, None, is_none, option_map, slice_get, get_or, if◌then◌else◌}
 use Rattle.seq_memory.specs.declared.Entry.{Entry}
 use Rattle.std.specs.List.{list_any}
-use Rattle.seq_memory.specs.History.{reply_at}
+use Rattle.seq_memory.specs.Step.{answer}
+use Rattle.seq_memory.specs.History.{extent_of, contents_at}
 use Rattle.seq_memory.specs.declared.Reply.{Reply}
 use Rattle.history_check.specs.declared.Record.{Record}
 use Rattle.history_check.specs.declared.Record.TheVariants as records
 use Rattle.history_check.specs.declared.flaws.FlawKind.{FlawKind}
 use Rattle.history_check.specs.declared.flaws.FlawKind.TheVariants as flaws
 use Rattle.history_check.specs.Trace.{submissions, answers_to}
-use Rattle.history_check.specs.Flaws.{sub_place, place_of, option_bind, some_and, at_place, submits, submits_write, had_later, asks, moment, same_reply}
+use Rattle.history_check.specs.Flaws.{sub_place, place_of, option_bind, some_and, first_place, at_place, submits, submits_write, had_later, asks, moment, same_reply}
 use Rattle.history_check.specs.Claim.{Claim}
 
 -- the k-th place of row i
@@ -54,32 +55,52 @@ pub record AreFloors (floors : List (Option ℕ)) (place : ℕ → ℕ → Optio
   pub len : length floors ≡ length rs
   pub at : (b p : ℕ) (r : Record) → slice_get rs b ≡ Some r → some_and (get_or floors b None) (nat_le p) ≡ list_any (had_later place (requester_of r) p) (take b rs)
 
--- by the place of a submission, whether one of the records so far answers it
-pub record AreAnswered (answered : List Bool) (rs before : List Record) : Type 0 where
-  pub len : length answered ≡ length rs
-  pub at : (i k b : ℕ) → sub_place rs i k ≡ Some b → slice_get answered b ≡ Some (list_any (answers_to i k) before)
+-- by the place of a submission, where the first of the records so far stands that answers it
+pub record AreFirsts (firsts : List (Option ℕ)) (rs before : List Record) : Type 0 where
+  pub len : length firsts ≡ length rs
+  pub at : (i k b : ℕ) → sub_place rs i k ≡ Some b → slice_get firsts b ≡ Some (first_place (answers_to i k) before)
 
-abbrev pub acted_in : List Record → List (Option ℕ) → List Reply → Reply → ℕ → ℕ → ℕ → Option FlawKind
-acted_in rs floors replies reply n b p =
+-- an answer with that reply
+abbrev pub answers_with : Reply → Record → Bool
+answers_with made (records.Sub i k op n) = false
+answers_with made (records.Ans i k reply n) = same_reply reply made
+
+abbrev pub is_told_at : List Record → Option ℕ → Reply → Bool
+is_told_at rs place made = some_and place (at_place (answers_with made) rs)
+
+-- the first answer to the entry's request has that reply
+abbrev pub is_told_in : List (List ℕ) → List (Option ℕ) → List Record → Entry → Reply → Bool
+is_told_in rows firsts rs e made = is_told_at rs (point_in rows firsts e.requester e.number) made
+
+-- the first answer to the request at index p has the memory's reply
+abbrev pub right_in : List (List ℕ) → List (Option ℕ) → Claim → ℕ → Option Bool
+right_in rows firsts x p =
+    let m = x.memory in
+    option_map (λ e. is_told_in rows firsts x.records e (answer m.block m.base (contents_at (extent_of m) m.entries p) e.op)) (slice_get m.entries p)
+
+abbrev pub acted_in : List Record → List (Option ℕ) → List Bool → ℕ → ℕ → ℕ → Option FlawKind
+acted_in rs floors right n b p =
     if at_place (λ r. nat_lt p (moment r)) rs b then Some flaws.Early
     else (if nat_le n p then Some flaws.Late
-    else (if not (at_place (same_reply reply) replies p) then Some flaws.Reply
+    else (if not (at_place (λ t. t) right p) then Some flaws.Reply
     else (if at_place (λ o. some_and o (nat_le p)) floors b then Some flaws.Stale else None)))
 
-abbrev pub judged_point : List Record → List (Option ℕ) → List Reply → Reply → ℕ → ℕ → Option ℕ → Option FlawKind
-judged_point rs floors replies reply n b None = Some flaws.Absent
-judged_point rs floors replies reply n b (Some p) = acted_in rs floors replies reply n b p
+abbrev pub judged_point : List Record → List (Option ℕ) → List Bool → ℕ → ℕ → Option ℕ → Option FlawKind
+judged_point rs floors right n b None = Some flaws.Absent
+judged_point rs floors right n b (Some p) = acted_in rs floors right n b p
 
-abbrev pub judged : List Record → List (Option ℕ) → List (Option ℕ) → List Bool → List Reply → ℕ → Reply → ℕ → Option ℕ → Option FlawKind
-judged rs points floors answered replies a reply n None = Some flaws.Unasked
-judged rs points floors answered replies a reply n (Some b) =
+abbrev pub judged : List Record → List (Option ℕ) → List (Option ℕ) → List (Option ℕ) → List Bool → ℕ → ℕ → Option ℕ → Option FlawKind
+judged rs points floors firsts right a n None = Some flaws.Unasked
+judged rs points floors firsts right a n (Some b) =
     if not (nat_lt b a && at_place asks rs b) then Some flaws.Unasked
-    else (if at_place (λ t. t) answered b then Some flaws.Again
-    else judged_point rs floors replies reply n b (option_bind (slice_get points b) (λ p. p)))
+    else (if at_place (λ o. some_and o (λ c. nat_lt c a)) firsts b then Some flaws.Again
+    else judged_point rs floors right n b (option_bind (slice_get points b) (λ p. p)))
 
 -- the tables of an input
-pub record Tables (x : Claim) (rs : List Record) (points floors : List (Option ℕ)) (replies : List Reply) : Type 0 where
+pub record AreTables (x : Claim) (rows : List (List ℕ)) (rs : List Record) (points floors firsts : List (Option ℕ)) (right : List Bool) : Type 0 where
   pub same : x.records ≡ rs
+  pub indexed : IsIndex rows rs
   pub acted : ArePoints points rs x.memory.entries
-  pub floor : (i k b p : ℕ) → i < 256 → sub_place rs i k ≡ Some b → at_place (λ o. some_and o (nat_le p)) floors b ≡ list_any (had_later (place_of x.memory.entries) i p) (take b rs)
-  pub replied : (p : ℕ) → slice_get replies p ≡ reply_at x.memory.block x.memory.base x.memory.size x.memory.entries p
+  pub floored : AreFloors floors (point_in rows points) rs
+  pub answered : AreFirsts firsts rs rs
+  pub compared : (p : ℕ) → slice_get right p ≡ right_in rows firsts x p

@@ -1,6 +1,6 @@
 -- A trace as contracts see it.
 use Rattle.std.specs.Prelude.{ℕ, List}
-use Rattle.seq_memory.specs.Limits.{IsWithinLimits}
+use Rattle.seq_memory.specs.Limits.{Extent, IsWithinLimits}
 use Rattle.history_check.specs.declared.Record.{Record}
 
 -- what requesters submitted and were answered, over a memory of that base, size and block
@@ -10,6 +10,10 @@ pub record Observation : Type 0 where
   pub block : ℕ
   pub records : List Record
 
+-- where that memory lies
+abbrev pub observed : Observation → Extent
+observed t = record { base = t.base; size = t.size; block = t.block }
+
 -- the memory is one that there can be
 abbrev pub HasLimits : Observation → Type 0
-HasLimits t = IsWithinLimits t.base t.size t.block
+HasLimits t = IsWithinLimits (observed t)

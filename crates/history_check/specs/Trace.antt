@@ -5,7 +5,7 @@ use Rattle.tlp_core.specs.declared.operation.Op.{Op}
 use Rattle.tlp_core.specs.Operation.{is_posted}
 use Rattle.seq_memory.specs.declared.Entry.{Entry}
 use Rattle.seq_memory.specs.declared.Reply.{Reply}
-use Rattle.seq_memory.specs.History.{State, reply_at}
+use Rattle.seq_memory.specs.History.{State, extent_of, reply_at}
 use Rattle.history_check.specs.declared.Record.{Record}
 use Rattle.history_check.specs.declared.Record.TheVariants as records
 use Rattle.history_check.specs.Claim.{Claim}
@@ -71,7 +71,7 @@ pub record IsExplained (m : State) (before : List Record) (i k : ℕ) (reply : R
   pub after_submission : since ≤ point
   pub before_answer : point < n
   -- the reply is the sequential memory's at that point
-  pub replied : reply_at m.block m.base m.size m.entries point ≡ Some reply
+  pub replied : reply_at (extent_of m) m.entries point ≡ Some reply
   -- what the requester had an answer to when it submitted this request acted before that point
   pub above : (c j n : ℕ) (r : Reply) → c < place → slice_get before c ≡ Some (records.Ans i j r n) → stands (take point m.entries) i j ≡ true
 

@@ -1,7 +1,7 @@
 //! The history: each entry was submitted, stands once, and after its requester's earlier writes.
-ghost use Rattle.std.specs.Prelude.{ℕ, ◌≡◌, ◌≤◌, ◌<◌, ◌&&◌, length, take, get_or, None, false, true, IfOk, OnOk, IfErr, OnErr, slice_get, replicate};
+ghost use Rattle.std.specs.Prelude.{ℕ, ◌≡◌, ◌≤◌, ◌<◌, ◌&&◌, length, None, false, true, IfOk, OnOk, IfErr, replicate};
 ghost use Rattle.history_check.specs.Flaws as flaw;
-ghost use Rattle.history_check.specs.Lookup.{IsIndex, ArePoints, place_in, point_in, write_in, submitted_in, missing_in};
+ghost use Rattle.history_check.specs.Lookup.{IsIndex, ArePoints, point_in, submitted_in, missing_in};
 
 use crate::Record;
 use crate::flaws::{Flaw, FlawKind, NO_MEMORY};
@@ -44,7 +44,7 @@ fn submitted(index: &Index, records: &[Record], entry: &Entry) -> Option<usize>
     }
 }
 
-/// The index of the request among the entries so far.
+/// What a table has for the request, by the place of its submission.
 pub(crate) fn point(
     index: &Index,
     points: &[Option<usize>],
@@ -97,7 +97,7 @@ fn first_missing(
 pub(crate) fn no_points(alloc: Global, count: usize) -> Result<Vec<Option<usize>>, AllocError>
     ensures { IfOk result (λ v. v.items ≡ replicate count None) }
 {
-    let mut points = Vec::new(alloc);
+    let mut points = Vec::with_capacity(alloc, count)?;
     for _ in 0..count {
         points.push(None)?;
     }

@@ -1,17 +1,29 @@
 //! The answers: each has its point.
-ghost use Rattle.std.specs.Prelude.{ℕ, ◌≡◌, ◌≤◌, ◌<◌, ◌+◌, ◌^◌, ◌||◌, length, take, get_or, None, false, true, IfOk, IfSome, OnOk, IfErr, OnErr, slice_get, replicate, nat_le, nat_lt};
-ghost use Rattle.seq_memory.specs.History.{reply_at};
+ghost use Rattle.std.specs.Prelude.{ℕ, ◌≡◌, ◌||◌, length, None, IfOk, IfSome, OnOk, IfErr, slice_get, nat_le, nat_lt};
 ghost use Rattle.history_check.specs.Claim.{Claim};
 ghost use Rattle.history_check.specs.Flaws as flaw;
-ghost use Rattle.history_check.specs.Lookup.{IsIndex, ArePoints, AreFloors, point_in, judged, judged_point, acted_in, Tables};
+ghost use Rattle.history_check.specs.Lookup.{AreFloors, AreTables, point_in, judged, acted_in};
 
 use crate::Record;
 use crate::acting::{no_points, point};
-use crate::flaws::{Flaw, FlawKind, NO_MEMORY};
+use crate::flaws::{Flaw, FlawKind};
 use crate::index::Index;
-use seq_memory::{Entry, Reply};
 use std::alloc::{AllocError, Global};
 use tlp_core::Op;
+
+/// What is looked up of an answer.
+#[derive(Clone, Copy)]
+pub(crate) struct Tables<'a> {
+    pub(crate) records: &'a [Record],
+    /// By the place of a submission, the index of its request in the history.
+    pub(crate) points: &'a [Option<usize>],
+    /// By record, the greatest point of the answers that its requester had before.
+    pub(crate) floors: &'a [Option<usize>],
+    /// By the place of a submission, where the first answer to it stands.
+    pub(crate) firsts: &'a [Option<usize>],
+    /// By index of the history, whether the first answer to that request has the memory's reply.
+    pub(crate) right: &'a [bool],
+}
 
 /// The greater of two points.
 fn greater(a: Option<usize>, b: Option<usize>) -> Option<usize>
@@ -35,7 +47,7 @@ pub(crate) fn floors(
 ) -> Result<Vec<Option<usize>>, AllocError>
     ensures { IfOk result (λ v. AreFloors v.items (point_in index.now points.now) records.now) }
 {
-    let mut floors = Vec::new(alloc);
+    let mut floors = Vec::with_capacity(alloc, records.len())?;
     let mut seen = no_points(alloc, 256)?;
     for a in 0..records.len() {
         match &records[a] {
@@ -92,11 +104,11 @@ fn is_early(records: &[Record], b: usize, p: usize) -> bool
     }
 }
 
-fn is_reply(replies: &[Reply], p: usize, reply: &Reply) -> bool
-    ensures { result ≡ flaw.at_place (flaw.same_reply reply.now) replies.now p }
+fn is_right(right: &[bool], p: usize) -> bool
+    ensures { result ≡ flaw.at_place (λ t. t) right.now p }
 {
-    match replies.get(p) {
-        Some(made) => *reply == *made,
+    match right.get(p) {
+        Some(t) => *t,
         None => false,
     }
 }
@@ -110,37 +122,31 @@ fn is_stale(floors: &[Option<usize>], b: usize, p: usize) -> bool
     }
 }
 
-fn is_answered(answered: &[bool], b: usize) -> bool
-    ensures { result ≡ flaw.at_place (λ t. t) answered.now b }
+/// An answer before place `a` answers the submission at place `b`.
+fn is_answered(firsts: &[Option<usize>], a: usize, b: usize) -> bool
+    ensures { result ≡ flaw.at_place (λ o. flaw.some_and o (λ c. nat_lt c a)) firsts.now b }
 {
-    match answered.get(b) {
-        Some(t) => *t,
-        None => false,
+    match firsts.get(b) {
+        Some(Some(c)) => *c < a,
+        _ => false,
     }
 }
 
-fn judge_point(
-    records: &[Record],
-    floors: &[Option<usize>],
-    replies: &[Reply],
-    reply: &Reply,
-    n: u64,
-    b: usize,
-    p: usize,
-) -> Option<FlawKind>
-    ensures flaw { result ≡ acted_in records.now floors.now replies.now reply.now n b p }
+/// The first flaw of an answer with that `n`, whose submission stands at place `b` and acted at `p`.
+fn judge_point(tables: Tables<'_>, n: u64, b: usize, p: usize) -> Option<FlawKind>
+    ensures flaw { result ≡ acted_in tables.entry.records.now tables.entry.floors.now tables.entry.right.now n b p }
     ensures known { IfSome result (λ kind. ¬ (kind ≡ FlawKind.Memory)) }
 {
-    if is_early(records, b, p) {
+    if is_early(tables.records, b, p) {
         return Some(FlawKind::Early);
     }
     if n <= p as u64 {
         return Some(FlawKind::Late);
     }
-    if !is_reply(replies, p, reply) {
+    if !is_right(tables.right, p) {
         return Some(FlawKind::Reply);
     }
-    if is_stale(floors, b, p) {
+    if is_stale(tables.floors, b, p) {
         return Some(FlawKind::Stale);
     }
     None
@@ -152,74 +158,42 @@ fn point_at(points: &[Option<usize>], b: usize) -> Option<usize>
     *points.get(b)?
 }
 
-/// The first flaw of the answer at place `a`, whose submission stands at `place`.
-fn judge(
-    records: &[Record],
-    points: &[Option<usize>],
-    floors: &[Option<usize>],
-    answered: &[bool],
-    replies: &[Reply],
-    a: usize,
-    reply: &Reply,
-    n: u64,
-    place: Option<usize>,
-) -> Option<FlawKind>
-    ensures flaw { result ≡ judged records.now points.now floors.now answered.now replies.now a reply.now n place }
+/// The first flaw of the answer at place `a` with that `n`, whose submission stands at `place`.
+fn judge(tables: Tables<'_>, a: usize, n: u64, place: Option<usize>) -> Option<FlawKind>
+    ensures flaw { result ≡ judged tables.entry.records.now tables.entry.points.now tables.entry.floors.now tables.entry.firsts.now tables.entry.right.now a n place }
     ensures known { IfSome result (λ kind. ¬ (kind ≡ FlawKind.Memory)) }
 {
     let Some(b) = place else {
         return Some(FlawKind::Unasked);
     };
-    if b >= a || !asks_at(records, b) {
+    if b >= a || !asks_at(tables.records, b) {
         return Some(FlawKind::Unasked);
     }
-    if is_answered(answered, b) {
+    if is_answered(tables.firsts, a, b) {
         return Some(FlawKind::Again);
     }
-    match point_at(points, b) {
+    match point_at(tables.points, b) {
         None => Some(FlawKind::Absent),
-        Some(p) => judge_point(records, floors, replies, reply, n, b, p),
+        Some(p) => judge_point(tables, n, b, p),
     }
-}
-
-fn none_answered(alloc: Global, count: usize) -> Result<Vec<bool>, AllocError>
-    ensures { IfOk result (λ v. v.items ≡ replicate count false) }
-{
-    vec![in alloc; false; count]
 }
 
 /// Checks each answer.
-pub(crate) fn answer(
-    alloc: Global,
-    index: &Index,
-    records: &[Record],
-    points: &[Option<usize>],
-    floors: &[Option<usize>],
-    replies: &[Reply],
-) -> Result<(), Flaw>
-    requires { IsIndex index.now records.now }
-    ensures ok { OnOk result ((x : Claim) → Tables x records.now points.now floors.now replies.now → flaw.first_at (flaw.answer_at x) (length records.now) ≡ None) }
-    ensures err { IfErr result (λ f. (x : Claim) → Tables x records.now points.now floors.now replies.now → flaw.Tells (flaw.first_at (flaw.answer_at x) (length records.now)) f) }
+pub(crate) fn answer(index: &Index, tables: Tables<'_>) -> Result<(), Flaw>
+    ensures ok { OnOk result ((x : Claim) → AreTables x index.now tables.entry.records.now tables.entry.points.now tables.entry.floors.now tables.entry.firsts.now tables.entry.right.now → flaw.first_at (flaw.answer_at x) (length tables.entry.records.now) ≡ None) }
+    ensures err { IfErr result (λ f. (x : Claim) → AreTables x index.now tables.entry.records.now tables.entry.points.now tables.entry.floors.now tables.entry.firsts.now tables.entry.right.now → flaw.Tells (flaw.first_at (flaw.answer_at x) (length tables.entry.records.now)) f) }
 {
-    let Ok(mut answered) = none_answered(alloc, records.len()) else {
-        return Err(NO_MEMORY);
-    };
-    for a in 0..records.len() {
+    for a in 0..tables.records.len() {
         if let Record::Ans {
             requester,
             number,
-            reply,
             n,
-        } = &records[a]
+            ..
+        } = &tables.records[a]
         {
             let place = index.place(*requester, *number);
-            if let Some(kind) = judge(
-                records, points, floors, &answered, replies, a, reply, *n, place,
-            ) {
+            if let Some(kind) = judge(tables, a, *n, place) {
                 return Err(Flaw { kind, place: a });
-            }
-            if let Some(b) = place {
-                answered[b] = true;
             }
         }
     }

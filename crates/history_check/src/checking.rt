@@ -4,8 +4,9 @@ ghost use Rattle.history_check.specs.Flaws.{first_flaw, Tells};
 ghost use Rattle.history_check.specs.Claim.{claim_of};
 ghost use Rattle.history_check.specs.Trace.{Explains};
 
+use crate::answers::Tables;
 use crate::flaws::{Flaw, FlawKind, NO_MEMORY};
-use crate::{Trace, acting, answers, index, replay};
+use crate::{Trace, acting, answers, comparing, index};
 use seq_memory::Entry;
 use std::alloc::Global;
 
@@ -20,10 +21,20 @@ fn first_flaw_of(alloc: Global, trace: &Trace, history: &[Entry]) -> Result<(), 
     let Ok(floors) = answers::floors(alloc, &index, &points, records) else {
         return Err(NO_MEMORY);
     };
-    let Ok(replies) = replay::replay(alloc, trace.block, trace.base, trace.size, history) else {
+    let Ok(firsts) = comparing::first_answers(alloc, &index, records) else {
         return Err(NO_MEMORY);
     };
-    answers::answer(alloc, &index, records, &points, &floors, &replies)
+    let Ok(right) = comparing::right_replies(alloc, trace, &index, &firsts, history) else {
+        return Err(NO_MEMORY);
+    };
+    let tables = Tables {
+        records,
+        points: &points,
+        floors: &floors,
+        firsts: &firsts,
+        right: &right,
+    };
+    answers::answer(&index, tables)
 }
 
 /// Whether the history explains the trace, and else the first flaw. Where a growth was refused, a

@@ -1,5 +1,5 @@
 //! Where each submission stands among the records.
-ghost use Rattle.std.specs.Prelude.{◌≡◌, ◌++◌, ◌∷◌, [], length, take, set, get_or, None, IfOk, OnOk, IfErr, OnErr};
+ghost use Rattle.std.specs.Prelude.{◌≡◌, ◌++◌, ◌∷◌, [], length, set, get_or, None, IfOk, OnOk, IfErr};
 ghost use Rattle.history_check.specs.Flaws.{first_at, numbering_at, Tells};
 ghost use Rattle.history_check.specs.Lookup.{IsIndex, place_in};
 
@@ -28,7 +28,7 @@ impl Index {
     fn new(alloc: Global) -> Result<Self, AllocError>
         ensures { IfOk result (λ rows. IsIndex rows []) }
     {
-        let mut rows = Vec::new(alloc);
+        let mut rows = Vec::with_capacity(alloc, 256)?;
         for _ in 0..256usize {
             rows.push(Vec::new(alloc))?;
         }

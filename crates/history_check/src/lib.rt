@@ -13,10 +13,10 @@
 mod acting;
 mod answers;
 mod checking;
+mod comparing;
 mod flaws;
 mod index;
 pub mod laws;
-mod replay;
 
 pub use checking::check;
 pub use flaws::{Flaw, FlawKind};

@@ -1,4 +1,5 @@
--- Where the parts of a picture stand. A point is a length of the history; an offset counts points from the first that is shown.
+-- Where the parts of a picture stand. A point is a length of the history; an offset counts points from the first that
+-- is shown.
 use Rattle.std.specs.Prelude.{ℕ, ◌+◌, ◌-◌, ◌*◌, ◌&&◌, ◌||◌, nat_le, nat_lt, min, max, Bool, if◌then◌else◌, List, [], ◌∷◌, ◌++◌, length, set, Option, Some, None, option_map, is_none}
 use Rattle.seq_memory.specs.declared.Entry.{Entry}
 use Rattle.history_check.specs.declared.Record.{Record}

@@ -47,7 +47,8 @@ EachRequestHasItsBar = (v : View) (rs : List Record) (h : List Entry) (flaw : Op
     → 1 ≤ i → i ≤ 7 → IsSubmitted rs i k op n → bar_for v rs op (request_in rs h i k n) ≡ Some bar
     → HasBar v rs h flaw op (request_in rs h i k n) bar
 
--- in a picture of the whole history the bar of an answered request goes from the n of its submission to that of its answer
+-- in a picture of the whole history the bar of an answered request goes from the n of its submission to that of its
+-- answer
 abbrev pub BarsGoFromSubmissionToAnswer : Type 0
 BarsGoFromSubmissionToAnswer = (w : Window) (rs : List Record) (h : List Entry) (flaw : Option Flaw) (i k n m a : ℕ) (op : Op) (reply : Reply)
     → IsWholeHistory w h → 1 ≤ i → i ≤ 7 → is_posted op ≡ false → IsSubmitted rs i k op n
@@ -63,7 +64,8 @@ DotsStandAtEntries = (w : Window) (h : List Entry) (i k e top : ℕ) → IsWhole
 abbrev pub bars_of : View → List Record → List Entry → ℕ → ℕ → List Shape
 bars_of v rs h i top = bars v rs (acted_in h i) (answer_in rs i) i top [] rs
 
--- of two bars of a requester in one sub-row, but for the last, the later one begins to the right of the earlier one's end
+-- of two bars of a requester in one sub-row, but for the last, the later one begins to the right of the earlier one's
+-- end
 abbrev pub BarsDoNotOverlap : Type 0
 BarsDoNotOverlap = (v : View) (rs : List Record) (h : List Entry) (i top p q : ℕ) (a b : Block) (text words : List ℕ)
     → slice_get (bars_of v rs h i top) p ≡ Some (Shape.Filled a text) → slice_get (bars_of v rs h i top) q ≡ Some (Shape.Filled b words)

@@ -8,9 +8,9 @@ use Rattle.seq_memory.specs.declared.Reply.{Reply}
 use Rattle.history_check.specs.declared.Record.{Record}
 use Rattle.history_check.specs.declared.Record.TheVariants as records
 use Rattle.history_check.specs.declared.flaws.Flaw.{Flaw}
-use Rattle.history_check.specs.Names.{number_of, name_of}
+use Rattle.flaw_places.specs.Places.{flaw_line}
 use Rattle.history_check.specs.Flaws.{moment}
-use Rattle.trace_text.specs.Texts.{hexadecimal, op_text, reply_text}
+use Rattle.operation_text.specs.Texts.{hexadecimal, op_text, reply_text}
 use Rattle.svg_text.specs.declared.colour.Colour.{Colour}
 use Rattle.svg_text.specs.declared.colour.Colour.TheVariants as colours
 use Rattle.history_picture.specs.declared.words.Request.{Request}
@@ -78,7 +78,7 @@ abbrev pub requester_words : ℕ → List ℕ
 requester_words i = codes "requester " ++ decimal i
 
 abbrev pub flaw_words : Flaw → List ℕ
-flaw_words f = codes "flaw " ++ (decimal (number_of f.kind) ++ (32 ∷ (name_of f.kind ++ (32 ∷ decimal f.place))))
+flaw_words f = flaw_line f.kind f.place
 
 abbrev pub verdict_words : Option Flaw → List ℕ
 verdict_words None = codes "ok"

@@ -1,5 +1,5 @@
 //! The history along the axis.
-ghost use Rattle.std.specs.Prelude.{ℕ, ◌≡◌, ◌≤◌, ◌<◌, ◌+◌, ◌^◌, ◌++◌, length, OnOk};
+ghost use Rattle.std.specs.Prelude.{◌≡◌, ◌≤◌, ◌<◌, ◌+◌, ◌^◌, ◌++◌, length, OnOk};
 ghost use Rattle.svg_text.specs.Shapes.{shapes_text};
 ghost use Rattle.history_picture.specs.Picture as spec;
 
@@ -7,10 +7,10 @@ use crate::marks::{View, centred_label, edge_of, thickness_of};
 use crate::scale::{Scale, x_at};
 use crate::words::{kind_colour, put_entry_words, put_pair};
 use arrayvec::ArrayString;
+use operation_text::write_decimal;
 use seq_memory::Entry;
 use std::alloc::AllocError;
 use svg_text::{Block, Colour, Rule, put_block, put_label, put_rule};
-use trace_text::write_decimal;
 
 /// Adds a point's number, and a line down from it.
 #[tactic(auto, unfolding(svg_text::specs::Shapes::shapes_text))]
@@ -100,6 +100,7 @@ pub(crate) fn shown_entries(scale: Scale, history: &[Entry]) -> &[Entry]
     requires { scale.from + scale.span ≤ length history.now }
     ensures shown { result.now ≡ spec.shown_entries scale history.now }
     ensures length { length result.now ≡ scale.span }
+    ensures few { length result.now < 2 ^ 32 }
 {
     let from = scale.from as usize;
     &history[from..from + scale.span as usize]

@@ -1,5 +1,5 @@
 //! What is marked, and how marks look.
-ghost use Rattle.std.specs.Prelude.{◌≡◌, option_map};
+ghost use Rattle.std.specs.Prelude.{◌≡◌};
 ghost use Rattle.history_picture.specs.Picture as spec;
 
 use crate::scale::Scale;

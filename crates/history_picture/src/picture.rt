@@ -22,72 +22,60 @@ fn width_of(scale: Scale) -> u64
     (x_at(u64::from(scale.span) + 1) + 20).max(640)
 }
 
-/// Adds the shapes below the heading, and gives where the rows end.
-fn put_body(
-    alloc: Global,
+/// What is drawn.
+#[derive(Clone, Copy)]
+struct Drawn<'a> {
     view: View,
-    records: &[Record],
-    history: &[Entry],
+    records: &'a [Record],
+    history: &'a [Entry],
     flaw: Option<Flaw>,
-    out: &mut Vec<u8>,
-) -> Result<u64, AllocError>
-    requires { view.scale.from + view.scale.span ≤ length history.now }
-    ensures shapes { OnOk result (out.new.items ≡ out.old.items ++ shapes_text (spec.body view records.now history.now flaw)) }
-    ensures bottom { IfOk result (λ bottom. bottom ≡ spec.bottom_of view records.now history.now) }
+}
+
+/// Adds the shapes below the heading, and gives where the rows end.
+fn put_body(alloc: Global, drawn: &Drawn<'_>, out: &mut Vec<u8>) -> Result<u64, AllocError>
+    requires { drawn.now.view.scale.from + drawn.now.view.scale.span ≤ length drawn.now.history.now }
+    ensures shapes { OnOk result (out.new.items ≡ out.old.items ++ shapes_text (spec.body drawn.now.view drawn.now.records.now drawn.now.history.now drawn.now.flaw)) }
+    ensures bottom { IfOk result (λ bottom. bottom ≡ spec.bottom_of drawn.now.view drawn.now.records.now drawn.now.history.now) }
     ensures range { IfOk result (λ bottom. bottom ≤ 100000) }
 {
+    let (view, history) = (drawn.view, drawn.history);
+    let width = width_of(view.scale);
     let mut rows = Vec::new(alloc);
-    let bottom = put_rows(
-        alloc,
-        view,
-        width_of(view.scale),
-        records,
-        history,
-        &mut rows,
-    )?;
+    let bottom = put_rows(alloc, view, width, drawn.records, history, &mut rows)?;
     put_entries(view, bottom, shown_entries(view.scale, history), out)?;
     out.extend_from_slice(rows.as_slice())?;
-    put_mark(view.scale, records, flaw, bottom, out)?;
+    put_mark(view.scale, drawn.records, drawn.flaw, bottom, out)?;
     Ok(bottom)
 }
 
 /// Adds all shapes, and gives where the rows end.
-fn put_drawn(
-    alloc: Global,
-    view: View,
-    records: &[Record],
-    history: &[Entry],
-    flaw: Option<Flaw>,
-    out: &mut Vec<u8>,
-) -> Result<u64, AllocError>
-    requires { view.scale.from + view.scale.span ≤ length history.now }
-    ensures shapes { OnOk result (out.new.items ≡ out.old.items ++ shapes_text (spec.drawn view records.now history.now flaw)) }
-    ensures bottom { IfOk result (λ bottom. bottom ≡ spec.bottom_of view records.now history.now) }
+fn put_drawn(alloc: Global, drawn: &Drawn<'_>, out: &mut Vec<u8>) -> Result<u64, AllocError>
+    requires { drawn.now.view.scale.from + drawn.now.view.scale.span ≤ length drawn.now.history.now }
+    ensures shapes { OnOk result (out.new.items ≡ out.old.items ++ shapes_text (spec.drawn drawn.now.view drawn.now.records.now drawn.now.history.now drawn.now.flaw)) }
+    ensures bottom { IfOk result (λ bottom. bottom ≡ spec.bottom_of drawn.now.view drawn.now.records.now drawn.now.history.now) }
     ensures range { IfOk result (λ bottom. bottom ≤ 100000) }
 {
-    put_captions(view.scale, history.len() as u64, flaw, out)?;
+    put_captions(
+        drawn.view.scale,
+        drawn.history.len() as u64,
+        drawn.flaw,
+        out,
+    )?;
     put_kinds(out)?;
     put_signs(out)?;
-    let bottom = put_body(alloc, view, records, history, flaw, out)?;
+    let bottom = put_body(alloc, drawn, out)?;
     Ok(bottom)
 }
 
 /// Adds the text of a view.
-fn put_whole(
-    alloc: Global,
-    view: View,
-    records: &[Record],
-    history: &[Entry],
-    flaw: Option<Flaw>,
-    out: &mut Vec<u8>,
-) -> Result<(), AllocError>
-    requires { view.scale.from + view.scale.span ≤ length history.now }
-    ensures ok { OnOk result (out.new.items ≡ out.old.items ++ spec.view_text view records.now history.now flaw) }
+fn put_whole(alloc: Global, drawn: &Drawn<'_>, out: &mut Vec<u8>) -> Result<(), AllocError>
+    requires { drawn.now.view.scale.from + drawn.now.view.scale.span ≤ length drawn.now.history.now }
+    ensures ok { OnOk result (out.new.items ≡ out.old.items ++ spec.view_text drawn.now.view drawn.now.records.now drawn.now.history.now drawn.now.flaw) }
     ensures err { OnErr result (out.new.items ≡ out.old.items) }
 {
     let mut shapes = Vec::new(alloc);
-    let bottom = put_drawn(alloc, view, records, history, flaw, &mut shapes)?;
-    put_page(alloc, width_of(view.scale), bottom + 30, shapes, out)?;
+    let bottom = put_drawn(alloc, drawn, &mut shapes)?;
+    put_page(alloc, width_of(drawn.view.scale), bottom + 30, shapes, out)?;
     Ok(())
 }
 
@@ -118,7 +106,13 @@ pub fn put_picture(
 {
     let records = trace.records.as_slice();
     let view = view_of(window, records, history, flaw);
-    put_whole(alloc, view, records, history, flaw, out)?;
+    let drawn = Drawn {
+        view,
+        records,
+        history,
+        flaw,
+    };
+    put_whole(alloc, &drawn, out)?;
     Ok(())
 }
 

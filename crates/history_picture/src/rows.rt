@@ -1,7 +1,6 @@
 //! The rows of requesters.
-ghost use Rattle.std.specs.Prelude.{ℕ, ◌≡◌, ◌≤◌, ◌+◌, ◌*◌, ◌++◌, [], length, OnOk, IfOk};
+ghost use Rattle.std.specs.Prelude.{◌≡◌, ◌≤◌, ◌+◌, ◌*◌, ◌++◌, length, OnOk, IfOk};
 ghost use Rattle.svg_text.specs.Shapes.{shapes_text};
-ghost use Rattle.history_picture.specs.Layout.{rows_height};
 ghost use Rattle.history_picture.specs.Picture as spec;
 
 use crate::lookup::{acted_by, answers_by};

@@ -1,15 +1,16 @@
 //! The words in a picture.
-ghost use Rattle.std.specs.Prelude.{◌≡◌, ◌≤◌, ◌+◌, ◌++◌, [], length, option_map, slice_get, OnOk};
+ghost use Rattle.std.specs.Prelude.{◌≡◌, ◌≤◌, ◌+◌, ◌++◌, [], length, option_map, OnOk};
 ghost use Rattle.arrayvec.specs.ArrayString.{array_string_len};
 ghost use Rattle.history_picture.specs.Words as said;
 
 use arrayvec::ArrayString;
+use flaw_places::write_flaw;
 use history_check::{Flaw, Record};
+use operation_text::{write_decimal, write_hexadecimal, write_op, write_reply};
 use seq_memory::Reply;
 use std::alloc::AllocError;
 use svg_text::Colour;
 use tlp_core::Op;
-use trace_text::{write_decimal, write_hexadecimal, write_op, write_reply};
 
 /// A request, when it was submitted, how long the history was once it had acted, and the place of its
 /// answer among the records.
@@ -197,19 +198,6 @@ pub(crate) fn put_requester_words(requester: u8, text: &mut ArrayString<512>)
     write_decimal(u64::from(requester), text);
 }
 
-/// Writes a flaw.
-fn put_flaw(flaw: Flaw, text: &mut ArrayString<512>)
-    requires { text.old.bytes ≡ [] }
-    ensures { text.new.bytes ≡ said.flaw_words flaw }
-{
-    text.push_str("flaw ");
-    write_decimal(u64::from(flaw.kind.number()), text);
-    text.push_str(" ");
-    text.push_str(flaw.kind.name());
-    text.push_str(" ");
-    write_decimal(flaw.place as u64, text);
-}
-
 /// Writes the first flaw, or that there is none.
 pub(crate) fn put_verdict(flaw: Option<Flaw>, text: &mut ArrayString<512>)
     requires { text.old.bytes ≡ [] }
@@ -217,7 +205,7 @@ pub(crate) fn put_verdict(flaw: Option<Flaw>, text: &mut ArrayString<512>)
 {
     match flaw {
         None => text.push_str("ok"),
-        Some(flaw) => put_flaw(flaw, text),
+        Some(flaw) => write_flaw(flaw, text),
     }
 }
 

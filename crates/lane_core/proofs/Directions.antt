@@ -20,11 +20,10 @@ use Rattle.fc_credit.specs.declared.limits.LaneCredits.{LaneCredits}
 use Rattle.fc_credit.specs.declared.ledger.CreditLedger.{CreditLedger}
 use Rattle.fc_credit.specs.Needs.{need_of}
 use Rattle.fc_credit.specs.Limits.{least_units}
-use Rattle.fc_credit.proofs.Packets.{one_header, units_few}
 use Rattle.dllp_core.specs.declared.packet.Class.{Class}
 use Rattle.dllp_core.specs.declared.packet.Class.TheVariants.{Posted, NonPosted, Completion}
 use Rattle.fc_credit.specs.Credits.{Gate, gate_covers, update_of}
-use Rattle.fc_credit.specs.Account.{Direction, Event, Consume, Receive, Free, is_small, may_go, consumed_if, freed_at, new_direction, after_events, happens as occurs}
+use Rattle.fc_credit.specs.Account.{Direction, Event, Consume, Receive, Free, is_small, may_go, consumed_if, freed_at, new_direction, after_events, after_event}
 use Rattle.vc_queue.specs.Queue.{Item, is_takeable}
 use Rattle.lane_core.specs.declared.packet.WirePacket.{WirePacket}
 use Rattle.lane_core.specs.declared.packet.Fate.{Fate}
@@ -33,8 +32,9 @@ use Rattle.lane_core.specs.declared.packet.DllpKind.{DllpKind}
 use Rattle.lane_core.specs.declared.packet.DllpKind.TheVariants as kinds
 use Rattle.lane_core.specs.Content.{items_of, unaccepted_of}
 use Rattle.lane_core.specs.Steps.{Ends, Outgoing, Incoming, new_lane, may_enter, entered, with_room, all_but_first, arrival_of, taken_on, ledger_with, queue_with, after_deliver, sender_after, after_take, ledger_freed}
-use Rattle.lane_core.specs.Calls.{Call, MakeRoom, Release, Enter, Transmit, Deliver, SendDllp, DeliverDllp, Timer, Retrained, Take, IsCall, AreCalls, happens, list_of, accepted_from, after_calls, on_the_way}
+use Rattle.lane_core.specs.Calls.{Call, MakeRoom, Release, Enter, Transmit, Deliver, SendDllp, DeliverDllp, Timer, Retrained, Take, IsCall, AreCalls, after_call, list_of, accepted_from, after_calls, on_the_way}
 use Rattle.lane_core.specs.Credit.{needs_of, is_update, direction_of, dllp_events, events_of, events_in}
+use Rattle.lane_core.proofs.Below.{Below}
 use Rattle.lane_core.proofs.UnderWay.{AreNumbered}
 use Rattle.lane_core.proofs.Sound.{answers_in, IsSound, both_true, enter_one, deliver_right, deliver_dllp_right, step_sound, new_sound}
 
@@ -48,32 +48,32 @@ few Posted = omega arith
 few NonPosted = omega arith
 few Completion = omega arith
 
-pub packet_small : (t : Packet) → IsPacket t → is_small (need_of t) ≡ true
-packet_small t k =
-    let units : (need_of t).units ≤ least_units (need_of t).class = units_few t k in
+pub packet_small : Below → (t : Packet) → IsPacket t → is_small (need_of t) ≡ true
+packet_small laws t k =
+    let units : (need_of t).units ≤ least_units (need_of t).class = laws.units t k in
     let most : least_units (need_of t).class ≤ 8 = few (need_of t).class in
-    small_parts (need_of t).header (need_of t).units (one_header t) (omega arith)
+    small_parts (need_of t).header (need_of t).units (laws.header t) (omega arith)
 
 -- Enter
 
-pub goes : (gate : Gate) (t : Packet) → IsPacket t → gate_covers gate (need_of t) ≡ true → may_go gate (need_of t) ≡ true
-goes gate t k c = rw (packet_small t k, c) refl
+pub goes : Below → (gate : Gate) (t : Packet) → IsPacket t → gate_covers gate (need_of t) ≡ true → may_go gate (need_of t) ≡ true
+goes laws gate t k c = rw (packet_small laws t k, c) refl
 
 consumed : (d : Direction) (need : Need) (b : Bool) → b ≡ true → consumed_if b d need ≡ consumed_if true d need
 consumed d need true e = refl
 consumed d need false e = cc
 
-enter_direction : (e : Ends) (t : Packet) (mark : ℕ) (b : Bool) → may_enter e.sender (need_of t) ≡ b → Spells (canonical t) t → IsSound e →
+enter_direction : Below → (e : Ends) (t : Packet) (mark : ℕ) (b : Bool) → may_enter e.sender (need_of t) ≡ b → Spells (canonical t) t → IsSound e →
     direction_of (if b then record e { sender = entered e.sender t mark } else e) ≡ after_events (direction_of e) (if b then Consume (need_of t) ∷ [] else [])
-enter_direction e t mark true h spells k =
+enter_direction laws e t mark true h spells k =
     let tests = both_true (gate_covers e.sender.gate (need_of t)) (nat_lt (length e.sender.sending.kept) 2047) h in
     let room : length e.sender.sending.kept < 2047 = grind (arith, nat_tests, tests.1) in
     ap (λ (way : List Item). record { gate = (entered e.sender t mark).gate; ledger = e.receiver.ledger; on_the_way = needs_of way; queue = needs_of e.receiver.queue; wire = filter is_update e.back })
-    (sym (enter_one e t mark spells room k).1)
+    (sym (enter_one laws.read e t mark spells room k).1)
     ∙ ap (λ (needs : List Need). record { gate = (entered e.sender t mark).gate; ledger = e.receiver.ledger; on_the_way = needs; queue = needs_of e.receiver.queue; wire = filter is_update e.back })
     (map-append (λ (item : Item). need_of item.0) (on_the_way e) ((t, mark) ∷ []))
-    ∙ sym (consumed (direction_of e) (need_of t) (may_go e.sender.gate (need_of t)) (goes e.sender.gate t spells.grammar tests.0))
-enter_direction e t mark false h spells k = refl
+    ∙ sym (consumed (direction_of e) (need_of t) (may_go e.sender.gate (need_of t)) (goes laws e.sender.gate t spells.grammar tests.0))
+enter_direction laws e t mark false h spells k = refl
 
 room_direction : (e : Ends) (b : Bool) → direction_of (if b then record e { sender = with_room e.sender } else e) ≡ direction_of e
 room_direction e true = refl
@@ -109,7 +109,7 @@ no_update r = by_nak r.nak
 with_wire : (d : Direction) (wire more : List Dllp) → wire ≡ more → ◌≡◌ {A = Direction} (record d { wire = wire }) (record d { wire = more })
 with_wire d wire more h = rw h refl
 
-send_direction : (e : Ends) (kind : DllpKind) → direction_of (happens e (SendDllp kind)) ≡ after_events (direction_of e) (events_of e (SendDllp kind))
+send_direction : (e : Ends) (kind : DllpKind) → direction_of (after_call e (SendDllp kind)) ≡ after_events (direction_of e) (events_of e (SendDllp kind))
 send_direction e kinds.Answer =
     with_wire (direction_of e) (filter is_update (e.back ++ acknowledgment_of e.receiver.receiving ∷ [])) (filter is_update e.back)
     (filter-append is_update e.back (acknowledgment_of e.receiver.receiving ∷ []) ∙ ap (λ (ds : List Dllp). filter is_update e.back ++ ds) (no_update e.receiver.receiving) ∙ append-nil (filter is_update e.back))
@@ -172,29 +172,29 @@ take_direction e place true =
 
 -- each call, and any list of them
 
-pub step_direction : (e : Ends) (call : Call) → IsCall call → IsSound e → direction_of (happens e call) ≡ after_events (direction_of e) (events_of e call)
-step_direction e (MakeRoom need) i k = room_direction e (may_enter e.sender need)
-step_direction e Release i k = refl
-step_direction e (Enter t mark) i k = enter_direction e t mark (may_enter e.sender (need_of t)) refl i k
-step_direction e Transmit i k = refl
-step_direction e (Deliver fate) i k = deliver_direction e.sender e.forward e.back e.receiver fate k.numbered
-step_direction e (SendDllp kind) i k = send_direction e kind
-step_direction e (DeliverDllp fate) i k = dllp_direction e.sender e.forward e.back e.receiver fate k.numbered
-step_direction e Timer i k = refl
-step_direction e Retrained i k = refl
-step_direction e (Take place) i k = take_direction e place (is_takeable e.receiver.queue place)
+pub step_direction : Below → (e : Ends) (call : Call) → IsCall call → IsSound e → direction_of (after_call e call) ≡ after_events (direction_of e) (events_of e call)
+step_direction laws e (MakeRoom need) i k = room_direction e (may_enter e.sender need)
+step_direction laws e Release i k = refl
+step_direction laws e (Enter t mark) i k = enter_direction laws e t mark (may_enter e.sender (need_of t)) refl i k
+step_direction laws e Transmit i k = refl
+step_direction laws e (Deliver fate) i k = deliver_direction e.sender e.forward e.back e.receiver fate k.numbered
+step_direction laws e (SendDllp kind) i k = send_direction e kind
+step_direction laws e (DeliverDllp fate) i k = dllp_direction e.sender e.forward e.back e.receiver fate k.numbered
+step_direction laws e Timer i k = refl
+step_direction laws e Retrained i k = refl
+step_direction laws e (Take place) i k = take_direction e place (is_takeable e.receiver.queue place)
 
 events_append : (d : Direction) (xs ys : List Event) → after_events d (xs ++ ys) ≡ after_events (after_events d xs) ys
 events_append d [] ys = refl
-events_append d (x ∷ xs) ys = events_append (occurs d x) xs ys
+events_append d (x ∷ xs) ys = events_append (after_event d x) xs ys
 
-pub run_direction : (e : Ends) (calls : List Call) → AreCalls calls → IsSound e → direction_of (after_calls e calls) ≡ after_events (direction_of e) (events_in e calls)
-run_direction e [] i k = refl
-run_direction e (call ∷ calls) i k =
-    run_direction (happens e call) calls i.1 (step_sound e call i.0 k).0
-    ∙ ap (λ (d : Direction). after_events d (events_in (happens e call) calls)) (step_direction e call i.0 k)
-    ∙ sym (events_append (direction_of e) (events_of e call) (events_in (happens e call) calls))
+pub run_direction : Below → (e : Ends) (calls : List Call) → AreCalls calls → IsSound e → direction_of (after_calls e calls) ≡ after_events (direction_of e) (events_in e calls)
+run_direction laws e [] i k = refl
+run_direction laws e (call ∷ calls) i k =
+    run_direction laws (after_call e call) calls i.1 (step_sound laws.read e call i.0 k).0
+    ∙ ap (λ (d : Direction). after_events d (events_in (after_call e call) calls)) (step_direction laws e call i.0 k)
+    ∙ sym (events_append (direction_of e) (events_of e call) (events_in (after_call e call) calls))
 
-pub lane_direction : (credits : LaneCredits) (calls : List Call) → AreCalls calls →
+pub lane_direction : Below → (credits : LaneCredits) (calls : List Call) → AreCalls calls →
     direction_of (after_calls (new_lane credits) calls) ≡ after_events (new_direction credits) (events_in (new_lane credits) calls)
-lane_direction credits calls i = run_direction (new_lane credits) calls i (new_sound credits)
+lane_direction laws credits calls i = run_direction laws (new_lane credits) calls i (new_sound credits)

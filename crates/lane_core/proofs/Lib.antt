@@ -1,3 +1,4 @@
+pub mod Below
 pub mod Arithmetic
 pub mod UnderWay
 pub mod Forward

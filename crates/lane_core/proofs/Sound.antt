@@ -8,7 +8,6 @@ use Rattle.std.proofs.lemmas.Option.{slice_get_within, get_or_from_slice_get}
 use Rattle.std.proofs.lemmas.Bool.Decides.{nat_tests}
 use Rattle.tlp_core.specs.Packet.{Packet}
 use Rattle.tlp_core.specs.Layout.{Spells, canonical}
-use Rattle.tlp_core.proofs.Grammar.{reading_spelled}
 use Rattle.seq12.specs.Numbers.{next_of, previous_of, distance_of, class_of}
 use Rattle.seq12.specs.declared.class.SequenceClass.{SequenceClass}
 use Rattle.seq12.specs.declared.class.SequenceClass.TheVariants.{Expected, Duplicate as Older, Ahead}
@@ -31,9 +30,10 @@ use Rattle.lane_core.specs.declared.packet.Arrival.{Arrival}
 use Rattle.lane_core.specs.declared.packet.Arrival.TheVariants.{Answered, Gone}
 use Rattle.lane_core.specs.declared.packet.DllpKind.{DllpKind}
 use Rattle.lane_core.specs.declared.packet.DllpKind.TheVariants as kinds
-use Rattle.lane_core.specs.Content.{cargo_of, item_of, items_of, IsSpelled, received_of, unaccepted_of}
+use Rattle.lane_core.specs.Content.{cargo_of, item_spelled, items_of, IsSpelled, received_of, unaccepted_of}
 use Rattle.lane_core.specs.Steps.{Ends, Outgoing, Incoming, packets_sent, new_lane, may_enter, entered, with_room, all_but_first, arrival_of, taken_on, receiving_on, after_deliver, dllp_of, receiving_after, wire_after_send, after_dllp, sender_after, after_take}
-use Rattle.lane_core.specs.Calls.{Call, MakeRoom, Release, Enter, Transmit, Deliver, SendDllp, DeliverDllp, Timer, Retrained, Take, IsCall, AreCalls, happens, list_of, entered_by, accepted_from, accepted_by, after_calls, entered_in, accepted_in, on_the_way}
+use Rattle.lane_core.specs.Calls.{Call, MakeRoom, Release, Enter, Transmit, Deliver, SendDllp, DeliverDllp, Timer, Retrained, Take, IsCall, AreCalls, after_call, list_of, entered_by, accepted_from, accepted_by, after_calls, entered_in, accepted_in, on_the_way}
+use Rattle.lane_core.proofs.Below.{IsRead}
 use Rattle.lane_core.proofs.UnderWay.{AreNumbered}
 use Rattle.lane_core.proofs.Right.{entered_unaccepted, entered_right, reserved_right, released_right, restarted_right, trained_right, transmitted_right, discarded_right, taken_first, taken_right, answered_right, forgotten_right, outstanding, acknowledged_unaccepted, acknowledged_right}
 
@@ -66,14 +66,14 @@ joined : (o : Option Item) (xs : List Item) → cons_option o xs ≡ list_of o +
 joined None xs = refl
 joined (Some x) xs = refl
 
-one_item : (c : Carried) (cs : List Carried) → items_of (c ∷ cs) ≡ list_of (item_of c) ++ items_of cs
-one_item c cs = joined (item_of c) (items_of cs)
+one_item : (c : Carried) (cs : List Carried) → items_of (c ∷ cs) ≡ list_of (item_spelled c) ++ items_of cs
+one_item c cs = joined (item_spelled c) (items_of cs)
 
-pub entered_item : (t : Packet) (mark : ℕ) → Spells (canonical t) t → item_of (cargo_of t mark) ≡ Some (t, mark)
-entered_item t mark k = rw (reading_spelled (canonical t) t k) refl
+pub entered_item : IsRead → (t : Packet) (mark : ℕ) → Spells (canonical t) t → item_spelled (cargo_of t mark) ≡ Some (t, mark)
+entered_item read t mark k = rw (read (canonical t) t k) refl
 
-pub entered_spelled : (t : Packet) (mark : ℕ) → Spells (canonical t) t → IsSpelled (cargo_of t mark)
-entered_spelled t mark k = rw (reading_spelled (canonical t) t k) refl
+pub entered_spelled : IsRead → (t : Packet) (mark : ℕ) → Spells (canonical t) t → IsSpelled (cargo_of t mark)
+entered_spelled read t mark k = rw (read (canonical t) t k) refl
 
 -- Deliver
 
@@ -207,29 +207,29 @@ sender_spelled s (d ∷ back) fate k = dllp_spelled s d fate k
 
 -- Enter and MakeRoom
 
-pub enter_one : (e : Ends) (t : Packet) (mark : ℕ) → Spells (canonical t) t → length e.sender.sending.kept < 2047 → IsSound e →
+pub enter_one : IsRead → (e : Ends) (t : Packet) (mark : ℕ) → Spells (canonical t) t → length e.sender.sending.kept < 2047 → IsSound e →
     IsSound (record e { sender = entered e.sender t mark })
     × (on_the_way e ++ (t, mark) ∷ [] ≡ on_the_way (record e { sender = entered e.sender t mark }))
-enter_one e t mark spells room k = (
+enter_one read e t mark spells room k = (
   record {
     numbered = entered_right e.sender.sending e.forward (answers_in e.back) e.receiver.receiving.next (cargo_of t mark) room k.numbered;
-    spelled = All-push IsSpelled e.sender.sending.kept (cargo_of t mark) k.spelled (entered_spelled t mark spells);
+    spelled = All-push IsSpelled e.sender.sending.kept (cargo_of t mark) k.spelled (entered_spelled read t mark spells);
     under_way = k.under_way;
   },
   sym
       (ap (λ (cs : List Carried). items_of cs) (entered_unaccepted e.sender.sending e.forward (answers_in e.back) e.receiver.receiving.next (cargo_of t mark) k.numbered)
-      ∙ filter_map-append item_of (unaccepted_of e.sender.sending e.receiver.receiving.next) (cargo_of t mark ∷ [])
-      ∙ ap (λ (o : Option Item). on_the_way e ++ cons_option o []) (entered_item t mark spells)),
+      ∙ filter_map-append item_spelled (unaccepted_of e.sender.sending e.receiver.receiving.next) (cargo_of t mark ∷ [])
+      ∙ ap (λ (o : Option Item). on_the_way e ++ cons_option o []) (entered_item read t mark spells)),
 )
 
-enter_right : (e : Ends) (t : Packet) (mark : ℕ) (b : Bool) → may_enter e.sender (need_of t) ≡ b → Spells (canonical t) t → IsSound e →
+enter_right : IsRead → (e : Ends) (t : Packet) (mark : ℕ) (b : Bool) → may_enter e.sender (need_of t) ≡ b → Spells (canonical t) t → IsSound e →
     IsSound (if b then record e { sender = entered e.sender t mark } else e)
     × (on_the_way e ++ (if b then (t, mark) ∷ [] else []) ≡ on_the_way (if b then record e { sender = entered e.sender t mark } else e))
-enter_right e t mark true h spells k =
+enter_right read e t mark true h spells k =
     let tests = both_true (gate_covers e.sender.gate (need_of t)) (nat_lt (length e.sender.sending.kept) 2047) h in
     let room : length e.sender.sending.kept < 2047 = grind (arith, nat_tests, tests.1) in
-    enter_one e t mark spells room k
-enter_right e t mark false h spells k = (k, append-nil _)
+    enter_one read e t mark spells room k
+enter_right read e t mark false h spells k = (k, append-nil _)
 
 room_right : (e : Ends) (b : Bool) → IsSound e →
     IsSound (if b then record e { sender = with_room e.sender } else e)
@@ -267,15 +267,15 @@ rest_spelled (p ∷ f) w = All-drop IsWireSpelled 1 (p ∷ f) w
 
 -- each call, and any list of them
 
-pub step_sound : (e : Ends) (call : Call) → IsCall call → IsSound e →
-    IsSound (happens e call) × (on_the_way e ++ entered_by e call ≡ accepted_by e call ++ on_the_way (happens e call))
-step_sound e (MakeRoom need) i k = room_right e (may_enter e.sender need) k
-step_sound e Release i k = (
+pub step_sound : IsRead → (e : Ends) (call : Call) → IsCall call → IsSound e →
+    IsSound (after_call e call) × (on_the_way e ++ entered_by e call ≡ accepted_by e call ++ on_the_way (after_call e call))
+step_sound read e (MakeRoom need) i k = room_right e (may_enter e.sender need) k
+step_sound read e Release i k = (
   record { numbered = released_right e.sender.sending e.forward (answers_in e.back) e.receiver.receiving.next k.numbered; spelled = k.spelled; under_way = k.under_way },
   append-nil _,
 )
-step_sound e (Enter t mark) i k = enter_right e t mark (may_enter e.sender (need_of t)) refl i k
-step_sound e Transmit i k = (
+step_sound read e (Enter t mark) i k = enter_right read e t mark (may_enter e.sender (need_of t)) refl i k
+step_sound read e Transmit i k = (
   record {
     numbered = transmitted_right e.sender.sending e.forward (answers_in e.back) e.receiver.receiving.next k.numbered;
     spelled = k.spelled;
@@ -283,29 +283,29 @@ step_sound e Transmit i k = (
   },
   append-nil _,
 )
-step_sound e (Deliver fate) i k =
+step_sound read e (Deliver fate) i k =
     let step = deliver_right e.sender.sending e.forward (answers_in e.back) e.receiver fate k.numbered in
     (record { numbered = step.0; spelled = k.spelled; under_way = rest_spelled e.forward k.under_way }, append-nil _ ∙ step.1)
-step_sound e (SendDllp kind) i k = (
+step_sound read e (SendDllp kind) i k = (
   record { numbered = send_right e.sender.sending e.forward e.back e.receiver kind k.numbered; spelled = k.spelled; under_way = k.under_way },
   append-nil _ ∙ sent_on e kind,
 )
   where
-    sent_on : (e : Ends) (kind : DllpKind) → on_the_way e ≡ on_the_way (happens e (SendDllp kind))
+    sent_on : (e : Ends) (kind : DllpKind) → on_the_way e ≡ on_the_way (after_call e (SendDllp kind))
     sent_on e kinds.Answer = refl
     sent_on e (kinds.Update class) = refl
-step_sound e (DeliverDllp fate) i k =
+step_sound read e (DeliverDllp fate) i k =
     let step = deliver_dllp_right e.sender e.forward e.back e.receiver.receiving.next fate k.numbered in
     (record { numbered = step.0; spelled = sender_spelled e.sender e.back fate k.spelled; under_way = k.under_way }, append-nil _ ∙ sym (ap (λ (cs : List Carried). items_of cs) step.1))
-step_sound e Timer i k = (
+step_sound read e Timer i k = (
   record { numbered = restarted_right e.sender.sending e.forward (answers_in e.back) e.receiver.receiving.next k.numbered; spelled = k.spelled; under_way = k.under_way },
   append-nil _,
 )
-step_sound e Retrained i k = (
+step_sound read e Retrained i k = (
   record { numbered = trained_right e.sender.sending e.forward (answers_in e.back) e.receiver.receiving.next k.numbered; spelled = k.spelled; under_way = k.under_way },
   append-nil _,
 )
-step_sound e (Take place) i k = take_right e place (is_takeable e.receiver.queue place) k
+step_sound read e (Take place) i k = take_right e place (is_takeable e.receiver.queue place) k
 
 pub new_sound : (credits : LaneCredits) → IsSound (new_lane credits)
 new_sound credits =
@@ -315,20 +315,20 @@ new_sound credits =
       under_way = All-nil IsWireSpelled;
     }
 
-pub run_sound : (e : Ends) (calls : List Call) → AreCalls calls → IsSound e →
+pub run_sound : IsRead → (e : Ends) (calls : List Call) → AreCalls calls → IsSound e →
     IsSound (after_calls e calls) × (on_the_way e ++ entered_in e calls ≡ accepted_in e calls ++ on_the_way (after_calls e calls))
-run_sound e [] i k = (k, append-nil _)
-run_sound e (call ∷ calls) i k =
-    let step = step_sound e call i.0 k in
-    let rest = run_sound (happens e call) calls i.1 step.0 in (
+run_sound read e [] i k = (k, append-nil _)
+run_sound read e (call ∷ calls) i k =
+    let step = step_sound read e call i.0 k in
+    let rest = run_sound read (after_call e call) calls i.1 step.0 in (
       rest.0,
-      sym (append_assoc (on_the_way e) (entered_by e call) (entered_in (happens e call) calls))
-          ∙ ap (λ (xs : List Item). xs ++ entered_in (happens e call) calls) step.1
-          ∙ append_assoc (accepted_by e call) (on_the_way (happens e call)) (entered_in (happens e call) calls)
+      sym (append_assoc (on_the_way e) (entered_by e call) (entered_in (after_call e call) calls))
+          ∙ ap (λ (xs : List Item). xs ++ entered_in (after_call e call) calls) step.1
+          ∙ append_assoc (accepted_by e call) (on_the_way (after_call e call)) (entered_in (after_call e call) calls)
           ∙ ap (λ (xs : List Item). accepted_by e call ++ xs) rest.1
-          ∙ sym (append_assoc (accepted_by e call) (accepted_in (happens e call) calls) (on_the_way (after_calls (happens e call) calls))),
+          ∙ sym (append_assoc (accepted_by e call) (accepted_in (after_call e call) calls) (on_the_way (after_calls (after_call e call) calls))),
     )
 
-pub accepted_rest : (credits : LaneCredits) (calls : List Call) → AreCalls calls →
+pub accepted_rest : IsRead → (credits : LaneCredits) (calls : List Call) → AreCalls calls →
     accepted_in (new_lane credits) calls ++ on_the_way (after_calls (new_lane credits) calls) ≡ entered_in (new_lane credits) calls
-accepted_rest credits calls i = sym (run_sound (new_lane credits) calls i (new_sound credits)).1
+accepted_rest read credits calls i = sym (run_sound read (new_lane credits) calls i (new_sound credits)).1

@@ -13,7 +13,7 @@ use Rattle.fc_credit.specs.declared.needs.Need.{Need}
 use Rattle.fc_credit.specs.declared.limits.LaneCredits.{LaneCredits}
 use Rattle.fc_credit.specs.Needs.{need_of}
 use Rattle.fc_credit.specs.Credits.{same, amount, first_of, gate_covers}
-use Rattle.fc_credit.specs.Account.{Account, Accounts, Direction, Event, Consume, Receive, Free, demand, uses, loses, learns, told_to, lost_to, known_to, may_go, used_if, received_by, given_by, first_numbers, happens as occurs, numbers_after, after_events, numbers_in}
+use Rattle.fc_credit.specs.Account.{Account, Accounts, Direction, Event, Consume, Receive, Free, demand, uses, loses, learns, told_to, lost_to, known_to, may_go, used_if, received_by, given_by, first_numbers, after_event, numbers_after, after_events, numbers_in}
 use Rattle.vc_queue.specs.Queue.{Item, is_takeable}
 use Rattle.lane_core.specs.declared.packet.Fate.{Fate}
 use Rattle.lane_core.specs.declared.packet.Fate.TheVariants.{Good, Failed, Lost}
@@ -21,8 +21,9 @@ use Rattle.lane_core.specs.declared.packet.DllpKind.{DllpKind}
 use Rattle.lane_core.specs.declared.packet.DllpKind.TheVariants as kinds
 use Rattle.lane_core.specs.declared.packet.WirePacket.{WirePacket}
 use Rattle.lane_core.specs.Steps.{Ends, Incoming, new_lane, may_enter, arrival_of, taken_on}
-use Rattle.lane_core.specs.Calls.{Call, MakeRoom, Release, Enter, Transmit, Deliver, SendDllp, DeliverDllp, Timer, Retrained, Take, IsCall, AreCalls, happens, list_of, accepted_from, entered_by, taken_by, entered_in, taken_in}
+use Rattle.lane_core.specs.Calls.{Call, MakeRoom, Release, Enter, Transmit, Deliver, SendDllp, DeliverDllp, Timer, Retrained, Take, IsCall, AreCalls, after_call, list_of, accepted_from, entered_by, taken_by, entered_in, taken_in}
 use Rattle.lane_core.specs.Credit.{needs_of, is_update, direction_of, dllp_events, events_of, events_in, numbers_of}
+use Rattle.lane_core.proofs.Below.{Below}
 use Rattle.lane_core.proofs.Sound.{IsSound, both_true, step_sound, new_sound}
 use Rattle.lane_core.proofs.Directions.{goes, need_there, step_direction}
 
@@ -92,14 +93,14 @@ used_true : (numbers : Accounts) (need : Need) (b : Bool) → b ≡ true → (c 
 used_true numbers need true e c p = refl
 used_true numbers need false e c p = cc
 
-enter_adds : (e : Ends) (numbers : Accounts) (t : Packet) (mark : ℕ) (b : Bool) → may_enter e.sender (need_of t) ≡ b → Spells (canonical t) t → (c : Class) (p : _) →
+enter_adds : Below → (e : Ends) (numbers : Accounts) (t : Packet) (mark : ℕ) (b : Bool) → may_enter e.sender (need_of t) ≡ b → Spells (canonical t) t → (c : Class) (p : _) →
     Adds (numbers c p) (numbers_in (direction_of e) numbers (if b then Consume (need_of t) ∷ [] else []) c p) (demand c p (needs_of (if b then (t, mark) ∷ [] else []))) 0
-enter_adds e numbers t mark true h s c p =
+enter_adds laws e numbers t mark true h s c p =
     let tests = both_true (gate_covers e.sender.gate (need_of t)) (nat_lt (length e.sender.sending.kept) 2047) h in
-    let gone : may_go e.sender.gate (need_of t) ≡ true = goes e.sender.gate t s.grammar tests.0 in
+    let gone : may_go e.sender.gate (need_of t) ≡ true = goes laws e.sender.gate t s.grammar tests.0 in
     rw (used_true numbers (need_of t) (may_go e.sender.gate (need_of t)) gone c p)
     (record { used = ap (λ (n : ℕ). (numbers c p).used + n) (sym (one_need c p (need_of t))); given = sym (add-zero (numbers c p).given) })
-enter_adds e numbers t mark false h s c p = same_used (numbers c p)
+enter_adds laws e numbers t mark false h s c p = same_used (numbers c p)
 
 freed_adds : (numbers : Accounts) (o : Option Item) (c : Class) (p : _) →
     Adds (numbers c p) (given_by (option_map (λ (item : Item). need_of item.0) o) numbers c p) 0 (demand c p (needs_of (list_of o)))
@@ -113,50 +114,50 @@ take_adds : (e : Ends) (numbers : Accounts) (place : ℕ) (b : Bool) (c : Class)
 take_adds e numbers place true c p = rw (need_there e.receiver.queue place) (freed_adds numbers (slice_get e.receiver.queue place) c p)
 take_adds e numbers place false c p = same_used (numbers c p)
 
-call_adds : (e : Ends) (numbers : Accounts) (call : Call) → IsCall call → (c : Class) (p : _) →
+call_adds : Below → (e : Ends) (numbers : Accounts) (call : Call) → IsCall call → (c : Class) (p : _) →
     Adds (numbers c p) (numbers_in (direction_of e) numbers (events_of e call) c p) (demand c p (needs_of (entered_by e call))) (demand c p (needs_of (taken_by e call)))
-call_adds e numbers (MakeRoom need) i c p = same_used (numbers c p)
-call_adds e numbers Release i c p = same_used (numbers c p)
-call_adds e numbers (Enter t mark) i c p = enter_adds e numbers t mark (may_enter e.sender (need_of t)) refl i c p
-call_adds e numbers Transmit i c p = same_used (numbers c p)
-call_adds e numbers (Deliver fate) i c p = deliver_adds (direction_of e) numbers e.forward e.receiver fate c p
-call_adds e numbers (SendDllp kind) i c p = send_adds (direction_of e) e numbers kind c p
-call_adds e numbers (DeliverDllp fate) i c p = dllp_adds (direction_of e) numbers e.back fate c p refl
-call_adds e numbers Timer i c p = same_used (numbers c p)
-call_adds e numbers Retrained i c p = same_used (numbers c p)
-call_adds e numbers (Take place) i c p = take_adds e numbers place (is_takeable e.receiver.queue place) c p
+call_adds laws e numbers (MakeRoom need) i c p = same_used (numbers c p)
+call_adds laws e numbers Release i c p = same_used (numbers c p)
+call_adds laws e numbers (Enter t mark) i c p = enter_adds laws e numbers t mark (may_enter e.sender (need_of t)) refl i c p
+call_adds laws e numbers Transmit i c p = same_used (numbers c p)
+call_adds laws e numbers (Deliver fate) i c p = deliver_adds (direction_of e) numbers e.forward e.receiver fate c p
+call_adds laws e numbers (SendDllp kind) i c p = send_adds (direction_of e) e numbers kind c p
+call_adds laws e numbers (DeliverDllp fate) i c p = dllp_adds (direction_of e) numbers e.back fate c p refl
+call_adds laws e numbers Timer i c p = same_used (numbers c p)
+call_adds laws e numbers Retrained i c p = same_used (numbers c p)
+call_adds laws e numbers (Take place) i c p = take_adds e numbers place (is_takeable e.receiver.queue place) c p
 
 numbers_append : (d : Direction) (numbers : Accounts) (xs ys : List Event) → numbers_in d numbers (xs ++ ys) ≡ numbers_in (after_events d xs) (numbers_in d numbers xs) ys
 numbers_append d numbers [] ys = refl
-numbers_append d numbers (x ∷ xs) ys = numbers_append (occurs d x) (numbers_after d numbers x) xs ys
+numbers_append d numbers (x ∷ xs) ys = numbers_append (after_event d x) (numbers_after d numbers x) xs ys
 
 demand_append : (c : Class) (p : _) (xs ys : List Item) → demand c p (needs_of (xs ++ ys)) ≡ demand c p (needs_of xs) + demand c p (needs_of ys)
 demand_append c p xs ys =
     ap (λ (needs : List Need). demand c p needs) (map-append (λ (item : Item). need_of item.0) xs ys) ∙ sum_by-append (amount c p) (needs_of xs) (needs_of ys)
 
-run_adds : (e : Ends) (numbers : Accounts) (calls : List Call) → AreCalls calls → IsSound e → (c : Class) (p : _) →
+run_adds : Below → (e : Ends) (numbers : Accounts) (calls : List Call) → AreCalls calls → IsSound e → (c : Class) (p : _) →
     Adds (numbers c p) (numbers_in (direction_of e) numbers (events_in e calls) c p) (demand c p (needs_of (entered_in e calls))) (demand c p (needs_of (taken_in e calls)))
-run_adds e numbers [] i k c p = same_used (numbers c p)
-run_adds e numbers (call ∷ calls) i k c p =
+run_adds laws e numbers [] i k c p = same_used (numbers c p)
+run_adds laws e numbers (call ∷ calls) i k c p =
     let middle = numbers_in (direction_of e) numbers (events_of e call) in
-    let one = call_adds e numbers call i.0 c p in
-    let rest = run_adds (happens e call) middle calls i.1 (step_sound e call i.0 k).0 c p in
-    let last : numbers_in (direction_of e) numbers (events_in e (call ∷ calls)) ≡ numbers_in (direction_of (happens e call)) middle (events_in (happens e call) calls) =
-    numbers_append (direction_of e) numbers (events_of e call) (events_in (happens e call) calls)
-    ∙ ap (λ (d : Direction). numbers_in d middle (events_in (happens e call) calls)) (sym (step_direction e call i.0 k)) in
-    let entered = demand_append c p (entered_by e call) (entered_in (happens e call) calls) in
-    let taken = demand_append c p (taken_by e call) (taken_in (happens e call) calls) in
+    let one = call_adds laws e numbers call i.0 c p in
+    let rest = run_adds laws (after_call e call) middle calls i.1 (step_sound laws.read e call i.0 k).0 c p in
+    let last : numbers_in (direction_of e) numbers (events_in e (call ∷ calls)) ≡ numbers_in (direction_of (after_call e call)) middle (events_in (after_call e call) calls) =
+    numbers_append (direction_of e) numbers (events_of e call) (events_in (after_call e call) calls)
+    ∙ ap (λ (d : Direction). numbers_in d middle (events_in (after_call e call) calls)) (sym (step_direction laws e call i.0 k)) in
+    let entered = demand_append c p (entered_by e call) (entered_in (after_call e call) calls) in
+    let taken = demand_append c p (taken_by e call) (taken_in (after_call e call) calls) in
     subst (λ (after : Accounts). Adds (numbers c p) (after c p) (demand c p (needs_of (entered_in e (call ∷ calls)))) (demand c p (needs_of (taken_in e (call ∷ calls)))))
     (sym last) (record { used = omega (arith, one.used, rest.used, entered); given = omega (arith, one.given, rest.given, taken) })
 
-lane_adds : (credits : LaneCredits) (calls : List Call) (c : Class) (p : _) → AreCalls calls →
+lane_adds : Below → (credits : LaneCredits) (calls : List Call) (c : Class) (p : _) → AreCalls calls →
     Adds (first_numbers credits c p) (numbers_of credits calls c p) (demand c p (needs_of (entered_in (new_lane credits) calls))) (demand c p (needs_of (taken_in (new_lane credits) calls)))
-lane_adds credits calls c p i = run_adds (new_lane credits) (first_numbers credits) calls i (new_sound credits) c p
+lane_adds laws credits calls c p i = run_adds laws (new_lane credits) (first_numbers credits) calls i (new_sound credits) c p
 
-pub used_is : (credits : LaneCredits) (calls : List Call) (c : Class) (p : _) → AreCalls calls →
+pub used_is : Below → (credits : LaneCredits) (calls : List Call) (c : Class) (p : _) → AreCalls calls →
     (numbers_of credits calls c p).used ≡ demand c p (needs_of (entered_in (new_lane credits) calls))
-used_is credits calls c p i = (lane_adds credits calls c p i).used ∙ zero-add _
+used_is laws credits calls c p i = (lane_adds laws credits calls c p i).used ∙ zero-add _
 
-pub given_is : (credits : LaneCredits) (calls : List Call) (c : Class) (p : _) → AreCalls calls →
+pub given_is : Below → (credits : LaneCredits) (calls : List Call) (c : Class) (p : _) → AreCalls calls →
     (numbers_of credits calls c p).given ≡ first_of c p credits + demand c p (needs_of (taken_in (new_lane credits) calls))
-given_is credits calls c p i = (lane_adds credits calls c p i).given
+given_is laws credits calls c p i = (lane_adds laws credits calls c p i).given

@@ -17,10 +17,11 @@ use Rattle.lane_core.specs.declared.packet.Arrival.TheVariants.{Answered, Gone}
 use Rattle.lane_core.specs.declared.packet.DllpKind.{DllpKind}
 use Rattle.lane_core.specs.declared.packet.DllpKind.TheVariants as kinds
 use Rattle.replay_sender.specs.Sending.{number_at, next_item}
-use Rattle.lane_core.specs.Content.{item_of, items_of, IsSpelled, received_of, unaccepted_of}
+use Rattle.lane_core.specs.Content.{item_spelled, items_of, IsSpelled, received_of, unaccepted_of}
 use Rattle.lane_core.specs.Steps.{Ends, Outgoing, packets_sent, new_lane, may_enter, entered, with_room, all_but_first, arrival_of, taken_on, receiving_on, after_arrival, after_deliver, after_take, transmitted}
-use Rattle.lane_core.specs.Calls.{Call, MakeRoom, Release, Enter, Transmit, Deliver, SendDllp, DeliverDllp, Timer, Retrained, Take, AreCalls, happens, list_of, accepted_from, accepted_by, after_calls, accepted_in, on_the_way}
+use Rattle.lane_core.specs.Calls.{Call, MakeRoom, Release, Enter, Transmit, Deliver, SendDllp, DeliverDllp, Timer, Retrained, Take, AreCalls, after_call, list_of, accepted_from, accepted_by, after_calls, accepted_in, on_the_way}
 use Rattle.lane_core.specs.Windows.{next_entered, oldest_unacknowledged, next_accepted, deliveries}
+use Rattle.lane_core.proofs.Below.{IsRead}
 use Rattle.lane_core.proofs.UnderWay.{ahead_of, IsForward}
 use Rattle.lane_core.proofs.Forward as forward
 use Rattle.lane_core.proofs.Right.{first_is}
@@ -41,7 +42,7 @@ sender_passes : (e : Ends) (s : Outgoing) (b : Bool) → Passes e (if b then rec
 sender_passes e s true = record { more = []; wire = sym (append-nil e.forward); next = refl }
 sender_passes e s false = same_ends e
 
-send_passes : (e : Ends) (kind : DllpKind) → Passes e (happens e (SendDllp kind))
+send_passes : (e : Ends) (kind : DllpKind) → Passes e (after_call e (SendDllp kind))
 send_passes e kinds.Answer = record { more = []; wire = sym (append-nil e.forward); next = refl }
 send_passes e (kinds.Update class) = record { more = []; wire = sym (append-nil e.forward); next = refl }
 
@@ -50,15 +51,15 @@ take_passes e place true = record { more = []; wire = sym (append-nil e.forward)
 take_passes e place false = same_ends e
 
 -- a call that accepts nothing
-through : (e : Ends) (f g : List WirePacket) (u : List Carried) (call : Call) (calls : List Call) → Passes e (happens e call) → accepted_by e call ≡ [] →
+through : (e : Ends) (f g : List WirePacket) (u : List Carried) (call : Call) (calls : List Call) → Passes e (after_call e call) → accepted_by e call ≡ [] →
     e.forward ≡ f ++ g → e.receiver.receiving.next < 4096 → IsForward e.receiver.receiving.next u 2048 f →
-    ((h : List WirePacket) → (happens e call).forward ≡ f ++ h → (happens e call).receiver.receiving.next < 4096 → IsForward (happens e call).receiver.receiving.next u 2048 f →
-    length (accepted_in (happens e call) calls) ≤ length u) → length (accepted_in e (call ∷ calls)) ≤ length u
+    ((h : List WirePacket) → (after_call e call).forward ≡ f ++ h → (after_call e call).receiver.receiving.next < 4096 → IsForward (after_call e call).receiver.receiving.next u 2048 f →
+    length (accepted_in (after_call e call) calls) ≤ length u) → length (accepted_in e (call ∷ calls)) ≤ length u
 through e f g u call calls p a w n k rest =
-    let later : length (accepted_in (happens e call) calls) ≤ length u =
+    let later : length (accepted_in (after_call e call) calls) ≤ length u =
     rest (g ++ p.more) (p.wire ∙ ap (λ (ps : List WirePacket). ps ++ p.more) w ∙ append_assoc f g p.more)
     (subst (λ (m : ℕ). m < 4096) (sym p.next) n) (subst (λ (m : ℕ). IsForward m u 2048 f) (sym p.next) k) in
-    let count = length-append (accepted_by e call) (accepted_in (happens e call) calls) in
+    let count = length-append (accepted_by e call) (accepted_in (after_call e call) calls) in
     let none : length (accepted_by e call) ≡ 0 = ap (λ (xs : List Item). length xs) a in
     omega (arith, later, count, none)
 
@@ -81,9 +82,9 @@ arrives e p f g u (Answered Accept) calls is n k rest =
     forward.accepted next p.cargo (drop 1 u) 2048 f n (omega arith)
     (subst (λ (v : List Carried). IsForward next v 2049 f) first (forward.weaker next u (max 2048 (ahead_of p.number next + 1)) 2049 f (omega arith) k.1)) in
     let later : length (accepted_in (record e { forward = f ++ g; receiver = after_arrival e.receiver p.cargo (Answered Accept) }) calls) ≤ length (drop 1 u) = rest (drop 1 u) (omega arith) left in
-    let one : length (list_of (item_of p.cargo)) ≤ 1 = at_most_one (item_of p.cargo) in
+    let one : length (list_of (item_spelled p.cargo)) ≤ 1 = at_most_one (item_spelled p.cargo) in
     let whole : length u ≡ length (drop 1 u) + 1 = ap (λ (v : List Carried). length v) first ∙ (omega arith) in
-    let count = length-append (list_of (item_of p.cargo)) (accepted_in (record e { forward = f ++ g; receiver = after_arrival e.receiver p.cargo (Answered Accept) }) calls) in
+    let count = length-append (list_of (item_spelled p.cargo)) (accepted_in (record e { forward = f ++ g; receiver = after_arrival e.receiver p.cargo (Answered Accept) }) calls) in
     omega (arith, later, one, whole, count)
 arrives e p f g u (Answered Duplicate) calls is n k rest = rest u n (forward.weaker e.receiver.receiving.next u (max 2048 (ahead_of p.number e.receiver.receiving.next + 1)) 2048 f (omega arith) k.1)
 arrives e p f g u (Answered NakNow) calls is n k rest = rest u n (forward.weaker e.receiver.receiving.next u (max 2048 (ahead_of p.number e.receiver.receiving.next + 1)) 2048 f (omega arith) k.1)
@@ -104,31 +105,31 @@ bounded e (p ∷ f) g u (Deliver fate ∷ calls) w d n k =
     (λ v m h. bounded (record e { forward = f ++ g; receiver = after_arrival e.receiver p.cargo arrival }) f g v calls refl few m h))
 bounded e f g u (MakeRoom need ∷ calls) w d n k =
     through e f g u (MakeRoom need) calls (sender_passes e (with_room e.sender) (may_enter e.sender need)) refl w n k
-    (λ h x m q. bounded (happens e (MakeRoom need)) f h u calls x (omega (arith, d)) m q)
+    (λ h x m q. bounded (after_call e (MakeRoom need)) f h u calls x (omega (arith, d)) m q)
 bounded e f g u (Release ∷ calls) w d n k =
     through e f g u Release calls (record { more = []; wire = sym (append-nil e.forward); next = refl }) refl w n k
-    (λ h x m q. bounded (happens e Release) f h u calls x (omega (arith, d)) m q)
+    (λ h x m q. bounded (after_call e Release) f h u calls x (omega (arith, d)) m q)
 bounded e f g u (Enter t mark ∷ calls) w d n k =
     through e f g u (Enter t mark) calls (sender_passes e (entered e.sender t mark) (may_enter e.sender (need_of t))) refl w n k
-    (λ h x m q. bounded (happens e (Enter t mark)) f h u calls x (omega (arith, d)) m q)
+    (λ h x m q. bounded (after_call e (Enter t mark)) f h u calls x (omega (arith, d)) m q)
 bounded e f g u (Transmit ∷ calls) w d n k =
     through e f g u Transmit calls (record { more = packets_sent e.sender.sending (next_item e.sender.sending); wire = refl; next = refl }) refl w n k
-    (λ h x m q. bounded (happens e Transmit) f h u calls x (omega (arith, d)) m q)
+    (λ h x m q. bounded (after_call e Transmit) f h u calls x (omega (arith, d)) m q)
 bounded e f g u (SendDllp kind ∷ calls) w d n k =
     through e f g u (SendDllp kind) calls (send_passes e kind) refl w n k
-    (λ h x m q. bounded (happens e (SendDllp kind)) f h u calls x (omega (arith, d)) m q)
+    (λ h x m q. bounded (after_call e (SendDllp kind)) f h u calls x (omega (arith, d)) m q)
 bounded e f g u (DeliverDllp fate ∷ calls) w d n k =
     through e f g u (DeliverDllp fate) calls (record { more = []; wire = sym (append-nil e.forward); next = refl }) refl w n k
-    (λ h x m q. bounded (happens e (DeliverDllp fate)) f h u calls x (omega (arith, d)) m q)
+    (λ h x m q. bounded (after_call e (DeliverDllp fate)) f h u calls x (omega (arith, d)) m q)
 bounded e f g u (Timer ∷ calls) w d n k =
     through e f g u Timer calls (record { more = []; wire = sym (append-nil e.forward); next = refl }) refl w n k
-    (λ h x m q. bounded (happens e Timer) f h u calls x (omega (arith, d)) m q)
+    (λ h x m q. bounded (after_call e Timer) f h u calls x (omega (arith, d)) m q)
 bounded e f g u (Retrained ∷ calls) w d n k =
     through e f g u Retrained calls (record { more = []; wire = sym (append-nil e.forward); next = refl }) refl w n k
-    (λ h x m q. bounded (happens e Retrained) f h u calls x (omega (arith, d)) m q)
+    (λ h x m q. bounded (after_call e Retrained) f h u calls x (omega (arith, d)) m q)
 bounded e f g u (Take place ∷ calls) w d n k =
     through e f g u (Take place) calls (take_passes e place (is_takeable e.receiver.queue place)) refl w n k
-    (λ h x m q. bounded (happens e (Take place)) f h u calls x (omega (arith, d)) m q)
+    (λ h x m q. bounded (after_call e (Take place)) f h u calls x (omega (arith, d)) m q)
 
 -- each packet on the way is one item
 
@@ -140,7 +141,7 @@ all_items : (cs : List Carried) → All IsSpelled cs → length (items_of cs) �
 all_items [] k = refl
 all_items (c ∷ cs) k =
     let first = spelled_some c (k 0 c (omega arith)) in
-    let one : length (items_of (c ∷ cs)) ≡ length (items_of cs) + 1 = count_one (item_of c) first.0 (items_of cs) first.1 in
+    let one : length (items_of (c ∷ cs)) ≡ length (items_of cs) + 1 = count_one (item_spelled c) first.0 (items_of cs) first.1 in
     let rest : length (items_of cs) ≡ length cs = all_items cs (All-drop IsSpelled 1 (c ∷ cs) k) in
     omega (arith, one, rest)
 
@@ -162,14 +163,14 @@ sent_is_kept s number h = there s.sending.kept s.sending.place s.sending.stopped
 accepted_more : (e : Ends) (xs ys : List Call) → accepted_in e (xs ++ ys) ≡ accepted_in e xs ++ accepted_in (after_calls e xs) ys
 accepted_more e [] ys = refl
 accepted_more e (call ∷ calls) ys =
-    ap (λ (items : List Item). accepted_by e call ++ items) (accepted_more (happens e call) calls ys)
-    ∙ sym (append_assoc (accepted_by e call) (accepted_in (happens e call) calls) (accepted_in (after_calls (happens e call) calls) ys))
+    ap (λ (items : List Item). accepted_by e call ++ items) (accepted_more (after_call e call) calls ys)
+    ∙ sym (append_assoc (accepted_by e call) (accepted_in (after_call e call) calls) (accepted_in (after_calls (after_call e call) calls) ys))
 
-pub within : (credits : LaneCredits) (before after : List Call) → AreCalls before → deliveries after ≤ length (after_calls (new_lane credits) before).forward →
+pub within : IsRead → (credits : LaneCredits) (before after : List Call) → AreCalls before → deliveries after ≤ length (after_calls (new_lane credits) before).forward →
     (oldest_unacknowledged credits before ≤ next_accepted credits (before ++ after)) × (next_accepted credits (before ++ after) ≤ next_entered credits before)
-within credits before after i d =
+within read credits before after i d =
     let e = after_calls (new_lane credits) before in
-    let k : IsSound e = (run_sound (new_lane credits) before i (new_sound credits)).0 in
+    let k : IsSound e = (run_sound read (new_lane credits) before i (new_sound credits)).0 in
     let waiting = unaccepted_of e.sender.sending e.receiver.receiving.next in
     let more : length (accepted_in e after) ≤ length waiting =
     bounded e e.forward [] waiting after (sym (append-nil e.forward)) d k.numbered.next_in_range k.numbered.packets in
@@ -178,7 +179,7 @@ within credits before after i d =
     let kept : length waiting ≡ length e.sender.sending.kept - received_of e.sender.sending e.receiver.receiving.next =
     length-drop (received_of e.sender.sending e.receiver.receiving.next) e.sender.sending.kept in
     let rest : length (accepted_in (new_lane credits) before ++ on_the_way e) ≡ next_entered credits before =
-    ap (λ (xs : List Item). length xs) (accepted_rest credits before i) in
+    ap (λ (xs : List Item). length xs) (accepted_rest read credits before i) in
     let first : length (accepted_in (new_lane credits) before ++ on_the_way e) ≡ length (accepted_in (new_lane credits) before) + length (on_the_way e) =
     length-append (accepted_in (new_lane credits) before) (on_the_way e) in
     let all : next_accepted credits (before ++ after) ≡ length (accepted_in (new_lane credits) before) + length (accepted_in e after) =

@@ -2,6 +2,7 @@
 use Rattle.std.specs.Prelude.{◌≡◌, ℕ, if◌then◌else◌, Option, Some, None, List, [], ◌∷◌, ◌++◌, slice_get, remove}
 use Rattle.tlp_core.specs.Packet.{Packet}
 use Rattle.tlp_core.specs.Layout.{Spells, canonical}
+use Rattle.replay_sender.specs.Sending.{next_number}
 use Rattle.fc_credit.specs.declared.needs.Need.{Need}
 use Rattle.fc_credit.specs.declared.limits.LaneCredits.{LaneCredits}
 use Rattle.fc_credit.specs.Limits.{IsInLimits}
@@ -37,21 +38,21 @@ AreCalls [] = Unit {0}
 AreCalls (call ∷ calls) = IsCall call × AreCalls calls
 
 -- the lane after a call: each changes the ends that it is of, and leaves the others
-abbrev pub happens : Ends → Call → Ends
-happens e (MakeRoom need) = if may_enter e.sender need then record e { sender = with_room e.sender } else e
-happens e Release = record e { sender = without_room e.sender }
-happens e (Enter t mark) = if may_enter e.sender (need_of t) then record e { sender = entered e.sender t mark } else e
-happens e Transmit =
+abbrev pub after_call : Ends → Call → Ends
+after_call e (MakeRoom need) = if may_enter e.sender need then record e { sender = with_room e.sender } else e
+after_call e Release = record e { sender = without_room e.sender }
+after_call e (Enter t mark) = if may_enter e.sender (need_of t) then record e { sender = entered e.sender t mark } else e
+after_call e Transmit =
     record e { sender = after_transmission e.sender; forward = wire_after_transmit e.sender e.forward }
-happens e (Deliver fate) =
+after_call e (Deliver fate) =
     record e { forward = all_but_first e.forward; receiver = after_deliver e.forward e.receiver fate }
-happens e (SendDllp kind) =
+after_call e (SendDllp kind) =
     record e { back = wire_after_send e.receiver kind e.back; receiver = after_send e.receiver kind }
-happens e (DeliverDllp fate) =
+after_call e (DeliverDllp fate) =
     record e { sender = sender_after e.back e.sender fate; back = all_but_first e.back }
-happens e Timer = record e { sender = after_timer e.sender }
-happens e Retrained = record e { sender = after_retraining e.sender }
-happens e (Take place) = if is_takeable e.receiver.queue place then record e { receiver = after_take e.receiver place } else e
+after_call e Timer = record e { sender = after_timer e.sender }
+after_call e Retrained = record e { sender = after_retraining e.sender }
+after_call e (Take place) = if is_takeable e.receiver.queue place then record e { receiver = after_take e.receiver place } else e
 
 -- what a call enters, accepts and takes
 
@@ -79,19 +80,19 @@ taken_by e _ = []
 
 abbrev pub after_calls : Ends → List Call → Ends
 after_calls e [] = e
-after_calls e (call ∷ calls) = after_calls (happens e call) calls
+after_calls e (call ∷ calls) = after_calls (after_call e call) calls
 
 abbrev pub entered_in : Ends → List Call → List Item
 entered_in e [] = []
-entered_in e (call ∷ calls) = entered_by e call ++ entered_in (happens e call) calls
+entered_in e (call ∷ calls) = entered_by e call ++ entered_in (after_call e call) calls
 
 abbrev pub accepted_in : Ends → List Call → List Item
 accepted_in e [] = []
-accepted_in e (call ∷ calls) = accepted_by e call ++ accepted_in (happens e call) calls
+accepted_in e (call ∷ calls) = accepted_by e call ++ accepted_in (after_call e call) calls
 
 abbrev pub taken_in : Ends → List Call → List Item
 taken_in e [] = []
-taken_in e (call ∷ calls) = taken_by e call ++ taken_in (happens e call) calls
+taken_in e (call ∷ calls) = taken_by e call ++ taken_in (after_call e call) calls
 
 abbrev pub IsPrefixOf : List Item → List Item → Type 0
 IsPrefixOf xs ys = (rest : List Item) × (xs ++ rest ≡ ys)
@@ -111,6 +112,10 @@ abbrev pub content_after : Ends → Call → List Item
 content_after e (Enter t mark) = content e ++ entered_by e (Enter t mark)
 content_after e (Take place) = if is_takeable e.receiver.queue place then remove (content e) place else content e
 content_after e _ = content e
+
+-- no accepted packet waits, and the receiver waits for the number that the sender gives next
+abbrev pub IsStill : Ends → Type 0
+IsStill e = (e.receiver.queue ≡ []) × (e.receiver.receiving.next ≡ next_number e.sender.sending)
 
 -- four ends are right together, with these credits: some list of calls on a new lane leaves them
 pub record IsRightWith (credits : LaneCredits) (e : Ends) : Type 0 where

@@ -18,11 +18,11 @@ abbrev pub item_read : Result Packet TlpFault → ℕ → Option Item
 item_read (Ok t) mark = Some (t, mark)
 item_read (Err fault) mark = None
 
-abbrev pub item_of : Carried → Option Item
-item_of cargo = item_read (reading cargo.bytes) cargo.mark
+abbrev pub item_spelled : Carried → Option Item
+item_spelled cargo = item_read (reading cargo.bytes) cargo.mark
 
 abbrev pub items_of : List Carried → List Item
-items_of cargo = filter_map item_of cargo
+items_of cargo = filter_map item_spelled cargo
 
 -- the bytes spell a packet
 abbrev pub IsSpelled : Carried → Type 0

@@ -13,7 +13,7 @@ use Rattle.lane_core.specs.declared.packet.Fate.TheVariants.{Good, Failed, Lost}
 use Rattle.lane_core.specs.declared.packet.DllpKind.{DllpKind}
 use Rattle.lane_core.specs.declared.packet.DllpKind.TheVariants as kinds
 use Rattle.lane_core.specs.Steps.{Ends, new_lane, may_enter}
-use Rattle.lane_core.specs.Calls.{Call, Enter, Deliver, SendDllp, DeliverDllp, Take, happens, on_the_way, accepted_by}
+use Rattle.lane_core.specs.Calls.{Call, Enter, Deliver, SendDllp, DeliverDllp, Take, after_call, on_the_way, accepted_by}
 
 abbrev pub needs_of : List Item → List Need
 needs_of items = map (λ item. need_of item.0) items
@@ -55,7 +55,7 @@ events_of e _ = []
 
 abbrev pub events_in : Ends → List Call → List Event
 events_in e [] = []
-events_in e (call ∷ calls) = events_of e call ++ events_in (happens e call) calls
+events_in e (call ∷ calls) = events_of e call ++ events_in (after_call e call) calls
 
 -- the whole numbers of a lane after these calls: given, known and used of each class and part
 abbrev pub numbers_of : LaneCredits → List Call → Accounts

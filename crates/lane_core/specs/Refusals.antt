@@ -1,5 +1,5 @@
 -- Why a lane refuses.
-use Rattle.std.specs.Prelude.{ℕ, ◌≡◌, ◌≤◌, true, false, length}
+use Rattle.std.specs.Prelude.{ℕ, ◌≡◌, ◌≤◌, true, false, length, List, codes}
 use Rattle.fc_credit.specs.declared.needs.Need.{Need}
 use Rattle.fc_credit.specs.Credits.{gate_covers}
 use Rattle.lane_core.specs.declared.packet.LaneRefusal.{LaneRefusal}
@@ -11,6 +11,11 @@ abbrev pub number_of : LaneRefusal → ℕ
 number_of (lanes.NoCredits class) = 1
 number_of lanes.WindowFull = 2
 number_of lanes.Memory = 3
+
+abbrev pub name_of : LaneRefusal → List ℕ
+name_of (lanes.NoCredits class) = codes "NoCredits"
+name_of lanes.WindowFull = codes "WindowFull"
+name_of lanes.Memory = codes "Memory"
 
 -- why there is no room for a packet of this need: `Memory` comes only where credits and window have room
 abbrev pub LacksRoom : Outgoing → Need → LaneRefusal → Type 0

@@ -27,7 +27,7 @@ use Rattle.lane_core.specs.declared.packet.DllpKind.{DllpKind}
 use Rattle.lane_core.specs.declared.packet.DllpKind.TheVariants as kinds
 use Rattle.lane_core.specs.declared.packet.DllpSeen.{DllpSeen}
 use Rattle.lane_core.specs.declared.packet.DllpSeen.TheVariants as seen
-use Rattle.lane_core.specs.Content.{cargo_of, item_of}
+use Rattle.lane_core.specs.Content.{cargo_of, item_spelled}
 
 -- what the sender's end has: the unacknowledged packets, and the credits that it knows of
 pub record Outgoing : Type 0 where
@@ -114,7 +114,7 @@ arrival_of r number Lost = Gone
 
 -- the packet that is taken under this answer
 abbrev pub taken_under : Reception → Carried → Option Item
-taken_under Accept cargo = item_of cargo
+taken_under Accept cargo = item_spelled cargo
 taken_under Duplicate cargo = None
 taken_under NakNow cargo = None
 taken_under Quiet cargo = None

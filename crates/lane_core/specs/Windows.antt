@@ -1,4 +1,5 @@
--- True numbers: packets counted from 0 in the order in which they were entered. They never wrap, and no part stores them.
+-- True numbers: packets counted from 0 in the order in which they were entered. They never wrap, and no part stores
+-- them.
 use Rattle.std.specs.Prelude.{ℕ, ◌+◌, ◌-◌, List, [], ◌∷◌, length}
 use Rattle.fc_credit.specs.declared.limits.LaneCredits.{LaneCredits}
 use Rattle.lane_core.specs.Steps.{new_lane}

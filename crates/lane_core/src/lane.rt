@@ -1,26 +1,23 @@
 //! The four ends together.
-ghost use Rattle.std.specs.Prelude.{◌≡◌, ℕ, ◌+◌, ◌<◌, ◌≤◌, ◌↔◌, ◌⊎◌, List, [], ◌∷◌, ◌++◌, length, true, false, remove, slice_get, Some, IsTrue, IsOk, IsSome, IfSome, OnOk, OnErr, IfOk, IfErr};
+ghost use Rattle.std.specs.Prelude.{◌≡◌, ◌+◌, ◌<◌, ◌≤◌, ◌↔◌, ◌⊎◌, List, [], ◌∷◌, ◌++◌, length, true, false, remove, slice_get, Some, IsTrue, IsOk, IsSome, IfSome, OnOk, OnErr, IfOk, IfErr};
 
+use crate::ends::LaneEnds;
+use crate::laws::{quiet_is_nothing_left, room_is_known_less_used};
 use crate::packet::{Arrival, DllpKind, DllpSeen, Fate, LaneRefusal};
-use crate::receiver_end::ReceiverEnd;
-use crate::sender_end::SenderEnd;
-use crate::wires::{BackWire, ForwardWire};
 use dllp_core::Dllp;
-use fc_credit::{LaneCredits, Need};
+use fc_credit::{LaneCredits, Need, limits_let_each_packet_go};
 use link_receiver::Reception;
 use replay_sender::AckFault;
 use seq12::Seq12;
 use std::alloc::Global;
 use std::marker::Model;
 use tlp_core::Tlp;
+use tlp_core::laws::reading_is_spelling;
 
 /// One direction of a link: both ends and both wires, right through every loss and every wrap.
 #[derive(Drop)]
 pub struct Lane {
-    sender: SenderEnd,
-    forward: ForwardWire,
-    back: BackWire,
-    receiver: ReceiverEnd,
+    ends: LaneEnds,
 }
 
 impl Model for Lane {
@@ -29,9 +26,9 @@ impl Model for Lane {
 
     ghost Value = { Ends };
 
-    ghost view = { λ l. record { sender = l.sender; forward = l.forward; back = l.back; receiver = l.receiver } };
+    ghost view = { λ l. l.ends };
 
-    ghost invariant = { λ l. IsRight (record { sender = l.sender; forward = l.forward; back = l.back; receiver = l.receiver }) };
+    ghost invariant = { λ l. IsRight l.ends };
 }
 
 impl Lane {
@@ -42,11 +39,11 @@ impl Lane {
     ghost use Rattle.fc_credit.specs.Limits.{IsInLimits};
     ghost use Rattle.fc_credit.specs.Needs.{need_of as need};
     ghost use Rattle.fc_credit.specs.Credits.{gate_covers};
-    ghost use Rattle.vc_queue.specs.Queue.{Item, is_takeable};
+    ghost use Rattle.vc_queue.specs.Queue.{is_takeable};
     ghost use Rattle.lane_core.specs.Refusals.{LacksRoom};
     ghost use Rattle.lane_core.specs.Steps.{new_lane, may_enter, transmitted, delivered, dllp_of, dllp_seen};
     ghost use Rattle.fc_credit.specs.declared.limits.LaneCredits.{LaneCredits};
-    ghost use Rattle.lane_core.specs.Calls.{Call, MakeRoom, Enter, Transmit, Deliver, SendDllp, DeliverDllp, Timer, Retrained, Take, AreCalls, after_calls, happens, content, AcceptsFirst, IsRight};
+    ghost use Rattle.lane_core.specs.Calls.{Call, MakeRoom, Enter, Transmit, Deliver, SendDllp, DeliverDllp, Timer, Retrained, Take, AreCalls, after_calls, after_call, content, AcceptsFirst, IsRight};
     ghost use Rattle.lane_core.specs.Credit.{numbers_of, HasRoom};
 
     /// A lane whose receiver advertised these credits. It allocates nothing.
@@ -55,10 +52,7 @@ impl Lane {
         ensures { result ≡ new_lane credits }
     {
         Lane {
-            sender: SenderEnd::new(credits, alloc),
-            forward: ForwardWire::new(alloc),
-            back: BackWire::new(alloc),
-            receiver: ReceiverEnd::new(credits, alloc),
+            ends: LaneEnds::new(credits, alloc),
         }
     }
 
@@ -72,11 +66,13 @@ impl Lane {
         ensures refused { IfErr result (λ refusal. LacksRoom self.old.sender need refusal) }
         ensures may { OnOk result (may_enter self.old.sender need ≡ true) }
         ensures made { IsTrue self.old.sender.sending.reserved → IsTrue (gate_covers self.old.sender.gate need) → length self.old.sender.sending.kept < 2047 → IsOk result }
-        ensures ok { OnOk result (self.new ≡ happens self.old (MakeRoom need)) }
+        ensures ok { OnOk result (self.new ≡ after_call self.old (MakeRoom need)) }
         ensures content { content self.new ≡ content self.old }
         ensures err { OnErr result (self.new ≡ self.old) }
     {
-        self.sender.make_room(need)
+        room_is_known_less_used();
+        let ends = &mut self.ends;
+        ends.sender.make_room(need)
     }
 
     /// Takes a packet with its mark as the last, under the next sequence number.
@@ -90,12 +86,16 @@ impl Lane {
         ensures may { OnOk result (may_enter self.old.sender (need tlp.now) ≡ true) }
         ensures room_was_made { IsTrue self.old.sender.sending.reserved → IsTrue (gate_covers self.old.sender.gate (need tlp.now)) → length self.old.sender.sending.kept < 2047 → IsOk result }
         ensures number { IfOk result (λ number. number ≡ next_number self.old.sender.sending) }
-        ensures ok { OnOk result (self.new ≡ happens self.old (Enter tlp.now mark)) }
+        ensures ok { OnOk result (self.new ≡ after_call self.old (Enter tlp.now mark)) }
         ensures spelled { OnOk result (Spells (canonical tlp.now) tlp.now) }
         ensures content { OnOk result (content self.new ≡ content self.old ++ (tlp.now, mark) ∷ []) }
         ensures err { OnErr result (self.new ≡ self.old) }
     {
-        self.sender.enter(tlp, mark)
+        reading_is_spelling();
+        limits_let_each_packet_go();
+        room_is_known_less_used();
+        let ends = &mut self.ends;
+        ends.sender.enter(tlp, mark)
     }
 
     /// The next packet goes onto the forward wire as the last; None where there is none to send, and while the sender
@@ -103,89 +103,97 @@ impl Lane {
     pub fn transmit(&mut self) -> Result<Option<Seq12>, LaneRefusal>
         ensures number { IfOk result (λ number. number ≡ transmitted self.old.sender) }
         ensures idle { transmitted self.old.sender ≡ None → IsOk result }
-        ensures ok { OnOk result (self.new ≡ happens self.old Transmit) }
+        ensures ok { OnOk result (self.new ≡ after_call self.old Transmit) }
         ensures content { content self.new ≡ content self.old }
         ensures memory { IfErr result (λ refusal. refusal ≡ LaneRefusal.Memory) }
         ensures err { OnErr result (self.new ≡ self.old) }
     {
-        self.sender.transmit(&mut self.forward)
+        let ends = &mut self.ends;
+        ends.sender.transmit(&mut ends.forward)
     }
 
     /// Takes the oldest packet of the forward wire; None where the wire is empty. An accepted packet stands last in the
     /// queue.
     pub fn deliver(&mut self, fate: Fate) -> Result<Option<Arrival>, LaneRefusal>
         ensures answer { IfOk result (λ arrival. arrival ≡ delivered self.old.forward self.old.receiver fate) }
-        ensures ok { OnOk result (self.new ≡ happens self.old (Deliver fate)) }
+        ensures ok { OnOk result (self.new ≡ after_call self.old (Deliver fate)) }
         ensures accepts { result ≡ Ok (Some (Arrival.Answered Reception.Accept)) → AcceptsFirst self.old self.new }
         ensures grows { OnErr result (delivered self.old.forward self.old.receiver fate ≡ Some (Arrival.Answered Reception.Accept)) }
         ensures content { content self.new ≡ content self.old }
         ensures memory { IfErr result (λ refusal. refusal ≡ LaneRefusal.Memory) }
         ensures err { OnErr result (self.new ≡ self.old) }
     {
-        self.receiver.deliver(&mut self.forward, fate)
+        reading_is_spelling();
+        let ends = &mut self.ends;
+        ends.receiver.deliver(&mut ends.forward, fate)
     }
 
     /// Puts the Ack or Nak that is due, or a class's UpdateFC, on the back wire as the last.
     pub fn send_dllp(&mut self, kind: DllpKind) -> Result<Dllp, LaneRefusal>
         ensures answer { IfOk result (λ dllp. dllp ≡ dllp_of self.old.receiver kind) }
         ensures in_range { IfOk result (λ dllp. FitsDataFC dllp) }
-        ensures ok { OnOk result (self.new ≡ happens self.old (SendDllp kind)) }
+        ensures ok { OnOk result (self.new ≡ after_call self.old (SendDllp kind)) }
         ensures content { content self.new ≡ content self.old }
         ensures memory { IfErr result (λ refusal. refusal ≡ LaneRefusal.Memory) }
         ensures err { OnErr result (self.new ≡ self.old) }
     {
-        self.receiver.send_dllp(&mut self.back, kind)
+        let ends = &mut self.ends;
+        ends.receiver.send_dllp(&mut ends.back, kind)
     }
 
-    /// Takes the oldest DLLP of the back wire; None where the wire is empty. It takes effect where it is good. In a lane
-    /// it is never a protocol error.
+    /// Takes the oldest DLLP of the back wire; None where the wire is empty. It takes effect where it is good. In a
+    /// lane it is never a protocol error.
     pub fn deliver_dllp(&mut self, fate: Fate) -> Result<Option<DllpSeen>, AckFault>
         ensures never_fault { IsOk result }
         ensures answer { result ≡ dllp_seen self.old.back self.old.sender fate }
         ensures in_range { (dllp : Dllp) → result ≡ Ok (Some (DllpSeen.Took dllp)) → FitsDataFC dllp }
-        ensures state { self.new ≡ happens self.old (DeliverDllp fate) }
+        ensures state { self.new ≡ after_call self.old (DeliverDllp fate) }
         ensures content { content self.new ≡ content self.old }
     {
-        self.sender.deliver_dllp(&mut self.back, fate)
+        reading_is_spelling();
+        let ends = &mut self.ends;
+        ends.sender.deliver_dllp(&mut ends.back, fate)
     }
 
     /// The replay timer expired: the next packet to send is the oldest. Gives by how many places that moved back.
     pub fn timer(&mut self) -> usize
         ensures moved { result ≡ self.old.sender.sending.place }
-        ensures state { self.new ≡ happens self.old Timer }
+        ensures state { self.new ≡ after_call self.old Timer }
         ensures content { content self.new ≡ content self.old }
     {
-        self.sender.timer()
+        let ends = &mut self.ends;
+        ends.sender.timer()
     }
 
     /// The link was retrained: the sender is no longer stopped. Answers whether it was.
     pub fn retrained(&mut self) -> bool
         ensures answer { result ≡ self.old.sender.sending.stopped }
-        ensures state { self.new ≡ happens self.old Retrained }
+        ensures state { self.new ≡ after_call self.old Retrained }
         ensures content { content self.new ≡ content self.old }
     {
-        self.sender.retrained()
+        let ends = &mut self.ends;
+        ends.sender.retrained()
     }
 
     /// How many accepted packets there are.
     pub fn len(&self) -> usize
         ensures { result ≡ length self.now.receiver.queue }
     {
-        self.receiver.len()
+        self.ends.receiver.len()
     }
 
     /// Whether there is no accepted packet.
     pub fn is_empty(&self) -> bool
         ensures { IsTrue result ↔ (self.now.receiver.queue ≡ []) }
     {
-        self.receiver.is_empty()
+        self.ends.receiver.is_empty()
     }
 
     /// Whether there is an accepted packet at this place that may pass every earlier one.
     pub fn takeable(&self, place: usize) -> bool
         ensures { result ≡ is_takeable self.now.receiver.queue place }
     {
-        self.receiver.takeable(place)
+        self.ends.receiver.takeable(place)
     }
 
     /// The accepted packet of a place and its mark, oldest first from 0; None past the end.
@@ -193,55 +201,41 @@ impl Lane {
         ensures there { IsSome result ↔ (place < length self.now.receiver.queue) }
         ensures item { IfSome result (λ x. slice_get self.now.receiver.queue place ≡ Some (x.0.now, x.1)) }
     {
-        self.receiver.at(place)
+        self.ends.receiver.at(place)
     }
 
     /// Takes the accepted packet of a place, with its mark, and gives its credits back.
     pub fn take(&mut self, place: usize) -> (Tlp, u32)
         requires { IsTrue (is_takeable self.old.receiver.queue place) }
         ensures item { slice_get self.old.receiver.queue place ≡ Some result }
-        ensures state { self.new ≡ happens self.old (Take place) }
+        ensures state { self.new ≡ after_call self.old (Take place) }
         ensures content { content self.new ≡ remove (content self.old) place }
     {
-        self.receiver.take(place)
+        let ends = &mut self.ends;
+        ends.receiver.take(place)
     }
 
     /// Whether every packet that was entered was taken.
     pub fn quiet(&self) -> bool
         ensures quiet { IsTrue result ↔ (content self.now ≡ []) }
     {
-        self.receiver.is_empty() && self.receiver.next_rcv_seq() == self.sender.next_transmit_seq()
+        quiet_is_nothing_left();
+        self.ends.quiet()
     }
 
     /// The four ends apart.
-    pub fn into_ends(self) -> (SenderEnd, ForwardWire, BackWire, ReceiverEnd)
-        ensures ends { self ≡ record { sender = result.0; forward = result.1; back = result.2; receiver = result.3 } }
-        ensures right { IsRight (record { sender = result.0; forward = result.1; back = result.2; receiver = result.3 }) }
+    pub fn into_ends(self) -> LaneEnds
+        ensures ends { result ≡ self }
+        ensures right { IsRight result }
     {
-        let Lane {
-            sender,
-            forward,
-            back,
-            receiver,
-        } = self;
-        (sender, forward, back, receiver)
+        self.ends
     }
 
     /// The four ends together, which are right together.
-    pub fn of_ends(
-        sender: SenderEnd,
-        forward: ForwardWire,
-        back: BackWire,
-        receiver: ReceiverEnd,
-    ) -> Lane
-        requires { IsRight (record { sender = sender; forward = forward; back = back; receiver = receiver }) }
-        ensures { result ≡ record { sender = sender; forward = forward; back = back; receiver = receiver } }
+    pub fn of_ends(ends: LaneEnds) -> Lane
+        requires { IsRight ends }
+        ensures { result ≡ ends }
     {
-        Lane {
-            sender,
-            forward,
-            back,
-            receiver,
-        }
+        Lane { ends }
     }
 }

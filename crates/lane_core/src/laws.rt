@@ -1,9 +1,8 @@
 //! What holds of a lane whatever calls are made, said of the values of its four ends, wherever these are.
-ghost use Rattle.std.specs.Prelude.{◌≡◌, ◌↔◌, ℕ, ◌+◌, ◌/◌, ◌<◌, ◌≤◌, All, IsOk, IsTrue, Some, List, [], ◌∷◌, ◌++◌, length};
+ghost use Rattle.std.specs.Prelude.{◌≡◌, ◌↔◌, ℕ, ◌+◌, ◌/◌, ◌<◌, ◌≤◌, All, IsOk, IsTrue, Some, List, [], ◌++◌, length};
 ghost use Rattle.dllp_core.specs.declared.packet.Class.{Class};
 ghost use Rattle.tlp_core.specs.Packet.{Packet};
 ghost use Rattle.tlp_core.specs.Layout.{Spells, canonical};
-ghost use Rattle.replay_sender.specs.Sending.{next_number};
 ghost use Rattle.link_receiver.specs.declared.receiver.Reception.TheVariants.{Accept};
 ghost use Rattle.fc_credit.specs.declared.needs.Need.{Need};
 ghost use Rattle.fc_credit.specs.declared.limits.LaneCredits.{LaneCredits};
@@ -13,21 +12,26 @@ ghost use Rattle.fc_credit.specs.Account.{demand, IsRight as IsBalanced};
 ghost use Rattle.lane_core.specs.declared.packet.Fate.{Fate};
 ghost use Rattle.lane_core.specs.declared.packet.WirePacket.{WirePacket};
 ghost use Rattle.lane_core.specs.declared.packet.Arrival.TheVariants.{Answered};
-ghost use Rattle.lane_core.specs.Content.{cargo_of, item_of, IsSpelled, wire_bytes};
+ghost use Rattle.lane_core.specs.Content.{cargo_of, item_spelled, IsSpelled, wire_bytes};
 ghost use Rattle.lane_core.specs.Steps.{Ends, new_lane, transmitted, delivered, dllp_seen};
-ghost use Rattle.lane_core.specs.Calls.{Call, Deliver, IsCall, AreCalls, happens, entered_by, accepted_by, after_calls, entered_in, accepted_in, taken_in, IsPrefixOf, on_the_way, content, content_after, IsRightWith, IsRight, AcceptsFirst};
+ghost use Rattle.lane_core.specs.Calls.{Call, Deliver, IsCall, AreCalls, after_call, entered_by, accepted_by, after_calls, entered_in, accepted_in, taken_in, IsPrefixOf, on_the_way, content, content_after, IsStill, IsRightWith, IsRight, AcceptsFirst};
 ghost use Rattle.lane_core.specs.Windows.{next_entered, oldest_unacknowledged, next_accepted, deliveries};
 ghost use Rattle.lane_core.specs.Credit.{needs_of, numbers_of, HasRoom};
+
+use fc_credit::{counters_stand_for_whole_numbers, limits_let_each_packet_go};
+use tlp_core::laws::reading_is_spelling;
 
 /// Each call keeps four ends right together, with their credits. `Enter` adds to the end of the content, `Take` removes
 /// the packet of its place, every other call leaves it.
 pub fn each_call_keeps_it_right()
     ensures new { (credits : LaneCredits) → IsInLimits credits → IsRightWith credits (new_lane credits) }
-    ensures right { (credits : LaneCredits) (e : Ends) (call : Call) → IsCall call → IsRightWith credits e → IsRightWith credits (happens e call) }
-    ensures content { (e : Ends) (call : Call) → IsCall call → IsRight e → content (happens e call) ≡ content_after e call }
+    ensures right { (credits : LaneCredits) (e : Ends) (call : Call) → IsCall call → IsRightWith credits e → IsRightWith credits (after_call e call) }
+    ensures content { (e : Ends) (call : Call) → IsCall call → IsRight e → content (after_call e call) ≡ content_after e call }
     ensures on_the_way { (e : Ends) (call : Call) → IsCall call → IsRight e →
-        on_the_way e ++ entered_by e call ≡ accepted_by e call ++ on_the_way (happens e call) }
-{}
+        on_the_way e ++ entered_by e call ≡ accepted_by e call ++ on_the_way (after_call e call) }
+{
+    reading_is_spelling();
+}
 
 /// Whatever calls come, what was accepted is a beginning of what was entered, packets with their marks; the rest is on
 /// the way.
@@ -36,40 +40,50 @@ pub fn accepted_begins_entered()
         IsPrefixOf (accepted_in (new_lane credits) calls) (entered_in (new_lane credits) calls) }
     ensures rest { (credits : LaneCredits) (calls : List Call) → AreCalls calls →
         accepted_in (new_lane credits) calls ++ on_the_way (after_calls (new_lane credits) calls) ≡ entered_in (new_lane credits) calls }
-{}
+{
+    reading_is_spelling();
+}
 
 /// Only the first packet that is not yet accepted is accepted, and it then stands last in the queue.
 pub fn only_the_first_is_accepted()
     ensures { (e : Ends) (fate : Fate) → IsRight e → delivered e.forward e.receiver fate ≡ Some (Answered Accept) →
-        AcceptsFirst e (happens e (Deliver fate)) }
-{}
+        AcceptsFirst e (after_call e (Deliver fate)) }
+{
+    reading_is_spelling();
+}
 
 /// No Ack or Nak of a lane is a protocol error.
 pub fn never_a_protocol_error()
     ensures { (e : Ends) (fate : Fate) → IsRight e → IsOk (dllp_seen e.back e.sender fate) }
-{}
+{
+    reading_is_spelling();
+}
 
-/// All that was entered was taken exactly where the queue is empty and the receiver waits for the number that the sender
-/// gives next.
+/// All that was entered was taken exactly where the queue is empty and the receiver waits for the number that the
+/// sender gives next.
 pub fn quiet_is_nothing_left()
-    ensures { (e : Ends) → IsRight e → (content e ≡ []) ↔ ((e.receiver.queue ≡ []) × (e.receiver.receiving.next ≡ next_number e.sender.sending)) }
-{}
+    ensures { (e : Ends) → IsRight e → (content e ≡ []) ↔ IsStill e }
+{
+    reading_is_spelling();
+}
 
-/// What is entered is read back from its bytes; every packet under way is of bytes that spell a packet; and the bytes on
-/// the wire tell the number and the packet's bytes, the four bits above the number being 0.
+/// What is entered is read back from its bytes; every packet under way is of bytes that spell a packet; and the bytes
+/// on the wire tell the number and the packet's bytes, the four bits above the number being 0.
 pub fn wire_bytes_tell_the_packet()
-    ensures entered { (t : Packet) (mark : ℕ) → Spells (canonical t) t → item_of (cargo_of t mark) ≡ Some (t, mark) }
+    ensures entered { (t : Packet) (mark : ℕ) → Spells (canonical t) t → item_spelled (cargo_of t mark) ≡ Some (t, mark) }
     ensures under_way { (e : Ends) → IsRight e → All (λ p. IsSpelled p.cargo) e.forward }
     ensures number { (p q : WirePacket) → wire_bytes p ≡ wire_bytes q → p.number ≡ q.number }
     ensures bytes { (p q : WirePacket) → wire_bytes p ≡ wire_bytes q → p.cargo.bytes ≡ q.cargo.bytes }
     ensures zero_bits { (p : WirePacket) → p.number < 4096 → p.number / 256 < 16 }
-{}
+{
+    reading_is_spelling();
+}
 
-/// Whatever calls come and however often the counters wrap, whole numbers stand behind those of a new lane. What was used
-/// is what the entered packets need, what was given is the first value and what the taken packets need, and known is the
-/// last given value that reached the gate. For each finite counter what was used is at most what is known, and that at most what was given; what was given less what was
-/// used, with the units of the content, is the first value, so the queue is within its credits; and unused credit is at
-/// most 127 header and 2047 data units.
+/// Whatever calls come and however often the counters wrap, whole numbers stand behind those of a new lane. What was
+/// used is what the entered packets need, what was given is the first value and what the taken packets need, and known
+/// is the last given value that reached the gate. For each finite counter what was used is at most what is known, and
+/// that at most what was given; what was given less what was used, with the units of the content, is the first value,
+/// so the queue is within its credits; and unused credit is at most 127 header and 2047 data units.
 pub fn credits_are_whole_numbers()
     ensures used { (credits : LaneCredits) (calls : List Call) (c : Class) (p : _) → AreCalls calls →
         (numbers_of credits calls c p).used ≡ demand c p (needs_of (entered_in (new_lane credits) calls)) }
@@ -80,20 +94,31 @@ pub fn credits_are_whole_numbers()
         (numbers_of credits calls c p) (demand c p (needs_of (after_calls (new_lane credits) calls).receiver.queue)) (demand c p (needs_of (on_the_way (after_calls (new_lane credits) calls)))) }
     ensures unused { (credits : LaneCredits) (calls : List Call) (c : Class) (p : _) → IsInLimits credits → AreCalls calls → 0 < first_of c p credits →
         (numbers_of credits calls c p).known ≤ (numbers_of credits calls c p).used + most p }
-{}
+{
+    reading_is_spelling();
+    limits_let_each_packet_go();
+    counters_stand_for_whole_numbers();
+}
 
 /// A packet is right whoever holds the ends meanwhile. Let some calls come and then others, of which at most as many
-/// deliver as packets were under way between the two: a packet that was sent there is still under way. It was one of the
-/// unacknowledged packets, A to N - 1 in true numbers, and the true number that the receiver waits for is from A to N.
+/// deliver as packets were under way between the two: a packet that was sent there is still under way. It was one of
+/// the unacknowledged packets, A to N - 1 in true numbers, and the true number that the receiver waits for is from A to
+/// N.
 pub fn found_within_the_window()
     ensures sent { (credits : LaneCredits) (before : List Call) (number : ℕ) → transmitted (after_calls (new_lane credits) before).sender ≡ Some number →
         (after_calls (new_lane credits) before).sender.sending.place < length (after_calls (new_lane credits) before).sender.sending.kept }
     ensures found { (credits : LaneCredits) (before after : List Call) → AreCalls before → deliveries after ≤ length (after_calls (new_lane credits) before).forward →
         (oldest_unacknowledged credits before ≤ next_accepted credits (before ++ after)) × (next_accepted credits (before ++ after) ≤ next_entered credits before) }
-{}
+{
+    reading_is_spelling();
+}
 
 /// A need within the limits is covered exactly where the room, known less used in whole numbers, is enough.
 pub fn room_is_known_less_used()
     ensures { (credits : LaneCredits) (calls : List Call) (need : Need) → IsInLimits credits → AreCalls calls → need.header ≤ 127 → need.units ≤ 2047 →
         IsTrue (gate_covers (after_calls (new_lane credits) calls).sender.gate need) ↔ HasRoom credits (numbers_of credits calls) need }
-{}
+{
+    reading_is_spelling();
+    limits_let_each_packet_go();
+    counters_stand_for_whole_numbers();
+}

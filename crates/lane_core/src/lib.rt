@@ -1,13 +1,16 @@
 //! A lane: one direction of a link, with both its ends and both its wires.
 //!
-//! Packets go from the sender's end over the forward wire to the receiver's end, which queues them until they are taken;
-//! Acks, Naks and UpdateFCs come back over the back wire. Numbers, Acks and replays are those of the data link layer (PCI
-//! Express Base 4.0, sections 3.5 and 3.6), credits those of section 2.6, and the queue keeps the order of section 2.4.
+//! Packets go from the sender's end over the forward wire to the receiver's end, which queues them until they are
+//! taken; Acks, Naks and UpdateFCs come back over the back wire. Numbers, Acks and replays are those of the data link
+//! layer (PCI Express Base 4.0, sections 3.5 and 3.6), credits those of section 2.6, and the queue keeps the order of
+//! section 2.4.
 //!
-//! Each call is a method of the ends that it uses, exact on their values; a [`Lane`] is the four ends together, with the
-//! same calls. Time, losses and failed checks are the caller's: a [`Fate`] says what becomes of the oldest on a wire.
+//! Each call is a method of the ends that it uses, exact on their values; a [`Lane`] is four [`LaneEnds`] that are
+//! right together, with the same calls. Time, losses and failed checks are the caller's: a [`Fate`] says what becomes
+//! of the oldest on a wire.
 #![tactic(auto)]
 
+mod ends;
 mod lane;
 mod laws;
 mod packet;
@@ -15,6 +18,7 @@ mod receiver_end;
 mod sender_end;
 mod wires;
 
+pub use ends::LaneEnds;
 pub use fc_credit::LaneCredits;
 pub use lane::Lane;
 pub use laws::{

@@ -1,5 +1,5 @@
 //! What lies on a lane's wires, and what its calls answer.
-ghost use Rattle.std.specs.Prelude.{◌≡◌, ℕ};
+ghost use Rattle.std.specs.Prelude.{◌≡◌};
 
 use dllp_core::{Class, Dllp};
 use link_receiver::Reception;
@@ -55,20 +55,18 @@ pub enum DllpSeen {
 
 /// Why a lane refuses, in the order in which it is looked for.
 #[derive(Clone, Copy, Debug, PartialEq, Eq, Error)]
+#[error("{}", self.name())]
 pub enum LaneRefusal {
     /// The credits of this class don't cover the packet.
-    #[error("NoCredits")]
     NoCredits(Class),
     /// 2047 packets are unacknowledged.
-    #[error("WindowFull")]
     WindowFull,
     /// The memory could not grow.
-    #[error("Memory")]
     Memory,
 }
 
 impl LaneRefusal {
-    ghost use Rattle.lane_core.specs.Refusals.{number_of};
+    ghost use Rattle.lane_core.specs.Refusals.{number_of, name_of};
 
     /// The place of this refusal in the order in which they are looked for, from 1.
     pub fn number(self) -> u8
@@ -78,6 +76,17 @@ impl LaneRefusal {
             LaneRefusal::NoCredits(_) => 1,
             LaneRefusal::WindowFull => 2,
             LaneRefusal::Memory => 3,
+        }
+    }
+
+    /// The name under which it is told.
+    pub fn name(self) -> &'static str
+        ensures { result.now ≡ name_of self }
+    {
+        match self {
+            LaneRefusal::NoCredits(_) => "NoCredits",
+            LaneRefusal::WindowFull => "WindowFull",
+            LaneRefusal::Memory => "Memory",
         }
     }
 }

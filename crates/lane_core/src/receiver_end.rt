@@ -1,5 +1,5 @@
 //! The receiver's end of a lane.
-ghost use Rattle.std.specs.Prelude.{◌≡◌, ℕ, ◌+◌, ◌<◌, ◌≤◌, ◌↔◌, List, [], ◌∷◌, ◌++◌, length, slice_get, Some, IsTrue, IsOk, IsSome, IfSome, OnOk, OnErr, IfOk, IfErr};
+ghost use Rattle.std.specs.Prelude.{◌≡◌, ◌<◌, ◌↔◌, [], length, slice_get, Some, IsTrue, IsSome, IfSome, OnOk, OnErr, IfOk, IfErr};
 
 use crate::packet::{Arrival, DllpKind, Fate, LaneRefusal, WirePacket};
 use crate::wires::{BackWire, ForwardWire};
@@ -33,7 +33,7 @@ impl ReceiverEnd {
     ghost use Rattle.dllp_core.specs.Layout.{FitsDataFC};
     ghost use Rattle.link_receiver.specs.Receiving.{reception_of};
     ghost use Rattle.vc_queue.specs.Queue.{is_takeable};
-    ghost use Rattle.lane_core.specs.Content.{item_of};
+    ghost use Rattle.lane_core.specs.Content.{item_spelled};
     ghost use Rattle.lane_core.specs.declared.packet.Arrival.TheVariants.{Answered};
     ghost use Rattle.lane_core.specs.Steps.{Incoming, new_receiver, all_but_first, ledger_with, queue_with, after_arrival, delivered, after_deliver, dllp_of, after_send, wire_after_send, after_take};
 
@@ -50,11 +50,12 @@ impl ReceiverEnd {
 
     /// The packet that the bytes spell goes into the queue as the last.
     fn take_in(&mut self, cargo: &Cargo) -> Result<(), LaneRefusal>
-        ensures ok { OnOk result (self.new ≡ record { receiving = self.old.receiving; ledger = ledger_with self.old.ledger (item_of cargo.now); queue = queue_with self.old.queue (item_of cargo.now) }) }
+        ensures ok { OnOk result (self.new ≡ record { receiving = self.old.receiving; ledger = ledger_with self.old.ledger (item_spelled cargo.now); queue = queue_with self.old.queue (item_spelled cargo.now) }) }
         ensures memory { IfErr result (λ refusal. refusal ≡ LaneRefusal.Memory) }
         ensures err { OnErr result (self.new ≡ self.old) }
     {
         let Ok(tlp) = tlp_core::decode(cargo.bytes.as_slice()) else {
+            // No lane carries such bytes: its sender encoded them.
             return Ok(());
         };
         let need = need_of(&tlp);

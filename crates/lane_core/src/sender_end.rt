@@ -1,5 +1,5 @@
 //! The sender's end of a lane.
-ghost use Rattle.std.specs.Prelude.{◌≡◌, ℕ, ◌+◌, ◌<◌, ◌≤◌, ◌↔◌, ◌⊎◌, List, [], ◌∷◌, ◌++◌, length, true, false, IsTrue, IsOk, OnOk, OnErr, IfOk, IfErr, Some, is_some};
+ghost use Rattle.std.specs.Prelude.{◌≡◌, ◌<◌, ◌≤◌, ◌↔◌, ◌⊎◌, length, true, false, IsTrue, IsOk, OnOk, OnErr, IfOk, IfErr, Some, is_some};
 
 use crate::packet::{DllpSeen, Fate, LaneRefusal, WirePacket};
 use crate::wires::{BackWire, ForwardWire};

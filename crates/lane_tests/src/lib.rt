@@ -1,6 +1,6 @@
-//! Lanes driven from end to end: worked rows, past several wraps of the sequence numbers; credits that come back; a wire
-//! that loses or fails most of what it carries; memory that doesn't grow. The switch: worked routes, and a packet that is
-//! forwarded from lane to lane.
+//! Lanes driven from end to end: worked rows, past several wraps of the sequence numbers; credits that come back; a
+//! wire that loses or fails most of what it carries; memory that doesn't grow. The switch: worked routes, and a packet
+//! that is forwarded from lane to lane.
 #![tactic(auto)]
 
 #[cfg(test)]

@@ -33,15 +33,15 @@ struct Ends {
 
 /// Parts the lane, looks at its ends, and joins them again.
 fn look(lane: Lane) -> (Lane, Ends) {
-    let (sender, forward, back, receiver) = lane.into_ends();
+    let lane = lane.into_ends();
     let ends = Ends {
-        next: sender.next_transmit_seq(),
-        packets: forward.len(),
-        dllps: back.len(),
-        waited_for: receiver.next_rcv_seq(),
-        accepted: receiver.len(),
+        next: lane.sender.next_transmit_seq(),
+        packets: lane.forward.len(),
+        dllps: lane.back.len(),
+        waited_for: lane.receiver.next_rcv_seq(),
+        accepted: lane.receiver.len(),
     };
-    (Lane::of_ends(sender, forward, back, receiver), ends)
+    (Lane::of_ends(lane), ends)
 }
 
 /// Makes the call; a packet enters with this mark.

@@ -70,9 +70,9 @@ fn forwarded(from: &mut Lane, place: usize, to: &mut Lane) -> Result<(), Forward
 
 /// Forwards the oldest over the ends, to a new sender's; whether it left.
 fn leaves(from: Lane, alloc: Global) -> bool {
-    let (_, _, _, mut from) = from.into_ends();
+    let mut from = from.into_ends();
     let mut to = SenderEnd::new(ONE_WRITE, alloc);
-    forward_ends(&mut from, 0, &mut to).is_ok() && from.is_empty()
+    forward_ends(&mut from.receiver, 0, &mut to).is_ok() && from.receiver.is_empty()
 }
 
 fn len(lane: &Lane) -> usize {

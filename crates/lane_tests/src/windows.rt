@@ -51,7 +51,8 @@ fn take_window(lane: &mut Lane) -> bool {
     true
 }
 
-/// A window enters, whose numbers go on from this one, and passes in order; it is acknowledged by these bytes and taken.
+/// A window enters, whose numbers go on from this one, and passes in order; it is acknowledged by these bytes and
+/// taken.
 fn pass_window(lane: &mut Lane, tlp: &Tlp, first: u16, ack: [u8; 4]) -> Result<bool, Fail> {
     Ok(
         enter_window(lane, tlp, first)?

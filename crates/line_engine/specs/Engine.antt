@@ -23,13 +23,17 @@ pub record Stands {S : Type 0} (r : Responses S) (start state : S) (line pending
 abbrev pub Begins : {S : Type 0} → Responses S → S → List ℕ → List ℕ → List ℕ → Type 0
 Begins r start pending written read = (more : List ℕ) → IsBeginning (written ++ pending) (run_of r start (read ++ more)).text
 
+-- the answer to a line, of which this is said if it isn't too long
+abbrev pub on_said : {S : Type 0} → Responses S → S → List ℕ → List ℕ → Answer S
+on_said r s line said = if nat_lt 512 (length line) then r.on_long_line s else r.on_line s said
+
 -- the answer to a line that a line feed ended, given without it
 abbrev pub on_ended_line : {S : Type 0} → Responses S → S → List ℕ → Answer S
-on_ended_line r s line = if nat_lt 512 (length line) then r.on_long_line s else r.on_line s (strip_last 13 line)
+on_ended_line r s line = on_said r s line (strip_last 13 line)
 
 -- the answer to a line that the end of the input ended
 abbrev pub on_last_line : {S : Type 0} → Responses S → S → List ℕ → Answer S
-on_last_line r s line = if nat_lt 512 (length line) then r.on_long_line s else r.on_line s line
+on_last_line r s line = on_said r s line line
 
 -- all that was read is answered, its last line too
 abbrev pub IsAnswered : {S : Type 0} → Responses S → S → S → List ℕ → ℕ → List ℕ → List ℕ → Type 0

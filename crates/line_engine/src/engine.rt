@@ -1,9 +1,9 @@
 //! The loop that all subcommands share: blocks of input in, lines to the responder, its text out.
-ghost use Rattle.std.specs.Prelude.{◌≡◌, ◌≢◌, ◌++◌, ◌∷◌, List, ℕ, [], All, take, nat_lt, length, OnOk, IfOk, IfErr, OnErr, if◌then◌else◌};
+ghost use Rattle.std.specs.Prelude.{◌≡◌, ◌≢◌, ◌≤◌, ◌++◌, List, ℕ, [], take, length, OnOk, IfOk, IfErr, OnErr, if◌then◌else◌};
 ghost use Rattle.std.specs.Io.BufRead.{strip_last};
 ghost use Rattle.std.specs.Io.KnownBytes.{Appends};
-ghost use Rattle.line_engine.specs.Run.{Answer, IsAnswer, IsBeginning, IsCaughtUp, IsWhole, IsPart, run_of};
-ghost use Rattle.line_engine.specs.Engine.{Stands, Begins, IsAnswered, on_ended_line, on_last_line};
+ghost use Rattle.line_engine.specs.Run.{IsAnswer, IsBeginning, IsCaughtUp, IsWhole, IsPart, run_of};
+ghost use Rattle.line_engine.specs.Engine.{Stands, Begins, IsAnswered, on_said, on_ended_line, on_last_line};
 
 use crate::fault::EngineFault;
 use crate::output::write_out;
@@ -13,22 +13,41 @@ use memchr::memchr;
 use std::alloc::{AllocError, Global};
 use std::io::{Read, Write};
 
-/// The most bytes that a line may have before its line feed.
-const MAX_LINE: usize = 512;
+/// The most bytes that a line may have before its line feed: 512.
+pub const MAX_LINE: usize = 512;
 
 /// What is kept of an unfinished line: one byte more than a line may have.
-const KEPT: usize = 513;
+const KEPT: usize = MAX_LINE + 1;
 
 /// How many bytes are read at once, at most.
 const BLOCK: usize = 8192;
 
 /// The line with no carriage return at its end.
-fn without_return(line: &[u8]) -> &[u8]
+pub fn without_return(line: &[u8]) -> &[u8]
     ensures { result.now ≡ strip_last 13 line.now }
 {
     match line {
         [front @ .., b'\r'] => front,
         _ => line,
+    }
+}
+
+/// Answers a line, of which this is said if it isn't too long.
+fn answer<P: Responder>(
+    responder: &mut P,
+    line: &[u8],
+    said: &[u8],
+    out: &mut Vec<u8>,
+) -> Result<bool, AllocError>
+    requires { length said.now ≤ length line.now }
+    ensures ok { IfOk result (λ told. IsAnswer responder.new out.old.items out.new.items told
+        (on_said P.responses responder.old line.now said.now)) }
+    ensures err { OnErr result (out.new.items ≡ out.old.items) }
+{
+    if line.len() > MAX_LINE {
+        responder.on_long_line(out)
+    } else {
+        responder.on_line(said, out)
     }
 }
 
@@ -42,11 +61,7 @@ fn answer_ended<P: Responder>(
         (on_ended_line P.responses responder.old line.now)) }
     ensures err { OnErr result (out.new.items ≡ out.old.items) }
 {
-    if line.len() > MAX_LINE {
-        responder.on_long_line(out)
-    } else {
-        responder.on_line(without_return(line), out)
-    }
+    answer(responder, line, without_return(line), out)
 }
 
 /// Answers a line that the end of the input ended.
@@ -59,11 +74,7 @@ fn answer_last<P: Responder>(
         (on_last_line P.responses responder.old line.now)) }
     ensures err { OnErr result (out.new.items ≡ out.old.items) }
 {
-    if line.len() > MAX_LINE {
-        responder.on_long_line(out)
-    } else {
-        responder.on_line(line, out)
-    }
+    answer(responder, line, line, out)
 }
 
 /// A run in the middle of its input.
@@ -255,7 +266,8 @@ pub fn run<P: Responder, R: Read, W: Write>(
     ensures ok { IfOk result (IsWhole (run_of P.responses responder) (R.remaining reader.old) (R.remaining reader.new) (W.contents writer.old) (W.contents writer.new)) }
     ensures err { OnErr result (IsPart (run_of P.responses responder) (R.remaining reader.old) (R.remaining reader.new) (W.contents writer.old) (W.contents writer.new)) }
 
-    // Where reading failed, the answers to the lines that had ended were written: so they were written before more was to be read.
+    // Where reading failed, the answers to the lines that had ended were written: so they were written before more was
+    // to be read.
     ensures read { IfErr result (λ f. f ≡ EngineFault.Read → IsCaughtUp P.responses responder (R.remaining reader.old) (R.remaining reader.new) (W.contents writer.old) (W.contents writer.new)) }
 {
     let mut engine = Engine::new(alloc, responder);

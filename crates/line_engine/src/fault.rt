@@ -1,22 +1,20 @@
 //! What stops an engine.
 ghost use Rattle.std.specs.Prelude.{◌≡◌};
 ghost use Rattle.line_engine.specs.declared.fault.EngineFault.TheVariants.{Memory};
-ghost use Rattle.line_engine.specs.Faults.{fault_number};
+ghost use Rattle.line_engine.specs.Faults.{fault_number, fault_name};
 
 use std::alloc::AllocError;
 use thiserror::Error;
 
 /// Why an engine stopped before the end of its input.
 #[derive(Clone, Copy, Debug, PartialEq, Eq, Error)]
+#[error("{}", self.name())]
 pub enum EngineFault {
     /// The reader failed.
-    #[error("read")]
     Read,
     /// The writer failed, or took nothing.
-    #[error("write")]
     Write,
     /// Memory ran out.
-    #[error("memory")]
     Memory,
 }
 
@@ -29,6 +27,17 @@ impl EngineFault {
             EngineFault::Read => 1,
             EngineFault::Write => 2,
             EngineFault::Memory => 3,
+        }
+    }
+
+    /// The name under which it is told.
+    pub fn name(self) -> &'static str
+        ensures { result.now ≡ fault_name self }
+    {
+        match self {
+            EngineFault::Read => "read",
+            EngineFault::Write => "write",
+            EngineFault::Memory => "memory",
         }
     }
 }

@@ -15,7 +15,7 @@ mod fault;
 mod output;
 mod responder;
 
-pub use engine::run;
+pub use engine::{MAX_LINE, run, without_return};
 pub use fault::EngineFault;
 pub use output::write_out;
 pub use responder::Responder;

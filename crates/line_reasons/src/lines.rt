@@ -6,8 +6,8 @@ use crate::packets::packet_misfit;
 use crate::scripts::script_misfit;
 use crate::telling::{Reason, Shown};
 use line_engine::EngineFault;
+use operation_text::cut;
 use std::io::Write;
-use trace_text::cut;
 
 /// What refusals and faults mean, by their names.
 const MEANINGS: [(&str, &str); 13] = [

@@ -1,5 +1,5 @@
 //! Answers to packets in words, with reasons beside them.
-ghost use Rattle.std.specs.Prelude.{◌≡◌, IfOk, OnErr};
+ghost use Rattle.std.specs.Prelude.{◌≡◌};
 
 use crate::lines::{tell_long_line, tell_packet_line};
 use line_engine::Responder;

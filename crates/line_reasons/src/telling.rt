@@ -6,10 +6,10 @@ ghost use Rattle.line_reasons.specs.Told.{IsReasonToldAt, IsReasonBegunAt};
 
 use arrayvec::ArrayString;
 use line_engine::{EngineFault, write_out};
+use operation_text::write_decimal;
 use shown_bytes::shown_byte;
 use std::fmt::Write;
 use std::{fmt, io};
-use trace_text::write_decimal;
 
 /// The most bytes of a reason, without the line that it lies on.
 const ROOM: usize = 1024;

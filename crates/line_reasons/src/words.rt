@@ -1,6 +1,6 @@
 //! The words of a line, and the first that doesn't fit.
 use crate::telling::{Reason, Shown};
-use trace_text::{cut, number};
+use operation_text::{cut, number};
 
 /// What a word has to be.
 #[derive(Clone, Copy, Debug)]

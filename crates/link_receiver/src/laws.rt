@@ -1,5 +1,5 @@
 //! What holds of a receiver whatever calls are made.
-ghost use Rattle.std.specs.Prelude.{◌≡◌, ℕ, ◌+◌, ◌%◌, ◌<◌, ◌≤◌, List, [], length};
+ghost use Rattle.std.specs.Prelude.{◌≡◌, ◌+◌, ◌%◌, ◌<◌, ◌≤◌, List, [], length};
 ghost use Rattle.link_receiver.specs.Receiving.{Receiving, fresh};
 ghost use Rattle.link_receiver.specs.Runs.{Call, after_calls, handed_up_in, naks_in, AreConsecutive};
 

@@ -1,5 +1,5 @@
 //! The receiver: NEXT_RCV_SEQ and NAK_SCHEDULED.
-ghost use Rattle.std.specs.Prelude.{◌≡◌, ℕ};
+ghost use Rattle.std.specs.Prelude.{◌≡◌};
 
 use dllp_core::Dllp;
 use seq12::{Seq12, SequenceClass, classify};

@@ -38,8 +38,9 @@ fn expire(sender: &mut Sender) {
     sender.retrained();
 }
 
-/// Sends until all is acknowledged: every fifth packet's check fails, every seventh is lost, and the replay timer expires
-/// every sixteen. Gives the mark after that of the packet that was handed up last, or None where one came out of order.
+/// Sends until all is acknowledged: every fifth packet's check fails, every seventh is lost, and the replay timer
+/// expires every sixteen. Gives the mark after that of the packet that was handed up last, or None where one came out
+/// of order.
 fn drain(
     sender: &mut Sender,
     receiver: &mut Receiver,

@@ -1,6 +1,5 @@
 //! Values that AtomicOps leave.
 use atomic_op::{AtomicOp, apply};
-use std::test::Fail;
 use tlp_core::Width;
 
 #[test]

@@ -1,5 +1,5 @@
 //! Worked requests, served.
-use completer_core::{serve, shape};
+use completer_core::{need_to_answer, serve};
 use fc_credit::Need;
 use seq_memory::Memory;
 use std::alloc::Global;
@@ -28,7 +28,7 @@ fn fetch_add(rt: HostRuntime) -> Result<(), Fail> {
     let request = [0x4C, 0, 0, 1, 1, 0, 5, 0, 0, 0, 0, 0x40, 7, 0, 0, 0];
     let want = [0x4A, 0, 0, 1, 0, 0, 0, 4, 1, 0, 5, 0, 0, 0, 0, 0];
     assert_eq!(rt;
-        shape(&memory, &decode(&request)?),
+        need_to_answer(&memory, &decode(&request)?),
         Some(Need::completion(4))
     );
     let got = answer(rt.alloc(), &mut memory, &request, 0)?;

@@ -1,5 +1,5 @@
-//! Memories and who asks them: AtomicOps, what a memory answers and refuses, whether a history explains a trace, requests
-//! with their completions.
+//! Memories and who asks them: AtomicOps, what a memory answers and refuses, whether a history explains a trace,
+//! requests with their completions.
 #![tactic(auto)]
 
 #[cfg(test)]

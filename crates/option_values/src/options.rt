@@ -1,5 +1,5 @@
 //! Options that have values, and the numbers that they may have.
-ghost use Rattle.std.specs.Prelude.{◌≡◌, ◌≢◌, ◌≤◌, ◌↔◌, IsTrue};
+ghost use Rattle.std.specs.Prelude.{◌≡◌, ◌≢◌, ◌↔◌, IsTrue};
 ghost use Rattle.option_values.specs.Values.{allowed_of, name_of, IsAmong};
 
 use std::fmt;

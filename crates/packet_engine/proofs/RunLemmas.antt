@@ -11,7 +11,7 @@ use Rattle.hex.specs.Hex.{decode_of}
 use Rattle.hex.proofs.HexLemmas.{decode_of-ok}
 use Rattle.hex.specs.declared.error.FromHexError.{FromHexError}
 use Rattle.tlp_core.specs.Bits.{IsBytes}
-use Rattle.trace_text.specs.Texts.{IsPrinted, IsPrintedChar}
+use Rattle.operation_text.specs.Texts.{IsPrinted, IsPrintedChar}
 use Rattle.packet_text.specs.declared.packet.Packet.{Packet}
 use Rattle.packet_text.specs.declared.fault.BytesFault.{BytesFault}
 use Rattle.packet_text.specs.Packets.{IsPacket, reading}

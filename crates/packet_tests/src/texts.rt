@@ -1,12 +1,12 @@
 //! Worked texts of operations and replies, and texts that spell nothing.
 use arrayvec::ArrayString;
-use seq_memory::Reply;
-use std::test::Fail;
-use tlp_core::{Op, Width};
-use trace_text::{
+use operation_text::{
     cut, is_ended, number, op_behind, own_digits_spell_number, own_text_spells_operation,
     own_text_spells_reply, read_op, read_reply, reply_behind, write_op, write_reply,
 };
+use seq_memory::Reply;
+use std::test::Fail;
+use tlp_core::{Op, Width};
 
 #[test]
 fn operations(rt: HostRuntime) -> Result<(), Fail> {

@@ -23,12 +23,13 @@ use Rattle.dllp_core.specs.declared.packet.Class.TheVariants as classes
 use Rattle.dllp_core.specs.declared.packet.Dllp.{Dllp}
 use Rattle.dllp_core.specs.declared.packet.Dllp.TheVariants as dllps
 use Rattle.dllp_core.specs.Layout.{FitsFields}
-use Rattle.trace_text.specs.Operations.{op_of}
-use Rattle.trace_text.specs.Texts.{op_text, op_words, IsPrinted, IsPrintedChar}
+use Rattle.operation_text.specs.Operations.{op_spelled}
+use Rattle.operation_text.specs.Texts.{op_text, op_words, IsPrinted, IsPrintedChar}
 use Rattle.packet_text.specs.declared.packet.Packet.{Packet}
 use Rattle.packet_text.specs.declared.packet.Packet.TheVariants as packets
 use Rattle.packet_text.specs.Packets.{IsPacket, IsTlp}
-use Rattle.packet_text.specs.Texts.{octet_text, sequence_text, id_text, named, class_text, origin_text, request_text, status_text, data_text, completer_text, completion_text, tlp_text_by, tlp_text, credits_text, dllp_text, packet_text}
+use Rattle.packet_text.specs.Texts.{id_text, named, class_text, origin_text, request_text, status_text, data_text, completer_text, completion_text, tlp_text_by, tlp_text, credits_text, dllp_text, packet_text}
+use Rattle.operation_text.specs.Texts.{octet_text, sequence_text}
 use Rattle.packet_text.specs.Lines.{BeginsWithLetter}
 use Rattle.packet_text.proofs.DigitLemmas.{glyph-range, glyph-is}
 use Rattle.packet_text.proofs.OpLemmas.{Laws, Asked, asked}
@@ -36,8 +37,8 @@ use Rattle.packet_text.proofs.OpLemmas.{Laws, Asked, asked}
 -- what is known of printed texts
 pub record Printing : Type 0 where
   pub of_decimal : (n : ℕ) → IsPrinted (decimal n)
-  pub of_op : (ws : List (List ℕ)) (op : Op) → op_of ws ≡ Some op → IsPrinted (op_text op)
-  pub op_short : (ws : List (List ℕ)) (op : Op) → op_of ws ≡ Some op → length (op_text op) ≤ 320
+  pub of_op : (ws : List (List ℕ)) (op : Op) → op_spelled ws ≡ Some op → IsPrinted (op_text op)
+  pub op_short : (ws : List (List ℕ)) (op : Op) → op_spelled ws ≡ Some op → length (op_text op) ≤ 320
 
 -- printed, and at most so long
 record Sized (n : ℕ) (text : List ℕ) : Type 0 where
@@ -126,7 +127,7 @@ origin : (t : tlp.Packet) → t.requester < 65536 → t.tag < 256 → Sized 11 (
 unfolding is_printed
 origin t hr ht = joined 4 7 (id_text t.requester) (codes " tag " ++ octet_text t.tag) (id t.requester hr) (joined 5 2 (codes " tag ") (octet_text t.tag) (literal (codes " tag ") refl) (octet t.tag ht))
 
-request : (R : Printing) (t : tlp.Packet) (op : Op) → op_of (op_words op) ≡ Some op → t.requester < 65536 → t.tag < 256 → t.tc < 8 → t.attr < 8 → Sized 349 (request_text t op)
+request : (R : Printing) (t : tlp.Packet) (op : Op) → op_spelled (op_words op) ≡ Some op → t.requester < 65536 → t.tag < 256 → t.tc < 8 → t.attr < 8 → Sized 349 (request_text t op)
 unfolding is_printed
 request R t op reads hr ht h k =
     joined 320 29 (op_text op) (codes " from " ++ (origin_text t ++ class_text t.tc t.attr)) (record { printed = R.of_op (op_words op) op reads; short = R.op_short (op_words op) op reads })

@@ -22,11 +22,11 @@ use Rattle.tlp_core.specs.Enables.{are_enables}
 use Rattle.tlp_core.specs.Packet.{FitsKind, IsBodyInRange}
 use Rattle.tlp_core.specs.Operation.{op_at, op_fault, size_of, address_of, is_completion}
 use Rattle.requester_core.specs.Request.{kind_for, length_for, first_for, last_for, payload_for}
-use Rattle.trace_text.specs.Words.{words}
-use Rattle.trace_text.specs.Numbers.{numeral, byte_string, operand_of}
-use Rattle.trace_text.specs.Operations as operations
-use Rattle.trace_text.specs.Operations.{op_of}
-use Rattle.trace_text.specs.Texts.{hexadecimal, operand_word, op_words, op_text}
+use Rattle.operation_text.specs.Words.{words}
+use Rattle.operation_text.specs.Numbers.{numeral, byte_string, operand_of}
+use Rattle.operation_text.specs.Operations as operations
+use Rattle.operation_text.specs.Operations.{op_spelled}
+use Rattle.operation_text.specs.Texts.{hexadecimal, operand_word, op_words, op_text}
 use Rattle.packet_text.specs.Forms.{text_reading, tlp_read, request_of}
 use Rattle.packet_text.proofs.NumberLemmas.{number-bytes, bytes-take, bytes-drop}
 
@@ -36,12 +36,12 @@ pub record Laws : Type 0 where
   pub hexadecimal_back : (most n : ℕ) → n ≤ most → n < 2 ^ 64 → numeral 16 most (hexadecimal n) ≡ Some n
   pub decimal_word : (n : ℕ) (line : List ℕ) → words (decimal n ++ 32 ∷ line) ≡ decimal n ∷ words line
   pub decimal_last : (n : ℕ) → words (decimal n) ≡ decimal n ∷ []
-  pub op_back : (ws : List (List ℕ)) (op : Op) → op_of ws ≡ Some op → op_of (words (op_text op)) ≡ Some op
+  pub op_back : (ws : List (List ℕ)) (op : Op) → op_spelled ws ≡ Some op → op_spelled (words (op_text op)) ≡ Some op
 
 pub record Asked (k : Kind) (body : Body) (dw : ℕ) (payload : List ℕ) : Type 0 where
   pub op : Op
   pub is : op_at k body dw payload ≡ Some op
-  pub reads : op_of (op_words op) ≡ Some op
+  pub reads : op_spelled (op_words op) ≡ Some op
   pub sound : op_fault op ≡ None
   pub kind : kind_for op ≡ k
   pub dws : length_for op ≡ dw

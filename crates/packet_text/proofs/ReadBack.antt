@@ -21,15 +21,16 @@ use Rattle.dllp_core.specs.declared.packet.Class.TheVariants as classes
 use Rattle.dllp_core.specs.declared.packet.Dllp.{Dllp}
 use Rattle.dllp_core.specs.declared.packet.Dllp.TheVariants as dllps
 use Rattle.dllp_core.specs.Layout.{FitsFields}
-use Rattle.trace_text.specs.Words.{words, then_with}
-use Rattle.trace_text.specs.Numbers.{byte_string, numeral}
-use Rattle.trace_text.specs.Operations.{op_of}
-use Rattle.trace_text.specs.Texts.{op_text, op_words}
+use Rattle.operation_text.specs.Words.{words, then_with}
+use Rattle.operation_text.specs.Numbers.{byte_string, numeral}
+use Rattle.operation_text.specs.Operations.{op_spelled}
+use Rattle.operation_text.specs.Texts.{op_text, op_words}
 use Rattle.packet_text.specs.declared.packet.Packet.{Packet}
 use Rattle.packet_text.specs.declared.packet.Packet.TheVariants as packets
 use Rattle.requester_core.specs.declared.request.Origin.{Origin}
 use Rattle.packet_text.specs.Packets.{IsPacket, IsTlp}
-use Rattle.packet_text.specs.Texts.{octet_text, sequence_text, id_text, named, class_text, status_text, completer_text, tlp_text_by, tlp_text, credits_text, dllp_text, packet_text}
+use Rattle.packet_text.specs.Texts.{id_text, named, class_text, status_text, completer_text, tlp_text_by, tlp_text, credits_text, dllp_text, packet_text}
+use Rattle.operation_text.specs.Texts.{octet_text, sequence_text}
 use Rattle.packet_text.specs.Forms as forms
 use Rattle.requester_core.specs.Request as requests
 use Rattle.packet_text.specs.Forms.{text_reading, tlp_read, request_of, request_by}
@@ -186,9 +187,9 @@ request-back L k tc attr dw requester tag body bytes A hr ht h j =
     let tail : List ℕ = (id_text requester ++ (codes " tag " ++ octet_text tag)) ++ class_text tc attr in
     let line : List ℕ = op_text A.op ++ (codes " from " ++ tail) in
     let text : tlp_text t ≡ line = ap (λ (op : Option _). tlp_text_by op t) A.is in
-    let cut : request_of line ≡ request_by (op_of (words (op_text A.op))) (forms.origin (words tail)) =
-    ap (λ (p : Option (List ℕ × List ℕ)). then_with p (λ q. request_by (op_of (words q.0)) (forms.origin (words q.1)))) (cut-at (op_text A.op) tail (origin_with_tail-lacks requester tag tc attr hr ht h j)) in
-    let parts : request_by (op_of (words (op_text A.op))) (forms.origin (words tail)) ≡ request_by (Some A.op) (Some o) =
+    let cut : request_of line ≡ request_by (op_spelled (words (op_text A.op))) (forms.origin (words tail)) =
+    ap (λ (p : Option (List ℕ × List ℕ)). then_with p (λ q. request_by (op_spelled (words q.0)) (forms.origin (words q.1)))) (cut-at (op_text A.op) tail (origin_with_tail-lacks requester tag tc attr hr ht h j)) in
+    let parts : request_by (op_spelled (words (op_text A.op))) (forms.origin (words tail)) ≡ request_by (Some A.op) (Some o) =
     ap₂ request_by (L.op_back (op_words A.op) A.op A.reads) (ap forms.origin (from-words L requester tag tc attr hr ht) ∙ origin-reads L requester tag tc attr hr ht h j) in
     let sound : request_by (Some A.op) (Some o) ≡ Some (Ok (requests.request A.op o)) = ap (λ (f : Option TlpFault). Some (requests.unless f (requests.request A.op o))) A.sound in
     let same : requests.request A.op o ≡ t = rw (A.kind, A.dws, A.same, A.bytes) refl in

@@ -4,7 +4,7 @@ use Rattle.std.specs.Prelude.{◌==◌, ◌&&◌, not}
 use Rattle.std.proofs.lemmas.Bool.{and_parts, ne_eqb}
 use Rattle.std.proofs.lemmas.Bool.Decides.{nat_tests}
 use Rattle.std.proofs.lemmas.List.{append-nil}
-use Rattle.trace_text.specs.Words.{words}
+use Rattle.operation_text.specs.Words.{words}
 
 -- the character is not in the text
 abbrev pub Lacks : ℕ → List ℕ → Type 0

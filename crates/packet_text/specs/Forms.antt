@@ -16,9 +16,9 @@ use Rattle.dllp_core.specs.declared.packet.Dllp.{Dllp}
 use Rattle.dllp_core.specs.declared.packet.Dllp.TheVariants as dllps
 use Rattle.requester_core.specs.declared.request.Origin.{Origin}
 use Rattle.requester_core.specs.Request.{request, unless}
-use Rattle.trace_text.specs.Words.{words, then_with, first_field, field, ended}
-use Rattle.trace_text.specs.Numbers.{numeral, byte_string}
-use Rattle.trace_text.specs.Operations as operations
+use Rattle.operation_text.specs.Words.{words, then_with, first_field, field, ended}
+use Rattle.operation_text.specs.Numbers.{numeral, byte_string}
+use Rattle.operation_text.specs.Operations as operations
 use Rattle.packet_text.specs.declared.packet.Packet.{Packet}
 use Rattle.packet_text.specs.declared.packet.Packet.TheVariants as packets
 use Rattle.packet_text.specs.declared.completion.Completer.{Completer}
@@ -93,7 +93,7 @@ abbrev pub request_by : Option Op → Option Origin → Option (Result tlp.Packe
 request_by op o = then_with op (λ op. then_with o (λ o. Some (unless (op_fault op) (request op o))))
 
 abbrev pub request_of : List ℕ → Option (Result tlp.Packet TlpFault)
-request_of line = then_with (cut_from line) (λ p. request_by (operations.op_of (words p.0)) (origin (words p.1)))
+request_of line = then_with (cut_from line) (λ p. request_by (operations.op_spelled (words p.0)) (origin (words p.1)))
 
 -- ---- completions
 

@@ -1,6 +1,6 @@
 -- The text of a packet: one line of words.
-use Rattle.std.specs.Prelude.{ℕ, ◌/◌, ◌%◌, ◌==◌, true, if◌then◌else◌, List, [], ◌∷◌, ◌++◌, codes, Option, Some, None}
-use Rattle.std.specs.Fmt.{decimal, digit_glyph}
+use Rattle.std.specs.Prelude.{ℕ, ◌/◌, ◌%◌, ◌==◌, if◌then◌else◌, List, [], ◌∷◌, ◌++◌, codes, Option, Some, None}
+use Rattle.std.specs.Fmt.{decimal}
 use Rattle.hex.specs.Hex.{encode_upper}
 use Rattle.tlp_core.specs.declared.operation.Op.{Op}
 use Rattle.tlp_core.specs.declared.packet.Kind.{Kind}
@@ -18,9 +18,8 @@ use Rattle.dllp_core.specs.declared.packet.Class.TheVariants as classes
 use Rattle.dllp_core.specs.declared.packet.Dllp.{Dllp}
 use Rattle.dllp_core.specs.declared.packet.Dllp.TheVariants as dllps
 use Rattle.dllp_core.specs.declared.fault.DllpFault.{DllpFault}
-use Rattle.dllp_core.specs.declared.fault.DllpFault.TheVariants as dllp_faults
 use Rattle.dllp_core.specs.Faults as dllp_fault
-use Rattle.trace_text.specs.Texts.{op_text}
+use Rattle.operation_text.specs.Texts.{op_text, octet_text, sequence_text}
 use Rattle.packet_text.specs.declared.packet.Packet.{Packet}
 use Rattle.packet_text.specs.declared.packet.Packet.TheVariants as packets
 use Rattle.packet_text.specs.declared.fault.BytesFault.{BytesFault}
@@ -29,14 +28,6 @@ use Rattle.packet_text.specs.declared.fault.TextFault.{TextFault}
 use Rattle.packet_text.specs.declared.fault.TextFault.TheVariants as text_faults
 
 -- ---- numbers with all their digits, hexadecimal and in capitals
-
--- a tag, a Lower Address
-abbrev pub octet_text : ℕ → List ℕ
-octet_text n = digit_glyph true (n / 16) ∷ digit_glyph true (n % 16) ∷ []
-
--- a sequence number
-abbrev pub sequence_text : ℕ → List ℕ
-sequence_text n = digit_glyph true (n / 256) ∷ octet_text (n % 256)
 
 -- a Requester ID, a Completer ID
 abbrev pub id_text : ℕ → List ℕ
@@ -110,14 +101,20 @@ fault_text number name = codes "fault " ++ (decimal number ++ 32 ∷ name)
 abbrev pub tlp_fault_text : TlpFault → List ℕ
 tlp_fault_text f = fault_text (tlp_fault.number_of f) (tlp_fault.name_of f)
 
-abbrev pub dllp_fault_name : DllpFault → List ℕ
-dllp_fault_name dllp_faults.Short = codes "Short"
-dllp_fault_name dllp_faults.Kind = codes "Kind"
-dllp_fault_name dllp_faults.Scaled = codes "Scaled"
+abbrev pub dllp_fault_text : DllpFault → List ℕ
+dllp_fault_text f = fault_text (dllp_fault.number_of f) (dllp_fault.name_of f)
+
+abbrev pub bytes_fault_name : BytesFault → List ℕ
+bytes_fault_name (bytes_faults.Tlp f) = tlp_fault.name_of f
+bytes_fault_name (bytes_faults.Dllp f) = dllp_fault.name_of f
 
 abbrev pub bytes_fault_text : BytesFault → List ℕ
 bytes_fault_text (bytes_faults.Tlp f) = tlp_fault_text f
-bytes_fault_text (bytes_faults.Dllp f) = fault_text (dllp_fault.number_of f) (dllp_fault_name f)
+bytes_fault_text (bytes_faults.Dllp f) = dllp_fault_text f
+
+abbrev pub text_fault_name : TextFault → List ℕ
+text_fault_name text_faults.Words = codes "words"
+text_fault_name (text_faults.Packet f) = tlp_fault.name_of f
 
 abbrev pub text_fault_text : TextFault → List ℕ
 text_fault_text text_faults.Words = codes "fault words"

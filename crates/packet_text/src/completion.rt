@@ -1,11 +1,12 @@
 //! The text of completions.
 ghost use Rattle.std.specs.Prelude.{◌≡◌, ◌<◌, ◌≤◌, ◌%◌, None, IfSome, option_map, length};
-ghost use Rattle.trace_text.specs.Words.{words_behind};
+ghost use Rattle.operation_text.specs.Words.{words_behind};
 ghost use Rattle.packet_text.specs.Forms as forms;
 
-use crate::fields::{byte_count, bytes_in, id, keyword, lower, next, status};
+use crate::fields::{byte_count, id, keyword, lower, status};
 use crate::origin::{id_and_tag, origin_with};
 use arrayvec::ArrayVec;
+use operation_text::{bytes_in, next_word};
 use requester_core::Origin;
 use tlp_core::{Body, Kind, MAX_PAYLOAD, Status, Tlp, TlpFault};
 
@@ -26,7 +27,7 @@ type Data = Option<ArrayVec<u8, MAX_PAYLOAD>>;
 fn data_to(rest: Option<&[u8]>) -> Option<(Data, Option<&[u8]>)>
     ensures { forms.data_to (words_behind rest.entry) ≡ option_map (λ s. (option_map (λ b. b.items) s.0, words_behind s.1)) result }
 {
-    let (word, rest) = next(rest)?;
+    let (word, rest) = next_word(rest)?;
     if word == b"to".as_slice() {
         return Some((None, rest));
     }

@@ -1,4 +1,6 @@
 //! Why bytes or words are no packet.
+ghost use Rattle.std.specs.Prelude.{◌≡◌};
+ghost use Rattle.packet_text.specs.Texts.{bytes_fault_name, text_fault_name};
 
 use dllp_core::DllpFault;
 use thiserror::Error;
@@ -15,6 +17,18 @@ pub enum BytesFault {
     Dllp(DllpFault),
 }
 
+impl BytesFault {
+    /// The name under which it is told.
+    pub fn name(self) -> &'static str
+        ensures { result.now ≡ bytes_fault_name self }
+    {
+        match self {
+            BytesFault::Tlp(fault) => fault.name(),
+            BytesFault::Dllp(fault) => fault.name(),
+        }
+    }
+}
+
 /// Why words are no packet.
 #[derive(Clone, Copy, Debug, PartialEq, Eq, Error)]
 pub enum TextFault {
@@ -24,4 +38,16 @@ pub enum TextFault {
     /// The line has the form of a TLP, of which the grammar has none such.
     #[error("{0}")]
     Packet(TlpFault),
+}
+
+impl TextFault {
+    /// The name under which it is told.
+    pub fn name(self) -> &'static str
+        ensures { result.now ≡ text_fault_name self }
+    {
+        match self {
+            TextFault::Words => "words",
+            TextFault::Packet(fault) => fault.name(),
+        }
+    }
 }

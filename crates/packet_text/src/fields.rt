@@ -1,26 +1,17 @@
 //! The fields of a packet's line.
-ghost use Rattle.std.specs.Prelude.{◌≡◌, ◌<◌, ◌≤◌, [], ◌∷◌, option_map, IfSome, MatchOption};
-ghost use Rattle.trace_text.specs.Words.{words_behind, first_field};
-ghost use Rattle.trace_text.specs.Numbers.{byte_string};
+ghost use Rattle.std.specs.Prelude.{◌≡◌, ◌<◌, ◌≤◌, option_map, IfSome};
+ghost use Rattle.operation_text.specs.Words.{words_behind, first_field};
 ghost use Rattle.packet_text.specs.Forms as forms;
 
-use arrayvec::ArrayVec;
 use dllp_core::Class;
-use tlp_core::{MAX_PAYLOAD, Status};
-use trace_text::{cut, number};
-
-/// The next word, and what is behind it; none at the end of the line.
-pub(crate) fn next(rest: Option<&[u8]>) -> Option<(&[u8], Option<&[u8]>)>
-    ensures { MatchOption result (words_behind rest.entry ≡ []) (λ s. words_behind rest.entry ≡ s.0.now ∷ words_behind s.1) }
-{
-    Some(cut(rest?))
-}
+use operation_text::{next_word, number};
+use tlp_core::Status;
 
 /// What is behind the next word, which has to be this one.
 pub(crate) fn keyword<'a>(rest: Option<&'a [u8]>, name: &[u8]) -> Option<Option<&'a [u8]>>
     ensures { forms.behind name.now (words_behind rest.entry) ≡ option_map (λ s. words_behind s) result }
 {
-    let (word, rest) = next(rest)?;
+    let (word, rest) = next_word(rest)?;
     if word == name { Some(rest) } else { None }
 }
 
@@ -30,7 +21,7 @@ pub(crate) fn named<'a>(rest: Option<&'a [u8]>, name: &[u8]) -> Option<(u8, Opti
     ensures value { forms.named name.now (words_behind rest.entry) ≡ option_map (λ s. (s.0, words_behind s.1)) result }
     ensures range { IfSome result (λ s. s.0 < 8) }
 {
-    let Some((word, behind)) = next(rest) else {
+    let Some((word, behind)) = next_word(rest) else {
         return Some((0, None));
     };
     if word != name {
@@ -85,7 +76,7 @@ fn id_in(word: &[u8]) -> Option<u16>
 pub(crate) fn octet(rest: Option<&[u8]>) -> Option<(u8, Option<&[u8]>)>
     ensures { first_field forms.octet (words_behind rest.entry) ≡ option_map (λ s. (s.0, words_behind s.1)) result }
 {
-    let (word, rest) = next(rest)?;
+    let (word, rest) = next_word(rest)?;
     Some((octet_in(word)?, rest))
 }
 
@@ -94,7 +85,7 @@ pub(crate) fn sequence(rest: Option<&[u8]>) -> Option<(u16, Option<&[u8]>)>
     ensures value { first_field forms.sequence (words_behind rest.entry) ≡ option_map (λ s. (s.0, words_behind s.1)) result }
     ensures range { IfSome result (λ s. s.0 < 4096) }
 {
-    let (word, rest) = next(rest)?;
+    let (word, rest) = next_word(rest)?;
     Some((sequence_in(word)?, rest))
 }
 
@@ -102,7 +93,7 @@ pub(crate) fn sequence(rest: Option<&[u8]>) -> Option<(u16, Option<&[u8]>)>
 pub(crate) fn id(rest: Option<&[u8]>) -> Option<(u16, Option<&[u8]>)>
     ensures { first_field forms.id (words_behind rest.entry) ≡ option_map (λ s. (s.0, words_behind s.1)) result }
 {
-    let (word, rest) = next(rest)?;
+    let (word, rest) = next_word(rest)?;
     Some((id_in(word)?, rest))
 }
 
@@ -148,7 +139,7 @@ fn status_in(word: &[u8]) -> Option<Status>
 pub(crate) fn status(rest: Option<&[u8]>) -> Option<(Status, Option<&[u8]>)>
     ensures { first_field forms.status (words_behind rest.entry) ≡ option_map (λ s. (s.0, words_behind s.1)) result }
 {
-    let (word, rest) = next(rest)?;
+    let (word, rest) = next_word(rest)?;
     Some((status_in(word)?, rest))
 }
 
@@ -170,19 +161,6 @@ fn credits_in(word: &[u8]) -> Option<Class>
 pub(crate) fn credits(rest: Option<&[u8]>) -> Option<(Class, Option<&[u8]>)>
     ensures { first_field forms.credits (words_behind rest.entry) ≡ option_map (λ s. (s.0, words_behind s.1)) result }
 {
-    let (word, rest) = next(rest)?;
+    let (word, rest) = next_word(rest)?;
     Some((credits_in(word)?, rest))
-}
-
-/// The bytes that the word spells.
-pub(crate) fn bytes_in(word: &[u8]) -> Option<ArrayVec<u8, MAX_PAYLOAD>>
-    ensures { option_map (λ b. b.items) result ≡ byte_string word.now }
-{
-    if word.is_empty() || word.len() > 2 * MAX_PAYLOAD || word.len() % 2 == 1 {
-        return None;
-    }
-    let mut room = [0u8; MAX_PAYLOAD];
-    let bytes = &mut room[..word.len() / 2];
-    hex::decode_to_slice(word, bytes).ok()?;
-    ArrayVec::try_from(&*bytes).ok()
 }

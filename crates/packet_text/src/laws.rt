@@ -1,7 +1,7 @@
 //! Laws of the texts: what holds of the definitions that the contracts cite.
 ghost use Rattle.std.specs.Prelude.{◌≡◌, ◌≤◌, List, ℕ, length, Ok};
 ghost use Rattle.tlp_core.specs.Bits.{IsBytes};
-ghost use Rattle.trace_text.specs.Texts.{IsPrinted};
+ghost use Rattle.operation_text.specs.Texts.{IsPrinted};
 ghost use Rattle.packet_text.specs.declared.packet.Packet.{Packet};
 ghost use Rattle.packet_text.specs.Packets.{IsPacket, reading};
 ghost use Rattle.packet_text.specs.Texts.{packet_text};
@@ -9,8 +9,8 @@ ghost use Rattle.packet_text.specs.Lines.{BeginsWithLetter};
 ghost use Rattle.packet_text.specs.Forms.{text_reading};
 
 use dllp_core::bytes_spell_one_dllp;
+use operation_text::{own_digits_spell_number, own_text_spells_operation};
 use tlp_core::laws::reading_is_spelling;
-use trace_text::{own_digits_spell_number, own_text_spells_operation};
 
 /// The text of a packet is read back as that packet, so no two packets have one text. It is one
 /// printed line of at most 400 bytes, and no comment. What bytes spell is such a packet.

@@ -1,11 +1,11 @@
 //! Whose request a TLP is or answers.
 ghost use Rattle.std.specs.Prelude.{◌≡◌, ◌<◌, IfSome, option_map};
-ghost use Rattle.trace_text.specs.Words.{words_behind};
+ghost use Rattle.operation_text.specs.Words.{words_behind};
 ghost use Rattle.packet_text.specs.Forms as forms;
 
 use crate::fields::{id, keyword, named, octet};
+use operation_text::is_ended;
 use requester_core::Origin;
-use trace_text::is_ended;
 
 /// Traffic Class and attributes, which end the line.
 fn class(rest: Option<&[u8]>) -> Option<(u8, u8)>

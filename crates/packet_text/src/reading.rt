@@ -1,7 +1,7 @@
 //! The packet that a line spells.
-ghost use Rattle.std.specs.Prelude.{◌≡◌, ◌<◌, ◌≤◌, take, codes, bytes_eq, option_map, IfOk, IfSome};
+ghost use Rattle.std.specs.Prelude.{◌≡◌, ◌<◌, take, codes, bytes_eq, option_map, IfOk, IfSome};
 ghost use Rattle.dllp_core.specs.Layout as dllps;
-ghost use Rattle.trace_text.specs.Words.{words, words_behind, ended};
+ghost use Rattle.operation_text.specs.Words.{words, words_behind};
 ghost use Rattle.packet_text.specs.Packets as packets;
 ghost use Rattle.packet_text.specs.Forms as forms;
 
@@ -11,10 +11,10 @@ use crate::fields::{credits, sequence};
 use crate::origin::{id_and_tag, origin_with};
 use crate::packet::Packet;
 use dllp_core::Dllp;
+use operation_text::{alone, cut, number, read_op};
 use requester_core::{Origin, request_with};
 use seq12::Seq12;
 use tlp_core::{Tlp, TlpFault};
-use trace_text::{cut, is_ended, number, read_op};
 
 /// Whether the line begins with ` from `.
 fn begins(line: &[u8]) -> bool
@@ -54,13 +54,6 @@ fn request_of(line: &[u8]) -> Option<Result<Tlp, TlpFault>>
     let op = read_op(text)?;
     let origin = origin(behind)?;
     Some(request_with(&op, origin))
-}
-
-/// The DLLP, if the line ends here.
-fn alone(dllp: Dllp, rest: Option<&[u8]>) -> Option<Dllp>
-    ensures { result ≡ ended dllp (words_behind rest.entry) }
-{
-    if is_ended(rest) { Some(dllp) } else { None }
 }
 
 fn ack(rest: Option<&[u8]>) -> Option<Dllp>

@@ -1,53 +1,14 @@
 //! Writing packets and faults.
-ghost use Rattle.std.specs.Prelude.{◌≡◌, ◌≤◌, ◌<◌, ◌+◌, ◌*◌, ◌++◌, ◌∷◌, [], true, length};
-ghost use Rattle.std.specs.Fmt.{decimal, digit_glyph};
+ghost use Rattle.std.specs.Prelude.{◌≡◌, ◌≤◌, ◌<◌, ◌+◌, ◌*◌, ◌++◌, length};
 ghost use Rattle.arrayvec.specs.ArrayString.{array_string_len};
-ghost use Rattle.hex.specs.Hex.{encode_upper};
 ghost use Rattle.packet_text.specs.Texts as texts;
 
 use crate::fault::{BytesFault, TextFault};
 use crate::packet::Packet;
 use arrayvec::ArrayString;
 use dllp_core::{Class, Dllp, DllpFault};
-use seq12::Seq12;
+use operation_text::{write_bytes, write_decimal, write_octet, write_op, write_sequence};
 use tlp_core::{Body, Kind, Op, Status, Tlp, TlpFault, op_of};
-use trace_text::{write_decimal, write_op};
-
-/// Adds the digit of a value below 16, in capitals.
-fn put_digit(value: u8, out: &mut ArrayString<512>)
-    requires value { value < 16 }
-    requires room { array_string_len out.old + 1 ≤ 512 }
-    ensures text { out.new.bytes ≡ out.old.bytes ++ digit_glyph true value ∷ [] }
-    ensures len { array_string_len out.new ≡ array_string_len out.old + 1 }
-{
-    let digit = if value < 10 {
-        b'0' + value
-    } else {
-        b'A' + (value - 10)
-    };
-    out.push(char::from(digit));
-}
-
-/// Adds two digits.
-fn put_octet(octet: u8, out: &mut ArrayString<512>)
-    requires { array_string_len out.old + 2 ≤ 512 }
-    ensures text { out.new.bytes ≡ out.old.bytes ++ texts.octet_text octet }
-    ensures len { array_string_len out.new ≡ array_string_len out.old + 2 }
-{
-    put_digit(octet / 16, out);
-    put_digit(octet % 16, out);
-}
-
-/// Adds three digits.
-fn put_sequence(number: Seq12, out: &mut ArrayString<512>)
-    requires { array_string_len out.old + 3 ≤ 512 }
-    ensures text { out.new.bytes ≡ out.old.bytes ++ texts.sequence_text number }
-    ensures len { array_string_len out.new ≡ array_string_len out.old + 3 }
-{
-    let number = number.value();
-    put_digit((number / 256) as u8, out);
-    put_octet((number % 256) as u8, out);
-}
 
 /// Adds four digits.
 fn put_id(id: u16, out: &mut ArrayString<512>)
@@ -55,19 +16,8 @@ fn put_id(id: u16, out: &mut ArrayString<512>)
     ensures text { out.new.bytes ≡ out.old.bytes ++ texts.id_text id }
     ensures len { array_string_len out.new ≡ array_string_len out.old + 4 }
 {
-    put_octet((id / 256) as u8, out);
-    put_octet((id % 256) as u8, out);
-}
-
-/// Adds two digits a byte.
-fn put_bytes(bytes: &[u8], out: &mut ArrayString<512>)
-    requires { array_string_len out.old + 2 * length bytes.now ≤ 512 }
-    ensures text { out.new.bytes ≡ out.old.bytes ++ encode_upper bytes.now }
-    ensures len { array_string_len out.new ≡ array_string_len out.old + 2 * length bytes.now }
-{
-    for byte in bytes {
-        put_octet(*byte, out);
-    }
+    write_octet((id / 256) as u8, out);
+    write_octet((id % 256) as u8, out);
 }
 
 /// Adds a name and its number, nothing for 0.
@@ -101,7 +51,7 @@ fn put_origin(tlp: &Tlp, out: &mut ArrayString<512>)
 {
     put_id(tlp.requester, out);
     out.push_str(" tag ");
-    put_octet(tlp.tag, out);
+    write_octet(tlp.tag, out);
 }
 
 fn put_request(tlp: &Tlp, op: &Op, out: &mut ArrayString<512>)
@@ -135,7 +85,7 @@ fn put_data(tlp: &Tlp, out: &mut ArrayString<512>)
 {
     if let Kind::CompletionData = tlp.kind {
         out.push_str(" ");
-        put_bytes(tlp.payload.as_slice(), out);
+        write_bytes(tlp.payload.as_slice(), out);
     }
 }
 
@@ -150,7 +100,7 @@ fn put_completer(completer: u16, byte_count: u16, lower: u8, out: &mut ArrayStri
     out.push_str(" count ");
     write_decimal(u64::from(byte_count), out);
     out.push_str(" lower ");
-    put_octet(lower, out);
+    write_octet(lower, out);
 }
 
 fn put_completion(tlp: &Tlp, out: &mut ArrayString<512>)
@@ -219,11 +169,11 @@ fn put_dllp(dllp: Dllp, out: &mut ArrayString<512>)
     match dllp {
         Dllp::Ack(number) => {
             out.push_str("ack ");
-            put_sequence(number, out);
+            write_sequence(number.value(), out);
         }
         Dllp::Nak(number) => {
             out.push_str("nak ");
-            put_sequence(number, out);
+            write_sequence(number.value(), out);
         }
         Dllp::Update(class, header, units) => put_update(class, header, units, out),
     }
@@ -262,15 +212,12 @@ fn put_tlp_fault(fault: TlpFault, out: &mut ArrayString<512>)
     put_fault(fault.number(), fault.name(), out);
 }
 
-fn dllp_fault_name(fault: DllpFault) -> &'static str
-    ensures text { result.now ≡ texts.dllp_fault_name fault }
-    ensures len { length result.now ≤ 6 }
+fn put_dllp_fault(fault: DllpFault, out: &mut ArrayString<512>)
+    requires { array_string_len out.old + 41 ≤ 512 }
+    ensures text { out.new.bytes ≡ out.old.bytes ++ texts.dllp_fault_text fault }
+    ensures len { array_string_len out.new ≤ array_string_len out.old + 41 }
 {
-    match fault {
-        DllpFault::Short => "Short",
-        DllpFault::Kind => "Kind",
-        DllpFault::Scaled => "Scaled",
-    }
+    put_fault(fault.number(), fault.name(), out);
 }
 
 /// Adds `fault`, its number and its name, at most 41 bytes.
@@ -281,7 +228,7 @@ pub fn write_bytes_fault(fault: BytesFault, out: &mut ArrayString<512>)
 {
     match fault {
         BytesFault::Tlp(fault) => put_tlp_fault(fault, out),
-        BytesFault::Dllp(fault) => put_fault(fault.number(), dllp_fault_name(fault), out),
+        BytesFault::Dllp(fault) => put_dllp_fault(fault, out),
     }
 }
 

@@ -4,7 +4,7 @@ ghost use Rattle.tlp_core.specs.declared.fault.TlpFault as faults;
 ghost use Rattle.tlp_core.specs.Fault.{number_of, name_of};
 ghost use Rattle.history_check.specs.Claim.{Claim};
 ghost use Rattle.history_check.specs.Trace.{Explains};
-ghost use Rattle.trace_file.specs.Reading.{read_of};
+ghost use Rattle.trace_format.specs.Reading.{read_of};
 ghost use Rattle.caller_room.specs.declared.TheConstants.{SMALL_ROOM, NO_MEMORY, NO_FAULT};
 ghost use Rattle.caller_room.specs.Room.{filled};
 ghost use Rattle.byte_device.specs.Call.{call};

@@ -2,7 +2,7 @@
 ghost use Rattle.std.specs.Prelude.{◌≡◌, ◌≤◌, ◌↔◌, IsTrue, true, Some, length};
 ghost use Rattle.seq_memory.specs.History.{bytes_of};
 ghost use Rattle.history_check.specs.Trace.{Explains};
-ghost use Rattle.trace_file.specs.Texts.{trace_text};
+ghost use Rattle.trace_format.specs.Texts.{trace_text};
 ghost use Rattle.fabric_laws.specs.Trace.{submitted_by};
 ghost use Rattle.fabric_core.specs.declared.config.Config.{Config};
 ghost use Rattle.fabric_core.specs.Quiet.{IsQuiet};

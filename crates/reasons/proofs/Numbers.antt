@@ -1,10 +1,10 @@
 -- The numbers of lines: what each skipped line adds, and what it leaves.
-use Rattle.std.proofs.Common.{◌≡◌, ℕ, zero, suc, ◌+◌, ◌-◌, ◌^◌, ◌<◌, ◌≤◌, Bool, true, false, List, [], ◌∷◌, ◌++◌, length, Option, Some, None, refl, sym, ap, subst, ◌∙◌, arith}
+use Rattle.std.proofs.Common.{◌≡◌, ℕ, zero, suc, ◌+◌, ◌-◌, ◌^◌, ◌<◌, ◌≤◌, Bool, true, false, List, [], ◌∷◌, ◌++◌, length, Option, Some, None, refl, ap, ◌∙◌, arith}
 use Rattle.std.specs.Prelude.{nat_le, min, slice_get, if◌then◌else◌}
 use Rattle.std.proofs.lemmas.Bool.{le-leb, lt-leb}
 use Rattle.std.proofs.lemmas.Option.{slice_get_within}
 use Rattle.std.proofs.Math.Nat.{min-eq_left}
-use Rattle.reasons.specs.Told.{Numbered, nothing_numbered, is_skipped, numbered, numbered_all, plus, further, unskipped, LinesHaveTheirNumbers}
+use Rattle.reasons.specs.Told.{Numbered, is_skipped, numbered, numbered_all, plus, further, unskipped, LinesHaveTheirNumbers}
 
 small : (a b : ℕ) → a + b < 2 ^ 64 → plus a b ≡ a + b
 small a b h = min-eq_left (omega (arith, h))

@@ -4,10 +4,10 @@ use arrayvec::ArrayString;
 use flaw_places::{flawed_request, is_of_entry, request_of_record};
 use history_check::{Flaw, FlawKind, Record, Trace};
 use line_reasons::Reason;
+use operation_text::write_reply;
 use seq_memory::{Entry, Reply, perform};
 use std::alloc::{AllocError, Global};
 use tlp_core::Op;
-use trace_text::write_reply;
 
 /// A request, by its requester and its number.
 #[derive(Clone, Copy, Debug, PartialEq, Eq)]

@@ -59,6 +59,18 @@ impl<E: Write + Drop> TraceReasons<E> {
         fault
     }
 
+    /// Tells why the line with this number can't be read.
+    #[inline(never)]
+    fn refuse(&mut self, line: &[u8], number: u64) -> Result<(), EngineFault>
+        ensures told { self.new.told ≡ self.old.told }
+        ensures errors { OnOk result (IsReasonToldAt number self.old.errors self.new.errors) }
+        ensures fault { IfErr result (λ f. f ≡ EngineFault.Write) }
+        ensures part { OnErr result (IsReasonBegunAt number self.old.errors self.new.errors) }
+    {
+        let reason = self.due.refusal_reason(line);
+        reason.tell_at(number, &mut self.errors)
+    }
+
     /// Takes a line: without a fault so far, it fits.
     pub fn take_line(&mut self, line: &[u8], fault: Option<u64>) -> Result<(), EngineFault>
         ensures told { self.new.told ≡ first_of self.old.told fault }
@@ -67,8 +79,7 @@ impl<E: Write + Drop> TraceReasons<E> {
         ensures part { OnErr result (IsReasonBegun (news_of self.old.told fault) self.old.errors self.new.errors) }
     {
         if let Some(number) = self.news(fault) {
-            let reason = self.due.refusal_reason(line);
-            return reason.tell_at(number, &mut self.errors);
+            return self.refuse(line, number);
         }
         if !line.is_empty() && line[0] != b'#' {
             self.due = self.due.after(line);

@@ -1,5 +1,5 @@
 //! The rule of the recorder's queue, and its calls, each lent its caller's pass.
-ghost use Rattle.std.specs.Prelude.{◌≡◌, ◌+◌, ◌-◌, ◌<◌, ℕ, [], ◌∷◌, ◌++◌, List, IsTrue, IfOk, IfErr, OnOk, IfSome, IfNone};
+ghost use Rattle.std.specs.Prelude.{◌≡◌, ◌+◌, ◌-◌, ◌<◌, [], ◌∷◌, ◌++◌, IsTrue, IfOk, IfErr, OnOk, IfSome, IfNone};
 ghost use Rattle.history_check.specs.Lookup.{requester_of};
 ghost use Rattle.recorder.specs.Rule.{unbegun, with_pushed, with_taken, IsWhole, IsBegun};
 

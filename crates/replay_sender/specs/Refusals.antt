@@ -1,5 +1,5 @@
--- The numbers of refusals, in the order in which they are looked for.
-use Rattle.std.specs.Prelude.{ℕ}
+-- The names of refusals, and their numbers in the order in which they are looked for.
+use Rattle.std.specs.Prelude.{ℕ, List, codes}
 use Rattle.replay_sender.specs.declared.fault.SendRefusal.{SendRefusal}
 use Rattle.replay_sender.specs.declared.fault.SendRefusal.TheVariants.{WindowFull, Memory}
 use Rattle.replay_sender.specs.declared.fault.AckFault.{AckFault}
@@ -9,5 +9,12 @@ abbrev pub refusal_number : SendRefusal → ℕ
 refusal_number WindowFull = 1
 refusal_number Memory = 2
 
+abbrev pub refusal_name : SendRefusal → List ℕ
+refusal_name WindowFull = codes "WindowFull"
+refusal_name Memory = codes "Memory"
+
 abbrev pub ack_fault_number : AckFault → ℕ
 ack_fault_number NotOutstanding = 1
+
+abbrev pub ack_fault_name : AckFault → List ℕ
+ack_fault_name NotOutstanding = codes "NotOutstanding"

@@ -1,29 +1,28 @@
 //! What a sender refuses.
-ghost use Rattle.std.specs.Prelude.{◌≡◌, ℕ};
+ghost use Rattle.std.specs.Prelude.{◌≡◌};
 
 use thiserror::Error;
 
 /// Why a packet wasn't accepted.
 #[derive(Clone, Copy, Debug, PartialEq, Eq, Error)]
+#[error("{}", self.name())]
 pub enum SendRefusal {
     /// 2047 packets are unacknowledged.
-    #[error("WindowFull")]
     WindowFull,
     /// The replay buffer could not grow.
-    #[error("Memory")]
     Memory,
 }
 
 /// Why an Ack or Nak is a protocol error.
 #[derive(Clone, Copy, Debug, PartialEq, Eq, Error)]
+#[error("{}", self.name())]
 pub enum AckFault {
     /// The number is neither ACKD_SEQ nor that of an unacknowledged packet.
-    #[error("NotOutstanding")]
     NotOutstanding,
 }
 
 impl SendRefusal {
-    ghost use Rattle.replay_sender.specs.Refusals.{refusal_number};
+    ghost use Rattle.replay_sender.specs.Refusals.{refusal_number, refusal_name};
 
     /// The place of this refusal in the order in which they are looked for, from 1.
     pub fn number(self) -> u8
@@ -34,10 +33,20 @@ impl SendRefusal {
             SendRefusal::Memory => 2,
         }
     }
+
+    /// The name under which it is told.
+    pub fn name(self) -> &'static str
+        ensures { result.now ≡ refusal_name self }
+    {
+        match self {
+            SendRefusal::WindowFull => "WindowFull",
+            SendRefusal::Memory => "Memory",
+        }
+    }
 }
 
 impl AckFault {
-    ghost use Rattle.replay_sender.specs.Refusals.{ack_fault_number};
+    ghost use Rattle.replay_sender.specs.Refusals.{ack_fault_number, ack_fault_name};
 
     /// The number of this fault, from 1.
     pub fn number(self) -> u8
@@ -45,6 +54,15 @@ impl AckFault {
     {
         match self {
             AckFault::NotOutstanding => 1,
+        }
+    }
+
+    /// The name under which it is told.
+    pub fn name(self) -> &'static str
+        ensures { result.now ≡ ack_fault_name self }
+    {
+        match self {
+            AckFault::NotOutstanding => "NotOutstanding",
         }
     }
 }

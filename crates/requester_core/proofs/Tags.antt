@@ -5,7 +5,7 @@ use Rattle.std.proofs.lemmas.Bool.Decides.{nat_tests}
 use Rattle.std.proofs.lemmas.Bool.{cases_eq}
 use Rattle.std.proofs.lemmas.List.{get_or-set_same, get_or-set_other, length-set, get_or-replicate, length-replicate, get_or_past}
 use Rattle.std.proofs.lemmas.List.Sums.{position_or_len_is, fails_before_first, passes_at_first, prefix_len-le-length}
-use Rattle.requester_core.specs.declared.requester.Open.{Open}
+use Rattle.requester_core.specs.declared.requester.OpenRequest.{OpenRequest}
 use Rattle.tlp_core.specs.declared.operation.Op.{Op}
 use Rattle.tlp_core.specs.declared.operation.Op.TheVariants as ops
 use Rattle.tlp_core.specs.declared.packet.Kind.TheVariants as kinds
@@ -16,55 +16,55 @@ use Rattle.requester_core.specs.declared.fault.SubmitRefusal.{SubmitRefusal}
 use Rattle.requester_core.specs.Request.{kind_for, request_for}
 use Rattle.requester_core.specs.Requesting.{Requesting, IsSound, lowest_free, fresh, prepared, prepared_by, lacks_tag, tag_for}
 
-pub lowest_in_range : (tags : List (Option Open)) → lowest_free tags ≤ length tags
+pub lowest_in_range : (tags : List (Option OpenRequest)) → lowest_free tags ≤ length tags
 lowest_in_range tags = prefix_len-le-length _ tags
 
-some_is : (o p : Open) → ◌≡◌ {A = Option Open} (Some o) (Some p) → o ≡ p
+some_is : (o p : OpenRequest) → ◌≡◌ {A = Option OpenRequest} (Some o) (Some p) → o ≡ p
 some_is o p e = cc
 
-some_not_none : (o : Option Open) → is_some o ≡ true → is_none o ≡ true → ⊥
+some_not_none : (o : Option OpenRequest) → is_some o ≡ true → is_none o ≡ true → ⊥
 some_not_none (Some o) h n = cc
 some_not_none None h n = cc
 
-not_some : (o : Option Open) → is_some o ≡ false → is_none o ≡ true
+not_some : (o : Option OpenRequest) → is_some o ≡ false → is_none o ≡ true
 not_some (Some o) h = absurd cc
 not_some None h = refl
 
-is_open : (o : Option Open) → is_none o ≡ false → is_some o ≡ true
+is_open : (o : Option OpenRequest) → is_none o ≡ false → is_some o ≡ true
 is_open (Some o) h = refl
 is_open None h = absurd cc
 
-none_is : (o : Option Open) → is_none o ≡ true → o ≡ None
+none_is : (o : Option OpenRequest) → is_none o ≡ true → o ≡ None
 none_is (Some o) h = absurd cc
 none_is None h = refl
 
 -- at the lowest free tag nothing is open
-pub free_at_lowest : (tags : List (Option Open)) → lowest_free tags < length tags → is_none (get_or tags (lowest_free tags) None) ≡ true
+pub free_at_lowest : (tags : List (Option OpenRequest)) → lowest_free tags < length tags → is_none (get_or tags (lowest_free tags) None) ≡ true
 free_at_lowest tags lt = passes_at_first is_none tags None lt
 
-pub open_below : (tags : List (Option Open)) (i : ℕ) → i < lowest_free tags → is_none (get_or tags i None) ≡ false
+pub open_below : (tags : List (Option OpenRequest)) (i : ℕ) → i < lowest_free tags → is_none (get_or tags i None) ≡ false
 open_below tags i lt = fails_before_first is_none tags i None lt
 
-next_by : (tags : List (Option Open)) (i : ℕ) → i < length tags → is_some (get_or tags i None) ≡ true → (i ≡ lowest_free tags) ⊎ (i ≡ lowest_free tags → ⊥) → i ≤ lowest_free tags → i + 1 ≤ lowest_free tags
+next_by : (tags : List (Option OpenRequest)) (i : ℕ) → i < length tags → is_some (get_or tags i None) ≡ true → (i ≡ lowest_free tags) ⊎ (i ≡ lowest_free tags → ⊥) → i ≤ lowest_free tags → i + 1 ≤ lowest_free tags
 next_by tags i lt e (inl same) le =
     let free : is_none (get_or tags i None) ≡ true = subst (λ k. is_none (get_or tags k None) ≡ true) (sym same) (free_at_lowest tags (subst (λ k. k < length tags) same lt)) in
     absurd (some_not_none (get_or tags i None) e free)
 next_by tags i lt e (inr other) le = grind (arith, le, other)
 
 -- an open tag is not the lowest free one
-pub next_below : (tags : List (Option Open)) (i : ℕ) → i < length tags → is_some (get_or tags i None) ≡ true → i ≤ lowest_free tags → i + 1 ≤ lowest_free tags
+pub next_below : (tags : List (Option OpenRequest)) (i : ℕ) → i < length tags → is_some (get_or tags i None) ≡ true → i ≤ lowest_free tags → i + 1 ≤ lowest_free tags
 next_below tags i lt e le = next_by tags i lt e (cases_eq i (lowest_free tags)) le
 
-lowest_by : (tags : List (Option Open)) (i : ℕ) → is_some (get_or tags i None) ≡ false → (i ≡ lowest_free tags) ⊎ (i ≡ lowest_free tags → ⊥) → i ≤ lowest_free tags → i ≡ lowest_free tags
+lowest_by : (tags : List (Option OpenRequest)) (i : ℕ) → is_some (get_or tags i None) ≡ false → (i ≡ lowest_free tags) ⊎ (i ≡ lowest_free tags → ⊥) → i ≤ lowest_free tags → i ≡ lowest_free tags
 lowest_by tags i e (inl same) le = same
 lowest_by tags i e (inr other) le =
     let busy = open_below tags i (grind (arith, le, other)) in absurd (let free = not_some (get_or tags i None) e in cc)
 
 -- a tag that is free, with none below it, is the lowest free one
-pub is_lowest : (tags : List (Option Open)) (i : ℕ) → is_some (get_or tags i None) ≡ false → i ≤ lowest_free tags → i ≡ lowest_free tags
+pub is_lowest : (tags : List (Option OpenRequest)) (i : ℕ) → is_some (get_or tags i None) ≡ false → i ≤ lowest_free tags → i ≡ lowest_free tags
 is_lowest tags i e le = lowest_by tags i e (cases_eq i (lowest_free tags)) le
 
-at_least_by : (tags : List (Option Open)) (i : ℕ) → i ≤ length tags → ((k : ℕ) → k < i → is_none (get_or tags k None) ≡ false) → (lowest_free tags < i) ⊎ (i ≤ lowest_free tags) → i ≤ lowest_free tags
+at_least_by : (tags : List (Option OpenRequest)) (i : ℕ) → i ≤ length tags → ((k : ℕ) → k < i → is_none (get_or tags k None) ≡ false) → (lowest_free tags < i) ⊎ (i ≤ lowest_free tags) → i ≤ lowest_free tags
 at_least_by tags i le open_all (inr h) = h
 at_least_by tags i le open_all (inl h) =
     let busy = open_all (lowest_free tags) h in
@@ -74,24 +74,24 @@ below_or_not : (a b : ℕ) → (a < b) ⊎ (b ≤ a)
 below_or_not a b = grind arith
 
 -- the lowest free tag is not below tags that are all open
-pub at_least : (tags : List (Option Open)) (i : ℕ) → i ≤ length tags → ((k : ℕ) → k < i → is_none (get_or tags k None) ≡ false) → i ≤ lowest_free tags
+pub at_least : (tags : List (Option OpenRequest)) (i : ℕ) → i ≤ length tags → ((k : ℕ) → k < i → is_none (get_or tags k None) ≡ false) → i ≤ lowest_free tags
 at_least tags i le open_all = at_least_by tags i le open_all (below_or_not (lowest_free tags) i)
 
 -- where a tag is opened, no tag below it becomes free
-pub still_open : (tags : List (Option Open)) (tag : ℕ) (o : Open) → tag < length tags → tag ≤ lowest_free tags → tag ≤ lowest_free (slice_set tags tag (Some o))
+pub still_open : (tags : List (Option OpenRequest)) (tag : ℕ) (o : OpenRequest) → tag < length tags → tag ≤ lowest_free tags → tag ≤ lowest_free (slice_set tags tag (Some o))
 still_open tags tag o lt le = at_least (slice_set tags tag (Some o)) tag (rw (length-set tags tag (Some o)) (omega (arith, lt)))
     (λ k below. rw (get_or-set_other tags tag k (Some o) None (λ e. omega (arith, e, below))) (open_below tags k (omega (arith, below, le))))
 
 -- ---- a tag is freed
 
-freed_by : (tags : List (Option Open)) (tag i : ℕ) → tag < length tags → i ≡ min (lowest_free tags) tag → (i ≡ tag) ⊎ (i ≡ tag → ⊥) → i < length (slice_set tags tag None) → is_none (get_or (slice_set tags tag None) i None) ≡ true
+freed_by : (tags : List (Option OpenRequest)) (tag i : ℕ) → tag < length tags → i ≡ min (lowest_free tags) tag → (i ≡ tag) ⊎ (i ≡ tag → ⊥) → i < length (slice_set tags tag None) → is_none (get_or (slice_set tags tag None) i None) ≡ true
 freed_by tags tag i lt e (inl same) h = rw (same, get_or-set_same tags tag None None lt) refl
 freed_by tags tag i lt e (inr other) h =
     let low : i ≡ lowest_free tags = grind (arith, e, other) in
     let small : lowest_free tags < length tags = grind (arith, e, other, lt) in
     rw (get_or-set_other tags tag i None None other, low) (free_at_lowest tags small)
 
-pub lowest_freed : (tags : List (Option Open)) (tag : ℕ) → tag < length tags → min (lowest_free tags) tag ≡ lowest_free (slice_set tags tag None)
+pub lowest_freed : (tags : List (Option OpenRequest)) (tag : ℕ) → tag < length tags → min (lowest_free tags) tag ≡ lowest_free (slice_set tags tag None)
 lowest_freed tags tag lt = sym (position_or_len_is is_none (slice_set tags tag None) (min (lowest_free tags) tag) None
     (rw (length-set tags tag None) (grind (arith, lt)))
     (λ k below. rw (get_or-set_other tags tag k None None (grind (arith, below))) (open_below tags k (grind (arith, below))))
@@ -99,21 +99,21 @@ lowest_freed tags tag lt = sym (position_or_len_is is_none (slice_set tags tag N
 
 -- ---- what each requester keeps
 
-at_other : (tags : List (Option Open)) (tag k : ℕ) (new : Option Open) (o : Open) → (k ≡ tag → ⊥) → get_or (slice_set tags tag new) k None ≡ Some o → get_or tags k None ≡ Some o
+at_other : (tags : List (Option OpenRequest)) (tag k : ℕ) (new : Option OpenRequest) (o : OpenRequest) → (k ≡ tag → ⊥) → get_or (slice_set tags tag new) k None ≡ Some o → get_or tags k None ≡ Some o
 at_other tags tag k new o other e = sym (get_or-set_other tags tag k new None other) ∙ e
 
-none_at : (tags : List (Option Open)) (tag : ℕ) (o : Open) → tag < length tags → get_or (slice_set tags tag None) tag None ≡ Some o → ⊥
+none_at : (tags : List (Option OpenRequest)) (tag : ℕ) (o : OpenRequest) → tag < length tags → get_or (slice_set tags tag None) tag None ≡ Some o → ⊥
 none_at tags tag o lt e = let n = get_or-set_same tags tag None None lt in cc
 
-number_at : (tags : List (Option Open)) (tag : ℕ) (o p : Open) → tag < length tags → get_or (slice_set tags tag (Some o)) tag None ≡ Some p → p.number ≡ o.number
-number_at tags tag o p lt e = let n = get_or-set_same tags tag (Some o) None lt in let same : ◌≡◌ {A = Option Open} (Some p) (Some o) = sym e ∙ n in ap (λ (q : Open). q.number) (some_is p o same)
+number_at : (tags : List (Option OpenRequest)) (tag : ℕ) (o p : OpenRequest) → tag < length tags → get_or (slice_set tags tag (Some o)) tag None ≡ Some p → p.number ≡ o.number
+number_at tags tag o p lt e = let n = get_or-set_same tags tag (Some o) None lt in let same : ◌≡◌ {A = Option OpenRequest} (Some p) (Some o) = sym e ∙ n in ap (λ (q : OpenRequest). q.number) (some_is p o same)
 
-given_by : (s : Requesting) (tag : ℕ) (o : Open) → IsSound s → tag < length s.open_tags → o.number ≡ s.next → (k : ℕ) (p : Open) → (k ≡ tag) ⊎ (k ≡ tag → ⊥) → get_or (slice_set s.open_tags tag (Some o)) k None ≡ Some p → p.number < s.next + 1
+given_by : (s : Requesting) (tag : ℕ) (o : OpenRequest) → IsSound s → tag < length s.open_tags → o.number ≡ s.next → (k : ℕ) (p : OpenRequest) → (k ≡ tag) ⊎ (k ≡ tag → ⊥) → get_or (slice_set s.open_tags tag (Some o)) k None ≡ Some p → p.number < s.next + 1
 given_by s tag o h lt e k p (inl same) is =
     let n = number_at s.open_tags tag o p lt (subst (λ k. get_or (slice_set s.open_tags tag (Some o)) k None ≡ Some p) same is) in omega (arith, n, e)
 given_by s tag o h lt e k p (inr other) is = let n = h.given k p (at_other s.open_tags tag k (Some o) p other is) in omega (arith, n)
 
-one_by : (s : Requesting) (tag : ℕ) (o : Open) → IsSound s → tag < length s.open_tags → o.number ≡ s.next → (k j : ℕ) (p q : Open) → (k ≡ tag) ⊎ (k ≡ tag → ⊥) → (j ≡ tag) ⊎ (j ≡ tag → ⊥) → get_or (slice_set s.open_tags tag (Some o)) k None ≡ Some p → get_or (slice_set s.open_tags tag (Some o)) j None ≡ Some q → p.number ≡ q.number → k ≡ j
+one_by : (s : Requesting) (tag : ℕ) (o : OpenRequest) → IsSound s → tag < length s.open_tags → o.number ≡ s.next → (k j : ℕ) (p q : OpenRequest) → (k ≡ tag) ⊎ (k ≡ tag → ⊥) → (j ≡ tag) ⊎ (j ≡ tag → ⊥) → get_or (slice_set s.open_tags tag (Some o)) k None ≡ Some p → get_or (slice_set s.open_tags tag (Some o)) j None ≡ Some q → p.number ≡ q.number → k ≡ j
 one_by s tag o h lt e k j p q (inl a) (inl b) is_p is_q same = a ∙ sym b
 one_by s tag o h lt e k j p q (inl a) (inr b) is_p is_q same =
     let n = number_at s.open_tags tag o p lt (subst (λ k. get_or (slice_set s.open_tags tag (Some o)) k None ≡ Some p) a is_p) in
@@ -125,7 +125,7 @@ one_by s tag o h lt e k j p q (inr a) (inr b) is_p is_q same =
     h.one_tag k j p q (at_other s.open_tags tag k (Some o) p a is_p) (at_other s.open_tags tag j (Some o) q b is_q) same
 
 -- the next number under a tag
-pub sound_opened : (s : Requesting) (tag : ℕ) (o : Open) → IsSound s → tag < length s.open_tags → o.number ≡ s.next → s.next < 4294967295 → IsSound (record { port = s.port; next = s.next + 1; open_tags = slice_set s.open_tags tag (Some o) })
+pub sound_opened : (s : Requesting) (tag : ℕ) (o : OpenRequest) → IsSound s → tag < length s.open_tags → o.number ≡ s.next → s.next < 4294967295 → IsSound (record { port = s.port; next = s.next + 1; open_tags = slice_set s.open_tags tag (Some o) })
 sound_opened s tag o h lt e few = record {
   some_port = h.some_port;
   few_ports = h.few_ports;
@@ -139,7 +139,7 @@ sound_opened s tag o h lt e few = record {
 pub sound_spent : (s : Requesting) → IsSound s → s.next < 4294967295 → IsSound (record { port = s.port; next = s.next + 1; open_tags = s.open_tags })
 sound_spent s h few = record { some_port = h.some_port; few_ports = h.few_ports; numbers = omega (arith, few); tags = h.tags; given = λ k p is. omega (arith, h.given k p is); one_tag = h.one_tag }
 
-still_at : (s : Requesting) (tag k : ℕ) (p : Open) → tag < length s.open_tags → (k ≡ tag) ⊎ (k ≡ tag → ⊥) → get_or (slice_set s.open_tags tag None) k None ≡ Some p → get_or s.open_tags k None ≡ Some p
+still_at : (s : Requesting) (tag k : ℕ) (p : OpenRequest) → tag < length s.open_tags → (k ≡ tag) ⊎ (k ≡ tag → ⊥) → get_or (slice_set s.open_tags tag None) k None ≡ Some p → get_or s.open_tags k None ≡ Some p
 still_at s tag k p lt (inl same) is = absurd (none_at s.open_tags tag p lt (subst (λ k. get_or (slice_set s.open_tags tag None) k None ≡ Some p) same is))
 still_at s tag k p lt (inr other) is = at_other s.open_tags tag k None p other is
 
@@ -154,9 +154,9 @@ sound_freed s tag h lt = record {
   one_tag = λ k j p q is_p is_q same. h.one_tag k j p q (still_at s tag k p lt (cases_eq k tag) is_p) (still_at s tag j q lt (cases_eq j tag) is_q) same;
 }
 
-none_open : (port k : ℕ) (o : Open) → (k < 256) ⊎ (256 ≤ k) → get_or (replicate 256 None) k None ≡ Some o → ⊥
-none_open port k o (inl lt) e = let n = get_or-replicate {A = Option Open} 256 k None None lt in cc
-none_open port k o (inr le) e = let n = get_or_past (replicate {A = Option Open} 256 None) k None (rw (length-replicate {A = Option Open} 256 None) le) in cc
+none_open : (port k : ℕ) (o : OpenRequest) → (k < 256) ⊎ (256 ≤ k) → get_or (replicate 256 None) k None ≡ Some o → ⊥
+none_open port k o (inl lt) e = let n = get_or-replicate {A = Option OpenRequest} 256 k None None lt in cc
+none_open port k o (inr le) e = let n = get_or_past (replicate {A = Option OpenRequest} 256 None) k None (rw (length-replicate {A = Option OpenRequest} 256 None) le) in cc
 
 -- a new requester
 pub sound_fresh : (port : ℕ) → 1 ≤ port → port ≤ 7 → IsSound (fresh port)
@@ -164,7 +164,7 @@ sound_fresh port h1 h2 = record {
   some_port = h1;
   few_ports = h2;
   numbers = omega arith;
-  tags = length-replicate {A = Option Open} 256 None;
+  tags = length-replicate {A = Option OpenRequest} 256 None;
   given = λ k o is. absurd (none_open port k o (below_or_not k 256) is);
   one_tag = λ k j o p is_o is_p same. absurd (none_open port k o (below_or_not k 256) is_o);
 }

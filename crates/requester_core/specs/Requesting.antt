@@ -12,7 +12,7 @@ use Rattle.tlp_core.specs.Packet.{Packet}
 use Rattle.tlp_core.specs.Operation.{op_fault, is_posted, is_completion}
 use Rattle.seq_memory.specs.declared.Reply.{Reply}
 use Rattle.seq_memory.specs.declared.Reply.TheVariants as replies
-use Rattle.requester_core.specs.declared.requester.Open.{Open}
+use Rattle.requester_core.specs.declared.requester.OpenRequest.{OpenRequest}
 use Rattle.requester_core.specs.declared.requester.Answer.{Answer}
 use Rattle.requester_core.specs.declared.fault.SubmitRefusal.{SubmitRefusal}
 use Rattle.requester_core.specs.declared.fault.SubmitRefusal.TheVariants as refusals
@@ -26,18 +26,18 @@ pub record Requesting : Type 0 where
   -- the number of the next request, which is also how many there were
   pub next : ℕ
   -- for each tag, the request that is open under it
-  pub open_tags : List (Option Open)
+  pub open_tags : List (Option OpenRequest)
 
 -- a requester that has asked for nothing
 abbrev pub fresh : ℕ → Requesting
 fresh port = record { port = port; next = 0; open_tags = replicate 256 None }
 
 -- the lowest free tag; 256 where all are open
-abbrev pub lowest_free : List (Option Open) → ℕ
+abbrev pub lowest_free : List (Option OpenRequest) → ℕ
 lowest_free tags = position_or_len is_none tags
 
 -- what is open under a tag
-abbrev pub open_at : Requesting → ℕ → Option Open
+abbrev pub open_at : Requesting → ℕ → Option OpenRequest
 open_at s tag = get_or s.open_tags tag None
 
 -- ---- a request is prepared
@@ -74,7 +74,7 @@ abbrev pub size_for : Kind → ℕ → ℕ
 size_for kinds.Cas dw = 2 * dw
 size_for _ dw = 4 * dw
 
-abbrev pub opens : Kind → List (Option Open) → ℕ → Open → List (Option Open)
+abbrev pub opens : Kind → List (Option OpenRequest) → ℕ → OpenRequest → List (Option OpenRequest)
 opens kinds.MemoryWrite tags tag o = tags
 opens _ tags tag o = slice_set tags tag (Some o)
 
@@ -90,24 +90,24 @@ abbrev pub is_ours : Requesting → Packet → Bool
 is_ours s t = is_completion t.kind && (t.requester == s.port * 256)
 
 -- the request that a packet completes
-abbrev pub completed : Requesting → Packet → Option Open
+abbrev pub completed : Requesting → Packet → Option OpenRequest
 completed s t = if is_ours s t then open_at s t.tag else None
 
 -- the reply that a completion of a request of that size carries; none where they don't agree
-abbrev pub reply_of : ℕ → Kind → Body → List ℕ → Option Reply
-reply_of size kinds.CompletionData (bodies.Completion c statuses.Success n lower) bytes =
+abbrev pub reply_carried : ℕ → Kind → Body → List ℕ → Option Reply
+reply_carried size kinds.CompletionData (bodies.Completion c statuses.Success n lower) bytes =
     if length bytes == size then Some (replies.Data (record { items = bytes })) else None
-reply_of size kinds.Completion (bodies.Completion c statuses.Unsupported n lower) bytes = Some replies.Unsupported
-reply_of size kinds.Completion (bodies.Completion c statuses.Aborted n lower) bytes = Some replies.Aborted
-reply_of _ _ _ _ = None
+reply_carried size kinds.Completion (bodies.Completion c statuses.Unsupported n lower) bytes = Some replies.Unsupported
+reply_carried size kinds.Completion (bodies.Completion c statuses.Aborted n lower) bytes = Some replies.Aborted
+reply_carried _ _ _ _ = None
 
 abbrev pub answered : ℕ → Option Reply → Result Answer CompletionFault
 answered number None = Err faults.Mismatch
 answered number (Some reply) = Ok (record { number = number; reply = reply })
 
-abbrev pub finished_by : Option Open → Packet → Result Answer CompletionFault
+abbrev pub finished_by : Option OpenRequest → Packet → Result Answer CompletionFault
 finished_by None t = Err faults.Unexpected
-finished_by (Some o) t = answered o.number (reply_of o.size t.kind t.body t.payload)
+finished_by (Some o) t = answered o.number (reply_carried o.size t.kind t.body t.payload)
 
 -- the number and the reply of the request that is completed, or the first cause that refuses the packet
 abbrev pub finished : Requesting → Packet → Result Answer CompletionFault
@@ -129,5 +129,5 @@ pub record IsSound (s : Requesting) : Type 0 where
   pub few_ports : s.port ≤ 7
   pub numbers : s.next ≤ 4294967295
   pub tags : length s.open_tags ≡ 256
-  pub given : (tag : ℕ) (o : Open) → open_at s tag ≡ Some o → o.number < s.next
-  pub one_tag : (tag other : ℕ) (o p : Open) → open_at s tag ≡ Some o → open_at s other ≡ Some p → o.number ≡ p.number → tag ≡ other
+  pub given : (tag : ℕ) (o : OpenRequest) → open_at s tag ≡ Some o → o.number < s.next
+  pub one_tag : (tag other : ℕ) (o p : OpenRequest) → open_at s tag ≡ Some o → open_at s other ≡ Some p → o.number ≡ p.number → tag ≡ other

@@ -2,7 +2,7 @@
 use Rattle.std.specs.Prelude.{◌≡◌, ℕ, List, [], ◌∷◌, ◌++◌, Some, Result, Ok, Err, Contains}
 use Rattle.tlp_core.specs.declared.operation.Op.{Op}
 use Rattle.tlp_core.specs.Packet.{Packet}
-use Rattle.requester_core.specs.declared.requester.Open.{Open}
+use Rattle.requester_core.specs.declared.requester.OpenRequest.{OpenRequest}
 use Rattle.requester_core.specs.declared.requester.Answer.{Answer}
 use Rattle.requester_core.specs.declared.fault.SubmitRefusal.{SubmitRefusal}
 use Rattle.requester_core.specs.declared.fault.CompletionFault.{CompletionFault}
@@ -59,6 +59,6 @@ NoneTwice (n ∷ ns) = (Contains ns n → ⊥) × NoneTwice ns
 -- a number that waits for its completion
 pub record IsOpen (s : Requesting) (number : ℕ) : Type 0 where
   pub tag : ℕ
-  pub request : Open
+  pub request : OpenRequest
   pub is : open_at s tag ≡ Some request
   pub same : request.number ≡ number

@@ -1,6 +1,6 @@
 //! Why a request is not prepared, or a packet completes none.
 ghost use Rattle.std.specs.Prelude.{◌≡◌};
-ghost use Rattle.requester_core.specs.Faults.{refusal_number, fault_number};
+ghost use Rattle.requester_core.specs.Faults.{refusal_number, refusal_name, fault_number, fault_name};
 
 use thiserror::Error;
 use tlp_core::TlpFault;
@@ -30,16 +30,26 @@ impl SubmitRefusal {
             SubmitRefusal::NumbersUsed => 3,
         }
     }
+
+    /// The name under which it is told.
+    pub fn name(self) -> &'static str
+        ensures { result.now ≡ refusal_name self }
+    {
+        match self {
+            SubmitRefusal::Profile(_) => "Profile",
+            SubmitRefusal::TagsUsed => "TagsUsed",
+            SubmitRefusal::NumbersUsed => "NumbersUsed",
+        }
+    }
 }
 
 /// Why a packet completes no request, in the order of the tests.
 #[derive(Clone, Copy, Debug, PartialEq, Eq, Error)]
+#[error("{}", self.name())]
 pub enum CompletionFault {
     /// No completion, one for another Requester ID, or one with a tag that is not open.
-    #[error("Unexpected")]
     Unexpected,
     /// Status SC without data, data with another status, or data of another length.
-    #[error("Mismatch")]
     Mismatch,
 }
 
@@ -51,6 +61,16 @@ impl CompletionFault {
         match self {
             CompletionFault::Unexpected => 1,
             CompletionFault::Mismatch => 2,
+        }
+    }
+
+    /// The name under which it is told.
+    pub fn name(self) -> &'static str
+        ensures { result.now ≡ fault_name self }
+    {
+        match self {
+            CompletionFault::Unexpected => "Unexpected",
+            CompletionFault::Mismatch => "Mismatch",
         }
     }
 }

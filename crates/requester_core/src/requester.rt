@@ -13,7 +13,7 @@ pub const TAGS: usize = 256;
 
 /// A request that waits for its completion.
 #[derive(Clone, Copy, Debug, PartialEq, Eq)]
-pub struct Open {
+pub struct OpenRequest {
     /// Its number.
     pub number: u32,
     /// How many bytes of data its completion has, where it is served: 4 to 4096.
@@ -34,7 +34,7 @@ pub struct Answer {
 pub struct Requester {
     port: u8,
     next: u32,
-    open_tags: [Option<Open>; TAGS],
+    open_tags: [Option<OpenRequest>; TAGS],
     /// The lowest free tag, [`TAGS`] where all are open.
     lowest: usize,
 }
@@ -105,7 +105,7 @@ impl Requester {
         requires { IsPrepared self.old request.now }
         ensures { self.new ≡ after_opened self.old request.now }
     {
-        let open = Open {
+        let open = OpenRequest {
             number: self.next,
             size: size_for(request.kind, request.length),
         };
@@ -116,7 +116,7 @@ impl Requester {
     }
 
     /// The request of the next number is open under the lowest free tag.
-    fn open_tag(&mut self, tag: u8, request: Open)
+    fn open_tag(&mut self, tag: u8, request: OpenRequest)
         requires lowest { tag ≡ lowest_free self.old.open_tags }
         requires number { request.number ≡ self.old.next }
         requires few { self.old.next < 4294967295 }
@@ -138,7 +138,7 @@ impl Requester {
     }
 
     /// The request that the packet completes.
-    fn completed(&self, packet: &Tlp) -> Option<Open>
+    fn completed(&self, packet: &Tlp) -> Option<OpenRequest>
         ensures { result ≡ completed self.now packet.now }
     {
         let ours = packet.requester == u16::from(self.port) * 256;
@@ -160,7 +160,7 @@ impl Requester {
         let Some(open) = self.completed(completion) else {
             return Err(CompletionFault::Unexpected);
         };
-        let Some(reply) = reply_of(open.size, completion) else {
+        let Some(reply) = reply_carried(open.size, completion) else {
             return Err(CompletionFault::Mismatch);
         };
         self.close_tag(completion.tag);
@@ -172,7 +172,7 @@ impl Requester {
 }
 
 ghost use Rattle.std.specs.Prelude.{replicate};
-ghost use Rattle.requester_core.specs.Requesting.{lowest_free, size_for, reply_of};
+ghost use Rattle.requester_core.specs.Requesting.{lowest_free, size_for, reply_carried};
 
 /// How many bytes of data the completion of a request has, where it is served.
 fn size_for(kind: Kind, dw: u16) -> u16
@@ -186,8 +186,8 @@ fn size_for(kind: Kind, dw: u16) -> u16
 }
 
 /// The reply that a completion of a request of that size carries.
-fn reply_of(size: u16, completion: &Tlp) -> Option<Reply>
-    ensures { result ≡ reply_of size completion.now.kind completion.now.body completion.now.payload }
+fn reply_carried(size: u16, completion: &Tlp) -> Option<Reply>
+    ensures { result ≡ reply_carried size completion.now.kind completion.now.body completion.now.payload }
 {
     let Body::Completion { status, .. } = completion.body else {
         return None;
@@ -212,14 +212,14 @@ fn data_of(size: u16, payload: &ArrayVec<u8, MAX_PAYLOAD>) -> Option<Reply>
     Some(Reply::Data(bytes))
 }
 
-fn no_tags() -> [Option<Open>; TAGS]
+fn no_tags() -> [Option<OpenRequest>; TAGS]
     ensures { result ≡ replicate 256 None }
 {
     [None; TAGS]
 }
 
 /// The lowest free tag, where none below `from` is free.
-fn free_from(tags: &[Option<Open>], from: usize) -> usize
+fn free_from(tags: &[Option<OpenRequest>], from: usize) -> usize
     requires { from ≤ lowest_free tags.now }
     ensures { result ≡ lowest_free tags.now }
 {

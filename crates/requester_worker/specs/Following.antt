@@ -38,7 +38,8 @@ abbrev pub AreApart : List (ℕ × ℕ) → Type 0
 AreApart [] = Unit {0}
 AreApart (w ∷ ws) = Each (λ (v : ℕ × ℕ). v.0 ≢ w.0) ws × AreApart ws
 
--- what requester i pushed and what it is about to push are the submissions and answers of its seat, which follows the script
+-- what requester i pushed and what it is about to push are the submissions and answers of its seat, which follows the
+-- script
 pub record Keeps (i : ℕ) (script made : List Op) (pending : List (ℕ × ℕ)) (log : List Record) (next due : ℕ) : Type 0 where
   pub submitted : submissions log i ≡ made
   pub begun : made ≡ take next script

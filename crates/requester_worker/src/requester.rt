@@ -19,8 +19,8 @@ pub struct Requester<'a> {
     hall: &'a Hall,
     recorder: &'a Recorder,
     script: &'a [Op],
-    number: u8,
     seat: ReqSeat,
+    number: u8,
     pusher: Pusher,
     /// The place in the script of what is submitted next.
     next: usize,

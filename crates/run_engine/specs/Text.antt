@@ -46,7 +46,8 @@ abbrev pub halt_status : RunHalt → ℕ
 halt_status halts.Turns = 3
 halt_status _ = 1
 
--- the text of a report whose history explains its trace, in which each requester submitted its additions and has an answer to each
+-- the text of a report whose history explains its trace, in which each requester submitted its additions and has an
+-- answer to each
 pub record IsReport (c : Counting) (text : List ℕ) : Type 0 where
   pub trace : Observation
   pub fabric : Fabric

@@ -16,12 +16,12 @@ use byteorder::{ByteOrder, LittleEndian};
 use counting::Counting;
 use history_check::Record;
 use line_engine::{EngineFault, write_out};
+use operation_text::write_decimal;
 use std::alloc::Global;
 use std::io::Write;
 use std::sync::Wait;
 use std::sync::atomic::AtomicU64;
 use std::thread::Threads;
-use trace_text::write_decimal;
 use workers::{OpenGate, Report, RunHalt, run_workers_counting};
 
 /// Whether the record is an answer.

@@ -53,7 +53,8 @@ IsFlaw first _ = ⊥
 abbrev pub IsOfMemory : Config → Observation → Type 0
 IsOfMemory c trace = (trace.base ≡ c.base) × (trace.size ≡ c.size) × (trace.block ≡ c.block)
 
--- what the halt of a run that began shows: a flaw is the first of a trace of the memory and a history; a part that was held has a word
+-- what the halt of a run that began shows: a flaw is the first of a trace of the memory and a history; a part that was
+-- held has a word
 abbrev pub IsEndBy : Config → RunHalt → Type 0
 IsEndBy c halts.Plan = ⊥
 IsEndBy c (halts.Flaw f) = (trace : Observation) × (history : List Entry) × IsOfMemory c trace × (first_flaw (claim_of trace history) ≡ Some (f.kind, f.place))

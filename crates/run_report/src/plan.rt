@@ -1,5 +1,5 @@
 //! What a run is to do, and the fabric for it.
-ghost use Rattle.std.specs.Prelude.{◌≡◌, IfOk, IfErr};
+ghost use Rattle.std.specs.Prelude.{IfOk, IfErr};
 ghost use Rattle.fabric_core.specs.Config.{IsNewWith};
 ghost use Rattle.hall_core.specs.Opens.{IsUnused};
 ghost use Rattle.run_report.specs.Halts.{IsPlan, IsCause};

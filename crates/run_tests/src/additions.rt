@@ -2,7 +2,7 @@
 use fabric_core::{Config, Refusal};
 use fault_plan::Plan;
 use fc_credit::LaneCredits;
-use history_check::{Record, check};
+use history_check::Record;
 use requester_core::SubmitRefusal;
 use seq_memory::Reply;
 use std::alloc::{AllocError, Global};

@@ -14,11 +14,11 @@ use Rattle.tlp_core.specs.declared.operation.Op.TheVariants as ops
 use Rattle.tlp_core.specs.declared.operation.Width.{Width}
 use Rattle.tlp_core.specs.declared.operation.Width.TheVariants as widths
 use Rattle.tlp_core.specs.Operation.{size_of}
-use Rattle.trace_text.specs.Numbers.{numeral, byte_string, operand_of}
-use Rattle.trace_text.specs.Operations as spelled
-use Rattle.trace_text.specs.Operations.{op_of}
-use Rattle.trace_text.specs.Texts.{hexadecimal, operand_word, op_words}
-use Rattle.trace_file.specs.Tellable.{IsSpelledOp}
+use Rattle.operation_text.specs.Numbers.{numeral, byte_string, operand_of}
+use Rattle.operation_text.specs.Operations as spelled
+use Rattle.operation_text.specs.Operations.{op_spelled}
+use Rattle.operation_text.specs.Texts.{hexadecimal, operand_word, op_words}
+use Rattle.trace_format.specs.Tellable.{IsSpelledOp}
 use Rattle.script_lines.specs.Spelled.{IsData, IsOperand, IsInRange}
 
 bytes-read : (bytes : List ℕ) → IsData bytes → byte_string (encode_upper bytes) ≡ Some bytes
@@ -65,7 +65,7 @@ pub record Digits : Type 0 where
   pub decimal : (most n : ℕ) → n ≤ most → n < 2 ^ 64 → numeral 10 most (decimal n) ≡ Some n
   pub hexadecimal : (most n : ℕ) → n ≤ most → n < 2 ^ 64 → numeral 16 most (hexadecimal n) ≡ Some n
 
-op-reads : Digits → (op : Op) → IsInRange op → op_of (op_words op) ≡ Some op
+op-reads : Digits → (op : Op) → IsInRange op → op_spelled (op_words op) ≡ Some op
 op-reads digits (ops.Read a dw f l) h =
     rw (
       digits.hexadecimal 18446744073709551615 a (omega (arith, h.0)) (omega (arith, h.0)),

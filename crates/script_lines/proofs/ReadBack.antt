@@ -20,13 +20,12 @@ use Rattle.fabric_core.specs.declared.event.LaneName.{LaneName}
 use Rattle.fabric_core.specs.declared.event.LaneName.TheVariants as lanes
 use Rattle.fabric_core.specs.declared.event.Event.{Event}
 use Rattle.fabric_core.specs.declared.event.Event.TheVariants as events
-use Rattle.trace_text.specs.Words.{words}
-use Rattle.trace_text.specs.Numbers.{numeral}
-use Rattle.trace_text.specs.Operations.{op_of}
-use Rattle.trace_text.specs.Texts.{hexadecimal, op_text, IsPrinted, IsPrintedChar}
+use Rattle.operation_text.specs.Words.{words}
+use Rattle.operation_text.specs.Numbers.{numeral}
+use Rattle.operation_text.specs.Operations.{op_spelled}
+use Rattle.operation_text.specs.Texts.{hexadecimal, op_text, IsPrinted, IsPrintedChar}
 use Rattle.script_text.specs.declared.line.Line.TheVariants as lines
 use Rattle.script_text.specs.Forms as forms
-use Rattle.script_text.specs.Forms.{line_of}
 use Rattle.script_lines.specs.Texts.{lane_text, fate_text, kind_text, event_line, credits_text, fabric_line}
 use Rattle.script_lines.specs.Spelled.{IsSpelledLane, IsSpelledEvent, IsLineOf}
 
@@ -39,9 +38,9 @@ pub record Laws : Type 0 where
   pub hexadecimal_word : (n : ℕ) (line : List ℕ) → words (hexadecimal n ++ 32 ∷ line) ≡ hexadecimal n ∷ words line
   pub printed : (n : ℕ) → IsPrinted (decimal n) × IsPrinted (hexadecimal n)
   pub short : (n : ℕ) → n < 2 ^ 64 → (length (decimal n) ≤ 20) × (length (hexadecimal n) ≤ 16)
-  pub op_back : (ws : List (List ℕ)) (op : Op) → op_of ws ≡ Some op → op_of (words (op_text op)) ≡ Some op
-  pub op_printed : (ws : List (List ℕ)) (op : Op) → op_of ws ≡ Some op → IsPrinted (op_text op)
-  pub op_short : (ws : List (List ℕ)) (op : Op) → op_of ws ≡ Some op → length (op_text op) ≤ 320
+  pub op_back : (ws : List (List ℕ)) (op : Op) → op_spelled ws ≡ Some op → op_spelled (words (op_text op)) ≡ Some op
+  pub op_printed : (ws : List (List ℕ)) (op : Op) → op_spelled ws ≡ Some op → IsPrinted (op_text op)
+  pub op_short : (ws : List (List ℕ)) (op : Op) → op_spelled ws ≡ Some op → length (op_text op) ≤ 320
 
 -- ---- printed texts
 

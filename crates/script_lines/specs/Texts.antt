@@ -13,7 +13,7 @@ use Rattle.fabric_core.specs.declared.event.LaneName.{LaneName}
 use Rattle.fabric_core.specs.declared.event.LaneName.TheVariants as lanes
 use Rattle.fabric_core.specs.declared.event.Event.{Event}
 use Rattle.fabric_core.specs.declared.event.Event.TheVariants as events
-use Rattle.trace_text.specs.Texts.{hexadecimal, op_text}
+use Rattle.operation_text.specs.Texts.{hexadecimal, op_text}
 
 -- words with a space between each two
 abbrev pub spaced : List (List ℕ) → List ℕ

@@ -9,7 +9,7 @@ use dllp_core::Class;
 use fabric_core::{Config, Event, LaneName};
 use fc_credit::LaneCredits;
 use lane_core::{DllpKind, Fate};
-use trace_text::{write_decimal, write_hexadecimal, write_op};
+use operation_text::{write_decimal, write_hexadecimal, write_op};
 
 /// Adds a word and a number.
 fn put_number(word: &str, number: u64, out: &mut ArrayString<512>)

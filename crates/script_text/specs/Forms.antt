@@ -10,9 +10,9 @@ use Rattle.fabric_core.specs.declared.event.LaneName.{LaneName}
 use Rattle.fabric_core.specs.declared.event.LaneName.TheVariants as lanes
 use Rattle.fabric_core.specs.declared.event.Event.{Event}
 use Rattle.fabric_core.specs.declared.event.Event.TheVariants as events
-use Rattle.trace_text.specs.Words.{then_with, field, ended}
-use Rattle.trace_text.specs.Numbers.{numeral}
-use Rattle.trace_text.specs.Operations.{address, op_of}
+use Rattle.operation_text.specs.Words.{then_with, field, ended}
+use Rattle.operation_text.specs.Numbers.{numeral}
+use Rattle.operation_text.specs.Operations.{address, op_spelled}
 use Rattle.script_text.specs.declared.line.Line.{Line}
 use Rattle.script_text.specs.declared.line.Line.TheVariants as lines
 
@@ -90,7 +90,7 @@ fabric_of ws = field octet (λ requesters. field address (λ base. field count (
 -- ---- events
 
 abbrev pub submit_of : List (List ℕ) → Option Event
-submit_of ws = field octet (λ i rest. then_with (op_of rest) (λ op. Some (events.Submit i op))) ws
+submit_of ws = field octet (λ i rest. then_with (op_spelled rest) (λ op. Some (events.Submit i op))) ws
 
 abbrev pub transmit_of : List (List ℕ) → Option Event
 transmit_of ws = field lane (λ l. ended (events.Transmit l)) ws

@@ -1,7 +1,7 @@
 -- The text of what is seen of an event.
-use Rattle.std.specs.Prelude.{ℕ, ◌/◌, ◌%◌, Bool, true, false, List, [], ◌∷◌, codes}
+use Rattle.std.specs.Prelude.{ℕ, ◌%◌, Bool, true, false, List, [], ◌∷◌, codes}
 use Rattle.std.specs.List.{join_with_byte}
-use Rattle.std.specs.Fmt.{decimal, digit_glyph}
+use Rattle.std.specs.Fmt.{decimal}
 use Rattle.hex.specs.Hex.{encode_upper}
 use Rattle.dllp_core.specs.declared.packet.Dllp.{Dllp}
 use Rattle.dllp_core.specs.declared.packet.Dllp.TheVariants as dllps
@@ -18,15 +18,11 @@ use Rattle.fabric_core.specs.declared.event.Event.{Event}
 use Rattle.fabric_core.specs.declared.event.Event.TheVariants as events
 use Rattle.fabric_core.specs.declared.event.Seen.{Seen}
 use Rattle.fabric_core.specs.declared.event.Seen.TheVariants as seen
-use Rattle.trace_text.specs.Texts.{reply_text}
+use Rattle.operation_text.specs.Texts.{sequence_text, reply_text}
 
 -- words with a space between each two
 abbrev pub spaced : List (List ℕ) → List ℕ
 spaced ws = join_with_byte 32 ws
-
--- a sequence number: three hexadecimal digits
-abbrev pub sequence_text : ℕ → List ℕ
-sequence_text n = digit_glyph true (n / 256) ∷ digit_glyph true (n / 16 % 16) ∷ digit_glyph true (n % 16) ∷ []
 
 -- the credits of an UpdateFC are counted modulo those of their field
 abbrev pub in_field : Dllp → Dllp

@@ -1,12 +1,12 @@
 //! The lines of events.
 ghost use Rattle.std.specs.Prelude.{◌≡◌, true, false, MatchOption, option_map};
-ghost use Rattle.trace_text.specs.Words.{words_behind, has_ended};
+ghost use Rattle.operation_text.specs.Words.{words_behind, has_ended};
 ghost use Rattle.script_text.specs.Forms as forms;
 
 use crate::fields::{count, fate, is_name, kind, lane, octet};
 use crate::line::Line;
 use fabric_core::Event;
-use trace_text::{is_ended, op_behind};
+use operation_text::{is_ended, op_behind};
 
 /// Some where the line ends here.
 fn end(rest: Option<&[u8]>) -> Option<()>

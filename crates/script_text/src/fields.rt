@@ -1,12 +1,12 @@
 //! The fields of a script's line.
-ghost use Rattle.std.specs.Prelude.{◌≡◌, [], ◌∷◌, option_map, MatchOption, bytes_eq};
-ghost use Rattle.trace_text.specs.Words.{words_behind, first_field};
+ghost use Rattle.std.specs.Prelude.{◌≡◌, option_map, bytes_eq};
+ghost use Rattle.operation_text.specs.Words.{words_behind, first_field};
 ghost use Rattle.script_text.specs.Forms as forms;
 
 use dllp_core::Class;
 use fabric_core::LaneName;
 use lane_core::{DllpKind, Fate};
-use trace_text::{cut, number};
+use operation_text::{next_word, number};
 
 /// Whether the word is that name.
 pub(crate) fn is_name(word: &[u8], name: &[u8]) -> bool
@@ -19,13 +19,6 @@ pub(crate) fn is_name(word: &[u8], name: &[u8]) -> bool
         return false;
     };
     *first == *wanted && is_name(word, name)
-}
-
-/// The next word, and what is behind it; none at the end of the line.
-pub(crate) fn next(rest: Option<&[u8]>) -> Option<(&[u8], Option<&[u8]>)>
-    ensures { MatchOption result (words_behind rest.entry ≡ []) (λ s. words_behind rest.entry ≡ s.0.now ∷ words_behind s.1) }
-{
-    Some(cut(rest?))
 }
 
 pub(crate) fn octet(rest: Option<&[u8]>) -> Option<(u8, Option<&[u8]>)>
@@ -79,7 +72,7 @@ fn lane_in(word: &[u8]) -> Option<LaneName>
 pub(crate) fn lane(rest: Option<&[u8]>) -> Option<(LaneName, Option<&[u8]>)>
     ensures { first_field forms.lane (words_behind rest.entry) ≡ option_map (λ s. (s.0, words_behind s.1)) result }
 {
-    let (word, rest) = next(rest)?;
+    let (word, rest) = next_word(rest)?;
     Some((lane_in(word)?, rest))
 }
 
@@ -100,7 +93,7 @@ fn fate_in(word: &[u8]) -> Option<Fate>
 pub(crate) fn fate(rest: Option<&[u8]>) -> Option<(Fate, Option<&[u8]>)>
     ensures { first_field forms.fate (words_behind rest.entry) ≡ option_map (λ s. (s.0, words_behind s.1)) result }
 {
-    let (word, rest) = next(rest)?;
+    let (word, rest) = next_word(rest)?;
     Some((fate_in(word)?, rest))
 }
 
@@ -123,6 +116,6 @@ fn kind_in(word: &[u8]) -> Option<DllpKind>
 pub(crate) fn kind(rest: Option<&[u8]>) -> Option<(DllpKind, Option<&[u8]>)>
     ensures { first_field forms.kind (words_behind rest.entry) ≡ option_map (λ s. (s.0, words_behind s.1)) result }
 {
-    let (word, rest) = next(rest)?;
+    let (word, rest) = next_word(rest)?;
     Some((kind_in(word)?, rest))
 }

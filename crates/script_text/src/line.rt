@@ -1,13 +1,13 @@
 //! The lines of a script.
 ghost use Rattle.std.specs.Prelude.{◌≡◌, option_map};
-ghost use Rattle.trace_text.specs.Words.{words, words_behind};
+ghost use Rattle.operation_text.specs.Words.{words, words_behind};
 ghost use Rattle.script_text.specs.Forms as forms;
 
 use crate::events::event_by;
-use crate::fields::{count, is_name, next, octet, short};
+use crate::fields::{count, is_name, octet, short};
 use fabric_core::{Config, Event};
 use fc_credit::LaneCredits;
-use trace_text::{cut, is_ended, number};
+use operation_text::{cut, is_ended, next_word, number};
 
 /// The bytes of a block where the line doesn't tell them.
 const DEFAULT_BLOCK: u16 = 64;
@@ -48,7 +48,7 @@ fn six_credits(rest: Option<&[u8]>) -> Option<(LaneCredits, Option<&[u8]>)>
 fn credits(rest: Option<&[u8]>) -> Option<(LaneCredits, Option<&[u8]>)>
     ensures { forms.credits_of (words_behind rest.entry) ≡ option_map (λ s. (s.0, words_behind s.1)) result }
 {
-    match next(rest) {
+    match next_word(rest) {
         Some((word, _)) if word != b"block".as_slice() => six_credits(rest),
         _ => Some((LaneCredits::DEFAULT, rest)),
     }
@@ -58,7 +58,7 @@ fn credits(rest: Option<&[u8]>) -> Option<(LaneCredits, Option<&[u8]>)>
 fn block(rest: Option<&[u8]>) -> Option<u16>
     ensures { result ≡ forms.block_of (words_behind rest.entry) }
 {
-    let Some((word, rest)) = next(rest) else {
+    let Some((word, rest)) = next_word(rest) else {
         return Some(DEFAULT_BLOCK);
     };
     if word != b"block".as_slice() {

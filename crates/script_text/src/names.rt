@@ -1,7 +1,8 @@
 //! The names of faults and refusals.
-ghost use Rattle.std.specs.Prelude.{◌≡◌, ◌≤◌, ◌+◌, ◌++◌, length};
+ghost use Rattle.std.specs.Prelude.{◌≡◌, ◌≤◌, ◌+◌, ◌++◌};
 ghost use Rattle.arrayvec.specs.ArrayString.{array_string_len};
-ghost use Rattle.script_text.specs.Names.{config_fault_name, submit_refusal_name, lane_refusal_name, refusal_name};
+ghost use Rattle.fabric_core.specs.Config.{fault_name};
+ghost use Rattle.script_text.specs.Names.{submit_refusal_text, lane_refusal_text, refusal_text};
 
 use arrayvec::ArrayString;
 use dllp_core::Class;
@@ -12,29 +13,22 @@ use requester_core::SubmitRefusal;
 /// Adds the name of the fault, at most 32 bytes.
 pub fn write_config_fault(fault: &ConfigFault, out: &mut ArrayString<512>)
     requires { array_string_len out.old + 32 ≤ 512 }
-    ensures text { out.new.bytes ≡ out.old.bytes ++ config_fault_name fault.now }
+    ensures text { out.new.bytes ≡ out.old.bytes ++ fault_name fault.now }
     ensures len { array_string_len out.new ≤ array_string_len out.old + 32 }
 {
-    out.push_str(match fault {
-        ConfigFault::Requesters => "Requesters",
-        ConfigFault::Size => "Size",
-        ConfigFault::Base => "Base",
-        ConfigFault::Credits => "Credits",
-        ConfigFault::Block => "Block",
-        ConfigFault::Memory => "Memory",
-    });
+    out.push_str(fault.name());
 }
 
 /// Adds the name of a refusal to prepare a request.
 fn put_submit_refusal(refusal: SubmitRefusal, out: &mut ArrayString<512>)
     requires { array_string_len out.old + 32 ≤ 512 }
-    ensures text { out.new.bytes ≡ out.old.bytes ++ submit_refusal_name refusal }
+    ensures text { out.new.bytes ≡ out.old.bytes ++ submit_refusal_text refusal }
     ensures len { array_string_len out.new ≤ array_string_len out.old + 32 }
 {
     match refusal {
-        SubmitRefusal::Profile(fault) => {
+        SubmitRefusal::Profile(cause) => {
             out.push_str("Profile ");
-            out.push_str(fault.name());
+            out.push_str(cause.name());
         }
         SubmitRefusal::TagsUsed => out.push_str("TagsUsed"),
         SubmitRefusal::NumbersUsed => out.push_str("NumbersUsed"),
@@ -44,7 +38,7 @@ fn put_submit_refusal(refusal: SubmitRefusal, out: &mut ArrayString<512>)
 /// Adds the name of a lane's refusal.
 fn put_lane_refusal(refusal: LaneRefusal, out: &mut ArrayString<512>)
     requires { array_string_len out.old + 32 ≤ 512 }
-    ensures text { out.new.bytes ≡ out.old.bytes ++ lane_refusal_name refusal }
+    ensures text { out.new.bytes ≡ out.old.bytes ++ lane_refusal_text refusal }
     ensures len { array_string_len out.new ≤ array_string_len out.old + 32 }
 {
     out.push_str(match refusal {
@@ -60,7 +54,7 @@ fn put_lane_refusal(refusal: LaneRefusal, out: &mut ArrayString<512>)
 /// the credits that are used up.
 pub fn write_refusal(refusal: &Refusal, out: &mut ArrayString<512>)
     requires { array_string_len out.old + 32 ≤ 512 }
-    ensures text { out.new.bytes ≡ out.old.bytes ++ refusal_name refusal.now }
+    ensures text { out.new.bytes ≡ out.old.bytes ++ refusal_text refusal.now }
     ensures len { array_string_len out.new ≤ array_string_len out.old + 32 }
 {
     match refusal {

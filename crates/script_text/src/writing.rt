@@ -1,8 +1,8 @@
 //! Writing what is seen of an event.
-ghost use Rattle.std.specs.Prelude.{◌≡◌, ◌≤◌, ◌<◌, ◌+◌, ◌/◌, ◌%◌, ◌++◌, ◌∷◌, [], true, length};
-ghost use Rattle.std.specs.Fmt.{decimal, digit_glyph};
+ghost use Rattle.std.specs.Prelude.{◌≡◌, ◌≤◌, ◌<◌, ◌+◌, ◌/◌, ◌%◌, ◌++◌, length};
+ghost use Rattle.std.specs.Fmt.{decimal};
 ghost use Rattle.arrayvec.specs.ArrayString.{array_string_len};
-ghost use Rattle.script_text.specs.Texts.{sequence_text, in_field, dllp_text, arrival_text, dllp_seen_text, port_of, seen_text, told_text, settled_text};
+ghost use Rattle.script_text.specs.Texts.{in_field, dllp_text, arrival_text, dllp_seen_text, port_of, seen_text, told_text, settled_text};
 
 use arrayvec::ArrayString;
 use dllp_core::{Dllp, encode};
@@ -10,45 +10,7 @@ use fabric_core::{Event, Seen};
 use history_check::Record;
 use lane_core::{Arrival, DllpSeen};
 use link_receiver::Reception;
-use seq12::Seq12;
-use trace_text::{write_decimal, write_reply};
-
-/// Adds the digit of a value below 16, in capitals.
-fn put_digit(value: u8, out: &mut ArrayString<512>)
-    requires value { value < 16 }
-    requires room { array_string_len out.old + 1 ≤ 512 }
-    ensures text { out.new.bytes ≡ out.old.bytes ++ digit_glyph true value ∷ [] }
-    ensures len { array_string_len out.new ≡ array_string_len out.old + 1 }
-{
-    let digit = if value < 10 {
-        b'0' + value
-    } else {
-        b'A' + (value - 10)
-    };
-    out.push(char::from(digit));
-}
-
-/// Adds the two digits of a byte.
-fn put_byte(byte: u8, out: &mut ArrayString<512>)
-    requires { array_string_len out.old + 2 ≤ 512 }
-    ensures text { out.new.bytes ≡ out.old.bytes ++ digit_glyph true (byte / 16) ∷ digit_glyph true (byte % 16) ∷ [] }
-    ensures len { array_string_len out.new ≡ array_string_len out.old + 2 }
-    ensures in_range { byte < 256 }
-{
-    put_digit(byte / 16, out);
-    put_digit(byte % 16, out);
-}
-
-/// Adds the three digits of a sequence number.
-fn put_sequence(number: Seq12, out: &mut ArrayString<512>)
-    requires { array_string_len out.old + 3 ≤ 512 }
-    ensures text { out.new.bytes ≡ out.old.bytes ++ sequence_text number }
-    ensures len { array_string_len out.new ≡ array_string_len out.old + 3 }
-{
-    let number = number.value();
-    put_digit((number / 256) as u8, out);
-    put_byte((number % 256) as u8, out);
-}
+use operation_text::{write_bytes, write_decimal, write_reply, write_sequence};
 
 /// The DLLP with data credits below 4096.
 fn fitted(dllp: Dllp) -> Dllp
@@ -67,11 +29,7 @@ fn put_dllp(dllp: Dllp, out: &mut ArrayString<512>)
     ensures text { out.new.bytes ≡ out.old.bytes ++ dllp_text dllp }
     ensures len { array_string_len out.new ≡ array_string_len out.old + 8 }
 {
-    let [kind, second, third, fourth] = encode(&fitted(dllp));
-    put_byte(kind, out);
-    put_byte(second, out);
-    put_byte(third, out);
-    put_byte(fourth, out);
+    write_bytes(&encode(&fitted(dllp)), out);
 }
 
 /// Adds what became of a packet.
@@ -139,7 +97,7 @@ pub fn write_seen(event: &Event, seen: &Seen, out: &mut ArrayString<512>)
         }
         Seen::Sent(number) => {
             out.push_str("sent ");
-            put_sequence(*number, out);
+            write_sequence(number.value(), out);
         }
         Seen::Delivered(arrival) => put_arrival(*arrival, out),
         Seen::SentDllp(dllp) => put_dllp(*dllp, out),

@@ -11,6 +11,7 @@ use Rattle.tlp_core.specs.declared.operation.Width.TheVariants as widths
 use Rattle.tlp_core.specs.Operation.{size_of}
 use Rattle.seq_memory.specs.declared.Entry.{Entry}
 use Rattle.seq_memory.specs.Step.{refusal, after, bytes_at}
+use Rattle.seq_memory.specs.Limits.{Extent}
 use Rattle.seq_memory.specs.History.{contents, AreCounts}
 use Rattle.seq_memory.proofs.Steps.{size_kept, place_is, served, placed}
 
@@ -66,19 +67,19 @@ counted_all block base a w (f ∷ es) m x c e h =
 zeros_there : (base size i n : ℕ) → i + n ≤ size → bytes_at (replicate size 0) i n ≡ replicate n 0
 zeros_there base size i n h = grind (arith, take-replicate, drop-replicate)
 
-pub count_bytes : (block base size a : ℕ) (w : Width) (es : List Entry) → refusal block base size (ops.FetchAdd a w 1) ≡ None → AreCounts a w es
-    → bytes_at (contents block base size es) (a - base) (size_of w) ≡ little_bytes (size_of w) (length es % 2 ^ (8 * size_of w))
+pub count_bytes : (x : Extent) (a : ℕ) (w : Width) (es : List Entry) → refusal x.block x.base x.size (ops.FetchAdd a w 1) ≡ None → AreCounts a w es
+    → bytes_at (contents x es) (a - x.base) (size_of w) ≡ little_bytes (size_of w) (length es % 2 ^ (8 * size_of w))
 unfolding contents
-count_bytes block base size a w es e c =
+count_bytes x a w es e c =
     let op = ops.FetchAdd a w 1 in
-    let long : length {A = ℕ} (replicate size 0) ≡ size = length-replicate {A = ℕ} size 0 in
-    let place = placed block base size op (served block base size op e) in
-    counted_all block base a w es (replicate size 0) 0 c (ap (λ k. refusal block base k op) long ∙ e)
-    (zeros_there base size (a - base) (size_of w) place.fits ∙ zero_bytes w)
+    let long : length {A = ℕ} (replicate x.size 0) ≡ x.size = length-replicate {A = ℕ} x.size 0 in
+    let place = placed x.block x.base x.size op (served x.block x.base x.size op e) in
+    counted_all x.block x.base a w es (replicate x.size 0) 0 c (ap (λ k. refusal x.block x.base k op) long ∙ e)
+    (zeros_there x.base x.size (a - x.base) (size_of w) place.fits ∙ zero_bytes w)
     ∙ ap (λ y. little_bytes (size_of w) (y % 2 ^ (8 * size_of w))) (omega arith)
 
-pub count_number : (block base size a : ℕ) (w : Width) (es : List Entry) → refusal block base size (ops.FetchAdd a w 1) ≡ None → AreCounts a w es
-    → little_number (size_of w) (bytes_at (contents block base size es) (a - base) (size_of w)) ≡ length es % 2 ^ (8 * size_of w)
-count_number block base size a w es e c =
-    ap (little_number (size_of w)) (count_bytes block base size a w es e c)
+pub count_number : (x : Extent) (a : ℕ) (w : Width) (es : List Entry) → refusal x.block x.base x.size (ops.FetchAdd a w 1) ≡ None → AreCounts a w es
+    → little_number (size_of w) (bytes_at (contents x es) (a - x.base) (size_of w)) ≡ length es % 2 ^ (8 * size_of w)
+count_number x a w es e c =
+    ap (little_number (size_of w)) (count_bytes x a w es e c)
     ∙ number_told w (length es % 2 ^ (8 * size_of w)) ∙ mod-mod (length es) (2 ^ (8 * size_of w))

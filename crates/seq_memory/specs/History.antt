@@ -4,21 +4,20 @@ use Rattle.tlp_core.specs.declared.operation.Op.TheVariants as ops
 use Rattle.tlp_core.specs.declared.operation.Width.{Width}
 use Rattle.seq_memory.specs.declared.Entry.{Entry}
 use Rattle.seq_memory.specs.declared.Reply.{Reply}
-use Rattle.seq_memory.specs.Limits.{IsSize, IsBase, IsBlock}
+use Rattle.seq_memory.specs.Limits.{IsSize, IsBase, IsBlock, Extent}
 use Rattle.seq_memory.specs.Step.{after, answer}
 
 -- the bytes after all entries, which began as zeros
-unfoldable pub contents : ℕ → ℕ → ℕ → List Entry → List ℕ
-contents block base size entries = fold (λ m e. after block base m e.op) (replicate size 0) entries
+unfoldable pub contents : Extent → List Entry → List ℕ
+contents x entries = fold (λ m e. after x.block x.base m e.op) (replicate x.size 0) entries
 
 -- the bytes before the entry at place p
-abbrev pub contents_at : ℕ → ℕ → ℕ → List Entry → ℕ → List ℕ
-contents_at block base size entries p = contents block base size (take p entries)
+abbrev pub contents_at : Extent → List Entry → ℕ → List ℕ
+contents_at x entries p = contents x (take p entries)
 
 -- the reply to the entry at place p, by the bytes before it; none past the end
-abbrev pub reply_at : ℕ → ℕ → ℕ → List Entry → ℕ → Option Reply
-reply_at block base size entries p =
-    option_map (λ e. answer block base (contents_at block base size entries p) e.op) (slice_get entries p)
+abbrev pub reply_at : Extent → List Entry → ℕ → Option Reply
+reply_at x entries p = option_map (λ e. answer x.block x.base (contents_at x entries p) e.op) (slice_get entries p)
 
 -- each request is a FetchAdd of 1, of that width and at that address
 abbrev pub AreCounts : ℕ → Width → List Entry → Type 0
@@ -31,8 +30,11 @@ pub record State : Type 0 where
   pub block : ℕ
   pub entries : List Entry
 
+abbrev pub extent_of : State → Extent
+extent_of s = record { base = s.base; size = s.size; block = s.block }
+
 abbrev pub bytes_of : State → List ℕ
-bytes_of s = contents s.block s.base s.size s.entries
+bytes_of s = contents (extent_of s) s.entries
 
 -- the limits, and the bytes that the history makes
 pub record IsMemory (s : State) (bytes : List ℕ) : Type 0 where

@@ -13,11 +13,17 @@ IsBase base size = (base % 128 ≡ 0) × (base + size ≤ 2 ^ 64)
 abbrev pub IsBlock : ℕ → Type 0
 IsBlock block = (block ≡ 64) ⊎ (block ≡ 128)
 
--- a memory can have this base, size and block
-pub record IsWithinLimits (base size block : ℕ) : Type 0 where
-  pub in_size : IsSize size
-  pub in_base : IsBase base size
-  pub in_block : IsBlock block
+-- where a memory lies, and how it is served
+pub record Extent : Type 0 where
+  pub base : ℕ
+  pub size : ℕ
+  pub block : ℕ
+
+-- a memory can have this extent
+pub record IsWithinLimits (x : Extent) : Type 0 where
+  pub in_size : IsSize x.size
+  pub in_base : IsBase x.base x.size
+  pub in_block : IsBlock x.block
 
 -- ---- the same as tests
 

@@ -9,7 +9,7 @@ ghost use Rattle.tlp_core.specs.Enables.{enables};
 ghost use Rattle.tlp_core.specs.Operation.{size_of, address_of, count_of};
 ghost use Rattle.seq_memory.specs.declared.Entry.{Entry};
 ghost use Rattle.seq_memory.specs.declared.Refusal.{Refusal};
-ghost use Rattle.seq_memory.specs.Limits.{IsBlock};
+ghost use Rattle.seq_memory.specs.Limits.{IsBlock, Extent};
 ghost use Rattle.seq_memory.specs.Step.{refusal, after, answer, bytes_at, place_after, data_of, is_enabled, written_over, read_over};
 ghost use Rattle.seq_memory.specs.History.{contents, contents_at, reply_at, AreCounts};
 
@@ -50,24 +50,24 @@ pub fn what_was_written_is_read()
 /// A history of no entries leaves zeros, and one more entry takes one step; the bytes keep their
 /// number.
 pub fn history_grows_by_steps()
-    ensures none { (block base size : ℕ) → contents block base size [] ≡ replicate size 0 }
-    ensures next { (block base size : ℕ) (es : List Entry) (e : Entry) → contents block base size (es ++ e ∷ []) ≡ after block base (contents block base size es) e.op }
-    ensures at { (block base size p : ℕ) (es : List Entry) (e : Entry) → slice_get es p ≡ Some e → contents_at block base size es (p + 1) ≡ after block base (contents_at block base size es p) e.op }
-    ensures size { (block base size : ℕ) (es : List Entry) → length (contents block base size es) ≡ size }
+    ensures none { (x : Extent) → contents x [] ≡ replicate x.size 0 }
+    ensures next { (x : Extent) (es : List Entry) (e : Entry) → contents x (es ++ e ∷ []) ≡ after x.block x.base (contents x es) e.op }
+    ensures at { (x : Extent) (p : ℕ) (es : List Entry) (e : Entry) → slice_get es p ≡ Some e → contents_at x es (p + 1) ≡ after x.block x.base (contents_at x es p) e.op }
+    ensures size { (x : Extent) (es : List Entry) → length (contents x es) ≡ x.size }
 {}
 
 /// A counter counts each request once: a history of FetchAdds of 1 at one place, where they are
 /// served, leaves its length there, modulo 2 to the number of the operand's bits.
 #[tactic(auto, using(crate::proofs::Counts::count_number, crate::proofs::Counts::count_bytes))]
 pub fn a_counter_counts_each_once()
-    ensures number { (block base size a : ℕ) (w : Width) (es : List Entry) → refusal block base size (ops.FetchAdd a w 1) ≡ None → AreCounts a w es → little_number (size_of w) (bytes_at (contents block base size es) (a - base) (size_of w)) ≡ length es % 2 ^ (8 * size_of w) }
-    ensures bytes { (block base size a : ℕ) (w : Width) (es : List Entry) → refusal block base size (ops.FetchAdd a w 1) ≡ None → AreCounts a w es → bytes_at (contents block base size es) (a - base) (size_of w) ≡ little_bytes (size_of w) (length es % 2 ^ (8 * size_of w)) }
+    ensures number { (x : Extent) (a : ℕ) (w : Width) (es : List Entry) → refusal x.block x.base x.size (ops.FetchAdd a w 1) ≡ None → AreCounts a w es → little_number (size_of w) (bytes_at (contents x es) (a - x.base) (size_of w)) ≡ length es % 2 ^ (8 * size_of w) }
+    ensures bytes { (x : Extent) (a : ℕ) (w : Width) (es : List Entry) → refusal x.block x.base x.size (ops.FetchAdd a w 1) ≡ None → AreCounts a w es → bytes_at (contents x es) (a - x.base) (size_of w) ≡ little_bytes (size_of w) (length es % 2 ^ (8 * size_of w)) }
 {}
 
 /// The reply to an entry is the answer of the memory that the entries before it make, whatever
 /// comes behind it.
 pub fn replies_stay()
-    ensures before { (block base size p : ℕ) (es fs : List Entry) → p < length es → reply_at block base size (es ++ fs) p ≡ reply_at block base size es p }
-    ensures next { (block base size : ℕ) (es fs : List Entry) (e : Entry) → reply_at block base size (es ++ e ∷ fs) (length es) ≡ Some (answer block base (contents block base size es) e.op) }
-    ensures past { (block base size p : ℕ) (es : List Entry) → length es ≤ p → reply_at block base size es p ≡ None }
+    ensures before { (x : Extent) (p : ℕ) (es fs : List Entry) → p < length es → reply_at x (es ++ fs) p ≡ reply_at x es p }
+    ensures next { (x : Extent) (es fs : List Entry) (e : Entry) → reply_at x (es ++ e ∷ fs) (length es) ≡ Some (answer x.block x.base (contents x es) e.op) }
+    ensures past { (x : Extent) (p : ℕ) (es : List Entry) → length es ≤ p → reply_at x es p ≡ None }
 {}

@@ -163,8 +163,8 @@ fn try_each(
     Ok(())
 }
 
-/// The turn of a lane: the link is retrained where its sender is stopped, the packets go and arrive, and then the DLLPs.
-/// The replay timer expires where no packet went.
+/// The turn of a lane: the link is retrained where its sender is stopped, the packets go and arrive, and then the
+/// DLLPs. The replay timer expires where no packet went.
 fn lane_turn(
     fabric: &mut Fabric,
     records: &mut Vec<Record>,

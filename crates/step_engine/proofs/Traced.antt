@@ -20,13 +20,13 @@ use Rattle.fabric_core.specs.Steps.{Happens, Refused}
 use Rattle.fabric_core.specs.Runs.{Runs}
 use Rattle.fabric_answers.specs.Answers.{answer, IsTold}
 use Rattle.fabric_answers.specs.New.{new_fabric, config_fault}
-use Rattle.trace_text.specs.Words.{words}
-use Rattle.trace_file.specs.Lines.{is_skipped}
-use Rattle.trace_file.specs.Texts.{trace_text}
+use Rattle.operation_text.specs.Words.{words}
+use Rattle.trace_format.specs.Lines.{is_skipped}
+use Rattle.trace_format.specs.Texts.{trace_text}
 use Rattle.script_text.specs.declared.line.Line.{Line}
 use Rattle.script_text.specs.declared.line.Line.TheVariants as lines
 use Rattle.script_text.specs.Forms.{line_of}
-use Rattle.script_text.specs.Names.{refusal_name}
+use Rattle.script_text.specs.Names.{refusal_text}
 use Rattle.line_engine.specs.Lines.{lines_of, bare, said}
 use Rattle.line_engine.specs.Run.{Answer, Run as Output, with_answer, after_line, after_end, new_run}
 use Rattle.step_engine.specs.Script.{script_of, event_line, IsScript, Progress, progress, LineDoes, LinesDo, RunsThrough}
@@ -144,7 +144,7 @@ after_one a keeps echoes line (Some (lines.Event event)) p p' n s (inl h) =
 after_one a keeps echoes line (Some (lines.Event event)) p p' n s (inr h) =
     let start = at keeps echoes (Some p.fabric) p.records n in
     ap (λ (x : Result (Seen × Fabric) Refusal). with_answer (run_at keeps echoes p n) (answered start line event (length p.fabric.memory.entries) x)) (a.refused p.fabric event h.1.refusal s h.1.refused h.1.told)
-    ∙ passed keeps echoes p n line (refusal_name h.1.refusal) h.0
+    ∙ passed keeps echoes p n line (refusal_text h.1.refusal) h.0
     ∙ ap (λ (x : Progress). run_at keeps echoes x (min (n + 1) (2 ^ 64 - 1))) (sym h.1.now)
 after_one a keeps echoes line (Some lines.Settle) p p' n s h =
     ap₂ (λ (f : Fabric) (rs : List Record). run_at keeps echoes (progress f rs p.status) (min (n + 1) (2 ^ 64 - 1))) (sym h.fabric) (sym h.records)

@@ -12,21 +12,22 @@ use Rattle.fabric_core.specs.declared.fault.Refusal.{Refusal}
 use Rattle.fabric_core.specs.Kept.{records_of}
 use Rattle.fabric_answers.specs.Answers.{answer}
 use Rattle.fabric_answers.specs.New.{new_fabric, config_fault}
-use Rattle.trace_text.specs.Words.{words}
-use Rattle.trace_file.specs.Lines.{is_skipped}
-use Rattle.trace_file.specs.Texts.{trace_text}
+use Rattle.operation_text.specs.Words.{words}
+use Rattle.trace_format.specs.Lines.{is_skipped}
+use Rattle.trace_format.specs.Texts.{trace_text}
 use Rattle.script_text.specs.declared.line.Line.{Line}
 use Rattle.script_text.specs.declared.line.Line.TheVariants as lines
 use Rattle.script_text.specs.Forms.{line_of}
-use Rattle.script_text.specs.Names.{config_fault_name, refusal_name}
+use Rattle.fabric_core.specs.Config.{fault_name}
+use Rattle.script_text.specs.Names.{refusal_text}
 use Rattle.script_text.specs.Texts.{seen_text, told_text, settled_text}
 use Rattle.settling.specs.Rounds.{Settling, settlement, is_quiet}
 use Rattle.line_engine.specs.Run.{Answer, Responses, Run, run_of}
 use Rattle.step_engine.specs.declared.options.StepOptions.{StepOptions}
 use Rattle.step_engine.specs.Options.{plain}
 
--- a script so far: what is asked of its run, the fabric, the trace's records, the number of lines, skipped ones counted,
--- and whether the run has ended
+-- a script so far: what is asked of its run, the fabric, the trace's records, the number of lines, skipped ones
+-- counted, and whether the run has ended
 pub record Stepping : Type 0 where
   pub options : StepOptions
   pub fabric : Option Fabric
@@ -86,7 +87,7 @@ refused s line name =
 -- ---- the first line
 
 abbrev pub made : Stepping → Config → Option ConfigFault → Answer Stepping
-made s c (Some x) = fault s (config_fault_name x)
+made s c (Some x) = fault s (fault_name x)
 made s c None = record { state = record s { lines = next_line s; fabric = Some (new_fabric c) }; text = []; is_fault = false }
 
 -- a script has one fabric
@@ -121,7 +122,7 @@ IsRecorded a event n f' rs = (what : Seen) × (a ≡ Ok (what, f')) × (rs ≡ r
 
 abbrev pub answered : Stepping → List ℕ → Event → ℕ → Result (Seen × Fabric) Refusal → Answer Stepping
 answered s line event n (Ok p) = told_of (record s { fabric = Some p.1 }) line event p.0 n
-answered s line event n (Err r) = refused s line (refusal_name r)
+answered s line event n (Err r) = refused s line (refusal_text r)
 
 abbrev pub happened : Stepping → List ℕ → Option Fabric → Event → Answer Stepping
 happened s line None event = no_line s

@@ -4,8 +4,8 @@ ghost use Rattle.std.specs.Fmt.{decimal};
 ghost use Rattle.arrayvec.specs.ArrayString.{array_string_len};
 
 use arrayvec::ArrayString;
+use operation_text::write_decimal;
 use std::alloc::AllocError;
-use trace_text::write_decimal;
 
 /// The beginning of the line that ends a run.
 pub(crate) fn ending(kind: &str, line: u64) -> ArrayString<512>

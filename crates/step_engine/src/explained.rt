@@ -1,6 +1,5 @@
 //! Answers to scripts, with reasons beside them.
-ghost use Rattle.std.specs.Prelude.{◌≡◌, IfOk, IfErr, OnOk, OnErr};
-ghost use Rattle.std.specs.Bool.{then_some};
+ghost use Rattle.std.specs.Prelude.{◌≡◌, Some, IfOk, IfErr, OnOk, OnErr};
 ghost use Rattle.line_engine.specs.Run.{IsCaughtUp, IsWhole, IsPart};
 ghost use Rattle.line_reasons.specs.Told.{IsReasonTold, IsReasonBegun};
 ghost use Rattle.step_engine.specs.Step as spec;
@@ -15,20 +14,15 @@ use std::alloc::{AllocError, Global};
 use std::io::{Read, Write};
 use std::marker::Model;
 
-/// Tells why the line that was answered last is refused, exactly where its answer is a fault or a
-/// refusal, and by the number that is told there.
-fn explain<E: Write>(
-    stepper: &mut Stepper,
-    line: &[u8],
-    is_fault: bool,
-    errors: &mut E,
-) -> Result<(), EngineFault>
+/// Tells why the line that was answered last by a fault or a refusal is refused, by the number that is
+/// told there.
+fn explain<E: Write>(stepper: &mut Stepper, line: &[u8], errors: &mut E) -> Result<(), EngineFault>
     ensures stepper { stepper.new ≡ stepper.old }
-    ensures errors { OnOk result (IsReasonTold (then_some is_fault stepper.old.lines) (E.contents errors.old) (E.contents errors.new)) }
+    ensures errors { OnOk result (IsReasonTold (Some stepper.old.lines) (E.contents errors.old) (E.contents errors.new)) }
     ensures fault { IfErr result (λ f. f ≡ EngineFault.Write) }
-    ensures part { OnErr result (IsReasonBegun (then_some is_fault stepper.old.lines) (E.contents errors.old) (E.contents errors.new)) }
+    ensures part { OnErr result (IsReasonBegun (Some stepper.old.lines) (E.contents errors.old) (E.contents errors.new)) }
 {
-    let fault = is_fault.then_some(stepper.lines());
+    let fault = Some(stepper.lines());
     let has_fabric = stepper.has_fabric();
     let Some(refusal) = stepper.take_refusal() else {
         return tell_script_line(line, has_fabric, None, fault, errors);
@@ -60,7 +54,9 @@ impl<E: Write + Drop> Responder for Explained<E> {
 
     fn on_line(&mut self, line: &[u8], out: &mut Vec<u8>) -> Result<bool, AllocError> {
         let told = self.stepper.on_line(line, out)?;
-        let _ = explain(&mut self.stepper, line, told, &mut self.errors);
+        if told {
+            let _ = explain(&mut self.stepper, line, &mut self.errors);
+        }
         Ok(told)
     }
 

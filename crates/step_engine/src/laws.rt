@@ -8,8 +8,8 @@ ghost use Rattle.fabric_core.specs.declared.event.Event.{Event};
 ghost use Rattle.fabric_core.specs.Config.{IsNewWith};
 ghost use Rattle.fabric_core.specs.Runs.{Runs};
 ghost use Rattle.trace_engine.specs.Check.{out_check};
-ghost use Rattle.trace_file.specs.Tellable.{IsTellable};
-ghost use Rattle.trace_file.specs.Texts.{trace_text};
+ghost use Rattle.trace_format.specs.Tellable.{IsTellable};
+ghost use Rattle.trace_format.specs.Texts.{trace_text};
 ghost use Rattle.step_engine.specs.Options.{traced};
 ghost use Rattle.step_engine.specs.Script.{IsScript, Progress, RunsThrough};
 ghost use Rattle.step_engine.specs.Step.{claim_with, out_step, out_step_with};
@@ -18,11 +18,11 @@ use fabric_answers::laws::{a_configuration_has_one_answer, each_event_has_one_an
 use fabric_core::laws::{a_new_fabric_is_sound, each_event_keeps_it_sound};
 use fabric_laws::laws::the_trace_belongs;
 use trace_engine::laws::an_explained_trace_is_ok;
-use trace_file::told_trace_is_read_back;
+use trace_format::told_trace_is_read_back;
 
-/// Where each line of a script is an event that happens, or `settle`, or with `--keep-going` an event that is refused, its
-/// run with `--trace` writes the trace of what happened with the fabric's history, and ends with status 1 where an event
-/// was refused, else 0; and the history explains that trace.
+/// Where each line of a script is an event that happens, or `settle`, or with `--keep-going` an event that is refused,
+/// its run with `--trace` writes the trace of what happened with the fabric's history, and ends with status 1 where an
+/// event was refused, else 0; and the history explains that trace.
 pub fn what_a_script_does_is_explained()
     ensures text { (keeps_going echoes : Bool) (input : List ℕ) (p : Progress) →
         RunsThrough keeps_going input p → (out_step_with (traced keeps_going echoes) input).text ≡ trace_text (claim_with p.fabric p.records) }
@@ -65,8 +65,8 @@ pub fn a_traced_script_is_explained()
     what_a_script_does_is_explained();
 }
 
-/// Where all events of a script happen to a new fabric of its configuration, `check` says `ok`, with status 0, to what the
-/// script's run with `--trace` writes, if lines can tell that trace.
+/// Where all events of a script happen to a new fabric of its configuration, `check` says `ok`, with status 0, to what
+/// the script's run with `--trace` writes, if lines can tell that trace.
 pub fn a_traced_script_is_ok()
     ensures ok { (input : List ℕ) (c : Config) (f f' : Fabric) (events : List Event) (rs : List Record) →
         IsScript input c events → IsNewWith c f → Runs f events rs f' → IsTellable (claim_with f' rs) → (out_check (out_step true input).text).text ≡ codes "ok\n" }

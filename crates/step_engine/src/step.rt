@@ -1,10 +1,10 @@
 //! The subcommand `step`: scripts of events for a fabric.
-ghost use Rattle.std.specs.Prelude.{◌≡◌, ◌≤◌, ◌+◌, ◌++◌, ◌∷◌, [], true, false, length, codes, option_to_list, is_some, Some, None, Ok, Err, IfOk, IfErr, OnOk, OnErr};
-ghost use Rattle.std.specs.Fmt.{decimal};
+ghost use Rattle.std.specs.Prelude.{◌≡◌, ◌≤◌, ◌+◌, ◌++◌, ◌∷◌, [], true, false, length, option_to_list, is_some, Some, None, Ok, Err, IfOk, IfErr, OnOk, OnErr};
 ghost use Rattle.arrayvec.specs.ArrayString.{array_string_len};
 ghost use Rattle.fabric_answers.specs.Answers.{answer, IsTold};
 ghost use Rattle.fabric_answers.specs.New.{new_fabric, config_fault};
-ghost use Rattle.script_text.specs.Names.{config_fault_name, refusal_name};
+ghost use Rattle.fabric_core.specs.Config.{fault_name};
+ghost use Rattle.script_text.specs.Names.{refusal_text};
 ghost use Rattle.script_text.specs.Texts.{seen_text, settled_text};
 ghost use Rattle.line_engine.specs.Run.{IsAnswer, IsCaughtUp, IsWhole, IsPart};
 ghost use Rattle.step_engine.specs.Options.{plain};
@@ -166,7 +166,7 @@ impl Stepper {
 
     /// There is no fabric of the configuration.
     fn not_made(&mut self, fault: ConfigFault, out: &mut Vec<u8>) -> Result<bool, AllocError>
-        ensures ok { IfOk result (λ told. IsAnswer self.new out.old.items out.new.items told (spec.fault self.old (config_fault_name fault))) }
+        ensures ok { IfOk result (λ told. IsAnswer self.new out.old.items out.new.items told (spec.fault self.old (fault_name fault))) }
         ensures err { OnErr result (out.new.items ≡ out.old.items) }
     {
         let mut line = ending("fault ", self.next_line());
@@ -231,7 +231,7 @@ impl Stepper {
         refusal: Refusal,
         out: &mut Vec<u8>,
     ) -> Result<bool, AllocError>
-        ensures ok { IfOk result (λ told. IsTold refusal × IsAnswer self.new out.old.items out.new.items told (spec.refused self.old line.now (refusal_name refusal))) }
+        ensures ok { IfOk result (λ told. IsTold refusal × IsAnswer self.new out.old.items out.new.items told (spec.refused self.old line.now (refusal_text refusal))) }
         ensures err { OnErr result (out.new.items ≡ out.old.items) }
     {
         if let Refusal::Memory | Refusal::Lane(LaneRefusal::Memory) = refusal {
@@ -432,12 +432,12 @@ impl Responder for Stepper {
     }
 }
 
-/// Runs a script: the first line makes a fabric, and each line after it is an event, whose result is written in a line, or
-/// `settle`, which is answered by a line for each answer that it collects and one that tells whether the fabric is quiet.
-/// The first line that is none, the first fault of the configuration and the first refusal end the run with one line;
-/// with `keeps_going` a refusal doesn't end it. With `echoes` what answers an event or `settle` follows its line.
-/// With `is_traced` the trace of a run that ends well is written in place of the results. `Ok` is the exit status, 1 where
-/// a fault or a refusal was told. After an `Err` what was written is a beginning of the whole output.
+/// Runs a script: the first line makes a fabric, and each line after it is an event, whose result is written in a line,
+/// or `settle`, which is answered by a line for each answer that it collects and one that tells whether the fabric is
+/// quiet. The first line that is none, the first fault of the configuration and the first refusal end the run with one
+/// line; with `keeps_going` a refusal doesn't end it. With `echoes` what answers an event or `settle` follows its line.
+/// With `is_traced` the trace of a run that ends well is written in place of the results. `Ok` is the exit status, 1
+/// where a fault or a refusal was told. After an `Err` what was written is a beginning of the whole output.
 pub fn run_step_with<R: Read, W: Write>(
     alloc: Global,
     options: StepOptions,

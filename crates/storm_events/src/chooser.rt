@@ -37,7 +37,7 @@ impl Model for Chooser {
 }
 
 /// Whether the event happens to the fabric. The only fault is being out of memory.
-fn happens(fabric: &mut Fabric, event: &Event) -> Result<bool, AllocError>
+fn try_event(fabric: &mut Fabric, event: &Event) -> Result<bool, AllocError>
     ensures ok { IfOk result (λ happened. IsTried happened fabric.old event.now fabric.new) }
     ensures err { OnErr result (fabric.new ≡ fabric.old) }
 {
@@ -95,7 +95,7 @@ fn drawn(
 {
     for _try in 0..TRIES {
         let event = candidate(draws, requesters, arrivals);
-        if happens(fabric, &event)? {
+        if try_event(fabric, &event)? {
             arrivals.count(&event);
             return Ok(Some(event));
         }
@@ -127,7 +127,7 @@ impl Chooser {
             return Ok(event);
         }
         let event = Event::SendDllp(LaneName::Inward, DllpKind::Answer);
-        if happens(fabric, &event)? {
+        if try_event(fabric, &event)? {
             Ok(event)
         } else {
             Err(AllocError)

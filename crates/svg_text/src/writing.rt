@@ -1,5 +1,5 @@
 //! Adding shapes, and the page around them.
-ghost use Rattle.std.specs.Prelude.{◌≡◌, ◌≤◌, ◌+◌, ◌++◌, ◌∷◌, [], ℕ, List, true, false, length, codes, OnOk, OnErr};
+ghost use Rattle.std.specs.Prelude.{◌≡◌, ◌≤◌, ◌+◌, ◌++◌, ◌∷◌, [], List, true, false, length, codes, OnOk, OnErr};
 ghost use Rattle.std.specs.Fmt.{decimal};
 ghost use Rattle.arrayvec.specs.ArrayString.{array_string_len};
 ghost use Rattle.svg_text.specs.Shapes.{Shape, painted, rectangle, corners, three_edges, circle, line, anchor, placed, tooltip, block_before, view, page_attributes, page_background, shape_text, shapes_text, page_text};

@@ -1,15 +1,15 @@
 //! Why a packet has no port, or stays where it is.
 ghost use Rattle.std.specs.Prelude.{◌≡◌};
-ghost use Rattle.switch_core.specs.Faults.{fault_number, refusal_number};
+ghost use Rattle.switch_core.specs.Faults.{fault_number, fault_name, refusal_number, refusal_name};
 
 use lane_core::LaneRefusal;
 use thiserror::Error;
 
 /// Why a packet goes nowhere.
 #[derive(Clone, Copy, Debug, PartialEq, Eq, Error)]
+#[error("{}", self.name())]
 pub enum RouteFault {
     /// A request from the memory, a completion from a requester, or one for no requester's ID.
-    #[error("NoPort")]
     NoPort,
 }
 
@@ -20,6 +20,15 @@ impl RouteFault {
     {
         match self {
             RouteFault::NoPort => 1,
+        }
+    }
+
+    /// The name under which it is told.
+    pub fn name(self) -> &'static str
+        ensures { result.now ≡ fault_name self }
+    {
+        match self {
+            RouteFault::NoPort => "NoPort",
         }
     }
 }
@@ -43,6 +52,16 @@ impl ForwardRefusal {
         match self {
             ForwardRefusal::NotTakeable => 1,
             ForwardRefusal::Lane(_) => 2,
+        }
+    }
+
+    /// The name under which it is told.
+    pub fn name(self) -> &'static str
+        ensures { result.now ≡ refusal_name self }
+    {
+        match self {
+            ForwardRefusal::NotTakeable => "NotTakeable",
+            ForwardRefusal::Lane(refusal) => refusal.name(),
         }
     }
 }

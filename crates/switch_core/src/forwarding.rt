@@ -1,5 +1,5 @@
 //! From one lane into another.
-ghost use Rattle.std.specs.Prelude.{◌≡◌, ◌≢◌, ◌≤◌, ◌<◌, ◌++◌, ◌∷◌, [], ◌↔◌, ◌⊎◌, ℕ, false, IsTrue, IfErr, IsOk, OnOk, OnErr, Some, slice_get, remove, length};
+ghost use Rattle.std.specs.Prelude.{◌≡◌, ◌≤◌, ◌<◌, ◌++◌, ◌∷◌, [], ◌↔◌, false, IsTrue, OnOk, OnErr, Some, slice_get, remove, length};
 ghost use Rattle.dllp_core.specs.declared.packet.Class.{Class};
 ghost use Rattle.fc_credit.specs.Needs.{need_of};
 ghost use Rattle.fc_credit.specs.Credits.{gate_covers};

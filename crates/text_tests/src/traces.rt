@@ -2,7 +2,7 @@
 use history_check::check;
 use std::alloc::Global;
 use std::test::Fail;
-use trace_file::{
+use trace_format::{
     ReadFault, ReadFaultKind, TraceReader, own_text_spells_trace, read_trace, write_trace,
 };
 

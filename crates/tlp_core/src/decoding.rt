@@ -1,9 +1,9 @@
 //! Bytes to packets.
 //!
 //! The faults of any header are tested before those of a kind, each in the order of [`TlpFault`].
-ghost use Rattle.std.specs.Prelude.{◌≡◌, ◌+◌, ◌*◌, ◌/◌, ◌%◌, ◌^◌, ◌<◌, ◌≤◌, ◌==◌, ◌||◌, length, slice_index, IfOk, IfErr, MatchResult};
+ghost use Rattle.std.specs.Prelude.{◌≡◌, ◌+◌, ◌*◌, ◌/◌, ◌%◌, ◌^◌, ◌<◌, ◌≤◌, ◌==◌, ◌||◌, length, slice_index, IfOk, IfErr};
 ghost use Rattle.tlp_core.specs.Enables.{are_enables};
-ghost use Rattle.tlp_core.specs.Layout.{kind_of, header_length, dw_count, address_of, Spells};
+ghost use Rattle.tlp_core.specs.Layout.{kind_of, header_length, Spells};
 ghost use Rattle.tlp_core.specs.Packet.{Packet};
 ghost use Rattle.tlp_core.specs.Faults.{first_of, first_fault, header_faults, kind_faults, breaks_enables, breaks_size, breaks_alignment, promised, reading};
 

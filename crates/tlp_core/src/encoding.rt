@@ -1,9 +1,9 @@
 //! Packets to bytes: the one canonical spelling of each.
-ghost use Rattle.std.specs.Prelude.{◌≡◌, ◌+◌, ◌*◌, ◌/◌, ◌%◌, ◌^◌, ◌<◌, ◌≤◌, ◌++◌, [], ◌∷◌, length, if◌then◌else◌, nat_lt};
+ghost use Rattle.std.specs.Prelude.{◌≡◌, ◌+◌, ◌*◌, ◌/◌, ◌%◌, ◌^◌, ◌<◌, ◌≤◌, ◌++◌, length, if◌then◌else◌, nat_lt};
 ghost use Rattle.arrayvec.specs.ArrayVec.{array_vec_len};
 ghost use Rattle.byteorder.specs.Endian.{big_bytes};
 ghost use Rattle.tlp_core.specs.Layout.{canonical, short_code, code_of, status_code, rest_of_header, Spells};
-ghost use Rattle.tlp_core.specs.Packet.{Packet, FitsFields, IsBodyInRange};
+ghost use Rattle.tlp_core.specs.Packet.{FitsFields, IsBodyInRange};
 
 use crate::packet::{Body, Kind, Status, Tlp};
 use arrayvec::ArrayVec;

@@ -1,6 +1,6 @@
 //! What a request asks of the memory.
 
-ghost use Rattle.std.specs.Prelude.{◌≡◌, ◌≤◌, ◌<◌, ◌*◌, ◌^◌, ◌↔◌, false, None, IsNone, IfSome, IsTrue, length, drop};
+ghost use Rattle.std.specs.Prelude.{◌≡◌, ◌≤◌, ◌<◌, ◌*◌, ◌^◌, ◌↔◌, false, None, IsNone, IfSome, IsTrue, length};
 ghost use Rattle.byteorder.specs.Endian.{little_number};
 ghost use Rattle.tlp_core.specs.Operation as spec;
 

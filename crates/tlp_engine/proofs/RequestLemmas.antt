@@ -16,11 +16,11 @@ use Rattle.tlp_core.specs.Packet.{Packet, IsPacket, FitsKind}
 use Rattle.tlp_core.specs.Operation.{op_at, is_completion}
 use Rattle.seq_memory.specs.declared.Entry.{Entry}
 use Rattle.seq_memory.specs.History.{State}
-use Rattle.completer_core.specs.Serving.{after_serving, with_entry, entry_of}
+use Rattle.completer_core.specs.Serving.{after_serving, with_entry, request_entry}
 use Rattle.hex.specs.Hex.{decode_of}
 use Rattle.hex.specs.declared.error.FromHexError.{FromHexError}
 use Rattle.hex_line.specs.Line.{digits_of}
-use Rattle.tlp_engine.specs.Tlp.{count_of, answer_request, answer_line, answer_bytes, answer_reading, fault}
+use Rattle.tlp_engine.specs.Tlp.{requests_of, answer_request, answer_line, answer_bytes, answer_reading, fault}
 
 -- the operation of a request
 asked : (k : Kind) (body : Body) (dw given : ℕ) (bytes : List ℕ) → FitsKind k body dw given → is_completion k ≡ false → (op : Op) × (op_at k body dw bytes ≡ Some op)
@@ -38,29 +38,29 @@ asked kinds.Completion body dw given bytes h c = cc
 asked kinds.CompletionData body dw given bytes h c = cc
 
 -- one more entry counts for its own requester alone
-count-more : (history : List Entry) (e : Entry) (port : ℕ) → count_of (history ++ e ∷ []) port ≡ count_of history port + (if e.requester == port then 1 else 0)
+count-more : (history : List Entry) (e : Entry) (port : ℕ) → requests_of (history ++ e ∷ []) port ≡ requests_of history port + (if e.requester == port then 1 else 0)
 count-more history e port = fold-append (λ (n : ℕ) (e : Entry). n + (if e.requester == port then 1 else 0)) 0 history (e ∷ [])
 
 -- the counts after a request, of its own requester and of another
 pub counted : (s : State) (t : Packet) (number own : ℕ) (counts : List ℕ) → IsPacket t → is_completion t.kind ≡ false
-    → own ≡ t.requester / 256 → own < length counts → number ≡ count_of s.entries (t.requester / 256)
-    → (port : ℕ) → slice_index counts port ≡ count_of s.entries port
-    → slice_index (slice_set counts own (number + 1)) port ≡ count_of (after_serving s t number).entries port
+    → own ≡ t.requester / 256 → own < length counts → number ≡ requests_of s.entries (t.requester / 256)
+    → (port : ℕ) → slice_index counts port ≡ requests_of s.entries port
+    → slice_index (slice_set counts own (number + 1)) port ≡ requests_of (after_serving s t number).entries port
 counted s t number own counts p c e fits same port before =
     let op = asked t.kind t.body t.length (length t.payload) t.payload p.fits c in
-    let after : after_serving s t number ≡ with_entry s (entry_of t number op.0) = ap (λ (o : Option Op). option_map_or (λ op. with_entry s (entry_of t number op)) o s) op.1 in
-    let more = ap (λ (s : State). count_of s.entries port) after ∙ count-more s.entries (entry_of t number op.0) port in
+    let after : after_serving s t number ≡ with_entry s (request_entry t number op.0) = ap (λ (o : Option Op). option_map_or (λ op. with_entry s (request_entry t number op)) o s) op.1 in
+    let more = ap (λ (s : State). requests_of s.entries port) after ∙ count-more s.entries (request_entry t number op.0) port in
     let whole = λ (b : Bool) (test : (t.requester / 256 == port) ≡ b).
-    more ∙ ap (λ (b : Bool). count_of s.entries port + (if b then 1 else 0)) test in
+    more ∙ ap (λ (b : Bool). requests_of s.entries port + (if b then 1 else 0)) test in
     elim (cases_eq port own) [
       | inl own_port ↦
           let is : t.requester / 256 ≡ port = sym e ∙ sym own_port in
           ap (slice_index (slice_set counts own (number + 1))) own_port ∙ get_or-set_same counts own (number + 1) 0 fits
-          ∙ ap (λ (n : ℕ). n + 1) (same ∙ ap (count_of s.entries) is) ∙ sym (whole true (tested (t.requester / 256) port is))
+          ∙ ap (λ (n : ℕ). n + 1) (same ∙ ap (requests_of s.entries) is) ∙ sym (whole true (tested (t.requester / 256) port is))
       | inr other_port ↦
           let not : t.requester / 256 ≢ port = λ is. other_port (sym is ∙ sym e) in
           get_or-set_other counts own port (number + 1) 0 other_port ∙ before
-          ∙ sym (whole false (refuted (t.requester / 256) port not) ∙ add-zero (count_of s.entries port))
+          ∙ sym (whole false (refuted (t.requester / 256) port not) ∙ add-zero (requests_of s.entries port))
     ]
   where
     tested : (a b : ℕ) → a ≡ b → (a == b) ≡ true

@@ -36,8 +36,8 @@ abbrev pub nothing : State → Answer State
 nothing s = record { state = s; text = []; is_fault = false }
 
 -- how many requests of the requester at that port the history has
-abbrev pub count_of : List Entry → ℕ → ℕ
-count_of history port = count_by (λ e. e.requester == port) history
+abbrev pub requests_of : List Entry → ℕ → ℕ
+requests_of history port = count_by (λ e. e.requester == port) history
 
 -- a request acts under the number of its requester's earlier ones: that has to be below 2^32 - 1
 abbrev pub answer_request : State → Packet → ℕ → Answer State
@@ -48,7 +48,7 @@ answer_request s t number =
 abbrev pub answer_packet : State → Packet → Answer State
 answer_packet s t =
     if is_completion t.kind then fault s (codes "fault completion")
-    else answer_request s t (count_of s.entries (t.requester / 256))
+    else answer_request s t (requests_of s.entries (t.requester / 256))
 
 abbrev pub answer_reading : State → Result Packet TlpFault → Answer State
 answer_reading s (Err f) = fault s (fault_text f)

@@ -1,11 +1,10 @@
 //! The subcommand `tlp`: requests in, completions out, over one memory.
-ghost use Rattle.std.specs.Prelude.{◌≡◌, ◌/◌, ◌<◌, ◌++◌, ◌∷◌, [], ℕ, true, false, IfOk, IfErr, OnOk, OnErr, slice_index};
+ghost use Rattle.std.specs.Prelude.{◌≡◌, ◌/◌, ◌<◌, ◌++◌, ◌∷◌, [], ℕ, true, false, IfOk, IfErr, OnErr, slice_index};
 ghost use Rattle.seq_memory.specs.Limits.{IsSize, IsBase, IsBlock};
 ghost use Rattle.tlp_core.specs.Faults.{reading};
 ghost use Rattle.tlp_core.specs.Operation.{is_completion};
-ghost use Rattle.completer_core.specs.Serving.{after_serving, completion_to};
 ghost use Rattle.line_engine.specs.Run.{IsAnswer, IsCaughtUp, IsWhole, IsPart};
-ghost use Rattle.tlp_engine.specs.Tlp.{new_state, out_tlp, tlp_responses, answer_request, answer_packet, answer_reading, count_of, fault_text, completion_text};
+ghost use Rattle.tlp_engine.specs.Tlp.{new_state, out_tlp, tlp_responses, answer_request, answer_packet, answer_reading, requests_of, fault_text, completion_text};
 
 use crate::text::{put_fault, put_packet};
 use arrayvec::ArrayVec;
@@ -29,13 +28,13 @@ struct Device {
 impl Model for Device {
     ghost use Rattle.std.specs.Prelude.{◌≡◌, ◌<◌, ℕ, slice_index};
     ghost use Rattle.seq_memory.specs.History.{State};
-    ghost use Rattle.tlp_engine.specs.Tlp.{count_of};
+    ghost use Rattle.tlp_engine.specs.Tlp.{requests_of};
 
     ghost Value = { State };
 
     ghost view = { λ c. c.memory };
 
-    ghost invariant = { λ c. (port : ℕ) → port < 256 → slice_index c.counts port ≡ count_of c.memory.entries port };
+    ghost invariant = { λ c. (port : ℕ) → port < 256 → slice_index c.counts port ≡ requests_of c.memory.entries port };
 }
 
 /// Room for an answer, used again and again: what it holds does not count.
@@ -122,7 +121,7 @@ impl Device {
 
     /// How many requests of the request's requester the memory has acted on.
     fn count(&self, request: &Tlp) -> u32
-        ensures { result ≡ count_of self.now.entries (request.now.requester / 256) }
+        ensures { result ≡ requests_of self.now.entries (request.now.requester / 256) }
     {
         self.counts[usize::from(request.requester / 256)]
     }
@@ -135,7 +134,7 @@ impl Device {
         out: &mut Vec<u8>,
     ) -> Result<bool, AllocError>
         requires { is_completion request.now.kind ≡ false }
-        ensures ok { IfOk result (λ told. IsAnswer self.new out.old.items out.new.items told (answer_request self.old request.now (count_of self.old.entries (request.now.requester / 256)))) }
+        ensures ok { IfOk result (λ told. IsAnswer self.new out.old.items out.new.items told (answer_request self.old request.now (requests_of self.old.entries (request.now.requester / 256)))) }
         ensures err { OnErr result (out.new.items ≡ out.old.items) }
     {
         let number = self.count(request);

@@ -2,12 +2,12 @@
 use Rattle.std.specs.Prelude.{ℕ, List, [], ◌∷◌, ◌++◌, Bool, true, false, codes, Option, Some, None, Result, Ok, Err}
 use Rattle.std.specs.Fmt.{decimal}
 use Rattle.history_check.specs.declared.flaws.FlawKind.{FlawKind}
-use Rattle.history_check.specs.Names.{number_of, name_of}
+pub use Rattle.flaw_places.specs.Places.{flaw_line}
 use Rattle.history_check.specs.Claim.{Claim}
 use Rattle.history_check.specs.Flaws.{first_flaw}
-use Rattle.trace_file.specs.declared.fault.ReadFault.{ReadFault}
-use Rattle.trace_file.specs.Names.{name_of as fault_name}
-use Rattle.trace_file.specs.Reading.{Reading, nothing_read, after_line, after_long_line, at_end}
+use Rattle.trace_format.specs.declared.fault.ReadFault.{ReadFault}
+use Rattle.trace_format.specs.Names.{name_of as fault_name}
+use Rattle.trace_format.specs.Reading.{Reading, nothing_read, after_line, after_long_line, at_end}
 use Rattle.line_engine.specs.Run.{Answer, Responses, Run, run_of}
 
 -- a line is read, and nothing written
@@ -20,9 +20,6 @@ concludes line is_fault = record { state = nothing_read; text = line ++ 10 ∷ [
 
 abbrev pub fault_line : ReadFault → List ℕ
 fault_line f = codes "fault " ++ decimal f.line ++ 32 ∷ fault_name f.kind
-
-abbrev pub flaw_line : FlawKind → ℕ → List ℕ
-flaw_line kind place = codes "flaw " ++ decimal (number_of kind) ++ 32 ∷ name_of kind ++ 32 ∷ decimal place
 
 abbrev pub judged : Option (FlawKind × ℕ) → Answer Reading
 judged None = concludes (codes "ok") false

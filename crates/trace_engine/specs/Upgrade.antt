@@ -1,9 +1,9 @@
 -- What `upgrade` answers to the text of a trace.
 use Rattle.std.specs.Prelude.{ℕ, List, true, false, Result, Ok, Err}
 use Rattle.history_check.specs.Claim.{Claim}
-use Rattle.trace_file.specs.declared.fault.ReadFault.{ReadFault}
-use Rattle.trace_file.specs.Reading.{Reading, nothing_read, after_line, after_long_line, at_end}
-use Rattle.trace_file.specs.Texts.{trace_text}
+use Rattle.trace_format.specs.declared.fault.ReadFault.{ReadFault}
+use Rattle.trace_format.specs.Reading.{Reading, nothing_read, after_line, after_long_line, at_end}
+use Rattle.trace_format.specs.Texts.{trace_text}
 use Rattle.line_engine.specs.Run.{Answer, Responses, Run, run_of}
 use Rattle.trace_engine.specs.Check.{is_read, concludes, fault_line}
 

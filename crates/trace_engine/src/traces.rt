@@ -1,8 +1,8 @@
 //! What the subcommands that read a trace share.
-ghost use Rattle.std.specs.Prelude.{◌≡◌, ◌++◌, ◌∷◌, [], true, false, IfOk, IfErr, OnErr, OnOk, Ok, Err};
+ghost use Rattle.std.specs.Prelude.{◌≡◌, ◌++◌, ◌∷◌, [], true, false, string_bytes, IfOk, IfErr, OnErr, OnOk, Ok, Err};
 ghost use Rattle.history_check.specs.Claim.{claim_of};
-ghost use Rattle.trace_file.specs.Texts.{trace_text};
-ghost use Rattle.trace_file.specs.Reading.{nothing_read, after_line, after_long_line, at_end};
+ghost use Rattle.trace_format.specs.Texts.{trace_text};
+ghost use Rattle.trace_format.specs.Reading.{nothing_read, after_line, after_long_line, at_end};
 ghost use Rattle.trace_engine.specs.Check.{fault_line};
 ghost use Rattle.trace_engine.specs.Reasons.{faulty_line};
 
@@ -15,7 +15,7 @@ use std::alloc::{AllocError, Global};
 use std::io::Write;
 use std::marker::Model;
 use std::mem;
-use trace_file::{ReadFault, TraceReader, write_trace};
+use trace_format::{ReadFault, TraceReader, write_spent_trace, write_trace};
 
 /// The number of the first line that can't be read, if one was found so far.
 fn faulty_line(reader: &TraceReader) -> Option<u64>
@@ -37,7 +37,7 @@ pub struct TraceInput<E: Write> {
 }
 
 impl<E: Write> Model for TraceInput<E> {
-    ghost use Rattle.trace_file.specs.Reading.{Reading};
+    ghost use Rattle.trace_format.specs.Reading.{Reading};
     ghost use Rattle.trace_engine.specs.Reasons.{Agrees};
 
     ghost Value = { Reading };
@@ -110,6 +110,34 @@ pub fn tell_fault(fault: ReadFault, out: &mut Vec<u8>) -> Result<bool, AllocErro
     Ok(true)
 }
 
+/// Adds the text, which takes the place of nothing where nothing is there.
+fn hand_over(text: String, out: &mut Vec<u8>) -> Result<(), AllocError>
+    ensures ok { OnOk result (out.new.items ≡ out.old.items ++ string_bytes text) }
+    ensures err { OnErr result (out.new.items ≡ out.old.items) }
+{
+    if out.is_empty() {
+        *out = text.into_bytes();
+        return Ok(());
+    }
+    out.extend_from_slice(text.as_bytes())
+}
+
+/// Adds the text of the trace and its history, which aren't used further.
+pub(crate) fn tell_spent_trace(
+    alloc: Global,
+    trace: Trace,
+    history: Vec<Entry>,
+    out: &mut Vec<u8>,
+) -> Result<bool, AllocError>
+    ensures ok { IfOk result (λ told. (told ≡ false) × (out.new.items ≡ out.old.items ++ trace_text (claim_of trace history.items))) }
+    ensures err { OnErr result (out.new.items ≡ out.old.items) }
+{
+    let text = write_spent_trace(alloc, trace, history.as_slice())?;
+    drop(history);
+    hand_over(text, out)?;
+    Ok(false)
+}
+
 /// Adds the text of the trace and its history.
 pub fn tell_trace(
     alloc: Global,
@@ -121,6 +149,6 @@ pub fn tell_trace(
     ensures err { OnErr result (out.new.items ≡ out.old.items) }
 {
     let text = write_trace(alloc, trace, history)?;
-    out.extend_from_slice(text.as_bytes())?;
+    hand_over(text, out)?;
     Ok(false)
 }

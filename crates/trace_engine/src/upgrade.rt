@@ -3,7 +3,7 @@ ghost use Rattle.std.specs.Prelude.{IfOk, OnErr};
 ghost use Rattle.line_engine.specs.Run.{IsWhole, IsPart};
 ghost use Rattle.trace_engine.specs.Upgrade.{out_upgrade};
 
-use crate::traces::{TraceInput, tell_fault, tell_trace};
+use crate::traces::{TraceInput, tell_fault, tell_spent_trace};
 use line_engine::{EngineFault, Responder, run};
 use std::alloc::{AllocError, Global};
 use std::io::{Read, Write, sink};
@@ -16,7 +16,7 @@ struct Upgrader<E: Write> {
 }
 
 impl<E: Write> Model for Upgrader<E> {
-    ghost use Rattle.trace_file.specs.Reading.{Reading};
+    ghost use Rattle.trace_format.specs.Reading.{Reading};
 
     ghost Value = { Reading };
 
@@ -40,9 +40,7 @@ impl<E: Write + Drop> Responder for Upgrader<E> {
 
     fn on_end(&mut self, out: &mut Vec<u8>) -> Result<bool, AllocError> {
         match self.input.end() {
-            Ok((trace, history)) => {
-                tell_trace(self.input.alloc(), &trace, history.as_slice(), out)
-            }
+            Ok((trace, history)) => { tell_spent_trace(self.input.alloc(), trace, history, out) }
             Err(fault) => tell_fault(fault, out),
         }
     }

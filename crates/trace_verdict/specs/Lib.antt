@@ -2,4 +2,4 @@ pub mod Verdict
 pub use Rattle.caller_room.specs.Room
 pub use Rattle.history_check.specs.Claim
 pub use Rattle.history_check.specs.Trace
-pub use Rattle.trace_file.specs.Reading
+pub use Rattle.trace_format.specs.Reading

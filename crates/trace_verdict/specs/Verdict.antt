@@ -3,8 +3,8 @@ use Rattle.std.specs.Prelude.{ℕ, nat_lt, if◌then◌else◌, List, length, Op
 use Rattle.history_check.specs.declared.flaws.FlawKind.{FlawKind}
 use Rattle.history_check.specs.Claim.{Claim}
 use Rattle.history_check.specs.Flaws.{first_flaw}
-use Rattle.trace_file.specs.declared.fault.ReadFault.{ReadFault}
-use Rattle.trace_file.specs.Reading.{read_of}
+use Rattle.trace_format.specs.declared.fault.ReadFault.{ReadFault}
+use Rattle.trace_format.specs.Reading.{read_of}
 use Rattle.trace_engine.specs.Check.{fault_line, flaw_line}
 use Rattle.caller_room.specs.declared.TheConstants.{SMALL_ROOM}
 use Rattle.caller_room.specs.Room.{Told, untold, told_fault}

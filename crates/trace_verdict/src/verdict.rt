@@ -1,11 +1,10 @@
 //! The verdict on the text of a trace.
-ghost use Rattle.std.specs.Prelude.{◌≡◌, ◌≤◌, ◌<◌, ◌⊎◌, ◌+◌, length, Ok, OnOk, IfErr};
-ghost use Rattle.arrayvec.specs.ArrayString.{array_string_len};
+ghost use Rattle.std.specs.Prelude.{◌≡◌, ◌≤◌, ◌<◌, ◌⊎◌, ◌+◌, length, Ok};
 ghost use Rattle.history_check.specs.declared.flaws.FlawKind.{FlawKind};
 ghost use Rattle.history_check.specs.Claim.{Claim, claim_of};
 ghost use Rattle.history_check.specs.Trace.{Explains};
 ghost use Rattle.history_check.specs.Flaws.{first_flaw};
-ghost use Rattle.trace_file.specs.Reading.{read_of};
+ghost use Rattle.trace_format.specs.Reading.{read_of};
 ghost use Rattle.trace_engine.specs.Check.{fault_line, flaw_line};
 ghost use Rattle.caller_room.specs.Room.{filled};
 ghost use Rattle.trace_verdict.specs.Verdict.{judged, verdict};
@@ -16,7 +15,7 @@ use history_check::{Flaw, FlawKind, Trace, check};
 use seq_memory::Entry;
 use std::alloc::Global;
 use trace_engine::{write_fault, write_flaw};
-use trace_file::{ReadFault, ReadFaultKind, read_trace};
+use trace_format::{ReadFault, ReadFaultKind, read_trace};
 
 /// Puts the line of a flaw to the front of the room.
 fn put_flaw(flaw: Flaw, room: &mut [u8]) -> u32

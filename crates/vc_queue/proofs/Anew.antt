@@ -10,7 +10,7 @@ use Rattle.vc_queue.specs.declared.classes.Arrived.{Arrived}
 use Rattle.vc_queue.specs.declared.classes.Classes.{Classes}
 use Rattle.vc_queue.specs.declared.classes.Cut.{Cut}
 use Rattle.vc_queue.specs.Queue.{Item}
-use Rattle.vc_queue.specs.Arrivals.{item_of, class_in, IsSplit, IsSound, IsAnew, in_order, items_of, list_of, count_of, HasInstead, past, IsCut, IsRising, of_class, renumbered}
+use Rattle.vc_queue.specs.Arrivals.{item_of, class_in, IsSplit, IsSound, IsAnew, in_order, items_of, list_of, count_in, HasInstead, past, IsCut, IsRising, of_class, renumbered}
 use Rattle.vc_queue.proofs.Merged.{keep_mine, keep_other, parts_instead, of_list, of_cut, parted, first_of_some, first_of_none, cut_one, rising_join, rising_lower, rising_before, rising_behind, rising_length, rising_push, merged_is, is_sound, TellsFirst}
 
 abbrev other_number : Arrived → ℕ → Arrived
@@ -34,7 +34,7 @@ rest_of c d before x behind n e m =
 
 -- the queue of the class has another number behind the cut, and the others stay
 abbrev pub IsNumbered : Class → Cut → ℕ → Classes → Classes → Type 0
-IsNumbered c cut n old new = HasInstead c (take (count_of c cut) (list_of c old) ++ renumbered n (drop (count_of c cut) (list_of c old))) old new
+IsNumbered c cut n old new = HasInstead c (take (count_in c cut) (list_of c old) ++ renumbered n (drop (count_in c cut) (list_of c old))) old new
 
 split_number : (c : Class) (before : List Arrived) (x : Arrived) (behind : List Arrived) (cut : Cut) (n : ℕ) (old new : Classes) → class_in x ≡ c → IsCut before cut → IsNumbered c cut n old new →
     IsSplit (before ++ x ∷ behind) old → IsRising 0 n before → n ≤ x.arrival → new.next ≡ old.next → IsSplit (before ++ other_number x n ∷ behind) new
@@ -44,8 +44,8 @@ split_number c before x behind cut n old new e k t s r h p =
     record {
       rises = rw p (rising_join 0 n old.next before (other_number x n ∷ behind) r (low, higher));
       fits = rw p s.fits;
-      parts = parts_instead c (before ++ x ∷ behind) (before ++ other_number x n ∷ behind) (take (count_of c cut) (list_of c old) ++ renumbered n (drop (count_of c cut) (list_of c old))) old new t
-          (own c before x behind (count_of c cut) n (list_of c old) e (of_cut c before cut k) (of_list c (before ++ x ∷ behind) old s)) (λ d o. rest_of c d before x behind n e o) s.parts;
+      parts = parts_instead c (before ++ x ∷ behind) (before ++ other_number x n ∷ behind) (take (count_in c cut) (list_of c old) ++ renumbered n (drop (count_in c cut) (list_of c old))) old new t
+          (own c before x behind (count_in c cut) n (list_of c old) e (of_cut c before cut k) (of_list c (before ++ x ∷ behind) old s)) (λ d o. rest_of c d before x behind n e o) s.parts;
     }
 
 pub anew_step : (c : Class) (items : List Item) (n : ℕ) (cut next : Cut) (found : Option Class) (old new : Classes) → IsAnew items n cut old → TellsFirst old cut found → found ≡ Some c →

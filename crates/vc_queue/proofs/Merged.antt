@@ -10,7 +10,7 @@ use Rattle.fc_credit.specs.Credits.{same}
 use Rattle.vc_queue.specs.declared.classes.Arrived.{Arrived}
 use Rattle.vc_queue.specs.declared.classes.Classes.{Classes}
 use Rattle.vc_queue.specs.declared.classes.Cut.{Cut}
-use Rattle.vc_queue.specs.Arrivals.{class_in, IsSplit, IsSound, AreParts, in_order, list_of, count_of, HasInstead, past, IsCut, IsRising, keep, of_class, placed, merged, first_class, first_number, is_older, oldest_of}
+use Rattle.vc_queue.specs.Arrivals.{class_in, IsSplit, IsSound, AreParts, in_order, list_of, count_in, HasInstead, past, IsCut, IsRising, keep, of_class, placed, merged, first_class, first_number, is_older, oldest_of}
 
 lt_true : (a b : ℕ) → a < b → nat_lt a b ≡ true
 lt_true a b h = grind (arith, nat_tests)
@@ -318,7 +318,7 @@ of_list Posted m q s = s.parts.is_posted
 of_list NonPosted m q s = s.parts.is_non_posted
 of_list Completion m q s = s.parts.is_completion
 
-pub of_cut : (c : Class) (before : List Arrived) (cut : Cut) → IsCut before cut → count_of c cut ≡ length (of_class c before)
+pub of_cut : (c : Class) (before : List Arrived) (cut : Cut) → IsCut before cut → count_in c cut ≡ length (of_class c before)
 of_cut Posted before cut k = k.is_posted
 of_cut NonPosted before cut k = k.is_non_posted
 of_cut Completion before cut k = k.is_completion
@@ -371,11 +371,11 @@ rising_without low high before x behind r =
     (rising_lower x.arrival (x.arrival + 1) high behind (omega arith) (rising_behind low high before x behind r))
 
 pub split_take : (c : Class) (before : List Arrived) (x : Arrived) (behind : List Arrived) (cut : Cut) (old new : Classes) → class_in x ≡ c → IsCut before cut →
-    HasInstead c (remove (list_of c old) (count_of c cut)) old new → IsSplit (before ++ x ∷ behind) old → new.next ≡ old.next → IsSplit (before ++ behind) new
+    HasInstead c (remove (list_of c old) (count_in c cut)) old new → IsSplit (before ++ x ∷ behind) old → new.next ≡ old.next → IsSplit (before ++ behind) new
 split_take c before x behind cut old new e k h s n =
     record {
       rises = rw n (rising_without 0 old.next before x behind s.rises);
       fits = rw n s.fits;
-      parts = parts_instead c (before ++ x ∷ behind) (before ++ behind) (remove (list_of c old) (count_of c cut)) old new h
-          (lost c before x behind (count_of c cut) (list_of c old) e (of_cut c before cut k) (of_list c (before ++ x ∷ behind) old s)) (λ d o. stayed c d before x behind e o) s.parts;
+      parts = parts_instead c (before ++ x ∷ behind) (before ++ behind) (remove (list_of c old) (count_in c cut)) old new h
+          (lost c before x behind (count_in c cut) (list_of c old) e (of_cut c before cut k) (of_list c (before ++ x ∷ behind) old s)) (λ d o. stayed c d before x behind e o) s.parts;
     }

@@ -12,7 +12,7 @@ use Rattle.dllp_core.specs.declared.packet.Class.TheVariants.{Posted, NonPosted,
 use Rattle.vc_queue.specs.declared.classes.Arrived.{Arrived}
 use Rattle.vc_queue.specs.declared.classes.Classes.{Classes}
 use Rattle.vc_queue.specs.declared.classes.Cut.{Cut}
-use Rattle.vc_queue.specs.Arrivals.{item_of, class_in, IsSplit, list_of, count_of, HasInstead, IsCut, of_class, first_class}
+use Rattle.vc_queue.specs.Arrivals.{item_of, class_in, IsSplit, list_of, count_in, HasInstead, IsCut, of_class, first_class}
 use Rattle.vc_queue.proofs.Merged.{same_class, keep_mine, first_of_some, first_of_none, nothing_left, left, split_at, of_list, of_cut, TellsFirst, split_take}
 
 -- ---- a walk from before an item
@@ -47,18 +47,18 @@ item_left c n m x ys k list e f g h =
     (left c (take n m) (x ∷ ys) k list (g ∙ ap (of_class c) (with_parts m n x ys e)) h ∙ rw (f, same_class c) refl)
 
 pub item_of_class : (c : Class) (n : ℕ) (m : List Arrived) (x : Arrived) (ys : List Arrived) (cut : Cut) (q : Classes) → drop n m ≡ x ∷ ys → class_in x ≡ c →
-    IsSplit m q → IsCut (take n m) cut → slice_get (list_of c q) (count_of c cut) ≡ Some x
-item_of_class c n m x ys cut q e f s k = item_left c n m x ys (count_of c cut) (list_of c q) e f (of_list c m q s) (of_cut c (take n m) cut k)
+    IsSplit m q → IsCut (take n m) cut → slice_get (list_of c q) (count_in c cut) ≡ Some x
+item_of_class c n m x ys cut q e f s k = item_left c n m x ys (count_in c cut) (list_of c q) e f (of_list c m q s) (of_cut c (take n m) cut k)
 
 -- what is taken is the item of the place, and what is left is without it
 pub taken_item : (m : List Arrived) (n : ℕ) (q : Classes) (cut : Cut) (found : Option Class) (c : Class) → IsSplit m q → IsCut (take n m) cut → TellsFirst q cut found →
-    found ≡ Some c → option_map item_of (slice_get (list_of c q) (count_of c cut)) ≡ slice_get (map item_of m) n
+    found ≡ Some c → option_map item_of (slice_get (list_of c q) (count_in c cut)) ≡ slice_get (map item_of m) n
 taken_item m n q cut found c s k f e =
     let first = found_class m n q cut found c s k f e in
     ap (option_map item_of) (item_of_class c n m first.0 first.1 cut q first.2 first.3 s k ∙ sym (got_of_drop m n first.0 first.1 first.2)) ∙ sym (slice_get-map item_of m n)
 
 pub taken_at : (m : List Arrived) (n : ℕ) (old new : Classes) (cut : Cut) (found : Option Class) (c : Class) → IsSplit m old → IsCut (take n m) cut → TellsFirst old cut found →
-    found ≡ Some c → HasInstead c (remove (list_of c old) (count_of c cut)) old new → new.next ≡ old.next → IsSplit (remove m n) new
+    found ≡ Some c → HasInstead c (remove (list_of c old) (count_in c cut)) old new → new.next ≡ old.next → IsSplit (remove m n) new
 taken_at m n old new cut found c s k f e t p =
     let first = found_class m n old cut found c s k f e in
     let parts : IsSplit (take n m ++ first.0 ∷ first.1) old = subst (λ (l : List Arrived). IsSplit l old) (with_parts m n first.0 first.1 first.2) s in
@@ -94,7 +94,7 @@ first_item m q c s e =
 abbrev start : Cut
 start = record { posted = 0; non_posted = 0; completion = 0 }
 
-start_count : (c : Class) → count_of c start ≡ 0
+start_count : (c : Class) → count_in c start ≡ 0
 start_count Posted = refl
 start_count NonPosted = refl
 start_count Completion = refl
@@ -104,7 +104,7 @@ pub first_taken : (m : List Arrived) (old new : Classes) (c : Class) → IsSplit
 first_taken m old new c s e h n =
     let first = first_of_some m c e in
     let parts : IsSplit (first.0 ∷ first.1) old = subst (λ (l : List Arrived). IsSplit l old) first.2 s in
-    let left : HasInstead c (remove (list_of c old) (count_of c start)) old new = rw (start_count c) h in
+    let left : HasInstead c (remove (list_of c old) (count_in c start)) old new = rw (start_count c) h in
     subst (λ (l : List Arrived). IsSplit l new) (sym (ap (λ (l : List Arrived). remove l 0) first.2))
     (split_take c [] first.0 first.1 start old new first.3 (record { is_posted = refl; is_non_posted = refl; is_completion = refl }) left parts n)
 
@@ -122,7 +122,7 @@ got_lent list k x m n None i e f = let no = i.2 (slice_get_within list k x e) in
 
 -- what is lent is the item of the place
 pub lent_at : (m : List Arrived) (n : ℕ) (q : Classes) (cut : Cut) (found : Option Class) (c : Class) (got : Option (Bor Arrived)) → IsSplit m q → IsCut (take n m) cut → TellsFirst q cut found →
-    found ≡ Some c → IsItemAt (list_of c q) (count_of c cut) got → MatchOption got (slice_get m n ≡ None) (λ y. slice_get m n ≡ Some y.now)
+    found ≡ Some c → IsItemAt (list_of c q) (count_in c cut) got → MatchOption got (slice_get m n ≡ None) (λ y. slice_get m n ≡ Some y.now)
 lent_at m n q cut found c got s k f e i =
     let first = found_class m n q cut found c s k f e in
-    got_lent (list_of c q) (count_of c cut) first.0 m n got i (item_of_class c n m first.0 first.1 cut q first.2 first.3 s k) (got_of_drop m n first.0 first.1 first.2)
+    got_lent (list_of c q) (count_in c cut) first.0 m n got i (item_of_class c n m first.0 first.1 cut q first.2 first.3 s k) (got_of_drop m n first.0 first.1 first.2)

@@ -20,7 +20,7 @@ use Rattle.vc_queue.specs.declared.classes.Classes.{Classes}
 use Rattle.vc_queue.specs.declared.classes.Cut.{Cut}
 use Rattle.vc_queue.specs.Ordering.{may_pass}
 use Rattle.vc_queue.specs.Queue.{Item, passes_each, first_passes, is_takeable, first_of}
-use Rattle.vc_queue.specs.Arrivals.{item_of, class_in, IsSplit, IsCut, IsRising, list_of, count_of, past, keep, of_class, Rises, smaller, numbered, AreItemsOf}
+use Rattle.vc_queue.specs.Arrivals.{item_of, class_in, IsSplit, IsCut, IsRising, list_of, count_in, past, keep, of_class, Rises, smaller, numbered, AreItemsOf}
 use Rattle.vc_queue.proofs.Places.{drop_read, takeable_is_there, takeable_from, non_posted_is_passed, request_goes, nothing_passes_posted}
 use Rattle.vc_queue.proofs.Merged.{same_class, keep_mine, keep_other, of_list, of_cut, of_append, first_of_none, nothing_left, left, split_at, TellsFirst}
 use Rattle.vc_queue.proofs.Taken.{found_class, got_of_drop}
@@ -172,7 +172,7 @@ taken_length zero m x ys e = refl
 taken_length (suc n) [] x ys e = cc
 taken_length (suc n) (z ∷ zs) x ys e = let rest = taken_length n zs x ys e in omega arith
 
-pub first_is : (c : Class) (n : ℕ) (m : List Arrived) (q : Classes) (cut : Cut) (found : Option Class) → IsSplit m q → IsCut (take n m) cut → count_of c cut ≡ 0 →
+pub first_is : (c : Class) (n : ℕ) (m : List Arrived) (q : Classes) (cut : Cut) (found : Option Class) → IsSplit m q → IsCut (take n m) cut → count_in c cut ≡ 0 →
     TellsFirst q cut found → found ≡ Some c → first_of (map item_of m) c ≡ Some n
 first_is c n m q cut found s k z f e =
     let first = found_class m n q cut found c s k f e in
@@ -181,14 +181,14 @@ first_is c n m q cut found s k z f e =
     (from_some c 0 (take n m) first.0 first.1 (empty (of_class c (take n m)) (sym (of_cut c (take n m) cut k) ∙ z)) first.3 ∙
     ap (λ (j : ℕ). Some j) (let all = taken_length n m first.0 first.1 first.2 in omega arith)))
 
-pub first_at_end : (c : Class) (n : ℕ) (m : List Arrived) (cut : Cut) → IsCut (take n m) cut → count_of c cut ≡ 0 → length m ≤ n → first_of (map item_of m) c ≡ None
+pub first_at_end : (c : Class) (n : ℕ) (m : List Arrived) (cut : Cut) → IsCut (take n m) cut → count_in c cut ≡ 0 → length m ≤ n → first_of (map item_of m) c ≡ None
 first_at_end c n m cut k z h =
     first_none c m (ap (of_class c) (sym (take_all n m h)) ∙ empty (of_class c (take n m)) (sym (of_cut c (take n m) cut k) ∙ z))
 
 pub first_of_empty : (c : Class) (m : List Arrived) (q : Classes) → IsSplit m q → length (list_of c q) ≡ 0 → first_of (map item_of m) c ≡ None
 first_of_empty c m q s z = first_none c m (sym (of_list c m q s) ∙ empty (list_of c q) z)
 
-pub past_other : (c d : Class) (cut next : Cut) → c ≢ d → next ≡ past c cut → count_of d cut ≡ 0 → count_of d next ≡ 0
+pub past_other : (c d : Class) (cut next : Cut) → c ≢ d → next ≡ past c cut → count_in d cut ≡ 0 → count_in d next ≡ 0
 past_other Posted Posted cut next n e z = absurd (n refl)
 past_other Posted NonPosted cut next n e z = rw e z
 past_other Posted Completion cut next n e z = rw e z

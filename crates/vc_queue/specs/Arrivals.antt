@@ -105,10 +105,10 @@ HasInstead Completion items old new = (new.posted.items ≡ old.posted.items) ×
 
 -- ---- a place, as so many items of each class
 
-abbrev pub count_of : Class → Cut → ℕ
-count_of Posted cut = cut.posted
-count_of NonPosted cut = cut.non_posted
-count_of Completion cut = cut.completion
+abbrev pub count_in : Class → Cut → ℕ
+count_in Posted cut = cut.posted
+count_in NonPosted cut = cut.non_posted
+count_in Completion cut = cut.completion
 
 -- one more of a class
 abbrev pub past : Class → Cut → Cut

@@ -35,7 +35,7 @@ pub(crate) struct Cut {
 }
 
 impl Cut {
-    ghost use Rattle.vc_queue.specs.Arrivals.{count_of, past, IsCut};
+    ghost use Rattle.vc_queue.specs.Arrivals.{count_in, past, IsCut};
 
     /// Before the first place stands nothing.
     fn start() -> Cut
@@ -49,7 +49,7 @@ impl Cut {
     }
 
     fn count(self, class: Class) -> usize
-        ensures { result ≡ count_of class self }
+        ensures { result ≡ count_in class self }
     {
         match class {
             Class::Posted => self.posted,
@@ -60,7 +60,7 @@ impl Cut {
 
     /// With one more of a class.
     fn past(self, class: Class) -> Cut
-        requires { count_of class self < 2 ^ 63 }
+        requires { count_in class self < 2 ^ 63 }
         ensures { result ≡ past class self }
     {
         match class {
@@ -82,7 +82,7 @@ impl Cut {
 
 impl Classes {
     ghost use Rattle.vc_queue.specs.Queue.{is_takeable, first_of};
-    ghost use Rattle.vc_queue.specs.Arrivals.{item_of, IsSplit, IsSound, IsAnew, in_order, items_of, list_of, HasInstead, count_of, IsCut, first_class};
+    ghost use Rattle.vc_queue.specs.Arrivals.{item_of, IsSplit, IsSound, IsAnew, in_order, items_of, list_of, HasInstead, count_in, IsCut, first_class};
 
     /// Three empty queues.
     pub(crate) fn new(alloc: Global, next: u64) -> Classes
@@ -130,7 +130,7 @@ impl Classes {
     /// The class of the oldest packet behind a cut.
     pub(crate) fn oldest(&self, cut: Cut) -> Option<Class>
         ensures first { (before rest : List _) → IsSplit (before ++ rest) self.now → IsCut before cut → result ≡ first_class rest }
-        ensures there { IfSome result (λ class. count_of class cut < length (list_of class self.now)) }
+        ensures there { IfSome result (λ class. count_in class cut < length (list_of class self.now)) }
     {
         let posted = number_at(&self.posted, cut.posted);
         let non_posted = number_at(&self.non_posted, cut.non_posted);

@@ -1,5 +1,5 @@
 //! The reference of the tests: one list in order of arrival.
-ghost use Rattle.std.specs.Prelude.{◌≡◌, ◌+◌, ◌<◌, ◌==◌, ◌∷◌, ◌++◌, [], Some, length, take, remove, slice_get, IsTrue, IsSome, IfSome, OnOk, OnErr, ◌↔◌};
+ghost use Rattle.std.specs.Prelude.{◌≡◌, ◌+◌, ◌<◌, ◌∷◌, ◌++◌, [], Some, length, take, remove, slice_get, IsTrue, IsSome, IfSome, OnOk, OnErr, ◌↔◌};
 ghost use Rattle.vc_queue.specs.Queue.{passes_each, is_takeable};
 
 use crate::ordering::may_pass;

@@ -1,5 +1,5 @@
 //! The receive queue.
-ghost use Rattle.std.specs.Prelude.{◌≡◌, ◌+◌, ◌<◌, ◌^◌, ◌↔◌, ◌==◌, ◌∷◌, ◌++◌, [], Some, length, take, remove, slice_get, IsTrue, IsSome, IfSome, OnOk, OnErr};
+ghost use Rattle.std.specs.Prelude.{◌≡◌, ◌+◌, ◌<◌, ◌↔◌, ◌==◌, ◌∷◌, ◌++◌, [], Some, length, take, remove, slice_get, IsTrue, IsSome, IfSome, OnOk, OnErr};
 ghost use Rattle.vc_queue.specs.Queue.{is_takeable, first_of};
 ghost use Rattle.vc_queue.specs.Arrivals.{AreItemsOf};
 

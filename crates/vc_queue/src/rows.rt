@@ -5,8 +5,8 @@ use std::alloc::Global;
 use std::test::Fail;
 use tlp_core::decode;
 
-/// Oldest first: a read and a write of requester 0100h, a read of 0200h, two completions for ID 0100h and tag 0, a write
-/// of 0200h.
+/// Oldest first: a read and a write of requester 0100h, a read of 0200h, two completions for ID 0100h and tag 0, a
+/// write of 0200h.
 const ARRIVED: [&[u8]; 6] = [
     &[0x00, 0, 0, 1, 1, 0, 0, 0x0F, 0, 0, 0, 0],
     &[0x40, 0, 0, 1, 1, 0, 0, 0x0F, 0, 0, 0, 0, 1, 2, 3, 4],

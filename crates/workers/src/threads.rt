@@ -1,5 +1,5 @@
 //! The threads of a run: one for each worker, each joined at its end.
-ghost use Rattle.std.specs.Prelude.{◌≡◌, ◌+◌, ◌-◌, ◌<◌, ℕ, [], ◌++◌, IfOk, OnOk, IsTrue, vec_len, length, map};
+ghost use Rattle.std.specs.Prelude.{◌≡◌, ◌+◌, ◌-◌, ◌<◌, [], ◌++◌, IfOk, OnOk, IsTrue, vec_len, length, map};
 ghost use Rattle.recorder.specs.Rule.{unbegun, IsWhole};
 ghost use Rattle.hall_core.specs.Views.{IsSeatOf};
 ghost use Rattle.requester_worker.specs.Following.{IsUnusedSeat, Follows, Finishes};
@@ -244,23 +244,22 @@ fn answers(records: &[Record], from: usize) -> u64 {
 /// Takes records until the run is over and the queue is empty. The counter rises by the answers taken.
 fn take_all<R: Wait>(
     rt: &R,
-    recorder: &Recorder,
-    shared: &Shared,
-    answered: &AtomicU64,
+    run: Run<'_>,
     taker: &mut Taker,
     records: &mut Vec<Record>,
 ) -> Result<(), AllocError>
-    requires { (taker.old.queue ≡ recorder.now) × (taker.old.taken.records ≡ records.old.items) }
+    requires { (taker.old.queue ≡ run.recorder.now) × (taker.old.taken.records ≡ records.old.items) }
     ensures queue { taker.new.queue ≡ taker.old.queue }
     ensures known { taker.new.taken.known ≡ taker.old.taken.known }
     ensures records { taker.new.taken.records ≡ records.new.items }
     ensures whole { OnOk result (IsWhole taker.new.taken) }
 {
     for _ in rt.forever() {
-        let over = shared.is_over();
+        let over = run.shared.is_over();
         let from = records.len();
-        let none = recorder.drain(rt, taker, records)?;
-        answered.fetch_add(answers(records.as_slice(), from), Ordering::SeqCst);
+        let none = run.recorder.drain(rt, taker, records)?;
+        run.answered
+            .fetch_add(answers(records.as_slice(), from), Ordering::SeqCst);
         if none {
             if over {
                 break;
@@ -345,14 +344,7 @@ pub fn drive<'s, E, R: Threads + Wait, G: Gate + Sync>(
             return Err(refused);
         }
     };
-    let taken = take_all(
-        rt,
-        run.recorder,
-        run.shared,
-        run.answered,
-        &mut taker,
-        &mut records,
-    );
+    let taken = take_all(rt, run, &mut taker, &mut records);
     if taken.is_err() {
         run.shared.stop(Stop::Memory);
     }
@@ -366,14 +358,7 @@ pub fn drive<'s, E, R: Threads + Wait, G: Gate + Sync>(
         run.hall,
     )?;
     // What came in between the last look and the end of the requesters.
-    take_all(
-        rt,
-        run.recorder,
-        run.shared,
-        run.answered,
-        &mut taker,
-        &mut records,
-    )?;
+    take_all(rt, run, &mut taker, &mut records)?;
     Ok(Gathered {
         seats,
         records,

@@ -1,4 +1,4 @@
-use Rattle.std.proofs.Common.{◌≡◌, ◌∙◌, ◌⊎◌, List, ℕ, Option, Result, Ok, Err, IfOk, OnOk, OnErr, sym, subst, inl, inr, refl}
+use Rattle.std.proofs.Common.{◌≡◌, ◌∙◌, List, ℕ, Option, Result, Ok, Err, IfOk, OnOk, OnErr, sym, subst, inl, inr, refl}
 use Rattle.line_engine.specs.declared.fault.EngineFault.{EngineFault}
 use Rattle.storm.specs.declared.Storm.{Storm}
 use Rattle.generate_engine.specs.Script.{IsWhole as IsWholeScript, IsPart as IsPartOfScript}

@@ -1,5 +1,5 @@
 use Rattle.std.proofs.Common.{arith, refl, rules}
-use Rattle.fabric_core.specs.Quiet.{IsStill}
+use Rattle.lane_core.specs.Calls.{IsStill}
 use Rattle.fabric_core.proofs.Still.{still_more, all_still}
 use Rattle.fabric_core.proofs.parts.are_still.Goals as goal
 

@@ -1,7 +1,7 @@
 use Rattle.std.proofs.Common.{◌≡◌, ℕ, ◌<◌, Some}
 use Rattle.std.specs.Prelude.{slice_get}
 use Rattle.lane_core.specs.Steps.{Ends}
-use Rattle.fabric_core.specs.Quiet.{IsStill}
+use Rattle.lane_core.specs.Calls.{IsStill}
 use Rattle.fabric_core.proofs.parts.are_still.Given as goal
 
 abbrev pub invariant-loop-lane : goal.invariant-loop-lane

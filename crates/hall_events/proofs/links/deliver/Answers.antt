@@ -1,6 +1,7 @@
 use Rattle.std.proofs.Common.{rules, ◌≡◌, ◌+◌, ℕ, List, [], ◌∷◌, inl, sym, subst}
 use Rattle.fabric_core.specs.declared.event.Event.TheVariants.{Deliver}
 use Rattle.fabric_core.specs.declared.event.Seen.TheVariants.{Delivered}
+use Rattle.fabric_core.specs.declared.fault.Refusal.TheVariants.{Idle}
 use Rattle.hall_laws.specs.declared.part.PartValue.TheVariants.{Forward, Receiver}
 use Rattle.hall_laws.specs.declared.token.Token.{Token}
 use Rattle.hall_laws.specs.declared.token.Knowledge.{Knowledge}
@@ -56,3 +57,18 @@ returns-in-Err-deliver-clause-why c =
     let many : t.knows.config.requesters ≡ c.args.requesters = search rules in
     let named : IsLaneName t.knows.config.requesters name = subst (λ (n : ℕ). IsLaneName n name) (sym many) c.requires.table.2 in
     subst (λ (z : Knowledge). IsRefused z (Deliver name c.args.fate) (Core c.in-Err-deliver.refusal)) same (inl (c.delivering.ensures.refused t (others_of ts) name v w c.args.fate c.in-Err-deliver.refusal named (known, held) c.in-Err-deliver.ensures.refused))
+
+pub returns-then-has_nothing_forward-clause-why : goal.returns-then-has_nothing_forward-clause-why
+returns-then-has_nothing_forward-clause-why c =
+    let before : Knowledge = (token_of c.args.place.now.me.0).knows in
+    let name = c.args.name in
+    let v = c.in-Ok.wire in
+    let ts : List Token = c.args.place.now.me.0 in
+    let t : Token = holding (lane_slot name + 1) (Forward v) (token_of ts) in
+    let known : Known (t ∷ others_of ts) = c.in-Ok.ensures.taken.1 in
+    let held : t.held ≡ (lane_slot name + 1, Forward v) ∷ [] = search rules in
+    let same : t.knows ≡ before = search rules in
+    let many : t.knows.config.requesters ≡ c.args.requesters = search rules in
+    let named : IsLaneName t.knows.config.requesters name = subst (λ (n : ℕ). IsLaneName n name) (sym many) c.requires.table.2 in
+    subst (λ (z : Knowledge). IsRefused z (Deliver name c.args.fate) (Core Idle)) same
+    (inl (c.delivering.ensures.nothing t (others_of ts) name v c.args.fate named (known, held) (c.has_nothing_forward.ensures.0 c.if-has_nothing_forward.true)))

@@ -1,6 +1,7 @@
 use Rattle.std.proofs.Common.{rules, ◌≡◌, ◌+◌, ℕ, List, [], ◌∷◌, inl, sym, subst}
 use Rattle.fabric_core.specs.declared.event.Event.TheVariants.{Transmit}
 use Rattle.fabric_core.specs.declared.event.Seen.TheVariants.{Sent}
+use Rattle.fabric_core.specs.declared.fault.Refusal.TheVariants.{Idle}
 use Rattle.hall_laws.specs.declared.part.PartValue.TheVariants.{Sender, Forward}
 use Rattle.hall_laws.specs.declared.token.Token.{Token}
 use Rattle.hall_laws.specs.declared.token.Knowledge.{Knowledge}
@@ -56,3 +57,18 @@ returns-in-Err-transmit-clause-why c =
     let many : t.knows.config.requesters ≡ c.args.requesters = search rules in
     let named : IsLaneName t.knows.config.requesters name = subst (λ (n : ℕ). IsLaneName n name) (sym many) c.requires.table.2 in
     subst (λ (z : Knowledge). IsRefused z (Transmit name) (Core c.in-Err-transmit.refusal)) same (inl (c.transmitting.ensures.refused t (others_of ts) name v w c.in-Err-transmit.refusal named (known, held) c.in-Err-transmit.ensures.refused))
+
+pub returns-then-has_nothing_to_send-clause-why : goal.returns-then-has_nothing_to_send-clause-why
+returns-then-has_nothing_to_send-clause-why c =
+    let before : Knowledge = (token_of c.args.place.now.me.0).knows in
+    let name = c.args.name in
+    let v = c.in-Ok.sender in
+    let ts : List Token = c.args.place.now.me.0 in
+    let t : Token = holding (lane_slot name) (Sender v) (token_of ts) in
+    let known : Known (t ∷ others_of ts) = c.in-Ok.ensures.taken.1 in
+    let held : t.held ≡ (lane_slot name, Sender v) ∷ [] = search rules in
+    let same : t.knows ≡ before = search rules in
+    let many : t.knows.config.requesters ≡ c.args.requesters = search rules in
+    let named : IsLaneName t.knows.config.requesters name = subst (λ (n : ℕ). IsLaneName n name) (sym many) c.requires.table.2 in
+    subst (λ (z : Knowledge). IsRefused z (Transmit name) (Core Idle)) same
+    (inl (c.transmitting.ensures.nothing t (others_of ts) name v named (known, held) (c.has_nothing_to_send.ensures.0 c.if-has_nothing_to_send.true)))

@@ -1,11 +1,9 @@
-use Rattle.std.proofs.Common.{◌≡◌, take, None}
+use Rattle.std.proofs.Common.{◌≡◌, None}
 use Rattle.history_check.specs.Flaws.{first_at, answer_at}
 use Rattle.history_check.specs.Claim.{Claim}
-use Rattle.history_check.specs.Lookup.{AreAnswered, Tables}
+use Rattle.history_check.specs.Lookup.{AreTables}
 use Rattle.history_check.proofs.answers.answer.Given as goal
 
 abbrev pub invariant-loop-a : goal.invariant-loop-a
-invariant-loop-a l = record {
-  answered : AreAnswered l.answered.items l.records (take l.a l.records);
-  clean : (x : Claim) → Tables x l.records l.points l.floors l.replies → first_at (answer_at x) l.a ≡ None;
-}
+invariant-loop-a l =
+    (x : Claim) → AreTables x l.index l.tables.records.now l.tables.points.now l.tables.floors.now l.tables.firsts.now l.tables.right.now → first_at (answer_at x) l.a ≡ None

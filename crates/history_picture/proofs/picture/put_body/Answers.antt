@@ -7,18 +7,18 @@ use Rattle.history_picture.proofs.picture.put_body.Goals as goal
 
 pub returns-clause-shapes : goal.returns-clause-shapes
 returns-clause-shapes c =
-    let v = c.args.view in
-    let rs = c.args.records.now in
-    let h = c.args.history.now in
+    let v = c.args.drawn.now.view in
+    let rs = c.args.drawn.now.records.now in
+    let h = c.args.drawn.now.history.now in
     let o = c.args.out.now.items in
     let p = c.put_entries.new.out.items in
     let q = c.extend_from_slice.new.self.items in
     both o p c.put_mark.new.out.items (entries v (bottom_of v rs h) 0 (shown_entries v.scale h)) _
     (c.in_ok-put_entries.ensures ∙ ap (λ (b : ℕ). o ++ shapes_text (entries v b 0 c.shown_entries.result.now)) c.in_ok-bottom.ensures.bottom
     ∙ ap (λ (es : List Entry). o ++ shapes_text (entries v (bottom_of v rs h) 0 es)) c.shown_entries.ensures.shown)
-    (both p q c.put_mark.new.out.items (rows v (width_of v.scale) rs h 116 requesters) (mark_shapes v.scale rs c.args.flaw (bottom_of v rs h))
+    (both p q c.put_mark.new.out.items (rows v (width_of v.scale) rs h 116 requesters) (mark_shapes v.scale rs c.args.drawn.now.flaw (bottom_of v rs h))
     (c.in_ok-extend_from_slice.ensures.items
     ∙ ap (λ (t : List ℕ). p ++ t) (c.as_slice.ensures.value ∙ c.in_ok-bottom.ensures.shapes
-    ∙ ap (λ (t : List ℕ). t ++ shapes_text (rows v c.width_of.result rs h 116 requesters)) c.new-rows.ensures.items
-    ∙ ap (λ (w : ℕ). shapes_text (rows v w rs h 116 requesters)) c.width_of.ensures))
-    (c.in_ok-put_mark.ensures ∙ ap (λ (b : ℕ). q ++ shapes_text (mark_shapes v.scale rs c.args.flaw b)) c.in_ok-bottom.ensures.bottom))
+    ∙ ap (λ (t : List ℕ). t ++ shapes_text (rows v c.width_of-width.result rs h 116 requesters)) c.new-rows.ensures.items
+    ∙ ap (λ (w : ℕ). shapes_text (rows v w rs h 116 requesters)) c.width_of-width.ensures))
+    (c.in_ok-put_mark.ensures ∙ ap (λ (b : ℕ). q ++ shapes_text (mark_shapes v.scale rs c.args.drawn.now.flaw b)) c.in_ok-bottom.ensures.bottom))

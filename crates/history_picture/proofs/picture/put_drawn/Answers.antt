@@ -5,9 +5,9 @@ use Rattle.history_picture.proofs.picture.put_drawn.Goals as goal
 
 pub returns-clause-shapes : goal.returns-clause-shapes
 returns-clause-shapes c =
-    let v = c.args.view in
-    let h = c.args.history.now in
+    let v = c.args.drawn.now.view in
+    let h = c.args.drawn.now.history.now in
     let last = c.put_body.new.out.items in
-    both c.args.out.now.items c.put_captions.new.out.items last (captions v.scale (length h) c.args.flaw) _ c.in_ok-put_captions.ensures
+    both c.args.out.now.items c.put_captions.new.out.items last (captions v.scale (length h) c.args.drawn.now.flaw) _ c.in_ok-put_captions.ensures
     (both c.put_captions.new.out.items c.put_kinds.new.out.items last kinds _ c.in_ok-put_kinds.ensures
-    (both c.put_kinds.new.out.items c.put_signs.new.out.items last signs (body v c.args.records.now h c.args.flaw) c.in_ok-put_signs.ensures c.in_ok-bottom.ensures.shapes))
+    (both c.put_kinds.new.out.items c.put_signs.new.out.items last signs (body v c.args.drawn.now.records.now h c.args.drawn.now.flaw) c.in_ok-put_signs.ensures c.in_ok-bottom.ensures.shapes))

@@ -6,6 +6,6 @@ use Rattle.lane_core.proofs.laws.accepted_begins_entered.Goals as goal
 pub returns : goal.returns
 returns c =
     record {
-      begins = λ credits calls k. (on_the_way (after_calls (new_lane credits) calls), accepted_rest credits calls k);
-      rest = accepted_rest;
+      begins = λ credits calls k. (on_the_way (after_calls (new_lane credits) calls), accepted_rest c.reading_is_spelling.ensures.read credits calls k);
+      rest = accepted_rest c.reading_is_spelling.ensures.read;
     }

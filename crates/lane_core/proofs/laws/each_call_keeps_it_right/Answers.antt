@@ -7,6 +7,6 @@ returns c =
     record {
       new = new_right_with;
       right = right_with;
-      content = content_by;
-      on_the_way = λ e call i r. (step_sound e call i (sound e r)).1;
+      content = content_by c.reading_is_spelling.ensures.read;
+      on_the_way = λ e call i r. (step_sound c.reading_is_spelling.ensures.read e call i (sound c.reading_is_spelling.ensures.read e r)).1;
     }

@@ -4,4 +4,4 @@ use Rattle.lane_core.proofs.Windows.{within, sent_is_kept}
 use Rattle.lane_core.proofs.laws.found_within_the_window.Goals as goal
 
 pub returns : goal.returns
-returns c = record { sent = λ credits before number h. sent_is_kept (after_calls (new_lane credits) before).sender number h; found = within }
+returns c = record { sent = λ credits before number h. sent_is_kept (after_calls (new_lane credits) before).sender number h; found = within c.reading_is_spelling.ensures.read }

@@ -1,5 +1,16 @@
+use Rattle.lane_core.proofs.Below.{Below}
 use Rattle.lane_core.proofs.Whole.{room}
 use Rattle.lane_core.proofs.laws.room_is_known_less_used.Goals as goal
 
 pub returns : goal.returns
-returns c = room
+returns c =
+    let laws : Below =
+    record {
+      read = c.reading_is_spelling.ensures.read;
+      header = c.limits_let_each_packet_go.ensures.header;
+      units = c.limits_let_each_packet_go.ensures.units;
+      account = c.counters_stand_for_whole_numbers.ensures.account;
+      right = c.counters_stand_for_whole_numbers.ensures.right;
+      room = c.counters_stand_for_whole_numbers.ensures.room;
+    } in
+    room laws

@@ -5,8 +5,8 @@ use Rattle.lane_core.proofs.laws.wire_bytes_tell_the_packet.Goals as goal
 pub returns : goal.returns
 returns c =
     record {
-      entered = entered_item;
-      under_way = λ e r. (sound e r).under_way;
+      entered = entered_item c.reading_is_spelling.ensures.read;
+      under_way = λ e r. (sound c.reading_is_spelling.ensures.read e r).under_way;
       number = same_wire_number;
       bytes = same_wire_bytes;
       zero_bits = λ p h. high_bits p.number h;

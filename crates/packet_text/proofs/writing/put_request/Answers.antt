@@ -1,6 +1,6 @@
 use Rattle.std.proofs.Common.{◌++◌}
 use Rattle.std.specs.Prelude.{codes}
-use Rattle.trace_text.specs.Texts.{op_text}
+use Rattle.operation_text.specs.Texts.{op_text}
 use Rattle.packet_text.specs.Texts as texts
 use Rattle.packet_text.proofs.TextLemmas.{then}
 use Rattle.packet_text.proofs.writing.put_request.Goals as goal

@@ -1,4 +1,4 @@
-use Rattle.std.proofs.Common.{◌≡◌, ◌∙◌, ℕ, List, Option, Result, Ok, Err, IfOk, OnErr, sym, subst, inl, inr}
+use Rattle.std.proofs.Common.{◌≡◌, ℕ, List, Option, Result, Ok, Err, IfOk, OnErr, sym, subst, inl, inr}
 use Rattle.counting.specs.declared.Counting.{Counting}
 use Rattle.line_engine.specs.declared.fault.EngineFault.{EngineFault}
 use Rattle.command_line.specs.declared.words.Request.{Request}

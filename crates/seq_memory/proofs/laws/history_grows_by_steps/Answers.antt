@@ -8,7 +8,7 @@ pub returns-clause-next : goal.returns-clause-next
 returns-clause-next c = contents-push
 
 pub returns-clause-at : goal.returns-clause-at
-returns-clause-at c = λ block base size p es e at. contents-at block base size es p e at
+returns-clause-at c = λ x p es e at. contents-at x es p e at
 
 pub returns-clause-size : goal.returns-clause-size
 returns-clause-size c = contents-size

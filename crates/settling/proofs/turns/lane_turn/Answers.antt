@@ -1,7 +1,6 @@
 use Rattle.std.proofs.Common.{◌≡◌, ◌∙◌, Bool, true, false, sym, ap}
-use Rattle.std.specs.Prelude.{fold}
 use Rattle.fabric_core.specs.declared.event.Event.TheVariants as events
-use Rattle.settling.specs.Rounds.{Settling, at, tried, goes, attempted, retrained, with_packets, with_dllps, timed, lane_turn}
+use Rattle.settling.specs.Rounds.{Settling, at, tried, goes, retrained, with_packets, with_dllps, timed, lane_turn}
 use Rattle.settling.proofs.RoundLemmas.{lane_attempts_are}
 use Rattle.settling.proofs.ReachedLemmas.{then}
 use Rattle.settling.proofs.turns.lane_turn.Goals as goal

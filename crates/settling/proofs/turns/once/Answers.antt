@@ -1,4 +1,4 @@
-use Rattle.std.proofs.Common.{◌≡◌, ◌∙◌, ◌++◌, List, ap}
+use Rattle.std.proofs.Common.{◌∙◌, ◌++◌, List, ap}
 use Rattle.std.specs.Prelude.{option_to_list}
 use Rattle.history_check.specs.declared.Record.{Record}
 use Rattle.settling.proofs.RoundLemmas.{happens_now, goes_now, stays_now, refused_goes, moved_before, moved_now}

@@ -1,6 +1,6 @@
 use Rattle.std.proofs.Common.{◌≡◌, ◌∙◌, sym, ap}
 use Rattle.settling.specs.declared.turns.Attempt.{Attempt}
-use Rattle.settling.specs.Rounds.{Settling, at, attempted}
+use Rattle.settling.specs.Rounds.{at, attempted}
 use Rattle.settling.proofs.RoundLemmas.{fold_next}
 use Rattle.settling.proofs.ReachedLemmas.{then}
 use Rattle.settling.proofs.turns.try_each.Goals.{in-Once+in_ok-once-in-Once, in-All+in_ok-all-in-All}

@@ -1,6 +1,6 @@
 use Rattle.std.proofs.Common.{ap, sym, subst, length, arith}
 use Rattle.run_report.specs.Halts.{IsCause}
-use Rattle.workers.proofs.Beginning.{first_seats, work_seats, stopped, ends, configured, all_done}
+use Rattle.workers.proofs.Beginning.{first_seats, work_seats, stopped}
 use Rattle.workers.proofs.running.run_workers_counting.Goals as goal
 
 pub run_threads-gathered-requires-clause-seats : goal.run_threads-gathered-requires-clause-seats

@@ -2,7 +2,8 @@ use Rattle.std.proofs.Common.{◌≡◌, ◌∙◌, ◌++◌, ◌+◌, ◌-◌, 
 use Rattle.std.proofs.lemmas.Grind.{common_steps}
 use Rattle.line_engine.specs.Run.{IsBeginning, run_of}
 use Rattle.line_engine.specs.Engine.{Stands}
-use Rattle.line_engine.proofs.LineLemmas.{on_err, stands-begins, stands-feed, stands-keep, none-before, none-at-all, cut-at}
+use Rattle.line_engine.specs.LineFacts.{none-before, none-at-all, cut-at}
+use Rattle.line_engine.proofs.LineLemmas.{on_err, stands-begins, stands-feed, stands-keep}
 use Rattle.line_engine.proofs.engine.Engine.feed.Goals as goal
 
 -- all that is left behind a place

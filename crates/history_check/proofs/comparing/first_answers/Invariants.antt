@@ -1,0 +1,6 @@
+use Rattle.std.proofs.Common.{take}
+use Rattle.history_check.specs.Lookup.{AreFirsts}
+use Rattle.history_check.proofs.comparing.first_answers.Given as goal
+
+abbrev pub invariant-loop-a : goal.invariant-loop-a
+invariant-loop-a l = AreFirsts l.firsts.items l.records (take l.a l.records)

@@ -1,0 +1,97 @@
+-- The digits of numbers and of bytes.
+use Rattle.std.proofs.Common.{◌≡◌, ℕ, zero, suc, ◌+◌, ◌/◌, ◌%◌, ◌^◌, ◌<◌, ◌≤◌, Bool, true, List, [], ◌∷◌, ◌++◌, length, get_or, slice_index, refl, sym, ap, ◌∙◌, append_assoc, length-append, inl, inr, arith, drop, drop-cons}
+use Rattle.std.specs.Prelude.{◌==◌, ◌&&◌, cond}
+use Rattle.std.specs.Fmt.{digits, digits_onto, digit_glyph}
+use Rattle.std.proofs.lemmas.Bool.{and_parts, cases_lt, eqb-true, ne_eqb, eq-eqb}
+use Rattle.hex.specs.Hex.{encode_with, encode_upper, upper_digits}
+use Rattle.operation_text.specs.Texts.{hexadecimal}
+
+-- ---- hexadecimal numbers, digit by digit
+
+abbrev spell : ℕ → ℕ → List ℕ → List ℕ
+spell k n acc = digits_onto k 16 true n acc
+
+abbrev glyph : ℕ → ℕ
+glyph n = digit_glyph true (n % 16)
+
+spell_last : (k n : ℕ) (acc : List ℕ) → n < 16 → spell (suc k) n acc ≡ glyph n ∷ acc
+spell_last k n acc h = ap (λ (t : Bool). cond t (glyph n ∷ acc) (spell k (n / 16) (glyph n ∷ acc))) (eq-eqb (n / 16) 0 (omega arith))
+
+spell_next : (k n : ℕ) (acc : List ℕ) → 16 ≤ n → spell (suc k) n acc ≡ spell k (n / 16) (glyph n ∷ acc)
+spell_next k n acc h = ap (λ (t : Bool). cond t (glyph n ∷ acc) (spell k (n / 16) (glyph n ∷ acc))) (ne_eqb (n / 16) 0 (λ e. omega arith))
+
+spell-append : (k n : ℕ) (acc : List ℕ) → spell k n acc ≡ spell k n [] ++ acc
+spell-append zero n acc = refl
+spell-append (suc k) n acc = elim (cases_lt n 16) [
+  | inl l ↦ spell_last k n acc l ∙ ap (λ (x : List ℕ). x ++ acc) (sym (spell_last k n [] l))
+  | inr l ↦
+      spell_next k n acc l ∙ spell-append k (n / 16) (glyph n ∷ acc) ∙ sym (append_assoc (spell k (n / 16) []) (glyph n ∷ []) acc)
+      ∙ ap (λ (x : List ℕ). x ++ acc) (sym (spell_next k n [] l ∙ spell-append k (n / 16) (glyph n ∷ [])))
+]
+
+spell_enough : (j k n : ℕ) (acc : List ℕ) → n < 16 ^ suc j → n < 16 ^ suc k → spell (suc j) n acc ≡ spell (suc k) n acc
+spell_enough zero k n acc p q = spell_last zero n acc (omega arith) ∙ sym (spell_last k n acc (omega arith))
+spell_enough (suc j) zero n acc p q = spell_last (suc j) n acc (omega arith) ∙ sym (spell_last zero n acc (omega arith))
+spell_enough (suc j) (suc k) n acc p q = elim (cases_lt n 16) [
+  | inl l ↦ spell_last (suc j) n acc l ∙ sym (spell_last (suc k) n acc l)
+  | inr l ↦ spell_next (suc j) n acc l ∙ spell_enough j k (n / 16) (glyph n ∷ acc) (omega arith) (omega arith) ∙ sym (spell_next (suc k) n acc l)
+]
+
+-- the digits, by places
+spelled : (n : ℕ) → spell 64 n [] ≡ hexadecimal n
+unfolding digits
+spelled n = refl
+
+pub hexadecimal_digit : (n : ℕ) → n < 16 → hexadecimal n ≡ digit_glyph true (n % 16) ∷ []
+hexadecimal_digit n h = sym (spelled n) ∙ spell_last 63 n [] h
+
+pub hexadecimal_step : (n : ℕ) → 16 ≤ n → n < 2 ^ 64 → hexadecimal n ≡ hexadecimal (n / 16) ++ digit_glyph true (n % 16) ∷ []
+hexadecimal_step n h small =
+    sym (spelled n) ∙ spell_next 63 n [] h ∙ spell_enough 62 63 (n / 16) (glyph n ∷ []) (omega arith) (omega arith)
+    ∙ spell-append 64 (n / 16) (glyph n ∷ []) ∙ ap (λ (x : List ℕ). x ++ glyph n ∷ []) (spelled (n / 16))
+
+-- as many digits as places
+pub length-hexadecimal : (k n : ℕ) → n < 16 ^ suc k → n < 2 ^ 64 → length (hexadecimal n) ≤ suc k
+length-hexadecimal zero n h small = rw (hexadecimal_digit n (omega arith)) (omega arith)
+length-hexadecimal (suc k) n h small = elim (cases_lt n 16) [
+  | inl l ↦ rw (hexadecimal_digit n l) (omega arith)
+  | inr l ↦
+      let more = length-hexadecimal k (n / 16) (omega arith) (omega arith) in
+      rw (hexadecimal_step n l small) (omega (arith, length-append (hexadecimal (n / 16)) (digit_glyph true (n % 16) ∷ []), more))
+]
+
+pub hexadecimal-short : (n : ℕ) → n < 2 ^ 64 → length (hexadecimal n) ≤ 16
+hexadecimal-short n h = length-hexadecimal 15 n (omega arith) h
+
+-- ---- the digits of bytes
+
+-- the test that the first n digits are these
+abbrev are_glyphs : ℕ → Bool
+are_glyphs zero = true
+are_glyphs (suc n) = (slice_index upper_digits n == digit_glyph true n) && are_glyphs n
+
+glyph-at : (n k : ℕ) → are_glyphs n ≡ true → k < n → slice_index upper_digits k ≡ digit_glyph true k
+glyph-at zero k h lt = absurd (omega arith)
+glyph-at (suc n) k h lt =
+    let parts = and_parts (slice_index upper_digits n == digit_glyph true n) (are_glyphs n) h in
+    elim (cases_lt k n) [
+      | inl below ↦ glyph-at n k parts.1 below
+      | inr top ↦
+          let e : k ≡ n = omega arith in
+          rw e (eqb-true (slice_index upper_digits n) (digit_glyph true n) parts.0)
+    ]
+
+pub glyph-is : (k : ℕ) → k < 16 → slice_index upper_digits k ≡ digit_glyph true k
+glyph-is k lt = glyph-at 16 k refl lt
+
+-- one byte more
+pub encode-next : (bytes : List ℕ) (i : ℕ) → i < length bytes → get_or bytes i 0 < 256
+    → encode_upper (drop i bytes) ≡ digit_glyph true (get_or bytes i 0 / 16) ∷ digit_glyph true (get_or bytes i 0 % 16) ∷ encode_upper (drop (i + 1) bytes)
+unfolding encode_with
+encode-next bytes i lt fits =
+    let high = glyph-is (get_or bytes i 0 / 16) (omega arith) in
+    let low = glyph-is (get_or bytes i 0 % 16) (omega arith) in
+    let next : i + 1 ≡ suc i = omega arith in
+    rw (next, drop-cons bytes i 0 lt, high, low) refl
+
+pub ruleset short_rules = (hexadecimal-short)

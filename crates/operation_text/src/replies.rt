@@ -1,0 +1,45 @@
+//! The text of replies.
+ghost use Rattle.std.specs.Prelude.{◌≡◌};
+ghost use Rattle.operation_text.specs.Words.{words, words_behind};
+ghost use Rattle.operation_text.specs.Operations as spelled;
+
+use crate::fields::{alone, bytes, cut};
+use seq_memory::Reply;
+
+fn data(rest: Option<&[u8]>) -> Option<Reply>
+    ensures { result ≡ spelled.data_of (words_behind rest.entry) }
+{
+    let (bytes, rest) = bytes(rest)?;
+    alone(Reply::Data(bytes), rest)
+}
+
+/// The reply of that kind that the rest of a line spells.
+pub(crate) fn reply_by(kind: &[u8], rest: Option<&[u8]>) -> Option<Reply>
+    ensures { result ≡ spelled.reply_by kind.now (words_behind rest.entry) }
+{
+    if kind == b"data".as_slice() {
+        data(rest)
+    } else if kind == b"ur".as_slice() {
+        alone(Reply::Unsupported, rest)
+    } else if kind == b"ca".as_slice() {
+        alone(Reply::Aborted, rest)
+    } else {
+        None
+    }
+}
+
+/// The reply that the text spells.
+pub fn read_reply(text: &[u8]) -> Option<Reply>
+    ensures { result ≡ spelled.reply_spelled (words text.now) }
+{
+    let (kind, rest) = cut(text);
+    reply_by(kind, rest)
+}
+
+/// The reply that the rest of a line spells, none where there is no rest. `rest` is what [`cut`]
+/// left.
+pub fn reply_behind(rest: Option<&[u8]>) -> Option<Reply>
+    ensures { result ≡ spelled.reply_spelled (words_behind rest.entry) }
+{
+    read_reply(rest?)
+}

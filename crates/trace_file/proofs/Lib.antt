@@ -1,4 +1,0 @@
-mod FormLemmas
-mod LineLemmas
-mod TextLemmas
-mod ReadBack

@@ -1,0 +1,5 @@
+mod FormLemmas
+mod LineLemmas
+mod TextLemmas
+mod ReadSpelled
+mod ReadBack
