@@ -30,10 +30,8 @@ fn enter(sender: &mut SenderEnd, tlp: &Tlp, mark: u32) -> Result<(), LaneRefusal
     ensures refused { IfErr result (λ r. LacksRoom sender.old (need_of tlp.now) r) }
     ensures err { OnErr result (sender.new ≡ sender.old) }
 {
-    match sender.enter(tlp, mark) {
-        Ok(_) => Ok(()),
-        Err(refusal) => Err(refusal),
-    }
+    sender.enter(tlp, mark)?;
+    Ok(())
 }
 
 /// The requester submits an operation: its request enters the lane, and its number is spent. Gives the number. `Submit`
@@ -180,36 +178,21 @@ pub fn link(lane: &mut LaneEnds, event: LinkEvent) -> Result<Seen, Refusal>
     ensures err { OnErr result (lane.new ≡ lane.old) }
 {
     match event {
-        LinkEvent::Transmit => match transmit(&mut lane.sender, &mut lane.forward) {
-            Ok(number) => Ok(Seen::Sent(number)),
-            Err(refusal) => Err(refusal),
-        },
+        LinkEvent::Transmit => Ok(Seen::Sent(transmit(&mut lane.sender, &mut lane.forward)?)),
         LinkEvent::Deliver(fate) => {
-            match deliver(&mut lane.forward, &mut lane.receiver, fate) {
-                Ok(arrival) => Ok(Seen::Delivered(arrival)),
-                Err(refusal) => Err(refusal),
-            }
+            Ok(Seen::Delivered(deliver(&mut lane.forward, &mut lane.receiver, fate)?))
         }
         LinkEvent::SendDllp(kind) => {
-            match send_dllp(&mut lane.receiver, &mut lane.back, kind) {
-                Ok(dllp) => Ok(Seen::SentDllp(dllp)),
-                Err(refusal) => Err(refusal),
-            }
+            Ok(Seen::SentDllp(send_dllp(&mut lane.receiver, &mut lane.back, kind)?))
         }
         LinkEvent::DeliverDllp(fate) => {
-            match deliver_dllp(&mut lane.back, &mut lane.sender, fate) {
-                Ok(seen) => Ok(Seen::SeenDllp(seen)),
-                Err(refusal) => Err(refusal),
-            }
+            Ok(Seen::SeenDllp(deliver_dllp(&mut lane.back, &mut lane.sender, fate)?))
         }
-        LinkEvent::Timer => match timer(&mut lane.sender) {
-            Ok(moved) => Ok(Seen::Back(moved)),
-            Err(refusal) => Err(refusal),
-        },
-        LinkEvent::Retrained => match retrained(&mut lane.sender) {
-            Ok(()) => Ok(Seen::Retrained),
-            Err(refusal) => Err(refusal),
-        },
+        LinkEvent::Timer => Ok(Seen::Back(timer(&mut lane.sender)?)),
+        LinkEvent::Retrained => {
+            retrained(&mut lane.sender)?;
+            Ok(Seen::Retrained)
+        }
     }
 }
 
@@ -273,19 +256,6 @@ pub fn collect(receiver: &mut ReceiverEnd, requester: &mut Requester) -> Result<
     }
 }
 
-/// Keeps room for a packet of this need.
-fn keep_room(sender: &mut SenderEnd, need: Need) -> Result<(), LaneRefusal>
-    ensures may { OnOk result (may_enter sender.old need ≡ true) }
-    ensures ok { OnOk result (sender.new ≡ with_room sender.old) }
-    ensures refused { IfErr result (λ r. LacksRoom sender.old need r) }
-    ensures err { OnErr result (sender.new ≡ sender.old) }
-{
-    match sender.make_room(need) {
-        Ok(()) => Ok(()),
-        Err(refusal) => Err(refusal),
-    }
-}
-
 /// A posted write acts on the memory.
 fn act_alone(memory: &mut Memory, request: &Tlp, mark: u32) -> Result<usize, Refusal>
     ensures place { IfOk result (λ place. place ≡ length memory.old.entries) }
@@ -316,7 +286,7 @@ fn act_and_answer(
 {
     let place = memory.entries().len();
     let had_room = sender.has_room();
-    if let Err(refusal) = keep_room(sender, need) {
+    if let Err(refusal) = sender.make_room(need) {
         return Err(Refusal::Lane(refusal));
     }
     match serve_request(memory, request, mark) {

@@ -200,14 +200,8 @@ impl Parts {
         ensures err { OnErr result (self.new ≡ self.old) }
     {
         match name {
-            LaneName::Up(port) => match self.forward_up(port, place) {
-                Ok(to) => Ok(Seen::To(to)),
-                Err(refusal) => Err(refusal),
-            },
-            LaneName::Outward => match self.forward_out(place) {
-                Ok(to) => Ok(Seen::To(to)),
-                Err(refusal) => Err(refusal),
-            },
+            LaneName::Up(port) => Ok(Seen::To(self.forward_up(port, place)?)),
+            LaneName::Outward => Ok(Seen::To(self.forward_out(place)?)),
             LaneName::Inward | LaneName::Down(_) => Err(Refusal::NoSuchPart),
         }
     }
@@ -220,10 +214,7 @@ impl Parts {
         ensures err { OnErr result (self.new ≡ self.old) }
     {
         match event {
-            Event::Submit(port, op) => match self.submit(*port, op) {
-                Ok(number) => Ok(Seen::Submitted(number)),
-                Err(refusal) => Err(refusal),
-            },
+            Event::Submit(port, op) => Ok(Seen::Submitted(self.submit(*port, op)?)),
             Event::Transmit(lane) => self.link(*lane, LinkEvent::Transmit),
             Event::Deliver(lane, fate) => self.link(*lane, LinkEvent::Deliver(*fate)),
             Event::SendDllp(lane, kind) => self.link(*lane, LinkEvent::SendDllp(*kind)),
@@ -231,14 +222,8 @@ impl Parts {
             Event::Timer(lane) => self.link(*lane, LinkEvent::Timer),
             Event::Retrained(lane) => self.link(*lane, LinkEvent::Retrained),
             Event::Forward(lane, place) => self.forward(*lane, *place),
-            Event::Serve(place) => match self.serve(*place) {
-                Ok(at) => Ok(Seen::At(at)),
-                Err(refusal) => Err(refusal),
-            },
-            Event::Collect(port) => match self.collect(*port) {
-                Ok(answer) => Ok(Seen::Collected(answer)),
-                Err(refusal) => Err(refusal),
-            },
+            Event::Serve(place) => Ok(Seen::At(self.serve(*place)?)),
+            Event::Collect(port) => Ok(Seen::Collected(self.collect(*port)?)),
         }
     }
 }

@@ -1,6 +1,6 @@
 -- The history's entries, one by one.
 use Rattle.std.proofs.Common.{◌≡◌, ℕ, zero, suc, ◌+◌, ◌<◌, ◌≤◌, Bool, true, false, cond, List, [], ◌∷◌, ◌++◌, length, take, set, get_or, Option, Some, None, refl, sym, ap, subst, ◌∙◌, inl, inr, arith}
-use Rattle.std.specs.Prelude.{slice_get, option_map, ◌==◌, ◌&&◌, not, is_some, is_none, replicate}
+use Rattle.std.specs.Prelude.{slice_get, option_map, ◌==◌, ◌&&◌, not, is_some, is_none, replicate, option_and_then}
 use Rattle.std.specs.Option.{option_or}
 use Rattle.std.proofs.lemmas.Bool.{cases_eq, cases_lt, cases_Bool, eqb-true, eq-eqb, and_parts}
 use Rattle.std.proofs.lemmas.List.{length-set, get_or-set_same, get_or-set_other, get_or-replicate, length-replicate, length-take-le, take_more, get_or_read}
@@ -10,7 +10,7 @@ use Rattle.history_check.specs.declared.Record.{Record}
 use Rattle.history_check.specs.declared.Record.TheVariants as records
 use Rattle.history_check.specs.declared.flaws.FlawKind.TheVariants as flaws
 use Rattle.history_check.specs.Trace.{is_request}
-use Rattle.history_check.specs.Flaws.{first_place, is_sub, sub_place, place_of, option_bind, some_and, at_place, submits, submits_write, misses, is_stranger, entry_flaw, entry_at, any_below}
+use Rattle.history_check.specs.Flaws.{first_place, is_sub, sub_place, place_of, some_and, at_place, submits, submits_write, misses, is_stranger, entry_flaw, entry_at, any_below}
 use Rattle.history_check.specs.Lookup.{IsIndex, ArePoints, place_in, point_in, when, submitted_in, missing_in}
 use Rattle.history_check.proofs.Firsts.{first_place-push, or_none, any_below-all}
 
@@ -20,7 +20,7 @@ picked : (v : Bool) (b : ℕ) → when v b ≡ None → v ≡ false
 picked true b e = cc
 picked false b e = refl
 
-not_found : (o : Option ℕ) (t : ℕ → Bool) → option_bind o (λ b. when (t b) b) ≡ None → some_and o t ≡ false
+not_found : (o : Option ℕ) (t : ℕ → Bool) → option_and_then (λ b. when (t b) b) o ≡ None → some_and o t ≡ false
 not_found None t e = refl
 not_found (Some b) t e = picked (t b) b e
 
@@ -28,7 +28,7 @@ taken : (v : Bool) (a b : ℕ) → when v a ≡ Some b → (v ≡ true) × (a �
 taken true a b e = (refl, cc)
 taken false a b e = cc
 
-was_found : (o : Option ℕ) (t : ℕ → Bool) (b : ℕ) → option_bind o (λ b. when (t b) b) ≡ Some b → (some_and o t ≡ true) × (o ≡ Some b)
+was_found : (o : Option ℕ) (t : ℕ → Bool) (b : ℕ) → option_and_then (λ b. when (t b) b) o ≡ Some b → (some_and o t ≡ true) × (o ≡ Some b)
 was_found None t b e = cc
 was_found (Some a) t b e = let (e1, e2) = taken (t a) a b e in (e1, ap Some e2)
 
@@ -44,8 +44,8 @@ no_stranger rows rs e b x small some =
 -- ---- a point is looked up
 
 point_by : (rows : List (List ℕ)) (rs : List Record) (h : List Entry) (points : List (Option ℕ)) (i k : ℕ) (o : Option ℕ) → ArePoints points rs h → sub_place rs i k ≡ o → place_in rows i k ≡ o → point_in rows points i k ≡ place_of h i k
-point_by rows rs h points i k None a e p = ap (λ o. option_bind o (λ b. option_bind (slice_get points b) (λ p. p))) p ∙ sym (a.others i k e)
-point_by rows rs h points i k (Some b) a e p = ap (λ o. option_bind o (λ b. option_bind (slice_get points b) (λ p. p))) p ∙ ap (λ o. option_bind o (λ p. p)) (a.at i k b e)
+point_by rows rs h points i k None a e p = ap (λ o. option_and_then (λ b. option_and_then (λ p. p) (slice_get points b)) o) p ∙ sym (a.others i k e)
+point_by rows rs h points i k (Some b) a e p = ap (λ o. option_and_then (λ b. option_and_then (λ p. p) (slice_get points b)) o) p ∙ ap (λ o. option_and_then (λ p. p) o) (a.at i k b e)
 
 pub point_is : (rows : List (List ℕ)) (rs : List Record) (h : List Entry) (points : List (Option ℕ)) (i k : ℕ) → IsIndex rows rs → i < 256 → ArePoints points rs h → point_in rows points i k ≡ place_of h i k
 point_is rows rs h points i k x small a = point_by rows rs h points i k (sub_place rs i k) a refl (x.at i k small)
@@ -60,7 +60,7 @@ missing_is rows rs h points i k x small a =
 
 bound : (rs : List Record) (h : List Entry) (p : ℕ) (e : Entry) → slice_get h p ≡ Some e → entry_at rs h p ≡ entry_flaw rs (take p h) e
 unfolding entry_at
-bound rs h p e at = ap (λ (o : Option Entry). option_bind o (entry_flaw rs (take p h))) at
+bound rs h p e at = ap (λ (o : Option Entry). option_and_then (entry_flaw rs (take p h)) o) at
 
 pub entry-stranger : (rs : List Record) (h : List Entry) (p : ℕ) (e : Entry) → slice_get h p ≡ Some e → is_stranger rs e ≡ true → entry_at rs h p ≡ Some flaws.Stranger
 entry-stranger rs h p e at s = bound rs h p e at ∙ rw s refl

@@ -1,6 +1,6 @@
 -- What the tables tell of an answer is its flaw.
 use Rattle.std.proofs.Common.{◌≡◌, ℕ, ◌<◌, Bool, true, false, List, [], ◌∷◌, take, Option, Some, None, refl, sym, ap, ◌∙◌, inl, inr, arith}
-use Rattle.std.specs.Prelude.{slice_get, option_map, ◌==◌, ◌&&◌, ◌||◌, not, nat_le, nat_lt, if◌then◌else◌}
+use Rattle.std.specs.Prelude.{slice_get, option_map, ◌==◌, ◌&&◌, ◌||◌, not, nat_le, nat_lt, if◌then◌else◌, option_and_then}
 use Rattle.std.specs.List.{list_any}
 use Rattle.std.proofs.lemmas.Bool.{cases_Bool, cases_lt, and_parts, eqb-true, eq-eqb, lt-ltb, le-ltb}
 use Rattle.std.proofs.lemmas.Option.{slice_get-get_or, none-some}
@@ -14,7 +14,7 @@ use Rattle.history_check.specs.declared.Record.TheVariants as records
 use Rattle.history_check.specs.declared.flaws.FlawKind.{FlawKind}
 use Rattle.history_check.specs.declared.flaws.FlawKind.TheVariants as flaws
 use Rattle.history_check.specs.Trace.{answers_to, is_request}
-use Rattle.history_check.specs.Flaws.{sub_place, place_of, is_sub, first_place, some_and, at_place, option_bind, had_later, asks, moment, same_reply, acted_flaw, point_flaw, asked_flaw, answer_flaw, answer_at}
+use Rattle.history_check.specs.Flaws.{sub_place, place_of, is_sub, first_place, some_and, at_place, had_later, asks, moment, same_reply, acted_flaw, point_flaw, asked_flaw, answer_flaw, answer_at}
 use Rattle.history_check.specs.Claim.{Claim}
 use Rattle.history_check.specs.Lookup.{IsIndex, ArePoints, AreFloors, AreFirsts, AreTables, place_in, point_in, requester_of, answers_with, is_told_at, is_told_in, acted_in, judged_point, judged}
 use Rattle.history_check.proofs.Entries.{point_is, passes, present, within, is_it}
@@ -57,8 +57,8 @@ told rows rs firsts i k b a n e reply made index firsts_are small s first at sam
     let (e1, e2) = is_it i k e same in
     ap (λ i. is_told_at rs (point_in rows firsts i e.number) made) (sym e1)
     ∙ ap (λ k. is_told_at rs (point_in rows firsts i k) made) (sym e2)
-    ∙ ap (λ (o : Option ℕ). is_told_at rs (option_bind o (λ b. option_bind (slice_get firsts b) (λ p. p))) made) (index.at i k small ∙ s)
-    ∙ ap (λ (o : Option (Option ℕ)). is_told_at rs (option_bind o (λ p. p)) made) (firsts_are.at i k b s ∙ ap Some first)
+    ∙ ap (λ (o : Option ℕ). is_told_at rs (option_and_then (λ b. option_and_then (λ p. p) (slice_get firsts b)) o) made) (index.at i k small ∙ s)
+    ∙ ap (λ (o : Option (Option ℕ)). is_told_at rs (option_and_then (λ p. p) o) made) (firsts_are.at i k b s ∙ ap Some first)
     ∙ ap (λ (o : Option Record). some_and o (answers_with made)) at
 
 right_is : (x : Claim) (rows : List (List ℕ)) (rs : List Record) (points floors firsts : List (Option ℕ)) (right : List Bool) (i k b p a n : ℕ) (reply : Reply) → AreTables x rows rs points floors firsts right → i < 256 → sub_place rs i k ≡ Some b → place_of x.memory.entries i k ≡ Some p → first_place (answers_to i k) rs ≡ Some a → slice_get rs a ≡ Some (records.Ans i k reply n) → at_place (λ t. t) right p ≡ some_and (reply_at (extent_of x.memory) x.memory.entries p) (same_reply reply)
@@ -110,15 +110,15 @@ judged_by x rows rs points floors firsts right a i k n reply (Some b) t small s 
     let itself : answers_to i k (records.Ans i k reply n) ≡ true = rw (eq-eqb i i refl, eq-eqb k k refl) refl in
     tests (nat_lt b a && at_place asks rs b) (nat_lt b a && at_place asks x.records b)
     (at_place (λ o. some_and o (λ c. nat_lt c a)) firsts b) (list_any (answers_to i k) (take a x.records))
-    (judged_point rs floors right n b (option_bind (slice_get points b) (λ p. p))) (point_flaw x i reply n b (place_of x.memory.entries i k))
+    (judged_point rs floors right n b (option_and_then (λ p. p) (slice_get points b))) (point_flaw x i reply n b (place_of x.memory.entries i k))
     (ap (λ (rs : List Record). nat_lt b a && at_place asks rs b) (sym t.same))
     (ap (λ (o : Option (Option ℕ)). some_and o (λ o. some_and o (λ c. nat_lt c a))) (t.answered.at i k b s) ∙ below_is (answers_to i k) rs a (first_place (answers_to i k) rs) refl ∙ sym again)
-    (λ new. ap (λ (o : Option (Option ℕ)). judged_point rs floors right n b (option_bind o (λ p. p))) (t.acted.at i k b s)
+    (λ new. ap (λ (o : Option (Option ℕ)). judged_point rs floors right n b (option_and_then (λ p. p) o)) (t.acted.at i k b s)
     ∙ point_by x rows rs points floors firsts right i k b a n (place_of x.memory.entries i k) reply t small s refl (first_is (answers_to i k) rs a (records.Ans i k reply n) at itself (sym again ∙ new)) at)
 
 at_input : (x : Claim) (rs : List Record) (a : ℕ) (r : Record) → x.records ≡ rs → slice_get rs a ≡ Some r → answer_at x a ≡ answer_flaw x a r
 unfolding answer_at
-at_input x rs a r same at = ap (λ (o : Option Record). option_bind o (answer_flaw x a)) (ap (λ (rs : List Record). slice_get rs a) same ∙ at)
+at_input x rs a r same at = ap (λ (o : Option Record). option_and_then (answer_flaw x a) o) (ap (λ (rs : List Record). slice_get rs a) same ∙ at)
 
 pub answer-sub : (x : Claim) (rs : List Record) (a i k n : ℕ) (op : Op) → x.records ≡ rs → slice_get rs a ≡ Some (records.Sub i k op n) → answer_at x a ≡ None
 answer-sub x rs a i k n op same at = at_input x rs a (records.Sub i k op n) same at

@@ -1,6 +1,6 @@
 -- No flaw at a submission or an entry: the trace is numbered and the history legal.
 use Rattle.std.proofs.Common.{◌≡◌, ℕ, zero, suc, ◌<◌, Bool, true, false, List, [], ◌∷◌, length, take, Option, Some, None, refl, sym, ap, subst, ◌∙◌, inl, inr, arith}
-use Rattle.std.specs.Prelude.{slice_get, ◌&&◌, not, is_some, is_none, if◌then◌else◌}
+use Rattle.std.specs.Prelude.{slice_get, ◌&&◌, not, is_some, is_none, if◌then◌else◌, option_and_then}
 use Rattle.std.proofs.lemmas.Bool.{cases_Bool, cases_eq, ne_eqb}
 use Rattle.std.proofs.lemmas.List.{take_all}
 use Rattle.std.proofs.lemmas.Option.{slice_get_within, same_Some}
@@ -12,7 +12,7 @@ use Rattle.history_check.specs.declared.Record.TheVariants as records
 use Rattle.history_check.specs.declared.flaws.FlawKind.{FlawKind}
 use Rattle.history_check.specs.declared.flaws.FlawKind.TheVariants as flaws
 use Rattle.history_check.specs.Trace.{submissions, IsNumbered, stands, is_request, IsLawful, IsLegal}
-use Rattle.history_check.specs.Flaws.{option_bind, some_and, at_place, first_at, any_below, numbering_at, numbering_flaw, entry_at, entry_flaw, is_stranger, misses, submits, submits_write, same_op, sub_place, place_of}
+use Rattle.history_check.specs.Flaws.{some_and, at_place, first_at, any_below, numbering_at, numbering_flaw, entry_at, entry_flaw, is_stranger, misses, submits, submits_write, same_op, sub_place, place_of}
 use Rattle.history_check.proofs.Firsts.{first_at-below, any_below-all, any_below-one}
 use Rattle.history_check.proofs.Linked.{op_in, op_at, linked_all, number_passes}
 use Rattle.history_check.proofs.Lists.{clash, first_is_any}
@@ -26,7 +26,7 @@ first_at-all f zero h = refl
 first_at-all f (suc n) h = rw (first_at-all f n (λ i l. h i (omega arith)), h n (omega arith)) refl
 
 -- no flaw at a place of a list
-pub on_list : {X : Type 0} → (xs : List X) (n : ℕ) (flaw : X → Option FlawKind) → ((x : X) → slice_get xs n ≡ Some x → flaw x ≡ None) → option_bind (slice_get xs n) flaw ≡ None
+pub on_list : {X : Type 0} → (xs : List X) (n : ℕ) (flaw : X → Option FlawKind) → ((x : X) → slice_get xs n ≡ Some x → flaw x ≡ None) → option_and_then flaw (slice_get xs n) ≡ None
 on_list [] n flaw h = refl
 on_list (x ∷ xs) zero flaw h = h x refl
 on_list (x ∷ xs) (suc n) flaw h = on_list xs n flaw h
@@ -43,7 +43,7 @@ pub numbered_from : (rs : List Record) → first_at (numbering_at rs) (length rs
 unfolding numbering_at
 numbered_from rs e = λ a i k n op at.
     number_is (take a rs) i k n op
-    (sym (ap (λ (o : Option Record). option_bind o (numbering_flaw (take a rs))) at)
+    (sym (ap (λ (o : Option Record). option_and_then (numbering_flaw (take a rs)) o) at)
     ∙ first_at-below (numbering_at rs) (length rs) e a (slice_get_within rs a (records.Sub i k op n) at))
 
 pub numbered_to : (rs : List Record) → IsNumbered rs → first_at (numbering_at rs) (length rs) ≡ None
@@ -59,12 +59,12 @@ linked rs numbered = subst (λ (xs : List Record). Linked xs) (take_all (length 
 
 -- ---- submissions by look-up
 
-submits_by : (op : Op) (o : Option Record) → some_and o (submits op) ≡ true → option_bind o op_in ≡ Some op
+submits_by : (op : Op) (o : Option Record) → some_and o (submits op) ≡ true → option_and_then op_in o ≡ Some op
 submits_by op None e = cc
 submits_by op (Some (records.Sub i k other n)) e = ap Some (sym (op_same op other e))
 submits_by op (Some (records.Ans i k reply n)) e = cc
 
-submits_to : (op : Op) (o : Option Record) → option_bind o op_in ≡ Some op → some_and o (submits op) ≡ true
+submits_to : (op : Op) (o : Option Record) → option_and_then op_in o ≡ Some op → some_and o (submits op) ≡ true
 submits_to op None e = cc
 submits_to op (Some (records.Sub i k other n)) e = ap (same_op op) (same_Some other op e) ∙ op_refl op
 submits_to op (Some (records.Ans i k reply n)) e = cc
@@ -77,7 +77,7 @@ found_to : (rs : List Record) (op : Op) (o : Option ℕ) → op_at rs o ≡ Some
 found_to rs op None e = cc
 found_to rs op (Some b) e = submits_to op (slice_get rs b) e
 
-write_to : (op : Op) (o : Option Record) → option_bind o op_in ≡ Some op → is_posted op ≡ true → some_and o submits_write ≡ true
+write_to : (op : Op) (o : Option Record) → option_and_then op_in o ≡ Some op → is_posted op ≡ true → some_and o submits_write ≡ true
 write_to op None e posted = cc
 write_to op (Some (records.Sub i k other n)) e posted = ap is_posted (same_Some other op e) ∙ posted
 write_to op (Some (records.Ans i k reply n)) e posted = cc
@@ -91,7 +91,7 @@ record Posted (o : Option Op) : Type 0 where
   is : o ≡ Some op
   posted : is_posted op ≡ true
 
-write_by : (o : Option Record) → some_and o submits_write ≡ true → Posted (option_bind o op_in)
+write_by : (o : Option Record) → some_and o submits_write ≡ true → Posted (option_and_then op_in o)
 write_by None e = cc
 write_by (Some (records.Sub i k op n)) e = record { op = op; is = refl; posted = e }
 write_by (Some (records.Ans i k reply n)) e = cc
@@ -166,7 +166,7 @@ pub legal_from : (rs : List Record) (h : List Entry) → Linked rs → first_at 
 unfolding entry_at
 legal_from rs h link clean = λ p e at.
     lawful_from rs (take p h) e link
-    (sym (ap (λ (o : Option Entry). option_bind o (entry_flaw rs (take p h))) at) ∙ first_at-below (entry_at rs h) (length h) clean p (slice_get_within h p e at))
+    (sym (ap (λ (o : Option Entry). option_and_then (entry_flaw rs (take p h)) o) at) ∙ first_at-below (entry_at rs h) (length h) clean p (slice_get_within h p e at))
 
 pub legal_to : (rs : List Record) (h : List Entry) → Linked rs → IsLegal (submissions rs) h → first_at (entry_at rs h) (length h) ≡ None
 unfolding entry_at

@@ -1,6 +1,6 @@
 -- No flaw at an answer: the trace is linear in the history.
 use Rattle.std.proofs.Common.{◌≡◌, ℕ, ◌<◌, ◌≤◌, Bool, true, false, List, length, take, Option, Some, None, refl, sym, ap, ◌∙◌, arith}
-use Rattle.std.specs.Prelude.{slice_get, ◌==◌, ◌&&◌, not, nat_lt, nat_le, if◌then◌else◌}
+use Rattle.std.specs.Prelude.{slice_get, ◌==◌, ◌&&◌, not, nat_lt, nat_le, if◌then◌else◌, option_and_then}
 use Rattle.std.specs.List.{list_any}
 use Rattle.std.specs.Option.{option_or}
 use Rattle.std.proofs.lemmas.Bool.{eqb-true, eq-eqb, and_parts, ltb-true, ltb-false, lt-ltb, le-ltb, leb-true, leb-false, lt-leb}
@@ -17,7 +17,7 @@ use Rattle.history_check.specs.declared.flaws.FlawKind.{FlawKind}
 use Rattle.history_check.specs.declared.flaws.FlawKind.TheVariants as flaws
 use Rattle.history_check.specs.Claim.{Claim}
 use Rattle.history_check.specs.Trace.{submissions, IsNumbered, answers_to, is_request, IsLegal, IsExplained, Explains}
-use Rattle.history_check.specs.Flaws.{option_bind, some_and, at_place, first_flaw, first_at, numbering_at, entry_at, answer_at, answer_flaw, asked_flaw, point_flaw, acted_flaw, had_later, asks, moment, same_reply, is_sub, sub_place, place_of, Tells}
+use Rattle.history_check.specs.Flaws.{some_and, at_place, first_flaw, first_at, numbering_at, entry_at, answer_at, answer_flaw, asked_flaw, point_flaw, acted_flaw, had_later, asks, moment, same_reply, is_sub, sub_place, place_of, Tells}
 use Rattle.history_check.proofs.Entries.{passes}
 use Rattle.history_check.proofs.Firsts.{first_at-below}
 use Rattle.history_check.proofs.Linked.{op_in, op_at, linked_all}
@@ -72,7 +72,7 @@ clean_from : (x : Claim) → first_at (answer_at x) (length x.records) ≡ None 
 unfolding answer_at
 clean_from x e a i k n reply at =
     clean_sub x a i k n reply (sub_place x.records i k) refl
-    (sym (ap (λ (o : Option Record). option_bind o (answer_flaw x a)) at)
+    (sym (ap (λ (o : Option Record). option_and_then (answer_flaw x a) o) at)
     ∙ first_at-below (answer_at x) (length x.records) e a (slice_get_within x.records a (records.Ans i k reply n) at))
 
 clean_is : (x : Claim) (a i k n : ℕ) (reply : Reply) → Clean x a i k n reply → answer_flaw x a (records.Ans i k reply n) ≡ None
@@ -117,7 +117,7 @@ acted_there x i k b p since op link legal s at acted =
     let own = eqb-true i f.value.requester e1 in
     let number = eqb-true k f.value.number e2 in
     let by_law : slice_get (submissions x.records i) k ≡ Some f.value.op = ap (λ j. slice_get (submissions x.records j) k) own ∙ ap (slice_get (submissions x.records f.value.requester)) number ∙ (legal p f.value f.at).submitted in
-    let by_place : slice_get (submissions x.records i) k ≡ Some op = link i k ∙ ap (op_at x.records) s ∙ ap (λ (o : Option Record). option_bind o op_in) at in
+    let by_place : slice_get (submissions x.records i) k ≡ Some op = link i k ∙ ap (op_at x.records) s ∙ ap (λ (o : Option Record). option_and_then op_in o) at in
     f.at ∙ ap Some (entry_is i k op f.value own number (same_Some op f.value.op (sym by_place ∙ by_law)))
 
 reply_is : (o : Option Reply) (reply : Reply) → some_and o (same_reply reply) ≡ true → o ≡ Some reply
@@ -161,7 +161,7 @@ first_sub rs b i k n op numbered at =
     let f = first_there (is_sub i k) (take b rs) c place in
     let (other, is) = has_op i k f.value f.passes in
     let within : b < length rs = slice_get_within rs b (records.Sub i k op n) at in
-    let old : slice_get (submissions (take b rs) i) k ≡ Some other = linked_all rs b numbered (omega arith) i k ∙ ap (op_at (take b rs)) place ∙ ap (λ (o : Option Record). option_bind o op_in) f.at ∙ is in
+    let old : slice_get (submissions (take b rs) i) k ≡ Some other = linked_all rs b numbered (omega arith) i k ∙ ap (op_at (take b rs)) place ∙ ap (λ (o : Option Record). option_and_then op_in o) f.at ∙ is in
     let small : k < length (submissions (take b rs) i) = slice_get_within (submissions (take b rs) i) k other old in
     let same : k ≡ length (submissions (take b rs) i) = numbered b i k n op at in
     omega arith))

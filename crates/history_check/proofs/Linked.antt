@@ -1,6 +1,6 @@
 -- Of numbered records, the k-th submission is that of number k.
 use Rattle.std.proofs.Common.{◌≡◌, ℕ, zero, suc, ◌<◌, ◌≤◌, Bool, true, false, cond, List, [], ◌∷◌, ◌++◌, length, take, Option, Some, None, refl, sym, ap, subst, ◌∙◌, inl, inr, arith, add-one}
-use Rattle.std.specs.Prelude.{slice_get, ◌==◌, ◌&&◌, filter_map}
+use Rattle.std.specs.Prelude.{slice_get, ◌==◌, ◌&&◌, filter_map, option_and_then}
 use Rattle.std.specs.Option.{option_or}
 use Rattle.std.proofs.lemmas.Bool.{cases_eq, eqb-true, eq-eqb, ne_eqb}
 use Rattle.std.proofs.lemmas.Option.{slice_get_past}
@@ -11,7 +11,7 @@ use Rattle.seq_memory.specs.declared.Reply.{Reply}
 use Rattle.history_check.specs.declared.Record.{Record}
 use Rattle.history_check.specs.declared.Record.TheVariants as records
 use Rattle.history_check.specs.Trace.{submission, submissions, IsNumbered}
-use Rattle.history_check.specs.Flaws.{sub_place, is_sub, is_numbered, option_bind, some_and}
+use Rattle.history_check.specs.Flaws.{sub_place, is_sub, is_numbered, some_and}
 use Rattle.history_check.proofs.Firsts.{first_place-push, slice_get-push, or_none}
 use Rattle.history_check.proofs.Entries.{passes, present}
 use Rattle.history_check.proofs.Floors.{next_record}
@@ -22,7 +22,7 @@ op_in (records.Ans i k reply n) = None
 
 -- the operation of the record at the place
 abbrev pub op_at : List Record → Option ℕ → Option Op
-op_at rs o = option_bind o (λ b. option_bind (slice_get rs b) op_in)
+op_at rs o = option_and_then (λ b. option_and_then op_in (slice_get rs b)) o
 
 has_op : (i k : ℕ) (r : Record) → is_sub i k r ≡ true → (op : Op) × (op_in r ≡ Some op)
 has_op i k (records.Sub j m op n) e = (op, refl)
@@ -33,7 +33,7 @@ grow xs r b x at = slice_get-push xs r b ∙ ap (λ (o : Option Record). option_
 
 last_op : (xs : List Record) (r : Record) → op_at (xs ++ r ∷ []) (Some (length xs)) ≡ op_in r
 last_op xs r =
-    ap (λ (o : Option Record). option_bind o op_in)
+    ap (λ (o : Option Record). option_and_then op_in o)
     (slice_get-push xs r (length xs)
     ∙ ap (λ (o : Option Record). option_or o (cond (length xs == length xs) (Some r) None)) (slice_get_past xs (length xs) (omega arith))
     ∙ ap (λ t. cond t (Some r) None) (eq-eqb (length xs) (length xs) refl))
@@ -54,7 +54,7 @@ old_op xs r i k b q s =
     let (x, at) = present (slice_get xs b) (is_sub i k) (passes (is_sub i k) xs b s) in
     let it : is_sub i k x ≡ true = sym (ap (λ (o : Option Record). some_and o (is_sub i k)) at) ∙ passes (is_sub i k) xs b s in
     let (op, is) = has_op i k x it in
-    ap (λ (o : Option Record). option_or (option_bind o op_in) q) at ∙ ap (λ (o : Option Op). option_or o q) is ∙ sym is ∙ sym (ap (λ (o : Option Record). option_bind o op_in) (grow xs r b x at))
+    ap (λ (o : Option Record). option_or (option_and_then op_in o) q) at ∙ ap (λ (o : Option Op). option_or o q) is ∙ sym is ∙ sym (ap (λ (o : Option Record). option_and_then op_in o) (grow xs r b x at))
 
 by_place : (xs : List Record) (i j k m : ℕ) (op : Op) (n : ℕ) (t : Bool) (o : Option ℕ) → sub_place xs i k ≡ o → option_or (op_at xs o) (cond t (Some op) None) ≡ op_at (xs ++ records.Sub j m op n ∷ []) (option_or o (cond t (Some (length xs)) None))
 by_place xs i j k m op n true None s = sym (last_op xs (records.Sub j m op n))

@@ -1,6 +1,6 @@
 -- The tests of equality tell equality.
 use Rattle.std.proofs.Common.{◌≡◌, ℕ, true, List, [], ◌∷◌, refl, ap, arith}
-use Rattle.std.specs.Prelude.{◌==◌, ◌&&◌}
+use Rattle.std.specs.Prelude.{◌==◌, ◌&&◌, bytes_eq}
 use Rattle.std.proofs.lemmas.Bool.{eqb-true, eq-eqb, and_parts, and_from}
 use Rattle.tlp_core.specs.declared.operation.Op.{Op}
 use Rattle.tlp_core.specs.declared.operation.Op.TheVariants as ops
@@ -9,21 +9,21 @@ use Rattle.tlp_core.specs.declared.operation.Width.TheVariants as widths
 use Rattle.tlp_core.specs.Operation.{size_of}
 use Rattle.seq_memory.specs.declared.Reply.{Reply}
 use Rattle.seq_memory.specs.declared.Reply.TheVariants as replies
-use Rattle.history_check.specs.Flaws.{same_op, same_bytes, same_reply}
+use Rattle.history_check.specs.Flaws.{same_op, same_reply}
 
-pub bytes_same : (xs ys : List ℕ) → same_bytes xs ys ≡ true → xs ≡ ys
+pub bytes_same : (xs ys : List ℕ) → bytes_eq xs ys ≡ true → xs ≡ ys
 bytes_same [] [] e = refl
 bytes_same [] (y ∷ ys) e = cc
 bytes_same (x ∷ xs) [] e = cc
 bytes_same (x ∷ xs) (y ∷ ys) e =
-    let (e1, e2) = and_parts (x == y) (same_bytes xs ys) e in
+    let (e1, e2) = and_parts (x == y) (bytes_eq xs ys) e in
     let head = eqb-true x y e1 in
     let tail = bytes_same xs ys e2 in
     cc
 
-pub bytes_refl : (xs : List ℕ) → same_bytes xs xs ≡ true
+pub bytes_refl : (xs : List ℕ) → bytes_eq xs xs ≡ true
 bytes_refl [] = refl
-bytes_refl (x ∷ xs) = and_from (x == x) (same_bytes xs xs) (eq-eqb x x refl) (bytes_refl xs)
+bytes_refl (x ∷ xs) = and_from (x == x) (bytes_eq xs xs) (eq-eqb x x refl) (bytes_refl xs)
 
 pub op_refl : (op : Op) → same_op op op ≡ true
 op_refl (ops.Read a d f l) = rw (eq-eqb a a refl, eq-eqb d d refl, eq-eqb f f refl, eq-eqb l l refl) refl
@@ -50,7 +50,7 @@ op_same (ops.Read a d f l) (ops.Read b e g m) h =
     let (a_is, d_is) = and_parts (a == b) (d == e) h2 in
     rw (eqb-true a b a_is, eqb-true d e d_is, eqb-true f g f_is, eqb-true l m l_is) refl
 op_same (ops.Write a f l xs) (ops.Write b g m ys) h =
-    let (h1, bytes_is) = and_parts ((a == b) && (f == g) && (l == m)) (same_bytes xs.items ys.items) h in
+    let (h1, bytes_is) = and_parts ((a == b) && (f == g) && (l == m)) (bytes_eq xs.items ys.items) h in
     let (h2, l_is) = and_parts ((a == b) && (f == g)) (l == m) h1 in
     let (a_is, f_is) = and_parts (a == b) (f == g) h2 in
     let e = bytes_same xs.items ys.items bytes_is in

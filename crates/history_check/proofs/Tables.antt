@@ -1,6 +1,6 @@
 -- The tables as the records and the history go on.
 use Rattle.std.proofs.Common.{◌≡◌, ℕ, ◌+◌, ◌<◌, Bool, cond, List, [], ◌∷◌, ◌++◌, length, take, set, get_or, Option, Some, None, refl, sym, ap, subst, ◌∙◌, inl, inr, arith, length-append}
-use Rattle.std.specs.Prelude.{slice_get, ◌==◌, ◌&&◌, filter_map, replicate}
+use Rattle.std.specs.Prelude.{slice_get, ◌==◌, ◌&&◌, filter_map, replicate, option_and_then}
 use Rattle.std.specs.Option.{option_or}
 use Rattle.std.proofs.lemmas.Bool.{cases_eq, eq-eqb, ne_eqb}
 use Rattle.std.proofs.lemmas.List.{length-set, get_or-set_same, get_or-set_other, get_or-replicate, length-replicate, replicate_more, take_more, length-take-le}
@@ -13,7 +13,7 @@ use Rattle.seq_memory.specs.declared.Reply.{Reply}
 use Rattle.history_check.specs.declared.Record.{Record}
 use Rattle.history_check.specs.declared.Record.TheVariants as records
 use Rattle.history_check.specs.Trace.{submission, submissions}
-use Rattle.history_check.specs.Flaws.{is_sub, sub_place, numbering_at, numbering_flaw, option_bind}
+use Rattle.history_check.specs.Flaws.{is_sub, sub_place, numbering_at, numbering_flaw}
 use Rattle.history_check.specs.Lookup.{IsIndex, place_in}
 use Rattle.history_check.proofs.Firsts.{first_place-push, slice_get-push, or_none}
 
@@ -107,7 +107,7 @@ indexed_next_ans rows rs a i k reply n at x =
 
 bound : (rs : List Record) (a : ℕ) (r : Record) (o : Option FlawKind) → slice_get rs a ≡ Some r → numbering_flaw (take a rs) r ≡ o → numbering_at rs a ≡ o
 unfolding numbering_at
-bound rs a r o at e = ap (λ (x : Option Record). option_bind x (numbering_flaw (take a rs))) at ∙ e
+bound rs a r o at e = ap (λ (x : Option Record). option_and_then (numbering_flaw (take a rs)) x) at ∙ e
 
 pub numbering-good : (rows : List (List ℕ)) (rs : List Record) (a i k : ℕ) (op : Op) (n : ℕ) → slice_get rs a ≡ Some (records.Sub i k op n) → IsIndex rows (take a rs) → i < 256 → k ≡ length (get_or rows i []) → numbering_at rs a ≡ None
 numbering-good rows rs a i k op n at x small e =

@@ -1,5 +1,5 @@
 -- The flaws of a trace and a history, in the order in which they are looked for.
-use Rattle.std.specs.Prelude.{ℕ, zero, suc, ◌≡◌, ◌+◌, not, ◌&&◌, ◌||◌, ◌==◌, nat_lt, nat_le, Bool, true, false, if◌then◌else◌, cond, List, [], ◌∷◌, length, take, slice_get, Option, Some, None, is_some, is_none, option_map}
+use Rattle.std.specs.Prelude.{ℕ, zero, suc, ◌≡◌, ◌+◌, not, ◌&&◌, ◌||◌, ◌==◌, nat_lt, nat_le, Bool, true, false, if◌then◌else◌, cond, List, [], ◌∷◌, length, take, slice_get, Option, Some, None, is_some, is_none, option_map, option_and_then, bytes_eq}
 use Rattle.std.specs.List.{list_any}
 use Rattle.std.specs.Option.{option_or}
 use Rattle.tlp_core.specs.declared.operation.Op.{Op}
@@ -22,10 +22,6 @@ abbrev pub some_and : {X : Type 0} → Option X → (X → Bool) → Bool
 some_and None test = false
 some_and (Some x) test = test x
 
-abbrev pub option_bind : {X Y : Type 0} → Option X → (X → Option Y) → Option Y
-option_bind None f = None
-option_bind (Some x) f = f x
-
 -- where the first stands that passes
 abbrev pub first_place : {X : Type 0} → (X → Bool) → List X → Option ℕ
 first_place test [] = None
@@ -47,14 +43,9 @@ at_place test xs p = some_and (slice_get xs p) test
 
 -- ---- tests of equality, which compute
 
-abbrev pub same_bytes : List ℕ → List ℕ → Bool
-same_bytes [] [] = true
-same_bytes (x ∷ xs) (y ∷ ys) = (x == y) && same_bytes xs ys
-same_bytes _ _ = false
-
 abbrev pub same_op : Op → Op → Bool
 same_op (ops.Read a d f l) (ops.Read b e g m) = (a == b) && (d == e) && (f == g) && (l == m)
-same_op (ops.Write a f l xs) (ops.Write b g m ys) = (a == b) && (f == g) && (l == m) && same_bytes xs.items ys.items
+same_op (ops.Write a f l xs) (ops.Write b g m ys) = (a == b) && (f == g) && (l == m) && bytes_eq xs.items ys.items
 same_op (ops.FetchAdd a w x) (ops.FetchAdd b v y) = (a == b) && (size_of w == size_of v) && (x == y)
 same_op (ops.Swap a w x) (ops.Swap b v y) = (a == b) && (size_of w == size_of v) && (x == y)
 same_op (ops.Cas a w x s) (ops.Cas b v y t) = (a == b) && (size_of w == size_of v) && (x == y) && (s == t)
@@ -62,7 +53,7 @@ same_op _ _ = false
 
 abbrev pub same_reply : Reply → Reply → Bool
 same_reply replies.Done replies.Done = true
-same_reply (replies.Data xs) (replies.Data ys) = same_bytes xs.items ys.items
+same_reply (replies.Data xs) (replies.Data ys) = bytes_eq xs.items ys.items
 same_reply replies.Unsupported replies.Unsupported = true
 same_reply replies.Aborted replies.Aborted = true
 same_reply _ _ = false
@@ -92,7 +83,7 @@ abbrev pub numbering_flaw : List Record → Record → Option FlawKind
 numbering_flaw before r = if is_numbered before r then None else Some flaws.Numbering
 
 unfoldable pub numbering_at : List Record → ℕ → Option FlawKind
-numbering_at rs a = option_bind (slice_get rs a) (numbering_flaw (take a rs))
+numbering_at rs a = option_and_then (numbering_flaw (take a rs)) (slice_get rs a)
 
 -- ---- 2 to 4, at each index of the history
 
@@ -119,7 +110,7 @@ entry_flaw rs before e =
     else (if any_below (misses rs before e.requester) e.number then Some flaws.Order else None))
 
 unfoldable pub entry_at : List Record → List Entry → ℕ → Option FlawKind
-entry_at rs h p = option_bind (slice_get h p) (entry_flaw rs (take p h))
+entry_at rs h p = option_and_then (entry_flaw rs (take p h)) (slice_get h p)
 
 -- ---- 5 to 11, at each answer
 
@@ -162,7 +153,7 @@ answer_flaw x a (records.Ans i k reply n) =
     asked_flaw x a i k reply n (sub_place x.records i k) (place_of x.memory.entries i k)
 
 unfoldable pub answer_at : Claim → ℕ → Option FlawKind
-answer_at x a = option_bind (slice_get x.records a) (answer_flaw x a)
+answer_at x a = option_and_then (answer_flaw x a) (slice_get x.records a)
 
 -- ---- the first that holds
 

@@ -1,5 +1,5 @@
 -- What the checker's tables hold, and what it looks up in them.
-use Rattle.std.specs.Prelude.{ℕ, ◌≡◌, ◌<◌, ◌&&◌, not, nat_lt, nat_le, take, Bool, false, List, [], length, Option, Some, None, is_none, option_map, slice_get, get_or, if◌then◌else◌}
+use Rattle.std.specs.Prelude.{ℕ, ◌≡◌, ◌<◌, ◌&&◌, not, nat_lt, nat_le, take, Bool, false, List, [], length, Option, Some, None, is_none, option_map, slice_get, get_or, if◌then◌else◌, option_and_then}
 use Rattle.seq_memory.specs.declared.Entry.{Entry}
 use Rattle.std.specs.List.{list_any}
 use Rattle.seq_memory.specs.Step.{answer}
@@ -10,7 +10,7 @@ use Rattle.history_check.specs.declared.Record.TheVariants as records
 use Rattle.history_check.specs.declared.flaws.FlawKind.{FlawKind}
 use Rattle.history_check.specs.declared.flaws.FlawKind.TheVariants as flaws
 use Rattle.history_check.specs.Trace.{submissions, answers_to}
-use Rattle.history_check.specs.Flaws.{sub_place, place_of, option_bind, some_and, first_place, at_place, submits, submits_write, had_later, asks, moment, same_reply}
+use Rattle.history_check.specs.Flaws.{sub_place, place_of, some_and, first_place, at_place, submits, submits_write, had_later, asks, moment, same_reply}
 use Rattle.history_check.specs.Claim.{Claim}
 
 -- the k-th place of row i
@@ -21,10 +21,10 @@ abbrev pub when : Bool → ℕ → Option ℕ
 when test n = if test then Some n else None
 
 abbrev pub submitted_in : List (List ℕ) → List Record → Entry → Option ℕ
-submitted_in rows rs e = option_bind (place_in rows e.requester e.number) (λ b. when (at_place (submits e.op) rs b) b)
+submitted_in rows rs e = option_and_then (λ b. when (at_place (submits e.op) rs b) b) (place_in rows e.requester e.number)
 
 abbrev pub point_in : List (List ℕ) → List (Option ℕ) → ℕ → ℕ → Option ℕ
-point_in rows points i k = option_bind (place_in rows i k) (λ b. option_bind (slice_get points b) (λ p. p))
+point_in rows points i k = option_and_then (λ b. option_and_then (λ p. p) (slice_get points b)) (place_in rows i k)
 
 abbrev pub write_in : List (List ℕ) → List Record → ℕ → ℕ → Bool
 write_in rows rs i k = some_and (place_in rows i k) (at_place submits_write rs)
@@ -94,7 +94,7 @@ judged rs points floors firsts right a n None = Some flaws.Unasked
 judged rs points floors firsts right a n (Some b) =
     if not (nat_lt b a && at_place asks rs b) then Some flaws.Unasked
     else (if at_place (λ o. some_and o (λ c. nat_lt c a)) firsts b then Some flaws.Again
-    else judged_point rs floors right n b (option_bind (slice_get points b) (λ p. p)))
+    else judged_point rs floors right n b (option_and_then (λ p. p) (slice_get points b)))
 
 -- the tables of an input
 pub record AreTables (x : Claim) (rows : List (List ℕ)) (rs : List Record) (points floors firsts : List (Option ℕ)) (right : List Bool) : Type 0 where

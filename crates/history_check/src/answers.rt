@@ -1,5 +1,5 @@
 //! The answers: each has its point.
-ghost use Rattle.std.specs.Prelude.{ℕ, ◌≡◌, ◌||◌, length, None, IfOk, IfSome, OnOk, IfErr, slice_get, nat_le, nat_lt};
+ghost use Rattle.std.specs.Prelude.{ℕ, ◌≡◌, ◌||◌, length, None, IfOk, IfSome, OnOk, IfErr, slice_get, nat_le, nat_lt, option_and_then};
 ghost use Rattle.history_check.specs.Claim.{Claim};
 ghost use Rattle.history_check.specs.Flaws as flaw;
 ghost use Rattle.history_check.specs.Lookup.{AreFloors, AreTables, point_in, judged, acted_in};
@@ -153,7 +153,7 @@ fn judge_point(tables: Tables<'_>, n: u64, b: usize, p: usize) -> Option<FlawKin
 }
 
 fn point_at(points: &[Option<usize>], b: usize) -> Option<usize>
-    ensures { result ≡ flaw.option_bind (slice_get points.now b) (λ p. p) }
+    ensures { result ≡ option_and_then (λ p. p) (slice_get points.now b) }
 {
     *points.get(b)?
 }

@@ -175,15 +175,15 @@ impl Lane {
         ends.sender.retrained()
     }
 
-    /// How many accepted packets there are.
-    pub fn len(&self) -> usize
+    /// How many packets of the queue there are, which were accepted and not yet taken.
+    pub fn queue_len(&self) -> usize
         ensures { result ≡ length self.now.receiver.queue }
     {
         self.ends.receiver.len()
     }
 
-    /// Whether there is no accepted packet.
-    pub fn is_empty(&self) -> bool
+    /// Whether no packet is in the queue.
+    pub fn is_queue_empty(&self) -> bool
         ensures { IsTrue result ↔ (self.now.receiver.queue ≡ []) }
     {
         self.ends.receiver.is_empty()

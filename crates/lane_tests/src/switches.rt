@@ -76,7 +76,7 @@ fn leaves(from: Lane, alloc: Global) -> bool {
 }
 
 fn len(lane: &Lane) -> usize {
-    lane.len()
+    lane.queue_len()
 }
 
 /// Whether the oldest accepted packet is this one, with this mark.

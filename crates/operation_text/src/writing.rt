@@ -9,6 +9,7 @@ use arrayvec::ArrayString;
 use byteorder::{ByteOrder, LittleEndian};
 use itoa::Buffer;
 use seq_memory::Reply;
+use seq12::Seq12;
 use tlp_core::{Op, Width};
 
 /// Adds the digit of a value below 16, in capitals.
@@ -68,12 +69,12 @@ pub fn write_octet(octet: u8, out: &mut ArrayString<512>)
 }
 
 /// Adds the three digits of a sequence number, in hexadecimal and in capitals.
-pub fn write_sequence(number: u16, out: &mut ArrayString<512>)
-    requires number { number < 4096 }
-    requires room { array_string_len out.old + 3 ≤ 512 }
+pub fn write_sequence(number: Seq12, out: &mut ArrayString<512>)
+    requires { array_string_len out.old + 3 ≤ 512 }
     ensures text { out.new.bytes ≡ out.old.bytes ++ sequence_text number }
     ensures len { array_string_len out.new ≡ array_string_len out.old + 3 }
 {
+    let number = number.value();
     put_digit((number / 256) as u8, out);
     write_octet((number % 256) as u8, out);
 }

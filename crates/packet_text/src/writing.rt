@@ -169,11 +169,11 @@ fn put_dllp(dllp: Dllp, out: &mut ArrayString<512>)
     match dllp {
         Dllp::Ack(number) => {
             out.push_str("ack ");
-            write_sequence(number.value(), out);
+            write_sequence(number, out);
         }
         Dllp::Nak(number) => {
             out.push_str("nak ");
-            write_sequence(number.value(), out);
+            write_sequence(number, out);
         }
         Dllp::Update(class, header, units) => put_update(class, header, units, out),
     }

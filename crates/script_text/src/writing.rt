@@ -97,7 +97,7 @@ pub fn write_seen(event: &Event, seen: &Seen, out: &mut ArrayString<512>)
         }
         Seen::Sent(number) => {
             out.push_str("sent ");
-            write_sequence(number.value(), out);
+            write_sequence(*number, out);
         }
         Seen::Delivered(arrival) => put_arrival(*arrival, out),
         Seen::SentDllp(dllp) => put_dllp(*dllp, out),

@@ -1,4 +1,4 @@
 use Rattle.fabric_core.proofs.events.enter.Goals as goal
 
-pub returns-in-Ok-clause-ok : goal.returns-in-Ok-clause-ok
-returns-in-Ok-clause-ok c = record { may = c.in-Ok.ensures.may; spelled = c.in-Ok.ensures.spelled; now = c.in-Ok.ensures.ok }
+pub returns-clause-ok : goal.returns-clause-ok
+returns-clause-ok c = record { may = c.in_ok-enter.ensures.may; spelled = c.in_ok-enter.ensures.spelled; now = c.in_ok-enter.ensures.ok }
