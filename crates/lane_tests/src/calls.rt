@@ -4,7 +4,6 @@ use dllp_core::Dllp;
 use lane_core::{Arrival, DllpKind, DllpSeen, Fate, Lane, LaneCredits, LaneRefusal};
 use link_receiver::Reception;
 use std::alloc::Global;
-use std::test::Fail;
 use tlp_core::{Tlp, TlpFault};
 
 /// No counter is finite.
@@ -18,7 +17,7 @@ const INFINITE: LaneCredits = LaneCredits {
 };
 
 /// One write of 128 bytes.
-const ONE_WRITE: LaneCredits = LaneCredits {
+pub(super) const ONE_WRITE: LaneCredits = LaneCredits {
     ph: 1,
     pd: 8,
     nph: 1,
@@ -78,11 +77,11 @@ pub(super) fn deliver(lane: &mut Lane, fate: Fate) -> Result<Option<Arrival>, La
     lane.deliver(fate)
 }
 
-/// The oldest packet is delivered good; the receiver's answer.
-pub(super) fn answered(lane: &mut Lane) -> Result<Option<Reception>, LaneRefusal> {
-    match lane.deliver(Fate::Good)? {
-        Some(Arrival::Answered(answer)) => Ok(Some(answer)),
-        _ => Ok(None),
+/// The oldest packet is delivered; whether it had this answer.
+pub(super) fn delivers(lane: &mut Lane, fate: Fate, answer: Reception) -> bool {
+    match lane.deliver(fate) {
+        Ok(Some(Arrival::Answered(got))) => got == answer,
+        _ => false,
     }
 }
 
@@ -93,17 +92,17 @@ pub(super) fn send(lane: &mut Lane, kind: DllpKind) -> Result<(), LaneRefusal> {
 }
 
 /// A DLLP is sent; its bytes.
-pub(super) fn sent(lane: &mut Lane, kind: DllpKind) -> Result<Option<[u8; 4]>, LaneRefusal> {
-    match lane.send_dllp(kind)? {
-        Dllp::Update(_, _, data) if data >= 4096 => Ok(None),
-        dllp => Ok(Some(dllp_core::encode(&dllp))),
+pub(super) fn sent(lane: &mut Lane, kind: DllpKind) -> Option<[u8; 4]> {
+    match lane.send_dllp(kind) {
+        Err(_) => None,
+        Ok(Dllp::Update(_, _, data)) if data >= 4096 => None,
+        Ok(dllp) => Some(dllp_core::encode(&dllp)),
     }
 }
 
 /// The oldest DLLP is delivered; whether it took effect.
-pub(super) fn took(lane: &mut Lane, fate: Fate) -> Result<bool, Fail> {
-    let seen = lane.deliver_dllp(fate)?;
-    Ok(matches!(seen, Some(DllpSeen::Took(_))))
+pub(super) fn took(lane: &mut Lane, fate: Fate) -> bool {
+    matches!(lane.deliver_dllp(fate), Ok(Some(DllpSeen::Took(_))))
 }
 
 /// The replay timer expires; by how many places that moved back.

@@ -1,18 +1,19 @@
 //! Memory that doesn't grow: the call is refused, the lane is as before, and the same call then succeeds. Runs with
 //! each allocation refused in turn show it; where none is refused, each call succeeds at once.
 use crate::calls::{
-    answered, deliver, enter, infinite, quiet, send, take_mark, took, transmit, write_of,
+    deliver, delivers, enter, infinite, quiet, send, take_mark, took, transmit, write_of,
 };
 use dllp_core::Class;
 use fc_credit::need_of;
-use lane_core::{DllpKind, Fate, Lane, LaneRefusal};
+use lane_core::{DllpKind, Fate, Lane, LaneEnds, LaneRefusal};
 use link_receiver::Reception;
 use seq12::Seq12;
-use std::test::Fail;
+use std::alloc::Global;
+use std::mem;
 use tlp_core::Tlp;
 
 /// A call that takes memory.
-#[derive(Clone, Copy, Debug, PartialEq, Eq)]
+#[derive(Clone, Copy)]
 enum Growth {
     MakeRoom,
     Enter,
@@ -22,7 +23,7 @@ enum Growth {
 }
 
 /// What there is to see of a lane's ends.
-#[derive(Clone, Copy, Debug, PartialEq, Eq)]
+#[derive(Clone, Copy, PartialEq, Eq)]
 struct Ends {
     next: Seq12,
     packets: usize,
@@ -31,49 +32,45 @@ struct Ends {
     accepted: usize,
 }
 
-/// Parts the lane, looks at its ends, and joins them again.
-fn look(lane: Lane) -> (Lane, Ends) {
-    let lane = lane.into_ends();
-    let ends = Ends {
+fn ends_of(lane: &LaneEnds) -> Ends {
+    Ends {
         next: lane.sender.next_transmit_seq(),
         packets: lane.forward.len(),
         dllps: lane.back.len(),
         waited_for: lane.receiver.next_rcv_seq(),
         accepted: lane.receiver.len(),
-    };
-    (Lane::of_ends(lane), ends)
+    }
 }
 
-/// Makes the call; a packet enters with this mark.
-fn grow(lane: &mut Lane, growth: Growth, tlp: &Tlp, mark: u32) -> Result<(), LaneRefusal> {
+/// Parts the lane, looks at its ends, and joins them again.
+fn look(lane: &mut Lane, alloc: Global) -> Ends {
+    let parted = mem::replace(lane, infinite(alloc)).into_ends();
+    let ends = ends_of(&parted);
+    *lane = Lane::of_ends(parted);
+    ends
+}
+
+/// Makes the call; a packet enters with this mark. The refusal, if there is one.
+fn grow(lane: &mut Lane, growth: Growth, tlp: &Tlp, mark: u32) -> Option<LaneRefusal> {
     match growth {
-        Growth::MakeRoom => lane.make_room(need_of(tlp))?,
-        Growth::Enter => {
-            enter(lane, tlp, mark)?;
-        }
-        Growth::Transmit => {
-            transmit(lane)?;
-        }
-        Growth::Deliver => {
-            deliver(lane, Fate::Good)?;
-        }
-        Growth::SendDllp => send(lane, DllpKind::Answer)?,
+        Growth::MakeRoom => lane.make_room(need_of(tlp)).err(),
+        Growth::Enter => enter(lane, tlp, mark).err(),
+        Growth::Transmit => transmit(lane).err(),
+        Growth::Deliver => deliver(lane, Fate::Good).err(),
+        Growth::SendDllp => send(lane, DllpKind::Answer).err(),
     }
-    Ok(())
 }
 
 /// Makes the call, and where there is no memory for it, makes it again; whether the lane was as before.
-fn grow_again(lane: Lane, growth: Growth, tlp: &Tlp) -> Result<(Lane, bool), LaneRefusal> {
-    let (mut lane, before) = look(lane);
+fn grow_again(lane: &mut Lane, growth: Growth, tlp: &Tlp, alloc: Global) -> bool {
+    let before = look(lane, alloc);
     let mark = u32::from(before.next.value());
-    match grow(&mut lane, growth, tlp, mark) {
-        Ok(()) => Ok((lane, true)),
-        Err(LaneRefusal::Memory) => {
-            let (mut lane, after) = look(lane);
-            grow(&mut lane, growth, tlp, mark)?;
-            Ok((lane, after == before))
+    match grow(lane, growth, tlp, mark) {
+        None => true,
+        Some(LaneRefusal::Memory) => {
+            look(lane, alloc) == before && grow(lane, growth, tlp, mark).is_none()
         }
-        Err(refusal) => Err(refusal),
+        Some(_) => false,
     }
 }
 
@@ -89,59 +86,81 @@ const ROUND: [Growth; 7] = [
 ];
 
 /// A round; whether the lane was as before each call that was made again.
-fn grow_round(lane: Lane, tlp: &Tlp) -> Result<(Lane, bool), LaneRefusal> {
-    let mut grown = (lane, true);
+fn grow_round(lane: &mut Lane, tlp: &Tlp, alloc: Global) -> bool {
+    let mut right = true;
     for growth in ROUND {
-        let (lane, same) = grow_again(grown.0, growth, tlp)?;
-        grown = (lane, grown.1 && same);
+        right &= grow_again(lane, growth, tlp, alloc);
     }
-    Ok(grown)
+    right
 }
 
 /// The rounds.
 const ROUNDS: u32 = 20;
 
-/// What is under way arrives.
-fn arrive(lane: &mut Lane) -> Result<bool, Fail> {
+fn grow_all(lane: &mut Lane, tlp: &Tlp, alloc: Global) -> bool {
+    let mut right = true;
     for _ in 0..ROUNDS {
-        if !took(lane, Fate::Good)? || answered(lane)? != Some(Reception::Accept) {
-            return Ok(false);
-        }
+        right &= grow_round(lane, tlp, alloc);
     }
-    Ok(true)
+    right
+}
+
+/// What is under way arrives.
+fn arrive(lane: &mut Lane) -> bool {
+    let mut right = true;
+    for _ in 0..ROUNDS {
+        right &= took(lane, Fate::Good) && delivers(lane, Fate::Good, Reception::Accept);
+    }
+    right
 }
 
 /// Takes what was accepted; whether the marks are all, in order.
 fn take_all(lane: &mut Lane) -> bool {
+    let mut right = true;
     for mark in 0..2 * ROUNDS {
-        if take_mark(lane) != Some(mark) {
-            return false;
-        }
+        right &= take_mark(lane) == Some(mark);
     }
-    quiet(lane)
+    right && quiet(lane)
+}
+
+fn grow_and_take(lane: &mut Lane, tlp: &Tlp, alloc: Global) -> bool {
+    grow_all(lane, tlp, alloc) && arrive(lane) && take_all(lane)
+}
+
+fn grow_new(tlp: &Tlp, alloc: Global) -> bool {
+    let mut lane = infinite(alloc);
+    grow_and_take(&mut lane, tlp, alloc)
+}
+
+fn growth_is_safe(alloc: Global) -> bool {
+    match write_of(7) {
+        Ok(tlp) => grow_new(&tlp, alloc),
+        Err(_) => false,
+    }
 }
 
 #[test]
-fn a_refused_growth_changes_nothing(rt: HostRuntime) -> Result<(), Fail> {
-    let tlp = write_of(7)?;
-    let mut lane = infinite(rt.alloc());
-    for _ in 0..ROUNDS {
-        let (grown, same) = grow_round(lane, &tlp)?;
-        assert!(rt; same);
-        lane = grown;
+fn a_refused_growth_changes_nothing(rt: HostRuntime) {
+    assert!(rt; growth_is_safe(rt.alloc()));
+}
+
+/// The refusals and their names.
+const NAMES: [(LaneRefusal, &str); 3] = [
+    (LaneRefusal::NoCredits(Class::Posted), "NoCredits"),
+    (LaneRefusal::WindowFull, "WindowFull"),
+    (LaneRefusal::Memory, "Memory"),
+];
+
+fn is_named(refusal: LaneRefusal, name: &str, alloc: Global) -> bool {
+    match format!(in alloc; "{refusal}") {
+        Ok(text) => text.as_str() == name,
+        Err(_) => false,
     }
-    assert!(rt; arrive(&mut lane)? && take_all(&mut lane));
-    Ok(())
 }
 
 #[test]
-fn names_of_refusals(rt: HostRuntime) -> Result<(), Fail> {
-    for (refusal, name) in [
-        (LaneRefusal::NoCredits(Class::Posted), "NoCredits"),
-        (LaneRefusal::WindowFull, "WindowFull"),
-        (LaneRefusal::Memory, "Memory"),
-    ] {
-        assert_eq!(rt; format!(in rt.alloc(); "{refusal}")?.as_str(), name);
+fn names_of_refusals(rt: HostRuntime) {
+    for (refusal, name) in NAMES {
+        assert!(rt; is_named(refusal, name, rt.alloc()));
     }
-    Ok(())
 }

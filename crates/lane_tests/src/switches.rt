@@ -1,9 +1,8 @@
 //! Worked routes, and a packet that is forwarded.
+use crate::calls::{ONE_WRITE, deliver, enter, one_write, transmit};
 use dllp_core::Class;
-use fc_credit::LaneCredits;
-use lane_core::{Fate, Lane, LaneRefusal, SenderEnd};
+use lane_core::{Fate, Lane, LaneRefusal, ReceiverEnd, SenderEnd};
 use std::alloc::Global;
-use std::test::Fail;
 use switch_core::{ForwardRefusal, Port, RouteFault, forward, forward_ends, route};
 use tlp_core::{Tlp, TlpFault, decode};
 
@@ -14,142 +13,193 @@ fn completion_for(requester: u16) -> Result<Tlp, TlpFault> {
     decode(&[0x0A, 0, 0, 0, 0, 0, 0x80, 4, high, low, 7, 0])
 }
 
-#[test]
-fn worked_routes(rt: HostRuntime) -> Result<(), Fail> {
-    let request = decode(&WRITE)?;
-    assert_eq!(rt; route(&request, Port::new(3)).map(|p| p.number()), Ok(0));
-    assert_eq!(rt; route(&request, Port::MEMORY), Err(RouteFault::NoPort));
-    for (requester, from, want) in [
-        (0x0150, 0, Ok(1)),
-        (0x0800, 0, Err(RouteFault::NoPort)),
-        (0x0000, 0, Err(RouteFault::NoPort)),
-        (0x0150, 1, Err(RouteFault::NoPort)),
-    ] {
-        let got = route(&completion_for(requester)?, Port::new(from)).map(|p| p.number());
-        assert_eq!(rt; got, want, "ID {requester:04X} from {from}");
+/// The number of the port to which a packet from a port goes; None where there is none.
+fn way(tlp: &Tlp, from: Port) -> Option<u8> {
+    match route(tlp, from) {
+        Ok(port) => Some(port.number()),
+        Err(RouteFault::NoPort) => None,
     }
-    assert_eq!(rt; RouteFault::NoPort.number(), 1);
-    Ok(())
 }
 
-/// One write of 128 bytes.
-const ONE_WRITE: LaneCredits = LaneCredits {
-    ph: 1,
-    pd: 8,
-    nph: 1,
-    npd: 2,
-    cplh: 1,
-    cpld: 8,
-};
+/// Requester IDs of completions, the ports that these come from, and those that they go to.
+const COMPLETIONS: [(u16, u8, Option<u8>); 4] = [
+    (0x0150, 0, Some(1)),
+    (0x0800, 0, None),
+    (0x0000, 0, None),
+    (0x0150, 1, None),
+];
 
-// One call of a lane each. These say nothing of what they do: the test looks, and a proof that rests on the exact calls
-// would be dear.
-
-fn narrow(alloc: Global) -> Lane {
-    Lane::new(ONE_WRITE, alloc)
+/// Whether such a completion goes there.
+fn goes(requester: u16, from: Port, want: Option<u8>) -> bool {
+    match completion_for(requester) {
+        Ok(completion) => way(&completion, from) == want,
+        Err(_) => false,
+    }
 }
 
-fn enter(lane: &mut Lane, tlp: &Tlp, mark: u32) -> Result<(), LaneRefusal> {
-    lane.enter(tlp, mark)?;
-    Ok(())
+fn completions_go() -> bool {
+    let mut right = true;
+    for (requester, from, want) in COMPLETIONS {
+        right &= goes(requester, Port::new(from), want);
+    }
+    right
 }
 
-fn transmit(lane: &mut Lane) -> Result<(), LaneRefusal> {
-    lane.transmit()?;
-    Ok(())
+/// A request goes to the memory, and never comes from there.
+fn requests_go() -> bool {
+    match decode(&WRITE) {
+        Ok(request) => {
+            way(&request, Port::new(3)) == Some(0) && way(&request, Port::MEMORY).is_none()
+        }
+        Err(_) => false,
+    }
 }
 
-fn deliver(lane: &mut Lane) -> Result<(), LaneRefusal> {
-    lane.deliver(Fate::Good)?;
-    Ok(())
+#[test]
+fn worked_routes(rt: HostRuntime) {
+    assert!(rt; requests_go() && completions_go() && RouteFault::NoPort.number() == 1);
 }
 
+/// The packet of a place is forwarded. This says nothing of what it does, as the calls of a lane don't.
 fn forwarded(from: &mut Lane, place: usize, to: &mut Lane) -> Result<(), ForwardRefusal> {
     forward(from, place, to)
+}
+
+/// Forwards the oldest over the two ends; whether it left.
+fn leaves_to(from: &mut ReceiverEnd, to: &mut SenderEnd) -> bool {
+    forward_ends(from, 0, to).is_ok() && from.is_empty()
 }
 
 /// Forwards the oldest over the ends, to a new sender's; whether it left.
 fn leaves(from: Lane, alloc: Global) -> bool {
     let mut from = from.into_ends();
     let mut to = SenderEnd::new(ONE_WRITE, alloc);
-    forward_ends(&mut from.receiver, 0, &mut to).is_ok() && from.receiver.is_empty()
+    leaves_to(&mut from.receiver, &mut to)
 }
 
-fn len(lane: &Lane) -> usize {
-    lane.queue_len()
+/// Whether no accepted packet is in the lane's queue.
+fn is_empty(lane: &Lane) -> bool {
+    lane.queue_len() == 0
 }
 
-/// Whether the oldest accepted packet is this one, with this mark.
-fn has(lane: &Lane, tlp: &Tlp, mark: u32) -> bool {
-    lane.at(0) == Some((tlp, mark))
+/// Whether the oldest accepted packet is this one, with the mark 9.
+fn has(lane: &Lane, tlp: &Tlp) -> bool {
+    match lane.at(0) {
+        Some((oldest, mark)) => mark == 9 && oldest == tlp,
+        None => false,
+    }
 }
 
-/// A lane in which this packet was accepted, with the mark 9.
-fn with_packet(alloc: Global, tlp: &Tlp) -> Result<Lane, LaneRefusal> {
-    let mut lane = narrow(alloc);
-    enter(&mut lane, tlp, 9)?;
-    transmit(&mut lane)?;
-    deliver(&mut lane)?;
-    Ok(lane)
+/// The next packet crosses the lane; whether it is this one, with its mark.
+fn arrives(lane: &mut Lane, tlp: &Tlp) -> bool {
+    transmit(lane).is_ok() && deliver(lane, Fate::Good).is_ok() && has(lane, tlp)
+}
+
+/// The packet enters with the mark 9 and crosses the lane.
+fn passes(lane: &mut Lane, tlp: &Tlp) -> bool {
+    enter(lane, tlp, 9).is_ok() && arrives(lane, tlp)
 }
 
 /// The oldest moves on to the other lane, and no packet of the place behind it.
 fn moves(from: &mut Lane, to: &mut Lane) -> bool {
     forwarded(from, 1, to) == Err(ForwardRefusal::NotTakeable)
-        && forwarded(from, 0, to) == Ok(())
-        && len(from) == 0
-        && len(to) == 0
-}
-
-/// The packet that was forwarded crosses the lane; whether it is this one, with its mark.
-fn arrives(lane: &mut Lane, tlp: &Tlp) -> Result<bool, LaneRefusal> {
-    transmit(lane)?;
-    deliver(lane)?;
-    Ok(has(lane, tlp, 9))
+        && forwarded(from, 0, to).is_ok()
+        && is_empty(from)
+        && is_empty(to)
 }
 
 /// The oldest isn't forwarded to a lane without credits for it, and stays.
 fn stays(from: &mut Lane, to: &mut Lane, tlp: &Tlp) -> bool {
     let refusal = LaneRefusal::NoCredits(Class::Posted);
-    forwarded(from, 0, to) == Err(ForwardRefusal::Lane(refusal)) && has(from, tlp, 9)
+    forwarded(from, 0, to) == Err(ForwardRefusal::Lane(refusal)) && has(from, tlp)
 }
 
-fn moves_and_arrives(alloc: Global, tlp: &Tlp) -> Result<bool, LaneRefusal> {
-    let mut from = with_packet(alloc, tlp)?;
-    let mut to = narrow(alloc);
-    Ok(moves(&mut from, &mut to) && arrives(&mut to, tlp)?)
+/// A packet in the one lane moves on to the other and arrives there.
+fn moves_and_arrives(from: &mut Lane, to: &mut Lane, tlp: &Tlp) -> bool {
+    passes(from, tlp) && moves(from, to) && arrives(to, tlp)
 }
 
-fn stays_and_leaves(alloc: Global, tlp: &Tlp) -> Result<bool, LaneRefusal> {
-    let mut from = with_packet(alloc, tlp)?;
-    let mut to = with_packet(alloc, tlp)?;
-    Ok(stays(&mut from, &mut to, tlp) && leaves(from, alloc))
+/// The same with a new lane to move on to.
+fn moves_and_arrives_new(alloc: Global, from: &mut Lane, tlp: &Tlp) -> bool {
+    let mut to = one_write(alloc);
+    moves_and_arrives(from, &mut to, tlp)
 }
 
-#[test]
-fn a_packet_moves_on(rt: HostRuntime) -> Result<(), Fail> {
-    let write = decode(&WRITE)?;
-    assert!(rt; moves_and_arrives(rt.alloc(), &write)?);
-    assert!(rt; stays_and_leaves(rt.alloc(), &write)?);
-    assert_eq!(rt; ForwardRefusal::NotTakeable.number(), 1);
-    assert_eq!(rt; ForwardRefusal::Lane(LaneRefusal::WindowFull).number(), 2);
-    Ok(())
+/// The same between two new lanes.
+fn moves_on(alloc: Global, tlp: &Tlp) -> bool {
+    let mut from = one_write(alloc);
+    moves_and_arrives_new(alloc, &mut from, tlp)
 }
 
-#[test]
-fn names(rt: HostRuntime) -> Result<(), Fail> {
-    for (refusal, name) in [
-        (ForwardRefusal::NotTakeable, "NotTakeable"),
-        (
-            ForwardRefusal::Lane(LaneRefusal::NoCredits(Class::Posted)),
-            "NoCredits",
-        ),
-        (ForwardRefusal::Lane(LaneRefusal::WindowFull), "WindowFull"),
-        (ForwardRefusal::Lane(LaneRefusal::Memory), "Memory"),
-    ] {
-        assert_eq!(rt; format!(in rt.alloc(); "{refusal}")?.as_str(), name);
+/// A packet in each of the lanes, so that the one's can't move on.
+fn pass_and_stay(from: &mut Lane, to: &mut Lane, tlp: &Tlp) -> bool {
+    passes(from, tlp) && passes(to, tlp) && stays(from, to, tlp)
+}
+
+/// The same with a new lane that it can't move on to.
+fn pass_and_stay_new(alloc: Global, from: &mut Lane, tlp: &Tlp) -> bool {
+    let mut to = one_write(alloc);
+    pass_and_stay(from, &mut to, tlp)
+}
+
+/// The packet of a new lane stays, and then leaves over the ends.
+fn stays_and_leaves(alloc: Global, tlp: &Tlp) -> bool {
+    let mut from = one_write(alloc);
+    let stayed = pass_and_stay_new(alloc, &mut from, tlp);
+    leaves(from, alloc) && stayed
+}
+
+fn a_write_moves_on(alloc: Global) -> bool {
+    match decode(&WRITE) {
+        Ok(write) => moves_on(alloc, &write) && stays_and_leaves(alloc, &write),
+        Err(_) => false,
     }
-    let fault = RouteFault::NoPort;
-    assert_eq!(rt; format!(in rt.alloc(); "{fault}")?.as_str(), "NoPort");
-    Ok(())
+}
+
+#[test]
+fn a_packet_moves_on(rt: HostRuntime) {
+    assert!(rt; a_write_moves_on(rt.alloc()));
+}
+
+/// Refusals, their numbers and their names.
+const REFUSALS: [(ForwardRefusal, u8, &str); 4] = [
+    (ForwardRefusal::NotTakeable, 1, "NotTakeable"),
+    (
+        ForwardRefusal::Lane(LaneRefusal::NoCredits(Class::Posted)),
+        2,
+        "NoCredits",
+    ),
+    (
+        ForwardRefusal::Lane(LaneRefusal::WindowFull),
+        2,
+        "WindowFull",
+    ),
+    (ForwardRefusal::Lane(LaneRefusal::Memory), 2, "Memory"),
+];
+
+fn is_named(refusal: ForwardRefusal, number: u8, name: &str, alloc: Global) -> bool {
+    match format!(in alloc; "{refusal}") {
+        Ok(text) => text.as_str() == name && refusal.number() == number,
+        Err(_) => false,
+    }
+}
+
+fn all_are_named(alloc: Global) -> bool {
+    let mut right = true;
+    for (refusal, number, name) in REFUSALS {
+        right &= is_named(refusal, number, name, alloc);
+    }
+    right
+}
+
+fn fault_is_named(fault: RouteFault, alloc: Global) -> bool {
+    match format!(in alloc; "{fault}") {
+        Ok(text) => text.as_str() == "NoPort",
+        Err(_) => false,
+    }
+}
+
+#[test]
+fn names(rt: HostRuntime) {
+    assert!(rt; all_are_named(rt.alloc()) && fault_is_named(RouteFault::NoPort, rt.alloc()));
 }

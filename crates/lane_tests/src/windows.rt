@@ -1,167 +1,200 @@
 //! Windows of 2047 packets, past a wrap of the sequence numbers, and a Nak.
 use crate::calls::{
-    answered, deliver, enter, fetch_add, infinite, quiet, sent, take_mark, timer, took, transmit,
+    deliver, delivers, enter, fetch_add, infinite, quiet, sent, take_mark, timer, took, transmit,
     write_of,
 };
-use lane_core::{Arrival, DllpKind, Fate, Lane, LaneRefusal};
+use lane_core::{DllpKind, Fate, Lane, LaneRefusal};
 use link_receiver::Reception;
-use std::test::Fail;
-use tlp_core::Tlp;
+use std::alloc::Global;
+use tlp_core::{Tlp, TlpFault};
 
 /// The packets of a full window.
 const WINDOW: u16 = 2047;
 
-/// Enters a window of packets, with the marks from 0; whether their numbers go on from this one.
-fn enter_window(lane: &mut Lane, tlp: &Tlp, first: u16) -> Result<bool, LaneRefusal> {
-    for mark in 0..WINDOW {
-        if enter(lane, tlp, u32::from(mark))? != first.wrapping_add(mark) % 4096 {
-            return Ok(false);
-        }
-    }
-    Ok(true)
+/// What a lane is made to do, and what has to come of it.
+#[derive(Clone, Copy)]
+enum Step {
+    /// So many packets enter, their marks going on from 0 and their numbers from this one.
+    Enter(u16, u16),
+    /// One packet enters, with this mark, which is its number too.
+    EnterNumbered(u16),
+    /// None enters, since the window is full.
+    Full,
+    /// So many packets are transmitted, their numbers going on from this one.
+    Transmit(u16, u16),
+    /// So many packets are delivered, under this fate, each with this answer.
+    Deliver(u16, Fate, Reception),
+    /// None is left to be delivered.
+    Delivered,
+    /// The Ack or Nak of these bytes is sent and takes effect.
+    Answer([u8; 4]),
+    /// So many packets are taken, their marks going on from 0.
+    Take(u16),
+    /// The replay timer expires, and a window is to be sent again.
+    Timer,
+    /// Every packet was taken.
+    Quiet,
 }
 
-/// Transmits a window of packets; whether their numbers go on from this one.
-fn transmit_window(lane: &mut Lane, first: u16) -> Result<bool, LaneRefusal> {
-    for place in 0..WINDOW {
-        if transmit(lane)? != Some(first.wrapping_add(place) % 4096) {
-            return Ok(false);
-        }
-    }
-    Ok(true)
+/// Whether a packet with this mark enters under this number.
+fn enters(lane: &mut Lane, tlp: &Tlp, mark: u16, number: u16) -> bool {
+    enter(lane, tlp, u32::from(mark)) == Ok(number)
 }
 
-/// Delivers a window of packets; whether each had this answer.
-fn deliver_window(lane: &mut Lane, answer: Reception) -> Result<bool, LaneRefusal> {
-    for _ in 0..WINDOW {
-        if answered(lane)? != Some(answer) {
-            return Ok(false);
-        }
+fn enter_all(lane: &mut Lane, tlp: &Tlp, count: u16, first: u16) -> bool {
+    let mut right = true;
+    for mark in 0..count {
+        right &= enters(lane, tlp, mark, first.wrapping_add(mark) % 4096);
     }
-    Ok(true)
+    right
 }
 
-/// Takes a window of packets; whether their marks go on from 0.
-fn take_window(lane: &mut Lane) -> bool {
-    for mark in 0..WINDOW {
-        if take_mark(lane) != Some(u32::from(mark)) {
-            return false;
-        }
-    }
-    true
+fn is_full(lane: &mut Lane, tlp: &Tlp) -> bool {
+    enter(lane, tlp, 0) == Err(LaneRefusal::WindowFull)
 }
 
-/// A window enters, whose numbers go on from this one, and passes in order; it is acknowledged by these bytes and
-/// taken.
-fn pass_window(lane: &mut Lane, tlp: &Tlp, first: u16, ack: [u8; 4]) -> Result<bool, Fail> {
-    Ok(
-        enter_window(lane, tlp, first)?
-            && enter(lane, tlp, 0) == Err(LaneRefusal::WindowFull)
-            && transmit_window(lane, first)?
-            && deliver_window(lane, Reception::Accept)?
-            && sent(lane, DllpKind::Answer)? == Some(ack)
-            && took(lane, Fate::Good)?
-            && take_window(lane),
-    )
+fn transmit_all(lane: &mut Lane, count: u16, first: u16) -> bool {
+    let mut right = true;
+    for place in 0..count {
+        right &= transmit(lane) == Ok(Some(first.wrapping_add(place) % 4096));
+    }
+    right
 }
+
+fn deliver_all(lane: &mut Lane, count: u16, fate: Fate, answer: Reception) -> bool {
+    let mut right = true;
+    for _ in 0..count {
+        right &= delivers(lane, fate, answer);
+    }
+    right
+}
+
+fn take_all(lane: &mut Lane, count: u16) -> bool {
+    let mut right = true;
+    for mark in 0..count {
+        right &= take_mark(lane) == Some(u32::from(mark));
+    }
+    right
+}
+
+/// Whether the Ack or Nak has these bytes and takes effect.
+fn answers(lane: &mut Lane, bytes: [u8; 4]) -> bool {
+    let sent = sent(lane, DllpKind::Answer);
+    took(lane, Fate::Good) && sent == Some(bytes)
+}
+
+/// Makes the lane do this; whether that came of it.
+fn does(lane: &mut Lane, tlp: &Tlp, step: Step) -> bool {
+    match step {
+        Step::Enter(count, first) => enter_all(lane, tlp, count, first),
+        Step::EnterNumbered(number) => enters(lane, tlp, number, number),
+        Step::Full => is_full(lane, tlp),
+        Step::Transmit(count, first) => transmit_all(lane, count, first),
+        Step::Deliver(count, fate, answer) => deliver_all(lane, count, fate, answer),
+        Step::Delivered => matches!(deliver(lane, Fate::Good), Ok(None)),
+        Step::Answer(bytes) => answers(lane, bytes),
+        Step::Take(count) => take_all(lane, count),
+        Step::Timer => timer(lane) == usize::from(WINDOW),
+        Step::Quiet => quiet(lane),
+    }
+}
+
+/// Makes the lane do these in turn; whether that came of each.
+fn does_all(lane: &mut Lane, tlp: &Tlp, steps: &[Step]) -> bool {
+    let mut right = true;
+    for step in steps {
+        right &= does(lane, tlp, *step);
+    }
+    right
+}
+
+/// The same on a new lane.
+fn new_does_all(alloc: Global, tlp: &Tlp, steps: &[Step]) -> bool {
+    let mut lane = infinite(alloc);
+    does_all(&mut lane, tlp, steps)
+}
+
+/// The same with a packet, where it is one.
+fn new_does_all_with(alloc: Global, tlp: Result<Tlp, TlpFault>, steps: &[Step]) -> bool {
+    match tlp {
+        Ok(tlp) => new_does_all(alloc, &tlp, steps),
+        Err(_) => false,
+    }
+}
+
+/// Each window passes in order, is acknowledged and taken.
+const THREE_WINDOWS: [Step; 19] = [
+    Step::Enter(WINDOW, 0x000),
+    Step::Full,
+    Step::Transmit(WINDOW, 0x000),
+    Step::Deliver(WINDOW, Fate::Good, Reception::Accept),
+    Step::Answer([0, 0, 0x07, 0xFE]),
+    Step::Take(WINDOW),
+    Step::Enter(WINDOW, 0x7FF),
+    Step::Full,
+    Step::Transmit(WINDOW, 0x7FF),
+    Step::Deliver(WINDOW, Fate::Good, Reception::Accept),
+    Step::Answer([0, 0, 0x0F, 0xFD]),
+    Step::Take(WINDOW),
+    Step::Enter(WINDOW, 0xFFE),
+    Step::Full,
+    Step::Transmit(WINDOW, 0xFFE),
+    Step::Deliver(WINDOW, Fate::Good, Reception::Accept),
+    Step::Answer([0, 0, 0x07, 0xFC]),
+    Step::Take(WINDOW),
+    Step::Quiet,
+];
 
 #[test]
-fn three_windows(rt: HostRuntime) -> Result<(), Fail> {
-    let tlp = write_of(7)?;
-    let mut lane = infinite(rt.alloc());
-    for (first, ack) in [
-        (0x000, [0, 0, 0x07, 0xFE]),
-        (0x7FF, [0, 0, 0x0F, 0xFD]),
-        (0xFFE, [0, 0, 0x07, 0xFC]),
-    ] {
-        assert!(rt; pass_window(&mut lane, &tlp, first, ack)?, "from {first}");
-    }
-    assert!(rt; quiet(&lane));
-    Ok(())
+fn three_windows(rt: HostRuntime) {
+    assert!(rt; new_does_all_with(rt.alloc(), write_of(7), &THREE_WINDOWS));
 }
 
-/// A window enters and is transmitted twice.
-fn send_twice(lane: &mut Lane, tlp: &Tlp) -> Result<bool, LaneRefusal> {
-    Ok(
-        enter_window(lane, tlp, 0)?
-            && transmit_window(lane, 0)?
-            && timer(lane) == 2047
-            && transmit_window(lane, 0)?,
-    )
-}
-
-/// The first of them is accepted and acknowledged.
-fn accept_first(lane: &mut Lane) -> Result<bool, Fail> {
-    Ok(
-        deliver_window(lane, Reception::Accept)?
-            && sent(lane, DllpKind::Answer)? == Some([0, 0, 0x07, 0xFE])
-            && took(lane, Fate::Good)?
-            && take_window(lane),
-    )
-}
-
-/// A second window enters and is transmitted; what was transmitted twice are duplicates, and it is accepted.
-fn accept_second(lane: &mut Lane, tlp: &Tlp) -> Result<bool, LaneRefusal> {
-    Ok(
-        enter_window(lane, tlp, 0x7FF)?
-            && transmit_window(lane, 0x7FF)?
-            && deliver_window(lane, Reception::Duplicate)?
-            && deliver_window(lane, Reception::Accept)?
-            && deliver(lane, Fate::Good)?.is_none()
-            && take_window(lane),
-    )
-}
+/// A window is transmitted twice, and then a second one. What was transmitted twice are duplicates.
+const A_WINDOW_AGAIN: [Step; 14] = [
+    Step::Enter(WINDOW, 0x000),
+    Step::Transmit(WINDOW, 0x000),
+    Step::Timer,
+    Step::Transmit(WINDOW, 0x000),
+    Step::Deliver(WINDOW, Fate::Good, Reception::Accept),
+    Step::Answer([0, 0, 0x07, 0xFE]),
+    Step::Take(WINDOW),
+    Step::Enter(WINDOW, 0x7FF),
+    Step::Transmit(WINDOW, 0x7FF),
+    Step::Deliver(WINDOW, Fate::Good, Reception::Duplicate),
+    Step::Deliver(WINDOW, Fate::Good, Reception::Accept),
+    Step::Delivered,
+    Step::Take(WINDOW),
+    Step::Quiet,
+];
 
 #[test]
-fn a_window_again(rt: HostRuntime) -> Result<(), Fail> {
-    let tlp = write_of(7)?;
-    let mut lane = infinite(rt.alloc());
-    assert!(rt; send_twice(&mut lane, &tlp)?);
-    assert!(rt; accept_first(&mut lane)?);
-    assert!(rt; accept_second(&mut lane, &tlp)?);
-    assert!(rt; quiet(&lane));
-    Ok(())
+fn a_window_again(rt: HostRuntime) {
+    assert!(rt; new_does_all_with(rt.alloc(), write_of(7), &A_WINDOW_AGAIN));
 }
 
-/// A packet enters and is transmitted under this number, which is its mark too.
-fn send_numbered(lane: &mut Lane, tlp: &Tlp, number: u16) -> Result<bool, LaneRefusal> {
-    Ok(enter(lane, tlp, u32::from(number))? == number && transmit(lane)? == Some(number))
-}
-
-/// The oldest packet is delivered; whether it had this answer.
-fn delivers(lane: &mut Lane, fate: Fate, answer: Reception) -> Result<bool, LaneRefusal> {
-    Ok(deliver(lane, fate)? == Some(Arrival::Answered(answer)))
-}
-
-/// Three packets arrive, the second with a failed check, and a Nak goes back.
-fn fail_second(lane: &mut Lane) -> Result<bool, Fail> {
-    Ok(
-        delivers(lane, Fate::Good, Reception::Accept)?
-            && delivers(lane, Fate::Failed, Reception::NakNow)?
-            && delivers(lane, Fate::Good, Reception::Quiet)?
-            && sent(lane, DllpKind::Answer)? == Some([0x10, 0, 0, 0])
-            && took(lane, Fate::Good)?,
-    )
-}
-
-/// The packet of this number is transmitted again and accepted.
-fn send_again(lane: &mut Lane, number: u16) -> Result<bool, LaneRefusal> {
-    Ok(transmit(lane)? == Some(number) && delivers(lane, Fate::Good, Reception::Accept)?)
-}
+/// Three packets arrive, the second with a failed check. A Nak goes back, and the second and the third are transmitted
+/// again.
+const A_NAK: [Step; 16] = [
+    Step::EnterNumbered(0),
+    Step::Transmit(1, 0),
+    Step::EnterNumbered(1),
+    Step::Transmit(1, 1),
+    Step::EnterNumbered(2),
+    Step::Transmit(1, 2),
+    Step::Deliver(1, Fate::Good, Reception::Accept),
+    Step::Deliver(1, Fate::Failed, Reception::NakNow),
+    Step::Deliver(1, Fate::Good, Reception::Quiet),
+    Step::Answer([0x10, 0, 0, 0]),
+    Step::Transmit(1, 1),
+    Step::Deliver(1, Fate::Good, Reception::Accept),
+    Step::Transmit(1, 2),
+    Step::Deliver(1, Fate::Good, Reception::Accept),
+    Step::Answer([0, 0, 0, 2]),
+    Step::Take(3),
+];
 
 #[test]
-fn a_nak(rt: HostRuntime) -> Result<(), Fail> {
-    let tlp = fetch_add()?;
-    let mut lane = infinite(rt.alloc());
-    for number in 0..3 {
-        assert!(rt; send_numbered(&mut lane, &tlp, number)?, "packet {number}");
-    }
-    assert!(rt; fail_second(&mut lane)?);
-    assert!(rt; send_again(&mut lane, 1)? && send_again(&mut lane, 2)?);
-    let ack = sent(&mut lane, DllpKind::Answer)?;
-    assert!(rt; ack == Some([0, 0, 0, 2]));
-    for mark in 0..3 {
-        assert!(rt; take_mark(&mut lane) == Some(mark));
-    }
-    Ok(())
+fn a_nak(rt: HostRuntime) {
+    assert!(rt; new_does_all_with(rt.alloc(), fetch_add(), &A_NAK));
 }

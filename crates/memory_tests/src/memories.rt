@@ -2,8 +2,24 @@
 use arrayvec::ArrayVec;
 use seq_memory::{Entry, Memory, Refusal, Reply, is_base, is_block, is_size, perform};
 use std::alloc::{AllocError, Global};
-use std::test::Fail;
 use tlp_core::{MAX_PAYLOAD, Op, Width};
+
+/// An operation, by what the rows tell of it.
+#[derive(Clone, Copy)]
+enum Access {
+    /// So many DW from an address on, with all their bytes.
+    Read(u64, u16),
+    /// The same with these first and last enables.
+    ReadSome(u64, u16, u8, u8),
+    /// These bytes from an address on, with these first and last enables.
+    Write(u64, u8, u8, &'static [u8]),
+    /// An operand of 4 bytes for the sum at 40h.
+    Add(u128),
+    /// An operand of 8 bytes for 40h.
+    Swap(u128),
+    /// 16 bytes at an address, compared with the first and set to the second.
+    Cas(u64, u128, u128),
+}
 
 fn bytes_of(bytes: &[u8]) -> ArrayVec<u8, MAX_PAYLOAD> {
     let mut data = ArrayVec::new();
@@ -21,29 +37,45 @@ fn read(address: u64, dw: u16) -> Op {
     }
 }
 
-fn write(address: u64, first: u8, last: u8, bytes: &[u8]) -> Op {
-    Op::Write {
-        address,
-        first,
-        last,
-        bytes: bytes_of(bytes),
+fn op_of(access: Access) -> Op {
+    match access {
+        Access::Read(address, dw) => read(address, dw),
+        Access::ReadSome(address, dw, first, last) => Op::Read {
+            address,
+            dw,
+            first,
+            last,
+        },
+        Access::Write(address, first, last, bytes) => Op::Write {
+            address,
+            first,
+            last,
+            bytes: bytes_of(bytes),
+        },
+        Access::Add(operand) => Op::FetchAdd {
+            address: 0x40,
+            width: Width::Four,
+            operand,
+        },
+        Access::Swap(operand) => Op::Swap {
+            address: 0x40,
+            width: Width::Eight,
+            operand,
+        },
+        Access::Cas(address, compare, swap) => Op::Cas {
+            address,
+            width: Width::Sixteen,
+            compare,
+            swap,
+        },
     }
 }
 
-fn cas(address: u64, compare: u128, swap: u128) -> Op {
-    Op::Cas {
-        address,
-        width: Width::Sixteen,
-        compare,
-        swap,
-    }
-}
-
-fn act(memory: &mut Memory, op: Op) -> Result<Reply, AllocError> {
+fn act(memory: &mut Memory, access: Access) -> Result<Reply, AllocError> {
     memory.act(Entry {
         requester: 1,
         number: 0,
-        op,
+        op: op_of(access),
     })
 }
 
@@ -51,212 +83,266 @@ fn small(alloc: Global) -> Result<Memory, AllocError> {
     Memory::new(alloc, 0, 4096, 64)
 }
 
-/// Each operation is answered so, in turn.
-fn answers(memory: &mut Memory) -> Result<bool, AllocError> {
-    let rows = [
-        (
-            Op::FetchAdd {
-                address: 0x40,
-                width: Width::Four,
-                operand: 7,
-            },
-            Reply::Data(bytes_of(&[0; 4])),
-        ),
-        (read(0x40, 1), Reply::Data(bytes_of(&[7, 0, 0, 0]))),
-        (
-            write(0x40, 0b1010, 0b0101, &[1, 2, 3, 4, 5, 6, 7, 8]),
-            Reply::Done,
-        ),
-        (
-            read(0x40, 2),
-            Reply::Data(bytes_of(&[7, 2, 0, 4, 5, 0, 7, 0])),
-        ),
-        (
-            Op::Read {
-                address: 0x40,
-                dw: 2,
-                first: 0b0011,
-                last: 0b1000,
-            },
-            Reply::Data(bytes_of(&[7, 2, 0, 0, 0, 0, 0, 0])),
-        ),
-        (
-            Op::Swap {
-                address: 0x40,
-                width: Width::Eight,
-                operand: 9,
-            },
-            Reply::Data(bytes_of(&[7, 2, 0, 4, 5, 0, 7, 0])),
-        ),
-        (
-            cas(0x40, 9, 1),
-            Reply::Data(bytes_of(&[9, 0, 0, 0, 0, 0, 0, 0, 0, 0, 0, 0, 0, 0, 0, 0])),
-        ),
-        (
-            cas(0x40, 9, 2),
-            Reply::Data(bytes_of(&[1, 0, 0, 0, 0, 0, 0, 0, 0, 0, 0, 0, 0, 0, 0, 0])),
-        ),
-    ];
-    for (op, want) in rows {
-        if act(memory, op)? != want {
-            return Ok(false);
-        }
+/// What a memory answers.
+#[derive(Clone, Copy)]
+enum Want {
+    Done,
+    Data(&'static [u8]),
+    Unsupported,
+    Aborted,
+}
+
+/// Whether the reply is the wanted one.
+fn is_wanted(reply: &Reply, want: Want) -> bool {
+    match (reply, want) {
+        (Reply::Data(data), Want::Data(bytes)) => data.as_slice() == bytes,
+        (Reply::Done, Want::Done)
+        | (Reply::Unsupported, Want::Unsupported)
+        | (Reply::Aborted, Want::Aborted) => true,
+        _ => false,
     }
-    Ok(true)
 }
 
-/// Eight entries, and what the last left.
-fn holds_one(memory: &Memory) -> bool {
-    memory.entries().len() == 8
-        && memory.bytes().get(0x40) == Some(&1)
-        && (memory.base(), memory.block()) == (0, 64)
+/// An operation, and what a memory answers to it.
+type Answered = (Access, Want);
+
+/// Whether the operation is answered so.
+fn answers(memory: &mut Memory, access: Access, want: Want) -> Result<bool, AllocError> {
+    let reply = act(memory, access)?;
+    Ok(is_wanted(&reply, want))
 }
 
-fn new_answers(alloc: Global) -> Result<bool, AllocError> {
+/// Whether each operation is answered as it should be, in turn.
+fn answers_all(memory: &mut Memory, rows: &[Answered]) -> Result<bool, AllocError> {
+    let mut right = true;
+    for (access, want) in rows {
+        right &= answers(memory, *access, *want)?;
+    }
+    Ok(right)
+}
+
+/// Operations on 40h of a new memory, and their answers.
+static HISTORY: [Answered; 8] = [
+    (Access::Add(7), Want::Data(&[0; 4])),
+    (Access::Read(0x40, 1), Want::Data(&[7, 0, 0, 0])),
+    (
+        Access::Write(0x40, 0b1010, 0b0101, &[1, 2, 3, 4, 5, 6, 7, 8]),
+        Want::Done,
+    ),
+    (Access::Read(0x40, 2), Want::Data(&[7, 2, 0, 4, 5, 0, 7, 0])),
+    (
+        Access::ReadSome(0x40, 2, 0b0011, 0b1000),
+        Want::Data(&[7, 2, 0, 0, 0, 0, 0, 0]),
+    ),
+    (Access::Swap(9), Want::Data(&[7, 2, 0, 4, 5, 0, 7, 0])),
+    (
+        Access::Cas(0x40, 9, 1),
+        Want::Data(&[9, 0, 0, 0, 0, 0, 0, 0, 0, 0, 0, 0, 0, 0, 0, 0]),
+    ),
+    (
+        Access::Cas(0x40, 9, 2),
+        Want::Data(&[1, 0, 0, 0, 0, 0, 0, 0, 0, 0, 0, 0, 0, 0, 0, 0]),
+    ),
+];
+
+/// Whether there are so many entries, and this byte is at 40h.
+fn holds(memory: &Memory, entries: usize, byte: u8) -> bool {
+    memory.entries().len() == entries && memory.bytes().get(0x40) == Some(&byte)
+}
+
+/// The history; eight entries, and what the last left.
+fn has_history(memory: &mut Memory, rows: &[Answered]) -> Result<bool, AllocError> {
+    let right = answers_all(memory, rows)?;
+    Ok(right && holds(memory, 8, 1) && memory.base() == 0 && memory.block() == 64)
+}
+
+fn new_has_history(rows: &[Answered], alloc: Global) -> Result<bool, AllocError> {
     let mut memory = small(alloc)?;
-    Ok(answers(&mut memory)? && holds_one(&memory))
+    has_history(&mut memory, rows)
 }
 
 #[test]
-fn a_history(rt: HostRuntime) -> Result<(), Fail> {
-    assert!(rt; new_answers(rt.alloc())?);
-    Ok(())
+fn a_history(rt: HostRuntime) {
+    assert!(rt; matches!(new_has_history(&HISTORY, rt.alloc()), Ok(true)));
 }
 
 /// The end of the address space.
 const LAST_DW: u64 = 0xFFFF_FFFF_FFFF_FFFC;
 
-/// Whether each operation is refused so by blocks of 64 bytes and by blocks of 128.
-fn refuse(narrow: &Memory, wide: &Memory) -> bool {
-    let aborted = Some(Refusal::Aborted);
-    let unsupported = Some(Refusal::Unsupported);
-    let rows = [
-        (read(0x103C, 1), None, None),
-        (read(0x103C, 2), aborted, None),
-        (read(0x107C, 2), aborted, aborted),
-        (read(0x1000, 32), aborted, None),
-        (read(0x1000, 33), aborted, aborted),
-        (read(0x1000, 1024), aborted, aborted),
-        (read(0x1042, 1), aborted, aborted),
-        (cas(0x1FF0, 0, 1), None, None),
-        (cas(0x1FF8, 0, 1), aborted, aborted),
-        (read(0x1FFC, 1), None, None),
-        (read(0x1FFC, 2), aborted, aborted),
-        (read(0x2000, 1), unsupported, unsupported),
-        (read(0xFFC, 1), unsupported, unsupported),
-        (read(0xFFC, 2), aborted, aborted),
-        (read(LAST_DW, 1), unsupported, unsupported),
-        (read(LAST_DW, 2), aborted, aborted),
-    ];
-    for (op, by_64, by_128) in rows {
-        if narrow.refusal(&op) != by_64 || wide.refusal(&op) != by_128 {
-            return false;
-        }
-    }
-    true
+const ABORTED: Option<Refusal> = Some(Refusal::Aborted);
+
+const UNSUPPORTED: Option<Refusal> = Some(Refusal::Unsupported);
+
+/// An operation, and how it is refused by blocks of 64 bytes and by blocks of 128.
+type Refused = (Access, Option<Refusal>, Option<Refusal>);
+
+/// Operations on 4096 bytes from 1000h on.
+static REFUSALS: [Refused; 16] = [
+    (Access::Read(0x103C, 1), None, None),
+    (Access::Read(0x103C, 2), ABORTED, None),
+    (Access::Read(0x107C, 2), ABORTED, ABORTED),
+    (Access::Read(0x1000, 32), ABORTED, None),
+    (Access::Read(0x1000, 33), ABORTED, ABORTED),
+    (Access::Read(0x1000, 1024), ABORTED, ABORTED),
+    (Access::Read(0x1042, 1), ABORTED, ABORTED),
+    (Access::Cas(0x1FF0, 0, 1), None, None),
+    (Access::Cas(0x1FF8, 0, 1), ABORTED, ABORTED),
+    (Access::Read(0x1FFC, 1), None, None),
+    (Access::Read(0x1FFC, 2), ABORTED, ABORTED),
+    (Access::Read(0x2000, 1), UNSUPPORTED, UNSUPPORTED),
+    (Access::Read(0xFFC, 1), UNSUPPORTED, UNSUPPORTED),
+    (Access::Read(0xFFC, 2), ABORTED, ABORTED),
+    (Access::Read(LAST_DW, 1), UNSUPPORTED, UNSUPPORTED),
+    (Access::Read(LAST_DW, 2), ABORTED, ABORTED),
+];
+
+/// Whether the two memories refuse the operation so.
+fn is_refused(narrow: &Memory, wide: &Memory, row: &Refused) -> bool {
+    let (access, by_64, by_128) = *row;
+    let op = op_of(access);
+    narrow.refusal(&op) == by_64 && wide.refusal(&op) == by_128
 }
 
-fn both_refuse(alloc: Global) -> Result<bool, AllocError> {
-    let narrow = Memory::new(alloc, 0x1000, 4096, 64)?;
+/// Whether each operation is refused as it should be.
+fn refuse_all(narrow: &Memory, wide: &Memory, rows: &[Refused]) -> bool {
+    let mut right = true;
+    for row in rows {
+        right &= is_refused(narrow, wide, row);
+    }
+    right
+}
+
+/// Beside blocks of 128 bytes.
+fn refuse_beside(narrow: &Memory, rows: &[Refused], alloc: Global) -> Result<bool, AllocError> {
     let wide = Memory::new(alloc, 0x1000, 4096, 128)?;
-    Ok(refuse(&narrow, &wide))
+    Ok(refuse_all(narrow, &wide, rows))
+}
+
+fn both_refuse(rows: &[Refused], alloc: Global) -> Result<bool, AllocError> {
+    let narrow = Memory::new(alloc, 0x1000, 4096, 64)?;
+    refuse_beside(&narrow, rows, alloc)
 }
 
 #[test]
-fn blocks_before_bounds(rt: HostRuntime) -> Result<(), Fail> {
-    assert!(rt; both_refuse(rt.alloc())?);
-    Ok(())
+fn blocks_before_bounds(rt: HostRuntime) {
+    assert!(rt; matches!(both_refuse(&REFUSALS, rt.alloc()), Ok(true)));
 }
 
-fn refused_ones_are_entries(memory: &mut Memory) -> Result<bool, AllocError> {
-    let crossing = act(memory, write(0x3C, 15, 15, &[1; 8]))?;
-    let past_the_end = act(memory, write(0x1000, 15, 0, &[1; 4]))?;
-    Ok(crossing == Reply::Aborted && past_the_end == Reply::Unsupported)
-}
+/// A write that crosses blocks, and one past the end.
+static REFUSED: [Answered; 2] = [
+    (Access::Write(0x3C, 15, 15, &[1; 8]), Want::Aborted),
+    (Access::Write(0x1000, 15, 0, &[1; 4]), Want::Unsupported),
+];
 
-fn has_two_and_zeros(memory: &Memory) -> bool {
-    memory.entries().len() == 2 && memory.bytes().iter().all(|&byte| byte == 0)
-}
-
-fn new_keeps_refused(alloc: Global) -> Result<bool, AllocError> {
-    let mut memory = small(alloc)?;
-    Ok(refused_ones_are_entries(&mut memory)? && has_two_and_zeros(&memory))
-}
-
-#[test]
-fn refused_accesses_are_entries(rt: HostRuntime) -> Result<(), Fail> {
-    assert!(rt; new_keeps_refused(rt.alloc())?);
-    Ok(())
-}
-
-fn one_more() -> Op {
-    Op::FetchAdd {
-        address: 0x40,
-        width: Width::Four,
-        operand: 1,
+fn has_zeros(memory: &Memory) -> bool {
+    let mut zeros = true;
+    for byte in memory.bytes() {
+        zeros &= *byte == 0;
     }
+    zeros
 }
 
-/// So many entries, each of which added 1.
-fn has_counted(memory: &Memory, count: u8) -> bool {
-    memory.entries().len() == usize::from(count) && memory.bytes().get(0x40) == Some(&count)
+/// The refused writes are entries, and change no byte.
+fn keeps_refused(memory: &mut Memory, rows: &[Answered]) -> Result<bool, AllocError> {
+    let right = answers_all(memory, rows)?;
+    Ok(right && memory.entries().len() == 2 && has_zeros(memory))
+}
+
+fn new_keeps_refused(rows: &[Answered], alloc: Global) -> Result<bool, AllocError> {
+    let mut memory = small(alloc)?;
+    keeps_refused(&mut memory, rows)
+}
+
+#[test]
+fn refused_accesses_are_entries(rt: HostRuntime) {
+    assert!(rt; matches!(new_keeps_refused(&REFUSED, rt.alloc()), Ok(true)));
+}
+
+/// Adds 1; whether there was memory for it.
+fn adds_one(memory: &mut Memory) -> bool {
+    act(memory, Access::Add(1)).is_ok()
 }
 
 /// Adds 1 to that; where memory is wanted all is as before, and the same succeeds.
-fn counts_on(memory: &mut Memory, count: u8) -> Result<bool, AllocError> {
-    if act(memory, one_more()).is_err() {
-        if !has_counted(memory, count) {
-            return Ok(false);
-        }
-        let _ = act(memory, one_more())?;
-    }
-    Ok(has_counted(memory, count.wrapping_add(1)))
+fn counts_on(memory: &mut Memory, count: u8) -> bool {
+    let before = usize::from(count);
+    let added = adds_one(memory) || holds(memory, before, count) && adds_one(memory);
+    added && holds(memory, before.saturating_add(1), count.wrapping_add(1))
 }
 
-fn counts(memory: &mut Memory) -> Result<bool, AllocError> {
+fn counts(memory: &mut Memory) -> bool {
+    let mut right = true;
     for count in 0..20u8 {
-        if !counts_on(memory, count)? {
-            return Ok(false);
-        }
+        right &= counts_on(memory, count);
     }
-    Ok(true)
+    right
 }
 
 fn new_counts(alloc: Global) -> Result<bool, AllocError> {
     let mut memory = small(alloc)?;
-    counts(&mut memory)
+    Ok(counts(&mut memory))
 }
 
 #[test]
-fn a_refused_growth_changes_nothing(rt: HostRuntime) -> Result<(), Fail> {
-    assert!(rt; new_counts(rt.alloc())?);
-    Ok(())
+fn a_refused_growth_changes_nothing(rt: HostRuntime) {
+    assert!(rt; matches!(new_counts(rt.alloc()), Ok(true)));
+}
+
+/// Numbers of bytes, and whether a memory may have them.
+const SIZES: [(usize, bool); 6] = [
+    (0, false),
+    (64, false),
+    (128, true),
+    (200, false),
+    (1_048_576, true),
+    (1_048_704, false),
+];
+
+fn sizes_are_limited() -> bool {
+    let mut right = true;
+    for (size, want) in SIZES {
+        right &= is_size(size) == want;
+    }
+    right
+}
+
+/// Addresses and sizes, and whether a memory may begin there.
+const BASES: [(u64, usize, bool); 4] = [
+    (0, 128, true),
+    (64, 128, false),
+    (0xFFFF_FFFF_FFFF_FF80, 128, true),
+    (0xFFFF_FFFF_FFFF_FF80, 256, false),
+];
+
+fn bases_are_limited() -> bool {
+    let mut right = true;
+    for (base, size, want) in BASES {
+        right &= is_base(base, size) == want;
+    }
+    right
+}
+
+fn blocks_are_limited() -> bool {
+    is_block(64) && is_block(128) && !is_block(96)
 }
 
 #[test]
 fn limits(rt: HostRuntime) {
-    for (size, want) in [
-        (0, false),
-        (64, false),
-        (128, true),
-        (200, false),
-        (1_048_576, true),
-        (1_048_704, false),
-    ] {
-        assert_eq!(rt; is_size(size), want, "{size} bytes");
-    }
-    assert!(rt; is_base(0, 128) && !is_base(64, 128));
-    let last = 0xFFFF_FFFF_FFFF_FF80;
-    assert!(rt; is_base(last, 128) && !is_base(last, 256));
-    assert!(rt; is_block(64) && is_block(128) && !is_block(96));
+    assert!(rt; sizes_are_limited() && bases_are_limited() && blocks_are_limited());
+}
+
+/// Whether four bytes are written to 84h, where the slice begins at 80h.
+fn writes_to(bytes: &mut [u8; 128]) -> bool {
+    let op = op_of(Access::Write(0x84, 15, 0, &[1, 2, 3, 4]));
+    matches!(perform(0x80, 128, bytes, &op), Reply::Done)
+}
+
+fn writes_to_zeros() -> bool {
+    let mut bytes = [0; 128];
+    writes_to(&mut bytes) && &bytes[4..8] == [1, 2, 3, 4].as_slice()
 }
 
 #[test]
 fn a_step_on_a_slice(rt: HostRuntime) {
-    let mut bytes = [0; 128];
-    assert_eq!(rt;
-        perform(0x80, 128, &mut bytes, &write(0x84, 15, 0, &[1, 2, 3, 4])),
-        Reply::Done
-    );
-    assert_eq!(rt; &bytes[4..8], [1, 2, 3, 4].as_slice());
+    assert!(rt; writes_to_zeros());
 }

@@ -2,15 +2,65 @@
 use arrayvec::ArrayVec;
 use requester_core::{CompletionFault, Requester, SubmitRefusal};
 use seq_memory::Reply;
-use std::test::Fail;
-use tlp_core::{Op, TlpFault, Width, decode, encode};
+use tlp_core::{Op, Tlp, TlpFault, Width, decode, encode};
 
-fn fetch_add(operand: u128) -> Op {
+fn fetch_add() -> Op {
     Op::FetchAdd {
         address: 0x40,
         width: Width::Four,
-        operand,
+        operand: 7,
     }
+}
+
+fn unaligned() -> Op {
+    Op::Swap {
+        address: 0x42,
+        width: Width::Four,
+        operand: 0,
+    }
+}
+
+fn write() -> Op {
+    let mut bytes = ArrayVec::new();
+    let _ = bytes.try_extend_from_slice(&[1, 2, 3, 4]);
+    Op::Write {
+        address: 0x40,
+        first: 15,
+        last: 0,
+        bytes,
+    }
+}
+
+/// Whether the packet has the bytes of the first request.
+fn is_spelled(packet: &Tlp) -> bool {
+    let mut bytes = ArrayVec::new();
+    encode(packet, &mut bytes);
+    let want = [0x4C, 0, 0, 1, 1, 0, 0, 0, 0, 0, 0, 0x40, 7, 0, 0, 0];
+    bytes.as_slice() == want.as_slice()
+}
+
+/// Whether the first request has the number 0 and its bytes.
+fn is_first(requester: &Requester, op: &Op) -> bool {
+    match requester.prepare(op) {
+        Ok((number, request)) => number == 0 && is_spelled(&request),
+        Err(_) => false,
+    }
+}
+
+/// Whether no request can ask for this.
+fn refuses(requester: &Requester, op: &Op) -> bool {
+    let refusal = requester.prepare(op).err();
+    refusal == Some(SubmitRefusal::Profile(TlpFault::Unaligned))
+}
+
+fn new_prepares(op: &Op, unaligned: &Op) -> bool {
+    let requester = Requester::new(1);
+    is_first(&requester, op) && refuses(&requester, unaligned) && requester.port() == 1
+}
+
+#[test]
+fn first_request(rt: HostRuntime) {
+    assert!(rt; new_prepares(&fetch_add(), &unaligned()));
 }
 
 /// Prepares and opens a request; its number and its tag.
@@ -20,74 +70,91 @@ fn submit(requester: &mut Requester, op: &Op) -> Result<(u32, u8), SubmitRefusal
     Ok((number, request.tag))
 }
 
-/// What the packet with these bytes comes to: the number, and whether it was aborted.
-fn finish(requester: &mut Requester, bytes: &[u8]) -> Result<(u32, bool), Fail> {
-    let answer = requester.finish(&decode(bytes)?)?;
-    Ok((answer.number, answer.reply == Reply::Aborted))
+/// Whether each tag is used in turn, and then none.
+fn uses_all_tags(requester: &mut Requester, op: &Op) -> bool {
+    let mut right = true;
+    for tag in 0..=255u8 {
+        right &= submit(requester, op) == Ok((u32::from(tag), tag));
+    }
+    right && submit(requester, op) == Err(SubmitRefusal::TagsUsed)
 }
 
-fn fault_of(requester: &mut Requester, bytes: &[u8]) -> Result<Option<CompletionFault>, Fail> {
-    Ok(requester.finish(&decode(bytes)?).err())
+/// The number of the request that a packet answers, and whether it was aborted.
+type Finished = Result<(u32, bool), CompletionFault>;
+
+/// Packets for a requester with all tags used.
+static EARLY: [(&[u8], Finished); 4] = [
+    (
+        &[0x4A, 0, 0, 1, 0, 0, 0, 4, 1, 0, 5, 0, 1, 2, 3, 4],
+        Ok((5, false)),
+    ),
+    (
+        &[0x4A, 0, 0, 1, 0, 0, 0, 4, 1, 0, 5, 0, 1, 2, 3, 4],
+        Err(CompletionFault::Unexpected),
+    ),
+    (
+        &[0x4A, 0, 0, 1, 0, 0, 0, 4, 2, 0, 7, 0, 1, 2, 3, 4],
+        Err(CompletionFault::Unexpected),
+    ),
+    (
+        &[0x4C, 0, 0, 1, 1, 0, 5, 0, 0, 0, 0, 0x40, 7, 0, 0, 0],
+        Err(CompletionFault::Unexpected),
+    ),
+];
+
+/// Packets once the tag that they freed is used again: with more data, without, and aborted.
+static LATE: [(&[u8], Finished); 3] = [
+    (
+        &[
+            0x4A, 0, 0, 2, 0, 0, 0, 8, 1, 0, 7, 0, 1, 2, 3, 4, 5, 6, 7, 8,
+        ],
+        Err(CompletionFault::Mismatch),
+    ),
+    (
+        &[0x0A, 0, 0, 0, 0, 0, 0, 4, 1, 0, 7, 0],
+        Err(CompletionFault::Mismatch),
+    ),
+    (&[0x0A, 0, 0, 0, 0, 0, 0x80, 4, 1, 0, 7, 0], Ok((7, true))),
+];
+
+/// What the packet comes to.
+fn finish(requester: &mut Requester, packet: &Tlp) -> Finished {
+    let answer = requester.finish(packet)?;
+    Ok((answer.number, matches!(answer.reply, Reply::Aborted)))
 }
 
-/// A completion with 4 bytes of data for a Requester ID and a tag.
-fn data_for(port: u8, tag: u8) -> [u8; 16] {
-    [0x4A, 0, 0, 1, 0, 0, 0, 4, port, 0, tag, 0, 1, 2, 3, 4]
+/// Whether the packet with these bytes comes to that.
+fn comes_to(requester: &mut Requester, bytes: &[u8], want: Finished) -> bool {
+    match decode(bytes) {
+        Ok(packet) => finish(requester, &packet) == want,
+        Err(_) => false,
+    }
 }
 
-#[test]
-fn first_request(rt: HostRuntime) -> Result<(), Fail> {
-    let requester = Requester::new(1);
-    let (number, request) = requester.prepare(&fetch_add(7))?;
-    let mut bytes = ArrayVec::new();
-    encode(&request, &mut bytes);
-    let want = [0x4C, 0, 0, 1, 1, 0, 0, 0, 0, 0, 0, 0x40, 7, 0, 0, 0];
-    assert_eq!(rt; number, 0);
-    assert_eq!(rt; bytes.as_slice(), want.as_slice());
-    let unaligned = Op::Swap {
-        address: 0x42,
-        width: Width::Four,
-        operand: 0,
-    };
-    let refusal = requester.prepare(&unaligned).err();
-    assert_eq!(rt; refusal, Some(SubmitRefusal::Profile(TlpFault::Unaligned)));
-    assert_eq!(rt; requester.port(), 1);
-    Ok(())
+/// Whether each of the packets in turn comes to what it should.
+fn finishes(requester: &mut Requester, packets: &[(&[u8], Finished)]) -> bool {
+    let mut right = true;
+    for (bytes, want) in packets {
+        right &= comes_to(requester, bytes, *want);
+    }
+    right
 }
 
-#[test]
-fn all_tags(rt: HostRuntime) -> Result<(), Fail> {
+/// Whether tags are used, freed and used again.
+fn uses_tags(requester: &mut Requester, op: &Op, posted: &Op) -> bool {
+    uses_all_tags(requester, op)
+        && submit(requester, posted) == Ok((256, 0))
+        && finishes(requester, &EARLY)
+        && submit(requester, op) == Ok((257, 5))
+        && finishes(requester, &LATE)
+}
+
+fn new_uses_tags(op: &Op, posted: &Op) -> bool {
     let mut requester = Requester::new(1);
-    for tag in 0..=255 {
-        let got = submit(&mut requester, &fetch_add(7));
-        assert_eq!(rt; got, Ok((u32::from(tag), tag)), "tag {tag}");
-    }
-    let used = submit(&mut requester, &fetch_add(7));
-    assert_eq!(rt; used, Err(SubmitRefusal::TagsUsed));
-    let mut bytes = ArrayVec::new();
-    let _ = bytes.try_extend_from_slice(&[1, 2, 3, 4]);
-    let write = Op::Write {
-        address: 0x40,
-        first: 15,
-        last: 0,
-        bytes,
-    };
-    assert_eq!(rt; submit(&mut requester, &write), Ok((256, 0)));
-    assert_eq!(rt; finish(&mut requester, &data_for(1, 5))?, (5, false));
-    let unexpected = Some(CompletionFault::Unexpected);
-    let request = [0x4C, 0, 0, 1, 1, 0, 5, 0, 0, 0, 0, 0x40, 7, 0, 0, 0];
-    for packet in [data_for(1, 5), data_for(2, 7), request] {
-        assert_eq!(rt; fault_of(&mut requester, &packet)?, unexpected);
-    }
-    assert_eq!(rt; submit(&mut requester, &fetch_add(7)), Ok((257, 5)));
-    let mismatch = Some(CompletionFault::Mismatch);
-    let longer = [
-        0x4A, 0, 0, 2, 0, 0, 0, 8, 1, 0, 7, 0, 1, 2, 3, 4, 5, 6, 7, 8,
-    ];
-    assert_eq!(rt; fault_of(&mut requester, &longer)?, mismatch);
-    let without = [0x0A, 0, 0, 0, 0, 0, 0, 4, 1, 0, 7, 0];
-    assert_eq!(rt; fault_of(&mut requester, &without)?, mismatch);
-    let aborted = [0x0A, 0, 0, 0, 0, 0, 0x80, 4, 1, 0, 7, 0];
-    assert_eq!(rt; finish(&mut requester, &aborted)?, (7, true));
-    Ok(())
+    uses_tags(&mut requester, op, posted)
+}
+
+#[test]
+fn all_tags(rt: HostRuntime) {
+    assert!(rt; new_uses_tags(&fetch_add(), &write()));
 }

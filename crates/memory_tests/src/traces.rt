@@ -3,7 +3,6 @@ use arrayvec::ArrayVec;
 use history_check::{Flaw, FlawKind, Record, Trace, check};
 use seq_memory::{Entry, Reply};
 use std::alloc::{AllocError, Global};
-use std::test::Fail;
 use tlp_core::{MAX_PAYLOAD, Op};
 
 /// A record, by its request's number and the length of the history.
@@ -87,12 +86,16 @@ fn record_of(event: Event) -> Record {
     }
 }
 
-fn entry_of(act: Act) -> Entry {
-    let (number, op) = match act {
+fn op_of(act: Act) -> (u32, Op) {
+    match act {
         Act::Read(number) => (number, read()),
         Act::Write(number) => (number, write()),
         Act::WideRead(number) => (number, wide_read()),
-    };
+    }
+}
+
+fn entry_of(act: Act) -> Entry {
+    let (number, op) = op_of(act);
     Entry {
         requester: 1,
         number,
@@ -100,144 +103,212 @@ fn entry_of(act: Act) -> Entry {
     }
 }
 
-/// The flaw of such a trace and history, on 4096 bytes from 0 on.
-fn flaw_of(alloc: Global, events: &[Event], acts: &[Act]) -> Result<Option<Flaw>, AllocError> {
-    let mut records = Vec::new(alloc);
+fn record_all(records: &mut Vec<Record>, events: &[Event]) -> Result<(), AllocError> {
     for event in events {
         records.push(record_of(*event))?;
     }
-    let mut history = Vec::new(alloc);
+    Ok(())
+}
+
+fn do_all(history: &mut Vec<Entry>, acts: &[Act]) -> Result<(), AllocError> {
     for act in acts {
         history.push(entry_of(*act))?;
     }
-    let trace = Trace {
+    Ok(())
+}
+
+/// The trace of these events, on 4096 bytes from 0 on.
+fn trace_of(alloc: Global, events: &[Event]) -> Result<Trace, AllocError> {
+    let mut records = Vec::new(alloc);
+    record_all(&mut records, events)?;
+    Ok(Trace {
         base: 0,
         size: 4096,
         block: 64,
         records,
-    };
-    Ok(check(alloc, &trace, &history).err())
+    })
 }
 
-/// Whether the check says ok.
-fn is_explained(alloc: Global, events: &[Event], acts: &[Act]) -> Result<bool, AllocError> {
-    Ok(flaw_of(alloc, events, acts)?.is_none())
+/// The flaw of the trace and the history of these, which is filled.
+fn flaw_in(
+    alloc: Global,
+    trace: &Trace,
+    history: &mut Vec<Entry>,
+    acts: &[Act],
+) -> Result<Option<Flaw>, AllocError> {
+    do_all(history, acts)?;
+    Ok(check(alloc, trace, history).err())
 }
+
+/// The flaw of the trace and the history of these.
+fn flaw_with(alloc: Global, trace: &Trace, acts: &[Act]) -> Result<Option<Flaw>, AllocError> {
+    let mut history = Vec::new(alloc);
+    flaw_in(alloc, trace, &mut history, acts)
+}
+
+/// The flaw of such a trace and history.
+fn flaw_of(alloc: Global, events: &[Event], acts: &[Act]) -> Result<Option<Flaw>, AllocError> {
+    let trace = trace_of(alloc, events)?;
+    flaw_with(alloc, &trace, acts)
+}
+
+/// What happened, and a history.
+type Traced = (&'static [Event], &'static [Act]);
+
+/// Traces with histories that explain them.
+static EXPLAINED: [Traced; 3] = [
+    (&[], &[]),
+    (
+        &[Event::Read(0, 0), Event::Write(1, 0), Event::Data(0, 7, 2)],
+        &[Act::Write(1), Act::Read(0)],
+    ),
+    (
+        &[Event::WideRead(0, 0), Event::Aborted(0, 1)],
+        &[Act::WideRead(0)],
+    ),
+];
+
+/// Whether the check says ok to each.
+fn all_are_explained(alloc: Global, rows: &[Traced]) -> Result<bool, AllocError> {
+    let mut right = true;
+    for (events, acts) in rows {
+        let flaw = flaw_of(alloc, events, acts)?;
+        right &= flaw.is_none();
+    }
+    Ok(right)
+}
+
+#[test]
+fn explained(rt: HostRuntime) {
+    assert!(rt; matches!(all_are_explained(rt.alloc(), &EXPLAINED), Ok(true)));
+}
+
+/// What happened, a history, and the number, the name and the place of the flaw.
+type Flawed = (&'static [Event], &'static [Act], u8, &'static str, usize);
+
+/// Traces with histories that don't explain them.
+static FLAWS: [Flawed; 12] = [
+    (&[Event::Read(1, 0)], &[], 1, "Numbering", 0),
+    (&[Event::Write(0, 0)], &[Act::Read(0)], 2, "Stranger", 0),
+    (
+        &[Event::Read(0, 0)],
+        &[Act::Read(0), Act::Read(0)],
+        3,
+        "Twice",
+        1,
+    ),
+    (
+        &[Event::Write(0, 0), Event::Read(1, 0)],
+        &[Act::Read(1)],
+        4,
+        "Order",
+        0,
+    ),
+    (&[Event::Data(0, 0, 1)], &[], 5, "Unasked", 0),
+    (
+        &[
+            Event::Read(0, 0),
+            Event::Data(0, 0, 1),
+            Event::Data(0, 0, 1),
+        ],
+        &[Act::Read(0)],
+        6,
+        "Again",
+        2,
+    ),
+    (
+        &[Event::Read(0, 0), Event::Data(0, 0, 1)],
+        &[],
+        7,
+        "Absent",
+        1,
+    ),
+    (
+        &[Event::Read(0, 1), Event::Data(0, 0, 1)],
+        &[Act::Read(0)],
+        8,
+        "Early",
+        1,
+    ),
+    (
+        &[Event::Read(0, 0), Event::Write(1, 0), Event::Data(0, 7, 1)],
+        &[Act::Write(1), Act::Read(0)],
+        9,
+        "Late",
+        2,
+    ),
+    (
+        &[Event::Read(0, 0), Event::Write(1, 0), Event::Data(0, 0, 2)],
+        &[Act::Write(1), Act::Read(0)],
+        10,
+        "Reply",
+        2,
+    ),
+    (
+        &[
+            Event::Read(0, 0),
+            Event::Data(0, 0, 2),
+            Event::Read(1, 0),
+            Event::Data(1, 0, 2),
+        ],
+        &[Act::Read(1), Act::Read(0)],
+        11,
+        "Stale",
+        3,
+    ),
+    (
+        &[Event::Aborted(0, 0), Event::Read(1, 0)],
+        &[Act::Read(1)],
+        1,
+        "Numbering",
+        1,
+    ),
+];
 
 /// Whether the flaw has this number and this name, at this place.
-fn is_flaw(flaw: Flaw, number: u8, name: &str, place: usize) -> bool {
-    flaw.kind.number() == number && flaw.kind.name() == name && flaw.place == place
-}
-
-/// Whether there is such a flaw.
-fn has_flaw(
-    alloc: Global,
-    (events, acts, number, name, place): (&[Event], &[Act], u8, &str, usize),
-) -> Result<bool, AllocError> {
-    match flaw_of(alloc, events, acts)? {
-        Some(flaw) => Ok(is_flaw(flaw, number, name, place)),
-        None => Ok(false),
+fn is_flaw(flaw: Option<Flaw>, number: u8, name: &str, place: usize) -> bool {
+    match flaw {
+        Some(flaw) => {
+            flaw.kind.number() == number && flaw.kind.name() == name && flaw.place == place
+        }
+        None => false,
     }
 }
 
-#[test]
-fn explained(rt: HostRuntime) -> Result<(), Fail> {
-    let passing: [Event; 3] = [Event::Read(0, 0), Event::Write(1, 0), Event::Data(0, 7, 2)];
-    let rows: [(&[Event], &[Act]); 3] = [
-        (&[], &[]),
-        (&passing, &[Act::Write(1), Act::Read(0)]),
-        (
-            &[Event::WideRead(0, 0), Event::Aborted(0, 1)],
-            &[Act::WideRead(0)],
-        ),
-    ];
-    for (events, acts) in rows {
-        assert!(rt; is_explained(rt.alloc(), events, acts)?);
-    }
-    Ok(())
+/// Whether the flaw is found.
+fn is_found(alloc: Global, row: &Flawed) -> Result<bool, AllocError> {
+    let (events, acts, number, name, place) = *row;
+    let flaw = flaw_of(alloc, events, acts)?;
+    Ok(is_flaw(flaw, number, name, place))
 }
 
-#[test]
-fn flaws(rt: HostRuntime) -> Result<(), Fail> {
-    let asked: [Event; 2] = [Event::Read(0, 0), Event::Data(0, 0, 1)];
-    let two: [Event; 4] = [
-        Event::Read(0, 0),
-        Event::Data(0, 0, 2),
-        Event::Read(1, 0),
-        Event::Data(1, 0, 2),
-    ];
-    let rows: [(&[Event], &[Act], u8, &str, usize); 12] = [
-        (&[Event::Read(1, 0)], &[], 1, "Numbering", 0),
-        (&[Event::Write(0, 0)], &[Act::Read(0)], 2, "Stranger", 0),
-        (
-            &[Event::Read(0, 0)],
-            &[Act::Read(0), Act::Read(0)],
-            3,
-            "Twice",
-            1,
-        ),
-        (
-            &[Event::Write(0, 0), Event::Read(1, 0)],
-            &[Act::Read(1)],
-            4,
-            "Order",
-            0,
-        ),
-        (&[Event::Data(0, 0, 1)], &[], 5, "Unasked", 0),
-        (
-            &[
-                Event::Read(0, 0),
-                Event::Data(0, 0, 1),
-                Event::Data(0, 0, 1),
-            ],
-            &[Act::Read(0)],
-            6,
-            "Again",
-            2,
-        ),
-        (&asked, &[], 7, "Absent", 1),
-        (
-            &[Event::Read(0, 1), Event::Data(0, 0, 1)],
-            &[Act::Read(0)],
-            8,
-            "Early",
-            1,
-        ),
-        (
-            &[Event::Read(0, 0), Event::Write(1, 0), Event::Data(0, 7, 1)],
-            &[Act::Write(1), Act::Read(0)],
-            9,
-            "Late",
-            2,
-        ),
-        (
-            &[Event::Read(0, 0), Event::Write(1, 0), Event::Data(0, 0, 2)],
-            &[Act::Write(1), Act::Read(0)],
-            10,
-            "Reply",
-            2,
-        ),
-        (&two, &[Act::Read(1), Act::Read(0)], 11, "Stale", 3),
-        (
-            &[Event::Aborted(0, 0), Event::Read(1, 0)],
-            &[Act::Read(1)],
-            1,
-            "Numbering",
-            1,
-        ),
-    ];
+/// Whether each flaw is found.
+fn all_are_found(alloc: Global, rows: &[Flawed]) -> Result<bool, AllocError> {
+    let mut right = true;
     for row in rows {
-        assert!(rt; has_flaw(rt.alloc(), row)?);
+        right &= is_found(alloc, row)?;
     }
-    Ok(())
+    Ok(right)
 }
 
 #[test]
-fn told(rt: HostRuntime) -> Result<(), Fail> {
+fn flaws(rt: HostRuntime) {
+    assert!(rt; matches!(all_are_found(rt.alloc(), &FLAWS), Ok(true)));
+}
+
+/// Whether the flaw is told so.
+fn is_told(alloc: Global, flaw: Flaw) -> bool {
+    match format!(in alloc; "{flaw}") {
+        Ok(text) => text.as_str() == "Reply at 2",
+        Err(_) => false,
+    }
+}
+
+#[test]
+fn told(rt: HostRuntime) {
     let flaw = Flaw {
         kind: FlawKind::Reply,
         place: 2,
     };
-    assert_eq!(rt; format!(in rt.alloc(); "{flaw}")?.as_str(), "Reply at 2");
-    Ok(())
+    assert!(rt; is_told(rt.alloc(), flaw));
 }
