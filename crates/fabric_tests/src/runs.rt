@@ -1,116 +1,87 @@
 //! Whole scripts in one call.
-use fabric_core::{Config, Event, Fabric, LaneName};
-use lane_core::{DllpKind, Fate, LaneCredits};
+use crate::drive::{SMALL, Step, Trial, all_right, events_of, run};
+use crate::scripts::{LOST_ACK, NAK_AND_REPLAY, READ_BEHIND_WRITE, WRITE_PASSES_READ};
+use fabric_core::{Config, Event, Fabric, Refusal};
+use history_check::{Trace, check};
 use std::alloc::Global;
 use std::test::Fail;
-use tlp_core::{Op, Width};
 
-const UP: LaneName = LaneName::Up(1);
-
-const DOWN: LaneName = LaneName::Down(1);
-
-/// One requester and 4096 bytes.
-const SMALL: Config = Config {
-    requesters: 1,
-    base: 0,
-    size: 4096,
-    credits: LaneCredits::DEFAULT,
-    block: 64,
-};
-
-fn add(operand: u128) -> Event {
-    let op = Op::FetchAdd {
-        address: 0x40,
-        width: Width::Four,
-        operand,
-    };
-    Event::Submit(1, op)
+/// A script, and what its run leaves of a new fabric.
+#[derive(Clone, Copy)]
+struct Row {
+    script: &'static [Step],
+    /// The place and the reason of the refusal that ends it.
+    refused: Option<(usize, Refusal)>,
+    /// How many records the trace has.
+    records: usize,
+    /// The length of the history.
+    entries: usize,
+    /// The bytes from 40h on.
+    bytes: [u8; 4],
 }
 
-/// The number of records, the length of the history, and the byte at 40h, after a whole run.
-fn run_all(fabric: &mut Fabric, events: &[Event], alloc: Global) -> Result<[usize; 3], Fail> {
-    match fabric.run(events, alloc) {
-        Ok(trace) => {
-            let byte = fabric.bytes().get(0x40).copied();
-            Ok([
-                trace.records.len(),
-                fabric.history().len(),
-                usize::from(byte.unwrap_or(255)),
-            ])
+const ROWS: [Row; 4] = [
+    Row {
+        script: &LOST_ACK,
+        refused: None,
+        records: 2,
+        entries: 1,
+        bytes: [7, 0, 0, 0],
+    },
+    Row {
+        script: &NAK_AND_REPLAY,
+        refused: None,
+        records: 3,
+        entries: 0,
+        bytes: [0; 4],
+    },
+    Row {
+        script: &WRITE_PASSES_READ,
+        refused: None,
+        records: 3,
+        entries: 2,
+        bytes: [1, 2, 3, 4],
+    },
+    Row {
+        script: &READ_BEHIND_WRITE,
+        refused: Some((6, Refusal::NotTakeable)),
+        records: 2,
+        entries: 0,
+        bytes: [0; 4],
+    },
+];
+
+/// Whether the trace is as long as it should be, and the history explains it.
+fn tells_so(fabric: &Fabric, trace: &Trace, row: &Row, alloc: Global) -> bool {
+    trace.records.len() == row.records && check(alloc, trace, fabric.history()).is_ok()
+}
+
+/// Whether the fabric is as it should be.
+fn is_left_so(fabric: &Fabric, row: &Row) -> bool {
+    fabric.history().len() == row.entries && fabric.bytes().get(0x40..0x44) == Some(&row.bytes)
+}
+
+/// Whether the run ends as it should.
+fn runs_so(fabric: &mut Fabric, events: &[Event], row: &Row, alloc: Global) -> bool {
+    let (trace, refused) = run(fabric, events, alloc);
+    refused == row.refused && tells_so(fabric, &trace, row, alloc) && is_left_so(fabric, row)
+}
+
+impl Trial for Row {
+    fn config(&self) -> Config {
+        SMALL
+    }
+
+    fn is_right(&self, fabric: &mut Fabric, alloc: Global) -> bool {
+        match events_of(self.script, alloc) {
+            Some(events) => runs_so(fabric, &events, self, alloc),
+            None => false,
         }
-        Err(fault) => Err(Fail::new(fault.refusal)),
     }
 }
 
-/// An Ack is lost, the packet is sent again, and the sum is answered.
-fn lost_ack(fabric: &mut Fabric, alloc: Global) -> Result<[usize; 3], Fail> {
-    let events = [
-        add(7),
-        Event::Transmit(UP),
-        Event::Deliver(UP, Fate::Good),
-        Event::SendDllp(UP, DllpKind::Answer),
-        Event::DeliverDllp(UP, Fate::Lost),
-        Event::Timer(UP),
-        Event::Transmit(UP),
-        Event::Deliver(UP, Fate::Good),
-        Event::Forward(UP, 0),
-        Event::Transmit(LaneName::Inward),
-        Event::Deliver(LaneName::Inward, Fate::Good),
-        Event::Serve(0),
-        Event::Transmit(LaneName::Outward),
-        Event::Deliver(LaneName::Outward, Fate::Good),
-        Event::Forward(LaneName::Outward, 0),
-        Event::Transmit(DOWN),
-        Event::Deliver(DOWN, Fate::Good),
-        Event::Collect(1),
-    ];
-    run_all(fabric, &events, alloc)
-}
-
-/// The second of three packets fails; it and the third are sent again, and all three go on.
-fn nak_and_replay(fabric: &mut Fabric, alloc: Global) -> Result<[usize; 3], Fail> {
-    let events = [
-        add(1),
-        add(1),
-        add(1),
-        Event::Transmit(UP),
-        Event::Transmit(UP),
-        Event::Transmit(UP),
-        Event::Deliver(UP, Fate::Good),
-        Event::Deliver(UP, Fate::Failed),
-        Event::Deliver(UP, Fate::Good),
-        Event::SendDllp(UP, DllpKind::Answer),
-        Event::DeliverDllp(UP, Fate::Good),
-        Event::Transmit(UP),
-        Event::Deliver(UP, Fate::Good),
-        Event::Transmit(UP),
-        Event::Deliver(UP, Fate::Good),
-        Event::SendDllp(UP, DllpKind::Answer),
-        Event::Forward(UP, 0),
-        Event::Forward(UP, 0),
-        Event::Forward(UP, 0),
-    ];
-    run_all(fabric, &events, alloc)
-}
-
-fn lost_ack_on_new(alloc: Global) -> Result<[usize; 3], Fail> {
-    let mut fabric = Fabric::new(SMALL, alloc)?;
-    lost_ack(&mut fabric, alloc)
-}
-
-fn nak_and_replay_on_new(alloc: Global) -> Result<[usize; 3], Fail> {
-    let mut fabric = Fabric::new(SMALL, alloc)?;
-    nak_and_replay(&mut fabric, alloc)
-}
-
 #[test]
-fn a_lost_ack_and_its_replay_in_one_run(rt: HostRuntime) -> Result<(), Fail> {
-    assert_eq!(rt; lost_ack_on_new(rt.alloc())?, [2, 1, 7]);
-    Ok(())
-}
-
-#[test]
-fn a_nak_and_its_replay_in_one_run(rt: HostRuntime) -> Result<(), Fail> {
-    assert_eq!(rt; nak_and_replay_on_new(rt.alloc())?, [3, 0, 0]);
+fn scripts_in_one_run(rt: HostRuntime) -> Result<(), Fail> {
+    assert!(rt; all_right(&ROWS, rt.alloc()));
     Ok(())
 }

@@ -2,7 +2,11 @@
 //! threads.
 #![tactic(auto)]
 
+#[cfg(test)]
+mod acts;
 pub mod drive;
+#[cfg(test)]
+mod ends;
 #[cfg(test)]
 mod rows;
 #[cfg(test)]

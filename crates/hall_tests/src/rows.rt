@@ -1,11 +1,12 @@
 //! Worked rows.
 ghost use Rattle.std.specs.Prelude.{◌≡◌, IfSome};
-ghost use Rattle.hall_core.specs.Views.{IsSeatOf};
+ghost use Rattle.hall_core.specs.Views.{IsSeatOf, AreSeatsOf};
 
 use crate::drive::{
     add_one, back, collect, is_answer, last_worker, one_and_a_worker, opened, out_and_served, play,
     pump, read, small, submit, two_and_a_worker, write,
 };
+use crate::ends::leaves;
 use fabric_core::{Config, LaneName, Refusal};
 use hall_core::laws::put_back;
 use hall_core::{Hall, HallRefusal, Part, ReqSeat, WorkEvent, WorkSeat};
@@ -13,15 +14,10 @@ use hall_laws::part::{PartValue, lane_slot};
 use hall_laws::takes::take_sender;
 use std::alloc::Global;
 use std::test::Fail;
+use tlp_core::Op;
 
 /// Whether the operation is submitted under this number at this length of the history.
-pub(super) fn is_submitted(
-    hall: &Hall,
-    seat: &mut ReqSeat,
-    op: tlp_core::Op,
-    number: u32,
-    n: u64,
-) -> bool
+pub(super) fn is_submitted(hall: &Hall, seat: &mut ReqSeat, op: Op, number: u32, n: u64) -> bool
     requires { IsSeatOf hall.now seat.old }
     ensures { IsSeatOf hall.now seat.new }
 {
@@ -31,86 +27,124 @@ pub(super) fn is_submitted(
     }
 }
 
-/// A write is pumped through Serve, then a read of it. The number of steps that went as they should.
-fn write_then_read(hall: &Hall, seat: &mut ReqSeat, worker: &mut WorkSeat) -> u32
+/// An operation.
+#[derive(Clone, Copy)]
+enum Asked {
+    Add,
+    Read,
+    Write,
+}
+
+fn operation_of(asked: Asked) -> Op {
+    match asked {
+        Asked::Add => add_one(),
+        Asked::Read => read(),
+        Asked::Write => write(),
+    }
+}
+
+/// A step of a requester and a work seat.
+#[derive(Clone, Copy)]
+enum Step {
+    /// The operation is submitted under this number at this length of the history.
+    Submitted(Asked, u32, u64),
+    /// All events from the lane of this port through Serve happen.
+    Served(u8),
+    /// All events from Serve to this port happen.
+    Returned(u8),
+    /// Nothing is collected.
+    Unanswered,
+    /// The answer with this number and these bytes is collected at this length of the history.
+    Answered(u32, [u8; 4], u64),
+}
+
+/// Whether nothing is collected.
+fn is_unanswered(hall: &Hall, seat: &mut ReqSeat) -> bool
+    requires { IsSeatOf hall.now seat.old }
+    ensures { IsSeatOf hall.now seat.new }
+{
+    matches!(collect(hall, seat), Ok(None))
+}
+
+/// Whether this is collected.
+fn is_answered(hall: &Hall, seat: &mut ReqSeat, number: u32, bytes: &[u8], n: u64) -> bool
+    requires { IsSeatOf hall.now seat.old }
+    ensures { IsSeatOf hall.now seat.new }
+{
+    is_answer(&collect(hall, seat), number, bytes, n)
+}
+
+/// Whether the step goes as it should.
+fn goes_so(hall: &Hall, seat: &mut ReqSeat, worker: &mut WorkSeat, step: Step) -> bool
     requires { IsSeatOf hall.now seat.old × IsSeatOf hall.now worker.old }
     ensures { IsSeatOf hall.now seat.new × IsSeatOf hall.now worker.new }
 {
-    if !is_submitted(hall, seat, write(), 0, 0) {
-        return 0;
+    match step {
+        Step::Submitted(asked, number, n) => {
+            is_submitted(hall, seat, operation_of(asked), number, n)
+        }
+        Step::Served(port) => play(hall, worker, &out_and_served(port)) == 6,
+        Step::Returned(port) => play(hall, worker, &back(port)) == 5,
+        Step::Unanswered => is_unanswered(hall, seat),
+        Step::Answered(number, bytes, n) => is_answered(hall, seat, number, &bytes, n),
     }
-    if play(hall, worker, &out_and_served(1)) != 6 {
-        return 1;
-    }
-    if !is_submitted(hall, seat, read(), 1, 1) {
-        return 2;
-    }
-    if !matches!(collect(hall, seat), Ok(None)) {
-        return 3;
-    }
-    if play(hall, worker, &out_and_served(1)) != 6 {
-        return 4;
-    }
-    if play(hall, worker, &back(1)) != 5 {
-        return 5;
-    }
-    if !is_answer(&collect(hall, seat), 1, &[1, 2, 3, 4], 2) {
-        return 6;
-    }
-    7
 }
 
-/// The number of steps that went as they should, 8 if the closed hall has both requests
-/// in its history.
-fn one_requester(block: u16, alloc: Global) -> Result<u32, Fail> {
-    let (hall, mut seat, mut worker) = one_and_a_worker(Config { block, ..small(1) }, alloc)?;
-    let done = write_then_read(&hall, &mut seat, &mut worker);
-    if done < 7 {
-        return Ok(done);
+/// Whether each step goes as it should.
+fn all_go_so(hall: &Hall, seat: &mut ReqSeat, worker: &mut WorkSeat, steps: &[Step]) -> bool
+    requires { IsSeatOf hall.now seat.old × IsSeatOf hall.now worker.old }
+    ensures { IsSeatOf hall.now seat.new × IsSeatOf hall.now worker.new }
+{
+    for step in steps {
+        if !goes_so(hall, seat, worker, *step) {
+            return false;
+        }
     }
-    match hall.close(seat) {
-        Ok(fabric) if fabric.history().len() == 2 && fabric.quiet() => Ok(8),
-        _ => Ok(7),
+    true
+}
+
+/// A write is pumped through Serve, then a read of it.
+const WRITE_THEN_READ: [Step; 7] = [
+    Step::Submitted(Asked::Write, 0, 0),
+    Step::Served(1),
+    Step::Submitted(Asked::Read, 1, 1),
+    Step::Unanswered,
+    Step::Served(1),
+    Step::Returned(1),
+    Step::Answered(1, [1, 2, 3, 4], 2),
+];
+
+/// Whether a hall with blocks of this size goes through the steps, and has both requests in its history.
+fn one_requester(block: u16, alloc: Global) -> bool {
+    match one_and_a_worker(Config { block, ..small(1) }, alloc) {
+        Ok((hall, mut seat, mut worker)) => {
+            all_go_so(&hall, &mut seat, &mut worker, &WRITE_THEN_READ) && leaves(hall, seat, 2, 0)
+        }
+        Err(_) => false,
     }
 }
 
 #[test]
 fn a_write_is_read(rt: HostRuntime) -> Result<(), Fail> {
-    let steps = one_requester(64, rt.alloc())?;
-    assert!(rt; steps == 8);
+    for block in [64, 128] {
+        assert!(rt; one_requester(block, rt.alloc()), "blocks of {block}");
+    }
     Ok(())
 }
 
-#[test]
-fn a_write_is_read_in_blocks_of_128(rt: HostRuntime) -> Result<(), Fail> {
-    let steps = one_requester(128, rt.alloc())?;
-    assert!(rt; steps == 8);
-    Ok(())
-}
-
-/// An addition of each requester, of which the first is served. The number of steps that went as they should.
-fn both_add(hall: &Hall, one: &mut ReqSeat, two: &mut ReqSeat, worker: &mut WorkSeat) -> u32
+/// The steps of two requesters, in turn.
+fn both_go_so(
+    hall: &Hall,
+    one: &mut ReqSeat,
+    two: &mut ReqSeat,
+    worker: &mut WorkSeat,
+    first: &[Step],
+    second: &[Step],
+) -> bool
     requires { IsSeatOf hall.now one.old × IsSeatOf hall.now two.old × IsSeatOf hall.now worker.old }
     ensures { IsSeatOf hall.now one.new × IsSeatOf hall.now two.new × IsSeatOf hall.now worker.new }
 {
-    if !is_submitted(hall, one, add_one(), 0, 0) || play(hall, worker, &out_and_served(1)) != 6 {
-        return 0;
-    }
-    if is_submitted(hall, two, add_one(), 0, 1) {
-        2
-    } else {
-        1
-    }
-}
-
-/// Whether both answers come back.
-fn both_hear(hall: &Hall, one: &mut ReqSeat, two: &mut ReqSeat, worker: &mut WorkSeat) -> bool
-    requires { IsSeatOf hall.now one.old × IsSeatOf hall.now two.old × IsSeatOf hall.now worker.old }
-{
-    play(hall, worker, &back(1)) == 5
-        && play(hall, worker, &back(2)) == 5
-        && is_answer(&collect(hall, one), 0, &[0, 0, 0, 0], 2)
-        && is_answer(&collect(hall, two), 0, &[1, 0, 0, 0], 2)
+    all_go_so(hall, one, worker, first) && all_go_so(hall, two, worker, second)
 }
 
 /// The seats, if they meet at this length of the history.
@@ -124,129 +158,177 @@ fn met(hall: &Hall, one: ReqSeat, two: ReqSeat, n: u64) -> Option<(ReqSeat, ReqS
     }
 }
 
-/// Two requesters add, meet and are answered. The number of steps that went as they should.
-fn add_and_meet(hall: &Hall, one: ReqSeat, two: ReqSeat, worker: &mut WorkSeat) -> u32
+/// The seats, if they meet at the length 1 of the history, after an addition of each, of which the first is served.
+fn add(hall: &Hall, one: ReqSeat, two: ReqSeat, worker: &mut WorkSeat) -> Option<(ReqSeat, ReqSeat)>
     requires { IsSeatOf hall.now one × IsSeatOf hall.now two × IsSeatOf hall.now worker.old }
+    ensures seats { IfSome result (λ s. IsSeatOf hall.now s.0 × IsSeatOf hall.now s.1) }
+    ensures worker { IsSeatOf hall.now worker.new }
 {
     let mut one = one;
     let mut two = two;
-    let done = both_add(hall, &mut one, &mut two, worker);
-    if done < 2 {
-        return done;
-    }
-    let Some((one, two)) = met(hall, one, two, 1) else {
-        return 2;
-    };
-    if play(hall, worker, &out_and_served(2)) != 6 {
-        return 3;
-    }
-    let Some((mut one, mut two)) = met(hall, one, two, 2) else {
-        return 4;
-    };
-    if both_hear(hall, &mut one, &mut two, worker) {
-        6
+    let first = [Step::Submitted(Asked::Add, 0, 0), Step::Served(1)];
+    let second = [Step::Submitted(Asked::Add, 0, 1)];
+    if both_go_so(hall, &mut one, &mut two, worker, &first, &second) {
+        met(hall, one, two, 1)
     } else {
-        5
+        None
     }
 }
 
-fn meeting(alloc: Global) -> Result<u32, Fail> {
-    let (hall, one, two, mut worker) = two_and_a_worker(small(2), alloc)?;
-    Ok(add_and_meet(&hall, one, two, &mut worker))
+/// Whether the second addition is served, the seats meet at the length 2, and both are answered.
+fn meet(hall: &Hall, one: ReqSeat, two: ReqSeat, worker: &mut WorkSeat) -> bool
+    requires { IsSeatOf hall.now one × IsSeatOf hall.now two × IsSeatOf hall.now worker.old }
+{
+    if play(hall, worker, &out_and_served(2)) != 6 {
+        return false;
+    }
+    match met(hall, one, two, 2) {
+        Some((mut one, mut two)) => both_hear(hall, &mut one, &mut two, worker),
+        None => false,
+    }
+}
+
+/// Whether both answers come back.
+fn both_hear(hall: &Hall, one: &mut ReqSeat, two: &mut ReqSeat, worker: &mut WorkSeat) -> bool
+    requires { IsSeatOf hall.now one.old × IsSeatOf hall.now two.old × IsSeatOf hall.now worker.old }
+{
+    let first = [
+        Step::Returned(1),
+        Step::Returned(2),
+        Step::Answered(0, [0, 0, 0, 0], 2),
+    ];
+    let second = [Step::Answered(0, [1, 0, 0, 0], 2)];
+    both_go_so(hall, one, two, worker, &first, &second)
+}
+
+/// Whether two requesters add, meet and are answered.
+fn add_and_meet(hall: &Hall, one: ReqSeat, two: ReqSeat, worker: &mut WorkSeat) -> bool
+    requires { IsSeatOf hall.now one × IsSeatOf hall.now two × IsSeatOf hall.now worker.old }
+{
+    match add(hall, one, two, worker) {
+        Some((one, two)) => meet(hall, one, two, worker),
+        None => false,
+    }
+}
+
+fn meeting(alloc: Global) -> bool {
+    match two_and_a_worker(small(2), alloc) {
+        Ok((hall, one, two, mut worker)) => add_and_meet(&hall, one, two, &mut worker),
+        Err(_) => false,
+    }
 }
 
 #[test]
 fn seats_meet(rt: HostRuntime) -> Result<(), Fail> {
-    let steps = meeting(rt.alloc())?;
-    assert!(rt; steps == 6);
+    assert!(rt; meeting(rt.alloc()));
     Ok(())
 }
 
-/// How many of these events are refused so, up to the first that isn't.
-fn refused_so(hall: &Hall, seat: &mut WorkSeat, cases: &[(WorkEvent, Refusal)]) -> usize
+/// An event that can't happen, and its refusal.
+type Case = (WorkEvent, Refusal);
+
+const CASES: [Case; 6] = [
+    (WorkEvent::Transmit(LaneName::Up(1)), Refusal::Idle),
+    (WorkEvent::Transmit(LaneName::Up(2)), Refusal::NoSuchPart),
+    (WorkEvent::Timer(LaneName::Down(0)), Refusal::NoSuchPart),
+    (WorkEvent::Forward(LaneName::Inward, 0), Refusal::NoSuchPart),
+    (WorkEvent::Forward(LaneName::Up(1), 0), Refusal::NotTakeable),
+    (WorkEvent::Serve(0), Refusal::NotTakeable),
+];
+
+/// Whether the core refuses the event so.
+fn is_refused(hall: &Hall, seat: &mut WorkSeat, event: WorkEvent, refusal: Refusal) -> bool
     requires { IsSeatOf hall.now seat.old }
     ensures { IsSeatOf hall.now seat.new }
 {
-    for (place, (event, refusal)) in cases.iter().enumerate() {
-        if pump(hall, seat, *event) != Err(HallRefusal::Core(*refusal)) {
-            return place;
-        }
-    }
-    cases.len()
+    pump(hall, seat, event) == Err(HallRefusal::Core(refusal))
 }
 
-/// How many events that can't happen a hall refuses as it should.
-fn refusals(alloc: Global) -> Result<usize, Fail> {
-    let (hall, _, mut workers) = opened(small(1), 1, alloc)?;
-    let Some(mut worker) = last_worker(&hall, &mut workers) else {
-        return Ok(100);
-    };
-    let cases = [
-        (WorkEvent::Transmit(LaneName::Up(1)), Refusal::Idle),
-        (WorkEvent::Transmit(LaneName::Up(2)), Refusal::NoSuchPart),
-        (WorkEvent::Timer(LaneName::Down(0)), Refusal::NoSuchPart),
-        (WorkEvent::Forward(LaneName::Inward, 0), Refusal::NoSuchPart),
-        (WorkEvent::Forward(LaneName::Up(1), 0), Refusal::NotTakeable),
-        (WorkEvent::Serve(0), Refusal::NotTakeable),
-    ];
-    Ok(refused_so(&hall, &mut worker, &cases))
+/// Whether all these events are refused so.
+fn refused_so(hall: &Hall, seat: &mut WorkSeat, cases: &[Case]) -> bool
+    requires { IsSeatOf hall.now seat.old }
+{
+    for (event, refusal) in cases {
+        if !is_refused(hall, seat, *event, *refusal) {
+            return false;
+        }
+    }
+    true
+}
+
+/// Whether a hall refuses the events that can't happen as it should.
+fn refusals(alloc: Global) -> bool {
+    match one_and_a_worker(small(1), alloc) {
+        Ok((hall, _, mut worker)) => refused_so(&hall, &mut worker, &CASES),
+        Err(_) => false,
+    }
 }
 
 #[test]
 fn what_cannot_happen_is_refused_by_the_core(rt: HostRuntime) -> Result<(), Fail> {
-    let right = refusals(rt.alloc())?;
-    assert!(rt; right == 6);
+    assert!(rt; refusals(rt.alloc()));
     Ok(())
 }
 
-/// The first seat takes the sender's end of `up1`, and later puts it back. How many calls of the second were answered
+/// Whether the event finds the part that the first seat has.
+fn is_busy(hall: &Hall, seat: &mut WorkSeat, event: WorkEvent, part: Part) -> bool
+    requires { IsSeatOf hall.now seat.old }
+    ensures { IsSeatOf hall.now seat.new }
+{
+    pump(hall, seat, event) == Err(HallRefusal::Busy { part, word: 2 })
+}
+
+/// Whether the sender's end of `up1` is told to be busy while the first seat has it, and another lane's isn't.
+fn is_held(hall: &Hall, second: &mut WorkSeat) -> bool
+    requires { IsSeatOf hall.now second.old }
+    ensures { IsSeatOf hall.now second.new }
+{
+    let up = LaneName::Up(1);
+    let inward = WorkEvent::Transmit(LaneName::Inward);
+    is_busy(hall, second, WorkEvent::Transmit(up), Part::SenderEnd(up))
+        && is_refused(hall, second, inward, Refusal::Idle)
+}
+
+/// The first seat takes the sender's end of `up1`, and later puts it back. Whether the calls of the second are answered
 /// as they should be.
-fn busy(hall: &Hall, first: WorkSeat, second: &mut WorkSeat) -> u32
+fn busy(hall: &Hall, first: WorkSeat, second: &mut WorkSeat) -> bool
     requires hall { IsSeatOf hall.now first × IsSeatOf hall.now second.old × (hall.now.config.requesters ≡ 1) }
 {
     let up = LaneName::Up(1);
     let number = first.number();
     let mut place = first.into_place();
     let Ok(sender) = take_sender(hall.steps(), &mut place, number, 1, up) else {
-        return 0;
+        return false;
     };
-    let held = HallRefusal::Busy {
-        part: Part::SenderEnd(up),
-        word: 2,
-    };
-    if pump(hall, second, WorkEvent::Transmit(up)) != Err(held) {
-        return 1;
-    }
-    let idle = HallRefusal::Core(Refusal::Idle);
-    if pump(hall, second, WorkEvent::Transmit(LaneName::Inward)) != Err(idle) {
-        return 2;
-    }
+    let held = is_held(hall, second);
     put_back(
         hall.steps(),
         &mut place,
         lane_slot(up),
         PartValue::Sender(sender),
     );
-    if pump(hall, second, WorkEvent::Transmit(up)) != Err(idle) {
-        return 3;
-    }
-    4
+    held && is_refused(hall, second, WorkEvent::Transmit(up), Refusal::Idle)
 }
 
-fn held_by_another(alloc: Global) -> Result<u32, Fail> {
-    let (hall, _, mut workers) = opened(small(1), 2, alloc)?;
-    let Some(mut second) = last_worker(&hall, &mut workers) else {
-        return Ok(100);
-    };
-    let Some(first) = last_worker(&hall, &mut workers) else {
-        return Ok(101);
-    };
-    Ok(busy(&hall, first, &mut second))
+/// Whether that is so of the last two of these work seats.
+fn last_two(hall: &Hall, workers: &mut Vec<WorkSeat>) -> bool
+    requires { AreSeatsOf hall.now workers.old.items × (hall.now.config.requesters ≡ 1) }
+{
+    match (last_worker(hall, workers), last_worker(hall, workers)) {
+        (Some(mut second), Some(first)) => busy(hall, first, &mut second),
+        _ => false,
+    }
+}
+
+fn held_by_another(alloc: Global) -> bool {
+    match opened(small(1), 2, alloc) {
+        Ok((hall, _, mut workers)) => last_two(&hall, &mut workers),
+        Err(_) => false,
+    }
 }
 
 #[test]
 fn a_part_is_busy(rt: HostRuntime) -> Result<(), Fail> {
-    let right = held_by_another(rt.alloc())?;
-    assert!(rt; right == 4);
+    assert!(rt; held_by_another(rt.alloc()));
     Ok(())
 }

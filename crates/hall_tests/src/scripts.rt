@@ -1,24 +1,19 @@
 //! Worked scripts, each event given to a hall and to a fabric.
 ghost use Rattle.hall_core.specs.Views.{IsSeatOf};
 
-use crate::drive::{collect, one_and_a_worker, pump, read, small, submit, two_and_a_worker, write};
+use crate::acts::{
+    Act, Asked, CREDITS_COME_BACK, CREDITS_RUN_OUT, LOST_ACK, NAK_AND_REPLAY, READ_BEHIND_WRITE,
+    WRITE_PASSES_READ, event_of, events_of, operation_of,
+};
+use crate::drive::{collect, one_and_a_worker, pump, read, small, submit, two_and_a_worker};
+use crate::ends::closed;
 use crate::rows::is_submitted;
-use dllp_core::Class;
-use fabric_core::{Config, ConfigFault, Event, Fabric, LaneName, Refusal, Seen};
-use hall_core::{Hall, HallRefusal, ReqSeat, WorkEvent, WorkSeat};
+use fabric_core::{Config, Event, Fabric, Seen};
+use hall_core::{Answered, Hall, HallRefusal, ReqSeat, Submitted, WorkEvent, WorkSeat};
 use history_check::Record;
-use lane_core::{DllpKind, Fate, LaneCredits};
+use lane_core::LaneCredits;
 use std::alloc::Global;
 use std::test::Fail;
-use tlp_core::{Op, Width, copy_of};
-
-const UP: LaneName = LaneName::Up(1);
-
-const DOWN: LaneName = LaneName::Down(1);
-
-const IN: LaneName = LaneName::Inward;
-
-const OUT: LaneName = LaneName::Outward;
 
 /// The least credits.
 const LEAST: LaneCredits = LaneCredits {
@@ -30,181 +25,120 @@ const LEAST: LaneCredits = LaneCredits {
     cpld: 8,
 };
 
-fn add(operand: u128) -> Event {
-    let op = Op::FetchAdd {
-        address: 0x40,
-        width: Width::Four,
-        operand,
-    };
-    Event::Submit(1, op)
+/// A new fabric.
+fn made(config: Config, alloc: Global) -> Option<Fabric> {
+    Fabric::new(config, alloc).ok()
 }
 
-fn arrives(lane: LaneName) -> Event {
-    Event::Deliver(lane, Fate::Good)
-}
-
-/// An Ack is lost, the packet is sent again, and the sum is answered.
-fn lost_ack() -> [Event; 18] {
-    [
-        add(7),
-        Event::Transmit(UP),
-        arrives(UP),
-        Event::SendDllp(UP, DllpKind::Answer),
-        Event::DeliverDllp(UP, Fate::Lost),
-        Event::Timer(UP),
-        Event::Transmit(UP),
-        arrives(UP),
-        Event::Forward(UP, 0),
-        Event::Transmit(IN),
-        arrives(IN),
-        Event::Serve(0),
-        Event::Transmit(OUT),
-        arrives(OUT),
-        Event::Forward(OUT, 0),
-        Event::Transmit(DOWN),
-        arrives(DOWN),
-        Event::Collect(1),
-    ]
-}
-
-/// The second of three packets fails; it and the third are sent again.
-fn nak_and_replay() -> [Event; 16] {
-    [
-        add(1),
-        add(1),
-        add(1),
-        Event::Transmit(UP),
-        Event::Transmit(UP),
-        Event::Transmit(UP),
-        arrives(UP),
-        Event::Deliver(UP, Fate::Failed),
-        arrives(UP),
-        Event::SendDllp(UP, DllpKind::Answer),
-        Event::DeliverDllp(UP, Fate::Good),
-        Event::Transmit(UP),
-        arrives(UP),
-        Event::Transmit(UP),
-        arrives(UP),
-        Event::SendDllp(UP, DllpKind::Answer),
-    ]
-}
-
-/// A write acts before the read that was submitted before it.
-fn write_passes_read() -> [Event; 20] {
-    [
-        Event::Submit(1, read()),
-        Event::Submit(1, write()),
-        Event::Transmit(UP),
-        Event::Transmit(UP),
-        arrives(UP),
-        arrives(UP),
-        Event::Forward(UP, 1),
-        Event::Forward(UP, 0),
-        Event::Transmit(IN),
-        Event::Transmit(IN),
-        arrives(IN),
-        arrives(IN),
-        Event::Serve(0),
-        Event::Serve(0),
-        Event::Transmit(OUT),
-        arrives(OUT),
-        Event::Forward(OUT, 0),
-        Event::Transmit(DOWN),
-        arrives(DOWN),
-        Event::Collect(1),
-    ]
-}
-
-/// A read passes no earlier write.
-fn read_behind_write() -> [Event; 7] {
-    [
-        Event::Submit(1, write()),
-        Event::Submit(1, read()),
-        Event::Transmit(UP),
-        Event::Transmit(UP),
-        arrives(UP),
-        arrives(UP),
-        Event::Forward(UP, 1),
-    ]
-}
-
-/// The credits are used up.
-fn credits_run_out() -> [Event; 2] {
-    [add(1), add(1)]
-}
-
-/// The credits come back.
-fn credits_come_back() -> [Event; 7] {
-    [
-        add(1),
-        Event::Transmit(UP),
-        arrives(UP),
-        Event::Forward(UP, 0),
-        Event::SendDllp(UP, DllpKind::Update(Class::NonPosted)),
-        Event::DeliverDllp(UP, Fate::Good),
-        add(1),
-    ]
-}
-
-/// The event as one of a work seat; none for a requester's.
-fn worked(event: &Event) -> Option<WorkEvent> {
-    match event {
-        Event::Submit(_, _) | Event::Collect(_) => None,
-        Event::Transmit(lane) => Some(WorkEvent::Transmit(*lane)),
-        Event::Deliver(lane, fate) => Some(WorkEvent::Deliver(*lane, *fate)),
-        Event::SendDllp(lane, kind) => Some(WorkEvent::SendDllp(*lane, *kind)),
-        Event::DeliverDllp(lane, fate) => Some(WorkEvent::DeliverDllp(*lane, *fate)),
-        Event::Timer(lane) => Some(WorkEvent::Timer(*lane)),
-        Event::Retrained(lane) => Some(WorkEvent::Retrained(*lane)),
-        Event::Forward(lane, place) => Some(WorkEvent::Forward(*lane, *place)),
-        Event::Serve(place) => Some(WorkEvent::Serve(*place)),
+/// What the fabric tells of the event, a refusal being the hall's.
+fn seen_by(fabric: &mut Fabric, act: Act) -> Result<Seen, HallRefusal> {
+    match fabric.step(&event_of(act)) {
+        Ok(seen) => Ok(seen),
+        Err(refusal) => Err(HallRefusal::Core(refusal)),
     }
 }
 
-/// The record of an event of requester 1; none where the hall has none.
-fn asked(hall: &Hall, seat: &mut ReqSeat, event: &Event) -> Result<Option<Record>, HallRefusal>
-    requires { IsSeatOf hall.now seat.old }
-    ensures { IsSeatOf hall.now seat.new }
-{
-    match event {
-        Event::Submit(1, op) => match submit(hall, seat, copy_of(op)) {
-            Ok(given) => Ok(Some(Record::Sub {
-                requester: 1,
-                number: given.number,
-                op: copy_of(op),
-                n: given.n,
-            })),
-            Err(refusal) => Err(refusal),
-        },
-        Event::Collect(1) => match collect(hall, seat) {
-            Ok(Some(answer)) => Ok(Some(Record::Ans {
-                requester: 1,
-                number: answer.number,
-                reply: answer.reply,
-                n: answer.n,
-            })),
-            Ok(None) => Ok(None),
-            Err(refusal) => Err(refusal),
-        },
-        _ => Ok(None),
+/// The records of the trace of these events.
+fn run(fabric: &mut Fabric, events: &[Event], alloc: Global) -> Vec<Record> {
+    match fabric.run(events, alloc) {
+        Ok(trace) => trace.records,
+        Err(fault) => fault.trace.records,
     }
 }
 
-/// Whether the hall tells the event of requester 1 where the fabric tells it, or has its refusal. Keeps the record.
-fn asks_so(
+/// The records of the script's trace.
+fn run_script(fabric: &mut Fabric, script: &[Act], alloc: Global) -> Option<Vec<Record>> {
+    match events_of(script, alloc) {
+        Some(events) => Some(run(fabric, &events, alloc)),
+        None => None,
+    }
+}
+
+/// The records of the script's trace on a new fabric.
+fn records_of(config: Config, script: &[Act], alloc: Global) -> Option<Vec<Record>> {
+    match made(config, alloc) {
+        Some(mut fabric) => run_script(&mut fabric, script, alloc),
+        None => None,
+    }
+}
+
+/// The next of these records, so many of which were told.
+fn next<'a>(records: &'a [Record], told: &mut usize) -> Option<&'a Record> {
+    let record = records.get(*told);
+    *told = told.saturating_add(1);
+    record
+}
+
+/// Whether this is the record of the submission.
+fn is_submission(record: Option<&Record>, asked: Asked, given: Submitted) -> bool {
+    match record {
+        Some(
+            Record::Sub {
+                requester,
+                number,
+                op,
+                n,
+            },
+        ) => {
+            *requester == 1
+                && *number == given.number
+                && *n == given.n
+                && *op == operation_of(asked)
+        }
+        _ => false,
+    }
+}
+
+/// Whether this is the record of the answer.
+fn is_collection(record: Option<&Record>, answer: &Answered) -> bool {
+    match record {
+        Some(
+            Record::Ans {
+                requester,
+                number,
+                reply,
+                n,
+            },
+        ) => {
+            *requester == 1 && *number == answer.number && *n == answer.n && *reply == answer.reply
+        }
+        _ => false,
+    }
+}
+
+/// Whether the hall submits where the fabric does, with the next record, or has its refusal.
+fn submits_so(
     hall: &Hall,
     seat: &mut ReqSeat,
-    event: &Event,
-    want: Result<Seen, Refusal>,
-    records: &mut Vec<Record>,
+    asked: Asked,
+    seen: &Result<Seen, HallRefusal>,
+    records: &[Record],
+    told: &mut usize,
 ) -> bool
     requires { IsSeatOf hall.now seat.old }
     ensures { IsSeatOf hall.now seat.new }
 {
-    match asked(hall, seat, event) {
-        Ok(Some(record)) => want.is_ok() && records.push(record).is_ok(),
+    match submit(hall, seat, operation_of(asked)) {
+        Ok(given) => seen.is_ok() && is_submission(next(records, told), asked, given),
+        Err(refusal) => *seen == Err(refusal),
+    }
+}
+
+/// Whether the hall collects where the fabric does, with the next record, or has its refusal.
+fn collects_so(
+    hall: &Hall,
+    seat: &mut ReqSeat,
+    seen: &Result<Seen, HallRefusal>,
+    records: &[Record],
+    told: &mut usize,
+) -> bool
+    requires { IsSeatOf hall.now seat.old }
+    ensures { IsSeatOf hall.now seat.new }
+{
+    match collect(hall, seat) {
+        Ok(Some(answer)) => seen.is_ok() && is_collection(next(records, told), &answer),
         Ok(None) => false,
-        Err(refusal) => want.err().map(HallRefusal::Core) == Some(refusal),
+        Err(refusal) => *seen == Err(refusal),
     }
 }
 
@@ -213,135 +147,203 @@ fn works_so(
     hall: &Hall,
     worker: &mut WorkSeat,
     event: WorkEvent,
-    want: Result<Seen, Refusal>,
+    seen: &Result<Seen, HallRefusal>,
 ) -> bool
     requires { IsSeatOf hall.now worker.old }
     ensures { IsSeatOf hall.now worker.new }
 {
-    pump(hall, worker, event) == want.map_err(HallRefusal::Core)
+    pump(hall, worker, event) == *seen
 }
 
-/// Gives each event to the hall and to the fabric. Whether both tell the same; the hall's records are kept.
+/// Gives the event to the hall and to the fabric. Whether both tell the same.
+fn both_tell(
+    hall: &Hall,
+    seat: &mut ReqSeat,
+    worker: &mut WorkSeat,
+    fabric: &mut Fabric,
+    act: Act,
+    records: &[Record],
+    told: &mut usize,
+) -> bool
+    requires { IsSeatOf hall.now seat.old × IsSeatOf hall.now worker.old }
+    ensures { IsSeatOf hall.now seat.new × IsSeatOf hall.now worker.new }
+{
+    let seen = seen_by(fabric, act);
+    match act {
+        Act::Submit(asked) => submits_so(hall, seat, asked, &seen, records, told),
+        Act::Collect => collects_so(hall, seat, &seen, records, told),
+        Act::Work(event) => works_so(hall, worker, event, &seen),
+    }
+}
+
+/// Gives each event to the hall and to the fabric. Whether both tell the same, with all of these records.
 fn play_both(
     hall: &Hall,
     seat: &mut ReqSeat,
     worker: &mut WorkSeat,
     fabric: &mut Fabric,
-    script: &[Event],
-    records: &mut Vec<Record>,
+    script: &[Act],
+    records: &[Record],
 ) -> bool
     requires { IsSeatOf hall.now seat.old × IsSeatOf hall.now worker.old }
-    ensures { IsSeatOf hall.now seat.new × IsSeatOf hall.now worker.new }
+    ensures { IsSeatOf hall.now seat.new }
 {
-    for event in script {
-        let want = fabric.step(event);
-        let same = match worked(event) {
-            Some(work) => works_so(hall, worker, work, want),
-            None => asks_so(hall, seat, event, want, records),
-        };
-        if !same {
+    let mut told = 0;
+    for act in script {
+        if !both_tell(hall, seat, worker, fabric, *act, records, &mut told) {
             return false;
         }
     }
-    true
+    told == records.len()
 }
 
-/// The records of the script's trace.
-fn records_of(config: Config, script: &[Event], alloc: Global) -> Result<Vec<Record>, ConfigFault> {
-    let mut fabric = Fabric::new(config, alloc)?;
-    match fabric.run(script, alloc) {
-        Ok(trace) => Ok(trace.records),
-        Err(fault) => Ok(fault.trace.records),
-    }
+/// Whether there is the same to see of both.
+fn same(one: &Fabric, other: &Fabric) -> bool {
+    one.history() == other.history() && one.bytes() == other.bytes()
 }
 
 /// Whether a closed hall leaves the same history and bytes.
 fn ends_so(hall: Hall, seat: ReqSeat, fabric: &Fabric) -> bool
     requires { IsSeatOf hall seat }
 {
-    match hall.close(seat) {
-        Ok(closed) => closed.history() == fabric.history() && closed.bytes() == fabric.bytes(),
+    match closed(hall, seat) {
+        Some(left) => same(&left, fabric),
+        None => false,
+    }
+}
+
+/// A hall and a fabric, and the script that goes through both.
+#[derive(Clone, Copy)]
+struct Row {
+    requesters: u8,
+    credits: LaneCredits,
+    script: &'static [Act],
+}
+
+fn config_of(row: &Row) -> Config {
+    Config {
+        credits: row.credits,
+        ..small(row.requesters)
+    }
+}
+
+/// Whether a hall with one requester tells the script as the fabric does, with these records, and ends as it.
+fn alone(row: &Row, fabric: &mut Fabric, records: &[Record], alloc: Global) -> bool {
+    match one_and_a_worker(config_of(row), alloc) {
+        Ok((hall, mut seat, mut worker)) => {
+            play_both(&hall, &mut seat, &mut worker, fabric, row.script, records)
+                && ends_so(hall, seat, fabric)
+        }
         Err(_) => false,
     }
 }
 
-/// Whether the hall tells the script as the fabric does, with these records.
-fn told_so(
+/// Whether the first requester's script goes so, and the second then submits its first read at the length 1 of the
+/// history.
+fn second_reads(
     hall: &Hall,
-    seat: &mut ReqSeat,
+    one: &mut ReqSeat,
+    two: &mut ReqSeat,
     worker: &mut WorkSeat,
     fabric: &mut Fabric,
-    script: &[Event],
-    want: &Vec<Record>,
-    alloc: Global,
+    script: &[Act],
+    records: &[Record],
 ) -> bool
-    requires { IsSeatOf hall.now seat.old × IsSeatOf hall.now worker.old }
-    ensures { IsSeatOf hall.now seat.new }
+    requires { IsSeatOf hall.now one.old × IsSeatOf hall.now two.old × IsSeatOf hall.now worker.old }
 {
-    let mut records = Vec::new(alloc);
-    play_both(hall, seat, worker, fabric, script, &mut records) && records == *want
+    play_both(hall, one, worker, fabric, script, records) && is_submitted(hall, two, read(), 0, 1)
 }
 
-/// Whether a hall of this configuration tells the script as the fabric does, with these records, and ends as it.
-fn hall_goes_so(
-    config: Config,
-    fabric: &mut Fabric,
-    script: &[Event],
-    want: &Vec<Record>,
-    alloc: Global,
-) -> Result<bool, Fail> {
-    let (hall, mut seat, mut worker) = one_and_a_worker(config, alloc)?;
-    let same = told_so(&hall, &mut seat, &mut worker, fabric, script, want, alloc);
-    Ok(same && ends_so(hall, seat, fabric))
+/// Whether that is so in a hall with two requesters.
+fn beside_a_second(row: &Row, fabric: &mut Fabric, records: &[Record], alloc: Global) -> bool {
+    match two_and_a_worker(config_of(row), alloc) {
+        Ok((hall, mut one, mut two, mut worker)) => second_reads(
+            &hall,
+            &mut one,
+            &mut two,
+            &mut worker,
+            fabric,
+            row.script,
+            records,
+        ),
+        Err(_) => false,
+    }
 }
 
-/// Whether a hall of this configuration tells the script as the fabric does, and its records are those of the trace.
-fn goes_so(config: Config, script: &[Event], alloc: Global) -> Result<bool, Fail> {
-    let want = records_of(config, script, alloc)?;
-    let mut fabric = Fabric::new(config, alloc)?;
-    hall_goes_so(config, &mut fabric, script, &want, alloc)
+/// Whether a hall goes as the fabric does, with these records.
+fn hall_goes_so(row: &Row, fabric: &mut Fabric, records: &[Record], alloc: Global) -> bool {
+    if row.requesters == 1 {
+        alone(row, fabric, records, alloc)
+    } else {
+        beside_a_second(row, fabric, records, alloc)
+    }
 }
 
-/// Whether each script goes through a hall as through a fabric.
-fn all_go_so(alloc: Global) -> Result<[bool; 6], Fail> {
-    let least = Config {
+/// Whether a hall goes as a new fabric does, with these records.
+fn goes_so(row: &Row, records: &[Record], alloc: Global) -> bool {
+    match made(config_of(row), alloc) {
+        Some(mut fabric) => hall_goes_so(row, &mut fabric, records, alloc),
+        None => false,
+    }
+}
+
+/// Whether a hall goes as a new fabric does, with the records of the script's trace.
+fn is_right(row: &Row, alloc: Global) -> bool {
+    match records_of(config_of(row), row.script, alloc) {
+        Some(records) => goes_so(row, &records, alloc),
+        None => false,
+    }
+}
+
+const ROWS: [Row; 6] = [
+    Row {
+        requesters: 1,
+        credits: LaneCredits::DEFAULT,
+        script: &LOST_ACK,
+    },
+    Row {
+        requesters: 1,
+        credits: LaneCredits::DEFAULT,
+        script: &NAK_AND_REPLAY,
+    },
+    Row {
+        requesters: 1,
+        credits: LaneCredits::DEFAULT,
+        script: &WRITE_PASSES_READ,
+    },
+    Row {
+        requesters: 1,
+        credits: LaneCredits::DEFAULT,
+        script: &READ_BEHIND_WRITE,
+    },
+    Row {
+        requesters: 1,
         credits: LEAST,
-        ..small(1)
-    };
-    Ok([
-        goes_so(small(1), &lost_ack(), alloc)?,
-        goes_so(small(1), &nak_and_replay(), alloc)?,
-        goes_so(small(1), &write_passes_read(), alloc)?,
-        goes_so(small(1), &read_behind_write(), alloc)?,
-        goes_so(least, &credits_run_out(), alloc)?,
-        goes_so(least, &credits_come_back(), alloc)?,
-    ])
-}
+        script: &CREDITS_RUN_OUT,
+    },
+    Row {
+        requesters: 1,
+        credits: LEAST,
+        script: &CREDITS_COME_BACK,
+    },
+];
 
 #[test]
 fn scripts_go_as_through_a_fabric(rt: HostRuntime) -> Result<(), Fail> {
-    assert_eq!(rt; all_go_so(rt.alloc())?, [true; 6]);
+    for (place, row) in ROWS.iter().enumerate() {
+        assert!(rt; is_right(row, rt.alloc()), "row {place}");
+    }
     Ok(())
 }
 
-/// After the first requester's script the second submits its first read at the length 1 of the history.
-fn second_reads(alloc: Global) -> Result<bool, Fail> {
-    let mut fabric = Fabric::new(small(2), alloc)?;
-    let (hall, mut one, mut two, mut worker) = two_and_a_worker(small(2), alloc)?;
-    let mut records = Vec::new(alloc);
-    let same = play_both(
-        &hall,
-        &mut one,
-        &mut worker,
-        &mut fabric,
-        &lost_ack(),
-        &mut records,
-    );
-    Ok(same && is_submitted(&hall, &mut two, read(), 0, 1))
-}
+const BESIDE: Row = Row {
+    requesters: 2,
+    credits: LaneCredits::DEFAULT,
+    script: &LOST_ACK,
+};
 
 #[test]
 fn a_second_requester_reads(rt: HostRuntime) -> Result<(), Fail> {
-    assert!(rt; second_reads(rt.alloc())?);
+    assert!(rt; is_right(&BESIDE, rt.alloc()));
     Ok(())
 }

@@ -4,8 +4,10 @@ ghost use Rattle.std.specs.Thread.{IsSync};
 ghost use Rattle.hall_core.specs.Views.{IsSeatOf};
 
 use crate::drive::{
-    add_one, collect, last_seat, last_worker, opened, pump, small, submit, two_and_a_worker, write,
+    OpenFault, add_one, collect, last_seat, last_worker, opened, pump, small, submit,
+    two_and_a_worker, write,
 };
+use crate::ends::leaves;
 use dllp_core::Class;
 use fabric_core::{Config, LaneName, Refusal, Seen};
 use hall_core::{Hall, HallRefusal, ReqSeat, WorkEvent, WorkSeat};
@@ -155,32 +157,20 @@ fn all_three<R: Threads + Sync>(
     (one, first, second)
 }
 
-/// The length of the history of the closed hall, and the first byte.
-fn end(hall: Hall, seat: ReqSeat) -> Option<(usize, u8)>
-    requires { IsSeatOf hall seat }
-{
-    match hall.close(seat) {
-        Ok(fabric) => Some((
-            fabric.history().len(),
-            fabric.bytes().first().copied().unwrap_or(0),
-        )),
-        Err(_) => None,
+/// Whether each of two requesters adds 1 a hundred times, and is answered.
+fn two_hundred<R: Threads + Sync>(rt: &R, alloc: Global) -> bool {
+    match two_and_a_worker(small(2), alloc) {
+        Ok((hall, one, two, worker)) => {
+            let (one, first, second) = all_three(rt, &hall, one, two, worker);
+            first == 100 && second == 100 && leaves(hall, one, 200, 200)
+        }
+        Err(_) => false,
     }
-}
-
-/// Each of two requesters adds 1 a hundred times; none where one was not answered.
-fn two_hundred<R: Threads + Sync>(rt: &R, alloc: Global) -> Result<Option<(usize, u8)>, Fail> {
-    let (hall, one, two, worker) = two_and_a_worker(small(2), alloc)?;
-    let (one, first, second) = all_three(rt, &hall, one, two, worker);
-    if first != 100 || second != 100 {
-        return Ok(None);
-    }
-    Ok(end(hall, one))
 }
 
 #[test]
 fn two_requesters_add_two_hundred(rt: HostRuntime) -> Result<(), Fail> {
-    assert_eq!(rt; two_hundred(&rt, rt.alloc())?, Some((200, 200)));
+    assert!(rt; two_hundred(&rt, rt.alloc()));
     Ok(())
 }
 
@@ -302,7 +292,7 @@ struct Seats {
 }
 
 /// A hall with these seats. It has the most posted credits, so that a thread alone finds much to do.
-fn with_three_workers(alloc: Global) -> Result<(Hall, Seats), Fail>
+fn with_three_workers(alloc: Global) -> Result<(Hall, Seats), OpenFault>
     ensures { IfOk result (λ t. IsSeatOf t.0 t.1.seat × IsSeatOf t.0 t.1.worker × IsSeatOf t.0 t.1.sender × IsSeatOf t.0 t.1.receiver) }
 {
     let credits = LaneCredits {
@@ -333,7 +323,7 @@ fn with_three_workers(alloc: Global) -> Result<(Hall, Seats), Fail>
                 receiver,
             },
         )),
-        _ => Err(Fail::new("a seat is missing")),
+        _ => Err(OpenFault::Seats),
     }
 }
 
@@ -362,15 +352,19 @@ fn send_and_deliver<R: Threads + Sync>(rt: &R, hall: &Hall, seats: Seats) -> (Re
     (seat, [sent, accepted, served])
 }
 
-/// How many packets the lane sent and accepted, how many were served, and the length of the history.
-fn ten_thousand<R: Threads + Sync>(rt: &R, alloc: Global) -> Result<([u32; 3], usize), Fail> {
-    let (hall, seats) = with_three_workers(alloc)?;
-    let (seat, counts) = send_and_deliver(rt, &hall, seats);
-    Ok((counts, end(hall, seat).unwrap_or((0, 0)).0))
+/// Whether all packets are sent, accepted and served, and in the history.
+fn ten_thousand<R: Threads + Sync>(rt: &R, alloc: Global) -> bool {
+    match with_three_workers(alloc) {
+        Ok((hall, seats)) => {
+            let (seat, counts) = send_and_deliver(rt, &hall, seats);
+            counts == [PACKETS; 3] && leaves(hall, seat, 10_000, 0)
+        }
+        Err(_) => false,
+    }
 }
 
 #[test]
 fn two_threads_carry_a_lane(rt: HostRuntime) -> Result<(), Fail> {
-    assert_eq!(rt; ten_thousand(&rt, rt.alloc())?, ([10_000; 3], 10_000));
+    assert!(rt; ten_thousand(&rt, rt.alloc()));
     Ok(())
 }
