@@ -11,13 +11,13 @@ use Rattle.requester_core.specs.Requesting.{Requesting, prepared}
 use Rattle.fc_credit.specs.Needs.{need_of}
 use Rattle.vc_queue.specs.Queue.{is_takeable}
 use Rattle.switch_core.specs.Routing.{route}
-use Rattle.lane_core.specs.declared.packet.Fate.{Fate}
-use Rattle.lane_core.specs.declared.packet.DllpKind.{DllpKind}
-use Rattle.lane_core.specs.declared.packet.LaneRefusal.{LaneRefusal}
-use Rattle.lane_core.specs.declared.packet.LaneRefusal.TheVariants.{NoCredits, WindowFull, Memory}
-use Rattle.lane_core.specs.Steps.{Ends, Incoming, Outgoing, entered, delivered, dllp_seen}
+use Rattle.lane_ends.specs.declared.packet.Fate.{Fate}
+use Rattle.lane_ends.specs.declared.packet.DllpKind.{DllpKind}
+use Rattle.lane_ends.specs.declared.packet.LaneRefusal.{LaneRefusal}
+use Rattle.lane_ends.specs.declared.packet.LaneRefusal.TheVariants.{NoCredits, WindowFull, Memory}
+use Rattle.lane_ends.specs.Steps.{Ends, Incoming, Outgoing, entered, delivered, dllp_seen}
 use Rattle.lane_core.specs.Calls.{after_call}
-use Rattle.lane_core.specs.Refusals.{LacksRoom}
+use Rattle.lane_ends.specs.Refusals.{LacksRoom}
 use Rattle.fabric_laws.specs.Fabric.{Fabric}
 use Rattle.fabric_core.specs.declared.event.Event.{Event}
 use Rattle.fabric_core.specs.declared.event.Event.TheVariants as events

@@ -15,10 +15,10 @@ use Rattle.switch_core.specs.declared.fault.RouteFault.TheVariants.{NoPort}
 use Rattle.switch_core.specs.Routing.{route}
 use Rattle.replay_sender.specs.declared.fault.AckFault.{AckFault}
 use Rattle.seq12.specs.declared.Seq12.{Seq12}
-use Rattle.lane_core.specs.declared.packet.Arrival.{Arrival}
-use Rattle.lane_core.specs.declared.packet.DllpSeen.{DllpSeen}
-use Rattle.lane_core.specs.declared.packet.LaneRefusal.TheVariants.{NoCredits, WindowFull, Memory}
-use Rattle.lane_core.specs.Steps.{Ends, Incoming, Outgoing, entered, transmitted, delivered, dllp_of, dllp_seen, after_take}
+use Rattle.lane_ends.specs.declared.packet.Arrival.{Arrival}
+use Rattle.lane_ends.specs.declared.packet.DllpSeen.{DllpSeen}
+use Rattle.lane_ends.specs.declared.packet.LaneRefusal.TheVariants.{NoCredits, WindowFull, Memory}
+use Rattle.lane_ends.specs.Steps.{Ends, Incoming, Outgoing, entered, transmitted, delivered, dllp_of, dllp_seen, after_take}
 use Rattle.lane_core.specs.Calls.{after_call}
 use Rattle.fabric_laws.specs.Fabric.{Fabric}
 use Rattle.fabric_core.specs.declared.event.Event.{Event}

@@ -4,8 +4,8 @@ ghost use Rattle.dllp_core.specs.Layout.{FitsDataFC};
 ghost use Rattle.dllp_core.specs.declared.packet.Dllp.{Dllp};
 ghost use Rattle.fc_credit.specs.Needs.{need_of};
 ghost use Rattle.completer_core.specs.Serving.{completion_to, after_serving};
-ghost use Rattle.lane_core.specs.Steps.{may_enter, with_room, after_timer, after_retraining, transmitted, after_transmission, wire_after_transmit, all_but_first, delivered, after_deliver, dllp_of, after_send, wire_after_send, dllp_seen, sender_after};
-ghost use Rattle.lane_core.specs.Refusals.{LacksRoom};
+ghost use Rattle.lane_ends.specs.Steps.{may_enter, with_room, after_timer, after_retraining, transmitted, after_transmission, wire_after_transmit, all_but_first, delivered, after_deliver, dllp_of, after_send, wire_after_send, dllp_seen, sender_after};
+ghost use Rattle.lane_ends.specs.Refusals.{LacksRoom};
 ghost use Rattle.switch_core.specs.Forwarding.{Forwards};
 ghost use Rattle.fabric_core.specs.Footprints.{Enters, Submits, SubmitRefused, TransmitRefused, DeliverRefused, SendDllpRefused, DllpRefused, TimerRefused, RetrainedRefused, Links, LinkRefused, ForwardRefused, IsRoutedAs, DestinationRefused, Acts, ActRefused, Serves, ServeRefused, Collects, CollectRefused};
 

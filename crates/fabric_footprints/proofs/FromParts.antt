@@ -1,7 +1,7 @@
 -- Events and refusals over the parts that they use, as those of the fabric that has these parts.
 use Rattle.std.proofs.Common.{ℕ, ◌≡◌, List, refl, sym, ap, subst, inr}
 use Rattle.std.specs.Prelude.{slice_set}
-use Rattle.lane_core.specs.Steps.{Ends}
+use Rattle.lane_ends.specs.Steps.{Ends}
 use Rattle.fabric_laws.specs.Fabric.{Fabric}
 use Rattle.fabric_core.specs.declared.event.LaneName.{LaneName}
 use Rattle.fabric_core.specs.declared.event.LaneName.TheVariants as lanes

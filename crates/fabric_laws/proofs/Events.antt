@@ -29,7 +29,7 @@ use Rattle.completer_core.specs.Serving.{completion_to, after_serving, with_entr
 use Rattle.requester_core.specs.declared.requester.Answer.{Answer}
 use Rattle.requester_core.specs.Request.{kind_for}
 use Rattle.requester_core.specs.Requesting.{Requesting, after_opened, after_finish}
-use Rattle.lane_core.specs.Steps.{Ends}
+use Rattle.lane_ends.specs.Steps.{Ends}
 use Rattle.lane_core.specs.Calls.{content, on_the_way}
 use Rattle.history_check.specs.declared.Record.TheVariants.{Sub, Ans}
 use Rattle.fabric_laws.specs.Lists.{Each}

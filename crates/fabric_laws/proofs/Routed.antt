@@ -20,7 +20,7 @@ use Rattle.requester_core.specs.declared.requester.OpenRequest.{OpenRequest}
 use Rattle.requester_core.specs.declared.requester.Answer.{Answer}
 use Rattle.requester_core.specs.declared.fault.CompletionFault.{CompletionFault}
 use Rattle.requester_core.specs.Requesting.{Requesting, after_opened, after_finish, completed, is_ours, reply_carried, answered, finished, finished_by, closes}
-use Rattle.lane_core.specs.Steps.{Ends}
+use Rattle.lane_ends.specs.Steps.{Ends}
 use Rattle.lane_core.specs.Calls.{content, on_the_way}
 use Rattle.fabric_laws.specs.Lists.{Each}
 use Rattle.fabric_laws.specs.Whole.{view, open_number, size_at, size_in, FitsSize, unused}

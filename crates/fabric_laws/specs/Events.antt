@@ -7,7 +7,7 @@ use Rattle.completer_core.specs.Serving.{completion_to, after_serving}
 use Rattle.requester_core.specs.declared.requester.Answer.{Answer}
 use Rattle.requester_core.specs.Requesting.{Requesting, prepared, after_opened, finished, after_finish, IsSound}
 use Rattle.vc_queue.specs.Queue.{is_takeable}
-use Rattle.lane_core.specs.Steps.{Ends}
+use Rattle.lane_ends.specs.Steps.{Ends}
 use Rattle.lane_core.specs.Calls.{content}
 use Rattle.fabric_laws.specs.Fabric.{Fabric}
 

@@ -1,7 +1,7 @@
 -- A new fabric.
 use Rattle.std.specs.Prelude.{ℕ, ◌≡◌, suc, [], Some, None, slice_get}
 use Rattle.requester_core.specs.Requesting.{Requesting, fresh}
-use Rattle.lane_core.specs.Steps.{Ends}
+use Rattle.lane_ends.specs.Steps.{Ends}
 use Rattle.lane_core.specs.Calls.{content}
 use Rattle.fabric_laws.specs.Fabric.{Fabric}
 use Rattle.fabric_laws.specs.Whole.{Whole, up_of, down_of, requester_of, open_number}

@@ -7,7 +7,7 @@ use Rattle.tlp_core.specs.declared.packet.Body.TheVariants as bodies
 use Rattle.tlp_core.specs.declared.packet.Status.TheVariants as statuses
 use Rattle.tlp_core.specs.Packet.{Packet}
 use Rattle.tlp_core.specs.Operation.{op_of}
-use Rattle.lane_core.specs.Steps.{Ends}
+use Rattle.lane_ends.specs.Steps.{Ends}
 use Rattle.lane_core.specs.Calls.{content}
 use Rattle.fabric_laws.specs.Lists.{Each}
 use Rattle.fabric_laws.specs.Whole.{Requesting}

@@ -7,7 +7,7 @@ ghost use Rattle.requester_core.specs.declared.requester.Answer.{Answer};
 ghost use Rattle.tlp_core.specs.Packet.{Packet};
 ghost use Rattle.tlp_core.specs.Operation.{op_of};
 ghost use Rattle.requester_core.specs.Requesting.{Requesting, finished};
-ghost use Rattle.lane_core.specs.Steps.{Ends};
+ghost use Rattle.lane_ends.specs.Steps.{Ends};
 ghost use Rattle.lane_core.specs.Calls.{content};
 ghost use Rattle.history_check.specs.declared.Record.{Record};
 ghost use Rattle.history_check.specs.declared.Record.TheVariants.{Sub, Ans};

@@ -1,7 +1,7 @@
 -- What becomes of the packet or DLLP of a count.
 use Rattle.std.specs.Prelude.{ℕ, zero, suc, ◌+◌, ◌-◌, ◌*◌, ◌/◌, ◌%◌, Bool, true, false, ◌&&◌, nat_lt, nat_le, if◌then◌else◌}
-use Rattle.lane_core.specs.declared.packet.Fate.{Fate}
-use Rattle.lane_core.specs.declared.packet.Fate.TheVariants.{Good, Failed, Lost}
+use Rattle.lane_ends.specs.declared.packet.Fate.{Fate}
+use Rattle.lane_ends.specs.declared.packet.Fate.TheVariants.{Good, Failed, Lost}
 
 -- the count, spread evenly over 65,536 values: 40,503 is odd, so 65,536 counts in a row have each value once
 abbrev pub spread : ℕ → ℕ

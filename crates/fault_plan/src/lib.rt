@@ -3,10 +3,10 @@
 #![tactic(auto)]
 
 ghost use Rattle.std.specs.Prelude.{◌≡◌, ℕ, ◌-◌, ◌/◌, ◌<◌, ◌≤◌, min};
-ghost use Rattle.lane_core.specs.declared.packet.Fate.TheVariants.{Good};
+ghost use Rattle.lane_ends.specs.declared.packet.Fate.TheVariants.{Good};
 ghost use Rattle.fault_plan.specs.Fates.{fate_of, is_failed, is_lost, how_many};
 
-use lane_core::Fate;
+use lane_ends::Fate;
 
 /// The most that a plan can say: one of 65,536.
 pub const MOST: u32 = 65536;
@@ -52,49 +52,3 @@ pub fn each_part_is_lost()
 pub fn a_plan_without_faults_is_good()
     ensures { (count : ℕ) → fate_of 0 0 count ≡ Good }
 {}
-
-#[cfg(test)]
-mod tests {
-    use super::*;
-
-    #[test]
-    fn worked_fates(rt: HostRuntime) {
-        let plan = Plan {
-            lose_every: 3,
-            corrupt_every: 3,
-        };
-        let want = [
-            Fate::Good,
-            Fate::Lost,
-            Fate::Failed,
-            Fate::Good,
-            Fate::Lost,
-            Fate::Failed,
-            Fate::Lost,
-            Fate::Failed,
-            Fate::Good,
-            Fate::Lost,
-        ];
-        for (place, fate) in want.iter().enumerate() {
-            let count = place as u64 + 1;
-            assert_eq!(rt; plan.fate(count), *fate, "count {count}");
-        }
-    }
-
-    /// Of 65,536 values the 21,845 lowest are lost and the 21,845 greatest fail.
-    #[test]
-    fn fates_at_the_boundaries(rt: HostRuntime) {
-        let plan = Plan {
-            lose_every: 3,
-            corrupt_every: 3,
-        };
-        for (count, fate) in [
-            (2892, Fate::Lost),
-            (33491, Fate::Good),
-            (1446, Fate::Good),
-            (32045, Fate::Failed),
-        ] {
-            assert_eq!(rt; plan.fate(count), fate, "count {count}");
-        }
-    }
-}

@@ -1,6 +1,6 @@
 -- Where a packet of `out` goes.
 use Rattle.std.specs.Prelude.{◌≡◌, ◌⊎◌, ◌<◌, ◌≤◌, ℕ, Ok}
-use Rattle.lane_core.specs.Steps.{Incoming}
+use Rattle.lane_ends.specs.Steps.{Incoming}
 use Rattle.switch_core.specs.declared.fault.RouteFault.TheVariants.{NoPort}
 use Rattle.fabric_core.specs.declared.fault.Refusal.{Refusal}
 use Rattle.fabric_core.specs.declared.fault.Refusal.TheVariants.{Route}

@@ -1,7 +1,7 @@
 //! The events of the fabric over parts in places of their own.
 ghost use Rattle.std.specs.Prelude.{◌≡◌, ◌↔◌, ◌<◌, true, [], Some, None, Ok, IsTrue, IfOk, IfErr, OnOk, OnErr};
 ghost use Rattle.vc_queue.specs.Queue.{is_takeable};
-ghost use Rattle.lane_core.specs.Steps.{after_timer, after_retraining, transmitted, after_transmission, wire_after_transmit, all_but_first, delivered, after_deliver, dllp_of, after_send, wire_after_send, dllp_seen, sender_after};
+ghost use Rattle.lane_ends.specs.Steps.{after_timer, after_retraining, transmitted, after_transmission, wire_after_transmit, all_but_first, delivered, after_deliver, dllp_of, after_send, wire_after_send, dllp_seen, sender_after};
 ghost use Rattle.switch_core.specs.Forwarding.{Forwards};
 ghost use Rattle.fabric_core.specs.Footprints.{Submits, SubmitRefused, TransmitRefused, DeliverRefused, SendDllpRefused, DllpRefused, TimerRefused, RetrainedRefused, ForwardRefused, IsRoutedAs, DestinationRefused, Serves, ServeRefused, Collects, CollectRefused};
 

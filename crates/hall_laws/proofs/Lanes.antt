@@ -1,7 +1,7 @@
 -- One lane of a fabric, by its name.
 use Rattle.std.proofs.Common.{◌≡◌, ℕ, zero, suc, ◌+◌, ◌*◌, ◌<◌, List, length, length-set, set, refl, sym, ap, ◌∙◌, subst, arith}
 use Rattle.std.specs.Prelude.{slice_get}
-use Rattle.lane_core.specs.Steps.{Ends}
+use Rattle.lane_ends.specs.Steps.{Ends}
 use Rattle.fabric_laws.specs.Fabric.{Fabric}
 use Rattle.fabric_core.specs.declared.event.LaneName.{LaneName}
 use Rattle.fabric_core.specs.declared.event.LaneName.TheVariants.{Up, Down, Inward, Outward}

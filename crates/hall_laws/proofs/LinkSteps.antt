@@ -5,12 +5,12 @@ use lib.ListN.{get_elem?}
 use Rattle.dllp_core.specs.declared.packet.Dllp.{Dllp}
 use Rattle.seq_memory.specs.declared.Entry.{Entry}
 use Rattle.history_check.specs.declared.Record.{Record}
-use Rattle.lane_core.specs.declared.packet.WirePacket.{WirePacket}
-use Rattle.lane_core.specs.declared.packet.Fate.{Fate}
-use Rattle.lane_core.specs.declared.packet.Arrival.{Arrival}
-use Rattle.lane_core.specs.declared.packet.DllpKind.{DllpKind}
-use Rattle.lane_core.specs.declared.packet.DllpSeen.{DllpSeen}
-use Rattle.lane_core.specs.Steps.{Ends, Incoming, Outgoing, transmitted, after_transmission, wire_after_transmit, delivered, after_deliver, all_but_first, dllp_of, after_send, wire_after_send, dllp_seen, sender_after, after_timer, after_retraining}
+use Rattle.lane_ends.specs.declared.packet.WirePacket.{WirePacket}
+use Rattle.lane_ends.specs.declared.packet.Fate.{Fate}
+use Rattle.lane_ends.specs.declared.packet.Arrival.{Arrival}
+use Rattle.lane_ends.specs.declared.packet.DllpKind.{DllpKind}
+use Rattle.lane_ends.specs.declared.packet.DllpSeen.{DllpSeen}
+use Rattle.lane_ends.specs.Steps.{Ends, Incoming, Outgoing, transmitted, after_transmission, wire_after_transmit, delivered, after_deliver, all_but_first, dllp_of, after_send, wire_after_send, dllp_seen, sender_after, after_timer, after_retraining}
 use Rattle.fabric_laws.specs.Lists.{Each}
 use Rattle.fabric_laws.specs.Fabric.{Fabric}
 use Rattle.fabric_core.specs.declared.event.Event.{Event}

@@ -8,10 +8,10 @@ use Rattle.seq_memory.specs.History.{State}
 use Rattle.requester_core.specs.Requesting.{Requesting}
 use Rattle.vc_queue.specs.Queue.{is_takeable}
 use Rattle.switch_core.specs.declared.fault.RouteFault.TheVariants.{NoPort}
-use Rattle.lane_core.specs.declared.packet.WirePacket.{WirePacket}
-use Rattle.lane_core.specs.declared.packet.Fate.{Fate}
-use Rattle.lane_core.specs.declared.packet.DllpKind.{DllpKind}
-use Rattle.lane_core.specs.Steps.{Ends, Incoming, Outgoing, transmitted}
+use Rattle.lane_ends.specs.declared.packet.WirePacket.{WirePacket}
+use Rattle.lane_ends.specs.declared.packet.Fate.{Fate}
+use Rattle.lane_ends.specs.declared.packet.DllpKind.{DllpKind}
+use Rattle.lane_ends.specs.Steps.{Ends, Incoming, Outgoing, transmitted}
 use Rattle.fabric_laws.specs.Fabric.{Fabric}
 use Rattle.fabric_core.specs.declared.event.Event.{Event}
 use Rattle.fabric_core.specs.declared.event.Event.TheVariants as events

@@ -4,7 +4,7 @@ use Rattle.std.specs.Prelude.{slice_get}
 use mathlib.Core.Option.{some-injective}
 use Rattle.seq_memory.specs.History.{State}
 use Rattle.switch_core.specs.Forwarding.{Forwards}
-use Rattle.lane_core.specs.Steps.{Ends, Incoming, Outgoing}
+use Rattle.lane_ends.specs.Steps.{Ends, Incoming, Outgoing}
 use Rattle.fabric_laws.specs.Fabric.{Fabric}
 use Rattle.fabric_core.specs.declared.event.Event.TheVariants as events
 use Rattle.fabric_core.specs.declared.event.LaneName.TheVariants as lanes

@@ -5,10 +5,10 @@ use Rattle.dllp_core.specs.declared.packet.Dllp.{Dllp}
 use Rattle.seq_memory.specs.History.{State}
 use Rattle.requester_core.specs.Requesting.{Requesting}
 use Rattle.vc_queue.specs.Queue.{is_takeable}
-use Rattle.lane_core.specs.declared.packet.WirePacket.{WirePacket}
-use Rattle.lane_core.specs.declared.packet.Fate.{Fate}
-use Rattle.lane_core.specs.declared.packet.DllpKind.{DllpKind}
-use Rattle.lane_core.specs.Steps.{Incoming, Outgoing, transmitted}
+use Rattle.lane_ends.specs.declared.packet.WirePacket.{WirePacket}
+use Rattle.lane_ends.specs.declared.packet.Fate.{Fate}
+use Rattle.lane_ends.specs.declared.packet.DllpKind.{DllpKind}
+use Rattle.lane_ends.specs.Steps.{Incoming, Outgoing, transmitted}
 use Rattle.switch_core.specs.declared.fault.RouteFault.TheVariants.{NoPort}
 use Rattle.fabric_core.specs.declared.event.Event.TheVariants as events
 use Rattle.fabric_core.specs.declared.event.LaneName.{LaneName}

@@ -6,12 +6,12 @@ use Rattle.dllp_core.specs.declared.packet.Dllp.{Dllp}
 use Rattle.seq_memory.specs.History.{State}
 use Rattle.requester_core.specs.declared.requester.Answer.{Answer}
 use Rattle.requester_core.specs.Requesting.{Requesting}
-use Rattle.lane_core.specs.declared.packet.WirePacket.{WirePacket}
-use Rattle.lane_core.specs.declared.packet.Fate.{Fate}
-use Rattle.lane_core.specs.declared.packet.Arrival.{Arrival}
-use Rattle.lane_core.specs.declared.packet.DllpKind.{DllpKind}
-use Rattle.lane_core.specs.declared.packet.DllpSeen.{DllpSeen}
-use Rattle.lane_core.specs.Steps.{Incoming, Outgoing, transmitted, after_transmission, wire_after_transmit, delivered, after_deliver, all_but_first, dllp_of, after_send, wire_after_send, dllp_seen, sender_after, after_timer, after_retraining}
+use Rattle.lane_ends.specs.declared.packet.WirePacket.{WirePacket}
+use Rattle.lane_ends.specs.declared.packet.Fate.{Fate}
+use Rattle.lane_ends.specs.declared.packet.Arrival.{Arrival}
+use Rattle.lane_ends.specs.declared.packet.DllpKind.{DllpKind}
+use Rattle.lane_ends.specs.declared.packet.DllpSeen.{DllpSeen}
+use Rattle.lane_ends.specs.Steps.{Incoming, Outgoing, transmitted, after_transmission, wire_after_transmit, delivered, after_deliver, all_but_first, dllp_of, after_send, wire_after_send, dllp_seen, sender_after, after_timer, after_retraining}
 use Rattle.switch_core.specs.Forwarding.{Forwards}
 use Rattle.fabric_core.specs.declared.event.Event.TheVariants as events
 use Rattle.fabric_core.specs.declared.event.LaneName.{LaneName}

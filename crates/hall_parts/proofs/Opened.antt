@@ -7,7 +7,7 @@ use native.Mathlib.Decide.{ℕ_discrete, dec_lt}
 use lib.ListN.{get_elem?, length-map, length-replicate}
 use Rattle.atomic_table.specs.Table.{opening, Final, Seen}
 use Rattle.hall_parts.proofs.Lists.{at_map, at_snoc, count_nil, there, at_length, one_is, not_same}
-use Rattle.lane_core.specs.Steps.{Ends}
+use Rattle.lane_ends.specs.Steps.{Ends}
 use Rattle.lane_core.specs.Calls.{content}
 use Rattle.fabric_laws.specs.Lists.{Each, count}
 use Rattle.fabric_laws.specs.Whole.{Whole, up_of, down_of, requester_of, open_number}

@@ -4,7 +4,7 @@ use Rattle.std.specs.Mem.Slots.Ownership.{Filled}
 use mathlib.Core.Option.{some}
 use lib.ListN.{get_elem?}
 use Rattle.requester_core.specs.Requesting.{Requesting}
-use Rattle.lane_core.specs.Steps.{Ends}
+use Rattle.lane_ends.specs.Steps.{Ends}
 use Rattle.hall_laws.specs.declared.part.PartValue.{PartValue}
 use Rattle.hall_laws.specs.declared.part.PartValue.TheVariants.{Requester, Sender, Forward, Back, Receiver}
 

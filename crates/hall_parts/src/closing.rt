@@ -1,17 +1,15 @@
 //! The parts come back.
-ghost use Rattle.std.specs.Prelude.{◌≡◌, ◌≢◌, ◌+◌, ◌*◌, ◌<◌, ◌≤◌, ℕ, [], ◌∷◌, ◌++◌, length, map, Some, IfOk, IfErr, MatchOption};
+ghost use Rattle.std.specs.Prelude.{◌≡◌, ◌≢◌, ◌+◌, ◌*◌, ◌<◌, ◌≤◌, ℕ, [], ◌∷◌, ◌++◌, length, map, Some, IfOk, IfErr};
 ghost use Rattle.std.specs.Mem.Slots.{slots_items, slots_filled, slots_len, IsFull};
 ghost use Rattle.std.specs.Vec.{vec_len, vec_capacity};
-ghost use mathlib.Core.Option.{some};
-ghost use lib.ListN.{get_elem?};
 ghost use Rattle.requester_core.specs.Requesting.{Requesting};
-ghost use Rattle.lane_core.specs.Steps.{Ends};
+ghost use Rattle.lane_ends.specs.Steps.{Ends};
 ghost use Rattle.fabric_laws.specs.Fabric.{Fabric};
 ghost use Rattle.fabric_core.specs.Steps.{HasLanes};
 ghost use Rattle.hall_laws.specs.Calls.{IsSized};
 ghost use Rattle.hall_parts.specs.Opens.{Leaves};
 ghost use Rattle.hall_laws.specs.Parts.{parts_of, part_slot};
-ghost use Rattle.hall_laws.specs.Standing.{word_of, token_of};
+ghost use Rattle.hall_laws.specs.Standing.{token_of};
 ghost use Rattle.hall_parts.specs.Closes.{IsEmptiedTo, PartAt, EndsAt, StationFrom, StationsAt};
 
 use crate::opening::{Board, Shelves};
@@ -19,7 +17,8 @@ use atomic_table::Closed;
 use fabric_core::{Config, Fabric, LaneName, Parts};
 use hall_laws::laws::Place;
 use hall_laws::part::{Part, PartValue};
-use hall_laws::slots::{WORDS_APART, each_part_has_its_slot};
+use hall_laws::slots::each_part_has_its_slot;
+use hall_words::first_taken;
 use lane_core::LaneEnds;
 use std::alloc::Global;
 
@@ -137,19 +136,6 @@ fn discard(mut closed: Slots)
         i += 1;
     }
     closed.free();
-}
-
-fn first_taken(closed: &Slots, count: usize) -> Option<(usize, u64)>
-    requires { IsFull closed.now.words × (slots_len closed.now.words ≡ word_of count) × (count ≤ 72) }
-    ensures { MatchOption result ((k : ℕ) → k < count → get_elem? (slots_items closed.now.words) (word_of k) ≡ some 0) (λ f. (f.0 < count) × (f.1 ≢ 0) × (get_elem? (slots_items closed.now.words) (word_of f.0) ≡ some f.1)) }
-{
-    for k in 0..count {
-        let word = closed.word(WORDS_APART * k);
-        if word != 0 {
-            return Some((k, word));
-        }
-    }
-    None
 }
 
 /// The part of a slot.

@@ -1,5 +1,5 @@
 //! The parts go into the slots.
-ghost use Rattle.std.specs.Prelude.{◌≡◌, ◌+◌, ◌*◌, ◌<◌, ◌≤◌, [], ◌++◌, length, map, replicate, Some, IfOk, OnOk};
+ghost use Rattle.std.specs.Prelude.{◌≡◌, ◌+◌, ◌*◌, ◌<◌, ◌≤◌, [], ◌++◌, length, map, Some, IfOk, OnOk};
 ghost use Rattle.std.specs.Vec.{vec_len, vec_capacity};
 ghost use Rattle.fabric_core.specs.Steps.{HasLanes};
 ghost use Rattle.hall_laws.specs.Calls.{IsSized};
@@ -15,6 +15,7 @@ use hall_laws::laws::{FabricRule, Place};
 use hall_laws::part::PartValue;
 use hall_laws::slots::WORDS_APART;
 use hall_laws::token::{Start, Token};
+use hall_words::free_words;
 use lane_core::LaneEnds;
 use requester_core::Requester;
 use std::alloc::{AllocError, Global};
@@ -141,13 +142,6 @@ fn config_of(parts: &Parts) -> Config
     ensures { HasConfig parts.now result }
 {
     parts.config()
-}
-
-/// So many words, none of which names a seat.
-fn free_words(count: usize, alloc: Global) -> Result<Vec<u64>, AllocError>
-    ensures { IfOk result (λ v. v.items ≡ replicate count 0) }
-{
-    Vec::from_elem(alloc, 0u64, count)
 }
 
 /// A table with all parts, and a seat with the tokens of so many seats.

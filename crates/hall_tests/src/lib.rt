@@ -1,5 +1,5 @@
-//! Halls driven for tests: calls that say no more than that the seats stay the hall's, worked rows and scripts, and
-//! threads.
+//! Halls driven for tests: calls that say no more than that the seats stay the hall's, worked rows and scripts,
+//! rows that are printed, and threads.
 #![tactic(auto)]
 
 #[cfg(test)]
@@ -7,6 +7,7 @@ mod acts;
 pub mod drive;
 #[cfg(test)]
 mod ends;
+pub mod printed;
 #[cfg(test)]
 mod rows;
 #[cfg(test)]

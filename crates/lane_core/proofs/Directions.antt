@@ -25,13 +25,13 @@ use Rattle.dllp_core.specs.declared.packet.Class.TheVariants.{Posted, NonPosted,
 use Rattle.fc_credit.specs.Credits.{Gate, gate_covers, update_of}
 use Rattle.fc_credit.specs.Account.{Direction, Event, Consume, Receive, Free, is_small, may_go, consumed_if, freed_at, new_direction, after_events, after_event}
 use Rattle.vc_queue.specs.Queue.{Item, is_takeable}
-use Rattle.lane_core.specs.declared.packet.WirePacket.{WirePacket}
-use Rattle.lane_core.specs.declared.packet.Fate.{Fate}
-use Rattle.lane_core.specs.declared.packet.Fate.TheVariants.{Good, Failed, Lost}
-use Rattle.lane_core.specs.declared.packet.DllpKind.{DllpKind}
-use Rattle.lane_core.specs.declared.packet.DllpKind.TheVariants as kinds
-use Rattle.lane_core.specs.Content.{items_of, unaccepted_of}
-use Rattle.lane_core.specs.Steps.{Ends, Outgoing, Incoming, new_lane, may_enter, entered, with_room, all_but_first, arrival_of, taken_on, ledger_with, queue_with, after_deliver, sender_after, after_take, ledger_freed}
+use Rattle.lane_ends.specs.declared.packet.WirePacket.{WirePacket}
+use Rattle.lane_ends.specs.declared.packet.Fate.{Fate}
+use Rattle.lane_ends.specs.declared.packet.Fate.TheVariants.{Good, Failed, Lost}
+use Rattle.lane_ends.specs.declared.packet.DllpKind.{DllpKind}
+use Rattle.lane_ends.specs.declared.packet.DllpKind.TheVariants as kinds
+use Rattle.lane_ends.specs.Content.{items_of, unaccepted_of}
+use Rattle.lane_ends.specs.Steps.{Ends, Outgoing, Incoming, new_lane, may_enter, entered, with_room, all_but_first, arrival_of, taken_on, ledger_with, queue_with, after_deliver, sender_after, after_take, ledger_freed}
 use Rattle.lane_core.specs.Calls.{Call, MakeRoom, Release, Enter, Transmit, Deliver, SendDllp, DeliverDllp, Timer, Retrained, Take, IsCall, AreCalls, after_call, list_of, accepted_from, after_calls, on_the_way}
 use Rattle.lane_core.specs.Credit.{needs_of, is_update, direction_of, dllp_events, events_of, events_in}
 use Rattle.lane_core.proofs.Below.{Below}

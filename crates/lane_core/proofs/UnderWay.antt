@@ -4,8 +4,8 @@ use Rattle.std.specs.Prelude.{◌≡◌, ℕ, ◌+◌, ◌-◌, ◌%◌, ◌<◌
 use Rattle.seq12.specs.Numbers.{distance_of}
 use Rattle.replay_sender.specs.Carried.{Carried}
 use Rattle.replay_sender.specs.Sending.{Sending}
-use Rattle.lane_core.specs.declared.packet.WirePacket.{WirePacket}
-use Rattle.lane_core.specs.Content.{received_of, unaccepted_of}
+use Rattle.lane_ends.specs.declared.packet.WirePacket.{WirePacket}
+use Rattle.lane_ends.specs.Content.{received_of, unaccepted_of}
 
 -- how far a number lies ahead of the receiver's next, with 2048 for that one itself
 abbrev pub ahead_of : ℕ → ℕ → ℕ

@@ -6,11 +6,11 @@ use Rattle.fc_credit.specs.declared.limits.LaneCredits.{LaneCredits}
 use Rattle.fc_credit.specs.Limits.{IsInLimits}
 use Rattle.fc_credit.specs.Credits.{most, allowance, grant, first_of, gate_covers}
 use Rattle.fc_credit.specs.Account.{Direction, demand, IsRight as IsBalanced}
-use Rattle.lane_core.specs.Steps.{Ends, new_lane}
+use Rattle.lane_ends.specs.Steps.{Ends, new_lane}
 use Rattle.lane_core.specs.Calls.{Call, AreCalls, after_calls, on_the_way}
 use Rattle.lane_core.specs.Credit.{needs_of, events_in, numbers_of, HasRoom}
-use Rattle.lane_core.specs.declared.packet.LaneRefusal.{LaneRefusal}
-use Rattle.lane_core.specs.declared.packet.LaneRefusal.TheVariants.{NoCredits}
+use Rattle.lane_ends.specs.declared.packet.LaneRefusal.{LaneRefusal}
+use Rattle.lane_ends.specs.declared.packet.LaneRefusal.TheVariants.{NoCredits}
 use Rattle.lane_core.proofs.Below.{Below}
 use Rattle.lane_core.proofs.Directions.{lane_direction}
 

@@ -2,17 +2,16 @@
 use Rattle.std.specs.Prelude.{◌≡◌, ℕ, if◌then◌else◌, Option, Some, None, List, [], ◌∷◌, ◌++◌, slice_get, remove}
 use Rattle.tlp_core.specs.Packet.{Packet}
 use Rattle.tlp_core.specs.Layout.{Spells, canonical}
-use Rattle.replay_sender.specs.Sending.{next_number}
 use Rattle.fc_credit.specs.declared.needs.Need.{Need}
 use Rattle.fc_credit.specs.declared.limits.LaneCredits.{LaneCredits}
 use Rattle.fc_credit.specs.Limits.{IsInLimits}
 use Rattle.fc_credit.specs.Needs.{need_of}
 use Rattle.vc_queue.specs.Queue.{Item, is_takeable}
-use Rattle.lane_core.specs.declared.packet.WirePacket.{WirePacket}
-use Rattle.lane_core.specs.declared.packet.Fate.{Fate}
-use Rattle.lane_core.specs.declared.packet.DllpKind.{DllpKind}
-use Rattle.lane_core.specs.Content.{items_of, unaccepted_of}
-use Rattle.lane_core.specs.Steps.{Ends, Incoming, new_lane, may_enter, entered, with_room, without_room, after_timer, after_retraining, after_transmission, wire_after_transmit, all_but_first, arrival_of, taken_on, after_deliver, after_send, wire_after_send, sender_after, after_take}
+use Rattle.lane_ends.specs.declared.packet.WirePacket.{WirePacket}
+use Rattle.lane_ends.specs.declared.packet.Fate.{Fate}
+use Rattle.lane_ends.specs.declared.packet.DllpKind.{DllpKind}
+use Rattle.lane_ends.specs.Content.{items_of, unaccepted_of}
+use Rattle.lane_ends.specs.Steps.{Ends, Incoming, new_lane, may_enter, entered, with_room, without_room, after_timer, after_retraining, after_transmission, wire_after_transmit, all_but_first, arrival_of, taken_on, after_deliver, after_send, wire_after_send, sender_after, after_take}
 
 -- a call of a lane; one that is refused for being out of memory changes nothing and is left out
 pub data Call : Type 0 where
@@ -112,10 +111,6 @@ abbrev pub content_after : Ends → Call → List Item
 content_after e (Enter t mark) = content e ++ entered_by e (Enter t mark)
 content_after e (Take place) = if is_takeable e.receiver.queue place then remove (content e) place else content e
 content_after e _ = content e
-
--- no accepted packet waits, and the receiver waits for the number that the sender gives next
-abbrev pub IsStill : Ends → Type 0
-IsStill e = (e.receiver.queue ≡ []) × (e.receiver.receiving.next ≡ next_number e.sender.sending)
 
 -- four ends are right together, with these credits: some list of calls on a new lane leaves them
 pub record IsRightWith (credits : LaneCredits) (e : Ends) : Type 0 where

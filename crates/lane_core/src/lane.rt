@@ -1,11 +1,10 @@
 //! The four ends together.
 ghost use Rattle.std.specs.Prelude.{◌≡◌, ◌+◌, ◌<◌, ◌≤◌, ◌↔◌, ◌⊎◌, List, [], ◌∷◌, ◌++◌, length, true, false, remove, slice_get, Some, IsTrue, IsOk, IsSome, IfSome, OnOk, OnErr, IfOk, IfErr};
 
-use crate::ends::LaneEnds;
 use crate::laws::{quiet_is_nothing_left, room_is_known_less_used};
-use crate::packet::{Arrival, DllpKind, DllpSeen, Fate, LaneRefusal};
 use dllp_core::Dllp;
 use fc_credit::{LaneCredits, Need, limits_let_each_packet_go};
+use lane_ends::{Arrival, DllpKind, DllpSeen, Fate, LaneEnds, LaneRefusal};
 use link_receiver::Reception;
 use replay_sender::AckFault;
 use seq12::Seq12;
@@ -21,7 +20,7 @@ pub struct Lane {
 }
 
 impl Model for Lane {
-    ghost use Rattle.lane_core.specs.Steps.{Ends};
+    ghost use Rattle.lane_ends.specs.Steps.{Ends};
     ghost use Rattle.lane_core.specs.Calls.{IsRight};
 
     ghost Value = { Ends };
@@ -40,8 +39,8 @@ impl Lane {
     ghost use Rattle.fc_credit.specs.Needs.{need_of as need};
     ghost use Rattle.fc_credit.specs.Credits.{gate_covers};
     ghost use Rattle.vc_queue.specs.Queue.{is_takeable};
-    ghost use Rattle.lane_core.specs.Refusals.{LacksRoom};
-    ghost use Rattle.lane_core.specs.Steps.{new_lane, may_enter, transmitted, delivered, dllp_of, dllp_seen};
+    ghost use Rattle.lane_ends.specs.Refusals.{LacksRoom};
+    ghost use Rattle.lane_ends.specs.Steps.{new_lane, may_enter, transmitted, delivered, dllp_of, dllp_seen};
     ghost use Rattle.fc_credit.specs.declared.limits.LaneCredits.{LaneCredits};
     ghost use Rattle.lane_core.specs.Calls.{Call, MakeRoom, Enter, Transmit, Deliver, SendDllp, DeliverDllp, Timer, Retrained, Take, AreCalls, after_calls, after_call, content, AcceptsFirst, IsRight};
     ghost use Rattle.lane_core.specs.Credit.{numbers_of, HasRoom};

@@ -9,12 +9,12 @@ ghost use Rattle.fc_credit.specs.declared.limits.LaneCredits.{LaneCredits};
 ghost use Rattle.fc_credit.specs.Limits.{IsInLimits};
 ghost use Rattle.fc_credit.specs.Credits.{most, allowance, grant, first_of, gate_covers};
 ghost use Rattle.fc_credit.specs.Account.{demand, IsRight as IsBalanced};
-ghost use Rattle.lane_core.specs.declared.packet.Fate.{Fate};
-ghost use Rattle.lane_core.specs.declared.packet.WirePacket.{WirePacket};
-ghost use Rattle.lane_core.specs.declared.packet.Arrival.TheVariants.{Answered};
-ghost use Rattle.lane_core.specs.Content.{cargo_of, item_spelled, IsSpelled, wire_bytes};
-ghost use Rattle.lane_core.specs.Steps.{Ends, new_lane, transmitted, delivered, dllp_seen};
-ghost use Rattle.lane_core.specs.Calls.{Call, Deliver, IsCall, AreCalls, after_call, entered_by, accepted_by, after_calls, entered_in, accepted_in, taken_in, IsPrefixOf, on_the_way, content, content_after, IsStill, IsRightWith, IsRight, AcceptsFirst};
+ghost use Rattle.lane_ends.specs.declared.packet.Fate.{Fate};
+ghost use Rattle.lane_ends.specs.declared.packet.WirePacket.{WirePacket};
+ghost use Rattle.lane_ends.specs.declared.packet.Arrival.TheVariants.{Answered};
+ghost use Rattle.lane_ends.specs.Content.{cargo_of, item_spelled, IsSpelled, wire_bytes};
+ghost use Rattle.lane_ends.specs.Steps.{Ends, new_lane, transmitted, delivered, dllp_seen, IsStill};
+ghost use Rattle.lane_core.specs.Calls.{Call, Deliver, IsCall, AreCalls, after_call, entered_by, accepted_by, after_calls, entered_in, accepted_in, taken_in, IsPrefixOf, on_the_way, content, content_after, IsRightWith, IsRight, AcceptsFirst};
 ghost use Rattle.lane_core.specs.Windows.{next_entered, oldest_unacknowledged, next_accepted, deliveries};
 ghost use Rattle.lane_core.specs.Credit.{needs_of, numbers_of, HasRoom};
 

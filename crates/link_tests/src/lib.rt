@@ -1,11 +1,15 @@
-//! The transmitter's and the receiver's side of a link and its flow control: worked rows, and the two sides driven
-//! against each other.
+//! The transmitter's and the receiver's side of a link, its flow control and its receive queue: worked rows, the two
+//! sides driven against each other, and the queue beside a plain list.
 #![tactic(auto)]
 
 #[cfg(test)]
 mod credits;
 #[cfg(test)]
 mod exchange;
+#[cfg(test)]
+mod ordering;
+#[cfg(test)]
+mod queues;
 #[cfg(test)]
 mod receivers;
 #[cfg(test)]

@@ -1,7 +1,7 @@
 //! Worked rows of a receiver: what it answers to numbers, and what it sends back.
 use dllp_core::Dllp;
 use link_receiver::{NakScheduled, Receiver, Reception};
-use seq12::Seq12;
+use seq12::{Seq12, SequenceClass, classify};
 
 /// The next DLLP, as bytes.
 fn sent(receiver: &mut Receiver) -> [u8; 4] {
@@ -31,4 +31,25 @@ fn packets_of_a_fresh_receiver(rt: HostRuntime) {
     assert_eq!(rt; receiver.nak_scheduled(), NakScheduled::Sent);
     assert_eq!(rt; receiver.receive(Seq12::new(0), true), Reception::Accept);
     assert_eq!(rt; receiver.next_rcv_seq(), Seq12::new(1));
+}
+
+/// The classes of numbers for a receiver that waits for the first.
+fn classes_are_right() -> bool {
+    let next = Seq12::new(4095).next();
+    let mut right = next.previous().value() == 4095;
+    for (got, class) in [
+        (0, SequenceClass::Expected),
+        (4095, SequenceClass::Duplicate),
+        (2048, SequenceClass::Duplicate),
+        (2047, SequenceClass::Ahead),
+        (1, SequenceClass::Ahead),
+    ] {
+        right &= classify(next, Seq12::new(got)) == class;
+    }
+    right
+}
+
+#[test]
+fn classes_beside_a_fresh_receiver(rt: HostRuntime) {
+    assert!(rt; classes_are_right());
 }

@@ -4,10 +4,10 @@ use Rattle.std.specs.List.{join_with_byte}
 use Rattle.std.specs.Fmt.{decimal}
 use Rattle.dllp_core.specs.declared.packet.Class.TheVariants as classes
 use Rattle.fc_credit.specs.declared.limits.LaneCredits.{LaneCredits}
-use Rattle.lane_core.specs.declared.packet.Fate.{Fate}
-use Rattle.lane_core.specs.declared.packet.Fate.TheVariants as fates
-use Rattle.lane_core.specs.declared.packet.DllpKind.{DllpKind}
-use Rattle.lane_core.specs.declared.packet.DllpKind.TheVariants as kinds
+use Rattle.lane_ends.specs.declared.packet.Fate.{Fate}
+use Rattle.lane_ends.specs.declared.packet.Fate.TheVariants as fates
+use Rattle.lane_ends.specs.declared.packet.DllpKind.{DllpKind}
+use Rattle.lane_ends.specs.declared.packet.DllpKind.TheVariants as kinds
 use Rattle.fabric_core.specs.declared.config.Config.{Config}
 use Rattle.fabric_core.specs.declared.event.LaneName.{LaneName}
 use Rattle.fabric_core.specs.declared.event.LaneName.TheVariants as lanes

@@ -5,8 +5,8 @@ use Rattle.dllp_core.specs.declared.packet.Class.{Class}
 use Rattle.dllp_core.specs.declared.packet.Class.TheVariants as classes
 use Rattle.requester_core.specs.declared.fault.SubmitRefusal.{SubmitRefusal}
 use Rattle.requester_core.specs.declared.fault.SubmitRefusal.TheVariants as submits
-use Rattle.lane_core.specs.declared.packet.LaneRefusal.{LaneRefusal}
-use Rattle.lane_core.specs.declared.packet.LaneRefusal.TheVariants as lane_refusals
+use Rattle.lane_ends.specs.declared.packet.LaneRefusal.{LaneRefusal}
+use Rattle.lane_ends.specs.declared.packet.LaneRefusal.TheVariants as lane_refusals
 use Rattle.fabric_core.specs.declared.fault.Refusal.{Refusal}
 use Rattle.fabric_core.specs.declared.fault.Refusal.TheVariants as refusals
 

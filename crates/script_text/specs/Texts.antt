@@ -8,10 +8,10 @@ use Rattle.dllp_core.specs.declared.packet.Dllp.TheVariants as dllps
 use Rattle.dllp_core.specs.Layout.{canonical}
 use Rattle.link_receiver.specs.declared.receiver.Reception.{Reception}
 use Rattle.link_receiver.specs.declared.receiver.Reception.TheVariants as receptions
-use Rattle.lane_core.specs.declared.packet.Arrival.{Arrival}
-use Rattle.lane_core.specs.declared.packet.Arrival.TheVariants as arrivals
-use Rattle.lane_core.specs.declared.packet.DllpSeen.{DllpSeen}
-use Rattle.lane_core.specs.declared.packet.DllpSeen.TheVariants as dllps_seen
+use Rattle.lane_ends.specs.declared.packet.Arrival.{Arrival}
+use Rattle.lane_ends.specs.declared.packet.Arrival.TheVariants as arrivals
+use Rattle.lane_ends.specs.declared.packet.DllpSeen.{DllpSeen}
+use Rattle.lane_ends.specs.declared.packet.DllpSeen.TheVariants as dllps_seen
 use Rattle.history_check.specs.declared.Record.{Record}
 use Rattle.history_check.specs.declared.Record.TheVariants as records
 use Rattle.fabric_core.specs.declared.event.Event.{Event}

@@ -32,23 +32,3 @@ pub fn classify(next: Seq12, got: Seq12) -> SequenceClass
         SequenceClass::Ahead
     }
 }
-
-#[cfg(test)]
-mod tests {
-    use super::*;
-
-    #[test]
-    fn classes_beside_a_fresh_receiver(rt: HostRuntime) {
-        let next = Seq12::new(4095).next();
-        for (got, class) in [
-            (0, SequenceClass::Expected),
-            (4095, SequenceClass::Duplicate),
-            (2048, SequenceClass::Duplicate),
-            (2047, SequenceClass::Ahead),
-            (1, SequenceClass::Ahead),
-        ] {
-            assert_eq!(rt; classify(next, Seq12::new(got)), class, "at {got}");
-        }
-        assert_eq!(rt; next.previous().value(), 4095);
-    }
-}

@@ -12,8 +12,8 @@ use Rattle.fabric_answers.specs.Answers.{Answered, answer}
 use Rattle.fabric_core.specs.Steps.{Happens}
 use Rattle.fabric_core.specs.Runs.{Recorded}
 use Rattle.dllp_core.specs.declared.packet.Class.TheVariants.{Posted, NonPosted, Completion}
-use Rattle.lane_core.specs.declared.packet.Fate.TheVariants.{Good}
-use Rattle.lane_core.specs.declared.packet.DllpKind.TheVariants as kinds
+use Rattle.lane_ends.specs.declared.packet.Fate.TheVariants.{Good}
+use Rattle.lane_ends.specs.declared.packet.DllpKind.TheVariants as kinds
 use Rattle.fabric_core.specs.declared.event.Event.TheVariants as events
 use Rattle.fabric_core.specs.declared.event.LaneName.{LaneName}
 use Rattle.fabric_core.specs.declared.event.LaneName.TheVariants as lanes

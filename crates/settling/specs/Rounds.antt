@@ -3,11 +3,11 @@ use Rattle.std.specs.Prelude.{ℕ, zero, suc, ◌≡◌, ◌<◌, ◌⊎◌, ◌
 use Rattle.std.specs.List.{list_all}
 use Rattle.history_check.specs.declared.Record.{Record}
 use Rattle.dllp_core.specs.declared.packet.Class.TheVariants.{Posted, NonPosted, Completion}
-use Rattle.lane_core.specs.declared.packet.Fate.TheVariants.{Good}
-use Rattle.lane_core.specs.declared.packet.DllpKind.{DllpKind}
-use Rattle.lane_core.specs.declared.packet.DllpKind.TheVariants as kinds
+use Rattle.lane_ends.specs.declared.packet.Fate.TheVariants.{Good}
+use Rattle.lane_ends.specs.declared.packet.DllpKind.{DllpKind}
+use Rattle.lane_ends.specs.declared.packet.DllpKind.TheVariants as kinds
 use Rattle.vc_queue.specs.Queue.{Item}
-use Rattle.lane_core.specs.Steps.{Ends}
+use Rattle.lane_ends.specs.Steps.{Ends}
 use Rattle.lane_core.specs.Calls.{content}
 use Rattle.fabric_laws.specs.Fabric.{Fabric}
 use Rattle.fabric_core.specs.declared.event.Event.{Event}

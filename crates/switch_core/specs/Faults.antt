@@ -4,7 +4,7 @@ use Rattle.switch_core.specs.declared.fault.RouteFault.{RouteFault}
 use Rattle.switch_core.specs.declared.fault.RouteFault.TheVariants as routes
 use Rattle.switch_core.specs.declared.fault.ForwardRefusal.{ForwardRefusal}
 use Rattle.switch_core.specs.declared.fault.ForwardRefusal.TheVariants as refusals
-use Rattle.lane_core.specs.Refusals.{name_of}
+use Rattle.lane_ends.specs.Refusals.{name_of}
 
 abbrev pub fault_number : RouteFault → ℕ
 fault_number routes.NoPort = 1

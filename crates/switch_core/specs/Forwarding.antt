@@ -4,7 +4,7 @@ use Rattle.tlp_core.specs.Packet.{Packet}
 use Rattle.tlp_core.specs.Layout.{Spells, canonical}
 use Rattle.fc_credit.specs.Needs.{need_of}
 use Rattle.vc_queue.specs.Queue.{is_takeable}
-use Rattle.lane_core.specs.Steps.{Incoming, Outgoing, may_enter, entered, after_take}
+use Rattle.lane_ends.specs.Steps.{Incoming, Outgoing, may_enter, entered, after_take}
 
 -- the packet of the place, which may pass each earlier one, was taken from the first end and entered into the second
 -- unchanged, with its mark, where there was room for it

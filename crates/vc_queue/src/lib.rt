@@ -8,13 +8,7 @@ mod classes;
 mod laws;
 mod numbers;
 mod ordering;
-#[cfg(test)]
-mod plain_list;
 mod queue;
-#[cfg(test)]
-mod reference;
-#[cfg(test)]
-mod rows;
 
 pub use classes::Arrived;
 pub use laws::{

@@ -37,8 +37,8 @@ impl OrderedQueue {
         OrderedQueue::starting_at(alloc, 0)
     }
 
-    /// An empty queue whose next packet gets this arrival number.
-    pub(crate) fn starting_at(alloc: Global, next: u64) -> OrderedQueue
+    /// An empty queue whose next packet gets this arrival number; only `class_items` shows it.
+    pub fn starting_at(alloc: Global, next: u64) -> OrderedQueue
         ensures { result ≡ [] }
     {
         OrderedQueue {

@@ -3,8 +3,8 @@ use Rattle.std.specs.Prelude.{option_map}
 use Rattle.fc_credit.specs.declared.needs.Need.{Need}
 use Rattle.fc_credit.specs.Needs.{need_of}
 use Rattle.completer_core.specs.Serving.{completion_to}
-use Rattle.lane_core.specs.Steps.{may_enter}
-use Rattle.lane_core.specs.Refusals.{LacksRoom}
+use Rattle.lane_ends.specs.Steps.{may_enter}
+use Rattle.lane_ends.specs.Refusals.{LacksRoom}
 use Rattle.fabric_core.specs.Footprints.{EntersIfAny}
 use Rattle.fabric_core.proofs.Rooms.{completion_with, enters_kept}
 use Rattle.fabric_core.proofs.events.act_and_answer.Goals as goal

@@ -3,7 +3,7 @@ use Rattle.fabric_core.specs.declared.event.LinkEvent.TheVariants as links
 use Rattle.fabric_core.specs.declared.event.Seen.TheVariants as seen
 use Rattle.fabric_core.specs.Footprints.{call_of}
 use Rattle.lane_core.specs.Calls.{after_call}
-use Rattle.lane_core.specs.Steps.{dllp_of}
+use Rattle.lane_ends.specs.Steps.{dllp_of}
 use Rattle.fabric_footprints.proofs.FromParts.{links_at}
 use Rattle.fabric_footprints.proofs.laws.each_event_on_its_parts_happens.Goals as goal
 

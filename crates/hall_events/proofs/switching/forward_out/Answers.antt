@@ -1,5 +1,5 @@
 use Rattle.std.proofs.Common.{rules, ◌≡◌, ◌⊎◌, ◌≤◌, ◌<◌, ℕ, List, [], ◌∷◌, inl, inr, sym, subst, arith, Ok}
-use Rattle.lane_core.specs.Steps.{Incoming}
+use Rattle.lane_ends.specs.Steps.{Incoming}
 use Rattle.fabric_core.specs.declared.event.Event.TheVariants.{Forward}
 use Rattle.fabric_core.specs.declared.event.Seen.TheVariants.{To}
 use Rattle.fabric_core.specs.declared.event.LaneName.TheVariants as lanes

@@ -1,7 +1,7 @@
 use Rattle.std.proofs.Common.{◌≡◌, ◌+◌, ◌*◌, ◌++◌, ◌∷◌, [], ℕ, suc, List, Option, arith, sym, ◌∙◌, subst}
 use Rattle.std.specs.Mem.Slots.{slots_items, slots_filled, slots_len}
 use Rattle.requester_core.specs.Requesting.{Requesting}
-use Rattle.lane_core.specs.Steps.{Ends}
+use Rattle.lane_ends.specs.Steps.{Ends}
 use Rattle.hall_laws.specs.declared.part.PartValue.{PartValue}
 use Rattle.hall_parts.specs.Closes.{IsEmptiedTo, StationFrom, StationsAt}
 use Rattle.hall_parts.proofs.Emptied.{station_at, one_station}

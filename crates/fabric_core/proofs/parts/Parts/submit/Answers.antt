@@ -1,7 +1,7 @@
 use Rattle.std.proofs.Common.{◌≡◌, ◌<◌, length, Some, refl, arith}
 use Rattle.std.specs.Prelude.{slice_get}
 use Rattle.std.proofs.lemmas.Option.{slice_get_read}
-use Rattle.lane_core.specs.Steps.{Ends}
+use Rattle.lane_ends.specs.Steps.{Ends}
 use Rattle.fabric_laws.specs.Fabric.{Fabric}
 use Rattle.fabric_core.proofs.Indexed.{submits_at, submit_refused}
 use Rattle.fabric_core.proofs.parts.Parts.submit.Goals as goal

@@ -1,0 +1,198 @@
+//! Two worked rows of a hall, printed. A call that is out of memory is told and made again, so that a run in which one
+//! allocation is refused prints what a whole run prints, and one line `refused` besides.
+ghost use Rattle.std.specs.Prelude.{IfOk, IfSome};
+ghost use Rattle.hall_core.specs.Views.{IsSeatOf, AreSeatsOf};
+
+use crate::drive::{
+    OpenFault, add_one, back, collect, last_seat, last_worker, opened, out_and_served, pump, read,
+    small, submit, write,
+};
+use fabric_core::{ConfigFault, Refusal};
+use hall_core::{Hall, HallFault, HallRefusal, ReqSeat, WorkEvent, WorkSeat};
+use lane_core::LaneRefusal;
+use seq_memory::Reply;
+use std::alloc::Global;
+use std::io;
+use tlp_core::Op;
+
+/// Whether the refusal is for being out of memory.
+fn lacks_memory(refusal: HallRefusal) -> bool {
+    matches!(
+        refusal,
+        HallRefusal::Core(Refusal::Memory) | HallRefusal::Core(Refusal::Lane(LaneRefusal::Memory))
+    )
+}
+
+/// A hall with its seats, made again of a new fabric where memory was refused.
+fn open<R: Print>(
+    rt: &R,
+    requesters: u8,
+    alloc: Global,
+) -> io::Result<Option<(Hall, Vec<ReqSeat>, Vec<WorkSeat>)>>
+    ensures { IfOk result (λ o. IfSome o (λ t. AreSeatsOf t.0 t.1.items × AreSeatsOf t.0 t.2.items)) }
+{
+    for _again in 0..3u8 {
+        match opened(small(requesters), 1, alloc) {
+            Ok(made) => return Ok(Some(made)),
+            Err(OpenFault::Fabric(ConfigFault::Memory)) => print!(rt; "refused fabric\n")?,
+            Err(OpenFault::Hall(HallFault::Memory)) => print!(rt; "refused hall\n")?,
+            Err(_) => return Ok(None),
+        }
+    }
+    Ok(None)
+}
+
+/// The operations of the rows.
+#[derive(Clone, Copy)]
+enum Asked {
+    Write,
+    Read,
+    Add,
+}
+
+fn operation_asked(asked: Asked) -> Op {
+    match asked {
+        Asked::Write => write(),
+        Asked::Read => read(),
+        Asked::Add => add_one(),
+    }
+}
+
+/// Submits the operation.
+fn ask<R: Print>(rt: &R, hall: &Hall, seat: &mut ReqSeat, asked: Asked) -> io::Result<()>
+    requires { IsSeatOf hall.now seat.old }
+    ensures { IsSeatOf hall.now seat.new }
+{
+    for _again in 0..3u8 {
+        match submit(hall, seat, operation_asked(asked)) {
+            Ok(given) => return print!(rt; "submitted {} {}\n", given.number, given.n),
+            Err(refusal) if lacks_memory(refusal) => print!(rt; "refused submit\n")?,
+            Err(refusal) => return print!(rt; "{refusal}\n"),
+        }
+    }
+    Ok(())
+}
+
+/// An event of the work seat.
+fn happen<R: Print>(rt: &R, hall: &Hall, seat: &mut WorkSeat, event: WorkEvent) -> io::Result<()>
+    requires { IsSeatOf hall.now seat.old }
+    ensures { IsSeatOf hall.now seat.new }
+{
+    for _again in 0..3u8 {
+        match pump(hall, seat, event) {
+            Ok(_) => return print!(rt; "seen\n"),
+            Err(refusal) if lacks_memory(refusal) => print!(rt; "refused pump\n")?,
+            Err(refusal) => return print!(rt; "{refusal}\n"),
+        }
+    }
+    Ok(())
+}
+
+/// Events of the work seat.
+fn all_happen<R: Print>(
+    rt: &R,
+    hall: &Hall,
+    seat: &mut WorkSeat,
+    events: &[WorkEvent],
+) -> io::Result<()>
+    requires { IsSeatOf hall.now seat.old }
+    ensures { IsSeatOf hall.now seat.new }
+{
+    for event in events {
+        happen(rt, hall, seat, *event)?;
+    }
+    Ok(())
+}
+
+/// Collects, and tells the first byte of the data.
+fn take_answer<R: Print>(rt: &R, hall: &Hall, seat: &mut ReqSeat) -> io::Result<()>
+    requires { IsSeatOf hall.now seat.old }
+    ensures { IsSeatOf hall.now seat.new }
+{
+    for _again in 0..3u8 {
+        match collect(hall, seat) {
+            Ok(Some(answer)) => {
+                let byte = match &answer.reply {
+                    Reply::Data(bytes) => bytes.first().copied().unwrap_or(255),
+                    _ => 255,
+                };
+                return print!(rt; "answered {} {} {byte}\n", answer.number, answer.n);
+            }
+            Ok(None) => return print!(rt; "none\n"),
+            Err(refusal) if lacks_memory(refusal) => print!(rt; "refused collect\n")?,
+            Err(refusal) => return print!(rt; "{refusal}\n"),
+        }
+    }
+    Ok(())
+}
+
+/// Closes the hall, and tells how long the history is, whether the fabric is quiet, and the bytes at 0 and 40h.
+fn end<R: Print>(rt: &R, hall: Hall, seat: ReqSeat) -> io::Result<()>
+    requires { IsSeatOf hall seat }
+{
+    match hall.close(seat) {
+        Ok(fabric) => {
+            let added = fabric.bytes().first().copied().unwrap_or(255);
+            let written = fabric.bytes().get(0x40).copied().unwrap_or(255);
+            print!(rt;
+                "closed {} {} {added} {written}\n",
+                fabric.history().len(),
+                fabric.quiet()
+            )
+        }
+        Err(_) => print!(rt; "still held\n"),
+    }
+}
+
+/// A write, and a read of it, by one requester.
+pub fn write_then_read<R: Print>(rt: &R, alloc: Global) -> io::Result<()> {
+    let Some((hall, mut seats, mut workers)) = open(rt, 1, alloc)? else {
+        return print!(rt; "no hall\n");
+    };
+    let (Some(mut seat), Some(mut worker)) = (
+        last_seat(&hall, &mut seats),
+        last_worker(&hall, &mut workers),
+    ) else {
+        return print!(rt; "no seat\n");
+    };
+    ask(rt, &hall, &mut seat, Asked::Write)?;
+    all_happen(rt, &hall, &mut worker, &out_and_served(1))?;
+    ask(rt, &hall, &mut seat, Asked::Read)?;
+    all_happen(rt, &hall, &mut worker, &out_and_served(1))?;
+    all_happen(rt, &hall, &mut worker, &back(1))?;
+    take_answer(rt, &hall, &mut seat)?;
+    end(rt, hall, seat)
+}
+
+/// Two requesters add, meet, and are answered.
+pub fn add_and_meet<R: Print>(rt: &R, alloc: Global) -> io::Result<()> {
+    let Some((hall, mut seats, mut workers)) = open(rt, 2, alloc)? else {
+        return print!(rt; "no hall\n");
+    };
+    let Some(mut two) = last_seat(&hall, &mut seats) else {
+        return print!(rt; "no seat\n");
+    };
+    let Some(mut one) = last_seat(&hall, &mut seats) else {
+        return print!(rt; "no seat\n");
+    };
+    let Some(mut worker) = last_worker(&hall, &mut workers) else {
+        return print!(rt; "no seat\n");
+    };
+    ask(rt, &hall, &mut one, Asked::Add)?;
+    all_happen(rt, &hall, &mut worker, &out_and_served(1))?;
+    ask(rt, &hall, &mut two, Asked::Add)?;
+    let Ok((one, two, n)) = hall.meet(one, two) else {
+        return print!(rt; "no meeting\n");
+    };
+    print!(rt; "met {n}\n")?;
+    all_happen(rt, &hall, &mut worker, &out_and_served(2))?;
+    let Ok((mut one, mut two, n)) = hall.meet(one, two) else {
+        return print!(rt; "no meeting\n");
+    };
+    print!(rt; "met {n}\n")?;
+    all_happen(rt, &hall, &mut worker, &back(1))?;
+    all_happen(rt, &hall, &mut worker, &back(2))?;
+    take_answer(rt, &hall, &mut one)?;
+    take_answer(rt, &hall, &mut two)?;
+    end(rt, hall, one)
+}
