@@ -1,11 +1,11 @@
 //! A small responder over worked inputs, and over streams that fail.
+use crate::rows::{Row, all_right};
 use arrayvec::ArrayVec;
 use line_engine::{EngineFault, Responder, run, write_out};
 use std::alloc::{AllocError, Global};
 use std::cell::Cell;
 use std::io;
 use std::io::{ErrorKind, Read, Write};
-use std::test::Fail;
 
 /// Marks lines with `a` and `b` by turns, tells a long line as a fault, and has no memory for the
 /// line `none`.
@@ -125,72 +125,103 @@ impl Write for FailingWriter {
     }
 }
 
-/// What a run on the input answers, and what was written.
-fn answers(alloc: Global, input: &[u8]) -> (Result<u8, EngineFault>, Vec<u8>) {
+/// A marker before its first line.
+fn new_marker() -> Marker {
+    Marker { is_second: false }
+}
+
+/// Whether a run on the input answers so, and this is written.
+fn answers(alloc: Global, input: &[u8], want: Result<u8, EngineFault>, output: &[u8]) -> bool {
     let mut reader = input;
     let mut writer = Vec::new(alloc);
-    let result = run(alloc, Marker { is_second: false }, &mut reader, &mut writer);
-    (result, writer)
+    let result = run(alloc, new_marker(), &mut reader, &mut writer);
+    result == want && writer.as_slice() == output
 }
+
+/// An input, and what is written of it.
+struct Answered(&'static str, &'static str);
+
+impl Row for Answered {
+    fn is_right(&self, alloc: Global) -> bool {
+        answers(alloc, self.0.as_bytes(), Ok(0), self.1.as_bytes())
+    }
+}
+
+static LINES: [Answered; 5] = [
+    Answered("", "end\n"),
+    Answered("one", "aone\nend\n"),
+    Answered("one\n", "aone\nend\n"),
+    Answered("one\ntwo\nthree", "aone\nbtwo\nathree\nend\n"),
+    Answered("\n\r\n\r\r\n\r", "a\nb\na\r\nb\r\nend\n"),
+];
 
 #[test]
 fn lines(rt: HostRuntime) {
-    let rows = [
-        ("", "end\n"),
-        ("one", "aone\nend\n"),
-        ("one\n", "aone\nend\n"),
-        ("one\ntwo\nthree", "aone\nbtwo\nathree\nend\n"),
-        ("\n\r\n\r\r\n\r", "a\nb\na\r\nb\r\nend\n"),
-    ];
-    for (input, want) in rows {
-        let (result, written) = answers(rt.alloc(), input.as_bytes());
-        assert!(rt;
-            result == Ok(0) && written.as_slice() == want.as_bytes(),
-            "{input}"
-        );
+    assert!(rt; all_right(&LINES, rt.alloc()));
+}
+
+/// A line of so many bytes, how it ends, and whether it is too long.
+struct Long(usize, &'static [u8], bool);
+
+/// The line, with this before and behind it.
+fn framed(alloc: Global, before: &[u8], line: &[u8], behind: &[u8]) -> Result<Vec<u8>, AllocError> {
+    let mut text = Vec::new(alloc);
+    text.extend_from_slice(before)?;
+    text.extend_from_slice(line)?;
+    text.extend_from_slice(behind)?;
+    Ok(text)
+}
+
+/// What is written of a first line and this one.
+fn output_of(alloc: Global, line: &[u8], is_long: bool) -> Result<Vec<u8>, AllocError> {
+    if is_long {
+        framed(alloc, b"aone\n", b"long\n", b"end\n")
+    } else {
+        framed(alloc, b"aone\nb", line, b"\nend\n")
     }
 }
+
+impl Long {
+    /// Whether a first line and this one are answered so.
+    fn is_answered(&self, alloc: Global, line: &[u8]) -> Result<bool, AllocError> {
+        let input = framed(alloc, b"one\n", line, self.1)?;
+        let output = output_of(alloc, line, self.2)?;
+        let want = Ok(u8::from(self.2));
+        Ok(answers(alloc, input.as_slice(), want, output.as_slice()))
+    }
+}
+
+impl Row for Long {
+    fn is_right(&self, alloc: Global) -> bool {
+        match vec![in alloc; b'x'; self.0] {
+            Ok(line) => self.is_answered(alloc, line.as_slice()) == Ok(true),
+            Err(_) => false,
+        }
+    }
+}
+
+static LONG: [Long; 7] = [
+    Long(512, b"\n", false),
+    Long(513, b"\n", true),
+    Long(511, b"\r\n", false),
+    Long(512, b"\r\n", true),
+    Long(512, b"", false),
+    Long(513, b"", true),
+    Long(20000, b"\n", true),
+];
 
 /// The limit is that of the bytes before the line feed, a carriage return with them; the input is
 /// longer than what is read at once.
 #[test]
-fn long_lines(rt: HostRuntime) -> Result<(), Fail> {
-    for (count, end, is_long) in [
-        (512, "\n", false),
-        (513, "\n", true),
-        (511, "\r\n", false),
-        (512, "\r\n", true),
-        (512, "", false),
-        (513, "", true),
-        (20000, "\n", true),
-    ] {
-        let mut input = Vec::new(rt.alloc());
-        input.extend_from_slice(b"one\n")?;
-        let mut want = Vec::new(rt.alloc());
-        want.extend_from_slice(b"aone\n")?;
-        let line = vec![in rt.alloc(); b'x'; count]?;
-        input.extend_from_slice(line.as_slice())?;
-        input.extend_from_slice(end.as_bytes())?;
-        if is_long {
-            want.extend_from_slice(b"long\n")?;
-        } else {
-            want.push(b'b')?;
-            want.extend_from_slice(line.as_slice())?;
-            want.push(b'\n')?;
-        }
-        want.extend_from_slice(b"end\n")?;
-        let (result, written) = answers(rt.alloc(), input.as_slice());
-        let is_well = result == Ok(u8::from(is_long)) && written.as_slice() == want.as_slice();
-        assert!(rt; is_well, "{count}");
-    }
-    Ok(())
+fn long_lines(rt: HostRuntime) {
+    assert!(rt; all_right(&LONG, rt.alloc()));
 }
 
 /// The answers to the lines before are written.
 #[test]
 fn no_memory(rt: HostRuntime) {
-    let (result, written) = answers(rt.alloc(), b"one\nnone\ntwo\n");
-    assert!(rt; result == Err(EngineFault::Memory) && written.as_slice() == b"aone\n".as_slice());
+    let want = Err(EngineFault::Memory);
+    assert!(rt; answers(rt.alloc(), b"one\nnone\ntwo\n", want, b"aone\n"));
 }
 
 const INPUT: &[u8] = b"one\ntwo\nthree";
@@ -212,15 +243,22 @@ fn ends_at_read(alloc: Global, place: usize) -> bool {
         rest: &INPUT[..place.min(INPUT.len())],
     };
     let mut writer = Vec::new(alloc);
-    let result = run(alloc, Marker { is_second: false }, &mut reader, &mut writer);
+    let result = run(alloc, new_marker(), &mut reader, &mut writer);
     result == Err(EngineFault::Read) && writer.as_slice() == before(place)
+}
+
+/// Whether runs end by the reader's failing at each place.
+fn all_end_at_read(alloc: Global) -> bool {
+    let mut right = true;
+    for place in 0..=INPUT.len() {
+        right &= ends_at_read(alloc, place);
+    }
+    right
 }
 
 #[test]
 fn each_read_fails(rt: HostRuntime) {
-    for place in 0..=INPUT.len() {
-        assert!(rt; ends_at_read(rt.alloc(), place), "at {place}");
-    }
+    assert!(rt; all_end_at_read(rt.alloc()));
 }
 
 /// Whether a run over this writer ends so, having written so many bytes of the output.
@@ -231,61 +269,73 @@ fn ends_so(
     count: usize,
 ) -> bool {
     let mut reader = INPUT;
-    let result = run(alloc, Marker { is_second: false }, &mut reader, writer);
+    let result = run(alloc, new_marker(), &mut reader, writer);
     result == want && OUTPUT.starts_with(writer.taken.as_slice()) && writer.taken.len() == count
+}
+
+/// Whether a run ends by the writer's failing after so many writes.
+fn ends_at_write(alloc: Global, writes: usize, takes_none: bool) -> bool {
+    let mut writer = FailingWriter::new(alloc, writes, usize::MAX, takes_none);
+    ends_so(alloc, &mut writer, Err(EngineFault::Write), writes)
+}
+
+/// Whether runs end by the writer's failing at each write.
+fn all_end_at_write(alloc: Global, takes_none: bool) -> bool {
+    let mut right = true;
+    for writes in 0..OUTPUT.len() {
+        right &= ends_at_write(alloc, writes, takes_none);
+    }
+    right
 }
 
 #[test]
 fn each_write_fails(rt: HostRuntime) {
-    for takes_none in [false, true] {
-        for writes in 0..OUTPUT.len() {
-            let mut writer = FailingWriter::new(rt.alloc(), writes, usize::MAX, takes_none);
-            let want = Err(EngineFault::Write);
-            assert!(rt;
-                ends_so(rt.alloc(), &mut writer, want, writes),
-                "at {writes}"
-            );
-        }
-    }
+    assert!(rt; all_end_at_write(rt.alloc(), false) && all_end_at_write(rt.alloc(), true));
+}
+
+/// Whether a run ends by the writer's failing at its first flush.
+fn ends_at_flush(alloc: Global) -> bool {
+    let mut writer = FailingWriter::new(alloc, usize::MAX, 0, false);
+    ends_so(alloc, &mut writer, Err(EngineFault::Write), 10)
 }
 
 #[test]
 fn a_flush_fails(rt: HostRuntime) {
-    let mut writer = FailingWriter::new(rt.alloc(), usize::MAX, 0, false);
-    let want = Err(EngineFault::Write);
-    assert!(rt; ends_so(rt.alloc(), &mut writer, want, 10));
+    assert!(rt; ends_at_flush(rt.alloc()));
+}
+
+/// Whether a run ends well where just its output can be written, and shows it all.
+fn ends_well(alloc: Global) -> bool {
+    let mut writer = FailingWriter::new(alloc, OUTPUT.len(), usize::MAX, true);
+    ends_so(alloc, &mut writer, Ok(0), OUTPUT.len()) && writer.shown == OUTPUT.len()
 }
 
 #[test]
 fn no_write_fails(rt: HostRuntime) {
-    let mut writer = FailingWriter::new(rt.alloc(), OUTPUT.len(), usize::MAX, true);
-    assert!(rt; ends_so(rt.alloc(), &mut writer, Ok(0), OUTPUT.len()));
-    assert_eq!(rt; writer.shown, OUTPUT.len());
+    assert!(rt; ends_well(rt.alloc()));
 }
 
-/// What `write_out` answers, what was written, and how much of it is shown.
-fn written(
-    alloc: Global,
-    writes: usize,
-    flushes: usize,
-) -> (Result<(), EngineFault>, usize, usize) {
-    let mut writer = FailingWriter::new(alloc, writes, flushes, false);
-    let result = write_out(&mut writer, b"12345");
-    (result, writer.taken.len(), writer.shown)
+/// The writes and the flushes of a writer; what `write_out` of five bytes to it answers, how many of
+/// them were taken, and how many are shown.
+struct Written(usize, usize, Result<(), EngineFault>, usize, usize);
+
+impl Row for Written {
+    fn is_right(&self, alloc: Global) -> bool {
+        let mut writer = FailingWriter::new(alloc, self.0, self.1, false);
+        let result = write_out(&mut writer, b"12345");
+        result == self.2 && writer.taken.len() == self.3 && writer.shown == self.4
+    }
 }
+
+static WRITTEN: [Written; 3] = [
+    Written(5, 1, Ok(()), 5, 5),
+    Written(4, 1, Err(EngineFault::Write), 4, 0),
+    Written(5, 0, Err(EngineFault::Write), 5, 0),
+];
 
 #[test]
 fn bytes_written(rt: HostRuntime) {
-    for (writes, flushes, want) in [
-        (5, 1, (Ok(()), 5, 5)),
-        (4, 1, (Err(EngineFault::Write), 4, 0)),
-        (5, 0, (Err(EngineFault::Write), 5, 0)),
-    ] {
-        assert!(rt;
-            written(rt.alloc(), writes, flushes) == want,
-            "{writes} {flushes}"
-        );
-    }
+    assert!(rt; all_right(&WRITTEN, rt.alloc()));
 }
 
 /// A user at a terminal gives a line once the answers to all lines before it are shown, and else
@@ -344,9 +394,8 @@ impl Write for Terminal<'_> {
     }
 }
 
-/// Each answer is shown before more is read.
-#[test]
-fn answers_are_shown_at_once(rt: HostRuntime) {
+/// Whether a user at a terminal gives all lines, and the run ends well.
+fn user_is_answered(alloc: Global) -> bool {
     let shown = Cell::new(0);
     let mut user = User {
         lines: &["one\n", "two\n", "three\n"],
@@ -357,20 +406,34 @@ fn answers_are_shown_at_once(rt: HostRuntime) {
         lines: 0,
         shown: &shown,
     };
-    let marker = Marker { is_second: false };
-    assert_eq!(rt; run(rt.alloc(), marker, &mut user, &mut terminal), Ok(0));
+    run(alloc, new_marker(), &mut user, &mut terminal) == Ok(0)
 }
 
-/// The name of each fault.
+/// Each answer is shown before more is read.
 #[test]
-fn names_of_faults(rt: HostRuntime) {
-    for (fault, number, name) in [
-        (EngineFault::Read, 1, "read"),
-        (EngineFault::Write, 2, "write"),
-        (EngineFault::Memory, 3, "memory"),
-    ] {
+fn answers_are_shown_at_once(rt: HostRuntime) {
+    assert!(rt; user_is_answered(rt.alloc()));
+}
+
+/// A fault, its number and its name.
+struct Named(EngineFault, u8, &'static str);
+
+impl Row for Named {
+    fn is_right(&self, _: Global) -> bool {
+        let fault = self.0;
         let mut text: ArrayVec<u8, 16> = ArrayVec::new();
         let _ = write!(text, "{fault}");
-        assert!(rt; fault.number() == number && text.as_slice() == name.as_bytes());
+        fault.number() == self.1 && text.as_slice() == self.2.as_bytes()
     }
+}
+
+static FAULTS: [Named; 3] = [
+    Named(EngineFault::Read, 1, "read"),
+    Named(EngineFault::Write, 2, "write"),
+    Named(EngineFault::Memory, 3, "memory"),
+];
+
+#[test]
+fn names_of_faults(rt: HostRuntime) {
+    assert!(rt; all_right(&FAULTS, rt.alloc()));
 }

@@ -1,174 +1,225 @@
 //! Worked texts of traces, in both versions.
-use history_check::check;
-use std::alloc::Global;
-use std::test::Fail;
+use crate::rows::{Row, all_right};
+use history_check::{Trace, check};
+use seq_memory::Entry;
+use std::alloc::{AllocError, Global};
 use trace_format::{
     ReadFault, ReadFaultKind, TraceReader, own_text_spells_trace, read_trace, write_trace,
 };
 
-/// The number of the fault's line, and the name of the fault; 0 and nothing where the text is read.
-fn fault_of(alloc: Global, text: &[u8]) -> (u64, &'static str) {
-    match read_trace(alloc, text) {
-        Ok(_) => (0, ""),
-        Err(fault) => (fault.line, fault.kind.name()),
+/// The fault of the text.
+fn fault_of(alloc: Global, text: &str) -> Option<ReadFault> {
+    read_trace(alloc, text.as_bytes()).err()
+}
+
+/// A text, the number of its fault's line, and the name of the fault; 0 and nothing where it is read.
+struct Fault(&'static str, u64, &'static str);
+
+impl Row for Fault {
+    fn is_right(&self, alloc: Global) -> bool {
+        match fault_of(alloc, self.0) {
+            Some(fault) => fault.line == self.1 && fault.kind.name() == self.2,
+            None => self.1 == 0 && self.2.is_empty(),
+        }
     }
 }
+
+static FAULTS: [Fault; 31] = [
+    Fault("", 1, "Head"),
+    Fault("#\n\n# x\n", 4, "Head"),
+    Fault("pciex-trace 3\n", 1, "Head"),
+    Fault("pciex-trace 1 \n", 1, "Head"),
+    Fault("memory 0 4096\n", 1, "Head"),
+    Fault("pciex-trace 1\r", 1, "Head"),
+    Fault("pciex-trace 1", 2, "Line"),
+    Fault("pciex-trace 1\n\n", 3, "Line"),
+    Fault("pciex-trace 1\nmemory 0 4096 64\n", 2, "Line"),
+    Fault("pciex-trace 2\nmemory 0 4096\n", 2, "Line"),
+    Fault("pciex-trace 2\nmemory 0 4096 96\n", 2, "Line"),
+    Fault("pciex-trace 1\nmemory 00 4096\n", 2, "Line"),
+    Fault("pciex-trace 1\nmemory 40 4096\n", 2, "Line"),
+    Fault("pciex-trace 2\nmemory 8 4096 64\n", 2, "Line"),
+    Fault("pciex-trace 2\nmemory 0 2 128\n", 2, "Line"),
+    Fault("pciex-trace 1\nmemory 0 100\n", 2, "Line"),
+    Fault(
+        "pciex-trace 1\nmemory 0 4096\nans 1 0 0 done\nsub 1 0 0 read 40 1 F 0\nend\n",
+        3,
+        "Line",
+    ),
+    Fault("pciex-trace 1\nmemory 0  4096\n", 2, "Line"),
+    Fault("pciex-trace 1\nhistory\n", 2, "Section"),
+    Fault("pciex-trace 1\nmemory 0 4096\n", 3, "Section"),
+    Fault("pciex-trace 1\nmemory 0 4096\nhistory\n", 4, "Section"),
+    Fault("pciex-trace 1\nmemory 0 4096\nend\n", 3, "Section"),
+    Fault(
+        "pciex-trace 1\nmemory 0 4096\npciex-trace 2\n",
+        3,
+        "Section",
+    ),
+    Fault(
+        "pciex-trace 1\nmemory 0 4096\nsub 0 0 0 read 40 1 F 0\n",
+        3,
+        "Line",
+    ),
+    Fault(
+        "pciex-trace 1\nmemory 0 4096\nsub 8 0 0 read 40 1 F 0\n",
+        3,
+        "Line",
+    ),
+    Fault(
+        "pciex-trace 1\nmemory 0 4096\nsub 1 4294967295 0 read 40 1 F 0\n",
+        3,
+        "Line",
+    ),
+    Fault(
+        "pciex-trace 1\nmemory 0 4096\nsub 1 0 18446744073709551616 read 40 1 F 0\n",
+        3,
+        "Line",
+    ),
+    Fault("pciex-trace 1\nmemory 0 4096\nans 1 0 0 done\n", 3, "Line"),
+    Fault(
+        "pciex-trace 1\nmemory 0 4096\nhistory\nsub 1 0 0 read 40 1 F 0\n",
+        4,
+        "Section",
+    ),
+    Fault(
+        "pciex-trace 1\nmemory 0 4096\nhistory\nend\nend\n",
+        5,
+        "Section",
+    ),
+    Fault(
+        "pciex-trace 1\nmemory 0 4096\nhistory\nend\r\n# x\n\n",
+        0,
+        "",
+    ),
+];
 
 #[test]
 fn faults(rt: HostRuntime) {
-    let rows: [(&[u8], u64, &str); 31] = [
-        (b"", 1, "Head"),
-        (b"#\n\n# x\n", 4, "Head"),
-        (b"pciex-trace 3\n", 1, "Head"),
-        (b"pciex-trace 1 \n", 1, "Head"),
-        (b"memory 0 4096\n", 1, "Head"),
-        (b"pciex-trace 1\r", 1, "Head"),
-        (b"pciex-trace 1", 2, "Line"),
-        (b"pciex-trace 1\n\n", 3, "Line"),
-        (b"pciex-trace 1\nmemory 0 4096 64\n", 2, "Line"),
-        (b"pciex-trace 2\nmemory 0 4096\n", 2, "Line"),
-        (b"pciex-trace 2\nmemory 0 4096 96\n", 2, "Line"),
-        (b"pciex-trace 1\nmemory 00 4096\n", 2, "Line"),
-        (b"pciex-trace 1\nmemory 40 4096\n", 2, "Line"),
-        (b"pciex-trace 2\nmemory 8 4096 64\n", 2, "Line"),
-        (b"pciex-trace 2\nmemory 0 2 128\n", 2, "Line"),
-        (b"pciex-trace 1\nmemory 0 100\n", 2, "Line"),
-        (
-            b"pciex-trace 1\nmemory 0 4096\nans 1 0 0 done\nsub 1 0 0 read 40 1 F 0\nend\n",
-            3,
-            "Line",
-        ),
-        (b"pciex-trace 1\nmemory 0  4096\n", 2, "Line"),
-        (b"pciex-trace 1\nhistory\n", 2, "Section"),
-        (b"pciex-trace 1\nmemory 0 4096\n", 3, "Section"),
-        (b"pciex-trace 1\nmemory 0 4096\nhistory\n", 4, "Section"),
-        (b"pciex-trace 1\nmemory 0 4096\nend\n", 3, "Section"),
-        (
-            b"pciex-trace 1\nmemory 0 4096\npciex-trace 2\n",
-            3,
-            "Section",
-        ),
-        (
-            b"pciex-trace 1\nmemory 0 4096\nsub 0 0 0 read 40 1 F 0\n",
-            3,
-            "Line",
-        ),
-        (
-            b"pciex-trace 1\nmemory 0 4096\nsub 8 0 0 read 40 1 F 0\n",
-            3,
-            "Line",
-        ),
-        (
-            b"pciex-trace 1\nmemory 0 4096\nsub 1 4294967295 0 read 40 1 F 0\n",
-            3,
-            "Line",
-        ),
-        (
-            b"pciex-trace 1\nmemory 0 4096\nsub 1 0 18446744073709551616 read 40 1 F 0\n",
-            3,
-            "Line",
-        ),
-        (b"pciex-trace 1\nmemory 0 4096\nans 1 0 0 done\n", 3, "Line"),
-        (
-            b"pciex-trace 1\nmemory 0 4096\nhistory\nsub 1 0 0 read 40 1 F 0\n",
-            4,
-            "Section",
-        ),
-        (
-            b"pciex-trace 1\nmemory 0 4096\nhistory\nend\nend\n",
-            5,
-            "Section",
-        ),
-        (
-            b"pciex-trace 1\nmemory 0 4096\nhistory\nend\r\n# x\n\n",
-            0,
-            "",
-        ),
-    ];
-    for (text, line, name) in rows {
-        assert_eq!(rt; fault_of(rt.alloc(), text), (line, name));
-    }
+    assert!(rt; all_right(&FAULTS, rt.alloc()));
 }
 
-#[test]
-fn long_lines(rt: HostRuntime) -> Result<(), Fail> {
-    let mut reader = TraceReader::new(rt.alloc());
+/// A fault of the third line.
+const THIRD: ReadFault = ReadFault {
+    kind: ReadFaultKind::Line,
+    line: 3,
+};
+
+/// Takes four lines, the third of them too long.
+fn take(reader: &mut TraceReader) -> Result<(), AllocError> {
     reader.line(b"pciex-trace 1")?;
     reader.line(b"# x")?;
     reader.long_line();
-    reader.line(b"memory 0 4096")?;
-    let fault = ReadFault {
-        kind: ReadFaultKind::Line,
-        line: 3,
-    };
-    assert_eq!(rt; reader.fault(), Some(fault));
-    assert_eq!(rt; reader.out_of_memory().kind.number(), 4);
-    assert_eq!(rt;
-        format!(in rt.alloc(); "{fault}")?.as_str(),
-        "Line in line 3"
-    );
-    assert_eq!(rt; reader.end().err(), Some(fault));
-    Ok(())
+    reader.line(b"memory 0 4096")
+}
+
+/// Whether the lines are taken, the third being at fault.
+fn takes(reader: &mut TraceReader) -> bool {
+    let taken = take(reader).is_ok();
+    taken && reader.fault() == Some(THIRD) && reader.out_of_memory().kind.number() == 4
+}
+
+fn has_long_line(alloc: Global) -> bool {
+    let mut reader = TraceReader::new(alloc);
+    let taken = takes(&mut reader);
+    match reader.end() {
+        Ok(_) => false,
+        Err(fault) => taken && fault == THIRD,
+    }
+}
+
+/// Whether the fault is told so.
+fn is_told(alloc: Global, fault: ReadFault) -> bool {
+    match format!(in alloc; "{fault}") {
+        Ok(text) => text.as_str() == "Line in line 3",
+        Err(_) => false,
+    }
+}
+
+#[test]
+fn long_lines(rt: HostRuntime) {
+    assert!(rt; has_long_line(rt.alloc()) && is_told(rt.alloc(), THIRD));
 }
 
 /// The number of the first flaw, and its place; 0 where there is none.
-fn flaw_of(alloc: Global, text: &[u8]) -> Result<(u8, usize), ReadFault> {
-    let (trace, history) = read_trace(alloc, text)?;
-    match check(alloc, &trace, &history) {
-        Ok(()) => Ok((0, 0)),
-        Err(flaw) => Ok((flaw.kind.number(), flaw.place)),
+fn flaw_of(alloc: Global, trace: &Trace, history: &[Entry]) -> (u8, usize) {
+    match check(alloc, trace, history) {
+        Ok(()) => (0, 0),
+        Err(flaw) => (flaw.kind.number(), flaw.place),
+    }
+}
+
+/// A text, the number of its first flaw, and the place of that; 0 where there is none.
+struct Flawed(&'static str, u8, usize);
+
+impl Row for Flawed {
+    fn is_right(&self, alloc: Global) -> bool {
+        match read_trace(alloc, self.0.as_bytes()) {
+            Ok((trace, history)) => flaw_of(alloc, &trace, history.as_slice()) == (self.1, self.2),
+            Err(_) => false,
+        }
+    }
+}
+
+static CHECKED: [Flawed; 5] = [
+    Flawed(
+        "pciex-trace 1\nmemory 0 4096\nsub 1 0 0 read 40 1 F 0\nsub 1 1 0 write 40 F 0 01020304\nans 1 0 2 data 01020304\nhistory\nent 1 1 write 40 F 0 01020304\nent 1 0 read 40 1 F 0\nend\n",
+        0,
+        0,
+    ),
+    Flawed(
+        "pciex-trace 2\nmemory 0 4096 64\nsub 1 0 0 read 40 1 f 0\nsub 1 1 0 write 40 F 0 01020304\nans 1 0 2 data 00000000\nhistory\nent 1 1 write 40 F 0 01020304\nent 1 0 read 40 1 F 0\nend\n",
+        10,
+        2,
+    ),
+    Flawed(
+        "pciex-trace 2\nmemory 0 4096 64\nsub 1 0 0 read 40 1 f 0\nsub 1 1 0 write 40 F 0 01020304\nans 1 0 1 data 01020304\nhistory\nent 1 1 write 40 F 0 01020304\nent 1 0 read 40 1 F 0\nend\n",
+        9,
+        2,
+    ),
+    Flawed(
+        "pciex-trace 2\nmemory 0 4096 128\nsub 1 0 0 read 3C 2 F F\nans 1 0 1 data 0000000000000000\nhistory\nent 1 0 read 3C 2 F F\nend\n",
+        0,
+        0,
+    ),
+    Flawed(
+        "pciex-trace 2\nmemory 0 4096 64\nsub 1 0 0 read 3C 2 F F\nans 1 0 1 data 0000000000000000\nhistory\nent 1 0 read 3C 2 F F\nend\n",
+        10,
+        1,
+    ),
+];
+
+#[test]
+fn checked(rt: HostRuntime) {
+    assert!(rt; all_right(&CHECKED, rt.alloc()));
+}
+
+/// A text in the first version.
+const FIRST: &[u8] =
+    b"pciex-trace 1\n# seen\nmemory ff80 4096\r\n\nsub 1 0 0 read 40 1 f 0\nsub 7 0 0 write 3c F a 0a0b0C0d0A0B0C0D\nans 1 0 2 ur\nhistory\nent 1 0 read 40 1 F 0\nend";
+
+/// The same in the second, as it is written.
+const SECOND: &str =
+    "pciex-trace 2\nmemory FF80 4096 64\nsub 1 0 0 read 40 1 F 0\nsub 7 0 0 write 3C F A 0A0B0C0D0A0B0C0D\nans 1 0 2 ur\nhistory\nent 1 0 read 40 1 F 0\nend\n";
+
+/// Whether the second text is written of these.
+fn is_second(alloc: Global, trace: &Trace, history: &[Entry]) -> bool {
+    match write_trace(alloc, trace, history) {
+        Ok(text) => text.as_str() == SECOND,
+        Err(_) => false,
+    }
+}
+
+/// Whether the text is read, and written as the second.
+fn is_upgraded(alloc: Global, text: &[u8]) -> bool {
+    match read_trace(alloc, text) {
+        Ok((trace, history)) => is_second(alloc, &trace, history.as_slice()),
+        Err(_) => false,
     }
 }
 
 #[test]
-fn checked(rt: HostRuntime) -> Result<(), Fail> {
-    let rows: [(&[u8], u8, usize); 5] = [
-        (
-            b"pciex-trace 1\nmemory 0 4096\nsub 1 0 0 read 40 1 F 0\nsub 1 1 0 write 40 F 0 01020304\nans 1 0 2 data 01020304\nhistory\nent 1 1 write 40 F 0 01020304\nent 1 0 read 40 1 F 0\nend\n",
-            0,
-            0,
-        ),
-        (
-            b"pciex-trace 2\nmemory 0 4096 64\nsub 1 0 0 read 40 1 f 0\nsub 1 1 0 write 40 F 0 01020304\nans 1 0 2 data 00000000\nhistory\nent 1 1 write 40 F 0 01020304\nent 1 0 read 40 1 F 0\nend\n",
-            10,
-            2,
-        ),
-        (
-            b"pciex-trace 2\nmemory 0 4096 64\nsub 1 0 0 read 40 1 f 0\nsub 1 1 0 write 40 F 0 01020304\nans 1 0 1 data 01020304\nhistory\nent 1 1 write 40 F 0 01020304\nent 1 0 read 40 1 F 0\nend\n",
-            9,
-            2,
-        ),
-        (
-            b"pciex-trace 2\nmemory 0 4096 128\nsub 1 0 0 read 3C 2 F F\nans 1 0 1 data 0000000000000000\nhistory\nent 1 0 read 3C 2 F F\nend\n",
-            0,
-            0,
-        ),
-        (
-            b"pciex-trace 2\nmemory 0 4096 64\nsub 1 0 0 read 3C 2 F F\nans 1 0 1 data 0000000000000000\nhistory\nent 1 0 read 3C 2 F F\nend\n",
-            10,
-            1,
-        ),
-    ];
-    for (text, number, place) in rows {
-        assert_eq!(rt;
-            flaw_of(rt.alloc(), text).map_err(|_| "fault")?,
-            (number, place)
-        );
-    }
-    Ok(())
-}
-
-#[test]
-fn upgraded(rt: HostRuntime) -> Result<(), Fail> {
-    let first: &[u8] =
-        b"pciex-trace 1\n# seen\nmemory ff80 4096\r\n\nsub 1 0 0 read 40 1 f 0\nsub 7 0 0 write 3c F a 0a0b0C0d0A0B0C0D\nans 1 0 2 ur\nhistory\nent 1 0 read 40 1 F 0\nend";
-    let second =
-        "pciex-trace 2\nmemory FF80 4096 64\nsub 1 0 0 read 40 1 F 0\nsub 7 0 0 write 3C F A 0A0B0C0D0A0B0C0D\nans 1 0 2 ur\nhistory\nent 1 0 read 40 1 F 0\nend\n";
-    for text in [first, second.as_bytes()] {
-        let (trace, history) = read_trace(rt.alloc(), text).map_err(|_| "fault")?;
-        let own = write_trace(rt.alloc(), &trace, &history)?;
-        assert_eq!(rt; own.as_str(), second);
-    }
+fn upgraded(rt: HostRuntime) {
     own_text_spells_trace();
-    Ok(())
+    assert!(rt; is_upgraded(rt.alloc(), FIRST) && is_upgraded(rt.alloc(), SECOND.as_bytes()));
 }
