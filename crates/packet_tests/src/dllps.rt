@@ -1,7 +1,8 @@
 //! Worked packets of the data link layer, and bytes that are none.
+use crate::rows::{Row, all_right};
 use dllp_core::{Class, Dllp, DllpFault, decode, encode};
 use seq12::Seq12;
-use std::test::Fail;
+use std::alloc::Global;
 
 /// The bytes of a DLLP whose credits fit.
 fn encoded(dllp: Dllp) -> Option<[u8; 4]> {
@@ -13,56 +14,106 @@ fn encoded(dllp: Dllp) -> Option<[u8; 4]> {
     Some(encode(&dllp))
 }
 
+/// Whether the DLLP has these bytes, and is read of them.
+fn is_spelled(dllp: Dllp, bytes: [u8; 4]) -> bool {
+    let spelled = dllp;
+    encoded(dllp) == Some(bytes) && decode(&bytes) == Ok(spelled)
+}
+
+/// An update, and its bytes.
+struct Update(Class, u8, u16, [u8; 4]);
+
+impl Row for Update {
+    fn is_right(&self) -> bool {
+        is_spelled(Dllp::Update(self.0, self.1, self.2), self.3)
+    }
+}
+
+static UPDATES: [Update; 3] = [
+    Update(Class::Posted, 5, 300, [0x80, 0x01, 0x41, 0x2C]),
+    Update(Class::NonPosted, 255, 4095, [0x90, 0x3F, 0xCF, 0xFF]),
+    Update(Class::NonPosted, 2, 3, [0x90, 0x00, 0x80, 0x03]),
+];
+
+/// Whether an Ack and a Nak have their bytes.
+fn answers_are_spelled() -> bool {
+    let ack = is_spelled(Dllp::Ack(Seq12::new(0)), [0x00, 0x00, 0x00, 0x00]);
+    let nak = is_spelled(Dllp::Nak(Seq12::new(0xFFF)), [0x10, 0x00, 0x0F, 0xFF]);
+    ack && nak
+}
+
 #[test]
 fn bytes_of_each_kind(rt: HostRuntime) {
-    for (dllp, bytes) in [
-        (Dllp::Ack(Seq12::new(0)), [0x00, 0x00, 0x00, 0x00]),
-        (Dllp::Nak(Seq12::new(0xFFF)), [0x10, 0x00, 0x0F, 0xFF]),
-        (
-            Dllp::Update(Class::Posted, 5, 300),
-            [0x80, 0x01, 0x41, 0x2C],
-        ),
-        (
-            Dllp::Update(Class::NonPosted, 255, 4095),
-            [0x90, 0x3F, 0xCF, 0xFF],
-        ),
-        (
-            Dllp::Update(Class::NonPosted, 2, 3),
-            [0x90, 0x00, 0x80, 0x03],
-        ),
-    ] {
-        let spelled = dllp;
-        assert_eq!(rt; encoded(dllp), Some(bytes));
-        assert_eq!(rt; decode(&bytes), Ok(spelled));
+    assert!(rt; answers_are_spelled() && all_right(&UPDATES));
+}
+
+/// Whether the byte is that of a kind just where it should be.
+fn is_named(code: u8) -> bool {
+    let spelled = matches!(code, 0x00 | 0x10 | 0x80 | 0x90 | 0xA0);
+    match decode(&[code, 0, 0, 0]) {
+        Ok(_) => spelled,
+        Err(fault) => !spelled && fault == DllpFault::Kind,
     }
+}
+
+fn all_are_named() -> bool {
+    let mut right = true;
+    for code in 0..=255u8 {
+        right &= is_named(code);
+    }
+    right
 }
 
 #[test]
 fn byte_0_names_five_kinds(rt: HostRuntime) {
-    for code in 0..=255u8 {
-        let spelled = matches!(code, 0x00 | 0x10 | 0x80 | 0x90 | 0xA0);
-        let read = decode(&[code, 0, 0, 0]);
-        assert_eq!(rt; read.is_ok(), spelled, "at {code}");
-        assert_eq!(rt; read == Err(DllpFault::Kind), !spelled, "at {code}");
+    assert!(rt; all_are_named());
+}
+
+/// Bytes that are no DLLP, and why.
+struct NoDllp(&'static [u8], DllpFault);
+
+impl Row for NoDllp {
+    fn is_right(&self) -> bool {
+        decode(self.0) == Err(self.1)
     }
 }
 
+static NO_DLLPS: [NoDllp; 4] = [
+    NoDllp(&[0x80, 0x40, 0x00, 0x00], DllpFault::Scaled),
+    NoDllp(&[0x80, 0x00, 0x10, 0x00], DllpFault::Scaled),
+    NoDllp(&[0x80, 0x00, 0x00], DllpFault::Short),
+    NoDllp(&[0x80, 0x00, 0x00, 0x00, 0x00], DllpFault::Short),
+];
+
 #[test]
-fn scaled_and_short(rt: HostRuntime) -> Result<(), Fail> {
-    assert_eq!(rt; decode(&[0x80, 0x40, 0x00, 0x00]), Err(DllpFault::Scaled));
-    assert_eq!(rt; decode(&[0x80, 0x00, 0x10, 0x00]), Err(DllpFault::Scaled));
-    assert_eq!(rt; decode(&[0x80, 0x00, 0x00]), Err(DllpFault::Short));
-    assert_eq!(rt;
-        decode(&[0x80, 0x00, 0x00, 0x00, 0x00]),
-        Err(DllpFault::Short)
-    );
-    for (fault, number, name) in [
-        (DllpFault::Short, 1, "Short"),
-        (DllpFault::Kind, 2, "Kind"),
-        (DllpFault::Scaled, 3, "Scaled"),
-    ] {
-        assert_eq!(rt; fault.number(), number);
-        assert_eq!(rt; format!(in rt.alloc(); "{fault}")?.as_str(), name);
+fn scaled_and_short(rt: HostRuntime) {
+    assert!(rt; all_right(&NO_DLLPS));
+}
+
+/// Faults, their numbers and their names.
+const FAULTS: [(DllpFault, u8, &str); 3] = [
+    (DllpFault::Short, 1, "Short"),
+    (DllpFault::Kind, 2, "Kind"),
+    (DllpFault::Scaled, 3, "Scaled"),
+];
+
+/// Whether the fault has this number, and is told so.
+fn is_told(alloc: Global, fault: DllpFault, number: u8, name: &str) -> bool {
+    match format!(in alloc; "{fault}") {
+        Ok(text) => text.as_str() == name && fault.number() == number,
+        Err(_) => false,
     }
-    Ok(())
+}
+
+fn all_are_told(alloc: Global) -> bool {
+    let mut right = true;
+    for (fault, number, name) in FAULTS {
+        right &= is_told(alloc, fault, number, name);
+    }
+    right
+}
+
+#[test]
+fn names_and_numbers(rt: HostRuntime) {
+    assert!(rt; all_are_told(rt.alloc()));
 }

@@ -4,6 +4,8 @@
 #[cfg(test)]
 mod dllps;
 #[cfg(test)]
+mod rows;
+#[cfg(test)]
 mod texts;
 #[cfg(test)]
 mod tlps;

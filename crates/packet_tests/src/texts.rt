@@ -1,124 +1,250 @@
 //! Worked texts of operations and replies, and texts that spell nothing.
+use crate::rows::{Row, all_right};
 use arrayvec::ArrayString;
 use operation_text::{
     cut, is_ended, number, op_behind, own_digits_spell_number, own_text_spells_operation,
     own_text_spells_reply, read_op, read_reply, reply_behind, write_op, write_reply,
 };
 use seq_memory::Reply;
-use std::test::Fail;
 use tlp_core::{Op, Width};
 
-#[test]
-fn operations(rt: HostRuntime) -> Result<(), Fail> {
-    let read = Op::Read {
-        address: 0x3C,
-        dw: 2,
-        first: 15,
-        last: 10,
-    };
-    assert_eq!(rt; read_op(b"read 3C 2 F A"), Some(read));
-    let add = Op::FetchAdd {
-        address: 0x40,
-        width: Width::Four,
-        operand: 0x0A00_0007,
-    };
-    assert_eq!(rt; read_op(b"add 40 0700000a"), Some(add));
-    let cas = Op::Cas {
-        address: 0,
-        width: Width::Eight,
-        compare: 1,
-        swap: 0x0100_0000_0000_0000,
-    };
-    let text = b"cas 0 0100000000000000 0000000000000001";
-    assert_eq!(rt; read_op(text), Some(cas));
-    let write = read_op(b"write FFFFFFFFFFFFFFFF 0 F 01").ok_or("no write")?;
-    assert_eq!(rt; (write.address(), write.size()), (u64::MAX, 1));
-    let swap = read_op(b"swap 8 000102030405060708090A0B0C0D0E0F").ok_or("no swap")?;
-    assert_eq!(rt; (swap.address(), swap.size()), (8, 16));
-    Ok(())
+/// An operation that holds no bytes.
+#[derive(Clone, Copy)]
+enum Access {
+    Read(u64, u16, u8, u8),
+    Add(u64, u128),
+    Cas(u64, u128, u128),
 }
+
+fn op_of(access: Access) -> Op {
+    match access {
+        Access::Read(address, dw, first, last) => Op::Read {
+            address,
+            dw,
+            first,
+            last,
+        },
+        Access::Add(address, operand) => Op::FetchAdd {
+            address,
+            width: Width::Four,
+            operand,
+        },
+        Access::Cas(address, compare, swap) => Op::Cas {
+            address,
+            width: Width::Eight,
+            compare,
+            swap,
+        },
+    }
+}
+
+/// A text, and the operation that it spells.
+struct Spells(&'static str, Access);
+
+impl Row for Spells {
+    fn is_right(&self) -> bool {
+        read_op(self.0.as_bytes()) == Some(op_of(self.1))
+    }
+}
+
+static OPERATIONS: [Spells; 3] = [
+    Spells("read 3C 2 F A", Access::Read(0x3C, 2, 15, 10)),
+    Spells("add 40 0700000a", Access::Add(0x40, 0x0A00_0007)),
+    Spells(
+        "cas 0 0100000000000000 0000000000000001",
+        Access::Cas(0, 1, 0x0100_0000_0000_0000),
+    ),
+];
+
+/// A text, and the address and the size of the operation that it spells.
+struct Touches(&'static str, u64, u32);
+
+impl Row for Touches {
+    fn is_right(&self) -> bool {
+        match read_op(self.0.as_bytes()) {
+            Some(op) => op.address() == self.1 && op.size() == self.2,
+            None => false,
+        }
+    }
+}
+
+static PLACES: [Touches; 2] = [
+    Touches("write FFFFFFFFFFFFFFFF 0 F 01", u64::MAX, 1),
+    Touches("swap 8 000102030405060708090A0B0C0D0E0F", 8, 16),
+];
+
+#[test]
+fn operations(rt: HostRuntime) {
+    assert!(rt; all_right(&OPERATIONS) && all_right(&PLACES));
+}
+
+/// A text that spells no operation.
+struct NoOp(&'static str);
+
+impl Row for NoOp {
+    fn is_right(&self) -> bool {
+        read_op(self.0.as_bytes()).is_none()
+    }
+}
+
+static NO_OPERATIONS: [NoOp; 14] = [
+    NoOp(""),
+    NoOp("read"),
+    NoOp("Read 40 1 F 0"),
+    NoOp("read 40 1 F 0 "),
+    NoOp("read  40 1 F 0"),
+    NoOp("read 040 1 F 0"),
+    NoOp("read +40 1 F 0"),
+    NoOp("read 40 65536 F 0"),
+    NoOp("read 40 1 10 0"),
+    NoOp("read 10000000000000000 1 F 0"),
+    NoOp("write 40 F 0 "),
+    NoOp("write 40 F 0 012"),
+    NoOp("add 40 0102"),
+    NoOp("cas 40 01000000 0100000000000000"),
+];
 
 #[test]
 fn no_operations(rt: HostRuntime) {
-    let rows: [&[u8]; 14] = [
-        b"",
-        b"read",
-        b"Read 40 1 F 0",
-        b"read 40 1 F 0 ",
-        b"read  40 1 F 0",
-        b"read 040 1 F 0",
-        b"read +40 1 F 0",
-        b"read 40 65536 F 0",
-        b"read 40 1 10 0",
-        b"read 10000000000000000 1 F 0",
-        b"write 40 F 0 ",
-        b"write 40 F 0 012",
-        b"add 40 0102",
-        b"cas 40 01000000 0100000000000000",
-    ];
-    for row in rows {
-        assert_eq!(rt; read_op(row), None);
+    assert!(rt; all_right(&NO_OPERATIONS));
+}
+
+/// What a text spells.
+#[derive(Clone, Copy)]
+enum Want {
+    Unsupported,
+    Aborted,
+    Data(&'static [u8]),
+    Nothing,
+}
+
+/// Whether the reply is the wanted one.
+fn is_wanted(reply: &Option<Reply>, want: Want) -> bool {
+    match (reply, want) {
+        (Some(Reply::Data(data)), Want::Data(bytes)) => data.as_slice() == bytes,
+        (Some(Reply::Unsupported), Want::Unsupported)
+        | (Some(Reply::Aborted), Want::Aborted)
+        | (None, Want::Nothing) => true,
+        _ => false,
     }
 }
 
-#[test]
-fn replies(rt: HostRuntime) -> Result<(), Fail> {
-    assert_eq!(rt; read_reply(b"ur"), Some(Reply::Unsupported));
-    assert_eq!(rt; read_reply(b"ca"), Some(Reply::Aborted));
-    assert_eq!(rt; read_reply(b"ca 0"), None);
-    assert_eq!(rt; read_reply(b"data"), None);
-    let Some(Reply::Data(bytes)) = read_reply(b"data ff00") else {
-        return Err(Fail::from("no data"));
-    };
-    assert_eq!(rt; bytes.as_slice(), [0xFF, 0].as_slice());
-    Ok(())
+/// A text, and the reply that it spells.
+struct ReplyText(&'static str, Want);
+
+impl Row for ReplyText {
+    fn is_right(&self) -> bool {
+        is_wanted(&read_reply(self.0.as_bytes()), self.1)
+    }
 }
 
+static REPLIES: [ReplyText; 5] = [
+    ReplyText("ur", Want::Unsupported),
+    ReplyText("ca", Want::Aborted),
+    ReplyText("ca 0", Want::Nothing),
+    ReplyText("data", Want::Nothing),
+    ReplyText("data ff00", Want::Data(&[0xFF, 0])),
+];
+
 #[test]
-fn written(rt: HostRuntime) -> Result<(), Fail> {
-    let rows: [(&[u8], &str); 6] = [
-        (b"read 0 1 f 0", "read 0 1 F 0"),
-        (
-            b"read ffffffffffffffff 65535 F a",
-            "read FFFFFFFFFFFFFFFF 65535 F A",
-        ),
-        (b"write 3c F 0 0a0b", "write 3C F 0 0A0B"),
-        (b"add 40 0700000a", "add 40 0700000A"),
-        (
-            b"swap a0 000102030405060708090a0b0c0d0e0f",
-            "swap A0 000102030405060708090A0B0C0D0E0F",
-        ),
-        (
-            b"cas 0 0100000000000000 0000000000000001",
-            "cas 0 0100000000000000 0000000000000001",
-        ),
-    ];
-    for (text, own) in rows {
-        let op = read_op(text).ok_or("no operation")?;
-        let mut line = ArrayString::new();
-        write_op(&op, &mut line);
-        assert_eq!(rt; line.as_str(), own);
+fn replies(rt: HostRuntime) {
+    assert!(rt; all_right(&REPLIES));
+}
+
+fn is_op_text(op: &Op, own: &str) -> bool {
+    let mut line = ArrayString::new();
+    write_op(op, &mut line);
+    line.as_str() == own
+}
+
+/// A text of an operation, and the operation's own.
+struct Writes(&'static str, &'static str);
+
+impl Row for Writes {
+    fn is_right(&self) -> bool {
+        match read_op(self.0.as_bytes()) {
+            Some(op) => is_op_text(&op, self.1),
+            None => false,
+        }
     }
-    for (text, own) in [
-        (b"data ff00".as_slice(), "data FF00"),
-        (b"ur", "ur"),
-        (b"ca", "ca"),
-    ] {
-        let reply = read_reply(text).ok_or("no reply")?;
-        let mut line = ArrayString::new();
-        write_reply(&reply, &mut line);
-        assert_eq!(rt; line.as_str(), own);
-    }
-    let (word, rest) = cut(b"sub 7");
-    assert_eq!(rt; word, b"sub".as_slice());
-    let (requester, rest) = number(rest, 10, 255).ok_or("no number")?;
-    assert_eq!(rt; (requester, is_ended(rest)), (7, true));
-    assert_eq!(rt; op_behind(Some(b"read 0 1 F 0")), read_op(b"read 0 1 F 0"));
-    assert_eq!(rt; op_behind(Some(b"xread 0 1 F 0")), None);
-    assert_eq!(rt; reply_behind(Some(b"ca")), Some(Reply::Aborted));
-    assert_eq!(rt; reply_behind(None), None);
-    own_digits_spell_number();
+}
+
+static WRITTEN: [Writes; 6] = [
+    Writes("read 0 1 f 0", "read 0 1 F 0"),
+    Writes(
+        "read ffffffffffffffff 65535 F a",
+        "read FFFFFFFFFFFFFFFF 65535 F A",
+    ),
+    Writes("write 3c F 0 0a0b", "write 3C F 0 0A0B"),
+    Writes("add 40 0700000a", "add 40 0700000A"),
+    Writes(
+        "swap a0 000102030405060708090a0b0c0d0e0f",
+        "swap A0 000102030405060708090A0B0C0D0E0F",
+    ),
+    Writes(
+        "cas 0 0100000000000000 0000000000000001",
+        "cas 0 0100000000000000 0000000000000001",
+    ),
+];
+
+#[test]
+fn written(rt: HostRuntime) {
     own_text_spells_operation();
+    assert!(rt; all_right(&WRITTEN));
+}
+
+fn is_reply_text(reply: &Reply, own: &str) -> bool {
+    let mut line = ArrayString::new();
+    write_reply(reply, &mut line);
+    line.as_str() == own
+}
+
+/// A text of a reply, and the reply's own.
+struct Answers(&'static str, &'static str);
+
+impl Row for Answers {
+    fn is_right(&self) -> bool {
+        match read_reply(self.0.as_bytes()) {
+            Some(reply) => is_reply_text(&reply, self.1),
+            None => false,
+        }
+    }
+}
+
+static ANSWERS: [Answers; 3] = [
+    Answers("data ff00", "data FF00"),
+    Answers("ur", "ur"),
+    Answers("ca", "ca"),
+];
+
+#[test]
+fn written_replies(rt: HostRuntime) {
     own_text_spells_reply();
-    Ok(())
+    assert!(rt; all_right(&ANSWERS));
+}
+
+/// Whether a line is cut into its first word and a last number.
+fn is_cut() -> bool {
+    let (word, rest) = cut(b"sub 7");
+    match number(rest, 10, 255) {
+        Some((requester, rest)) => word == b"sub".as_slice() && requester == 7 && is_ended(rest),
+        None => false,
+    }
+}
+
+/// Whether what stands behind something is read as an operation.
+fn ops_behind() -> bool {
+    let read = op_behind(Some(b"read 0 1 F 0"));
+    read == read_op(b"read 0 1 F 0") && op_behind(Some(b"xread 0 1 F 0")).is_none()
+}
+
+/// Whether what stands behind something is read as a reply.
+fn replies_behind() -> bool {
+    is_wanted(&reply_behind(Some(b"ca")), Want::Aborted) && reply_behind(None).is_none()
+}
+
+#[test]
+fn parts_of_lines(rt: HostRuntime) {
+    own_digits_spell_number();
+    assert!(rt; is_cut() && ops_behind() && replies_behind());
 }

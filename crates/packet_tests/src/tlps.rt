@@ -1,7 +1,8 @@
 //! Worked packets of the transaction layer, and bytes that are none.
+use crate::rows::{Row, all_right};
 use arrayvec::ArrayVec;
-use std::test::Fail;
-use tlp_core::{Op, TlpFault, Width, decode, encode, op_fault, op_of};
+use std::alloc::Global;
+use tlp_core::{Op, Tlp, TlpFault, Width, decode, encode, op_fault, op_of};
 
 /// FetchAdd of 7 at 40h.
 const FETCH_ADD: [u8; 16] = [0x4C, 0, 0, 1, 1, 0, 5, 0, 0, 0, 0, 0x40, 7, 0, 0, 0];
@@ -12,74 +13,95 @@ const CAS: [u8; 44] = [
     0, 0, 0, 0, 0, 0, 0, 0, 0, 0, 0, 0, 0, 0,
 ];
 
+/// A completion of 8 bytes that were not read.
+const COMPLETION: [u8; 12] = [0x0A, 0, 0, 0, 0, 0, 0x80, 8, 1, 0, 12, 0x3C];
+
 fn fault_of(bytes: &[u8]) -> Option<TlpFault> {
     decode(bytes).err()
 }
 
-#[test]
-fn packets_there_and_back(rt: HostRuntime) -> Result<(), Fail> {
-    let rows: [&[u8]; 3] = [
-        &FETCH_ADD,
-        &CAS,
-        &[0x0A, 0, 0, 0, 0, 0, 0x80, 8, 1, 0, 12, 0x3C],
-    ];
-    for row in rows {
-        let tlp = decode(row)?;
-        let mut bytes = ArrayVec::new();
-        encode(&tlp, &mut bytes);
-        assert_eq!(rt; bytes.as_slice(), row);
+/// Whether these are the bytes of the packet.
+fn is_spelled(tlp: &Tlp, want: &[u8]) -> bool {
+    let mut bytes = ArrayVec::new();
+    encode(tlp, &mut bytes);
+    bytes.as_slice() == want
+}
+
+/// Whether the bytes are read and written as they are.
+fn is_packet(bytes: &[u8]) -> bool {
+    match decode(bytes) {
+        Ok(tlp) => is_spelled(&tlp, bytes),
+        Err(_) => false,
     }
-    Ok(())
 }
 
 #[test]
-fn operations(rt: HostRuntime) -> Result<(), Fail> {
-    let add = op_of(&decode(&FETCH_ADD)?).ok_or("no operation")?;
-    assert_eq!(rt;
-        add,
-        Op::FetchAdd {
-            address: 0x40,
-            width: Width::Four,
-            operand: 7
-        }
-    );
-    assert_eq!(rt;
-        (add.address(), add.size(), add.is_posted()),
-        (0x40, 4, false)
-    );
-    let cas = op_of(&decode(&CAS)?).ok_or("no operation")?;
-    assert_eq!(rt;
-        cas,
-        Op::Cas {
-            address: 0x40,
-            width: Width::Sixteen,
-            compare: 0,
-            swap: 1
-        }
-    );
-    assert_eq!(rt; op_fault(&cas), None);
-    assert_eq!(rt; Width::Eight.size(), 8);
-    Ok(())
+fn packets_there_and_back(rt: HostRuntime) {
+    assert!(rt; is_packet(&FETCH_ADD) && is_packet(&CAS) && is_packet(&COMPLETION));
+}
+
+/// The operation of the packet.
+fn operation(bytes: &[u8]) -> Option<Op> {
+    match decode(bytes) {
+        Ok(tlp) => op_of(&tlp),
+        Err(_) => None,
+    }
+}
+
+fn adds_seven(add: &Op) -> bool {
+    let want = Op::FetchAdd {
+        address: 0x40,
+        width: Width::Four,
+        operand: 7,
+    };
+    *add == want && add.address() == 0x40 && add.size() == 4 && !add.is_posted()
+}
+
+fn sets_one(cas: &Op) -> bool {
+    let want = Op::Cas {
+        address: 0x40,
+        width: Width::Sixteen,
+        compare: 0,
+        swap: 1,
+    };
+    *cas == want && op_fault(cas).is_none()
+}
+
+/// Whether the packets are of the FetchAdd and of the CAS.
+fn are_operations() -> bool {
+    match (operation(&FETCH_ADD), operation(&CAS)) {
+        (Some(add), Some(cas)) => adds_seven(&add) && sets_one(&cas),
+        _ => false,
+    }
+}
+
+#[test]
+fn operations(rt: HostRuntime) {
+    assert!(rt; are_operations() && Width::Eight.size() == 8);
+}
+
+/// Whether so many of the first bytes are too short, or don't have the packet's length.
+fn is_cut(bytes: &[u8], count: usize) -> bool {
+    let want = if count < 12 {
+        TlpFault::Short
+    } else {
+        TlpFault::LengthMismatch
+    };
+    fault_of(&bytes[..count.min(bytes.len())]) == Some(want)
+}
+
+/// The same of each count below the length.
+fn each_is_cut(bytes: &[u8]) -> bool {
+    let mut right = true;
+    for count in 0..bytes.len() {
+        right &= is_cut(bytes, count);
+    }
+    right
 }
 
 #[test]
 fn front_parts(rt: HostRuntime) {
-    for count in 0..16 {
-        let want = if count < 12 {
-            TlpFault::Short
-        } else {
-            TlpFault::LengthMismatch
-        };
-        assert_eq!(rt; fault_of(&FETCH_ADD[..count]), Some(want), "{count} bytes");
-    }
-    for count in 0..44 {
-        let want = if count < 12 {
-            TlpFault::Short
-        } else {
-            TlpFault::LengthMismatch
-        };
-        assert_eq!(rt; fault_of(&CAS[..count]), Some(want), "{count} bytes");
-    }
+    assert!(rt; each_is_cut(&FETCH_ADD) && each_is_cut(&CAS));
 }
 
 /// What the first bytes of the worked FetchAdd come to with another byte 0: a fault or none.
@@ -93,20 +115,35 @@ fn wanted(code: u8) -> Option<TlpFault> {
     }
 }
 
+fn comes_to(code: u8) -> bool {
+    let mut bytes = FETCH_ADD;
+    bytes[0] = code;
+    fault_of(&bytes) == wanted(code)
+}
+
+fn each_comes_to() -> bool {
+    let mut right = true;
+    for code in 0..=255 {
+        right &= comes_to(code);
+    }
+    right
+}
+
 #[test]
 fn each_first_byte(rt: HostRuntime) {
-    for code in 0..=255 {
-        let mut bytes = FETCH_ADD;
-        bytes[0] = code;
-        assert_eq!(rt; fault_of(&bytes), wanted(code), "{code:02X}");
+    assert!(rt; each_comes_to());
+}
+
+/// Whether the fault has its number and its name, and is told so.
+fn is_told(alloc: Global, fault: TlpFault) -> bool {
+    let named = fault.number() == 9 && fault.name() == "LengthMismatch";
+    match format!(in alloc; "{fault}") {
+        Ok(text) => named && text.as_str() == "LengthMismatch",
+        Err(_) => false,
     }
 }
 
 #[test]
-fn names_and_numbers(rt: HostRuntime) -> Result<(), Fail> {
-    let fault = TlpFault::LengthMismatch;
-    assert_eq!(rt; (fault.number(), fault.name()), (9, "LengthMismatch"));
-    let text = format!(in rt.alloc(); "{fault}")?;
-    assert_eq!(rt; text.as_str(), "LengthMismatch");
-    Ok(())
+fn names_and_numbers(rt: HostRuntime) {
+    assert!(rt; is_told(rt.alloc(), TlpFault::LengthMismatch));
 }
