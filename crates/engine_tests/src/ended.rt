@@ -1,8 +1,15 @@
 //! Scripts of `step` that end in one line, and scripts without events.
-use crate::steps::prints;
+use crate::runs::{Engine, writes};
+use std::alloc::Global;
+
+/// Whether `step` writes this of a script and `step --trace` that, each with this exit status.
+fn prints(alloc: Global, script: &[u8], plain: &[u8], traced: &[u8], exit: u8) -> bool {
+    writes(Engine::Step, alloc, script, plain, exit)
+        & writes(Engine::StepTraced, alloc, script, traced, exit)
+}
 
 /// Scripts that print one line, with `--trace` too.
-const ENDED: [(&str, &str); 51] = [
+static ENDED: [(&str, &str); 51] = [
     ("fabric 8 0 4096\n", "fault 1 Requesters\n"),
     ("fabric 0 0 4096\n", "fault 1 Requesters\n"),
     ("fabric 1 0 100\n", "fault 1 Size\n"),
@@ -118,18 +125,28 @@ const ENDED: [(&str, &str); 51] = [
     ),
 ];
 
+/// Whether each script ends in its line.
+fn all_end(alloc: Global, rows: &[(&str, &str)]) -> bool {
+    let mut right = true;
+    for (script, want) in rows {
+        right &= prints(
+            alloc,
+            script.as_bytes(),
+            want.as_bytes(),
+            want.as_bytes(),
+            1,
+        );
+    }
+    right
+}
+
 #[test]
 fn scripts_that_end_in_a_line(rt: HostRuntime) {
-    for (script, want) in ENDED {
-        let (given, line) = (script.as_bytes(), want.as_bytes());
-        let is_well = prints(rt.alloc(), false, given, line, 1)
-            && prints(rt.alloc(), true, given, line, 1);
-        assert!(rt; is_well, "{script}");
-    }
+    assert!(rt; all_end(rt.alloc(), &ENDED));
 }
 
 /// Scripts without events, and their traces.
-const WITHOUT_EVENTS: [(&str, &str); 6] = [
+static WITHOUT_EVENTS: [(&str, &str); 6] = [
     ("", ""),
     ("\n# nothing\n\r\n#", ""),
     (
@@ -150,12 +167,16 @@ const WITHOUT_EVENTS: [(&str, &str); 6] = [
     ),
 ];
 
+/// Whether each script prints nothing, and its trace is this.
+fn all_are_empty(alloc: Global, rows: &[(&str, &str)]) -> bool {
+    let mut right = true;
+    for (script, trace) in rows {
+        right &= prints(alloc, script.as_bytes(), b"", trace.as_bytes(), 0);
+    }
+    right
+}
+
 #[test]
 fn scripts_without_events(rt: HostRuntime) {
-    for (script, want) in WITHOUT_EVENTS {
-        let given = script.as_bytes();
-        let is_well = prints(rt.alloc(), false, given, b"", 0)
-            && prints(rt.alloc(), true, given, want.as_bytes(), 0);
-        assert!(rt; is_well, "{script}");
-    }
+    assert!(rt; all_are_empty(rt.alloc(), &WITHOUT_EVENTS));
 }

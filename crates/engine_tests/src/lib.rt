@@ -5,11 +5,15 @@
 #[cfg(test)]
 mod ended;
 #[cfg(test)]
+mod long_lines;
+#[cfg(test)]
 mod packet_examples;
 #[cfg(test)]
 mod packets;
 #[cfg(test)]
 mod pictures;
+#[cfg(test)]
+mod runs;
 #[cfg(test)]
 mod settled;
 #[cfg(test)]

@@ -1,6 +1,6 @@
 //! The file of the folder `examples/` for `encode`, and what it prints: `examples/check.sh` says whether they are the
 //! same.
-use crate::packets::encodes;
+use crate::runs::{Engine, writes};
 
 const WORDS: &str = "\
 # Packets for `pciex encode`, one a line in words. Lines like this one are ignored.
@@ -39,5 +39,13 @@ fault words
 
 #[test]
 fn examples(rt: HostRuntime) {
-    assert!(rt; encodes(rt.alloc(), WORDS, WORDS_OUT, 1));
+    assert!(rt;
+        writes(
+            Engine::Encode,
+            rt.alloc(),
+            WORDS.as_bytes(),
+            WORDS_OUT.as_bytes(),
+            1
+        )
+    );
 }

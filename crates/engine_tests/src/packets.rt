@@ -1,26 +1,9 @@
 //! Worked lines of `decode` and `encode`.
-use packet_engine::{run_decode, run_encode};
+use crate::runs::{Engine, Row, all_write, writes};
 use std::alloc::Global;
-use std::test::Fail;
-
-/// Whether a run of `decode` writes this and has this exit status.
-pub(crate) fn decodes(alloc: Global, input: &str, want: &str, exit: u8) -> bool {
-    let mut reader = input.as_bytes();
-    let mut out = Vec::new(alloc);
-    let result = run_decode(alloc, &mut reader, &mut out);
-    result == Ok(exit) && out.as_slice() == want.as_bytes()
-}
-
-/// Whether a run of `encode` writes this and has this exit status.
-pub(crate) fn encodes(alloc: Global, input: &str, want: &str, exit: u8) -> bool {
-    let mut reader = input.as_bytes();
-    let mut out = Vec::new(alloc);
-    let result = run_encode(alloc, &mut reader, &mut out);
-    result == Ok(exit) && out.as_slice() == want.as_bytes()
-}
 
 /// Canonical bytes, and the packet in words.
-const PACKETS: [(&str, &str); 23] = [
+static PACKETS: [(&str, &str); 23] = [
     (
         "4C000001 01000500 00000040 07000000\n",
         "add 40 07000000 from 0100 tag 05\n",
@@ -94,22 +77,27 @@ const PACKETS: [(&str, &str); 23] = [
     ("A0000001\n", "update cpl 0 1\n"),
 ];
 
-#[test]
-fn bytes_to_words(rt: HostRuntime) {
-    for (bytes, words) in PACKETS {
-        assert!(rt; decodes(rt.alloc(), bytes, words, 0), "{bytes}");
+/// Whether the bytes are written as these words, and the words as these bytes.
+fn are_same(alloc: Global, bytes: &[u8], words: &[u8]) -> bool {
+    writes(Engine::Decode, alloc, bytes, words, 0) & writes(Engine::Encode, alloc, words, bytes, 0)
+}
+
+/// The same of each packet.
+fn all_are_same(alloc: Global, rows: &[(&str, &str)]) -> bool {
+    let mut right = true;
+    for (bytes, words) in rows {
+        right &= are_same(alloc, bytes.as_bytes(), words.as_bytes());
     }
+    right
 }
 
 #[test]
-fn words_to_bytes(rt: HostRuntime) {
-    for (bytes, words) in PACKETS {
-        assert!(rt; encodes(rt.alloc(), words, bytes, 0), "{words}");
-    }
+fn bytes_and_words(rt: HostRuntime) {
+    assert!(rt; all_are_same(rt.alloc(), &PACKETS));
 }
 
 /// What `decode` answers to other lines.
-const DECODED: [(&str, &str, u8); 9] = [
+static DECODED: [Row; 9] = [
     // A longer header than the address needs, and bits that are ignored.
     (
         "6C000001 010005FF 00000000 00000043 07000000",
@@ -145,13 +133,11 @@ const DECODED: [(&str, &str, u8); 9] = [
 
 #[test]
 fn other_bytes(rt: HostRuntime) {
-    for (input, want, exit) in DECODED {
-        assert!(rt; decodes(rt.alloc(), input, want, exit), "{input}");
-    }
+    assert!(rt; all_write(Engine::Decode, rt.alloc(), &DECODED));
 }
 
 /// What `encode` answers to other lines.
-const ENCODED: [(&str, &str, u8); 6] = [
+static ENCODED: [Row; 6] = [
     // Letters of either case, and a zero that is written out.
     (
         "swap 4c 0a0b0c0d from 0a0b tag fe tc 0 attr 1\r\nack fff",
@@ -180,13 +166,11 @@ const ENCODED: [(&str, &str, u8); 6] = [
 
 #[test]
 fn other_words(rt: HostRuntime) {
-    for (input, want, exit) in ENCODED {
-        assert!(rt; encodes(rt.alloc(), input, want, exit), "{input}");
-    }
+    assert!(rt; all_write(Engine::Encode, rt.alloc(), &ENCODED));
 }
 
 /// Lines of no known form.
-const NO_WORDS: [&str; 24] = [
+static NO_WORDS: [&str; 24] = [
     " ",
     "add 40 07000000",
     "add 40 07000000 from",
@@ -213,32 +197,16 @@ const NO_WORDS: [&str; 24] = [
     "completion crs to 0100 tag 05 by 0000 count 4 lower 00",
 ];
 
+/// Whether each line has no known form.
+fn all_are_unknown(alloc: Global, lines: &[&str]) -> bool {
+    let mut right = true;
+    for line in lines {
+        right &= writes(Engine::Encode, alloc, line.as_bytes(), b"fault words\n", 1);
+    }
+    right
+}
+
 #[test]
 fn no_words(rt: HostRuntime) {
-    for line in NO_WORDS {
-        assert!(rt; encodes(rt.alloc(), line, "fault words\n", 1), "{line}");
-    }
-}
-
-/// What is written of a line of so many bytes, and a worked line after it.
-fn is_long(alloc: Global, length: usize, decoded: &str, encoded: &str) -> Result<bool, Fail> {
-    let mut text = vec![in alloc; b'x'; length]?;
-    text.extend_from_slice(b"\n")?;
-    let mut out = Vec::new(alloc);
-    let _ = run_decode(alloc, &mut text.as_slice(), &mut out);
-    let mut words = Vec::new(alloc);
-    let _ = run_encode(alloc, &mut text.as_slice(), &mut words);
-    Ok(out.as_slice() == decoded.as_bytes() && words.as_slice() == encoded.as_bytes())
-}
-
-#[test]
-fn long_lines(rt: HostRuntime) -> Result<(), Fail> {
-    for (length, decoded, encoded) in [
-        (512, "fault hex\n", "fault words\n"),
-        (513, "fault line\n", "fault line\n"),
-        (20000, "fault line\n", "fault line\n"),
-    ] {
-        assert!(rt; is_long(rt.alloc(), length, decoded, encoded)?, "{length}");
-    }
-    Ok(())
+    assert!(rt; all_are_unknown(rt.alloc(), &NO_WORDS));
 }

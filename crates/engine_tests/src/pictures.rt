@@ -37,31 +37,48 @@ ent 2 2 write 48 F 0 01020304
 end
 ";
 
-/// Whether the picture of a window of a trace has these parts, one after the other, with this exit status.
-fn is_drawn(alloc: Global, text: &str, window: Window, parts: &[&str], exit: u8) -> bool {
-    let mut reader = text.as_bytes();
-    let mut out = Vec::new(alloc);
-    let result = run_draw(alloc, window, &mut reader, &mut out);
-    result == Ok(exit) && has_parts(out.as_slice(), parts)
+/// The text from a part on.
+fn from_part<'a>(text: &'a [u8], part: &str) -> Option<&'a [u8]> {
+    match memmem::find(text, part.as_bytes()) {
+        Some(place) => text.get(place..),
+        None => None,
+    }
 }
 
 /// Whether the parts stand in the text, one after the other.
 fn has_parts(text: &[u8], parts: &[&str]) -> bool {
     let mut rest = text;
+    let mut right = true;
     for part in parts {
-        let Some(place) = memmem::find(rest, part.as_bytes()) else {
-            return false;
-        };
-        rest = rest.get(place..).unwrap_or(&[]);
+        match from_part(rest, part) {
+            Some(found) => rest = found,
+            None => right = false,
+        }
     }
-    true
+    right
+}
+
+/// Whether a run ends with this exit status.
+fn ends(alloc: Global, window: Window, text: &str, out: &mut Vec<u8>, exit: u8) -> bool {
+    let mut reader = text.as_bytes();
+    run_draw(alloc, window, &mut reader, out) == Ok(exit)
+}
+
+/// Whether the picture of a window of a trace has these parts, one after the other, with this exit status.
+fn is_drawn(alloc: Global, picture: &Picture) -> bool {
+    let (text, (from, to), parts, exit) = *picture;
+    let window = Window { from, to };
+    let mut out = Vec::new(alloc);
+    ends(alloc, window, text, &mut out, exit) && has_parts(out.as_slice(), parts)
 }
 
 /// The first and the last point.
 const WHOLE: (u64, u64) = (0, u64::MAX);
 
 /// A text, the window, parts of its picture, and the exit status.
-const PICTURES: [(&str, (u64, u64), &[&str], u8); 7] = [
+type Picture = (&'static str, (u64, u64), &'static [&'static str], u8);
+
+static PICTURES: [Picture; 7] = [
     (
         OVERLAPS,
         WHOLE,
@@ -119,13 +136,16 @@ const PICTURES: [(&str, (u64, u64), &[&str], u8); 7] = [
     ("<&>\n", WHOLE, &[">fault 1 Head</text></svg>\n"], 1),
 ];
 
+/// The same of each picture.
+fn all_are_drawn(alloc: Global, pictures: &[Picture]) -> bool {
+    let mut right = true;
+    for picture in pictures {
+        right &= is_drawn(alloc, picture);
+    }
+    right
+}
+
 #[test]
 fn pictures(rt: HostRuntime) {
-    for (text, (from, to), parts, exit) in PICTURES {
-        let window = Window { from, to };
-        assert!(rt;
-            is_drawn(rt.alloc(), text, window, parts, exit),
-            "{parts:?}"
-        );
-    }
+    assert!(rt; all_are_drawn(rt.alloc(), &PICTURES));
 }

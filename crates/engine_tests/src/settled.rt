@@ -1,7 +1,7 @@
 //! What `step` prints of scripts with `settle`, and with its options.
-use crate::steps::is_explained;
+use crate::runs::{Engine, Row, all_write, writes};
 use std::alloc::Global;
-use step_engine::{StepOptions, run_step_with};
+use step_engine::StepOptions;
 
 const ONE_ADDED: &str = "\
 fabric 1 0 4096
@@ -152,7 +152,7 @@ const ECHOED: StepOptions = StepOptions {
 };
 
 /// The options, the script, its output and its exit status.
-const ROWS: [(StepOptions, &str, &str, u8); 14] = [
+static ROWS: [(StepOptions, &str, &str, u8); 14] = [
     (PLAIN, ONE_LOST, ONE_LOST_OUT, 0),
     (PLAIN, STOPPED, STOPPED_OUT, 0),
     (PLAIN, LEAST_CREDITS, LEAST_CREDITS_OUT, 0),
@@ -195,31 +195,33 @@ const ROWS: [(StepOptions, &str, &str, u8); 14] = [
 ];
 
 /// Whether `step` prints this of a script, with this exit status.
-fn prints(alloc: Global, options: StepOptions, script: &[u8], want: &[u8], exit: u8) -> bool {
-    let mut reader = script;
-    let mut out = Vec::new(alloc);
-    let result = run_step_with(alloc, options, &mut reader, &mut out);
-    result == Ok(exit) && out.as_slice() == want
+fn prints(alloc: Global, options: StepOptions, script: &str, want: &str, exit: u8) -> bool {
+    writes(
+        Engine::StepWith(options),
+        alloc,
+        script.as_bytes(),
+        want.as_bytes(),
+        exit,
+    )
+}
+
+/// The same of each script.
+fn all_print(alloc: Global, rows: &[(StepOptions, &str, &str, u8)]) -> bool {
+    let mut right = true;
+    for (options, script, want, exit) in rows {
+        right &= prints(alloc, *options, script, want, *exit);
+    }
+    right
 }
 
 #[test]
 fn settled_scripts(rt: HostRuntime) {
-    for (options, script, want, exit) in ROWS {
-        let is_well = prints(
-            rt.alloc(),
-            options,
-            script.as_bytes(),
-            want.as_bytes(),
-            exit,
-        );
-        assert!(rt; is_well, "{script}");
-    }
+    assert!(rt; all_print(rt.alloc(), &ROWS));
 }
+
+static TRACES: [Row; 2] = [(ONE_LOST_TRACE, "ok\n", 0), (REFUSED_TRACE, "ok\n", 0)];
 
 #[test]
 fn traces_of_settled_scripts(rt: HostRuntime) {
-    for trace in [ONE_LOST_TRACE, REFUSED_TRACE] {
-        let is_ok = is_explained(rt.alloc(), trace.as_bytes());
-        assert!(rt; is_ok, "{trace}");
-    }
+    assert!(rt; all_write(Engine::Check, rt.alloc(), &TRACES));
 }

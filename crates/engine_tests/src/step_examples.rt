@@ -1,6 +1,7 @@
 //! The files of the folder `examples/` for `step`, and what they print: `examples/check.sh` says whether they are the
 //! same.
-use crate::steps::prints;
+use crate::runs::{Engine, Row, all_write, writes};
+use std::alloc::Global;
 
 const FIRST_SCRIPT: &str = "\
 # A first script for `pciex step`: requester 1 adds 7 to the four bytes at 40h, and is answered the old value.
@@ -302,7 +303,7 @@ end
 ";
 
 /// A script, its output and its exit status.
-const EXAMPLES: [(&str, &str, u8); 6] = [
+static EXAMPLES: [Row; 6] = [
     (FIRST_SCRIPT, FIRST_SCRIPT_OUT, 0),
     (LOST_ACK, LOST_ACK_OUT, 0),
     (WRITE_PASSES_READ, WRITE_PASSES_READ_OUT, 0),
@@ -313,22 +314,17 @@ const EXAMPLES: [(&str, &str, u8); 6] = [
 
 #[test]
 fn examples(rt: HostRuntime) {
-    for (script, want, exit) in EXAMPLES {
-        let is_well = prints(rt.alloc(), false, script.as_bytes(), want.as_bytes(), exit);
-        assert!(rt; is_well, "{script}");
-    }
+    assert!(rt; all_write(Engine::Step, rt.alloc(), &EXAMPLES));
 }
 
-/// The trace that is told of a script is the example of a trace, but for the comment there.
+/// Whether the trace of a script is this, but for the comment before it.
+fn is_traced(alloc: Global, script: &str, trace: &str) -> bool {
+    let start = trace.find("pciex-trace").unwrap_or(0);
+    let text = trace.as_bytes().get(start..).unwrap_or(&[]);
+    writes(Engine::StepTraced, alloc, script.as_bytes(), text, 0)
+}
+
 #[test]
 fn trace_of_an_example(rt: HostRuntime) {
-    let (_comment, text) = TRACE.split_at(TRACE.find("pciex-trace").unwrap_or(0));
-    let is_told = prints(
-        rt.alloc(),
-        true,
-        WRITE_PASSES_READ.as_bytes(),
-        text.as_bytes(),
-        0,
-    );
-    assert!(rt; is_told);
+    assert!(rt; is_traced(rt.alloc(), WRITE_PASSES_READ, TRACE));
 }

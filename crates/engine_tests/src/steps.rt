@@ -1,9 +1,6 @@
 //! Worked scripts of `step`.
-use line_engine::EngineFault;
+use crate::runs::{Engine, add, writes};
 use std::alloc::Global;
-use std::test::Fail;
-use step_engine::run_step;
-use trace_engine::run_check;
 
 /// One requester and 4096 bytes.
 const SMALL: &str = "fabric 1 0 4096";
@@ -133,7 +130,7 @@ const TWO_READS: [(&str, &str); 14] = [
     ("serve 0", "refused 15 NoCredits Cpl"),
 ];
 
-/// A read of two DW, the second of them past a bound of 64 bytes; the answer is left out.
+/// A read of two DW, the second of them past a bound of 64 bytes.
 const READ_ACROSS: [(&str, &str); 12] = [
     ("submit 1 read 3C 2 F F", "sub 1 0"),
     ("transmit up1", "sent 000"),
@@ -149,60 +146,14 @@ const READ_ACROSS: [(&str, &str); 12] = [
     ("deliver down1 good", "accept"),
 ];
 
-/// A script, and what it prints.
-#[derive(Drop)]
-struct Script {
-    text: Vec<u8>,
-    prints: Vec<u8>,
-}
-
-impl Script {
-    /// A fabric, and what follows the line of it.
-    fn new(alloc: Global, fabric: &str, suffix: &str) -> Result<Script, Fail> {
-        let mut text = Vec::new(alloc);
-        text.extend_from_slice(fabric.as_bytes())?;
-        text.extend_from_slice(suffix.as_bytes())?;
-        text.push(b'\n')?;
-        let prints = Vec::new(alloc);
-        Ok(Script { text, prints })
-    }
-
-    /// Adds events, each with its result.
-    fn add(&mut self, events: &[(&str, &str)]) -> Result<(), Fail> {
-        for (event, result) in events {
-            self.text.extend_from_slice(event.as_bytes())?;
-            self.text.push(b'\n')?;
-            self.prints.extend_from_slice(result.as_bytes())?;
-            self.prints.push(b'\n')?;
-        }
-        Ok(())
-    }
-}
-
-/// What a run of a script answered, and what was written.
-fn told(alloc: Global, is_traced: bool, script: &[u8]) -> (Result<u8, EngineFault>, Vec<u8>) {
-    let mut reader = script;
-    let mut out = Vec::new(alloc);
-    let result = run_step(alloc, is_traced, &mut reader, &mut out);
-    (result, out)
-}
-
-/// Whether `step` prints this of a script, or `step --trace` does, with this exit status.
-pub(crate) fn prints(alloc: Global, is_traced: bool, script: &[u8], want: &[u8], exit: u8) -> bool {
-    let (result, out) = told(alloc, is_traced, script);
-    result == Ok(exit) && out.as_slice() == want
-}
-
-/// Whether `check` says `ok` to a trace.
-pub(crate) fn is_explained(alloc: Global, text: &[u8]) -> bool {
-    let mut reader = text;
-    let mut out = Vec::new(alloc);
-    run_check(alloc, &mut reader, &mut out) == Ok(0) && out.as_slice() == b"ok\n".as_slice()
-}
+/// Events, each with its result.
+type Events = &'static [(&'static str, &'static str)];
 
 /// The first line, the events, more events, and the trace after its head, or the last line of a
 /// script that ends refused.
-const WORKED: [(&str, &[(&str, &str)], &[(&str, &str)], &str); 12] = [
+type Worked = (&'static str, Events, Events, &'static str);
+
+static WORKED: [Worked; 12] = [
     (
         SMALL,
         &LOST_ACK,
@@ -286,18 +237,70 @@ const WORKED: [(&str, &[(&str, &str)], &[(&str, &str)], &str); 12] = [
     ),
 ];
 
-/// A worked script.
-fn script_of(
-    alloc: Global,
-    fabric: &str,
-    suffix: &str,
-    events: &[(&str, &str)],
-    more: &[(&str, &str)],
-) -> Result<Script, Fail> {
-    let mut script = Script::new(alloc, fabric, suffix)?;
-    script.add(events)?;
-    script.add(more)?;
-    Ok(script)
+/// Adds a line to a text; whether there was memory for it.
+fn add_line(text: &mut Vec<u8>, line: &str) -> bool {
+    add(text, &[line, "\n"])
+}
+
+/// Adds events to a script, and their results to what it prints.
+fn add_events(script: &mut Vec<u8>, prints: &mut Vec<u8>, events: &[(&str, &str)]) -> bool {
+    let mut right = true;
+    for (event, result) in events {
+        right &= add_line(script, event) & add_line(prints, result);
+    }
+    right
+}
+
+/// Adds the head of a trace and the trace, or the line that tells of a refusal.
+fn add_trace(text: &mut Vec<u8>, head: &str, want: &str) -> bool {
+    if want.starts_with("refused") {
+        add(text, &[want])
+    } else {
+        add(text, &[head, want])
+    }
+}
+
+/// Whether `step` prints this of a script, `step --trace` that, and `check` says `ok` to the trace of a script that is
+/// not refused.
+fn prints(alloc: Global, script: &[u8], plain: &[u8], traced: &[u8], exit: u8) -> bool {
+    writes(Engine::Step, alloc, script, plain, exit)
+        & writes(Engine::StepTraced, alloc, script, traced, exit)
+        & (exit == 1 || writes(Engine::Check, alloc, traced, b"ok\n", 0))
+}
+
+/// Adds the first line of a script, which ends so.
+fn add_first(script: &mut Vec<u8>, fabric: &str, suffix: &str) -> bool {
+    add(script, &[fabric, suffix, "\n"])
+}
+
+/// Makes a script, what it prints, and its trace; whether there was memory for them.
+fn make(
+    script: &mut Vec<u8>,
+    plain: &mut Vec<u8>,
+    traced: &mut Vec<u8>,
+    ends: (&str, &str),
+    row: &Worked,
+) -> bool {
+    let (suffix, head) = ends;
+    add_first(script, row.0, suffix)
+        & add_events(script, plain, row.1)
+        & add_events(script, plain, row.2)
+        & add_trace(traced, head, row.3)
+}
+
+/// Whether a worked script does so. These are the end of its first line, and the head of its trace.
+fn is_well(alloc: Global, ends: (&str, &str), row: &Worked) -> bool {
+    let mut script = Vec::new(alloc);
+    let mut plain = Vec::new(alloc);
+    let mut traced = Vec::new(alloc);
+    make(&mut script, &mut plain, &mut traced, ends, row)
+        & prints(
+            alloc,
+            script.as_slice(),
+            plain.as_slice(),
+            traced.as_slice(),
+            exit_of(row.3),
+        )
 }
 
 /// The exit status of a worked script.
@@ -305,108 +308,60 @@ fn exit_of(want: &str) -> u8 {
     u8::from(want.starts_with("refused"))
 }
 
-#[test]
-fn worked_scripts(rt: HostRuntime) -> Result<(), Fail> {
-    for (fabric, events, more, want) in WORKED {
-        let script = script_of(rt.alloc(), fabric, "", events, more)?;
-        let is_well = prints(
-            rt.alloc(),
-            false,
-            script.text.as_slice(),
-            script.prints.as_slice(),
-            exit_of(want),
-        );
-        assert!(rt; is_well, "{want}");
+/// The same of each script.
+fn all_are_well(alloc: Global, ends: (&str, &str), rows: &[Worked]) -> bool {
+    let mut right = true;
+    for row in rows {
+        right &= is_well(alloc, ends, row);
     }
-    Ok(())
+    right
 }
 
-/// What `--trace` prints of a worked script.
-fn trace_text(alloc: Global, block: u16, want: &str) -> Result<String, Fail> {
-    if want.starts_with("refused") {
-        return Ok(format!(in alloc; "{want}")?);
-    }
-    Ok(format!(in alloc; "pciex-trace 2\nmemory 0 4096 {block}\n{want}")?)
-}
+const BLOCK_64: (&str, &str) = (" block 64", "pciex-trace 2\nmemory 0 4096 64\n");
 
-/// Ends of the first line, and the bytes of a block.
-const BLOCKS: [(&str, u16); 3] = [("", 64), (" block 64", 64), (" block 128", 128)];
+const BLOCK_128: (&str, &str) = (" block 128", "pciex-trace 2\nmemory 0 4096 128\n");
 
-#[test]
-fn traces_of_scripts(rt: HostRuntime) -> Result<(), Fail> {
-    for (suffix, block) in BLOCKS {
-        for (fabric, events, more, want) in WORKED {
-            let script = script_of(rt.alloc(), fabric, suffix, events, more)?;
-            let text = trace_text(rt.alloc(), block, want)?;
-            let is_well = prints(
-                rt.alloc(),
-                true,
-                script.text.as_slice(),
-                text.as_bytes(),
-                exit_of(want),
-            ) && (exit_of(want) == 1 || is_explained(rt.alloc(), text.as_bytes()));
-            assert!(rt; is_well, "{want}");
-        }
-    }
-    Ok(())
-}
-
-/// The bytes of a block, and the answer to a read across a bound of 64 bytes.
-const ACROSS: [(u16, &str); 2] = [(64, "ca"), (128, "data 0000000000000000")];
-
-/// A script that reads across a bound.
-fn reading_across(alloc: Global, block: u16, reply: &str) -> Result<Script, Fail> {
-    let suffix = format!(in alloc; " block {block}")?;
-    let mut script = Script::new(alloc, SMALL, suffix.as_str())?;
-    script.add(&READ_ACROSS)?;
-    let answer = format!(in alloc; "ans 1 0 {reply}")?;
-    script.add(&[("collect 1", answer.as_str())])?;
-    Ok(script)
-}
-
-#[test]
-fn reads_across_a_bound(rt: HostRuntime) -> Result<(), Fail> {
-    for (block, reply) in ACROSS {
-        let script = reading_across(rt.alloc(), block, reply)?;
-        let text = format!(in rt.alloc();
-            "pciex-trace 2\nmemory 0 4096 {block}\nsub 1 0 0 read 3C 2 F F\nans 1 0 1 {reply}\nhistory\nent 1 0 read 3C 2 F F\nend\n"
-        )?;
-        let given = script.text.as_slice();
-        let is_well = prints(rt.alloc(), false, given, script.prints.as_slice(), 0)
-            && prints(rt.alloc(), true, given, text.as_bytes(), 0)
-            && is_explained(rt.alloc(), text.as_bytes());
-        assert!(rt; is_well, "{block}");
-    }
-    Ok(())
-}
-
-/// The length of a line, its first byte, and how a script with it ends.
-const LONG: [(usize, u8, &str); 5] = [
-    (512, b'#', "refused 3 Idle\n"),
-    (512, b'x', "fault 2 Script\n"),
-    (513, b'#', "fault 2 Script\n"),
-    (513, b'x', "fault 2 Script\n"),
-    (20000, b'#', "fault 2 Script\n"),
+/// Ends of the first line, none first, and the head of a trace with such blocks.
+static BLOCKS: [(&str, &str); 3] = [
+    ("", "pciex-trace 2\nmemory 0 4096 64\n"),
+    BLOCK_64,
+    BLOCK_128,
 ];
 
-/// A script with two lines of such a length, and an event between them that is refused.
-fn with_long_lines(alloc: Global, length: usize, first: u8) -> Result<Script, Fail> {
-    let mut script = Script::new(alloc, SMALL, "")?;
-    let line = vec![in alloc; first; length]?;
-    script.text.extend_from_slice(line.as_slice())?;
-    script.text.extend_from_slice(b"\ntimer up1\n")?;
-    script.text.extend_from_slice(line.as_slice())?;
-    Ok(script)
+/// Whether each worked script does so with each of these.
+fn all_are_well_with(alloc: Global, blocks: &[(&str, &str)]) -> bool {
+    let mut right = true;
+    for ends in blocks {
+        right &= all_are_well(alloc, *ends, &WORKED);
+    }
+    right
 }
 
 #[test]
-fn long_lines_of_scripts(rt: HostRuntime) -> Result<(), Fail> {
-    for (length, first, want) in LONG {
-        let script = with_long_lines(rt.alloc(), length, first)?;
-        let (given, line) = (script.text.as_slice(), want.as_bytes());
-        let is_well = prints(rt.alloc(), false, given, line, 1)
-            && prints(rt.alloc(), true, given, line, 1);
-        assert!(rt; is_well, "{length}");
-    }
-    Ok(())
+fn worked_scripts(rt: HostRuntime) {
+    assert!(rt; all_are_well_with(rt.alloc(), &BLOCKS));
+}
+
+/// A read across a bound of 64 bytes is aborted where blocks have 64 bytes.
+static ACROSS_64: [Worked; 1] = [(
+    SMALL,
+    &READ_ACROSS,
+    &[("collect 1", "ans 1 0 ca")],
+    "sub 1 0 0 read 3C 2 F F\nans 1 0 1 ca\nhistory\nent 1 0 read 3C 2 F F\nend\n",
+)];
+
+/// It has data where they have 128 bytes.
+static ACROSS_128: [Worked; 1] = [(
+    SMALL,
+    &READ_ACROSS,
+    &[("collect 1", "ans 1 0 data 0000000000000000")],
+    "sub 1 0 0 read 3C 2 F F\nans 1 0 1 data 0000000000000000\nhistory\nent 1 0 read 3C 2 F F\nend\n",
+)];
+
+#[test]
+fn reads_across_a_bound(rt: HostRuntime) {
+    assert!(rt;
+        all_are_well(rt.alloc(), BLOCK_64, &ACROSS_64)
+            & all_are_well(rt.alloc(), BLOCK_128, &ACROSS_128)
+    );
 }

@@ -1,37 +1,9 @@
 //! Worked lines of `tlp`.
-ghost use Rattle.seq_memory.specs.Limits.{IsBase, IsBlock, IsSize};
-
-use line_engine::EngineFault;
+use crate::runs::{Engine, Row, all_write, ends, writes};
 use std::alloc::Global;
-use std::test::Fail;
-use tlp_engine::run_tlp;
-
-/// What a run over a memory of these limits answered, and what was written.
-fn told(
-    alloc: Global,
-    base: u64,
-    size: usize,
-    block: u16,
-    input: &[u8],
-) -> (Result<u8, EngineFault>, Vec<u8>)
-    requires size { IsSize size }
-    requires base { IsBase base size }
-    requires block { IsBlock block }
-{
-    let mut reader = input;
-    let mut out = Vec::new(alloc);
-    let result = run_tlp(alloc, base, size, block, &mut reader, &mut out);
-    (result, out)
-}
-
-/// Whether a run over 4096 bytes at 0 with blocks of 64 writes this and has this exit status.
-pub(crate) fn answers(alloc: Global, input: &str, want: &str, exit: u8) -> bool {
-    let (result, out) = told(alloc, 0, 4096, 64, input.as_bytes());
-    result == Ok(exit) && out.as_slice() == want.as_bytes()
-}
 
 /// Each is a run of its own.
-const RUNS: [(&str, &str, u8); 22] = [
+static RUNS: [Row; 22] = [
     (
         "4C000001 01000500 00000040 07000000",
         "4A000001 00000004 01000500 00000000\n",
@@ -134,138 +106,130 @@ const RUNS: [(&str, &str, u8); 22] = [
 
 #[test]
 fn worked_runs(rt: HostRuntime) {
-    for (input, want, exit) in RUNS {
-        assert!(rt; answers(rt.alloc(), input, want, exit), "{input}");
-    }
+    assert!(rt; all_write(Engine::Tlp, rt.alloc(), &RUNS));
 }
 
 /// Each with blocks of 128 bytes.
-const LARGE_BLOCKS: [(&str, &str); 4] = [
+static LARGE_BLOCKS: [Row; 4] = [
     (
         "00000002 01000CFF 0000003C",
         "4A000002 00000008 01000C3C 00000000 00000000\n",
+        0,
     ),
-    ("00000002 01000CFF 0000007C", "0A000000 00008008 01000C7C\n"),
+    (
+        "00000002 01000CFF 0000007C",
+        "0A000000 00008008 01000C7C\n",
+        0,
+    ),
     (
         "00000020 01000FFF 00000000",
         "4A000020 00000080 01000F00 00000000 00000000 00000000 00000000 00000000 00000000 00000000 00000000 00000000 00000000 00000000 00000000 00000000 00000000 00000000 00000000 00000000 00000000 00000000 00000000 00000000 00000000 00000000 00000000 00000000 00000000 00000000 00000000 00000000 00000000 00000000 00000000\n",
+        0,
     ),
-    ("00000021 01000FFF 00000000", "0A000000 00008084 01000F00\n"),
+    (
+        "00000021 01000FFF 00000000",
+        "0A000000 00008084 01000F00\n",
+        0,
+    ),
 ];
 
 #[test]
 fn blocks_of_128(rt: HostRuntime) {
-    for (input, want) in LARGE_BLOCKS {
-        let (_, out) = told(rt.alloc(), 0, 4096, 128, input.as_bytes());
-        assert_eq!(rt; out.as_slice(), want.as_bytes(), "{input}");
-    }
+    assert!(rt; all_write(Engine::TlpOfLargeBlocks, rt.alloc(), &LARGE_BLOCKS));
 }
+
+static ELSEWHERE: [Row; 1] = [(
+    "20000001 0100050F FFFFFFFF FFFFFFFC\n00000001 0100050F 00000000\n",
+    "4A000001 00000004 0100057C 00000000\n0A000000 00002004 01000500\n",
+    0,
+)];
 
 #[test]
 fn elsewhere(rt: HostRuntime) {
-    let input = b"20000001 0100050F FFFFFFFF FFFFFFFC\n00000001 0100050F 00000000\n";
-    let want = b"4A000001 00000004 0100057C 00000000\n0A000000 00002004 01000500\n";
-    let (_, out) = told(rt.alloc(), 0xFFFF_FFFF_FFFF_FF80, 128, 64, input);
-    assert_eq!(rt; out.as_slice(), want.as_slice());
+    assert!(rt; all_write(Engine::TlpOfLastBytes, rt.alloc(), &ELSEWHERE));
 }
 
-/// What is written of a line of so many bytes, and a worked line after it.
-fn of_long_line(alloc: Global, first: u8, length: usize) -> Result<Vec<u8>, Fail> {
-    let mut text = vec![in alloc; first; length]?;
-    text.extend_from_slice(b"\n4C000001 01000500 00000040 07000000")?;
-    let (_, out) = told(alloc, 0, 4096, 64, text.as_slice());
-    Ok(out)
-}
+/// FetchAdd of 7 at 40h.
+const FETCH_ADD: &str = "4C000001010005000000004007000000";
 
-/// The first byte of a line, its length, and what is written of it.
-const LONG: [(u8, usize, &str); 9] = [
-    (b'x', 512, "fault hex\n"),
-    (b'#', 512, ""),
-    (b' ', 512, "fault 1 Short\n"),
-    (b'x', 513, "fault line\n"),
-    (b'#', 513, "fault line\n"),
-    (b' ', 513, "fault line\n"),
-    (b'x', 20000, "fault line\n"),
-    (b'#', 20000, "fault line\n"),
-    (b' ', 20000, "fault line\n"),
-];
-
-#[test]
-fn long_lines(rt: HostRuntime) -> Result<(), Fail> {
-    for (first, length, text) in LONG {
-        let want = format!(in rt.alloc(); "{text}4A000001 00000004 01000500 00000000\n")?;
-        let out = of_long_line(rt.alloc(), first, length)?;
-        assert_eq!(rt; out.as_slice(), want.as_bytes(), "{length}");
-    }
-    Ok(())
-}
-
-const FETCH_ADD: [u8; 16] = [0x4C, 0, 0, 1, 1, 0, 5, 0, 0, 0, 0, 0x40, 7, 0, 0, 0];
-
-/// What is written of a line of these bytes.
-fn of_bytes(alloc: Global, bytes: &[u8]) -> Result<Vec<u8>, Fail> {
-    let line = hex::encode(alloc, bytes)?;
-    let (_, out) = told(alloc, 0, 4096, 64, line.as_bytes());
-    Ok(out)
-}
+/// CAS of 16 bytes at 40h.
+const CAS: &str =
+    "4E00000801000800000000400000000000000000000000000000000000000000000000000000000000000000";
 
 /// Whether the first bytes of a packet, so many, are too few.
-fn is_cut(alloc: Global, packet: &[u8], count: usize) -> Result<bool, Fail> {
+fn is_cut(alloc: Global, packet: &[u8], count: usize) -> bool {
     let want = if count < 12 {
         "fault 1 Short\n"
     } else {
         "fault 9 LengthMismatch\n"
     };
-    let out = of_bytes(alloc, &packet[..count.min(packet.len())])?;
-    Ok(out.as_slice() == want.as_bytes())
+    let input = packet.get(..count.saturating_mul(2)).unwrap_or(&[]);
+    writes(Engine::Tlp, alloc, input, want.as_bytes(), 1)
+}
+
+/// Whether any count of bytes below this is too few.
+fn all_are_cut(alloc: Global, packet: &str, length: usize) -> bool {
+    let mut right = true;
+    for count in 1..length {
+        right &= is_cut(alloc, packet.as_bytes(), count);
+    }
+    right
 }
 
 #[test]
-fn truncated(rt: HostRuntime) -> Result<(), Fail> {
-    for count in 1..16 {
-        assert!(rt; is_cut(rt.alloc(), &FETCH_ADD, count)?, "{count}");
-    }
-    Ok(())
+fn truncated(rt: HostRuntime) {
+    assert!(rt; all_are_cut(rt.alloc(), FETCH_ADD, 16));
 }
 
 #[test]
-fn truncated_cas(rt: HostRuntime) -> Result<(), Fail> {
-    let mut cas = [0; 44];
-    cas[..12].copy_from_slice(&[0x4E, 0, 0, 8, 1, 0, 8, 0, 0, 0, 0, 0x40]);
-    for count in 1..44 {
-        assert!(rt; is_cut(rt.alloc(), &cas, count)?, "{count}");
+fn truncated_cas(rt: HostRuntime) {
+    assert!(rt; all_are_cut(rt.alloc(), CAS, 44));
+}
+
+/// Whether what is written of a line begins so.
+fn begins(alloc: Global, line: &[u8], text: &str) -> bool {
+    let mut out = Vec::new(alloc);
+    let _ = ends(Engine::Tlp, alloc, line, &mut out, 0);
+    out.starts_with(text.as_bytes())
+}
+
+/// The same of FetchAdd with this byte 0.
+fn begins_with(alloc: Global, first: u8, text: &str) -> bool {
+    let bytes = [first, 0, 0, 1, 1, 0, 5, 0, 0, 0, 0, 0x40, 7, 0, 0, 0];
+    match hex::encode(alloc, &bytes) {
+        Ok(line) => begins(alloc, line.as_bytes(), text),
+        Err(_) => false,
     }
-    Ok(())
 }
 
 /// How many of the 256 values of byte 0 give a text that begins so.
-fn count_of_kinds(alloc: Global, text: &[u8]) -> Result<u32, Fail> {
+fn count_of_kinds(alloc: Global, text: &str) -> u32 {
     let mut count = 0u32;
     for first in 0..=255 {
-        let mut bytes = FETCH_ADD;
-        bytes[0] = first;
-        if of_bytes(alloc, &bytes)?.starts_with(text) {
-            count = count.saturating_add(1);
-        }
+        count = count.saturating_add(u32::from(begins_with(alloc, first, text)));
     }
-    Ok(count)
+    count
+}
+
+/// How a text begins, and how many values of byte 0 give such a text.
+static KINDS: [(&str, u32); 5] = [
+    ("fault 2 Prefix", 32),
+    ("fault 3 Kind", 212),
+    ("fault 9 LengthMismatch", 6),
+    ("fault 12 OperandSize", 1),
+    ("fault", 252),
+];
+
+/// Whether there are so many of each.
+fn all_count(alloc: Global, rows: &[(&str, u32)]) -> bool {
+    let mut right = true;
+    for (text, want) in rows {
+        right &= count_of_kinds(alloc, text) == *want;
+    }
+    right
 }
 
 #[test]
-fn each_first_byte(rt: HostRuntime) -> Result<(), Fail> {
-    let counts = [
-        ("fault 2 Prefix", 32),
-        ("fault 3 Kind", 212),
-        ("fault 9 LengthMismatch", 6),
-        ("fault 12 OperandSize", 1),
-        ("fault", 252),
-    ];
-    for (text, want) in counts {
-        assert_eq!(rt;
-            count_of_kinds(rt.alloc(), text.as_bytes())?,
-            want,
-            "{text}"
-        );
-    }
-    Ok(())
+fn each_first_byte(rt: HostRuntime) {
+    assert!(rt; all_count(rt.alloc(), &KINDS));
 }

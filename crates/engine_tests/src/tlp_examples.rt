@@ -1,6 +1,6 @@
 //! The files of the folder `examples/` for `tlp`, and what they print: `examples/check.sh` says whether they are the
 //! same.
-use crate::tlp::answers;
+use crate::runs::{Engine, writes};
 
 const PACKETS: &str = "\
 # Packets for `pciex tlp`, one a line. Spaces and lines like this one are ignored.
@@ -39,5 +39,13 @@ fault 9 LengthMismatch
 
 #[test]
 fn examples(rt: HostRuntime) {
-    assert!(rt; answers(rt.alloc(), PACKETS, PACKETS_OUT, 1));
+    assert!(rt;
+        writes(
+            Engine::Tlp,
+            rt.alloc(),
+            PACKETS.as_bytes(),
+            PACKETS_OUT.as_bytes(),
+            1
+        )
+    );
 }

@@ -1,24 +1,7 @@
 //! Worked traces, checked and upgraded, and the file of the folder `examples/` for `check`:
 //! `examples/check.sh` says whether it is the same.
+use crate::runs::{Engine, Row, add, all_write, writes};
 use std::alloc::Global;
-use std::test::Fail;
-use trace_engine::{run_check, run_upgrade};
-
-/// Whether `check` writes this.
-fn is_checked(alloc: Global, text: &[u8], want: &[u8]) -> bool {
-    let mut reader = text;
-    let mut out = Vec::new(alloc);
-    let result = run_check(alloc, &mut reader, &mut out);
-    result == Ok(u8::from(want != b"ok\n".as_slice())) && out.as_slice() == want
-}
-
-/// Whether `upgrade` writes this, with this exit status.
-fn is_upgraded(alloc: Global, text: &[u8], want: &[u8], exit: u8) -> bool {
-    let mut reader = text;
-    let mut out = Vec::new(alloc);
-    let result = run_upgrade(alloc, &mut reader, &mut out);
-    result == Ok(exit) && out.as_slice() == want
-}
 
 const TRACE: &str = "\
 # A read that a posted write of the same requester overtakes on its way.
@@ -35,17 +18,17 @@ end
 
 #[test]
 fn example(rt: HostRuntime) {
-    assert!(rt; is_checked(rt.alloc(), TRACE.as_bytes(), b"ok\n"));
+    assert!(rt; writes(Engine::Check, rt.alloc(), TRACE.as_bytes(), b"ok\n", 0));
 }
 
 /// The heads of both versions, for a memory of 4096 bytes at 0 with blocks of 64.
-const HEADS: [&str; 2] = [
+static HEADS: [&str; 2] = [
     "pciex-trace 1\nmemory 0 4096\n",
     "pciex-trace 2\nmemory 0 4096 64\n",
 ];
 
 /// The records and the history of a trace, and what `check` tells of it.
-const TRACES: [(&str, &str, &str); 15] = [
+static TRACES: [(&str, &str, &str); 15] = [
     ("", "", "ok\n"),
     (
         "sub 1 0 0 read 42 1 F 0\nans 1 0 1 ca\n",
@@ -107,87 +90,124 @@ const TRACES: [(&str, &str, &str); 15] = [
     ),
 ];
 
-/// The text of a trace.
-fn text_of(alloc: Global, head: &str, records: &str, history: &str) -> Result<String, Fail> {
-    Ok(format!(in alloc; "{head}{records}history\n{history}end\n")?)
+/// Whether `check` writes this of a trace.
+fn is_checked(alloc: Global, head: &str, records: &str, history: &str, want: &str) -> bool {
+    let exit = u8::from(want != "ok\n");
+    let mut text = Vec::new(alloc);
+    add(&mut text, &[head, records, "history\n", history, "end\n"])
+        && writes(Engine::Check, alloc, text.as_slice(), want.as_bytes(), exit)
 }
 
-#[test]
-fn checked(rt: HostRuntime) -> Result<(), Fail> {
-    for head in HEADS {
-        for (records, history, want) in TRACES {
-            let text = text_of(rt.alloc(), head, records, history)?;
-            assert!(rt;
-                is_checked(rt.alloc(), text.as_bytes(), want.as_bytes()),
-                "{want}"
-            );
-        }
+/// The same of each trace, with this head.
+fn all_are_checked(alloc: Global, head: &str, rows: &[(&str, &str, &str)]) -> bool {
+    let mut right = true;
+    for (records, history, want) in rows {
+        right &= is_checked(alloc, head, records, history, want);
     }
-    Ok(())
+    right
 }
 
-#[test]
-fn checked_by_blocks(rt: HostRuntime) -> Result<(), Fail> {
-    let records = "sub 1 0 0 read 3C 2 F F\nans 1 0 1 data 0000000000000000\n";
-    let history = "ent 1 0 read 3C 2 F F\n";
-    for (head, want) in [
-        ("pciex-trace 2\nmemory 0 4096 128\n", "ok\n"),
-        ("pciex-trace 2\nmemory 0 4096 64\n", "flaw 10 Reply 1\n"),
-    ] {
-        let text = text_of(rt.alloc(), head, records, history)?;
-        assert!(rt;
-            is_checked(rt.alloc(), text.as_bytes(), want.as_bytes()),
-            "{want}"
-        );
+/// The same with each head.
+fn all_are_checked_with(alloc: Global, heads: &[&str]) -> bool {
+    let mut right = true;
+    for head in heads {
+        right &= all_are_checked(alloc, head, &TRACES);
     }
-    Ok(())
+    right
 }
 
 #[test]
-fn upgraded(rt: HostRuntime) -> Result<(), Fail> {
-    let [old, new] = HEADS;
-    let (records, history, _) = TRACES[2];
-    let first = text_of(rt.alloc(), old, records, history)?;
-    let second = text_of(
-        rt.alloc(),
-        new,
-        "sub 1 0 0 read 40 1 F 0\nsub 1 1 0 write 40 F 0 01020304\nans 1 0 2 data 01020304\n",
-        history,
-    )?;
-    for text in [&first, &second] {
-        assert!(rt; is_upgraded(rt.alloc(), text.as_bytes(), second.as_bytes(), 0));
-    }
-    Ok(())
+fn checked(rt: HostRuntime) {
+    assert!(rt; all_are_checked_with(rt.alloc(), &HEADS));
 }
 
-/// A trace that its history does not explain is upgraded, too.
+/// Traces of a read across a bound of 64 bytes.
+static BY_BLOCKS: [Row; 2] = [
+    (
+        "pciex-trace 2\nmemory 0 4096 128\nsub 1 0 0 read 3C 2 F F\nans 1 0 1 data 0000000000000000\nhistory\nent 1 0 read 3C 2 F F\nend\n",
+        "ok\n",
+        0,
+    ),
+    (
+        "pciex-trace 2\nmemory 0 4096 64\nsub 1 0 0 read 3C 2 F F\nans 1 0 1 data 0000000000000000\nhistory\nent 1 0 read 3C 2 F F\nend\n",
+        "flaw 10 Reply 1\n",
+        1,
+    ),
+];
+
 #[test]
-fn flawed(rt: HostRuntime) -> Result<(), Fail> {
-    let (records, history, _) = TRACES[14];
-    let text = text_of(rt.alloc(), HEADS[1], records, history)?;
-    assert!(rt; is_upgraded(rt.alloc(), text.as_bytes(), text.as_bytes(), 0));
-    Ok(())
+fn checked_by_blocks(rt: HostRuntime) {
+    assert!(rt; all_write(Engine::Check, rt.alloc(), &BY_BLOCKS));
+}
+
+/// A trace of the first version.
+const OLD: &str = "\
+pciex-trace 1
+memory 0 4096
+# a read that a posted write overtakes
+sub 1 0 0 read 40 1 f 0
+
+sub 1 1 0 write 40 F 0 01020304
+ans 1 0 2 data 01020304
+history
+ent 1 1 write 40 F 0 01020304
+ent 1 0 read 40 1 F 0
+end
+";
+
+/// The same of the second version.
+const NEW: &str = "\
+pciex-trace 2
+memory 0 4096 64
+sub 1 0 0 read 40 1 F 0
+sub 1 1 0 write 40 F 0 01020304
+ans 1 0 2 data 01020304
+history
+ent 1 1 write 40 F 0 01020304
+ent 1 0 read 40 1 F 0
+end
+";
+
+/// A trace that its history does not explain.
+const FLAWED: &str = "\
+pciex-trace 2
+memory 0 4096 64
+sub 1 0 0 read 40 1 F 0
+ans 1 0 2 data 00000000
+sub 1 1 0 read 40 1 F 0
+ans 1 1 2 data 00000000
+history
+ent 1 1 read 40 1 F 0
+ent 1 0 read 40 1 F 0
+end
+";
+
+static UPGRADED: [Row; 3] = [(OLD, NEW, 0), (NEW, NEW, 0), (FLAWED, FLAWED, 0)];
+
+#[test]
+fn upgraded(rt: HostRuntime) {
+    assert!(rt; all_write(Engine::Upgrade, rt.alloc(), &UPGRADED));
 }
 
 /// Texts that can't be read.
-const NOT_READ: [(&str, &str); 7] = [
-    ("", "fault 1 Head\n"),
-    ("pciex-trace 3\n", "fault 1 Head\n"),
-    ("#\n#\n#\n", "fault 4 Head\n"),
-    ("pciex-trace 2\nmemory 0 4096\n", "fault 2 Line\n"),
-    ("pciex-trace 1\nmemory 0 4096 64\n", "fault 2 Line\n"),
-    ("pciex-trace 1\nmemory 0 4096\n", "fault 3 Section\n"),
+static NOT_READ: [Row; 7] = [
+    ("", "fault 1 Head\n", 1),
+    ("pciex-trace 3\n", "fault 1 Head\n", 1),
+    ("#\n#\n#\n", "fault 4 Head\n", 1),
+    ("pciex-trace 2\nmemory 0 4096\n", "fault 2 Line\n", 1),
+    ("pciex-trace 1\nmemory 0 4096 64\n", "fault 2 Line\n", 1),
+    ("pciex-trace 1\nmemory 0 4096\n", "fault 3 Section\n", 1),
     (
         "pciex-trace 1\nmemory 0 4096\nhistory\nend\nend\nmore\n",
         "fault 5 Section\n",
+        1,
     ),
 ];
 
 #[test]
 fn not_read(rt: HostRuntime) {
-    for (text, want) in NOT_READ {
-        let is_told = is_checked(rt.alloc(), text.as_bytes(), want.as_bytes())
-            && is_upgraded(rt.alloc(), text.as_bytes(), want.as_bytes(), 1);
-        assert!(rt; is_told, "{want}");
-    }
+    assert!(rt;
+        all_write(Engine::Check, rt.alloc(), &NOT_READ)
+            & all_write(Engine::Upgrade, rt.alloc(), &NOT_READ)
+    );
 }
