@@ -1,0 +1,24 @@
+#!/bin/sh
+# Tries the wrong bodies that stand outside the gate: wrong_bodies.sh [CRATE..], all without a name. Each edit of
+# wrong-bodies/CRATE must be refused by the prover. They are tried on a copy of the tree, over what earlier checks kept;
+# the edits of crates/CRATE/must-fail are tried by `rt ci` and by `rt must-fail`. The last line counts the edits.
+set -eu
+cd "$(dirname "$0")/.."
+[ $# -gt 0 ] || set -- $(cd wrong-bodies && ls)
+for crate in "$@"; do
+    [ -d "wrong-bodies/$crate" ] || { echo "wrong_bodies.sh: no folder wrong-bodies/$crate" >&2; exit 2; }
+done
+copy=$(mktemp -d)
+trap 'rm -rf "$copy"' EXIT
+trap 'exit 1' HUP INT TERM
+git ls-files -z --cached --others --exclude-standard -- crates crates.txt HANDLES | xargs -0 cp --parents -t "$copy"
+rm -rf "$copy"/crates/*/must-fail
+edits=0
+for crate in "$@"; do
+    mkdir -p "$copy/crates/$crate/must-fail"
+    cp "wrong-bodies/$crate"/*.edit "$copy/crates/$crate/must-fail/"
+    edits=$((edits + $(ls "wrong-bodies/$crate" | wc -l)))
+done
+git -C "$copy" init -q
+(cd "$copy" && rt must-fail "$@")
+echo "wrong bodies: $edits, each refused"
