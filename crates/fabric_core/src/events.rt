@@ -7,6 +7,7 @@ ghost use Rattle.completer_core.specs.Serving.{completion_to, after_serving};
 ghost use Rattle.lane_ends.specs.Steps.{may_enter, with_room, after_timer, after_retraining, transmitted, after_transmission, wire_after_transmit, all_but_first, delivered, after_deliver, dllp_of, after_send, wire_after_send, dllp_seen, sender_after};
 ghost use Rattle.lane_ends.specs.Refusals.{LacksRoom};
 ghost use Rattle.switch_core.specs.Forwarding.{Forwards};
+ghost use Rattle.fabric_core.specs.Answers.{Refuses, lane_grows, arrival_grows, serving_grows, enter_on, transmit_on, deliver_on, send_dllp_on, deliver_dllp_on, timer_on, retrained_on, submit_on, destination_on, forward_on, act_on, serve_on, collect_on, link_on, link_grows};
 ghost use Rattle.fabric_core.specs.Footprints.{Enters, Submits, SubmitRefused, TransmitRefused, DeliverRefused, SendDllpRefused, DllpRefused, TimerRefused, RetrainedRefused, Links, LinkRefused, ForwardRefused, IsRoutedAs, DestinationRefused, Acts, ActRefused, Serves, ServeRefused, Collects, CollectRefused};
 
 use crate::event::{LinkEvent, Seen};
@@ -29,6 +30,8 @@ fn enter(sender: &mut SenderEnd, tlp: &Tlp, mark: u32) -> Result<(), LaneRefusal
     ensures ok { OnOk result (Enters sender.old tlp.now mark sender.new) }
     ensures refused { IfErr result (λ r. LacksRoom sender.old (need_of tlp.now) r) }
     ensures err { OnErr result (sender.new ≡ sender.old) }
+    ensures answers { OnOk result (enter_on sender.old tlp.now mark ≡ Ok sender.new) }
+    ensures refuses { IfErr result (λ r. Refuses lane_grows (enter_on sender.old tlp.now mark) (Refusal.Lane r)) }
 {
     sender.enter(tlp, mark)?;
     Ok(())
@@ -41,6 +44,8 @@ pub fn submit(requester: &mut Requester, sender: &mut SenderEnd, op: &Op) -> Res
     ensures refused { IfErr result (λ r. SubmitRefused requester.old sender.old op.now r) }
     ensures err_requester { OnErr result (requester.new ≡ requester.old) }
     ensures err_sender { OnErr result (sender.new ≡ sender.old) }
+    ensures answers { IfOk result (λ number. submit_on requester.old sender.old op.now ≡ Ok (number, requester.new, sender.new)) }
+    ensures refuses { IfErr result (λ r. Refuses lane_grows (submit_on requester.old sender.old op.now) r) }
 {
     let (number, request) = match requester.prepare(op) {
         Ok(prepared) => prepared,
@@ -63,6 +68,8 @@ pub fn transmit(sender: &mut SenderEnd, wire: &mut ForwardWire) -> Result<Seq12,
     ensures refused { IfErr result (λ r. TransmitRefused sender.old r) }
     ensures err_sender { OnErr result (sender.new ≡ sender.old) }
     ensures err_wire { OnErr result (wire.new ≡ wire.old) }
+    ensures answers { IfOk result (λ number. transmit_on sender.old wire.old ≡ Ok (number, sender.new, wire.new)) }
+    ensures refuses { IfErr result (λ r. Refuses lane_grows (transmit_on sender.old wire.old) r) }
 {
     if !sender.can_transmit() {
         return Err(Refusal::Idle);
@@ -88,6 +95,8 @@ pub fn deliver(
     ensures refused { IfErr result (λ r. DeliverRefused wire.old receiver.old fate r) }
     ensures err_receiver { OnErr result (receiver.new ≡ receiver.old) }
     ensures err_wire { OnErr result (wire.new ≡ wire.old) }
+    ensures answers { IfOk result (λ arrival. deliver_on wire.old receiver.old fate ≡ Ok (arrival, wire.new, receiver.new)) }
+    ensures refuses { IfErr result (λ r. Refuses (λ x. arrival_grows x.0) (deliver_on wire.old receiver.old fate) r) }
 {
     if wire.is_empty() {
         return Err(Refusal::Idle);
@@ -112,6 +121,8 @@ pub fn send_dllp(
     ensures refused { IfErr result (λ r. SendDllpRefused r) }
     ensures err_receiver { OnErr result (receiver.new ≡ receiver.old) }
     ensures err_wire { OnErr result (wire.new ≡ wire.old) }
+    ensures answers { IfOk result (λ dllp. send_dllp_on receiver.old wire.old kind ≡ Ok (dllp, receiver.new, wire.new)) }
+    ensures refuses { IfErr result (λ r. Refuses lane_grows (send_dllp_on receiver.old wire.old kind) r) }
 {
     match receiver.send_dllp(wire, kind) {
         Ok(dllp) => Ok(dllp),
@@ -133,6 +144,8 @@ pub fn deliver_dllp(
     ensures refused { IfErr result (λ r. DllpRefused wire.old sender.old fate r) }
     ensures err_sender { OnErr result (sender.new ≡ sender.old) }
     ensures err_wire { OnErr result (wire.new ≡ wire.old) }
+    ensures answers { IfOk result (λ seen. deliver_dllp_on wire.old sender.old fate ≡ Ok (seen, wire.new, sender.new)) }
+    ensures refuses { IfErr result (λ r. deliver_dllp_on wire.old sender.old fate ≡ Err r) }
 {
     match sender.deliver_dllp(wire, fate) {
         Ok(Some(seen)) => Ok(seen),
@@ -149,6 +162,8 @@ pub fn timer(sender: &mut SenderEnd) -> Result<usize, Refusal>
     ensures idle { (result ≡ Err Refusal.Idle) ↔ (sender.old.sending.place ≡ 0) }
     ensures refused { IfErr result (λ r. TimerRefused sender.old r) }
     ensures err { OnErr result (sender.new ≡ sender.old) }
+    ensures answers { IfOk result (λ moved. timer_on sender.old ≡ Ok (moved, sender.new)) }
+    ensures refuses { IfErr result (λ r. timer_on sender.old ≡ Err r) }
 {
     let moved = sender.timer();
     if moved == 0 {
@@ -164,6 +179,8 @@ pub fn retrained(sender: &mut SenderEnd) -> Result<(), Refusal>
     ensures idle { (result ≡ Err Refusal.Idle) ↔ (sender.old.sending.stopped ≡ false) }
     ensures refused { IfErr result (λ r. RetrainedRefused sender.old r) }
     ensures err { OnErr result (sender.new ≡ sender.old) }
+    ensures answers { OnOk result (retrained_on sender.old ≡ Ok sender.new) }
+    ensures refuses { IfErr result (λ r. retrained_on sender.old ≡ Err r) }
 {
     if !sender.retrained() {
         return Err(Refusal::Idle);
@@ -176,6 +193,8 @@ pub fn link(lane: &mut LaneEnds, event: LinkEvent) -> Result<Seen, Refusal>
     ensures ok { IfOk result (λ what. Links lane.old event what lane.new) }
     ensures refused { IfErr result (λ r. LinkRefused lane.old event r) }
     ensures err { OnErr result (lane.new ≡ lane.old) }
+    ensures answers { IfOk result (λ what. link_on lane.old event ≡ Ok (what, lane.new)) }
+    ensures refuses { IfErr result (λ r. Refuses (λ x. link_grows x.0) (link_on lane.old event) r) }
 {
     match event {
         LinkEvent::Transmit => Ok(Seen::Sent(transmit(&mut lane.sender, &mut lane.forward)?)),
@@ -201,6 +220,8 @@ pub fn link(lane: &mut LaneEnds, event: LinkEvent) -> Result<Seen, Refusal>
 pub fn destination(receiver: &ReceiverEnd, place: usize, from: Port) -> Result<Port, Refusal>
     ensures ok { IfOk result (λ port. IsRoutedAs receiver.now place from (Ok port)) }
     ensures refused { IfErr result (λ r. DestinationRefused receiver.now place from r) }
+    ensures answers { IfOk result (λ port. destination_on receiver.now place from ≡ Ok port) }
+    ensures refuses { IfErr result (λ r. destination_on receiver.now place from ≡ Err r) }
 {
     if !receiver.takeable(place) {
         return Err(Refusal::NotTakeable);
@@ -225,6 +246,8 @@ pub fn forward(
     ensures refused { IfErr result (λ r. ForwardRefused receiver.old place sender.old r) }
     ensures err_receiver { OnErr result (receiver.new ≡ receiver.old) }
     ensures err_sender { OnErr result (sender.new ≡ sender.old) }
+    ensures answers { OnOk result (forward_on receiver.old place sender.old ≡ Ok (receiver.new, sender.new)) }
+    ensures refuses { IfErr result (λ r. Refuses lane_grows (forward_on receiver.old place sender.old) r) }
 {
     match forward_ends(receiver, place, sender) {
         Ok(()) => Ok(()),
@@ -240,6 +263,8 @@ pub fn collect(receiver: &mut ReceiverEnd, requester: &mut Requester) -> Result<
     ensures refused { IfErr result (λ r. CollectRefused receiver.old requester.old r) }
     ensures err_receiver { OnErr result (receiver.new ≡ receiver.old) }
     ensures err_requester { OnErr result (requester.new ≡ requester.old) }
+    ensures answers { IfOk result (λ a. collect_on receiver.old requester.old ≡ Ok (a, receiver.new, requester.new)) }
+    ensures refuses { IfErr result (λ r. collect_on receiver.old requester.old ≡ Err r) }
 {
     if !receiver.takeable(0) {
         return Err(Refusal::Idle);
@@ -283,6 +308,8 @@ fn act_and_answer(
     ensures refused { IfErr result (λ r. ActRefused memory.old request.now sender.old r) }
     ensures err_memory { OnErr result (memory.new ≡ memory.old) }
     ensures err_sender { OnErr result (sender.new ≡ sender.old) }
+    ensures answers { IfOk result (λ place. act_on memory.old request.now mark sender.old ≡ Ok (place, memory.new, sender.new)) }
+    ensures refuses { IfErr result (λ r. Refuses (λ x. serving_grows sender.old x.2) (act_on memory.old request.now mark sender.old) r) }
 {
     let place = memory.entries().len();
     let had_room = sender.has_room();
@@ -315,6 +342,8 @@ fn act(
     ensures refused { IfErr result (λ r. ActRefused memory.old request.now sender.old r) }
     ensures err_memory { OnErr result (memory.new ≡ memory.old) }
     ensures err_sender { OnErr result (sender.new ≡ sender.old) }
+    ensures answers { IfOk result (λ place. act_on memory.old request.now mark sender.old ≡ Ok (place, memory.new, sender.new)) }
+    ensures refuses { IfErr result (λ r. Refuses (λ x. serving_grows sender.old x.2) (act_on memory.old request.now mark sender.old) r) }
 {
     match need_to_answer(memory, request) {
         Some(need) => act_and_answer(memory, request, mark, sender, need),
@@ -336,6 +365,8 @@ pub fn serve(
     ensures err_receiver { OnErr result (receiver.new ≡ receiver.old) }
     ensures err_memory { OnErr result (memory.new ≡ memory.old) }
     ensures err_sender { OnErr result (sender.new ≡ sender.old) }
+    ensures answers { IfOk result (λ at. serve_on receiver.old place memory.old sender.old ≡ Ok (at, receiver.new, memory.new, sender.new)) }
+    ensures refuses { IfErr result (λ r. Refuses (λ x. serving_grows sender.old x.3) (serve_on receiver.old place memory.old sender.old) r) }
 {
     if !receiver.takeable(place) {
         return Err(Refusal::NotTakeable);

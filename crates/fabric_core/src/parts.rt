@@ -39,6 +39,7 @@ impl Model for Parts {
     ghost view = { λ p. record { credits = p.credits; memory = p.memory; requesters = p.requesters.items; inward = p.inward; outward = p.outward; up = p.up.items; down = p.down.items } };
 }
 
+ghost use Rattle.fabric_core.specs.Answers.{Refuses, lane_grows, link_grows, serving_grows, event_grows, link_at, submit_at, forward_at, serve_at, collect_at, answer};
 ghost use Rattle.fabric_core.specs.Steps.{IsNoPort, LinksIn, LinkInRefused, LinksAt, LinkAtRefused, SubmitsAt, SubmitAtRefused, ForwardsUp, ForwardUpRefused, ForwardsOut, ForwardOutRefused, ServesAt, CollectsAt, CollectAtRefused, Happens, Refused, HasLanes};
 ghost use Rattle.fabric_core.specs.Config.{config_of};
 ghost use Rattle.fabric_core.specs.Footprints.{ServeRefused};
@@ -110,6 +111,8 @@ impl Parts {
         ensures ok { IfOk result (λ what. LinksAt self.old name event what self.new) }
         ensures refused { IfErr result (λ r. LinkAtRefused self.old name event r) }
         ensures err { OnErr result (self.new ≡ self.old) }
+        ensures answers { IfOk result (λ what. link_at self.old name event ≡ Ok (what, self.new)) }
+        ensures refuses { IfErr result (λ r. Refuses (λ x. link_grows x.0) (link_at self.old name event) r) }
     {
         match name {
             LaneName::Up(port) => link_in(&mut self.up, port, event),
@@ -124,6 +127,8 @@ impl Parts {
         ensures ok { IfOk result (λ number. SubmitsAt self.old port op.now number self.new) }
         ensures refused { IfErr result (λ r. SubmitAtRefused self.old port op.now r) }
         ensures err { OnErr result (self.new ≡ self.old) }
+        ensures answers { IfOk result (λ number. submit_at self.old port op.now ≡ Ok (Seen.Submitted number, self.new)) }
+        ensures refuses { IfErr result (λ r. Refuses lane_grows (submit_at self.old port op.now) r) }
     {
         let place = place_of(port, self.requesters.len())?;
         let requester = &mut self.requesters[place];
@@ -137,6 +142,8 @@ impl Parts {
         ensures ok { IfOk result (λ to. ForwardsUp self.old port place to self.new) }
         ensures refused { IfErr result (λ r. ForwardUpRefused self.old port place r) }
         ensures err { OnErr result (self.new ≡ self.old) }
+        ensures answers { IfOk result (λ to. forward_at self.old (LaneName.Up port) place ≡ Ok (Seen.To to, self.new)) }
+        ensures refuses { IfErr result (λ r. Refuses lane_grows (forward_at self.old (LaneName.Up port) place) r) }
     {
         let at = place_of(port, self.up.len())?;
         let lane = &mut self.up[at];
@@ -153,6 +160,8 @@ impl Parts {
         ensures ok { IfOk result (λ to. ForwardsOut self.old place to self.new) }
         ensures refused { IfErr result (λ r. ForwardOutRefused self.old place r) }
         ensures err { OnErr result (self.new ≡ self.old) }
+        ensures answers { IfOk result (λ to. forward_at self.old LaneName.Outward place ≡ Ok (Seen.To to, self.new)) }
+        ensures refuses { IfErr result (λ r. Refuses lane_grows (forward_at self.old LaneName.Outward place) r) }
     {
         let outward = &mut self.outward;
         let to = events::destination(&outward.receiver, place, Port::MEMORY)?;
@@ -170,6 +179,8 @@ impl Parts {
         ensures ok { IfOk result (λ at. ServesAt self.old place at self.new) }
         ensures refused { IfErr result (λ r. ServeRefused self.old.inward.receiver place self.old.memory self.old.outward.sender r) }
         ensures err { OnErr result (self.new ≡ self.old) }
+        ensures answers { IfOk result (λ at. serve_at self.old place ≡ Ok (Seen.At at, self.new)) }
+        ensures refuses { IfErr result (λ r. Refuses (λ x. serving_grows self.old.outward.sender x.1.outward.sender) (serve_at self.old place) r) }
     {
         let inward = &mut self.inward;
         let outward = &mut self.outward;
@@ -186,6 +197,8 @@ impl Parts {
         ensures ok { IfOk result (λ a. CollectsAt self.old port a self.new) }
         ensures refused { IfErr result (λ r. CollectAtRefused self.old port r) }
         ensures err { OnErr result (self.new ≡ self.old) }
+        ensures answers { IfOk result (λ a. collect_at self.old port ≡ Ok (Seen.Collected a, self.new)) }
+        ensures refuses { IfErr result (λ r. collect_at self.old port ≡ Err r) }
     {
         let place = place_of(port, self.requesters.len())?;
         let requester = &mut self.requesters[place];
@@ -198,6 +211,8 @@ impl Parts {
         ensures ok { IfOk result (λ what. Happens self.old (Event.Forward name place) what self.new) }
         ensures refused { IfErr result (λ r. Refused self.old (Event.Forward name place) r) }
         ensures err { OnErr result (self.new ≡ self.old) }
+        ensures answers { IfOk result (λ what. forward_at self.old name place ≡ Ok (what, self.new)) }
+        ensures refuses { IfErr result (λ r. Refuses lane_grows (forward_at self.old name place) r) }
     {
         match name {
             LaneName::Up(port) => Ok(Seen::To(self.forward_up(port, place)?)),
@@ -212,6 +227,8 @@ impl Parts {
         ensures ok { IfOk result (λ what. Happens self.old event.now what self.new) }
         ensures refused { IfErr result (λ r. Refused self.old event.now r) }
         ensures err { OnErr result (self.new ≡ self.old) }
+        ensures answers { IfOk result (λ what. answer self.old event.now ≡ Ok (what, self.new)) }
+        ensures refuses { IfErr result (λ r. Refuses (event_grows self.old) (answer self.old event.now) r) }
     {
         match event {
             Event::Submit(port, op) => Ok(Seen::Submitted(self.submit(*port, op)?)),

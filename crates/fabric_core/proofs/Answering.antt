@@ -1,0 +1,113 @@
+-- Events over parts, as the answer of the fabric that has them.
+use Rattle.std.proofs.Common.{ℕ, zero, suc, ◌≡◌, ◌<◌, ◌⊎◌, inl, inr, Bool, true, false, if◌then◌else◌, List, refl, sym, ap, subst, arith, Option, Some, None, Result, Ok, Err, IfOk, IfErr}
+use Rattle.std.specs.Prelude.{length, slice_get, slice_set, ◌&&◌, ◌==◌, not}
+use Rattle.std.proofs.lemmas.Bool.Decides.{nat_tests}
+use Rattle.tlp_core.specs.Packet.{Packet}
+use Rattle.std.proofs.lemmas.Option.{slice_get_past}
+use Rattle.tlp_core.specs.declared.operation.Op.{Op}
+use Rattle.requester_core.specs.declared.requester.Answer.{Answer}
+use Rattle.requester_core.specs.Requesting.{Requesting}
+use Rattle.lane_ends.specs.Steps.{Ends, Incoming, Outgoing}
+use Rattle.tlp_core.specs.Operation.{is_completion}
+use Rattle.vc_queue.specs.Queue.{Item}
+use Rattle.switch_core.specs.Routing.{route, port_of, is_requester}
+use Rattle.switch_core.specs.declared.fault.RouteFault.TheVariants.{NoPort}
+use Rattle.fabric_laws.specs.Fabric.{Fabric}
+use Rattle.fabric_core.specs.declared.event.LaneName.{LaneName}
+use Rattle.fabric_core.specs.declared.event.LaneName.TheVariants as lanes
+use Rattle.fabric_core.specs.declared.event.LinkEvent.{LinkEvent}
+use Rattle.fabric_core.specs.declared.event.Seen.{Seen}
+use Rattle.fabric_core.specs.declared.event.Seen.TheVariants as seen
+use Rattle.fabric_core.specs.declared.fault.Refusal.{Refusal}
+use Rattle.fabric_core.specs.declared.fault.Refusal.TheVariants as refusals
+use Rattle.fabric_core.specs.Answers.{Refuses, lane_grows, link_grows, map_ok, and_then, map_err, item_at, part_at, with_part, link_on, link_at, submit_on, submit_at, collect_on, collect_at, destination_on, forward_on, forward_at}
+use Rattle.fabric_core.specs.Steps.{IsNoPort, HasPart}
+
+pub no_part : {X : Type 0} (parts : List X) (port : ℕ) → IsNoPort port (length parts) → part_at parts port ≡ Err refusals.NoSuchPart
+no_part parts zero h = refl
+no_part parts (suc place) (inl e) = absurd cc
+no_part parts (suc place) (inr past) = rw (slice_get_past parts place (omega (arith, past))) refl
+
+-- the refusals of what is given by another name
+pub refuses_given : {A B : Type 0} (grows : B → Refusal → Type 0) (f : A → B) (a : Result A Refusal) (r : Refusal) → Refuses (λ x. grows (f x)) a r → Refuses grows (map_ok a f) r
+refuses_given grows f (Ok x) r h = h
+refuses_given grows f (Err x) r h = h
+
+-- ---- calls of a link
+
+pub up_answers : (f : Fabric) (port place : ℕ) (event : LinkEvent) (e e' : Ends) (r : Result Seen Refusal) → HasPart f.up port place e → IfOk r (λ what. link_on e event ≡ Ok (what, e'))
+    → IfOk r (λ what. link_at f (lanes.Up port) event ≡ Ok (what, record f { up = slice_set f.up place e' }))
+up_answers f port place event e e' (Err x) i h = tt
+up_answers f port place event e e' (Ok what) i h = rw (i.is_port, i.there, h) refl
+
+pub up_refuses : (f : Fabric) (port place : ℕ) (event : LinkEvent) (e : Ends) (r : Result Seen Refusal) → HasPart f.up port place e → IfErr r (Refuses (λ x. link_grows x.0) (link_on e event))
+    → IfErr r (Refuses (λ x. link_grows x.0) (link_at f (lanes.Up port) event))
+up_refuses f port place event e (Ok what) i h = tt
+up_refuses f port place event e (Err x) i h = rw (i.is_port, i.there) (refuses_given (λ y. link_grows y.0) _ (link_on e event) x h)
+
+-- ---- Submit
+
+pub submit_answers : (f : Fabric) (port place : ℕ) (op : Op) (q q' : Requesting) (e : Ends) (s' : Outgoing) (r : Result ℕ Refusal) → HasPart f.requesters port place q → HasPart f.up port place e
+    → IfOk r (λ n. submit_on q e.sender op ≡ Ok (n, q', s'))
+    → IfOk r (λ n. submit_at f port op ≡ Ok (seen.Submitted n, record f { up = slice_set f.up place (record e { sender = s' }); requesters = slice_set f.requesters place q' }))
+submit_answers f port place op q q' e s' (Err x) i j h = tt
+submit_answers f port place op q q' e s' (Ok n) i j h = rw (i.is_port, i.there, j.there, h) refl
+
+pub submit_refuses : (f : Fabric) (port place : ℕ) (op : Op) (q : Requesting) (e : Ends) (r : Result ℕ Refusal) → HasPart f.requesters port place q → HasPart f.up port place e
+    → IfErr r (Refuses lane_grows (submit_on q e.sender op)) → IfErr r (Refuses lane_grows (submit_at f port op))
+submit_refuses f port place op q e (Ok n) i j h = tt
+submit_refuses f port place op q e (Err x) i j h = rw (i.is_port, i.there, j.there) (refuses_given lane_grows _ (submit_on q e.sender op) x h)
+
+-- ---- Collect
+
+pub collect_answers : (f : Fabric) (port place : ℕ) (q q' : Requesting) (e : Ends) (v' : Incoming) (r : Result Answer Refusal) → HasPart f.requesters port place q → HasPart f.down port place e
+    → IfOk r (λ a. collect_on e.receiver q ≡ Ok (a, v', q'))
+    → IfOk r (λ a. collect_at f port ≡ Ok (seen.Collected a, record f { down = slice_set f.down place (record e { receiver = v' }); requesters = slice_set f.requesters place q' }))
+collect_answers f port place q q' e v' (Err x) i j h = tt
+collect_answers f port place q q' e v' (Ok a) i j h = rw (i.is_port, i.there, j.there, h) refl
+
+pub collect_refuses : (f : Fabric) (port place : ℕ) (q : Requesting) (e : Ends) (r : Result Answer Refusal) → HasPart f.requesters port place q → HasPart f.down port place e
+    → IfErr r (λ x. collect_on e.receiver q ≡ Err x) → IfErr r (λ x. collect_at f port ≡ Err x)
+collect_refuses f port place q e (Ok a) i j h = tt
+collect_refuses f port place q e (Err x) i j h = rw (i.is_port, i.there, j.there, h) refl
+
+-- ---- Forward from an `up` lane
+
+-- a packet that came in from a requester goes to the memory
+pub goes_inward : (r : Incoming) (place from to : ℕ) → destination_on r place (suc from) ≡ Ok to → to ≡ 0
+goes_inward r place from to h = by_item (item_at r place) h
+  where
+    some_port : (suc from == 0) ≡ false
+    some_port = grind (arith, nat_tests)
+
+    by_kind : (t : Packet) (c z : Bool) → z ≡ false → map_err refusals.Route (if c then (if z && is_requester (port_of t) then Ok (port_of t) else Err NoPort) else (if not z then Ok 0 else Err NoPort)) ≡ Ok to → to ≡ 0
+    by_kind t c true e k = absurd cc
+    by_kind t true false e k = absurd cc
+    by_kind t false false e k = cc
+
+    by_item : (a : Result Item Refusal) → and_then a (λ x. map_err refusals.Route (route x.0 (suc from))) ≡ Ok to → to ≡ 0
+    by_item (Err x) e = absurd cc
+    by_item (Ok x) e = by_kind x.0 (is_completion x.0.kind) (suc from == 0) some_port e
+
+up_goes : (f : Fabric) (place at : ℕ) (e : Ends) (r' : Incoming) (s' : Outgoing) → slice_get f.up at ≡ Some e → destination_on e.receiver place (suc at) ≡ Ok 0 → forward_on e.receiver place f.inward.sender ≡ Ok (r', s')
+    → forward_at f (lanes.Up (suc at)) place ≡ Ok (seen.To 0, record f { up = slice_set f.up at (record e { receiver = r' }); inward = record f.inward { sender = s' } })
+up_goes f place at e r' s' has d h = rw (has, d, h) refl
+
+pub forward_up_answers : (f : Fabric) (port place to at : ℕ) (e : Ends) (r' : Incoming) (s' : Outgoing) → HasPart f.up port at e → destination_on e.receiver place port ≡ Ok to → forward_on e.receiver place f.inward.sender ≡ Ok (r', s')
+    → forward_at f (lanes.Up port) place ≡ Ok (seen.To to, record f { up = slice_set f.up at (record e { receiver = r' }); inward = record f.inward { sender = s' } })
+forward_up_answers f port place to at e r' s' i d h =
+    let d' : destination_on e.receiver place (suc at) ≡ Ok to = subst (λ (n : ℕ). destination_on e.receiver place n ≡ Ok to) i.is_port d in
+    let zero_is : to ≡ 0 = goes_inward e.receiver place at to d' in
+    let d'' : destination_on e.receiver place (suc at) ≡ Ok 0 = subst (λ (n : ℕ). destination_on e.receiver place (suc at) ≡ Ok n) zero_is d' in
+    rw (i.is_port, zero_is) (up_goes f place at e r' s' i.there d'' h)
+
+up_held : (f : Fabric) (place at : ℕ) (e : Ends) (r : Refusal) → slice_get f.up at ≡ Some e → destination_on e.receiver place (suc at) ≡ Ok 0 → Refuses lane_grows (forward_on e.receiver place f.inward.sender) r
+    → Refuses lane_grows (forward_at f (lanes.Up (suc at)) place) r
+up_held f place at e r has d h = rw (has, d) (refuses_given lane_grows _ (forward_on e.receiver place f.inward.sender) r h)
+
+pub forward_up_refuses : (f : Fabric) (port place to at : ℕ) (e : Ends) (r : Refusal) → HasPart f.up port at e → destination_on e.receiver place port ≡ Ok to → Refuses lane_grows (forward_on e.receiver place f.inward.sender) r
+    → Refuses lane_grows (forward_at f (lanes.Up port) place) r
+forward_up_refuses f port place to at e r i d h =
+    let d' : destination_on e.receiver place (suc at) ≡ Ok to = subst (λ (n : ℕ). destination_on e.receiver place n ≡ Ok to) i.is_port d in
+    let d'' : destination_on e.receiver place (suc at) ≡ Ok 0 = subst (λ (n : ℕ). destination_on e.receiver place (suc at) ≡ Ok n) (goes_inward e.receiver place at to d') d' in
+    rw i.is_port (up_held f place at e r i.there d'' h)

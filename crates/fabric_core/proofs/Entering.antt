@@ -1,0 +1,62 @@
+-- A packet that enters a lane, by the answer.
+use Rattle.std.proofs.Common.{ℕ, ◌≡◌, ◌<◌, ◌≤◌, ◌∙◌, Bool, true, false, List, [], ◌∷◌, ◌++◌, length, refl, sym, ap, subst, arith, Option, Some, None, Result, Ok, Err, if◌then◌else◌}
+use Rattle.std.specs.Prelude.{nat_lt, ◌&&◌, slice_get, option_map}
+use Rattle.std.proofs.lemmas.Bool.Decides.{nat_tests}
+use Rattle.std.proofs.lemmas.List.{length-append}
+use Rattle.tlp_core.specs.Packet.{Packet}
+use Rattle.fc_credit.specs.declared.needs.Need.{Need}
+use Rattle.seq_memory.specs.History.{State}
+use Rattle.completer_core.specs.Serving.{completion_to, after_serving}
+use Rattle.replay_sender.specs.Carried.{Carried}
+use Rattle.fc_credit.specs.Needs.{need_of}
+use Rattle.fc_credit.specs.Credits.{gate_covers}
+use Rattle.vc_queue.specs.Queue.{is_takeable}
+use Rattle.lane_ends.specs.Content.{cargo_of}
+use Rattle.lane_ends.specs.declared.packet.LaneRefusal.{LaneRefusal}
+use Rattle.lane_ends.specs.declared.packet.LaneRefusal.TheVariants as no_room
+use Rattle.lane_ends.specs.Refusals.{LacksRoom}
+use Rattle.lane_ends.specs.Steps.{Incoming, Outgoing, may_enter, entered}
+use Rattle.fabric_core.specs.declared.fault.Refusal.{Refusal}
+use Rattle.fabric_core.specs.declared.fault.Refusal.TheVariants as refusals
+use Rattle.fabric_core.specs.Answers.{Refuses, lane_grows, serving_grows, map_ok, enter_on, enter_if_any, item_at, act_on}
+
+both : {X : Type 0} (a b : Bool) (x y z : X) → (a && b) ≡ true → (if a then (if b then x else y) else z) ≡ x
+both true true x y z e = refl
+both true false x y z e = absurd cc
+both false b x y z e = absurd cc
+
+pub enters_on : (s : Outgoing) (t : Packet) (mark : ℕ) (s' : Outgoing) → may_enter s (need_of t) ≡ true → s' ≡ entered s t mark → enter_on s t mark ≡ Ok s'
+enters_on s t mark s' may now =
+    both (gate_covers s.gate (need_of t)) (nat_lt (length s.sending.kept) 2047) (Ok (entered s t mark)) (Err (refusals.Lane no_room.WindowFull)) (Err (refusals.Lane (no_room.NoCredits (need_of t).class))) may
+    ∙ ap Ok (sym now)
+
+-- the packet of a takeable place
+pub item_is : (r : Incoming) (place : ℕ) (t : Packet) (mark : ℕ) → is_takeable r.queue place ≡ true → slice_get r.queue place ≡ Some (t, mark) → item_at r place ≡ Ok (t, mark)
+item_is r place t mark takeable there = rw (takeable, there) refl
+
+-- what a lane has no room for doesn't enter; what finds no memory would
+pub room_answers : {A : Type 0} (grows : A → Refusal → Type 0) (f : Outgoing → A) (s : Outgoing) (t : Packet) (mark : ℕ) (x : LaneRefusal) → grows (f (entered s t mark)) (refusals.Lane no_room.Memory)
+    → LacksRoom s (need_of t) x → Refuses grows (map_ok (enter_on s t mark) f) (refusals.Lane x)
+room_answers grows f s t mark (no_room.NoCredits class) g h = rw h.1 (ap (λ c. refusals.Lane (no_room.NoCredits c)) h.0)
+room_answers grows f s t mark no_room.WindowFull g h = let full : nat_lt (length s.sending.kept) 2047 ≡ false = grind (arith, nat_tests) in rw (h.0, full) refl
+room_answers grows f s t mark no_room.Memory g h = rw (enters_on s t mark (entered s t mark) h refl) g
+
+longer : (xs : List Carried) (x : Carried) → length xs < length (xs ++ x ∷ [])
+longer xs x = omega (arith, length-append xs (x ∷ []))
+
+-- a completion for which there is no room
+pub act_lacks : (m : State) (t : Packet) (mark : ℕ) (s : Outgoing) (c : Packet) (x : LaneRefusal) → completion_to m t ≡ Some c → LacksRoom s (need_of c) x
+    → Refuses (λ (y : ℕ × State × Outgoing). serving_grows s y.2) (act_on m t mark s) (refusals.Lane x)
+act_lacks m t mark s c x is h =
+    rw is (room_answers (λ (y : ℕ × State × Outgoing). serving_grows s y.2) (λ s'. (length m.entries, after_serving m t mark, s')) s c mark x (longer s.sending.kept (cargo_of c mark)) h)
+
+-- the history can't grow for a request that may act
+pub act_memory : (m : State) (t : Packet) (mark : ℕ) (s : Outgoing) (need : Need) → option_map need_of (completion_to m t) ≡ Some need → may_enter s need ≡ true
+    → Refuses (λ (y : ℕ × State × Outgoing). serving_grows s y.2) (act_on m t mark s) refusals.Memory
+act_memory m t mark s need is may = by_completion (completion_to m t) is
+  where
+    by_completion : (o : Option Packet) → option_map need_of o ≡ Some need → Refuses (λ (y : ℕ × State × Outgoing). serving_grows s y.2) (map_ok (enter_if_any s o mark) (λ s'. (length m.entries, after_serving m t mark, s'))) refusals.Memory
+    by_completion None e = absurd cc
+    by_completion (Some c) e =
+        let same : need_of c ≡ need = cc in
+        rw (enters_on s c mark (entered s c mark) (subst (λ (n : Need). may_enter s n ≡ true) (sym same) may) refl) tt
