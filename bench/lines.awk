@@ -1,6 +1,6 @@
-# Lines for `pciex tlp`: FetchAdd, write, read and CAS in turn, of 4 and then of 8 bytes.
+# Lines for `pciex tlp` and `pciex decode`: FetchAdd, write, read and CAS in turn, of 4 and then of 8 bytes.
 #
-#     awk -v lines=20000 -f mixed_lines.awk
+#     awk -v lines=20000 -f bench/lines.awk
 BEGIN {
     for (i = 0; i < lines; i++) {
         kind = i % 4

@@ -1,7 +1,7 @@
-# A trace for `pciex check` and `pciex upgrade`: seven requesters, each of which submits and is then answered, so many
-# times. Two thirds of the requests are a FetchAdd of 1 at 40h, the others posted writes.
+# A trace for `pciex check` and `pciex upgrade`: seven requesters, each of which submits and is then answered, in each of the
+# rounds. Two thirds of the requests are a FetchAdd of 1 at 40h, the others posted writes.
 #
-#     awk -v rounds=42857 -f long_trace.awk
+#     awk -v rounds=42857 -f bench/trace.awk
 function word(n) { return sprintf("%02X%02X%02X%02X", n % 256, int(n / 256) % 256, int(n / 65536) % 256, int(n / 16777216) % 256) }
 function op(k) { return k % 3 ? "add 40 01000000" : "write " sprintf("%X", 128 + k % 32 * 4) " F 0 " word(k) }
 BEGIN {

@@ -2,7 +2,7 @@
 # turn. On each `up` lane the second packet fails its check, so that a Nak moves the sender back; on `in` the last Ack is
 # lost, and the packets are sent once more. A round has 1,015 events.
 #
-#     awk -v rounds=296 -f long_script.awk
+#     awk -v rounds=296 -f bench/script.awk
 function op(k) {
     if (k % 4 == 0) return "add 40 01000000"
     if (k % 4 == 1) return "write " sprintf("%X", 128 + k % 32 * 4) " F 0 " sprintf("%08X", k)

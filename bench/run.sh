@@ -1,0 +1,109 @@
+#!/bin/sh
+# Measures the built program and the built library for C, and prints a table in Markdown: run.sh [RUNS], 5 if not given.
+#
+# Seconds are processor seconds (user and system), the least of the runs. Instructions are counted by callgrind, as the
+# difference of two inputs of about 10,000 and 20,000 units, divided by the difference of the units. Peak memory is the
+# largest resident set. Growth is the factor of both when the input is doubled. `rt ci` or `rt run` has to have built
+# crates/pciex, and c/check.sh or `rt lib` crates/pciex_c. What is left out is said below the table.
+# shellcheck disable=SC2016 # backquotes of Markdown, and words of an inner shell
+set -eu
+cd "$(dirname "$0")/.."
+runs=${1:-5}
+pciex=$PWD/crates/pciex/out/pciex
+library=$PWD/crates/pciex_c/out/libpciex_c.a
+left_out="the hall against the fabric and the receive queue alone (both need a program in Rattle)"
+room=$(mktemp -d)
+trap 'rm -rf "$room"' EXIT
+trap 'exit 1' HUP INT TERM
+command -v cc > /dev/null || { echo "run.sh: there is no cc" >&2; exit 1; }
+cc -O2 -Wall -Wextra -Werror -std=c99 -o "$room/measure" bench/measure.c
+
+# input KIND SCALE: makes the input of this scale in $room/input, and sets $units, the number of its units.
+input() {
+    case $1 in
+        lines) awk -v lines="$2" -f bench/lines.awk > "$room/input" ;;
+        trace) awk -v rounds="$2" -f bench/trace.awk > "$room/input" ;;
+        script) awk -v rounds="$2" -f bench/script.awk > "$room/input" ;;
+        nothing*) : > "$room/input" ;;
+    esac
+    case $1 in
+        nothing*) units=$(($2 * ${1#nothing})) ;;
+        *) units=$(wc -l < "$room/input") ;;
+    esac
+}
+
+# of_scale SCALE COMMAND..: the command with SCALE in place of each word N, in the lines of $room/words.
+of_scale() {
+    scale=$1
+    shift
+    for word in "$@"; do
+        [ "$word" != N ] || word=$scale
+        echo "$word"
+    done > "$room/words"
+}
+
+# measured KIND SCALE COMMAND..: the least seconds and the peak memory in kilobytes, as two words.
+measured() {
+    input "$1" "$2"
+    shift
+    of_scale "$@"
+    xargs -a "$room/words" -d '\n' "$room/measure" "$runs" "$room/input"
+}
+
+# counted KIND SCALE COMMAND..: sets $instructions and $units.
+counted() {
+    input "$1" "$2"
+    shift
+    of_scale "$@"
+    xargs -a "$room/words" -d '\n' sh -c 'exec valgrind --tool=callgrind --callgrind-out-file=/dev/null "$@" < "$0"' "$room/input" > /dev/null 2> "$room/log"
+    instructions=$(sed -n 's/.*Collected : \([0-9]*\).*/\1/p' "$room/log")
+}
+
+# row TITLE UNIT KIND LARGE SMALL COMMAND..: measures at the scales LARGE and twice that, counts at SMALL and twice that (not
+# at all if SMALL is 0), and prints the row.
+row() {
+    title=$1 unit=$2 kind=$3 large=$4 small=$5
+    shift 5
+    per_unit="-"
+    if [ "$small" -gt 0 ] && command -v valgrind > /dev/null; then
+        counted "$kind" "$small" "$@"
+        first=$instructions first_units=$units
+        counted "$kind" $((2 * small)) "$@"
+        per_unit=$(((instructions - first) / (units - first_units)))
+    fi
+    twice=$(measured "$kind" $((2 * large)) "$@")
+    once=$(measured "$kind" "$large" "$@")
+    input "$kind" "$large"
+    echo "$once $twice" | awk -v title="$title" -v unit="$unit" -v units="$units" -v per_unit="$per_unit" '{
+        printf "| %s | %d %s | %.2f | %s | %.1f | %.1f | %.1f |\n", title, units, unit, $1, per_unit, $2 / 1024, $3 / ($1 > 0 ? $1 : 0.001), $4 / $2
+    }'
+}
+
+echo "| Run | Input | Seconds | Instructions a unit | Peak memory (MiB) | Seconds when doubled | Memory when doubled |"
+echo "|---|---|---|---|---|---|---|"
+if [ -x "$pciex" ]; then
+    row '`pciex tlp`' lines lines 1000000 10000 "$pciex" tlp
+    row '`pciex decode`' lines lines 1000000 10000 "$pciex" decode
+    row '`pciex step`' lines script 296 10 "$pciex" step
+    row '`pciex step --trace`' lines script 296 10 "$pciex" step --trace
+    row '`pciex check`' lines trace 42857 540 "$pciex" check
+    row '`pciex upgrade`' lines trace 42857 540 "$pciex" upgrade
+    row '`pciex generate --lose 8`' events nothing1 1000000 10000 "$pciex" generate --seed 7 --lose 8 --events N
+    row '`pciex run`, 7 requesters' additions nothing7 2000 0 "$pciex" run --requesters 7 --each N
+    row '`pciex run --lose 2 --corrupt 3`, 7 requesters' additions nothing7 500 0 "$pciex" run --requesters 7 --lose 2 --corrupt 3 --each N
+else
+    left_out="$left_out, the program, which isn't built"
+fi
+if [ -e "$library" ]; then
+    kit=$(dirname "$(rt doc)")/c
+    for name in device fabric; do
+        cc -O2 -Wall -Wextra -Werror -std=c99 -Ic -o "$room/$name" bench/$name.c "$library" "$kit/liblibc_c.a"
+    done
+    row '`pciex_answer` from C' calls nothing1 1000000 10000 "$room/device" N
+    row '`pciex_fabric_event` from C, with its trace and `pciex_check`' lines script 296 10 "$room/fabric"
+else
+    left_out="$left_out, the library for C, which isn't built"
+fi
+command -v valgrind > /dev/null || left_out="$left_out, instructions, since there is no valgrind"
+echo
+echo "Left out: $left_out."
