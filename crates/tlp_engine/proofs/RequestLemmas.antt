@@ -20,10 +20,10 @@ use Rattle.completer_core.specs.Serving.{after_serving, with_entry, request_entr
 use Rattle.hex.specs.Hex.{decode_of}
 use Rattle.hex.specs.declared.error.FromHexError.{FromHexError}
 use Rattle.hex_line.specs.Line.{digits_of}
-use Rattle.tlp_engine.specs.Tlp.{requests_of, answer_request, answer_line, answer_bytes, answer_reading, fault}
+use Rattle.tlp_engine.specs.Tlp.{Device, requests_of, answer_request, answer_line, answer_bytes, answer_reading, fault}
 
 -- the operation of a request
-asked : (k : Kind) (body : Body) (dw given : ℕ) (bytes : List ℕ) → FitsKind k body dw given → is_completion k ≡ false → (op : Op) × (op_at k body dw bytes ≡ Some op)
+pub asked : (k : Kind) (body : Body) (dw given : ℕ) (bytes : List ℕ) → FitsKind k body dw given → is_completion k ≡ false → (op : Op) × (op_at k body dw bytes ≡ Some op)
 asked kinds.MemoryRead (bodies.Request a f l) dw given bytes h c = (_, refl)
 asked kinds.MemoryRead (bodies.Completion x s n l) dw given bytes h c = absurd h
 asked kinds.MemoryWrite (bodies.Request a f l) dw given bytes h c = (_, refl)
@@ -72,13 +72,13 @@ counted s t number own counts p c e fits same port before =
 -- ---- answers
 
 -- all numbers are used
-pub numbers-used : (s : State) (t : Packet) (number : ℕ) → number ≡ 4294967295 → answer_request s t number ≡ fault s (codes "fault numbers")
-numbers-used s t number e = rw e refl
+pub numbers-used : {S : Type 0} (d : Device S) (s : S) (t : Packet) (number : ℕ) → number ≡ 4294967295 → answer_request d s t number ≡ fault s (codes "fault numbers")
+numbers-used d s t number e = rw e refl
 
 -- a line that isn't skipped
-line-bytes : (s : State) (line : List ℕ) → (length line == 0) ≡ false → slice_index line 0 ≢ 35 → answer_line s line ≡ answer_bytes s (decode_of (digits_of line))
-line-bytes s [] some not = cc
-line-bytes s (x ∷ xs) some not =
+line-bytes : {S : Type 0} (d : Device S) (s : S) (line : List ℕ) → (length line == 0) ≡ false → slice_index line 0 ≢ 35 → answer_line d s line ≡ answer_bytes d s (decode_of (digits_of line))
+line-bytes d s [] some not = cc
+line-bytes d s (x ∷ xs) some not =
     let test : (x == 35) ≡ false = refuted x 35 not in
     rw test refl
   where
@@ -86,17 +86,17 @@ line-bytes s (x ∷ xs) some not =
     refuted a b not = grind (arith, nat_tests)
 
 -- one whose digits are read
-pub line-read : (s : State) (line digits bytes : List ℕ) → (length line == 0) ≡ false → slice_index line 0 ≢ 35 → digits ≡ digits_of line
-    → decode_of digits ≡ Ok bytes → answer_line s line ≡ answer_reading s (reading bytes)
-line-read s line digits bytes some not e h =
-    line-bytes s line some not ∙ ap (λ (d : List ℕ). answer_bytes s (decode_of d)) (sym e) ∙ ap (answer_bytes s) h
+pub line-read : {S : Type 0} (d : Device S) (s : S) (line digits bytes : List ℕ) → (length line == 0) ≡ false → slice_index line 0 ≢ 35 → digits ≡ digits_of line
+    → decode_of digits ≡ Ok bytes → answer_line d s line ≡ answer_reading d s (reading bytes)
+line-read d s line digits bytes some not e h =
+    line-bytes d s line some not ∙ ap (λ (x : List ℕ). answer_bytes d s (decode_of x)) (sym e) ∙ ap (answer_bytes d s) h
 
 -- and one whose digits are not
-pub line-not-read : (s : State) (line digits : List ℕ) → (length line == 0) ≡ false → slice_index line 0 ≢ 35 → digits ≡ digits_of line
-    → IsErr (decode_of digits) → answer_line s line ≡ fault s (codes "fault hex")
-line-not-read s line digits some not e h =
-    line-bytes s line some not ∙ ap (λ (d : List ℕ). answer_bytes s (decode_of d)) (sym e) ∙ go (decode_of digits) h
+pub line-not-read : {S : Type 0} (d : Device S) (s : S) (line digits : List ℕ) → (length line == 0) ≡ false → slice_index line 0 ≢ 35 → digits ≡ digits_of line
+    → IsErr (decode_of digits) → answer_line d s line ≡ fault s (codes "fault hex")
+line-not-read d s line digits some not e h =
+    line-bytes d s line some not ∙ ap (λ (x : List ℕ). answer_bytes d s (decode_of x)) (sym e) ∙ go (decode_of digits) h
   where
-    go : (r : Result (List ℕ) FromHexError) → IsErr r → answer_bytes s r ≡ fault s (codes "fault hex")
+    go : (r : Result (List ℕ) FromHexError) → IsErr r → answer_bytes d s r ≡ fault s (codes "fault hex")
     go (Ok bytes) h = cc
     go (Err e) h = refl

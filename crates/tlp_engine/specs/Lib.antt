@@ -1,1 +1,2 @@
 pub mod Tlp
+pub mod Kept

@@ -25,48 +25,62 @@ completion_text (Some t) = spaced (encode_upper (canonical t))
 abbrev pub fault_text : TlpFault → List ℕ
 fault_text f = codes "fault " ++ decimal (number_of f) ++ 32 ∷ name_of f
 
--- ---- answers
+-- ---- answers, over any device
 
--- the memory stays, and a line tells the fault
-abbrev pub fault : State → List ℕ → Answer State
+-- what an engine asks of a device: how many requests of a port acted, its state after a request under a number, and
+-- the request's completion
+pub record Device (S : Type 0) : Type 0 where
+  pub count : S → ℕ → ℕ
+  pub after : S → Packet → ℕ → S
+  pub completion : S → Packet → Option Packet
+
+-- the device stays, and a line tells the fault
+abbrev pub fault : {S : Type 0} → S → List ℕ → Answer S
 fault s text = record { state = s; text = text ++ 10 ∷ []; is_fault = true }
 
 -- nothing is done, and nothing written
-abbrev pub nothing : State → Answer State
+abbrev pub nothing : {S : Type 0} → S → Answer S
 nothing s = record { state = s; text = []; is_fault = false }
+
+-- a request acts under the number of its requester's earlier ones: that has to be below 2^32 - 1
+abbrev pub answer_request : {S : Type 0} → Device S → S → Packet → ℕ → Answer S
+answer_request d s t number =
+    if number == 4294967295 then fault s (codes "fault numbers")
+    else record { state = d.after s t number; text = completion_text (d.completion s t) ++ 10 ∷ []; is_fault = false }
+
+abbrev pub answer_packet : {S : Type 0} → Device S → S → Packet → Answer S
+answer_packet d s t =
+    if is_completion t.kind then fault s (codes "fault completion")
+    else answer_request d s t (d.count s (t.requester / 256))
+
+abbrev pub answer_reading : {S : Type 0} → Device S → S → Result Packet TlpFault → Answer S
+answer_reading d s (Err f) = fault s (fault_text f)
+answer_reading d s (Ok t) = answer_packet d s t
+
+abbrev pub answer_bytes : {S : Type 0} → Device S → S → Result (List ℕ) FromHexError → Answer S
+answer_bytes d s (Err e) = fault s (codes "fault hex")
+answer_bytes d s (Ok bytes) = answer_reading d s (reading bytes)
+
+-- an empty line, and one that begins with `#`, is skipped
+abbrev pub answer_line : {S : Type 0} → Device S → S → List ℕ → Answer S
+answer_line d s [] = nothing s
+answer_line d s (first ∷ rest) = if first == 35 then nothing s else answer_bytes d s (decode_of (digits_of (first ∷ rest)))
+
+abbrev pub responses : {S : Type 0} → Device S → Responses S
+responses d = record { on_line = answer_line d; on_long_line = λ s. fault s (codes "fault line"); on_end = nothing }
+
+-- ---- runs, of a memory with its history
 
 -- how many requests of the requester at that port the history has
 abbrev pub requests_of : List Entry → ℕ → ℕ
 requests_of history port = count_by (λ e. e.requester == port) history
 
--- a request acts under the number of its requester's earlier ones: that has to be below 2^32 - 1
-abbrev pub answer_request : State → Packet → ℕ → Answer State
-answer_request s t number =
-    if number == 4294967295 then fault s (codes "fault numbers")
-    else record { state = after_serving s t number; text = completion_text (completion_to s t) ++ 10 ∷ []; is_fault = false }
-
-abbrev pub answer_packet : State → Packet → Answer State
-answer_packet s t =
-    if is_completion t.kind then fault s (codes "fault completion")
-    else answer_request s t (requests_of s.entries (t.requester / 256))
-
-abbrev pub answer_reading : State → Result Packet TlpFault → Answer State
-answer_reading s (Err f) = fault s (fault_text f)
-answer_reading s (Ok t) = answer_packet s t
-
-abbrev pub answer_bytes : State → Result (List ℕ) FromHexError → Answer State
-answer_bytes s (Err e) = fault s (codes "fault hex")
-answer_bytes s (Ok bytes) = answer_reading s (reading bytes)
-
--- an empty line, and one that begins with `#`, is skipped
-abbrev pub answer_line : State → List ℕ → Answer State
-answer_line s [] = nothing s
-answer_line s (first ∷ rest) = if first == 35 then nothing s else answer_bytes s (decode_of (digits_of (first ∷ rest)))
+-- each request stands in the history
+abbrev pub with_history : Device State
+with_history = record { count = λ s port. requests_of s.entries port; after = after_serving; completion = completion_to }
 
 abbrev pub tlp_responses : Responses State
-tlp_responses = record { on_line = answer_line; on_long_line = λ s. fault s (codes "fault line"); on_end = nothing }
-
--- ---- runs
+tlp_responses = responses with_history
 
 -- a memory of zeros with an empty history
 abbrev pub new_state : ℕ → ℕ → ℕ → State

@@ -1,43 +1,48 @@
 //! The subcommand `tlp`: requests in, completions out, over one memory.
-ghost use Rattle.std.specs.Prelude.{◌≡◌, ◌/◌, ◌<◌, ◌++◌, ◌∷◌, [], ℕ, true, false, IfOk, IfErr, OnErr, slice_index};
+ghost use Rattle.std.specs.Prelude.{◌≡◌, ◌/◌, ◌<◌, ◌++◌, ◌∷◌, [], ℕ, true, false, IfOk, IfErr, OnErr, length, replicate, slice_index};
 ghost use Rattle.seq_memory.specs.Limits.{IsSize, IsBase, IsBlock};
 ghost use Rattle.tlp_core.specs.Faults.{reading};
 ghost use Rattle.tlp_core.specs.Operation.{is_completion};
 ghost use Rattle.line_engine.specs.Run.{IsAnswer, IsCaughtUp, IsWhole, IsPart};
-ghost use Rattle.tlp_engine.specs.Tlp.{new_state, out_tlp, tlp_responses, answer_request, answer_packet, answer_reading, requests_of, fault_text, completion_text};
+ghost use Rattle.tlp_engine.specs.Tlp.{new_state, out_tlp, tlp_responses, answer_request, answer_packet, answer_reading, fault_text, completion_text};
+ghost use Rattle.tlp_engine.specs.Kept.{new_kept, without_history, kept_responses};
 
 use crate::text::{put_fault, put_packet};
 use arrayvec::ArrayVec;
-use completer_core::serve;
+use completer_core::answer;
 use hex_line::HexLine;
 use line_engine::{EngineFault, Responder, run};
-use seq_memory::Memory;
+use seq_memory::laws::history_grows_by_steps;
 use std::alloc::{AllocError, Global};
 use std::io::{Read, Write};
 use std::marker::Model;
+use tlp_core::laws::reading_is_spelling;
 use tlp_core::{Kind, Tlp, TlpFault, decode};
 
-/// A memory, and how many requests of each requester it has acted on.
+/// The bytes of a memory, and how many requests of each port have acted on it: what `tlp` needs of
+/// a history, in memory that doesn't grow.
 #[derive(Drop)]
 struct Device {
-    memory: Memory,
+    base: u64,
+    block: u16,
+    bytes: Vec<u8>,
     /// By port.
     counts: [u32; 256],
 }
 
 impl Model for Device {
-    ghost use Rattle.std.specs.Prelude.{◌≡◌, ◌<◌, ℕ, slice_index};
-    ghost use Rattle.seq_memory.specs.History.{State};
-    ghost use Rattle.tlp_engine.specs.Tlp.{requests_of};
+    ghost use Rattle.std.specs.Prelude.{◌≡◌, length};
+    ghost use Rattle.seq_memory.specs.Limits.{IsBlock};
+    ghost use Rattle.tlp_engine.specs.Kept.{Kept};
 
-    ghost Value = { State };
+    ghost Value = { Kept };
 
-    ghost view = { λ c. c.memory };
+    ghost view = { λ c. record { base = c.base; block = c.block; bytes = c.bytes.items; counts = c.counts } };
 
-    ghost invariant = { λ c. (port : ℕ) → port < 256 → slice_index c.counts port ≡ requests_of c.memory.entries port };
+    ghost invariant = { λ c. IsBlock c.block };
 }
 
-/// Room for an answer, used again and again: what it holds does not count.
+/// Buffers for an answer, used again and again: what they hold does not count.
 #[derive(Drop)]
 struct Room {
     bytes: ArrayVec<u8, 144>,
@@ -53,18 +58,24 @@ struct Completer {
 }
 
 impl Model for Completer {
-    ghost use Rattle.seq_memory.specs.History.{State};
+    ghost use Rattle.tlp_engine.specs.Kept.{Kept};
 
-    ghost Value = { State };
+    ghost Value = { Kept };
 
     ghost view = { λ c. c.device };
 }
 
 /// No request of any requester.
 fn no_counts() -> [u32; 256]
-    ensures { (port : ℕ) → port < 256 → slice_index result port ≡ 0 }
+    ensures { result ≡ replicate 256 0 }
 {
     [0; 256]
+}
+
+fn zeros(alloc: Global, size: usize) -> Result<Vec<u8>, AllocError>
+    ensures { IfOk result (λ v. v.items ≡ replicate size 0) }
+{
+    vec![in alloc; 0u8; size]
 }
 
 /// Adds a line that tells a fault.
@@ -109,19 +120,22 @@ fn tell_completion(
 
 impl Device {
     fn new(alloc: Global, base: u64, size: usize, block: u16) -> Result<Device, AllocError>
-        requires size { IsSize size }
-        requires base { IsBase base size }
-        requires block { IsBlock block }
-        ensures { IfOk result (λ c. c ≡ new_state base size block) }
+        requires { IsBlock block }
+        ensures { IfOk result (λ c. c ≡ new_kept base size block) }
     {
-        let memory = Memory::new(alloc, base, size, block)?;
+        let bytes = zeros(alloc, size)?;
         let counts = no_counts();
-        Ok(Device { memory, counts })
+        Ok(Device {
+            base,
+            block,
+            bytes,
+            counts,
+        })
     }
 
-    /// How many requests of the request's requester the memory has acted on.
+    /// How many requests of the request's requester have acted.
     fn count(&self, request: &Tlp) -> u32
-        ensures { result ≡ requests_of self.now.entries (request.now.requester / 256) }
+        ensures { result ≡ slice_index self.now.counts (request.now.requester / 256) }
     {
         self.counts[usize::from(request.requester / 256)]
     }
@@ -133,15 +147,14 @@ impl Device {
         room: &mut Room,
         out: &mut Vec<u8>,
     ) -> Result<bool, AllocError>
-        requires { is_completion request.now.kind ≡ false }
-        ensures ok { IfOk result (λ told. IsAnswer self.new out.old.items out.new.items told (answer_request self.old request.now (requests_of self.old.entries (request.now.requester / 256)))) }
+        ensures ok { IfOk result (λ told. IsAnswer self.new out.old.items out.new.items told (answer_request without_history self.old request.now (slice_index self.old.counts (request.now.requester / 256)))) }
         ensures err { OnErr result (out.new.items ≡ out.old.items) }
     {
         let number = self.count(request);
         if number == u32::MAX {
             return tell(b"fault numbers\n", out);
         }
-        let completion = serve(&mut self.memory, request, number)?;
+        let completion = answer(self.base, self.block, &mut self.bytes, request);
         self.counts[usize::from(request.requester / 256)] = number + 1;
         tell_completion(&completion, room, out)
     }
@@ -153,7 +166,7 @@ impl Device {
         room: &mut Room,
         out: &mut Vec<u8>,
     ) -> Result<bool, AllocError>
-        ensures ok { IfOk result (λ told. IsAnswer self.new out.old.items out.new.items told (answer_packet self.old packet.now)) }
+        ensures ok { IfOk result (λ told. IsAnswer self.new out.old.items out.new.items told (answer_packet without_history self.old packet.now)) }
         ensures err { OnErr result (out.new.items ≡ out.old.items) }
     {
         match packet.kind {
@@ -169,7 +182,7 @@ impl Device {
         room: &mut Room,
         out: &mut Vec<u8>,
     ) -> Result<bool, AllocError>
-        ensures ok { IfOk result (λ told. IsAnswer self.new out.old.items out.new.items told (answer_reading self.old (reading bytes.now))) }
+        ensures ok { IfOk result (λ told. IsAnswer self.new out.old.items out.new.items told (answer_reading without_history self.old (reading bytes.now))) }
         ensures err { OnErr result (out.new.items ≡ out.old.items) }
     {
         match decode(bytes) {
@@ -181,10 +194,8 @@ impl Device {
 
 impl Completer {
     fn new(alloc: Global, base: u64, size: usize, block: u16) -> Result<Completer, AllocError>
-        requires size { IsSize size }
-        requires base { IsBase base size }
-        requires block { IsBlock block }
-        ensures { IfOk result (λ c. c ≡ new_state base size block) }
+        requires { IsBlock block }
+        ensures { IfOk result (λ c. c ≡ new_kept base size block) }
     {
         let device = Device::new(alloc, base, size, block)?;
         let room = Room {
@@ -197,9 +208,9 @@ impl Completer {
 }
 
 impl Responder for Completer {
-    ghost use Rattle.tlp_engine.specs.Tlp.{tlp_responses};
+    ghost use Rattle.tlp_engine.specs.Kept.{kept_responses};
 
-    ghost responses = { tlp_responses };
+    ghost responses = { kept_responses };
 
     fn on_line(&mut self, line: &[u8], out: &mut Vec<u8>) -> Result<bool, AllocError> {
         if line.is_empty() || line[0] == b'#' {
@@ -223,8 +234,9 @@ impl Responder for Completer {
 
 /// Answers each line of the reader's input with a line: it holds the bytes of a request, which acts
 /// on a memory of `size` zeros at `base` with blocks of `block` bytes. The answer is the request's
-/// completion, `-` for a posted write, or a fault. `Ok` is the exit status, 1 where a fault was
-/// told. After an `Err` what was written is a beginning of the whole output.
+/// completion, `-` for a posted write, or a fault. `Ok` is the exit status, 1 if there was a fault.
+/// After an `Err` what was written is a prefix of the whole output. The memory that it takes doesn't
+/// grow with the input.
 pub fn run_tlp<R: Read, W: Write>(
     alloc: Global,
     base: u64,
@@ -240,6 +252,8 @@ pub fn run_tlp<R: Read, W: Write>(
     ensures err { OnErr result (IsPart (out_tlp base size block) (R.remaining reader.old) (R.remaining reader.new) (W.contents writer.old) (W.contents writer.new)) }
     ensures read { IfErr result (λ f. f ≡ EngineFault.Read → IsCaughtUp tlp_responses (new_state base size block) (R.remaining reader.old) (R.remaining reader.new) (W.contents writer.old) (W.contents writer.new)) }
 {
+    reading_is_spelling();
+    history_grows_by_steps();
     let completer = Completer::new(alloc, base, size, block)?;
     run(alloc, completer, reader, writer)
 }

@@ -1,10 +1,10 @@
 use Rattle.std.proofs.Common.{◌≡◌, ◌≢◌, ◌∙◌, ◌==◌, length, slice_index, false, sym, ap, refl, subst, Ok}
 use Rattle.std.proofs.lemmas.Result.{IfOk-weaker}
 use Rattle.tlp_core.specs.Faults.{reading}
-use Rattle.seq_memory.specs.History.{State}
 use Rattle.line_engine.specs.Run.{Answer, IsAnswer}
 use Rattle.hex_line.specs.Line.{digits_of}
 use Rattle.tlp_engine.specs.Tlp.{answer_line, answer_reading}
+use Rattle.tlp_engine.specs.Kept.{Kept, without_history}
 use Rattle.tlp_engine.proofs.RequestLemmas.{line-read}
 use Rattle.tlp_engine.proofs.tlp.CompleterResponder.on_line.Goals as goal
 
@@ -14,9 +14,9 @@ returns-clause-ok c =
     let some : (length line == 0) ≡ false = sym c.is_empty.ensures ∙ c.if-is_empty.false in
     let not : slice_index line 0 ≢ 35 = c.if-line-eq35.false in
     let read = c.read.ensures.read c.if-not-read.false ∙ ap Ok (sym c.bytes.ensures) in
-    let same : answer_reading c.self.inside.device (reading c.bytes.result.now) ≡ answer_line c.args.self.now line =
-    sym (line-read c.self.inside.device line (digits_of line) c.bytes.result.now some not refl read)
-    ∙ ap (λ (s : State). answer_line s line) c.self.view_is in
+    let same : answer_reading without_history c.self.inside.device (reading c.bytes.result.now) ≡ answer_line without_history c.args.self.now line =
+    sym (line-read without_history c.self.inside.device line (digits_of line) c.bytes.result.now some not refl read)
+    ∙ ap (λ (k : Kept). answer_line without_history k line) c.self.view_is in
     IfOk-weaker c.answer_bytes.result _ _
-    (λ told h. subst (λ (a : Answer State). IsAnswer c.answer_bytes.new.self c.args.out.now.items c.answer_bytes.new.out.items told a) same h)
+    (λ told h. subst (λ (a : Answer Kept). IsAnswer c.answer_bytes.new.self c.args.out.now.items c.answer_bytes.new.out.items told a) same h)
     c.answer_bytes.ensures.ok
