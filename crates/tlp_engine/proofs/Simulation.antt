@@ -1,5 +1,5 @@
 -- A run over the bytes and the counts writes what the run over the history writes.
-use Rattle.std.proofs.Common.{arith, ◌≡◌, ◌∙◌, ◌+◌, ◌/◌, ◌<◌, ◌==◌, if◌then◌else◌, ℕ, Bool, true, false, List, [], ◌∷◌, ◌++◌, length, refl, sym, ap, subst, Option, Some, None, Result, Ok, Err, slice_index, slice_set, replicate, codes}
+use Rattle.std.proofs.Common.{arith, ◌≡◌, ◌∙◌, ◌+◌, ◌/◌, ◌<◌, ◌==◌, if◌then◌else◌, ℕ, Bool, true, false, List, [], ◌∷◌, ◌++◌, length, refl, sym, ap, subst, Option, Some, None, Result, Ok, Err, slice_index, replicate, codes}
 use Rattle.std.specs.Prelude.{fold, nat_lt, drop, IfSome}
 use Rattle.std.specs.Io.KnownBytes.{Appends}
 use Rattle.byteorder.specs.Endian.{big_number}
@@ -13,7 +13,7 @@ use Rattle.std.proofs.lemmas.List.{get_or-replicate}
 use Rattle.tlp_core.specs.declared.fault.TlpFault.{TlpFault}
 use Rattle.tlp_core.specs.declared.operation.Op.{Op}
 use Rattle.tlp_core.specs.Packet.{Packet, IsPacket}
-use Rattle.tlp_core.specs.Operation.{is_completion, op_of}
+use Rattle.tlp_core.specs.Operation.{is_completion}
 use Rattle.tlp_core.specs.Faults.{reading}
 use Rattle.seq_memory.specs.declared.Entry.{Entry}
 use Rattle.seq_memory.specs.Limits.{Extent}
@@ -24,8 +24,8 @@ use Rattle.hex.specs.Hex.{decode_of}
 use Rattle.hex.specs.declared.error.FromHexError.{FromHexError}
 use Rattle.hex_line.specs.Line.{digits_of}
 use Rattle.line_engine.specs.Lines.{lines_of, ended_lines, bare, said}
-use Rattle.line_engine.specs.Run.{Answer, Responses, Run, answer_to, with_answer, after_line, after_end, new_run, run_of, IsBeginning, IsWhole, IsPart, IsCaughtUp}
-use Rattle.tlp_engine.specs.Tlp.{Device, answer_request, answer_packet, answer_reading, answer_bytes, answer_line, responses, with_history, tlp_responses, new_state, out_tlp, requests_of, fault, fault_text, nothing, completion_text}
+use Rattle.line_engine.specs.Run.{Answer, Responses, Run, answer_to, with_answer, after_line, new_run, run_of, IsBeginning, IsWhole, IsPart, IsCaughtUp}
+use Rattle.tlp_engine.specs.Tlp.{answer_request, answer_packet, answer_reading, answer_bytes, answer_line, with_history, tlp_responses, new_state, out_tlp, requests_of, fault, fault_text, nothing, completion_text}
 use Rattle.tlp_engine.specs.Kept.{Kept, new_kept, after_request, without_history, kept_responses}
 
 -- ---- any two devices, one of which stands for the other
