@@ -1,0 +1,144 @@
+"""The calls without a handle, and what they raise."""
+
+from ctypes import c_ubyte
+from typing import Optional, Type
+
+from ._raw import LINE, NO_MEMORY, library, room
+
+_WRONG = {
+    2001: "a block has 64 or 128 bytes",
+    2002: "the packet is a completion, and a request is asked for",
+    2004: "the size is 128 to 1048576 bytes, a multiple of 128",
+    2005: "the base is a multiple of 128, with all bytes below 2^64",
+    2006: "the history has no entry at that place",
+    2007: "no fault has that number",
+    2008: "the line has none of the forms that are asked for",
+}
+
+
+class Fault(Exception):
+    """A packet, words or a configuration have a fault: `str()` is its text as the program `pciex` prints it, and
+    `number` is that of a packet's fault, 1 to 13, or None."""
+
+    __module__ = "pciex"
+
+    def __init__(self, text: str) -> None:
+        super().__init__(text)
+        words = text.split(" ")
+        self.number: Optional[int] = int(words[1]) if len(words) == 3 and words[0] == "fault" else None
+
+
+class Refused(Exception):
+    """A fabric refuses an event: `str()` is the refusal's name."""
+
+    __module__ = "pciex"
+
+
+def wrong(code: int) -> Exception:
+    """What a code from 2000 on raises."""
+    if code == NO_MEMORY:
+        return MemoryError("pciex: memory was refused")
+    return ValueError(_WRONG.get(code, f"code {code}"))
+
+
+def text_of(code: int, error: Type[Exception] = Fault) -> str:
+    """The text in the room, or the error that it names."""
+    if code < 1000:
+        return room.text(code)
+    if code < 2000:
+        raise error(room.text(code - 1000))
+    raise wrong(code)
+
+
+def packet_of(code: int) -> Optional[bytes]:
+    """The completion in the room, None where there is none, or the fault of the request."""
+    if code < 1000:
+        return room.front(code) if code else None
+    if code < 2000:
+        raise Fault(f"fault {code - 1000} {fault_name(code - 1000)}")
+    raise wrong(code)
+
+
+def bytes_of(packet: bytes) -> bytes:
+    """The bytes of a packet, of whatever type they are."""
+    return packet if isinstance(packet, bytes) else bytes(memoryview(packet))
+
+
+def number_of(name: str, value: int, bits: int) -> int:
+    """The value, where it has so many bits: ctypes would cut it."""
+    if not 0 <= value < 1 << bits:
+        raise ValueError(f"{name} is 0 to {(1 << bits) - 1}, and not {value}")
+    return value
+
+
+def block_of(value: int) -> int:
+    """The value, or 0 where it has more than 16 bits, so that the library's own test refuses it in its turn."""
+    return value if 0 <= value < 1 << 16 else 0
+
+
+# ---- a memory without a history
+
+
+def answer(memory: bytearray, request: bytes, base: int = 0, block: int = 64) -> Optional[bytes]:
+    """One request at a device whose memory is these bytes, the first of them at the address `base`, which serves
+    accesses by blocks of `block` bytes, 64 or 128. Its completion, or None for a posted write. The bytes change as the
+    request says. Other threads may not use them during the call."""
+    base, request, length = number_of("base", base, 64), bytes_of(request), len(memory)
+    if not length:
+        memory = bytearray(1)
+    borrowed = (c_ubyte * len(memory)).from_buffer(memory)
+    code = library.answer(borrowed, length, base, block_of(block), request, len(request), room.bytes, LINE)
+    return packet_of(code)
+
+
+class Memory:
+    """A memory of `size` zeros at the address `base`, without a history: its bytes are the attribute `bytes`."""
+
+    def __init__(self, size: int, base: int = 0, block: int = 64) -> None:
+        if block not in (64, 128):
+            raise wrong(2001)
+        self.bytes = bytearray(size)
+        self.base = number_of("base", base, 64)
+        self.block = block
+
+    def answer(self, request: bytes) -> Optional[bytes]:
+        """One request at the memory, as the function `answer`."""
+        return answer(self.bytes, request, self.base, self.block)
+
+
+# ---- the checker, packets in words, and names
+
+
+def check(text: str) -> str:
+    """What `pciex check` prints of the text of a trace: `ok` if and only if its history explains its records, else the
+    first flaw, `flaw 10 Reply 2`, or `fault 3 Line` where the text is no trace."""
+    words = text.encode()
+    code = library.check(words, len(words), room.bytes, LINE)
+    if code >= 2000:
+        raise wrong(code)
+    return room.text(code - 1000) if code else "ok"
+
+
+def decode(packet: bytes) -> str:
+    """The words of a TLP, or of a DLLP where there are four bytes, as `pciex decode` writes them."""
+    packet = bytes_of(packet)
+    return text_of(library.decode(packet, len(packet), room.bytes, LINE))
+
+
+def encode(words: str) -> bytes:
+    """The canonical bytes of the packet that a line of words spells."""
+    line = words.encode()
+    code = library.encode(line, len(line), room.bytes, LINE)
+    if code >= 1000:
+        text_of(code)
+    return room.front(code)
+
+
+def fault_name(number: int) -> str:
+    """The name of a packet's fault, 1 to 13."""
+    return text_of(library.fault_name(number_of("number", number, 32), room.bytes, LINE))
+
+
+def version() -> str:
+    """The version of the library, `pciex_c 1`."""
+    return text_of(library.version(room.bytes, LINE))

@@ -1,0 +1,144 @@
+"""Devices and fabrics."""
+
+from ctypes import byref, c_size_t, c_ubyte
+from threading import Lock
+from types import TracebackType
+from typing import Any, List, Optional, Type, TypeVar
+
+from ._calls import Refused, block_of, bytes_of, number_of, packet_of, text_of, wrong
+from ._raw import LINE, SMALL_ROOM, Slot, library, room
+
+_Self = TypeVar("_Self", bound="_Handle")
+
+
+class _Handle:
+    """What a device and a fabric have in common: a handle, which `close`, the end of a `with` and the last reference
+    free. Calls from several threads come one after the other."""
+
+    _free: Any
+
+    def __init__(self) -> None:
+        self._slot = Slot()
+        self._lock = Lock()
+
+    def close(self) -> None:
+        """Frees it. Calls after that raise ValueError; another `close` does nothing."""
+        with self._lock:
+            if self._slot.at:
+                self._free(self._slot)
+                self._slot.at = None
+
+    def __enter__(self: _Self) -> _Self:
+        return self
+
+    def __exit__(
+        self,
+        kind: Optional[Type[BaseException]],
+        error: Optional[BaseException],
+        trace: Optional[TracebackType],
+    ) -> None:
+        self.close()
+
+    def __del__(self) -> None:
+        if hasattr(self, "_lock"):
+            self.close()
+
+    def _call(self, function: Any, *arguments: Any) -> Any:
+        """What the library's function gives for this handle. The lock is held."""
+        if not self._slot.at:
+            raise ValueError(f"the {type(self).__name__.lower()} is closed")
+        return function(self._slot, *arguments, byref(self._slot))
+
+    def _copy(self, function: Any, size: int) -> bytes:
+        """All bytes of the memory."""
+        copied = (c_ubyte * size)()
+        with self._lock:
+            code = self._call(function, copied, size)
+        if code:
+            raise wrong(code)
+        return bytes(copied)
+
+
+class Device(_Handle):
+    """A memory of `size` zeros at the address `base`, with a history of the requests that acted."""
+
+    _free = library.device_free
+
+    def __init__(self, size: int, base: int = 0, block: int = 64) -> None:
+        super().__init__()
+        base, size = number_of("base", base, 64), number_of("size", size, 63)
+        code = library.device_new(base, size, block_of(block), byref(self._slot))
+        if code:
+            raise wrong(code)
+        self._size = size
+
+    def serve(self, number: int, request: bytes) -> Optional[bytes]:
+        """The request acts, under this number of the caller's, and stands in the history from then on. Its completion,
+        or None for a posted write."""
+        number, request = number_of("number", number, 32), bytes_of(request)
+        with self._lock:
+            return packet_of(self._call(library.device_serve, number, request, len(request), room.bytes, LINE))
+
+    def history_length(self) -> int:
+        """How many requests have acted."""
+        with self._lock:
+            return self._call(library.device_history_length)
+
+    def entry(self, place: int) -> str:
+        """The request at a place of the history, from 0: `1 0 add 40 07000000`, requester, number and operation."""
+        place = number_of("place", place, 63)
+        with self._lock:
+            return text_of(self._call(library.device_entry, place, room.bytes, LINE))
+
+    def history(self) -> List[str]:
+        """All entries of the history."""
+        return [self.entry(place) for place in range(self.history_length())]
+
+    def memory(self) -> bytes:
+        """The memory as it is now."""
+        return self._copy(library.device_bytes, self._size)
+
+
+class Fabric(_Handle):
+    """The fabric that the line asks for, `fabric 1 0 4096`. With `is_traced` it keeps a trace."""
+
+    _free = library.fabric_free
+
+    def __init__(self, line: str, is_traced: bool = False) -> None:
+        super().__init__()
+        words = line.encode()
+        code = library.fabric_new(words, len(words), is_traced, room.bytes, LINE, byref(self._slot))
+        text_of(code)
+        self._size = int(line.split(" ")[3])
+
+    def event(self, line: str) -> str:
+        """The event of a script's line, `submit 1 add 40 07000000`, happens: its result, `sub 1 0`."""
+        words = line.encode()
+        with self._lock:
+            return text_of(self._call(library.fabric_event, words, len(words), room.bytes, LINE), Refused)
+
+    def trace(self) -> str:
+        """The text of the trace and the history, as `pciex step --trace` writes it."""
+        length = c_size_t()
+        with self._lock:
+            code = self._call(library.fabric_trace, room.bytes, 0, byref(length))
+            text = (c_ubyte * length.value)()
+            if code == SMALL_ROOM:
+                code = self._call(library.fabric_trace, text, len(text), byref(length))
+        if code:
+            raise wrong(code)
+        return bytes(text).decode("ascii")
+
+    def quiet(self) -> bool:
+        """Whether all that entered the lanes was taken: no request and no completion is on its way."""
+        with self._lock:
+            return self._call(library.fabric_quiet)
+
+    def history_length(self) -> int:
+        """How many requests have acted on the memory."""
+        with self._lock:
+            return self._call(library.fabric_history_length)
+
+    def memory(self) -> bytes:
+        """The memory as it is now."""
+        return self._copy(library.fabric_bytes, self._size)

@@ -1,0 +1,200 @@
+"""Each call once, and each of its refusals."""
+
+import gc
+import unittest
+
+import pciex
+
+ADD = bytes.fromhex("4C000001 01000500 00000040 07000000")
+WRITE = bytes.fromhex("40000001 0100000F 00000080 01020304")
+
+
+def old(value: int) -> bytes:
+    """The completion of ADD, with the old value."""
+    return bytes.fromhex("4A000001 00000004 01000500") + bytes([value, 0, 0, 0])
+
+
+class WithoutAHandle(unittest.TestCase):
+    def test_answer(self) -> None:
+        memory = bytearray(256)
+        self.assertEqual(pciex.answer(memory, ADD), old(0))
+        self.assertEqual(pciex.answer(memory, memoryview(bytearray(ADD))), old(7))
+        self.assertIsNone(pciex.answer(memory, WRITE))
+        self.assertEqual((memory[0x40], bytes(memory[0x80:0x84])), (14, bytes([1, 2, 3, 4])))
+        memory.append(0)  # it isn't borrowed any more
+        before = bytes(memory)
+        for block in (0, 65, 1 << 16 | 64, -64):
+            with self.assertRaisesRegex(ValueError, "block"):
+                pciex.answer(memory, ADD, block=block)
+        with self.assertRaisesRegex(ValueError, "completion"):
+            pciex.answer(memory, old(0))
+        with self.assertRaisesRegex(ValueError, "base"):
+            pciex.answer(memory, ADD, base=1 << 64)
+        with self.assertRaises(TypeError):
+            pciex.answer(memory, 12)  # type: ignore[arg-type]
+        with self.assertRaises(pciex.Fault) as caught:
+            pciex.answer(memory, ADD[:3])
+        self.assertEqual((str(caught.exception), caught.exception.number), ("fault 1 Short", 1))
+        self.assertEqual(bytes(memory), before)
+        unsupported = pciex.answer(bytearray(), ADD)
+        self.assertEqual(unsupported and unsupported[6], 0x20)
+
+    def test_memory(self) -> None:
+        memory = pciex.Memory(256, base=0x100, block=128)
+        self.assertEqual(memory.answer(pciex.encode("add 140 05000000 from 0100 tag 05")), old(0))
+        self.assertEqual((memory.bytes[0x40], len(memory.bytes)), (5, 256))
+        with self.assertRaises(ValueError):
+            pciex.Memory(256, block=32)
+
+    def test_words(self) -> None:
+        words = "add 40 07000000 from 0100 tag 05"
+        self.assertEqual(pciex.encode(words), ADD)
+        self.assertEqual(pciex.decode(ADD), words)
+        self.assertEqual(pciex.decode(bytes.fromhex("10000FFF")), "nak FFF")
+        for call, text in [
+            (lambda: pciex.decode(ADD[:3]), "fault 1 Short"),
+            (lambda: pciex.encode("add 40"), "fault words"),
+            (lambda: pciex.encode("add 41 07000000 from 0100 tag 05"), "fault 13 Unaligned"),
+        ]:
+            with self.assertRaises(pciex.Fault) as caught:
+                call()
+            self.assertEqual(str(caught.exception), text)
+        self.assertEqual(pciex.fault_name(13), "Unaligned")
+        for number in (0, 14, -1):
+            with self.assertRaises(ValueError):
+                pciex.fault_name(number)
+        self.assertEqual(pciex.version(), "pciex_c 1")
+
+    def test_check(self) -> None:
+        trace = (
+            "pciex-trace 2\nmemory 0 4096 64\nsub 1 0 0 add 40 07000000\nans 1 0 1 data 00000000\n"
+            "history\nent 1 0 add 40 07000000\nend\n"
+        )
+        self.assertEqual(pciex.check(trace), "ok")
+        self.assertEqual(pciex.check(trace.replace("data 0", "data 1")), "flaw 10 Reply 1")
+        self.assertEqual(pciex.check("no trace"), "fault 1 Head")
+
+
+class ADevice(unittest.TestCase):
+    def test_device(self) -> None:
+        with pciex.Device(4096) as device:
+            self.assertEqual(device.serve(0, ADD), old(0))
+            self.assertIsNone(device.serve(1, WRITE))
+            with self.assertRaises(pciex.Fault):
+                device.serve(2, ADD[:3])
+            with self.assertRaises(ValueError):
+                device.serve(2, old(0))
+            with self.assertRaises(ValueError):
+                device.serve(1 << 32, ADD)
+            self.assertEqual(device.history_length(), 2)
+            self.assertEqual(device.history(), ["1 0 add 40 07000000", "1 1 write 80 F 0 01020304"])
+            for place in (2, -1):
+                with self.assertRaises(ValueError):
+                    device.entry(place)
+            memory = device.memory()
+            self.assertEqual((len(memory), memory[0x40], memory[0x83]), (4096, 7, 4))
+        with self.assertRaisesRegex(ValueError, "the device is closed"):
+            device.history_length()
+        device.close()
+
+    def test_wrong_devices(self) -> None:
+        for size, base, block, what in [(100, 0, 64, "size"), (4096, 64, 64, "base"), (4096, 0, 65, "block"),
+                                        (-1, 0, 64, "size"), (4096, 1 << 64, 64, "base")]:
+            with self.assertRaisesRegex(ValueError, what):
+                pciex.Device(size, base, block)
+
+
+class AFabric(unittest.TestCase):
+    STEPS = [
+        ("submit 1 add 40 07000000", "sub 1 0"),
+        ("transmit up1", "sent 000"),
+        ("deliver up1 good", "accept"),
+        ("forward up1 0", "to 0"),
+        ("transmit in", "sent 000"),
+        ("deliver in good", "accept"),
+        ("serve 0", "at 0"),
+        ("transmit out", "sent 000"),
+        ("deliver out good", "accept"),
+        ("forward out 0", "to 1"),
+        ("transmit down1", "sent 000"),
+        ("deliver down1 good", "accept"),
+        ("collect 1", "ans 1 0 data 00000000"),
+    ]
+
+    def test_fabric(self) -> None:
+        with pciex.Fabric("fabric 1 0 4096", is_traced=True) as fabric:
+            for line, result in self.STEPS:
+                self.assertEqual(fabric.event(line), result)
+                self.assertEqual(fabric.quiet(), line == "collect 1")
+            with self.assertRaisesRegex(pciex.Refused, "Idle"):
+                fabric.event("collect 1")
+            with self.assertRaises(ValueError):
+                fabric.event("settle")
+            self.assertEqual(fabric.history_length(), 1)
+            self.assertEqual((len(fabric.memory()), fabric.memory()[0x40]), (4096, 7))
+            trace = fabric.trace()
+            self.assertIn("ans 1 0 1 data 00000000\n", trace)
+            self.assertEqual(pciex.check(trace), "ok")
+        with self.assertRaisesRegex(ValueError, "the fabric is closed"):
+            fabric.event("transmit up1")
+
+    def test_wrong_fabrics(self) -> None:
+        with self.assertRaisesRegex(pciex.Fault, "Requesters") as caught:
+            pciex.Fabric("fabric 8 0 4096")
+        self.assertIsNone(caught.exception.number)
+        for line in ("fabric", "transmit up1", "fabric 1 0 4096\udc00", "fabr\u00efc 1 0 4096"):
+            with self.assertRaises(ValueError):
+                pciex.Fabric(line)
+
+    def test_one_that_nobody_closes(self) -> None:
+        fabric = pciex.Fabric("fabric 1 0 4096")
+        del fabric
+        gc.collect()
+
+
+class Differences(unittest.TestCase):
+    def test_differ(self) -> None:
+        read = pciex.encode("read 40 2 C 3 from 0100 tag 05")
+        memory = pciex.Memory(4096)
+        wanted = memory.answer(read)
+        assert wanted is not None
+        cpl = bytes.fromhex("0A000000 00002004 01000500")
+        rows = [
+            (wanted, None),
+            (None, "no completion"),
+            (wanted[:-1], "not a completion"),
+            (read, "not a completion"),
+            (cpl, "Status"),
+            (bytes([0x0A, 0, 0, 0]) + wanted[4:12], "Fmt and Type"),
+            (self.changed(wanted, 4, 0xFF), None),  # Completer ID
+            (self.changed(wanted, 6, 0x10), None),  # BCM
+            (self.changed(wanted, 11, 0x80), None),
+            (self.changed(wanted, 8, 1), "Requester ID"),
+            (self.changed(wanted, 9, 1), "Requester ID"),
+            (self.changed(wanted, 10, 1), "Tag"),
+            (self.changed(wanted, 1, 0x10), "TC"),
+            (self.changed(wanted, 1, 0x04), "Attr"),
+            (self.changed(wanted, 2, 0x20), "Attr"),
+            (self.changed(wanted, 3, 3) + bytes(0), "not a completion"),
+            (self.changed(wanted[:-4], 3, 3), "Length"),
+            (self.changed(wanted, 6, 1), "Byte Count"),
+            (self.changed(wanted, 7, 1), "Byte Count"),
+            (self.changed(wanted, 11, 1), "Lower Address"),
+            (self.changed(wanted, 13, 1), None),  # First DW BE is 1100b
+            (self.changed(wanted, 14, 1), "data"),
+            (self.changed(wanted, 17, 1), "data"),  # Last DW BE is 0011b
+            (self.changed(wanted, 18, 1), None),
+        ]
+        for got, field in rows:
+            self.assertEqual(pciex.differ(read, wanted, got), field, got and got.hex())
+        self.assertEqual(pciex.differ(WRITE, None, None), None)
+        self.assertEqual(pciex.differ(WRITE, None, wanted), "a completion")
+        self.assertEqual(pciex.differ(ADD, old(0), self.changed(old(0), 15, 1)), "data")
+
+    @staticmethod
+    def changed(packet: bytes, place: int, bits: int) -> bytes:
+        return packet[:place] + bytes([packet[place] ^ bits]) + packet[place + 1 :]
+
+
+if __name__ == "__main__":
+    unittest.main()
