@@ -1,18 +1,20 @@
 #!/bin/sh
 # Builds the library for C, compiles and runs the examples and compares what they print with the files of examples/; then
-# the tests of the Rust wrapper, the example in Python, and the examples under valgrind. What the machine has no tool for
-# is left out, and told. Fails where one of them fails.
+# the examples under valgrind, the Rust wrapper's tests, the Python package, the SystemVerilog and SystemC testbenches,
+# and what the pages show. Where PCIEX_C names a folder with libpciex_c.a, that one is taken and none is built; KIT_C names
+# that of the toolchain's liblibc_c.a. What the machine has no tool for is left out, and the last line tells it. Fails
+# where one of them fails.
 cd "$(dirname "$0")/.." || exit 1
 say() { echo "library for C: $*"; }
-if ! command -v rt > /dev/null || ! command -v cc > /dev/null; then
+if ! command -v cc > /dev/null || { [ -z "$PCIEX_C$KIT_C" ] && ! command -v rt > /dev/null; }; then
     say "not built: there is no rt or no cc"
     exit 0
 fi
 room=$(mktemp -d) || exit 1
 trap 'rm -rf "$room"' EXIT
-folder=$PWD/crates/pciex_c/out
-home=$(dirname "$(rt doc)")
-kit=$home/c
+folder=${PCIEX_C:-$PWD/crates/pciex_c/out}
+[ -n "$KIT_C" ] || home=$(dirname "$(rt doc)")
+kit=${KIT_C:-$home/c}
 
 # over_the_gate: builds the archive over the libraries that `rt ci` proved and left, which have no stamp, so that `rt lib`
 # would prove each of them once more. Only the exports are proved again.
@@ -39,7 +41,7 @@ build() {
         (cd crates/pciex_c && rt lib)
     fi
 }
-if ! build > "$room/log" 2>&1; then
+if [ -z "$PCIEX_C" ] && ! build > "$room/log" 2>&1; then
     tail -n 20 "$room/log"
     say "the library isn't proved and built"
     exit 1
@@ -71,27 +73,44 @@ tells() {
     fi
 }
 
-for name in device history fabric check; do
+# passes WHAT WORD..: whether a run succeeds; else the end of what it printed.
+passes() {
+    what=$1
+    shift
+    runs=$((runs + 1))
+    "$@" > "$room/log" 2>&1 && return
+    tail -n 20 "$room/log"
+    say "$what"
+    failed=1
+}
+
+# has_tool WORD MISSING: whether there is such a command; else what is left out for lack of it.
+has_tool() {
+    command -v "$1" > /dev/null && return
+    left_out="$left_out, $2"
+    return 1
+}
+
+for name in device history fabric check differ; do
     if ! cc -Wall -Wextra -Werror -std=c99 -O2 -o "$room/$name" c/examples/$name.c "$folder/libpciex_c.a" "$kit/liblibc_c.a"; then
         say "examples/$name.c isn't compiled and linked"
         exit 1
     fi
 done
-if command -v c++ > /dev/null; then
-    echo '#include "pciex.h"' > "$room/header.cpp"
+if has_tool c++ "the header as C++"; then
+    echo '#include "pciex_differ.h"' > "$room/header.cpp"
     echo 'int main() { pciex_device device = PCIEX_NONE; pciex_device_free(&device); }' >> "$room/header.cpp"
     if ! c++ -Wall -Wextra -Werror -Ic -o "$room/header" "$room/header.cpp" "$folder/libpciex_c.a" "$kit/liblibc_c.a"; then
         say "the header isn't compiled as C++"
         failed=1
     fi
-else
-    left_out="$left_out, the header as C++"
 fi
 
 # examples UNDER..: the examples, run under these words.
 examples() {
     wants "device on packets.txt" 0 examples/packets.out examples/packets.txt "$@" "$room/device"
     wants "history" 0 "$room/history.out" /dev/null "$@" "$room/history"
+    wants "differ" 0 c/examples/differ.out /dev/null "$@" "$room/differ"
     wants "fabric on lost_ack.txt" 0 examples/lost_ack.out examples/lost_ack.txt "$@" "$room/fabric"
     [ $# -gt 0 ] || tells "fabric on lost_ack.txt" "2 in the history, quiet, explained"
     for name in write_passes_read credits stopped_link; do
@@ -106,33 +125,152 @@ echo ok > "$room/ok"
 echo "flaw 10 Reply 2" > "$room/flaw"
 sed 's/^ans 1 0 2 data 01020304/ans 1 0 2 data 00000000/' examples/trace.txt > "$room/flawed"
 examples
-if command -v valgrind > /dev/null; then
+if has_tool valgrind "the examples and the Python package under valgrind"; then
     examples valgrind -q --error-exitcode=99 --leak-check=full
-else
-    left_out="$left_out, the examples under valgrind"
 fi
 
+export PCIEX_C="$folder" KIT_C="$kit" CARGO_TARGET_DIR="$room/target" PYTHONDONTWRITEBYTECODE=1
+if has_tool cargo "the Rust wrapper"; then
+    passes "the Rust wrapper's tests fail" sh -c 'cd c/rust && cargo test --offline --locked -q'
+fi
+
+# install_python: links the shared object and puts the package where `site` says: by pip, or as it is.
+install_python() {
+    site=$room/site
+    cp -r c/python "$room/python"
+    passes "no shared object is linked" sh "$room/python/link.sh"
+    for python in python3 /usr/bin/python3; do
+        if "$python" -c 'import setuptools, wheel, pip' 2> /dev/null; then
+            passes "pip installs no Python package" "$python" -m pip install -q --root-user-action=ignore \
+                --no-build-isolation --no-deps --target "$site" "$room/python"
+            return
+        fi
+    done
+    python=python3 site=$room/python/src
+    left_out="$left_out, pip's installation of the Python package"
+}
+
+# python_under_valgrind: the tests of each call, where no complaint may name the library. Python has some of its own.
+python_under_valgrind() {
+    program=$("$python" -c 'import sys; print(sys.executable)')
+    PYTHONMALLOC=malloc valgrind --leak-check=full --log-file="$room/valgrind" "$program" -m unittest -q test_calls &&
+        grep -q "LEAK SUMMARY" "$room/valgrind" && ! grep "libpciex" "$room/valgrind"
+}
+if has_tool python3 "the Python package"; then
+    install_python
+    export PYTHONPATH="$site:$PWD/c/python/tests"
+    passes "the Python package's tests fail" "$python" -m unittest discover -s c/python/tests
+    wants "check.py on trace.txt" 0 "$room/ok" examples/trace.txt "$python" c/python/examples/check.py
+    wants "check.py on a trace with a wrong reply" 1 "$room/flaw" "$room/flawed" "$python" c/python/examples/check.py
+    if command -v valgrind > /dev/null; then
+        passes "valgrind finds something in the Python package's library" python_under_valgrind
+    fi
+fi
+
+if has_tool verilator "SystemVerilog (verilator)"; then
+    passes "the SystemVerilog testbench fails" make -C c/sv/test "OUT=$room/sv"
+fi
+has_systemc=
+printf '#include <systemc>\nint sc_main(int, char **) { return 0; }\n' > "$room/probe.cpp"
+if c++ -std=c++17 -o "$room/probe" "$room/probe.cpp" -lsystemc 2> /dev/null; then
+    has_systemc=1
+    passes "the SystemC testbench fails" make -C c/systemc/test "OUT=$room/tlm"
+else
+    left_out="$left_out, SystemC (libsystemc-dev)"
+fi
+
+# ---- what the pages show
+
+# block PAGE HEADING LANGUAGE: the lines of the first block of code in that language below the heading.
+block() {
+    awk -v heading="$2" -v fence="\`\`\`$3" '
+        $0 == heading { on = 1 }
+        on && !inside && $0 == fence { inside = 1; next }
+        inside && /^```$/ { exit }
+        inside' "docs/$1"
+}
+
+# with_hook HARNESS HEADING LANGUAGE: the harness with the hook of the page in place of its line HOOK.
+with_hook() {
+    block judge-your-own-device.md "### $2" "$3" > "$room/lines"
+    awk -v lines="$room/lines" '
+        /^ *HOOK$/ { sub(/HOOK/, ""); while ((getline line < lines) > 0) print $0 line; next }
+        1' "c/hooks/$1"
+}
+
+# finds LANGUAGE WORD..: whether the hook in that language finds what the device loses.
+finds() {
+    language=$1
+    shift
+    wants "the hook in $language" 0 c/hooks/hook.out /dev/null "$@"
+}
+
+# build_hook NAME WORD..: compiles the harness room/NAME with these words for the compiler, and links it.
+build_hook() {
+    name=$1
+    shift
+    passes "the hook $name isn't compiled" "$@" -Wall -Wextra -Werror -Ic -Ic/systemc -o "$room/${name%.*}" \
+        "$room/$name" "$folder/libpciex_c.a" "$kit/liblibc_c.a" $systemc
+}
+
+# rust_hook: the hook in Rust as a program over c/rust.
+rust_hook() {
+    mkdir -p "$room/hook_rs/src"
+    with_hook hook.rs Rust rust > "$room/hook_rs/src/main.rs"
+    printf '[package]\nname = "hook"\nversion = "1.0.0"\nedition = "2021"\n\n[dependencies]\npciex = { path = "%s" }\n' \
+        "$PWD/c/rust" > "$room/hook_rs/Cargo.toml"
+    (cd "$room/hook_rs" && cargo build --offline -q)
+}
+
+# shows PAGE SOURCE..: whether each block of SystemVerilog of the page stands in these sources, and each block of what is
+# printed in one of their files .out.
+shows() {
+    page=$1
+    shift
+    cat "$@" | sed 's/^ *//' > "$room/sources"
+    sed 's/^ *//' "docs/$page" | awk -v sources="$room/sources" '
+        BEGIN { while ((getline line < sources) > 0) all = all line "\n" }
+        /^```$/ && inside { if (index(all, text) == 0) { print "not in the sources: " text; bad = 1 } inside = 0; next }
+        /^```systemverilog$/ || (/^```$/ && is_printed) { inside = 1; text = ""; count++; next }
+        inside { text = text $0 "\n"; next }
+        /^```/ { skipped = !skipped; next }
+        { is_printed = 0 }
+        /:$/ && /(prints|find it)/ { is_printed = 1 }
+        END { exit bad || count == 0 }'
+}
+
+systemc=
+block use-from-c.md "## From nothing to a device that answers" c > "$room/first.c"
+echo "16 bytes, the word is 7" > "$room/first.out"
+build_hook first.c cc -std=c99
+wants "the first program of use-from-c.md" 0 "$room/first.out" /dev/null "$room/first"
+with_hook hook.c C c > "$room/hook_c.c"
+build_hook hook_c.c cc -std=c99
+finds C "$room/hook_c"
+if command -v c++ > /dev/null; then
+    with_hook hook.cpp C++ cpp > "$room/hook_cpp.cpp"
+    build_hook hook_cpp.cpp c++ -std=c++17
+    finds C++ "$room/hook_cpp"
+fi
 if command -v cargo > /dev/null; then
-    runs=$((runs + 1))
-    if ! (cd c/rust && PCIEX_C=$folder KIT_C=$kit CARGO_TARGET_DIR=$room/target cargo test --offline --locked -q) > "$room/log" 2>&1; then
-        tail -n 20 "$room/log"
-        say "the Rust wrapper's tests fail"
-        failed=1
-    fi
-else
-    left_out="$left_out, the Rust wrapper"
+    passes "the hook in Rust isn't compiled" rust_hook
+    finds Rust "$CARGO_TARGET_DIR/debug/hook"
 fi
-
 if command -v python3 > /dev/null; then
-    if cc -shared -o "$room/libpciex.so" -Wl,--whole-archive "$folder/libpciex_c.a" -Wl,--no-whole-archive "$kit/liblibc_c.a"; then
-        wants "check.py on trace.txt" 0 "$room/ok" examples/trace.txt python3 c/python/check.py "$room/libpciex.so"
-        wants "check.py on a trace with a wrong reply" 1 "$room/flaw" "$room/flawed" python3 c/python/check.py "$room/libpciex.so"
-    else
-        say "no shared object is linked"
-        failed=1
-    fi
-else
-    left_out="$left_out, the example in Python"
+    with_hook hook.py Python python > "$room/hook.py"
+    finds Python "$python" "$room/hook.py"
+fi
+if command -v verilator > /dev/null; then
+    with_hook hook_tb.sv SystemVerilog systemverilog > "$room/hook_tb.sv"
+    passes "the hook in SystemVerilog isn't compiled" make -C c/sv/test "OUT=$room/sv" "HOOK=$room/hook_tb.sv" hook
+    finds SystemVerilog sh -c "'$room/sv/hook/hook' | grep -v 'Verilog \$finish'"
+    passes "systemverilog.md shows other text than c/sv/test" shows systemverilog.md c/sv/test/*.sv c/sv/test/*.out
+fi
+if [ -n "$has_systemc" ]; then
+    systemc=-lsystemc
+    with_hook hook_tlm.cpp SystemC cpp > "$room/hook_tlm.cpp"
+    build_hook hook_tlm.cpp c++ -std=c++17
+    finds SystemC env SYSTEMC_DISABLE_COPYRIGHT_MESSAGE=1 "$room/hook_tlm"
 fi
 
 say "$runs runs, $(wc -c < "$folder/libpciex_c.a") bytes; left out: ${left_out:-, nothing}" | sed 's/: , /: /'

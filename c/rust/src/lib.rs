@@ -5,11 +5,13 @@
 //! overlap, a handle is owned by one value, which frees it, and no value is `Send`, since a handle stays on its thread.
 
 mod device;
+mod differ;
 mod error;
 mod fabric;
 mod raw;
 
 pub use device::{answer, Device};
+pub use differ::differ;
 pub use error::Error;
 pub use fabric::Fabric;
 

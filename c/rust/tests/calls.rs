@@ -1,5 +1,5 @@
 //! Each call once, and each of its refusals.
-use pciex::{answer, check, decode, encode, version, Device, Error, Fabric};
+use pciex::{answer, check, decode, differ, encode, version, Device, Error, Fabric};
 
 const ADD: [u8; 16] = [0x4C, 0, 0, 1, 1, 0, 5, 0, 0, 0, 0, 0x40, 7, 0, 0, 0];
 const WRITE: [u8; 16] = [0x40, 0, 0, 1, 1, 0, 0, 0x0F, 0, 0, 0, 0x80, 1, 2, 3, 4];
@@ -93,4 +93,41 @@ fn packets_in_words() {
     assert_eq!(decode(&ADD[..3]), Err(Error::Told("fault 1 Short".into())));
     assert_eq!(encode("add"), Err(Error::Told("fault words".into())));
     assert_eq!(version(), "pciex_c 1");
+}
+
+#[test]
+fn completions_that_differ() {
+    let read = encode("read 40 2 C 3 from 0100 tag 05").unwrap();
+    let wanted = answer(&mut [0; 256], 0, 64, &read).unwrap().unwrap();
+    let changed = |place: usize, bits: u8| {
+        let mut packet = wanted.clone();
+        packet[place] ^= bits;
+        packet
+    };
+    let rows = [
+        (4, 0xFF, None),
+        (6, 0x10, None),
+        (11, 0x80, None),
+        (8, 1, Some("Requester ID")),
+        (10, 1, Some("Tag")),
+        (1, 0x10, Some("TC")),
+        (2, 0x20, Some("Attr")),
+        (3, 3, Some("not a completion")),
+        (7, 1, Some("Byte Count")),
+        (11, 1, Some("Lower Address")),
+        (13, 1, None),
+        (14, 1, Some("data")),
+        (17, 1, Some("data")),
+        (18, 1, None),
+    ];
+    for (place, bits, field) in rows {
+        assert_eq!(differ(&read, Some(&wanted), Some(&changed(place, bits))), field, "{place} {bits:02X}");
+    }
+    assert_eq!(differ(&read, Some(&wanted), None), Some("no completion"));
+    assert_eq!(differ(&WRITE, None, Some(&wanted)), Some("a completion"));
+    assert_eq!(differ(&WRITE, None, None), None);
+    assert_eq!(differ(&read, Some(&wanted), Some(&[0x10, 0, 0, 0])), Some("not a completion"));
+    let other = [0x0A, 0, 0, 0, 0, 0, 0x20, 4, 1, 0, 5, 0];
+    assert_eq!(differ(&read, Some(&wanted), Some(&other)), Some("Status"));
+    assert_eq!(differ(&ADD, Some(&old(0)), Some(&old(1))), Some("data"));
 }

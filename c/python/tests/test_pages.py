@@ -1,0 +1,25 @@
+"""The examples of the pages print what the pages show."""
+
+import contextlib
+import io
+import os
+import re
+import unittest
+
+DOCS = os.path.join(os.path.dirname(os.path.abspath(__file__)), "..", "..", "..", "docs")
+
+
+class Pages(unittest.TestCase):
+    def test_pages(self) -> None:
+        for page in ("python.md", "judge-your-own-device.md"):
+            with self.subTest(page), open(os.path.join(DOCS, page), encoding="utf-8") as file:
+                shown = re.findall(r"```python\n(import pciex\n.*?)```\n\nIt prints:\n\n```\n(.*?)```", file.read(), re.S)
+                self.assertEqual(len(shown), 1)
+                printed = io.StringIO()
+                with contextlib.redirect_stdout(printed):
+                    exec(compile(shown[0][0], page, "exec"), {})
+                self.assertEqual(printed.getvalue(), shown[0][1])
+
+
+if __name__ == "__main__":
+    unittest.main()
