@@ -190,12 +190,17 @@ block() {
         inside' "docs/$1"
 }
 
-# with_hook HARNESS HEADING LANGUAGE: the harness with the hook of the page in place of its line HOOK.
+# fill FILE MARK PAGE HEADING LANGUAGE: the file with that block of the page in place of the line with the mark alone.
+fill() {
+    block "$3" "$4" "$5" > "$room/lines"
+    awk -v mark="$2" -v lines="$room/lines" '
+        $1 == mark && NF == 1 { sub(mark, ""); while ((getline line < lines) > 0) print $0 line; next }
+        1' "$1"
+}
+
+# with_hook HARNESS HEADING LANGUAGE: the harness with the hook of the page in that language.
 with_hook() {
-    block judge-your-own-device.md "### $2" "$3" > "$room/lines"
-    awk -v lines="$room/lines" '
-        /^ *HOOK$/ { sub(/HOOK/, ""); while ((getline line < lines) > 0) print $0 line; next }
-        1' "c/hooks/$1"
+    fill "c/hooks/$1" HOOK judge-your-own-device.md "### $2" "$3"
 }
 
 # finds LANGUAGE WORD..: whether the hook in that language finds what the device loses.
@@ -205,11 +210,11 @@ finds() {
     wants "the hook in $language" 0 c/hooks/hook.out /dev/null "$@"
 }
 
-# build_hook NAME WORD..: compiles the harness room/NAME with these words for the compiler, and links it.
+# build_hook NAME WORD..: compiles room/NAME with these words for the compiler, and links it.
 build_hook() {
     name=$1
     shift
-    passes "the hook $name isn't compiled" "$@" -Wall -Wextra -Werror -Ic -Ic/systemc -o "$room/${name%.*}" \
+    passes "$name isn't compiled with what the page shows" "$@" -Wall -Wextra -Werror -Ic -Ic/systemc -o "$room/${name%.*}" \
         "$room/$name" "$folder/libpciex_c.a" "$kit/liblibc_c.a" $systemc
 }
 
@@ -240,7 +245,7 @@ shows() {
 }
 
 systemc=
-block use-from-c.md "## From nothing to a device that answers" c > "$room/first.c"
+block use-from-c.md "## A device that answers" c > "$room/first.c"
 echo "16 bytes, the word is 7" > "$room/first.out"
 build_hook first.c cc -std=c99
 wants "the first program of use-from-c.md" 0 "$room/first.out" /dev/null "$room/first"
@@ -271,6 +276,11 @@ if [ -n "$has_systemc" ]; then
     with_hook hook_tlm.cpp SystemC cpp > "$room/hook_tlm.cpp"
     build_hook hook_tlm.cpp c++ -std=c++17
     finds SystemC env SYSTEMC_DISABLE_COPYRIGHT_MESSAGE=1 "$room/hook_tlm"
+    fill c/hooks/two_adders.cpp SOCKETS use-from-c.md "## SystemC" cpp > "$room/with_sockets.cpp"
+    fill "$room/with_sockets.cpp" ADDITION use-from-c.md "### An AtomicOp" cpp > "$room/two_adders.cpp"
+    build_hook two_adders.cpp c++ -std=c++17
+    echo 2 > "$room/two"
+    wants "SystemC in use-from-c.md" 0 "$room/two" /dev/null env SYSTEMC_DISABLE_COPYRIGHT_MESSAGE=1 "$room/two_adders"
 fi
 
 say "$runs runs, $(wc -c < "$folder/libpciex_c.a") bytes; left out: ${left_out:-, nothing}" | sed 's/: , /: /'
