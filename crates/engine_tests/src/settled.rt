@@ -9,7 +9,7 @@ submit 1 add 40 07000000
 settle
 ";
 
-/// The first packet of requester 1 is lost, so requester 2 is served before it.
+/// The first packet of requester 1 is lost, and its replay timer expires before requester 2 has a turn.
 const ONE_LOST: &str = "\
 fabric 2 0 4096
 submit 2 add 40 01000000
@@ -24,8 +24,8 @@ sub 2 0
 sub 1 0
 sent 000
 gone
-ans 2 0 data 00000000
-ans 1 0 data 01000000
+ans 1 0 data 00000000
+ans 2 0 data 01000000
 settled
 ";
 
@@ -34,11 +34,11 @@ pciex-trace 2
 memory 0 4096 64
 sub 2 0 0 add 40 01000000
 sub 1 0 0 add 40 01000000
-ans 2 0 2 data 00000000
-ans 1 0 2 data 01000000
+ans 1 0 2 data 00000000
+ans 2 0 2 data 01000000
 history
-ent 2 0 add 40 01000000
 ent 1 0 add 40 01000000
+ent 2 0 add 40 01000000
 end
 ";
 
@@ -78,6 +78,93 @@ gone
 replay 1
 ans 1 0 data 00000000
 settled
+settled
+";
+
+/// The only packet fails its check, so all that the first turn could do is to send a Nak.
+const FAILED: &str = "\
+fabric 1 0 4096
+submit 1 add 40 07000000
+transmit up1
+deliver up1 failed
+settle
+";
+
+const FAILED_OUT: &str = "\
+sub 1 0
+sent 000
+nak
+ans 1 0 data 00000000
+settled
+";
+
+/// The first of two packets is lost, so the second has not the number that is waited for.
+const FIRST_LOST: &str = "\
+fabric 1 0 4096
+submit 1 add 40 07000000
+submit 1 add 40 07000000
+transmit up1
+transmit up1
+deliver up1 lost
+settle
+";
+
+const FIRST_LOST_OUT: &str = "\
+sub 1 0
+sub 1 1
+sent 000
+sent 001
+gone
+ans 1 0 data 00000000
+ans 1 1 data 07000000
+settled
+";
+
+/// The Nak stands on the wire already.
+const NAK_SENT: &str = "\
+fabric 1 0 4096
+submit 1 add 40 07000000
+transmit up1
+deliver up1 failed
+dllp up1 ack
+settle
+";
+
+const NAK_SENT_OUT: &str = "\
+sub 1 0
+sent 000
+nak
+10000FFF
+ans 1 0 data 00000000
+settled
+";
+
+/// The completion fails its check on its way back.
+const COMPLETION_FAILED: &str = "\
+fabric 1 0 4096
+submit 1 add 40 07000000
+transmit up1
+deliver up1 good
+forward up1 0
+transmit in
+deliver in good
+serve 0
+transmit out
+deliver out failed
+settle
+";
+
+const COMPLETION_FAILED_OUT: &str = "\
+sub 1 0
+sent 000
+accept
+to 0
+sent 000
+accept
+at 0
+sent 000
+nak
+ans 1 0 data 00000000
 settled
 ";
 
@@ -152,9 +239,13 @@ const ECHOED: StepOptions = StepOptions {
 };
 
 /// The options, the script, its output and its exit status.
-static ROWS: [(StepOptions, &str, &str, u8); 14] = [
+static ROWS: [(StepOptions, &str, &str, u8); 18] = [
     (PLAIN, ONE_LOST, ONE_LOST_OUT, 0),
     (PLAIN, STOPPED, STOPPED_OUT, 0),
+    (PLAIN, FAILED, FAILED_OUT, 0),
+    (PLAIN, FIRST_LOST, FIRST_LOST_OUT, 0),
+    (PLAIN, NAK_SENT, NAK_SENT_OUT, 0),
+    (PLAIN, COMPLETION_FAILED, COMPLETION_FAILED_OUT, 0),
     (PLAIN, LEAST_CREDITS, LEAST_CREDITS_OUT, 0),
     (PLAIN, "fabric 1 0 4096\nsettle\n", "settled\n", 0),
     (PLAIN, "settle\n", "fault 1 Script\n", 1),

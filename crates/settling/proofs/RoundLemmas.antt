@@ -19,7 +19,7 @@ use Rattle.fabric_core.specs.declared.event.LaneName.{LaneName}
 use Rattle.fabric_core.specs.declared.event.LaneName.TheVariants as lanes
 use Rattle.settling.specs.declared.turns.Attempt.{Attempt}
 use Rattle.settling.specs.declared.turns.Attempt.TheVariants as attempts
-use Rattle.settling.specs.Rounds.{Settling, at, answered, tried, goes, times, is_move, round, rounds, if_moved, attempted, retrained, with_packets, with_sent, with_dllps, lane_turn, all_lanes, with_lanes, with_forwards, with_answers}
+use Rattle.settling.specs.Rounds.{Settling, at, answered, tried, goes, times, is_move, round, rounds, if_moved, attempted, with_sent, lane_turn, all_lanes, with_lanes, with_forwards, with_answers}
 
 -- an event that happens
 pub happened : (f f' : Fabric) (rs : List Record) (b : Bool) (e : Event) (what : Seen) → answer f e ≡ Ok (what, f')
@@ -129,17 +129,17 @@ fold_next f start here next xs i d inside so_far step =
 
 -- ---- lists of attempts
 
--- what is tried of a lane after its first packet
+-- what is tried of a lane
 abbrev pub lane_attempts : LaneName → List Attempt
 lane_attempts lane =
-    attempts.All (events.Transmit lane) ∷ attempts.All (events.Deliver lane Good) ∷ attempts.Once (events.SendDllp lane kinds.Answer)
+    attempts.Once (events.Timer lane) ∷ attempts.Once (events.Retrained lane)
+    ∷ attempts.All (events.Transmit lane) ∷ attempts.All (events.Deliver lane Good) ∷ attempts.Once (events.SendDllp lane kinds.Answer)
     ∷ attempts.Once (events.SendDllp lane (kinds.Update Posted)) ∷ attempts.Once (events.SendDllp lane (kinds.Update NonPosted))
     ∷ attempts.Once (events.SendDllp lane (kinds.Update Completion)) ∷ attempts.All (events.DeliverDllp lane Good) ∷ []
 
-pub lane_attempts_are : (s t : Settling) (lane : LaneName) → t ≡ tried (retrained s lane) (events.Transmit lane)
-    → fold attempted t (lane_attempts lane) ≡ with_dllps (with_packets s lane) lane
-unfolding with_sent
-lane_attempts_are s t lane e = ap (λ (u : Settling). fold attempted u (lane_attempts lane)) e
+pub lane_turn_is : (s : Settling) (lane : LaneName) → fold attempted s (lane_attempts lane) ≡ lane_turn s lane
+unfolding with_sent lane_turn
+lane_turn_is s lane = refl
 
 -- and after the lanes
 abbrev pub after_lanes : List Attempt

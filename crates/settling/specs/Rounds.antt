@@ -64,17 +64,13 @@ attempted s (attempts.All event) = all s event
 
 -- ---- the turn of a lane
 
--- a link that was stopped is up again
-abbrev pub retrained : Settling → LaneName → Settling
-retrained s lane = tried s (events.Retrained lane)
+-- the replay timer expires, so that all packets that are kept go again, and a link that was stopped is up again
+abbrev pub replayed : Settling → LaneName → Settling
+replayed s lane = tried (tried s (events.Timer lane)) (events.Retrained lane)
 
--- the first packet goes, and then the others
-abbrev pub transmitted : Settling → LaneName → Settling
-transmitted s lane = all (tried s (events.Transmit lane)) (events.Transmit lane)
-
--- and they arrive
+-- all packets go, and they arrive
 abbrev pub with_packets : Settling → LaneName → Settling
-with_packets s lane = all (transmitted (retrained s lane) lane) (events.Deliver lane Good)
+with_packets s lane = all (all s (events.Transmit lane)) (events.Deliver lane Good)
 
 -- an answer and the updates of each class go, and arrive
 abbrev pub kinds_sent : List DllpKind
@@ -89,12 +85,9 @@ with_sent s lane = fold (sent_dllp lane) s kinds_sent
 abbrev pub with_dllps : Settling → LaneName → Settling
 with_dllps s lane = all (with_sent s lane) (events.DeliverDllp lane Good)
 
--- the replay timer expires, where no packet went
-abbrev pub timed : Bool → Settling → LaneName → Settling
-timed sent s lane = if sent then s else tried s (events.Timer lane)
-
+-- the turn begins with the timer, whatever goes afterwards: a Nak that arrived last leaves packets that go again
 unfoldable pub lane_turn : Settling → LaneName → Settling
-lane_turn s lane = timed (goes (retrained s lane) (events.Transmit lane)) (with_dllps (with_packets s lane) lane) lane
+lane_turn s lane = with_dllps (with_packets (replayed s lane) lane) lane
 
 -- ---- a round
 

@@ -2,10 +2,9 @@
 //!
 //! [`settle`] goes through fixed rounds of events. A round tries, in this order:
 //!
-//! 1. on each lane, `up1` to `up7`, `in`, `out`, `down1` to `down7`: the link is retrained where its sender is stopped,
-//!    all packets that can go are sent, and all on the wire arrive; an Ack or Nak and an UpdateFC of each class are
-//! sent,
-//!    and all DLLPs on the wire back arrive; the replay timer expires, where no packet was sent;
+//! 1. on each lane, `up1` to `up7`, `in`, `out`, `down1` to `down7`: the replay timer expires, where a packet that was
+//!    sent is kept; the link is retrained where its sender is stopped; all packets that can go are sent, and all on the
+//!    wire arrive; an Ack or Nak and an UpdateFC of each class are sent, and all DLLPs on the wire back arrive;
 //! 2. on `up1` to `up7` and `out`: the switch forwards the packet at place 0 of the queue and then that at place 1;
 //! 3. the memory acts on the request at place 0 of its queue and then on that at place 1;
 //! 4. each requester, from port 1 on, collects the completions that wait for it.

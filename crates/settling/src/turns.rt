@@ -163,8 +163,8 @@ fn try_each(
     Ok(())
 }
 
-/// The turn of a lane: the link is retrained where its sender is stopped, the packets go and arrive, and then the
-/// DLLPs. The replay timer expires where no packet went.
+/// The turn of a lane: the replay timer expires, so that all packets that are kept go again, the link is retrained where
+/// its sender is stopped, the packets go and arrive, and then the DLLPs.
 fn lane_turn(
     fabric: &mut Fabric,
     records: &mut Vec<Record>,
@@ -174,9 +174,9 @@ fn lane_turn(
     ensures state { OnOk result (spec.at fabric.new records.new.items moved.new ≡ spec.lane_turn (spec.at fabric.old records.old.items moved.old) lane) }
     ensures reached { Reached fabric.old records.old.items fabric.new records.new.items }
 {
-    once(fabric, records, moved, &Event::Retrained(lane))?;
-    let went = once(fabric, records, moved, &Event::Transmit(lane))?;
     let attempts = [
+        Attempt::Once(Event::Timer(lane)),
+        Attempt::Once(Event::Retrained(lane)),
         Attempt::All(Event::Transmit(lane)),
         Attempt::All(Event::Deliver(lane, Fate::Good)),
         Attempt::Once(Event::SendDllp(lane, DllpKind::Answer)),
@@ -185,11 +185,7 @@ fn lane_turn(
         Attempt::Once(Event::SendDllp(lane, DllpKind::Update(Class::Completion))),
         Attempt::All(Event::DeliverDllp(lane, Fate::Good)),
     ];
-    try_each(fabric, records, moved, &attempts)?;
-    if !went {
-        once(fabric, records, moved, &Event::Timer(lane))?;
-    }
-    Ok(())
+    try_each(fabric, records, moved, &attempts)
 }
 
 /// A round, of which `moved` tells whether it has moved something.
