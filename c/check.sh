@@ -1,20 +1,23 @@
 #!/bin/sh
 # Builds the library for C, compiles and runs the examples and compares what they print with the files of examples/; then
 # the examples under valgrind, the Rust wrapper's tests, the Python package, the SystemVerilog and SystemC testbenches,
-# and what the pages show. Where PCIEX_C names a folder with libpciex_c.a, that one is taken and none is built; KIT_C names
-# that of the toolchain's liblibc_c.a. What the machine has no tool for is left out, and the last line tells it. Fails
-# where one of them fails.
+# and what the pages show. If PCIEX_C names a folder with libpciex_c.a, it takes that archive and builds none; KIT_C can
+# name the folder of the toolchain's liblibc_c.a. Its last line lists what it left out because a tool is missing. Fails
+# if one of them fails.
 cd "$(dirname "$0")/.." || exit 1
 say() { echo "library for C: $*"; }
-if ! command -v cc > /dev/null || { [ -z "$PCIEX_C$KIT_C" ] && ! command -v rt > /dev/null; }; then
+if command -v rt > /dev/null; then
+    home=$(dirname "$(rt doc)")
+    : "${KIT_C:=$home/c}"
+fi
+if ! command -v cc > /dev/null || [ -z "${PCIEX_C:-$home}" ] || [ -z "$KIT_C" ]; then
     say "not built: there is no rt or no cc"
     exit 0
 fi
 room=$(mktemp -d) || exit 1
 trap 'rm -rf "$room"' EXIT
-folder=${PCIEX_C:-$PWD/crates/pciex_c/out}
-[ -n "$KIT_C" ] || home=$(dirname "$(rt doc)")
-kit=${KIT_C:-$home/c}
+folder=$(realpath "${PCIEX_C:-crates/pciex_c/out}")
+kit=$(realpath "$KIT_C")
 
 # over_the_gate: builds the archive over the libraries that `rt ci` proved and left, which have no stamp, so that `rt lib`
 # would prove each of them once more. Only the exports are proved again.
@@ -73,7 +76,7 @@ tells() {
     fi
 }
 
-# passes WHAT WORD..: whether a run succeeds; else the end of what it printed.
+# passes WHAT WORD..: whether a run succeeds. If not, prints the end of its output, and WHAT.
 passes() {
     what=$1
     shift
@@ -84,7 +87,7 @@ passes() {
     failed=1
 }
 
-# has_tool WORD MISSING: whether there is such a command; else what is left out for lack of it.
+# has_tool WORD MISSING: whether there is such a command. If not, notes what is left out.
 has_tool() {
     command -v "$1" > /dev/null && return
     left_out="$left_out, $2"
@@ -150,7 +153,7 @@ install_python() {
     left_out="$left_out, pip's installation of the Python package"
 }
 
-# python_under_valgrind: the tests of each call, where no complaint may name the library. Python has some of its own.
+# python_under_valgrind: the tests of each call. No error may name the library; Python has some of its own.
 python_under_valgrind() {
     program=$("$python" -c 'import sys; print(sys.executable)')
     PYTHONMALLOC=malloc valgrind --leak-check=full --log-file="$room/valgrind" "$program" -m unittest -q test_calls &&

@@ -1,6 +1,6 @@
 /*
- * The first field in which the completion of a device differs from the one that pciex_answer gave: what a scoreboard
- * compares. For C99 and C++, beside pciex.h.
+ * For a scoreboard: the first field in which a device's completion differs from the one of pciex_answer. For C99 and C++,
+ * beside pciex.h.
  */
 #ifndef PCIEX_DIFFER_H
 #define PCIEX_DIFFER_H
@@ -34,10 +34,10 @@ static inline bool pciex_is_enabled(const uint8_t *request, size_t place)
 }
 
 /*
- * Compares what a device answered to a request, `got`, with what it should have answered. `expected_length` is what
- * pciex_answer or pciex_device_serve answered, with its completion in `expected`; `got_length` is 0 where no completion
- * came. NULL where they are the same, else the name of the first field that differs. Not compared are the Completer ID,
- * BCM, the bit before Lower Address, and bytes of data that the request doesn't enable.
+ * Compares a device's completion of a request, `got`, with the one that is expected. `expected_length` is the code that
+ * pciex_answer or pciex_device_serve returned, and `expected` its completion. `got_length` is 0 if no completion came.
+ * NULL if they are the same, otherwise the name of the first field that differs. Not compared are the Completer ID, BCM,
+ * the bit before Lower Address, and bytes of data that the request does not enable.
  */
 static inline const char *pciex_differ(const uint8_t *request, const uint8_t *expected, uint32_t expected_length,
                                        const uint8_t *got, size_t got_length)

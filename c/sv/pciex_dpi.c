@@ -1,7 +1,6 @@
 /*
  * The functions of c/pciex.h for SystemVerilog, as pciex_pkg.sv imports them. For C99 and C++, with svdpi.h of the
- * simulator. A simulator makes the calls of DPI functions with side effects one after the other, so there is one room
- * and one text for all.
+ * simulator. They are called one at a time, so there is one text for all.
  */
 #include "../pciex.h"
 #include "../pciex_differ.h"
@@ -11,7 +10,7 @@
 #include <stdlib.h>
 #include <string.h>
 
-/* A packet_t has so many bytes. */
+/* The bytes of a packet_t. */
 #define MOST 150
 
 /* The memory of pciex_memory_new. */
@@ -22,7 +21,7 @@ typedef struct memory {
     uint16_t block;
 } memory;
 
-/* What pciex_said() gives: the text in `said`, or the trace of a fabric in `large`. */
+/* What pciex_said() returns: the text in `said`, or the trace of a fabric in `large`. */
 static char said[PCIEX_LINE + 1];
 static char *large;
 
@@ -40,14 +39,14 @@ static void say_line(const char *text)
     say((const uint8_t *)text, strlen(text));
 }
 
-/* The code of a call with a text in the room: that of what was done, or of why it wasn't. */
+/* The result of a call with a text in the buffer, which becomes the text of pciex_said(). */
 static int told(uint32_t code, const uint8_t *room)
 {
     say(room, code < 1000 ? code : code < 2000 ? code - 1000 : 0);
     return code < 1000 ? (int)code : -(int)code;
 }
 
-/* The code of a call with a packet in the room, which goes into `to`. Of a packet's fault the text is the name. */
+/* The result of a call with a packet in the buffer, which goes into `to`. The text is the name of a packet's fault. */
 static int packed(uint32_t code, const uint8_t *room, svBitVecVal *to)
 {
     uint8_t name[PCIEX_LINE];
@@ -64,7 +63,7 @@ static int packed(uint32_t code, const uint8_t *room, svBitVecVal *to)
     return -(int)code;
 }
 
-/* The bytes of a packet_t. Whether it can have so many. */
+/* Puts the bytes of a packet_t into `bytes`. Returns whether its length is 0 to MOST. */
 static bool unpack(const svBitVecVal *from, int length, uint8_t *bytes)
 {
     for (int i = 0; i < MOST; i++) {

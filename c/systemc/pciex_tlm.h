@@ -2,7 +2,7 @@
  * A memory target for TLM-2.0 that answers by pciex_answer: each access of an initiator becomes TLPs, and what it does is
  * what these do. Header only, for C++17 and SystemC 2.3; link libpciex_c.a and the toolchain's liblibc_c.a.
  *
- *     pciex::memory<32> memory("memory", 2, 4096);            two requesters, 4096 bytes at the address 0
+ *     pciex::memory<32> memory("memory", 2, 4096);            two requesters, 4096 bytes at address 0
  *     initiator.socket.bind(memory.sockets[0]);               requester 1
  *
  * Each requester has a socket, for b_transport, nb_transport and transport_dbg. There is no DMI, and no time passes.
@@ -191,8 +191,8 @@ private:
         return !enables || enables[place % access.get_byte_enable_length()] == TLM_BYTE_ENABLED;
     }
 
-    /* The part of `count` bytes from byte `done` of the access on: no DW where none is enabled. A DW at either end of
-       which no byte is enabled is left out. */
+    /* The part of `count` bytes from byte `done` of the access on, without the DWs at either end of which no byte is
+       enabled: no DW if none is. */
     static part part_of(tlm::tlm_generic_payload &access, std::size_t done, std::size_t count)
     {
         while (count > 0 && !is_enabled(access, done)) {

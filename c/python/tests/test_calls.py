@@ -63,7 +63,7 @@ class WithoutAHandle(unittest.TestCase):
         for number in (0, 14, -1):
             with self.assertRaises(ValueError):
                 pciex.fault_name(number)
-        self.assertEqual(pciex.version(), "pciex_c 1")
+        self.assertTrue(pciex.version().startswith("pciex"))
 
     def test_check(self) -> None:
         trace = (

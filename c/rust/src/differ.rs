@@ -32,9 +32,9 @@ fn is_enabled(request: &[u8], place: usize) -> bool {
     }
 }
 
-/// Compares what a device answered to a request, `got`, with what [`answer`](crate::answer) gave, `expected`: the name
-/// of the first field that differs. Not compared are the Completer ID, BCM, the bit before Lower Address, and bytes of
-/// data that the request doesn't enable.
+/// Compares a device's completion of a request, `got`, with the one of [`answer`](crate::answer), `expected`. Returns the
+/// name of the first field that differs. Not compared are the Completer ID, BCM, the bit before Lower Address, and bytes
+/// of data that the request does not enable.
 pub fn differ(request: &[u8], expected: Option<&[u8]>, got: Option<&[u8]>) -> Option<&'static str> {
     let (expected, got) = match (expected, got) {
         (None, None) => return None,

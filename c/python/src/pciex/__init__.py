@@ -3,12 +3,12 @@
 The functions are those of c/pciex.h. A packet is `bytes` in the order of the wire. The proofs are of the library that
 is called; nobody proves Python.
 
-What isn't done raises, and then nothing has changed:
+If a call raises, nothing has changed:
 
 - `Fault`: the packet, the line of a packet's words or the configuration is none; the fault's name says why
 - `Refused`: the fabric refuses the event
 - `ValueError`: an argument can't be right, or the device or fabric is closed
-- `MemoryError`: memory was refused
+- `MemoryError`: an allocation failed
 """
 
 from ._calls import Fault, Memory, Refused, answer, check, decode, encode, fault_name, version

@@ -12,8 +12,8 @@ _Self = TypeVar("_Self", bound="_Handle")
 
 
 class _Handle:
-    """What a device and a fabric have in common: a handle, which `close`, the end of a `with` and the last reference
-    free. Calls from several threads come one after the other."""
+    """A handle. It is freed by `close`, at the end of its `with`, or with its last reference. Calls from several threads
+    run one at a time."""
 
     _free: Any
 
@@ -44,7 +44,7 @@ class _Handle:
             self.close()
 
     def _call(self, function: Any, *arguments: Any) -> Any:
-        """What the library's function gives for this handle. The lock is held."""
+        """The result of the library's function for this handle. The lock is held."""
         if not self._slot.at:
             raise ValueError(f"the {type(self).__name__.lower()} is closed")
         return function(self._slot, *arguments, byref(self._slot))
@@ -100,7 +100,7 @@ class Device(_Handle):
 
 
 class Fabric(_Handle):
-    """The fabric that the line asks for, `fabric 1 0 4096`. With `is_traced` it keeps a trace."""
+    """The fabric of the line `fabric 1 0 4096`. With `is_traced` it keeps a trace."""
 
     _free = library.fabric_free
 

@@ -1,4 +1,4 @@
-"""The library's own functions, as c/pciex.h declares them, and the room that they answer into."""
+"""The library's own functions, as c/pciex.h declares them, and the buffer for their results."""
 
 import ctypes
 import os
@@ -21,7 +21,7 @@ _BYTES = ctypes.c_void_p
 _SIZE = ctypes.c_size_t
 _SLOT = ctypes.POINTER(Slot)
 
-# The arguments of each function that gives a code of 32 bits.
+# The arguments of each function that returns a code of 32 bits.
 _CODES = {
     "answer": [_BYTES, _SIZE, ctypes.c_uint64, ctypes.c_uint16, ctypes.c_char_p, _SIZE, _BYTES, _SIZE],
     "device_new": [ctypes.c_uint64, _SIZE, ctypes.c_uint16, _SLOT],
@@ -39,7 +39,7 @@ _CODES = {
     "version": [_BYTES, _SIZE],
 }
 
-# What else a function gives.
+# The arguments and the result of each other function.
 _OTHERS = {
     "device_history_length": ([Slot, _SLOT], _SIZE),
     "device_free": ([Slot], None),
@@ -74,7 +74,7 @@ library = _Library()
 
 
 class _Room(threading.local):
-    """Bytes that a call answers into. Each thread has its own: another thread may run between a call and the copy."""
+    """The buffer for results. Each thread has its own: another thread may run between a call and the copy."""
 
     def __init__(self) -> None:
         self.bytes = (ctypes.c_ubyte * LINE)()

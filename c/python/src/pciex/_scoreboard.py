@@ -1,4 +1,4 @@
-"""What a scoreboard compares."""
+"""For a scoreboard: what differs in a completion."""
 
 from typing import Optional
 
@@ -34,9 +34,9 @@ def _is_enabled(request: bytes, place: int) -> bool:
 
 
 def differ(request: bytes, expected: Optional[bytes], got: Optional[bytes]) -> Optional[str]:
-    """Compares what a device answered to a request, `got`, with what `answer` gave, `expected`; None stands for no
-    completion. None where they are the same, else the name of the first field that differs. Not compared are the
-    Completer ID, BCM, the bit before Lower Address, and bytes of data that the request doesn't enable."""
+    """Compares a device's completion of a request, `got`, with the one of `answer`, `expected`; None stands for no
+    completion. Returns None if they are the same, otherwise the name of the first field that differs. Not compared are
+    the Completer ID, BCM, the bit before Lower Address, and bytes of data that the request does not enable."""
     if not expected or not got:
         return None if not expected and not got else "no completion" if expected else "a completion"
     try:
