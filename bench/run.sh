@@ -55,7 +55,8 @@ counted() {
     input "$1" "$2"
     shift
     of_scale "$@"
-    xargs -a "$room/words" -d '\n' sh -c 'exec valgrind --tool=callgrind --callgrind-out-file=/dev/null "$@" < "$0"' "$room/input" > /dev/null 2> "$room/log"
+    xargs -a "$room/words" -d '\n' sh -c 'exec valgrind --tool=callgrind --callgrind-out-file=/dev/null "$@" < "$0"' "$room/input" > /dev/null 2> "$room/log" ||
+        { echo "run.sh: $(tr '\n' ' ' < "$room/words")fails under valgrind" >&2; exit 1; }
     instructions=$(sed -n 's/.*Collected : \([0-9]*\).*/\1/p' "$room/log")
 }
 

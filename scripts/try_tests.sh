@@ -6,7 +6,7 @@
 # Tests are compiled without optimisation here, and each has 60 seconds. Those that need more get fewer rows:
 #     link_tests, queues::six_hundred_steps: 150 steps in place of 600
 #     lane_tests, storm::a_storm: 1,000 writes in place of 10,000
-#     run_tests, additions::seven_requesters_count_over_bad_links: 60 additions each in place of 600
+#     run_tests, additions::seven_requesters_count_over_bad_links: 20 additions each in place of 600
 #     run_tests, mixed::mixed_operations_are_explained: 20 operations each in place of 200
 set -eu
 cd "$(dirname "$0")/.."
@@ -26,8 +26,8 @@ fewer() {
 fewer crates/link_tests/src/queues.rt 'agreed_from(rt.alloc(), 0, 600, 0)' 'agreed_from(rt.alloc(), 0, 150, 0)'
 fewer crates/link_tests/src/queues.rt 'agreed, 600' 'agreed, 150'
 fewer crates/lane_tests/src/storm.rt 'WRITES: u32 = 10_000;' 'WRITES: u32 = 1_000;'
-fewer crates/run_tests/src/additions.rt 'each: 600,' 'each: 60,'
-fewer crates/run_tests/src/additions.rt 'plan, 4200)' 'plan, 420)'
+fewer crates/run_tests/src/additions.rt 'each: 600,' 'each: 20,'
+fewer crates/run_tests/src/additions.rt 'plan, 4200)' 'plan, 140)'
 fewer crates/run_tests/src/mixed.rt 'mixed_plan(alloc, 200)' 'mixed_plan(alloc, 20)'
 
 # in_crate COPY CRATE: runs the tests of one crate, and writes the number that passed and the number that failed.
