@@ -131,11 +131,11 @@ refuses() {
     of_file /dev/null "$@"
     wants "$*" 2 "$room/nothing" "$room/told"
 }
-refuses "--size is 100: 128 to 1048576, a multiple of 128" tlp --size 100 --block 1
-refuses "--block is 1: 64 or 128" tlp --block 1
-refuses "--to is 2: 0 to 18446744073709551615, at least --from" draw --from 3 --to 2
-refuses "--seed is x: 0 to 18446744073709551615" generate --seed x --events 1
-refuses "--requesters is 8: 1 to 7" run --requesters 8 --each 1
+refuses "invalid value '100' for --size: expected 128 to 1048576, a multiple of 128" tlp --size 100 --block 1
+refuses "invalid value '1' for --block: expected 64 or 128" tlp --block 1
+refuses "invalid value '2' for --to: expected 0 to 18446744073709551615, at least --from" draw --from 3 --to 2
+refuses "invalid value 'x' for --seed: expected 0 to 18446744073709551615" generate --seed x --events 1
+refuses "invalid value '8' for --requesters: expected 1 to 7" run --requesters 8 --each 1
 of_file examples/packets.txt tlp "$(printf '\377')"
 wants "a word that is no text" 2 "$room/nothing" "$room/options"
 for words in "" "tpl" "tlp 0" "step --trace=no" "check --trace"; do
@@ -172,11 +172,12 @@ grep '^[0-9]* of 140000$' "$room/errors" > "$room/told"
 [ -s "$room/told" ] || echo "a line" > "$room/told"
 wants "run --progress" 0 "$room/counted" "$room/told"
 
-# A text that was asked for has status 0 and is not on the error stream.
-for words in "--help" "--version" "tlp --help" "decode --help" "encode --help" "draw --help" "step --help" "generate --help" "run --help"; do
+# A text that was asked for has status 0, is not on the error stream, and has lines of at most 100 characters.
+for words in --version --help -h "tlp --help" "decode --help" "encode --help" "check --help" "draw --help" "upgrade --help" \
+    "step --help" "generate --help" "run --help" "tlp -h" "step -h" "generate -h" "run -h"; do
     # shellcheck disable=SC2086
     of_file examples/packets.txt $words
-    [ -s "$room/output" ] && cp "$room/output" "$room/told" || echo "a text" > "$room/told"
+    [ -s "$room/output" ] && awk 'length > 100 { exit 1 }' "$room/output" && cp "$room/output" "$room/told" || echo "a text" > "$room/told"
     wants "the words '$words'" 0 "$room/told" "$room/nothing"
 done
 

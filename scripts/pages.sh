@@ -3,7 +3,8 @@
 # and compares what it prints, on either stream, with what the page shows below it. Fails where one differs.
 cd "$(dirname "$0")/.." || exit 1
 room=$(mktemp -d) || exit 1
-trap 'rm -rf "$room"' EXIT
+help=$(mktemp) || exit 1
+trap 'rm -rf "$room" "$help"' EXIT
 PATH=$PWD/crates/pciex/out:$PATH
 export PATH
 if [ ! -x crates/pciex/out/pciex ]; then
@@ -12,7 +13,16 @@ if [ ! -x crates/pciex/out/pciex ]; then
 fi
 runs=0
 failed=0
-for page in README.md docs/tutorial.md; do
+
+# The examples in the help of the subcommands are one page more. The picture that one of them draws is not kept.
+{
+    echo '```'
+    for name in $(pciex --help | sed -n '/^Commands:/,/^$/s/^  \([a-z]*\) .*/\1/p'); do
+        pciex "$name" --help | sed -n '/^Example:/,$s/^  //p' | sed 's#> history.svg$#> /dev/null#'
+    done
+    echo '```'
+} > "$help"
+for page in "$help" README.md docs/tutorial.md; do
     rm -f "$room"/*
     awk -v room="$room" '
         /^```/ { inside = !inside; wanted = ""; next }

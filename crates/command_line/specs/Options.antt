@@ -9,7 +9,21 @@ use Rattle.storm.specs.declared.Storm.{Storm}
 use Rattle.storm.specs.Ranges.{IsStorm}
 use Rattle.option_values.specs.Values.{WritesBase, WritesNumber, WritesGiven, WritesFlag}
 use Rattle.command_line.specs.declared.words.Request.{Request}
+use Rattle.command_line.specs.declared.words.Subcommand.{Subcommand}
+use Rattle.command_line.specs.declared.words.Subcommand.TheVariants as kinds
 use Rattle.command_line.specs.declared.words.Request.TheVariants.{Tlp, Decode, Encode, Check, Draw, Upgrade, Step, Generate, Run}
+
+-- the name of a subcommand
+abbrev pub text_of : Subcommand → Text
+text_of kinds.Tlp = codes "tlp"
+text_of kinds.Decode = codes "decode"
+text_of kinds.Encode = codes "encode"
+text_of kinds.Check = codes "check"
+text_of kinds.Draw = codes "draw"
+text_of kinds.Upgrade = codes "upgrade"
+text_of kinds.Step = codes "step"
+text_of kinds.Generate = codes "generate"
+text_of kinds.Run = codes "run"
 
 -- an option with a value
 abbrev pub option : Text → Rule

@@ -2,6 +2,7 @@
 #![tactic(auto)]
 
 mod subcommands;
+mod texts;
 mod words;
 
 pub use words::{Request, RequestFault, options};

@@ -1,12 +1,13 @@
 //! What the words of a command line ask for.
-ghost use Rattle.std.specs.Prelude.{◌≡◌, IfOk, IfErr, OnErr, map, true, codes, Some, [], option_map};
+ghost use Rattle.std.specs.Prelude.{◌≡◌, IfOk, IfErr, IfSome, IfNone, OnErr, map, true, codes, Some, [], option_map};
 ghost use Rattle.clap.specs.Words.{FailsBy, HasKind, fault_of, kind_of, subcommand_of, subcommand_rows_of, has_subcommand, takes, rows_of, found_of, first_of};
 ghost use Rattle.option_values.specs.Values.{Gives, GivesBase, name_of};
 ghost use Rattle.option_values.specs.declared.options.ValueOption.TheVariants.{Base};
 ghost use Rattle.command_line.specs.declared.words.Request.{Request};
 ghost use Rattle.command_line.specs.declared.words.RequestFault.TheVariants.{Value};
 ghost use Rattle.command_line.specs.Faults.{WordsFault, RangeFault, ValueFault, IsRefusal};
-ghost use Rattle.command_line.specs.Options.{the_app, Asks};
+ghost use Rattle.command_line.specs.Options.{the_app, text_of, Asks};
+ghost use Rattle.command_line.specs.declared.words.Subcommand.{Subcommand};
 ghost use Rattle.command_line.specs.Refusals.{IsWrong, IsWrongBase, Refuses};
 
 use crate::subcommands::grammar;
@@ -20,7 +21,7 @@ use std::convert::AsStr;
 use storm::Storm;
 
 /// What the words ask for.
-#[derive(Clone, Copy, Debug, PartialEq, Eq)]
+#[derive(Clone, Copy, Debug)]
 pub enum Request {
     /// The subcommand `tlp`, over a memory of these limits.
     Tlp {
@@ -112,34 +113,34 @@ fn number_in<'a>(
 }
 
 /// What the values of `tlp` ask for.
-fn tlp_of<'a>(tlp: &ArgMatches<'a>) -> Result<Request, RequestFault<'a>>
+fn tlp_of<'a>(tlp: &ArgMatches<'a>) -> Result<Request, RefusedValue<'a>>
     ensures ok { IfOk result (Asks (Some (codes "tlp", rows_of (found_of tlp.now)))) }
-    ensures err { IfErr result (IsRefusal (Some (codes "tlp", rows_of (found_of tlp.now)))) }
+    ensures err { IfErr result (Refuses (Some (codes "tlp", rows_of (found_of tlp.now)))) }
 {
     let base = base_in(tlp)?;
     let size = number_in(tlp, ValueOption::Size, Some(4096))? as usize;
     let block = number_in(tlp, ValueOption::Block, Some(64))? as u16;
     if !is_base(base, size) {
-        return Err(RequestFault::Value(RefusedValue {
+        return Err(RefusedValue {
             option: ValueOption::Base,
             given: tlp.get_str("base"),
-        }));
+        });
     }
     Ok(Request::Tlp { base, size, block })
 }
 
 /// What the values of `draw` ask for.
-fn draw_of<'a>(draw: &ArgMatches<'a>) -> Result<Request, RequestFault<'a>>
+fn draw_of<'a>(draw: &ArgMatches<'a>) -> Result<Request, RefusedValue<'a>>
     ensures ok { IfOk result (Asks (Some (codes "draw", rows_of (found_of draw.now)))) }
-    ensures err { IfErr result (IsRefusal (Some (codes "draw", rows_of (found_of draw.now)))) }
+    ensures err { IfErr result (Refuses (Some (codes "draw", rows_of (found_of draw.now)))) }
 {
     let from = number_in(draw, ValueOption::From, Some(0))?;
     let to = number_in(draw, ValueOption::To, Some(u64::MAX))?;
     if to < from {
-        return Err(RequestFault::Value(RefusedValue {
+        return Err(RefusedValue {
             option: ValueOption::To,
             given: draw.get_str("to"),
-        }));
+        });
     }
     Ok(Request::Draw { from, to })
 }
@@ -156,9 +157,9 @@ fn step_of(step: &ArgMatches<'_>) -> Request
 }
 
 /// What the values of `generate` ask for.
-fn generate_of<'a>(generate: &ArgMatches<'a>) -> Result<Request, RequestFault<'a>>
+fn generate_of<'a>(generate: &ArgMatches<'a>) -> Result<Request, RefusedValue<'a>>
     ensures ok { IfOk result (Asks (Some (codes "generate", rows_of (found_of generate.now)))) }
-    ensures err { IfErr result (IsRefusal (Some (codes "generate", rows_of (found_of generate.now)))) }
+    ensures err { IfErr result (Refuses (Some (codes "generate", rows_of (found_of generate.now)))) }
 {
     let seed = number_in(generate, ValueOption::Seed, None)?;
     let events = number_in(generate, ValueOption::Events, None)?;
@@ -179,9 +180,9 @@ fn generate_of<'a>(generate: &ArgMatches<'a>) -> Result<Request, RequestFault<'a
 }
 
 /// What the values of `run` ask for.
-fn run_of<'a>(run: &ArgMatches<'a>) -> Result<Request, RequestFault<'a>>
+fn run_of<'a>(run: &ArgMatches<'a>) -> Result<Request, RefusedValue<'a>>
     ensures ok { IfOk result (Asks (Some (codes "run", rows_of (found_of run.now)))) }
-    ensures err { IfErr result (IsRefusal (Some (codes "run", rows_of (found_of run.now)))) }
+    ensures err { IfErr result (Refuses (Some (codes "run", rows_of (found_of run.now)))) }
 {
     let requesters = number_in(run, ValueOption::Requesters, None)?;
     let each = number_in(run, ValueOption::Each, None)?;
@@ -200,31 +201,77 @@ fn run_of<'a>(run: &ArgMatches<'a>) -> Result<Request, RequestFault<'a>>
     })
 }
 
+/// The subcommands.
+#[derive(Clone, Copy)]
+pub(crate) enum Subcommand {
+    Tlp,
+    Decode,
+    Encode,
+    Check,
+    Draw,
+    Upgrade,
+    Step,
+    Generate,
+    Run,
+}
+
+/// The subcommand of this name.
+fn subcommand_named(name: &str) -> Option<Subcommand>
+    ensures some { IfSome result (λ s. name.now ≡ text_of s) }
+    ensures none { IfNone result ((s : Subcommand) → name.now ≡ text_of s → ⊥) }
+{
+    if name == "tlp" {
+        Some(Subcommand::Tlp)
+    } else if name == "decode" {
+        Some(Subcommand::Decode)
+    } else if name == "encode" {
+        Some(Subcommand::Encode)
+    } else if name == "check" {
+        Some(Subcommand::Check)
+    } else if name == "draw" {
+        Some(Subcommand::Draw)
+    } else if name == "upgrade" {
+        Some(Subcommand::Upgrade)
+    } else if name == "step" {
+        Some(Subcommand::Step)
+    } else if name == "generate" {
+        Some(Subcommand::Generate)
+    } else if name == "run" {
+        Some(Subcommand::Run)
+    } else {
+        None
+    }
+}
+
 /// What a subcommand with these values asks for.
-fn request_of<'a>(name: &str, values: &ArgMatches<'a>) -> Result<Request, RequestFault<'a>>
+fn request_of<'a>(
+    subcommand: Subcommand,
+    values: &ArgMatches<'a>,
+) -> Result<Request, RefusedValue<'a>>
+    ensures ok { IfOk result (Asks (Some (text_of subcommand, rows_of (found_of values.now)))) }
+    ensures err { IfErr result (Refuses (Some (text_of subcommand, rows_of (found_of values.now)))) }
+{
+    match subcommand {
+        Subcommand::Tlp => tlp_of(values),
+        Subcommand::Decode => Ok(Request::Decode),
+        Subcommand::Encode => Ok(Request::Encode),
+        Subcommand::Check => Ok(Request::Check),
+        Subcommand::Draw => draw_of(values),
+        Subcommand::Upgrade => Ok(Request::Upgrade),
+        Subcommand::Step => Ok(step_of(values)),
+        Subcommand::Generate => generate_of(values),
+        Subcommand::Run => run_of(values),
+    }
+}
+
+/// What a name with these values asks for.
+fn named_request<'a>(name: &str, values: &ArgMatches<'a>) -> Result<Request, RequestFault<'a>>
     ensures ok { IfOk result (Asks (Some (name.now, rows_of (found_of values.now)))) }
     ensures err { IfErr result (IsRefusal (Some (name.now, rows_of (found_of values.now)))) }
 {
-    if name == "tlp" {
-        tlp_of(values)
-    } else if name == "decode" {
-        Ok(Request::Decode)
-    } else if name == "encode" {
-        Ok(Request::Encode)
-    } else if name == "check" {
-        Ok(Request::Check)
-    } else if name == "draw" {
-        draw_of(values)
-    } else if name == "upgrade" {
-        Ok(Request::Upgrade)
-    } else if name == "step" {
-        Ok(step_of(values))
-    } else if name == "generate" {
-        generate_of(values)
-    } else if name == "run" {
-        run_of(values)
-    } else {
-        Err(RequestFault::Nothing)
+    match subcommand_named(name) {
+        Some(subcommand) => Ok(request_of(subcommand, values)?),
+        None => Err(RequestFault::Nothing),
     }
 }
 
@@ -257,7 +304,7 @@ pub fn options<'a, S: AsStr>(alloc: Global, words: &'a [S]) -> Result<Request, R
         Err(e) => return Err(RequestFault::Words(e)),
     };
     match matches.subcommand() {
-        Some((name, values)) => request_of(name, values),
+        Some((name, values)) => named_request(name, values),
         None => Err(RequestFault::Nothing),
     }
 }

@@ -163,23 +163,23 @@ static WRONG: [Given; 37] = [
     (&["pciex", "step", "0"], ""),
     (
         &["pciex", "tlp", "--base", "40"],
-        "--base is 40: 1 to 16 hexadecimal digits, a multiple of 80h, and the memory ends at 2^64 or before",
+        "invalid value '40' for --base: expected 1 to 16 hexadecimal digits, a multiple of 80h; the memory ends at 2^64 or below",
     ),
     (
         &["pciex", "tlp", "--base", "00000000000000080", "--size", "0"],
-        "--base is 00000000000000080: 1 to 16 hexadecimal digits, a multiple of 80h, and the memory ends at 2^64 or before",
+        "invalid value '00000000000000080' for --base: expected 1 to 16 hexadecimal digits, a multiple of 80h; the memory ends at 2^64 or below",
     ),
     (
         &["pciex", "tlp", "--base", "+80"],
-        "--base is +80: 1 to 16 hexadecimal digits, a multiple of 80h, and the memory ends at 2^64 or before",
+        "invalid value '+80' for --base: expected 1 to 16 hexadecimal digits, a multiple of 80h; the memory ends at 2^64 or below",
     ),
     (
         &["pciex", "tlp", "--base", ""],
-        "--base is : 1 to 16 hexadecimal digits, a multiple of 80h, and the memory ends at 2^64 or before",
+        "invalid value '' for --base: expected 1 to 16 hexadecimal digits, a multiple of 80h; the memory ends at 2^64 or below",
     ),
     (
         &["pciex", "tlp", "--base", "FFFFFFFFFFFFFF80"],
-        "--base is FFFFFFFFFFFFFF80: 1 to 16 hexadecimal digits, a multiple of 80h, and the memory ends at 2^64 or before",
+        "invalid value 'FFFFFFFFFFFFFF80' for --base: expected 1 to 16 hexadecimal digits, a multiple of 80h; the memory ends at 2^64 or below",
     ),
     (
         &[
@@ -190,49 +190,49 @@ static WRONG: [Given; 37] = [
             "--size",
             "100",
         ],
-        "--size is 100: 128 to 1048576, a multiple of 128",
+        "invalid value '100' for --size: expected 128 to 1048576, a multiple of 128",
     ),
     (
         &["pciex", "tlp", "--size", "0", "--block=1"],
-        "--size is 0: 128 to 1048576, a multiple of 128",
+        "invalid value '0' for --size: expected 128 to 1048576, a multiple of 128",
     ),
     (
         &["pciex", "tlp", "--size", "64"],
-        "--size is 64: 128 to 1048576, a multiple of 128",
+        "invalid value '64' for --size: expected 128 to 1048576, a multiple of 128",
     ),
     (
         &["pciex", "tlp", "--size", "1048704"],
-        "--size is 1048704: 128 to 1048576, a multiple of 128",
+        "invalid value '1048704' for --size: expected 128 to 1048576, a multiple of 128",
     ),
     (
         &["pciex", "tlp", "--size", "\u{1b}[2Jééééééééééééééééééé"],
-        "--size is \\x1B[2J\\xC3\\xA9\\xC3\\xA9\\xC3\\xA9\\xC3\\xA9\\xC3\\xA9\\xC3\\xA9\\xC3\\xA9\\xC3\\xA9\\xC3\\xA9\\xC3\\xA9\\xC3\\xA9\\xC3\\xA9\\xC3\\xA9\\xC3\\xA9\\xC3\\xA9\\xC3\\xA9\\xC3\\xA9\\xC3\\xA9: 128 to 1048576, a multiple of 128",
+        "invalid value '\\x1B[2J\\xC3\\xA9\\xC3\\xA9\\xC3\\xA9\\xC3\\xA9\\xC3\\xA9\\xC3\\xA9\\xC3\\xA9\\xC3\\xA9\\xC3\\xA9\\xC3\\xA9\\xC3\\xA9\\xC3\\xA9\\xC3\\xA9\\xC3\\xA9\\xC3\\xA9\\xC3\\xA9\\xC3\\xA9\\xC3\\xA9' for --size: expected 128 to 1048576, a multiple of 128",
     ),
     (
         &["pciex", "tlp", "--block", "96"],
-        "--block is 96: 64 or 128",
+        "invalid value '96' for --block: expected 64 or 128",
     ),
     (
         &["pciex", "tlp", "--block", "65600"],
-        "--block is 65600: 64 or 128",
+        "invalid value '65600' for --block: expected 64 or 128",
     ),
     (&["pciex", "draw", "--from"], ""),
     (
         &["pciex", "draw", "--from", "18446744073709551616"],
-        "--from is 18446744073709551616: 0 to 18446744073709551615",
+        "invalid value '18446744073709551616' for --from: expected 0 to 18446744073709551615",
     ),
     (
         &["pciex", "draw", "--from", "3", "--to", "2"],
-        "--to is 2: 0 to 18446744073709551615, at least --from",
+        "invalid value '2' for --to: expected 0 to 18446744073709551615, at least --from",
     ),
     (&["pciex", "generate", "--seed", "1"], ""),
     (
         &["pciex", "generate", "--seed=0x", "--events", "1"],
-        "--seed is 0x: 0 to 18446744073709551615",
+        "invalid value '0x' for --seed: expected 0 to 18446744073709551615",
     ),
     (
         &["pciex", "generate", "--seed", "1", "--events", "1000000001"],
-        "--events is 1000000001: 0 to 1000000000",
+        "invalid value '1000000001' for --events: expected 0 to 1000000000",
     ),
     (
         &[
@@ -245,21 +245,21 @@ static WRONG: [Given; 37] = [
             "--requesters",
             "8",
         ],
-        "--requesters is 8: 1 to 7",
+        "invalid value '8' for --requesters: expected 1 to 7",
     ),
     (&["pciex", "run", "--requesters", "1"], ""),
     (&["pciex", "run", "--each", "1"], ""),
     (
         &["pciex", "run", "--requesters", "0", "--each", "1"],
-        "--requesters is 0: 1 to 7",
+        "invalid value '0' for --requesters: expected 1 to 7",
     ),
     (
         &["pciex", "run", "--each", "100001", "--requesters", "8"],
-        "--requesters is 8: 1 to 7",
+        "invalid value '8' for --requesters: expected 1 to 7",
     ),
     (
         &["pciex", "run", "--requesters", "1", "--each", "100001"],
-        "--each is 100001: 0 to 100000",
+        "invalid value '100001' for --each: expected 0 to 100000",
     ),
     (
         &[
@@ -272,7 +272,7 @@ static WRONG: [Given; 37] = [
             "--lose",
             "65537",
         ],
-        "--lose is 65537: 0 to 65536",
+        "invalid value '65537' for --lose: expected 0 to 65536",
     ),
     (
         &[
@@ -298,11 +298,11 @@ static WRONG: [Given; 37] = [
             "--turns",
             "0",
         ],
-        "--turns is 0: 1 to 1000000000",
+        "invalid value '0' for --turns: expected 1 to 1000000000",
     ),
     (
         &["pciex", "run", "--requesters", "1", "--each", "+1"],
-        "--each is +1: 0 to 100000",
+        "invalid value '+1' for --each: expected 0 to 100000",
     ),
 ];
 
@@ -339,22 +339,37 @@ fn wrong_words(rt: HostRuntime) {
 }
 
 /// Words that ask for a text, and how it begins.
-static TEXTS: [Given; 11] = [
-    (&["pciex", "--help"], "A shared memory device"),
-    (&["pciex", "-h"], "A shared memory device"),
-    (&["pciex", "--version"], "pciex "),
-    (&["pciex", "-V"], "pciex "),
-    (&["pciex", "tlp", "--help"], "Answers memory requests"),
-    (&["pciex", "decode", "--help"], "Writes packets in words"),
-    (&["pciex", "encode", "--help"], "Writes packets in bytes"),
-    (&["pciex", "draw", "--help"], "Draws a picture of a history"),
+static TEXTS: [Given; 14] = [
     (
-        &["pciex", "step", "--help"],
-        "Runs a script of events on a fabric",
+        &["pciex", "--help"],
+        "A proved PCI Express memory device, fabric simulator and history checker\n\nUsage: pciex <COMMAND>\n\nCommands:\n  tlp       Answer request TLPs with their completions\n",
     ),
     (
+        &["pciex", "-h"],
+        "A proved PCI Express memory device, fabric simulator and history checker\n\nUsage: pciex <COMMAND>\n\nCommands:\n  tlp       Answer request TLPs with their completions\n",
+    ),
+    (&["pciex", "--version"], "pciex 0.2.0\n"),
+    (&["pciex", "-V"], "pciex 0.2.0\n"),
+    (
+        &["pciex", "tlp", "-h"],
+        "Answer request TLPs with their completions\n\nUsage: pciex tlp [OPTIONS]\n",
+    ),
+    (
+        &["pciex", "tlp", "--help"],
+        "Answers request TLPs with their completions.\n\nEach line",
+    ),
+    (&["pciex", "decode", "--help"], "Prints TLPs and DLLPs"),
+    (
+        &["pciex", "encode", "--help"],
+        "Prints the bytes of packets",
+    ),
+    (&["pciex", "check", "--help"], "Checks whether a history"),
+    (&["pciex", "draw", "--help"], "Draws a trace"),
+    (&["pciex", "upgrade", "--help"], "Rewrites a trace"),
+    (&["pciex", "step", "--help"], "Runs a script of events"),
+    (
         &["pciex", "generate", "--help"],
-        "Writes a script for 'step'",
+        "Writes a random stress script",
     ),
     (&["pciex", "run", "--help"], "Counts with worker threads"),
 ];

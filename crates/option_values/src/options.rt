@@ -9,27 +9,27 @@ use std::fmt;
 pub enum ValueOption {
     /// The first address of a memory.
     Base,
-    /// The bytes of a memory.
+    /// The size of a memory, in bytes.
     Size,
-    /// The bytes of a block.
+    /// The size of a block, in bytes.
     Block,
-    /// How many requesters a fabric has.
+    /// The number of requesters of a fabric.
     Requesters,
-    /// How often each requester adds.
+    /// The number of additions of each requester.
     Each,
-    /// One of so many packets is lost.
+    /// N: one in N packets and DLLPs is lost, none if N is 0.
     Lose,
-    /// One of so many packets arrives with a failed check.
+    /// N: one in N packets and DLLPs arrives with a failed check, none if N is 0.
     Corrupt,
-    /// The most calls and records of a worker.
+    /// The most calls and records of each worker.
     Turns,
-    /// The first point of a history.
+    /// The first point of a history that is drawn.
     From,
-    /// The last point of a history.
+    /// The last point of a history that is drawn.
     To,
-    /// What the events of a script are drawn from.
+    /// The seed of a script's random choices.
     Seed,
-    /// How many events a script has.
+    /// The number of events of a script.
     Events,
 }
 

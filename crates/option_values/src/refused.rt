@@ -34,25 +34,26 @@ fn show<W: fmt::Write>(value: &str, f: &mut fmt::Formatter<W>) -> fmt::Result {
 }
 
 impl fmt::Display for RefusedValue<'_> {
-    /// The option, what is given, and what is allowed.
+    /// The value, the option, and what is expected of it.
     fn fmt<W: fmt::Write>(&self, f: &mut fmt::Formatter<W>) -> fmt::Result {
         let RefusedValue { option, given } = *self;
         let (name, allowed) = (option.name(), option.allowed());
         match given {
             Some(value) => {
-                write!(f, "--{name} is ")?;
+                f.write_str("invalid value '")?;
                 show(value, f)?;
+                write!(f, "' for --{name}: expected ")?;
             }
-            None => write!(f, "--{name} is not given")?,
+            None => write!(f, "--{name} is missing: expected ")?,
         }
         match option {
             ValueOption::Base => write!(
                 f,
-                ": 1 to 16 hexadecimal digits, a multiple of 80h, and the memory ends at 2^64 or before"
+                "1 to 16 hexadecimal digits, a multiple of 80h; the memory ends at 2^64 or below"
             ),
-            ValueOption::Block => write!(f, ": 64 or 128"),
-            ValueOption::To => write!(f, ": {allowed}, at least --from"),
-            _ => write!(f, ": {allowed}"),
+            ValueOption::Block => f.write_str("64 or 128"),
+            ValueOption::To => write!(f, "{allowed}, at least --from"),
+            _ => write!(f, "{allowed}"),
         }
     }
 }

@@ -9,6 +9,6 @@ unfolding the_app
 returns-clause-app c =
     let packets_added = c.in_ok-packets.ensures.app ∙ ap (λ (a : App). with_packets a) c.top_command.ensures.app in
     let traces_added = c.in_ok-traces.ensures.app ∙ ap (λ (a : App). with_traces a) packets_added in
-    let step_added = c.in_ok-step.ensures.app ∙ ap (λ (a : App). with_subcommand a step_app.top) traces_added in
-    let generate_added = c.in_ok-generate.ensures.app ∙ ap (λ (a : App). with_subcommand a generate_app.top) step_added in
-    IfOk-weaker c.with_run.result _ _ (λ new h. h ∙ ap (λ (a : App). with_subcommand a run_app.top) generate_added) c.with_run.ensures.app
+    let step_added = c.in_ok-step.ensures.app step_app c.step_command.ensures.app ∙ ap (λ (a : App). with_subcommand a step_app.top) traces_added in
+    let generate_added = c.in_ok-generate.ensures.app generate_app c.generate_command.ensures.app ∙ ap (λ (a : App). with_subcommand a generate_app.top) step_added in
+    IfOk-weaker c.with_made-3.result _ _ (λ new h. h ∙ ap (λ (a : App). with_subcommand a run_app.top) generate_added) (c.with_made-3.ensures.app run_app c.run_command.ensures.app)

@@ -33,16 +33,16 @@ pub returns-in-Some-clause-value : goal.returns-in-Some-clause-value
 returns-in-Some-clause-value g c =
     let o = subcommand_of the_app (map g.S.AsStr.text c.args.words.now) in
     let asked : ◌≡◌ {A = Option (Text × List Row)} (Some (c.in-Some.name.now, rows_of (found_of c.in-Some.values.now))) o = together _ _ _ _ _ c.in-Some.ensures.name c.in-Some.ensures.rows ∙ c.in-Ok.ensures.rows in
-    IfErr-weaker c.request_of.result _ _ (λ fault h. value_told o fault (subst (λ (p : Option (Text × List Row)). IsRefusal p fault) asked h)) c.request_of.ensures.err
+    IfErr-weaker c.named_request.result _ _ (λ fault h. value_told o fault (subst (λ (p : Option (Text × List Row)). IsRefusal p fault) asked h)) c.named_request.ensures.err
 
 pub returns-in-Some-clause-range : goal.returns-in-Some-clause-range
 returns-in-Some-clause-range g c =
     let o = subcommand_of the_app (map g.S.AsStr.text c.args.words.now) in
     let asked : ◌≡◌ {A = Option (Text × List Row)} (Some (c.in-Some.name.now, rows_of (found_of c.in-Some.values.now))) o = together _ _ _ _ _ c.in-Some.ensures.name c.in-Some.ensures.rows ∙ c.in-Ok.ensures.rows in
-    IfErr-weaker c.request_of.result _ _ (λ fault h. nothing_asked o fault (subst (λ (p : Option (Text × List Row)). IsRefusal p fault) asked h)) c.request_of.ensures.err
+    IfErr-weaker c.named_request.result _ _ (λ fault h. nothing_asked o fault (subst (λ (p : Option (Text × List Row)). IsRefusal p fault) asked h)) c.named_request.ensures.err
 
 pub returns-in-Some-clause-only : goal.returns-in-Some-clause-only
 returns-in-Some-clause-only g c =
     let o = subcommand_of the_app (map g.S.AsStr.text c.args.words.now) in
     let asked : ◌≡◌ {A = Option (Text × List Row)} (Some (c.in-Some.name.now, rows_of (found_of c.in-Some.values.now))) o = together _ _ _ _ _ c.in-Some.ensures.name c.in-Some.ensures.rows ∙ c.in-Ok.ensures.rows in
-    IfOk-weaker c.request_of.result _ _ (λ r h other a. asks_one o r other (subst (λ (p : Option (Text × List Row)). Asks p r) asked h) a) c.request_of.ensures.ok
+    IfOk-weaker c.named_request.result _ _ (λ r h other a. asks_one o r other (subst (λ (p : Option (Text × List Row)). Asks p r) asked h) a) c.named_request.ensures.ok

@@ -1,0 +1,193 @@
+//! The texts of `--help`. A line has at most 90 characters.
+
+/// What the help of a subcommand says.
+#[derive(Clone, Copy)]
+pub(crate) struct Help {
+    /// One line, for the list of subcommands and for `-h`.
+    pub(crate) about: &'static str,
+    /// The paragraphs of `--help`.
+    pub(crate) long: &'static str,
+    /// An example with what it prints.
+    pub(crate) example: &'static str,
+}
+
+pub(crate) static ABOUT: &str =
+    "A proved PCI Express memory device, fabric simulator and history checker";
+
+pub(crate) static AFTER: &str =
+    "Subcommands other than 'generate' and 'run' read standard input. Results are printed on
+standard output, and the reasons of faults and refusals on standard error.
+'pciex <COMMAND> --help' has the details and an example.
+
+Exit status:
+  0  success
+  1  a fault, a flaw, a refusal or a halt was printed, or reading, writing or memory failed
+  2  wrong arguments
+  3  a worker of 'run' used up its turns";
+
+pub(crate) static TLP: Help = Help {
+    about: "Answer request TLPs with their completions",
+    long: "Answers request TLPs with their completions.
+
+Each line of the input is one TLP in hexadecimal digits. Spaces, empty lines and lines that
+begin with '#' are ignored. The result of a request is one line: its completion in
+hexadecimal digits, or '-' for a posted write. The result of any other line is 'fault' and
+the reason.",
+    example: "Example:
+  $ echo '4C000001 01000500 00000040 07000000' | pciex tlp
+  4A000001 00000004 01000500 00000000",
+};
+
+pub(crate) static DECODE: Help = Help {
+    about: "Print TLPs and DLLPs in words",
+    long: "Prints TLPs and DLLPs in words.
+
+Each line of the input is one packet in hexadecimal digits: a DLLP if it has four bytes,
+otherwise a TLP. Spaces, empty lines and lines that begin with '#' are ignored. The result
+is one line: the packet in words, or 'fault' and the reason.",
+    example: "Example:
+  $ echo '4C000001 01000500 00000040 07000000' | pciex decode
+  add 40 07000000 from 0100 tag 05",
+};
+
+pub(crate) static ENCODE: Help = Help {
+    about: "Print the bytes of packets that are written in words",
+    long: "Prints the bytes of packets that are written in words.
+
+Each line of the input is one packet in the words that 'decode' prints. Empty lines and
+lines that begin with '#' are ignored. The result is one line: the canonical bytes of the
+packet in hexadecimal digits, or 'fault' and the reason.",
+    example: "Example:
+  $ echo 'update p 2 16' | pciex encode
+  80008010",
+};
+
+pub(crate) static CHECK: Help = Help {
+    about: "Check whether a history explains a trace",
+    long: "Checks whether a history explains a trace: whether each requester received what one
+sequential memory returns, with each request at one point between its submission and its
+answer, and posted writes in order.
+
+The input is one trace with its history, as 'step --trace' prints it. The result is one
+line: 'ok'; 'flaw' with the number, the name and the place of the first flaw; or 'fault'
+with the first line that can't be read and the reason.",
+    example: "Example:
+  $ pciex generate --seed 7 --events 1000 | pciex step --trace | pciex check
+  ok",
+};
+
+pub(crate) static DRAW: Help = Help {
+    about: "Draw a trace and its history as an SVG picture",
+    long: "Draws a trace and its history as an SVG picture.
+
+The input is one trace with its history, as 'check' reads it. The points of the history go
+from left to right. Each requester has a row and each request a bar from its submission to
+its answer; the first flaw is red. If the trace can't be read, the picture says why.",
+    example: "Example:
+  $ pciex generate --seed 7 --events 200 | pciex step --trace | pciex draw > history.svg",
+};
+
+pub(crate) static UPGRADE: Help = Help {
+    about: "Rewrite a trace in version 2",
+    long: "Rewrites a trace of version 1 or 2 in version 2.
+
+The history is not checked. The result of a trace that can't be read is 'fault' with the
+first line that can't be read and the reason.",
+    example: "Example:
+  $ printf 'pciex-trace 1\\nmemory 0 4096\\nhistory\\nend\\n' | pciex upgrade
+  pciex-trace 2
+  memory 0 4096 64
+  history
+  end",
+};
+
+pub(crate) static STEP: Help = Help {
+    about: "Run a script of events on a fabric",
+    long: "Runs a script of events on a fabric: one memory, a switch, one to seven requesters, and the
+links between them.
+
+The first line describes the fabric, as in 'fabric 1 0 4096'. Each line after it is one
+event, or 'settle', which runs the fabric until nothing moves. The result of an event is one
+line; 'settle' prints what is collected, and then 'settled' or 'unsettled'. The run ends at
+the first line that can't be read ('fault') or that the fabric refuses ('refused').",
+    example: "Example:
+  $ printf 'fabric 1 0 4096\\nsubmit 1 add 40 07000000\\nsettle\\n' | pciex step
+  sub 1 0
+  ans 1 0 data 00000000
+  settled",
+};
+
+pub(crate) static GENERATE: Help = Help {
+    about: "Write a random stress script for 'step'",
+    long: "Writes a random stress script for 'step', in which the fabric accepts each event.
+
+Requests of all kinds go to a few addresses, and packets and DLLPs are lost and corrupted.
+The same arguments give the same script on every machine.",
+    example: "Example:
+  $ pciex generate --seed 7 --events 10000 --lose 8 | pciex step --trace | pciex check
+  ok",
+};
+
+pub(crate) static RUN: Help = Help {
+    about: "Count with worker threads over lossy links, and check the history",
+    long: "Counts with worker threads over lossy links, and checks the history.
+
+Each requester adds 1 to one word of the memory --each times. Each requester, each end of a
+link, the switch and the memory has a thread of its own. The result is four lines:
+'answered', 'history' and 'word' with their numbers, and 'check ok'; or 'halt' and the name
+of what ended the run.",
+    example: "Example:
+  $ pciex run --requesters 2 --each 1000 --lose 3
+  answered 2000
+  history 2000
+  word 2000
+  check ok",
+};
+
+pub(crate) static BASE: &str =
+    "First address of the memory, 1 to 16 hexadecimal digits, a multiple of 80h;
+the memory ends at 2^64 or below [default: 0]";
+
+pub(crate) static SIZE: &str =
+    "Size of the memory in bytes, 128 to 1048576, a multiple of 128 [default: 4096]";
+
+pub(crate) static BLOCK: &str =
+    "Size of a block in bytes, 64 or 128; a request that crosses the boundary of
+an aligned block completes with Completer Abort [default: 64]";
+
+pub(crate) static FROM: &str = "First point to draw, a length of the history [default: 0]";
+
+pub(crate) static TO: &str =
+    "Last point to draw, at least --from [default: the length of the history]";
+
+pub(crate) static TRACE: &str = "Print the trace and its history in place of the results";
+
+pub(crate) static KEEP_GOING: &str =
+    "Continue after a refused event; the exit status is 1 all the same";
+
+pub(crate) static ECHO: &str =
+    "Print each result behind its line, as in 'transmit up1 -> sent 000'";
+
+pub(crate) static SEED: &str = "Seed of the random choices, 0 to 18446744073709551615";
+
+pub(crate) static EVENTS: &str = "Number of events, 0 to 1000000000";
+
+pub(crate) static SOME_REQUESTERS: &str = "Number of requesters, 1 to 7 [default: 3]";
+
+pub(crate) static REQUESTERS: &str = "Number of requesters, 1 to 7";
+
+pub(crate) static EACH: &str = "Number of additions of each requester, 0 to 100000";
+
+pub(crate) static LOSE: &str =
+    "Lose one in COUNT packets and DLLPs, 0 to 65536; 0 loses none [default: 0]";
+
+pub(crate) static CORRUPT: &str =
+    "Corrupt one in COUNT packets and DLLPs, 0 to 65536; 0 corrupts none
+[default: 0]";
+
+pub(crate) static TURNS: &str = "Most calls and records of each worker, 1 to 1000000000
+[default: 50000000]";
+
+pub(crate) static PROGRESS: &str =
+    "Print the number of answers on standard error about twice a second; this is
+on if standard error is a terminal";
