@@ -46,6 +46,9 @@
 extern "C" {
 #endif
 
+/* The version of this header; pciex_version has that of the library. */
+#define PCIEX_VERSION "0.2.0"
+
 /* The room has fewer bytes than the call asks for. */
 #define PCIEX_SMALL_ROOM 2000u
 /* A block has neither 64 nor 128 bytes. */
@@ -389,7 +392,10 @@ static inline uint32_t pciex_fault_name(uint32_t number, uint8_t *room, size_t r
     return pciex_raw_fault_name(number, room, room_length);
 }
 
-/* The version of the library, `pciex_c 1`: how many bytes it has, or PCIEX_SMALL_ROOM for fewer than PCIEX_LINE. */
+/*
+ * The version of the library, as `pciex --version` prints it, `pciex 0.2.0`: how many bytes it has, or PCIEX_SMALL_ROOM for
+ * fewer than PCIEX_LINE.
+ */
 static inline uint32_t pciex_version(uint8_t *room, size_t room_length)
 {
     if (!room) {

@@ -92,7 +92,7 @@ fn packets_in_words() {
     assert_eq!(encode(words), Ok(ADD.to_vec()));
     assert_eq!(decode(&ADD[..3]), Err(Error::Told("fault 1 Short".into())));
     assert_eq!(encode("add"), Err(Error::Told("fault words".into())));
-    assert_eq!(version(), "pciex_c 1");
+    assert_eq!(version(), concat!("pciex ", env!("CARGO_PKG_VERSION")));
 }
 
 #[test]

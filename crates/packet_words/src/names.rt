@@ -52,17 +52,17 @@ pub fn name_fault(number: u32, room: &mut [u8]) -> u32
     name.len() as u32
 }
 
-/// Puts the library's version to the front of `room`: its 9 bytes, or `SMALL_ROOM` for fewer than 512
+/// Puts the library's version to the front of `room`: its 11 bytes, or `SMALL_ROOM` for fewer than 512
 /// bytes, and then the room stays as it was.
 pub fn tell_version(room: &mut [u8]) -> u32
-    ensures code { 512 ≤ length room.old → result ≡ 9 }
-    ensures room { 512 ≤ length room.old → room.new ≡ filled room.old (codes "pciex_c 1") }
+    ensures code { 512 ≤ length room.old → result ≡ 11 }
+    ensures room { 512 ≤ length room.old → room.new ≡ filled room.old (codes "pciex 0.2.0") }
     ensures small { length room.old < 512 → result ≡ 2000 }
     ensures unchanged { 1000 ≤ result → room.new ≡ room.old }
 {
     if room.len() < LINE_ROOM {
         return SMALL_ROOM;
     }
-    fill(room, b"pciex_c 1");
-    9
+    fill(room, b"pciex 0.2.0");
+    11
 }

@@ -79,8 +79,8 @@ pub extern "C" fn pciex_raw_fault_name(number: u32, room: &mut [u8]) -> u32
 /// The version of the library.
 #[unsafe(no_mangle)]
 pub extern "C" fn pciex_raw_version(room: &mut [u8]) -> u32
-    ensures code { 512 ≤ length room.old → result ≡ 9 }
-    ensures room { 512 ≤ length room.old → room.new ≡ filled room.old (codes "pciex_c 1") }
+    ensures code { 512 ≤ length room.old → result ≡ 11 }
+    ensures room { 512 ≤ length room.old → room.new ≡ filled room.old (codes "pciex 0.2.0") }
     ensures small { length room.old < 512 → result ≡ SMALL_ROOM }
     ensures unchanged { 1000 ≤ result → room.new ≡ room.old }
 {

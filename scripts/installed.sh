@@ -1,0 +1,91 @@
+#!/bin/sh
+# Tries a release: makes its tar, unpacks it in an empty folder, runs the program, compiles a C program with the flags of
+# pkg-config alone, once against the archive and once against the shared object, and completes words in bash. Program and
+# library were built before. Fails if one of them fails. The last line says what was left out for lack of a tool.
+cd "$(dirname "$0")/.." || exit 1
+say() { echo "installed: $*"; }
+if [ ! -e crates/pciex_c/out/libpciex_c.a ] || ! command -v cc > /dev/null; then
+    say "not tried: the library isn't built, or there is no cc"
+    exit 0
+fi
+room=$(mktemp -d) || exit 1
+trap 'rm -rf "$room"' EXIT
+version=$(sh scripts/version.sh)
+runs=0
+failed=0
+left_out=
+
+# prints WHAT TEXT WORD..: whether a run has status 0 and prints this text.
+prints() {
+    what=$1 wanted=$2
+    shift 2
+    got=$("$@" 2>&1 < /dev/null)
+    status=$?
+    runs=$((runs + 1))
+    if [ $status -ne 0 ] || [ "$got" != "$wanted" ]; then
+        say "$what: status $status, '$got' and not '$wanted'"
+        failed=1
+    fi
+}
+
+tar=$(sh scripts/release.sh "$room" 2> "$room/log") || { cat "$room/log"; exit 1; }
+grep -q 'left out: nothing$' "$room/log" || left_out=$(sed -n 's/^installed: .*; left out: /, /p' "$room/log")
+mkdir "$room/empty" && tar -C "$room/empty" -xzf "$tar" || exit 1
+home=$room/empty/pciex-$version
+prints "the program" "pciex $version" "$home/bin/pciex" --version
+
+cat > "$room/first.c" << 'end'
+#include <pciex.h>
+#include <stdio.h>
+
+int main(void)
+{
+    static uint8_t memory[4096];
+    const uint8_t add[16] = {0x4C, 0, 0, 1, 1, 0, 5, 0, 0, 0, 0, 0x40, 7, 0, 0, 0};
+    uint8_t room[PCIEX_LINE];
+    pciex_device device = PCIEX_NONE;
+    uint32_t code = pciex_answer(memory, sizeof memory, 0, 64, add, sizeof add, room, sizeof room);
+    uint32_t made = pciex_device_new(0, 4096, 64, &device);
+    uint32_t served = pciex_device_serve(&device, 0, add, sizeof add, room, sizeof room);
+    pciex_device_free(&device);
+    uint32_t count = pciex_version(room, sizeof room);
+    printf("%s, %.*s: %u bytes, the word is %u, %u %u\n", PCIEX_VERSION, (int)count, (const char *)room, (unsigned)code,
+           memory[0x40], (unsigned)made, (unsigned)served);
+    return 0;
+}
+end
+text="$version, pciex $version: 16 bytes, the word is 7, 0 16"
+if command -v pkg-config > /dev/null; then
+    PKG_CONFIG_PATH=$home/lib/pkgconfig
+    export PKG_CONFIG_PATH
+    prints "pkg-config's version" "$version" pkg-config --modversion pciex
+    cd "$room" || exit 1
+    # shellcheck disable=SC2046
+    if cc -Wall -Wextra -Werror -std=c99 -static -o static first.c $(pkg-config --static --cflags --libs pciex); then
+        prints "a C program with the archive" "$text" ./static
+    else
+        say "no C program is linked with the archive"
+        failed=1
+    fi
+    # shellcheck disable=SC2046
+    if cc -Wall -Wextra -Werror -std=c99 -o shared first.c $(pkg-config --cflags --libs pciex); then
+        prints "a C program with the shared object" "$text" env LD_LIBRARY_PATH="$home/lib" ./shared
+    else
+        say "no C program is linked with the shared object"
+        failed=1
+    fi
+else
+    left_out="$left_out, the C programs, since there is no pkg-config"
+fi
+
+if command -v bash > /dev/null; then
+    # shellcheck disable=SC2016
+    complete='. "$0/share/bash-completion/completions/pciex"; PATH=$0/bin:$PATH
+        COMP_WORDS=("$@") COMP_CWORD=$(($# - 1)); _pciex pciex; echo "${COMPREPLY[*]}"'
+    prints "a subcommand completed" "step" bash -c "$complete" "$home" pciex st
+    prints "an option completed" "--keep-going" bash -c "$complete" "$home" pciex step --k
+else
+    left_out="$left_out, the completion, since there is no bash"
+fi
+say "$runs runs of $(basename "$tar"), $([ $failed -eq 0 ] && echo "each as it should be" || echo "not each as it should be"); left out: ${left_out:-, nothing}" | sed 's/: , /: /'
+exit $failed
