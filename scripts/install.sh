@@ -2,7 +2,7 @@
 # Installs the program and the library for C: install.sh PREFIX
 #
 #     bin/pciex                       the program
-#     include/pciex.h                 the header
+#     include/pciex.h                 the header, and pciex_differ.h beside it
 #     lib/libpciex.a, lib/libpciex.so the library, with all that a caller needs; the shared object exports `pciex_*` alone
 #     lib/pkgconfig/pciex.pc          the flags, relative to where the file lies, so that the folders can be moved
 #     share/man/man1/pciex.1          the manual page, if help2man is on the path
@@ -55,7 +55,7 @@ end
 
 mkdir -p "$prefix/bin" "$prefix/include" "$prefix/lib/pkgconfig" "$prefix/share/bash-completion/completions"
 install -m 755 $program "$prefix/bin/pciex"
-install -m 644 c/pciex.h "$prefix/include/pciex.h"
+install -m 644 c/pciex.h c/pciex_differ.h "$prefix/include"
 install -m 644 "$room/libpciex.a" "$prefix/lib/libpciex.a"
 install -m 755 "$room/libpciex.so" "$prefix/lib/libpciex.so"
 install -m 644 "$room/pciex.pc" "$prefix/lib/pkgconfig/pciex.pc"

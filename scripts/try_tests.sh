@@ -3,7 +3,7 @@
 # in each of them, two at a time, on a copy of the tree. This proves nothing: it shows in minutes whether a test fails.
 # The status is 1 if a test fails. The last line has the number of crates, tests and seconds.
 #
-# Tests are compiled without optimisation here, and each has 60 seconds. Those that need more get fewer rows:
+# Tests are compiled without optimisation here, and each has 180 seconds. Those that take more than some ten get fewer rows:
 #     link_tests, queues::six_hundred_steps: 150 steps in place of 600
 #     lane_tests, storm::a_storm: 1,000 writes in place of 10,000
 #     run_tests, additions::seven_requesters_count_over_bad_links: 20 additions each in place of 600
@@ -34,7 +34,7 @@ fewer crates/run_tests/src/mixed.rt 'mixed_plan(alloc, 200)' 'mixed_plan(alloc, 
 # shellcheck disable=SC2016
 in_crate='
     cd "$0/crates/$1" || exit 1
-    rt try --test > "$0/$1.log" 2>&1 && status=0 || status=$?
+    rt try --test --seconds 180 > "$0/$1.log" 2>&1 && status=0 || status=$?
     passed=$(grep -c "^test .* \.\.\. ok$" "$0/$1.log")
     failed=$(grep -c "^test .* \.\.\. FAILED" "$0/$1.log")
     if [ $status -eq 0 ] && [ "$failed" -eq 0 ] && [ "$passed" -gt 0 ]; then
