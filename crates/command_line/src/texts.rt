@@ -1,4 +1,4 @@
-//! The texts of `--help`. A line has at most 90 characters.
+//! The texts of `--help`. A line has at most 92 characters.
 
 /// What the help of a subcommand says.
 #[derive(Clone, Copy)]
