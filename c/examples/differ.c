@@ -18,10 +18,11 @@ int main(void)
     static uint8_t memory[4096];
     const uint8_t write[16] = {0x40, 0, 0, 1, 1, 0, 0, 0x0F, 0, 0, 0, 0x40, 1, 2, 3, 4};
     const uint8_t read[12] = {0, 0, 0, 2, 1, 0, 5, 0x3C, 0, 0, 0, 0x40}; /* First DW BE 1100b, Last DW BE 0011b */
+    const uint8_t gap[12] = {0, 0, 0, 1, 1, 0, 5, 0x0D, 0, 0, 0, 0x40};
     const uint8_t cpl[12] = {0x0A, 0, 0, 0, 0, 0, 0x20, 4, 1, 0, 5, 0x42};
     const uint8_t ack[4] = {0};
     uint8_t expected[PCIEX_PACKET], got[PCIEX_PACKET];
-    char what[32];
+    char what[40];
     uint32_t length = pciex_answer(memory, sizeof memory, 0, 64, write, sizeof write, expected, sizeof expected);
     show("a write without a completion", pciex_differ(write, expected, length, got, 0));
     length = pciex_answer(memory, sizeof memory, 0, 64, read, sizeof read, expected, sizeof expected);
@@ -38,5 +39,12 @@ int main(void)
     show("none", pciex_differ(read, expected, length, got, 0));
     show("one for a write", pciex_differ(write, expected, 0, got, length));
     show("a request that is none", pciex_differ(read, expected, 1001, got, length));
+    length = pciex_answer(memory, sizeof memory, 0, 64, gap, sizeof gap, expected, sizeof expected);
+    for (size_t place = 12; place < 16; place++) {
+        memcpy(got, expected, length);
+        got[place] ^= 1;
+        snprintf(what, sizeof what, "a read but for byte 1: byte %u", (unsigned)place);
+        show(what, pciex_differ(gap, expected, length, got, length));
+    }
     return 0;
 }

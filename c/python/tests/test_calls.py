@@ -187,6 +187,11 @@ class Differences(unittest.TestCase):
         ]
         for got, field in rows:
             self.assertEqual(pciex.differ(read, wanted, got), field, got and got.hex())
+        read = pciex.encode("read 40 1 D 0 from 0100 tag 05")
+        wanted = memory.answer(read)
+        assert wanted is not None
+        for place, field in [(12, "data"), (13, None), (14, "data"), (15, "data")]:
+            self.assertEqual(pciex.differ(read, wanted, self.changed(wanted, place, 1)), field, place)
         self.assertEqual(pciex.differ(WRITE, None, None), None)
         self.assertEqual(pciex.differ(WRITE, None, wanted), "a completion")
         self.assertEqual(pciex.differ(ADD, old(0), self.changed(old(0), 15, 1)), "data")

@@ -13,7 +13,8 @@ class Pages(unittest.TestCase):
     def test_pages(self) -> None:
         for page in ("python.md", "judge-your-own-device.md"):
             with self.subTest(page), open(os.path.join(DOCS, page), encoding="utf-8") as file:
-                shown = re.findall(r"```python\n(import pciex\n.*?)```\n\nIt prints:\n\n```\n(.*?)```", file.read(), re.S)
+                example = r"```python\n(import pciex\n.*?)```\n\nIt prints:\n\n```\n(.*?)```"
+                shown = re.findall(example, file.read(), re.S)
                 self.assertEqual(len(shown), 1)
                 printed = io.StringIO()
                 with contextlib.redirect_stdout(printed):

@@ -3,9 +3,11 @@
 import sys
 import threading
 import unittest
+import warnings
 from typing import Callable, List
 
 import pciex
+from pciex import _raw
 
 
 def run(threads: int, work: Callable[[int], None]) -> List[BaseException]:
@@ -44,18 +46,25 @@ class Threads(unittest.TestCase):
 
         self.assertEqual(run(6, work), [])
 
-    def test_calls_of_a_handle_come_one_after_the_other(self) -> None:
+    def test_a_handle_stays_on_its_thread(self) -> None:
         device = pciex.Device(4096)
-
-        def work(number: int) -> None:
-            add = pciex.encode(f"add 40 01000000 from 0{number}00 tag 00")
-            for place in range(500):
-                if device.serve(place, add) is None:
-                    raise AssertionError("no completion")
-
-        self.assertEqual(run(4, work), [])
-        self.assertEqual((device.history_length(), device.memory()[0x40:0x44]), (2000, bytes([0xD0, 7, 0, 0])))
+        add = pciex.encode("add 40 01000000 from 0100 tag 00")
+        calls: List[Callable[[], object]] = [lambda: device.serve(0, add), device.history, device.memory, device.close]
+        raised = run(len(calls), lambda number: calls[number]())
+        self.assertEqual([str(error) for error in raised], ["the device is another thread's"] * len(calls))
+        self.assertTrue(all(isinstance(error, ValueError) for error in raised))
+        self.assertIsNotNone(device.serve(0, add))
+        self.assertEqual((device.history_length(), device.memory()[0x40]), (1, 1))
         device.close()
+
+    def test_the_last_reference_on_another_thread(self) -> None:
+        fabrics = [pciex.Fabric("fabric 1 0 4096")]
+        slot = fabrics[0]._slot
+        with warnings.catch_warnings(record=True) as caught:
+            warnings.simplefilter("always")
+            self.assertEqual(run(1, lambda number: fabrics.clear()), [])
+        self.assertEqual([(it.category, bool(slot.at)) for it in caught], [(ResourceWarning, True)])
+        _raw.library.fabric_free(slot)
 
 
 if __name__ == "__main__":

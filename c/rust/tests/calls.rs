@@ -123,6 +123,13 @@ fn completions_that_differ() {
     for (place, bits, field) in rows {
         assert_eq!(differ(&read, Some(&wanted), Some(&changed(place, bits))), field, "{place} {bits:02X}");
     }
+    let gap = encode("read 40 1 D 0 from 0100 tag 05").unwrap();
+    let short = answer(&mut [0; 256], 0, 64, &gap).unwrap().unwrap();
+    for (place, field) in [(12, Some("data")), (13, None), (14, Some("data")), (15, Some("data"))] {
+        let mut packet = short.clone();
+        packet[place] ^= 1;
+        assert_eq!(differ(&gap, Some(&short), Some(&packet)), field, "{place}");
+    }
     assert_eq!(differ(&read, Some(&wanted), None), Some("no completion"));
     assert_eq!(differ(&WRITE, None, Some(&wanted)), Some("a completion"));
     assert_eq!(differ(&WRITE, None, None), None);

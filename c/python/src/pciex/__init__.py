@@ -7,7 +7,7 @@ If a call raises, nothing has changed:
 
 - `Fault`: the packet, the line of a packet's words or the configuration is none; the fault's name says why
 - `Refused`: the fabric refuses the event
-- `ValueError`: an argument can't be right, or the device or fabric is closed
+- `ValueError`: an argument can't be right, or the device or fabric is closed or another thread's
 - `MemoryError`: an allocation failed
 """
 

@@ -1,9 +1,10 @@
 """Devices and fabrics."""
 
 from ctypes import byref, c_size_t, c_ubyte
-from threading import Lock
+from threading import current_thread
 from types import TracebackType
 from typing import Any, List, Optional, Type, TypeVar
+from warnings import warn
 
 from ._calls import Refused, block_of, bytes_of, number_of, packet_of, text_of, wrong
 from ._raw import LINE, SMALL_ROOM, Slot, library, room
@@ -12,21 +13,21 @@ _Self = TypeVar("_Self", bound="_Handle")
 
 
 class _Handle:
-    """A handle. It is freed by `close`, at the end of its `with`, or with its last reference. Calls from several threads
-    run one at a time."""
+    """A handle. It is freed by `close`, at the end of its `with`, or with its last reference. It stays on the thread
+    that made it, as c/pciex.h demands: calls from another thread raise ValueError."""
 
     _free: Any
 
     def __init__(self) -> None:
         self._slot = Slot()
-        self._lock = Lock()
+        self._thread = current_thread()
 
     def close(self) -> None:
         """Frees it. Calls after that raise ValueError; another `close` does nothing."""
-        with self._lock:
-            if self._slot.at:
-                self._free(self._slot)
-                self._slot.at = None
+        if self._slot.at:
+            self._stays()
+            self._free(self._slot)
+            self._slot.at = None
 
     def __enter__(self: _Self) -> _Self:
         return self
@@ -40,20 +41,29 @@ class _Handle:
         self.close()
 
     def __del__(self) -> None:
-        if hasattr(self, "_lock"):
+        if self._thread is current_thread():
             self.close()
+        elif self._slot.at:
+            warn(f"{self._name()} was not closed, and its last reference is on another thread", ResourceWarning)
+
+    def _name(self) -> str:
+        return f"the {type(self).__name__.lower()}"
+
+    def _stays(self) -> None:
+        if self._thread is not current_thread():
+            raise ValueError(f"{self._name()} is another thread's")
 
     def _call(self, function: Any, *arguments: Any) -> Any:
-        """The result of the library's function for this handle. The lock is held."""
+        """The result of the library's function for this handle."""
+        self._stays()
         if not self._slot.at:
-            raise ValueError(f"the {type(self).__name__.lower()} is closed")
+            raise ValueError(f"{self._name()} is closed")
         return function(self._slot, *arguments, byref(self._slot))
 
     def _copy(self, function: Any, size: int) -> bytes:
         """All bytes of the memory."""
         copied = (c_ubyte * size)()
-        with self._lock:
-            code = self._call(function, copied, size)
+        code = self._call(function, copied, size)
         if code:
             raise wrong(code)
         return bytes(copied)
@@ -76,19 +86,16 @@ class Device(_Handle):
         """The request acts, under this number of the caller's, and stands in the history from then on. Its completion,
         or None for a posted write."""
         number, request = number_of("number", number, 32), bytes_of(request)
-        with self._lock:
-            return packet_of(self._call(library.device_serve, number, request, len(request), room.bytes, LINE))
+        return packet_of(self._call(library.device_serve, number, request, len(request), room.bytes, LINE))
 
     def history_length(self) -> int:
         """How many requests have acted."""
-        with self._lock:
-            return self._call(library.device_history_length)
+        return self._call(library.device_history_length)
 
     def entry(self, place: int) -> str:
         """The request at a place of the history, from 0: `1 0 add 40 07000000`, requester, number and operation."""
         place = number_of("place", place, 63)
-        with self._lock:
-            return text_of(self._call(library.device_entry, place, room.bytes, LINE))
+        return text_of(self._call(library.device_entry, place, room.bytes, LINE))
 
     def history(self) -> List[str]:
         """All entries of the history."""
@@ -114,30 +121,26 @@ class Fabric(_Handle):
     def event(self, line: str) -> str:
         """The event of a script's line, `submit 1 add 40 07000000`, happens: its result, `sub 1 0`."""
         words = line.encode()
-        with self._lock:
-            return text_of(self._call(library.fabric_event, words, len(words), room.bytes, LINE), Refused)
+        return text_of(self._call(library.fabric_event, words, len(words), room.bytes, LINE), Refused)
 
     def trace(self) -> str:
         """The text of the trace and the history, as `pciex step --trace` writes it."""
         length = c_size_t()
-        with self._lock:
-            code = self._call(library.fabric_trace, room.bytes, 0, byref(length))
-            text = (c_ubyte * length.value)()
-            if code == SMALL_ROOM:
-                code = self._call(library.fabric_trace, text, len(text), byref(length))
+        code = self._call(library.fabric_trace, room.bytes, 0, byref(length))
+        text = (c_ubyte * length.value)()
+        if code == SMALL_ROOM:
+            code = self._call(library.fabric_trace, text, len(text), byref(length))
         if code:
             raise wrong(code)
         return bytes(text).decode("ascii")
 
     def quiet(self) -> bool:
         """Whether all that entered the lanes was taken: no request and no completion is on its way."""
-        with self._lock:
-            return self._call(library.fabric_quiet)
+        return self._call(library.fabric_quiet)
 
     def history_length(self) -> int:
         """How many requests have acted on the memory."""
-        with self._lock:
-            return self._call(library.fabric_history_length)
+        return self._call(library.fabric_history_length)
 
     def memory(self) -> bytes:
         """The memory as it is now."""
