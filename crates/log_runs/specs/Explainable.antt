@@ -1,0 +1,40 @@
+-- When a history explains a log: what requesters saw, without n's and without a history.
+use Rattle.std.specs.Prelude.{ℕ, ◌≡◌, ◌<◌, ◌≤◌, List, length, take, map, slice_get, Some}
+use Rattle.tlp_core.specs.declared.operation.Op.{Op}
+use Rattle.seq_memory.specs.declared.Entry.{Entry}
+use Rattle.history_check.specs.declared.Record.{Record}
+use Rattle.history_check.specs.declared.Record.TheVariants as records
+use Rattle.history_check.specs.Observation.{Observation}
+use Rattle.history_check.specs.Claim.{Claim, claim_of}
+use Rattle.history_check.specs.Flaws.{moment}
+use Rattle.history_check.specs.Trace.{Explains}
+
+-- the record but for its n
+abbrev pub without_n : Record → Record
+without_n (records.Sub i k op n) = records.Sub i k op 0
+without_n (records.Ans i k reply n) = records.Ans i k reply 0
+
+-- the same memory and the same records, but for the n's
+pub record SeenAlike (t u : Observation) : Type 0 where
+  pub base : t.base ≡ u.base
+  pub size : t.size ≡ u.size
+  pub block : t.block ≡ u.block
+  pub records : map without_n t.records ≡ map without_n u.records
+
+-- the n's are the lengths of a history that grew while the records were seen
+pub record IsClocked (x : Claim) : Type 0 where
+  -- n never falls
+  pub rises : (a b : ℕ) (r s : Record) → a < b → slice_get x.records a ≡ Some r → slice_get x.records b ≡ Some s → moment r ≤ moment s
+  -- none is above the length of the history
+  pub bounded : (a : ℕ) (r : Record) → slice_get x.records a ≡ Some r → moment r ≤ length x.memory.entries
+  -- each request acted at or after n of its submission
+  pub after_submission : (p b n : ℕ) (e : Entry) (op : Op) → slice_get x.memory.entries p ≡ Some e → slice_get x.records b ≡ Some (records.Sub e.requester e.number op n) → n ≤ p
+
+-- with n's of some choice, some history explains what was seen
+abbrev pub IsExplainable : Observation → Type 0
+IsExplainable t =
+    (u : Observation) × (h : List Entry) × SeenAlike t u × Explains (claim_of u h) × IsClocked (claim_of u h)
+
+-- the first n records
+abbrev pub prefix : ℕ → Observation → Observation
+prefix n t = record { base = t.base; size = t.size; block = t.block; records = take n t.records }

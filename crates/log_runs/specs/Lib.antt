@@ -1,0 +1,4 @@
+pub mod Explainable
+pub mod Task
+pub mod Runs
+pub mod Tasks

@@ -1,0 +1,35 @@
+-- The events of a log, and what is wrong with the form of one.
+use Rattle.std.specs.Prelude.{ℕ, ◌≡◌, ◌<◌, ◌≤◌, ◌⊎◌, List, length, take, slice_get, Option, Some, true, false}
+use Rattle.std.specs.List.{list_any}
+use Rattle.tlp_core.specs.declared.operation.Op.{Op}
+use Rattle.tlp_core.specs.Operation.{is_posted}
+use Rattle.seq_memory.specs.declared.Reply.{Reply}
+use Rattle.history_check.specs.declared.Record.{Record}
+use Rattle.history_check.specs.declared.Record.TheVariants as records
+use Rattle.history_check.specs.Trace.{submissions, answers_to}
+use Rattle.log_runs.specs.declared.Event.{Event}
+use Rattle.log_runs.specs.declared.Event.TheVariants as events
+
+-- the event at a place says no more than the record there: a submission with a reply that the log has for it, or what an
+-- answer answers, or nothing of an answer
+abbrev pub Says : List Record → Record → Event → Type 0
+Says rs (records.Sub i k op n) (events.Sub j w told) =
+    (i ≡ j) × (op ≡ w) × ((r : Reply) → told ≡ Some r → (a : ℕ) × (m : ℕ) × (slice_get rs a ≡ Some (records.Ans i k r m)))
+Says rs (records.Ans i k r n) (events.Due b) = (op : Op) × (m : ℕ) × (slice_get rs b ≡ Some (records.Sub i k op m))
+Says rs (records.Sub i k op n) (events.Due b) = ⊥
+Says rs (records.Ans i k r n) (events.Sub j w told) = ⊥
+Says rs (records.Sub i k op n) events.Free = ⊥
+Says rs (records.Ans i k r n) events.Free = Unit {0}
+
+pub record AreEvents (rs : List Record) (es : List Event) : Type 0 where
+  pub len : length es ≡ length rs
+  pub at : (a : ℕ) (r : Record) (e : Event) → slice_get rs a ≡ Some r → slice_get es a ≡ Some e → Says rs r e
+
+-- what is wrong with the form of the record after those
+abbrev pub IsMisformed : List Record → Record → Type 0
+-- its number isn't the next of its requester
+IsMisformed before (records.Sub i k op n) = k ≡ length (submissions before i) → ⊥
+-- it answers what wasn't submitted, or a posted write, or it is the second answer
+IsMisformed before (records.Ans i k r n) =
+    ((b : ℕ) (op : Op) (m : ℕ) → slice_get before b ≡ Some (records.Sub i k op m) → is_posted op ≡ true)
+    ⊎ (list_any (answers_to i k) before ≡ true)

@@ -1,0 +1,43 @@
+//! Laws of logs.
+ghost use Rattle.std.specs.Prelude.{ℕ, ◌≡◌, ◌<◌, ◌+◌, ◌++◌, ◌∷◌, [], List, length, take, slice_get, Some};
+ghost use Rattle.tlp_core.specs.declared.operation.Op.{Op};
+ghost use Rattle.seq_memory.specs.declared.Reply.{Reply};
+ghost use Rattle.history_check.specs.declared.Record.{Record};
+ghost use Rattle.history_check.specs.declared.Record.TheVariants as records;
+ghost use Rattle.history_check.specs.Trace.{IsNumbered, submissions};
+ghost use Rattle.history_check.specs.Observation.{Observation, observed};
+ghost use Rattle.log_runs.specs.declared.Event.{Event};
+ghost use Rattle.log_runs.specs.Explainable.{IsExplainable, prefix};
+ghost use Rattle.log_runs.specs.Runs.{Live, start};
+ghost use Rattle.log_runs.specs.Tasks.{AreEvents, IsMisformed};
+
+/// A prefix of an explainable log is explainable.
+pub fn prefix_is_explainable()
+    ensures { (t : Observation) (n : ℕ) → IsExplainable t → IsExplainable (prefix n t) }
+{}
+
+/// An explainable log has no record whose form is wrong.
+pub fn explainable_is_well_formed()
+    ensures { (t : Observation) (a : ℕ) (r : Record) → IsExplainable t → slice_get t.records a ≡ Some r → IsMisformed (take a t.records) r → ⊥ }
+{}
+
+/// Some run leads through the events of an explainable log to the end.
+pub fn explainable_has_a_run()
+    ensures { (t : Observation) (es : List Event) → AreEvents t.records es → IsExplainable t → Live (record { extent = observed t; events = es }) (start (record { extent = observed t; events = es })) }
+{}
+
+/// Where the numbers of submissions are right, a number names one submission, and is below the
+/// number of its requester's submissions.
+pub fn numbers_name_submissions()
+    ensures below { (rs : List Record) (b i k n : ℕ) (op : Op) → IsNumbered rs → slice_get rs b ≡ Some (records.Sub i k op n) → k < length (submissions rs i) }
+    ensures unique { (rs : List Record) (a b i k n m : ℕ) (op w : Op) → IsNumbered rs → slice_get rs a ≡ Some (records.Sub i k op n) → slice_get rs b ≡ Some (records.Sub i k w m) → a ≡ b }
+{}
+
+/// A record more is a submission more of its requester, if it is one.
+pub fn submissions_grow_by_records()
+    ensures own { (rs : List Record) (a i k n : ℕ) (op : Op) → slice_get rs a ≡ Some (records.Sub i k op n) → submissions (take (a + 1) rs) i ≡ submissions (take a rs) i ++ op ∷ [] }
+    ensures other { (rs : List Record) (a i j k n : ℕ) (op : Op) → slice_get rs a ≡ Some (records.Sub i k op n) → (j ≡ i → ⊥) → submissions (take (a + 1) rs) j ≡ submissions (take a rs) j }
+    ensures answer { (rs : List Record) (a i j k n : ℕ) (reply : Reply) → slice_get rs a ≡ Some (records.Ans i k reply n) → submissions (take (a + 1) rs) j ≡ submissions (take a rs) j }
+    ensures numbered { (rs : List Record) (a i k n : ℕ) (op : Op) → IsNumbered (take a rs) → slice_get rs a ≡ Some (records.Sub i k op n) → k ≡ length (submissions (take a rs) i) → IsNumbered (take (a + 1) rs) }
+    ensures numbered_answer { (rs : List Record) (a i k n : ℕ) (reply : Reply) → IsNumbered (take a rs) → slice_get rs a ≡ Some (records.Ans i k reply n) → IsNumbered (take (a + 1) rs) }
+{}
