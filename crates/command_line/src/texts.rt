@@ -149,11 +149,11 @@ pub(crate) static BASE: &str =
 the memory ends at 2^64 or below [default: 0]";
 
 pub(crate) static SIZE: &str =
-    "Size of the memory in bytes, 128 to 1048576, a multiple of 128 [default: 4096]";
+    "Memory size in bytes, 128 to 1048576, a multiple of 128 [default: 4096]";
 
 pub(crate) static BLOCK: &str =
-    "Size of a block in bytes, 64 or 128; a request that crosses the boundary of
-an aligned block completes with Completer Abort [default: 64]";
+    "Block size in bytes, 64 or 128; a request that crosses the end of an
+aligned block completes with Completer Abort [default: 64]";
 
 pub(crate) static FROM: &str = "First point to draw, a length of the history [default: 0]";
 
@@ -165,8 +165,7 @@ pub(crate) static TRACE: &str = "Print the trace and its history in place of the
 pub(crate) static KEEP_GOING: &str =
     "Continue after a refused event; the exit status is 1 all the same";
 
-pub(crate) static ECHO: &str =
-    "Print each result behind its line, as in 'transmit up1 -> sent 000'";
+pub(crate) static ECHO: &str = "Print each result after its line, as in 'transmit up1 -> sent 000'";
 
 pub(crate) static SEED: &str = "Seed of the random choices, 0 to 18446744073709551615";
 
@@ -178,16 +177,16 @@ pub(crate) static REQUESTERS: &str = "Number of requesters, 1 to 7";
 
 pub(crate) static EACH: &str = "Number of additions of each requester, 0 to 100000";
 
-pub(crate) static LOSE: &str =
-    "Lose one in COUNT packets and DLLPs, 0 to 65536; 0 loses none [default: 0]";
+pub(crate) static LOSE: &str = "Lose one in COUNT packets and DLLPs, 0 to 65536; 0 loses none
+[default: 0]";
 
 pub(crate) static CORRUPT: &str =
     "Corrupt one in COUNT packets and DLLPs, 0 to 65536; 0 corrupts none
 [default: 0]";
 
-pub(crate) static TURNS: &str = "Most calls and records of each worker, 1 to 1000000000
+pub(crate) static TURNS: &str = "Limit of calls and records for each worker, 1 to 1000000000
 [default: 50000000]";
 
 pub(crate) static PROGRESS: &str =
-    "Print the number of answers on standard error about twice a second; this is
-on if standard error is a terminal";
+    "Print the number of answers on standard error about twice a second;
+on by default if standard error is a terminal";
