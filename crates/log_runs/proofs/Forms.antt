@@ -1,5 +1,5 @@
 -- An explainable log has no record of a wrong form.
-use Rattle.std.proofs.Common.{◌≡◌, ◌∙◌, ℕ, true, false, List, Some, take, length, refl, sym, ap, subst, map, inl, inr}
+use Rattle.std.proofs.Common.{◌≡◌, ◌∙◌, ℕ, List, Some, take, length, refl, sym, ap, map, inl, inr}
 use Rattle.std.specs.Prelude.{slice_get}
 use Rattle.std.specs.List.{list_any}
 use Rattle.seq_memory.specs.declared.Entry.{Entry}
@@ -8,7 +8,7 @@ use Rattle.history_check.specs.declared.Record.TheVariants as records
 use Rattle.history_check.specs.Observation.{Observation}
 use Rattle.history_check.specs.Claim.{claim_of}
 use Rattle.history_check.specs.Trace.{submissions, answers_to, Explains}
-use Rattle.log_runs.specs.Explainable.{without_n, SeenAlike, IsExplainable}
+use Rattle.log_runs.specs.Explainable.{without_n, IsExplainable}
 use Rattle.log_runs.specs.Tasks.{IsMisformed}
 use Rattle.log_runs.proofs.Lists.{clash}
 use Rattle.log_runs.proofs.Alike.{same_submissions, same_answers, same_prefix, sub_alike, ans_alike}

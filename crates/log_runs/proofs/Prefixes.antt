@@ -1,23 +1,22 @@
 -- A prefix of an explainable log is explainable.
-use Rattle.std.proofs.Common.{◌≡◌, ◌∙◌, ℕ, zero, suc, ◌+◌, ◌<◌, ◌≤◌, true, false, List, [], ◌∷◌, Option, Some, take, length, refl, sym, ap, subst, arith, inl, inr, map}
+use Rattle.std.proofs.Common.{◌≡◌, ◌∙◌, ℕ, zero, suc, ◌<◌, ◌≤◌, List, Option, Some, take, length, sym, ap, subst, arith, inl, inr}
 use Rattle.std.specs.Prelude.{slice_get, option_map}
 use Rattle.std.proofs.lemmas.Bool.{cases_lt, cases_eq}
 use Rattle.std.proofs.lemmas.List.{length-take-le}
 use Rattle.std.proofs.lemmas.Option.{slice_get_within, same_Some}
 use Rattle.tlp_core.specs.declared.operation.Op.{Op}
-use Rattle.tlp_core.specs.Operation.{is_posted}
 use Rattle.seq_memory.specs.declared.Entry.{Entry}
 use Rattle.seq_memory.specs.declared.Reply.{Reply}
 use Rattle.seq_memory.specs.Limits.{Extent}
 use Rattle.seq_memory.specs.Step.{answer}
-use Rattle.seq_memory.specs.History.{State, contents, contents_at, reply_at, extent_of}
+use Rattle.seq_memory.specs.History.{contents, contents_at, reply_at}
 use Rattle.history_check.specs.declared.Record.{Record}
 use Rattle.history_check.specs.declared.Record.TheVariants as records
 use Rattle.history_check.specs.Observation.{Observation, observed}
-use Rattle.history_check.specs.Claim.{Claim, claim_of}
+use Rattle.history_check.specs.Claim.{claim_of}
 use Rattle.history_check.specs.Flaws.{moment}
-use Rattle.history_check.specs.Trace.{submissions, stands, Explains, IsNumbered, IsLegal, IsLawful, IsExplained}
-use Rattle.log_runs.specs.Explainable.{without_n, SeenAlike, IsClocked, IsExplainable, prefix}
+use Rattle.history_check.specs.Trace.{submissions, stands, Explains, IsNumbered, IsLegal, IsExplained}
+use Rattle.log_runs.specs.Explainable.{IsClocked, IsExplainable, prefix}
 use Rattle.log_runs.proofs.Lists.{some_at, from_take, to_take, take_of_take}
 use Rattle.log_runs.proofs.Alike.{same_prefix}
 use Rattle.log_runs.proofs.Numbers.{listed, located}

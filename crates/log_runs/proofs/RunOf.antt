@@ -1,32 +1,31 @@
 -- An explainable log has a run.
-use Rattle.std.proofs.Common.{◌≡◌, ◌∙◌, ℕ, zero, suc, ◌+◌, ◌-◌, ◌<◌, ◌≤◌, true, false, List, [], ◌∷◌, ◌++◌, Option, Some, take, length, refl, sym, ap, subst, arith, inl, inr, map}
+use Rattle.std.proofs.Common.{◌≡◌, ◌∙◌, ℕ, zero, suc, ◌+◌, ◌-◌, ◌<◌, ◌≤◌, true, List, [], ◌∷◌, Option, Some, take, length, refl, sym, ap, subst, arith, inl, inr, map}
 use Rattle.std.specs.Prelude.{slice_get, option_map}
 use Rattle.std.proofs.lemmas.Bool.{cases_lt, cases_eq}
 use Rattle.std.proofs.lemmas.Option.{slice_get_within, same_Some}
 use Rattle.tlp_core.specs.declared.operation.Op.{Op}
-use Rattle.tlp_core.specs.Operation.{is_posted}
 use Rattle.seq_memory.specs.declared.Entry.{Entry}
 use Rattle.seq_memory.specs.declared.Reply.{Reply}
 use Rattle.seq_memory.specs.Limits.{Extent}
 use Rattle.seq_memory.specs.Step.{answer}
-use Rattle.seq_memory.specs.History.{contents, contents_at, reply_at, extent_of}
+use Rattle.seq_memory.specs.History.{contents, contents_at, reply_at}
 use Rattle.history_check.specs.declared.Record.{Record}
 use Rattle.history_check.specs.declared.Record.TheVariants as records
 use Rattle.history_check.specs.Observation.{Observation, observed}
 use Rattle.history_check.specs.Claim.{claim_of}
 use Rattle.history_check.specs.Flaws.{moment}
-use Rattle.history_check.specs.Trace.{submissions, stands, Explains, IsExplained}
+use Rattle.history_check.specs.Trace.{stands, Explains}
 use Rattle.log_runs.specs.declared.Event.{Event}
 use Rattle.log_runs.specs.declared.Event.TheVariants as events
 use Rattle.log_runs.specs.declared.Step.{Step}
 use Rattle.log_runs.specs.declared.Step.TheVariants as steps
 use Rattle.log_runs.specs.Task.{Task}
-use Rattle.log_runs.specs.Explainable.{without_n, SeenAlike, IsClocked, IsExplainable}
+use Rattle.log_runs.specs.Explainable.{without_n, IsClocked, IsExplainable}
 use Rattle.log_runs.specs.Runs.{State, MayPass, MayAct, Allowed, Live, start, next, reply_of}
 use Rattle.log_runs.specs.Tasks.{Says, AreEvents}
-use Rattle.log_runs.proofs.Lists.{clash, some_at, take_more_at, from_take}
+use Rattle.log_runs.proofs.Lists.{clash, some_at, take_more_at}
 use Rattle.log_runs.proofs.Alike.{same_length, sub_alike, ans_alike, alike_at}
-use Rattle.log_runs.proofs.Numbers.{number_rises, unique, listed, located}
+use Rattle.log_runs.proofs.Numbers.{number_rises, listed, located}
 use Rattle.log_runs.proofs.Standing.{stands_at}
 use Rattle.log_runs.proofs.Matching.{Matches, matches_start, matches_act}
 

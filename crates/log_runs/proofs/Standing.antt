@@ -1,18 +1,17 @@
 -- What stands in a history, and the bytes after it.
-use Rattle.std.proofs.Common.{◌≡◌, ◌∙◌, ℕ, zero, suc, ◌+◌, ◌<◌, ◌≤◌, Bool, true, false, List, [], ◌∷◌, ◌++◌, take, Some, refl, sym, ap, arith, inl, inr}
-use Rattle.std.specs.Prelude.{slice_get, ◌==◌, ◌||◌, ◌&&◌}
-use Rattle.std.proofs.lemmas.Bool.{cases_Bool, eq-eqb, eqb-true, and_parts, cases_lt}
+use Rattle.std.proofs.Common.{◌≡◌, ◌∙◌, ℕ, zero, suc, ◌<◌, Bool, true, false, List, [], ◌∷◌, ◌++◌, take, Some, refl, ap, inl, inr}
+use Rattle.std.specs.Prelude.{slice_get, ◌==◌, ◌||◌}
+use Rattle.std.proofs.lemmas.Bool.{cases_Bool, eq-eqb, eqb-true, and_parts}
 use Rattle.std.specs.List.{list_any}
 use Rattle.std.proofs.lemmas.List.Folds.{list_any-append}
 use Rattle.std.proofs.lemmas.List.Sums.{fold-append}
 use Rattle.std.proofs.Math.Bool.{or-false, or-true}
-use Rattle.tlp_core.specs.declared.operation.Op.{Op}
 use Rattle.seq_memory.specs.declared.Entry.{Entry}
 use Rattle.seq_memory.specs.Limits.{Extent}
 use Rattle.seq_memory.specs.Step.{after}
 use Rattle.seq_memory.specs.History.{contents}
 use Rattle.history_check.specs.Trace.{is_request, stands}
-use Rattle.log_runs.proofs.Lists.{clash, take_more_at, to_take}
+use Rattle.log_runs.proofs.Lists.{to_take}
 
 own : (e : Entry) → is_request e.requester e.number e ≡ true
 own e = rw (eq-eqb e.requester e.requester refl, eq-eqb e.number e.number refl) refl
