@@ -6,3 +6,4 @@ pub mod Matching
 pub mod RunOf
 pub mod Forms
 pub mod Prefixes
+pub mod Fewer

@@ -1,5 +1,5 @@
 -- When a history explains a log: what requesters saw, without n's and without a history.
-use Rattle.std.specs.Prelude.{ℕ, ◌≡◌, ◌<◌, ◌≤◌, List, length, take, map, slice_get, Some}
+use Rattle.std.specs.Prelude.{ℕ, ◌≡◌, ◌<◌, ◌≤◌, List, length, take, map, remove, slice_get, Some}
 use Rattle.tlp_core.specs.declared.operation.Op.{Op}
 use Rattle.seq_memory.specs.declared.Entry.{Entry}
 use Rattle.history_check.specs.declared.Record.{Record}
@@ -38,3 +38,7 @@ IsExplainable t =
 -- the first n records
 abbrev pub prefix : ℕ → Observation → Observation
 prefix n t = record { base = t.base; size = t.size; block = t.block; records = take n t.records }
+
+-- all records but the one at place a
+abbrev pub without : ℕ → Observation → Observation
+without a t = record { base = t.base; size = t.size; block = t.block; records = remove t.records a }

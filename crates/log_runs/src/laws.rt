@@ -7,13 +7,18 @@ ghost use Rattle.history_check.specs.declared.Record.TheVariants as records;
 ghost use Rattle.history_check.specs.Trace.{IsNumbered, submissions};
 ghost use Rattle.history_check.specs.Observation.{Observation, observed};
 ghost use Rattle.log_runs.specs.declared.Event.{Event};
-ghost use Rattle.log_runs.specs.Explainable.{IsExplainable, prefix};
+ghost use Rattle.log_runs.specs.Explainable.{IsExplainable, prefix, without};
 ghost use Rattle.log_runs.specs.Runs.{Live, start};
 ghost use Rattle.log_runs.specs.Tasks.{AreEvents, IsMisformed};
 
 /// A prefix of an explainable log is explainable.
 pub fn prefix_is_explainable()
     ensures { (t : Observation) (n : ℕ) → IsExplainable t → IsExplainable (prefix n t) }
+{}
+
+/// An explainable log without one of its answers is explainable.
+pub fn fewer_answers_are_explainable()
+    ensures { (t : Observation) (a i k n : ℕ) (reply : Reply) → slice_get t.records a ≡ Some (records.Ans i k reply n) → IsExplainable t → IsExplainable (without a t) }
 {}
 
 /// An explainable log has no record whose form is wrong.
