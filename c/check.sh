@@ -128,7 +128,7 @@ echo ok > "$room/ok"
 echo "flaw 10 Reply 2" > "$room/flaw"
 sed 's/^ans 1 0 2 data 01020304/ans 1 0 2 data 00000000/' examples/trace.txt > "$room/flawed"
 examples
-if has_tool valgrind "the examples and the Python package under valgrind"; then
+if has_tool valgrind "the examples, the Python package and the DPI functions under valgrind"; then
     examples valgrind -q --error-exitcode=99 --leak-check=full
 fi
 
@@ -172,6 +172,10 @@ fi
 
 if has_tool verilator "SystemVerilog (verilator)"; then
     passes "the SystemVerilog testbench fails" make -C c/sv/test "OUT=$room/sv"
+    if command -v valgrind > /dev/null; then
+        passes "valgrind finds something in the DPI functions" valgrind -q --error-exitcode=99 --leak-check=full \
+            "$room/sv/calls/calls"
+    fi
 fi
 has_systemc=
 printf '#include <systemc>\nint sc_main(int, char **) { return 0; }\n' > "$room/probe.cpp"

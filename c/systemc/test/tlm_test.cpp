@@ -147,7 +147,7 @@ struct reader : sc_core::sc_module {
     void mixed()
     {
         std::minstd_rand random(3);
-        for (int i = 0; i < 3000; i++) {
+        for (int i = 0; i < 1000; i++) {
             // From 100h on, so that the counter stays the adders'.
             const unsigned length = 1 + random() % 300, from = 0x100 + random() % (0x300 - length);
             const bool is_write = random() % 2, is_cut = random() % 2;
