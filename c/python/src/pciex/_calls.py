@@ -7,12 +7,12 @@ from ._raw import LINE, NO_MEMORY, library, room
 
 _WRONG = {
     2001: "a block has 64 or 128 bytes",
-    2002: "the packet is a completion, and a request is asked for",
+    2002: "the packet is a completion, not a request",
     2004: "the size is 128 to 1048576 bytes, a multiple of 128",
     2005: "the base is a multiple of 128, with all bytes below 2^64",
     2006: "the history has no entry at that place",
     2007: "no fault has that number",
-    2008: "the line has none of the forms that are asked for",
+    2008: "the line has the wrong form",
 }
 
 
@@ -35,14 +35,14 @@ class Refused(Exception):
 
 
 def wrong(code: int) -> Exception:
-    """What a code from 2000 on raises."""
+    """The exception for a code from 2000 on."""
     if code == NO_MEMORY:
-        return MemoryError("pciex: memory was refused")
+        return MemoryError("pciex: an allocation failed")
     return ValueError(_WRONG.get(code, f"code {code}"))
 
 
 def text_of(code: int, error: Type[Exception] = Fault) -> str:
-    """The text in the room, or the error that it names."""
+    """The text in the buffer. Raises the error that it names, if it names one."""
     if code < 1000:
         return room.text(code)
     if code < 2000:
@@ -51,7 +51,7 @@ def text_of(code: int, error: Type[Exception] = Fault) -> str:
 
 
 def packet_of(code: int) -> Optional[bytes]:
-    """The completion in the room, None where there is none, or the fault of the request."""
+    """The completion in the buffer, None if there is none. Raises the request's fault."""
     if code < 1000:
         return room.front(code) if code else None
     if code < 2000:
@@ -65,14 +65,14 @@ def bytes_of(packet: bytes) -> bytes:
 
 
 def number_of(name: str, value: int, bits: int) -> int:
-    """The value, where it has so many bits: ctypes would cut it."""
+    """The value, if it has at most that many bits: ctypes would cut it."""
     if not 0 <= value < 1 << bits:
         raise ValueError(f"{name} is 0 to {(1 << bits) - 1}, and not {value}")
     return value
 
 
 def block_of(value: int) -> int:
-    """The value, or 0 where it has more than 16 bits, so that the library's own test refuses it in its turn."""
+    """The value, or 0 if it has more than 16 bits: the library then refuses it in its own order of tests."""
     return value if 0 <= value < 1 << 16 else 0
 
 
@@ -111,7 +111,7 @@ class Memory:
 
 def check(text: str) -> str:
     """What `pciex check` prints of the text of a trace: `ok` if and only if its history explains its records, else the
-    first flaw, `flaw 10 Reply 2`, or `fault 3 Line` where the text is no trace."""
+    first flaw, `flaw 10 Reply 2`, or `fault 3 Line` if the text is no trace."""
     words = text.encode()
     code = library.check(words, len(words), room.bytes, LINE)
     if code >= 2000:
@@ -120,7 +120,7 @@ def check(text: str) -> str:
 
 
 def decode(packet: bytes) -> str:
-    """The words of a TLP, or of a DLLP where there are four bytes, as `pciex decode` writes them."""
+    """The words of a TLP, or of a DLLP if there are four bytes, as `pciex decode` writes them."""
     packet = bytes_of(packet)
     return text_of(library.decode(packet, len(packet), room.bytes, LINE))
 
