@@ -104,6 +104,18 @@ for words in "--seed 1 --events 0" "--seed 7 --events 3000 --lose 8" "--seed 184
     wants "draw on the storm of $words" 0 "$room/picture" "$room/nothing"
 done
 
+# These storms stand as text: they were drawn by another program, from the rules of storms alone.
+# is_stored FILE WORD..: whether `generate` with these words writes the file of examples/storms.
+is_stored() {
+    file=$1
+    shift
+    of_file /dev/null generate "$@" --events 300
+    wants "generate $* --events 300" 0 "examples/storms/$file" "$room/nothing"
+}
+is_stored seed_1.txt --seed 1
+is_stored seed_7.txt --seed 7 --requesters 2 --lose 8 --corrupt 9
+is_stored greatest_seed.txt --seed 18446744073709551615 --requesters 7 --lose 4 --block 128
+
 # Faults and flaws have status 1.
 echo 4C0000 > "$room/short"
 echo "fault 1 Short" > "$room/fault"
