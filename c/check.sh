@@ -128,6 +128,20 @@ echo ok > "$room/ok"
 echo "flaw 10 Reply 2" > "$room/flaw"
 sed 's/^ans 1 0 2 data 01020304/ans 1 0 2 data 00000000/' examples/trace.txt > "$room/flawed"
 examples
+
+# Large inputs: a fabric takes 100,486 lines and prints what the program prints; a trace of a memory of 1 MiB is checked.
+awk -v rounds=99 -f bench/script.awk > "$room/script"
+if [ -x crates/pciex/out/pciex ]; then
+    crates/pciex/out/pciex step < "$room/script" > "$room/results"
+    wants "fabric on $(wc -l < "$room/script") lines" 0 "$room/results" "$room/script" "$room/fabric"
+else
+    left_out="$left_out, the fabric on a long script"
+fi
+sh scripts/large_inputs.sh "$room"
+echo "flaw 10 Reply 100000" > "$room/far_flaw"
+wants "check on 1 MiB" 0 "$room/ok" "$room/explained_trace" "$room/check"
+wants "check on a wrong reply at place 100,000" 1 "$room/far_flaw" "$room/flawed_trace" "$room/check"
+
 if has_tool valgrind "the examples, the Python package and the DPI functions under valgrind"; then
     examples valgrind -q --error-exitcode=99 --leak-check=full
 fi

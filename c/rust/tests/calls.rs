@@ -43,6 +43,31 @@ fn a_device_with_a_history() {
     assert_eq!((bytes.len(), bytes[0x40], bytes[0x83]), (4096, 7, 4));
 }
 
+/// A read and a write of the last DW of 1 MiB.
+const READ_LAST: [u8; 12] = [0, 0, 0, 1, 1, 0, 6, 0x0F, 0, 0x0F, 0xFF, 0xFC];
+const WRITE_LAST: [u8; 16] = [0x40, 0, 0, 1, 1, 0, 0, 0x0F, 0, 0x0F, 0xFF, 0xFC, 1, 2, 3, 4];
+
+#[test]
+fn a_mebibyte() {
+    let data = vec![0x4A, 0, 0, 1, 0, 0, 0, 4, 1, 0, 6, 0x7C, 1, 2, 3, 4];
+    let mut bytes = vec![0; 1 << 20];
+    assert_eq!(answer(&mut bytes, 0, 128, &WRITE_LAST), Ok(None));
+    assert_eq!(answer(&mut bytes, 0, 128, &READ_LAST), Ok(Some(data.clone())));
+    let mut device = Device::new(0, 1 << 20, 128).unwrap();
+    assert_eq!(device.serve(0, &WRITE_LAST), Ok(None));
+    assert_eq!(device.serve(1, &READ_LAST), Ok(Some(data)));
+    assert_eq!(device.entry(1).as_deref(), Ok("1 1 read FFFFC 1 F 0"));
+    assert_eq!(device.bytes(), bytes);
+    let mut fabric = Fabric::new("fabric 7 0 1048576", true).unwrap();
+    assert_eq!(fabric.event("submit 7 write FFFFC F 0 01020304").as_deref(), Ok("sub 7 0"));
+    let mut copied = vec![1; 1 << 20];
+    assert_eq!(fabric.copy_bytes(&mut copied), Ok(()));
+    assert!(copied.iter().all(|byte| *byte == 0));
+    let trace = fabric.trace().unwrap();
+    assert!(trace.starts_with(b"pciex-trace 2\nmemory 0 1048576 64\n"));
+    assert_eq!(check(&trace), Ok(()));
+}
+
 #[test]
 fn a_fabric_whose_counter_counts_once() {
     assert_eq!(Fabric::new("fabric 8 0 4096", true).err(), Some(Error::Told("Requesters".into())));

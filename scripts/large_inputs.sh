@@ -1,0 +1,133 @@
+#!/bin/sh
+# Runs the built program on inputs that are too large for a test's table: a memory of 1 MiB with a trace of 200,001
+# records, a lane with 2047 packets that no Ack has told of, and a requester with 256 open tags. It tells each run that
+# ends otherwise than it should. `rt ci` has to have built the program. With a folder the inputs are written there and
+# nothing is run.
+cd "$(dirname "$0")/.." || exit 1
+pciex=crates/pciex/out/pciex
+room=$(mktemp -d) || exit 1
+trap 'rm -rf "$room"' EXIT
+runs=0
+failed=0
+
+# trace WRONG: 100,000 additions of 1 to the last 1,000 words of 1 MiB, each answered at once, after a write. The record
+# at place 100,000 has a wrong reply if WRONG is 1.
+trace() {
+    awk -v wrong="$1" '
+        function word(n) { return sprintf("%02X%02X0000", n % 256, int(n / 256)) }
+        function add(k) { return "add " sprintf("%X", 1048576 - 4 * (k % 1000 + 1)) " 01000000" }
+        BEGIN {
+            print "pciex-trace 2"
+            print "memory 0 1048576 64"
+            print "sub 1 0 0 write 0 F 0 01020304"
+            for (k = 0; k < 100000; k++) {
+                print "sub 1 " k + 1 " " k + 1 " " add(k)
+                print "ans 1 " k + 1 " " k + 2 " data " word(int(k / 1000) + (wrong && k == 49999))
+            }
+            print "history"
+            print "ent 1 0 write 0 F 0 01020304"
+            for (k = 0; k < 100000; k++) print "ent 1 " k + 1 " " add(k)
+            print "end"
+        }'
+}
+
+# Requests of requester 1 go through the lanes and act, and each credit comes back.
+packets='
+    function go(lane, take) {
+        print "transmit " lane
+        print "deliver " lane " good"
+        print take
+    }
+    function told(lane, kind) {
+        print "dllp " lane " " kind
+        print "deliver-dllp " lane " good"
+    }
+    function request(operation, class) {
+        print "submit 1 " operation
+        go("up1", "forward up1 0")
+        go("in", "serve 0")
+        told("up1", class)
+        told("in", class)
+        told("in", "ack")
+    }'
+
+# 2047 writes, of which no Ack tells; another is refused until an Ack comes.
+window() {
+    awk "$packets"'
+        BEGIN {
+            print "fabric 1 0 4096"
+            for (k = 0; k < 2047; k++) request("write 40 F 0 01020304", "p")
+            print "submit 1 write 40 F 0 01020304"
+            told("up1", "ack")
+            print "submit 1 write 40 F 0 01020304"
+        }'
+}
+
+# 256 reads, whose completions stand at the requester; another is refused, a write goes, and a read after an answer.
+tags() {
+    awk "$packets"'
+        BEGIN {
+            print "fabric 1 0 4096"
+            for (k = 0; k < 256; k++) {
+                request("read 40 1 F 0", "np")
+                go("out", "forward out 0")
+                told("out", "cpl")
+            }
+            print "submit 1 read 40 1 F 0"
+            print "submit 1 write 40 F 0 01020304"
+            go("down1", "collect 1")
+            print "submit 1 read 40 1 F 0"
+        }'
+}
+
+trace 0 > "$room/explained_trace"
+trace 1 > "$room/flawed_trace"
+window > "$room/window_script"
+tags > "$room/tags_script"
+if [ $# -gt 0 ]; then
+    cp "$room/explained_trace" "$room/flawed_trace" "$room/window_script" "$room/tags_script" "$1"
+    exit
+fi
+if [ ! -x $pciex ]; then
+    echo "large inputs: there is no $pciex: run rt ci first"
+    exit 1
+fi
+
+# ends WHAT STATUS INPUT WORD..: whether a run of the program on the input has this exit status and its output ends with
+# the lines of $room/told.
+ends() {
+    what=$1 want=$2 input=$3
+    shift 3
+    timeout 60 $pciex "$@" < "$input" > "$room/output" 2> "$room/errors"
+    status=$?
+    runs=$((runs + 1))
+    tail -n "$(wc -l < "$room/told")" "$room/output" > "$room/end"
+    if [ $status -ne "$want" ] || ! cmp -s "$room/told" "$room/end"; then
+        echo "large inputs: $what: status $status, and not $want, or another end"
+        failed=1
+    fi
+}
+
+echo ok > "$room/told"
+ends "check on 1 MiB and 200,001 records" 0 "$room/explained_trace" check
+echo "flaw 10 Reply 100000" > "$room/told"
+ends "check on a wrong reply at place 100,000" 1 "$room/flawed_trace" check
+cat > "$room/told" << 'end'
+took 000007FE
+refused 26613 WindowFull
+000007FE
+took 000007FE
+sub 1 2047
+end
+ends "step with 2047 packets that no Ack told of" 1 "$room/window_script" step --keep-going
+cat > "$room/told" << 'end'
+refused 4610 TagsUsed
+sub 1 256
+sent 000
+accept
+ans 1 0 data 00000000
+sub 1 257
+end
+ends "step with 256 open tags" 1 "$room/tags_script" step --keep-going
+echo "large inputs: $runs runs, $([ $failed -eq 0 ] && echo "all as they should be" || echo "not all as they should be")"
+exit $failed
