@@ -1,0 +1,4 @@
+mod Merges
+mod Forms
+mod Kept
+mod Calls
