@@ -1,0 +1,13 @@
+//! The events of a log: which answer belongs to which submission.
+//!
+//! Tables guess which records belong together, and each guess is tested where it is used, so that
+//! an event never says more than its record. What is wrong with the form of a record is found by
+//! counts that are exact.
+#![tactic(auto)]
+
+mod counts;
+mod events;
+mod form;
+
+pub use events::events_of;
+pub use form::{Form, form_of};
