@@ -98,7 +98,7 @@ fi
 ends() {
     what=$1 want=$2 input=$3
     shift 3
-    timeout 60 $pciex "$@" < "$input" > "$room/output" 2> "$room/errors"
+    timeout 600 $pciex "$@" < "$input" > "$room/output" 2> "$room/errors"
     status=$?
     runs=$((runs + 1))
     tail -n "$(wc -l < "$room/told")" "$room/output" > "$room/end"
