@@ -1,8 +1,10 @@
-//! The texts of scripts and traces over worked lines, and the loop over lines with streams that fail.
+//! The texts of scripts, traces and refusals over worked lines, and the loop over lines with streams that fail.
 #![tactic(auto)]
 
 #[cfg(test)]
 mod lines;
+#[cfg(test)]
+mod refusals;
 #[cfg(test)]
 mod rows;
 #[cfg(test)]

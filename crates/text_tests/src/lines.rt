@@ -51,10 +51,11 @@ impl Responder for Marker {
     }
 }
 
-/// Gives a byte at a time, and fails where no byte is left.
+/// Gives a byte at a time. Where no byte is left, it ends or fails.
 #[derive(Drop)]
 struct FailingReader<'a> {
     rest: &'a [u8],
+    ends: bool,
 }
 
 impl Read for FailingReader<'_> {
@@ -64,7 +65,11 @@ impl Read for FailingReader<'_> {
 
     fn read(&mut self, buf: &mut [u8]) -> io::Result<usize> {
         let [first, rest @ ..] = self.rest else {
-            return Err(ErrorKind::Other.into());
+            return if self.ends {
+                Ok(0)
+            } else {
+                Err(ErrorKind::Other.into())
+            };
         };
         if buf.is_empty() {
             return Ok(0);
@@ -241,6 +246,7 @@ fn before(place: usize) -> &'static [u8] {
 fn ends_at_read(alloc: Global, place: usize) -> bool {
     let mut reader = FailingReader {
         rest: &INPUT[..place.min(INPUT.len())],
+        ends: false,
     };
     let mut writer = Vec::new(alloc);
     let result = run(alloc, new_marker(), &mut reader, &mut writer);
@@ -293,15 +299,39 @@ fn each_write_fails(rt: HostRuntime) {
     assert!(rt; all_end_at_write(rt.alloc(), false) && all_end_at_write(rt.alloc(), true));
 }
 
-/// Whether a run ends by the writer's failing at its first flush.
-fn ends_at_flush(alloc: Global) -> bool {
-    let mut writer = FailingWriter::new(alloc, usize::MAX, 0, false);
-    ends_so(alloc, &mut writer, Err(EngineFault::Write), 10)
+/// What is written of the input, a byte of which is read at a time, before the writer fails at the flush after so many:
+/// there is one after each byte, and one at the end.
+fn flushed(flushes: usize) -> (Result<u8, EngineFault>, &'static [u8]) {
+    match flushes {
+        0..13 => (Err(EngineFault::Write), before(flushes + 1)),
+        13 => (Err(EngineFault::Write), OUTPUT),
+        _ => (Ok(0), OUTPUT),
+    }
+}
+
+/// Whether a run ends by the writer's failing at its flush after so many.
+fn ends_at_flush(alloc: Global, flushes: usize) -> bool {
+    let mut reader = FailingReader {
+        rest: INPUT,
+        ends: true,
+    };
+    let mut writer = FailingWriter::new(alloc, usize::MAX, flushes, false);
+    let result = run(alloc, new_marker(), &mut reader, &mut writer);
+    (result, writer.taken.as_slice()) == flushed(flushes)
+}
+
+/// Whether runs end by the writer's failing at each flush, and end well where no flush fails.
+fn all_end_at_flush(alloc: Global) -> bool {
+    let mut right = true;
+    for flushes in 0..=14 {
+        right &= ends_at_flush(alloc, flushes);
+    }
+    right
 }
 
 #[test]
-fn a_flush_fails(rt: HostRuntime) {
-    assert!(rt; ends_at_flush(rt.alloc()));
+fn each_flush_fails(rt: HostRuntime) {
+    assert!(rt; all_end_at_flush(rt.alloc()));
 }
 
 /// Whether a run ends well where just its output can be written, and shows it all.
