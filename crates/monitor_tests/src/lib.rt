@@ -1,0 +1,5 @@
+//! The monitor of ports over worked packets.
+#![tactic(auto)]
+
+#[cfg(test)]
+mod calls;
