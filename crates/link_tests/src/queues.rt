@@ -2,9 +2,10 @@
 use dllp_core::Class;
 use std::alloc::Global;
 use std::collections::VecDeque;
+use std::ops::Range;
 use std::test::Fail;
 use tlp_core::{Tlp, decode};
-use vc_queue::{OrderedQueue, may_pass};
+use vc_queue::{Arrived, OrderedQueue};
 
 const WRITE: [u8; 16] = [0x40, 0, 0, 1, 0, 1, 0, 0x0F, 0, 0, 0, 0, 1, 2, 3, 4];
 
@@ -29,13 +30,38 @@ fn packet(step: u32) -> Result<Tlp, Fail> {
     Ok(tlp)
 }
 
+/// The class of the packet of a step.
+fn class_of_step(step: u32) -> Class {
+    match step % 3 {
+        0 => Class::Posted,
+        1 => Class::NonPosted,
+        _ => Class::Completion,
+    }
+}
+
+/// The ordering table (section 2.4.1), a row for the packet of each class that comes later: nothing passes a posted
+/// request, all else may pass, but no completion one of its own request. Packets of one tag are of one request here.
+fn table_allows(later: u32, earlier: u32) -> bool {
+    match (class_of_step(later), class_of_step(earlier)) {
+        (Class::Posted, Class::Posted) => false,
+        (Class::Posted, Class::NonPosted) => true,
+        (Class::Posted, Class::Completion) => true,
+        (Class::NonPosted, Class::Posted) => false,
+        (Class::NonPosted, Class::NonPosted) => true,
+        (Class::NonPosted, Class::Completion) => true,
+        (Class::Completion, Class::Posted) => false,
+        (Class::Completion, Class::NonPosted) => true,
+        (Class::Completion, Class::Completion) => later % 5 != earlier % 5,
+    }
+}
+
 /// Whether the packet of a place of the list may pass every earlier one.
 fn takeable(list: &VecDeque<(Tlp, u32)>, place: usize) -> bool {
     match list.get(place) {
-        Some((tlp, _)) => list
+        Some((_, step)) => list
             .iter()
             .take(place)
-            .all(|(earlier, _)| may_pass(tlp, earlier)),
+            .all(|(_, earlier)| table_allows(*step, *earlier)),
         None => false,
     }
 }
@@ -47,6 +73,43 @@ fn same_at(queue: &OrderedQueue, list: &VecDeque<(Tlp, u32)>, place: usize) -> b
         (None, None) => true,
         _ => false,
     }
+}
+
+/// Whether both have the same first place of a class.
+fn same_first(queue: &OrderedQueue, list: &VecDeque<(Tlp, u32)>, class: Class) -> bool {
+    queue.first_of(class)
+        == list
+            .iter()
+            .position(|(_, step)| class_of_step(*step) == class)
+}
+
+/// Whether arrival numbers rise.
+fn rise(lent: &VecDeque<Arrived>) -> bool {
+    lent.iter()
+        .zip(lent.iter().skip(1))
+        .all(|(one, next)| one.arrival < next.arrival)
+}
+
+/// Whether both have the same packets of a class, in one order, and their arrival numbers rise.
+fn same_items(queue: &OrderedQueue, list: &VecDeque<(Tlp, u32)>, class: Class) -> bool {
+    let lent = queue.class_items(class);
+    let wanted = || {
+        list.iter()
+            .filter(|(_, step)| class_of_step(*step) == class)
+    };
+    lent.len() == wanted().count()
+        && lent.iter().zip(wanted()).all(|(arrived, (tlp, step))| arrived.tlp == *tlp
+            && arrived.mark == *step)
+        && rise(lent)
+}
+
+/// Whether both have the same packets of each class, and the same first of it.
+fn same_classes(queue: &OrderedQueue, list: &VecDeque<(Tlp, u32)>) -> bool {
+    let mut right = true;
+    for class in [Class::Posted, Class::NonPosted, Class::Completion] {
+        right &= same_first(queue, list, class) && same_items(queue, list, class);
+    }
+    right
 }
 
 /// Whether both give the same items, and agree at every place and past the end.
@@ -71,7 +134,7 @@ fn take_greatest(queue: &mut OrderedQueue, list: &mut VecDeque<(Tlp, u32)>) -> b
 }
 
 /// Pushes the packet of a step into both, then takes the greatest takeable place if asked, and tells whether they agree
-/// after each call.
+/// after each call, and of each class at the end.
 fn step_agrees(
     queue: &mut OrderedQueue,
     list: &mut VecDeque<(Tlp, u32)>,
@@ -84,6 +147,7 @@ fn step_agrees(
     if takes {
         right &= take_greatest(queue, list) && agree(queue, list);
     }
+    right &= same_classes(queue, list);
     Ok(right)
 }
 
@@ -141,27 +205,68 @@ fn numbers(queue: &OrderedQueue, class: Class) -> [Option<u64>; 4] {
     [number(0), number(1), number(2), number(3)]
 }
 
-/// Pushes packets, and tells whether the arrival numbers are those of the places.
-fn numbers_are_places(queue: &mut OrderedQueue, steps: u32) -> Result<bool, Fail> {
-    for step in 0..steps {
+/// The arrival numbers of each class, in order of the classes.
+type Numbers = [[Option<u64>; 4]; 3];
+
+/// Those of nine packets whose numbers begin nine below the greatest, which is given to none.
+const BELOW_THE_GREATEST: Numbers = [
+    [
+        Some(u64::MAX - 9),
+        Some(u64::MAX - 6),
+        Some(u64::MAX - 3),
+        None,
+    ],
+    [
+        Some(u64::MAX - 8),
+        Some(u64::MAX - 5),
+        Some(u64::MAX - 2),
+        None,
+    ],
+    [
+        Some(u64::MAX - 7),
+        Some(u64::MAX - 4),
+        Some(u64::MAX - 1),
+        None,
+    ],
+];
+
+/// Those of ten packets whose numbers are their places, and of twelve.
+const PLACES_OF_TEN: Numbers = [
+    [Some(0), Some(3), Some(6), Some(9)],
+    [Some(1), Some(4), Some(7), None],
+    [Some(2), Some(5), Some(8), None],
+];
+
+const PLACES_OF_TWELVE: Numbers = [
+    [Some(0), Some(3), Some(6), Some(9)],
+    [Some(1), Some(4), Some(7), Some(10)],
+    [Some(2), Some(5), Some(8), Some(11)],
+];
+
+/// Pushes the packets of steps, and tells whether the arrival numbers are then these.
+fn numbered(queue: &mut OrderedQueue, steps: Range<u32>, want: &Numbers) -> Result<bool, Fail> {
+    for step in steps {
         queue.push(packet(step)?, step)?;
     }
     Ok(
-        numbers(queue, Class::Posted) == [Some(0), Some(3), Some(6), Some(9)]
-            && numbers(queue, Class::NonPosted) == [Some(1), Some(4), Some(7), None]
-            && numbers(queue, Class::Completion) == [Some(2), Some(5), Some(8), None],
+        numbers(queue, Class::Posted) == want[0]
+            && numbers(queue, Class::NonPosted) == want[1]
+            && numbers(queue, Class::Completion) == want[2],
     )
 }
 
-/// Nine packets below the greatest number, and one more: they are numbered anew in their order.
-fn ten_are_numbered(alloc: Global) -> Result<bool, Fail> {
+/// Nine packets below the greatest number, and more: with the tenth they are numbered anew in their order.
+fn twelve_are_numbered(alloc: Global) -> Result<bool, Fail> {
     let mut queue = OrderedQueue::starting_at(alloc, u64::MAX - 9);
-    numbers_are_places(&mut queue, 10)
+    let mut right = numbered(&mut queue, 0..9, &BELOW_THE_GREATEST)?;
+    right &= numbered(&mut queue, 9..10, &PLACES_OF_TEN)?;
+    right &= numbered(&mut queue, 10..12, &PLACES_OF_TWELVE)?;
+    Ok(right)
 }
 
 #[test]
 fn numbered_anew(rt: HostRuntime) -> Result<(), Fail> {
-    let right = ten_are_numbered(rt.alloc())?;
+    let right = twelve_are_numbered(rt.alloc())?;
     assert!(rt; right);
     Ok(())
 }
