@@ -86,6 +86,17 @@ tries_again() {
     fi
 }
 
+# The same, where the line tells the refused event by its number: 6, or 5 with the lane's 3.
+tells_the_number() {
+    tries_again "$1" || return 1
+    refused=$(grep '^refused' "$room/output")
+    case $refused in
+    '' | 'refused fabric 5 0' | 'refused list 0 0' | 'refused event 6 0' | 'refused event 5 3') ;;
+    *) return 1 ;;
+    esac
+    echo "$refused" >> "$room/refusals"
+}
+
 pciex=crates/pciex/out/pciex
 if [ ! -x $pciex ]; then
     echo "refused allocations: there is no $pciex: run rt ci first"
@@ -109,5 +120,13 @@ for script in lost_ack write_passes_read credits_used_up stopped_link first_scri
 done
 each_refused halts_for_memory /dev/null $pciex run --requesters 2 --each 3
 each_refused tries_again /dev/null crates/hall_alloc/out/hall_alloc
+: > "$room/refusals"
+each_refused tells_the_number /dev/null crates/fabric_alloc/out/fabric_alloc
+for numbers in '6 0' '5 3'; do
+    if ! grep -q "^refused event $numbers\$" "$room/refusals"; then
+        echo "refused allocations: no event of a fabric was refused by the numbers $numbers"
+        failed=1
+    fi
+done
 echo "refused allocations: $runs runs, $([ $failed -eq 0 ] && echo "all as they should be" || echo "not all as they should be")"
 exit $failed

@@ -1,6 +1,9 @@
 //! Whole scripts in one call.
-use crate::drive::{SMALL, Step, Trial, all_right, events_of, run};
-use crate::scripts::{LOST_ACK, NAK_AND_REPLAY, READ_BEHIND_WRITE, WRITE_PASSES_READ};
+use crate::drive::{SMALL, Step, events_of, run};
+use crate::scripts::{
+    IDLE_COLLECT, LOST_ACK, NAK_AND_REPLAY, NO_PORT_8, READ_BEHIND_WRITE, WRITE_PASSES_READ,
+};
+use crate::trials::{Trial, all_right};
 use fabric_core::{Config, Event, Fabric, Refusal};
 use history_check::{Trace, check};
 use std::alloc::Global;
@@ -20,7 +23,7 @@ struct Row {
     bytes: [u8; 4],
 }
 
-const ROWS: [Row; 4] = [
+const ROWS: [Row; 6] = [
     Row {
         script: &LOST_ACK,
         refused: None,
@@ -46,6 +49,20 @@ const ROWS: [Row; 4] = [
         script: &READ_BEHIND_WRITE,
         refused: Some((6, Refusal::NotTakeable)),
         records: 2,
+        entries: 0,
+        bytes: [0; 4],
+    },
+    Row {
+        script: &NO_PORT_8,
+        refused: Some((1, Refusal::NoSuchPart)),
+        records: 1,
+        entries: 0,
+        bytes: [0; 4],
+    },
+    Row {
+        script: &IDLE_COLLECT,
+        refused: Some((1, Refusal::Idle)),
+        records: 1,
         entries: 0,
         bytes: [0; 4],
     },

@@ -210,6 +210,18 @@ pub(super) const STOPPED_LINK: [Step; 17] = [
     (Act::Transmit(UP), Told::Sent(0)),
 ];
 
+/// There is no requester at port 8.
+pub(super) const NO_PORT_8: [Step; 2] = [
+    (ADD, Told::Submitted(0)),
+    (Act::Collect(8), Told::Refused(Refusal::NoSuchPart)),
+];
+
+/// No completion has arrived.
+pub(super) const IDLE_COLLECT: [Step; 2] = [
+    (ADD, Told::Submitted(0)),
+    (Act::Collect(1), Told::Refused(Refusal::Idle)),
+];
+
 /// What is refused by a new fabric.
 pub(super) const REFUSALS: [Step; 7] = [
     (
