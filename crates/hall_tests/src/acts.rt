@@ -1,11 +1,10 @@
 //! Worked scripts as tables.
-use crate::drive::{read, write};
+use crate::beside::{Act, Asked, event_of};
 use dllp_core::Class;
 use fabric_core::{Event, LaneName};
 use hall_core::WorkEvent;
 use lane_core::{DllpKind, Fate};
 use std::alloc::Global;
-use tlp_core::{Op, Width};
 
 const UP: LaneName = LaneName::Up(1);
 
@@ -14,25 +13,6 @@ const DOWN: LaneName = LaneName::Down(1);
 const IN: LaneName = LaneName::Inward;
 
 const OUT: LaneName = LaneName::Outward;
-
-/// An operation.
-#[derive(Clone, Copy)]
-pub(super) enum Asked {
-    /// Adds this to the word at 40h.
-    Add(u8),
-    /// Reads the DW at 40h.
-    Read,
-    /// Writes 01 02 03 04 at 40h.
-    Write,
-}
-
-/// An event of requester 1, or of a work seat.
-#[derive(Clone, Copy)]
-pub(super) enum Act {
-    Submit(Asked),
-    Collect,
-    Work(WorkEvent),
-}
 
 const ADD: Act = Act::Submit(Asked::Add(1));
 
@@ -131,45 +111,11 @@ pub(super) const CREDITS_COME_BACK: [Act; 7] = [
     ADD,
 ];
 
-pub(super) fn operation_of(asked: Asked) -> Op {
-    match asked {
-        Asked::Add(operand) => Op::FetchAdd {
-            address: 0x40,
-            width: Width::Four,
-            operand: u128::from(operand),
-        },
-        Asked::Read => read(),
-        Asked::Write => write(),
-    }
-}
-
-/// The event of a work seat as one of the fabric.
-fn worked(event: WorkEvent) -> Event {
-    match event {
-        WorkEvent::Transmit(lane) => Event::Transmit(lane),
-        WorkEvent::Deliver(lane, fate) => Event::Deliver(lane, fate),
-        WorkEvent::SendDllp(lane, kind) => Event::SendDllp(lane, kind),
-        WorkEvent::DeliverDllp(lane, fate) => Event::DeliverDllp(lane, fate),
-        WorkEvent::Timer(lane) => Event::Timer(lane),
-        WorkEvent::Retrained(lane) => Event::Retrained(lane),
-        WorkEvent::Forward(lane, place) => Event::Forward(lane, place),
-        WorkEvent::Serve(place) => Event::Serve(place),
-    }
-}
-
-pub(super) fn event_of(act: Act) -> Event {
-    match act {
-        Act::Submit(asked) => Event::Submit(1, operation_of(asked)),
-        Act::Collect => Event::Collect(1),
-        Act::Work(event) => worked(event),
-    }
-}
-
 /// The events of a script; none where there is no memory for them.
 pub(super) fn events_of(script: &[Act], alloc: Global) -> Option<Vec<Event>> {
     let mut events = Vec::new(alloc);
     for act in script {
-        if events.push(event_of(*act)).is_err() {
+        if events.push(event_of(1, *act)).is_err() {
             return None;
         }
     }

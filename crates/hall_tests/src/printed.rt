@@ -104,7 +104,18 @@ fn all_happen<R: Print>(
     Ok(())
 }
 
-/// Collects, and tells the first byte of the data.
+/// Tells a reply, its data byte by byte.
+fn put_reply<R: Print>(rt: &R, reply: &Reply) -> io::Result<()> {
+    let Reply::Data(bytes) = reply else {
+        return print!(rt; " {reply:?}\n");
+    };
+    for byte in bytes {
+        print!(rt; " {byte}")?;
+    }
+    print!(rt; "\n")
+}
+
+/// Collects, and tells the whole reply.
 fn take_answer<R: Print>(rt: &R, hall: &Hall, seat: &mut ReqSeat) -> io::Result<()>
     requires { IsSeatOf hall.now seat.old }
     ensures { IsSeatOf hall.now seat.new }
@@ -112,11 +123,8 @@ fn take_answer<R: Print>(rt: &R, hall: &Hall, seat: &mut ReqSeat) -> io::Result<
     for _again in 0..3u8 {
         match collect(hall, seat) {
             Ok(Some(answer)) => {
-                let byte = match &answer.reply {
-                    Reply::Data(bytes) => bytes.first().copied().unwrap_or(255),
-                    _ => 255,
-                };
-                return print!(rt; "answered {} {} {byte}\n", answer.number, answer.n);
+                print!(rt; "answered {} {}", answer.number, answer.n)?;
+                return put_reply(rt, &answer.reply);
             }
             Ok(None) => return print!(rt; "none\n"),
             Err(refusal) if lacks_memory(refusal) => print!(rt; "refused collect\n")?,

@@ -1,17 +1,14 @@
 //! Worked rows.
-ghost use Rattle.std.specs.Prelude.{◌≡◌, IfSome};
-ghost use Rattle.hall_core.specs.Views.{IsSeatOf, AreSeatsOf};
+ghost use Rattle.std.specs.Prelude.{IfSome};
+ghost use Rattle.hall_core.specs.Views.{IsSeatOf};
 
 use crate::drive::{
-    add_one, back, collect, is_answer, last_worker, one_and_a_worker, opened, out_and_served, play,
-    pump, read, small, submit, two_and_a_worker, write,
+    add_one, back, collect, is_answer, one_and_a_worker, out_and_served, play, pump, read, small,
+    submit, two_and_a_worker, write,
 };
 use crate::ends::leaves;
 use fabric_core::{Config, LaneName, Refusal};
-use hall_core::laws::put_back;
-use hall_core::{Hall, HallRefusal, Part, ReqSeat, WorkEvent, WorkSeat};
-use hall_laws::part::{PartValue, lane_slot};
-use hall_laws::takes::take_sender;
+use hall_core::{Hall, HallRefusal, ReqSeat, WorkEvent, WorkSeat};
 use std::alloc::Global;
 use std::test::Fail;
 use tlp_core::Op;
@@ -267,68 +264,5 @@ fn refusals(alloc: Global) -> bool {
 #[test]
 fn what_cannot_happen_is_refused_by_the_core(rt: HostRuntime) -> Result<(), Fail> {
     assert!(rt; refusals(rt.alloc()));
-    Ok(())
-}
-
-/// Whether the event finds the part that the first seat has.
-fn is_busy(hall: &Hall, seat: &mut WorkSeat, event: WorkEvent, part: Part) -> bool
-    requires { IsSeatOf hall.now seat.old }
-    ensures { IsSeatOf hall.now seat.new }
-{
-    pump(hall, seat, event) == Err(HallRefusal::Busy { part, word: 2 })
-}
-
-/// Whether the sender's end of `up1` is told to be busy while the first seat has it, and another lane's isn't.
-fn is_held(hall: &Hall, second: &mut WorkSeat) -> bool
-    requires { IsSeatOf hall.now second.old }
-    ensures { IsSeatOf hall.now second.new }
-{
-    let up = LaneName::Up(1);
-    let inward = WorkEvent::Transmit(LaneName::Inward);
-    is_busy(hall, second, WorkEvent::Transmit(up), Part::SenderEnd(up))
-        && is_refused(hall, second, inward, Refusal::Idle)
-}
-
-/// The first seat takes the sender's end of `up1`, and later puts it back. Whether the calls of the second are answered
-/// as they should be.
-fn busy(hall: &Hall, first: WorkSeat, second: &mut WorkSeat) -> bool
-    requires hall { IsSeatOf hall.now first × IsSeatOf hall.now second.old × (hall.now.config.requesters ≡ 1) }
-{
-    let up = LaneName::Up(1);
-    let number = first.number();
-    let mut place = first.into_place();
-    let Ok(sender) = take_sender(hall.steps(), &mut place, number, 1, up) else {
-        return false;
-    };
-    let held = is_held(hall, second);
-    put_back(
-        hall.steps(),
-        &mut place,
-        lane_slot(up),
-        PartValue::Sender(sender),
-    );
-    held && is_refused(hall, second, WorkEvent::Transmit(up), Refusal::Idle)
-}
-
-/// Whether that is so of the last two of these work seats.
-fn last_two(hall: &Hall, workers: &mut Vec<WorkSeat>) -> bool
-    requires { AreSeatsOf hall.now workers.old.items × (hall.now.config.requesters ≡ 1) }
-{
-    match (last_worker(hall, workers), last_worker(hall, workers)) {
-        (Some(mut second), Some(first)) => busy(hall, first, &mut second),
-        _ => false,
-    }
-}
-
-fn held_by_another(alloc: Global) -> bool {
-    match opened(small(1), 2, alloc) {
-        Ok((hall, _, mut workers)) => last_two(&hall, &mut workers),
-        Err(_) => false,
-    }
-}
-
-#[test]
-fn a_part_is_busy(rt: HostRuntime) -> Result<(), Fail> {
-    assert!(rt; held_by_another(rt.alloc()));
     Ok(())
 }

@@ -2,11 +2,11 @@
 ghost use Rattle.hall_core.specs.Views.{IsSeatOf};
 
 use crate::acts::{
-    Act, Asked, CREDITS_COME_BACK, CREDITS_RUN_OUT, LOST_ACK, NAK_AND_REPLAY, READ_BEHIND_WRITE,
-    WRITE_PASSES_READ, event_of, events_of, operation_of,
+    CREDITS_COME_BACK, CREDITS_RUN_OUT, LOST_ACK, NAK_AND_REPLAY, READ_BEHIND_WRITE,
+    WRITE_PASSES_READ, events_of,
 };
+use crate::beside::{Act, Asked, ends_so, event_of, made, operation_of};
 use crate::drive::{collect, one_and_a_worker, pump, read, small, submit, two_and_a_worker};
-use crate::ends::closed;
 use crate::rows::is_submitted;
 use fabric_core::{Config, Event, Fabric, Seen};
 use hall_core::{Answered, Hall, HallRefusal, ReqSeat, Submitted, WorkEvent, WorkSeat};
@@ -16,7 +16,7 @@ use std::alloc::Global;
 use std::test::Fail;
 
 /// The least credits.
-const LEAST: LaneCredits = LaneCredits {
+pub(super) const LEAST: LaneCredits = LaneCredits {
     ph: 1,
     pd: 8,
     nph: 1,
@@ -25,14 +25,9 @@ const LEAST: LaneCredits = LaneCredits {
     cpld: 8,
 };
 
-/// A new fabric.
-fn made(config: Config, alloc: Global) -> Option<Fabric> {
-    Fabric::new(config, alloc).ok()
-}
-
 /// What the fabric tells of the event, a refusal being the hall's.
 fn seen_by(fabric: &mut Fabric, act: Act) -> Result<Seen, HallRefusal> {
-    match fabric.step(&event_of(act)) {
+    match fabric.step(&event_of(1, act)) {
         Ok(seen) => Ok(seen),
         Err(refusal) => Err(HallRefusal::Core(refusal)),
     }
@@ -195,21 +190,6 @@ fn play_both(
         }
     }
     told == records.len()
-}
-
-/// Whether there is the same to see of both.
-fn same(one: &Fabric, other: &Fabric) -> bool {
-    one.history() == other.history() && one.bytes() == other.bytes()
-}
-
-/// Whether a closed hall leaves the same history and bytes.
-fn ends_so(hall: Hall, seat: ReqSeat, fabric: &Fabric) -> bool
-    requires { IsSeatOf hall seat }
-{
-    match closed(hall, seat) {
-        Some(left) => same(&left, fabric),
-        None => false,
-    }
 }
 
 /// A hall and a fabric, and the script that goes through both.
