@@ -1,4 +1,6 @@
 //! Additions by worker threads, each counted once; and what ends a run without a report.
+ghost use Rattle.std.specs.Prelude.{◌≡◌};
+
 use fabric_core::{Config, Refusal};
 use fault_plan::Plan;
 use fc_credit::LaneCredits;
@@ -23,7 +25,7 @@ struct Counting {
     turns: u64,
 }
 
-fn add(address: u64) -> Op {
+pub(super) fn add(address: u64) -> Op {
     Op::FetchAdd {
         address,
         width: Width::Four,
@@ -31,7 +33,9 @@ fn add(address: u64) -> Op {
     }
 }
 
-fn config(requesters: u8) -> Config {
+fn config(requesters: u8) -> Config
+    ensures { result.requesters ≡ requesters }
+{
     Config {
         requesters,
         base: 0,
@@ -61,8 +65,23 @@ fn plan_of(alloc: Global, counting: Counting) -> Result<RunPlan, AllocError> {
     })
 }
 
+/// A plan of these scripts, without faults.
+pub(super) fn plan_with(requesters: u8, scripts: Vec<Vec<Op>>) -> RunPlan
+    ensures { result.config.requesters ≡ requesters }
+{
+    RunPlan {
+        config: config(requesters),
+        scripts,
+        plan: Plan {
+            lose_every: 0,
+            corrupt_every: 0,
+        },
+        turns: 50_000_000,
+    }
+}
+
 /// The halt of a run, none where it ended in a report.
-fn halt_of<R: Threads + Wait + Sync, G: Gate + Sync>(
+pub(super) fn halt_of<R: Threads + Wait + Sync, G: Gate + Sync>(
     rt: &R,
     alloc: Global,
     plan: RunPlan,
@@ -144,50 +163,73 @@ fn seven_requesters_count_over_bad_links(rt: HostRuntime) -> Result<(), Fail> {
     Ok(())
 }
 
+/// A worker at its first turn.
+#[derive(Drop)]
+struct First {
+    /// How often the gate was asked of it.
+    asked: AtomicU64,
+    /// Whether it saw that the other had come to its own first turn.
+    saw: AtomicBool,
+}
+
 /// Lets the workers 1 and 2 go on from their first turns when both have come to it.
 #[derive(Drop)]
 struct Meeting {
-    first: AtomicBool,
-    second: AtomicBool,
+    one: First,
+    two: First,
 }
 
-/// Whether the flag is seen to be set.
-fn met(flag: &AtomicBool) -> bool {
+fn nobody_came() -> First {
+    First {
+        asked: AtomicU64::new(0),
+        saw: AtomicBool::new(false),
+    }
+}
+
+/// Whether the worker is seen to have come.
+fn has_come(worker: &First) -> bool {
     for _ in 0..100_000_000u64 {
-        if flag.load(Ordering::SeqCst) {
+        if worker.asked.load(Ordering::SeqCst) > 0 {
             return true;
         }
     }
     false
 }
 
+/// The worker comes, and goes on where it sees that the other has come.
+fn comes(worker: &First, other: &First) -> bool {
+    worker.asked.fetch_add(1, Ordering::SeqCst);
+    let seen = has_come(other);
+    worker.saw.store(seen, Ordering::SeqCst);
+    seen
+}
+
+/// Whether the gate was asked once of the worker, which saw the other.
+fn is_met(worker: &First) -> bool {
+    worker.asked.load(Ordering::SeqCst) == 1 && worker.saw.load(Ordering::SeqCst)
+}
+
 impl Gate for Meeting {
     fn pass(&self, worker: u32, turn: u64) -> bool {
-        if turn != 1 {
-            return true;
-        }
-        match worker {
-            1 => {
-                self.first.store(true, Ordering::SeqCst);
-                met(&self.second)
-            }
-            2 => {
-                self.second.store(true, Ordering::SeqCst);
-                met(&self.first)
-            }
+        match (worker, turn) {
+            (1, 1) => comes(&self.one, &self.two),
+            (2, 1) => comes(&self.two, &self.one),
             _ => true,
         }
     }
 }
 
-#[test]
-fn workers_overlap(rt: HostRuntime) -> Result<(), Fail> {
+/// The halt of a run of two requesters whose first turns wait for each other, and whether they met.
+fn halt_of_two<R: Threads + Wait + Sync>(
+    rt: &R,
+    alloc: Global,
+) -> Result<(Option<RunHalt>, bool), AllocError> {
     let gate = Meeting {
-        first: AtomicBool::new(false),
-        second: AtomicBool::new(false),
+        one: nobody_came(),
+        two: nobody_came(),
     };
     let plan = plan_of(
-        rt.alloc(),
+        alloc,
         Counting {
             requesters: 2,
             each: 10,
@@ -196,7 +238,13 @@ fn workers_overlap(rt: HostRuntime) -> Result<(), Fail> {
             turns: 50_000_000,
         },
     )?;
-    assert_eq!(rt; halt_of(&rt, rt.alloc(), plan, &gate), None);
+    let halt = halt_of(rt, alloc, plan, &gate);
+    Ok((halt, is_met(&gate.one) && is_met(&gate.two)))
+}
+
+#[test]
+fn workers_overlap(rt: HostRuntime) -> Result<(), Fail> {
+    assert_eq!(rt; halt_of_two(&rt, rt.alloc())?, (None, true));
     Ok(())
 }
 
@@ -231,52 +279,72 @@ fn a_gate_ends_the_run(rt: HostRuntime) -> Result<(), Fail> {
     Ok(())
 }
 
-/// The halts of three runs over links that carry nothing, or for lack of turns.
-fn halts_of_turns<R: Threads + Wait + Sync>(
+/// Keeps the greatest turn that any worker makes a call at.
+#[derive(Drop)]
+struct Furthest {
+    turn: AtomicU64,
+}
+
+impl Gate for Furthest {
+    fn pass(&self, _worker: u32, turn: u64) -> bool {
+        self.turn.fetch_max(turn, Ordering::SeqCst);
+        true
+    }
+}
+
+/// The halt of a run over links that carry nothing, or for lack of turns, and the greatest turn of a call.
+fn ends_at<R: Threads + Wait + Sync>(
     rt: &R,
     alloc: Global,
-) -> Result<[Option<RunHalt>; 3], AllocError> {
-    let lost = plan_of(
-        alloc,
-        Counting {
-            requesters: 1,
-            each: 1,
-            lose: 1,
-            corrupt: 0,
-            turns: 1000,
-        },
-    )?;
-    let corrupted = plan_of(
-        alloc,
-        Counting {
-            requesters: 2,
-            each: 1,
-            lose: 0,
-            corrupt: 1,
-            turns: 1000,
-        },
-    )?;
-    let short = plan_of(
-        alloc,
-        Counting {
-            requesters: 2,
-            each: 1000,
-            lose: 0,
-            corrupt: 0,
-            turns: 100,
-        },
-    )?;
-    Ok([
-        halt_of(rt, alloc, lost, &OpenGate),
-        halt_of(rt, alloc, corrupted, &OpenGate),
-        halt_of(rt, alloc, short, &OpenGate),
-    ])
+    counting: Counting,
+) -> Result<(Option<RunHalt>, u64), AllocError> {
+    let gate = Furthest {
+        turn: AtomicU64::new(0),
+    };
+    let plan = plan_of(alloc, counting)?;
+    let halt = halt_of(rt, alloc, plan, &gate);
+    Ok((halt, gate.turn.load(Ordering::SeqCst)))
 }
+
+/// Runs over links that lose all, and on which all fails. All turns of a worker are calls but for one of a requester, at
+/// which it pushes its first record.
+const TOO_FEW: [Counting; 2] = [
+    Counting {
+        requesters: 1,
+        each: 1,
+        lose: 1,
+        corrupt: 0,
+        turns: 1000,
+    },
+    Counting {
+        requesters: 2,
+        each: 1,
+        lose: 0,
+        corrupt: 1,
+        turns: 1000,
+    },
+];
 
 #[test]
 fn turns_end_the_run(rt: HostRuntime) -> Result<(), Fail> {
-    let halts = halts_of_turns(&rt, rt.alloc())?;
-    assert_eq!(rt; halts, [Some(RunHalt::Turns); 3]);
+    for counting in TOO_FEW {
+        let (halt, turn) = ends_at(&rt, rt.alloc(), counting)?;
+        assert_eq!(rt; (halt, turn), (Some(RunHalt::Turns), counting.turns));
+    }
+    Ok(())
+}
+
+#[test]
+fn a_hundred_turns_are_too_few(rt: HostRuntime) -> Result<(), Fail> {
+    let counting = Counting {
+        requesters: 2,
+        each: 1000,
+        lose: 0,
+        corrupt: 0,
+        turns: 100,
+    };
+    let (halt, turn) = ends_at(&rt, rt.alloc(), counting)?;
+    assert_eq!(rt; (halt, turn <= 100), (Some(RunHalt::Turns), true));
     Ok(())
 }
 
@@ -289,15 +357,7 @@ fn halt_of_unaligned<R: Threads + Wait + Sync>(
     script.push(add(0x42))?;
     let mut scripts = Vec::new(alloc);
     scripts.push(script)?;
-    let plan = RunPlan {
-        config: config(1),
-        scripts,
-        plan: Plan {
-            lose_every: 0,
-            corrupt_every: 0,
-        },
-        turns: 50_000_000,
-    };
+    let plan = plan_with(1, scripts);
     Ok(halt_of(rt, alloc, plan, &OpenGate))
 }
 

@@ -1,10 +1,12 @@
-//! Runs by worker threads: additions, each counted once; what ends a run; mixed operations, checked as values and as
-//! text; what a run writes.
+//! Runs by worker threads: additions, each counted once; the numbers of workers; what ends a run; mixed operations,
+//! checked as values and as text; what a run writes.
 #![tactic(auto)]
 
 #[cfg(test)]
 mod additions;
 #[cfg(test)]
 mod mixed;
+#[cfg(test)]
+mod numbers;
 #[cfg(test)]
 mod reports;
