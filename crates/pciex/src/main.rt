@@ -2,6 +2,8 @@
 #![tactic(auto)]
 
 mod command;
+#[cfg(test)]
+mod tests;
 
 use commands::no_words;
 use std::io;
