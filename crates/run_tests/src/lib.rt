@@ -1,9 +1,11 @@
-//! Runs by worker threads: additions, each counted once; the numbers of workers; what ends a run; mixed operations,
-//! checked as values and as text; what a run writes.
+//! Runs by worker threads: additions, each counted once; the numbers of workers; what ends a run, and what is left of it;
+//! mixed operations, checked as values and as text; what a run writes.
 #![tactic(auto)]
 
 #[cfg(test)]
 mod additions;
+#[cfg(test)]
+mod halts;
 #[cfg(test)]
 mod mixed;
 #[cfg(test)]
