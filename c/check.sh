@@ -94,7 +94,7 @@ has_tool() {
     return 1
 }
 
-for name in device history fabric check differ; do
+for name in device history fabric check differ monitor; do
     if ! cc -Wall -Wextra -Werror -std=c99 -O2 -o "$room/$name" c/examples/$name.c "$folder/libpciex_c.a" "$kit/liblibc_c.a"; then
         say "examples/$name.c isn't compiled and linked"
         exit 1
@@ -114,6 +114,7 @@ examples() {
     wants "device on packets.txt" 0 examples/packets.out examples/packets.txt "$@" "$room/device"
     wants "history" 0 "$room/history.out" /dev/null "$@" "$room/history"
     wants "differ" 0 c/examples/differ.out /dev/null "$@" "$room/differ"
+    wants "monitor" 0 c/examples/monitor.out /dev/null "$@" "$room/monitor"
     wants "fabric on lost_ack.txt" 0 examples/lost_ack.out examples/lost_ack.txt "$@" "$room/fabric"
     [ $# -gt 0 ] || tells "fabric on lost_ack.txt" "2 in the history, quiet, explained"
     for name in write_passes_read credits stopped_link; do

@@ -67,12 +67,28 @@ extern "C" {
 #define PCIEX_NO_FAULT 2007u
 /* The line isn't one of the form that is asked for. */
 #define PCIEX_NO_LINE 2008u
+/* The packet is a request, and a completion is asked for. */
+#define PCIEX_NO_COMPLETION 2010u
+/* A monitor's requesters are 1 to 7. */
+#define PCIEX_NO_REQUESTER 2011u
 /* A pointer is null. */
 #define PCIEX_NULL 3000u
 /* The handle holds nothing. */
 #define PCIEX_EMPTY 3001u
 /* The handle holds something already. */
 #define PCIEX_HELD 3002u
+
+/* What a monitor finds wrong with a packet, in the order of the tests. */
+/* The Requester ID is not that of the requester's first request. */
+#define PCIEX_OTHER_REQUESTER 1023u
+/* A non-posted request has the tag of an open one. */
+#define PCIEX_TAG_IN_USE 1020u
+/* No request is open under the completion's tag; or no request of that number waits to act. */
+#define PCIEX_UNEXPECTED 1021u
+/* Status and data don't fit the request; or the completion is a part of a split one. */
+#define PCIEX_MISMATCH 1022u
+/* All 4,294,967,295 numbers of the requester are spent. */
+#define PCIEX_NUMBERS_USED 1024u
 
 /* The bytes of room that a completion is asked for, and a line. */
 #define PCIEX_PACKET 144
@@ -90,6 +106,11 @@ typedef struct pciex_device {
 typedef struct pciex_fabric {
     void *at;
 } pciex_fabric;
+
+/* A monitor of ports. Made by pciex_monitor_new, freed by pciex_monitor_free. */
+typedef struct pciex_monitor {
+    void *at;
+} pciex_monitor;
 
 /* ---- the library's own functions, which test no pointer and no handle */
 
@@ -113,6 +134,16 @@ bool pciex_raw_fabric_quiet(pciex_fabric fabric, pciex_fabric *back);
 size_t pciex_raw_fabric_history_length(pciex_fabric fabric, pciex_fabric *back);
 uint32_t pciex_raw_fabric_bytes(pciex_fabric fabric, uint8_t *room, size_t room_length, pciex_fabric *back);
 void pciex_raw_fabric_free(pciex_fabric fabric);
+uint32_t pciex_raw_monitor_new(const uint8_t *line, size_t line_length, uint8_t *room, size_t room_length,
+                               pciex_monitor *monitor);
+uint32_t pciex_raw_monitor_request(pciex_monitor monitor, uint8_t requester, const uint8_t *packet,
+                                   size_t packet_length, uint8_t *room, size_t room_length, pciex_monitor *back);
+uint32_t pciex_raw_monitor_completion(pciex_monitor monitor, uint8_t requester, const uint8_t *packet,
+                                      size_t packet_length, uint8_t *room, size_t room_length, pciex_monitor *back);
+uint32_t pciex_raw_monitor_acted(pciex_monitor monitor, uint8_t requester, uint32_t number, uint8_t *room,
+                                 size_t room_length, pciex_monitor *back);
+size_t pciex_raw_monitor_open(pciex_monitor monitor, pciex_monitor *back);
+void pciex_raw_monitor_free(pciex_monitor monitor);
 uint32_t pciex_raw_check(const uint8_t *text, size_t length, uint8_t *room, size_t room_length);
 uint32_t pciex_raw_decode(const uint8_t *packet, size_t length, uint8_t *room, size_t room_length);
 uint32_t pciex_raw_encode(const uint8_t *line, size_t length, uint8_t *room, size_t room_length);
@@ -334,6 +365,112 @@ static inline void pciex_fabric_free(pciex_fabric *fabric)
     if (fabric && fabric->at) {
         pciex_raw_fabric_free(*fabric);
         fabric->at = NULL;
+    }
+}
+
+/* ---- a monitor of ports */
+
+/*
+ * Makes a monitor in a handle that holds nothing. It writes what the ports of a memory carry as the lines of a log or
+ * of a trace. The line is `log` or `trace`, then the memory's base in hexadecimal and its size in decimal, `block`, and
+ * the bytes of a block: `log 0 4096 block 64`. Below 1000: how many bytes the first two lines of the log or the trace
+ * have, `pciex-log 1` and `memory 0 4096 64`, with a line feed between them. No line of a monitor ends with one.
+ * Tested in this order: PCIEX_SMALL_ROOM for fewer than PCIEX_LINE bytes, PCIEX_NO_LINE, PCIEX_WRONG_SIZE,
+ * PCIEX_WRONG_BASE, PCIEX_WRONG_BLOCK, PCIEX_NO_MEMORY.
+ *
+ * Call the monitor in the order in which the ports carry packets, or of one clock cycle with requests first. Whatever
+ * is given to it, the lines that it writes are of good form: the numbers of each requester are 0, 1, 2 and so on, and
+ * each answer is to an earlier non-posted request that wasn't answered before. A log is its head, the lines and a line
+ * `end`. A trace is its head, the `sub` and `ans` lines, a line `history`, the `ent` lines, and a line `end`.
+ * The monitor's memory is that of the open requests and, in a trace, of requests that haven't acted.
+ */
+static inline uint32_t pciex_monitor_new(const uint8_t *line, size_t line_length, uint8_t *room, size_t room_length,
+                                         pciex_monitor *monitor)
+{
+    if (!line || !room || !monitor) {
+        return PCIEX_NULL;
+    }
+    if (monitor->at) {
+        return PCIEX_HELD;
+    }
+    return pciex_raw_monitor_new(line, line_length, room, room_length, monitor);
+}
+
+/*
+ * The port of a requester, 1 to 7, carried a request. Below 1000: how many bytes its line has, which is
+ * `sub 1 0 add 40 07000000`, in a trace with n behind the number. 1000 to 1013: 1000 and the number of the packet's
+ * fault. Tested in this order:
+ * PCIEX_SMALL_ROOM for fewer than PCIEX_LINE bytes, PCIEX_NO_REQUESTER, the packet's fault, PCIEX_NO_REQUEST,
+ * PCIEX_OTHER_REQUESTER, PCIEX_TAG_IN_USE, PCIEX_NUMBERS_USED, and in a trace alone PCIEX_NO_MEMORY.
+ */
+static inline uint32_t pciex_monitor_request(pciex_monitor *monitor, uint8_t requester, const uint8_t *packet,
+                                             size_t packet_length, uint8_t *room, size_t room_length)
+{
+    if (!monitor || !packet || !room) {
+        return PCIEX_NULL;
+    }
+    if (!monitor->at) {
+        return PCIEX_EMPTY;
+    }
+    return pciex_raw_monitor_request(*monitor, requester, packet, packet_length, room, room_length, monitor);
+}
+
+/*
+ * The port of a requester, 1 to 7, carried a completion. Below 1000: how many bytes its line has, which is
+ * `ans 1 0 data 00000000`, in a trace with n behind the number. Bytes of a read that were not enabled are 00 there.
+ * 1000 to 1013: 1000 and the number of the packet's fault. Tested in this order: PCIEX_SMALL_ROOM for fewer than
+ * PCIEX_LINE bytes,
+ * PCIEX_NO_REQUESTER, the packet's fault, PCIEX_NO_COMPLETION, PCIEX_OTHER_REQUESTER, PCIEX_UNEXPECTED, PCIEX_MISMATCH.
+ */
+static inline uint32_t pciex_monitor_completion(pciex_monitor *monitor, uint8_t requester, const uint8_t *packet,
+                                                size_t packet_length, uint8_t *room, size_t room_length)
+{
+    if (!monitor || !packet || !room) {
+        return PCIEX_NULL;
+    }
+    if (!monitor->at) {
+        return PCIEX_EMPTY;
+    }
+    return pciex_raw_monitor_completion(*monitor, requester, packet, packet_length, room, room_length, monitor);
+}
+
+/*
+ * For a trace: the request of that number acted on the memory. Below 1000: how many bytes the line of the history has,
+ * `ent 1 0 add 40 07000000`. Tested in this order: PCIEX_SMALL_ROOM for fewer than PCIEX_LINE bytes,
+ * PCIEX_NO_REQUESTER, PCIEX_UNEXPECTED where no request of that number waits to act, as always in a log,
+ * PCIEX_NUMBERS_USED after 2^64 - 1 requests that acted.
+ */
+static inline uint32_t pciex_monitor_acted(pciex_monitor *monitor, uint8_t requester, uint32_t number, uint8_t *room,
+                                           size_t room_length)
+{
+    if (!monitor || !room) {
+        return PCIEX_NULL;
+    }
+    if (!monitor->at) {
+        return PCIEX_EMPTY;
+    }
+    return pciex_raw_monitor_acted(*monitor, requester, number, room, room_length, monitor);
+}
+
+/* Tells in `count` how many requests wait for their completions. 0. */
+static inline uint32_t pciex_monitor_open(pciex_monitor *monitor, size_t *count)
+{
+    if (!monitor || !count) {
+        return PCIEX_NULL;
+    }
+    if (!monitor->at) {
+        return PCIEX_EMPTY;
+    }
+    *count = pciex_raw_monitor_open(*monitor, monitor);
+    return 0;
+}
+
+/* Frees the monitor; the handle holds nothing then. One that holds nothing stays as it is. */
+static inline void pciex_monitor_free(pciex_monitor *monitor)
+{
+    if (monitor && monitor->at) {
+        pciex_raw_monitor_free(*monitor);
+        monitor->at = NULL;
     }
 }
 

@@ -152,6 +152,37 @@ class AFabric(unittest.TestCase):
         gc.collect()
 
 
+class AMonitor(unittest.TestCase):
+    def test_log(self) -> None:
+        with pciex.Monitor(4096) as monitor:
+            self.assertEqual(monitor.head, "pciex-log 1\nmemory 0 4096 64")
+            self.assertEqual(monitor.request(1, ADD), "sub 1 0 add 40 07000000")
+            with self.assertRaisesRegex(pciex.Refused, "^TagInUse$"):
+                monitor.request(1, ADD)
+            with self.assertRaisesRegex(pciex.Fault, "^fault 1 Short$"):
+                monitor.request(1, ADD[:3])
+            for call in (lambda: monitor.request(8, ADD), lambda: monitor.completion(1, ADD)):
+                with self.assertRaises(ValueError):
+                    call()
+            self.assertEqual((monitor.open(), monitor.completion(1, old(0))), (1, "ans 1 0 data 00000000"))
+            with self.assertRaisesRegex(pciex.Refused, "^Unexpected$"):
+                monitor.acted(1, 0)
+            self.assertEqual(monitor.open(), 0)
+
+    def test_trace(self) -> None:
+        with pciex.Monitor(4096, is_trace=True) as monitor:
+            records = [monitor.request(1, ADD)]
+            history = [monitor.acted(1, 0)]
+            records.append(monitor.completion(1, old(0)))
+            text = "\n".join([monitor.head, *records, "history", *history, "end", ""])
+        self.assertEqual(pciex.check(text), "ok")
+
+    def test_wrong_monitors(self) -> None:
+        for size, base, block in [(100, 0, 64), (4096, 64, 64), (4096, 0, 32)]:
+            with self.assertRaises(ValueError):
+                pciex.Monitor(size, base, block)
+
+
 class Differences(unittest.TestCase):
     def test_differ(self) -> None:
         read = pciex.encode("read 40 2 C 3 from 0100 tag 05")

@@ -9,6 +9,16 @@ pub enum Error {
     Packet(u32),
     /// The text of a fault, a flaw or a refusal, as `pciex` prints it.
     Told(String),
+    /// The Requester ID is not that of the requester's first request.
+    OtherRequester,
+    /// A non-posted request has the tag of an open one.
+    TagInUse,
+    /// No request is open under the completion's tag, or none of that number waits to act.
+    Unexpected,
+    /// Status and data don't fit the request, or the completion is a part of a split one.
+    Mismatch,
+    /// All 4,294,967,295 numbers of a requester are spent.
+    NumbersUsed,
     /// An argument can't be right: the code under which `c/pciex.h` names it, from 2000 on.
     Argument(u32),
     /// Memory was refused.
@@ -20,6 +30,11 @@ impl fmt::Display for Error {
         match self {
             Error::Packet(number) => write!(f, "fault {number} {}", fault_name(*number)),
             Error::Told(text) => f.write_str(text),
+            Error::OtherRequester => f.write_str("OtherRequester"),
+            Error::TagInUse => f.write_str("TagInUse"),
+            Error::Unexpected => f.write_str("Unexpected"),
+            Error::Mismatch => f.write_str("Mismatch"),
+            Error::NumbersUsed => f.write_str("NumbersUsed"),
             Error::Argument(code) => write!(f, "code {code}"),
             Error::NoMemory => f.write_str("memory"),
         }

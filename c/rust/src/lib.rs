@@ -8,12 +8,14 @@ mod device;
 mod differ;
 mod error;
 mod fabric;
+mod monitor;
 mod raw;
 
 pub use device::{answer, Device};
 pub use differ::differ;
 pub use error::Error;
 pub use fabric::Fabric;
+pub use monitor::Monitor;
 
 use error::{line, Room};
 

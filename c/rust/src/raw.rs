@@ -41,6 +41,22 @@ extern "C" {
     pub(crate) fn pciex_raw_fabric_history_length(fabric: Slot, back: *mut Slot) -> usize;
     pub(crate) fn pciex_raw_fabric_bytes(fabric: Slot, room: *mut u8, room_length: usize, back: *mut Slot) -> u32;
     pub(crate) fn pciex_raw_fabric_free(fabric: Slot);
+    pub(crate) fn pciex_raw_monitor_new(
+        line: *const u8, line_length: usize, room: *mut u8, room_length: usize, monitor: *mut Slot,
+    ) -> u32;
+    pub(crate) fn pciex_raw_monitor_request(
+        monitor: Slot, requester: u8, packet: *const u8, packet_length: usize, room: *mut u8, room_length: usize,
+        back: *mut Slot,
+    ) -> u32;
+    pub(crate) fn pciex_raw_monitor_completion(
+        monitor: Slot, requester: u8, packet: *const u8, packet_length: usize, room: *mut u8, room_length: usize,
+        back: *mut Slot,
+    ) -> u32;
+    pub(crate) fn pciex_raw_monitor_acted(
+        monitor: Slot, requester: u8, number: u32, room: *mut u8, room_length: usize, back: *mut Slot,
+    ) -> u32;
+    pub(crate) fn pciex_raw_monitor_open(monitor: Slot, back: *mut Slot) -> usize;
+    pub(crate) fn pciex_raw_monitor_free(monitor: Slot);
     pub(crate) fn pciex_raw_check(text: *const u8, length: usize, room: *mut u8, room_length: usize) -> u32;
     pub(crate) fn pciex_raw_decode(packet: *const u8, length: usize, room: *mut u8, room_length: usize) -> u32;
     pub(crate) fn pciex_raw_encode(line: *const u8, length: usize, room: *mut u8, room_length: usize) -> u32;

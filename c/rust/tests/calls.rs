@@ -1,5 +1,5 @@
 //! Each call once, and each of its refusals.
-use pciex::{answer, check, decode, differ, encode, version, Device, Error, Fabric};
+use pciex::{answer, check, decode, differ, encode, version, Device, Error, Fabric, Monitor};
 
 const ADD: [u8; 16] = [0x4C, 0, 0, 1, 1, 0, 5, 0, 0, 0, 0, 0x40, 7, 0, 0, 0];
 const WRITE: [u8; 16] = [0x40, 0, 0, 1, 1, 0, 0, 0x0F, 0, 0, 0, 0x80, 1, 2, 3, 4];
@@ -162,4 +162,39 @@ fn completions_that_differ() {
     let other = [0x0A, 0, 0, 0, 0, 0, 0x20, 4, 1, 0, 5, 0];
     assert_eq!(differ(&read, Some(&wanted), Some(&other)), Some("Status"));
     assert_eq!(differ(&ADD, Some(&old(0)), Some(&old(1))), Some("data"));
+}
+
+#[test]
+fn a_monitor_of_a_log() {
+    assert_eq!(Monitor::new("log 0 100 block 64").err(), Some(Error::Argument(2004)));
+    assert_eq!(Monitor::new("log 64 4096 block 64").err(), Some(Error::Argument(2005)));
+    assert_eq!(Monitor::new("log 0 4096 block 32").err(), Some(Error::Argument(2001)));
+    assert_eq!(Monitor::new("log 0 4096").err(), Some(Error::Argument(2008)));
+    let (mut monitor, head) = Monitor::new("log 0 4096 block 64").unwrap();
+    assert_eq!(head, "pciex-log 1\nmemory 0 4096 64");
+    assert_eq!(monitor.request(0, &ADD), Err(Error::Argument(2011)));
+    assert_eq!(monitor.request(1, &ADD[..3]), Err(Error::Packet(1)));
+    assert_eq!(monitor.request(1, &old(0)), Err(Error::Argument(2002)));
+    assert_eq!(monitor.request(1, &ADD).as_deref(), Ok("sub 1 0 add 40 07000000"));
+    assert_eq!(monitor.request(1, &ADD), Err(Error::TagInUse));
+    assert_eq!((monitor.completion(1, &ADD), monitor.open()), (Err(Error::Argument(2010)), 1));
+    assert_eq!(monitor.acted(1, 0), Err(Error::Unexpected));
+    let mut other = old(0);
+    other[8] = 2;
+    assert_eq!(monitor.completion(1, &other), Err(Error::OtherRequester));
+    let split = [0x4A, 0, 0, 2, 0, 0, 0, 8, 1, 0, 5, 0, 0, 0, 0, 0, 0, 0, 0, 0];
+    assert_eq!(monitor.completion(1, &split), Err(Error::Mismatch));
+    assert_eq!(monitor.completion(1, &old(0)).as_deref(), Ok("ans 1 0 data 00000000"));
+    assert_eq!((monitor.completion(1, &old(0)), monitor.open()), (Err(Error::Unexpected), 0));
+}
+
+#[test]
+fn a_monitor_of_a_trace() {
+    let (mut monitor, head) = Monitor::new("trace 0 4096 block 64").unwrap();
+    let mut lines = vec![head, monitor.request(1, &ADD).unwrap()];
+    let entry = monitor.acted(1, 0).unwrap();
+    lines.push(monitor.completion(1, &old(0)).unwrap());
+    lines.extend(["history".into(), entry, "end\n".into()]);
+    assert_eq!(check(lines.join("\n").as_bytes()), Ok(()));
+    assert_eq!(monitor.acted(1, 0), Err(Error::Unexpected));
 }

@@ -5,3 +5,4 @@
 mod answers;
 mod device;
 mod fabric;
+mod monitor;

@@ -13,6 +13,8 @@ _WRONG = {
     2006: "the history has no entry at that place",
     2007: "no fault has that number",
     2008: "the line has the wrong form",
+    2010: "the packet is a request, not a completion",
+    2011: "a monitor's requesters are 1 to 7",
 }
 
 
@@ -29,7 +31,7 @@ class Fault(Exception):
 
 
 class Refused(Exception):
-    """A fabric refuses an event: `str()` is the refusal's name."""
+    """A fabric refuses an event, or a monitor a packet: `str()` is the name of the cause."""
 
     __module__ = "pciex"
 
@@ -48,6 +50,19 @@ def text_of(code: int, error: Type[Exception] = Fault) -> str:
     if code < 2000:
         raise error(room.text(code - 1000))
     raise wrong(code)
+
+
+# What a monitor finds wrong with a packet.
+_FOUND = {1020: "TagInUse", 1021: "Unexpected", 1022: "Mismatch", 1023: "OtherRequester", 1024: "NumbersUsed"}
+
+
+def line_of(code: int) -> str:
+    """The line of a monitor in the buffer. Raises the packet's fault, or what the monitor finds wrong."""
+    if code in _FOUND:
+        raise Refused(_FOUND[code])
+    if 1000 < code < 2000:
+        raise Fault(f"fault {code - 1000} {fault_name(code - 1000)}")
+    return text_of(code)
 
 
 def packet_of(code: int) -> Optional[bytes]:

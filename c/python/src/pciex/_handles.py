@@ -1,4 +1,4 @@
-"""Devices and fabrics."""
+"""Devices, fabrics and monitors."""
 
 from ctypes import byref, c_size_t, c_ubyte
 from threading import current_thread
@@ -6,7 +6,7 @@ from types import TracebackType
 from typing import Any, List, Optional, Type, TypeVar
 from warnings import warn
 
-from ._calls import Refused, block_of, bytes_of, number_of, packet_of, text_of, wrong
+from ._calls import Refused, block_of, bytes_of, line_of, number_of, packet_of, text_of, wrong
 from ._raw import LINE, SMALL_ROOM, Slot, library, room
 
 _Self = TypeVar("_Self", bound="_Handle")
@@ -145,3 +145,36 @@ class Fabric(_Handle):
     def memory(self) -> bytes:
         """The memory as it is now."""
         return self._copy(library.fabric_bytes, self._size)
+
+
+class Monitor(_Handle):
+    """What the ports of a memory carry goes in, and lines of a log, or with `is_trace` of a trace, come out. `head` is
+    the first two lines. Call it in the order in which the ports carry packets, requests first in one clock cycle."""
+
+    _free = library.monitor_free
+
+    def __init__(self, size: int, base: int = 0, block: int = 64, is_trace: bool = False) -> None:
+        super().__init__()
+        base, size = number_of("base", base, 64), number_of("size", size, 63)
+        words = f"{'trace' if is_trace else 'log'} {base:X} {size} block {block_of(block)}".encode()
+        code = library.monitor_new(words, len(words), room.bytes, LINE, byref(self._slot))
+        self.head = text_of(code)
+
+    def request(self, requester: int, packet: bytes) -> str:
+        """The port of the requester, 1 to 7, carried a request: its line, `sub 1 0 add 40 07000000`."""
+        requester, packet = number_of("requester", requester, 8), bytes_of(packet)
+        return line_of(self._call(library.monitor_request, requester, packet, len(packet), room.bytes, LINE))
+
+    def completion(self, requester: int, packet: bytes) -> str:
+        """The port of the requester, 1 to 7, carried a completion: its line, `ans 1 0 data 00000000`."""
+        requester, packet = number_of("requester", requester, 8), bytes_of(packet)
+        return line_of(self._call(library.monitor_completion, requester, packet, len(packet), room.bytes, LINE))
+
+    def acted(self, requester: int, number: int) -> str:
+        """For a trace, the request of that number acted: the line of the history, `ent 1 0 add 40 07000000`."""
+        requester, number = number_of("requester", requester, 8), number_of("number", number, 32)
+        return line_of(self._call(library.monitor_acted, requester, number, room.bytes, LINE))
+
+    def open(self) -> int:
+        """How many requests wait for their completions."""
+        return self._call(library.monitor_open)

@@ -32,6 +32,10 @@ _CODES = {
     "fabric_event": [Slot, ctypes.c_char_p, _SIZE, _BYTES, _SIZE, _SLOT],
     "fabric_trace": [Slot, _BYTES, _SIZE, ctypes.POINTER(_SIZE), _SLOT],
     "fabric_bytes": [Slot, _BYTES, _SIZE, _SLOT],
+    "monitor_new": [ctypes.c_char_p, _SIZE, _BYTES, _SIZE, _SLOT],
+    "monitor_request": [Slot, ctypes.c_uint8, ctypes.c_char_p, _SIZE, _BYTES, _SIZE, _SLOT],
+    "monitor_completion": [Slot, ctypes.c_uint8, ctypes.c_char_p, _SIZE, _BYTES, _SIZE, _SLOT],
+    "monitor_acted": [Slot, ctypes.c_uint8, ctypes.c_uint32, _BYTES, _SIZE, _SLOT],
     "check": [ctypes.c_char_p, _SIZE, _BYTES, _SIZE],
     "decode": [ctypes.c_char_p, _SIZE, _BYTES, _SIZE],
     "encode": [ctypes.c_char_p, _SIZE, _BYTES, _SIZE],
@@ -46,6 +50,8 @@ _OTHERS = {
     "fabric_quiet": ([Slot, _SLOT], ctypes.c_bool),
     "fabric_history_length": ([Slot, _SLOT], _SIZE),
     "fabric_free": ([Slot], None),
+    "monitor_open": ([Slot, _SLOT], _SIZE),
+    "monitor_free": ([Slot], None),
 }
 
 
