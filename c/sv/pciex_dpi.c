@@ -291,6 +291,91 @@ int pciex_dpi_fabric_history_length(void *handle)
     return code == 0 ? (int)count : -(int)code;
 }
 
+/* ---- a monitor of ports */
+
+void *pciex_dpi_monitor_new(const char *line)
+{
+    uint8_t room[PCIEX_LINE];
+    pciex_monitor *monitor = (pciex_monitor *)calloc(1, sizeof *monitor);
+    const uint32_t code =
+        monitor ? pciex_monitor_new((const uint8_t *)line, strlen(line), room, sizeof room, monitor) : PCIEX_NO_MEMORY;
+    if (code < 1000) {
+        say(room, code);
+        return monitor;
+    }
+    free(monitor);
+    return made(NULL, code == PCIEX_WRONG_SIZE    ? "a memory has 128 to 1048576 bytes, a multiple of 128"
+                      : code == PCIEX_WRONG_BASE  ? "a base is a multiple of 128, with its bytes below 2^64"
+                      : code == PCIEX_WRONG_BLOCK ? "a block has 64 or 128 bytes"
+                      : code == PCIEX_NO_LINE     ? "this is no line of a monitor"
+                                                  : "memory");
+}
+
+void pciex_dpi_monitor_free(void *handle)
+{
+    if (handle) {
+        pciex_monitor_free((pciex_monitor *)handle);
+        free(handle);
+    }
+}
+
+/* Every number outside 0 to 255 is told as 0, which no requester has. */
+static uint8_t requester_of(int number)
+{
+    return number < 0 || number > 255 ? 0 : (uint8_t)number;
+}
+
+/* The code of a monitor's call, with its line in the room if it is done. Of a packet's fault the text is the name. */
+static int lined(uint32_t code, const uint8_t *room)
+{
+    uint8_t name[PCIEX_LINE];
+    if (code < 1000) {
+        return told(code, room);
+    }
+    const uint32_t length = code < 2000 ? pciex_fault_name(code - 1000, name, sizeof name) : 0;
+    say(name, length < 1000 ? length : 0);
+    return -(int)code;
+}
+
+int pciex_dpi_monitor_request(void *handle, int requester, const svBitVecVal *request, int request_length)
+{
+    uint8_t packet[MOST], room[PCIEX_LINE];
+    if (!handle || !unpack(request, request_length, packet)) {
+        return lined(handle ? PCIEX_SMALL_ROOM : PCIEX_NULL, room);
+    }
+    const uint32_t code = pciex_monitor_request((pciex_monitor *)handle, requester_of(requester), packet,
+                                                (size_t)request_length, room, sizeof room);
+    return lined(code, room);
+}
+
+int pciex_dpi_monitor_completion(void *handle, int requester, const svBitVecVal *completion, int completion_length)
+{
+    uint8_t packet[MOST], room[PCIEX_LINE];
+    if (!handle || !unpack(completion, completion_length, packet)) {
+        return lined(handle ? PCIEX_SMALL_ROOM : PCIEX_NULL, room);
+    }
+    const uint32_t code = pciex_monitor_completion((pciex_monitor *)handle, requester_of(requester), packet,
+                                                   (size_t)completion_length, room, sizeof room);
+    return lined(code, room);
+}
+
+int pciex_dpi_monitor_acted(void *handle, int requester, uint32_t number)
+{
+    uint8_t room[PCIEX_LINE];
+    const uint32_t code = handle ? pciex_monitor_acted((pciex_monitor *)handle, requester_of(requester), number, room,
+                                                       sizeof room)
+                                 : PCIEX_NULL;
+    return lined(code, room);
+}
+
+int pciex_dpi_monitor_open(void *handle)
+{
+    size_t count = 0;
+    const uint32_t code = handle ? pciex_monitor_open((pciex_monitor *)handle, &count) : PCIEX_NULL;
+    say_line("");
+    return code == 0 ? (int)count : -(int)code;
+}
+
 /* ---- the checker, packets in words, and names */
 
 int pciex_dpi_check(const char *text)
