@@ -38,7 +38,7 @@ wants "tlp on packets.txt" 1 examples/packets.out "$room/nothing"
 grep -v '^4C0000' examples/packets.txt | grep -v ' 01000500 .* 07000000$' > "$room/sound.txt"
 grep -v '^fault' examples/packets.out > "$room/faultless"
 cat > "$room/reasons" << 'end'
-pciex: line 17: 'add 41 07000000 from 0100 tag 05' is refused: Unaligned (an operand's address is a multiple of its size, any other of 4)
+pciex: line 17: 'add 41 07000000 from 0100 tag 05' is refused: Unaligned (an operand's address is a multiple of the operand's size, any other of 4)
 pciex: line 18, column 16: the line ends where 'from' is expected
 end
 of_file examples/words.txt encode
@@ -54,7 +54,7 @@ for name in lost_ack write_passes_read credits stopped_link first_script; do
     wants "step on $name.txt" 0 examples/$name.out "$room/nothing"
 done
 cat > "$room/reasons" << 'end'
-pciex: line 9: 'submit 1 add 40 01000000' is refused: NoCredits NP (the lane that the packet would enter has not the non-posted credits)
+pciex: line 9: 'submit 1 add 40 01000000' is refused: NoCredits NP (the lane that the packet would enter has too few non-posted credits)
 end
 of_file examples/credits_used_up.txt step
 wants "step on credits_used_up.txt" 1 examples/credits_used_up.out "$room/reasons"
@@ -76,7 +76,7 @@ done
 sed 's/^submit/collect 1\nsubmit/' examples/first_script.txt > "$room/refused.txt"
 printf 'refused 3 Idle\n' | cat - examples/first_script.out > "$room/told"
 cat > "$room/reasons" << 'end'
-pciex: line 3: 'collect 1' is refused: Idle (there is nothing to send, to deliver, to replay or to collect, or no stopped sender to retrain)
+pciex: line 3: 'collect 1' is refused: Idle (there is nothing to send, deliver, replay, retrain or collect)
 end
 of_file "$room/refused.txt" step --keep-going
 wants "step --keep-going on a refusal" 1 "$room/told" "$room/reasons"

@@ -13,36 +13,36 @@ use std::io::Write;
 const MEANINGS: [(&str, &str); 13] = [
     (
         "NoSuchPart",
-        "the fabric has no such requester or lane, or the lane is not one that the switch forwards from",
+        "the fabric has no such requester or lane, or the switch does not forward from the lane",
     ),
     (
         "Idle",
-        "there is nothing to send, to deliver, to replay or to collect, or no stopped sender to retrain",
+        "there is nothing to send, deliver, replay, retrain or collect",
     ),
     (
         "NotTakeable",
-        "there is no packet at the place, or it may not pass one before it",
+        "no packet is at this position, or it may not pass an earlier one",
     ),
     ("TagsUsed", "the requester has 256 open requests"),
     (
         "NumbersUsed",
-        "the requester has had all 4294967295 numbers",
+        "the requester has used all 4294967295 request numbers",
     ),
     (
         "NoCredits P",
-        "the lane that the packet would enter has not the posted credits",
+        "the lane that the packet would enter has too few posted credits",
     ),
     (
         "NoCredits NP",
-        "the lane that the packet would enter has not the non-posted credits",
+        "the lane that the packet would enter has too few non-posted credits",
     ),
     (
         "NoCredits Cpl",
-        "the lane that the packet would enter has not the completion credits",
+        "the lane that the packet would enter has too few completion credits",
     ),
     (
         "WindowFull",
-        "the lane that the packet would enter keeps 2047 packets",
+        "the lane that the packet would enter has a full replay buffer: 2047 packets",
     ),
     (
         "LengthMismatch",
@@ -50,7 +50,7 @@ const MEANINGS: [(&str, &str); 13] = [
     ),
     (
         "ByteEnables",
-        "the byte enables are against the rule for this many DW at this address",
+        "the byte enables break the rule for this number of DW at this address",
     ),
     (
         "OperandSize",
@@ -58,7 +58,7 @@ const MEANINGS: [(&str, &str); 13] = [
     ),
     (
         "Unaligned",
-        "an operand's address is a multiple of its size, any other of 4",
+        "an operand's address is a multiple of the operand's size, any other of 4",
     ),
 ];
 

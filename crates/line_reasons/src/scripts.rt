@@ -40,13 +40,13 @@ const FATE: Field = choice!("a fate", "good", "failed", "lost");
 
 const DLLP: Field = choice!("a kind of DLLP", "ack", "p", "np", "cpl");
 
-const PLACE: Field = numeral!("a place", "a number from 0 on", Radix::Decimal, 0, u64::MAX);
+const PLACE: Field = numeral!("a position", "0 or more", Radix::Decimal, 0, u64::MAX);
 
 const REQUESTERS: Field = numeral!("a number of requesters", "1 to 7", Radix::Decimal, 1, 7);
 
 const BASE: Field = numeral!(
     "a base",
-    "hexadecimal, a multiple of 80h, and the memory ends at 2^64 at the latest",
+    "hexadecimal, a multiple of 80h; the memory ends at 2^64 or below",
     Radix::Hexadecimal,
     0,
     u64::MAX

@@ -71,7 +71,7 @@ const ROWS: [(Engine, &str, &str); 44] = [
     (
         Engine::Step,
         "fabric 1 FFFFFFFFFFFFFF80 4096\n",
-        "pciex: line 1, column 10: 'FFFFFFFFFFFFFF80' where a base is expected (hexadecimal, a multiple of 80h, and the memory ends at 2^64 at the latest)\n",
+        "pciex: line 1, column 10: 'FFFFFFFFFFFFFF80' where a base is expected (hexadecimal, a multiple of 80h; the memory ends at 2^64 or below)\n",
     ),
     (
         Engine::Step,
@@ -136,42 +136,42 @@ const ROWS: [(Engine, &str, &str); 44] = [
     (
         Engine::Step,
         "fabric 1 0 4096\nserve \u{7}é\n",
-        "pciex: line 2, column 7: '\\x07\\xC3\\xA9' where a place is expected (a number from 0 on)\n",
+        "pciex: line 2, column 7: '\\x07\\xC3\\xA9' where a position is expected (0 or more)\n",
     ),
     (
         Engine::Step,
         "fabric 1 0 4096\nserve 12345678901234567890123456789012345678901234567890\n",
-        "pciex: line 2, column 7: '1234567890123456789012345678901234567890' where a place is expected (a number from 0 on)\n",
+        "pciex: line 2, column 7: '1234567890123456789012345678901234567890' where a position is expected (0 or more)\n",
     ),
     (
         Engine::Step,
         "fabric 1 0 4096\nforward up1 0\n",
-        "pciex: line 2: 'forward up1 0' is refused: NotTakeable (there is no packet at the place, or it may not pass one before it)\n",
+        "pciex: line 2: 'forward up1 0' is refused: NotTakeable (no packet is at this position, or it may not pass an earlier one)\n",
     ),
     (
         Engine::Step,
         "fabric 1 0 4096\ncollect 1\n",
-        "pciex: line 2: 'collect 1' is refused: Idle (there is nothing to send, to deliver, to replay or to collect, or no stopped sender to retrain)\n",
+        "pciex: line 2: 'collect 1' is refused: Idle (there is nothing to send, deliver, replay, retrain or collect)\n",
     ),
     (
         Engine::Step,
         "fabric 1 0 4096\nsubmit 1 read 42 1 F 0\n",
-        "pciex: line 2: 'submit 1 read 42 1 F 0' is refused: Profile Unaligned (an operand's address is a multiple of its size, any other of 4)\n",
+        "pciex: line 2: 'submit 1 read 42 1 F 0' is refused: Profile Unaligned (an operand's address is a multiple of the operand's size, any other of 4)\n",
     ),
     (
         Engine::Step,
         "fabric 1 0 4096 1 8 1 2 1 8\nsubmit 1 add 40 01000000\nsubmit 1 add 40 01000000\n",
-        "pciex: line 3: 'submit 1 add 40 01000000' is refused: NoCredits NP (the lane that the packet would enter has not the non-posted credits)\n",
+        "pciex: line 3: 'submit 1 add 40 01000000' is refused: NoCredits NP (the lane that the packet would enter has too few non-posted credits)\n",
     ),
     (
         Engine::StepOn,
         "fabric 1 0 4096\n# idle\ncollect 1\nsubmit 1 add 40 01000000\nsettle\nserve 0\nserve x\nserve 0\n",
-        "pciex: line 3: 'collect 1' is refused: Idle (there is nothing to send, to deliver, to replay or to collect, or no stopped sender to retrain)\npciex: line 6: 'serve 0' is refused: NotTakeable (there is no packet at the place, or it may not pass one before it)\npciex: line 7, column 7: 'x' where a place is expected (a number from 0 on)\n",
+        "pciex: line 3: 'collect 1' is refused: Idle (there is nothing to send, deliver, replay, retrain or collect)\npciex: line 6: 'serve 0' is refused: NotTakeable (no packet is at this position, or it may not pass an earlier one)\npciex: line 7, column 7: 'x' where a position is expected (0 or more)\n",
     ),
     (
         Engine::StepOnTraced,
         "fabric 1 0 4096\ncollect 2\nsettle up1\n",
-        "pciex: line 2: 'collect 2' is refused: NoSuchPart (the fabric has no such requester or lane, or the lane is not one that the switch forwards from)\npciex: line 3, column 8: 'up1' where the line's end is expected\n",
+        "pciex: line 2: 'collect 2' is refused: NoSuchPart (the fabric has no such requester or lane, or the switch does not forward from the lane)\npciex: line 3, column 8: 'up1' where the line's end is expected\n",
     ),
     (
         Engine::Check,
@@ -196,7 +196,7 @@ const ROWS: [(Engine, &str, &str); 44] = [
     (
         Engine::Check,
         "pciex-trace 1\nmemory 40 4096\n",
-        "pciex: line 2, column 8: '40' where a base is expected (hexadecimal, a multiple of 80h, and the memory ends at 2^64 at the latest)\n",
+        "pciex: line 2, column 8: '40' where a base is expected (hexadecimal, a multiple of 80h; the memory ends at 2^64 or below)\n",
     ),
     (
         Engine::Check,
