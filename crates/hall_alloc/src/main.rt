@@ -2,7 +2,7 @@
 //! allocation is refused prints what a whole run prints, and one line `refused` besides.
 #![tactic(auto)]
 
-use hall_tests::printed::{add_and_meet, write_then_read};
+use hall_driving::printed::{add_and_meet, write_then_read};
 use std::io;
 
 fn main(rt: HostRuntime) -> io::Result<()> {

@@ -1,8 +1,8 @@
 //! Worked scripts as tables.
-use crate::beside::{Act, Asked, event_of};
 use dllp_core::Class;
 use fabric_core::{Event, LaneName};
 use hall_core::WorkEvent;
+use hall_driving::beside::{Act, Asked, event_of};
 use lane_core::{DllpKind, Fate};
 use std::alloc::Global;
 

@@ -5,13 +5,13 @@ ghost use Rattle.hall_laws.specs.Calls.{IsIdle};
 ghost use Rattle.hall_laws.specs.Standing.{token_of};
 ghost use Rattle.hall_core.specs.Views.{IsSeatOf, AreSeatsOf};
 
-use crate::beside::{Act, Asked, Told, ends_so, goes_so, made, told_by_hall};
-use crate::drive::{OpenFault, last_seat, last_worker, opened, small, two_and_a_worker};
 use crate::scripts::LEAST;
 use dllp_core::Class;
 use fabric_core::{Config, Fabric, LaneName};
 use hall_core::laws::{Place, put_back, take};
 use hall_core::{Hall, HallFault, HallRefusal, Part, ReqSeat, StillHeld, WorkEvent, WorkSeat};
+use hall_driving::beside::{Act, Asked, Told, ends_so, goes_so, made, told_by_hall};
+use hall_driving::drive::{OpenFault, last_seat, last_worker, opened, small, two_and_a_worker};
 use hall_laws::slots::WORDS_APART;
 use lane_core::{DllpKind, Fate};
 use std::alloc::Global;

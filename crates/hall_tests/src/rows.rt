@@ -2,13 +2,13 @@
 ghost use Rattle.std.specs.Prelude.{IfSome};
 ghost use Rattle.hall_core.specs.Views.{IsSeatOf};
 
-use crate::drive::{
-    add_one, back, collect, is_answer, one_and_a_worker, out_and_served, play, pump, read, small,
-    submit, two_and_a_worker, write,
-};
 use crate::ends::leaves;
 use fabric_core::{Config, LaneName, Refusal};
 use hall_core::{Hall, HallRefusal, ReqSeat, WorkEvent, WorkSeat};
+use hall_driving::drive::{
+    add_one, back, collect, is_answer, one_and_a_worker, out_and_served, play, pump, read, small,
+    submit, two_and_a_worker, write,
+};
 use std::alloc::Global;
 use std::test::Fail;
 use tlp_core::Op;

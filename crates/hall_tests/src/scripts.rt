@@ -5,11 +5,11 @@ use crate::acts::{
     CREDITS_COME_BACK, CREDITS_RUN_OUT, LOST_ACK, NAK_AND_REPLAY, READ_BEHIND_WRITE,
     WRITE_PASSES_READ, events_of,
 };
-use crate::beside::{Act, Asked, ends_so, event_of, made, operation_of};
-use crate::drive::{collect, one_and_a_worker, pump, read, small, submit, two_and_a_worker};
 use crate::rows::is_submitted;
 use fabric_core::{Config, Event, Fabric, Seen};
 use hall_core::{Answered, Hall, HallRefusal, ReqSeat, Submitted, WorkEvent, WorkSeat};
+use hall_driving::beside::{Act, Asked, ends_so, event_of, made, operation_of};
+use hall_driving::drive::{collect, one_and_a_worker, pump, read, small, submit, two_and_a_worker};
 use history_check::Record;
 use lane_core::LaneCredits;
 use std::alloc::Global;

@@ -3,14 +3,14 @@ ghost use Rattle.std.specs.Prelude.{◌≤◌, IfOk};
 ghost use Rattle.std.specs.Thread.{IsSync};
 ghost use Rattle.hall_core.specs.Views.{IsSeatOf};
 
-use crate::drive::{
-    OpenFault, add_one, collect, last_seat, last_worker, opened, pump, small, submit,
-    two_and_a_worker, write,
-};
 use crate::ends::leaves;
 use dllp_core::Class;
 use fabric_core::{Config, LaneName, Refusal, Seen};
 use hall_core::{Hall, HallRefusal, ReqSeat, WorkEvent, WorkSeat};
+use hall_driving::drive::{
+    OpenFault, add_one, collect, last_seat, last_worker, opened, pump, small, submit,
+    two_and_a_worker, write,
+};
 use lane_core::{Arrival, DllpKind, Fate, LaneCredits};
 use link_receiver::Reception;
 use std::alloc::Global;

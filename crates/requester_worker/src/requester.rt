@@ -3,15 +3,13 @@ ghost use Rattle.std.specs.Prelude.{◌≡◌, ◌+◌, ◌<◌, ◌≤◌, IsTr
 ghost use Rattle.hall_core.specs.Views.{IsSeatOf};
 ghost use Rattle.requester_worker.specs.Following.{IsUnusedSeat, Follows, IsSame, Finishes};
 
-use fabric_core::Refusal;
+use crate::refused::stop_of;
 use hall_core::{Hall, HallRefusal, ReqSeat};
 use history_check::Record;
-use lane_core::LaneRefusal;
 use recorder::{Pusher, Recorder};
-use requester_core::SubmitRefusal;
 use std::thread;
 use tlp_core::{Op, copy_of};
-use worker_turns::{Gate, Stop, Turns};
+use worker_turns::{Gate, Turns};
 
 /// A requester at work.
 #[derive(Drop)]
@@ -37,6 +35,19 @@ pub enum Round {
     Nothing,
     Ended,
     Stopped,
+}
+
+/// A refused call is tried again, or ends the run.
+fn go_on<G: Gate>(refusal: HallRefusal, turns: &Turns<'_, G>) -> Round
+    ensures { (¬ (result ≡ Round.Done)) × (¬ (result ≡ Round.Ended)) }
+{
+    match stop_of(refusal) {
+        Some(stop) => {
+            turns.stop(stop);
+            Round::Stopped
+        }
+        None => Round::Nothing,
+    }
 }
 
 impl<'a> Requester<'a> {
@@ -120,12 +131,7 @@ impl<'a> Requester<'a> {
                 }
                 Round::Done
             }
-            Err(HallRefusal::Busy { .. }) => Round::Nothing,
-            Err(HallRefusal::Core(refusal)) if may_try_again(refusal) => Round::Nothing,
-            Err(HallRefusal::Core(refusal)) => {
-                turns.stop(stop_of(refusal));
-                Round::Stopped
-            }
+            Err(refusal) => go_on(refusal, turns),
         }
     }
 
@@ -153,11 +159,8 @@ impl<'a> Requester<'a> {
                 self.due -= 1;
                 Round::Done
             }
-            Ok(None) | Err(HallRefusal::Busy { .. }) => Round::Nothing,
-            Err(HallRefusal::Core(refusal)) => {
-                turns.stop(stop_of(refusal));
-                Round::Stopped
-            }
+            Ok(None) => Round::Nothing,
+            Err(refusal) => go_on(refusal, turns),
         }
     }
 }
@@ -217,23 +220,5 @@ impl<'a> Requester<'a> {
             pusher,
             whole,
         }
-    }
-}
-
-/// Whether a submission that was refused so may be accepted later: it lacks credits, tags or room in the
-/// window.
-fn may_try_again(refusal: Refusal) -> bool {
-    matches!(
-        refusal,
-        Refusal::Submit(SubmitRefusal::TagsUsed)
-            | Refusal::Lane(LaneRefusal::NoCredits(_) | LaneRefusal::WindowFull)
-    )
-}
-
-/// Why a refusal ends the run.
-fn stop_of(refusal: Refusal) -> Stop {
-    match refusal {
-        Refusal::Memory | Refusal::Lane(LaneRefusal::Memory) => Stop::Memory,
-        refusal => Stop::Core(refusal),
     }
 }

@@ -7,7 +7,7 @@ use crate::additions::{add, plan_with};
 use fabric_core::{Config, LaneName};
 use hall_core::laws::take;
 use hall_core::{Hall, Part, ReqSeat, StillHeld, WorkSeat};
-use hall_tests::drive::{bytes_of, last_seat, last_worker, opened};
+use hall_driving::drive::{bytes_of, last_seat, last_worker, opened};
 use history_check::{Flaw, FlawKind, Record};
 use run_report::{fabric_of, report_of};
 use seq_memory::Reply;
@@ -27,8 +27,8 @@ enum Told {
 /// What requesters leave.
 struct Row {
     records: &'static [Told],
-    /// The part that a seat still has.
-    held: Option<Part>,
+    /// The parts that the first work seat and the second still have.
+    held: [Option<Part>; 2],
     /// Whether each requester did all of its script.
     whole: bool,
     halt: Option<RunHalt>,
@@ -40,6 +40,9 @@ const STILL_HELD: RunHalt = RunHalt::Held(StillHeld {
     part: HELD,
     word: 2,
 });
+
+/// A part whose slot is before that of the other.
+const HELD_BEFORE: Part = Part::SenderEnd(LaneName::Outward);
 
 /// The answer to a request that was submitted and did not act.
 const ABSENT: RunHalt = RunHalt::Flaw(Flaw {
@@ -53,54 +56,64 @@ const UNASKED: RunHalt = RunHalt::Flaw(Flaw {
     place: 0,
 });
 
-static ROWS: [Row; 8] = [
+static ROWS: [Row; 9] = [
     Row {
         records: &[],
-        held: None,
+        held: [None, None],
         whole: true,
         halt: None,
     },
     Row {
         records: &[Told::Submitted],
-        held: None,
+        held: [None, None],
         whole: true,
         halt: None,
     },
     Row {
         records: &[],
-        held: None,
+        held: [None, None],
         whole: false,
         halt: Some(RunHalt::Missing),
     },
     Row {
         records: &[Told::Submitted, Told::Answered],
-        held: None,
+        held: [None, None],
         whole: true,
         halt: Some(ABSENT),
     },
     Row {
         records: &[Told::Answered],
-        held: None,
+        held: [None, None],
         whole: false,
         halt: Some(UNASKED),
     },
     Row {
         records: &[],
-        held: Some(HELD),
+        held: [Some(HELD), None],
         whole: true,
         halt: Some(STILL_HELD),
     },
     Row {
         records: &[Told::Answered],
-        held: Some(HELD),
+        held: [Some(HELD), None],
         whole: true,
         halt: Some(STILL_HELD),
     },
     Row {
         records: &[],
-        held: Some(HELD),
+        held: [Some(HELD), None],
         whole: false,
         halt: Some(STILL_HELD),
+    },
+    // Of two the one in the first slot is told.
+    Row {
+        records: &[],
+        held: [Some(HELD), Some(HELD_BEFORE)],
+        whole: true,
+        halt: Some(RunHalt::Held(StillHeld {
+            part: HELD_BEFORE,
+            word: 3,
+        })),
     },
 ];
 
@@ -126,9 +139,12 @@ fn records_of(told: &[Told], alloc: Global) -> Result<Vec<Record>, AllocError> {
 }
 
 /// What is taken by the seat is not put back.
-fn keep(hall: &Hall, holder: WorkSeat, part: Part)
+pub(super) fn keep(hall: &Hall, holder: WorkSeat, part: Option<Part>)
     requires { IsSeatOf hall.now holder × (hall.now.config.requesters ≡ 1) }
 {
+    let Some(part) = part else {
+        return;
+    };
     let slot = part.slot();
     let number = holder.number() as u64;
     let mut place = holder.into_place();
@@ -141,18 +157,18 @@ fn keep(hall: &Hall, holder: WorkSeat, part: Part)
 fn halt_of(
     hall: Hall,
     seat: ReqSeat,
-    holder: WorkSeat,
+    first: WorkSeat,
+    second: WorkSeat,
     config: Config,
     records: Vec<Record>,
     row: &Row,
     alloc: Global,
 ) -> Option<RunHalt>
-    requires hall { IsSeatOf hall seat × IsSeatOf hall holder × (hall.config.requesters ≡ 1) }
+    requires hall { IsSeatOf hall seat × IsSeatOf hall first × IsSeatOf hall second × (hall.config.requesters ≡ 1) }
     requires config { IsConfig config }
 {
-    if let Some(part) = row.held {
-        keep(&hall, holder, part);
-    }
+    keep(&hall, first, row.held[0]);
+    keep(&hall, second, row.held[1]);
     report_of(alloc, config, hall, seat, records, row.whole).err()
 }
 
@@ -178,16 +194,17 @@ fn halt_of_new(
 ) -> Option<Option<RunHalt>>
     requires { IsConfig config × (config.requesters ≡ 1) }
 {
-    let Ok((hall, mut seats, mut workers)) = opened(config, 1, alloc) else {
+    let Ok((hall, mut seats, mut workers)) = opened(config, 2, alloc) else {
         return None;
     };
     match (
         last_seat(&hall, &mut seats),
         last_worker(&hall, &mut workers),
+        last_worker(&hall, &mut workers),
     ) {
-        (Some(seat), Some(holder)) => {
-            Some(halt_of(hall, seat, holder, config, records, row, alloc))
-        }
+        (Some(seat), Some(second), Some(first)) => Some(halt_of(
+            hall, seat, first, second, config, records, row, alloc,
+        )),
         _ => None,
     }
 }

@@ -1,5 +1,5 @@
-//! Runs by worker threads: additions, each counted once; the numbers of workers; what ends a run, and what is left of it;
-//! mixed operations, checked as values and as text; what a run writes.
+//! Runs by worker threads: additions, each counted once; the numbers and the rounds of workers; what a requester tries
+//! again; what ends a run, and what is left of it; mixed operations, checked as values and as text; what a run writes.
 #![tactic(auto)]
 
 #[cfg(test)]
@@ -11,4 +11,8 @@ mod mixed;
 #[cfg(test)]
 mod numbers;
 #[cfg(test)]
+mod refusals;
+#[cfg(test)]
 mod reports;
+#[cfg(test)]
+mod rounds;

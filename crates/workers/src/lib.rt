@@ -6,10 +6,11 @@
 //! none. No worker but the checker can wait: its loop takes no `Wait`.
 #![tactic(auto)]
 
-mod parts;
+mod jobs;
 mod running;
 mod threads;
 
+pub use jobs::{Job, Worker};
 pub use run_report::{Report, RunHalt, RunPlan};
 pub use running::{run_workers, run_workers_counting};
 pub use worker_turns::{Gate, OpenGate};

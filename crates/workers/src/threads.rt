@@ -5,7 +5,7 @@ ghost use Rattle.hall_core.specs.Views.{IsSeatOf};
 ghost use Rattle.requester_worker.specs.Following.{IsUnusedSeat, Follows, Finishes};
 ghost use Rattle.workers.specs.Running.{AreUnusedSeats, AreSeats, AreHandles, AreFinished, AreDone, AreWorkSeats};
 
-use crate::parts::{Part, Worker};
+use crate::jobs::{Job, Worker};
 use fabric_core::LaneName;
 use fault_plan::Plan;
 use hall_core::{Hall, ReqSeat, WorkSeat};
@@ -134,10 +134,10 @@ fn start_all<'s, E, G: Gate + Sync>(
 }
 
 /// What another worker's thread does.
-fn one_work<G: Gate>(mut worker: Worker<'_>, part: Part, mut turns: Turns<'_, G>)
+fn one_work<G: Gate>(worker: Worker<'_>, job: Job, mut turns: Turns<'_, G>)
     requires { IsSeatOf worker.hall.now worker.seat }
 {
-    worker.run(part, &mut turns);
+    worker.run(job, &mut turns);
 }
 
 /// Starts the thread of another worker. It is joined with the scope.
@@ -146,7 +146,7 @@ fn start_work<'s, E, G: Gate + Sync>(
     run: Run<'s>,
     gate: &'s G,
     seat: WorkSeat,
-    part: Part,
+    job: Job,
     number: u32,
 ) -> Result<(), AllocError>
     requires { IsSeatOf run.hall.now seat }
@@ -162,7 +162,7 @@ fn start_work<'s, E, G: Gate + Sync>(
     let handle = scope.spawn(move || {
         one_work(
             Worker::new(hall, seat, plan, requesters),
-            part,
+            job,
             Turns::new(number, limit, gate, shared),
         )
     })?;
@@ -172,42 +172,42 @@ fn start_work<'s, E, G: Gate + Sync>(
 
 /// The workers beside the requesters, with their numbers. A lane's second worker has the first's
 /// number plus 100.
-fn parts_of(alloc: Global, requesters: u8) -> Result<Vec<(Part, u32)>, AllocError>
+fn jobs_of(alloc: Global, requesters: u8) -> Result<Vec<(Job, u32)>, AllocError>
     requires { requesters < 8 }
 {
-    let mut parts = Vec::new(alloc);
+    let mut jobs = Vec::new(alloc);
     for i in 0..requesters {
         let (up, down) = (LaneName::Up(i + 1), LaneName::Down(i + 1));
         let number = u32::from(i) + 8;
-        parts.push((Part::Sender(up), number))?;
-        parts.push((Part::Receiver(up), number + 100))?;
-        parts.push((Part::Sender(down), number + 7))?;
-        parts.push((Part::Receiver(down), number + 107))?;
+        jobs.push((Job::Sender(up), number))?;
+        jobs.push((Job::Receiver(up), number + 100))?;
+        jobs.push((Job::Sender(down), number + 7))?;
+        jobs.push((Job::Receiver(down), number + 107))?;
     }
-    parts.push((Part::Sender(LaneName::Inward), 22))?;
-    parts.push((Part::Receiver(LaneName::Inward), 122))?;
-    parts.push((Part::Sender(LaneName::Outward), 23))?;
-    parts.push((Part::Receiver(LaneName::Outward), 123))?;
-    parts.push((Part::Switch, 24))?;
-    parts.push((Part::Completer, 25))?;
-    Ok(parts)
+    jobs.push((Job::Sender(LaneName::Inward), 22))?;
+    jobs.push((Job::Receiver(LaneName::Inward), 122))?;
+    jobs.push((Job::Sender(LaneName::Outward), 23))?;
+    jobs.push((Job::Receiver(LaneName::Outward), 123))?;
+    jobs.push((Job::Switch, 24))?;
+    jobs.push((Job::Completer, 25))?;
+    Ok(jobs)
 }
 
 /// Starts all workers beside the requesters.
-fn start_parts<'s, E, G: Gate + Sync>(
+fn start_jobs<'s, E, G: Gate + Sync>(
     scope: &Scope<'s, E>,
     run: Run<'s>,
     gate: &'s G,
     mut seats: Vec<WorkSeat>,
-    parts: Vec<(Part, u32)>,
+    jobs: Vec<(Job, u32)>,
 ) -> Result<(), AllocError>
     requires { AreWorkSeats run.hall.now seats.items }
 {
-    for (part, number) in parts {
+    for (job, number) in jobs {
         let Some(seat) = seats.pop() else {
             break;
         };
-        start_work(scope, run, gate, seat, part, number)?;
+        start_work(scope, run, gate, seat, job, number)?;
     }
     Ok(())
 }
@@ -223,8 +223,8 @@ fn start_others<'s, E, G: Gate + Sync>(
     requires count { (run.requesters < 8) }
     requires seats { AreWorkSeats run.hall.now workers.items }
 {
-    let parts = parts_of(alloc, run.requesters)?;
-    start_parts(scope, run, gate, workers, parts)
+    let jobs = jobs_of(alloc, run.requesters)?;
+    start_jobs(scope, run, gate, workers, jobs)
 }
 
 /// How many of the records from that place on are answers.
