@@ -1,3 +1,4 @@
 pub mod Check
 pub mod Upgrade
+pub mod Rewriter
 pub mod Reasons

@@ -1,10 +1,10 @@
 //! What the subcommands that read a trace share.
-ghost use Rattle.std.specs.Prelude.{◌≡◌, ◌++◌, ◌∷◌, [], true, false, string_bytes, IfOk, IfErr, OnErr, OnOk, Ok, Err};
+ghost use Rattle.std.specs.Prelude.{◌≡◌, ◌++◌, ◌∷◌, [], true, false, IfOk, IfErr, OnErr, OnOk, Ok, Err};
 ghost use Rattle.history_check.specs.Claim.{claim_of};
 ghost use Rattle.trace_format.specs.Texts.{trace_text};
 ghost use Rattle.trace_format.specs.Reading.{nothing_read, after_line, after_long_line, at_end};
 ghost use Rattle.trace_engine.specs.Check.{fault_line};
-ghost use Rattle.trace_engine.specs.Reasons.{faulty_line};
+ghost use Rattle.trace_engine.specs.Reasons.{line_of_fault};
 
 use crate::lines::write_fault;
 use arrayvec::ArrayString;
@@ -15,13 +15,13 @@ use std::alloc::{AllocError, Global};
 use std::io::Write;
 use std::marker::Model;
 use std::mem;
-use trace_format::{ReadFault, TraceReader, write_spent_trace, write_trace};
+use trace_format::{ReadFault, TraceReader, write_trace};
 
-/// The number of the first line that can't be read, if one was found so far.
-fn faulty_line(reader: &TraceReader) -> Option<u64>
-    ensures { result ≡ faulty_line reader.now }
+/// The number of the line that can't be read, if there is one.
+pub(crate) fn line_of_fault(fault: Option<ReadFault>) -> Option<u64>
+    ensures { result ≡ line_of_fault fault }
 {
-    match reader.fault() {
+    match fault {
         Some(fault) => Some(fault.line),
         None => None,
     }
@@ -69,7 +69,9 @@ impl<E: Write + Drop> TraceInput<E> {
         ensures err { OnErr result (self.new ≡ self.old) }
     {
         self.reader.line(line)?;
-        let _ = self.reasons.take_line(line, faulty_line(&self.reader));
+        let _ = self
+            .reasons
+            .take_line(line, line_of_fault(self.reader.fault()));
         Ok(())
     }
 
@@ -78,7 +80,9 @@ impl<E: Write + Drop> TraceInput<E> {
         ensures { self.new ≡ after_long_line self.old }
     {
         self.reader.long_line();
-        let _ = self.reasons.take_long_line(faulty_line(&self.reader));
+        let _ = self
+            .reasons
+            .take_long_line(line_of_fault(self.reader.fault()));
     }
 
     /// Takes the end of the text: gives what was read, or the first fault, and keeps nothing.
@@ -111,31 +115,15 @@ pub fn tell_fault(fault: ReadFault, out: &mut Vec<u8>) -> Result<bool, AllocErro
 }
 
 /// Adds the text, which takes the place of nothing where nothing is there.
-fn hand_over(text: String, out: &mut Vec<u8>) -> Result<(), AllocError>
-    ensures ok { OnOk result (out.new.items ≡ out.old.items ++ string_bytes text) }
+pub(crate) fn hand_over(text: Vec<u8>, out: &mut Vec<u8>) -> Result<(), AllocError>
+    ensures ok { OnOk result (out.new.items ≡ out.old.items ++ text.items) }
     ensures err { OnErr result (out.new.items ≡ out.old.items) }
 {
     if out.is_empty() {
-        *out = text.into_bytes();
+        *out = text;
         return Ok(());
     }
-    out.extend_from_slice(text.as_bytes())
-}
-
-/// Adds the text of the trace and its history, which aren't used further.
-pub(crate) fn tell_spent_trace(
-    alloc: Global,
-    trace: Trace,
-    history: Vec<Entry>,
-    out: &mut Vec<u8>,
-) -> Result<bool, AllocError>
-    ensures ok { IfOk result (λ told. (told ≡ false) × (out.new.items ≡ out.old.items ++ trace_text (claim_of trace history.items))) }
-    ensures err { OnErr result (out.new.items ≡ out.old.items) }
-{
-    let text = write_spent_trace(alloc, trace, history.as_slice())?;
-    drop(history);
-    hand_over(text, out)?;
-    Ok(false)
+    out.extend_from_slice(text.as_slice())
 }
 
 /// Adds the text of the trace and its history.
@@ -149,6 +137,6 @@ pub fn tell_trace(
     ensures err { OnErr result (out.new.items ≡ out.old.items) }
 {
     let text = write_trace(alloc, trace, history)?;
-    hand_over(text, out)?;
+    hand_over(text.into_bytes(), out)?;
     Ok(false)
 }

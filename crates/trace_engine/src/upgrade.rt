@@ -1,46 +1,94 @@
 //! The subcommand `upgrade`: a trace in the second version of its text.
-ghost use Rattle.std.specs.Prelude.{IfOk, OnErr};
+ghost use Rattle.std.specs.Prelude.{◌≡◌, IfOk, IfErr, OnErr, Ok, Err};
+ghost use Rattle.trace_format.specs.Rewriting.{nothing_rewritten, text_at_end};
 ghost use Rattle.line_engine.specs.Run.{IsWhole, IsPart};
 ghost use Rattle.trace_engine.specs.Upgrade.{out_upgrade};
 
-use crate::traces::{TraceInput, tell_fault, tell_spent_trace};
+use crate::traces::{hand_over, line_of_fault, tell_fault};
 use line_engine::{EngineFault, Responder, run};
+use reasons::TraceReasons;
 use std::alloc::{AllocError, Global};
 use std::io::{Read, Write, sink};
 use std::marker::Model;
+use std::mem;
+use trace_format::{ReadFault, TraceRewriter, a_rewriting_is_a_reading};
 
-/// A trace that is read, and then written.
+/// A trace that is written line by line as it is read, and the reasons that are told of it. The text is
+/// handed on at the end: behind a fault nothing of it counts.
 #[derive(Drop)]
 struct Upgrader<E: Write> {
-    input: TraceInput<E>,
+    alloc: Global,
+    rewriter: TraceRewriter,
+    reasons: TraceReasons<E>,
 }
 
 impl<E: Write> Model for Upgrader<E> {
-    ghost use Rattle.trace_format.specs.Reading.{Reading};
+    ghost use Rattle.trace_format.specs.Rewriting.{Rewriting};
+    ghost use Rattle.trace_engine.specs.Reasons.{Agrees};
 
-    ghost Value = { Reading };
+    ghost Value = { Rewriting };
 
-    ghost view = { λ u. u.input };
+    ghost view = { λ u. u.rewriter };
+
+    ghost invariant = { λ u. Agrees u.rewriter.reading u.reasons };
+}
+
+impl<E: Write + Drop> Upgrader<E> {
+    fn new(alloc: Global, errors: E) -> Upgrader<E>
+        ensures { result ≡ nothing_rewritten }
+    {
+        Upgrader {
+            alloc,
+            rewriter: TraceRewriter::new(alloc),
+            reasons: TraceReasons::new(errors),
+        }
+    }
+
+    /// Takes the end of the text: gives the text in the second version, or the first fault, and keeps
+    /// nothing.
+    fn end(&mut self) -> Result<Vec<u8>, ReadFault>
+        ensures ok { IfOk result (λ text. text_at_end self.old ≡ Ok text.items) }
+        ensures err { IfErr result (λ f. text_at_end self.old ≡ Err f) }
+        ensures gone { self.new ≡ nothing_rewritten }
+    {
+        let rewriter = mem::replace(&mut self.rewriter, TraceRewriter::new(self.alloc));
+        match rewriter.end() {
+            Ok(text) => Ok(text),
+            Err(fault) => {
+                let _ = self.reasons.take_end(fault.line);
+                Err(fault)
+            }
+        }
+    }
 }
 
 impl<E: Write + Drop> Responder for Upgrader<E> {
-    ghost use Rattle.trace_engine.specs.Upgrade.{upgrade_responses};
+    ghost use Rattle.trace_engine.specs.Rewriter.{rewriter_responses};
 
-    ghost responses = { upgrade_responses };
+    ghost responses = { rewriter_responses };
 
     fn on_line(&mut self, line: &[u8], _out: &mut Vec<u8>) -> Result<bool, AllocError> {
-        self.input.line(line)?;
+        self.rewriter.line(line)?;
+        let _ = self
+            .reasons
+            .take_line(line, line_of_fault(self.rewriter.fault()));
         Ok(false)
     }
 
     fn on_long_line(&mut self, _out: &mut Vec<u8>) -> Result<bool, AllocError> {
-        self.input.long_line();
+        self.rewriter.long_line();
+        let _ = self
+            .reasons
+            .take_long_line(line_of_fault(self.rewriter.fault()));
         Ok(false)
     }
 
     fn on_end(&mut self, out: &mut Vec<u8>) -> Result<bool, AllocError> {
-        match self.input.end() {
-            Ok((trace, history)) => { tell_spent_trace(self.input.alloc(), trace, history, out) }
+        match self.end() {
+            Ok(text) => {
+                hand_over(text, out)?;
+                Ok(false)
+            }
             Err(fault) => tell_fault(fault, out),
         }
     }
@@ -56,15 +104,15 @@ pub fn run_upgrade_with_reasons<R: Read, W: Write, E: Write>(
     ensures ok { IfOk result (IsWhole out_upgrade (R.remaining reader.old) (R.remaining reader.new) (W.contents writer.old) (W.contents writer.new)) }
     ensures err { OnErr result (IsPart out_upgrade (R.remaining reader.old) (R.remaining reader.new) (W.contents writer.old) (W.contents writer.new)) }
 {
-    let upgrader = Upgrader {
-        input: TraceInput::new(alloc, errors),
-    };
+    a_rewriting_is_a_reading();
+    let upgrader = Upgrader::new(alloc, errors);
     run(alloc, upgrader, reader, writer)
 }
 
 /// Reads the text of a trace, of version 1 or 2, and writes it in version 2, unchecked; or `fault`
 /// with the line that can't be read and why. `Ok` is the exit status, 1 where a fault was told. After
-/// an `Err` what was written is a beginning of the whole output.
+/// an `Err` what was written is a beginning of the whole output. It keeps the text that it is to write,
+/// and neither records nor entries.
 pub fn run_upgrade<R: Read, W: Write>(
     alloc: Global,
     reader: &mut R,

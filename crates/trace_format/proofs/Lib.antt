@@ -3,3 +3,4 @@ mod LineLemmas
 mod TextLemmas
 mod ReadSpelled
 mod ReadBack
+mod RewriteLemmas

@@ -4,4 +4,6 @@ pub mod Forms
 pub mod Reading
 pub mod Endings
 pub mod Texts
+pub mod Rewriting
+pub mod Rewritten
 pub mod Tellable

@@ -57,6 +57,10 @@ counted s = record s { lines = next_line s }
 abbrev pub faulty : Reading → ReadFaultKind → Reading
 faulty s kind = record s { lines = next_line s; fault = Some (fault_at_next s kind) }
 
+-- one line more, which ends a section
+abbrev pub entered : Reading → Section → Reading
+entered s section = record s { lines = next_line s; section = section }
+
 -- ---- sections: each takes its lines, and the line that ends it
 
 abbrev pub in_head : Reading → Option Line → Reading

@@ -3,6 +3,7 @@ ghost use Rattle.std.specs.Prelude.{◌≡◌, List, ℕ, Ok};
 ghost use Rattle.history_check.specs.Claim.{Claim};
 ghost use Rattle.trace_format.specs.Reading.{read_of};
 ghost use Rattle.trace_format.specs.Tellable.{IsTellable};
+ghost use Rattle.trace_format.specs.Rewritten.{RewritingIsReading};
 ghost use Rattle.trace_format.specs.Texts.{trace_text};
 
 use operation_text::{own_digits_spell_number, own_text_spells_operation, own_text_spells_reply};
@@ -27,3 +28,9 @@ pub fn told_trace_is_read_back()
     own_text_spells_operation();
     own_text_spells_reply();
 }
+
+/// What a rewriter has written of lines at their end is the text of what a reader has read of them, or the
+/// same first fault.
+pub fn a_rewriting_is_a_reading()
+    ensures { RewritingIsReading }
+{}

@@ -24,10 +24,12 @@ mod laws;
 mod line;
 mod reader;
 mod reading;
+mod rewriting;
 mod writing;
 
 pub use fault::{ReadFault, ReadFaultKind};
-pub use laws::{own_text_spells_trace, told_trace_is_read_back};
+pub use laws::{a_rewriting_is_a_reading, own_text_spells_trace, told_trace_is_read_back};
 pub use reader::TraceReader;
 pub use reading::read_trace;
-pub use writing::{write_spent_trace, write_trace};
+pub use rewriting::TraceRewriter;
+pub use writing::write_trace;

@@ -77,6 +77,20 @@ impl TraceReader {
         self.fault
     }
 
+    /// The section that goes on.
+    pub(crate) fn section(&self) -> Section
+        ensures { result ≡ self.now.section }
+    {
+        self.section
+    }
+
+    /// The version that the head told.
+    pub(crate) fn version(&self) -> Version
+        ensures { result ≡ self.now.version }
+    {
+        self.version
+    }
+
     /// The number of the line that comes next, from 1; it stays at 2^64 - 1.
     fn next_line(&self) -> u64
         ensures { result ≡ reads.next_line self.now }
@@ -101,13 +115,21 @@ impl TraceReader {
         self.fault_at_next(ReadFaultKind::Memory)
     }
 
-    fn count(&mut self)
+    pub(crate) fn count(&mut self)
         ensures { self.new ≡ reads.counted self.old }
     {
         self.lines = self.lines.saturating_add(1);
     }
 
-    fn tell(&mut self, kind: ReadFaultKind)
+    /// Takes a line that ends a section.
+    pub(crate) fn enter(&mut self, section: Section)
+        ensures { self.new ≡ reads.entered self.old section }
+    {
+        self.section = section;
+        self.count();
+    }
+
+    pub(crate) fn tell(&mut self, kind: ReadFaultKind)
         ensures { self.new ≡ reads.faulty self.old kind }
     {
         self.fault = Some(self.fault_at_next(kind));
@@ -116,7 +138,7 @@ impl TraceReader {
 }
 
 impl TraceReader {
-    fn in_head(&mut self, line: Line)
+    pub(crate) fn in_head(&mut self, line: Line)
         ensures { self.new ≡ reads.in_head self.old (Some line) }
     {
         match line {
@@ -129,7 +151,7 @@ impl TraceReader {
         }
     }
 
-    fn in_memory(&mut self, line: Line)
+    pub(crate) fn in_memory(&mut self, line: Line)
         requires { IsLineOfLimits line }
         ensures { self.new ≡ reads.in_memory self.old line }
     {
@@ -201,7 +223,7 @@ impl TraceReader {
     }
 
     /// Takes a line of no form.
-    fn refuse(&mut self)
+    pub(crate) fn refuse(&mut self)
         ensures { self.new ≡ reads.faulty self.old (reads.formless self.old.section) }
     {
         match self.section {

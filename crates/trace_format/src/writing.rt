@@ -36,21 +36,21 @@ fn put_count(count: u64, line: &mut ArrayString<512>)
 }
 
 /// Writes the line of the memory.
-fn put_memory(trace: &Trace, line: &mut ArrayString<512>)
+pub(crate) fn put_memory(base: u64, size: usize, block: u16, line: &mut ArrayString<512>)
     requires { array_string_len line.old ≡ 0 }
-    ensures { line.new.bytes ≡ memory_line (claim_of trace.now []).memory ++ 10 ∷ [] }
+    ensures { line.new.bytes ≡ memory_line (record { base = base; size = size; block = block; entries = [] }) ++ 10 ∷ [] }
 {
     line.push_str("memory ");
-    write_hexadecimal(trace.base, line);
+    write_hexadecimal(base, line);
     line.push_str(" ");
-    write_decimal(trace.size as u64, line);
+    write_decimal(size as u64, line);
     line.push_str(" ");
-    write_decimal(u64::from(trace.block), line);
+    write_decimal(u64::from(block), line);
     line.push_str("\n");
 }
 
 /// Writes the line of a record.
-fn put_record(seen: &Record, line: &mut ArrayString<512>)
+pub(crate) fn put_record(seen: &Record, line: &mut ArrayString<512>)
     requires { array_string_len line.old ≡ 0 }
     ensures { line.new.bytes ≡ record_line seen.now ++ 10 ∷ [] }
 {
@@ -80,7 +80,7 @@ fn put_record(seen: &Record, line: &mut ArrayString<512>)
 }
 
 /// Writes the line of an entry.
-fn put_entry(entry: &Entry, line: &mut ArrayString<512>)
+pub(crate) fn put_entry(entry: &Entry, line: &mut ArrayString<512>)
     requires { array_string_len line.old ≡ 0 }
     ensures { line.new.bytes ≡ entry_line entry.now ++ 10 ∷ [] }
 {
@@ -123,7 +123,7 @@ fn write_records(alloc: Global, trace: &Trace) -> Result<String, AllocError>
     let mut text = String::new(alloc);
     text.push_str("pciex-trace 2\n")?;
     let mut line = ArrayString::new();
-    put_memory(trace, &mut line);
+    put_memory(trace.base, trace.size, trace.block, &mut line);
     text.push_str(line.as_str())?;
     add_records(&trace.records, &mut text)?;
     text.push_str("history\n")?;
@@ -136,22 +136,6 @@ pub fn write_trace(alloc: Global, trace: &Trace, history: &[Entry]) -> Result<St
     ensures { IfOk result (λ text. string_bytes text ≡ trace_text (claim_of trace.now history.now)) }
 {
     let mut text = write_records(alloc, trace)?;
-    add_entries(history, &mut text)?;
-    text.push_str("end\n")?;
-    Ok(text)
-}
-
-/// What [`write_trace`] writes of a trace that isn't used further: the records are given back before
-/// the entries are written.
-pub fn write_spent_trace(
-    alloc: Global,
-    trace: Trace,
-    history: &[Entry],
-) -> Result<String, AllocError>
-    ensures { IfOk result (λ text. string_bytes text ≡ trace_text (claim_of trace history.now)) }
-{
-    let mut text = write_records(alloc, &trace)?;
-    drop(trace);
     add_entries(history, &mut text)?;
     text.push_str("end\n")?;
     Ok(text)
