@@ -1,0 +1,2 @@
+pub mod Clocking
+pub mod Prefixing

@@ -1,0 +1,80 @@
+//! Copies of the first records.
+ghost use Rattle.std.specs.Prelude.{◌≡◌, ◌≤◌, IfOk, length, take};
+ghost use Rattle.log_runs.specs.Explainable as explainable;
+
+use arrayvec::ArrayVec;
+use history_check::{Record, Trace};
+use seq_memory::Reply;
+use std::alloc::{AllocError, Global};
+use tlp_core::{MAX_PAYLOAD, copy_of};
+
+fn copy_of_data(bytes: &ArrayVec<u8, MAX_PAYLOAD>) -> ArrayVec<u8, MAX_PAYLOAD>
+    ensures { result ≡ bytes.now }
+{
+    let mut copy = ArrayVec::new();
+    let _ = copy.try_extend_from_slice(bytes.as_slice());
+    copy
+}
+
+fn copy_of_reply(reply: &Reply) -> Reply
+    ensures { result ≡ reply.now }
+{
+    match reply {
+        Reply::Done => Reply::Done,
+        Reply::Data(data) => Reply::Data(copy_of_data(data)),
+        Reply::Unsupported => Reply::Unsupported,
+        Reply::Aborted => Reply::Aborted,
+    }
+}
+
+fn copy_of_record(item: &Record) -> Record
+    ensures { result ≡ item.now }
+{
+    match item {
+        Record::Sub {
+            requester,
+            number,
+            op,
+            n,
+        } => Record::Sub {
+            requester: *requester,
+            number: *number,
+            op: copy_of(op),
+            n: *n,
+        },
+        Record::Ans {
+            requester,
+            number,
+            reply,
+            n,
+        } => Record::Ans {
+            requester: *requester,
+            number: *number,
+            reply: copy_of_reply(reply),
+            n: *n,
+        },
+    }
+}
+
+fn copy_of_records(alloc: Global, records: &[Record]) -> Result<Vec<Record>, AllocError>
+    ensures { IfOk result (λ v. v.items ≡ records.now) }
+{
+    let mut copy = Vec::with_capacity(alloc, records.len())?;
+    for item in records {
+        copy.push(copy_of_record(item))?;
+    }
+    Ok(copy)
+}
+
+/// The first `count` records of the trace, over the same memory.
+pub(crate) fn prefix(alloc: Global, trace: &Trace, count: usize) -> Result<Trace, AllocError>
+    requires { count ≤ length trace.now.records }
+    ensures { IfOk result (λ t. t ≡ explainable.prefix count trace.now) }
+{
+    Ok(Trace {
+        base: trace.base,
+        size: trace.size,
+        block: trace.block,
+        records: copy_of_records(alloc, &trace.records[..count])?,
+    })
+}

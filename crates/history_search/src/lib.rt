@@ -1,0 +1,16 @@
+//! A history that explains what requesters saw, or a proof that there is none.
+//!
+//! A log is a [`Trace`](history_check::Trace) of which only the order of its records counts, not its
+//! n's. [`search`] looks for n's and a history that make it a trace that the history explains. What
+//! it finds is checked before it is returned. Where it says that there is none, no history explains
+//! the log; it then looks for a prefix that has none either, and is as short as it can prove.
+#![tactic(auto)]
+
+mod clocked;
+mod copies;
+mod judging;
+mod moments;
+mod searching;
+mod shortest;
+
+pub use searching::{Sought, search};

@@ -1,0 +1,3 @@
+mod FormLemmas
+mod LineLemmas
+mod SeenLemmas

@@ -1,0 +1,21 @@
+//! The text of logs: what requesters submitted and were answered, in the order of time.
+//!
+//! ```text
+//! pciex-log 1
+//! memory <base> <size> <block>
+//! sub <requester> <number> <operation>
+//! ans <requester> <number> <reply>
+//! end
+//! ```
+//!
+//! A log is a trace of version 2 without n's and without a history: its fields have the same ranges, and
+//! empty lines and lines that begin with `#` are skipped and counted. Where a log is read, a trace of
+//! either version may stand in its place. It is read as `check` reads it, and its n's and its history
+//! say nothing of the log.
+#![tactic(auto)]
+
+mod line;
+mod reader;
+mod reading;
+
+pub use reading::{read_log, read_seen};

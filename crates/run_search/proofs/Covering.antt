@@ -1,0 +1,138 @@
+-- Which steps are enough.
+use Rattle.std.proofs.Common.{◌≡◌, ◌∙◌, ℕ, ◌+◌, ◌<◌, ◌≤◌, true, false, List, [], ◌∷◌, ◌++◌, take, length, get_or, refl, sym, ap, subst, inl, inr, arith, append_assoc, ◌⊎◌}
+use Rattle.std.specs.Prelude.{slice_get, ◌==◌}
+use Rattle.std.specs.List.{Contains, All}
+use Rattle.std.specs.List.Sorted.{IsPermutation}
+use Rattle.std.proofs.lemmas.Bool.{cases_Bool, or_cases, eqb-true}
+use Rattle.std.proofs.lemmas.Option.{same_Some, slice_get_within}
+use Rattle.std.proofs.lemmas.List.{take_all}
+use Rattle.std.proofs.lemmas.List.Folds.{list_any-append}
+use Rattle.std.proofs.lemmas.List.Elements.{All-contains, All-cons, All-nil, All-same, Contains-append_right}
+use Rattle.std.proofs.lemmas.List.Sorted.{All-permutation, Contains-permutation, IsPermutation-middle, IsPermutation-sym, IsPermutation-to_front}
+use Rattle.log_runs.specs.Task.{Task}
+use Rattle.log_runs.specs.declared.Event.TheVariants as events
+use Rattle.log_runs.specs.declared.Step.{Step}
+use Rattle.log_runs.specs.declared.Step.TheVariants as steps
+use Rattle.log_runs.specs.Runs.{State, Allowed, MayAct, Leads, Dead, Covers, next}
+use Rattle.run_search.specs.declared.choices.Offer.{Offer}
+use Rattle.run_search.specs.Pending.{has, submits, is_done, IsTable}
+use Rattle.run_search.specs.Offered.{all_of, Puts, Offers}
+use Rattle.run_search.proofs.Lists.{clash, take_one}
+use Rattle.run_search.proofs.Tables.{done_from}
+use Rattle.run_search.proofs.RuleLemmas.{run}
+
+-- the list has each step that may be taken
+pub covers_all : (log : Task) (s : State) (xs : List Step) → (s.event ≡ length log.events → ⊥) → ((x : Step) → Allowed log s x → Contains xs x) → Covers log s xs
+covers_all log s xs more has_all dead live = first live.steps live.leads
+  where
+    first : (ys : List Step) → Leads log s ys live.last → ⊥
+    first [] e = more (ap (λ (u : State). u.event) e ∙ live.over)
+    first (y ∷ ys) e = All-contains (λ x. Allowed log s x → Dead log (next log s x)) xs y dead (has_all y e.0) e.0 (run log (next log s y) live.last ys e.1 live.over)
+
+-- who may act is pending
+pub acts_pending : (log : Task) (s : State) (p : List ℕ) (b : ℕ) → IsTable log s.event p s.acted → MayAct log s b → has p b ≡ true
+acts_pending log s p b t m =
+    let inside = slice_get_within log.events b (events.Sub m.requester m.op m.told) m.submitted in
+    let sub : submits (slice_get log.events b) ≡ true = ap submits m.submitted in
+    elim (cases_Bool (has p b)) as (λ w. has p b ≡ true) [
+      | inl there ↦ there
+      | inr gone ↦ absurd (clash (done_from log s.event p b m.since sub gone) (same_Some (is_done log s.event p b) false (sym (t.at b inside) ∙ m.once)))
+    ]
+
+-- ---- a step more
+
+-- a step between others
+between : (xs ys : List Step) (x : Step) → IsPermutation (x ∷ (xs ++ ys)) (xs ++ x ∷ ys)
+between xs ys x = IsPermutation-sym (xs ++ x ∷ ys) (x ∷ (xs ++ ys)) (IsPermutation-middle xs x ys)
+
+pub puts_far : (a b : Offer) (x : Step) → b.far.items ≡ a.far.items ++ x ∷ [] → b.near.items ≡ a.near.items → b.due.items ≡ a.due.items → Puts a b x
+puts_far a b x f n d =
+    let rest = a.near.items ++ a.due.items in
+    let made : all_of b ≡ a.far.items ++ x ∷ rest = rw (f, n, d) (append_assoc (a.far.items ++ x ∷ []) a.near.items a.due.items ∙ append_assoc a.far.items (x ∷ []) rest) in
+    let were : a.far.items ++ rest ≡ all_of a = sym (append_assoc a.far.items a.near.items a.due.items) in
+    subst (IsPermutation (x ∷ all_of a)) (sym made) (subst (λ ys. IsPermutation (x ∷ ys) (a.far.items ++ x ∷ rest)) were (between a.far.items rest x))
+
+pub puts_near : (a b : Offer) (x : Step) → b.far.items ≡ a.far.items → b.near.items ≡ a.near.items ++ x ∷ [] → b.due.items ≡ a.due.items → Puts a b x
+puts_near a b x f n d =
+    let front = a.far.items ++ a.near.items in
+    let made : all_of b ≡ front ++ x ∷ a.due.items =
+    rw (f, n, d) (ap (λ ys. ys ++ a.due.items) (sym (append_assoc a.far.items a.near.items (x ∷ []))) ∙ append_assoc front (x ∷ []) a.due.items) in
+    subst (IsPermutation (x ∷ all_of a)) (sym made) (between front a.due.items x)
+
+pub puts_due : (a b : Offer) (x : Step) → b.far.items ≡ a.far.items → b.near.items ≡ a.near.items → b.due.items ≡ a.due.items ++ x ∷ [] → Puts a b x
+puts_due a b x f n d =
+    let made : all_of b ≡ all_of a ++ x ∷ [] = rw (f, n, d) (sym (append_assoc (a.far.items ++ a.near.items) a.due.items (x ∷ []))) in
+    subst (IsPermutation (x ∷ all_of a)) (sym made) (IsPermutation-sym (all_of a ++ x ∷ []) (x ∷ all_of a) (IsPermutation-to_front (all_of a) x))
+
+-- ---- all of them
+
+module _ (log : Task) (s : State) where
+  kept : (a b : Offer) (x y : Step) → Puts a b x → Contains (all_of a) y → Contains (all_of b) y
+  kept a b x y p h = Contains-permutation (x ∷ all_of a) (all_of b) y p (Contains-append_right (x ∷ []) (all_of a) y h)
+
+  put : (a b : Offer) (x : Step) → Puts a b x → Contains (all_of b) x
+  put a b x p = Contains-permutation (x ∷ all_of a) (all_of b) x p (0, omega arith, refl)
+
+  all_put : (a b : Offer) (x : Step) → Puts a b x → All (Allowed log s) (all_of a) → Allowed log s x → All (Allowed log s) (all_of b)
+  all_put a b x p h one = All-permutation (Allowed log s) (x ∷ all_of a) (all_of b) p (All-cons (Allowed log s) x (all_of a) one h)
+
+  -- nothing was looked at
+  pub offers_nothing : (a : Offer) → all_of a ≡ [] → (Allowed log s steps.Pass → ⊥) → Offers log s (all_of a) []
+  offers_nothing a e shut = record {
+    allowed = All-same (Allowed log s) (all_of a) [] e (All-nil (Allowed log s));
+    pass = λ p. absurd (shut p);
+    each = λ b l may. cc;
+  }
+
+  pub offers_pass : (a b : Offer) → all_of a ≡ [] → Puts a b steps.Pass → Allowed log s steps.Pass → Offers log s (all_of b) []
+  offers_pass a b e p one = record {
+    allowed = all_put a b steps.Pass p (All-same (Allowed log s) (all_of a) [] e (All-nil (Allowed log s))) one;
+    pass = λ q. put a b steps.Pass p;
+    each = λ c l may. cc;
+  }
+
+  -- one more was looked at
+  more_looked : (p : List ℕ) (c b : ℕ) → has (p ++ c ∷ []) b ≡ true → (has p b ≡ true) ⊎ (c ≡ b)
+  more_looked p c b h = elim (or_cases (has p b) (has (c ∷ []) b) (sym (list_any-append (λ x. x == b) p (c ∷ [])) ∙ h)) [
+    | inl before ↦ inl before
+    | inr now ↦ elim (or_cases (c == b) false now) [
+      | inl same ↦ inr (eqb-true c b same)
+      | inr never ↦ cc
+    ]
+  ]
+
+  pub offers_act : (a b : Offer) (p : List ℕ) (c : ℕ) → MayAct log s c → Puts a b (steps.Act c) → Offers log s (all_of a) p → Offers log s (all_of b) (p ++ c ∷ [])
+  offers_act a b p c may q h = record {
+    allowed = all_put a b (steps.Act c) q h.allowed may;
+    pass = λ r. kept a b (steps.Act c) steps.Pass q (h.pass r);
+    each = λ k look m. elim (more_looked p c k look) [
+      | inl before ↦ kept a b (steps.Act c) (steps.Act k) q (h.each k before m)
+      | inr now ↦ subst (λ w. Contains (all_of b) (steps.Act w)) now (put a b (steps.Act c) q)
+    ];
+  }
+
+  pub offers_none : (a : Offer) (p : List ℕ) (c : ℕ) → (MayAct log s c → ⊥) → Offers log s (all_of a) p → Offers log s (all_of a) (p ++ c ∷ [])
+  offers_none a p c shut h = record {
+    allowed = h.allowed;
+    pass = h.pass;
+    each = λ k look m. elim (more_looked p c k look) [
+      | inl before ↦ h.each k before m
+      | inr now ↦ absurd (shut (subst (MayAct log s) (sym now) m))
+    ];
+  }
+
+  pub offers_all : (xs : List Step) (p : List ℕ) → Offers log s xs p → IsTable log s.event p s.acted → (s.event ≡ length log.events → ⊥) → Covers log s xs
+  offers_all xs p h t more = covers_all log s xs more has_all
+    where
+      has_all : (x : Step) → Allowed log s x → Contains xs x
+      has_all steps.Pass a = h.pass a
+      has_all (steps.Act b) a = h.each b (acts_pending log s p b t a) a
+
+  pub offers_next : (xs : List Step) (p q : List ℕ) (i : ℕ) → q ≡ p → i < length q → Offers log s xs (take i p ++ get_or q i 0 ∷ []) → Offers log s xs (take (i + 1) p)
+  offers_next xs p q i e l h =
+      let at : take (i + 1) q ≡ take i q ++ get_or q i 0 ∷ [] = take_one q i 0 l in
+      subst (λ r. Offers log s xs (take (i + 1) r)) e
+      (subst (Offers log s xs) (sym at) (subst (λ r. Offers log s xs (take i r ++ get_or q i 0 ∷ [])) (sym e) h))
+
+  pub offers_end : (xs : List Step) (p q : List ℕ) (i : ℕ) → q ≡ p → length q ≤ i → Offers log s xs (take i p) → Offers log s xs p
+  offers_end xs p q i e l h = subst (Offers log s xs) (take_all i p (subst (λ (r : List ℕ). length r ≤ i) e l)) h

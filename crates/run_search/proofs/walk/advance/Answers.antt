@@ -1,0 +1,13 @@
+use Rattle.run_search.specs.Places.{state_of}
+use Rattle.run_search.proofs.FrameLemmas.{turned}
+use Rattle.run_search.proofs.walk.advance.Goals as goal
+
+pub rewind-requires : goal.rewind-requires
+rewind-requires c =
+    let log = c.args.log.now in
+    let walk = c.args.walk.now in
+    record {
+      path = turned log walk.frames.items walk.done.items (state_of walk.here) c.requires.at.path (c.is_known.ensures log c.requires.at.known c.requires.at.place c.if-is_known.true);
+      place = c.requires.at.place;
+      known = c.requires.at.known;
+    }

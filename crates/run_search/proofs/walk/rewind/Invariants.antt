@@ -1,0 +1,12 @@
+use Rattle.std.proofs.Common.{◌≡◌, vec_len}
+use Rattle.run_search.specs.Frames.{IsBack}
+use Rattle.run_search.proofs.walk.rewind.Given as goal
+
+abbrev pub invariant-loop-done : goal.invariant-loop-done
+invariant-loop-done l = record {
+  back : IsBack l.log l.walk;
+  same : l.walk.frames ≡ l.fn.walk.frames;
+}
+
+abbrev pub decreases-loop-done : goal.decreases-loop-done
+decreases-loop-done l = vec_len l.walk.done

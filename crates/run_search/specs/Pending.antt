@@ -1,0 +1,37 @@
+-- Requests that were passed and haven't acted.
+use Rattle.std.specs.Prelude.{ℕ, ◌≡◌, ◌<◌, ◌==◌, ◌&&◌, nat_lt, not, List, length, slice_get, Option, Some, None, Bool, true, false}
+use Rattle.std.specs.List.{list_any}
+use Rattle.tlp_core.specs.Operation.{is_posted}
+use Rattle.log_runs.specs.declared.Event.{Event}
+use Rattle.log_runs.specs.declared.Event.TheVariants as events
+use Rattle.log_runs.specs.Task.{Task}
+
+-- the list has the number
+abbrev pub has : List ℕ → ℕ → Bool
+has xs c = list_any (λ x. x == c) xs
+
+abbrev pub submits : Option Event → Bool
+submits (Some (events.Sub i op told)) = true
+submits (Some (events.Due b)) = false
+submits (Some events.Free) = false
+submits None = false
+
+-- the request has acted, if those of the list are the ones that were passed and haven't
+abbrev pub is_done : Task → ℕ → List ℕ → ℕ → Bool
+is_done log event pending b = nat_lt b event && submits (slice_get log.events b) && not (has pending b)
+
+-- which requests have acted, by place
+pub record IsTable (log : Task) (event : ℕ) (pending : List ℕ) (acted : List Bool) : Type 0 where
+  pub len : length acted ≡ length log.events
+  pub at : (b : ℕ) → b < length log.events → slice_get acted b ≡ Some (is_done log event pending b)
+
+-- the event is a posted write of the requester
+abbrev pub is_write : ℕ → Option Event → Bool
+is_write i (Some (events.Sub j op told)) = (i == j) && is_posted op
+is_write i (Some (events.Due b)) = false
+is_write i (Some events.Free) = false
+is_write i None = false
+
+-- request c is a posted write that the requester submitted before request b
+abbrev pub blocks : Task → ℕ → ℕ → ℕ → Bool
+blocks log i b c = nat_lt c b && is_write i (slice_get log.events c)

@@ -1,0 +1,156 @@
+//! The search's stack.
+ghost use Rattle.std.specs.Prelude.{◌≡◌, ◌++◌, ◌∷◌, [], ℕ, List, true, false, length, IsTrue, IfOk, OnOk};
+ghost use Rattle.log_runs.specs.Runs.{Dead, start};
+ghost use Rattle.run_search.specs.Places.{state_of, IsPlace};
+ghost use Rattle.run_search.specs.Frames as frames;
+
+use crate::choices::choices;
+use crate::memo::{Memo, empty, is_known, note};
+use crate::place::{Place, first};
+use crate::rules::forced;
+use crate::steps::{Done, take, take_back};
+use log_runs::{Log, Step};
+use std::alloc::{AllocError, Global};
+use std::mem::replace;
+
+/// A place from which several steps may be taken.
+#[derive(Drop)]
+pub(crate) struct Frame {
+    /// The steps that lead there from the frame before.
+    pub(crate) done: Vec<Done>,
+    /// The steps that weren't tried yet.
+    pub(crate) rest: Vec<Step>,
+}
+
+#[derive(Drop)]
+pub(crate) struct Walk {
+    pub(crate) frames: Vec<Frame>,
+    /// The steps since the last frame.
+    pub(crate) done: Vec<Done>,
+    pub(crate) here: Place,
+    pub(crate) memo: Memo,
+}
+
+pub(crate) fn begin(alloc: Global, log: &Log) -> Result<Walk, AllocError>
+    ensures { IfOk result (frames.IsAt log.now) }
+{
+    Ok(Walk {
+        frames: Vec::new(alloc),
+        done: Vec::new(alloc),
+        here: first(alloc, log)?,
+        memo: empty(alloc),
+    })
+}
+
+/// Takes the steps that may be taken at once.
+pub(crate) fn settle(walk: &mut Walk, log: &Log) -> Result<(), AllocError>
+    requires { frames.IsAt log.now walk.old }
+    ensures { OnOk result (frames.IsAt log.now walk.new) }
+{
+    for _step in 0..u64::MAX {
+        let Some(step) = forced(&walk.here, log) else {
+            return Ok(());
+        };
+        let done = take(&mut walk.here, log, step)?;
+        walk.done.push(done)?;
+    }
+    Ok(())
+}
+
+/// Keeps the steps that may be taken here.
+fn keep(walk: &mut Walk, alloc: Global, log: &Log) -> Result<(), AllocError>
+    requires at { frames.IsAt log.now walk.old }
+    requires more { walk.old.here.key.event ≡ length log.now.events → ⊥ }
+    ensures { OnOk result (frames.IsReady log.now walk.new) }
+{
+    let rest = choices(alloc, log, &walk.here)?;
+    let done = replace(&mut walk.done, Vec::new(alloc));
+    walk.frames.push(Frame { done, rest })?;
+    Ok(())
+}
+
+/// Goes back to the last frame.
+fn rewind(walk: &mut Walk, log: &Log) -> Result<(), AllocError>
+    requires { frames.IsBack log.now walk.old }
+    ensures ready { OnOk result (frames.IsReady log.now walk.new) }
+    ensures frames { walk.new.frames ≡ walk.old.frames }
+{
+    while let Some(done) = walk.done.pop() {
+        take_back(&mut walk.here, log, &done)?;
+    }
+    Ok(())
+}
+
+/// Takes a step from the frame, which goes back onto the stack.
+fn go_on(
+    walk: &mut Walk,
+    alloc: Global,
+    log: &Log,
+    frame: Frame,
+    step: Step,
+) -> Result<(), AllocError>
+    requires { frames.MayTake log.now walk.old frame step }
+    ensures { OnOk result (frames.IsAt log.now walk.new) }
+{
+    let done = take(&mut walk.here, log, step)?;
+    walk.done = Vec::new(alloc);
+    walk.done.push(done)?;
+    walk.frames.push(frame)?;
+    Ok(())
+}
+
+/// Goes on with what is left; false if nothing is.
+fn back(walk: &mut Walk, alloc: Global, log: &Log) -> Result<bool, AllocError>
+    requires { frames.IsReady log.now walk.old }
+    ensures at { IfOk result (λ more. IsTrue more → frames.IsAt log.now walk.new) }
+    ensures none { IfOk result (λ more. more ≡ false → Dead log.now (start log.now)) }
+{
+    while let Some(mut frame) = walk.frames.pop() {
+        if let Some(step) = frame.rest.pop() {
+            go_on(walk, alloc, log, frame, step)?;
+            return Ok(true);
+        }
+        note(&mut walk.memo, alloc, &walk.here);
+        let Frame { done, rest: _ } = frame;
+        walk.done = done;
+        rewind(walk, log)?;
+    }
+    Ok(false)
+}
+
+/// Goes on from here; false if no run leads to the end.
+pub(crate) fn advance(walk: &mut Walk, alloc: Global, log: &Log) -> Result<bool, AllocError>
+    requires at { frames.IsAt log.now walk.old }
+    requires more { walk.old.here.key.event ≡ length log.now.events → ⊥ }
+    ensures at { IfOk result (λ more. IsTrue more → frames.IsAt log.now walk.new) }
+    ensures none { IfOk result (λ more. more ≡ false → Dead log.now (start log.now)) }
+{
+    if is_known(&walk.memo, &walk.here) {
+        rewind(walk, log)?;
+    } else {
+        keep(walk, alloc, log)?;
+    }
+    back(walk, alloc, log)
+}
+
+/// Adds the steps.
+fn add_steps(steps: &mut Vec<Step>, done: &[Done]) -> Result<(), AllocError>
+    ensures { OnOk result (steps.new.items ≡ steps.old.items ++ frames.steps_by done.now) }
+{
+    for one in done {
+        steps.push(one.step)?;
+    }
+    Ok(())
+}
+
+/// The steps that were taken, in their order.
+pub(crate) fn steps_of(walk: &Walk, alloc: Global) -> Result<Vec<Step>, AllocError>
+    ensures { IfOk result (λ v. v.items ≡ frames.steps_of walk.now.frames.items ++ frames.steps_by walk.now.done.items) }
+{
+    let mut steps = Vec::new(alloc);
+    for frame in &walk.frames {
+        add_steps(&mut steps, &frame.done)?;
+    }
+    add_steps(&mut steps, &walk.done)?;
+    Ok(steps)
+}

@@ -1,0 +1,25 @@
+use Rattle.std.proofs.Common.{◌∙◌, ℕ, ◌-◌, ◌∷◌, ◌++◌, [], ap, refl, inl, inr, subst, arith, Result, Ok, Err}
+use Rattle.trace_format.specs.declared.fault.ReadFault.{ReadFault}
+use Rattle.history_check.specs.Observation.{Observation}
+use Rattle.history_search.specs.Prefixes.{IsUnexplained}
+use Rattle.search_engine.specs.declared.answering.Finding.{Finding}
+use Rattle.search_engine.specs.Findings.{IsFinding}
+use Rattle.search_engine.specs.Search.{IsAnswerTo, none_line}
+use Rattle.search_engine.proofs.NoneLemmas.{some-records, up_to_last}
+use Rattle.search_engine.proofs.answering.outcome_of.Goals as goal
+
+pub returns-in-None : goal.returns-in-None
+returns-in-None c = by
+  where
+    by : (r : Result Observation ReadFault) → IsFinding r c.args.finding → IsAnswerTo c.args.limit r c.in_ok-text-in-None.text.items 1
+    by (Ok t) h =
+        let is : IsUnexplained t c.in-None.prefix = subst (λ (f : Finding). IsFinding (Ok t) f) c.in-None.is h in
+        let some = some-records t c.in-None.prefix is.unexplained in
+        inr (inl (record {
+          place = c.in-None.prefix - 1;
+          within = omega (arith, is.within, some);
+          unexplained = up_to_last t c.in-None.prefix some is.unexplained;
+          says = c.in_ok-text-in-None.ensures ∙ ap (λ (n : ℕ). none_line n ++ 10 ∷ []) c.saturating_sub.ensures;
+          tells = refl;
+        }))
+    by (Err f) h = absurd (let is : ⊥ = subst (λ (g : Finding). IsFinding (Err f) g) c.in-None.is h in is)

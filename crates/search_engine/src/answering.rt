@@ -1,0 +1,126 @@
+//! What is answered to a text.
+ghost use Rattle.std.specs.Prelude.{◌≡◌, Ok, IfOk, Result};
+ghost use Rattle.history_check.specs.Claim.{claim_of};
+ghost use Rattle.history_check.specs.Observation.{Observation};
+ghost use Rattle.trace_format.specs.declared.fault.ReadFault.{ReadFault};
+ghost use Rattle.trace_format.specs.Texts.{trace_text};
+ghost use Rattle.log_text.specs.Reading.{seen_of};
+ghost use Rattle.search_engine.specs.Findings.{is_memory, IsFinding};
+ghost use Rattle.search_engine.specs.Search.{IsAnswerTo, OutSearch};
+
+use crate::lines::{fault_text, limit_text, none_text};
+use history_check::Trace;
+use history_search::{Sought, search};
+use log_text::read_seen;
+use seq_memory::Entry;
+use std::alloc::{AllocError, Global};
+use trace_format::{ReadFault, ReadFaultKind, write_trace};
+
+/// The exit status of a search that was given up.
+pub const LIMIT_STATUS: u8 = 3;
+
+/// What came of a text.
+#[derive(Drop)]
+pub(crate) enum Finding {
+    /// A log that this history explains, with n's.
+    Found {
+        trace: Trace,
+        history: Vec<Entry>,
+    },
+    /// A log of which so many records have no history, and so many have one, if that is known.
+    None {
+        trace: Trace,
+        prefix: usize,
+        explained: Option<usize>,
+    },
+    /// A log of which nothing is known.
+    Limit,
+    /// A text that can't be read.
+    Fault(ReadFault),
+}
+
+/// What is written of a text, and the exit status.
+#[derive(Drop)]
+pub struct Outcome {
+    pub text: Vec<u8>,
+    pub status: u8,
+}
+
+/// Looks for a history.
+fn sought(alloc: Global, mut trace: Trace, limit: u64) -> Result<Finding, AllocError>
+    ensures { IfOk result (IsFinding (Ok trace)) }
+{
+    let (sought, _) = search(alloc, &mut trace, limit)?;
+    match sought {
+        Sought::Found(history) => Ok(Finding::Found { trace, history }),
+        Sought::None { prefix, explained } => Ok(Finding::None {
+            trace,
+            prefix,
+            explained,
+        }),
+        Sought::Limit => Ok(Finding::Limit),
+    }
+}
+
+fn is_memory(kind: ReadFaultKind) -> bool
+    ensures { result ≡ is_memory kind }
+{
+    matches!(kind, ReadFaultKind::Memory)
+}
+
+/// Reads the text, and looks for a history.
+pub(crate) fn find(alloc: Global, text: &[u8], limit: u64) -> Result<Finding, AllocError>
+    ensures { IfOk result (IsFinding (seen_of text.now)) }
+{
+    match read_seen(alloc, text) {
+        Ok(trace) => sought(alloc, trace, limit),
+        Err(fault) if is_memory(fault.kind) => Err(AllocError),
+        Err(fault) => Ok(Finding::Fault(fault)),
+    }
+}
+
+/// The text of a trace and its history.
+fn found_text(alloc: Global, trace: &Trace, history: &[Entry]) -> Result<Vec<u8>, AllocError>
+    ensures { IfOk result (λ v. v.items ≡ trace_text (claim_of trace.now history.now)) }
+{
+    let text = write_trace(alloc, trace, history)?;
+    Ok(text.into_bytes())
+}
+
+/// What is written of what came of a text.
+pub(crate) fn outcome_of(alloc: Global, finding: Finding, limit: u64) -> Result<Outcome, AllocError>
+    ensures { (r : Result Observation ReadFault) → IsFinding r finding → IfOk result (λ o. IsAnswerTo limit r o.text.items o.status) }
+{
+    match finding {
+        Finding::Found { trace, history } => {
+            let text = found_text(alloc, &trace, &history)?;
+            Ok(Outcome { text, status: 0 })
+        }
+        Finding::None { prefix, .. } => {
+            let text = none_text(alloc, prefix.saturating_sub(1))?;
+            Ok(Outcome { text, status: 1 })
+        }
+        Finding::Limit => {
+            let text = limit_text(alloc, limit)?;
+            Ok(Outcome {
+                text,
+                status: LIMIT_STATUS,
+            })
+        }
+        Finding::Fault(fault) => {
+            let text = fault_text(alloc, fault)?;
+            Ok(Outcome { text, status: 1 })
+        }
+    }
+}
+
+/// The answer to the text of a log or a trace: a trace with a history that explains what was seen, and
+/// status 0; `none` and the place of a record up to which no history explains it, or `fault` with the line
+/// that can't be read and why, and status 1; or `limit` and the limit, and status 3. No more than `limit`
+/// choices are looked at. Fails where memory can't be allocated; nothing is known then.
+pub fn answer_of(alloc: Global, text: &[u8], limit: u64) -> Result<Outcome, AllocError>
+    ensures { IfOk result (λ o. OutSearch limit text.now o.text.items o.status) }
+{
+    let finding = find(alloc, text, limit)?;
+    outcome_of(alloc, finding, limit)
+}

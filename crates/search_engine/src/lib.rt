@@ -1,0 +1,17 @@
+//! The engine of `search`: a log in, a history that explains it out, or that there is none.
+//!
+//! [`run_search`] reads the whole input, a log or a trace, and looks for a history. What it finds it
+//! writes as a trace, to which `check` says `ok`. It writes nothing before the answer is there.
+//! [`run_search_with_reasons`] also says for people why there is no history, or why the input can't be
+//! read.
+#![tactic(auto)]
+
+mod answering;
+mod contradiction;
+mod input;
+mod lines;
+mod search;
+mod telling;
+
+pub use answering::{LIMIT_STATUS, Outcome, answer_of};
+pub use search::{run_search, run_search_with_reasons};

@@ -1,0 +1,59 @@
+//! The subcommand `search`.
+ghost use Rattle.std.specs.Prelude.{IfOk, OnErr};
+ghost use Rattle.search_engine.specs.Search.{IsWhole, IsPart, OutSearch};
+
+use crate::answering::{Outcome, find, outcome_of};
+use crate::input::read_rest;
+use crate::telling::tell;
+use line_engine::{EngineFault, write_out};
+use std::alloc::{AllocError, Global};
+use std::io::{Read, Write, sink};
+
+/// The answer to the text; its reason is told.
+fn answer<E: Write>(
+    alloc: Global,
+    text: &[u8],
+    limit: u64,
+    errors: &mut E,
+) -> Result<Outcome, AllocError>
+    ensures { IfOk result (λ o. OutSearch limit text.now o.text.items o.status) }
+{
+    let finding = find(alloc, text, limit)?;
+    tell(alloc, text, &finding, errors);
+    outcome_of(alloc, finding, limit)
+}
+
+/// Does what [`run_search`] does, and tells on `errors` why there is no history, or why the input can't be
+/// read.
+pub fn run_search_with_reasons<R: Read, W: Write, E: Write>(
+    alloc: Global,
+    limit: u64,
+    reader: &mut R,
+    writer: &mut W,
+    errors: &mut E,
+) -> Result<u8, EngineFault>
+    ensures ok { IfOk result (IsWhole limit (R.remaining reader.old) (R.remaining reader.new) (W.contents writer.old) (W.contents writer.new)) }
+    ensures err { OnErr result (IsPart limit (R.remaining reader.old) (R.remaining reader.new) (W.contents writer.old) (W.contents writer.new)) }
+{
+    let text = read_rest(alloc, reader)?;
+    let outcome = answer(alloc, &text, limit, errors)?;
+    write_out(writer, &outcome.text)?;
+    Ok(outcome.status)
+}
+
+/// Reads a log, or a trace whose n's and history say nothing, and writes the answer: a trace with a history
+/// that explains what was seen; or one line: `none` with the place of a record up to which no history
+/// explains it, `limit` with the limit, or `fault` with the line that can't be read and why. No more than
+/// `limit` choices are looked at. `Ok` is the exit status: 0 for a trace, 3 for `limit`, else 1. After an
+/// `Err` what was written is nothing or a beginning of an answer.
+pub fn run_search<R: Read, W: Write>(
+    alloc: Global,
+    limit: u64,
+    reader: &mut R,
+    writer: &mut W,
+) -> Result<u8, EngineFault>
+    ensures ok { IfOk result (IsWhole limit (R.remaining reader.old) (R.remaining reader.new) (W.contents writer.old) (W.contents writer.new)) }
+    ensures err { OnErr result (IsPart limit (R.remaining reader.old) (R.remaining reader.new) (W.contents writer.old) (W.contents writer.new)) }
+{
+    run_search_with_reasons(alloc, limit, reader, writer, &mut sink())
+}

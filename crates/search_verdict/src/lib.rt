@@ -1,0 +1,7 @@
+//! The search for a history over texts and rooms: the text of a log in, what `pciex search` prints of it
+//! out.
+#![tactic(auto)]
+
+mod verdict;
+
+pub use verdict::search_text;
