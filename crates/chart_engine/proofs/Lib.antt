@@ -1,0 +1,3 @@
+mod RoundLemmas
+mod States
+mod Charted

@@ -1,0 +1,6 @@
+use Rattle.chart_engine.proofs.Charted.{document-written}
+use Rattle.chart_engine.proofs.chart.run_chart.Goals as goal
+
+pub returns-clause-document : goal.returns-clause-document
+returns-clause-document g c =
+    document-written c.args.window c.new-charter.result c.in_ok-status.ensures.ok.read _ _ c.new-charter.ensures c.charts_are_well_formed.ensures c.in_ok-status.ensures.ok.written

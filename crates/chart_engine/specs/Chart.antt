@@ -1,0 +1,161 @@
+-- What `chart` answers to the lines of a script.
+use Rattle.std.specs.Prelude.{ℕ, ◌≡◌, ◌+◌, ◌-◌, ◌^◌, min, Bool, true, false, if◌then◌else◌, List, [], ◌∷◌, ◌++◌, codes, Option, Some, None, Result, Ok, Err}
+use Rattle.std.specs.Fmt.{decimal}
+use Rattle.std.specs.Io.KnownBytes.{Appends}
+use Rattle.svg_text.specs.Xml.{IsDocument}
+use Rattle.fabric_laws.specs.Fabric.{Fabric}
+use Rattle.fabric_core.specs.declared.config.Config.{Config}
+use Rattle.fabric_core.specs.declared.config.ConfigFault.{ConfigFault}
+use Rattle.fabric_core.specs.declared.event.Event.{Event}
+use Rattle.fabric_core.specs.declared.event.Seen.{Seen}
+use Rattle.fabric_core.specs.declared.fault.Refusal.{Refusal}
+use Rattle.fabric_core.specs.Config.{fault_name}
+use Rattle.fabric_answers.specs.Answers.{answer}
+use Rattle.fabric_answers.specs.New.{new_fabric, config_fault}
+use Rattle.operation_text.specs.Words.{words}
+use Rattle.trace_format.specs.Lines.{is_skipped}
+use Rattle.script_text.specs.declared.line.Line.{Line}
+use Rattle.script_text.specs.declared.line.Line.TheVariants as lines
+use Rattle.script_text.specs.Forms.{line_of}
+use Rattle.script_text.specs.Names.{refusal_text}
+use Rattle.chart_page.specs.Shapes.{chart_text, title_text}
+use Rattle.link_chart.specs.declared.window.ChartWindow.{ChartWindow}
+use Rattle.link_chart.specs.ChartView.{ChartView, new_chart, charted, refused, page_of}
+use Rattle.line_engine.specs.Run.{Answer, Responses, Run, run_of}
+use Rattle.chart_engine.specs.declared.chart.Session.{Session}
+use Rattle.chart_engine.specs.Settled.{Trail, settled}
+
+-- the fabric of a script and its chart
+abbrev pub session : Fabric → ChartView → Session
+session f chart = record { fabric = f; chart = chart }
+
+-- a script so far: what is shown of it, its fabric with the chart, the number of lines, skipped ones counted, and the
+-- fault or the refusal that ended its run
+pub record Charting : Type 0 where
+  pub window : ChartWindow
+  pub session : Option Session
+  pub lines : ℕ
+  pub ending : Option (List ℕ)
+
+-- the number of the line that comes next, a number of 64 bits
+abbrev pub next_line : Charting → ℕ
+next_line s = min (s.lines + 1) (2 ^ 64 - 1)
+
+-- nothing is done
+abbrev pub nothing : Charting → Answer Charting
+nothing s = record { state = s; text = []; is_fault = false }
+
+-- one line more
+abbrev pub counted : Charting → Charting
+counted s = record s { lines = next_line s }
+
+-- the line did this to the fabric and its chart
+abbrev pub goes_on : Charting → Session → Answer Charting
+goes_on s now = record { state = record s { lines = next_line s; session = Some now }; text = []; is_fault = false }
+
+-- ---- what ends a run
+
+abbrev pub told : Charting → List ℕ → List ℕ → List ℕ
+told s kind name = kind ++ (decimal (next_line s) ++ 32 ∷ name)
+
+-- the run ends with this line
+abbrev pub ends : Charting → Option Session → List ℕ → Answer Charting
+ends s now line = record { state = record s { lines = next_line s; session = now; ending = Some line }; text = []; is_fault = true }
+
+abbrev pub fault : Charting → List ℕ → Answer Charting
+fault s name = ends s s.session (told s (codes "fault ") name)
+
+abbrev pub no_line : Charting → Answer Charting
+no_line s = fault s (codes "Script")
+
+-- ---- lines
+
+abbrev pub made : Charting → Config → Option ConfigFault → Answer Charting
+made s c (Some x) = fault s (fault_name x)
+made s c None = goes_on s (session (new_fabric c) (new_chart s.window c.requesters))
+
+-- a script has one fabric
+abbrev pub made_once : Charting → Option Session → Config → Answer Charting
+made_once s None c = made s c (config_fault c)
+made_once s (Some now) c = no_line s
+
+-- what an event with this answer leaves, and why it is refused
+abbrev pub left_by : ℕ → Session → Event → Result (Seen × Fabric) Refusal → Session
+left_by line p event (Ok a) = session a.1 (charted p.chart line event a.0)
+left_by line p event (Err r) = session p.fabric (refused p.chart line event r)
+
+abbrev pub refusal_in : Result (Seen × Fabric) Refusal → Option Refusal
+refusal_in (Ok a) = None
+refusal_in (Err r) = Some r
+
+-- a refusal ends the run
+abbrev pub unless_refused : Charting → Session → Option Refusal → Answer Charting
+unless_refused s now None = goes_on s now
+unless_refused s now (Some r) = ends s (Some now) (told s (codes "refused ") (refusal_text r))
+
+abbrev pub happened : Charting → Option Session → Event → Answer Charting
+happened s None event = no_line s
+happened s (Some p) event = unless_refused s (left_by (next_line s) p event (answer p.fabric event)) (refusal_in (answer p.fabric event))
+
+abbrev pub after_rounds : Trail → Session
+after_rounds t = session t.fabric t.chart
+
+-- rounds of events until nothing moves
+abbrev pub settles : Charting → Option Session → Answer Charting
+settles s None = no_line s
+settles s (Some p) = goes_on s (after_rounds (settled (next_line s) p.fabric p.chart))
+
+abbrev pub by_line : Charting → Option Line → Answer Charting
+by_line s None = no_line s
+by_line s (Some (lines.Fabric c)) = made_once s s.session c
+by_line s (Some (lines.Event event)) = happened s s.session event
+by_line s (Some lines.Settle) = settles s s.session
+
+-- after the end of the run nothing is read
+abbrev pub unless_ended : Charting → Option (List ℕ) → Answer Charting → Answer Charting
+unless_ended s None a = a
+unless_ended s (Some line) a = nothing s
+
+abbrev pub chart_line : Charting → List ℕ → Answer Charting
+chart_line s line = unless_ended s s.ending (if is_skipped line then nothing (counted s) else by_line s (line_of (words line)))
+
+abbrev pub chart_long_line : Charting → Answer Charting
+chart_long_line s = unless_ended s s.ending (no_line s)
+
+-- ---- the end
+
+-- the line above a chart
+abbrev pub title_of : Option (List ℕ) → List ℕ
+title_of None = codes "the script ran to its end"
+title_of (Some line) = line
+
+abbrev pub is_red : Option (List ℕ) → Bool
+is_red None = false
+is_red (Some line) = true
+
+-- a script without a fabric has the line alone
+abbrev pub text_below : Option Session → Bool → List ℕ → List ℕ
+text_below None red title = title_text red title
+text_below (Some p) red title = chart_text (page_of p.chart) red title
+
+abbrev pub text_of : Option Session → Option (List ℕ) → List ℕ
+text_of o ending = text_below o (is_red ending) (title_of ending)
+
+abbrev pub chart_end : Charting → Answer Charting
+chart_end s = record { state = record s { session = None }; text = text_of s.session s.ending; is_fault = false }
+
+abbrev pub chart_responses : Responses Charting
+chart_responses = record { on_line = chart_line; on_long_line = chart_long_line; on_end = chart_end }
+
+abbrev pub new_script : ChartWindow → Charting
+new_script window = record { window = window; session = None; lines = 0; ending = None }
+
+-- what was written is one well-formed document of XML
+pub record WritesDocument (out out' : Option (List ℕ)) : Type 0 where
+  pub text : List ℕ
+  pub written : Appends out out' text
+  pub document : IsDocument text
+
+-- the whole run of `chart` on an input
+abbrev pub out_chart : ChartWindow → List ℕ → Run Charting
+out_chart window input = run_of chart_responses (new_script window) input

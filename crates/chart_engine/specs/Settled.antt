@@ -1,0 +1,91 @@
+-- Running a fabric by rounds of events until one moves nothing, each of which a chart is told.
+use Rattle.std.specs.Prelude.{ℕ, zero, suc, ◌-◌, ◌^◌, ◌||◌, Bool, false, if◌then◌else◌, List, [], ◌∷◌, fold, Result, Ok, Err, is_ok}
+use Rattle.dllp_core.specs.declared.packet.Class.TheVariants.{Posted, NonPosted, Completion}
+use Rattle.lane_ends.specs.declared.packet.Fate.TheVariants.{Good}
+use Rattle.lane_ends.specs.declared.packet.DllpKind.TheVariants as kinds
+use Rattle.fabric_laws.specs.Fabric.{Fabric}
+use Rattle.fabric_core.specs.declared.event.Event.{Event}
+use Rattle.fabric_core.specs.declared.event.Event.TheVariants as events
+use Rattle.fabric_core.specs.declared.event.LaneName.{LaneName}
+use Rattle.fabric_core.specs.declared.event.LaneName.TheVariants as lanes
+use Rattle.fabric_answers.specs.Answers.{Answered, answer}
+use Rattle.settling.specs.Rounds.{is_move, all_lanes}
+use Rattle.link_chart.specs.ChartView.{ChartView, charted}
+use Rattle.chart_engine.specs.declared.turns.Attempt.{Attempt}
+use Rattle.chart_engine.specs.declared.turns.Attempt.TheVariants as attempts
+
+-- a fabric that is being settled, its chart, and whether the round moved something
+pub record Trail : Type 0 where
+  pub fabric : Fabric
+  pub chart : ChartView
+  pub moved : Bool
+
+abbrev pub at : Fabric → ChartView → Bool → Trail
+at f chart moved = record { fabric = f; chart = chart; moved = moved }
+
+-- an event that happens is one step of the fabric and is charted as of the line, and one that is refused changes nothing
+abbrev pub answered : ℕ → Trail → Event → Answered Fabric → Trail
+answered line t event (Ok p) = at p.1 (charted t.chart line event p.0) (t.moved || is_move event)
+answered line t event (Err r) = t
+
+unfoldable pub tried : ℕ → Trail → Event → Trail
+tried line t event = answered line t event (answer t.fabric event)
+
+-- whether the event happens
+unfoldable pub goes : Trail → Event → Bool
+goes t event = is_ok (answer t.fabric event)
+
+unfoldable pub times : ℕ → ℕ → Trail → Event → Trail
+times line zero t event = t
+times line (suc n) t event = times line n (tried line t event) event
+
+-- the event until it is refused
+abbrev pub all : ℕ → Trail → Event → Trail
+all line t event = times line (2 ^ 64 - 1) t event
+
+-- one of the two
+abbrev pub attempted : ℕ → Trail → Attempt → Trail
+attempted line t (attempts.Once event) = tried line t event
+attempted line t (attempts.All event) = all line t event
+
+-- what a round tries of a lane
+abbrev pub lane_attempts : LaneName → List Attempt
+lane_attempts lane =
+    attempts.Once (events.Timer lane) ∷ attempts.Once (events.Retrained lane)
+    ∷ attempts.All (events.Transmit lane) ∷ attempts.All (events.Deliver lane Good) ∷ attempts.Once (events.SendDllp lane kinds.Answer)
+    ∷ attempts.Once (events.SendDllp lane (kinds.Update Posted)) ∷ attempts.Once (events.SendDllp lane (kinds.Update NonPosted))
+    ∷ attempts.Once (events.SendDllp lane (kinds.Update Completion)) ∷ attempts.All (events.DeliverDllp lane Good) ∷ []
+
+-- and after the lanes
+abbrev pub after_lanes : List Attempt
+after_lanes =
+    attempts.Once (events.Forward (lanes.Up 1) 0) ∷ attempts.Once (events.Forward (lanes.Up 1) 1)
+    ∷ attempts.Once (events.Forward (lanes.Up 2) 0) ∷ attempts.Once (events.Forward (lanes.Up 2) 1)
+    ∷ attempts.Once (events.Forward (lanes.Up 3) 0) ∷ attempts.Once (events.Forward (lanes.Up 3) 1)
+    ∷ attempts.Once (events.Forward (lanes.Up 4) 0) ∷ attempts.Once (events.Forward (lanes.Up 4) 1)
+    ∷ attempts.Once (events.Forward (lanes.Up 5) 0) ∷ attempts.Once (events.Forward (lanes.Up 5) 1)
+    ∷ attempts.Once (events.Forward (lanes.Up 6) 0) ∷ attempts.Once (events.Forward (lanes.Up 6) 1)
+    ∷ attempts.Once (events.Forward (lanes.Up 7) 0) ∷ attempts.Once (events.Forward (lanes.Up 7) 1)
+    ∷ attempts.Once (events.Forward lanes.Outward 0) ∷ attempts.Once (events.Forward lanes.Outward 1)
+    ∷ attempts.Once (events.Serve 0) ∷ attempts.Once (events.Serve 1)
+    ∷ attempts.All (events.Collect 1) ∷ attempts.All (events.Collect 2) ∷ attempts.All (events.Collect 3) ∷ attempts.All (events.Collect 4)
+    ∷ attempts.All (events.Collect 5) ∷ attempts.All (events.Collect 6) ∷ attempts.All (events.Collect 7) ∷ []
+
+unfoldable pub lane_turn : ℕ → Trail → LaneName → Trail
+lane_turn line t lane = fold (attempted line) t (lane_attempts lane)
+
+-- the links, the switch, the memory, the requesters
+unfoldable pub round : ℕ → Trail → Trail
+round line t = fold (attempted line) (fold (lane_turn line) (at t.fabric t.chart false) all_lanes) after_lanes
+
+abbrev pub if_moved : (Trail → Trail) → Trail → Trail
+if_moved more t = if t.moved then more t else t
+
+-- a round, and others after one that moved something, at most so many
+unfoldable pub rounds : ℕ → ℕ → Trail → Trail
+rounds line zero t = t
+rounds line (suc n) t = if_moved (rounds line n) (round line t)
+
+-- the fabric and its chart after all rounds
+abbrev pub settled : ℕ → Fabric → ChartView → Trail
+settled line f chart = rounds line 10000 (at f chart false)

@@ -1,0 +1,312 @@
+//! The subcommand `chart`: what happened on the links of a script's fabric.
+ghost use Rattle.std.specs.Prelude.{◌≡◌, ◌≤◌, ◌++◌, ◌∷◌, [], Some, length, codes, option_map, IfOk, OnOk, OnErr};
+ghost use Rattle.std.specs.Fmt.{decimal};
+ghost use Rattle.arrayvec.specs.ArrayString.{array_string_len};
+ghost use Rattle.fabric_answers.specs.Answers.{answer, IsTold};
+ghost use Rattle.fabric_core.specs.Config.{fault_name};
+ghost use Rattle.script_text.specs.Names.{refusal_text};
+ghost use Rattle.link_chart.specs.ChartView.{refused};
+ghost use Rattle.line_engine.specs.Run.{IsAnswer, IsWhole, IsPart};
+ghost use Rattle.chart_engine.specs.Chart as spec;
+ghost use Rattle.chart_engine.specs.Chart.{WritesDocument, out_chart};
+
+use crate::happen::{happen, is_memory, is_no_memory, make};
+use crate::laws::charts_are_well_formed;
+use crate::rounds::settle_charted;
+use arrayvec::ArrayString;
+use chart_page::put_title_chart;
+use fabric_core::{Config, ConfigFault, Event, Fabric, Refusal};
+use line_engine::{EngineFault, Responder, run};
+use link_chart::{Chart, ChartWindow};
+use operation_text::write_decimal;
+use script_text::{Line, read_line, write_config_fault, write_refusal};
+use std::alloc::{AllocError, Global};
+use std::io::{Read, Write};
+use std::marker::Model;
+use std::mem;
+
+/// A fabric and its chart.
+#[derive(Drop)]
+pub(crate) struct Session {
+    fabric: Fabric,
+    chart: Chart,
+}
+
+/// A script that is run line by line, and then charted.
+#[derive(Drop)]
+struct Charter {
+    alloc: Global,
+    window: ChartWindow,
+    session: Option<Session>,
+    lines: u64,
+    /// The line that tells the fault or the refusal that ended the run.
+    ending: Option<ArrayString<512>>,
+}
+
+impl Model for Charter {
+    ghost use Rattle.std.specs.Prelude.{option_map};
+    ghost use Rattle.chart_engine.specs.Chart.{Charting};
+
+    ghost Value = { Charting };
+
+    ghost view = { λ s. record { window = s.window; session = s.session; lines = s.lines; ending = option_map (λ line. line.bytes) s.ending } };
+}
+
+/// The beginning of the line that ends a run.
+fn told(kind: &str, line: u64) -> ArrayString<512>
+    requires { length kind.now ≤ 8 }
+    ensures text { result.bytes ≡ kind.now ++ (decimal line ++ 32 ∷ []) }
+    ensures len { array_string_len result ≤ 29 }
+{
+    let mut text = ArrayString::new();
+    text.push_str(kind);
+    write_decimal(line, &mut text);
+    text.push_str(" ");
+    text
+}
+
+/// Tells a chart that an event was refused; out of memory is none of a fabric's answers.
+fn tell_refused(
+    chart: &mut Chart,
+    line: u64,
+    event: Event,
+    refusal: Refusal,
+) -> Result<(), AllocError>
+    ensures told { OnOk result (IsTold refusal) }
+    ensures chart { OnOk result (chart.new ≡ refused chart.old line event refusal) }
+{
+    if is_memory(refusal) {
+        return Err(AllocError);
+    }
+    chart.refused(line, event, refusal)
+}
+
+/// An event happens to a fabric or is refused, and its chart is told. Gives why it was refused.
+fn happen_charted(
+    fabric: &mut Fabric,
+    chart: &mut Chart,
+    line: u64,
+    event: Event,
+) -> Result<Option<Refusal>, AllocError>
+    ensures fabric { OnOk result (fabric.new ≡ (spec.left_by line (spec.session fabric.old chart.old) event (answer fabric.old event)).fabric) }
+    ensures chart { OnOk result (chart.new ≡ (spec.left_by line (spec.session fabric.old chart.old) event (answer fabric.old event)).chart) }
+    ensures refusal { IfOk result (λ r. r ≡ spec.refusal_in (answer fabric.old event)) }
+{
+    match happen(fabric, &event) {
+        Ok(seen) => {
+            chart.event(line, event, seen)?;
+            Ok(None)
+        }
+        Err(refusal) => {
+            tell_refused(chart, line, event, refusal)?;
+            Ok(Some(refusal))
+        }
+    }
+}
+
+impl Charter {
+    fn new(alloc: Global, window: ChartWindow) -> Charter
+        ensures { result ≡ spec.new_script window }
+    {
+        Charter {
+            alloc,
+            window,
+            session: None,
+            lines: 0,
+            ending: None,
+        }
+    }
+
+    /// The number of the line that comes next, from 1; it stays at 2^64 - 1.
+    fn next_line(&self) -> u64
+        ensures { result ≡ spec.next_line self.now }
+    {
+        self.lines.saturating_add(1)
+    }
+
+    fn count(&mut self)
+        ensures { self.new ≡ spec.counted self.old }
+    {
+        self.lines = self.next_line();
+    }
+
+    /// The line is the last one.
+    fn end(&mut self, line: ArrayString<512>)
+        ensures { self.new ≡ record (spec.counted self.old) { ending = Some line.bytes } }
+    {
+        self.count();
+        self.ending = Some(line);
+    }
+
+    /// The line is none of a script.
+    fn no_line(&mut self) -> bool
+        ensures { (o : _) → IsAnswer self.new o o result (spec.no_line self.old) }
+    {
+        let mut line = told("fault ", self.next_line());
+        line.push_str("Script");
+        self.end(line);
+        true
+    }
+
+    /// There is no fabric of the configuration.
+    fn not_made(&mut self, fault: ConfigFault) -> bool
+        ensures { (o : _) → IsAnswer self.new o o result (spec.fault self.old (fault_name fault)) }
+    {
+        let mut line = told("fault ", self.next_line());
+        write_config_fault(&fault, &mut line);
+        self.end(line);
+        true
+    }
+
+    /// The fabric refused an event.
+    fn end_refused(&mut self, refusal: Refusal) -> bool
+        ensures { (o : _) → IsAnswer self.new o o result (spec.ends self.old self.old.session (spec.told self.old (codes "refused ") (refusal_text refusal))) }
+    {
+        let mut line = told("refused ", self.next_line());
+        write_refusal(&refusal, &mut line);
+        self.end(line);
+        true
+    }
+
+    /// The fabric of the script is made, with its chart.
+    fn make(&mut self, config: Config) -> Result<bool, AllocError>
+        ensures { IfOk result (λ told. (o : _) → IsAnswer self.new o o told (spec.made_once self.old self.old.session config)) }
+    {
+        if self.session.is_some() {
+            return Ok(self.no_line());
+        }
+        match make(config, self.alloc) {
+            Ok(fabric) => {
+                let chart = Chart::new(self.alloc, self.window, config.requesters)?;
+                self.session = Some(Session { fabric, chart });
+                self.count();
+                Ok(false)
+            }
+            Err(fault) => {
+                is_no_memory(fault)?;
+                Ok(self.not_made(fault))
+            }
+        }
+    }
+
+    /// An event happens, or is refused.
+    fn happen(&mut self, event: Event) -> Result<bool, AllocError>
+        ensures { IfOk result (λ told. (o : _) → IsAnswer self.new o o told (spec.happened self.old self.old.session event)) }
+    {
+        let line = self.next_line();
+        let Some(session) = &mut self.session else {
+            return Ok(self.no_line());
+        };
+        let refusal = happen_charted(&mut session.fabric, &mut session.chart, line, event)?;
+        match refusal {
+            None => {
+                self.count();
+                Ok(false)
+            }
+            Some(refusal) => Ok(self.end_refused(refusal)),
+        }
+    }
+
+    /// The fabric is run until nothing moves.
+    fn settle(&mut self) -> Result<bool, AllocError>
+        ensures { IfOk result (λ told. (o : _) → IsAnswer self.new o o told (spec.settles self.old self.old.session)) }
+    {
+        let line = self.next_line();
+        let Some(session) = &mut self.session else {
+            return Ok(self.no_line());
+        };
+        settle_charted(&mut session.fabric, &mut session.chart, line)?;
+        self.count();
+        Ok(false)
+    }
+}
+
+/// Adds the chart of a script below a line, or where it has no fabric the line alone.
+fn put_below(
+    alloc: Global,
+    session: Option<Session>,
+    is_red: bool,
+    title: &[u8],
+    out: &mut Vec<u8>,
+) -> Result<(), AllocError>
+    ensures ok { OnOk result (out.new.items ≡ out.old.items ++ spec.text_below session is_red title.now) }
+    ensures err { OnErr result (out.new.items ≡ out.old.items) }
+{
+    match session {
+        None => put_title_chart(alloc, is_red, title, out),
+        Some(session) => session.chart.put(is_red, title, out),
+    }
+}
+
+/// Adds the chart of a script that ended so.
+fn put_text(
+    alloc: Global,
+    session: Option<Session>,
+    ending: &Option<ArrayString<512>>,
+    out: &mut Vec<u8>,
+) -> Result<(), AllocError>
+    ensures ok { OnOk result (out.new.items ≡ out.old.items ++ spec.text_of session (option_map (λ line. line.bytes) ending.now)) }
+    ensures err { OnErr result (out.new.items ≡ out.old.items) }
+{
+    match ending {
+        None => put_below(alloc, session, false, b"the script ran to its end", out),
+        Some(line) => put_below(alloc, session, true, line.as_bytes(), out),
+    }
+}
+
+impl Responder for Charter {
+    ghost use Rattle.chart_engine.specs.Chart.{chart_responses};
+
+    ghost responses = { chart_responses };
+
+    fn on_line(&mut self, line: &[u8], _out: &mut Vec<u8>) -> Result<bool, AllocError> {
+        if self.ending.is_some() {
+            return Ok(false);
+        }
+        if line.is_empty() || line[0] == b'#' {
+            self.count();
+            return Ok(false);
+        }
+        match read_line(line) {
+            None => Ok(self.no_line()),
+            Some(Line::Fabric(config)) => self.make(config),
+            Some(Line::Event(event)) => self.happen(event),
+            Some(Line::Settle) => self.settle(),
+        }
+    }
+
+    fn on_long_line(&mut self, _out: &mut Vec<u8>) -> Result<bool, AllocError> {
+        if self.ending.is_some() {
+            return Ok(false);
+        }
+        Ok(self.no_line())
+    }
+
+    fn on_end(&mut self, out: &mut Vec<u8>) -> Result<bool, AllocError> {
+        let session = mem::replace(&mut self.session, None);
+        put_text(self.alloc, session, &self.ending, out)?;
+        Ok(false)
+    }
+}
+
+/// Reads a script as `step` does, and writes a chart of what happened on the links of its fabric in SVG: the events of
+/// the window, 1,000 at most. Above it stands the line of the fault or the refusal that ended the run, in red, or that
+/// the script ran to its end. `Ok` is the exit status, 1 where a fault or a refusal ended the run. After an `Err` what
+/// was written is a beginning of the whole output.
+pub fn run_chart<R: Read, W: Write>(
+    alloc: Global,
+    window: ChartWindow,
+    reader: &mut R,
+    writer: &mut W,
+) -> Result<u8, EngineFault>
+    ensures ok { IfOk result (IsWhole (out_chart window) (R.remaining reader.old) (R.remaining reader.new) (W.contents writer.old) (W.contents writer.new)) }
+    ensures err { OnErr result (IsPart (out_chart window) (R.remaining reader.old) (R.remaining reader.new) (W.contents writer.old) (W.contents writer.new)) }
+
+    // Whatever the input is, what is written is a well-formed document of XML.
+    ensures document { OnOk result (WritesDocument (W.contents writer.old) (W.contents writer.new)) }
+{
+    let charter = Charter::new(alloc, window);
+    let status = run(alloc, charter, reader, writer)?;
+    charts_are_well_formed();
+    Ok(status)
+}

@@ -1,0 +1,51 @@
+-- Where packets are sent on a lane, and where their arrows begin.
+use Rattle.std.specs.Prelude.{ℕ, ◌+◌, ◌-◌, ◌≤◌, ◌==◌, if◌then◌else◌, List, [], ◌∷◌, ◌++◌, length, Option}
+use Rattle.fabric_core.specs.declared.event.Event.{Event}
+use Rattle.fabric_core.specs.declared.event.Seen.{Seen}
+use Rattle.chart_page.specs.declared.row.Deed.{Deed}
+use Rattle.chart_page.specs.declared.row.Deed.TheVariants as deeds
+use Rattle.link_chart.specs.Window as window
+use Rattle.link_chart.specs.Lanes.{Moved, followed, place_of}
+use Rattle.link_chart.specs.ChartView.{ChartView, row_at, charted}
+
+-- an event that happened, its line of the script, and what was seen of it
+pub record Tale : Type 0 where
+  pub line : ℕ
+  pub event : Event
+  pub what : Seen
+
+abbrev pub told : ChartView → Tale → ChartView
+told v t = charted v t.line t.event t.what
+
+-- the row that the event gets, if it is shown
+abbrev pub row_in : ChartView → Tale → Option ℕ
+row_in v t = row_at (window.place_of v.window (length v.page.rows) t.line t.event) (length v.page.rows)
+
+-- what is drawn of it
+abbrev pub deed_in : ChartView → Tale → Deed
+deed_in v t = (followed v.courses (row_in v t) t.event t.what).deed
+
+-- the row of a packet that goes onto the lane at this place of the list of lanes
+abbrev pub sent_on : ℕ → Option ℕ → Deed → List (Option ℕ)
+sent_on k row (deeds.Sent lane number c) = if place_of lane == k then row ∷ [] else []
+sent_on k row _ = []
+
+-- the row in which an arrow of a packet on that lane begins
+abbrev pub begun_on : ℕ → Deed → List (Option ℕ)
+begun_on k (deeds.Arrived lane fate arrival sent) = if place_of lane == k then sent ∷ [] else []
+begun_on k _ = []
+
+-- of all events, in turn
+abbrev pub sendings : ℕ → ChartView → List Tale → List (Option ℕ)
+sendings k v [] = []
+sendings k v (t ∷ ts) = sent_on k (row_in v t) (deed_in v t) ++ sendings k (told v t) ts
+
+abbrev pub beginnings : ℕ → ChartView → List Tale → List (Option ℕ)
+beginnings k v [] = []
+beginnings k v (t ∷ ts) = begun_on k (deed_in v t) ++ beginnings k (told v t) ts
+
+-- a packet arrives on the lane only if one is under way, of which there are so many
+abbrev pub NeverMore : ℕ → ℕ → ChartView → List Tale → Type 0
+NeverMore k n v [] = Unit {0}
+NeverMore k n v (t ∷ ts) =
+    (length (begun_on k (deed_in v t)) ≤ n) × NeverMore k (n + length (sent_on k (row_in v t) (deed_in v t)) - length (begun_on k (deed_in v t))) (told v t) ts

@@ -1,0 +1,14 @@
+-- What a chart shows.
+use Rattle.std.specs.Prelude.{ℕ, List}
+use Rattle.chart_page.specs.declared.row.Row.{Row}
+use Rattle.chart_page.specs.declared.row.Open.{Open}
+
+pub record PageView : Type 0 where
+  pub requesters : ℕ
+  -- a row for each event that is shown
+  pub rows : List Row
+  -- what was sent in these rows and isn't seen to arrive
+  pub opens : List Open
+  -- how many events aren't shown, before the rows and after them
+  pub before : ℕ
+  pub after : ℕ

@@ -1,0 +1,142 @@
+-- The words on a chart.
+use Rattle.std.specs.Prelude.{ℕ, ◌-◌, nat_le, Bool, true, false, if◌then◌else◌, List, [], ◌∷◌, ◌++◌, length, take, codes, Option, Some, None, Result, Ok, Err}
+use Rattle.std.specs.Fmt.{decimal}
+use Rattle.tlp_core.specs.declared.operation.Op.{Op}
+use Rattle.tlp_core.specs.declared.operation.Op.TheVariants as ops
+use Rattle.dllp_core.specs.declared.packet.Dllp.{Dllp}
+use Rattle.dllp_core.specs.declared.packet.Dllp.TheVariants as dllps
+use Rattle.lane_ends.specs.declared.packet.Fate.{Fate}
+use Rattle.lane_ends.specs.declared.packet.Fate.TheVariants as fates
+use Rattle.lane_ends.specs.declared.packet.Arrival.{Arrival}
+use Rattle.lane_ends.specs.declared.packet.Arrival.TheVariants as arrivals
+use Rattle.link_receiver.specs.declared.receiver.Reception.TheVariants as receptions
+use Rattle.fabric_core.specs.declared.event.Event.{Event}
+use Rattle.fabric_core.specs.declared.event.Seen.{Seen}
+use Rattle.fabric_core.specs.declared.fault.Refusal.{Refusal}
+use Rattle.operation_text.specs.Texts.{sequence_text}
+use Rattle.script_text.specs.Names.{class_name, refusal_text}
+use Rattle.script_text.specs.Texts.{seen_text}
+use Rattle.script_lines.specs.Texts.{event_line}
+use Rattle.svg_text.specs.declared.colour.Colour.{Colour}
+use Rattle.svg_text.specs.declared.colour.Colour.TheVariants as colours
+use Rattle.chart_page.specs.declared.row.Kind.{Kind}
+use Rattle.chart_page.specs.declared.row.Kind.TheVariants as requests
+use Rattle.chart_page.specs.declared.row.Carried.{Carried}
+use Rattle.chart_page.specs.declared.row.Replay.{Replay}
+use Rattle.chart_page.specs.declared.row.Replay.TheVariants as replays
+use Rattle.chart_page.specs.declared.row.Row.{Row}
+
+-- ---- packets
+
+abbrev pub kind_of : Op → Kind
+kind_of (ops.Read a dw f l) = requests.Read
+kind_of (ops.Write a f l bytes) = requests.Write
+kind_of (ops.FetchAdd a w x) = requests.Add
+kind_of (ops.Swap a w x) = requests.Swap
+kind_of (ops.Cas a w x y) = requests.Cas
+
+abbrev pub kind_name : Kind → List ℕ
+kind_name requests.Read = codes "read"
+kind_name requests.Write = codes "write"
+kind_name requests.Add = codes "add"
+kind_name requests.Swap = codes "swap"
+kind_name requests.Cas = codes "cas"
+
+abbrev pub kind_colour : Kind → Colour
+kind_colour requests.Read = colours.SkyBlue
+kind_colour requests.Write = colours.Orange
+kind_colour requests.Add = colours.Green
+kind_colour requests.Swap = colours.Yellow
+kind_colour requests.Cas = colours.Purple
+
+-- a request, as its kind, its requester and its number, or the completion of one
+abbrev pub cpl_words : Bool → List ℕ
+cpl_words is_completion = if is_completion then codes "cpl of " else []
+
+abbrev pub carried_words : Carried → List ℕ
+carried_words c = cpl_words c.is_completion ++ (kind_name c.kind ++ (32 ∷ (decimal c.requester ++ (58 ∷ decimal c.number))))
+
+-- after a space, where it is known
+abbrev pub known_words : Option Carried → List ℕ
+known_words None = []
+known_words (Some c) = 32 ∷ carried_words c
+
+abbrev pub sent_words : ℕ → Option Carried → List ℕ
+sent_words number c = sequence_text number ++ known_words c
+
+-- ---- what is said of an arrow
+
+-- nothing of a packet that is accepted
+abbrev pub arrival_words : Fate → Arrival → List ℕ
+arrival_words fates.Lost arrival = codes "lost"
+arrival_words fates.Failed (arrivals.Answered receptions.NakNow) = codes "failed, Nak due"
+arrival_words fates.Failed _ = codes "failed"
+arrival_words fates.Good (arrivals.Answered receptions.Duplicate) = codes "duplicate, dropped"
+arrival_words fates.Good (arrivals.Answered receptions.NakNow) = codes "out of order, Nak due"
+arrival_words fates.Good (arrivals.Answered receptions.Quiet) = codes "out of order, dropped"
+arrival_words fates.Good _ = []
+
+-- ---- DLLPs and replays
+
+abbrev pub dllp_words : Dllp → List ℕ
+dllp_words (dllps.Ack n) = codes "Ack " ++ sequence_text n
+dllp_words (dllps.Nak n) = codes "Nak " ++ sequence_text n
+dllp_words (dllps.Update class headers units) = codes "UpdateFC " ++ (class_name class ++ (32 ∷ (decimal headers ++ (32 ∷ decimal units))))
+
+-- how many packets go once more
+abbrev pub again_words : ℕ → List ℕ
+again_words places = codes "replay " ++ decimal places
+
+abbrev pub replay_words : Replay → List ℕ
+replay_words replays.Nothing = []
+replay_words (replays.Again places) = again_words places
+replay_words (replays.Stopped places) = again_words places ++ codes ", link stops"
+
+-- what is said of a DLLP that arrived or was lost
+abbrev pub dllp_arrival_words : Fate → Replay → List ℕ
+dllp_arrival_words fates.Good r = replay_words r
+dllp_arrival_words fates.Failed r = codes "failed"
+dllp_arrival_words fates.Lost r = codes "lost"
+
+-- ---- what happened at a part
+
+abbrev pub submitted_words : Carried → List ℕ
+submitted_words c = codes "submit " ++ carried_words c
+
+abbrev pub expired_words : Replay → List ℕ
+expired_words r = codes "timer: " ++ replay_words r
+
+abbrev pub forwarded_words : Option Carried → List ℕ
+forwarded_words c = codes "forward" ++ known_words c
+
+abbrev pub served_words : Option Carried → ℕ → List ℕ
+served_words c index = codes "serve" ++ (known_words c ++ (codes ", history " ++ decimal index))
+
+abbrev pub collected_words : Option Carried → List ℕ
+collected_words c = codes "collect" ++ known_words c
+
+-- ---- rows
+
+-- at most so many letters: the last two are dots where a text has more
+abbrev pub shortened : ℕ → List ℕ → List ℕ
+shortened most text = if nat_le (length text) most then text else take (most - 2) text ++ codes ".."
+
+-- what was seen of the event, or why it was refused
+abbrev pub outcome_words : Event → Result Seen Refusal → List ℕ
+outcome_words event (Ok what) = seen_text event what
+outcome_words event (Err r) = codes "refused " ++ refusal_text r
+
+-- what is shown where one points at a row
+abbrev pub row_words : Row → List ℕ
+row_words r = (codes "line " ++ (decimal r.line ++ codes ": ")) ++ (shortened 60 (event_line r.event) ++ (codes " -> " ++ shortened 60 (outcome_words r.event r.outcome)))
+
+-- ---- the heading
+
+abbrev pub requester_words : ℕ → List ℕ
+requester_words port = codes "requester " ++ decimal port
+
+abbrev pub before_words : ℕ → List ℕ
+before_words count = codes "events before these rows: " ++ decimal count
+
+abbrev pub after_words : ℕ → List ℕ
+after_words count = codes "events after these rows: " ++ decimal count

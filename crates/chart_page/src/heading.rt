@@ -1,0 +1,184 @@
+//! What stands above the rows.
+ghost use Rattle.std.specs.Prelude.{◌≡◌, ◌≤◌, ◌+◌, ◌++◌, OnOk};
+ghost use Rattle.svg_text.specs.Shapes.{shapes_text};
+ghost use Rattle.chart_page.specs.Words as said;
+ghost use Rattle.chart_page.specs.Shapes as spec;
+
+use crate::arrows::{pen, put_cross};
+use crate::layout::{Point, memory_x, requester_x, switch_x};
+use crate::shapes::{label_at, put_line, put_square};
+use crate::words::put_requester;
+use arrayvec::ArrayString;
+use std::alloc::AllocError;
+use svg_text::{Block, Colour, Label, put_block, put_label};
+
+/// Where the first line stands, in red where it tells a fault or a refusal.
+pub(crate) fn title_label(is_red: bool) -> Label
+    ensures { result ≡ spec.title_label is_red }
+{
+    Label {
+        x: 10,
+        y: 22,
+        size: 16,
+        colour: if is_red { Colour::Red } else { Colour::Black },
+        is_centred: false,
+    }
+}
+
+/// Adds the colour of a kind of operations.
+#[tactic(auto, unfolding(svg_text::specs::Shapes::shapes_text))]
+fn put_kind_sign(x: u64, colour: Colour, name: &str, out: &mut Vec<u8>) -> Result<(), AllocError>
+    requires { x ≤ 900 }
+    ensures { OnOk result (out.new.items ≡ out.old.items ++ shapes_text (spec.kind_sign x colour name.now)) }
+{
+    let block = Block {
+        left: x,
+        top: 42,
+        right: x + 10,
+        bottom: 52,
+        fill: colour,
+        edge: Colour::Black,
+        thickness: 1,
+        is_open: false,
+    };
+    put_block(&block, name.as_bytes(), out)?;
+    put_label(&label_at(x + 16, 51, Colour::Black), name.as_bytes(), out)
+}
+
+/// Adds the colours of the kinds of operations.
+fn put_kind_signs(out: &mut Vec<u8>) -> Result<(), AllocError>
+    ensures { OnOk result (out.new.items ≡ out.old.items ++ shapes_text spec.kind_signs) }
+{
+    put_kind_sign(10, Colour::SkyBlue, "read", out)?;
+    put_kind_sign(66, Colour::Orange, "write", out)?;
+    put_kind_sign(128, Colour::Green, "add", out)?;
+    put_kind_sign(180, Colour::Yellow, "swap", out)?;
+    put_kind_sign(238, Colour::Purple, "cas", out)?;
+    Ok(())
+}
+
+/// Adds what a line means.
+#[tactic(auto, unfolding(svg_text::specs::Shapes::shapes_text))]
+fn put_pen_sign(
+    x: u64,
+    colour: Colour,
+    thickness: u64,
+    dash: u64,
+    name: &str,
+    out: &mut Vec<u8>,
+) -> Result<(), AllocError>
+    requires { x ≤ 900 }
+    ensures { OnOk result (out.new.items ≡ out.old.items ++ shapes_text (spec.pen_sign x (spec.pen colour thickness dash) name.now)) }
+{
+    let pen = pen(colour, thickness, dash);
+    put_line(pen, Point { x, y: 47 }, Point { x: x + 30, y: 47 }, out)?;
+    put_label(&label_at(x + 36, 51, Colour::Black), name.as_bytes(), out)
+}
+
+/// Adds what the lines of arrows mean.
+fn put_pen_signs(out: &mut Vec<u8>) -> Result<(), AllocError>
+    ensures { OnOk result (out.new.items ≡ out.old.items ++ shapes_text spec.pen_signs) }
+{
+    put_pen_sign(300, Colour::Black, 2, 0, "packet", out)?;
+    put_pen_sign(400, Colour::Black, 2, 6, "duplicate", out)?;
+    put_pen_sign(520, Colour::Red, 2, 0, "not accepted", out)?;
+    put_pen_sign(662, Colour::Grey, 1, 0, "DLLP", out)?;
+    Ok(())
+}
+
+/// Adds a text.
+#[tactic(auto, unfolding(svg_text::specs::Shapes::shapes_text))]
+fn put_text(x: u64, y: u64, words: &str, out: &mut Vec<u8>) -> Result<(), AllocError>
+    ensures { OnOk result (out.new.items ≡ out.old.items ++ shapes_text (spec.text_at x y words.now)) }
+{
+    put_label(&label_at(x, y, Colour::Black), words.as_bytes(), out)
+}
+
+/// Adds what a cross means.
+fn put_lost_sign(out: &mut Vec<u8>) -> Result<(), AllocError>
+    ensures { OnOk result (out.new.items ≡ out.old.items ++ shapes_text spec.lost_sign) }
+{
+    put_cross(Point { x: 750, y: 47 }, out)?;
+    put_text(764, 51, "lost", out)?;
+    Ok(())
+}
+
+/// Adds what a red square means.
+fn put_failed_sign(out: &mut Vec<u8>) -> Result<(), AllocError>
+    ensures { OnOk result (out.new.items ≡ out.old.items ++ shapes_text spec.failed_sign) }
+{
+    put_square(Point { x: 815, y: 47 }, Colour::Red, b"failed", out)?;
+    put_text(826, 51, "failed its check", out)?;
+    Ok(())
+}
+
+/// Adds what colours, lines and ends mean.
+pub(crate) fn put_legend(out: &mut Vec<u8>) -> Result<(), AllocError>
+    ensures { OnOk result (out.new.items ≡ out.old.items ++ shapes_text spec.legend) }
+{
+    put_kind_signs(out)?;
+    put_pen_signs(out)?;
+    put_lost_sign(out)?;
+    put_failed_sign(out)?;
+    Ok(())
+}
+
+/// Adds the line of a part and its name.
+#[tactic(auto, unfolding(svg_text::specs::Shapes::shapes_text))]
+fn put_column(x: u64, bottom: u64, name: &[u8], out: &mut Vec<u8>) -> Result<(), AllocError>
+    ensures { OnOk result (out.new.items ≡ out.old.items ++ shapes_text (spec.column x bottom name.now)) }
+{
+    let label = Label {
+        x,
+        y: 84,
+        size: 12,
+        colour: Colour::Black,
+        is_centred: true,
+    };
+    put_label(&label, name, out)?;
+    let top = Point { x, y: 92 };
+    put_line(pen(Colour::Grey, 1, 0), top, Point { x, y: bottom }, out)
+}
+
+/// Adds the line of the requester at a port.
+fn put_requester_column(port: u8, bottom: u64, out: &mut Vec<u8>) -> Result<(), AllocError>
+    ensures { OnOk result (out.new.items ≡ out.old.items ++ shapes_text (spec.requester_column port bottom)) }
+{
+    let mut name = ArrayString::new();
+    put_requester(port, &mut name);
+    put_column(requester_x(port), bottom, name.as_bytes(), out)
+}
+
+/// Adds the line of the switch.
+fn put_switch_column(requesters: u8, bottom: u64, out: &mut Vec<u8>) -> Result<(), AllocError>
+    ensures { OnOk result (out.new.items ≡ out.old.items ++ shapes_text (spec.switch_column requesters bottom)) }
+{
+    put_column(switch_x(requesters), bottom, b"switch", out)
+}
+
+/// Adds the line of the memory.
+fn put_memory_column(requesters: u8, bottom: u64, out: &mut Vec<u8>) -> Result<(), AllocError>
+    ensures { OnOk result (out.new.items ≡ out.old.items ++ shapes_text (spec.memory_column requesters bottom)) }
+{
+    put_column(memory_x(requesters), bottom, b"memory", out)
+}
+
+/// Adds the lines of the requesters.
+fn put_requester_columns(requesters: u8, bottom: u64, out: &mut Vec<u8>) -> Result<(), AllocError>
+    ensures { OnOk result (out.new.items ≡ out.old.items ++ shapes_text (spec.requester_columns requesters bottom)) }
+{
+    for place in 0..requesters {
+        put_requester_column(place + 1, bottom, out)?;
+    }
+    Ok(())
+}
+
+/// Adds the lines of the parts.
+pub(crate) fn put_columns(requesters: u8, bottom: u64, out: &mut Vec<u8>) -> Result<(), AllocError>
+    ensures { OnOk result (out.new.items ≡ out.old.items ++ shapes_text (spec.columns requesters bottom)) }
+{
+    put_requester_columns(requesters, bottom, out)?;
+    put_switch_column(requesters, bottom, out)?;
+    put_memory_column(requesters, bottom, out)?;
+    Ok(())
+}

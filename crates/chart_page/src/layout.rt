@@ -1,0 +1,191 @@
+//! Where the parts of a fabric and the rows of a chart stand, in pixels from the left and from the top.
+ghost use Rattle.std.specs.Prelude.{◌≡◌, ◌≤◌};
+ghost use Rattle.chart_page.specs.Layout as layout;
+
+use fabric_core::LaneName;
+
+#[derive(Clone, Copy, Debug, PartialEq, Eq)]
+pub(crate) struct Point {
+    pub(crate) x: u64,
+    pub(crate) y: u64,
+}
+
+/// The way from one line to another.
+#[derive(Clone, Copy, Debug, PartialEq, Eq)]
+pub(crate) struct Way {
+    pub(crate) from: u64,
+    pub(crate) to: u64,
+    pub(crate) is_right: bool,
+}
+
+/// Where the line of the requester at a port stands.
+pub(crate) fn requester_x(port: u8) -> u64
+    ensures value { result ≡ layout.requester_x port }
+    ensures range { result ≤ 70000 }
+{
+    560 + 240 * u64::from(port).saturating_sub(1)
+}
+
+/// Where the line of the switch stands.
+pub(crate) fn switch_x(requesters: u8) -> u64
+    ensures value { result ≡ layout.switch_x requesters }
+    ensures range { result ≤ 70000 }
+{
+    560 + 240 * u64::from(requesters)
+}
+
+/// Where the line of the memory stands.
+pub(crate) fn memory_x(requesters: u8) -> u64
+    ensures value { result ≡ layout.memory_x requesters }
+    ensures range { result ≤ 70000 }
+{
+    switch_x(requesters) + 240
+}
+
+/// How wide a chart is.
+pub(crate) fn width_of(requesters: u8) -> u64
+    ensures { result ≡ layout.width_of requesters }
+{
+    memory_x(requesters) + 260
+}
+
+/// Where a row begins.
+pub(crate) fn top_of(row: u16) -> u64
+    ensures value { result ≡ layout.top_of row }
+    ensures range { result ≤ 2000000 }
+{
+    104 + 26 * u64::from(row)
+}
+
+/// Where in its row an arrow begins.
+pub(crate) fn departure(row: u16) -> u64
+    ensures value { result ≡ layout.departure row }
+    ensures range { result ≤ 2000100 }
+{
+    top_of(row) + 19
+}
+
+/// Where in its row an arrow ends, and a mark stands.
+pub(crate) fn middle(row: u16) -> u64
+    ensures value { result ≡ layout.middle row }
+    ensures range { result ≤ 2000100 }
+{
+    top_of(row) + 13
+}
+
+/// The way of packets on a lane.
+fn packet_way(requesters: u8, lane: LaneName) -> Way
+    ensures value { result ≡ layout.packet_way requesters lane }
+    ensures from { result.from ≤ 70000 }
+    ensures to { result.to ≤ 70000 }
+{
+    match lane {
+        LaneName::Up(port) => Way {
+            from: requester_x(port),
+            to: switch_x(requesters),
+            is_right: true,
+        },
+        LaneName::Down(port) => Way {
+            from: switch_x(requesters),
+            to: requester_x(port),
+            is_right: false,
+        },
+        LaneName::Inward => Way {
+            from: switch_x(requesters),
+            to: memory_x(requesters),
+            is_right: true,
+        },
+        LaneName::Outward => Way {
+            from: memory_x(requesters),
+            to: switch_x(requesters),
+            is_right: false,
+        },
+    }
+}
+
+/// The other direction.
+pub(crate) fn other(is_right: bool) -> bool
+    ensures { result ≡ layout.other is_right }
+{
+    !is_right
+}
+
+/// The way of DLLPs on a lane, or of packets.
+pub(crate) fn way_of(requesters: u8, lane: LaneName, is_dllp: bool) -> Way
+    ensures value { result ≡ layout.way_of requesters lane is_dllp }
+    ensures from { result.from ≤ 70000 }
+    ensures to { result.to ≤ 70000 }
+{
+    let way = packet_way(requesters, lane);
+    if !is_dllp {
+        return way;
+    }
+    Way {
+        from: way.to,
+        to: way.from,
+        is_right: other(way.is_right),
+    }
+}
+
+/// A place that lies so far behind x for one who goes that way.
+pub(crate) fn behind(is_right: bool, x: u64, distance: u64) -> u64
+    requires x { x ≤ 3000000 }
+    requires distance { distance ≤ 3000000 }
+    ensures { result ≡ layout.behind is_right x distance }
+{
+    if is_right {
+        x.saturating_sub(distance)
+    } else {
+        x + distance
+    }
+}
+
+/// The place so many thirds of the way from its beginning.
+pub(crate) fn thirds(way: Way, count: u64) -> u64
+    requires from { way.from ≤ 70000 }
+    requires to { way.to ≤ 70000 }
+    requires count { count ≤ 3 }
+    ensures value { result ≡ layout.thirds way count }
+    ensures range { result ≤ 300000 }
+{
+    if way.is_right {
+        way.from + way.to.saturating_sub(way.from) / 3 * count
+    } else {
+        way.from
+            .saturating_sub(way.from.saturating_sub(way.to) / 3 * count)
+    }
+}
+
+/// Where an arrow begins that ends in a row.
+pub(crate) fn start_of(way: Way, sent: Option<u16>, row: u16) -> Point
+    requires from { way.from ≤ 70000 }
+    requires to { way.to ≤ 70000 }
+    ensures value { result ≡ layout.start_of way sent row }
+    ensures x { result.x ≤ 300000 }
+    ensures y { result.y ≤ 2000100 }
+{
+    match sent {
+        Some(sent) => Point {
+            x: way.from,
+            y: departure(sent),
+        },
+        None => Point {
+            x: thirds(way, 1),
+            y: middle(row),
+        },
+    }
+}
+
+/// Where an arrow ends.
+pub(crate) fn finish_of(way: Way, is_lost: bool, row: u16) -> Point
+    requires from { way.from ≤ 70000 }
+    requires to { way.to ≤ 70000 }
+    ensures value { result ≡ layout.finish_of way is_lost row }
+    ensures x { result.x ≤ 300000 }
+    ensures y { result.y ≤ 2000100 }
+{
+    Point {
+        x: if is_lost { thirds(way, 2) } else { way.to },
+        y: middle(row),
+    }
+}

@@ -1,0 +1,295 @@
+//! What is said of an event at the line of a part.
+ghost use Rattle.std.specs.Prelude.{◌≡◌, ◌≤◌, ◌++◌, length, Some, None, OnOk};
+ghost use Rattle.svg_text.specs.Shapes.{shapes_text};
+ghost use Rattle.svg_text.specs.declared.colour.Colour.TheVariants as colours;
+ghost use Rattle.chart_page.specs.Layout as layout;
+ghost use Rattle.chart_page.specs.Words as said;
+ghost use Rattle.chart_page.specs.Shapes as spec;
+
+use crate::arrows::is_lost;
+use crate::layout::{Point, Way, memory_x, middle, other, requester_x, switch_x, way_of};
+use crate::row::{Carried, Deed, Kind, Replay};
+use crate::shapes::{Tag, kind_in, put_square, put_tag};
+use crate::words::{
+    arrival_words, put_collected, put_dllp, put_dllp_arrival, put_expired, put_forwarded, put_sent,
+    put_served, put_submitted,
+};
+use arrayvec::ArrayString;
+use dllp_core::Dllp;
+use lane_ends::{Arrival, Fate};
+use seq12::Seq12;
+use std::alloc::AllocError;
+use svg_text::{Colour, Dot, put_dot};
+
+/// Adds a dot on a line, and a text at its right.
+#[tactic(auto, unfolding(svg_text::specs::Shapes::shapes_text))]
+fn put_mark(
+    x: u64,
+    row: u16,
+    kind: Option<Kind>,
+    words: &[u8],
+    out: &mut Vec<u8>,
+) -> Result<(), AllocError>
+    requires x { x ≤ 70000 }
+    requires words { length words.now ≤ 512 }
+    ensures { OnOk result (out.new.items ≡ out.old.items ++ shapes_text (spec.mark x row kind words.now)) }
+{
+    let y = middle(row);
+    put_dot(&Dot { x, y }, out)?;
+    let tag = Tag {
+        x,
+        is_right: true,
+        row,
+        kind,
+        colour: Colour::Black,
+    };
+    put_tag(tag, words, out)
+}
+
+/// Adds a grey square at the beginning of a way, and a text on that side.
+#[tactic(auto, unfolding(svg_text::specs::Shapes::shapes_text))]
+fn put_notice(way: Way, row: u16, words: &[u8], out: &mut Vec<u8>) -> Result<(), AllocError>
+    requires way { way.from ≤ 70000 }
+    requires words { length words.now ≤ 512 }
+    ensures { OnOk result (out.new.items ≡ out.old.items ++ shapes_text (spec.notice way row words.now)) }
+{
+    let at = Point {
+        x: way.from,
+        y: middle(row),
+    };
+    put_square(at, Colour::Grey, words, out)?;
+    let tag = Tag {
+        x: way.from,
+        is_right: way.is_right,
+        row,
+        kind: None,
+        colour: Colour::Black,
+    };
+    put_tag(tag, words, out)
+}
+
+/// Adds a text at the beginning of a way.
+fn put_departing(
+    way: Way,
+    row: u16,
+    kind: Option<Kind>,
+    words: &[u8],
+    out: &mut Vec<u8>,
+) -> Result<(), AllocError>
+    requires way { way.from ≤ 70000 }
+    requires words { length words.now ≤ 512 }
+    ensures { OnOk result (out.new.items ≡ out.old.items ++ shapes_text (spec.departing way row kind words.now)) }
+{
+    let tag = Tag {
+        x: way.from,
+        is_right: way.is_right,
+        row,
+        kind,
+        colour: Colour::Black,
+    };
+    put_tag(tag, words, out)
+}
+
+/// Whether a text at the end of a way stands at the right: beyond the line, and before it where something was lost.
+fn remark_side(way: Way, fate: Fate) -> bool
+    ensures { result ≡ spec.remark_side way fate }
+{
+    if is_lost(fate) {
+        other(way.is_right)
+    } else {
+        way.is_right
+    }
+}
+
+/// Adds a text at the end of a way, if there is something to say.
+#[tactic(auto, unfolding(svg_text::specs::Shapes::shapes_text))]
+fn put_remark(
+    way: Way,
+    row: u16,
+    fate: Fate,
+    colour: Colour,
+    words: &[u8],
+    out: &mut Vec<u8>,
+) -> Result<(), AllocError>
+    requires way { way.to ≤ 70000 }
+    requires words { length words.now ≤ 512 }
+    ensures { OnOk result (out.new.items ≡ out.old.items ++ shapes_text (spec.remark way row fate colour words.now)) }
+{
+    if words.is_empty() {
+        return Ok(());
+    }
+    let tag = Tag {
+        x: way.to,
+        is_right: remark_side(way, fate),
+        row,
+        kind: None,
+        colour,
+    };
+    put_tag(tag, words, out)
+}
+
+/// What goes well is told in black.
+fn remark_colour(fate: Fate) -> Colour
+    ensures { result ≡ spec.remark_colour fate }
+{
+    match fate {
+        Fate::Good => Colour::Black,
+        Fate::Failed | Fate::Lost => Colour::Red,
+    }
+}
+
+fn put_submitted_note(
+    row: u16,
+    port: u8,
+    carried: Carried,
+    out: &mut Vec<u8>,
+) -> Result<(), AllocError>
+    ensures { OnOk result (out.new.items ≡ out.old.items ++ shapes_text (spec.mark (layout.requester_x port) row (Some carried.kind) (said.submitted_words carried))) }
+{
+    let mut text = ArrayString::new();
+    put_submitted(carried, &mut text);
+    let kind = Some(carried.kind);
+    put_mark(requester_x(port), row, kind, text.as_bytes(), out)
+}
+
+fn put_sent_note(
+    way: Way,
+    row: u16,
+    number: Seq12,
+    carried: Option<Carried>,
+    out: &mut Vec<u8>,
+) -> Result<(), AllocError>
+    requires { way.from ≤ 70000 }
+    ensures { OnOk result (out.new.items ≡ out.old.items ++ shapes_text (spec.departing way row (spec.kind_in carried) (said.sent_words number carried))) }
+{
+    let mut text = ArrayString::new();
+    put_sent(number, carried, &mut text);
+    put_departing(way, row, kind_in(carried), text.as_bytes(), out)
+}
+
+fn put_arrival_note(
+    way: Way,
+    row: u16,
+    fate: Fate,
+    arrival: Arrival,
+    out: &mut Vec<u8>,
+) -> Result<(), AllocError>
+    requires { way.to ≤ 70000 }
+    ensures { OnOk result (out.new.items ≡ out.old.items ++ shapes_text (spec.remark way row fate colours.Red (said.arrival_words fate arrival))) }
+{
+    let words = arrival_words(fate, arrival);
+    put_remark(way, row, fate, Colour::Red, words.as_bytes(), out)
+}
+
+fn put_dllp_note(way: Way, row: u16, dllp: Dllp, out: &mut Vec<u8>) -> Result<(), AllocError>
+    requires { way.from ≤ 70000 }
+    ensures { OnOk result (out.new.items ≡ out.old.items ++ shapes_text (spec.departing way row None (said.dllp_words dllp))) }
+{
+    let mut text = ArrayString::new();
+    put_dllp(dllp, &mut text);
+    put_departing(way, row, None, text.as_bytes(), out)
+}
+
+fn put_dllp_arrival_note(
+    way: Way,
+    row: u16,
+    fate: Fate,
+    replay: Replay,
+    out: &mut Vec<u8>,
+) -> Result<(), AllocError>
+    requires { way.to ≤ 70000 }
+    ensures { OnOk result (out.new.items ≡ out.old.items ++ shapes_text (spec.remark way row fate (spec.remark_colour fate) (said.dllp_arrival_words fate replay))) }
+{
+    let mut text = ArrayString::new();
+    put_dllp_arrival(fate, replay, &mut text);
+    put_remark(way, row, fate, remark_colour(fate), text.as_bytes(), out)
+}
+
+fn put_expired_note(way: Way, row: u16, replay: Replay, out: &mut Vec<u8>) -> Result<(), AllocError>
+    requires { way.from ≤ 70000 }
+    ensures { OnOk result (out.new.items ≡ out.old.items ++ shapes_text (spec.notice way row (said.expired_words replay))) }
+{
+    let mut text = ArrayString::new();
+    put_expired(replay, &mut text);
+    put_notice(way, row, text.as_bytes(), out)
+}
+
+fn put_forwarded_note(
+    requesters: u8,
+    row: u16,
+    carried: Option<Carried>,
+    out: &mut Vec<u8>,
+) -> Result<(), AllocError>
+    ensures { OnOk result (out.new.items ≡ out.old.items ++ shapes_text (spec.mark (layout.switch_x requesters) row (spec.kind_in carried) (said.forwarded_words carried))) }
+{
+    let mut text = ArrayString::new();
+    put_forwarded(carried, &mut text);
+    let kind = kind_in(carried);
+    put_mark(switch_x(requesters), row, kind, text.as_bytes(), out)
+}
+
+fn put_served_note(
+    requesters: u8,
+    row: u16,
+    carried: Option<Carried>,
+    index: usize,
+    out: &mut Vec<u8>,
+) -> Result<(), AllocError>
+    ensures { OnOk result (out.new.items ≡ out.old.items ++ shapes_text (spec.mark (layout.memory_x requesters) row (spec.kind_in carried) (said.served_words carried index))) }
+{
+    let mut text = ArrayString::new();
+    put_served(carried, index, &mut text);
+    let kind = kind_in(carried);
+    put_mark(memory_x(requesters), row, kind, text.as_bytes(), out)
+}
+
+fn put_collected_note(
+    row: u16,
+    port: u8,
+    carried: Option<Carried>,
+    out: &mut Vec<u8>,
+) -> Result<(), AllocError>
+    ensures { OnOk result (out.new.items ≡ out.old.items ++ shapes_text (spec.mark (layout.requester_x port) row (spec.kind_in carried) (said.collected_words carried))) }
+{
+    let mut text = ArrayString::new();
+    put_collected(carried, &mut text);
+    let kind = kind_in(carried);
+    put_mark(requester_x(port), row, kind, text.as_bytes(), out)
+}
+
+/// Adds the dot, the square and the text of a row of this deed.
+#[tactic(auto, unfolding(svg_text::specs::Shapes::shapes_text))]
+pub(crate) fn put_note(
+    requesters: u8,
+    row: u16,
+    deed: Deed,
+    out: &mut Vec<u8>,
+) -> Result<(), AllocError>
+    ensures { OnOk result (out.new.items ≡ out.old.items ++ shapes_text (spec.note requesters row deed)) }
+{
+    match deed {
+        Deed::Nothing => Ok(()),
+        Deed::Submitted(port, carried) => put_submitted_note(row, port, carried, out),
+        Deed::Sent(lane, number, carried) => {
+            put_sent_note(way_of(requesters, lane, false), row, number, carried, out)
+        }
+        Deed::Arrived(lane, fate, arrival, _) => {
+            put_arrival_note(way_of(requesters, lane, false), row, fate, arrival, out)
+        }
+        Deed::SentDllp(lane, dllp) => {
+            put_dllp_note(way_of(requesters, lane, true), row, dllp, out)
+        }
+        Deed::ArrivedDllp(lane, fate, _, replay) => {
+            put_dllp_arrival_note(way_of(requesters, lane, true), row, fate, replay, out)
+        }
+        Deed::Expired(lane, replay) => {
+            put_expired_note(way_of(requesters, lane, false), row, replay, out)
+        }
+        Deed::Retrained(lane) => {
+            put_notice(way_of(requesters, lane, false), row, b"link retrained", out)
+        }
+        Deed::Forwarded(carried) => put_forwarded_note(requesters, row, carried, out),
+        Deed::Served(carried, index) => put_served_note(requesters, row, carried, index, out),
+        Deed::Collected(port, carried) => put_collected_note(row, port, carried, out),
+    }
+}

@@ -1,0 +1,291 @@
+//! The whole page.
+ghost use Rattle.std.specs.Prelude.{◌≡◌, ◌≤◌, ◌+◌, ◌++◌, length, OnOk, OnErr};
+ghost use Rattle.svg_text.specs.Shapes.{shape_text, shapes_text};
+ghost use Rattle.chart_page.specs.Shapes as spec;
+
+use crate::arrows::{put_open, put_strokes};
+use crate::heading::{put_columns, put_legend, title_label};
+use crate::layout::{top_of, width_of};
+use crate::notes::put_note;
+use crate::row::{Deed, Open, Page, Row};
+use crate::shapes::label_at;
+use crate::words::{put_after, put_before, put_event, put_outcome, put_row_words};
+use arrayvec::ArrayString;
+use operation_text::write_decimal;
+use std::alloc::{AllocError, Global};
+use svg_text::{Block, Colour, put_block, put_label, put_page};
+
+/// What is refused is told in red.
+fn row_colour(deed: Deed) -> Colour
+    ensures { result ≡ spec.row_colour deed }
+{
+    match deed {
+        Deed::Nothing => Colour::Red,
+        _ => Colour::Black,
+    }
+}
+
+/// White below a row.
+fn band_block(requesters: u8, row: u16) -> Block
+    ensures { result ≡ spec.band_block requesters row }
+{
+    Block {
+        left: 0,
+        top: top_of(row),
+        right: width_of(requesters),
+        bottom: top_of(row) + 26,
+        fill: Colour::White,
+        edge: Colour::White,
+        thickness: 0,
+        is_open: false,
+    }
+}
+
+/// Adds white below a row, and what is shown where one points at it.
+fn put_white(
+    alloc: Global,
+    requesters: u8,
+    row: u16,
+    of: &Row,
+    out: &mut Vec<u8>,
+) -> Result<(), AllocError>
+    ensures { OnOk result (out.new.items ≡ out.old.items ++ shape_text (spec.white requesters row of.now)) }
+{
+    let mut words = Vec::new(alloc);
+    put_row_words(of, &mut words)?;
+    put_block(&band_block(requesters, row), words.as_slice(), out)
+}
+
+/// Adds the number of a row's line.
+fn put_number(row: u16, line: u64, out: &mut Vec<u8>) -> Result<(), AllocError>
+    ensures { OnOk result (out.new.items ≡ out.old.items ++ shape_text (spec.number row line)) }
+{
+    let mut text = ArrayString::new();
+    write_decimal(line, &mut text);
+    let label = label_at(10, top_of(row) + 17, Colour::Grey);
+    put_label(&label, text.as_bytes(), out)
+}
+
+/// Adds a row's event.
+fn put_said(alloc: Global, row: u16, of: &Row, out: &mut Vec<u8>) -> Result<(), AllocError>
+    ensures { OnOk result (out.new.items ≡ out.old.items ++ shape_text (spec.event_said row of.now)) }
+{
+    let mut words = Vec::new(alloc);
+    put_event(&of.event, 26, &mut words)?;
+    let label = label_at(58, top_of(row) + 17, row_colour(of.deed));
+    put_label(&label, words.as_slice(), out)
+}
+
+/// Adds what was seen of a row's event, or why it was refused.
+fn put_seen(alloc: Global, row: u16, of: &Row, out: &mut Vec<u8>) -> Result<(), AllocError>
+    ensures { OnOk result (out.new.items ≡ out.old.items ++ shape_text (spec.outcome_said row of.now)) }
+{
+    let mut words = Vec::new(alloc);
+    put_outcome(&of.event, &of.outcome, 20, &mut words)?;
+    let label = label_at(254, top_of(row) + 17, row_colour(of.deed));
+    put_label(&label, words.as_slice(), out)
+}
+
+/// Adds white and the texts at the left of a row.
+#[tactic(auto, unfolding(svg_text::specs::Shapes::shapes_text))]
+fn put_band(
+    alloc: Global,
+    requesters: u8,
+    row: u16,
+    of: &Row,
+    out: &mut Vec<u8>,
+) -> Result<(), AllocError>
+    ensures { OnOk result (out.new.items ≡ out.old.items ++ shapes_text (spec.band requesters row of.now)) }
+{
+    put_white(alloc, requesters, row, of, out)?;
+    put_number(row, of.line, out)?;
+    put_said(alloc, row, of, out)?;
+    put_seen(alloc, row, of, out)
+}
+
+/// Adds what stands below the arrows of each row.
+fn put_bands(
+    alloc: Global,
+    requesters: u8,
+    rows: &[Row],
+    out: &mut Vec<u8>,
+) -> Result<(), AllocError>
+    requires { length rows.now ≤ 1000 }
+    ensures { OnOk result (out.new.items ≡ out.old.items ++ shapes_text (spec.each (spec.band requesters) 0 rows.now)) }
+{
+    let mut row = 0;
+    for of in rows {
+        put_band(alloc, requesters, row, of, out)?;
+        row += 1;
+    }
+    Ok(())
+}
+
+/// Adds the arrows that end in each row.
+fn put_all_strokes(requesters: u8, rows: &[Row], out: &mut Vec<u8>) -> Result<(), AllocError>
+    requires { length rows.now ≤ 1000 }
+    ensures { OnOk result (out.new.items ≡ out.old.items ++ shapes_text (spec.each (spec.row_strokes requesters) 0 rows.now)) }
+{
+    let mut row = 0;
+    for of in rows {
+        put_strokes(requesters, row, of.deed, out)?;
+        row += 1;
+    }
+    Ok(())
+}
+
+/// Adds the marks and texts of each row.
+fn put_notes(requesters: u8, rows: &[Row], out: &mut Vec<u8>) -> Result<(), AllocError>
+    requires { length rows.now ≤ 1000 }
+    ensures { OnOk result (out.new.items ≡ out.old.items ++ shapes_text (spec.each (spec.row_note requesters) 0 rows.now)) }
+{
+    let mut row = 0;
+    for of in rows {
+        put_note(requesters, row, of.deed, out)?;
+        row += 1;
+    }
+    Ok(())
+}
+
+/// Adds the beginnings of the ways of what isn't seen to arrive.
+fn put_all_open(requesters: u8, opens: &[Open], out: &mut Vec<u8>) -> Result<(), AllocError>
+    ensures { OnOk result (out.new.items ≡ out.old.items ++ shapes_text (spec.open_strokes requesters opens.now)) }
+{
+    for of in opens {
+        put_open(requesters, of, out)?;
+    }
+    Ok(())
+}
+
+/// Adds a count of events that aren't shown, if there are any.
+#[tactic(auto, unfolding(svg_text::specs::Shapes::shapes_text))]
+fn put_cut(count: u64, y: u64, words: &[u8], out: &mut Vec<u8>) -> Result<(), AllocError>
+    ensures { OnOk result (out.new.items ≡ out.old.items ++ shapes_text (spec.cut count y words.now)) }
+{
+    if count == 0 {
+        return Ok(());
+    }
+    put_label(&label_at(10, y, Colour::Red), words, out)
+}
+
+/// Adds how many events aren't shown before the rows.
+fn put_before_cut(count: u64, out: &mut Vec<u8>) -> Result<(), AllocError>
+    ensures { OnOk result (out.new.items ≡ out.old.items ++ shapes_text (spec.before_cut count)) }
+{
+    let mut text = ArrayString::new();
+    put_before(count, &mut text);
+    put_cut(count, 98, text.as_bytes(), out)
+}
+
+/// Adds how many events aren't shown after the rows.
+fn put_after_cut(count: u64, bottom: u64, out: &mut Vec<u8>) -> Result<(), AllocError>
+    ensures { OnOk result (out.new.items ≡ out.old.items ++ shapes_text (spec.after_cut count bottom)) }
+{
+    let mut text = ArrayString::new();
+    put_after(count, &mut text);
+    put_cut(count, bottom, text.as_bytes(), out)
+}
+
+/// Adds how many events aren't shown, before the rows and after them.
+fn put_cuts(before: u64, after: u64, bottom: u64, out: &mut Vec<u8>) -> Result<(), AllocError>
+    ensures { OnOk result (out.new.items ≡ out.old.items ++ shapes_text (spec.cuts before after bottom)) }
+{
+    put_before_cut(before, out)?;
+    put_after_cut(after, bottom, out)?;
+    Ok(())
+}
+
+/// Where the rows end.
+fn bottom_of(rows: &[Row]) -> u64
+    requires { length rows.now ≤ 1000 }
+    ensures value { result ≡ spec.bottom_of rows.now }
+    ensures range { result ≤ 2000000 }
+{
+    top_of(rows.len() as u16)
+}
+
+/// Adds the rows and what lies between and above them.
+fn put_body(
+    alloc: Global,
+    requesters: u8,
+    rows: &[Row],
+    opens: &[Open],
+    cut: (u64, u64),
+    out: &mut Vec<u8>,
+) -> Result<(), AllocError>
+    requires { length rows.now ≤ 1000 }
+    ensures { OnOk result (out.new.items ≡ out.old.items ++ shapes_text (spec.body
+        (record { requesters = requesters; rows = rows.now; opens = opens.now; before = cut.0; after = cut.1 }))) }
+{
+    let bottom = bottom_of(rows);
+    put_bands(alloc, requesters, rows, out)?;
+    put_columns(requesters, bottom + 6, out)?;
+    put_all_strokes(requesters, rows, out)?;
+    put_all_open(requesters, opens, out)?;
+    put_notes(requesters, rows, out)?;
+    put_cuts(cut.0, cut.1, bottom + 18, out)?;
+    Ok(())
+}
+
+/// Adds the line alone.
+#[tactic(auto, unfolding(svg_text::specs::Shapes::shapes_text))]
+fn put_title(is_red: bool, title: &[u8], out: &mut Vec<u8>) -> Result<(), AllocError>
+    ensures { OnOk result (out.new.items ≡ out.old.items ++ shapes_text (spec.title is_red title.now)) }
+{
+    put_label(&title_label(is_red), title, out)
+}
+
+/// Adds all shapes.
+fn put_shapes(
+    alloc: Global,
+    page: &Page,
+    is_red: bool,
+    title: &[u8],
+    out: &mut Vec<u8>,
+) -> Result<(), AllocError>
+    requires { length page.now.rows ≤ 1000 }
+    ensures { OnOk result (out.new.items ≡ out.old.items ++ shapes_text (spec.shapes page.now is_red title.now)) }
+{
+    put_title(is_red, title, out)?;
+    put_legend(out)?;
+    let cut = (page.before, page.after);
+    let (rows, opens) = (page.rows.as_slice(), page.opens.as_slice());
+    put_body(alloc, page.requesters, rows, opens, cut, out)?;
+    Ok(())
+}
+
+/// Adds a chart in SVG below a line, which is red where it tells a fault or a refusal. It has 1,000 rows at most. After
+/// an `Err`, which is out of memory, nothing is added.
+pub fn put_chart(
+    alloc: Global,
+    page: &Page,
+    is_red: bool,
+    title: &[u8],
+    out: &mut Vec<u8>,
+) -> Result<(), AllocError>
+    requires { length page.now.rows ≤ 1000 }
+    ensures ok { OnOk result (out.new.items ≡ out.old.items ++ spec.chart_text page.now is_red title.now) }
+    ensures err { OnErr result (out.new.items ≡ out.old.items) }
+{
+    let mut shapes = Vec::new(alloc);
+    put_shapes(alloc, page, is_red, title, &mut shapes)?;
+    let height = bottom_of(page.rows.as_slice()) + 30;
+    put_page(alloc, width_of(page.requesters), height, shapes, out)?;
+    Ok(())
+}
+
+/// Adds a chart in SVG that has the line alone. After an `Err`, which is out of memory, nothing is added.
+pub fn put_title_chart(
+    alloc: Global,
+    is_red: bool,
+    title: &[u8],
+    out: &mut Vec<u8>,
+) -> Result<(), AllocError>
+    ensures ok { OnOk result (out.new.items ≡ out.old.items ++ spec.title_text is_red title.now) }
+    ensures err { OnErr result (out.new.items ≡ out.old.items) }
+{
+    let mut shapes = Vec::new(alloc);
+    put_title(is_red, title, &mut shapes)?;
+    put_page(alloc, 640, 40, shapes, out)?;
+    Ok(())
+}

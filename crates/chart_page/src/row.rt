@@ -1,0 +1,117 @@
+//! What a chart shows.
+ghost use Rattle.std.specs.Prelude.{◌≡◌};
+ghost use Rattle.chart_page.specs.Words as said;
+
+use dllp_core::Dllp;
+use fabric_core::{Event, LaneName, Refusal, Seen};
+use lane_ends::{Arrival, Fate};
+use seq12::Seq12;
+use std::marker::Model;
+use tlp_core::Op;
+
+/// The kind of an operation.
+#[derive(Clone, Copy, Debug, PartialEq, Eq)]
+pub enum Kind {
+    Read,
+    Write,
+    Add,
+    Swap,
+    Cas,
+}
+
+/// A request, or its completion.
+#[derive(Clone, Copy, Debug, PartialEq, Eq)]
+pub struct Carried {
+    /// The port of the requester.
+    pub requester: u8,
+    /// The number of the request.
+    pub number: u32,
+    pub kind: Kind,
+    pub is_completion: bool,
+}
+
+/// What a sender sends once more after a replay timer expired or a Nak came.
+#[derive(Clone, Copy, Debug, PartialEq, Eq)]
+pub enum Replay {
+    /// Nothing: all that was sent is acknowledged.
+    Nothing,
+    /// So many packets.
+    Again(u64),
+    /// So many packets, once the link was retrained: REPLAY_NUM has rolled over.
+    Stopped(u64),
+}
+
+/// What is drawn of an event. Rows count from 0; None is a row that isn't shown.
+#[derive(Clone, Copy, Debug, PartialEq, Eq)]
+pub enum Deed {
+    /// Nothing but its row: it was refused.
+    Nothing,
+    /// The requester at this port submitted it.
+    Submitted(u8, Carried),
+    /// The packet with this number went onto the lane.
+    Sent(LaneName, Seq12, Option<Carried>),
+    /// The packet that was sent in this row arrived so, or was lost.
+    Arrived(LaneName, Fate, Arrival, Option<u16>),
+    /// The DLLP went onto the wire back.
+    SentDllp(LaneName, Dllp),
+    /// The DLLP that was sent in this row arrived or was lost, and the sender does this.
+    ArrivedDllp(LaneName, Fate, Option<u16>, Replay),
+    /// The replay timer of the lane's sender expired.
+    Expired(LaneName, Replay),
+    /// The lane's link was retrained.
+    Retrained(LaneName),
+    /// The switch passed it on.
+    Forwarded(Option<Carried>),
+    /// The request acted on the memory, at this place of the history.
+    Served(Option<Carried>, usize),
+    /// The requester at this port took a completion.
+    Collected(u8, Option<Carried>),
+}
+
+/// An event, its line of the script, what was seen of it or why it was refused, and what is drawn of it.
+#[derive(Debug, Drop)]
+pub struct Row {
+    pub line: u64,
+    pub event: Event,
+    pub outcome: Result<Seen, Refusal>,
+    pub deed: Deed,
+}
+
+/// A packet or a DLLP whose sending is shown, in this row, and whose arrival isn't.
+#[derive(Debug, PartialEq, Eq, Drop)]
+pub struct Open {
+    pub lane: LaneName,
+    pub is_dllp: bool,
+    pub row: u16,
+}
+
+/// What a chart shows, and how many events it leaves out before its rows and after them.
+#[derive(Debug, Drop)]
+pub struct Page {
+    pub requesters: u8,
+    pub rows: Vec<Row>,
+    pub opens: Vec<Open>,
+    pub before: u64,
+    pub after: u64,
+}
+
+impl Model for Page {
+    ghost use Rattle.chart_page.specs.PageView.{PageView};
+
+    ghost Value = { PageView };
+
+    ghost view = { λ p. record { requesters = p.requesters; rows = p.rows.items; opens = p.opens.items; before = p.before; after = p.after } };
+}
+
+/// The kind of an operation.
+pub fn kind_of(op: &Op) -> Kind
+    ensures { result ≡ said.kind_of op.now }
+{
+    match op {
+        Op::Read { .. } => Kind::Read,
+        Op::Write { .. } => Kind::Write,
+        Op::FetchAdd { .. } => Kind::Add,
+        Op::Swap { .. } => Kind::Swap,
+        Op::Cas { .. } => Kind::Cas,
+    }
+}

@@ -1,0 +1,200 @@
+//! Lines, squares and texts in their places.
+ghost use Rattle.std.specs.Prelude.{◌≡◌, ◌≤◌, ◌+◌, ◌++◌, length, OnOk};
+ghost use Rattle.svg_text.specs.Shapes.{Shape, shape_text, shapes_text};
+ghost use Rattle.chart_page.specs.Shapes as spec;
+
+use crate::layout::{Point, middle, top_of};
+use crate::row::{Carried, Kind};
+use crate::words::{kind_colour, kind_name};
+use std::alloc::AllocError;
+use svg_text::{Block, Colour, Label, Rule, put_block, put_label, put_rule};
+
+/// What a line looks like.
+#[derive(Clone, Copy, Debug, PartialEq, Eq)]
+pub(crate) struct Pen {
+    pub(crate) colour: Colour,
+    /// In pixels.
+    pub(crate) thickness: u64,
+    /// The length of its dashes in pixels, 0 where it has none.
+    pub(crate) dash: u64,
+}
+
+/// Where a text stands: beside a line, in a row.
+#[derive(Clone, Copy, Debug, PartialEq, Eq)]
+pub(crate) struct Tag {
+    pub(crate) x: u64,
+    pub(crate) is_right: bool,
+    pub(crate) row: u16,
+    /// The kind whose colour stands before the text.
+    pub(crate) kind: Option<Kind>,
+    pub(crate) colour: Colour,
+}
+
+/// Adds a line from one point to another.
+pub(crate) fn put_line(
+    pen: Pen,
+    from: Point,
+    to: Point,
+    out: &mut Vec<u8>,
+) -> Result<(), AllocError>
+    ensures { OnOk result (out.new.items ≡ out.old.items ++ shape_text (spec.line pen from to)) }
+{
+    let rule = Rule {
+        left: from.x,
+        top: from.y,
+        right: to.x,
+        bottom: to.y,
+        colour: pen.colour,
+        thickness: pen.thickness,
+        dash: pen.dash,
+    };
+    put_rule(&rule, out)
+}
+
+fn square_block(at: Point, fill: Colour) -> Block
+    requires x { at.x ≤ 3000000 }
+    requires y { at.y ≤ 3000000 }
+    ensures { result ≡ spec.square_block at fill }
+{
+    Block {
+        left: at.x.saturating_sub(5),
+        top: at.y.saturating_sub(5),
+        right: at.x + 5,
+        bottom: at.y + 5,
+        fill,
+        edge: Colour::Black,
+        thickness: 1,
+        is_open: false,
+    }
+}
+
+/// Adds a square round a point, and what is shown where one points at it.
+pub(crate) fn put_square(
+    at: Point,
+    fill: Colour,
+    words: &[u8],
+    out: &mut Vec<u8>,
+) -> Result<(), AllocError>
+    requires x { at.x ≤ 3000000 }
+    requires y { at.y ≤ 3000000 }
+    ensures { OnOk result (out.new.items ≡ out.old.items ++ shape_text (spec.square at fill words.now)) }
+{
+    put_block(&square_block(at, fill), words, out)
+}
+
+/// A text in letters of 12 pixels.
+pub(crate) fn label_at(x: u64, y: u64, colour: Colour) -> Label
+    ensures { result ≡ spec.label_at x y colour }
+{
+    Label {
+        x,
+        y,
+        size: 12,
+        colour,
+        is_centred: false,
+    }
+}
+
+/// How wide a text is.
+fn text_width(words: &[u8]) -> u64
+    requires { length words.now ≤ 512 }
+    ensures value { result ≡ spec.text_width words.now }
+    ensures range { result ≤ 4000 }
+{
+    words.len() as u64 * 29 / 4
+}
+
+fn indent(kind: Option<Kind>) -> u64
+    ensures value { result ≡ spec.indent kind }
+    ensures range { result ≤ 28 }
+{
+    match kind {
+        None => 12,
+        Some(_) => 28,
+    }
+}
+
+/// Where a text begins.
+fn text_left(tag: Tag, words: &[u8]) -> u64
+    requires x { tag.x ≤ 3000000 }
+    requires words { length words.now ≤ 512 }
+    ensures value { result ≡ spec.text_left tag words.now }
+    ensures range { result ≤ 3000100 }
+{
+    if tag.is_right {
+        tag.x + indent(tag.kind)
+    } else {
+        tag.x
+            .saturating_sub(text_width(words))
+            .saturating_sub(indent(tag.kind))
+    }
+}
+
+/// White below a text.
+fn plate(tag: Tag, words: &[u8]) -> Block
+    requires x { tag.x ≤ 3000000 }
+    requires words { length words.now ≤ 512 }
+    ensures { result ≡ spec.plate tag words.now }
+{
+    Block {
+        left: text_left(tag, words).saturating_sub(2),
+        top: top_of(tag.row) + 5,
+        right: text_left(tag, words) + text_width(words) + 2,
+        bottom: top_of(tag.row) + 19,
+        fill: Colour::White,
+        edge: Colour::White,
+        thickness: 0,
+        is_open: false,
+    }
+}
+
+fn kind_x(tag: Tag) -> u64
+    requires { tag.x ≤ 2999000 }
+    ensures value { result ≡ spec.kind_x tag }
+    ensures range { result ≤ 3000000 }
+{
+    if tag.is_right {
+        tag.x + 18
+    } else {
+        tag.x.saturating_sub(18)
+    }
+}
+
+/// Adds the colour of a tag's kind, if it has one.
+#[tactic(auto, unfolding(svg_text::specs::Shapes::shapes_text))]
+fn put_kind(tag: Tag, out: &mut Vec<u8>) -> Result<(), AllocError>
+    requires { tag.x ≤ 2999000 }
+    ensures { OnOk result (out.new.items ≡ out.old.items ++ shapes_text (spec.kind_square tag tag.kind)) }
+{
+    let Some(kind) = tag.kind else {
+        return Ok(());
+    };
+    let at = Point {
+        x: kind_x(tag),
+        y: middle(tag.row),
+    };
+    put_square(at, kind_colour(kind), kind_name(kind).as_bytes(), out)
+}
+
+/// Adds a text beside a line.
+#[tactic(auto, unfolding(svg_text::specs::Shapes::shapes_text))]
+pub(crate) fn put_tag(tag: Tag, words: &[u8], out: &mut Vec<u8>) -> Result<(), AllocError>
+    requires x { tag.x ≤ 2999000 }
+    requires words { length words.now ≤ 512 }
+    ensures { OnOk result (out.new.items ≡ out.old.items ++ shapes_text (spec.tag_shapes tag words.now)) }
+{
+    put_block(&plate(tag, words), words, out)?;
+    let label = label_at(text_left(tag, words), top_of(tag.row) + 17, tag.colour);
+    put_label(&label, words, out)?;
+    put_kind(tag, out)
+}
+
+/// The kind of what is carried, if that is known.
+pub(crate) fn kind_in(carried: Option<Carried>) -> Option<Kind>
+    ensures { result ≡ spec.kind_in carried }
+{
+    match carried {
+        None => None,
+        Some(carried) => Some(carried.kind),
+    }
+}

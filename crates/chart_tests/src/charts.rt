@@ -1,0 +1,336 @@
+//! Charts of short scripts: where arrows begin and end, what is said of them, and what isn't shown.
+use chart_engine::run_chart;
+use fabric_core::LaneName;
+use link_chart::ChartWindow;
+use memchr::memmem;
+use std::alloc::Global;
+
+const LOST_ACK: &str = "\
+# A script for `pciex step`: an Ack is lost and its packet sent once more, and the request still acts once.
+
+# One requester, and a memory of 4096 bytes at address 0.
+fabric 1 0 4096
+
+# Requester 1 adds 7 to the four bytes at 40h. Its packet arrives at the switch.
+submit 1 add 40 07000000
+transmit up1
+deliver up1 good
+# The switch acknowledges packet 000, and the Ack is lost on its way back.
+dllp up1 ack
+deliver-dllp up1 lost
+# So the requester's timer expires, and packet 000 goes out again. The switch has it already and drops the copy.
+timer up1
+transmit up1
+deliver up1 good
+# The second Ack arrives.
+dllp up1 ack
+deliver-dllp up1 good
+
+# The switch passes the request on to the memory, which serves it: its place in the history is 0.
+forward up1 0
+transmit in
+deliver in good
+serve 0
+# The completion goes back the same way. The answer is the old value, 0.
+transmit out
+deliver out good
+forward out 0
+transmit down1
+deliver down1 good
+collect 1
+
+# A read of the same bytes finds 7 and not 14.
+submit 1 read 40 1 F 0
+transmit up1
+deliver up1 good
+forward up1 0
+transmit in
+deliver in good
+serve 0
+transmit out
+deliver out good
+forward out 0
+transmit down1
+deliver down1 good
+collect 1
+";
+
+const NAK: &str = "\
+fabric 1 0 4096
+submit 1 read 40 1 F 0
+submit 1 read 40 1 F 0
+transmit up1
+transmit up1
+deliver up1 failed
+deliver up1 good
+dllp up1 ack
+deliver-dllp up1 good
+transmit up1
+";
+
+const STOPPED: &str = "\
+fabric 2 0 4096
+submit 2 write 40 F 0 01020304
+transmit up2
+timer up2
+transmit up2
+timer up2
+transmit up2
+timer up2
+transmit up2
+timer up2
+retrained up2
+dllp in p
+";
+
+const SETTLED: &str = "\
+fabric 1 0 4096
+submit 1 add 40 07000000
+settle
+";
+
+/// The text from a part on.
+fn from_part<'a>(text: &'a [u8], part: &str) -> Option<&'a [u8]> {
+    match memmem::find(text, part.as_bytes()) {
+        Some(place) => text.get(place..),
+        None => None,
+    }
+}
+
+/// Whether the parts stand in the text, one after the other.
+fn has_parts(text: &[u8], parts: &[&str]) -> bool {
+    let mut rest = text;
+    let mut right = true;
+    for part in parts {
+        match from_part(rest, part) {
+            Some(found) => rest = found,
+            None => right = false,
+        }
+    }
+    right
+}
+
+/// Whether a run ends with this exit status.
+fn ends(alloc: Global, window: ChartWindow, text: &str, out: &mut Vec<u8>, exit: u8) -> bool {
+    let mut reader = text.as_bytes();
+    run_chart(alloc, window, &mut reader, out) == Ok(exit)
+}
+
+/// Whether the chart of a window of a script has these parts, one after the other, with this exit status.
+fn is_charted(alloc: Global, chart: &Charted) -> bool {
+    let (text, window, parts, exit) = *chart;
+    let mut out = Vec::new(alloc);
+    ends(alloc, window, text, &mut out, exit) && has_parts(out.as_slice(), parts)
+}
+
+/// All events.
+const WHOLE: ChartWindow = ChartWindow {
+    lane: None,
+    from: 1,
+    to: u64::MAX,
+};
+
+/// The events of the lines 14 to 16.
+const COPY: ChartWindow = ChartWindow {
+    lane: None,
+    from: 14,
+    to: 16,
+};
+
+/// Those of line 12.
+const LOSS: ChartWindow = ChartWindow {
+    lane: None,
+    from: 12,
+    to: 12,
+};
+
+/// Those of line 11.
+const SENDING: ChartWindow = ChartWindow {
+    lane: None,
+    from: 11,
+    to: 11,
+};
+
+/// Those of the lane `in`.
+const INWARD: ChartWindow = ChartWindow {
+    lane: Some(LaneName::Inward),
+    from: 1,
+    to: u64::MAX,
+};
+
+/// A script, the window, parts of its chart, and the exit status.
+type Charted = (&'static str, ChartWindow, &'static [&'static str], u8);
+
+static CHARTS: [Charted; 10] = [
+    // The lines of the requester, the switch and the memory stand at 560, 800 and 1040. Row n begins at 104 + 26 n.
+    (
+        LOST_ACK,
+        WHOLE,
+        &[
+            "<svg xmlns=\"http://www.w3.org/2000/svg\" width=\"1300\"",
+            ">the script ran to its end</text>",
+            "<title>line 7: submit 1 add 40 07000000 -&gt; sub 1 0</title>",
+            ">requester 1</text><line x1=\"560\" y1=\"92\"",
+            // The packet, sent in row 1, arrives in row 2.
+            "<line x1=\"560\" y1=\"149\" x2=\"800\" y2=\"169\" stroke=\"#000000\" stroke-width=\"2\" stroke-dasharray=\"0\"",
+            // The Ack, sent in row 3, is lost in row 4, two thirds of its way back.
+            "<line x1=\"800\" y1=\"201\" x2=\"640\" y2=\"221\" stroke=\"#767676\" stroke-width=\"1\" stroke-dasharray=\"0\"",
+            "<line x1=\"634\" y1=\"215\" x2=\"646\" y2=\"227\" stroke=\"#C00000\"",
+            // The duplicate, sent in row 6, arrives in row 7.
+            "<line x1=\"560\" y1=\"279\" x2=\"800\" y2=\"299\" stroke=\"#000000\" stroke-width=\"2\" stroke-dasharray=\"6\"",
+            // The second Ack, sent in row 8, arrives in row 9.
+            "<line x1=\"800\" y1=\"331\" x2=\"560\" y2=\"351\" stroke=\"#767676\"",
+        ],
+        0,
+    ),
+    (
+        LOST_ACK,
+        WHOLE,
+        &[
+            ">submit add 1:0</text>",
+            ">000 add 1:0</text>",
+            ">Ack 000</text>",
+            ">lost</text>",
+            ">timer: replay 1</text>",
+            ">000 add 1:0</text>",
+            ">duplicate, dropped</text>",
+            ">Ack 000</text>",
+            ">forward add 1:0</text>",
+            ">serve add 1:0, history 0</text>",
+            ">000 cpl of add 1:0</text>",
+            ">forward cpl of add 1:0</text>",
+            ">collect cpl of add 1:0</text>",
+            ">001 read 1:1</text>",
+            ">serve read 1:1, history 1</text>",
+            ">collect cpl of read 1:1</text>",
+        ],
+        0,
+    ),
+    // Rows 0 to 2 are the lines 14 to 16: 5 events come before them, 25 after.
+    (
+        LOST_ACK,
+        COPY,
+        &[
+            "<title>line 14: timer up1 -&gt; replay 1</title>",
+            "<line x1=\"560\" y1=\"149\" x2=\"800\" y2=\"169\"",
+            ">events before these rows: 5</text>",
+            ">events after these rows: 25</text>",
+        ],
+        0,
+    ),
+    // The Ack's sending isn't shown, and then its loss.
+    (
+        LOST_ACK,
+        LOSS,
+        &["<line x1=\"720\" y1=\"117\" x2=\"640\" y2=\"117\" stroke=\"#767676\""],
+        0,
+    ),
+    (
+        LOST_ACK,
+        SENDING,
+        &[
+            "<line x1=\"800\" y1=\"123\" x2=\"720\" y2=\"128\" stroke=\"#767676\" stroke-width=\"1\" stroke-dasharray=\"3\"",
+        ],
+        0,
+    ),
+    // The first packet fails its check, the second comes out of order, and the Nak brings both again; the last one that
+    // is sent stays on the wire.
+    (
+        NAK,
+        WHOLE,
+        &[
+            "<line x1=\"560\" y1=\"175\" x2=\"800\" y2=\"221\" stroke=\"#C00000\"",
+            "<rect x=\"795\" y=\"216\" width=\"10\" height=\"10\" fill=\"#C00000\"",
+            "<line x1=\"560\" y1=\"201\" x2=\"800\" y2=\"247\" stroke=\"#C00000\"",
+            "<line x1=\"560\" y1=\"331\" x2=\"640\" y2=\"336\" stroke=\"#767676\" stroke-width=\"1\" stroke-dasharray=\"3\"",
+            ">failed, Nak due</text>",
+            ">out of order, dropped</text>",
+            ">Nak FFF</text>",
+            ">replay 2</text>",
+            ">000 read 1:0</text>",
+        ],
+        0,
+    ),
+    (
+        STOPPED,
+        WHOLE,
+        &[
+            ">requester 2</text><line x1=\"800\" y1=\"92\"",
+            ">submit write 2:0</text>",
+            ">timer: replay 1</text>",
+            ">timer: replay 1</text>",
+            ">timer: replay 1</text>",
+            ">timer: replay 1, link stops</text>",
+            ">link retrained</text>",
+            ">UpdateFC P 16 64</text>",
+        ],
+        0,
+    ),
+    (
+        STOPPED,
+        INWARD,
+        &[
+            "<title>line 12: dllp in p -&gt; ",
+            "<text x=\"1152\" y=\"121\"",
+        ],
+        0,
+    ),
+    // Each event of `settle` has a row.
+    (
+        SETTLED,
+        WHOLE,
+        &[
+            "<title>line 3: transmit up1 -&gt; sent 000</title>",
+            "<title>line 3: collect 1 -&gt; ans 1 0 data 00000000</title>",
+            ">serve add 1:0, history 0</text>",
+        ],
+        0,
+    ),
+    (
+        "fabric 1 0 4096\ncollect 1\nsubmit 1 add 40 07000000\n",
+        WHOLE,
+        &[
+            "fill=\"#C00000\" text-anchor=\"start\" pointer-events=\"none\">refused 2 Idle</text>",
+            ">refused Idle</text>",
+            "</svg>\n",
+        ],
+        1,
+    ),
+];
+
+static FAULTS: [Charted; 2] = [
+    (
+        "transmit up1\n",
+        WHOLE,
+        &["width=\"640\" height=\"40\"", ">fault 1 Script</text>"],
+        1,
+    ),
+    (
+        "",
+        WHOLE,
+        &[
+            "width=\"640\" height=\"40\"",
+            ">the script ran to its end</text>",
+        ],
+        0,
+    ),
+];
+
+/// Whether each chart is right.
+fn all_are_charted(alloc: Global, charts: &[Charted]) -> bool {
+    let mut right = true;
+    for chart in charts {
+        right &= is_charted(alloc, chart);
+    }
+    right
+}
+
+#[test]
+fn charts(rt: HostRuntime) {
+    assert!(rt; all_are_charted(rt.alloc(), &CHARTS));
+}
+
+#[test]
+fn charts_of_faults(rt: HostRuntime) {
+    assert!(rt; all_are_charted(rt.alloc(), &FAULTS));
+}

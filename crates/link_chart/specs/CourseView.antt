@@ -1,0 +1,133 @@
+-- What is on a lane, as far as its events tell.
+use Rattle.std.specs.Prelude.{ℕ, ◌+◌, ◌-◌, ◌==◌, nat_lt, Bool, true, false, if◌then◌else◌, List, [], ◌∷◌, ◌++◌, length, drop, remove, Option, Some, None, slice_get}
+use Rattle.seq12.specs.Numbers.{distance_of}
+use Rattle.dllp_core.specs.declared.packet.Dllp.{Dllp}
+use Rattle.dllp_core.specs.declared.packet.Dllp.TheVariants as dllps
+use Rattle.lane_ends.specs.declared.packet.DllpSeen.{DllpSeen}
+use Rattle.lane_ends.specs.declared.packet.DllpSeen.TheVariants as dllps_seen
+use Rattle.chart_page.specs.declared.row.Carried.{Carried}
+use Rattle.chart_page.specs.declared.row.Replay.{Replay}
+use Rattle.chart_page.specs.declared.row.Replay.TheVariants as replays
+use Rattle.link_chart.specs.declared.course.Sent.{Sent}
+
+pub record CourseView : Type 0 where
+  -- ACKD_SEQ, the number that was acknowledged last
+  pub acked : ℕ
+  -- what the unacknowledged packets carry, oldest first
+  pub kept : List (Option Carried)
+  -- how many of them were sent since the last replay
+  pub place : ℕ
+  -- REPLAY_NUM, the replays since a packet was acknowledged
+  pub replays : ℕ
+  -- the packets on the wire, oldest first
+  pub wire : List Sent
+  -- the rows in which the DLLPs on the wire back were sent, oldest first
+  pub back : List (Option ℕ)
+  -- what the packets carry that were accepted and not yet taken, oldest first
+  pub queue : List (Option Carried)
+
+abbrev pub quiet : CourseView
+quiet = record { acked = 4095; kept = []; place = 0; replays = 0; wire = []; back = []; queue = [] }
+
+-- what is there, if anything is
+abbrev pub known : {X : Type 0} → Option (Option X) → Option X
+known None = None
+known (Some o) = o
+
+-- ---- packets
+
+abbrev pub entered : Option Carried → CourseView → CourseView
+entered c s = record s { kept = s.kept ++ c ∷ [] }
+
+-- what the packet carries that is sent next
+abbrev pub next_carried : CourseView → Option Carried
+next_carried s = known (slice_get s.kept s.place)
+
+abbrev pub sent : Option ℕ → CourseView → CourseView
+sent row s = record s {
+  wire = s.wire ++ record { carried = next_carried s; row = row } ∷ [];
+  place = if nat_lt s.place (length s.kept) then s.place + 1 else s.place;
+}
+
+-- the row in which the oldest packet on the wire was sent
+abbrev pub row_of : Option Sent → Option ℕ
+row_of None = None
+row_of (Some p) = p.row
+
+abbrev pub carried_of : Option Sent → Option Carried
+carried_of None = None
+carried_of (Some p) = p.carried
+
+abbrev pub oldest_row : CourseView → Option ℕ
+oldest_row s = row_of (slice_get s.wire 0)
+
+-- the oldest packet leaves the wire, and is accepted or not
+abbrev pub queued : Option Sent → List (Option Carried) → List (Option Carried)
+queued None queue = queue
+queued (Some p) queue = queue ++ p.carried ∷ []
+
+abbrev pub arrived : Bool → CourseView → CourseView
+arrived is_accepted s = record s {
+  wire = drop 1 s.wire;
+  queue = if is_accepted then queued (slice_get s.wire 0) s.queue else s.queue;
+}
+
+-- what the packet carries at a place of the queue
+abbrev pub taken : ℕ → CourseView → Option Carried
+taken place s = known (slice_get s.queue place)
+
+abbrev pub without : ℕ → CourseView → CourseView
+without place s = record s { queue = remove s.queue place }
+
+-- ---- DLLPs
+
+abbrev pub sent_back : Option ℕ → CourseView → CourseView
+sent_back row s = record s { back = s.back ++ row ∷ [] }
+
+abbrev pub oldest_back : CourseView → Option ℕ
+oldest_back s = known (slice_get s.back 0)
+
+abbrev pub without_back : CourseView → CourseView
+without_back s = record s { back = drop 1 s.back }
+
+-- the packets through that number are acknowledged
+abbrev pub acknowledged : ℕ → CourseView → CourseView
+acknowledged number s = record s {
+  acked = number;
+  kept = drop (distance_of number s.acked) s.kept;
+  place = s.place - distance_of number s.acked;
+  replays = if distance_of number s.acked == 0 then s.replays else 0;
+}
+
+-- ---- replays
+
+-- all that was sent and isn't acknowledged goes once more; REPLAY_NUM has 2 bits, and the replay that finds 3 stops
+-- the sender
+abbrev pub replay_of : CourseView → Replay
+replay_of s = if s.place == 0 then replays.Nothing else (if s.replays == 3 then replays.Stopped s.place else replays.Again s.place)
+
+abbrev pub replayed : CourseView → CourseView
+replayed s = record s {
+  place = 0;
+  replays = if s.place == 0 then s.replays else (if s.replays == 3 then 0 else s.replays + 1);
+}
+
+-- what a DLLP does to the sender
+abbrev pub after_dllp : Dllp → CourseView → CourseView
+after_dllp (dllps.Ack number) s = acknowledged number s
+after_dllp (dllps.Nak number) s = replayed (acknowledged number s)
+after_dllp (dllps.Update class headers units) s = s
+
+abbrev pub dllp_replay : Dllp → CourseView → Replay
+dllp_replay (dllps.Ack number) s = replays.Nothing
+dllp_replay (dllps.Nak number) s = replay_of (acknowledged number s)
+dllp_replay (dllps.Update class headers units) s = replays.Nothing
+
+-- the oldest DLLP leaves the wire back, and takes effect or is gone
+abbrev pub told : DllpSeen → CourseView → CourseView
+told (dllps_seen.Took dllp) s = after_dllp dllp s
+told dllps_seen.Gone s = s
+
+abbrev pub told_replay : DllpSeen → CourseView → Replay
+told_replay (dllps_seen.Took dllp) s = dllp_replay dllp s
+told_replay dllps_seen.Gone s = replays.Nothing

@@ -1,0 +1,4 @@
+pub mod Window
+pub mod CourseView
+pub mod Lanes
+pub mod ChartView

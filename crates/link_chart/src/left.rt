@@ -1,0 +1,71 @@
+//! What is still on the wires at the end.
+ghost use Rattle.std.specs.Prelude.{◌≡◌, ◌++◌, OnOk};
+ghost use Rattle.link_chart.specs.ChartView as spec;
+
+use crate::course::{Course, Sent};
+use crate::lanes::lane_at;
+use chart_page::Open;
+use fabric_core::LaneName;
+use std::alloc::AllocError;
+use std::collections::VecDeque;
+
+/// Adds what was sent in a row, if that is shown.
+pub(crate) fn add_opened(
+    lane: LaneName,
+    is_dllp: bool,
+    row: Option<u16>,
+    opens: &mut Vec<Open>,
+) -> Result<(), AllocError>
+    ensures { OnOk result (opens.new.items ≡ opens.old.items ++ spec.opened_at lane is_dllp row) }
+{
+    if let Some(row) = row {
+        opens.push(Open { lane, is_dllp, row })?;
+    }
+    Ok(())
+}
+
+/// Adds what is still on the wire of a lane.
+fn add_wire(lane: LaneName, wire: &VecDeque<Sent>, opens: &mut Vec<Open>) -> Result<(), AllocError>
+    ensures { OnOk result (opens.new.items ≡ opens.old.items ++ spec.left_of_wire lane wire.now.items) }
+{
+    for place in 0..wire.len() {
+        if let Some(sent) = wire.get(place) {
+            add_opened(lane, false, sent.row, opens)?;
+        }
+    }
+    Ok(())
+}
+
+/// Adds what is still on the wire back of a lane.
+fn add_back(
+    lane: LaneName,
+    back: &VecDeque<Option<u16>>,
+    opens: &mut Vec<Open>,
+) -> Result<(), AllocError>
+    ensures { OnOk result (opens.new.items ≡ opens.old.items ++ spec.left_of_back lane back.now.items) }
+{
+    for place in 0..back.len() {
+        if let Some(row) = back.get(place) {
+            add_opened(lane, true, *row, opens)?;
+        }
+    }
+    Ok(())
+}
+
+/// Adds what is still on both wires of a lane.
+fn add_both(lane: LaneName, course: &Course, opens: &mut Vec<Open>) -> Result<(), AllocError>
+    ensures { OnOk result (opens.new.items ≡ opens.old.items ++ spec.left_of lane course.now) }
+{
+    add_wire(lane, course.wire(), opens)?;
+    add_back(lane, course.back(), opens)
+}
+
+/// Adds what is still on the wires.
+pub(crate) fn add_left(courses: &[Course], opens: &mut Vec<Open>) -> Result<(), AllocError>
+    ensures { OnOk result (opens.new.items ≡ opens.old.items ++ spec.left 0 courses.now) }
+{
+    for place in 0..courses.len() {
+        add_both(lane_at(place), &courses[place], opens)?;
+    }
+    Ok(())
+}

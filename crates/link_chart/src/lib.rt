@@ -1,0 +1,15 @@
+//! What happened on the links of a fabric, as a chart.
+//!
+//! A [`Chart`] is told each event with what was seen of it, and follows the packets and DLLPs: what waits in the replay
+//! buffer of each lane, what is on its wires and in its receive queue. So it knows what each packet carries, and in
+//! which row it was sent. It keeps the events of a [`ChartWindow`], 1,000 at most, and counts the others.
+#![tactic(auto)]
+
+mod chart;
+mod course;
+mod lanes;
+mod left;
+mod window;
+
+pub use chart::Chart;
+pub use window::ChartWindow;
