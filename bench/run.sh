@@ -24,6 +24,7 @@ input() {
         lines) awk -v lines="$2" -f bench/lines.awk > "$room/input" ;;
         trace) awk -v rounds="$2" -f bench/trace.awk > "$room/input" ;;
         script) awk -v rounds="$2" -f bench/script.awk > "$room/input" ;;
+        counter | mixed | locks) awk -v plan="$1" -v requests="$2" -f bench/log.awk > "$room/input" ;;
         nothing*) : > "$room/input" ;;
     esac
     case $1 in
@@ -88,10 +89,13 @@ if [ -x "$pciex" ]; then
     row '`pciex step`' lines script 296 10 "$pciex" step
     row '`pciex step --trace`' lines script 296 10 "$pciex" step --trace
     row '`pciex check`' lines trace 42857 540 "$pciex" check
+    row '`pciex search`, a counter with 256 open requests each' lines counter 50000 2000 "$pciex" search
+    row '`pciex search`, all operations on 16 words' lines mixed 50000 2000 "$pciex" search
+    row '`pciex search`, a lock' lines locks 50000 2000 "$pciex" search
     row '`pciex upgrade`' lines trace 42857 540 "$pciex" upgrade
     row '`pciex generate --lose 8`' events nothing1 1000000 10000 "$pciex" generate --seed 7 --lose 8 --events N
-    row '`pciex run`, 7 requesters' additions nothing7 2000 0 "$pciex" run --requesters 7 --each N
-    row '`pciex run --lose 2 --corrupt 3`, 7 requesters' additions nothing7 500 0 "$pciex" run --requesters 7 --lose 2 --corrupt 3 --each N
+    row '`pciex run`, 7 requesters' additions nothing7 20000 0 "$pciex" run --requesters 7 --each N
+    row '`pciex run --lose 2 --corrupt 3`, 7 requesters' additions nothing7 2000 0 "$pciex" run --requesters 7 --lose 2 --corrupt 3 --each N
 else
     left_out="$left_out, the program, which isn't built"
 fi

@@ -1,5 +1,6 @@
 /*
- * pciex: a proved PCI Express 4.0 memory device, a fabric over links that lose packets, and a checker of histories.
+ * pciex: a proved PCI Express 4.0 memory device, a fabric over links that lose packets, and a checker of histories, which
+ * also searches for them.
  *
  * For C99 and C++. Link with libpciex_c.a, the library that `rt lib` builds of the proved crate `pciex_c` for Linux on
  * x86-64, and with liblibc_c.a of the toolchain, through which it calls malloc, realloc and free. A device without a
@@ -12,7 +13,7 @@
  *                  bytes its text in the room has
  *   from 2000 on   an argument that can't be right, or out of memory: one of the codes below
  *
- * From 1000 on nothing has changed, but for that text, and for the length that pciex_fabric_trace tells.
+ * From 1000 on nothing has changed, but for that text, and for the length that pciex_fabric_trace and pciex_search tell.
  *
  * Rooms. An answer goes into a room that the caller lends: `room` points to `room_length` bytes. It stands at the
  * front, is not ended by a zero, and what follows it stays as it was. PCIEX_PACKET bytes are always enough for a
@@ -145,6 +146,8 @@ uint32_t pciex_raw_monitor_acted(pciex_monitor monitor, uint8_t requester, uint3
 size_t pciex_raw_monitor_open(pciex_monitor monitor, pciex_monitor *back);
 void pciex_raw_monitor_free(pciex_monitor monitor);
 uint32_t pciex_raw_check(const uint8_t *text, size_t length, uint8_t *room, size_t room_length);
+uint32_t pciex_raw_search(const uint8_t *text, size_t text_length, uint64_t limit, uint8_t *room, size_t room_length,
+                          size_t *length);
 uint32_t pciex_raw_decode(const uint8_t *packet, size_t length, uint8_t *room, size_t room_length);
 uint32_t pciex_raw_encode(const uint8_t *line, size_t length, uint8_t *room, size_t room_length);
 uint32_t pciex_raw_fault_name(uint32_t number, uint8_t *room, size_t room_length);
@@ -488,6 +491,27 @@ static inline uint32_t pciex_check(const uint8_t *text, size_t length, uint8_t *
         return PCIEX_NULL;
     }
     return pciex_raw_check(text, length, room, room_length);
+}
+
+/* What pciex_search found. */
+#define PCIEX_FOUND 0u
+#define PCIEX_NOT_FOUND 1u
+#define PCIEX_GIVEN_UP 3u
+
+/*
+ * Looks for a history that explains what requesters submitted and were answered: the text of a log, or of a trace, whose
+ * history says nothing. What `pciex search --limit` prints stands in the room: a trace with such a history, and
+ * PCIEX_FOUND; `none 3`, or `fault 3 Line` where the text can't be read, and PCIEX_NOT_FOUND; `limit 1000000`, and
+ * PCIEX_GIVEN_UP: nothing is known then. `length` is how many bytes it has, also with PCIEX_SMALL_ROOM, for a room of
+ * fewer. Or PCIEX_NO_MEMORY: nothing is known, and `length` stays as it was. No more than `limit` choices are looked at.
+ */
+static inline uint32_t pciex_search(const uint8_t *text, size_t text_length, uint64_t limit, uint8_t *room,
+                                    size_t room_length, size_t *length)
+{
+    if (!text || !room || !length) {
+        return PCIEX_NULL;
+    }
+    return pciex_raw_search(text, text_length, limit, room, room_length, length);
 }
 
 /* ---- packets in words, and names */

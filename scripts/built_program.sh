@@ -53,6 +53,8 @@ for name in lost_ack write_passes_read credits stopped_link first_script; do
     of_file examples/$name.txt step
     wants "step on $name.txt" 0 examples/$name.out "$room/nothing"
 done
+of_file examples/lost_ack.txt chart
+wants "chart on lost_ack.txt" 0 examples/lost_ack.svg "$room/nothing"
 cat > "$room/reasons" << 'end'
 pciex: line 9: 'submit 1 add 40 01000000' is refused: NoCredits NP (the lane that the packet would enter has too few non-posted credits)
 end
@@ -71,6 +73,32 @@ for name in lost_ack write_passes_read credits stopped_link; do
     of_file "$room/told" check
     wants "check on what step --trace prints of $name.txt" 0 "$room/ok" "$room/nothing"
 done
+
+# A history is searched for: what is found is checked, and where there is none, or the search is given up, that is told.
+for name in lost_ack write_passes_read credits stopped_link; do
+    $pciex step --trace < examples/$name.txt | $pciex search > "$room/told" 2> /dev/null
+    of_file "$room/told" check
+    wants "check on what search finds for the trace of $name.txt" 0 "$room/ok" "$room/nothing"
+done
+{
+    printf 'pciex-log 1\nmemory 0 4096 64\n'
+    printf 'sub 1 0 add 40 01000000\nsub 2 0 add 40 01000000\nans 1 0 data 00000000\nans 2 0 data 00000000\n'
+} > "$room/begun"
+{ cat "$room/begun"; echo end; } > "$room/lost_update"
+echo "none 3" > "$room/none"
+cat > "$room/reasons" << 'end'
+pciex: lines 3 to 6 have no history, lines 3 to 5 have one
+pciex: line 6: ans 2 0 data 00000000, against these answers:
+pciex: line 5: ans 1 0 data 00000000
+end
+of_file "$room/lost_update" search
+wants "search on a lost update" 1 "$room/none" "$room/reasons"
+echo "fault 7 Section" > "$room/fault"
+cat > "$room/reasons" << 'end'
+pciex: line 7: the text ends where a record or the end is expected (sub <requester> <number> <operation>, ans <requester> <number> <reply>, end)
+end
+of_file "$room/begun" search
+wants "search on a log without its end" 1 "$room/fault" "$room/reasons"
 
 # A script goes on after a refusal where it is to, and shows its lines where it is to.
 sed 's/^submit/collect 1\nsubmit/' examples/first_script.txt > "$room/refused.txt"
@@ -145,6 +173,7 @@ refuses() {
 }
 refuses "invalid value '100' for --size: expected 128 to 1048576, a multiple of 128" tlp --size 100 --block 1
 refuses "invalid value '1' for --block: expected 64 or 128" tlp --block 1
+refuses "invalid value '0' for --limit: expected 1 to 1000000000" search --limit 0
 refuses "invalid value '2' for --to: expected 0 to 18446744073709551615, at least --from" draw --from 3 --to 2
 refuses "invalid value 'x' for --seed: expected 0 to 18446744073709551615" generate --seed x --events 1
 refuses "invalid value '8' for --requesters: expected 1 to 7" run --requesters 8 --each 1
@@ -185,7 +214,7 @@ grep '^[0-9]* of 140000$' "$room/errors" > "$room/told"
 wants "run --progress" 0 "$room/counted" "$room/told"
 
 # A text that was asked for has status 0, is not on the error stream, and has lines of at most 100 characters.
-for words in --version --help -h "tlp --help" "decode --help" "encode --help" "check --help" "draw --help" "upgrade --help" \
+for words in --version --help -h "tlp --help" "decode --help" "encode --help" "check --help" "search --help" "draw --help" "chart --help" "upgrade --help" \
     "step --help" "generate --help" "run --help" "tlp -h" "step -h" "generate -h" "run -h"; do
     # shellcheck disable=SC2086
     of_file examples/packets.txt $words
@@ -196,7 +225,7 @@ done
 # A reader and a writer that fail have status 1.
 echo "pciex: read" > "$room/read"
 echo "pciex: write" > "$room/write"
-for words in tlp decode encode check draw upgrade step "step --trace" "step --keep-going --echo"; do
+for words in tlp decode encode check search draw chart upgrade step "step --trace" "step --keep-going --echo"; do
     # shellcheck disable=SC2086
     of_file / $words
     wants "$words, where standard input is a folder" 1 "$room/nothing" "$room/read"

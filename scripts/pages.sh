@@ -14,11 +14,11 @@ fi
 runs=0
 failed=0
 
-# The examples in the help of the subcommands are one page more. The picture that one of them draws is not kept.
+# The examples in the help of the subcommands are one page more. The pictures that two of them draw are not kept.
 {
     echo '```'
     for name in $(pciex --help | sed -n '/^Commands:/,/^$/s/^  \([a-z]*\) .*/\1/p'); do
-        pciex "$name" --help | sed -n '/^Example:/,$s/^  //p' | sed 's#> history.svg$#> /dev/null#'
+        pciex "$name" --help | sed -n '/^Example:/,$s/^  //p' | sed 's#> [a-z]*[.]svg$#> /dev/null#'
     done
     echo '```'
 } > "$help"

@@ -1,7 +1,7 @@
 #!/bin/sh
-# Draws the examples with the built program, and reads each picture with python's parser of XML, where there is python.
-# Tells each picture that is no XML, and whether docs/overlaps.svg is the picture of its example. `rt ci` has to have
-# built the program.
+# Draws and charts the examples with the built program, and reads each picture with python's parser of XML, where there is
+# python. Tells each picture that is no XML, and whether docs/overlaps.svg and examples/lost_ack.svg are the pictures of
+# their examples. `rt ci` has to have built the program.
 cd "$(dirname "$0")/.." || exit 1
 pciex=crates/pciex/out/pciex
 if [ ! -x $pciex ]; then
@@ -19,18 +19,34 @@ is_xml() {
     python3 -c 'import sys, xml.etree.ElementTree as tree; tree.parse(sys.argv[1])' "$1" 2> /dev/null
 }
 
-# draws NAME STATUS WORD..: draws the file $room/input, and looks at the status and the picture.
-draws() {
+# makes WHAT STATUS SUBCOMMAND WORD..: makes a picture of the file $room/input, and looks at the status and the picture.
+makes() {
     what=$1
     want=$2
     shift 2
-    timeout 10 $pciex draw "$@" < "$room/input" > "$room/picture" 2> "$room/errors"
+    timeout 10 $pciex "$@" < "$room/input" > "$room/picture" 2> "$room/errors"
     status=$?
     count=$((count + 1))
     if [ $status -ne "$want" ] || [ -s "$room/errors" ] || ! is_xml "$room/picture"; then
         echo "pictures: $what: status $status, and not $want, or no XML"
         failed=1
     fi
+}
+
+# draws WHAT STATUS WORD..: draws the trace in $room/input.
+draws() {
+    what=$1
+    want=$2
+    shift 2
+    makes "$what" "$want" draw "$@"
+}
+
+# charts WHAT STATUS WORD..: charts the script in $room/input.
+charts() {
+    what=$1
+    want=$2
+    shift 2
+    makes "$what" "$want" chart "$@"
 }
 
 for name in trace overlaps; do
@@ -49,6 +65,25 @@ for text in "" "<&>\"" "pciex-trace 2"; do
     echo "$text" > "$room/input"
     draws "the text '$text'" 1
 done
+for name in lost_ack write_passes_read credits stopped_link first_script; do
+    cp examples/$name.txt "$room/input"
+    charts "the chart of $name.txt" 0
+    charts "the lane up1 of $name.txt" 0 --lane up1
+    charts "the lines 4 to 9 of $name.txt" 0 --from 4 --to 9
+done
+cp examples/credits_used_up.txt "$room/input"
+charts "the chart of credits_used_up.txt" 1
+for text in "" "<&>\"" "fabric 9 0 4096"; do
+    echo "$text" > "$room/input"
+    charts "the chart of '$text'" "$([ -z "$text" ] && echo 0 || echo 1)"
+done
+$pciex generate --seed 7 --events 3000 --lose 8 --corrupt 8 > "$room/input"
+charts "the chart of a storm" 0
+charts "the lane in of a storm" 0 --lane in --from 1000
+$pciex chart < examples/lost_ack.txt | cmp -s - examples/lost_ack.svg || {
+    echo "pictures: examples/lost_ack.svg is not the chart of examples/lost_ack.txt"
+    failed=1
+}
 $pciex draw < examples/overlaps.txt | cmp -s - docs/overlaps.svg || {
     echo "pictures: docs/overlaps.svg is not the picture of examples/overlaps.txt"
     failed=1

@@ -110,6 +110,7 @@ each_refused stops_for_memory examples/packets.txt $pciex step --help
 each_refused stops_for_memory examples/packets.txt $pciex decode
 each_refused stops_for_memory examples/words.txt $pciex encode
 each_refused stops_for_memory examples/trace.txt $pciex check
+each_refused stops_for_memory examples/trace.txt $pciex search
 each_refused stops_for_memory examples/trace.txt $pciex draw
 each_refused stops_for_memory examples/trace.txt $pciex upgrade
 each_refused stops_for_memory /dev/null $pciex generate --seed 1 --events 300 --lose 8 --corrupt 9
@@ -117,6 +118,7 @@ each_refused stops_for_memory examples/credits_used_up.txt $pciex step --keep-go
 for script in lost_ack write_passes_read credits_used_up stopped_link first_script; do
     each_refused stops_for_memory examples/$script.txt $pciex step
     each_refused stops_for_memory examples/$script.txt $pciex step --trace
+    each_refused stops_for_memory examples/$script.txt $pciex chart
 done
 each_refused halts_for_memory /dev/null $pciex run --requesters 2 --each 3
 each_refused tries_again /dev/null crates/hall_alloc/out/hall_alloc

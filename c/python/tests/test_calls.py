@@ -74,6 +74,17 @@ class WithoutAHandle(unittest.TestCase):
         self.assertEqual(pciex.check(trace.replace("data 0", "data 1")), "flaw 10 Reply 1")
         self.assertEqual(pciex.check("no trace"), "fault 1 Head")
 
+    def test_search(self) -> None:
+        log = "pciex-log 1\nmemory 0 4096 64\nsub 1 0 add 40 07000000\nans 1 0 data 00000000\nend\n"
+        trace = pciex.search(log)
+        self.assertEqual(pciex.check(trace), "ok")
+        self.assertTrue(trace.endswith("\nhistory\nent 1 0 add 40 07000000\nend\n"))
+        self.assertEqual(pciex.search(trace, 2), trace)
+        self.assertEqual(pciex.search(log.replace("data 0", "data 1")), "none 1")
+        self.assertEqual(pciex.search("no log"), "fault 1 Head")
+        with self.assertRaises(ValueError):
+            pciex.search(log, -1)
+
 
 class ADevice(unittest.TestCase):
     def test_device(self) -> None:

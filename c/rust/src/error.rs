@@ -69,7 +69,7 @@ impl Room {
 }
 
 /// What a code from 2000 on says.
-fn refused(code: u32) -> Error {
+pub(crate) fn refused(code: u32) -> Error {
     match code {
         2003 => Error::NoMemory,
         _ => Error::Argument(code),

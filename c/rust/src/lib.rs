@@ -17,7 +17,7 @@ pub use error::Error;
 pub use fabric::Fabric;
 pub use monitor::Monitor;
 
-use error::{line, Room};
+use error::{line, refused, Room};
 
 /// Whether the history of the text of a trace explains its records: `Ok` if and only if it does, but for
 /// [`Error::NoMemory`]. Else the line that `pciex check` prints.
@@ -26,6 +26,40 @@ pub fn check(text: &[u8]) -> Result<(), Error> {
     // SAFETY: the pointers and lengths are those of two slices that are borrowed for the call.
     let code = unsafe { raw::pciex_raw_check(text.as_ptr(), text.len(), room.pointer(), room.length()) };
     line(code, &room).map(|_| ())
+}
+
+/// What [`search`] says of a log.
+#[derive(Clone, Debug, PartialEq, Eq)]
+pub enum Sought {
+    /// A trace with a history that explains the log.
+    Found(String),
+    /// No history does: `none` with the place of a record up to which there is none; or `fault` with the line that can't
+    /// be read, and why.
+    NotFound(String),
+    /// It was given up: nothing is known.
+    GivenUp,
+}
+
+/// Looks for a history that explains what requesters submitted and were answered: the text of a log, or of a trace, whose
+/// history says nothing. No more than `limit` choices are looked at. The only error is [`Error::NoMemory`].
+pub fn search(text: &[u8], limit: u64) -> Result<Sought, Error> {
+    // Enough for the n's and the history that a trace has more than its log; if not, the library says how much is.
+    let mut room = vec![0; 8 * text.len() + 512];
+    loop {
+        let mut length = 0;
+        // SAFETY: the pointers and lengths are those of two slices and of a number that are borrowed for the call.
+        let code = unsafe {
+            raw::pciex_raw_search(text.as_ptr(), text.len(), limit, room.as_mut_ptr(), room.len(), &mut length)
+        };
+        let answer = |room: &[u8]| String::from_utf8_lossy(&room[..length]).trim_end().to_owned();
+        match code {
+            0 => return Ok(Sought::Found(answer(&room) + "\n")),
+            1 => return Ok(Sought::NotFound(answer(&room))),
+            3 => return Ok(Sought::GivenUp),
+            2000 => room.resize(length, 0),
+            _ => return Err(refused(code)),
+        }
+    }
 }
 
 /// The words of a TLP, or of a DLLP where there are four bytes, as `pciex decode` writes them.

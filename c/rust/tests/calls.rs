@@ -1,5 +1,5 @@
 //! Each call once, and each of its refusals.
-use pciex::{answer, check, decode, differ, encode, version, Device, Error, Fabric, Monitor};
+use pciex::{answer, check, decode, differ, encode, search, version, Device, Error, Fabric, Monitor, Sought};
 
 const ADD: [u8; 16] = [0x4C, 0, 0, 1, 1, 0, 5, 0, 0, 0, 0, 0x40, 7, 0, 0, 0];
 const WRITE: [u8; 16] = [0x40, 0, 0, 1, 1, 0, 0, 0x0F, 0, 0, 0, 0x80, 1, 2, 3, 4];
@@ -197,4 +197,17 @@ fn a_monitor_of_a_trace() {
     lines.extend(["history".into(), entry, "end\n".into()]);
     assert_eq!(check(lines.join("\n").as_bytes()), Ok(()));
     assert_eq!(monitor.acted(1, 0), Err(Error::Unexpected));
+}
+
+#[test]
+fn a_history_is_searched_for() {
+    let log = "pciex-log 1\nmemory 0 4096 64\nsub 1 0 add 40 07000000\nans 1 0 data 00000000\nend\n";
+    let Ok(Sought::Found(trace)) = search(log.as_bytes(), 1000) else {
+        panic!("there is a history");
+    };
+    assert_eq!(check(trace.as_bytes()), Ok(()));
+    assert!(trace.ends_with("\nhistory\nent 1 0 add 40 07000000\nend\n"));
+    let lie = log.replace("data 00", "data 07");
+    assert_eq!(search(lie.as_bytes(), 1000), Ok(Sought::NotFound("none 1".into())));
+    assert_eq!(search(b"no log", 1000), Ok(Sought::NotFound("fault 1 Head".into())));
 }

@@ -8,10 +8,11 @@ use Rattle.option_values.specs.declared.options.ValueOption.{ValueOption}
 use Rattle.option_values.specs.declared.options.ValueOption.TheVariants.{Size, From, To}
 use Rattle.option_values.specs.declared.refused.RefusedValue.{RefusedValue}
 use Rattle.option_values.specs.Values.{Gives, GivesBase, IsAmong, multiples}
+use Rattle.fabric_core.specs.declared.event.LaneName.{LaneName}
 use Rattle.command_line.specs.declared.words.Request.{Request}
-use Rattle.command_line.specs.declared.words.Request.TheVariants.{Tlp, Draw, Generate, Run}
-use Rattle.command_line.specs.Options.{Asks, AsksTlp, AsksDraw, AsksGenerate, AsksRun}
-use Rattle.command_line.specs.Refusals.{AreRight, IsFirstWrong, Refuses, RefusesOption, RefusesTlp, RefusesDraw, tlp_values, draw_values, generate_values, run_values}
+use Rattle.command_line.specs.declared.words.Request.TheVariants.{Tlp, Search, Draw, Chart, Generate, Run}
+use Rattle.command_line.specs.Options.{Asks, AsksTlp, AsksSearch, AsksDraw, AsksChart, AsksGenerate, AsksRun}
+use Rattle.command_line.specs.Refusals.{AreRight, IsFirstWrong, Refuses, RefusesOption, RefusesTlp, RefusesDraw, RefusesChart, tlp_values, search_values, draw_values, chart_values, generate_values, run_values}
 use Rattle.command_line.proofs.RequestsAsked.{name_of, asks_name, differ}
 
 -- where each is right, none is the first that is wrong
@@ -44,6 +45,9 @@ tlp_size rows base size block a =
 tlp_right : (rows : List Row) (base size block : ℕ) → AsksTlp rows base size block → AreRight rows tlp_values
 tlp_right rows base size block a = ((size, tlp_size rows base size block a), ((block, (a.block_read, among_blocks block a.memory.in_block)), tt))
 
+search_right : (rows : List Row) (limit : ℕ) → AsksSearch rows limit → AreRight rows search_values
+search_right rows limit a = ((limit, (a.limit_read, among 1 1000000000 limit a.least a.most)), tt)
+
 draw_from : (rows : List Row) (from to : ℕ) → AsksDraw rows from to → Gives From (Some 0) (first_of (codes "from") rows) from
 draw_from rows from to a = (a.from_read, up_to 18446744073709551615 from (omega (arith, a.ordered, a.fits)))
 
@@ -52,6 +56,15 @@ draw_to rows from to a = (a.to_read, up_to 18446744073709551615 to (omega (arith
 
 draw_right : (rows : List Row) (from to : ℕ) → AsksDraw rows from to → AreRight rows draw_values
 draw_right rows from to a = ((from, draw_from rows from to a), ((to, draw_to rows from to a), tt))
+
+chart_from : (rows : List Row) (lane : Option LaneName) (from to : ℕ) → AsksChart rows lane from to → Gives From (Some 1) (first_of (codes "from") rows) from
+chart_from rows lane from to a = (a.from_read, up_to 18446744073709551615 from (omega (arith, a.ordered, a.fits)))
+
+chart_to : (rows : List Row) (lane : Option LaneName) (from to : ℕ) → AsksChart rows lane from to → Gives To (Some 18446744073709551615) (first_of (codes "to") rows) to
+chart_to rows lane from to a = (a.to_read, up_to 18446744073709551615 to (omega (arith, a.fits)))
+
+chart_right : (rows : List Row) (lane : Option LaneName) (from to : ℕ) → AsksChart rows lane from to → AreRight rows chart_values
+chart_right rows lane from to a = ((from, chart_from rows lane from to a), ((to, chart_to rows lane from to a), tt))
 
 generate_right : (rows : List Row) (s : Storm) → AsksGenerate rows s → AreRight rows generate_values
 generate_right rows s a =
@@ -96,13 +109,26 @@ refused_draw : (rows : List Row) (option : ValueOption) (from to : ℕ) → Refu
 refused_draw rows option from to (inl h) a = none_wrong rows draw_values option (draw_right rows from to a) h
 refused_draw rows option from to (inr h) a = h.2 from to (draw_from rows from to a) (draw_to rows from to a) a.ordered
 
+refused_chart : (rows : List Row) (option : ValueOption) (lane : Option LaneName) (from to : ℕ) → RefusesChart rows option → AsksChart rows lane from to → ⊥
+refused_chart rows option lane from to (inl h) a = h.1 lane a.lane_read
+refused_chart rows option lane from to (inr (inl h)) a = none_wrong rows chart_values option (chart_right rows lane from to a) h.1
+refused_chart rows option lane from to (inr (inr h)) a = h.3 from to (chart_from rows lane from to a) (chart_to rows lane from to a) a.ordered
+
 tlp_nothing : (p : Text × List Row) (option : ValueOption) → p.0 ≡ codes "tlp" → RefusesTlp p.1 option → (r : Request) → Asks (Some p) r → ⊥
 tlp_nothing p option e h (Tlp base size block) a = refused_tlp p.1 option base size block h a.1
 tlp_nothing p option e h r a = differ (codes "tlp") (name_of r) refl (sym e ∙ asks_name p r a)
 
+search_nothing : (p : Text × List Row) (option : ValueOption) → p.0 ≡ codes "search" → IsFirstWrong p.1 search_values option → (r : Request) → Asks (Some p) r → ⊥
+search_nothing p option e h (Search limit) a = none_wrong p.1 search_values option (search_right p.1 limit a.1) h
+search_nothing p option e h r a = differ (codes "search") (name_of r) refl (sym e ∙ asks_name p r a)
+
 draw_nothing : (p : Text × List Row) (option : ValueOption) → p.0 ≡ codes "draw" → RefusesDraw p.1 option → (r : Request) → Asks (Some p) r → ⊥
 draw_nothing p option e h (Draw from to) a = refused_draw p.1 option from to h a.1
 draw_nothing p option e h r a = differ (codes "draw") (name_of r) refl (sym e ∙ asks_name p r a)
+
+chart_nothing : (p : Text × List Row) (option : ValueOption) → p.0 ≡ codes "chart" → RefusesChart p.1 option → (r : Request) → Asks (Some p) r → ⊥
+chart_nothing p option e h (Chart lane from to) a = refused_chart p.1 option lane from to h a.1
+chart_nothing p option e h r a = differ (codes "chart") (name_of r) refl (sym e ∙ asks_name p r a)
 
 generate_nothing : (p : Text × List Row) (option : ValueOption) → p.0 ≡ codes "generate" → IsFirstWrong p.1 generate_values option → (r : Request) → Asks (Some p) r → ⊥
 generate_nothing p option e h (Generate s) a = none_wrong p.1 generate_values option (generate_right p.1 s a.1) h
@@ -116,7 +142,9 @@ option_nothing : (p : Text × List Row) (option : ValueOption) → RefusesOption
 option_nothing p option (inl h) = tlp_nothing p option h.0 h.1
 option_nothing p option (inr (inl h)) = draw_nothing p option h.0 h.1
 option_nothing p option (inr (inr (inl h))) = generate_nothing p option h.0 h.1
-option_nothing p option (inr (inr (inr h))) = run_nothing p option h.0 h.1
+option_nothing p option (inr (inr (inr (inl h)))) = run_nothing p option h.0 h.1
+option_nothing p option (inr (inr (inr (inr (inl h))))) = chart_nothing p option h.0 h.1
+option_nothing p option (inr (inr (inr (inr (inr h))))) = search_nothing p option h.0 h.1
 
 pub refused_nothing : (o : Option (Text × List Row)) (v : RefusedValue) → Refuses o v → (r : Request) → Asks o r → ⊥
 refused_nothing None v h r a = h

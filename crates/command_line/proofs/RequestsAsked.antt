@@ -6,8 +6,10 @@ use Rattle.clap.specs.Words.{Row, Text}
 use Rattle.counting.specs.declared.Counting.{Counting}
 use Rattle.storm.specs.declared.Storm.{Storm}
 use Rattle.command_line.specs.declared.words.Request.{Request}
-use Rattle.command_line.specs.declared.words.Request.TheVariants.{Tlp, Decode, Encode, Check, Draw, Upgrade, Step, Generate, Run}
+use Rattle.command_line.specs.declared.words.Request.TheVariants.{Tlp, Decode, Encode, Check, Search, Draw, Upgrade, Step, Chart, Generate, Run}
 use Rattle.option_values.specs.Values.{WritesBase, WritesNumber, WritesGiven, WritesFlag}
+use Rattle.fabric_core.specs.declared.event.LaneName.{LaneName}
+use Rattle.command_line.specs.Lanes.{WritesLane}
 use Rattle.command_line.specs.Options.{Asks}
 
 pub if_none : {T P : Type 0} (o : Option T) → P → IfNone o P
@@ -38,9 +40,11 @@ name_of (Tlp base size block) = codes "tlp"
 name_of Decode = codes "decode"
 name_of Encode = codes "encode"
 name_of Check = codes "check"
+name_of (Search limit) = codes "search"
 name_of (Draw from to) = codes "draw"
 name_of Upgrade = codes "upgrade"
 name_of (Step is_traced keeps_going echoes) = codes "step"
+name_of (Chart lane from to) = codes "chart"
 name_of (Generate storm) = codes "generate"
 name_of (Run counting is_told) = codes "run"
 
@@ -49,9 +53,11 @@ asks_name p (Tlp base size block) a = a.0
 asks_name p Decode a = a
 asks_name p Encode a = a
 asks_name p Check a = a
+asks_name p (Search limit) a = a.0
 asks_name p (Draw from to) a = a.0
 asks_name p Upgrade a = a
 asks_name p (Step is_traced keeps_going echoes) a = a.0
+asks_name p (Chart lane from to) a = a.0
 asks_name p (Generate storm) a = a.0
 asks_name p (Run counting is_told) a = a.0
 
@@ -65,6 +71,10 @@ same_flag : (t : Option Text) (a b : Bool) → WritesFlag t a → WritesFlag t b
 same_flag None a b h k = h ∙ sym k
 same_flag (Some t) a b h k = h ∙ sym k
 
+same_lane : (t : Option Text) (a b : Option LaneName) → WritesLane t a → WritesLane t b → a ≡ b
+same_lane None a b h k = h ∙ sym k
+same_lane (Some t) a b h k = h.2 ∙ sym h.1 ∙ k.1 ∙ sym k.2
+
 -- words ask for one thing
 pub asks_one : (o : Option (Text × List Row)) (r s : Request) → Asks o r → Asks o s → r ≡ s
 asks_one None r s a b = absurd a
@@ -76,6 +86,7 @@ asks_one (Some p) (Tlp base size block) (Tlp base' size' block') a b =
 asks_one (Some p) Decode Decode a b = refl
 asks_one (Some p) Encode Encode a b = refl
 asks_one (Some p) Check Check a b = refl
+asks_one (Some p) (Search limit) (Search limit') a b = ap Search (same_number 1000000 _ limit limit' a.1.limit_read b.1.limit_read)
 asks_one (Some p) (Draw from to) (Draw from' to') a b =
     let e = same_number 0 _ from from' a.1.from_read b.1.from_read in
     let f = same_number 18446744073709551615 _ to to' a.1.to_read b.1.to_read in
@@ -86,6 +97,11 @@ asks_one (Some p) (Step t k e) (Step u l f) a b =
     let y = b.1 in
     ap (λ (z : Bool). Step z k e) (same_flag _ t u x.trace_read y.trace_read) ∙ ap (λ (z : Bool). Step u z e) (same_flag _ k l x.keep_going_read y.keep_going_read)
     ∙ ap (λ (z : Bool). Step u l z) (same_flag _ e f x.echo_read y.echo_read)
+asks_one (Some p) (Chart lane from to) (Chart lane' from' to') a b =
+    let e = same_lane _ lane lane' a.1.lane_read b.1.lane_read in
+    let f = same_number 1 _ from from' a.1.from_read b.1.from_read in
+    let g = same_number 18446744073709551615 _ to to' a.1.to_read b.1.to_read in
+    ap (λ (x : Option LaneName). Chart x from to) e ∙ ap (λ (x : ℕ). Chart lane' x to) f ∙ ap (λ (x : ℕ). Chart lane' from' x) g
 asks_one (Some p) (Generate s) (Generate t) a b =
     let x = a.1 in
     let y = b.1 in

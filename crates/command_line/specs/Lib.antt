@@ -1,3 +1,4 @@
+pub mod Lanes
 pub mod Options
 pub mod Refusals
 pub mod Faults

@@ -8,10 +8,12 @@ use Rattle.seq_memory.specs.Limits.{IsWithinLimits}
 use Rattle.storm.specs.declared.Storm.{Storm}
 use Rattle.storm.specs.Ranges.{IsStorm}
 use Rattle.option_values.specs.Values.{WritesBase, WritesNumber, WritesGiven, WritesFlag}
+use Rattle.fabric_core.specs.declared.event.LaneName.{LaneName}
+use Rattle.command_line.specs.Lanes.{WritesLane}
 use Rattle.command_line.specs.declared.words.Request.{Request}
 use Rattle.command_line.specs.declared.words.Subcommand.{Subcommand}
 use Rattle.command_line.specs.declared.words.Subcommand.TheVariants as kinds
-use Rattle.command_line.specs.declared.words.Request.TheVariants.{Tlp, Decode, Encode, Check, Draw, Upgrade, Step, Generate, Run}
+use Rattle.command_line.specs.declared.words.Request.TheVariants.{Tlp, Decode, Encode, Check, Search, Draw, Upgrade, Step, Chart, Generate, Run}
 
 -- the name of a subcommand
 abbrev pub text_of : Subcommand → Text
@@ -19,9 +21,11 @@ text_of kinds.Tlp = codes "tlp"
 text_of kinds.Decode = codes "decode"
 text_of kinds.Encode = codes "encode"
 text_of kinds.Check = codes "check"
+text_of kinds.Search = codes "search"
 text_of kinds.Draw = codes "draw"
 text_of kinds.Upgrade = codes "upgrade"
 text_of kinds.Step = codes "step"
+text_of kinds.Chart = codes "chart"
 text_of kinds.Generate = codes "generate"
 text_of kinds.Run = codes "run"
 
@@ -32,6 +36,9 @@ option name = record (new_rule name) { long = Some name; value_names = 1 }
 abbrev pub tlp_app : App
 tlp_app = with_rule (with_rule (with_rule (new_app (codes "tlp")) (option (codes "base"))) (option (codes "size"))) (option (codes "block"))
 
+abbrev pub search_app : App
+search_app = with_rule (new_app (codes "search")) (option (codes "limit"))
+
 abbrev pub draw_app : App
 draw_app = with_rule (with_rule (new_app (codes "draw")) (option (codes "from"))) (option (codes "to"))
 
@@ -41,6 +48,9 @@ flag name = record (new_rule name) { long = Some name; action = Some SetTrue }
 
 abbrev pub step_app : App
 step_app = with_rule (with_rule (with_rule (new_app (codes "step")) (flag (codes "trace"))) (flag (codes "keep-going"))) (flag (codes "echo"))
+
+abbrev pub chart_app : App
+chart_app = with_rule (with_rule (with_rule (new_app (codes "chart")) (option (codes "lane"))) (option (codes "from"))) (option (codes "to"))
 
 -- an option with a value, which has to be given
 abbrev pub required : Text → Rule
@@ -69,11 +79,13 @@ abbrev pub with_packets : App → App
 with_packets app = with_subcommand (with_subcommand (with_subcommand app tlp_app.top) (new_app (codes "decode")).top) (new_app (codes "encode")).top
 
 abbrev pub with_traces : App → App
-with_traces app = with_subcommand (with_subcommand (with_subcommand app (new_app (codes "check")).top) draw_app.top) (new_app (codes "upgrade")).top
+with_traces app =
+    with_subcommand (with_subcommand (with_subcommand (with_subcommand app (new_app (codes "check")).top) search_app.top) draw_app.top) (new_app (codes "upgrade")).top
 
 -- the grammar of the command line
 unfoldable pub the_app : App
-the_app = with_subcommand (with_subcommand (with_subcommand (with_traces (with_packets top_app)) step_app.top) generate_app.top) run_app.top
+the_app =
+    with_subcommand (with_subcommand (with_subcommand (with_subcommand (with_traces (with_packets top_app)) step_app.top) chart_app.top) generate_app.top) run_app.top
 
 -- the values of `tlp` ask for this memory
 pub record AsksTlp (rows : List Row) (base size block : ℕ) : Type 0 where
@@ -81,6 +93,12 @@ pub record AsksTlp (rows : List Row) (base size block : ℕ) : Type 0 where
   pub size_read : WritesNumber 4096 (first_of (codes "size") rows) size
   pub block_read : WritesNumber 64 (first_of (codes "block") rows) block
   pub memory : IsWithinLimits (record { base = base; size = size; block = block })
+
+-- the values of `search` ask to look at so many choices at most
+pub record AsksSearch (rows : List Row) (limit : ℕ) : Type 0 where
+  pub limit_read : WritesNumber 1000000 (first_of (codes "limit") rows) limit
+  pub least : 1 ≤ limit
+  pub most : limit ≤ 1000000000
 
 -- the values of `draw` ask for the points from one to another, numbers of 64 bits
 pub record AsksDraw (rows : List Row) (from to : ℕ) : Type 0 where
@@ -94,6 +112,14 @@ pub record AsksStep (rows : List Row) (is_traced keeps_going echoes : Bool) : Ty
   pub trace_read : WritesFlag (first_of (codes "trace") rows) is_traced
   pub keep_going_read : WritesFlag (first_of (codes "keep-going") rows) keeps_going
   pub echo_read : WritesFlag (first_of (codes "echo") rows) echoes
+
+-- the values of `chart` ask for the events of this lane, or of all, on the lines from one to another, numbers of 64 bits
+pub record AsksChart (rows : List Row) (lane : Option LaneName) (from to : ℕ) : Type 0 where
+  pub lane_read : WritesLane (first_of (codes "lane") rows) lane
+  pub from_read : WritesNumber 1 (first_of (codes "from") rows) from
+  pub to_read : WritesNumber 18446744073709551615 (first_of (codes "to") rows) to
+  pub ordered : from ≤ to
+  pub fits : to < 2 ^ 64
 
 -- the values of `generate` ask for this storm, of a seed of 64 bits
 pub record AsksGenerate (rows : List Row) (s : Storm) : Type 0 where
@@ -122,8 +148,10 @@ Asks (Some p) (Tlp base size block) = (p.0 ≡ codes "tlp") × AsksTlp p.1 base 
 Asks (Some p) Decode = p.0 ≡ codes "decode"
 Asks (Some p) Encode = p.0 ≡ codes "encode"
 Asks (Some p) Check = p.0 ≡ codes "check"
+Asks (Some p) (Search limit) = (p.0 ≡ codes "search") × AsksSearch p.1 limit
 Asks (Some p) (Draw from to) = (p.0 ≡ codes "draw") × AsksDraw p.1 from to
 Asks (Some p) Upgrade = p.0 ≡ codes "upgrade"
 Asks (Some p) (Step is_traced keeps_going echoes) = (p.0 ≡ codes "step") × AsksStep p.1 is_traced keeps_going echoes
+Asks (Some p) (Chart lane from to) = (p.0 ≡ codes "chart") × AsksChart p.1 lane from to
 Asks (Some p) (Generate storm) = (p.0 ≡ codes "generate") × AsksGenerate p.1 storm
 Asks (Some p) (Run counting is_told) = (p.0 ≡ codes "run") × AsksRun p.1 counting × WritesFlag (first_of (codes "progress") p.1) is_told

@@ -2,8 +2,10 @@
 -- does not go with another.
 use Rattle.std.specs.Prelude.{◌≡◌, ◌≤◌, ◌+◌, ◌^◌, ◌⊎◌, ℕ, List, [], ◌∷◌, Option, Some, None, codes, option_map}
 use Rattle.clap.specs.Words.{Row, Text, first_of}
+use Rattle.fabric_core.specs.declared.event.LaneName.{LaneName}
+use Rattle.command_line.specs.Lanes.{WritesLane}
 use Rattle.option_values.specs.declared.options.ValueOption.{ValueOption}
-use Rattle.option_values.specs.declared.options.ValueOption.TheVariants.{Base, Size, Block, Requesters, Each, Lose, Corrupt, Turns, From, To, Seed, Events}
+use Rattle.option_values.specs.declared.options.ValueOption.TheVariants.{Base, Size, Block, Requesters, Each, Lose, Corrupt, Turns, From, To, Seed, Events, Lane, Limit}
 use Rattle.option_values.specs.declared.refused.RefusedValue.{RefusedValue}
 use Rattle.option_values.specs.Values.{Gives, GivesBase, name_of}
 
@@ -21,6 +23,13 @@ IsRightBase rows = (n : ℕ) × GivesBase (first_of (codes "base") rows) n
 abbrev pub IsWrongBase : List Row → Type 0
 IsWrongBase rows = (n : ℕ) → GivesBase (first_of (codes "base") rows) n → ⊥
 
+-- the same of a lane
+abbrev pub IsRightLane : List Row → Type 0
+IsRightLane rows = (l : Option LaneName) × WritesLane (first_of (codes "lane") rows) l
+
+abbrev pub IsWrongLane : List Row → Type 0
+IsWrongLane rows = (l : Option LaneName) → WritesLane (first_of (codes "lane") rows) l → ⊥
+
 -- the value of each option is right
 abbrev pub AreRight : List Row → List (ValueOption × Option ℕ) → Type 0
 AreRight rows [] = Unit {0}
@@ -35,8 +44,14 @@ IsFirstWrong rows (p ∷ ps) option = (option ≡ p.0) × IsWrong rows p ⊎ IsR
 abbrev pub tlp_values : List (ValueOption × Option ℕ)
 tlp_values = (Size, Some 4096) ∷ (Block, Some 64) ∷ []
 
+abbrev pub search_values : List (ValueOption × Option ℕ)
+search_values = (Limit, Some 1000000) ∷ []
+
 abbrev pub draw_values : List (ValueOption × Option ℕ)
 draw_values = (From, Some 0) ∷ (To, Some 18446744073709551615) ∷ []
+
+abbrev pub chart_values : List (ValueOption × Option ℕ)
+chart_values = (From, Some 1) ∷ (To, Some 18446744073709551615) ∷ []
 
 abbrev pub generate_values : List (ValueOption × Option ℕ)
 generate_values = (Seed, None) ∷ (Events, None) ∷ (Requesters, Some 3) ∷ (Lose, Some 0) ∷ (Corrupt, Some 0) ∷ (Block, Some 64) ∷ []
@@ -52,6 +67,10 @@ EndsBeyond rows = (base size : ℕ) → GivesBase (first_of (codes "base") rows)
 abbrev pub EndsBefore : List Row → Type 0
 EndsBefore rows = (from to : ℕ) → Gives From (Some 0) (first_of (codes "from") rows) from → Gives To (Some 18446744073709551615) (first_of (codes "to") rows) to → from ≤ to → ⊥
 
+-- the last line lies before the first
+abbrev pub EndsAbove : List Row → Type 0
+EndsAbove rows = (from to : ℕ) → Gives From (Some 1) (first_of (codes "from") rows) from → Gives To (Some 18446744073709551615) (first_of (codes "to") rows) to → from ≤ to → ⊥
+
 abbrev pub RefusesTlp : List Row → ValueOption → Type 0
 RefusesTlp rows option =
     (option ≡ Base) × IsWrongBase rows ⊎ IsRightBase rows × IsFirstWrong rows tlp_values option
@@ -60,10 +79,17 @@ RefusesTlp rows option =
 abbrev pub RefusesDraw : List Row → ValueOption → Type 0
 RefusesDraw rows option = IsFirstWrong rows draw_values option ⊎ (option ≡ To) × AreRight rows draw_values × EndsBefore rows
 
+abbrev pub RefusesChart : List Row → ValueOption → Type 0
+RefusesChart rows option =
+    (option ≡ Lane) × IsWrongLane rows ⊎ IsRightLane rows × IsFirstWrong rows chart_values option
+    ⊎ (option ≡ To) × IsRightLane rows × AreRight rows chart_values × EndsAbove rows
+
 abbrev pub RefusesOption : Text → List Row → ValueOption → Type 0
 RefusesOption name rows option =
     (name ≡ codes "tlp") × RefusesTlp rows option ⊎ (name ≡ codes "draw") × RefusesDraw rows option
     ⊎ (name ≡ codes "generate") × IsFirstWrong rows generate_values option ⊎ (name ≡ codes "run") × IsFirstWrong rows run_values option
+    ⊎ (name ≡ codes "chart") × RefusesChart rows option
+    ⊎ (name ≡ codes "search") × IsFirstWrong rows search_values option
 
 -- of the subcommand with its values this option is refused, with what is written of it
 abbrev pub Refuses : Option (Text × List Row) → RefusedValue → Type 0

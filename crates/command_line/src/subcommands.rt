@@ -3,7 +3,7 @@ ghost use Rattle.std.specs.Prelude.{◌≡◌, IfOk, false};
 ghost use Rattle.clap.specs.Words.{App, app_of, new_app, with_rule, with_subcommand};
 ghost use Rattle.clap.specs.Walk.{rule_of};
 ghost use Rattle.clap.specs.declared.builder.Command.TheViews.{out-Command};
-ghost use Rattle.command_line.specs.Options.{the_app, top_app, tlp_app, draw_app, step_app, generate_app, run_app, with_links, with_packets, with_traces, option, required, flag};
+ghost use Rattle.command_line.specs.Options.{the_app, top_app, tlp_app, search_app, draw_app, step_app, chart_app, generate_app, run_app, with_links, with_packets, with_traces, option, required, flag};
 
 use crate::texts;
 use crate::texts::Help;
@@ -107,6 +107,15 @@ fn step_command<'a>(alloc: Global) -> Result<Command<'a>, AllocError>
     with_arg(keep_going, flag_of(alloc, "echo", texts::ECHO))
 }
 
+/// The subcommand `search`.
+fn search_command<'a>(alloc: Global) -> Result<Command<'a>, AllocError>
+    ensures app { IfOk result (λ c. app_of c ≡ search_app) }
+    ensures globals { IfOk result (λ c. (out-Command c).has_globals ≡ false) }
+{
+    let search = plain_command(alloc, "search", texts::SEARCH);
+    with_arg(search, option_of(alloc, "limit", "STATES", texts::LIMIT))
+}
+
 /// The subcommand `draw`.
 fn draw_command<'a>(alloc: Global) -> Result<Command<'a>, AllocError>
     ensures app { IfOk result (λ c. app_of c ≡ draw_app) }
@@ -115,6 +124,17 @@ fn draw_command<'a>(alloc: Global) -> Result<Command<'a>, AllocError>
     let draw = plain_command(alloc, "draw", texts::DRAW);
     let from = with_arg(draw, option_of(alloc, "from", "POINT", texts::FROM))?;
     with_arg(from, option_of(alloc, "to", "POINT", texts::TO))
+}
+
+/// The subcommand `chart`.
+fn chart_command<'a>(alloc: Global) -> Result<Command<'a>, AllocError>
+    ensures app { IfOk result (λ c. app_of c ≡ chart_app) }
+    ensures globals { IfOk result (λ c. (out-Command c).has_globals ≡ false) }
+{
+    let chart = plain_command(alloc, "chart", texts::CHART);
+    let lane = with_arg(chart, option_of(alloc, "lane", "NAME", texts::LANE))?;
+    let from = with_arg(lane, option_of(alloc, "from", "LINE", texts::FIRST_LINE))?;
+    with_arg(from, option_of(alloc, "to", "LINE", texts::LAST_LINE))
 }
 
 /// The command with the links' faults, which `generate` and `run` have.
@@ -190,7 +210,8 @@ fn with_traces<'a>(alloc: Global, top: Command<'a>) -> Result<Command<'a>, Alloc
     ensures globals { IfOk result (λ c. (out-Command c).has_globals ≡ false) }
 {
     let with_check = with_command(top, plain_command(alloc, "check", texts::CHECK))?;
-    let with_draw = with_made(with_check, draw_command(alloc))?;
+    let with_search = with_made(with_check, search_command(alloc))?;
+    let with_draw = with_made(with_search, draw_command(alloc))?;
     with_command(with_draw, plain_command(alloc, "upgrade", texts::UPGRADE))
 }
 
@@ -202,6 +223,7 @@ pub(crate) fn grammar<'a>(alloc: Global) -> Result<Command<'a>, AllocError>
     let packets = with_packets(alloc, top_command(alloc))?;
     let traces = with_traces(alloc, packets)?;
     let step = with_made(traces, step_command(alloc))?;
-    let generate = with_made(step, generate_command(alloc))?;
+    let chart = with_made(step, chart_command(alloc))?;
+    let generate = with_made(chart, generate_command(alloc))?;
     with_made(generate, run_command(alloc))
 }

@@ -23,7 +23,7 @@ Exit status:
   0  success
   1  a fault, a flaw, a refusal or a halt was printed, or reading, writing or memory failed
   2  wrong arguments
-  3  a worker of 'run' used up its turns";
+  3  a worker of 'run' used up its turns, or 'search' its limit";
 
 pub(crate) static TLP: Help = Help {
     about: "Answer request TLPs with their completions",
@@ -76,6 +76,20 @@ with the first line that can't be read and the reason.",
   ok",
 };
 
+pub(crate) static SEARCH: Help = Help {
+    about: "Search for a history that explains what requesters saw",
+    long: "Searches for a history that explains what requesters saw of a memory that reports none.
+
+The input is one log: what requesters submitted and were answered, in the order of time. A
+trace may stand in its place; its history is ignored. The result is a trace with a history,
+to which 'check' says 'ok'; or one line: 'none' with the place of a record up to which no
+history explains the log; 'limit' if the search was given up and nothing is known; or
+'fault' with the first line that can't be read and the reason.",
+    example: "Example:
+  $ pciex generate --seed 7 --events 300 | pciex step --trace | pciex search | pciex check
+  ok",
+};
+
 pub(crate) static DRAW: Help = Help {
     about: "Draw a trace and its history as an SVG picture",
     long: "Draws a trace and its history as an SVG picture.
@@ -117,6 +131,17 @@ the first line that can't be read ('fault') or that the fabric refuses ('refused
   settled",
 };
 
+pub(crate) static CHART: Help = Help {
+    about: "Draw what a script does on the links of a fabric",
+    long: "Draws what a script does on the links of a fabric, as an SVG chart.
+
+The input is one script, as 'step' reads it. Each event of a link that the options choose
+has a row, 1000 at most. Above them stands the fault or the refusal that ended the run, in
+red, or that the script ran to its end.",
+    example: "Example:
+  $ pciex chart --lane up1 < examples/lost_ack.txt > chart.svg",
+};
+
 pub(crate) static GENERATE: Help = Help {
     about: "Write a random stress script for 'step'",
     long: "Writes a random stress script for 'step', in which the fabric accepts each event.
@@ -155,10 +180,20 @@ pub(crate) static BLOCK: &str =
     "Block size in bytes, 64 or 128; a request that crosses the end of an
 aligned block completes with Completer Abort [default: 64]";
 
+pub(crate) static LIMIT: &str = "Number of choices to look at, 1 to 1000000000 [default: 1000000]";
+
 pub(crate) static FROM: &str = "First point to draw, a length of the history [default: 0]";
 
 pub(crate) static TO: &str =
     "Last point to draw, at least --from [default: the length of the history]";
+
+pub(crate) static LANE: &str =
+    "Lane whose events alone to draw: up1 to up7, down1 to down7, in or out";
+
+pub(crate) static FIRST_LINE: &str = "First line of the script to draw [default: 1]";
+
+pub(crate) static LAST_LINE: &str =
+    "Last line of the script to draw, at least --from [default: the last one]";
 
 pub(crate) static TRACE: &str = "Print the trace and its history in place of the results";
 

@@ -2,18 +2,21 @@
 ghost use Rattle.std.specs.Prelude.{◌≡◌, IfOk, IfErr, IfSome, IfNone, OnErr, map, true, codes, Some, [], option_map};
 ghost use Rattle.clap.specs.Words.{FailsBy, HasKind, fault_of, kind_of, subcommand_of, subcommand_rows_of, has_subcommand, takes, rows_of, found_of, first_of};
 ghost use Rattle.option_values.specs.Values.{Gives, GivesBase, name_of};
-ghost use Rattle.option_values.specs.declared.options.ValueOption.TheVariants.{Base};
+ghost use Rattle.option_values.specs.declared.options.ValueOption.TheVariants.{Base, Lane};
 ghost use Rattle.command_line.specs.declared.words.Request.{Request};
 ghost use Rattle.command_line.specs.declared.words.RequestFault.TheVariants.{Value};
 ghost use Rattle.command_line.specs.Faults.{WordsFault, RangeFault, ValueFault, IsRefusal};
+ghost use Rattle.command_line.specs.Lanes.{WritesLane};
 ghost use Rattle.command_line.specs.Options.{the_app, text_of, Asks};
 ghost use Rattle.command_line.specs.declared.words.Subcommand.{Subcommand};
-ghost use Rattle.command_line.specs.Refusals.{IsWrong, IsWrongBase, Refuses};
+ghost use Rattle.command_line.specs.Refusals.{IsWrong, IsWrongBase, IsWrongLane, Refuses};
 
+use crate::lanes::lane_of;
 use crate::subcommands::grammar;
 use clap::ArgMatches;
 use clap::error::ErrorKind;
 use counting::Counting;
+use fabric_core::LaneName;
 use option_values::{RefusedValue, ValueOption, base_of, is_set, number_of};
 use seq_memory::is_base;
 use std::alloc::Global;
@@ -35,6 +38,10 @@ pub enum Request {
     Encode,
     /// The subcommand `check`.
     Check,
+    /// The subcommand `search`, which looks at so many choices at most.
+    Search {
+        limit: u64,
+    },
     /// The subcommand `draw`, of the points of a history from one to another.
     Draw {
         from: u64,
@@ -48,6 +55,12 @@ pub enum Request {
         is_traced: bool,
         keeps_going: bool,
         echoes: bool,
+    },
+    /// The subcommand `chart`, of the lane alone, if one is given, and of the lines from one to another.
+    Chart {
+        lane: Option<LaneName>,
+        from: u64,
+        to: u64,
     },
     /// The subcommand `generate`, which writes the script of a storm.
     Generate {
@@ -129,6 +142,15 @@ fn tlp_of<'a>(tlp: &ArgMatches<'a>) -> Result<Request, RefusedValue<'a>>
     Ok(Request::Tlp { base, size, block })
 }
 
+/// What the values of `search` ask for.
+fn search_of<'a>(search: &ArgMatches<'a>) -> Result<Request, RefusedValue<'a>>
+    ensures ok { IfOk result (Asks (Some (codes "search", rows_of (found_of search.now)))) }
+    ensures err { IfErr result (Refuses (Some (codes "search", rows_of (found_of search.now)))) }
+{
+    let limit = number_in(search, ValueOption::Limit, Some(1_000_000))?;
+    Ok(Request::Search { limit })
+}
+
 /// What the values of `draw` ask for.
 fn draw_of<'a>(draw: &ArgMatches<'a>) -> Result<Request, RefusedValue<'a>>
     ensures ok { IfOk result (Asks (Some (codes "draw", rows_of (found_of draw.now)))) }
@@ -143,6 +165,32 @@ fn draw_of<'a>(draw: &ArgMatches<'a>) -> Result<Request, RefusedValue<'a>>
         });
     }
     Ok(Request::Draw { from, to })
+}
+
+/// The lane that the values give.
+fn lane_in<'a>(values: &ArgMatches<'a>) -> Result<Option<LaneName>, RefusedValue<'a>>
+    ensures ok { IfOk result (WritesLane (first_of (codes "lane") (rows_of (found_of values.now)))) }
+    ensures err { OnErr result (IsWrongLane (rows_of (found_of values.now))) }
+    ensures refused { IfErr result (λ e. (e.option ≡ Lane) × (option_map (λ t. t.now) e.given ≡ first_of (codes "lane") (rows_of (found_of values.now)))) }
+{
+    lane_of(values.get_str("lane"))
+}
+
+/// What the values of `chart` ask for.
+fn chart_of<'a>(chart: &ArgMatches<'a>) -> Result<Request, RefusedValue<'a>>
+    ensures ok { IfOk result (Asks (Some (codes "chart", rows_of (found_of chart.now)))) }
+    ensures err { IfErr result (Refuses (Some (codes "chart", rows_of (found_of chart.now)))) }
+{
+    let lane = lane_in(chart)?;
+    let from = number_in(chart, ValueOption::From, Some(1))?;
+    let to = number_in(chart, ValueOption::To, Some(u64::MAX))?;
+    if to < from {
+        return Err(RefusedValue {
+            option: ValueOption::To,
+            given: chart.get_str("to"),
+        });
+    }
+    Ok(Request::Chart { lane, from, to })
 }
 
 /// What the values of `step` ask for.
@@ -208,9 +256,11 @@ pub(crate) enum Subcommand {
     Decode,
     Encode,
     Check,
+    Search,
     Draw,
     Upgrade,
     Step,
+    Chart,
     Generate,
     Run,
 }
@@ -228,12 +278,16 @@ fn subcommand_named(name: &str) -> Option<Subcommand>
         Some(Subcommand::Encode)
     } else if name == "check" {
         Some(Subcommand::Check)
+    } else if name == "search" {
+        Some(Subcommand::Search)
     } else if name == "draw" {
         Some(Subcommand::Draw)
     } else if name == "upgrade" {
         Some(Subcommand::Upgrade)
     } else if name == "step" {
         Some(Subcommand::Step)
+    } else if name == "chart" {
+        Some(Subcommand::Chart)
     } else if name == "generate" {
         Some(Subcommand::Generate)
     } else if name == "run" {
@@ -256,9 +310,11 @@ fn request_of<'a>(
         Subcommand::Decode => Ok(Request::Decode),
         Subcommand::Encode => Ok(Request::Encode),
         Subcommand::Check => Ok(Request::Check),
+        Subcommand::Search => search_of(values),
         Subcommand::Draw => draw_of(values),
         Subcommand::Upgrade => Ok(Request::Upgrade),
         Subcommand::Step => Ok(step_of(values)),
+        Subcommand::Chart => chart_of(values),
         Subcommand::Generate => generate_of(values),
         Subcommand::Run => run_of(values),
     }

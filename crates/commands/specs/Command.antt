@@ -3,15 +3,17 @@ use Rattle.std.specs.Prelude.{◌≡◌, ◌≢◌, ◌⊎◌, ℕ, List, [], �
 use Rattle.clap.specs.Words.{Kinds}
 use Rattle.clap.specs.declared.error.kind.ErrorKind.TheVariants as kinds
 use Rattle.command_line.specs.declared.words.Request.{Request}
-use Rattle.command_line.specs.declared.words.Request.TheVariants.{Tlp, Decode, Encode, Check, Draw, Upgrade, Step, Generate, Run}
+use Rattle.command_line.specs.declared.words.Request.TheVariants.{Tlp, Decode, Encode, Check, Search, Draw, Upgrade, Step, Chart, Generate, Run}
 use Rattle.counting.specs.Ranges.{IsCounting}
 use Rattle.line_engine.specs.Run.{IsRun}
 use Rattle.commands.specs.declared.command.Outcome.{Outcome}
 use Rattle.commands.specs.declared.command.Outcome.TheVariants as outcomes
+use Rattle.chart_engine.specs.Chart.{out_chart}
 use Rattle.draw_engine.specs.Draw.{out_draw}
 use Rattle.generate_engine.specs.Script.{IsWhole, IsPart}
 use Rattle.packet_engine.specs.Lines.{out_decode, out_encode}
 use Rattle.run_engine.specs.Text.{IsRan}
+use Rattle.search_engine.specs.Search.{IsSearched}
 use Rattle.tlp_engine.specs.Tlp.{out_tlp}
 use Rattle.trace_engine.specs.Check.{out_check}
 use Rattle.trace_engine.specs.Upgrade.{out_upgrade}
@@ -30,10 +32,12 @@ IsDone (Tlp base size block) input rest out out' exit = IsRun (out_tlp base size
 IsDone Decode input rest out out' exit = IsRun out_decode input rest out out' exit
 IsDone Encode input rest out out' exit = IsRun out_encode input rest out out' exit
 IsDone Check input rest out out' exit = IsRun out_check input rest out out' exit
+IsDone (Search limit) input rest out out' exit = IsSearched limit input rest out out' exit
 IsDone (Draw from to) input rest out out' exit = IsRun (out_draw (record { from = from; to = to })) input rest out out' exit
 IsDone Upgrade input rest out out' exit = IsRun out_upgrade input rest out out' exit
 IsDone (Step is_traced keeps_going echoes) input rest out out' exit =
     IsRun (out_step_with (record { is_traced = is_traced; keeps_going = keeps_going; echoes = echoes })) input rest out out' exit
+IsDone (Chart lane from to) input rest out out' exit = IsRun (out_chart (record { lane = lane; from = from; to = to })) input rest out out' exit
 IsDone (Generate storm) input rest out out' exit = (rest ≡ input) × IsGenerated storm out out' exit
 IsDone (Run counting is_told) input rest out out' exit = (rest ≡ input) × IsRan counting out out' exit
 

@@ -7,6 +7,7 @@ ghost use Rattle.command_line.specs.Options.{the_app, Asks};
 ghost use Rattle.commands.specs.Command.{IsBegun, EndsWrong, IsRight, IsRightRequest, AreRefused};
 ghost use Rattle.command_line.specs.declared.words.Request.{Request};
 
+use chart_engine::run_chart;
 use clap::error::ErrorKind;
 use command_line::{Request, RequestFault, options};
 use counting::Counting;
@@ -14,7 +15,9 @@ use draw_engine::run_draw;
 use generate_engine::run_generate;
 use history_picture::Window;
 use line_engine::EngineFault;
+use link_chart::ChartWindow;
 use packet_engine::{run_decode, run_encode_with_reasons};
+use search_engine::run_search_with_reasons;
 use std::alloc::Global;
 use std::convert::AsStr;
 use std::io;
@@ -130,6 +133,10 @@ fn begin<R: Read, W: Write, E: Write>(
             let run = run_check_with_reasons(alloc, reader, writer, errors);
             Outcome::Ended(ended(run, errors))
         }
+        Request::Search { limit } => {
+            let run = run_search_with_reasons(alloc, limit, reader, writer, errors);
+            Outcome::Ended(ended(run, errors))
+        }
         Request::Draw { from, to } => {
             let window = Window { from, to };
             Outcome::Ended(ended(run_draw(alloc, window, reader, writer), errors))
@@ -151,6 +158,10 @@ fn begin<R: Read, W: Write, E: Write>(
             let run = run_step_with_reasons(alloc, options, reader, writer, errors);
             Outcome::Ended(ended(run, errors))
         }
+        Request::Chart { lane, from, to } => {
+            let window = ChartWindow { lane, from, to };
+            Outcome::Ended(ended(run_chart(alloc, window, reader, writer), errors))
+        }
         Request::Generate { storm } => {
             Outcome::Ended(ended(run_generate(alloc, &storm, writer), errors))
         }
@@ -160,7 +171,7 @@ fn begin<R: Read, W: Write, E: Write>(
 
 /// Does what the words of the command line ask for, the program's name before them, but for a run, and gives
 /// the exit status: 0 done; 1 a fault, a flaw or a refusal was told, or reading, writing or memory failed; 2 the
-/// words ask for nothing. It waits for no thread, so what is said of it needs no return.
+/// words ask for nothing; 3 a search was given up. It waits for no thread, so what is said of it needs no return.
 pub fn on_one_thread<S: AsStr, R: Read, W: Write, E: Write>(
     alloc: Global,
     words: &[S],

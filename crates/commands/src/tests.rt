@@ -42,10 +42,23 @@ const SCRIPT: &str = "fabric 1 0 4096\nsubmit 1 add 40 07000000\n";
 
 const TRACE: &str = "pciex-trace 2\nmemory 0 4096 64\nsub 1 0 0 add 40 07000000\nhistory\nend\n";
 
+/// A log, the trace that is found for it, and a log that no history explains.
+const LOG: &str =
+    "pciex-log 1\nmemory 0 4096 64\nsub 1 0 add 40 07000000\nans 1 0 data 00000000\nend\n";
+
+const FOUND: &str =
+    "pciex-trace 2\nmemory 0 4096 64\nsub 1 0 0 add 40 07000000\nans 1 0 1 data 00000000\nhistory\nent 1 0 add 40 07000000\nend\n";
+
+const LIE: &str =
+    "pciex-log 1\nmemory 0 4096 64\nsub 1 0 add 40 07000000\nans 1 0 data 07000000\nend\n";
+
 /// Words, what standard input has, what is written, and the exit status.
 type Run = (&'static [&'static str], &'static str, &'static str, u8);
 
-static RUNS: [Run; 15] = [
+static RUNS: [Run; 18] = [
+    (&["pciex", "search"], LOG, FOUND, 0),
+    (&["pciex", "search", "--limit", "1"], LIE, "none 1\n", 1),
+    (&["pciex", "search"], "pciex-log 1\n", "fault 2 Line\n", 1),
     (
         &["pciex", "tlp"],
         "00000002 01000CFF 0000003C\n4C0000\n",
@@ -118,7 +131,7 @@ static RUNS: [Run; 15] = [
 
 /// Whether the error stream has nothing, or where a fault or a refusal was told its reason.
 fn is_silent(errors: &[u8], exit: u8) -> bool {
-    errors.is_empty() || exit == 1 && errors.starts_with(b"pciex: line ")
+    errors.is_empty() || exit == 1 && errors.starts_with(b"pciex: line")
 }
 
 /// Whether the words write this on standard output, with this exit status, and nothing on the error
@@ -151,7 +164,7 @@ type Given = (&'static [&'static str], &'static str);
 
 /// Words that give status 2, and which option is told with what is allowed, none where
 /// they have no form of the grammar.
-static WRONG: [Given; 37] = [
+static WRONG: [Given; 40] = [
     (&["pciex"], ""),
     (&["pciex", "tpl"], ""),
     (&["pciex", "tlp", "--bass", "0"], ""),
@@ -216,6 +229,10 @@ static WRONG: [Given; 37] = [
         &["pciex", "tlp", "--block", "65600"],
         "invalid value '65600' for --block: expected 64 or 128",
     ),
+    (
+        &["pciex", "search", "--limit", "0"],
+        "invalid value '0' for --limit: expected 1 to 1000000000",
+    ),
     (&["pciex", "draw", "--from"], ""),
     (
         &["pciex", "draw", "--from", "18446744073709551616"],
@@ -224,6 +241,14 @@ static WRONG: [Given; 37] = [
     (
         &["pciex", "draw", "--from", "3", "--to", "2"],
         "invalid value '2' for --to: expected 0 to 18446744073709551615, at least --from",
+    ),
+    (
+        &["pciex", "chart", "--lane", "up8"],
+        "invalid value 'up8' for --lane: expected up1 to up7, down1 to down7, in or out",
+    ),
+    (
+        &["pciex", "chart", "--to", "0"],
+        "invalid value '0' for --to: expected 0 to 18446744073709551615, at least --from",
     ),
     (&["pciex", "generate", "--seed", "1"], ""),
     (
@@ -339,7 +364,7 @@ fn wrong_words(rt: HostRuntime) {
 }
 
 /// Words that ask for a text, and how it begins.
-static TEXTS: [Given; 14] = [
+static TEXTS: [Given; 16] = [
     (
         &["pciex", "--help"],
         "A proved PCI Express memory device, fabric simulator and history checker\n\nUsage: pciex <COMMAND>\n\nCommands:\n  tlp       Answer request TLPs with their completions\n",
@@ -364,9 +389,17 @@ static TEXTS: [Given; 14] = [
         "Prints the bytes of packets",
     ),
     (&["pciex", "check", "--help"], "Checks whether a history"),
+    (
+        &["pciex", "search", "--help"],
+        "Searches for a history that explains",
+    ),
     (&["pciex", "draw", "--help"], "Draws a trace"),
     (&["pciex", "upgrade", "--help"], "Rewrites a trace"),
     (&["pciex", "step", "--help"], "Runs a script of events"),
+    (
+        &["pciex", "chart", "--help"],
+        "Draws what a script does on the links",
+    ),
     (
         &["pciex", "generate", "--help"],
         "Writes a random stress script",
@@ -441,16 +474,18 @@ impl Write for FailingWriter {
 }
 
 /// Each subcommand, and an input of it.
-static STREAMED: [Given; 9] = [
+static STREAMED: [Given; 11] = [
     (&["pciex", "tlp"], "4C0000\n"),
     (&["pciex", "decode"], "4C0000\n"),
     (&["pciex", "encode"], "nak FFF\n"),
     (&["pciex", "check"], TRACE),
+    (&["pciex", "search"], LOG),
     (&["pciex", "draw", "--from", "0", "--to=7"], TRACE),
     (&["pciex", "upgrade"], TRACE),
     (&["pciex", "step"], SCRIPT),
     (&["pciex", "step", "--echo", "--keep-going"], SCRIPT),
     (&["pciex", "step", "--trace"], SCRIPT),
+    (&["pciex", "chart", "--lane", "up1"], SCRIPT),
 ];
 
 /// Whether the error stream and the exit status tell of this.

@@ -3,7 +3,7 @@ use Rattle.std.specs.Prelude.{◌≡◌, ◌≤◌, ◌%◌, ℕ, Bool, false, L
 use Rattle.std.specs.Str.Parse.{IsNumeral, digits_value}
 use Rattle.option_values.specs.declared.options.Allowed.{Allowed}
 use Rattle.option_values.specs.declared.options.ValueOption.{ValueOption}
-use Rattle.option_values.specs.declared.options.ValueOption.TheVariants.{Base, Size, Block, Requesters, Each, Lose, Corrupt, Turns, From, To, Seed, Events}
+use Rattle.option_values.specs.declared.options.ValueOption.TheVariants.{Base, Size, Block, Requesters, Each, Lose, Corrupt, Turns, From, To, Seed, Events, Lane, Limit}
 
 abbrev pub name_of : ValueOption → List ℕ
 name_of Base = codes "base"
@@ -18,12 +18,14 @@ name_of From = codes "from"
 name_of To = codes "to"
 name_of Seed = codes "seed"
 name_of Events = codes "events"
+name_of Lane = codes "lane"
+name_of Limit = codes "limit"
 
 -- the multiples of a unit from one number to another
 abbrev pub multiples : ℕ → ℕ → ℕ → Allowed
 multiples unit least most = record { least = least; most = most; unit = unit }
 
--- the numbers that an option may have
+-- the numbers that an option may have; a lane has a name, and no number counts
 abbrev pub allowed_of : ValueOption → Allowed
 allowed_of Base = multiples 128 0 18446744073709551615
 allowed_of Size = multiples 128 128 1048576
@@ -37,6 +39,8 @@ allowed_of From = multiples 1 0 18446744073709551615
 allowed_of To = multiples 1 0 18446744073709551615
 allowed_of Seed = multiples 1 0 18446744073709551615
 allowed_of Events = multiples 1 0 1000000000
+allowed_of Lane = multiples 1 0 0
+allowed_of Limit = multiples 1 1 1000000000
 
 pub record IsAmong (a : Allowed) (n : ℕ) : Type 0 where
   pub least : a.least ≤ n

@@ -31,6 +31,10 @@ pub enum ValueOption {
     Seed,
     /// The number of events of a script.
     Events,
+    /// A lane, by its name.
+    Lane,
+    /// The most choices that a search looks at.
+    Limit,
 }
 
 /// The numbers that an option may have: the multiples of the unit from the least to the most.
@@ -94,6 +98,8 @@ impl ValueOption {
             ValueOption::To => "to",
             ValueOption::Seed => "seed",
             ValueOption::Events => "events",
+            ValueOption::Lane => "lane",
+            ValueOption::Limit => "limit",
         }
     }
 
@@ -121,8 +127,9 @@ impl ValueOption {
             ValueOption::Requesters => from_to(1, 7),
             ValueOption::Each => from_to(0, 100_000),
             ValueOption::Lose | ValueOption::Corrupt => from_to(0, 65_536),
-            ValueOption::Turns => from_to(1, 1_000_000_000),
+            ValueOption::Turns | ValueOption::Limit => from_to(1, 1_000_000_000),
             ValueOption::Events => from_to(0, 1_000_000_000),
+            ValueOption::Lane => from_to(0, 0),
             ValueOption::From | ValueOption::To | ValueOption::Seed => from_to(0, u64::MAX),
         }
     }

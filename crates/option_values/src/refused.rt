@@ -52,6 +52,7 @@ impl fmt::Display for RefusedValue<'_> {
                 "1 to 16 hexadecimal digits, a multiple of 80h; the memory ends at 2^64 or below"
             ),
             ValueOption::Block => f.write_str("64 or 128"),
+            ValueOption::Lane => f.write_str("up1 to up7, down1 to down7, in or out"),
             ValueOption::To => write!(f, "{allowed}, at least --from"),
             _ => write!(f, "{allowed}"),
         }

@@ -8,6 +8,7 @@ ghost use Rattle.trace_format.specs.Reading.{read_of};
 ghost use Rattle.caller_room.specs.declared.TheConstants.{SMALL_ROOM, NO_MEMORY, NO_FAULT};
 ghost use Rattle.caller_room.specs.Room.{filled};
 ghost use Rattle.byte_device.specs.Call.{call};
+ghost use Rattle.search_verdict.specs.Verdict.{IsSearched};
 ghost use Rattle.trace_verdict.specs.Verdict.{verdict};
 ghost use Rattle.packet_words.specs.Words.{in_words, in_bytes};
 
@@ -41,6 +42,22 @@ pub extern "C" fn pciex_raw_check(alloc: Global, text: &[u8], room: &mut [u8]) -
     ensures unexplained { (c : Claim) → read_of text.now ≡ Ok c → Explains c → (result ≡ 0) ⊎ (result ≡ SMALL_ROOM) ⊎ (result ≡ NO_MEMORY) }
 {
     trace_verdict::check_text(alloc, text, room)
+}
+
+/// A history that explains the log of the text, or that there is none.
+#[unsafe(no_mangle)]
+pub extern "C" fn pciex_raw_search(
+    alloc: Global,
+    text: &[u8],
+    limit: u64,
+    room: &mut [u8],
+    size: &mut usize,
+) -> u32
+    ensures answered { ¬ (result ≡ NO_MEMORY) → IsSearched limit text.now room.old room.new size.new result }
+    ensures unchanged_size { result ≡ NO_MEMORY → size.new ≡ size.old }
+    ensures unchanged { 2000 ≤ result → room.new ≡ room.old }
+{
+    search_verdict::search_text(alloc, text, limit, room, size)
 }
 
 /// The words of a TLP or a DLLP.

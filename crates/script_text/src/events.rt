@@ -15,6 +15,7 @@ fn end(rest: Option<&[u8]>) -> Option<()>
     if is_ended(rest) { Some(()) } else { None }
 }
 
+#[inline(never)]
 fn submit(rest: Option<&[u8]>) -> Option<Line>
     ensures { result ≡ option_map Line.Event (forms.submit_of (words_behind rest.entry)) }
 {

@@ -68,6 +68,7 @@ fn block(rest: Option<&[u8]>) -> Option<u16>
     if is_ended(rest) { Some(block) } else { None }
 }
 
+#[inline(never)]
 fn fabric(rest: Option<&[u8]>) -> Option<Line>
     ensures { result ≡ forms.fabric_of (words_behind rest.entry) }
 {

@@ -12,7 +12,7 @@ If a call raises, nothing has changed:
 - `MemoryError`: an allocation failed
 """
 
-from ._calls import Fault, Memory, Refused, answer, check, decode, encode, fault_name, version
+from ._calls import Fault, Memory, Refused, answer, check, decode, encode, fault_name, search, version
 from ._handles import Device, Fabric, Monitor
 from ._scoreboard import differ
 
@@ -29,5 +29,6 @@ __all__ = [
     "differ",
     "encode",
     "fault_name",
+    "search",
     "version",
 ]

@@ -1,9 +1,9 @@
 """The calls without a handle, and what they raise."""
 
-from ctypes import c_ubyte
+from ctypes import byref, c_size_t, c_ubyte
 from typing import Optional, Type
 
-from ._raw import LINE, NO_MEMORY, library, room
+from ._raw import LINE, NO_MEMORY, SMALL_ROOM, library, room
 
 _WRONG = {
     2001: "a block has 64 or 128 bytes",
@@ -132,6 +132,25 @@ def check(text: str) -> str:
     if code >= 2000:
         raise wrong(code)
     return room.text(code - 1000) if code else "ok"
+
+
+def search(text: str, limit: int = 1000000) -> str:
+    """What `pciex search` prints of the text of a log, or of a trace, whose history says nothing: a trace with a history
+    that explains what was seen; `none 3`, the place of a record up to which no history does; `limit 1000000` if it was
+    given up after so many choices; or `fault 3 Line` if the text can't be read. Lines end in line feeds, but for those of
+    one line."""
+    words, limit = text.encode(), number_of("limit", limit, 64)
+    size = 8 * len(words) + LINE
+    while True:
+        buffer, length = (c_ubyte * size)(), c_size_t()
+        code = library.search(words, len(words), limit, buffer, size, byref(length))
+        if code == SMALL_ROOM:
+            size = length.value
+        elif code >= 2000:
+            raise wrong(code)
+        else:
+            answer = bytes(buffer[: length.value]).decode()
+            return answer.rstrip("\n") if code else answer
 
 
 def decode(packet: bytes) -> str:

@@ -14,9 +14,11 @@ kind_of (requests.Tlp base size block) = kinds.Tlp
 kind_of requests.Decode = kinds.Decode
 kind_of requests.Encode = kinds.Encode
 kind_of requests.Check = kinds.Check
+kind_of (requests.Search limit) = kinds.Search
 kind_of (requests.Draw from to) = kinds.Draw
 kind_of requests.Upgrade = kinds.Upgrade
 kind_of (requests.Step is_traced keeps_going echoes) = kinds.Step
+kind_of (requests.Chart lane from to) = kinds.Chart
 kind_of (requests.Generate storm) = kinds.Generate
 kind_of (requests.Run counting is_told) = kinds.Run
 
@@ -25,9 +27,11 @@ named (requests.Tlp base size block) = refl
 named requests.Decode = refl
 named requests.Encode = refl
 named requests.Check = refl
+named (requests.Search limit) = refl
 named (requests.Draw from to) = refl
 named requests.Upgrade = refl
 named (requests.Step is_traced keeps_going echoes) = refl
+named (requests.Chart lane from to) = refl
 named (requests.Generate storm) = refl
 named (requests.Run counting is_told) = refl
 

@@ -3,6 +3,7 @@ use Rattle.line_engine.specs.declared.fault.EngineFault.{EngineFault}
 use Rattle.storm.specs.declared.Storm.{Storm}
 use Rattle.generate_engine.specs.Script.{IsWhole as IsWholeScript, IsPart as IsPartOfScript}
 use Rattle.line_engine.specs.Run.{Run, IsRun, IsWhole, IsPart as IsPartOf}
+use Rattle.search_engine.specs.Search.{IsWhole as IsWholeSearch, IsPart as IsPartOfSearch, IsSearched}
 use Rattle.commands.specs.Command.{IsGenerated}
 use Rattle.commands.proofs.command.begin.Goals as goal
 
@@ -19,9 +20,22 @@ generated : (s : Storm) (r : Result ℕ EngineFault) (out out' : Option (List �
 generated s (Ok status) out out' exit ok err is whole part = inl (ok ∙ is, whole)
 generated s (Err fault) out out' exit ok err is whole part = inr (err, part)
 
+-- a search, whole or stopped
+searched : (limit : ℕ) (r : Result ℕ EngineFault) (input rest out out' : Option (List ℕ)) (exit : ℕ)
+    → IfOk r (λ status. exit ≡ status) → OnErr r (exit ≡ 1)
+    → IfOk r (IsWholeSearch limit input rest out out') → OnErr r (IsPartOfSearch limit input rest out out') → IsSearched limit input rest out out' exit
+searched limit (Ok status) input rest out out' exit ok err whole part = inl (subst (λ (n : ℕ). IsWholeSearch limit input rest out out' n) (sym ok) whole)
+searched limit (Err fault) input rest out out' exit ok err whole part = inr (err, part)
+
 pub returns-in-Tlp : goal.returns-in-Tlp
 returns-in-Tlp g c = record {
   begun = rw c.in-Tlp.is (run_done _ c.run_tlp.result _ _ _ _ _ c.ended.ensures.ok c.ended.ensures.err c.run_tlp.ensures.ok c.run_tlp.ensures.err);
+  right = tt;
+}
+
+pub returns-in-Search : goal.returns-in-Search
+returns-in-Search g c = record {
+  begun = rw c.in-Search.is (searched c.in-Search.limit c.run_search_with_reasons-run.result _ _ _ _ _ c.ended-in-Search.ensures.ok c.ended-in-Search.ensures.err c.run_search_with_reasons-run.ensures.ok c.run_search_with_reasons-run.ensures.err);
   right = tt;
 }
 
@@ -34,6 +48,12 @@ returns-in-Draw g c = record {
 pub returns-in-Step : goal.returns-in-Step
 returns-in-Step g c = record {
   begun = rw c.in-Step.is (run_done _ c.run_step_with_reasons-run.result _ _ _ _ _ c.ended-in-Step.ensures.ok c.ended-in-Step.ensures.err c.run_step_with_reasons-run.ensures.ok c.run_step_with_reasons-run.ensures.err);
+  right = tt;
+}
+
+pub returns-in-Chart : goal.returns-in-Chart
+returns-in-Chart g c = record {
+  begun = rw c.in-Chart.is (run_done _ c.run_chart.result _ _ _ _ _ c.ended-in-Chart.ensures.ok c.ended-in-Chart.ensures.err c.run_chart.ensures.ok c.run_chart.ensures.err);
   right = tt;
 }
 

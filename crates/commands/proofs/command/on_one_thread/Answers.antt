@@ -5,7 +5,7 @@ use Rattle.clap.specs.Words.{HasKind, IsAmong, Kinds, Row, Text, kind_of, subcom
 use Rattle.clap.specs.declared.error.kind.ErrorKind.{ErrorKind}
 use Rattle.clap.specs.declared.error.kind.ErrorKind.TheVariants as kinds
 use Rattle.command_line.specs.declared.words.Request.{Request}
-use Rattle.command_line.specs.declared.words.Request.TheVariants.{Tlp, Decode, Encode, Check, Draw, Upgrade, Step, Generate, Run as run_words}
+use Rattle.command_line.specs.declared.words.Request.TheVariants.{Tlp, Decode, Encode, Check, Search, Draw, Upgrade, Step, Chart, Generate, Run as run_words}
 use Rattle.command_line.specs.declared.words.RequestFault.{RequestFault}
 use Rattle.command_line.specs.declared.words.RequestFault.TheVariants as faults
 use Rattle.command_line.specs.Faults.{WordsFault, RangeFault, IsMemoryFault}
@@ -14,6 +14,7 @@ use Rattle.line_engine.specs.Run.{Run, IsBeginning, IsPart as IsPartOf}
 use Rattle.counting.specs.declared.Counting.{Counting}
 use Rattle.run_report.specs.declared.halt.RunHalt.TheVariants as halts
 use Rattle.run_engine.specs.Text.{IsPart, halt_text}
+use Rattle.search_engine.specs.Search.{IsPart as IsPartOfSearch}
 use Rattle.commands.specs.Command.{IsBegun, IsDone, IsRightRequest, AskForNoText, AreRefused}
 use Rattle.commands.proofs.command.on_one_thread.Goals as goal
 
@@ -30,21 +31,21 @@ appends : (w : Option (List ℕ)) → Appends w w []
 appends None = tt
 appends (Some xs) = sym (append-nil xs)
 
+consumes-nothing : (u : Option (List ℕ)) → Consumes u u []
+consumes-nothing None = tt
+consumes-nothing (Some xs) = refl
+
 -- nothing read and nothing written
 nothing-done : {S : Type 0} (run : List ℕ → Run S) (u w : Option (List ℕ)) → IsPartOf run u u w w
 nothing-done run u w = record {
   read = [];
   done = [];
-  consumed = consumes u;
+  consumed = consumes-nothing u;
   written = appends w;
   begins = ((run []).text, refl);
   begins_all = all u;
 }
   where
-    consumes : (u : Option (List ℕ)) → Consumes u u []
-    consumes None = tt
-    consumes (Some xs) = refl
-
     all : (u : Option (List ℕ)) → IfSome u (λ input. IsBeginning [] (run input).text)
     all None = tt
     all (Some input) = ((run input).text, refl)
@@ -60,15 +61,21 @@ nothing-counted counting w = record {
   written = appends w;
 }
 
+-- nothing was read, and nothing written
+nothing-searched : (limit : ℕ) (u w : Option (List ℕ)) → IsPartOfSearch limit u u w w
+nothing-searched limit u w = record { read = []; consumed = consumes-nothing u; done = []; begins = inl refl; written = appends w }
+
 -- nothing was done, and status 1 tells it
 undone : (r : Request) (input out : Option (List ℕ)) (exit : ℕ) → exit ≡ 1 → IsDone r input input out out exit
 undone (Tlp base size block) input out exit e = inr (e, nothing-done _ input out)
 undone Decode input out exit e = inr (e, nothing-done _ input out)
 undone Encode input out exit e = inr (e, nothing-done _ input out)
 undone Check input out exit e = inr (e, nothing-done _ input out)
+undone (Search limit) input out exit e = inr (e, nothing-searched limit input out)
 undone Upgrade input out exit e = inr (e, nothing-done _ input out)
 undone (Draw from to) input out exit e = inr (e, nothing-done _ input out)
 undone (Step is_traced keeps_going echoes) input out exit e = inr (e, nothing-done _ input out)
+undone (Chart lane from to) input out exit e = inr (e, nothing-done _ input out)
 undone (Generate storm) input out exit e = (refl, inr (e, record { done = []; begins = inl refl; written = appends out }))
 undone (run_words counting is_told) input out exit e = (refl, inr (e, nothing-counted counting out))
 
