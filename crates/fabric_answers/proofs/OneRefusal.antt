@@ -1,5 +1,5 @@
 -- A refusal for another cause than memory is the answer.
-use Rattle.std.proofs.Common.{◌≡◌, ap, sym, subst, Result, Ok, Err, ℕ, List}
+use Rattle.std.proofs.Common.{◌≡◌, ap, sym, subst, Result, Ok, Err}
 use Rattle.lane_ends.specs.declared.packet.LaneRefusal.TheVariants.{NoCredits, WindowFull, Memory}
 use Rattle.lane_ends.specs.declared.packet.Arrival.TheVariants.{Answered, Gone}
 use Rattle.link_receiver.specs.declared.receiver.Reception.TheVariants.{Accept, Duplicate, NakNow, Quiet}

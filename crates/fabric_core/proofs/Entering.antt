@@ -1,5 +1,5 @@
 -- A packet that enters a lane, by the answer.
-use Rattle.std.proofs.Common.{ℕ, ◌≡◌, ◌<◌, ◌≤◌, ◌∙◌, Bool, true, false, List, [], ◌∷◌, ◌++◌, length, refl, sym, ap, subst, arith, Option, Some, None, Result, Ok, Err, if◌then◌else◌}
+use Rattle.std.proofs.Common.{ℕ, ◌≡◌, ◌<◌, ◌∙◌, Bool, true, false, List, [], ◌∷◌, ◌++◌, length, refl, sym, ap, subst, arith, Option, Some, None, Result, Ok, Err, if◌then◌else◌}
 use Rattle.std.specs.Prelude.{nat_lt, ◌&&◌, slice_get, option_map}
 use Rattle.std.proofs.lemmas.Bool.Decides.{nat_tests}
 use Rattle.std.proofs.lemmas.List.{length-append}
@@ -20,7 +20,7 @@ use Rattle.lane_ends.specs.Steps.{Incoming, Outgoing, may_enter, entered}
 use Rattle.fabric_core.specs.declared.fault.Refusal.{Refusal}
 use Rattle.fabric_core.specs.declared.fault.Refusal.TheVariants as refusals
 use Rattle.fabric_core.specs.ByParts.{Enters}
-use Rattle.fabric_core.specs.Answers.{Refuses, lane_grows, serving_grows, map_ok, enter_on, enter_if_any, item_at, act_on, ActFits}
+use Rattle.fabric_core.specs.Answers.{Refuses, serving_grows, map_ok, enter_on, enter_if_any, item_at, act_on, ActFits}
 
 both : {X : Type 0} (a b : Bool) (x y z : X) → (a && b) ≡ true → (if a then (if b then x else y) else z) ≡ x
 both true true x y z e = refl

@@ -1,19 +1,18 @@
 -- What an answer says of the parts that the event used.
-use Rattle.std.proofs.Common.{ℕ, zero, suc, ◌≡◌, Bool, true, false, List, [], ◌∷◌, length, refl, sym, ap, ap₂, subst, ◌∙◌, Option, Some, None, Result, Ok, Err, if◌then◌else◌, arith, ◌<◌}
+use Rattle.std.proofs.Common.{ℕ, zero, suc, ◌≡◌, Bool, true, false, List, [], ◌∷◌, length, refl, sym, ap, subst, ◌∙◌, Option, Some, None, Result, Ok, Err, if◌then◌else◌, arith, ◌<◌}
 use Rattle.std.specs.Prelude.{slice_get, slice_set, nat_lt, ◌&&◌, ◌==◌}
 use Rattle.std.proofs.lemmas.Bool.Decides.{nat_tests}
 use Rattle.tlp_core.specs.declared.operation.Op.{Op}
 use Rattle.tlp_core.specs.Packet.{Packet}
-use Rattle.completer_core.specs.Serving.{completion_to, after_serving}
-use Rattle.seq_memory.specs.History.{State}
+use Rattle.completer_core.specs.Serving.{completion_to}
 use Rattle.requester_core.specs.declared.requester.Answer.{Answer}
-use Rattle.requester_core.specs.Requesting.{Requesting, prepared, after_opened, finished, after_finish}
+use Rattle.requester_core.specs.Requesting.{Requesting, prepared, finished}
 use Rattle.fc_credit.specs.Needs.{need_of}
 use Rattle.fc_credit.specs.Credits.{gate_covers}
 use Rattle.vc_queue.specs.Queue.{Item, is_takeable}
 use Rattle.switch_core.specs.Routing.{route, port_of, is_requester}
 use Rattle.lane_ends.specs.declared.packet.LaneRefusal.TheVariants as no_room
-use Rattle.lane_ends.specs.Steps.{Ends, Incoming, Outgoing, may_enter, entered, transmitted, after_transmission, wire_after_transmit, delivered, dllp_of, all_but_first, after_deliver, dllp_seen, sender_after, after_timer, after_retraining, after_take}
+use Rattle.lane_ends.specs.Steps.{Ends, Incoming, Outgoing, entered, transmitted, delivered, dllp_of, dllp_seen, sender_after, after_timer, after_retraining}
 use Rattle.lane_core.specs.Calls.{after_call}
 use Rattle.fabric_laws.specs.Fabric.{Fabric}
 use Rattle.fabric_core.specs.declared.event.LaneName.{LaneName}
@@ -24,11 +23,11 @@ use Rattle.fabric_core.specs.declared.event.Seen.{Seen}
 use Rattle.fabric_core.specs.declared.event.Seen.TheVariants as seen
 use Rattle.fabric_core.specs.declared.fault.Refusal.{Refusal}
 use Rattle.fabric_core.specs.declared.fault.Refusal.TheVariants as refusals
-use Rattle.fabric_core.specs.Answers.{and_then, map_ok, some_or, map_err, transmit_on, deliver_on, deliver_dllp_on, timer_on, retrained_on, link_on, link_at, part_at, lane_at, with_lane, lane_to, or_no_port, enter_on, enter_if_any, item_at, submit_on, submit_at, destination_on, forward_on, forward_to, forward_at, act_on, serve_on, serve_at, collect_on, collect_at, SubmitFits, ForwardFits, ServeFits}
+use Rattle.fabric_core.specs.Answers.{and_then, map_ok, some_or, map_err, transmit_on, deliver_on, deliver_dllp_on, timer_on, retrained_on, link_on, link_at, part_at, or_no_port, enter_on, enter_if_any, item_at, submit_on, submit_at, destination_on, forward_on, forward_to, forward_at, act_on, serve_on, serve_at, collect_on, collect_at, SubmitFits, ForwardFits, ServeFits}
 use Rattle.fabric_core.proofs.Answering.{goes_inward}
 use Rattle.fabric_core.specs.ByParts.{Enters, EntersIfAny, IsAt, IsRoutedAs, IsSeen, Links, Submits, call_of}
 use Rattle.fabric_core.specs.Steps.{HasPart, Happens}
-use Rattle.fabric_core.specs.ByParts.{LinksIn, LinksAt, SubmitsAt, ForwardsUp, ForwardsOut, ServesAt, CollectsAt, HappensByParts}
+use Rattle.fabric_core.specs.ByParts.{LinksAt, SubmitsAt, ForwardsUp, ForwardsOut, ServesAt, CollectsAt, HappensByParts}
 use Rattle.fabric_core.specs.declared.event.Event.{Event}
 use Rattle.fabric_core.specs.declared.event.Event.TheVariants as events
 use Rattle.switch_core.specs.Forwarding.{Forwards}

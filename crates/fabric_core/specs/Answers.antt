@@ -1,15 +1,13 @@
 -- What each event does to a fabric. A function named `.._on` is one event over the parts that it uses: it returns the
 -- event's result and the parts after it, or the first refusal of its order. A function named `.._at` finds these parts in
--- the fabric and puts them back; `answer` is all events. They assume that memory can be allocated. `Refuses`, at the end,
--- adds the refusals of events for which it can't.
-use Rattle.std.specs.Prelude.{ℕ, ◌≡◌, ◌<◌, zero, suc, ◌==◌, nat_lt, List, [], ◌∷◌, length, if◌then◌else◌, Option, Some, None, Result, Ok, Err, slice_get, slice_set}
+-- the fabric and puts them back; `answer` is all events. They assume that memory can be allocated. `Refuses`
+-- adds the refusals of events for which it can't; `Happens` and `Refused`, at the end, are what all else speaks of.
+use Rattle.std.specs.Prelude.{ℕ, ◌≡◌, ◌<◌, zero, suc, ◌==◌, nat_lt, List, length, if◌then◌else◌, Option, Some, None, Result, Ok, Err, slice_get, slice_set}
 use Rattle.tlp_core.specs.declared.operation.Op.{Op}
 use Rattle.tlp_core.specs.Packet.{Packet}
 use Rattle.seq_memory.specs.History.{State}
 use Rattle.completer_core.specs.Serving.{completion_to, after_serving}
 use Rattle.requester_core.specs.declared.requester.Answer.{Answer}
-use Rattle.requester_core.specs.declared.fault.SubmitRefusal.{SubmitRefusal}
-use Rattle.requester_core.specs.declared.fault.CompletionFault.{CompletionFault}
 use Rattle.tlp_core.specs.Operation.{op_of}
 use Rattle.tlp_core.specs.Layout.{Spells, canonical}
 use Rattle.requester_core.specs.Requesting.{Requesting, IsSound, prepared, after_opened, finished, after_finish}
@@ -17,10 +15,8 @@ use Rattle.dllp_core.specs.declared.packet.Dllp.{Dllp}
 use Rattle.fc_credit.specs.Needs.{need_of}
 use Rattle.fc_credit.specs.Credits.{gate_covers}
 use Rattle.vc_queue.specs.Queue.{Item, is_takeable}
-use Rattle.switch_core.specs.declared.fault.RouteFault.{RouteFault}
 use Rattle.switch_core.specs.declared.fault.RouteFault.TheVariants.{NoPort}
 use Rattle.switch_core.specs.Routing.{route}
-use Rattle.replay_sender.specs.declared.fault.AckFault.{AckFault}
 use Rattle.link_receiver.specs.declared.receiver.Reception.TheVariants.{Accept}
 use Rattle.lane_ends.specs.declared.packet.Arrival.{Arrival}
 use Rattle.lane_ends.specs.declared.packet.Arrival.TheVariants.{Answered}
