@@ -1,3 +1,4 @@
+pub mod Soon
 pub mod Parts
 pub mod Standing
 pub mod Waiting
