@@ -2,7 +2,7 @@ pub mod Lists
 pub mod Parts
 pub mod Lanes
 pub mod OneEvent
-pub mod Duties
+pub mod Owing
 pub mod Totals
 pub mod Moves
 pub mod Records

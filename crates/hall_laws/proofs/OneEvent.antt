@@ -137,9 +137,9 @@ goes event what t t' j v held is left own step = record {
 
 -- ---- refusals
 
-pub refuses_mapped : {A B : Type 0} (grows : B → Refusal → Type 0) (f : A → B) (a : Result A Refusal) (r : Refusal) → Refuses (λ x. grows (f x)) a r → Refuses grows (map_ok a f) r
-refuses_mapped grows f (Ok x) r h = h
-refuses_mapped grows f (Err x) r h = h
+pub refuses_mapped : {A B : Type 0} (p : A → Refusal → Type 0) (q : B → Refusal → Type 0) (f : A → B) (a : Result A Refusal) (r : Refusal) → ((x : A) → p x r → q (f x) r) → Refuses p a r → Refuses q (map_ok a f) r
+refuses_mapped p q f (Ok x) r same h = same x h
+refuses_mapped p q f (Err x) r same h = h
 
 pub refuses_err : {A : Type 0} (grows : A → Refusal → Type 0) (a : Result A Refusal) (r : Refusal) → a ≡ Err r → Refuses grows a r
 refuses_err grows a r is = subst (λ (z : Result _ Refusal). Refuses grows z r) (sym is) refl

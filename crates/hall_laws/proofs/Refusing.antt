@@ -1,5 +1,6 @@
 -- A refusal by the parts that are held is one by the fabric.
-use Rattle.std.proofs.Common.{◌≡◌, ◌⊎◌, ℕ, zero, suc, ◌+◌, ◌<◌, ◌≤◌, List, [], ◌∷◌, Ok, Err, Result, refl, sym, ap, ◌∙◌, inl, inr, ⊎_elim, subst, arith}
+use Rattle.std.proofs.Common.{◌≡◌, ◌⊎◌, ℕ, zero, suc, ◌+◌, ◌<◌, ◌≤◌, List, [], ◌∷◌, Ok, Err, Result, None, refl, sym, ap, ◌∙◌, inl, inr, ⊎_elim, subst, arith}
+use Rattle.std.specs.Prelude.{slice_get}
 use Rattle.std.proofs.lemmas.Option.{slice_get_past}
 use mathlib.Core.Option.{some}
 use lib.ListN.{get_elem?}
@@ -19,7 +20,7 @@ use Rattle.fabric_core.specs.declared.event.LinkEvent.TheVariants as links
 use Rattle.fabric_core.specs.declared.event.Seen.{Seen}
 use Rattle.fabric_core.specs.declared.fault.Refusal.{Refusal}
 use Rattle.fabric_core.specs.declared.fault.Refusal.TheVariants as refusals
-use Rattle.fabric_core.specs.Answers.{Refuses, map_ok, lane_grows, arrival_grows, event_grows, transmit_on, deliver_on, send_dllp_on, deliver_dllp_on, timer_on, retrained_on, submit_on, destination_on, forward_on, serve_on, collect_on, link_on, link_at, port_from, lane_to, part_at, lane_at}
+use Rattle.fabric_core.specs.Answers.{Refuses, map_ok, lane_grows, arrival_grows, serving_grows, event_grows, transmit_on, deliver_on, send_dllp_on, deliver_dllp_on, timer_on, retrained_on, submit_on, destination_on, forward_on, serve_on, collect_on, link_on, link_at, port_from, lane_to, part_at, lane_at}
 use Rattle.fabric_core.specs.Steps.{HasLane, HasPart}
 use Rattle.hall_laws.specs.Soon.{Refused}
 use Rattle.hall_laws.specs.declared.part.PartValue.{PartValue}
@@ -71,11 +72,8 @@ module _ (t : Token) (ts : List Token) (held : Values) (k : KnownHolding t ts he
     link : {A : Type 0} (event : Event) (call : LinkEvent) (r : Refusal) (grows : A → Refusal → Type 0) (a : Result A Refusal) (g : A → Seen × Ends)
         → ((f : Fabric) → Refuses (event_grows f) (link_at f name call) r → Refused f event r) → link_on lane.0 call ≡ map_ok a g
         → ((x : A) → grows x r → event_grows whole ((g x).0, with_lane whole name (g x).1) r) → Refuses grows a r → MayRefuse t.knows event r
-    link event call r grows a g is on same why = may event r (is whole (rw (lane_is whole name lane.0 lane.1, on) (refuses_mapped (event_grows whole) _ (map_ok a g) r (refuses_mapped _ g a r (more a why)))))
-      where
-        more : (z : Result A Refusal) → Refuses grows z r → Refuses (λ x. event_grows whole ((g x).0, with_lane whole name (g x).1)) z r
-        more (Ok x) h = same x h
-        more (Err x) h = h
+    link event call r grows a g is on same why = may event r (is whole (rw (lane_is whole name lane.0 lane.1, on)
+        (refuses_mapped (λ x. event_grows whole (x.0, with_lane whole name x.1)) (event_grows whole) _ (map_ok a g) r (λ x h. h) (refuses_mapped grows (λ x. event_grows whole (x.0, with_lane whole name x.1)) g a r same why))))
 
 -- ---- calls of a link
 
@@ -108,10 +106,9 @@ wire_has_nothing t ts name w fate named k none =
 
 pub send_dllp_refused : SendDllpIsRefused
 send_dllp_refused t ts name v b kind r named k why =
-    let h : Values = (lane_slot name + 2, Back b) ∷ ((lane_slot name + 3, Receiver v) ∷ []) in let a = there t ts h k in
+    let h : Values = (lane_slot name + 2, Back b) ∷ ((lane_slot name + 3, Receiver v) ∷ []) in
     let e : Ends = (lane t ts h k name named).0 in
-    link t ts h k name named (events.SendDllp name kind) (links.SendDllp kind) r lane_grows (send_dllp_on e.receiver e.back kind) _ (λ f x. x) refl (λ x h. h)
-    (rw (receiver t ts h k name named v a.1.0, back t ts h k name named b a.0) why)
+    link t ts h k name named (events.SendDllp name kind) (links.SendDllp kind) r lane_grows (send_dllp_on e.receiver e.back kind) _ (λ f x. x) refl (λ x h. h) why
 
 pub deliver_dllp_refused : DeliverDllpIsRefused
 deliver_dllp_refused t ts name b s fate r named k why =
@@ -165,7 +162,7 @@ kept t ts name next from place to v s r named known is_from is_next k routed why
     let h : Values = (lane_slot next, Sender s) ∷ ((lane_slot name + 3, Receiver v) ∷ []) in let b = there t ts h k in
     let e = lane t ts h k name named in let n = lane t ts h k next known in
     may t ts h k (events.Forward name place) r
-    (rw (is_from, lane_is (whole t ts h k) name e.0 e.1, receiver t ts h k name named v b.1.0, routed, is_next, lane_is (whole t ts h k) next n.0 n.1, sender t ts h k next known s b.0) (refuses_mapped (event_grows (whole t ts h k)) _ (forward_on v place s) r why))
+    (rw (is_from, lane_is (whole t ts h k) name e.0 e.1, receiver t ts h k name named v b.1.0, routed, is_next, lane_is (whole t ts h k) next n.0 n.1, sender t ts h k next known s b.0) (refuses_mapped lane_grows (event_grows (whole t ts h k)) _ (forward_on v place s) r (λ x h. h) why))
 
 pub up_kept : UpIsKept
 up_kept t ts port place to v s r named k routed why =
@@ -177,28 +174,38 @@ out_kept t ts place zero v s r named k routed why = absurd (let z = named.0 in o
 out_kept t ts place (suc i) v s r named k routed why = kept t ts lanes.Outward (lanes.Down (suc i)) 0 place (suc i) v s r tt named refl refl k routed why
 
 -- its port has no lane
+no_lane : (f : Fabric) (place i : ℕ) (v : Incoming) → f.outward.receiver ≡ v → destination_on v place 0 ≡ Ok (suc i) → slice_get f.down i ≡ None → Refused f (events.Forward lanes.Outward place) (refusals.Route NoPort)
+no_lane f place i v is routed past = let routed' : destination_on f.outward.receiver place 0 ≡ Ok (suc i) = subst (λ (z : Incoming). destination_on z place 0 ≡ Ok (suc i)) (sym is) routed in rw (routed', past) refl
+
 pub out_no_lane : OutHasNoLane
 out_no_lane t ts place zero v k routed none = absurd (goes_outward v place routed)
 out_no_lane t ts place (suc i) v k routed none =
     let h : Values = (8, Receiver v) ∷ [] in
     let f : Fabric = whole t ts h k in
-    let is : f.outward.receiver ≡ v = is_receiver f.outward.receiver v (there t ts h k).0 in
     let many = k.0.2.0.1.config.requesters in let down = k.0.1.sound.lanes.down in
     let past = ⊎_elim (λ (z : suc i ≡ 0). absurd cc) (λ (z : t.knows.config.requesters < suc i). slice_get_past f.down i (omega (arith, z, many, down))) none in
-    may t ts h k (events.Forward lanes.Outward place) (refusals.Route NoPort) (rw (is, routed, past) refl)
+    may t ts h k (events.Forward lanes.Outward place) (refusals.Route NoPort) (no_lane f place i v (is_receiver f.outward.receiver v (there t ts h k).0) routed past)
 
 pub serve_refused : ServeIsRefused
 serve_refused t ts place v m s r k why =
     let h : Values = (5, Sender s) ∷ ((0, Memory m) ∷ ((4, Receiver v) ∷ [])) in let b = there t ts h k in
     let f : Fabric = whole t ts h k in
-    may t ts h k (events.Serve place) r
-    (refuses_mapped (event_grows f) _ (serve_on f.inward.receiver place f.memory f.outward.sender) r (rw (is_receiver f.inward.receiver v b.1.1.0, is_memory f.memory m b.1.0, is_sender f.outward.sender s b.0) why))
+    let why' : Refuses (λ x. serving_grows f.outward.sender x.3) (serve_on f.inward.receiver place f.memory f.outward.sender) r = serving f (is_receiver f.inward.receiver v b.1.1.0) (is_memory f.memory m b.1.0) (is_sender f.outward.sender s b.0) in
+    may t ts h k (events.Serve place) r (refuses_mapped (λ x. serving_grows f.outward.sender x.3) (event_grows f) _ (serve_on f.inward.receiver place f.memory f.outward.sender) r (λ x h. h) why')
+  where
+    serving : (f : Fabric) → f.inward.receiver ≡ v → f.memory ≡ m → f.outward.sender ≡ s → Refuses (λ x. serving_grows f.outward.sender x.3) (serve_on f.inward.receiver place f.memory f.outward.sender) r
+    serving f is_v is_m is_s =
+        subst (λ (z : Incoming). Refuses (λ x. serving_grows f.outward.sender x.3) (serve_on z place f.memory f.outward.sender) r) (sym is_v)
+        (subst (λ (z : State). Refuses (λ x. serving_grows f.outward.sender x.3) (serve_on v place z f.outward.sender) r) (sym is_m)
+        (subst (λ (z : Outgoing). Refuses (λ x. serving_grows z x.3) (serve_on v place m z) r) (sym is_s) why))
 
 pub in_has_nothing : InHasNothing
 in_has_nothing t ts place v k none =
     let h : Values = (4, Receiver v) ∷ [] in
     let f : Fabric = whole t ts h k in
-    may t ts h k (events.Serve place) refusals.NotTakeable (rw (is_receiver f.inward.receiver v (there t ts h k).0, none f.memory f.outward.sender) refl)
+    let none' : serve_on f.inward.receiver place f.memory f.outward.sender ≡ Err refusals.NotTakeable =
+    subst (λ (z : Incoming). serve_on z place f.memory f.outward.sender ≡ Err refusals.NotTakeable) (sym (is_receiver f.inward.receiver v (there t ts h k).0)) (none f.memory f.outward.sender) in
+    may t ts h k (events.Serve place) refusals.NotTakeable (refuses_mapped nothing (event_grows f) _ (serve_on f.inward.receiver place f.memory f.outward.sender) refusals.NotTakeable (λ x h. absurd h) (refuses_err nothing (serve_on f.inward.receiver place f.memory f.outward.sender) refusals.NotTakeable none'))
 
 -- ---- a requester's calls
 
@@ -213,7 +220,7 @@ submit_refused t ts port op m q s r at k why =
     let named : KnowsLane t name = ((let p = at.0 in omega arith), at.1) in
     let e = lane t ts h k name named in
     may t ts h k (events.Submit port op) r
-    (rw (asks t ts port at q h k b.1.0, lane_is f name e.0 e.1, sender t ts h k name named s b.0) (refuses_mapped (event_grows f) _ (submit_on q s op) r why))
+    (rw (asks t ts port at q h k b.1.0, lane_is f name e.0 e.1, sender t ts h k name named s b.0) (refuses_mapped lane_grows (event_grows f) _ (submit_on q s op) r (λ x h. h) why))
 
 pub collect_refused : CollectIsRefused
 collect_refused t ts port m q v r at k why =

@@ -1,5 +1,5 @@
 use Rattle.hall_laws.proofs.Answered.{collect_tells, sees_tells}
-use Rattle.hall_laws.proofs.Duties.{collect_goes}
+use Rattle.hall_laws.proofs.Owing.{collect_goes}
 use Rattle.hall_laws.proofs.Refusing.{collect_refused}
 use Rattle.hall_laws.proofs.duties.collecting.Goals as goal
 

@@ -1,5 +1,5 @@
 use Rattle.hall_laws.proofs.Answered.{event_shows}
-use Rattle.hall_laws.proofs.Duties.{deliver_goes}
+use Rattle.hall_laws.proofs.Owing.{deliver_goes}
 use Rattle.hall_laws.proofs.Refusing.{deliver_refused, wire_has_nothing}
 use Rattle.hall_laws.proofs.duties.delivering.Goals as goal
 

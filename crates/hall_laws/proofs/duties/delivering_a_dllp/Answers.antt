@@ -1,5 +1,5 @@
 use Rattle.hall_laws.proofs.Answered.{event_shows}
-use Rattle.hall_laws.proofs.Duties.{deliver_dllp_goes}
+use Rattle.hall_laws.proofs.Owing.{deliver_dllp_goes}
 use Rattle.hall_laws.proofs.Refusing.{deliver_dllp_refused, back_has_nothing}
 use Rattle.hall_laws.proofs.duties.delivering_a_dllp.Goals as goal
 

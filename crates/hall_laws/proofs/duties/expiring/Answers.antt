@@ -1,5 +1,5 @@
 use Rattle.hall_laws.proofs.Answered.{event_shows}
-use Rattle.hall_laws.proofs.Duties.{timer_goes}
+use Rattle.hall_laws.proofs.Owing.{timer_goes}
 use Rattle.hall_laws.proofs.Refusing.{timer_refused}
 use Rattle.hall_laws.proofs.duties.expiring.Goals as goal
 

@@ -1,5 +1,5 @@
 use Rattle.hall_laws.proofs.Answered.{event_shows}
-use Rattle.hall_laws.proofs.Duties.{out_goes}
+use Rattle.hall_laws.proofs.Owing.{out_goes}
 use Rattle.hall_laws.proofs.Refusing.{out_no_way, out_no_lane, out_kept}
 use Rattle.hall_laws.proofs.duties.forwarding_out.Goals as goal
 

@@ -1,5 +1,5 @@
 use Rattle.hall_laws.proofs.Answered.{event_shows}
-use Rattle.hall_laws.proofs.Duties.{up_goes}
+use Rattle.hall_laws.proofs.Owing.{up_goes}
 use Rattle.hall_laws.proofs.Refusing.{up_no_way, up_kept}
 use Rattle.hall_laws.proofs.duties.forwarding_up.Goals as goal
 

@@ -1,5 +1,5 @@
 use Rattle.hall_laws.proofs.Answered.{event_shows}
-use Rattle.hall_laws.proofs.Duties.{retrained_goes}
+use Rattle.hall_laws.proofs.Owing.{retrained_goes}
 use Rattle.hall_laws.proofs.Refusing.{retrained_refused}
 use Rattle.hall_laws.proofs.duties.retraining.Goals as goal
 

@@ -1,5 +1,5 @@
 use Rattle.hall_laws.proofs.Answered.{event_shows}
-use Rattle.hall_laws.proofs.Duties.{send_dllp_goes}
+use Rattle.hall_laws.proofs.Owing.{send_dllp_goes}
 use Rattle.hall_laws.proofs.Refusing.{send_dllp_refused}
 use Rattle.hall_laws.proofs.duties.sending_a_dllp.Goals as goal
 

@@ -1,5 +1,5 @@
 use Rattle.hall_laws.proofs.Answered.{event_shows}
-use Rattle.hall_laws.proofs.Duties.{serve_goes}
+use Rattle.hall_laws.proofs.Owing.{serve_goes}
 use Rattle.hall_laws.proofs.Refusing.{serve_refused, in_has_nothing}
 use Rattle.hall_laws.proofs.duties.serving.Goals as goal
 

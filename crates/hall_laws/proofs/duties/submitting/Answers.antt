@@ -1,5 +1,5 @@
 use Rattle.hall_laws.proofs.Answered.{submit_tells}
-use Rattle.hall_laws.proofs.Duties.{submit_goes}
+use Rattle.hall_laws.proofs.Owing.{submit_goes}
 use Rattle.hall_laws.proofs.Refusing.{submit_refused}
 use Rattle.hall_laws.proofs.duties.submitting.Goals as goal
 

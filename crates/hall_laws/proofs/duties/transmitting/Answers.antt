@@ -1,5 +1,5 @@
 use Rattle.hall_laws.proofs.Answered.{event_shows}
-use Rattle.hall_laws.proofs.Duties.{transmit_goes}
+use Rattle.hall_laws.proofs.Owing.{transmit_goes}
 use Rattle.hall_laws.proofs.Refusing.{transmit_refused, sender_has_nothing}
 use Rattle.hall_laws.proofs.duties.transmitting.Goals as goal
 

@@ -3,6 +3,7 @@ use Rattle.std.proofs.Common.{◌≡◌, ◌≢◌, ℕ, zero, suc, ◌+◌, ◌
 use Rattle.std.specs.Prelude.{slice_get}
 use mathlib.Core.Option.{some}
 use lib.ListN.{get_elem?}
+use Rattle.dllp_core.specs.declared.packet.Dllp.{Dllp}
 use Rattle.seq_memory.specs.declared.Entry.{Entry}
 use Rattle.seq_memory.specs.History.{State}
 use Rattle.requester_core.specs.Requesting.{Requesting}
@@ -18,7 +19,8 @@ use Rattle.fabric_core.specs.declared.event.LinkEvent.{LinkEvent}
 use Rattle.fabric_core.specs.declared.event.LinkEvent.TheVariants as links
 use Rattle.fabric_core.specs.declared.event.Seen.{Seen}
 use Rattle.fabric_core.specs.declared.event.Seen.TheVariants as seen
-use Rattle.fabric_core.specs.Answers.{link_on, link_at, destination_on, forward_on, port_from, part_at, lane_at, lane_to, with_requester}
+use Rattle.fabric_core.specs.declared.fault.Refusal.{Refusal}
+use Rattle.fabric_core.specs.Answers.{map_ok, send_dllp_on, link_on, link_at, destination_on, forward_on, port_from, part_at, lane_at, lane_to, with_requester}
 use Rattle.fabric_core.specs.Kept.{records_of}
 use Rattle.fabric_core.specs.Steps.{HasLane, HasPart}
 use Rattle.hall_laws.specs.Soon.{Happens, SubmitFits, ForwardFits, ServeFits}
@@ -98,7 +100,13 @@ deliver_goes t name w w' r r' fate x named held did =
 pub send_dllp_goes : SendDllpOwes
 send_dllp_goes t name r r' b b' kind d named held did =
     link_of_two (events.SendDllp name kind) name (links.SendDllp kind) (seen.SentDllp d) (record { happens = λ f f' x. (x, tt); silent = λ n. refl; same = λ h w. refl }) t named 3 2 (Receiver r) (Receiver r') (Back b) (Back b') (omega arith) (omega arith) (λ z. omega arith) held
-    (λ e x y. (record e { back = b' }, record e { back = b'; receiver = r' }, rw (is_receiver e.receiver r x, is_back e.back b y, did) refl, refl, refl))
+    (λ e x y. let did' : send_dllp_on e.receiver e.back kind ≡ Ok (d, r', b') = rw (is_receiver e.receiver r x, is_back e.back b y) did in (
+      record e { back = b' },
+      record e { back = b'; receiver = r' },
+      ap (λ (a : Result (Dllp × Incoming × List Dllp) Refusal). map_ok a (λ z. (seen.SentDllp z.0, record e { receiver = z.1; back = z.2 }))) did',
+      refl,
+      refl,
+    ))
 
 pub deliver_dllp_goes : DeliverDllpOwes
 deliver_dllp_goes t name b b' s s' fate x named held did =
