@@ -107,8 +107,8 @@ wire_has_nothing t ts name w fate named k none =
 pub send_dllp_refused : SendDllpIsRefused
 send_dllp_refused t ts name v b kind r named k why =
     let h : Values = (lane_slot name + 2, Back b) ∷ ((lane_slot name + 3, Receiver v) ∷ []) in
-    let e : Ends = (lane t ts h k name named).0 in
-    link t ts h k name named (events.SendDllp name kind) (links.SendDllp kind) r lane_grows (send_dllp_on e.receiver e.back kind) _ (λ f x. x) refl (λ x h. h) why
+    let e = lane t ts h k name named in
+    may t ts h k (events.SendDllp name kind) r (rw (lane_is (whole t ts h k) name e.0 e.1) why)
 
 pub deliver_dllp_refused : DeliverDllpIsRefused
 deliver_dllp_refused t ts name b s fate r named k why =
