@@ -1,5 +1,5 @@
 -- Events that are tried, once and until they are refused.
-use Rattle.std.proofs.Common.{◌≡◌, ◌∙◌, ℕ, zero, suc, ◌+◌, ◌-◌, ◌≤◌, ◌<◌, Bool, true, false, if◌then◌else◌, List, [], ◌∷◌, length, take, get_or, refl, sym, ap, Ok, Err, arith}
+use Rattle.std.proofs.Common.{◌≡◌, ◌∙◌, ℕ, zero, suc, ◌+◌, ◌-◌, ◌≤◌, ◌<◌, Bool, true, false, if◌then◌else◌, List, [], ◌∷◌, length, take, get_or, refl, sym, ap, Result, Ok, Err, arith}
 use Rattle.std.specs.Prelude.{is_ok, ◌||◌, fold}
 use Rattle.std.proofs.lemmas.List.Sums.{fold_more}
 use Rattle.fabric_laws.specs.Fabric.{Fabric}
@@ -7,7 +7,7 @@ use Rattle.fabric_core.specs.declared.event.Event.{Event}
 use Rattle.fabric_core.specs.declared.event.Seen.{Seen}
 use Rattle.fabric_core.specs.declared.event.LaneName.{LaneName}
 use Rattle.fabric_core.specs.declared.fault.Refusal.{Refusal}
-use Rattle.fabric_answers.specs.Answers.{Answered, answer}
+use Rattle.fabric_core.specs.Answers.{answer}
 use Rattle.settling.specs.Rounds.{is_move, all_lanes}
 use Rattle.link_chart.specs.ChartView.{ChartView, charted}
 use Rattle.chart_engine.specs.declared.turns.Attempt.{Attempt}
@@ -31,7 +31,7 @@ pub refused_goes : (f : Fabric) (c : ChartView) (b : Bool) (e : Event) (r : Refu
 unfolding goes
 refused_goes f c b e r h = ap is_ok h
 
-by_answer : (line : ℕ) (t : Trail) (e : Event) (a : Answered Fabric) → is_ok a ≡ false → answered line t e a ≡ t
+by_answer : (line : ℕ) (t : Trail) (e : Event) (a : Result (Seen × Fabric) Refusal) → is_ok a ≡ false → answered line t e a ≡ t
 by_answer line t e (Ok p) h = absurd cc
 by_answer line t e (Err r) h = refl
 

@@ -8,7 +8,7 @@ use Rattle.fabric_core.specs.declared.config.ConfigFault.{ConfigFault}
 use Rattle.fabric_core.specs.declared.event.Event.{Event}
 use Rattle.fabric_core.specs.declared.fault.Refusal.{Refusal}
 use Rattle.fabric_core.specs.Config.{fault_name}
-use Rattle.fabric_answers.specs.Answers.{answer}
+use Rattle.fabric_core.specs.Answers.{answer}
 use Rattle.fabric_answers.specs.New.{new_fabric, config_fault}
 use Rattle.script_text.specs.Names.{refusal_text}
 use Rattle.link_chart.specs.ChartView.{ChartView, new_chart}

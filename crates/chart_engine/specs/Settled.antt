@@ -8,7 +8,9 @@ use Rattle.fabric_core.specs.declared.event.Event.{Event}
 use Rattle.fabric_core.specs.declared.event.Event.TheVariants as events
 use Rattle.fabric_core.specs.declared.event.LaneName.{LaneName}
 use Rattle.fabric_core.specs.declared.event.LaneName.TheVariants as lanes
-use Rattle.fabric_answers.specs.Answers.{Answered, answer}
+use Rattle.fabric_core.specs.declared.event.Seen.{Seen}
+use Rattle.fabric_core.specs.declared.fault.Refusal.{Refusal}
+use Rattle.fabric_core.specs.Answers.{answer}
 use Rattle.settling.specs.Rounds.{is_move, all_lanes}
 use Rattle.link_chart.specs.ChartView.{ChartView, charted}
 use Rattle.chart_engine.specs.declared.turns.Attempt.{Attempt}
@@ -24,7 +26,7 @@ abbrev pub at : Fabric → ChartView → Bool → Trail
 at f chart moved = record { fabric = f; chart = chart; moved = moved }
 
 -- an event that happens is one step of the fabric and is charted as of the line, and one that is refused changes nothing
-abbrev pub answered : ℕ → Trail → Event → Answered Fabric → Trail
+abbrev pub answered : ℕ → Trail → Event → Result (Seen × Fabric) Refusal → Trail
 answered line t event (Ok p) = at p.1 (charted t.chart line event p.0) (t.moved || is_move event)
 answered line t event (Err r) = t
 

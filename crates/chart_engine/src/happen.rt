@@ -1,6 +1,7 @@
 //! A fabric and its events, each with its one answer.
 ghost use Rattle.std.specs.Prelude.{◌≡◌, false, None, Some, Ok, Err, IfOk, IfErr, OnOk, OnErr};
-ghost use Rattle.fabric_answers.specs.Answers.{answer, IsTold};
+ghost use Rattle.fabric_core.specs.Answers.{answer};
+ghost use Rattle.fabric_answers.specs.Told.{IsTold};
 ghost use Rattle.fabric_answers.specs.New.{new_fabric, config_fault};
 ghost use Rattle.settling.specs.Rounds as rounds;
 
@@ -36,7 +37,6 @@ pub(crate) fn happen(fabric: &mut Fabric, event: &Event) -> Result<Seen, Refusal
     ensures err { OnErr result (fabric.new ≡ fabric.old) }
 {
     each_event_has_one_answer();
-    fabric.sound();
     fabric.step(event)
 }
 

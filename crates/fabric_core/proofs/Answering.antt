@@ -1,11 +1,9 @@
 -- Events over parts, as the answer of the fabric that has them.
-use Rattle.std.proofs.Common.{ℕ, zero, suc, ◌≡◌, ◌<◌, ◌⊎◌, inl, inr, Bool, true, false, if◌then◌else◌, List, refl, sym, ap, subst, arith, Option, Some, None, Result, Ok, Err, IfOk, IfErr}
-use Rattle.std.specs.Prelude.{length, slice_get, slice_set, ◌&&◌, ◌==◌, not}
+use Rattle.std.proofs.Common.{ℕ, suc, ◌≡◌, Bool, true, false, if◌then◌else◌, refl, subst, arith, Some, Result, Ok, Err, IfErr}
+use Rattle.std.specs.Prelude.{slice_get, slice_set, ◌&&◌, ◌==◌, not}
 use Rattle.std.proofs.lemmas.Bool.Decides.{nat_tests}
 use Rattle.tlp_core.specs.Packet.{Packet}
-use Rattle.std.proofs.lemmas.Option.{slice_get_past}
 use Rattle.tlp_core.specs.declared.operation.Op.{Op}
-use Rattle.requester_core.specs.declared.requester.Answer.{Answer}
 use Rattle.requester_core.specs.Requesting.{Requesting}
 use Rattle.lane_ends.specs.Steps.{Ends, Incoming, Outgoing}
 use Rattle.tlp_core.specs.Operation.{is_completion}
@@ -13,63 +11,25 @@ use Rattle.vc_queue.specs.Queue.{Item}
 use Rattle.switch_core.specs.Routing.{route, port_of, is_requester}
 use Rattle.switch_core.specs.declared.fault.RouteFault.TheVariants.{NoPort}
 use Rattle.fabric_laws.specs.Fabric.{Fabric}
-use Rattle.fabric_core.specs.declared.event.LaneName.{LaneName}
 use Rattle.fabric_core.specs.declared.event.LaneName.TheVariants as lanes
-use Rattle.fabric_core.specs.declared.event.LinkEvent.{LinkEvent}
-use Rattle.fabric_core.specs.declared.event.Seen.{Seen}
 use Rattle.fabric_core.specs.declared.event.Seen.TheVariants as seen
 use Rattle.fabric_core.specs.declared.fault.Refusal.{Refusal}
 use Rattle.fabric_core.specs.declared.fault.Refusal.TheVariants as refusals
-use Rattle.fabric_core.specs.Answers.{Refuses, lane_grows, link_grows, map_ok, and_then, map_err, item_at, part_at, with_part, link_on, link_at, submit_on, submit_at, collect_on, collect_at, destination_on, forward_on, forward_at}
-use Rattle.fabric_core.specs.Steps.{IsNoPort, HasPart}
-
-pub no_part : {X : Type 0} (parts : List X) (port : ℕ) → IsNoPort port (length parts) → part_at parts port ≡ Err refusals.NoSuchPart
-no_part parts zero h = refl
-no_part parts (suc place) (inl e) = absurd cc
-no_part parts (suc place) (inr past) = rw (slice_get_past parts place (omega (arith, past))) refl
+use Rattle.fabric_core.specs.declared.event.Event.TheVariants as events
+use Rattle.fabric_core.specs.Answers.{Refuses, Refused, lane_grows, event_grows, map_ok, and_then, map_err, item_at, submit_on, destination_on, forward_on, forward_at}
+use Rattle.fabric_core.specs.Steps.{HasPart}
 
 -- the refusals of what is given by another name
 pub refuses_given : {A B : Type 0} (grows : B → Refusal → Type 0) (f : A → B) (a : Result A Refusal) (r : Refusal) → Refuses (λ x. grows (f x)) a r → Refuses grows (map_ok a f) r
 refuses_given grows f (Ok x) r h = h
 refuses_given grows f (Err x) r h = h
 
--- ---- calls of a link
-
-pub up_answers : (f : Fabric) (port place : ℕ) (event : LinkEvent) (e e' : Ends) (r : Result Seen Refusal) → HasPart f.up port place e → IfOk r (λ what. link_on e event ≡ Ok (what, e'))
-    → IfOk r (λ what. link_at f (lanes.Up port) event ≡ Ok (what, record f { up = slice_set f.up place e' }))
-up_answers f port place event e e' (Err x) i h = tt
-up_answers f port place event e e' (Ok what) i h = rw (i.is_port, i.there, h) refl
-
-pub up_refuses : (f : Fabric) (port place : ℕ) (event : LinkEvent) (e : Ends) (r : Result Seen Refusal) → HasPart f.up port place e → IfErr r (Refuses (λ x. link_grows x.0) (link_on e event))
-    → IfErr r (Refuses (λ x. link_grows x.0) (link_at f (lanes.Up port) event))
-up_refuses f port place event e (Ok what) i h = tt
-up_refuses f port place event e (Err x) i h = rw (i.is_port, i.there) (refuses_given (λ y. link_grows y.0) _ (link_on e event) x h)
-
 -- ---- Submit
 
-pub submit_answers : (f : Fabric) (port place : ℕ) (op : Op) (q q' : Requesting) (e : Ends) (s' : Outgoing) (r : Result ℕ Refusal) → HasPart f.requesters port place q → HasPart f.up port place e
-    → IfOk r (λ n. submit_on q e.sender op ≡ Ok (n, q', s'))
-    → IfOk r (λ n. submit_at f port op ≡ Ok (seen.Submitted n, record f { up = slice_set f.up place (record e { sender = s' }); requesters = slice_set f.requesters place q' }))
-submit_answers f port place op q q' e s' (Err x) i j h = tt
-submit_answers f port place op q q' e s' (Ok n) i j h = rw (i.is_port, i.there, j.there, h) refl
-
 pub submit_refuses : (f : Fabric) (port place : ℕ) (op : Op) (q : Requesting) (e : Ends) (r : Result ℕ Refusal) → HasPart f.requesters port place q → HasPart f.up port place e
-    → IfErr r (Refuses lane_grows (submit_on q e.sender op)) → IfErr r (Refuses lane_grows (submit_at f port op))
+    → IfErr r (Refuses lane_grows (submit_on q e.sender op)) → IfErr r (Refused f (events.Submit port op))
 submit_refuses f port place op q e (Ok n) i j h = tt
-submit_refuses f port place op q e (Err x) i j h = rw (i.is_port, i.there, j.there) (refuses_given lane_grows _ (submit_on q e.sender op) x h)
-
--- ---- Collect
-
-pub collect_answers : (f : Fabric) (port place : ℕ) (q q' : Requesting) (e : Ends) (v' : Incoming) (r : Result Answer Refusal) → HasPart f.requesters port place q → HasPart f.down port place e
-    → IfOk r (λ a. collect_on e.receiver q ≡ Ok (a, v', q'))
-    → IfOk r (λ a. collect_at f port ≡ Ok (seen.Collected a, record f { down = slice_set f.down place (record e { receiver = v' }); requesters = slice_set f.requesters place q' }))
-collect_answers f port place q q' e v' (Err x) i j h = tt
-collect_answers f port place q q' e v' (Ok a) i j h = rw (i.is_port, i.there, j.there, h) refl
-
-pub collect_refuses : (f : Fabric) (port place : ℕ) (q : Requesting) (e : Ends) (r : Result Answer Refusal) → HasPart f.requesters port place q → HasPart f.down port place e
-    → IfErr r (λ x. collect_on e.receiver q ≡ Err x) → IfErr r (λ x. collect_at f port ≡ Err x)
-collect_refuses f port place q e (Ok a) i j h = tt
-collect_refuses f port place q e (Err x) i j h = rw (i.is_port, i.there, j.there, h) refl
+submit_refuses f port place op q e (Err x) i j h = rw (i.is_port, i.there, j.there) (refuses_given (event_grows f) _ (submit_on q e.sender op) x h)
 
 -- ---- Forward from an `up` lane
 
@@ -102,12 +62,33 @@ forward_up_answers f port place to at e r' s' i d h =
     rw (i.is_port, zero_is) (up_goes f place at e r' s' i.there d'' h)
 
 up_held : (f : Fabric) (place at : ℕ) (e : Ends) (r : Refusal) → slice_get f.up at ≡ Some e → destination_on e.receiver place (suc at) ≡ Ok 0 → Refuses lane_grows (forward_on e.receiver place f.inward.sender) r
-    → Refuses lane_grows (forward_at f (lanes.Up (suc at)) place) r
-up_held f place at e r has d h = rw (has, d) (refuses_given lane_grows _ (forward_on e.receiver place f.inward.sender) r h)
+    → Refused f (events.Forward (lanes.Up (suc at)) place) r
+up_held f place at e r has d h = rw (has, d) (refuses_given (event_grows f) _ (forward_on e.receiver place f.inward.sender) r h)
 
 pub forward_up_refuses : (f : Fabric) (port place to at : ℕ) (e : Ends) (r : Refusal) → HasPart f.up port at e → destination_on e.receiver place port ≡ Ok to → Refuses lane_grows (forward_on e.receiver place f.inward.sender) r
-    → Refuses lane_grows (forward_at f (lanes.Up port) place) r
+    → Refused f (events.Forward (lanes.Up port) place) r
 forward_up_refuses f port place to at e r i d h =
     let d' : destination_on e.receiver place (suc at) ≡ Ok to = subst (λ (n : ℕ). destination_on e.receiver place n ≡ Ok to) i.is_port d in
     let d'' : destination_on e.receiver place (suc at) ≡ Ok 0 = subst (λ (n : ℕ). destination_on e.receiver place (suc at) ≡ Ok n) (goes_inward e.receiver place at to d') d' in
     rw i.is_port (up_held f place at e r i.there d'' h)
+
+-- ---- Forward from `out`
+
+out_goes : (f : Fabric) (place at : ℕ) (e : Ends) (r' : Incoming) (s' : Outgoing) → slice_get f.down at ≡ Some e → destination_on f.outward.receiver place 0 ≡ Ok (suc at) → forward_on f.outward.receiver place e.sender ≡ Ok (r', s')
+    → forward_at f lanes.Outward place ≡ Ok (seen.To (suc at), record f { outward = record f.outward { receiver = r' }; down = slice_set f.down at (record e { sender = s' }) })
+out_goes f place at e r' s' has d h = rw (d, has, h) refl
+
+pub forward_out_answers : (f : Fabric) (place to at : ℕ) (e : Ends) (r' : Incoming) (s' : Outgoing) → HasPart f.down to at e → destination_on f.outward.receiver place 0 ≡ Ok to → forward_on f.outward.receiver place e.sender ≡ Ok (r', s')
+    → forward_at f lanes.Outward place ≡ Ok (seen.To to, record f { outward = record f.outward { receiver = r' }; down = slice_set f.down at (record e { sender = s' }) })
+forward_out_answers f place to at e r' s' i d h =
+    let d' : destination_on f.outward.receiver place 0 ≡ Ok (suc at) = subst (λ (n : ℕ). destination_on f.outward.receiver place 0 ≡ Ok n) i.is_port d in
+    rw i.is_port (out_goes f place at e r' s' i.there d' h)
+
+out_held : (f : Fabric) (place at : ℕ) (e : Ends) (r : Refusal) → slice_get f.down at ≡ Some e → destination_on f.outward.receiver place 0 ≡ Ok (suc at) → Refuses lane_grows (forward_on f.outward.receiver place e.sender) r
+    → Refused f (events.Forward lanes.Outward place) r
+out_held f place at e r has d h = rw (d, has) (refuses_given (event_grows f) _ (forward_on f.outward.receiver place e.sender) r h)
+
+pub forward_out_refuses : (f : Fabric) (place to at : ℕ) (e : Ends) (r : Refusal) → HasPart f.down to at e → destination_on f.outward.receiver place 0 ≡ Ok to → Refuses lane_grows (forward_on f.outward.receiver place e.sender) r
+    → Refused f (events.Forward lanes.Outward place) r
+forward_out_refuses f place to at e r i d h =
+    out_held f place at e r i.there (subst (λ (n : ℕ). destination_on f.outward.receiver place 0 ≡ Ok n) i.is_port d) h

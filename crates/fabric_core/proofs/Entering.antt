@@ -1,9 +1,10 @@
 -- A packet that enters a lane, by the answer.
-use Rattle.std.proofs.Common.{ℕ, ◌≡◌, ◌<◌, ◌≤◌, ◌∙◌, Bool, true, false, List, [], ◌∷◌, ◌++◌, length, refl, sym, ap, subst, arith, Option, Some, None, Result, Ok, Err, if◌then◌else◌}
+use Rattle.std.proofs.Common.{ℕ, ◌≡◌, ◌<◌, ◌∙◌, Bool, true, false, List, [], ◌∷◌, ◌++◌, length, refl, sym, ap, subst, arith, Option, Some, None, Result, Ok, Err, if◌then◌else◌}
 use Rattle.std.specs.Prelude.{nat_lt, ◌&&◌, slice_get, option_map}
 use Rattle.std.proofs.lemmas.Bool.Decides.{nat_tests}
 use Rattle.std.proofs.lemmas.List.{length-append}
 use Rattle.tlp_core.specs.Packet.{Packet}
+use Rattle.tlp_core.specs.Layout.{Spells, canonical}
 use Rattle.fc_credit.specs.declared.needs.Need.{Need}
 use Rattle.seq_memory.specs.History.{State}
 use Rattle.completer_core.specs.Serving.{completion_to, after_serving}
@@ -18,7 +19,8 @@ use Rattle.lane_ends.specs.Refusals.{LacksRoom}
 use Rattle.lane_ends.specs.Steps.{Incoming, Outgoing, may_enter, entered}
 use Rattle.fabric_core.specs.declared.fault.Refusal.{Refusal}
 use Rattle.fabric_core.specs.declared.fault.Refusal.TheVariants as refusals
-use Rattle.fabric_core.specs.Answers.{Refuses, lane_grows, serving_grows, map_ok, enter_on, enter_if_any, item_at, act_on}
+use Rattle.fabric_core.specs.ByParts.{Enters}
+use Rattle.fabric_core.specs.Answers.{Refuses, serving_grows, map_ok, enter_on, enter_if_any, item_at, act_on, ActFits}
 
 both : {X : Type 0} (a b : Bool) (x y z : X) → (a && b) ≡ true → (if a then (if b then x else y) else z) ≡ x
 both true true x y z e = refl
@@ -60,3 +62,17 @@ act_memory m t mark s need is may = by_completion (completion_to m t) is
     by_completion (Some c) e =
         let same : need_of c ≡ need = cc in
         rw (enters_on s c mark (entered s c mark) (subst (λ (n : Need). may_enter s n ≡ true) (sym same) may) refl) tt
+
+pub ok_is : {A E : Type 0} (x y : A) → ◌≡◌ {A = Result A E} (Ok x) (Ok y) → x ≡ y
+ok_is x y e = cc
+
+-- a request acts, and its completion enters
+pub act_answers : (m m' : State) (t : Packet) (mark place : ℕ) (s s' : Outgoing) (c : Packet) → completion_to m t ≡ Some c → Enters s c mark s' → place ≡ length m.entries → m' ≡ after_serving m t mark
+    → act_on m t mark s ≡ Ok (place, m', s')
+act_answers m m' t mark place s s' c is e at now = rw (is, enters_on s c mark s' e.may e.now, at, now) refl
+
+pub act_fits : (m : State) (t c : Packet) → completion_to m t ≡ Some c → Spells (canonical c) c → ActFits m t
+act_fits m t c is spelled = record { spelled = λ o e. subst (λ (p : Packet). Spells (canonical p) p) (same o e) spelled }
+  where
+    same : (o : Packet) → completion_to m t ≡ Some o → c ≡ o
+    same o e = let both : Some c ≡ Some o = sym is ∙ e in cc

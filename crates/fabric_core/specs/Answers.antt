@@ -1,24 +1,22 @@
 -- What each event does to a fabric. A function named `.._on` is one event over the parts that it uses: it returns the
 -- event's result and the parts after it, or the first refusal of its order. A function named `.._at` finds these parts in
--- the fabric and puts them back; `answer` is all events. They assume that memory can be allocated. `Refuses`, at the end,
--- adds the refusals of events for which it can't.
-use Rattle.std.specs.Prelude.{ℕ, ◌≡◌, ◌<◌, zero, suc, ◌==◌, nat_lt, List, [], ◌∷◌, length, if◌then◌else◌, Option, Some, None, Result, Ok, Err, slice_get, slice_set}
+-- the fabric and puts them back; `answer` is all events. They assume that memory can be allocated. `Refuses`
+-- adds the refusals of events for which it can't; `Happens` and `Refused`, at the end, are what all else speaks of.
+use Rattle.std.specs.Prelude.{ℕ, ◌≡◌, ◌<◌, zero, suc, ◌==◌, nat_lt, List, length, if◌then◌else◌, Option, Some, None, Result, Ok, Err, slice_get, slice_set}
 use Rattle.tlp_core.specs.declared.operation.Op.{Op}
 use Rattle.tlp_core.specs.Packet.{Packet}
 use Rattle.seq_memory.specs.History.{State}
 use Rattle.completer_core.specs.Serving.{completion_to, after_serving}
 use Rattle.requester_core.specs.declared.requester.Answer.{Answer}
-use Rattle.requester_core.specs.declared.fault.SubmitRefusal.{SubmitRefusal}
-use Rattle.requester_core.specs.declared.fault.CompletionFault.{CompletionFault}
-use Rattle.requester_core.specs.Requesting.{Requesting, prepared, after_opened, finished, after_finish}
+use Rattle.tlp_core.specs.Operation.{op_of}
+use Rattle.tlp_core.specs.Layout.{Spells, canonical}
+use Rattle.requester_core.specs.Requesting.{Requesting, IsSound, prepared, after_opened, finished, after_finish}
 use Rattle.dllp_core.specs.declared.packet.Dllp.{Dllp}
 use Rattle.fc_credit.specs.Needs.{need_of}
 use Rattle.fc_credit.specs.Credits.{gate_covers}
 use Rattle.vc_queue.specs.Queue.{Item, is_takeable}
-use Rattle.switch_core.specs.declared.fault.RouteFault.{RouteFault}
 use Rattle.switch_core.specs.declared.fault.RouteFault.TheVariants.{NoPort}
 use Rattle.switch_core.specs.Routing.{route}
-use Rattle.replay_sender.specs.declared.fault.AckFault.{AckFault}
 use Rattle.link_receiver.specs.declared.receiver.Reception.TheVariants.{Accept}
 use Rattle.lane_ends.specs.declared.packet.Arrival.{Arrival}
 use Rattle.lane_ends.specs.declared.packet.Arrival.TheVariants.{Answered}
@@ -192,11 +190,15 @@ submit_at f port op =
     and_then (part_at f.requesters port) (λ q. and_then (lane_at f (lanes.Up port)) (λ e. map_ok (submit_on q e.sender op)
     (λ x. (seen.Submitted x.0, with_requester (with_lane f (lanes.Up port) (record e { sender = x.2 })) port x.1))))
 
+-- a packet of a lane goes into the lane that leads to its port
+abbrev pub forward_to : Fabric → LaneName → Ends → ℕ → ℕ → Result (Seen × Fabric) Refusal
+forward_to f name e place to =
+    and_then (or_no_port (lane_at f (lane_to to))) (λ next. map_ok (forward_on e.receiver place next.sender)
+    (λ x. (seen.To to, with_lane (with_lane f name (record e { receiver = x.0 })) (lane_to to) (record next { sender = x.1 }))))
+
 abbrev pub forward_at : Fabric → LaneName → ℕ → Result (Seen × Fabric) Refusal
 forward_at f name place =
-    and_then (port_from name) (λ from. and_then (lane_at f name) (λ e. and_then (destination_on e.receiver place from) (λ to.
-    and_then (or_no_port (lane_at f (lane_to to))) (λ next. map_ok (forward_on e.receiver place next.sender)
-    (λ x. (seen.To to, with_lane (with_lane f name (record e { receiver = x.0 })) (lane_to to) (record next { sender = x.1 })))))))
+    and_then (port_from name) (λ from. and_then (lane_at f name) (λ e. and_then (destination_on e.receiver place from) (λ to. forward_to f name e place to)))
 
 abbrev pub serve_at : Fabric → ℕ → Result (Seen × Fabric) Refusal
 serve_at f place =
@@ -256,3 +258,34 @@ event_grows f (seen.Submitted n, f') r = lane_grows n r
 event_grows f (seen.To port, f') r = lane_grows port r
 event_grows f (seen.At place, f') r = serving_grows f.outward.sender f'.outward.sender r
 event_grows f (what, f') r = link_grows what r
+
+-- ---- what happens, and what is refused
+
+-- the packets that enter lanes are spelled by their bytes, and the requesters are sound: that is true of the values of
+-- the code's types, and no equation says it
+pub record SubmitFits (q : Requesting) (op : Op) : Type 0 where
+  pub sound : IsSound q
+  pub request : (n : ℕ) (t : Packet) → prepared q op ≡ Ok (n, t) → (op_of t ≡ Some op) × Spells (canonical t) t
+
+pub record ForwardFits (r : Incoming) (place : ℕ) : Type 0 where
+  pub spelled : (t : Packet) (mark : ℕ) → item_at r place ≡ Ok (t, mark) → Spells (canonical t) t
+
+pub record ActFits (m : State) (t : Packet) : Type 0 where
+  pub spelled : (c : Packet) → completion_to m t ≡ Some c → Spells (canonical c) c
+
+pub record ServeFits (r : Incoming) (place : ℕ) (m : State) : Type 0 where
+  pub spelled : (t : Packet) (mark : ℕ) (c : Packet) → item_at r place ≡ Ok (t, mark) → completion_to m t ≡ Some c → Spells (canonical c) c
+
+abbrev pub Fits : Fabric → Event → Type 0
+Fits f (events.Submit port op) = (q : Requesting) → part_at f.requesters port ≡ Ok q → SubmitFits q op
+Fits f (events.Forward name place) = (e : Ends) → lane_at f name ≡ Ok e → ForwardFits e.receiver place
+Fits f (events.Serve place) = ServeFits f.inward.receiver place f.memory
+Fits f _ = Unit {0}
+
+-- the event happens: what is seen of it, and the fabric after it
+abbrev pub Happens : Fabric → Event → Seen → Fabric → Type 0
+Happens f event what f' = (answer f event ≡ Ok (what, f')) × Fits f event
+
+-- the event is refused for this cause
+abbrev pub Refused : Fabric → Event → Refusal → Type 0
+Refused f event r = Refuses (event_grows f) (answer f event) r

@@ -1,14 +1,14 @@
 //! Each event over the parts that it uses. A refused event leaves them as they were.
 ghost use Rattle.std.specs.Prelude.{◌≡◌, ◌↔◌, ◌<◌, [], true, false, length, option_map, Some, IfOk, IfErr, OnOk, OnErr};
 ghost use Rattle.dllp_core.specs.Layout.{FitsDataFC};
+ghost use Rattle.tlp_core.specs.Layout.{Spells, canonical};
 ghost use Rattle.dllp_core.specs.declared.packet.Dllp.{Dllp};
 ghost use Rattle.fc_credit.specs.Needs.{need_of};
 ghost use Rattle.completer_core.specs.Serving.{completion_to, after_serving};
 ghost use Rattle.lane_ends.specs.Steps.{may_enter, with_room, after_timer, after_retraining, transmitted, after_transmission, wire_after_transmit, all_but_first, delivered, after_deliver, dllp_of, after_send, wire_after_send, dllp_seen, sender_after};
 ghost use Rattle.lane_ends.specs.Refusals.{LacksRoom};
 ghost use Rattle.switch_core.specs.Forwarding.{Forwards};
-ghost use Rattle.fabric_core.specs.Answers.{Refuses, lane_grows, arrival_grows, serving_grows, enter_on, transmit_on, deliver_on, send_dllp_on, deliver_dllp_on, timer_on, retrained_on, submit_on, destination_on, forward_on, act_on, serve_on, collect_on, link_on, link_grows};
-ghost use Rattle.fabric_core.specs.Footprints.{Enters, Submits, SubmitRefused, TransmitRefused, DeliverRefused, SendDllpRefused, DllpRefused, TimerRefused, RetrainedRefused, Links, LinkRefused, ForwardRefused, IsRoutedAs, DestinationRefused, Acts, ActRefused, Serves, ServeRefused, Collects, CollectRefused};
+ghost use Rattle.fabric_core.specs.Answers.{Refuses, lane_grows, arrival_grows, serving_grows, enter_on, transmit_on, deliver_on, send_dllp_on, deliver_dllp_on, timer_on, retrained_on, submit_on, destination_on, forward_on, act_on, serve_on, collect_on, link_on, link_grows, SubmitFits, ForwardFits, ServeFits, ActFits};
 
 use crate::event::{LinkEvent, Seen};
 use crate::fault::Refusal;
@@ -27,11 +27,10 @@ use tlp_core::{Op, Tlp};
 
 /// A packet enters a lane with its mark.
 fn enter(sender: &mut SenderEnd, tlp: &Tlp, mark: u32) -> Result<(), LaneRefusal>
-    ensures ok { OnOk result (Enters sender.old tlp.now mark sender.new) }
-    ensures refused { IfErr result (λ r. LacksRoom sender.old (need_of tlp.now) r) }
-    ensures err { OnErr result (sender.new ≡ sender.old) }
     ensures answers { OnOk result (enter_on sender.old tlp.now mark ≡ Ok sender.new) }
     ensures refuses { IfErr result (λ r. Refuses lane_grows (enter_on sender.old tlp.now mark) (Refusal.Lane r)) }
+    ensures spelled { OnOk result (Spells (canonical tlp.now) tlp.now) }
+    ensures err { OnErr result (sender.new ≡ sender.old) }
 {
     sender.enter(tlp, mark)?;
     Ok(())
@@ -40,12 +39,11 @@ fn enter(sender: &mut SenderEnd, tlp: &Tlp, mark: u32) -> Result<(), LaneRefusal
 /// The requester submits an operation: its request enters the lane, and its number is spent. Gives the number. `Submit`
 /// where no request is prepared, then `Lane`.
 pub fn submit(requester: &mut Requester, sender: &mut SenderEnd, op: &Op) -> Result<u32, Refusal>
-    ensures ok { IfOk result (λ number. Submits requester.old sender.old op.now number requester.new sender.new) }
-    ensures refused { IfErr result (λ r. SubmitRefused requester.old sender.old op.now r) }
-    ensures err_requester { OnErr result (requester.new ≡ requester.old) }
-    ensures err_sender { OnErr result (sender.new ≡ sender.old) }
     ensures answers { IfOk result (λ number. submit_on requester.old sender.old op.now ≡ Ok (number, requester.new, sender.new)) }
     ensures refuses { IfErr result (λ r. Refuses lane_grows (submit_on requester.old sender.old op.now) r) }
+    ensures fits { OnOk result (SubmitFits requester.old op.now) }
+    ensures err_requester { OnErr result (requester.new ≡ requester.old) }
+    ensures err_sender { OnErr result (sender.new ≡ sender.old) }
 {
     let (number, request) = match requester.prepare(op) {
         Ok(prepared) => prepared,
@@ -61,15 +59,10 @@ pub fn submit(requester: &mut Requester, sender: &mut SenderEnd, op: &Op) -> Res
 /// The sender's next packet goes onto the wire. Gives its sequence number. `Idle` where there is none to send, or while
 /// the sender is stopped; then `Lane` for being out of memory.
 pub fn transmit(sender: &mut SenderEnd, wire: &mut ForwardWire) -> Result<Seq12, Refusal>
-    ensures number { IfOk result (λ number. transmitted sender.old ≡ Some number) }
-    ensures sender { OnOk result (sender.new ≡ after_transmission sender.old) }
-    ensures wire { OnOk result (wire.new ≡ wire_after_transmit sender.old wire.old) }
-    ensures idle { (result ≡ Err Refusal.Idle) ↔ (transmitted sender.old ≡ None) }
-    ensures refused { IfErr result (λ r. TransmitRefused sender.old r) }
-    ensures err_sender { OnErr result (sender.new ≡ sender.old) }
-    ensures err_wire { OnErr result (wire.new ≡ wire.old) }
     ensures answers { IfOk result (λ number. transmit_on sender.old wire.old ≡ Ok (number, sender.new, wire.new)) }
     ensures refuses { IfErr result (λ r. Refuses lane_grows (transmit_on sender.old wire.old) r) }
+    ensures err_sender { OnErr result (sender.new ≡ sender.old) }
+    ensures err_wire { OnErr result (wire.new ≡ wire.old) }
 {
     if !sender.can_transmit() {
         return Err(Refusal::Idle);
@@ -88,15 +81,10 @@ pub fn deliver(
     receiver: &mut ReceiverEnd,
     fate: Fate,
 ) -> Result<Arrival, Refusal>
-    ensures arrival { IfOk result (λ arrival. delivered wire.old receiver.old fate ≡ Some arrival) }
-    ensures receiver { OnOk result (receiver.new ≡ after_deliver wire.old receiver.old fate) }
-    ensures wire { OnOk result (wire.new ≡ all_but_first wire.old) }
-    ensures idle { (result ≡ Err Refusal.Idle) ↔ (wire.old ≡ []) }
-    ensures refused { IfErr result (λ r. DeliverRefused wire.old receiver.old fate r) }
-    ensures err_receiver { OnErr result (receiver.new ≡ receiver.old) }
-    ensures err_wire { OnErr result (wire.new ≡ wire.old) }
     ensures answers { IfOk result (λ arrival. deliver_on wire.old receiver.old fate ≡ Ok (arrival, wire.new, receiver.new)) }
     ensures refuses { IfErr result (λ r. Refuses (λ x. arrival_grows x.0) (deliver_on wire.old receiver.old fate) r) }
+    ensures err_receiver { OnErr result (receiver.new ≡ receiver.old) }
+    ensures err_wire { OnErr result (wire.new ≡ wire.old) }
 {
     if wire.is_empty() {
         return Err(Refusal::Idle);
@@ -114,15 +102,11 @@ pub fn send_dllp(
     wire: &mut BackWire,
     kind: DllpKind,
 ) -> Result<Dllp, Refusal>
-    ensures dllp { IfOk result (λ dllp. dllp ≡ dllp_of receiver.old kind) }
-    ensures in_range { IfOk result (λ dllp. FitsDataFC dllp) }
-    ensures receiver { OnOk result (receiver.new ≡ after_send receiver.old kind) }
-    ensures wire { OnOk result (wire.new ≡ wire_after_send receiver.old kind wire.old) }
-    ensures refused { IfErr result (λ r. SendDllpRefused r) }
-    ensures err_receiver { OnErr result (receiver.new ≡ receiver.old) }
-    ensures err_wire { OnErr result (wire.new ≡ wire.old) }
     ensures answers { IfOk result (λ dllp. send_dllp_on receiver.old wire.old kind ≡ Ok (dllp, receiver.new, wire.new)) }
     ensures refuses { IfErr result (λ r. Refuses lane_grows (send_dllp_on receiver.old wire.old kind) r) }
+    ensures in_range { IfOk result (λ dllp. FitsDataFC dllp) }
+    ensures err_receiver { OnErr result (receiver.new ≡ receiver.old) }
+    ensures err_wire { OnErr result (wire.new ≡ wire.old) }
 {
     match receiver.send_dllp(wire, kind) {
         Ok(dllp) => Ok(dllp),
@@ -137,15 +121,11 @@ pub fn deliver_dllp(
     sender: &mut SenderEnd,
     fate: Fate,
 ) -> Result<DllpSeen, Refusal>
-    ensures seen { IfOk result (λ seen. dllp_seen wire.old sender.old fate ≡ Ok (Some seen)) }
-    ensures in_range { (dllp : Dllp) → result ≡ Ok (DllpSeen.Took dllp) → FitsDataFC dllp }
-    ensures sender { OnOk result (sender.new ≡ sender_after wire.old sender.old fate) }
-    ensures wire { OnOk result (wire.new ≡ all_but_first wire.old) }
-    ensures refused { IfErr result (λ r. DllpRefused wire.old sender.old fate r) }
-    ensures err_sender { OnErr result (sender.new ≡ sender.old) }
-    ensures err_wire { OnErr result (wire.new ≡ wire.old) }
     ensures answers { IfOk result (λ seen. deliver_dllp_on wire.old sender.old fate ≡ Ok (seen, wire.new, sender.new)) }
     ensures refuses { IfErr result (λ r. deliver_dllp_on wire.old sender.old fate ≡ Err r) }
+    ensures in_range { (dllp : Dllp) → result ≡ Ok (DllpSeen.Took dllp) → FitsDataFC dllp }
+    ensures err_sender { OnErr result (sender.new ≡ sender.old) }
+    ensures err_wire { OnErr result (wire.new ≡ wire.old) }
 {
     match sender.deliver_dllp(wire, fate) {
         Ok(Some(seen)) => Ok(seen),
@@ -157,13 +137,9 @@ pub fn deliver_dllp(
 /// The replay timer expires. Gives by how many places the sender moved back. `Idle` where there is no place to move
 /// back.
 pub fn timer(sender: &mut SenderEnd) -> Result<usize, Refusal>
-    ensures moved { IfOk result (λ moved. (moved ≡ sender.old.sending.place) × (0 < moved)) }
-    ensures ok { OnOk result (sender.new ≡ after_timer sender.old) }
-    ensures idle { (result ≡ Err Refusal.Idle) ↔ (sender.old.sending.place ≡ 0) }
-    ensures refused { IfErr result (λ r. TimerRefused sender.old r) }
-    ensures err { OnErr result (sender.new ≡ sender.old) }
     ensures answers { IfOk result (λ moved. timer_on sender.old ≡ Ok (moved, sender.new)) }
     ensures refuses { IfErr result (λ r. timer_on sender.old ≡ Err r) }
+    ensures err { OnErr result (sender.new ≡ sender.old) }
 {
     let moved = sender.timer();
     if moved == 0 {
@@ -174,13 +150,9 @@ pub fn timer(sender: &mut SenderEnd) -> Result<usize, Refusal>
 
 /// The link was retrained. `Idle` where the sender isn't stopped.
 pub fn retrained(sender: &mut SenderEnd) -> Result<(), Refusal>
-    ensures stopped { OnOk result (sender.old.sending.stopped ≡ true) }
-    ensures ok { OnOk result (sender.new ≡ after_retraining sender.old) }
-    ensures idle { (result ≡ Err Refusal.Idle) ↔ (sender.old.sending.stopped ≡ false) }
-    ensures refused { IfErr result (λ r. RetrainedRefused sender.old r) }
-    ensures err { OnErr result (sender.new ≡ sender.old) }
     ensures answers { OnOk result (retrained_on sender.old ≡ Ok sender.new) }
     ensures refuses { IfErr result (λ r. retrained_on sender.old ≡ Err r) }
+    ensures err { OnErr result (sender.new ≡ sender.old) }
 {
     if !sender.retrained() {
         return Err(Refusal::Idle);
@@ -190,11 +162,9 @@ pub fn retrained(sender: &mut SenderEnd) -> Result<(), Refusal>
 
 /// A call of the link, and what is seen of it.
 pub fn link(lane: &mut LaneEnds, event: LinkEvent) -> Result<Seen, Refusal>
-    ensures ok { IfOk result (λ what. Links lane.old event what lane.new) }
-    ensures refused { IfErr result (λ r. LinkRefused lane.old event r) }
-    ensures err { OnErr result (lane.new ≡ lane.old) }
     ensures answers { IfOk result (λ what. link_on lane.old event ≡ Ok (what, lane.new)) }
     ensures refuses { IfErr result (λ r. Refuses (λ x. link_grows x.0) (link_on lane.old event) r) }
+    ensures err { OnErr result (lane.new ≡ lane.old) }
 {
     match event {
         LinkEvent::Transmit => Ok(Seen::Sent(transmit(&mut lane.sender, &mut lane.forward)?)),
@@ -218,8 +188,6 @@ pub fn link(lane: &mut LaneEnds, event: LinkEvent) -> Result<Seen, Refusal>
 /// The port to which the packet at this place goes that came in from another. `NotTakeable` where there is none or it
 /// may not pass an earlier one, then `Route`.
 pub fn destination(receiver: &ReceiverEnd, place: usize, from: Port) -> Result<Port, Refusal>
-    ensures ok { IfOk result (λ port. IsRoutedAs receiver.now place from (Ok port)) }
-    ensures refused { IfErr result (λ r. DestinationRefused receiver.now place from r) }
     ensures answers { IfOk result (λ port. destination_on receiver.now place from ≡ Ok port) }
     ensures refuses { IfErr result (λ r. destination_on receiver.now place from ≡ Err r) }
 {
@@ -242,12 +210,11 @@ pub fn forward(
     place: usize,
     sender: &mut SenderEnd,
 ) -> Result<(), Refusal>
-    ensures ok { OnOk result (Forwards receiver.old receiver.new place sender.old sender.new) }
-    ensures refused { IfErr result (λ r. ForwardRefused receiver.old place sender.old r) }
-    ensures err_receiver { OnErr result (receiver.new ≡ receiver.old) }
-    ensures err_sender { OnErr result (sender.new ≡ sender.old) }
     ensures answers { OnOk result (forward_on receiver.old place sender.old ≡ Ok (receiver.new, sender.new)) }
     ensures refuses { IfErr result (λ r. Refuses lane_grows (forward_on receiver.old place sender.old) r) }
+    ensures fits { OnOk result (ForwardFits receiver.old place) }
+    ensures err_receiver { OnErr result (receiver.new ≡ receiver.old) }
+    ensures err_sender { OnErr result (sender.new ≡ sender.old) }
 {
     match forward_ends(receiver, place, sender) {
         Ok(()) => Ok(()),
@@ -259,12 +226,10 @@ pub fn forward(
 /// The requester takes its oldest completion. Gives the number of the request and the reply. `Idle` where none has
 /// arrived, `Strange` where the requester doesn't expect it.
 pub fn collect(receiver: &mut ReceiverEnd, requester: &mut Requester) -> Result<Answer, Refusal>
-    ensures ok { IfOk result (λ a. Collects receiver.old requester.old a receiver.new requester.new) }
-    ensures refused { IfErr result (λ r. CollectRefused receiver.old requester.old r) }
-    ensures err_receiver { OnErr result (receiver.new ≡ receiver.old) }
-    ensures err_requester { OnErr result (requester.new ≡ requester.old) }
     ensures answers { IfOk result (λ a. collect_on receiver.old requester.old ≡ Ok (a, receiver.new, requester.new)) }
     ensures refuses { IfErr result (λ r. collect_on receiver.old requester.old ≡ Err r) }
+    ensures err_receiver { OnErr result (receiver.new ≡ receiver.old) }
+    ensures err_requester { OnErr result (requester.new ≡ requester.old) }
 {
     if !receiver.takeable(0) {
         return Err(Refusal::Idle);
@@ -304,12 +269,11 @@ fn act_and_answer(
     need: Need,
 ) -> Result<usize, Refusal>
     requires { option_map need_of (completion_to memory.old request.now) ≡ Some need }
-    ensures ok { IfOk result (λ place. Acts memory.old request.now mark sender.old place memory.new sender.new) }
-    ensures refused { IfErr result (λ r. ActRefused memory.old request.now sender.old r) }
-    ensures err_memory { OnErr result (memory.new ≡ memory.old) }
-    ensures err_sender { OnErr result (sender.new ≡ sender.old) }
     ensures answers { IfOk result (λ place. act_on memory.old request.now mark sender.old ≡ Ok (place, memory.new, sender.new)) }
     ensures refuses { IfErr result (λ r. Refuses (λ x. serving_grows sender.old x.2) (act_on memory.old request.now mark sender.old) r) }
+    ensures fits { OnOk result (ActFits memory.old request.now) }
+    ensures err_memory { OnErr result (memory.new ≡ memory.old) }
+    ensures err_sender { OnErr result (sender.new ≡ sender.old) }
 {
     let place = memory.entries().len();
     let had_room = sender.has_room();
@@ -338,12 +302,11 @@ fn act(
     mark: u32,
     sender: &mut SenderEnd,
 ) -> Result<usize, Refusal>
-    ensures ok { IfOk result (λ place. Acts memory.old request.now mark sender.old place memory.new sender.new) }
-    ensures refused { IfErr result (λ r. ActRefused memory.old request.now sender.old r) }
-    ensures err_memory { OnErr result (memory.new ≡ memory.old) }
-    ensures err_sender { OnErr result (sender.new ≡ sender.old) }
     ensures answers { IfOk result (λ place. act_on memory.old request.now mark sender.old ≡ Ok (place, memory.new, sender.new)) }
     ensures refuses { IfErr result (λ r. Refuses (λ x. serving_grows sender.old x.2) (act_on memory.old request.now mark sender.old) r) }
+    ensures fits { OnOk result (ActFits memory.old request.now) }
+    ensures err_memory { OnErr result (memory.new ≡ memory.old) }
+    ensures err_sender { OnErr result (sender.new ≡ sender.old) }
 {
     match need_to_answer(memory, request) {
         Some(need) => act_and_answer(memory, request, mark, sender, need),
@@ -360,13 +323,12 @@ pub fn serve(
     memory: &mut Memory,
     sender: &mut SenderEnd,
 ) -> Result<usize, Refusal>
-    ensures ok { IfOk result (λ at. Serves receiver.old place memory.old sender.old at receiver.new memory.new sender.new) }
-    ensures refused { IfErr result (λ r. ServeRefused receiver.old place memory.old sender.old r) }
+    ensures answers { IfOk result (λ at. serve_on receiver.old place memory.old sender.old ≡ Ok (at, receiver.new, memory.new, sender.new)) }
+    ensures refuses { IfErr result (λ r. Refuses (λ x. serving_grows sender.old x.3) (serve_on receiver.old place memory.old sender.old) r) }
+    ensures fits { OnOk result (ServeFits receiver.old place memory.old) }
     ensures err_receiver { OnErr result (receiver.new ≡ receiver.old) }
     ensures err_memory { OnErr result (memory.new ≡ memory.old) }
     ensures err_sender { OnErr result (sender.new ≡ sender.old) }
-    ensures answers { IfOk result (λ at. serve_on receiver.old place memory.old sender.old ≡ Ok (at, receiver.new, memory.new, sender.new)) }
-    ensures refuses { IfErr result (λ r. Refuses (λ x. serving_grows sender.old x.3) (serve_on receiver.old place memory.old sender.old) r) }
 {
     if !receiver.takeable(place) {
         return Err(Refusal::NotTakeable);

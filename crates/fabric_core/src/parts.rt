@@ -1,5 +1,5 @@
 //! The parts of a fabric, and the events by their ports and lanes.
-ghost use Rattle.std.specs.Prelude.{◌≡◌, ◌↔◌, ◌<◌, ◌≤◌, suc, length, IsTrue, IfOk, IfErr, OnErr};
+ghost use Rattle.std.specs.Prelude.{◌≡◌, ◌↔◌, ◌<◌, ◌≤◌, suc, length, IsTrue, IfOk, IfErr, OnOk, OnErr, Ok, Err};
 
 use crate::config::Config;
 use crate::event::{Event, LaneName, LinkEvent, Seen};
@@ -39,10 +39,11 @@ impl Model for Parts {
     ghost view = { λ p. record { credits = p.credits; memory = p.memory; requesters = p.requesters.items; inward = p.inward; outward = p.outward; up = p.up.items; down = p.down.items } };
 }
 
-ghost use Rattle.fabric_core.specs.Answers.{Refuses, lane_grows, link_grows, serving_grows, event_grows, link_at, submit_at, forward_at, serve_at, collect_at, answer};
-ghost use Rattle.fabric_core.specs.Steps.{IsNoPort, LinksIn, LinkInRefused, LinksAt, LinkAtRefused, SubmitsAt, SubmitAtRefused, ForwardsUp, ForwardUpRefused, ForwardsOut, ForwardOutRefused, ServesAt, CollectsAt, CollectAtRefused, Happens, Refused, HasLanes};
+ghost use Rattle.requester_core.specs.Requesting.{Requesting};
+ghost use Rattle.lane_ends.specs.Steps.{Ends};
+ghost use Rattle.fabric_core.specs.Answers.{Refuses, link_grows, part_at, lane_at, link_at, submit_at, forward_at, serve_at, collect_at, SubmitFits, ForwardFits, ServeFits, Happens, Refused};
+ghost use Rattle.fabric_core.specs.Steps.{IsNoPort, HasLanes};
 ghost use Rattle.fabric_core.specs.Config.{config_of};
-ghost use Rattle.fabric_core.specs.Footprints.{ServeRefused};
 ghost use Rattle.fabric_core.specs.Quiet.{AreStill, IsStillFabric};
 
 /// The place of a port in lists of so many parts.
@@ -54,16 +55,6 @@ fn place_of(port: u8, count: usize) -> Result<usize, Refusal>
         return Err(Refusal::NoSuchPart);
     }
     Ok(usize::from(port) - 1)
-}
-
-/// A call of the link of a port.
-fn link_in(lanes: &mut Vec<LaneEnds>, port: u8, event: LinkEvent) -> Result<Seen, Refusal>
-    ensures ok { IfOk result (λ what. LinksIn lanes.old.items port event what lanes.new.items) }
-    ensures refused { IfErr result (λ r. LinkInRefused lanes.old.items port event r) }
-    ensures err { OnErr result (lanes.new.items ≡ lanes.old.items) }
-{
-    let place = place_of(port, lanes.len())?;
-    events::link(&mut lanes[place], event)
 }
 
 /// Whether each of these lanes is still.
@@ -108,15 +99,19 @@ impl Parts {
 
     /// A call of the link of a lane.
     fn link(&mut self, name: LaneName, event: LinkEvent) -> Result<Seen, Refusal>
-        ensures ok { IfOk result (λ what. LinksAt self.old name event what self.new) }
-        ensures refused { IfErr result (λ r. LinkAtRefused self.old name event r) }
-        ensures err { OnErr result (self.new ≡ self.old) }
         ensures answers { IfOk result (λ what. link_at self.old name event ≡ Ok (what, self.new)) }
         ensures refuses { IfErr result (λ r. Refuses (λ x. link_grows x.0) (link_at self.old name event) r) }
+        ensures err { OnErr result (self.new ≡ self.old) }
     {
         match name {
-            LaneName::Up(port) => link_in(&mut self.up, port, event),
-            LaneName::Down(port) => link_in(&mut self.down, port, event),
+            LaneName::Up(port) => {
+                let place = place_of(port, self.up.len())?;
+                events::link(&mut self.up[place], event)
+            }
+            LaneName::Down(port) => {
+                let place = place_of(port, self.down.len())?;
+                events::link(&mut self.down[place], event)
+            }
             LaneName::Inward => events::link(&mut self.inward, event),
             LaneName::Outward => events::link(&mut self.outward, event),
         }
@@ -124,11 +119,10 @@ impl Parts {
 
     fn submit(&mut self, port: u8, op: &Op) -> Result<u32, Refusal>
         requires { length self.old.up ≡ length self.old.requesters }
-        ensures ok { IfOk result (λ number. SubmitsAt self.old port op.now number self.new) }
-        ensures refused { IfErr result (λ r. SubmitAtRefused self.old port op.now r) }
-        ensures err { OnErr result (self.new ≡ self.old) }
         ensures answers { IfOk result (λ number. submit_at self.old port op.now ≡ Ok (Seen.Submitted number, self.new)) }
-        ensures refuses { IfErr result (λ r. Refuses lane_grows (submit_at self.old port op.now) r) }
+        ensures refuses { IfErr result (λ r. Refused self.old (Event.Submit port op.now) r) }
+        ensures fits { OnOk result ((q : Requesting) → part_at self.old.requesters port ≡ Ok q → SubmitFits q op.now) }
+        ensures err { OnErr result (self.new ≡ self.old) }
     {
         let place = place_of(port, self.requesters.len())?;
         let requester = &mut self.requesters[place];
@@ -139,11 +133,10 @@ impl Parts {
     /// From the `up` lane of a port.
     fn forward_up(&mut self, port: u8, place: usize) -> Result<u8, Refusal>
         requires { length self.old.up ≤ 7 }
-        ensures ok { IfOk result (λ to. ForwardsUp self.old port place to self.new) }
-        ensures refused { IfErr result (λ r. ForwardUpRefused self.old port place r) }
-        ensures err { OnErr result (self.new ≡ self.old) }
         ensures answers { IfOk result (λ to. forward_at self.old (LaneName.Up port) place ≡ Ok (Seen.To to, self.new)) }
-        ensures refuses { IfErr result (λ r. Refuses lane_grows (forward_at self.old (LaneName.Up port) place) r) }
+        ensures refuses { IfErr result (λ r. Refused self.old (Event.Forward (LaneName.Up port) place) r) }
+        ensures fits { OnOk result ((e : Ends) → lane_at self.old (LaneName.Up port) ≡ Ok e → ForwardFits e.receiver place) }
+        ensures err { OnErr result (self.new ≡ self.old) }
     {
         let at = place_of(port, self.up.len())?;
         let lane = &mut self.up[at];
@@ -157,11 +150,10 @@ impl Parts {
 
     /// From `out`.
     fn forward_out(&mut self, place: usize) -> Result<u8, Refusal>
-        ensures ok { IfOk result (λ to. ForwardsOut self.old place to self.new) }
-        ensures refused { IfErr result (λ r. ForwardOutRefused self.old place r) }
-        ensures err { OnErr result (self.new ≡ self.old) }
         ensures answers { IfOk result (λ to. forward_at self.old LaneName.Outward place ≡ Ok (Seen.To to, self.new)) }
-        ensures refuses { IfErr result (λ r. Refuses lane_grows (forward_at self.old LaneName.Outward place) r) }
+        ensures refuses { IfErr result (λ r. Refused self.old (Event.Forward LaneName.Outward place) r) }
+        ensures fits { OnOk result (ForwardFits self.old.outward.receiver place) }
+        ensures err { OnErr result (self.new ≡ self.old) }
     {
         let outward = &mut self.outward;
         let to = events::destination(&outward.receiver, place, Port::MEMORY)?;
@@ -176,11 +168,10 @@ impl Parts {
     }
 
     fn serve(&mut self, place: usize) -> Result<usize, Refusal>
-        ensures ok { IfOk result (λ at. ServesAt self.old place at self.new) }
-        ensures refused { IfErr result (λ r. ServeRefused self.old.inward.receiver place self.old.memory self.old.outward.sender r) }
-        ensures err { OnErr result (self.new ≡ self.old) }
         ensures answers { IfOk result (λ at. serve_at self.old place ≡ Ok (Seen.At at, self.new)) }
-        ensures refuses { IfErr result (λ r. Refuses (λ x. serving_grows self.old.outward.sender x.1.outward.sender) (serve_at self.old place) r) }
+        ensures refuses { IfErr result (λ r. Refused self.old (Event.Serve place) r) }
+        ensures fits { OnOk result (ServeFits self.old.inward.receiver place self.old.memory) }
+        ensures err { OnErr result (self.new ≡ self.old) }
     {
         let inward = &mut self.inward;
         let outward = &mut self.outward;
@@ -194,11 +185,9 @@ impl Parts {
 
     fn collect(&mut self, port: u8) -> Result<Answer, Refusal>
         requires { length self.old.down ≡ length self.old.requesters }
-        ensures ok { IfOk result (λ a. CollectsAt self.old port a self.new) }
-        ensures refused { IfErr result (λ r. CollectAtRefused self.old port r) }
-        ensures err { OnErr result (self.new ≡ self.old) }
         ensures answers { IfOk result (λ a. collect_at self.old port ≡ Ok (Seen.Collected a, self.new)) }
         ensures refuses { IfErr result (λ r. collect_at self.old port ≡ Err r) }
+        ensures err { OnErr result (self.new ≡ self.old) }
     {
         let place = place_of(port, self.requesters.len())?;
         let requester = &mut self.requesters[place];
@@ -208,11 +197,10 @@ impl Parts {
 
     fn forward(&mut self, name: LaneName, place: usize) -> Result<Seen, Refusal>
         requires { length self.old.up ≤ 7 }
-        ensures ok { IfOk result (λ what. Happens self.old (Event.Forward name place) what self.new) }
-        ensures refused { IfErr result (λ r. Refused self.old (Event.Forward name place) r) }
-        ensures err { OnErr result (self.new ≡ self.old) }
         ensures answers { IfOk result (λ what. forward_at self.old name place ≡ Ok (what, self.new)) }
-        ensures refuses { IfErr result (λ r. Refuses lane_grows (forward_at self.old name place) r) }
+        ensures refuses { IfErr result (λ r. Refused self.old (Event.Forward name place) r) }
+        ensures fits { OnOk result ((e : Ends) → lane_at self.old name ≡ Ok e → ForwardFits e.receiver place) }
+        ensures err { OnErr result (self.new ≡ self.old) }
     {
         match name {
             LaneName::Up(port) => Ok(Seen::To(self.forward_up(port, place)?)),
@@ -227,8 +215,6 @@ impl Parts {
         ensures ok { IfOk result (λ what. Happens self.old event.now what self.new) }
         ensures refused { IfErr result (λ r. Refused self.old event.now r) }
         ensures err { OnErr result (self.new ≡ self.old) }
-        ensures answers { IfOk result (λ what. answer self.old event.now ≡ Ok (what, self.new)) }
-        ensures refuses { IfErr result (λ r. Refuses (event_grows self.old) (answer self.old event.now) r) }
     {
         match event {
             Event::Submit(port, op) => Ok(Seen::Submitted(self.submit(*port, op)?)),

@@ -4,7 +4,8 @@ ghost use Rattle.history_check.specs.declared.Record.{Record};
 ghost use Rattle.fabric_laws.specs.Fabric.{whole_of};
 ghost use Rattle.fabric_laws.specs.Trace.{Belongs};
 ghost use Rattle.fabric_core.specs.Runs.{has_record};
-ghost use Rattle.fabric_answers.specs.Answers.{answer, IsTold};
+ghost use Rattle.fabric_core.specs.Answers.{answer};
+ghost use Rattle.fabric_answers.specs.Told.{IsTold};
 ghost use Rattle.script_text.specs.Names.{refusal_text};
 ghost use Rattle.script_text.specs.Texts.{seen_text, told_text};
 ghost use Rattle.caller_room.specs.Room.{filled};
@@ -16,6 +17,7 @@ use crate::slot::{Slot, close, open};
 use arrayvec::ArrayString;
 use caller_room::{LINE_ROOM, NO_LINE, NO_MEMORY, SMALL_ROOM, fill};
 use fabric_answers::laws::each_event_has_one_answer;
+use fabric_core::laws::each_event_happens_by_its_parts;
 use fabric_core::{Event, Fabric, Refusal, Seen};
 use fabric_laws::laws::the_trace_belongs;
 use history_check::Record;
@@ -126,7 +128,7 @@ fn happen_recorded(session: &mut Session, event: &Event, room: &mut [u8]) -> u32
     ensures unchanged_room { 2000 ≤ result → room.new ≡ room.old }
 {
     each_event_has_one_answer();
-    session.fabric.sound();
+    each_event_happens_by_its_parts();
     if session.records.try_reserve(1).is_err() {
         return NO_MEMORY;
     }

@@ -1,5 +1,5 @@
 -- The run of `step` with no option, where all events of a script happen.
-use Rattle.std.proofs.Common.{◌≡◌, ◌∙◌, ◌+◌, ◌++◌, ℕ, Bool, true, false, List, [], ◌∷◌, length, sym, ap, subst, map, Option, Some, None, Result, Ok, if◌then◌else◌}
+use Rattle.std.proofs.Common.{◌≡◌, ◌∙◌, ◌+◌, ◌++◌, ℕ, Bool, true, false, List, [], ◌∷◌, length, sym, ap, subst, map, Option, Some, None, Result, if◌then◌else◌}
 use Rattle.std.specs.Prelude.{◌-◌, ◌^◌, min, fold, nat_lt}
 use Rattle.history_check.specs.declared.Record.{Record}
 use Rattle.fabric_laws.specs.Fabric.{Fabric}
@@ -11,7 +11,6 @@ use Rattle.fabric_core.specs.declared.fault.Refusal.{Refusal}
 use Rattle.fabric_core.specs.Config.{IsNewWith}
 use Rattle.fabric_core.specs.Steps.{Happens}
 use Rattle.fabric_core.specs.Runs.{Runs}
-use Rattle.fabric_answers.specs.Answers.{answer}
 use Rattle.fabric_answers.specs.New.{new_fabric, config_fault}
 use Rattle.operation_text.specs.Words.{words}
 use Rattle.trace_format.specs.Lines.{is_skipped}
@@ -27,7 +26,6 @@ use Rattle.step_engine.specs.Step.{Stepping, nothing, counted, made, answered, r
 
 pub record Answers : Type 0 where
   pub new : (c : Config) (f : Fabric) → IsNewWith c f → (f ≡ new_fabric c) × (config_fault c ≡ None)
-  pub happens : (f f' : Fabric) (event : Event) (what : Seen) → Happens f event what f' → answer f event ≡ Ok (what, f')
 
 -- the script so far, with its fabric and the number of its lines
 abbrev at : Option Fabric → ℕ → Stepping
@@ -65,7 +63,7 @@ ComesTo run f = (n : ℕ) × (text : List ℕ) × (run ≡ run_at (Some f) n tex
 after_event : Answers → (line : List ℕ) (event : Event) (what : Seen) (f f' : Fabric) (n : ℕ) (text : List ℕ) → Happens f event what f'
     → with_answer (run_at (Some f) n text) (by_line (at (Some f) n) line (Some (lines.Event event))) ≡ run_at (Some f') (next n) (text ++ result_text (at (Some f) n) line event what)
 after_event a line event what f f' n text h =
-    ap (λ (x : Result (Seen × Fabric) Refusal). with_answer (run_at (Some f) n text) (answered (at (Some f) n) line event (length f.memory.entries) x)) (a.happens f f' event what h)
+    ap (λ (x : Result (Seen × Fabric) Refusal). with_answer (run_at (Some f) n text) (answered (at (Some f) n) line event (length f.memory.entries) x)) h.0
 
 abbrev After : List (List ℕ) → Type 0
 After ls = (events : List Event) (f f' : Fabric) (rs : List Record) (n : ℕ) (text : List ℕ) → Runs f events rs f' → script_of ls ≡ map event_of events

@@ -11,7 +11,7 @@ ghost use Rattle.step_engine.specs.Script.{IsScript};
 ghost use Rattle.step_engine.specs.Step.{claim_with, out_step};
 ghost use Rattle.generate_engine.specs.Script.{IsScriptOf};
 
-use fabric_answers::laws::{a_configuration_has_one_answer, each_event_has_one_answer};
+use fabric_answers::laws::a_configuration_has_one_answer;
 use script_lines::laws::{own_line_spells_event, own_line_spells_fabric};
 use step_engine::laws::{a_traced_script_is_explained, a_traced_script_is_ok};
 
@@ -34,7 +34,6 @@ pub fn nothing_generated_is_refused()
         IsTellable (claim_with f s.happened.records) → (out_check (out_step true text).text).text ≡ codes "ok\n" }
 {
     a_configuration_has_one_answer();
-    each_event_has_one_answer();
     a_generated_script_is_read();
     a_traced_script_is_explained();
     a_traced_script_is_ok();

@@ -1,5 +1,5 @@
 -- Events that are tried, once and until they are refused.
-use Rattle.std.proofs.Common.{◌≡◌, ◌∙◌, ℕ, zero, suc, ◌+◌, ◌-◌, ◌≤◌, ◌<◌, Bool, true, false, if◌then◌else◌, List, [], ◌∷◌, ◌++◌, length, take, get_or, refl, sym, ap, Ok, Err, arith}
+use Rattle.std.proofs.Common.{◌≡◌, ◌∙◌, ℕ, zero, suc, ◌+◌, ◌-◌, ◌≤◌, ◌<◌, Bool, true, false, if◌then◌else◌, List, [], ◌∷◌, ◌++◌, length, take, get_or, refl, sym, ap, Result, Ok, Err, arith}
 use Rattle.std.specs.Prelude.{is_ok, ◌||◌, fold}
 use Rattle.std.proofs.lemmas.List.Sums.{fold_more}
 use Rattle.history_check.specs.declared.Record.{Record}
@@ -8,8 +8,7 @@ use Rattle.fabric_core.specs.declared.event.Event.{Event}
 use Rattle.fabric_core.specs.declared.event.Seen.{Seen}
 use Rattle.fabric_core.specs.declared.fault.Refusal.{Refusal}
 use Rattle.fabric_core.specs.Kept.{records_of}
-use Rattle.fabric_answers.specs.Answers.{Answered, answer}
-use Rattle.fabric_core.specs.Steps.{Happens}
+use Rattle.fabric_core.specs.Answers.{answer}
 use Rattle.fabric_core.specs.Runs.{Recorded}
 use Rattle.dllp_core.specs.declared.packet.Class.TheVariants.{Posted, NonPosted, Completion}
 use Rattle.lane_ends.specs.declared.packet.Fate.TheVariants.{Good}
@@ -36,7 +35,7 @@ pub refused_goes : (f : Fabric) (rs : List Record) (b : Bool) (e : Event) (r : R
 unfolding goes
 refused_goes f rs b e r h = ap is_ok h
 
-by_answer : (s : Settling) (e : Event) (a : Answered Fabric) → is_ok a ≡ false → answered s e a ≡ s
+by_answer : (s : Settling) (e : Event) (a : Result (Seen × Fabric) Refusal) → is_ok a ≡ false → answered s e a ≡ s
 by_answer s e (Ok p) h = absurd cc
 by_answer s e (Err r) h = refl
 
@@ -75,18 +74,15 @@ times_none s e = refl
 
 -- ---- one event
 
-abbrev pub EachHappens : Type 0
-EachHappens = (f f' : Fabric) (event : Event) (what : Seen) → Happens f event what f' → answer f event ≡ Ok (what, f')
-
-pub happens_now : EachHappens → (f f' : Fabric) (rs told rs' : List Record) (b b' : Bool) (e : Event) → Recorded f e [] f' told → rs' ≡ rs ++ told
+pub happens_now : (f f' : Fabric) (rs told rs' : List Record) (b b' : Bool) (e : Event) → Recorded f e [] f' told → rs' ≡ rs ++ told
     → b' ≡ (b || is_move e) → at f' rs' b' ≡ tried (at f rs b) e
-happens_now law f f' rs told rs' b b' e r h m =
+happens_now f f' rs told rs' b b' e r h m =
     let records : rs' ≡ rs ++ records_of e r.what (length f.memory.entries) = h ∙ ap (λ (xs : List Record). rs ++ xs) r.now in
     ap (λ (xs : List Record). at f' xs b') records ∙ ap (λ (x : Bool). at f' (rs ++ records_of e r.what (length f.memory.entries)) x) m
-    ∙ sym (happened f f' rs b e r.what (law f f' e r.what r.happens))
+    ∙ sym (happened f f' rs b e r.what r.happens.0)
 
-pub goes_now : EachHappens → (f f' : Fabric) (rs told : List Record) (b : Bool) (e : Event) → Recorded f e [] f' told → true ≡ goes (at f rs b) e
-goes_now law f f' rs told b e r = sym (goes_on f f' rs b e r.what (law f f' e r.what r.happens))
+pub goes_now : (f f' : Fabric) (rs told : List Record) (b : Bool) (e : Event) → Recorded f e [] f' told → true ≡ goes (at f rs b) e
+goes_now f f' rs told b e r = sym (goes_on f f' rs b e r.what r.happens.0)
 
 pub stays_now : (f f' : Fabric) (rs rs' : List Record) (b : Bool) (e : Event) (r : Refusal) → answer f e ≡ Err r → f' ≡ f → rs' ≡ rs → at f' rs' b ≡ tried (at f rs b) e
 stays_now f f' rs rs' b e r h same kept =

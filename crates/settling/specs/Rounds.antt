@@ -1,5 +1,5 @@
 -- Running a fabric by rounds of events until one moves nothing.
-use Rattle.std.specs.Prelude.{ℕ, zero, suc, ◌≡◌, ◌<◌, ◌⊎◌, ◌+◌, ◌-◌, ◌^◌, ◌||◌, ◌&&◌, Bool, true, false, if◌then◌else◌, List, [], ◌∷◌, ◌++◌, length, fold, Ok, Err, is_ok}
+use Rattle.std.specs.Prelude.{ℕ, zero, suc, ◌≡◌, ◌<◌, ◌⊎◌, ◌+◌, ◌-◌, ◌^◌, ◌||◌, ◌&&◌, Bool, true, false, if◌then◌else◌, List, [], ◌∷◌, ◌++◌, length, fold, Result, Ok, Err, is_ok}
 use Rattle.std.specs.List.{list_all}
 use Rattle.history_check.specs.declared.Record.{Record}
 use Rattle.dllp_core.specs.declared.packet.Class.TheVariants.{Posted, NonPosted, Completion}
@@ -14,8 +14,10 @@ use Rattle.fabric_core.specs.declared.event.Event.{Event}
 use Rattle.fabric_core.specs.declared.event.Event.TheVariants as events
 use Rattle.fabric_core.specs.declared.event.LaneName.{LaneName}
 use Rattle.fabric_core.specs.declared.event.LaneName.TheVariants as lanes
+use Rattle.fabric_core.specs.declared.event.Seen.{Seen}
+use Rattle.fabric_core.specs.declared.fault.Refusal.{Refusal}
 use Rattle.fabric_core.specs.Kept.{records_of}
-use Rattle.fabric_answers.specs.Answers.{Answered, answer}
+use Rattle.fabric_core.specs.Answers.{answer}
 use Rattle.settling.specs.declared.turns.Attempt.{Attempt}
 use Rattle.settling.specs.declared.turns.Attempt.TheVariants as attempts
 
@@ -38,7 +40,7 @@ is_move (events.Retrained lane) = false
 is_move _ = true
 
 -- an event that happens is one step of the fabric, and one that is refused changes nothing
-abbrev pub answered : Settling → Event → Answered Fabric → Settling
+abbrev pub answered : Settling → Event → Result (Seen × Fabric) Refusal → Settling
 answered s event (Ok p) = at p.1 (s.records ++ records_of event p.0 (length s.fabric.memory.entries)) (s.moved || is_move event)
 answered s event (Err r) = s
 

@@ -1,6 +1,6 @@
 //! A round of events.
 ghost use Rattle.std.specs.Prelude.{◌≡◌, ◌<◌, ◌++◌, false, vec_len, vec_capacity, option_to_list, fold, IfOk, OnOk};
-ghost use Rattle.fabric_answers.specs.Answers.{IsTold};
+ghost use Rattle.fabric_answers.specs.Told.{IsTold};
 ghost use Rattle.settling.specs.Reached.{Reached};
 ghost use Rattle.settling.specs.Rounds as spec;
 
@@ -111,7 +111,6 @@ fn once(
     ensures reached { Reached fabric.old records.old.items fabric.new records.new.items }
 {
     each_event_has_one_answer();
-    fabric.sound();
     records.try_reserve(1)?;
     match fabric.step_recorded(event) {
         Ok(told) => {

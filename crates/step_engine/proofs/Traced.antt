@@ -1,5 +1,5 @@
 -- The run of a traced script to its end.
-use Rattle.std.proofs.Common.{◌≡◌, ◌∙◌, ◌++◌, ◌+◌, inl, inr, ℕ, Bool, true, false, List, [], ◌∷◌, length, refl, sym, ap, ap₂, subst, Option, Some, None, Result, Ok, Err, if◌then◌else◌}
+use Rattle.std.proofs.Common.{◌≡◌, ◌∙◌, ◌++◌, ◌+◌, inl, inr, ℕ, Bool, true, false, List, [], ◌∷◌, length, refl, sym, ap, ap₂, subst, Option, Some, None, Result, Err, if◌then◌else◌}
 use Rattle.std.specs.Prelude.{◌-◌, ◌^◌, min, fold, map, nat_lt}
 use Rattle.std.proofs.lemmas.List.{append-nil, append_assoc}
 use Rattle.history_check.specs.declared.Record.{Record}
@@ -18,7 +18,8 @@ use Rattle.fabric_core.specs.Config.{IsNewWith}
 use Rattle.fabric_core.specs.Kept.{IsSoundFabric, records_of}
 use Rattle.fabric_core.specs.Steps.{Happens, Refused}
 use Rattle.fabric_core.specs.Runs.{Runs}
-use Rattle.fabric_answers.specs.Answers.{answer, IsTold}
+use Rattle.fabric_core.specs.Answers.{answer}
+use Rattle.fabric_answers.specs.Told.{IsTold}
 use Rattle.fabric_answers.specs.New.{new_fabric, config_fault}
 use Rattle.operation_text.specs.Words.{words}
 use Rattle.trace_format.specs.Lines.{is_skipped}
@@ -96,8 +97,7 @@ is_explained l keeps input p h =
 
 pub record Answers : Type 0 where
   pub new : (c : Config) (f : Fabric) → IsNewWith c f → (f ≡ new_fabric c) × (config_fault c ≡ None)
-  pub happens : (f f' : Fabric) (event : Event) (what : Seen) → Happens f event what f' → answer f event ≡ Ok (what, f')
-  pub refused : (f : Fabric) (event : Event) (r : Refusal) → IsSoundFabric f → Refused f event r → IsTold r → answer f event ≡ Err r
+  pub refused : (f : Fabric) (event : Event) (r : Refusal) → Refused f event r → IsTold r → answer f event ≡ Err r
 
 -- the traced script so far
 abbrev at : Bool → Bool → Option Fabric → List Record → ℕ → Stepping
@@ -139,11 +139,11 @@ after_one a keeps echoes line (Some (lines.Fabric c)) p p' n s h = absurd h
 after_one a keeps echoes line (Some (lines.Event event)) p p' n s (inl h) =
     let g = h.recorded in
     let start = at keeps echoes (Some p.fabric) p.records n in
-    ap (λ (x : Result (Seen × Fabric) Refusal). with_answer (run_at keeps echoes p n) (answered start line event (length p.fabric.memory.entries) x)) (a.happens p.fabric p'.fabric event g.what g.happens)
+    ap (λ (x : Result (Seen × Fabric) Refusal). with_answer (run_at keeps echoes p n) (answered start line event (length p.fabric.memory.entries) x)) g.happens.0
     ∙ ap₂ (λ (rs : List Record) (status : ℕ). run_at keeps echoes (progress p'.fabric rs status) (min (n + 1) (2 ^ 64 - 1))) (sym g.now) (sym h.status)
 after_one a keeps echoes line (Some (lines.Event event)) p p' n s (inr h) =
     let start = at keeps echoes (Some p.fabric) p.records n in
-    ap (λ (x : Result (Seen × Fabric) Refusal). with_answer (run_at keeps echoes p n) (answered start line event (length p.fabric.memory.entries) x)) (a.refused p.fabric event h.1.refusal s h.1.refused h.1.told)
+    ap (λ (x : Result (Seen × Fabric) Refusal). with_answer (run_at keeps echoes p n) (answered start line event (length p.fabric.memory.entries) x)) (a.refused p.fabric event h.1.refusal h.1.refused h.1.told)
     ∙ passed keeps echoes p n line (refusal_text h.1.refusal) h.0
     ∙ ap (λ (x : Progress). run_at keeps echoes x (min (n + 1) (2 ^ 64 - 1))) (sym h.1.now)
 after_one a keeps echoes line (Some lines.Settle) p p' n s h =

@@ -1,7 +1,8 @@
 //! The subcommand `step`: scripts of events for a fabric.
 ghost use Rattle.std.specs.Prelude.{◌≡◌, ◌≤◌, ◌+◌, ◌++◌, ◌∷◌, [], true, false, length, option_to_list, is_some, Some, None, Ok, Err, IfOk, IfErr, OnOk, OnErr};
 ghost use Rattle.arrayvec.specs.ArrayString.{array_string_len};
-ghost use Rattle.fabric_answers.specs.Answers.{answer, IsTold};
+ghost use Rattle.fabric_core.specs.Answers.{answer};
+ghost use Rattle.fabric_answers.specs.Told.{IsTold};
 ghost use Rattle.fabric_answers.specs.New.{new_fabric, config_fault};
 ghost use Rattle.fabric_core.specs.Config.{fault_name};
 ghost use Rattle.script_text.specs.Names.{refusal_text};
@@ -46,7 +47,6 @@ fn happen(fabric: &mut Fabric, event: &Event) -> Result<Seen, Refusal>
     ensures err { OnErr result (fabric.new ≡ fabric.old) }
 {
     each_event_has_one_answer();
-    fabric.sound();
     fabric.step(event)
 }
 
@@ -57,7 +57,6 @@ fn happen_recorded(fabric: &mut Fabric, event: &Event) -> Result<Option<Record>,
     ensures err { OnErr result (fabric.new ≡ fabric.old) }
 {
     each_event_has_one_answer();
-    fabric.sound();
     fabric.step_recorded(event)
 }
 

@@ -6,7 +6,7 @@ returns c =
     let read = c.a_generated_script_is_read.ensures in
     let traced = c.a_traced_script_is_explained.ensures in
     record {
-      plain = λ config count text f s. ends_well (record { new = c.a_configuration_has_one_answer.ensures.new; happens = c.each_event_has_one_answer.ensures.happens })
+      plain = λ config count text f s. ends_well (record { new = c.a_configuration_has_one_answer.ensures.new })
           text config s.happened.new f s.events s.happened.records (read config count text f s) s.happened.is_new s.happened.run;
       text = λ config count text f s. traced.text text config s.happened.new f s.events s.happened.records (read config count text f s) s.happened.is_new s.happened.run;
       status = λ config count text f s. traced.status text config s.happened.new f s.events s.happened.records (read config count text f s) s.happened.is_new s.happened.run;

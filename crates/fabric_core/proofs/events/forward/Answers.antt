@@ -1,16 +1,10 @@
-use Rattle.std.proofs.Common.{◌≡◌, Err, Ok, refl, ap, ap₂, sym, ◌∙◌}
-use Rattle.fabric_core.proofs.Entering.{enters_on, item_is}
+use Rattle.std.proofs.Common.{Ok, ap, ℕ, subst, sym, ◌∙◌}
+use Rattle.fabric_core.proofs.Entering.{enters_on, item_is, ok_is}
 use Rattle.fabric_core.specs.Answers.{and_then, map_ok, enter_on}
-use Rattle.lane_ends.specs.Steps.{Outgoing, Incoming, after_take}
-use Rattle.switch_core.specs.declared.fault.ForwardRefusal.TheVariants.{Lane}
-use Rattle.fabric_core.proofs.Rooms.{held}
+use Rattle.tlp_core.specs.Packet.{Packet}
+use Rattle.tlp_core.specs.Layout.{Spells, canonical}
+use Rattle.lane_ends.specs.Steps.{Incoming, after_take}
 use Rattle.fabric_core.proofs.events.forward.Goals as goal
-
-pub returns-in-Err-Lane-clause-refused : goal.returns-in-Err-Lane-clause-refused
-returns-in-Err-Lane-clause-refused c =
-    let f = c.forward_ends.ensures in
-    let e : c.forward_ends.result ≡ Err (Lane c.in-Err-Lane.refusal) = (let is = c.in-Err-Lane.is in let refusal = c.in-Err-Lane.field-0-is in cc) in
-    held c.args.receiver.now c.args.place c.args.sender.now c.forward_ends.result c.in-Err-Lane.refusal e f.not_takeable (f.lacks c.in-Err-Lane.refusal e)
 
 pub returns-in-Ok-clause-answers : goal.returns-in-Ok-clause-answers
 returns-in-Ok-clause-answers c =
@@ -18,3 +12,8 @@ returns-in-Ok-clause-answers c =
     ap (λ i. and_then i (λ x. map_ok (enter_on c.args.sender.now x.0 x.1) (λ s'. (after_take c.args.receiver.now c.args.place, s')))) (item_is c.args.receiver.now c.args.place h.packet h.mark h.takeable h.there)
     ∙ ap (λ e. map_ok e (λ s'. (after_take c.args.receiver.now c.args.place, s'))) (enters_on c.args.sender.now h.packet h.mark c.forward_ends.new.to h.may h.sent)
     ∙ ap (λ (r : Incoming). Ok (r, c.forward_ends.new.to)) (sym h.left)
+
+pub returns-in-Ok-clause-fits : goal.returns-in-Ok-clause-fits
+returns-in-Ok-clause-fits c =
+    let h = c.in-Ok.ensures.ok in
+    record { spelled = λ t mark e. subst (λ (x : Packet × ℕ). Spells (canonical x.0) x.0) (ok_is (h.packet, h.mark) (t, mark) (sym (item_is c.args.receiver.now c.args.place h.packet h.mark h.takeable h.there) ∙ e)) h.spelled }

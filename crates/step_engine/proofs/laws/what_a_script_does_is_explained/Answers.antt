@@ -17,7 +17,6 @@ laws_of c = record {
 answers_of : goal.After-the_trace_belongs → Answers
 answers_of c = record {
   new = c.a_configuration_has_one_answer.ensures.new;
-  happens = c.each_event_has_one_answer.ensures.happens;
   refused = c.each_event_has_one_answer.ensures.refused;
 }
 

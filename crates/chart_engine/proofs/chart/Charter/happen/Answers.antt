@@ -1,7 +1,7 @@
 use Rattle.std.proofs.Common.{rules, ◌≡◌, ◌∙◌, List, ℕ, Option, sym, ap, Some}
 use Rattle.std.specs.Prelude.{option_map}
 use Rattle.fabric_laws.specs.Fabric.{Fabric}
-use Rattle.fabric_answers.specs.Answers.{answer}
+use Rattle.fabric_core.specs.Answers.{answer}
 use Rattle.link_chart.specs.ChartView.{ChartView}
 use Rattle.chart_engine.specs.declared.chart.Session.{Session}
 use Rattle.chart_engine.specs.Chart.{Charting, session, next_line, left_by}
