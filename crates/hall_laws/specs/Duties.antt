@@ -16,8 +16,7 @@ use Rattle.fabric_core.specs.declared.event.Event.TheVariants as events
 use Rattle.fabric_core.specs.declared.event.LaneName.{LaneName}
 use Rattle.fabric_core.specs.declared.event.LaneName.TheVariants as lanes
 use Rattle.fabric_core.specs.declared.event.Seen.TheVariants as seen
-use Rattle.fabric_core.specs.Answers.{transmit_on, deliver_on, send_dllp_on, deliver_dllp_on, timer_on, retrained_on, submit_on, destination_on, forward_on, serve_on, collect_on}
-use Rattle.hall_laws.specs.Soon.{SubmitFits, ForwardFits, ServeFits}
+use Rattle.fabric_core.specs.Answers.{transmit_on, deliver_on, send_dllp_on, deliver_dllp_on, timer_on, retrained_on, submit_on, destination_on, forward_on, serve_on, collect_on, SubmitFits, ForwardFits, ServeFits}
 use Rattle.hall_laws.specs.declared.part.PartValue.TheVariants.{Memory, Requester, Sender, Forward, Back, Receiver}
 use Rattle.hall_laws.specs.declared.token.Token.{Token}
 use Rattle.hall_laws.specs.Parts.{slot, lane_slot, IsLaneName}

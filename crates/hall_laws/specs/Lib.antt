@@ -1,4 +1,3 @@
-pub mod Soon
 pub mod Parts
 pub mod Standing
 pub mod Waiting
