@@ -4,10 +4,11 @@ use Rattle.std.specs.Prelude.{slice_get, slice_set, ◌&&◌, ◌==◌, not}
 use Rattle.std.proofs.lemmas.Bool.Decides.{nat_tests}
 use Rattle.tlp_core.specs.Packet.{Packet}
 use Rattle.tlp_core.specs.declared.operation.Op.{Op}
+use Rattle.seq_memory.specs.History.{State}
 use Rattle.requester_core.specs.Requesting.{Requesting}
 use Rattle.lane_ends.specs.Steps.{Ends, Incoming, Outgoing}
 use Rattle.tlp_core.specs.Operation.{is_completion}
-use Rattle.vc_queue.specs.Queue.{Item}
+use Rattle.vc_queue.specs.Queue.{Item, is_takeable}
 use Rattle.switch_core.specs.Routing.{route, port_of, is_requester}
 use Rattle.switch_core.specs.declared.fault.RouteFault.TheVariants.{NoPort}
 use Rattle.fabric_laws.specs.Fabric.{Fabric}
@@ -16,7 +17,7 @@ use Rattle.fabric_core.specs.declared.event.Seen.TheVariants as seen
 use Rattle.fabric_core.specs.declared.fault.Refusal.{Refusal}
 use Rattle.fabric_core.specs.declared.fault.Refusal.TheVariants as refusals
 use Rattle.fabric_core.specs.declared.event.Event.TheVariants as events
-use Rattle.fabric_core.specs.Answers.{Refuses, Refused, lane_grows, event_grows, map_ok, and_then, map_err, item_at, submit_on, destination_on, forward_on, forward_at}
+use Rattle.fabric_core.specs.Answers.{Refuses, Refused, lane_grows, serving_grows, event_grows, act_on, serve_on, map_ok, and_then, map_err, item_at, submit_on, destination_on, forward_on, forward_at}
 use Rattle.fabric_core.specs.Steps.{HasPart}
 
 -- the refusals of what is given by another name
@@ -92,3 +93,14 @@ pub forward_out_refuses : (f : Fabric) (place to at : ℕ) (e : Ends) (r : Refus
     → Refused f (events.Forward lanes.Outward place) r
 forward_out_refuses f place to at e r i d h =
     out_held f place at e r i.there (subst (λ (n : ℕ). destination_on f.outward.receiver place 0 ≡ Ok n) i.is_port d) h
+
+-- ---- Serve
+
+pub act_refuses : (r : Incoming) (place : ℕ) (m : State) (s : Outgoing) (t : Packet) (mark : ℕ) (x : Refusal) → is_takeable r.queue place ≡ true → slice_get r.queue place ≡ Some (t, mark)
+    → Refuses (λ (y : ℕ × State × Outgoing). serving_grows s y.2) (act_on m t mark s) x → Refuses (λ (y : ℕ × Incoming × State × Outgoing). serving_grows s y.3) (serve_on r place m s) x
+act_refuses r place m s t mark x may there h = rw (may, there) (refuses_given (λ (y : ℕ × Incoming × State × Outgoing). serving_grows s y.3) _ (act_on m t mark s) x h)
+
+pub serve_refuses : (f : Fabric) (place : ℕ) (r : Result ℕ Refusal) → IfErr r (Refuses (λ (y : ℕ × Incoming × State × Outgoing). serving_grows f.outward.sender y.3) (serve_on f.inward.receiver place f.memory f.outward.sender))
+    → IfErr r (Refused f (events.Serve place))
+serve_refuses f place (Ok n) h = tt
+serve_refuses f place (Err x) h = refuses_given (event_grows f) _ (serve_on f.inward.receiver place f.memory f.outward.sender) x h

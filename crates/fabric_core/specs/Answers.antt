@@ -1,7 +1,7 @@
 -- What each event does to a fabric. A function named `.._on` is one event over the parts that it uses: it returns the
 -- event's result and the parts after it, or the first refusal of its order. A function named `.._at` finds these parts in
--- the fabric and puts them back; `answer` is all events. They assume that memory can be allocated. `Refuses`
--- adds the refusals of events for which it can't; `Happens` and `Refused`, at the end, are what all else speaks of.
+-- the fabric and puts them back; `answer` is all events. They assume that memory can be allocated. `Refuses` adds the
+-- refusals of events for which it can't. `Happens` and `Refused`, at the end, are the words of all other clauses.
 use Rattle.std.specs.Prelude.{ℕ, ◌≡◌, ◌<◌, zero, suc, ◌==◌, nat_lt, List, length, if◌then◌else◌, Option, Some, None, Result, Ok, Err, slice_get, slice_set}
 use Rattle.tlp_core.specs.declared.operation.Op.{Op}
 use Rattle.tlp_core.specs.Packet.{Packet}
