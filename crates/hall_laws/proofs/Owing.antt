@@ -1,5 +1,5 @@
 -- What each event owes at its release.
-use Rattle.std.proofs.Common.{◌≡◌, ◌≢◌, ℕ, zero, suc, ◌+◌, ◌<◌, ◌≤◌, List, [], ◌∷◌, set, refl, sym, ap, ◌∙◌, subst, arith, Some, Result, Ok}
+use Rattle.std.proofs.Common.{◌≡◌, ◌≢◌, ℕ, zero, suc, ◌+◌, ◌<◌, List, [], ◌∷◌, set, refl, sym, ap, ◌∙◌, subst, arith, Result, Ok}
 use Rattle.std.specs.Prelude.{slice_get}
 use mathlib.Core.Option.{some}
 use lib.ListN.{get_elem?}
@@ -20,9 +20,9 @@ use Rattle.fabric_core.specs.declared.event.LinkEvent.TheVariants as links
 use Rattle.fabric_core.specs.declared.event.Seen.{Seen}
 use Rattle.fabric_core.specs.declared.event.Seen.TheVariants as seen
 use Rattle.fabric_core.specs.declared.fault.Refusal.{Refusal}
-use Rattle.fabric_core.specs.Answers.{map_ok, send_dllp_on, link_on, link_at, destination_on, forward_on, port_from, part_at, lane_at, lane_to, with_requester, Happens, SubmitFits, ForwardFits, ServeFits}
+use Rattle.fabric_core.specs.Answers.{map_ok, send_dllp_on, link_on, link_at, destination_on, forward_on, port_from, part_at, lane_to, with_requester, Happens, SubmitFits, ForwardFits}
 use Rattle.fabric_core.specs.Kept.{records_of}
-use Rattle.fabric_core.specs.Steps.{HasLane, HasPart}
+use Rattle.fabric_core.specs.Steps.{HasLane}
 use Rattle.hall_laws.specs.declared.part.PartValue.{PartValue}
 use Rattle.hall_laws.specs.declared.part.PartValue.TheVariants.{Memory, Requester, Sender, Forward, Back, Receiver}
 use Rattle.hall_laws.specs.declared.token.Token.{Token}

@@ -1,5 +1,5 @@
 -- A refusal by the parts that are held is one by the fabric.
-use Rattle.std.proofs.Common.{◌≡◌, ◌⊎◌, ℕ, zero, suc, ◌+◌, ◌<◌, ◌≤◌, List, [], ◌∷◌, Ok, Err, Result, None, refl, sym, ap, ◌∙◌, inl, inr, ⊎_elim, subst, arith}
+use Rattle.std.proofs.Common.{◌≡◌, ℕ, zero, suc, ◌+◌, ◌<◌, List, [], ◌∷◌, Ok, Err, Result, None, refl, sym, ap, ⊎_elim, subst, arith}
 use Rattle.std.specs.Prelude.{slice_get}
 use Rattle.std.proofs.lemmas.Option.{slice_get_past}
 use mathlib.Core.Option.{some}
@@ -20,8 +20,8 @@ use Rattle.fabric_core.specs.declared.event.LinkEvent.TheVariants as links
 use Rattle.fabric_core.specs.declared.event.Seen.{Seen}
 use Rattle.fabric_core.specs.declared.fault.Refusal.{Refusal}
 use Rattle.fabric_core.specs.declared.fault.Refusal.TheVariants as refusals
-use Rattle.fabric_core.specs.Answers.{Refuses, map_ok, lane_grows, arrival_grows, serving_grows, event_grows, transmit_on, deliver_on, send_dllp_on, deliver_dllp_on, timer_on, retrained_on, submit_on, destination_on, forward_on, serve_on, collect_on, link_on, link_at, port_from, lane_to, part_at, lane_at, Refused}
-use Rattle.fabric_core.specs.Steps.{HasLane, HasPart}
+use Rattle.fabric_core.specs.Answers.{Refuses, map_ok, lane_grows, arrival_grows, serving_grows, event_grows, transmit_on, deliver_on, deliver_dllp_on, timer_on, retrained_on, submit_on, destination_on, forward_on, serve_on, link_on, link_at, port_from, lane_to, part_at, Refused}
+use Rattle.fabric_core.specs.Steps.{HasLane}
 use Rattle.hall_laws.specs.declared.part.PartValue.{PartValue}
 use Rattle.hall_laws.specs.declared.part.PartValue.TheVariants.{Memory, Requester, Sender, Forward, Back, Receiver}
 use Rattle.hall_laws.specs.declared.token.Token.{Token}
