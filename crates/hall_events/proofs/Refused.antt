@@ -1,6 +1,7 @@
 -- Refusals.
-use Rattle.std.proofs.Common.{◌≡◌, ℕ, ◌<◌, ◌≤◌, length, sym, refl, ◌∙◌, inl, inr, subst, arith, lt_of_not-le, ⊎_elim}
-use native.Mathlib.Decide.{dec_le, dec_lt}
+use Rattle.std.proofs.Common.{◌≡◌, ℕ, zero, suc, ◌<◌, ◌≤◌, List, length, Err, sym, refl, ◌∙◌, subst, arith, lt_of_not-le, ⊎_elim}
+use Rattle.std.proofs.lemmas.Option.{slice_get_past}
+use native.Mathlib.Decide.{dec_le}
 use Rattle.fabric_laws.specs.Fabric.{Fabric}
 use Rattle.fabric_core.specs.declared.event.Event.{Event}
 use Rattle.fabric_core.specs.declared.event.Event.TheVariants as events
@@ -10,7 +11,8 @@ use Rattle.fabric_core.specs.declared.event.LinkEvent.{LinkEvent}
 use Rattle.fabric_core.specs.declared.event.LinkEvent.TheVariants as links
 use Rattle.fabric_core.specs.declared.fault.Refusal.{Refusal}
 use Rattle.fabric_core.specs.declared.fault.Refusal.TheVariants.{NoSuchPart}
-use Rattle.fabric_core.specs.Steps.{HasLanes, LinkAtRefused, IsNoPort, Refused}
+use Rattle.fabric_core.specs.Answers.{part_at, lane_at}
+use Rattle.fabric_core.specs.Steps.{HasLanes, Refused}
 use Rattle.hall_laws.specs.Parts.{IsLaneName}
 use Rattle.hall_events.specs.Works.{link_event}
 use Rattle.fabric_core.specs.Kept.{IsSoundFabric, IsPossible}
@@ -20,37 +22,34 @@ use Rattle.hall_events.specs.declared.refusal.HallRefusal.{HallRefusal}
 use Rattle.hall_events.specs.declared.refusal.HallRefusal.TheVariants.{Busy, Core}
 use Rattle.hall_events.specs.Refusals.{HasNoPart, IsRefused, IsPossibleInHall}
 
--- a lane that isn't there
-no_port : (port count other : ℕ) → ((0 < port) × (port ≤ count) → ⊥) → other ≡ count → IsNoPort port other
-no_port port count other none same = decide (dec_lt 0 port)
+-- a part that isn't there
+no_part : {X : Type 0} (parts : List X) (port count : ℕ) → ((0 < port) × (port ≤ count) → ⊥) → length parts ≡ count → part_at parts port ≡ Err NoSuchPart
+no_part parts zero count none same = refl
+no_part parts (suc i) count none same = rw (slice_get_past parts i (past (dec_le (suc i) count))) refl
   where
-    beyond : 0 < port → Dec (port ≤ count) → IsNoPort port other
-    beyond some (yes small) = absurd (none (some, small))
-    beyond some (no big) = let b = lt_of_not-le big in inr (omega arith)
+    past : Dec (suc i ≤ count) → length parts ≤ i
+    past (yes small) = absurd (none (omega arith, small))
+    past (no big) = let b = lt_of_not-le big in omega arith
 
-    decide : Dec (0 < port) → IsNoPort port other
-    decide (yes some) = beyond some (dec_le port count)
-    decide (no none_here) = inl (omega (arith, none_here))
+missing : (f : Fabric) (count : ℕ) → HasLanes f → length f.requesters ≡ count → (name : LaneName) → (IsLaneName count name → ⊥) → lane_at f name ≡ Err NoSuchPart
+missing f count h many (lanes.Up port) none = no_part f.up port count none (h.up ∙ many)
+missing f count h many (lanes.Down port) none = no_part f.down port count none (h.down ∙ many)
+missing f count h many lanes.Inward none = absurd (none tt)
+missing f count h many lanes.Outward none = absurd (none tt)
 
 pub no_lane : (count : ℕ) (name : LaneName) (link : LinkEvent) → (IsLaneName count name → ⊥) → HasNoPart count (link_event name link) NoSuchPart
-no_lane count name link none = (refl, λ f h many. refused f h many name link none)
+no_lane count name link none = (refl, λ f h many. refused f h many link)
   where
-    at : (f : Fabric) → HasLanes f → length f.requesters ≡ count → (name : LaneName) (link : LinkEvent) → (IsLaneName count name → ⊥) → LinkAtRefused f name link NoSuchPart
-    at f h many (lanes.Up port) link none = inl (refl, no_port port count (length f.up) none (h.up ∙ many))
-    at f h many (lanes.Down port) link none = inl (refl, no_port port count (length f.down) none (h.down ∙ many))
-    at f h many lanes.Inward link none = absurd (none tt)
-    at f h many lanes.Outward link none = absurd (none tt)
-
-    refused : (f : Fabric) → HasLanes f → length f.requesters ≡ count → (name : LaneName) (link : LinkEvent) → (IsLaneName count name → ⊥) → Refused f (link_event name link) NoSuchPart
-    refused f h many name links.Transmit none = at f h many name links.Transmit none
-    refused f h many name (links.Deliver fate) none = at f h many name (links.Deliver fate) none
-    refused f h many name (links.SendDllp kind) none = at f h many name (links.SendDllp kind) none
-    refused f h many name (links.DeliverDllp fate) none = at f h many name (links.DeliverDllp fate) none
-    refused f h many name links.Timer none = at f h many name links.Timer none
-    refused f h many name links.Retrained none = at f h many name links.Retrained none
+    refused : (f : Fabric) → HasLanes f → length f.requesters ≡ count → (link : LinkEvent) → Refused f (link_event name link) NoSuchPart
+    refused f h many links.Transmit = rw (missing f count h many name none) refl
+    refused f h many (links.Deliver fate) = rw (missing f count h many name none) refl
+    refused f h many (links.SendDllp kind) = rw (missing f count h many name none) refl
+    refused f h many (links.DeliverDllp fate) = rw (missing f count h many name none) refl
+    refused f h many links.Timer = rw (missing f count h many name none) refl
+    refused f h many links.Retrained = rw (missing f count h many name none) refl
 
 pub no_up : (count port place : ℕ) → ((0 < port) × (port ≤ count) → ⊥) → HasNoPart count (events.Forward (lanes.Up port) place) NoSuchPart
-no_up count port place none = (refl, λ f h many. inl (refl, no_port port count (length f.up) none (h.up ∙ many)))
+no_up count port place none = (refl, λ f h many. rw (missing f count h many (lanes.Up port) none) refl)
 
 -- ---- what is never answered
 

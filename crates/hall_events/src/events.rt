@@ -1,9 +1,8 @@
 //! The events of the fabric over parts in places of their own.
-ghost use Rattle.std.specs.Prelude.{◌≡◌, ◌↔◌, ◌<◌, true, [], Some, None, Ok, IsTrue, IfOk, IfErr, OnOk, OnErr};
+ghost use Rattle.std.specs.Prelude.{◌≡◌, ◌↔◌, [], None, Ok, Err, IsTrue, IfOk, IfErr, OnOk, OnErr};
 ghost use Rattle.vc_queue.specs.Queue.{is_takeable};
-ghost use Rattle.lane_ends.specs.Steps.{after_timer, after_retraining, transmitted, after_transmission, wire_after_transmit, all_but_first, delivered, after_deliver, dllp_of, after_send, wire_after_send, dllp_seen, sender_after};
-ghost use Rattle.switch_core.specs.Forwarding.{Forwards};
-ghost use Rattle.fabric_core.specs.Footprints.{Submits, SubmitRefused, TransmitRefused, DeliverRefused, SendDllpRefused, DllpRefused, TimerRefused, RetrainedRefused, ForwardRefused, IsRoutedAs, DestinationRefused, Serves, ServeRefused, Collects, CollectRefused};
+ghost use Rattle.lane_ends.specs.Steps.{transmitted};
+ghost use Rattle.fabric_core.specs.Answers.{Refuses, lane_grows, arrival_grows, serving_grows, transmit_on, deliver_on, send_dllp_on, deliver_dllp_on, timer_on, retrained_on, submit_on, destination_on, forward_on, serve_on, collect_on, SubmitFits, ForwardFits, ServeFits};
 
 use dllp_core::Dllp;
 use fabric_core::{Refusal, events};
@@ -21,8 +20,9 @@ pub fn submit(
     sender: &mut Boxed<SenderEnd>,
     op: &Op,
 ) -> Result<u32, Refusal>
-    ensures ok { IfOk result (λ number. Submits requester.old sender.old op.now number requester.new sender.new) }
-    ensures refused { IfErr result (λ r. SubmitRefused requester.old sender.old op.now r) }
+    ensures ok { IfOk result (λ number. submit_on requester.old sender.old op.now ≡ Ok (number, requester.new, sender.new)) }
+    ensures fits { OnOk result (SubmitFits requester.old op.now) }
+    ensures refused { IfErr result (λ r. Refuses lane_grows (submit_on requester.old sender.old op.now) r) }
     ensures err_requester { OnErr result (requester.new ≡ requester.old) }
     ensures err_sender { OnErr result (sender.new ≡ sender.old) }
 {
@@ -41,10 +41,8 @@ pub fn transmit(
     sender: &mut Boxed<SenderEnd>,
     wire: &mut Boxed<ForwardWire>,
 ) -> Result<Seq12, Refusal>
-    ensures number { IfOk result (λ number. transmitted sender.old ≡ Some number) }
-    ensures sender { OnOk result (sender.new ≡ after_transmission sender.old) }
-    ensures wire { OnOk result (wire.new ≡ wire_after_transmit sender.old wire.old) }
-    ensures refused { IfErr result (λ r. TransmitRefused sender.old r) }
+    ensures ok { IfOk result (λ number. transmit_on sender.old wire.old ≡ Ok (number, sender.new, wire.new)) }
+    ensures refused { IfErr result (λ r. Refuses lane_grows (transmit_on sender.old wire.old) r) }
     ensures err_sender { OnErr result (sender.new ≡ sender.old) }
     ensures err_wire { OnErr result (wire.new ≡ wire.old) }
 {
@@ -64,10 +62,8 @@ pub fn deliver(
     receiver: &mut Boxed<ReceiverEnd>,
     fate: Fate,
 ) -> Result<Arrival, Refusal>
-    ensures arrival { IfOk result (λ arrival. delivered wire.old receiver.old fate ≡ Some arrival) }
-    ensures receiver { OnOk result (receiver.new ≡ after_deliver wire.old receiver.old fate) }
-    ensures wire { OnOk result (wire.new ≡ all_but_first wire.old) }
-    ensures refused { IfErr result (λ r. DeliverRefused wire.old receiver.old fate r) }
+    ensures ok { IfOk result (λ arrival. deliver_on wire.old receiver.old fate ≡ Ok (arrival, wire.new, receiver.new)) }
+    ensures refused { IfErr result (λ r. Refuses (λ x. arrival_grows x.0) (deliver_on wire.old receiver.old fate) r) }
     ensures err_receiver { OnErr result (receiver.new ≡ receiver.old) }
     ensures err_wire { OnErr result (wire.new ≡ wire.old) }
 {
@@ -80,10 +76,8 @@ pub fn send_dllp(
     wire: &mut Boxed<BackWire>,
     kind: DllpKind,
 ) -> Result<Dllp, Refusal>
-    ensures dllp { IfOk result (λ dllp. dllp ≡ dllp_of receiver.old kind) }
-    ensures receiver { OnOk result (receiver.new ≡ after_send receiver.old kind) }
-    ensures wire { OnOk result (wire.new ≡ wire_after_send receiver.old kind wire.old) }
-    ensures refused { IfErr result (λ r. SendDllpRefused r) }
+    ensures ok { IfOk result (λ dllp. send_dllp_on receiver.old wire.old kind ≡ Ok (dllp, receiver.new, wire.new)) }
+    ensures refused { IfErr result (λ r. Refuses lane_grows (send_dllp_on receiver.old wire.old kind) r) }
     ensures err_receiver { OnErr result (receiver.new ≡ receiver.old) }
     ensures err_wire { OnErr result (wire.new ≡ wire.old) }
 {
@@ -103,10 +97,8 @@ pub fn deliver_dllp(
     sender: &mut Boxed<SenderEnd>,
     fate: Fate,
 ) -> Result<DllpSeen, Refusal>
-    ensures seen { IfOk result (λ seen. dllp_seen wire.old sender.old fate ≡ Ok (Some seen)) }
-    ensures sender { OnOk result (sender.new ≡ sender_after wire.old sender.old fate) }
-    ensures wire { OnOk result (wire.new ≡ all_but_first wire.old) }
-    ensures refused { IfErr result (λ r. DllpRefused wire.old sender.old fate r) }
+    ensures ok { IfOk result (λ seen. deliver_dllp_on wire.old sender.old fate ≡ Ok (seen, wire.new, sender.new)) }
+    ensures refused { IfErr result (λ r. deliver_dllp_on wire.old sender.old fate ≡ Err r) }
     ensures err_sender { OnErr result (sender.new ≡ sender.old) }
     ensures err_wire { OnErr result (wire.new ≡ wire.old) }
 {
@@ -115,9 +107,8 @@ pub fn deliver_dllp(
 
 /// [`events::timer`].
 pub fn timer(sender: &mut Boxed<SenderEnd>) -> Result<usize, Refusal>
-    ensures moved { IfOk result (λ moved. (moved ≡ sender.old.sending.place) × (0 < moved)) }
-    ensures ok { OnOk result (sender.new ≡ after_timer sender.old) }
-    ensures refused { IfErr result (λ r. TimerRefused sender.old r) }
+    ensures ok { IfOk result (λ moved. timer_on sender.old ≡ Ok (moved, sender.new)) }
+    ensures refused { IfErr result (λ r. timer_on sender.old ≡ Err r) }
     ensures err { OnErr result (sender.new ≡ sender.old) }
 {
     events::timer(&mut sender.inner)
@@ -125,9 +116,8 @@ pub fn timer(sender: &mut Boxed<SenderEnd>) -> Result<usize, Refusal>
 
 /// [`events::retrained`].
 pub fn retrained(sender: &mut Boxed<SenderEnd>) -> Result<(), Refusal>
-    ensures stopped { OnOk result (sender.old.sending.stopped ≡ true) }
-    ensures ok { OnOk result (sender.new ≡ after_retraining sender.old) }
-    ensures refused { IfErr result (λ r. RetrainedRefused sender.old r) }
+    ensures ok { OnOk result (retrained_on sender.old ≡ Ok sender.new) }
+    ensures refused { IfErr result (λ r. retrained_on sender.old ≡ Err r) }
     ensures err { OnErr result (sender.new ≡ sender.old) }
 {
     events::retrained(&mut sender.inner)
@@ -135,8 +125,8 @@ pub fn retrained(sender: &mut Boxed<SenderEnd>) -> Result<(), Refusal>
 
 /// [`events::destination`].
 pub fn destination(receiver: &Boxed<ReceiverEnd>, place: usize, from: Port) -> Result<Port, Refusal>
-    ensures ok { IfOk result (λ port. IsRoutedAs receiver.now place from (Ok port)) }
-    ensures refused { IfErr result (λ r. DestinationRefused receiver.now place from r) }
+    ensures ok { IfOk result (λ port. destination_on receiver.now place from ≡ Ok port) }
+    ensures refused { IfErr result (λ r. destination_on receiver.now place from ≡ Err r) }
 {
     events::destination(&receiver.inner, place, from)
 }
@@ -147,8 +137,9 @@ pub fn forward(
     place: usize,
     sender: &mut Boxed<SenderEnd>,
 ) -> Result<(), Refusal>
-    ensures ok { OnOk result (Forwards receiver.old receiver.new place sender.old sender.new) }
-    ensures refused { IfErr result (λ r. ForwardRefused receiver.old place sender.old r) }
+    ensures ok { OnOk result (forward_on receiver.old place sender.old ≡ Ok (receiver.new, sender.new)) }
+    ensures fits { OnOk result (ForwardFits receiver.old place) }
+    ensures refused { IfErr result (λ r. Refuses lane_grows (forward_on receiver.old place sender.old) r) }
     ensures err_receiver { OnErr result (receiver.new ≡ receiver.old) }
     ensures err_sender { OnErr result (sender.new ≡ sender.old) }
 {
@@ -169,8 +160,9 @@ pub fn serve(
     memory: &mut Boxed<Memory>,
     sender: &mut Boxed<SenderEnd>,
 ) -> Result<usize, Refusal>
-    ensures ok { IfOk result (λ at. Serves receiver.old place memory.old sender.old at receiver.new memory.new sender.new) }
-    ensures refused { IfErr result (λ r. ServeRefused receiver.old place memory.old sender.old r) }
+    ensures ok { IfOk result (λ at. serve_on receiver.old place memory.old sender.old ≡ Ok (at, receiver.new, memory.new, sender.new)) }
+    ensures fits { OnOk result (ServeFits receiver.old place memory.old) }
+    ensures refused { IfErr result (λ r. Refuses (λ x. serving_grows sender.old x.3) (serve_on receiver.old place memory.old sender.old) r) }
     ensures err_receiver { OnErr result (receiver.new ≡ receiver.old) }
     ensures err_memory { OnErr result (memory.new ≡ memory.old) }
     ensures err_sender { OnErr result (sender.new ≡ sender.old) }
@@ -188,8 +180,8 @@ pub fn collect(
     receiver: &mut Boxed<ReceiverEnd>,
     requester: &mut Boxed<Requester>,
 ) -> Result<Answer, Refusal>
-    ensures ok { IfOk result (λ a. Collects receiver.old requester.old a receiver.new requester.new) }
-    ensures refused { IfErr result (λ r. CollectRefused receiver.old requester.old r) }
+    ensures ok { IfOk result (λ a. collect_on receiver.old requester.old ≡ Ok (a, receiver.new, requester.new)) }
+    ensures refused { IfErr result (λ r. collect_on receiver.old requester.old ≡ Err r) }
     ensures err_receiver { OnErr result (receiver.new ≡ receiver.old) }
     ensures err_requester { OnErr result (requester.new ≡ requester.old) }
 {

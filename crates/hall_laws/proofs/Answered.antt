@@ -17,7 +17,7 @@ use Rattle.fabric_core.specs.declared.event.Event.{Event}
 use Rattle.fabric_core.specs.declared.event.Event.TheVariants as events
 use Rattle.fabric_core.specs.declared.event.Seen.{Seen}
 use Rattle.fabric_core.specs.declared.event.Seen.TheVariants as seen
-use Rattle.fabric_core.specs.Steps.{Happens}
+use Rattle.fabric_core.specs.Answers.{Happens}
 use Rattle.hall_laws.specs.declared.part.PartValue.{PartValue}
 use Rattle.hall_laws.specs.declared.part.PartValue.TheVariants.{Memory}
 use Rattle.hall_laws.specs.declared.token.Token.{Token}
@@ -25,6 +25,7 @@ use Rattle.hall_laws.specs.declared.token.Knowledge.{Knowledge}
 use Rattle.hall_laws.specs.Rule.{Traced, IsSoundTraced, Fits, Begins, Known, Agrees, Goes, learned, HasConfig, extent_for}
 use Rattle.hall_laws.specs.Shows.{Shows}
 use Rattle.hall_laws.specs.Tells.{Has, IsLegalFor, AnsweredStand, SubmitTells, CollectTells, SeesTells, Met}
+use Rattle.hall_laws.proofs.Learning.{submit_memory, collect_memory}
 use Rattle.hall_laws.proofs.Events.{Laws, stays_sound}
 use Rattle.hall_laws.proofs.Told.{ExplainsLaw, new_request, explained, legal_for, answered_stand}
 use Rattle.hall_laws.proofs.Waits.{waits}
@@ -44,7 +45,7 @@ submit_tells laws t t' ts u r k x y v m op known held g =
     let go = g.step s sound a f in
     let after : Fabric = go.after in
     let happens : Happens s.fabric (events.Submit i op) (seen.Submitted k) after = go.happens in
-    let same : after.memory ≡ s.fabric.memory = ap (λ (z : Fabric). z.memory) happens.2.now in
+    let same : after.memory ≡ s.fabric.memory = submit_memory s.fabric i op (seen.Submitted k) after happens in
     let b : Belongs (whole_of after) (s.records ++ Sub i k op (length s.fabric.memory.entries) ∷ []) = (stays_sound laws s after (events.Submit i op) (seen.Submitted k) sound happens).belongs in
     let b' : Belongs (whole_of after) (s.records ++ Sub i k op (length after.memory.entries) ∷ []) = subst (λ (z : State). Belongs (whole_of after) (s.records ++ Sub i k op (length z.entries) ∷ [])) (sym same) b in
     let new = new_request (whole_of after) s.records i k op b' in
@@ -67,7 +68,7 @@ collect_tells laws explains t t' ts u r x y v m answer known held g =
     let go = g.step s sound a f in
     let after : Fabric = go.after in
     let happens : Happens s.fabric (events.Collect i) (seen.Collected answer) after = go.happens in
-    let same : after.memory ≡ s.fabric.memory = ap (λ (z : Fabric). z.memory) happens.2.now in
+    let same : after.memory ≡ s.fabric.memory = collect_memory s.fabric i (seen.Collected answer) after happens in
     let b : Belongs (whole_of after) (s.records ++ Ans i k answer.reply (length s.fabric.memory.entries) ∷ []) = (stays_sound laws s after (events.Collect i) (seen.Collected answer) sound happens).belongs in
     let b' : Belongs (whole_of after) (s.records ++ Ans i k answer.reply (length after.memory.entries) ∷ []) = subst (λ (z : State). Belongs (whole_of after) (s.records ++ Ans i k answer.reply (length z.entries) ∷ [])) (sym same) b in
     let e = explained (whole_of after) s.records i k answer.reply b' in

@@ -26,7 +26,7 @@ use Rattle.hall_laws.proofs.Lists.{each_at}
 use Rattle.fabric_core.specs.declared.event.Event.{Event}
 use Rattle.fabric_core.specs.declared.event.Seen.{Seen}
 use Rattle.fabric_core.specs.Kept.{IsSoundFabric, records_of}
-use Rattle.fabric_core.specs.Steps.{Happens}
+use Rattle.fabric_core.specs.Answers.{Happens}
 use Rattle.hall_laws.specs.declared.part.PartValue.{PartValue}
 use Rattle.hall_laws.specs.declared.part.PartValue.TheVariants.{Memory}
 use Rattle.hall_laws.specs.declared.token.Token.{Token}

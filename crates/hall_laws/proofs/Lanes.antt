@@ -1,14 +1,11 @@
 -- One lane of a fabric, by its name.
-use Rattle.std.proofs.Common.{◌≡◌, ℕ, zero, suc, ◌+◌, ◌*◌, ◌<◌, List, length, length-set, set, refl, sym, ap, ◌∙◌, subst, arith}
+use Rattle.std.proofs.Common.{◌≡◌, ℕ, zero, suc, ◌+◌, ◌*◌, ◌<◌, List, length, length-set, set, refl, sym, ap, ◌∙◌, arith}
 use Rattle.std.specs.Prelude.{slice_get}
 use Rattle.lane_ends.specs.Steps.{Ends}
 use Rattle.fabric_laws.specs.Fabric.{Fabric}
 use Rattle.fabric_core.specs.declared.event.LaneName.{LaneName}
 use Rattle.fabric_core.specs.declared.event.LaneName.TheVariants.{Up, Down, Inward, Outward}
-use Rattle.fabric_core.specs.declared.event.LinkEvent.{LinkEvent}
-use Rattle.fabric_core.specs.declared.event.Seen.{Seen}
-use Rattle.fabric_core.specs.Footprints.{Links}
-use Rattle.fabric_core.specs.Steps.{HasLanes, LinksAt}
+use Rattle.fabric_core.specs.Steps.{HasLanes}
 use Rattle.hall_laws.specs.declared.part.PartValue.{PartValue}
 use Rattle.hall_laws.specs.Parts.{ends, parts_of, lane_slot, HasLane, IsLaneName, with_lane}
 use Rattle.hall_laws.proofs.Parts.{has_at, get_set, set_twice, put_end}
@@ -56,19 +53,6 @@ put_two f h name e mid e' c d j k v w has small_c small_d at_j at_k first second
     ap parts_of (sym (with_lane_twice f name mid e'))
     ∙ (put_end (with_lane f name mid) (with_lane_lanes f name mid h) name mid e' d k w (with_lane_has f name e mid has) small_d at_k second
     ∙ ap (λ (l : List PartValue). set l k w) (put_end f h name e mid c j v has small_c at_j first))
-
--- a call of the link of a lane
-pub links_at : (f : Fabric) (name : LaneName) (event : LinkEvent) (what : Seen) (e e' : Ends) → HasLane f name e → Links e event what e' → LinksAt f name event what (with_lane f name e')
-links_at f (Up zero) event what e e' (place, has) l = absurd (let p = has.is_port in omega arith)
-links_at f (Up (suc n)) event what e e' (place, has) l =
-    let same : place ≡ n = (let p = has.is_port in omega arith) in
-    record { lanes = set f.up n e'; links = record { place = n; lane = e; lane_after = e'; has_lane = record { is_port = refl; there = ap (slice_get f.up) (sym same) ∙ has.there }; links = l; now = refl }; now = refl }
-links_at f (Down zero) event what e e' (place, has) l = absurd (let p = has.is_port in omega arith)
-links_at f (Down (suc n)) event what e e' (place, has) l =
-    let same : place ≡ n = (let p = has.is_port in omega arith) in
-    record { lanes = set f.down n e'; links = record { place = n; lane = e; lane_after = e'; has_lane = record { is_port = refl; there = ap (slice_get f.down) (sym same) ∙ has.there }; links = l; now = refl }; now = refl }
-links_at f Inward event what e e' has l = record { lane = e'; links = subst (λ (x : Ends). Links x event what e') (sym has) l; now = refl }
-links_at f Outward event what e e' has l = record { lane = e'; links = subst (λ (x : Ends). Links x event what e') (sym has) l; now = refl }
 
 -- the slots of a lane are in the table
 pub in_table : (count : ℕ) (name : LaneName) (c : ℕ) → IsLaneName count name → c < 4 → lane_slot name + c < 9 * (1 + count)

@@ -1,9 +1,8 @@
 pub mod Lists
 pub mod Parts
 pub mod Lanes
-pub mod LinkSteps
-pub mod SwitchSteps
-pub mod RequesterSteps
+pub mod OneEvent
+pub mod Owing
 pub mod Totals
 pub mod Moves
 pub mod Records

@@ -1,4 +1,4 @@
-use Rattle.std.proofs.Common.{rules, ◌≡◌, ◌+◌, ℕ, List, [], ◌∷◌, inl, sym, subst}
+use Rattle.std.proofs.Common.{rules, ◌≡◌, ◌+◌, ℕ, List, [], ◌∷◌, inl, refl, sym, subst}
 use Rattle.fabric_core.specs.declared.event.Event.TheVariants.{Deliver}
 use Rattle.fabric_core.specs.declared.event.Seen.TheVariants.{Delivered}
 use Rattle.fabric_core.specs.declared.fault.Refusal.TheVariants.{Idle}
@@ -25,7 +25,7 @@ event-requires-clause-event c =
     let named : IsLaneName t.knows.config.requesters name = subst (λ (n : ℕ). IsLaneName n name) (sym many) c.requires.table.2 in
     let at : c.lane_slot-in-Ok-deliver.result + 1 ≡ lane_slot name + 1 = search rules in
     let F : ℕ → Type 0 = λ n. Goes (Deliver name c.args.fate) (Delivered x) t n (Forward c.deliver.new.wire) (record t { held = (lane_slot name + 3, Receiver c.deliver.new.receiver) ∷ [] }) in
-    (Deliver name c.args.fate, Delivered x, subst F (sym at) (c.delivering.ensures.owes t name v c.deliver.new.wire w c.deliver.new.receiver c.args.fate x named held done.arrival done.wire done.receiver))
+    (Deliver name c.args.fate, Delivered x, subst F (sym at) (c.delivering.ensures.owes t name v c.deliver.new.wire w c.deliver.new.receiver c.args.fate x named held done.ok))
 
 pub returns-in-Ok-deliver-clause-shows : goal.returns-in-Ok-deliver-clause-shows
 returns-in-Ok-deliver-clause-shows c =
@@ -42,7 +42,7 @@ returns-in-Ok-deliver-clause-shows c =
     let many : t.knows.config.requesters ≡ c.args.requesters = search rules in
     let named : IsLaneName t.knows.config.requesters name = subst (λ (n : ℕ). IsLaneName n name) (sym many) c.requires.table.2 in
     subst (λ (z : Knowledge). Shows z (Deliver name c.args.fate) (Delivered x)) same
-    (c.delivering.ensures.shown (Deliver name c.args.fate) (Delivered x) t (record t { held = (lane_slot name + 3, Receiver c.deliver.new.receiver) ∷ [] }) (others_of ts) (lane_slot name + 1) (Forward c.deliver.new.wire) known (c.delivering.ensures.owes t name v c.deliver.new.wire w c.deliver.new.receiver c.args.fate x named held done.arrival done.wire done.receiver))
+    (c.delivering.ensures.shown (Deliver name c.args.fate) (Delivered x) t (record t { held = (lane_slot name + 3, Receiver c.deliver.new.receiver) ∷ [] }) (others_of ts) (lane_slot name + 1) (Forward c.deliver.new.wire) known (c.delivering.ensures.owes t name v c.deliver.new.wire w c.deliver.new.receiver c.args.fate x named held done.ok))
 
 pub returns-in-Err-deliver-clause-why : goal.returns-in-Err-deliver-clause-why
 returns-in-Err-deliver-clause-why c =
@@ -71,4 +71,4 @@ returns-then-has_nothing_forward-clause-why c =
     let many : t.knows.config.requesters ≡ c.args.requesters = search rules in
     let named : IsLaneName t.knows.config.requesters name = subst (λ (n : ℕ). IsLaneName n name) (sym many) c.requires.table.2 in
     subst (λ (z : Knowledge). IsRefused z (Deliver name c.args.fate) (Core Idle)) same
-    (inl (c.delivering.ensures.nothing t (others_of ts) name v c.args.fate named (known, held) (c.has_nothing_forward.ensures.0 c.if-has_nothing_forward.true)))
+    (inl (c.delivering.ensures.nothing t (others_of ts) name v c.args.fate named (known, held) (λ r. rw (c.has_nothing_forward.ensures.0 c.if-has_nothing_forward.true) refl)))

@@ -1,4 +1,4 @@
-use Rattle.std.proofs.Common.{rules, ◌≡◌, ◌+◌, ℕ, List, [], ◌∷◌, inl, sym, subst}
+use Rattle.std.proofs.Common.{rules, ◌≡◌, ◌+◌, ℕ, List, [], ◌∷◌, inl, refl, sym, subst}
 use Rattle.fabric_core.specs.declared.event.Event.TheVariants.{DeliverDllp}
 use Rattle.fabric_core.specs.declared.event.Seen.TheVariants.{SeenDllp}
 use Rattle.fabric_core.specs.declared.fault.Refusal.TheVariants.{Idle}
@@ -25,7 +25,7 @@ event-requires-clause-event c =
     let named : IsLaneName t.knows.config.requesters name = subst (λ (n : ℕ). IsLaneName n name) (sym many) c.requires.table.2 in
     let at : c.lane_slot-in-Ok-deliver_dllp.result + 2 ≡ lane_slot name + 2 = search rules in
     let F : ℕ → Type 0 = λ n. Goes (DeliverDllp name c.args.fate) (SeenDllp x) t n (Back c.deliver_dllp.new.wire) (record t { held = (lane_slot name, Sender c.deliver_dllp.new.sender) ∷ [] }) in
-    (DeliverDllp name c.args.fate, SeenDllp x, subst F (sym at) (c.delivering_a_dllp.ensures.owes t name v c.deliver_dllp.new.wire w c.deliver_dllp.new.sender c.args.fate x named held done.seen done.wire done.sender))
+    (DeliverDllp name c.args.fate, SeenDllp x, subst F (sym at) (c.delivering_a_dllp.ensures.owes t name v c.deliver_dllp.new.wire w c.deliver_dllp.new.sender c.args.fate x named held done.ok))
 
 pub returns-in-Ok-deliver_dllp-clause-shows : goal.returns-in-Ok-deliver_dllp-clause-shows
 returns-in-Ok-deliver_dllp-clause-shows c =
@@ -42,7 +42,7 @@ returns-in-Ok-deliver_dllp-clause-shows c =
     let many : t.knows.config.requesters ≡ c.args.requesters = search rules in
     let named : IsLaneName t.knows.config.requesters name = subst (λ (n : ℕ). IsLaneName n name) (sym many) c.requires.table.2 in
     subst (λ (z : Knowledge). Shows z (DeliverDllp name c.args.fate) (SeenDllp x)) same
-    (c.delivering_a_dllp.ensures.shown (DeliverDllp name c.args.fate) (SeenDllp x) t (record t { held = (lane_slot name, Sender c.deliver_dllp.new.sender) ∷ [] }) (others_of ts) (lane_slot name + 2) (Back c.deliver_dllp.new.wire) known (c.delivering_a_dllp.ensures.owes t name v c.deliver_dllp.new.wire w c.deliver_dllp.new.sender c.args.fate x named held done.seen done.wire done.sender))
+    (c.delivering_a_dllp.ensures.shown (DeliverDllp name c.args.fate) (SeenDllp x) t (record t { held = (lane_slot name, Sender c.deliver_dllp.new.sender) ∷ [] }) (others_of ts) (lane_slot name + 2) (Back c.deliver_dllp.new.wire) known (c.delivering_a_dllp.ensures.owes t name v c.deliver_dllp.new.wire w c.deliver_dllp.new.sender c.args.fate x named held done.ok))
 
 pub returns-in-Err-deliver_dllp-clause-why : goal.returns-in-Err-deliver_dllp-clause-why
 returns-in-Err-deliver_dllp-clause-why c =
@@ -71,4 +71,4 @@ returns-then-has_nothing_back-clause-why c =
     let many : t.knows.config.requesters ≡ c.args.requesters = search rules in
     let named : IsLaneName t.knows.config.requesters name = subst (λ (n : ℕ). IsLaneName n name) (sym many) c.requires.table.2 in
     subst (λ (z : Knowledge). IsRefused z (DeliverDllp name c.args.fate) (Core Idle)) same
-    (inl (c.delivering_a_dllp.ensures.nothing t (others_of ts) name v c.args.fate named (known, held) (c.has_nothing_back.ensures.0 c.if-has_nothing_back.true)))
+    (inl (c.delivering_a_dllp.ensures.nothing t (others_of ts) name v c.args.fate named (known, held) (λ s. rw (c.has_nothing_back.ensures.0 c.if-has_nothing_back.true) refl)))

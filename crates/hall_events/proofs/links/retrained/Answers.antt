@@ -22,7 +22,7 @@ event-requires-clause-event c =
     let many : t.knows.config.requesters ≡ c.args.requesters = search rules in
     let named : IsLaneName t.knows.config.requesters name = subst (λ (n : ℕ). IsLaneName n name) (sym many) c.requires.table.2 in
     let F : ℕ → Type 0 = λ n. Goes (events.Retrained name) (seen.Retrained) t n (Sender c.retrained.new.sender) (record t { held = [] }) in
-    (events.Retrained name, seen.Retrained, subst F (sym c.lane_slot.ensures) (c.retraining.ensures.owes t name v c.retrained.new.sender named held done.stopped done.ok))
+    (events.Retrained name, seen.Retrained, subst F (sym c.lane_slot.ensures) (c.retraining.ensures.owes t name v c.retrained.new.sender named held done.ok))
 
 pub returns-in-Ok-retrained-clause-shows : goal.returns-in-Ok-retrained-clause-shows
 returns-in-Ok-retrained-clause-shows c =
@@ -38,7 +38,7 @@ returns-in-Ok-retrained-clause-shows c =
     let many : t.knows.config.requesters ≡ c.args.requesters = search rules in
     let named : IsLaneName t.knows.config.requesters name = subst (λ (n : ℕ). IsLaneName n name) (sym many) c.requires.table.2 in
     subst (λ (z : Knowledge). Shows z (events.Retrained name) (seen.Retrained)) same
-    (c.retraining.ensures.shown (events.Retrained name) (seen.Retrained) t (record t { held = [] }) (others_of ts) (lane_slot name) (Sender c.retrained.new.sender) known (c.retraining.ensures.owes t name v c.retrained.new.sender named held done.stopped done.ok))
+    (c.retraining.ensures.shown (events.Retrained name) (seen.Retrained) t (record t { held = [] }) (others_of ts) (lane_slot name) (Sender c.retrained.new.sender) known (c.retraining.ensures.owes t name v c.retrained.new.sender named held done.ok))
 
 pub returns-in-Err-retrained-clause-why : goal.returns-in-Err-retrained-clause-why
 returns-in-Err-retrained-clause-why c =

@@ -24,7 +24,7 @@ event-requires-clause-event c =
     let named : IsLaneName t.knows.config.requesters name = subst (λ (n : ℕ). IsLaneName n name) (sym many) c.requires.table.2 in
     let at : c.lane_slot-in-Ok-send_dllp.result + 3 ≡ lane_slot name + 3 = search rules in
     let F : ℕ → Type 0 = λ n. Goes (SendDllp name c.args.kind) (SentDllp x) t n (Receiver c.send_dllp.new.receiver) (record t { held = (lane_slot name + 2, Back c.send_dllp.new.wire) ∷ [] }) in
-    (SendDllp name c.args.kind, SentDllp x, subst F (sym at) (c.sending_a_dllp.ensures.owes t name v c.send_dllp.new.receiver w c.send_dllp.new.wire c.args.kind x named held done.dllp done.receiver done.wire))
+    (SendDllp name c.args.kind, SentDllp x, subst F (sym at) (c.sending_a_dllp.ensures.owes t name v c.send_dllp.new.receiver w c.send_dllp.new.wire c.args.kind x named held done.ok))
 
 pub returns-in-Ok-send_dllp-clause-shows : goal.returns-in-Ok-send_dllp-clause-shows
 returns-in-Ok-send_dllp-clause-shows c =
@@ -41,7 +41,7 @@ returns-in-Ok-send_dllp-clause-shows c =
     let many : t.knows.config.requesters ≡ c.args.requesters = search rules in
     let named : IsLaneName t.knows.config.requesters name = subst (λ (n : ℕ). IsLaneName n name) (sym many) c.requires.table.2 in
     subst (λ (z : Knowledge). Shows z (SendDllp name c.args.kind) (SentDllp x)) same
-    (c.sending_a_dllp.ensures.shown (SendDllp name c.args.kind) (SentDllp x) t (record t { held = (lane_slot name + 2, Back c.send_dllp.new.wire) ∷ [] }) (others_of ts) (lane_slot name + 3) (Receiver c.send_dllp.new.receiver) known (c.sending_a_dllp.ensures.owes t name v c.send_dllp.new.receiver w c.send_dllp.new.wire c.args.kind x named held done.dllp done.receiver done.wire))
+    (c.sending_a_dllp.ensures.shown (SendDllp name c.args.kind) (SentDllp x) t (record t { held = (lane_slot name + 2, Back c.send_dllp.new.wire) ∷ [] }) (others_of ts) (lane_slot name + 3) (Receiver c.send_dllp.new.receiver) known (c.sending_a_dllp.ensures.owes t name v c.send_dllp.new.receiver w c.send_dllp.new.wire c.args.kind x named held done.ok))
 
 pub returns-in-Err-send_dllp-clause-why : goal.returns-in-Err-send_dllp-clause-why
 returns-in-Err-send_dllp-clause-why c =

@@ -22,7 +22,7 @@ event-requires-clause-event c =
     let many : t.knows.config.requesters ≡ c.args.requesters = search rules in
     let named : IsLaneName t.knows.config.requesters name = subst (λ (n : ℕ). IsLaneName n name) (sym many) c.requires.table.2 in
     let F : ℕ → Type 0 = λ n. Goes (events.Timer name) (seen.Back c.in-Ok-timer.seen) t n (Sender c.timer.new.sender) (record t { held = [] }) in
-    (events.Timer name, seen.Back c.in-Ok-timer.seen, subst F (sym c.lane_slot.ensures) (c.expiring.ensures.owes t name v c.timer.new.sender c.in-Ok-timer.seen named held done.moved.0 done.moved.1 done.ok))
+    (events.Timer name, seen.Back c.in-Ok-timer.seen, subst F (sym c.lane_slot.ensures) (c.expiring.ensures.owes t name v c.timer.new.sender c.in-Ok-timer.seen named held done.ok))
 
 pub returns-in-Ok-timer-clause-shows : goal.returns-in-Ok-timer-clause-shows
 returns-in-Ok-timer-clause-shows c =
@@ -38,7 +38,7 @@ returns-in-Ok-timer-clause-shows c =
     let many : t.knows.config.requesters ≡ c.args.requesters = search rules in
     let named : IsLaneName t.knows.config.requesters name = subst (λ (n : ℕ). IsLaneName n name) (sym many) c.requires.table.2 in
     subst (λ (z : Knowledge). Shows z (events.Timer name) (seen.Back c.in-Ok-timer.seen)) same
-    (c.expiring.ensures.shown (events.Timer name) (seen.Back c.in-Ok-timer.seen) t (record t { held = [] }) (others_of ts) (lane_slot name) (Sender c.timer.new.sender) known (c.expiring.ensures.owes t name v c.timer.new.sender c.in-Ok-timer.seen named held done.moved.0 done.moved.1 done.ok))
+    (c.expiring.ensures.shown (events.Timer name) (seen.Back c.in-Ok-timer.seen) t (record t { held = [] }) (others_of ts) (lane_slot name) (Sender c.timer.new.sender) known (c.expiring.ensures.owes t name v c.timer.new.sender c.in-Ok-timer.seen named held done.ok))
 
 pub returns-in-Err-timer-clause-why : goal.returns-in-Err-timer-clause-why
 returns-in-Err-timer-clause-why c =

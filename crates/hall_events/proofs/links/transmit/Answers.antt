@@ -1,4 +1,4 @@
-use Rattle.std.proofs.Common.{rules, ◌≡◌, ◌+◌, ℕ, List, [], ◌∷◌, inl, sym, subst}
+use Rattle.std.proofs.Common.{rules, ◌≡◌, ◌+◌, ℕ, List, [], ◌∷◌, inl, refl, sym, subst}
 use Rattle.fabric_core.specs.declared.event.Event.TheVariants.{Transmit}
 use Rattle.fabric_core.specs.declared.event.Seen.TheVariants.{Sent}
 use Rattle.fabric_core.specs.declared.fault.Refusal.TheVariants.{Idle}
@@ -25,7 +25,7 @@ event-requires-clause-event c =
     let named : IsLaneName t.knows.config.requesters name = subst (λ (n : ℕ). IsLaneName n name) (sym many) c.requires.table.2 in
     let at : c.lane_slot-in-Ok-transmit.result ≡ lane_slot name = search rules in
     let F : ℕ → Type 0 = λ n. Goes (Transmit name) (Sent x) t n (Sender c.transmit.new.sender) (record t { held = (lane_slot name + 1, Forward c.transmit.new.wire) ∷ [] }) in
-    (Transmit name, Sent x, subst F (sym at) (c.transmitting.ensures.owes t name v c.transmit.new.sender w c.transmit.new.wire x named held done.number done.sender done.wire))
+    (Transmit name, Sent x, subst F (sym at) (c.transmitting.ensures.owes t name v c.transmit.new.sender w c.transmit.new.wire x named held done.ok))
 
 pub returns-in-Ok-transmit-clause-shows : goal.returns-in-Ok-transmit-clause-shows
 returns-in-Ok-transmit-clause-shows c =
@@ -42,7 +42,7 @@ returns-in-Ok-transmit-clause-shows c =
     let many : t.knows.config.requesters ≡ c.args.requesters = search rules in
     let named : IsLaneName t.knows.config.requesters name = subst (λ (n : ℕ). IsLaneName n name) (sym many) c.requires.table.2 in
     subst (λ (z : Knowledge). Shows z (Transmit name) (Sent x)) same
-    (c.transmitting.ensures.shown (Transmit name) (Sent x) t (record t { held = (lane_slot name + 1, Forward c.transmit.new.wire) ∷ [] }) (others_of ts) (lane_slot name) (Sender c.transmit.new.sender) known (c.transmitting.ensures.owes t name v c.transmit.new.sender w c.transmit.new.wire x named held done.number done.sender done.wire))
+    (c.transmitting.ensures.shown (Transmit name) (Sent x) t (record t { held = (lane_slot name + 1, Forward c.transmit.new.wire) ∷ [] }) (others_of ts) (lane_slot name) (Sender c.transmit.new.sender) known (c.transmitting.ensures.owes t name v c.transmit.new.sender w c.transmit.new.wire x named held done.ok))
 
 pub returns-in-Err-transmit-clause-why : goal.returns-in-Err-transmit-clause-why
 returns-in-Err-transmit-clause-why c =
@@ -71,4 +71,4 @@ returns-then-has_nothing_to_send-clause-why c =
     let many : t.knows.config.requesters ≡ c.args.requesters = search rules in
     let named : IsLaneName t.knows.config.requesters name = subst (λ (n : ℕ). IsLaneName n name) (sym many) c.requires.table.2 in
     subst (λ (z : Knowledge). IsRefused z (Transmit name) (Core Idle)) same
-    (inl (c.transmitting.ensures.nothing t (others_of ts) name v named (known, held) (c.has_nothing_to_send.ensures.0 c.if-has_nothing_to_send.true)))
+    (inl (c.transmitting.ensures.nothing t (others_of ts) name v named (known, held) (λ w. rw (c.has_nothing_to_send.ensures.0 c.if-has_nothing_to_send.true) refl)))

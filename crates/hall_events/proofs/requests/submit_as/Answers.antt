@@ -23,7 +23,7 @@ event-requires-clause-event c =
     let F : ℕ → Type 0 = λ n. Goes (Submit port c.args.op.now) (Submitted c.in-Ok-submit.given) t n (Requester c.submit.new.requester) (after_event (Submit port c.args.op.now) (Submitted c.in-Ok-submit.given) m.entries ((slot port 1, Sender c.submit.new.sender) ∷ ((0, Memory m) ∷ [])) t) in (
       Submit port c.args.op.now,
       Submitted c.in-Ok-submit.given,
-      subst F (sym at) (c.submitting.ensures.owes t port c.in-Ok-submit.given c.args.op.now m q c.submit.new.requester s c.submit.new.sender (omega (arith, mine, c.requires.table.2), omega (arith, many, c.requires.table.3)) held c.in-Ok-submit.ensures.ok),
+      subst F (sym at) (c.submitting.ensures.owes t port c.in-Ok-submit.given c.args.op.now m q c.submit.new.requester s c.submit.new.sender (omega (arith, mine, c.requires.table.2), omega (arith, many, c.requires.table.3)) held c.in-Ok-submit.ensures.ok c.in-Ok-submit.ensures.fits),
     )
 
 pub returns-in-Ok-submit-clause-submitted : goal.returns-in-Ok-submit-clause-submitted
@@ -39,7 +39,7 @@ returns-in-Ok-submit-clause-submitted c =
     let own : port ≡ suc w.number = omega (arith, mine, c.requires.table.2) in
     let after : Token = after_event (Submit port c.args.op.now) (Submitted k) m.entries ((slot port 1, Sender c.submit.new.sender) ∷ ((0, Memory m) ∷ [])) t in
     let goes : Goes (Submit port c.args.op.now) (Submitted k) t (slot port 0) (Requester c.submit.new.requester) after =
-    c.submitting.ensures.owes t port k c.args.op.now m q c.submit.new.requester s c.submit.new.sender (own, omega (arith, many, c.requires.table.3)) refl c.in-Ok-submit.ensures.ok in
+    c.submitting.ensures.owes t port k c.args.op.now m q c.submit.new.requester s c.submit.new.sender (own, omega (arith, many, c.requires.table.3)) refl c.in-Ok-submit.ensures.ok c.in-Ok-submit.ensures.fits in
     let G : ℕ → Type 0 = λ p. Goes (Submit p c.args.op.now) (Submitted k) t (slot port 0) (Requester c.submit.new.requester) after in
     let tells : SubmitTells w k c.args.op.now (length m.entries) (learned (Submit port c.args.op.now) (Submitted k) m.entries w) = c.submitting.ensures.tells t after [] (slot port 1) (slot port 0) k (Sender s) (Requester q) (Requester c.submit.new.requester) m c.args.op.now known refl (subst G own goes) in
     let there : c.deref.result.now.entries ≡ m.entries = search rules in

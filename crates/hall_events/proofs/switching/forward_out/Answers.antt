@@ -4,7 +4,7 @@ use Rattle.fabric_core.specs.declared.event.Event.TheVariants.{Forward}
 use Rattle.fabric_core.specs.declared.event.Seen.TheVariants.{To}
 use Rattle.fabric_core.specs.declared.event.LaneName.TheVariants as lanes
 use Rattle.fabric_core.specs.declared.fault.Refusal.{Refusal}
-use Rattle.fabric_core.specs.Footprints.{IsRoutedAs}
+use Rattle.fabric_core.specs.Answers.{destination_on}
 use Rattle.hall_laws.specs.declared.part.PartValue.TheVariants.{Sender, Receiver}
 use Rattle.hall_laws.specs.declared.token.Token.{Token}
 use Rattle.hall_laws.specs.declared.token.Knowledge.{Knowledge}
@@ -24,12 +24,12 @@ event-requires-clause-event c =
     let r = c.in-Ok.receiver in let s = c.in-Ok-take_sender.sender in let to : ℕ = c.in-Ok-port_down.to in
     let held : t.held ≡ (slot to 5, Sender s) ∷ ((8, Receiver r) ∷ []) = search rules in
     let many : t.knows.config.requesters ≡ c.args.requesters = search rules in
-    let routed : IsRoutedAs r c.args.at 0 (Ok to) = c.in-Ok-port_down.ensures.ok.0 in
+    let routed : destination_on r c.args.at 0 ≡ Ok to = c.in-Ok-port_down.ensures.ok.0 in
     let some_port : 0 < to = c.in-Ok-port_down.ensures.ok.1 in
     let small : to ≤ c.args.requesters = c.in-Ok-port_down.ensures.ok.2 in (
       Forward lanes.Outward c.args.at,
       To to,
-      c.forwarding_out.ensures.owes t c.args.at to r c.forward.new.receiver s c.forward.new.sender (some_port, omega (arith, many, small)) held routed c.in-Ok-forward.ensures.ok,
+      c.forwarding_out.ensures.owes t c.args.at to r c.forward.new.receiver s c.forward.new.sender (some_port, omega (arith, many, small)) held routed c.in-Ok-forward.ensures.ok c.in-Ok-forward.ensures.fits,
     )
 
 pub returns-in-Ok-forward-clause-shows : goal.returns-in-Ok-forward-clause-shows
@@ -42,12 +42,12 @@ returns-in-Ok-forward-clause-shows c =
     let held : t.held ≡ (slot to 5, Sender s) ∷ ((8, Receiver r) ∷ []) = search rules in
     let same : t.knows ≡ before = search rules in
     let many : t.knows.config.requesters ≡ c.args.requesters = search rules in
-    let routed : IsRoutedAs r c.args.at 0 (Ok to) = c.in-Ok-port_down.ensures.ok.0 in
+    let routed : destination_on r c.args.at 0 ≡ Ok to = c.in-Ok-port_down.ensures.ok.0 in
     let some_port : 0 < to = c.in-Ok-port_down.ensures.ok.1 in
     let small : to ≤ c.args.requesters = c.in-Ok-port_down.ensures.ok.2 in
     subst (λ (z : Knowledge). Shows z (Forward lanes.Outward c.args.at) (To to)) same
     (c.forwarding_out.ensures.shown (Forward lanes.Outward c.args.at) (To to) t (record t { held = (slot to 5, Sender c.forward.new.sender) ∷ [] }) (others_of ts) 8 (Receiver c.forward.new.receiver) known
-    (c.forwarding_out.ensures.owes t c.args.at to r c.forward.new.receiver s c.forward.new.sender (some_port, omega (arith, many, small)) held routed c.in-Ok-forward.ensures.ok))
+    (c.forwarding_out.ensures.owes t c.args.at to r c.forward.new.receiver s c.forward.new.sender (some_port, omega (arith, many, small)) held routed c.in-Ok-forward.ensures.ok c.in-Ok-forward.ensures.fits))
 
 -- a packet of `out` that has no way, or no lane at its port
 out_refused : (t : Token) (ts : List Token) (place count : ℕ) (v : Incoming) (r : Refusal) → OutHasNoWay → OutHasNoLane → t.knows.config.requesters ≡ count → KnownHolding t ts ((8, Receiver v) ∷ []) → HasNoWayDown v place count r → MayRefuse t.knows (Forward lanes.Outward place) r
@@ -80,7 +80,7 @@ returns-in-Err-forward-clause-why c =
     let held : t.held ≡ (slot to 5, Sender s) ∷ ((8, Receiver r) ∷ []) = search rules in
     let same : t.knows ≡ before = search rules in
     let many : t.knows.config.requesters ≡ c.args.requesters = search rules in
-    let routed : IsRoutedAs r c.args.at 0 (Ok to) = c.in-Ok-port_down.ensures.ok.0 in
+    let routed : destination_on r c.args.at 0 ≡ Ok to = c.in-Ok-port_down.ensures.ok.0 in
     let some_port : 0 < to = c.in-Ok-port_down.ensures.ok.1 in
     let small : to ≤ c.args.requesters = c.in-Ok-port_down.ensures.ok.2 in
     subst (λ (z : Knowledge). IsRefused z (Forward lanes.Outward c.args.at) (Core c.in-Err-forward.refusal)) same

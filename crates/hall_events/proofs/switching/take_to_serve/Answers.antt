@@ -1,4 +1,4 @@
-use Rattle.std.proofs.Common.{rules, ◌≡◌, false, List, [], ◌∷◌, inl, subst}
+use Rattle.std.proofs.Common.{rules, ◌≡◌, false, List, [], ◌∷◌, inl, refl, subst}
 use Rattle.vc_queue.specs.Queue.{is_takeable}
 use Rattle.fabric_core.specs.declared.event.Event.TheVariants.{Serve}
 use Rattle.fabric_core.specs.declared.fault.Refusal.TheVariants.{NotTakeable}
@@ -29,4 +29,4 @@ returns-then-not-is_takeable-clause-why c =
     let same : t.knows ≡ before = search rules in
     let shown = c.is_takeable.ensures in
     let none : is_takeable v.queue c.args.at ≡ false = let not = c.if-not-is_takeable.true in cc in
-    subst (λ (z : Knowledge). IsRefused z (Serve c.args.at) (Core NotTakeable)) same (inl (c.serving.ensures.nothing t (others_of ts) c.args.at v (known, held) none))
+    subst (λ (z : Knowledge). IsRefused z (Serve c.args.at) (Core NotTakeable)) same (inl (c.serving.ensures.nothing t (others_of ts) c.args.at v (known, held) (λ m s. rw none refl)))

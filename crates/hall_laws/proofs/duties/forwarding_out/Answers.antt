@@ -1,12 +1,10 @@
-use Rattle.std.proofs.Common.{refl}
-use Rattle.hall_laws.specs.Parts.{slot}
 use Rattle.hall_laws.proofs.Answered.{event_shows}
-use Rattle.hall_laws.proofs.SwitchSteps.{goes_out}
+use Rattle.hall_laws.proofs.Owing.{out_goes}
 use Rattle.hall_laws.proofs.Refusing.{out_no_way, out_no_lane, out_kept}
 use Rattle.hall_laws.proofs.duties.forwarding_out.Goals as goal
 
 pub returns-clause-owes : goal.returns-clause-owes
-returns-clause-owes c t place to r r' s s' named held routed forwards = goes_out t place to (slot to 5) r r' s s' named held refl routed forwards
+returns-clause-owes c = out_goes
 
 pub returns-clause-no_way : goal.returns-clause-no_way
 returns-clause-no_way c = out_no_way

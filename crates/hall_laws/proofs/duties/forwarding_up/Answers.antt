@@ -1,12 +1,10 @@
-use Rattle.std.proofs.Common.{◌+◌, refl}
-use Rattle.hall_laws.specs.Parts.{slot}
 use Rattle.hall_laws.proofs.Answered.{event_shows}
-use Rattle.hall_laws.proofs.SwitchSteps.{goes_up}
+use Rattle.hall_laws.proofs.Owing.{up_goes}
 use Rattle.hall_laws.proofs.Refusing.{up_no_way, up_kept}
 use Rattle.hall_laws.proofs.duties.forwarding_up.Goals as goal
 
 pub returns-clause-owes : goal.returns-clause-owes
-returns-clause-owes c t port place to r r' s s' named held routed forwards = goes_up t port place to (slot port 1 + 3) r r' s s' named held refl routed forwards
+returns-clause-owes c = up_goes
 
 pub returns-clause-no_way : goal.returns-clause-no_way
 returns-clause-no_way c = up_no_way

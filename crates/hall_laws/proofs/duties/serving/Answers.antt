@@ -1,10 +1,10 @@
 use Rattle.hall_laws.proofs.Answered.{event_shows}
-use Rattle.hall_laws.proofs.SwitchSteps.{goes_serve}
+use Rattle.hall_laws.proofs.Owing.{serve_goes}
 use Rattle.hall_laws.proofs.Refusing.{serve_refused, in_has_nothing}
 use Rattle.hall_laws.proofs.duties.serving.Goals as goal
 
 pub returns-clause-owes : goal.returns-clause-owes
-returns-clause-owes c = goes_serve
+returns-clause-owes c = serve_goes
 
 pub returns-clause-refused : goal.returns-clause-refused
 returns-clause-refused c = serve_refused

@@ -1,12 +1,10 @@
-use Rattle.std.proofs.Common.{◌+◌, refl}
-use Rattle.hall_laws.specs.Parts.{lane_slot}
 use Rattle.hall_laws.proofs.Answered.{event_shows}
-use Rattle.hall_laws.proofs.LinkSteps.{goes_transmit}
+use Rattle.hall_laws.proofs.Owing.{transmit_goes}
 use Rattle.hall_laws.proofs.Refusing.{transmit_refused, sender_has_nothing}
 use Rattle.hall_laws.proofs.duties.transmitting.Goals as goal
 
 pub returns-clause-owes : goal.returns-clause-owes
-returns-clause-owes c t name s s' w w' n named held sees s_is w_is = goes_transmit t name named (lane_slot name) (lane_slot name + 1) s s' w w' n held refl refl sees s_is w_is
+returns-clause-owes c = transmit_goes
 
 pub returns-clause-refused : goal.returns-clause-refused
 returns-clause-refused c = transmit_refused
