@@ -1,0 +1,5 @@
+pub mod Places
+pub mod Needs
+pub mod Apart
+pub mod Leaving
+pub mod Yielding

@@ -1,0 +1,31 @@
+-- The bytes that a request needs, and those that it puts.
+use Rattle.std.specs.Prelude.{ℕ, ◌≡◌, ◌+◌, ◌*◌, ◌/◌, ◌≤◌, ◌⊎◌, List, length, Option, Some, Bool, true, false}
+use Rattle.tlp_core.specs.declared.operation.Op.{Op}
+use Rattle.tlp_core.specs.declared.operation.Op.TheVariants as ops
+use Rattle.tlp_core.specs.Operation.{address_of, count_of}
+use Rattle.seq_memory.specs.declared.Reply.{Reply}
+use Rattle.seq_memory.specs.Step.{answer, is_enabled}
+
+-- the memory answers what the request was answered, if it was
+abbrev pub Agrees : ℕ → ℕ → List ℕ → Op → Option Reply → Type 0
+Agrees block base m op told = (r : Reply) → told ≡ Some r → answer block base m op ≡ r
+
+-- the data of its reply have the byte at that place in its range
+abbrev pub is_needed : Op → ℕ → Bool
+is_needed (ops.Read a dw f l) at = is_enabled dw f l at
+is_needed (ops.Write a f l bytes) at = false
+is_needed (ops.FetchAdd a w x) at = true
+is_needed (ops.Swap a w x) at = true
+is_needed (ops.Cas a w x y) at = true
+
+-- it writes the byte at that place in its range
+abbrev pub is_put : Op → ℕ → Bool
+is_put (ops.Read a dw f l) at = false
+is_put (ops.Write a f l bytes) at = is_enabled (length bytes.items / 4) f l at
+is_put (ops.FetchAdd a w x) at = true
+is_put (ops.Swap a w x) at = true
+is_put (ops.Cas a w x y) at = true
+
+-- they have no address in common
+abbrev pub AreApart : Op → Op → Type 0
+AreApart one other = (address_of one + count_of one ≤ address_of other) ⊎ (address_of other + count_of other ≤ address_of one)

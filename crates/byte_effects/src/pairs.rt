@@ -1,0 +1,135 @@
+//! Two requests.
+ghost use Rattle.std.specs.Prelude.{◌≡◌, ◌+◌, ◌<◌, ◌≢◌, ◌⊎◌, ℕ, true, None, List, length, IsTrue, slice_index};
+ghost use Rattle.tlp_core.specs.declared.operation.Op.TheVariants as ops;
+ghost use Rattle.tlp_core.specs.Operation.{address_of};
+ghost use Rattle.seq_memory.specs.Limits.{IsBlock};
+ghost use Rattle.seq_memory.specs.Step.{refusal, after, answer};
+ghost use Rattle.byte_effects.specs.Effects as effects;
+ghost use Rattle.byte_effects.specs.Effects.{Agrees};
+
+use crate::laws::{apart_requests_commute, what_is_needed_is_there};
+use crate::puts::left;
+use crate::ranges::{are_apart, is_needed, is_put, place_in};
+use seq_memory::Reply;
+use seq_memory::laws::{only_the_place_changes, refused_and_read_change_nothing};
+use tlp_core::Op;
+
+/// The first operation puts another byte at the place of the second than the second needs.
+fn puts_other(one: &Op, new: &[u8], other: &Op, need: &[u8], at: usize) -> bool
+    ensures { IsTrue result → (i : ℕ) × (address_of one.now + i ≡ address_of other.now + at) × (i < length new.now) × (effects.is_put one.now i ≡ true) × (at < length need.now) × (effects.is_needed other.now at ≡ true) × (slice_index new.now i ≢ slice_index need.now at) }
+{
+    let Some(i) = place_in(one, other, at) else {
+        return false;
+    };
+    i < new.len()
+        && at < need.len()
+        && new[i] != need[at]
+        && is_put(one, i)
+        && is_needed(other, at)
+}
+
+/// Right after `one`, which is served and was answered `told` or not at all, the memory doesn't
+/// answer `reply` to `other`.
+pub fn breaks(block: u16, one: &Op, told: &Option<Reply>, other: &Op, reply: &Reply) -> bool
+    requires { IsBlock block }
+    ensures { IsTrue result → (base : ℕ) (m : List ℕ) → refusal block base (length m) one.now ≡ None → Agrees block base m one.now told.now → answer block base (after block base m one.now) other.now ≡ reply.now → ⊥ }
+{
+    what_is_needed_is_there();
+    let Reply::Data(need) = reply else {
+        return false;
+    };
+    let new = left(block, one, told);
+    for at in 0..need.len() {
+        if puts_other(one, new.as_slice(), other, need.as_slice(), at) {
+            return true;
+        }
+    }
+    false
+}
+
+/// The operations need different bytes at that place of the second.
+fn needs_other(one: &Op, old: &[u8], other: &Op, need: &[u8], at: usize) -> bool
+    ensures { IsTrue result → (i : ℕ) × (address_of one.now + i ≡ address_of other.now + at) × (i < length old.now) × (effects.is_needed one.now i ≡ true) × (at < length need.now) × (effects.is_needed other.now at ≡ true) × (slice_index old.now i ≢ slice_index need.now at) }
+{
+    let Some(i) = place_in(one, other, at) else {
+        return false;
+    };
+    i < old.len()
+        && at < need.len()
+        && old[i] != need[at]
+        && is_needed(one, i)
+        && is_needed(other, at)
+}
+
+/// No bytes give both replies.
+pub fn clashes(one: &Op, told: &Reply, other: &Op, reply: &Reply) -> bool
+    ensures { IsTrue result → (block base : ℕ) (m : List ℕ) → answer block base m one.now ≡ told.now → answer block base m other.now ≡ reply.now → ⊥ }
+{
+    what_is_needed_is_there();
+    let (Reply::Data(old), Reply::Data(need)) = (told, reply) else {
+        return false;
+    };
+    for at in 0..need.len() {
+        if needs_other(one, old.as_slice(), other, need.as_slice(), at) {
+            return true;
+        }
+    }
+    false
+}
+
+fn is_read(op: &Op) -> bool
+    ensures { IsTrue result → (a : ℕ) × (d : ℕ) × (f : ℕ) × (l : ℕ) × (op.now ≡ ops.Read a d f l) }
+{
+    matches!(op, Op::Read { .. })
+}
+
+/// Right after `one`, which was answered `told` or not at all, the memory answers `reply` to `other`
+/// only if it did before.
+pub fn never_brings(
+    block: u16,
+    one: &Op,
+    told: &Option<Reply>,
+    other: &Op,
+    reply: &Reply,
+) -> bool
+    requires { IsBlock block }
+    ensures { IsTrue result → (base : ℕ) (m : List ℕ) → Agrees block base m one.now told.now → answer block base (after block base m one.now) other.now ≡ reply.now → answer block base m other.now ≡ reply.now }
+{
+    apart_requests_commute();
+    refused_and_read_change_nothing();
+    if are_apart(one, other) {
+        return true;
+    }
+    if is_read(one) {
+        return true;
+    }
+    breaks(block, one, told, other, reply)
+}
+
+/// The read wasn't answered, or no bytes give both replies.
+fn read_yields(one: &Op, told: &Option<Reply>, other: &Op, reply: &Reply) -> bool
+    ensures { IsTrue result → (told.now ≡ None) ⊎ ((block base : ℕ) (m : List ℕ) → Agrees block base m one.now told.now → answer block base m other.now ≡ reply.now → ⊥) }
+{
+    match told {
+        None => true,
+        Some(seen) => clashes(one, seen, other, reply),
+    }
+}
+
+/// Where the memory answers both so, it doesn't answer `reply` to `other` right after `one`, or
+/// their order makes no difference.
+pub fn yields(block: u16, one: &Op, told: &Option<Reply>, other: &Op, reply: &Reply) -> bool
+    requires { IsBlock block }
+    ensures { IsTrue result → (base : ℕ) (m : List ℕ) → Agrees block base m one.now told.now → answer block base m other.now ≡ reply.now → (answer block base (after block base m one.now) other.now ≡ reply.now → ⊥) ⊎ ((answer block base (after block base m one.now) other.now ≡ reply.now) × Agrees block base (after block base m other.now) one.now told.now × (after block base (after block base m one.now) other.now ≡ after block base (after block base m other.now) one.now)) }
+{
+    apart_requests_commute();
+    only_the_place_changes();
+    refused_and_read_change_nothing();
+    if are_apart(one, other) {
+        return true;
+    }
+    if is_read(one) {
+        return read_yields(one, told, other, reply);
+    }
+    breaks(block, one, told, other, reply)
+}

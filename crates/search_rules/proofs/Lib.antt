@@ -1,0 +1,4 @@
+pub mod RuleLemmas
+pub mod LostLemmas
+pub mod LastLemmas
+pub mod PairLemmas

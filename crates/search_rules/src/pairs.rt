@@ -1,0 +1,79 @@
+//! What two requests of a log do to each other.
+ghost use Rattle.std.specs.Prelude.{ℕ, ◌≡◌, List, Some, IsTrue, slice_get};
+ghost use Rattle.log_runs.specs.declared.Event.TheVariants as events;
+ghost use Rattle.log_runs.specs.Runs.{bytes_after, acted_on};
+ghost use Rattle.search_rules.specs.Rules.{Answers, Suits, Ends, NeverBrings, Yields};
+
+use log_runs::{Event, Log};
+use seq_memory::Reply;
+use tlp_core::Op;
+
+/// Right after the operation the memory suits request `q` only if it did before.
+fn never_brings_by(log: &Log, one: &Op, told: &Option<Reply>, q: usize) -> bool
+    ensures { IsTrue result → (m : List ℕ) → Answers log.now.extent m one.now told.now → Suits log.now.extent (bytes_after log.now.extent m one.now) (slice_get log.now.events q) → Suits log.now.extent m (slice_get log.now.events q) }
+{
+    match log.events.get(q) {
+        Some(
+            Event::Sub {
+                op,
+                reply: Some(reply),
+                ..
+            },
+        ) => byte_effects::never_brings(log.memory.block(), one, told, op, reply),
+        _ => false,
+    }
+}
+
+/// Right after request `b` acted the memory suits request `q` only if it did before.
+pub fn never_brings(log: &Log, b: usize, q: usize) -> bool
+    ensures { IsTrue result → NeverBrings log.now b q }
+{
+    match log.events.get(b) {
+        Some(Event::Sub { op, reply, .. }) => never_brings_by(log, op, reply, q),
+        Some(Event::Due { .. }) => true,
+        Some(Event::Free) => true,
+        None => true,
+    }
+}
+
+/// Where the memory suits both, it doesn't suit request `q` right after the operation, or their
+/// order makes no difference.
+fn yields_by(log: &Log, one: &Op, told: &Option<Reply>, q: usize) -> bool
+    ensures { IsTrue result → (m : List ℕ) → Answers log.now.extent m one.now told.now → Suits log.now.extent m (slice_get log.now.events q) → (i : ℕ) → Ends log.now.extent m (bytes_after log.now.extent m one.now) (Some (events.Sub i one.now told.now)) (slice_get log.now.events q) }
+{
+    match log.events.get(q) {
+        Some(
+            Event::Sub {
+                op,
+                reply: Some(reply),
+                ..
+            },
+        ) => byte_effects::yields(log.memory.block(), one, told, op, reply),
+        _ => false,
+    }
+}
+
+/// Where the memory suits both, it doesn't suit request `q` right after request `b`, or their order
+/// makes no difference.
+pub fn yields(log: &Log, b: usize, q: usize) -> bool
+    ensures { IsTrue result → Yields log.now b q }
+{
+    match log.events.get(b) {
+        Some(Event::Sub { op, reply, .. }) => yields_by(log, op, reply, q),
+        Some(Event::Due { .. }) => true,
+        Some(Event::Free) => true,
+        None => true,
+    }
+}
+
+/// Wherever request `q` may act, it changes nothing.
+pub fn changes_nothing(log: &Log, q: usize) -> bool
+    ensures { IsTrue result → (m : List ℕ) → Suits log.now.extent m (slice_get log.now.events q) → acted_on log.now.extent m (slice_get log.now.events q) ≡ m }
+{
+    match log.events.get(q) {
+        Some(Event::Sub { op, reply, .. }) => {
+            byte_effects::is_quiet(log.memory.block(), op, reply)
+        }
+        _ => false,
+    }
+}
