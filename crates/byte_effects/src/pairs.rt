@@ -116,11 +116,12 @@ fn read_yields(one: &Op, told: &Option<Reply>, other: &Op, reply: &Reply) -> boo
     }
 }
 
-/// Where the memory answers both so, it doesn't answer `reply` to `other` right after `one`, or
-/// their order makes no difference.
+/// [`never_brings`]; and where the memory answers both so, it doesn't answer `reply` to `other` right
+/// after `one`, or their order makes no difference.
 pub fn yields(block: u16, one: &Op, told: &Option<Reply>, other: &Op, reply: &Reply) -> bool
     requires { IsBlock block }
-    ensures { IsTrue result → (base : ℕ) (m : List ℕ) → Agrees block base m one.now told.now → answer block base m other.now ≡ reply.now → (answer block base (after block base m one.now) other.now ≡ reply.now → ⊥) ⊎ ((answer block base (after block base m one.now) other.now ≡ reply.now) × Agrees block base (after block base m other.now) one.now told.now × (after block base (after block base m one.now) other.now ≡ after block base (after block base m other.now) one.now)) }
+    ensures brings { IsTrue result → (base : ℕ) (m : List ℕ) → Agrees block base m one.now told.now → answer block base (after block base m one.now) other.now ≡ reply.now → answer block base m other.now ≡ reply.now }
+    ensures order { IsTrue result → (base : ℕ) (m : List ℕ) → Agrees block base m one.now told.now → answer block base m other.now ≡ reply.now → (answer block base (after block base m one.now) other.now ≡ reply.now → ⊥) ⊎ ((answer block base (after block base m one.now) other.now ≡ reply.now) × Agrees block base (after block base m other.now) one.now told.now × (after block base (after block base m one.now) other.now ≡ after block base (after block base m other.now) one.now)) }
 {
     apart_requests_commute();
     only_the_place_changes();

@@ -8,7 +8,9 @@ use Rattle.tlp_core.specs.declared.operation.Op.{Op}
 use Rattle.tlp_core.specs.Operation.{is_posted}
 use Rattle.seq_memory.specs.declared.Reply.{Reply}
 use Rattle.seq_memory.specs.declared.Reply.TheVariants as replies
+use Rattle.seq_memory.specs.Limits.{Extent}
 use Rattle.history_check.specs.Flaws.{same_reply}
+use Rattle.search_rules.specs.Rules.{Suits}
 use Rattle.log_runs.specs.declared.Event.{Event}
 use Rattle.log_runs.specs.declared.Event.TheVariants as events
 use Rattle.log_runs.specs.Task.{Task}
@@ -143,3 +145,7 @@ module _ (log : Task) (s : State) (p : List ℕ) (t : IsTable log s.event p s.ac
     λ ready. ready_is b (slice_get log.events b) refl (sym h ∙ ready),
     λ m. h ∙ ap (is_ready log s p b) m.submitted ∙ ready_from b m,
   )
+
+-- a request that was answered otherwise isn't suited
+pub suits_not : (x : Extent) (m : List ℕ) (o : Option Event) (i : ℕ) (op : Op) (told : Option Reply) → o ≡ Some (events.Sub i op told) → is_told told (reply_of x m op) ≡ false → Suits x m o → ⊥
+suits_not x m o i op told at no there = clash (told_from told (reply_of x m op) (subst (Suits x m) at there)) no

@@ -39,7 +39,8 @@ pub fn never_brings(log: &Log, b: usize, q: usize) -> bool
 /// Where the memory suits both, it doesn't suit request `q` right after the operation, or their
 /// order makes no difference.
 fn yields_by(log: &Log, one: &Op, told: &Option<Reply>, q: usize) -> bool
-    ensures { IsTrue result → (m : List ℕ) → Answers log.now.extent m one.now told.now → Suits log.now.extent m (slice_get log.now.events q) → (i : ℕ) → Ends log.now.extent m (bytes_after log.now.extent m one.now) (Some (events.Sub i one.now told.now)) (slice_get log.now.events q) }
+    ensures brings { IsTrue result → (m : List ℕ) → Answers log.now.extent m one.now told.now → Suits log.now.extent (bytes_after log.now.extent m one.now) (slice_get log.now.events q) → Suits log.now.extent m (slice_get log.now.events q) }
+    ensures order { IsTrue result → (m : List ℕ) → Answers log.now.extent m one.now told.now → Suits log.now.extent m (slice_get log.now.events q) → (i : ℕ) → Ends log.now.extent m (bytes_after log.now.extent m one.now) (Some (events.Sub i one.now told.now)) (slice_get log.now.events q) }
 {
     match log.events.get(q) {
         Some(
@@ -53,10 +54,11 @@ fn yields_by(log: &Log, one: &Op, told: &Option<Reply>, q: usize) -> bool
     }
 }
 
-/// Where the memory suits both, it doesn't suit request `q` right after request `b`, or their order
-/// makes no difference.
+/// [`never_brings`]; and where the memory suits both, it doesn't suit request `q` right after request
+/// `b`, or their order makes no difference.
 pub fn yields(log: &Log, b: usize, q: usize) -> bool
-    ensures { IsTrue result → Yields log.now b q }
+    ensures brings { IsTrue result → NeverBrings log.now b q }
+    ensures order { IsTrue result → Yields log.now b q }
 {
     match log.events.get(b) {
         Some(Event::Sub { op, reply, .. }) => yields_by(log, op, reply, q),

@@ -1,0 +1,13 @@
+use Rattle.std.proofs.Common.{arith}
+use Rattle.run_search.specs.Places.{state_of}
+use Rattle.run_search.proofs.lost.is_lost.Goals as goal
+
+pub returns : goal.returns
+returns c = λ yes.
+    c.lost_is_dead.ensures c.args.log.now (state_of c.args.place.now) c.args.q c.in-Some.a (record {
+      due = c.in-Some.ensures;
+      since = omega (arith, c.if-a-event.false);
+      left = c.is_left.ensures c.if-not-is_left.false;
+      gone = c.suits.ensures c.if-suits.false;
+      nobody = λ b l o e. (c.others_spare.ensures yes b l o e).0;
+    })
