@@ -73,7 +73,6 @@ module _ (others : Others) (sizes : Sizes) where
       ∙ answers_alike (refusal block base (length m) other) (read_back other (bytes_at n (address_of other - base) (count_of other))) (read_back other (bytes_at m (address_of other - base) (count_of other)))
       (λ served. ap (read_back other) (met block base m one other apart served))
 
-
   module _ (places : Places) (refused : Refused) where
     -- a byte in the place of a served operation
     in_place : (block base : ℕ) (m : List ℕ) (op : Op) (k : ℕ) → refusal block base (length m) op ≡ None → address_of op ≤ base + k → base + k < address_of op + count_of op

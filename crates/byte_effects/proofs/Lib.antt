@@ -3,3 +3,4 @@ pub mod Needs
 pub mod Apart
 pub mod Leaving
 pub mod Yielding
+pub mod Enabling

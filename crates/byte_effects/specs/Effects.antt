@@ -26,6 +26,14 @@ is_put (ops.FetchAdd a w x) at = true
 is_put (ops.Swap a w x) at = true
 is_put (ops.Cas a w x y) at = true
 
+-- an AtomicOp
+abbrev pub is_atomic : Op → Bool
+is_atomic (ops.Read a dw f l) = false
+is_atomic (ops.Write a f l bytes) = false
+is_atomic (ops.FetchAdd a w x) = true
+is_atomic (ops.Swap a w x) = true
+is_atomic (ops.Cas a w x y) = true
+
 -- they have no address in common
 abbrev pub AreApart : Op → Op → Type 0
 AreApart one other = (address_of one + count_of one ≤ address_of other) ⊎ (address_of other + count_of other ≤ address_of one)

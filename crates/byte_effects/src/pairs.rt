@@ -1,6 +1,5 @@
 //! Two requests.
 ghost use Rattle.std.specs.Prelude.{◌≡◌, ◌+◌, ◌<◌, ◌≢◌, ◌⊎◌, ℕ, true, None, List, length, IsTrue, slice_index};
-ghost use Rattle.tlp_core.specs.declared.operation.Op.TheVariants as ops;
 ghost use Rattle.tlp_core.specs.Operation.{address_of};
 ghost use Rattle.seq_memory.specs.Limits.{IsBlock};
 ghost use Rattle.seq_memory.specs.Step.{refusal, after, answer};
@@ -8,7 +7,7 @@ ghost use Rattle.byte_effects.specs.Effects as effects;
 ghost use Rattle.byte_effects.specs.Effects.{Agrees};
 
 use crate::laws::{apart_requests_commute, what_is_needed_is_there};
-use crate::puts::left;
+use crate::puts::{is_read, left};
 use crate::ranges::{are_apart, is_needed, is_put, place_in};
 use seq_memory::Reply;
 use seq_memory::laws::{only_the_place_changes, refused_and_read_change_nothing};
@@ -21,11 +20,19 @@ fn puts_other(one: &Op, new: &[u8], other: &Op, need: &[u8], at: usize) -> bool
     let Some(i) = place_in(one, other, at) else {
         return false;
     };
-    i < new.len()
-        && at < need.len()
-        && new[i] != need[at]
-        && is_put(one, i)
-        && is_needed(other, at)
+    i < new.len() && at < need.len() && new[i] != need[at] && is_put(one, i) && is_needed(other, at)
+}
+
+/// It does so at some place.
+fn some_put_other(one: &Op, new: &[u8], other: &Op, need: &[u8]) -> bool
+    ensures { IsTrue result → (at : ℕ) × (i : ℕ) × (address_of one.now + i ≡ address_of other.now + at) × (i < length new.now) × (effects.is_put one.now i ≡ true) × (at < length need.now) × (effects.is_needed other.now at ≡ true) × (slice_index new.now i ≢ slice_index need.now at) }
+{
+    for at in 0..need.len() {
+        if puts_other(one, new, other, need, at) {
+            return true;
+        }
+    }
+    false
 }
 
 /// Right after `one`, which is served and was answered `told` or not at all, the memory doesn't
@@ -39,12 +46,7 @@ pub fn breaks(block: u16, one: &Op, told: &Option<Reply>, other: &Op, reply: &Re
         return false;
     };
     let new = left(block, one, told);
-    for at in 0..need.len() {
-        if puts_other(one, new.as_slice(), other, need.as_slice(), at) {
-            return true;
-        }
-    }
-    false
+    some_put_other(one, new.as_slice(), other, need.as_slice())
 }
 
 /// The operations need different bytes at that place of the second.
@@ -61,37 +63,35 @@ fn needs_other(one: &Op, old: &[u8], other: &Op, need: &[u8], at: usize) -> bool
         && is_needed(other, at)
 }
 
-/// No bytes give both replies.
-pub fn clashes(one: &Op, told: &Reply, other: &Op, reply: &Reply) -> bool
-    ensures { IsTrue result → (block base : ℕ) (m : List ℕ) → answer block base m one.now ≡ told.now → answer block base m other.now ≡ reply.now → ⊥ }
+/// They do so at some place.
+fn some_need_other(one: &Op, old: &[u8], other: &Op, need: &[u8]) -> bool
+    ensures { IsTrue result → (at : ℕ) × (i : ℕ) × (address_of one.now + i ≡ address_of other.now + at) × (i < length old.now) × (effects.is_needed one.now i ≡ true) × (at < length need.now) × (effects.is_needed other.now at ≡ true) × (slice_index old.now i ≢ slice_index need.now at) }
 {
-    what_is_needed_is_there();
-    let (Reply::Data(old), Reply::Data(need)) = (told, reply) else {
-        return false;
-    };
     for at in 0..need.len() {
-        if needs_other(one, old.as_slice(), other, need.as_slice(), at) {
+        if needs_other(one, old, other, need, at) {
             return true;
         }
     }
     false
 }
 
-fn is_read(op: &Op) -> bool
-    ensures { IsTrue result → (a : ℕ) × (d : ℕ) × (f : ℕ) × (l : ℕ) × (op.now ≡ ops.Read a d f l) }
+/// No bytes give both replies.
+pub fn clashes(one: &Op, told: &Reply, other: &Op, reply: &Reply) -> bool
+    ensures { IsTrue result → (block base : ℕ) (m : List ℕ) → answer block base m one.now ≡ told.now → answer block base m other.now ≡ reply.now → ⊥ }
 {
-    matches!(op, Op::Read { .. })
+    what_is_needed_is_there();
+    let Reply::Data(old) = told else {
+        return false;
+    };
+    let Reply::Data(need) = reply else {
+        return false;
+    };
+    some_need_other(one, old.as_slice(), other, need.as_slice())
 }
 
 /// Right after `one`, which was answered `told` or not at all, the memory answers `reply` to `other`
 /// only if it did before.
-pub fn never_brings(
-    block: u16,
-    one: &Op,
-    told: &Option<Reply>,
-    other: &Op,
-    reply: &Reply,
-) -> bool
+pub fn never_brings(block: u16, one: &Op, told: &Option<Reply>, other: &Op, reply: &Reply) -> bool
     requires { IsBlock block }
     ensures { IsTrue result → (base : ℕ) (m : List ℕ) → Agrees block base m one.now told.now → answer block base (after block base m one.now) other.now ≡ reply.now → answer block base m other.now ≡ reply.now }
 {

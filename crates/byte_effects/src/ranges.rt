@@ -25,7 +25,10 @@ fn is_enabled_in(enables: u8, at: usize) -> bool
 fn is_enabled(dw: usize, first: u8, last: u8, at: usize) -> bool
     ensures { result ≡ step.is_enabled dw first last at }
 {
-    if dw == 1 || at < 4 {
+    if dw == 1 {
+        return is_enabled_in(first, at);
+    }
+    if at < 4 {
         return is_enabled_in(first, at);
     }
     let middle = dw.saturating_sub(2);
@@ -42,7 +45,10 @@ pub fn is_needed(op: &Op, at: usize) -> bool
 {
     match op {
         Op::Read {
-            dw, first, last, ..
+            dw,
+            first,
+            last,
+            ..
         } => is_enabled(usize::from(*dw), *first, *last, at),
         Op::Write { .. } => false,
         _ => true,
@@ -56,7 +62,10 @@ pub fn is_put(op: &Op, at: usize) -> bool
     match op {
         Op::Read { .. } => false,
         Op::Write {
-            first, last, bytes, ..
+            first,
+            last,
+            bytes,
+            ..
         } => is_enabled(bytes.len() / 4, *first, *last, at),
         _ => true,
     }
