@@ -1,7 +1,7 @@
 -- Two requests of a log, by what their operations do.
-use Rattle.std.proofs.Common.{◌≡◌, ◌∙◌, ◌⊎◌, inl, inr, ℕ, List, Some, None, Option, refl, sym, ap, subst}
+use Rattle.std.proofs.Common.{◌≡◌, ◌∙◌, ◌⊎◌, inl, inr, ℕ, ◌<◌, List, length, get_or, Some, None, Option, refl, sym, ap, subst}
 use Rattle.std.specs.Prelude.{slice_get}
-use Rattle.std.proofs.lemmas.Option.{same_Some}
+use Rattle.std.proofs.lemmas.Option.{slice_get_read, same_Some}
 use Rattle.tlp_core.specs.declared.operation.Op.{Op}
 use Rattle.seq_memory.specs.declared.Reply.{Reply}
 use Rattle.seq_memory.specs.Limits.{Extent}
@@ -13,37 +13,39 @@ use Rattle.log_runs.specs.Task.{Task}
 use Rattle.log_runs.specs.Runs.{reply_of, bytes_after, acted_on}
 use Rattle.search_rules.specs.Rules.{Answers, Suits, Ends, NeverBrings, Yields}
 
+-- an event that was read
+pub event_at : (es ds items : List Event) (b : ℕ) (r e : Event) → ds ≡ items → items ≡ es → b < length ds → r ≡ get_or ds b r → r ≡ e → slice_get es b ≡ Some e
+event_at es ds items b r e one two within read is =
+    ap (λ xs. slice_get xs b) (sym (one ∙ two)) ∙ slice_get_read ds (length ds) b r refl within read ∙ ap Some is
+
 -- ---- by their operations
 
-pub brings_by : (x : Extent) (o : Option Event) (i : ℕ) (one op : Op) (told : Option Reply) (reply : Reply) → o ≡ Some (events.Sub i op (Some reply))
-    → ((base : ℕ) (m : List ℕ) → Agrees x.block base m one told → answer x.block base (after x.block base m one) op ≡ reply → answer x.block base m op ≡ reply)
-    → (m : List ℕ) → Answers x m one told → Suits x (bytes_after x m one) o → Suits x m o
+abbrev pub KeepsOut : ℕ → Op → Op → Option Reply → Option Reply → Type 0
+KeepsOut block one op told reply =
+    (base : ℕ) (m : List ℕ) → Agrees block base m one told → Agrees block base (after block base m one) op reply → Agrees block base m op reply
+
+abbrev pub GivesWay : ℕ → Op → Op → Option Reply → Option Reply → Type 0
+GivesWay block one op told reply =
+    (base : ℕ) (m : List ℕ) → Agrees block base m one told → Agrees block base m op reply
+    → (Agrees block base (after block base m one) op reply → ⊥)
+    ⊎ (Agrees block base (after block base m one) op reply × Agrees block base (after block base m op) one told
+    × (after block base (after block base m one) op ≡ after block base (after block base m op) one))
+
+pub brings_by : (x : Extent) (o : Option Event) (i block : ℕ) (one op : Op) (told reply : Option Reply) → block ≡ x.block → o ≡ Some (events.Sub i op reply)
+    → KeepsOut block one op told reply → (m : List ℕ) → Answers x m one told → Suits x (bytes_after x m one) o → Suits x m o
 unfolding reply_of bytes_after
-brings_by x o i one op told reply at never m agrees there =
-    let got : answer x.block x.base (after x.block x.base m one) op ≡ reply = subst (Suits x (after x.block x.base m one)) at there reply refl in
-    subst (Suits x m) (sym at) (λ r told_it. never x.base m agrees got ∙ same_Some reply r told_it)
+brings_by x o i block one op told reply eb at never m agrees there =
+    let never_here : KeepsOut x.block one op told reply = subst (λ n. KeepsOut n one op told reply) eb never in
+    let before : Suits x m (Some (events.Sub i op reply)) = never_here x.base m agrees (subst (Suits x (after x.block x.base m one)) at there) in
+    subst (Suits x m) (sym at) before
 
--- what holds of the operations as they are answered holds of the events
-ends_as : (x : Extent) (o : Option Event) (i j : ℕ) (one op : Op) (told : Option Reply) (reply : Reply) (m : List ℕ) → o ≡ Some (events.Sub i op (Some reply))
-    → ((answer x.block x.base (after x.block x.base m one) op ≡ reply → ⊥)
-    ⊎ ((answer x.block x.base (after x.block x.base m one) op ≡ reply) × Agrees x.block x.base (after x.block x.base m op) one told
-    × (after x.block x.base (after x.block x.base m one) op ≡ after x.block x.base (after x.block x.base m op) one)))
-    → Ends x m (bytes_after x m one) (Some (events.Sub j one told)) o
+pub yields_by : (x : Extent) (o : Option Event) (i block : ℕ) (one op : Op) (told reply : Option Reply) → block ≡ x.block → o ≡ Some (events.Sub i op reply)
+    → GivesWay block one op told reply → (m : List ℕ) → Answers x m one told → Suits x m o → (j : ℕ) → Ends x m (bytes_after x m one) (Some (events.Sub j one told)) o
 unfolding reply_of bytes_after acted_on
-ends_as x o i j one op told reply m at (inl broken) =
-    inl (λ there. broken (subst (Suits x (after x.block x.base m one)) at there reply refl))
-ends_as x o i j one op told reply m at (inr (still, agrees, swap)) =
-    subst (Ends x m (after x.block x.base m one) (Some (events.Sub j one told))) (sym at) (inr ((λ r told_it. still ∙ same_Some reply r told_it), agrees, swap))
-
-pub yields_by : (x : Extent) (o : Option Event) (i : ℕ) (one op : Op) (told : Option Reply) (reply : Reply) → o ≡ Some (events.Sub i op (Some reply))
-    → ((base : ℕ) (m : List ℕ) → Agrees x.block base m one told → answer x.block base m op ≡ reply
-    → (answer x.block base (after x.block base m one) op ≡ reply → ⊥)
-    ⊎ ((answer x.block base (after x.block base m one) op ≡ reply) × Agrees x.block base (after x.block base m op) one told
-    × (after x.block base (after x.block base m one) op ≡ after x.block base (after x.block base m op) one)))
-    → (m : List ℕ) → Answers x m one told → Suits x m o → (j : ℕ) → Ends x m (bytes_after x m one) (Some (events.Sub j one told)) o
-unfolding reply_of
-yields_by x o i one op told reply at yields m agrees there j =
-    ends_as x o i j one op told reply m at (yields x.base m agrees (subst (Suits x m) at there reply refl))
+yields_by x o i block one op told reply eb at yields m agrees there j =
+    let way : GivesWay x.block one op told reply = subst (λ n. GivesWay n one op told reply) eb yields in
+    let ends : Ends x m (after x.block x.base m one) (Some (events.Sub j one told)) (Some (events.Sub i op reply)) = way x.base m agrees (subst (Suits x m) at there) in
+    subst (Ends x m (after x.block x.base m one) (Some (events.Sub j one told))) (sym at) ends
 
 -- ---- by their places
 
@@ -61,10 +63,13 @@ unfolding acted_on
 yields_at log b q i one told at yields m agrees there =
     subst (λ o. Ends log.extent m (acted_on log.extent m o) o (slice_get log.events q)) (sym at) (yields m (subst (Suits log.extent m) at agrees) there i)
 
-pub quiet_at : (x : Extent) (o : Option Event) (i : ℕ) (op : Op) (told : Option Reply) → o ≡ Some (events.Sub i op told)
-    → ((base : ℕ) (m : List ℕ) → Agrees x.block base m op told → after x.block base m op ≡ m) → (m : List ℕ) → Suits x m o → acted_on x m o ≡ m
+pub quiet_at : (x : Extent) (o : Option Event) (i block : ℕ) (op : Op) (told : Option Reply) → block ≡ x.block → o ≡ Some (events.Sub i op told)
+    → ((base : ℕ) (m : List ℕ) → Agrees block base m op told → after block base m op ≡ m) → (m : List ℕ) → Suits x m o → acted_on x m o ≡ m
 unfolding acted_on bytes_after reply_of
-quiet_at x o i op told at quiet m there = ap (acted_on x m) at ∙ quiet x.base m (subst (Suits x m) at there)
+quiet_at x o i block op told eb at quiet m there =
+    let here : (base : ℕ) (m : List ℕ) → Agrees x.block base m op told → after x.block base m op ≡ m =
+    subst (λ n. (base : ℕ) (m : List ℕ) → Agrees n base m op told → after n base m op ≡ m) eb quiet in
+    ap (acted_on x m) at ∙ here x.base m (subst (Suits x m) at there)
 
 -- ---- what is no submission
 
@@ -101,5 +106,14 @@ not_due o c i op told e f = cc
 pub not_free : (o : Option Event) (i : ℕ) (op : Op) (told : Option Reply) → o ≡ Some events.Free → o ≡ Some (events.Sub i op told) → ⊥
 not_free o i op told e f = cc
 
-pub not_none : (o : Option Event) (i : ℕ) (op : Op) (told : Option Reply) → o ≡ None → o ≡ Some (events.Sub i op told) → ⊥
-not_none o i op told e f = cc
+-- one reply is all that was answered
+pub way_of : (block base : ℕ) (m : List ℕ) (one op : Op) (told asked : Option Reply) (reply : Reply) → asked ≡ Some reply
+    → ((answer block base (after block base m one) op ≡ reply → ⊥)
+    ⊎ ((answer block base (after block base m one) op ≡ reply) × Agrees block base (after block base m op) one told
+    × (after block base (after block base m one) op ≡ after block base (after block base m op) one)))
+    → (Agrees block base (after block base m one) op asked → ⊥)
+    ⊎ (Agrees block base (after block base m one) op asked × Agrees block base (after block base m op) one told
+    × (after block base (after block base m one) op ≡ after block base (after block base m op) one))
+way_of block base m one op told asked reply is (inl broken) = inl (λ there. broken (there reply is))
+way_of block base m one op told asked reply is (inr (still, agrees, swap)) =
+    inr ((λ r told_it. still ∙ same_Some reply r (sym is ∙ told_it)), agrees, swap)

@@ -1,5 +1,8 @@
 //! What two requests of a log do to each other.
-ghost use Rattle.std.specs.Prelude.{ℕ, ◌≡◌, List, Some, IsTrue, slice_get};
+ghost use Rattle.std.specs.Prelude.{ℕ, ◌≡◌, ◌⊎◌, List, Some, IsTrue, slice_get};
+ghost use Rattle.seq_memory.specs.Limits.{IsBlock};
+ghost use Rattle.seq_memory.specs.Step.{after};
+ghost use Rattle.byte_effects.specs.Effects.{Agrees};
 ghost use Rattle.log_runs.specs.declared.Event.TheVariants as events;
 ghost use Rattle.log_runs.specs.Runs.{bytes_after, acted_on};
 ghost use Rattle.search_rules.specs.Rules.{Answers, Suits, Ends, NeverBrings, Yields};
@@ -8,18 +11,31 @@ use log_runs::{Event, Log};
 use seq_memory::Reply;
 use tlp_core::Op;
 
+/// Right after the first operation the memory suits the second only if it did before.
+fn keeps_out(
+    block: u16,
+    one: &Op,
+    told: &Option<Reply>,
+    other: &Op,
+    asked: &Option<Reply>,
+) -> bool
+    requires { IsBlock block }
+    ensures { IsTrue result → (base : ℕ) (m : List ℕ) → Agrees block base m one.now told.now → Agrees block base (after block base m one.now) other.now asked.now → Agrees block base m other.now asked.now }
+{
+    match asked {
+        Some(reply) => byte_effects::never_brings(block, one, told, other, reply),
+        None => false,
+    }
+}
+
 /// Right after the operation the memory suits request `q` only if it did before.
 fn never_brings_by(log: &Log, one: &Op, told: &Option<Reply>, q: usize) -> bool
     ensures { IsTrue result → (m : List ℕ) → Answers log.now.extent m one.now told.now → Suits log.now.extent (bytes_after log.now.extent m one.now) (slice_get log.now.events q) → Suits log.now.extent m (slice_get log.now.events q) }
 {
     match log.events.get(q) {
-        Some(
-            Event::Sub {
-                op,
-                reply: Some(reply),
-                ..
-            },
-        ) => byte_effects::never_brings(log.memory.block(), one, told, op, reply),
+        Some(Event::Sub { op, reply, .. }) => {
+            keeps_out(log.memory.block(), one, told, op, reply)
+        }
         _ => false,
     }
 }
@@ -32,24 +48,39 @@ pub fn never_brings(log: &Log, b: usize, q: usize) -> bool
         Some(Event::Sub { op, reply, .. }) => never_brings_by(log, op, reply, q),
         Some(Event::Due { .. }) => true,
         Some(Event::Free) => true,
-        None => true,
+        None => false,
     }
 }
 
-/// Where the memory suits both, it doesn't suit request `q` right after the operation, or their
-/// order makes no difference.
+/// [`keeps_out`]; and where the memory suits both, it doesn't suit the second right after the first,
+/// or their order makes no difference.
+fn gives_way(
+    block: u16,
+    one: &Op,
+    told: &Option<Reply>,
+    other: &Op,
+    asked: &Option<Reply>,
+) -> bool
+    requires { IsBlock block }
+    ensures brings { IsTrue result → (base : ℕ) (m : List ℕ) → Agrees block base m one.now told.now → Agrees block base (after block base m one.now) other.now asked.now → Agrees block base m other.now asked.now }
+    ensures order { IsTrue result → (base : ℕ) (m : List ℕ) → Agrees block base m one.now told.now → Agrees block base m other.now asked.now → (Agrees block base (after block base m one.now) other.now asked.now → ⊥) ⊎ (Agrees block base (after block base m one.now) other.now asked.now × Agrees block base (after block base m other.now) one.now told.now × (after block base (after block base m one.now) other.now ≡ after block base (after block base m other.now) one.now)) }
+{
+    match asked {
+        Some(reply) => byte_effects::yields(block, one, told, other, reply),
+        None => false,
+    }
+}
+
+/// [`never_brings_by`]; and where the memory suits both, it doesn't suit request `q` right after the
+/// operation, or their order makes no difference.
 fn yields_by(log: &Log, one: &Op, told: &Option<Reply>, q: usize) -> bool
     ensures brings { IsTrue result → (m : List ℕ) → Answers log.now.extent m one.now told.now → Suits log.now.extent (bytes_after log.now.extent m one.now) (slice_get log.now.events q) → Suits log.now.extent m (slice_get log.now.events q) }
     ensures order { IsTrue result → (m : List ℕ) → Answers log.now.extent m one.now told.now → Suits log.now.extent m (slice_get log.now.events q) → (i : ℕ) → Ends log.now.extent m (bytes_after log.now.extent m one.now) (Some (events.Sub i one.now told.now)) (slice_get log.now.events q) }
 {
     match log.events.get(q) {
-        Some(
-            Event::Sub {
-                op,
-                reply: Some(reply),
-                ..
-            },
-        ) => byte_effects::yields(log.memory.block(), one, told, op, reply),
+        Some(Event::Sub { op, reply, .. }) => {
+            gives_way(log.memory.block(), one, told, op, reply)
+        }
         _ => false,
     }
 }
@@ -64,7 +95,7 @@ pub fn yields(log: &Log, b: usize, q: usize) -> bool
         Some(Event::Sub { op, reply, .. }) => yields_by(log, op, reply, q),
         Some(Event::Due { .. }) => true,
         Some(Event::Free) => true,
-        None => true,
+        None => false,
     }
 }
 
