@@ -4,3 +4,4 @@ pub mod Apart
 pub mod Leaving
 pub mod Yielding
 pub mod Enabling
+pub mod WaitingOf

@@ -1,5 +1,5 @@
 -- The bytes that a request needs, and those that it puts.
-use Rattle.std.specs.Prelude.{ℕ, ◌≡◌, ◌+◌, ◌*◌, ◌/◌, ◌≤◌, ◌⊎◌, List, length, Option, Some, Bool, true, false}
+use Rattle.std.specs.Prelude.{ℕ, ◌≡◌, ◌+◌, ◌*◌, ◌/◌, ◌≤◌, ◌<◌, ◌⊎◌, List, length, slice_index, Option, Some, Bool, true, false}
 use Rattle.tlp_core.specs.declared.operation.Op.{Op}
 use Rattle.tlp_core.specs.declared.operation.Op.TheVariants as ops
 use Rattle.tlp_core.specs.Operation.{address_of, count_of}
@@ -37,3 +37,7 @@ is_atomic (ops.Cas a w x y) = true
 -- they have no address in common
 abbrev pub AreApart : Op → Op → Type 0
 AreApart one other = (address_of one + count_of one ≤ address_of other) ⊎ (address_of other + count_of other ≤ address_of one)
+
+-- the bytes at the operation's addresses are the same
+abbrev pub AreSameAt : ℕ → Op → List ℕ → List ℕ → Type 0
+AreSameAt base op m n = (k : ℕ) → address_of op ≤ base + k → base + k < address_of op + count_of op → slice_index n k ≡ slice_index m k

@@ -1,5 +1,5 @@
 //! Which bytes a request needs and puts.
-ghost use Rattle.std.specs.Prelude.{◌≡◌, ◌+◌, ◌*◌, ◌/◌, IsTrue, IfSome};
+ghost use Rattle.std.specs.Prelude.{◌≡◌, ◌+◌, ◌-◌, ◌*◌, ◌/◌, ◌≤◌, IsTrue, IfSome};
 ghost use Rattle.tlp_core.specs.Enables.{dw_enables};
 ghost use Rattle.tlp_core.specs.Operation.{address_of};
 ghost use Rattle.seq_memory.specs.Step as step;
@@ -93,4 +93,15 @@ pub(crate) fn place_in(one: &Op, other: &Op, at: usize) -> Option<usize>
     } else {
         at.checked_sub((a - b) as usize)
     }
+}
+
+/// The index of what is at place `at` of the range, in the memory whose bytes begin at `base`.
+pub(crate) fn index_of(base: u64, op: &Op, at: usize) -> Option<usize>
+    ensures { IfSome result (λ k. (base ≤ address_of op.now) × (k ≡ address_of op.now - base + at)) }
+{
+    let a = op.address();
+    if a < base {
+        return None;
+    }
+    at.checked_add((a - base) as usize)
 }

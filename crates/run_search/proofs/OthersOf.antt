@@ -2,7 +2,7 @@
 use Rattle.std.proofs.Common.{◌≡◌, ◌∙◌, ◌⊎◌, inl, inr, ℕ, ◌+◌, ◌<◌, ◌≤◌, Bool, true, false, List, [], ◌∷◌, ◌++◌, Some, Option, length, take, get_or, refl, sym, ap, subst, arith}
 use Rattle.std.specs.Prelude.{slice_get, ◌==◌, ◌||◌}
 use Rattle.std.specs.List.{list_any}
-use Rattle.std.proofs.lemmas.Bool.{cases_Bool, cases_lt, or_cases, eqb-true}
+use Rattle.std.proofs.lemmas.Bool.{cases_Bool, cases_eq, cases_lt, or_cases, eqb-true}
 use Rattle.std.proofs.lemmas.Option.{same_Some, slice_get_within}
 use Rattle.std.proofs.lemmas.List.{take_all}
 use Rattle.std.proofs.lemmas.List.Folds.{list_any-append}
@@ -47,14 +47,20 @@ pub all_others : (log : Task) (s : State) (p : List ℕ) (q a : ℕ) (strict : B
 all_others log s p q a strict brings yields t pending later b l other left = elim (cases_lt b s.event) [
   | inr late ↦ later b late l other
   | inl early ↦ elim (cases_Bool (submits (slice_get log.events b))) [
-    | inr no ↦
-        let none : (i : ℕ) (op : Op) (told : Option Reply) → slice_get log.events b ≡ Some (events.Sub i op told) → ⊥ = λ i op told at. clash (ap submits at) no in
+    | inr lacks ↦
+        let none : (i : ℕ) (op : Op) (told : Option Reply) → slice_get log.events b ≡ Some (events.Sub i op told) → ⊥ = λ i op told at. clash (ap submits at) lacks in
         (brings log b q none, λ asked. yields log b q none)
-    | inl yes ↦ elim (cases_Bool (has p b)) [
+    | inl is ↦ elim (cases_Bool (has p b)) [
       | inl there ↦ pending b there other
       | inr gone ↦
           let inside : b < length log.events = omega (arith, slice_get_within s.acted b false left, t.len) in
-          absurd (clash (done_from log s.event p b early yes gone) (same_Some (is_done log s.event p b) false (sym (t.at b inside) ∙ left)))
+          absurd (clash (done_from log s.event p b early is gone) (same_Some (is_done log s.event p b) false (sym (t.at b inside) ∙ left)))
     ]
   ]
+]
+
+pub range_next : (P : ℕ → Type 0) (from i : ℕ) → ((b : ℕ) → from ≤ b → b < i → P b) → P i → (b : ℕ) → from ≤ b → b < i + 1 → P b
+range_next P from i before now b low high = elim (cases_eq b i) [
+  | inl same ↦ subst P (sym same) now
+  | inr other ↦ before b low (omega (arith, high, other))
 ]

@@ -1,8 +1,8 @@
 //! Requests that can't have what they need.
 ghost use Rattle.std.specs.Prelude.{◌≡◌, Some, false, IsTrue, slice_get};
 ghost use Rattle.log_runs.specs.Runs.{Dead};
-ghost use Rattle.search_rules.specs.Rules.{Suits};
 ghost use Rattle.run_search.specs.Places.{state_of, IsPlace};
+ghost use Rattle.run_search.specs.Ready as ready;
 
 use crate::allowed::agrees;
 use crate::bytes::reply_to;
@@ -24,15 +24,13 @@ fn is_left(place: &Place, q: usize) -> bool
 
 /// The memory answers what the request was answered, if it was.
 fn suits(place: &Place, log: &Log, q: usize) -> bool
-    ensures { result ≡ false → Suits log.now.extent (state_of place.now).bytes (slice_get log.now.events q) → ⊥ }
+    ensures { result ≡ ready.suits log.now (state_of place.now).bytes (slice_get log.now.events q) }
 {
     match log.events.get(q) {
         Some(Event::Sub { op, reply, .. }) => {
             agrees(reply, &reply_to(log, place.key.bytes.as_slice(), op))
         }
-        Some(Event::Due { .. }) => true,
-        Some(Event::Free) => true,
-        None => true,
+        _ => true,
     }
 }
 

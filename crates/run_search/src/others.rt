@@ -1,5 +1,5 @@
 //! What the others that could act before a request do to it.
-ghost use Rattle.std.specs.Prelude.{ℕ, ◌≡◌, ◌<◌, ◌≤◌, true, false, IsTrue};
+ghost use Rattle.std.specs.Prelude.{ℕ, ◌≡◌, ◌<◌, ◌≤◌, true, IsTrue};
 ghost use Rattle.search_rules.specs.Rules.{AllOthers};
 ghost use Rattle.run_search.specs.Pending.{has};
 ghost use Rattle.run_search.specs.Places.{state_of, IsPlace};
@@ -21,11 +21,14 @@ fn spares(log: &Log, b: usize, q: usize, strict: bool) -> bool
     }
 }
 
-/// It is another request and doesn't spare `q`.
-fn hinders(log: &Log, b: usize, q: usize, strict: bool) -> bool
-    ensures { result ≡ false → (q ≡ b → ⊥) → Spares log.now q strict b }
+/// It is `q` itself, or spares it.
+fn allows(log: &Log, b: usize, q: usize, strict: bool) -> bool
+    ensures { IsTrue result → (q ≡ b → ⊥) → Spares log.now q strict b }
 {
-    b != q && !spares(log, b, q, strict)
+    if b == q {
+        return true;
+    }
+    spares(log, b, q, strict)
 }
 
 /// All of the list spare `q`.
@@ -33,7 +36,7 @@ fn all_spare(pending: &[usize], log: &Log, q: usize, strict: bool) -> bool
     ensures { IsTrue result → (b : ℕ) → has pending.now b ≡ true → (q ≡ b → ⊥) → Spares log.now q strict b }
 {
     for b in pending {
-        if hinders(log, *b, q, strict) {
+        if !allows(log, *b, q, strict) {
             return false;
         }
     }
@@ -45,7 +48,7 @@ fn later_spare(log: &Log, from: usize, to: usize, q: usize, strict: bool) -> boo
     ensures { IsTrue result → (b : ℕ) → from ≤ b → b < to → (q ≡ b → ⊥) → Spares log.now q strict b }
 {
     for b in from..to {
-        if hinders(log, b, q, strict) {
+        if !allows(log, b, q, strict) {
             return false;
         }
     }

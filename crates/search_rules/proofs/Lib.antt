@@ -2,3 +2,4 @@ pub mod RuleLemmas
 pub mod LostLemmas
 pub mod LastLemmas
 pub mod PairLemmas
+pub mod FirstLemmas

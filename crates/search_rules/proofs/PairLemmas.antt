@@ -117,3 +117,6 @@ pub way_of : (block base : ℕ) (m : List ℕ) (one op : Op) (told asked : Optio
 way_of block base m one op told asked reply is (inl broken) = inl (λ there. broken (there reply is))
 way_of block base m one op told asked reply is (inr (still, agrees, swap)) =
     inr ((λ r told_it. still ∙ same_Some reply r (sym is ∙ told_it)), agrees, swap)
+
+pub not_none : (o : Option Event) (i : ℕ) (op : Op) (told : Option Reply) → o ≡ None → o ≡ Some (events.Sub i op told) → ⊥
+not_none o i op told e f = cc

@@ -1,8 +1,10 @@
 -- When a state is lost, and when a request may act at once.
-use Rattle.std.specs.Prelude.{ℕ, ◌≡◌, ◌<◌, ◌≤◌, ◌⊎◌, List, slice_get, Option, Some, None, false}
+use Rattle.std.specs.Prelude.{ℕ, ◌≡◌, ◌<◌, ◌≤◌, ◌⊎◌, List, slice_get, Option, Some, None, true, false}
 use Rattle.tlp_core.specs.declared.operation.Op.{Op}
 use Rattle.seq_memory.specs.declared.Reply.{Reply}
 use Rattle.seq_memory.specs.Limits.{Extent}
+use Rattle.tlp_core.specs.Operation.{is_posted}
+use Rattle.byte_effects.specs.Effects.{AreApart, AreSameAt}
 use Rattle.log_runs.specs.declared.Event.{Event}
 use Rattle.log_runs.specs.declared.Event.TheVariants as events
 use Rattle.log_runs.specs.Task.{Task}
@@ -54,3 +56,37 @@ pub record IsLast (log : Task) (s : State) (q a : ℕ) : Type 0 where
   pub since : s.event ≤ a
   pub may : MayAct log s q
   pub nobody : AllOthers s q a (λ b. NeverBrings log b q × Yields log b q)
+
+-- the operations of two submissions have no address in common
+abbrev pub AreApartThere : Task → ℕ → ℕ → Type 0
+AreApartThere log b q =
+    (i j : ℕ) (one other : Op) (told asked : Option Reply) → slice_get log.events b ≡ Some (events.Sub i one told) → slice_get log.events q ≡ Some (events.Sub j other asked)
+    → AreApart one other
+
+-- the bytes at the addresses of request q are the same
+abbrev pub AreSameFor : Task → ℕ → List ℕ → List ℕ → Type 0
+AreSameFor log q m n =
+    (j : ℕ) (other : Op) (asked : Option Reply) → slice_get log.events q ≡ Some (events.Sub j other asked) → AreSameAt log.extent.base other m n
+
+-- while the bytes at the addresses of request q are as in m, the memory doesn't suit request b
+abbrev pub Waits : Task → List ℕ → ℕ → ℕ → Type 0
+Waits log m b q = (n : List ℕ) → AreSameFor log q m n → Suits log.extent n (slice_get log.events b) → ⊥
+
+-- request b has no byte of request q, or can't act before q
+abbrev pub LetsFirst : Task → List ℕ → ℕ → ℕ → Type 0
+LetsFirst log m b q = AreApartThere log b q ⊎ Waits log m b q
+
+-- request r is q, or its requester submitted q before it, a posted write
+abbrev pub Follows : Task → ℕ → ℕ → Type 0
+Follows log q r =
+    (q ≡ r) ⊎ ((i : ℕ) × (w : Op) × (op : Op) × (asked : Option Reply) × (told : Option Reply) × (q < r) × (is_posted w ≡ true)
+    × (slice_get log.events q ≡ Some (events.Sub i w asked)) × (slice_get log.events r ≡ Some (events.Sub i op told)))
+
+-- request q may act, and must before place a, where r is due; till then it is the first that can of those that have bytes of it
+pub record IsFirst (log : Task) (s : State) (q r a : ℕ) : Type 0 where
+  pub due : slice_get log.events a ≡ Some (events.Due r)
+  pub since : s.event ≤ a
+  pub follows : Follows log q r
+  pub left : slice_get s.acted r ≡ Some false
+  pub may : MayAct log s q
+  pub others : AllOthers s q a (λ b. LetsFirst log s.bytes b q)

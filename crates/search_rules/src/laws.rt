@@ -6,7 +6,10 @@ ghost use Rattle.log_runs.specs.declared.Event.TheVariants as events;
 ghost use Rattle.log_runs.specs.declared.Step.TheVariants as steps;
 ghost use Rattle.log_runs.specs.Task.{Task};
 ghost use Rattle.log_runs.specs.Runs.{State, MayAct, Dead, IsForced, acted_on};
-ghost use Rattle.search_rules.specs.Rules.{Suits, NeverBrings, Yields, IsLost, IsLast};
+ghost use Rattle.search_rules.specs.Rules.{Suits, NeverBrings, Yields, LetsFirst, IsLost, IsLast, IsFirst};
+
+use byte_effects::laws::apart_requests_commute;
+use seq_memory::laws::only_the_place_changes;
 
 /// Where a request is lost, no run leads to the end.
 #[tactic(auto, using(crate::proofs::LostLemmas::lost_is_dead))]
@@ -26,9 +29,18 @@ pub fn what_changes_nothing_acts_at_once()
     ensures { (log : Task) (s : State) (q : ℕ) → ((m : List ℕ) → Suits log.extent m (slice_get log.events q) → acted_on log.extent m (slice_get log.events q) ≡ m) → MayAct log s q → IsForced log s (steps.Act q) }
 {}
 
-/// An event that is no submission brings nothing, and yields to any request.
-#[tactic(auto, using(crate::proofs::PairLemmas::idle_brings, crate::proofs::PairLemmas::idle_yields))]
+/// A request that may act, and before which none can that has one of its bytes, may act at once.
+pub fn the_first_acts_at_once()
+    ensures { (log : Task) (s : State) (q r a : ℕ) → IsFirst log s q r a → IsForced log s (steps.Act q) }
+{
+    apart_requests_commute();
+    only_the_place_changes();
+}
+
+/// An event that is no submission brings nothing, yields to any request and lets it be the first.
+#[tactic(auto, using(crate::proofs::PairLemmas::idle_brings, crate::proofs::PairLemmas::idle_yields, crate::proofs::FirstLemmas::idle_first))]
 pub fn answers_yield()
     ensures brings { (log : Task) (b q : ℕ) → ((i : ℕ) (op : Op) (told : Option Reply) → slice_get log.events b ≡ Some (events.Sub i op told) → ⊥) → NeverBrings log b q }
     ensures yields { (log : Task) (b q : ℕ) → ((i : ℕ) (op : Op) (told : Option Reply) → slice_get log.events b ≡ Some (events.Sub i op told) → ⊥) → Yields log b q }
+    ensures first { (log : Task) (m : List ℕ) (b q : ℕ) → ((i : ℕ) (op : Op) (told : Option Reply) → slice_get log.events b ≡ Some (events.Sub i op told) → ⊥) → LetsFirst log m b q }
 {}

@@ -1,12 +1,14 @@
 //! What two requests of a log do to each other.
-ghost use Rattle.std.specs.Prelude.{ℕ, ◌≡◌, ◌⊎◌, List, Some, IsTrue, slice_get};
+ghost use Rattle.std.specs.Prelude.{ℕ, ◌≡◌, ◌⊎◌, List, Option, Some, IfSome, true, IsTrue, slice_get};
+ghost use Rattle.tlp_core.specs.Operation.{is_posted};
 ghost use Rattle.seq_memory.specs.Limits.{IsBlock};
 ghost use Rattle.seq_memory.specs.Step.{after};
-ghost use Rattle.byte_effects.specs.Effects.{Agrees};
+ghost use Rattle.byte_effects.specs.Effects.{Agrees, AreApart, AreSameAt};
 ghost use Rattle.log_runs.specs.declared.Event.TheVariants as events;
 ghost use Rattle.log_runs.specs.Runs.{bytes_after, acted_on};
-ghost use Rattle.search_rules.specs.Rules.{Answers, Suits, Ends, NeverBrings, Yields};
+ghost use Rattle.search_rules.specs.Rules.{Answers, Suits, Ends, NeverBrings, Yields, LetsFirst, Follows};
 
+use byte_effects::{are_apart, waits};
 use log_runs::{Event, Log};
 use seq_memory::Reply;
 use tlp_core::Op;
@@ -109,4 +111,76 @@ pub fn changes_nothing(log: &Log, q: usize) -> bool
         }
         _ => false,
     }
+}
+
+/// The operations have no byte in common, or the first waits till the bytes of the second aren't these.
+fn goes_behind(base: u64, bytes: &[u8], one: &Op, told: &Option<Reply>, other: &Op) -> bool
+    ensures { IsTrue result → AreApart one.now other.now ⊎ ((block : ℕ) (n : List ℕ) → AreSameAt base other.now bytes.now n → Agrees block base n one.now told.now → ⊥) }
+{
+    if are_apart(one, other) {
+        return true;
+    }
+    waits(base, bytes, one, told, other)
+}
+
+/// The operation has no byte of request `q`, or waits till those bytes aren't these.
+fn lets_first_by(log: &Log, bytes: &[u8], one: &Op, told: &Option<Reply>, q: usize) -> bool
+    ensures { IsTrue result → (j : ℕ) (other : Op) (asked : Option Reply) → slice_get log.now.events q ≡ Some (events.Sub j other asked) → AreApart one.now other ⊎ ((n : List ℕ) → AreSameAt log.now.extent.base other bytes.now n → Answers log.now.extent n one.now told.now → ⊥) }
+{
+    match log.events.get(q) {
+        Some(Event::Sub { op, .. }) => goes_behind(log.memory.base(), bytes, one, told, op),
+        _ => false,
+    }
+}
+
+/// Request `b` has no byte of request `q`, or can't act till the bytes there aren't these.
+pub fn lets_first(log: &Log, bytes: &[u8], b: usize, q: usize) -> bool
+    ensures { IsTrue result → LetsFirst log.now bytes.now b q }
+{
+    match log.events.get(b) {
+        Some(Event::Sub { op, reply, .. }) => lets_first_by(log, bytes, op, reply, q),
+        Some(Event::Due { .. }) => true,
+        Some(Event::Free) => true,
+        None => false,
+    }
+}
+
+/// The event submits a request of the requester.
+fn is_of(log: &Log, r: usize, requester: u8) -> bool
+    ensures { IsTrue result → (op : Op) × (told : Option Reply) × (slice_get log.now.events r ≡ Some (events.Sub requester op told)) }
+{
+    match log.events.get(r) {
+        Some(Event::Sub { requester: who, .. }) => *who == requester,
+        _ => false,
+    }
+}
+
+/// The requester of posted write `q`.
+fn writer(log: &Log, q: usize) -> Option<u8>
+    ensures { IfSome result (λ i. (w : Op) × (asked : Option Reply) × (is_posted w ≡ true) × (slice_get log.now.events q ≡ Some (events.Sub i w asked))) }
+{
+    match log.events.get(q) {
+        Some(Event::Sub { requester, op, .. }) => if op.is_posted() {
+            Some(*requester)
+        } else {
+            None
+        },
+        _ => None,
+    }
+}
+
+/// Request `r` is `q`, or its requester submitted `q` before it, a posted write.
+pub fn follows(log: &Log, q: usize, r: usize) -> bool
+    ensures { IsTrue result → Follows log.now q r }
+{
+    if q == r {
+        return true;
+    }
+    if r < q {
+        return false;
+    }
+    let Some(requester) = writer(log, q) else {
+        return false;
+    };
+    is_of(log, r, requester)
 }
