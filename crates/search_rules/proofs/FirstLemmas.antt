@@ -111,7 +111,7 @@ module _ (kept : Kept) (swaps : Swaps) (others : Others) where
       pub suited : Suits log.extent s.bytes (slice_get log.events q)
       pub same : AreSameAt log.extent.base other m0 s.bytes
       pub bytes : t.bytes ≡ acted_on log.extent s.bytes (slice_get log.events q)
-      pub others : AllOthers s q a (λ b. LetsFirst log m0 b q)
+      pub rest : AllOthers s q a (λ b. LetsFirst log m0 b q)
 
     -- while q is left, r doesn't act
     not_before : (s : State) (b : ℕ) → Follows log q r → slice_get s.acted q ≡ Some false → (q ≡ b → ⊥) → MayAct log s b → b ≡ r → ⊥
@@ -145,7 +145,7 @@ module _ (kept : Kept) (swaps : Swaps) (others : Others) where
             suited = h.suited;
             same = h.same;
             bytes = h.bytes;
-            others = h.others;
+            rest = h.rest;
           }))
     ]
     ahead_live (steps.Act b ∷ xs) s t u leads over h = elim (cases_eq q b) [
@@ -155,7 +155,7 @@ module _ (kept : Kept) (swaps : Swaps) (others : Others) where
       | inr distinct ↦
           let m : MayAct log s b = leads.0 in
           let s2 = next log s (steps.Act b) in
-          elim (h.others b (omega (arith, m.since, h.since)) distinct m.once) [
+          elim (h.rest b (omega (arith, m.since, h.since)) distinct m.once) [
             | inr waits ↦ absurd (waits s.bytes (same_for s.bytes h.same) (suits log s b m))
             | inl free ↦
                 let apart : AreApart m.op other = free m.requester j m.op other m.told asked m.submitted there in
@@ -175,7 +175,7 @@ module _ (kept : Kept) (swaps : Swaps) (others : Others) where
                   same = same_after log.extent m0 s.bytes o m.requester m.op other m.told m.submitted apart h.same;
                   bytes = ap (λ k. acted_on log.extent k o) h.bytes
                       ∙ sym (swapped log.extent s.bytes o p m.requester j m.op other m.told asked m.submitted there apart);
-                  others = λ c l d e. h.others c l d (gone_by s.acted b c m.once e).1;
+                  rest = λ c l d e. h.rest c l d (gone_by s.acted b c m.once e).1;
                 }))
           ]
     ]
@@ -194,6 +194,6 @@ module _ (kept : Kept) (swaps : Swaps) (others : Others) where
           suited = suits log s q m;
           same = λ k front back. refl;
           bytes = refl;
-          others = h.others;
+          rest = h.others;
         });
       }
