@@ -21,10 +21,10 @@ fn asked(log: &Log, q: usize) -> Option<(&Op, &[u8])> {
     }
 }
 
-/// The first byte of an AtomicOp's reply is there; true for all that aren't answered AtomicOps.
+/// The first byte of an AtomicOp's reply is there; true of all that aren't answered AtomicOps.
 pub(crate) fn may_fit(log: &Log, bytes: &[u8], q: usize) -> bool {
     let Some((op, data)) = asked(log, q) else {
-        return is_read(log, q);
+        return true;
     };
     if matches!(op, Op::Read { .. }) {
         return true;
@@ -34,16 +34,6 @@ pub(crate) fn may_fit(log: &Log, bytes: &[u8], q: usize) -> bool {
         return false;
     }
     bytes.get((op.address() - base) as usize) == data.first()
-}
-
-fn is_read(log: &Log, q: usize) -> bool {
-    matches!(
-        log.events.get(q),
-        Some(Event::Sub {
-            op: Op::Read { .. },
-            ..
-        })
-    )
 }
 
 /// They begin alike.

@@ -7,13 +7,13 @@ ghost use Rattle.run_search.specs.Ready as ready;
 use crate::allowed::agrees;
 use crate::bytes::reply_to;
 use crate::due::place_of;
-use crate::others::others_spare;
+use crate::others::{Asked, others_spare};
 use crate::place::Place;
 use log_runs::{Event, Log};
 use search_rules::laws::lost_is_dead;
 
 /// The request hasn't acted.
-fn is_left(place: &Place, q: usize) -> bool
+pub(crate) fn is_left(place: &Place, q: usize) -> bool
     ensures { IsTrue result → slice_get place.now.acted.items q ≡ Some false }
 {
     match place.acted.get(q) {
@@ -52,5 +52,5 @@ pub(crate) fn is_lost(place: &Place, log: &Log, due: &[usize], q: usize) -> bool
     if suits(place, log, q) {
         return false;
     }
-    others_spare(place, log, q, a, false)
+    others_spare(place, log, q, a, Asked::Lost)
 }

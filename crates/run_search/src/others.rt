@@ -8,35 +8,46 @@ ghost use Rattle.run_search.specs.Spared.{Spares};
 use crate::place::Place;
 use log_runs::Log;
 use search_rules::laws::answers_yield;
-use search_rules::{never_brings, yields};
+use search_rules::{lets_first, never_brings, yields};
 
-/// Request `b` doesn't bring what request `q` needs; if that is asked, too, it yields to `q`.
-fn spares(log: &Log, b: usize, q: usize, strict: bool) -> bool
-    ensures { IsTrue result → Spares log.now q strict b }
+/// What is asked of the others.
+#[derive(Clone, Copy)]
+pub(crate) enum Asked {
+    /// They don't bring what the request needs.
+    Lost,
+    /// Nor does it make a difference to them.
+    Last,
+    /// They have none of its bytes, or can't act before it.
+    First,
+}
+
+/// Request `b` does to request `q` as is asked.
+fn spares(log: &Log, bytes: &[u8], b: usize, q: usize, asked: Asked) -> bool
+    ensures { IsTrue result → Spares log.now bytes.now q asked b }
 {
-    if strict {
-        yields(log, b, q)
-    } else {
-        never_brings(log, b, q)
+    match asked {
+        Asked::Lost => never_brings(log, b, q),
+        Asked::Last => yields(log, b, q),
+        Asked::First => lets_first(log, bytes, b, q),
     }
 }
 
 /// It is `q` itself, or spares it.
-fn allows(log: &Log, b: usize, q: usize, strict: bool) -> bool
-    ensures { IsTrue result → (q ≡ b → ⊥) → Spares log.now q strict b }
+fn allows(log: &Log, bytes: &[u8], b: usize, q: usize, asked: Asked) -> bool
+    ensures { IsTrue result → (q ≡ b → ⊥) → Spares log.now bytes.now q asked b }
 {
     if b == q {
         return true;
     }
-    spares(log, b, q, strict)
+    spares(log, bytes, b, q, asked)
 }
 
 /// All of the list spare `q`.
-fn all_spare(pending: &[usize], log: &Log, q: usize, strict: bool) -> bool
-    ensures { IsTrue result → (b : ℕ) → has pending.now b ≡ true → (q ≡ b → ⊥) → Spares log.now q strict b }
+fn all_spare(pending: &[usize], log: &Log, bytes: &[u8], q: usize, asked: Asked) -> bool
+    ensures { IsTrue result → (b : ℕ) → has pending.now b ≡ true → (q ≡ b → ⊥) → Spares log.now bytes.now q asked b }
 {
     for b in pending {
-        if !allows(log, *b, q, strict) {
+        if !allows(log, bytes, *b, q, asked) {
             return false;
         }
     }
@@ -44,11 +55,11 @@ fn all_spare(pending: &[usize], log: &Log, q: usize, strict: bool) -> bool
 }
 
 /// All that are submitted from one place on and before another spare `q`.
-fn later_spare(log: &Log, from: usize, to: usize, q: usize, strict: bool) -> bool
-    ensures { IsTrue result → (b : ℕ) → from ≤ b → b < to → (q ≡ b → ⊥) → Spares log.now q strict b }
+fn later_spare(log: &Log, bytes: &[u8], from: usize, to: usize, q: usize, asked: Asked) -> bool
+    ensures { IsTrue result → (b : ℕ) → from ≤ b → b < to → (q ≡ b → ⊥) → Spares log.now bytes.now q asked b }
 {
     for b in from..to {
-        if !allows(log, b, q, strict) {
+        if !allows(log, bytes, b, q, asked) {
             return false;
         }
     }
@@ -56,13 +67,14 @@ fn later_spare(log: &Log, from: usize, to: usize, q: usize, strict: bool) -> boo
 }
 
 /// All that could act before place `a` spare `q`.
-pub(crate) fn others_spare(place: &Place, log: &Log, q: usize, a: usize, strict: bool) -> bool
+pub(crate) fn others_spare(place: &Place, log: &Log, q: usize, a: usize, asked: Asked) -> bool
     requires { IsPlace log.now place.now }
-    ensures { IsTrue result → AllOthers (state_of place.now) q a (Spares log.now q strict) }
+    ensures { IsTrue result → AllOthers (state_of place.now) q a (Spares log.now (state_of place.now).bytes q asked) }
 {
     answers_yield();
-    if !all_spare(place.key.pending.as_slice(), log, q, strict) {
+    let bytes = place.key.bytes.as_slice();
+    if !all_spare(place.key.pending.as_slice(), log, bytes, q, asked) {
         return false;
     }
-    later_spare(log, place.key.event, a, q, strict)
+    later_spare(log, bytes, place.key.event, a, q, asked)
 }

@@ -16,6 +16,9 @@ use log_runs::{Log, Step};
 use std::alloc::{AllocError, Global};
 use std::mem::replace;
 
+/// Of so many events to come it is looked whether their requests are lost.
+const SOON: usize = 256;
+
 /// A place from which several steps may be taken.
 #[derive(Drop)]
 pub(crate) struct Frame {
@@ -130,17 +133,40 @@ fn back(walk: &mut Walk, alloc: Global, log: &Log) -> Result<bool, AllocError>
     Ok(false)
 }
 
-/// A request is lost here.
+/// The request is lost here, as far as the steps since the last frame show.
+fn is_lost_now(walk: &Walk, log: &Log, q: usize) -> bool
+    requires { IsPlace log.now walk.now.here }
+    ensures { IsTrue result → Dead log.now (state_of walk.now.here) }
+{
+    let due = walk.due.as_slice();
+    if !may_be_lost(walk.done.as_slice(), due, log, walk.here.key.event, q) {
+        return false;
+    }
+    is_lost(&walk.here, log, due, q)
+}
+
+/// A request that was submitted is lost here.
 fn some_is_lost(walk: &Walk, log: &Log) -> bool
     requires { IsPlace log.now walk.now.here }
     ensures { IsTrue result → Dead log.now (state_of walk.now.here) }
 {
-    let (done, due) = (walk.done.as_slice(), walk.due.as_slice());
     for q in &walk.here.key.pending {
-        if may_be_lost(done, due, log, walk.here.key.event, *q) {
-            if is_lost(&walk.here, log, due, *q) {
-                return true;
-            }
+        if is_lost_now(walk, log, *q) {
+            return true;
+        }
+    }
+    false
+}
+
+/// A request that is submitted soon is lost here.
+fn later_is_lost(walk: &Walk, log: &Log) -> bool
+    requires { IsPlace log.now walk.now.here }
+    ensures { IsTrue result → Dead log.now (state_of walk.now.here) }
+{
+    let event = walk.here.key.event;
+    for q in event..event.saturating_add(SOON) {
+        if is_lost_now(walk, log, q) {
+            return true;
         }
     }
     false
@@ -154,7 +180,10 @@ fn is_dead(walk: &Walk, log: &Log) -> bool
     if is_known(&walk.memo, &walk.here) {
         return true;
     }
-    some_is_lost(walk, log)
+    if some_is_lost(walk, log) {
+        return true;
+    }
+    later_is_lost(walk, log)
 }
 
 /// Goes on from here; false if no run leads to the end.
