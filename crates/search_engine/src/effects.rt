@@ -142,6 +142,9 @@ fn touches(block: u16, address: u64, op: &Op) -> bool {
 
 /// What becomes of the word's bytes by a request, by its reply if it has one.
 pub(crate) fn effect_by(block: u16, word: &Word, op: &Op, reply: Option<&Reply>) -> Effect {
+    if !touches(block, word.address, op) {
+        return Effect::Keeps;
+    }
     match (op, reply) {
         (Op::Read { .. }, _) => Effect::Keeps,
         (Op::Write { .. } | Op::Swap { .. }, None) | (Op::Write { .. }, _) => {
@@ -151,11 +154,7 @@ pub(crate) fn effect_by(block: u16, word: &Word, op: &Op, reply: Option<&Reply>)
             effect_of(word, &put_over(block, word.address, op, old.as_slice()))
         }
         (_, Some(_)) => Effect::Keeps,
-        (_, None) => if touches(block, word.address, op) {
-            Effect::Unknown
-        } else {
-            Effect::Keeps
-        },
+        (_, None) => Effect::Unknown,
     }
 }
 
