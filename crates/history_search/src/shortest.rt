@@ -11,6 +11,9 @@ use std::alloc::{AllocError, Global};
 /// How many choices the search for a prefix looks at.
 const EACH: u64 = 20_000;
 
+/// How many prefixes are searched, at most.
+const SEARCHES: usize = 20;
+
 /// A prefix without a history, and one that may have one.
 #[derive(Drop)]
 pub(crate) struct Shortest {
@@ -34,7 +37,7 @@ fn halved(
     // where the search goes on, and the longest prefix that has a run
     let mut low = 0;
     let mut sure = 0;
-    for _turn in 0..64usize {
+    for _turn in 0..SEARCHES {
         if high - low <= 1 {
             return Ok((high, sure));
         }

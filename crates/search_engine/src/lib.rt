@@ -7,7 +7,6 @@
 #![tactic(auto)]
 
 mod answering;
-mod contradiction;
 mod input;
 mod lines;
 mod search;

@@ -1,8 +1,8 @@
 //! Why there is no history, or why the input can't be read, for people.
 use crate::answering::Finding;
-use crate::contradiction::contradiction;
 use arrayvec::ArrayString;
 use history_check::{Record, Trace};
+use history_search::contradiction;
 use line_engine::{MAX_LINE, without_return};
 use line_reasons::{DueLine, Reason, tell_long_line};
 use memchr::memchr;
