@@ -5,10 +5,11 @@ ghost use Rattle.log_runs.specs.Runs.{Dead, start};
 ghost use Rattle.log_runs.specs.Tasks.{AreEvents};
 ghost use Rattle.log_runs.specs.Explainable.{IsExplainable, prefix};
 
-use crate::alone::is_dead_in_part;
+use crate::alone::{dead_range, explored_on};
 use crate::copies;
 use crate::moments::confirmed;
 use history_check::Trace;
+use log_cells::Cells;
 use log_events::{events_of, form_of};
 use log_runs::laws::{explainable_has_a_run, explainable_is_well_formed, prefix_is_explainable};
 use log_runs::{Log, Step};
@@ -33,39 +34,77 @@ pub(crate) fn log_of(
     })
 }
 
-/// Looks for a run through the log, first through its part on each cell of the memory, with a tenth of
-/// the choices.
-fn explored(alloc: Global, log: &Log, limit: u64) -> Result<(Outcome, u64), AllocError>
-    ensures dead { IfOk result (λ r. r.0 ≡ Outcome.Dead → Dead log.now (start log.now)) }
-    ensures states { IfOk result (λ r. r.1 ≤ limit) }
-    ensures limit { IfOk result (λ r. r.0 ≡ Outcome.Limit → r.1 ≡ limit) }
-{
-    let (dead, spent) = is_dead_in_part(alloc, log, limit / 10)?;
-    if dead {
-        return Ok((Outcome::Dead, spent));
-    }
-    let (outcome, states) = explore(alloc, log, limit - spent)?;
-    Ok((outcome, spent + states))
+/// What was found out of records.
+#[derive(Drop)]
+pub(crate) struct Judgment {
+    pub(crate) outcome: Outcome,
+    /// How many choices were looked at.
+    pub(crate) states: u64,
+    /// The addresses where cells begin and end on which there is no run, if that was found out.
+    pub(crate) range: Option<(u64, u64)>,
 }
 
-/// Looks for a run through the first `count` records, at no more than `limit` choices; the second
-/// number is how many there were. `partners` says which records may belong together.
+/// Looks for a run through the log, first through its part on each cell of the memory, with a tenth of
+/// the choices.
+fn explored(alloc: Global, log: &Log, limit: u64) -> Result<Judgment, AllocError>
+    ensures dead { IfOk result (λ r. r.outcome ≡ Outcome.Dead → Dead log.now (start log.now)) }
+    ensures states { IfOk result (λ r. r.states ≤ limit) }
+    ensures limit { IfOk result (λ r. r.outcome ≡ Outcome.Limit → r.states ≡ limit) }
+{
+    let (range, spent) = dead_range(alloc, log, limit / 10)?;
+    if range.is_some() {
+        return Ok(Judgment {
+            outcome: Outcome::Dead,
+            states: spent,
+            range,
+        });
+    }
+    let (outcome, states) = explore(alloc, log, limit - spent)?;
+    Ok(Judgment {
+        outcome,
+        states: spent + states,
+        range: None,
+    })
+}
+
+/// Looks for a run through the first `count` records, at no more than `limit` choices. `partners` says
+/// which records may belong together.
 pub(crate) fn judged(
     alloc: Global,
     trace: &Trace,
     partners: &[Option<usize>],
     count: usize,
     limit: u64,
-) -> Result<(Outcome, u64), AllocError>
+) -> Result<Judgment, AllocError>
     requires { count ≤ length trace.now.records }
-    ensures none { IfOk result (λ r. r.0 ≡ Outcome.Dead → IsExplainable (prefix count trace.now) → ⊥) }
-    ensures states { IfOk result (λ r. r.1 ≤ limit) }
-    ensures limit { IfOk result (λ r. r.0 ≡ Outcome.Limit → r.1 ≡ limit) }
+    ensures none { IfOk result (λ r. r.outcome ≡ Outcome.Dead → IsExplainable (prefix count trace.now) → ⊥) }
+    ensures states { IfOk result (λ r. r.states ≤ limit) }
+    ensures limit { IfOk result (λ r. r.outcome ≡ Outcome.Limit → r.states ≡ limit) }
 {
     explainable_has_a_run();
     let log = log_of(alloc, trace, partners, count)?;
     let found = explored(alloc, &log, limit)?;
     Ok(found)
+}
+
+/// Looks for a run through the first `count` records on the bytes of a range alone, at no more than
+/// `limit` choices.
+pub(crate) fn judged_on(
+    alloc: Global,
+    trace: &Trace,
+    partners: &[Option<usize>],
+    count: usize,
+    range: (u64, u64),
+    limit: u64,
+) -> Result<Outcome, AllocError>
+    requires { count ≤ length trace.now.records }
+    ensures { IfOk result (λ o. o ≡ Outcome.Dead → IsExplainable (prefix count trace.now) → ⊥) }
+{
+    explainable_has_a_run();
+    let log = log_of(alloc, trace, partners, count)?;
+    let cells = Cells::of(alloc, &log)?;
+    let found = explored_on(alloc, &log, &cells, range.0, range.1, limit)?;
+    Ok(found.0)
 }
 
 /// The steps make a history that explains the trace with other n's; false where that isn't so.
@@ -90,8 +129,8 @@ pub(crate) fn is_explainable(
     ensures { IfOk result (λ yes. yes ≡ true → IsExplainable (prefix count trace.now)) }
 {
     let mut part = copies::prefix(alloc, trace, count)?;
-    let (outcome, _) = judged(alloc, trace, partners, count, limit)?;
-    let Outcome::Run(steps) = outcome else {
+    let judgment = judged(alloc, trace, partners, count, limit)?;
+    let Outcome::Run(steps) = judgment.outcome else {
         return Ok(false);
     };
     let yes = is_confirmed(alloc, &mut part, &steps)?;
@@ -109,8 +148,8 @@ pub(crate) fn is_unexplained(alloc: Global, trace: &Trace, limit: u64) -> Result
         return Ok(true);
     }
     let count = trace.records.len();
-    let (outcome, _) = judged(alloc, trace, &form.partners, count, limit)?;
-    match outcome {
+    let judgment = judged(alloc, trace, &form.partners, count, limit)?;
+    match judgment.outcome {
         Outcome::Dead => Ok(true),
         _ => Ok(false),
     }

@@ -151,9 +151,9 @@ impl Thinning<'_> {
         }
         let partners = partners_of(alloc, &self.partners, kept)?;
         let limit = self.left.min(EACH);
-        let (outcome, states) = judged(alloc, trace, &partners, self.prefix, limit)?;
-        self.left -= states;
-        Ok(matches!(outcome, Outcome::Dead))
+        let judgment = judged(alloc, trace, &partners, self.prefix, limit)?;
+        self.left -= judgment.states;
+        Ok(matches!(judgment.outcome, Outcome::Dead))
     }
 
     /// Leaves out the answers of other cells, if what is left has no history.

@@ -118,8 +118,9 @@ fn holds(log: &Log, low: u64, high: u64) -> bool
     base <= low && low <= high && high - base <= log.memory.size() as u64
 }
 
-/// The part on the bytes from `low` up to `high`.
-fn part_on(
+/// The part of the log on the bytes from `low` up to `high`; none if a request crosses an end of them.
+/// If no run leads through it, none leads through the log.
+pub fn part(
     alloc: Global,
     log: &Log,
     cells: &Cells,
@@ -141,21 +142,4 @@ fn part_on(
         return Ok(None);
     };
     Ok(Some(Log { memory, events }))
-}
-
-/// The part of the log on a range of the cells; none if a request crosses an end of it. If no run leads
-/// through it, none leads through the log.
-pub fn part(
-    alloc: Global,
-    log: &Log,
-    cells: &Cells,
-    range: usize,
-) -> Result<Option<Log>, AllocError>
-    requires places { ArePlaces log.now.events cells.now }
-    ensures { IfOk result (λ o. IfSome o (λ p. Live log.now (start log.now) → Live p (start p))) }
-{
-    let Some((low, high)) = cells.range(range) else {
-        return Ok(None);
-    };
-    part_on(alloc, log, cells, low, high)
 }

@@ -5,7 +5,7 @@ use Rattle.log_cells.specs.declared.places.Place.{Place}
 use Rattle.log_cells.specs.Parts.{AreKept, Holds}
 use Rattle.log_cells.specs.Places.{AreNames}
 use Rattle.log_cells.proofs.Tables.{is_part}
-use Rattle.log_cells.proofs.parts.part_on.Goals as goal
+use Rattle.log_cells.proofs.parts.part.Goals as goal
 
 pub returns : goal.returns
 returns c =
