@@ -8,7 +8,6 @@
 
 mod answering;
 mod causes;
-mod contradiction;
 mod effects;
 mod input;
 pub mod laws;

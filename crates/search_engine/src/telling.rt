@@ -1,10 +1,10 @@
 //! Why there is no history, or why the input can't be read, for people.
 use crate::answering::Finding;
 use crate::causes::cause_of;
-use crate::contradiction::contradiction;
 use crate::wording::tell_cause;
 use arrayvec::ArrayString;
 use history_check::{Record, Trace};
+use history_search::contradiction;
 use line_engine::{MAX_LINE, without_return};
 use line_reasons::{DueLine, Reason, tell_long_line};
 use log_events::form_of;
