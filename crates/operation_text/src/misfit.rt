@@ -1,0 +1,56 @@
+//! What keeps a line from being read.
+
+/// The values that are expected, beside their name.
+#[derive(Clone, Copy, Debug, PartialEq, Eq)]
+pub enum Values {
+    /// The name says it all.
+    Named,
+    /// These, in words.
+    These(&'static str),
+    /// The numbers from the first to the last.
+    Between(u64, u64),
+    /// The multiples of the last number from the first number to the second.
+    Multiples(u64, u64, u64),
+}
+
+/// What is expected next in a line.
+#[derive(Clone, Copy, Debug, PartialEq, Eq)]
+pub struct Expected {
+    /// What it is called.
+    pub name: &'static str,
+    pub values: Values,
+}
+
+/// No more words.
+pub const LINE_END: Expected = Expected {
+    name: "the line's end",
+    values: Values::Named,
+};
+
+/// A byte string.
+pub const BYTES: Expected = Expected {
+    name: "a byte string",
+    values: Values::These("two hexadecimal digits a byte, 1 to 128 bytes"),
+};
+
+/// The first word of a line that doesn't fit, or the line's end, and what is expected there.
+#[derive(Clone, Copy, Debug, PartialEq, Eq)]
+pub struct Misfit {
+    pub expected: Expected,
+    /// The bytes of the line from the misfit on.
+    pub left: usize,
+}
+
+impl Expected {
+    /// That it doesn't come next. `rest` is what [`cut`](crate::cut) left.
+    pub fn at(self, rest: Option<&[u8]>) -> Misfit {
+        let left = match rest {
+            Some(rest) => rest.len(),
+            None => 0,
+        };
+        Misfit {
+            expected: self,
+            left,
+        }
+    }
+}
