@@ -1,4 +1,5 @@
 //! What keeps a line from being read.
+use seq_memory::{ALIGNMENT, MAX_SIZE, MIN_SIZE};
 
 /// The values that are expected, beside their name.
 #[derive(Clone, Copy, Debug, PartialEq, Eq)]
@@ -31,6 +32,24 @@ pub const LINE_END: Expected = Expected {
 pub const BYTES: Expected = Expected {
     name: "a byte string",
     values: Values::These("two hexadecimal digits a byte, 1 to 128 bytes"),
+};
+
+/// The first address of a memory.
+pub const BASE: Expected = Expected {
+    name: "a base",
+    values: Values::These("hexadecimal, a multiple of 80h; the memory ends at 2^64 or below"),
+};
+
+/// The bytes of a memory.
+pub const SIZE: Expected = Expected {
+    name: "a size",
+    values: Values::Multiples(MIN_SIZE as u64, MAX_SIZE as u64, ALIGNMENT as u64),
+};
+
+/// The bytes of a block.
+pub const BLOCK: Expected = Expected {
+    name: "a block",
+    values: Values::These("64, 128"),
 };
 
 /// The first word of a line that doesn't fit, or the line's end, and what is expected there.
