@@ -48,7 +48,7 @@ pub fn alone<T: Drop>(value: T, rest: Option<&[u8]>) -> Result<T, Misfit>
     if is_ended(rest) {
         Ok(value)
     } else {
-        Err(LINE_END.at(rest))
+        Err(LINE_END.before(rest))
     }
 }
 

@@ -56,20 +56,31 @@ pub const BLOCK: Expected = Expected {
 #[derive(Clone, Copy, Debug, PartialEq, Eq)]
 pub struct Misfit {
     pub expected: Expected,
-    /// The bytes of the line from the misfit on.
-    pub left: usize,
+    /// The bytes of the line from the misfit on, none where the line has ended.
+    pub left: Option<usize>,
 }
 
 impl Expected {
     /// That it doesn't come next. `rest` is what [`cut`](crate::cut) left.
     pub fn at(self, rest: Option<&[u8]>) -> Misfit {
         let left = match rest {
-            Some(rest) => rest.len(),
-            None => 0,
+            Some(rest) => Some(rest.len()),
+            None => None,
         };
         Misfit {
             expected: self,
             left,
+        }
+    }
+
+    /// That more comes where the line might end: of a space at its end that space.
+    pub fn before(self, rest: Option<&[u8]>) -> Misfit {
+        match rest {
+            Some([]) => Misfit {
+                expected: self,
+                left: Some(1),
+            },
+            _ => self.at(rest),
         }
     }
 }

@@ -119,7 +119,7 @@ fn block(rest: Option<&[u8]>) -> Result<u16, Misfit>
         return Ok(DEFAULT_BLOCK);
     };
     if word != b"block".as_slice() {
-        return Err(BLOCK_OR_END.at(rest));
+        return Err(BLOCK_OR_END.before(rest));
     }
     let (block, behind) = short(behind, BLOCK)?;
     alone(block, behind)
