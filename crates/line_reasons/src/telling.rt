@@ -7,7 +7,7 @@ ghost use Rattle.line_reasons.specs.Told.{IsReasonToldAt, IsReasonBegunAt};
 use crate::shown::shown_byte;
 use arrayvec::ArrayString;
 use line_engine::{EngineFault, write_out};
-use operation_text::{Misfit, Values, cut, write_decimal};
+use operation_text::{Expected, Misfit, cut, write_decimal};
 use std::fmt::Write;
 use std::{fmt, io};
 
@@ -69,15 +69,13 @@ impl Reason {
         let left = misfit.left.unwrap_or(0).min(line.len());
         let rest = &line[line.len() - left..];
         let column = (line.len() - left).saturating_add(1);
-        let name = misfit.expected.name;
         reason.put(format_args!(", column {column}: "));
         if rest.is_empty() {
             reason.put("the line ends");
         } else {
             reason.put_word(cut(rest).0);
         }
-        reason.put(format_args!(" where {name} is expected"));
-        reason.put_values(misfit.expected.values);
+        reason.put_expected(misfit.expected);
         reason
     }
 
@@ -91,14 +89,20 @@ impl Reason {
         }
     }
 
-    /// Adds the values that are expected.
-    pub fn put_values(&mut self, values: Values) {
-        match values {
-            Values::Named => {}
-            Values::These(words) => self.put(format_args!(" ({words})")),
-            Values::Between(least, most) => self.put(format_args!(" ({least} to {most})")),
-            Values::Multiples(least, most, unit) => {
-                self.put(format_args!(" ({least} to {most}, a multiple of {unit})"));
+    /// Adds what is expected, and which values it has.
+    pub fn put_expected(&mut self, expected: Expected) {
+        match expected {
+            Expected::Named(name) => self.put(format_args!(" where {name} is expected")),
+            Expected::Of(name, values) => {
+                self.put(format_args!(" where {name} is expected ({values})"));
+            }
+            Expected::Between(name, least, most) => {
+                self.put(format_args!(" where {name} is expected ({least} to {most})"));
+            }
+            Expected::Multiple(name, least, most, unit) => {
+                self.put(format_args!(
+                    " where {name} is expected ({least} to {most}, a multiple of {unit})"
+                ));
             }
         }
     }

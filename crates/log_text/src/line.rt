@@ -6,19 +6,13 @@ ghost use Rattle.log_text.specs.Forms as forms;
 
 use history_check::Record;
 use operation_text::{
-    BASE, BLOCK, Expected, SIZE, Values, alone, cut, number, op_behind, reply_behind,
+    BASE, BLOCK, Expected, SIZE, alone, cut, number, op_behind, reply_behind,
 };
 use seq_memory::{is_base, is_size};
 
-const REQUESTER: Expected = Expected {
-    name: "a requester",
-    values: Values::Between(1, 7),
-};
+const REQUESTER: Expected = Expected::Between("a requester", 1, 7);
 
-const NUMBER: Expected = Expected {
-    name: "a request's number",
-    values: Values::Between(0, 4_294_967_294),
-};
+const NUMBER: Expected = Expected::Between("a request's number", 0, 4_294_967_294);
 
 /// What a line of a log says.
 #[derive(Drop)]

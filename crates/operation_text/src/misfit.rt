@@ -1,56 +1,44 @@
 //! What keeps a line from being read.
 use seq_memory::{ALIGNMENT, MAX_SIZE, MIN_SIZE};
 
-/// The values that are expected, beside their name.
+/// What is expected next in a line, by its name.
 #[derive(Clone, Copy, Debug, PartialEq, Eq)]
-pub enum Values {
+pub enum Expected {
     /// The name says it all.
-    Named,
-    /// These, in words.
-    These(&'static str),
-    /// The numbers from the first to the last.
-    Between(u64, u64),
-    /// The multiples of the last number from the first number to the second.
-    Multiples(u64, u64, u64),
-}
-
-/// What is expected next in a line.
-#[derive(Clone, Copy, Debug, PartialEq, Eq)]
-pub struct Expected {
-    /// What it is called.
-    pub name: &'static str,
-    pub values: Values,
+    Named(&'static str),
+    /// One of these values.
+    Of(&'static str, &'static str),
+    /// A number from the first to the last.
+    Between(&'static str, u64, u64),
+    /// A multiple of the last number, from the first to the second.
+    Multiple(&'static str, u64, u64, u64),
 }
 
 /// No more words.
-pub const LINE_END: Expected = Expected {
-    name: "the line's end",
-    values: Values::Named,
-};
+pub const LINE_END: Expected = Expected::Named("the line's end");
 
 /// A byte string.
-pub const BYTES: Expected = Expected {
-    name: "a byte string",
-    values: Values::These("two hexadecimal digits a byte, 1 to 128 bytes"),
-};
+pub const BYTES: Expected = Expected::Of(
+    "a byte string",
+    "two hexadecimal digits a byte, 1 to 128 bytes",
+);
 
 /// The first address of a memory.
-pub const BASE: Expected = Expected {
-    name: "a base",
-    values: Values::These("hexadecimal, a multiple of 80h; the memory ends at 2^64 or below"),
-};
+pub const BASE: Expected = Expected::Of(
+    "a base",
+    "hexadecimal, a multiple of 80h; the memory ends at 2^64 or below",
+);
 
 /// The bytes of a memory.
-pub const SIZE: Expected = Expected {
-    name: "a size",
-    values: Values::Multiples(MIN_SIZE as u64, MAX_SIZE as u64, ALIGNMENT as u64),
-};
+pub const SIZE: Expected = Expected::Multiple(
+    "a size",
+    MIN_SIZE as u64,
+    MAX_SIZE as u64,
+    ALIGNMENT as u64,
+);
 
 /// The bytes of a block.
-pub const BLOCK: Expected = Expected {
-    name: "a block",
-    values: Values::These("64, 128"),
-};
+pub const BLOCK: Expected = Expected::Of("a block", "64, 128");
 
 /// The first word of a line that doesn't fit, or the line's end, and what is expected there.
 #[derive(Clone, Copy, Debug, PartialEq, Eq)]

@@ -5,44 +5,29 @@ ghost use Rattle.operation_text.specs.Words.{words, words_behind, first_field};
 ghost use Rattle.operation_text.specs.Operations as spelled;
 
 use crate::fields::{alone, bytes, cut, number, operand};
-use crate::misfit::{BYTES, Expected, Misfit, Values};
+use crate::misfit::{BYTES, Expected, Misfit};
 use tlp_core::Op;
 
 /// An operation, by its first word.
-pub const OPERATION: Expected = Expected {
-    name: "an operation",
-    values: Values::These("read, write, add, swap, cas"),
-};
+pub const OPERATION: Expected = Expected::Of("an operation", "read, write, add, swap, cas");
 
-const ADDRESS: Expected = Expected {
-    name: "an address",
-    values: Values::These("hexadecimal, 0 to FFFFFFFFFFFFFFFF, without leading zeros"),
-};
+const ADDRESS: Expected = Expected::Of(
+    "an address",
+    "hexadecimal, 0 to FFFFFFFFFFFFFFFF, without leading zeros",
+);
 
-const DW: Expected = Expected {
-    name: "a number of DW",
-    values: Values::Between(1, 1024),
-};
+const DW: Expected = Expected::Between("a number of DW", 1, 1024);
 
-const FIRST: Expected = Expected {
-    name: "the First DW BE",
-    values: Values::These("0 to F"),
-};
+const FIRST: Expected = Expected::Of("the First DW BE", "0 to F");
 
-const LAST: Expected = Expected {
-    name: "the Last DW BE",
-    values: Values::These("0 to F"),
-};
+const LAST: Expected = Expected::Of("the Last DW BE", "0 to F");
 
-const OPERAND: Expected = Expected {
-    name: "an operand",
-    values: Values::These("two hexadecimal digits a byte, 4, 8 or 16 bytes"),
-};
+const OPERAND: Expected = Expected::Of(
+    "an operand",
+    "two hexadecimal digits a byte, 4, 8 or 16 bytes",
+);
 
-const SWAP_OPERAND: Expected = Expected {
-    name: "an operand",
-    values: Values::These("of as many bytes as the compare value"),
-};
+const SWAP_OPERAND: Expected = Expected::Of("an operand", "of as many bytes as the compare value");
 
 /// The address that the next word spells.
 fn address(rest: Option<&[u8]>) -> Result<(u64, Option<&[u8]>), Misfit>

@@ -5,14 +5,11 @@ ghost use Rattle.operation_text.specs.Words.{words, words_behind};
 ghost use Rattle.operation_text.specs.Operations as spelled;
 
 use crate::fields::{alone, bytes, cut};
-use crate::misfit::{BYTES, Expected, Misfit, Values};
+use crate::misfit::{BYTES, Expected, Misfit};
 use seq_memory::Reply;
 
 /// A reply, by its first word.
-const REPLY: Expected = Expected {
-    name: "a reply",
-    values: Values::These("data, ur, ca"),
-};
+const REPLY: Expected = Expected::Of("a reply", "data, ur, ca");
 
 fn data(rest: Option<&[u8]>) -> Result<Reply, Misfit>
     ensures { result_ok result ≡ spelled.data_of (words_behind rest.entry) }

@@ -7,29 +7,17 @@ ghost use Rattle.packet_text.specs.Forms as forms;
 use crate::fields::{byte_count, id, keyword, lower, status};
 use crate::origin::{id_and_tag, origin_with};
 use arrayvec::ArrayVec;
-use operation_text::{BYTES, Expected, Misfit, Values, bytes_in, word};
+use operation_text::{BYTES, Expected, Misfit, bytes_in, word};
 use requester_core::Origin;
 use tlp_core::{Body, Kind, MAX_PAYLOAD, Status, Tlp, TlpFault};
 
-const TO: Expected = Expected {
-    name: "'to'",
-    values: Values::Named,
-};
+const TO: Expected = Expected::Named("'to'");
 
-const BY: Expected = Expected {
-    name: "'by'",
-    values: Values::Named,
-};
+const BY: Expected = Expected::Named("'by'");
 
-const COUNT_WORD: Expected = Expected {
-    name: "'count'",
-    values: Values::Named,
-};
+const COUNT_WORD: Expected = Expected::Named("'count'");
 
-const LOWER_WORD: Expected = Expected {
-    name: "'lower'",
-    values: Values::Named,
-};
+const LOWER_WORD: Expected = Expected::Named("'lower'");
 
 /// Completer ID, Byte Count and Lower Address.
 #[derive(Clone, Copy, Debug, PartialEq, Eq)]

@@ -5,51 +5,27 @@ ghost use Rattle.operation_text.specs.Words.{words_behind, first_field};
 ghost use Rattle.packet_text.specs.Forms as forms;
 
 use dllp_core::Class;
-use operation_text::{Expected, Misfit, Values, next_word, number, word};
+use operation_text::{Expected, Misfit, next_word, number, word};
 use tlp_core::Status;
 
-const UP_TO_7: Expected = Expected {
-    name: "a number",
-    values: Values::Between(0, 7),
-};
+const UP_TO_7: Expected = Expected::Between("a number", 0, 7);
 
-const TAG: Expected = Expected {
-    name: "a tag",
-    values: Values::These("two hexadecimal digits"),
-};
+const TAG: Expected = Expected::Of("a tag", "two hexadecimal digits");
 
-const SEQUENCE: Expected = Expected {
-    name: "a sequence number",
-    values: Values::These("three hexadecimal digits"),
-};
+const SEQUENCE: Expected = Expected::Of("a sequence number", "three hexadecimal digits");
 
-const ID: Expected = Expected {
-    name: "an ID",
-    values: Values::These("four hexadecimal digits"),
-};
+const ID: Expected = Expected::Of("an ID", "four hexadecimal digits");
 
 /// The most bytes that a completion counts.
 const MAX_COUNT: u64 = 4096;
 
-const COUNT: Expected = Expected {
-    name: "a Byte Count",
-    values: Values::Between(1, MAX_COUNT),
-};
+const COUNT: Expected = Expected::Between("a Byte Count", 1, MAX_COUNT);
 
-const LOWER: Expected = Expected {
-    name: "a Lower Address",
-    values: Values::These("00 to 7F"),
-};
+const LOWER: Expected = Expected::Of("a Lower Address", "00 to 7F");
 
-const STATUS: Expected = Expected {
-    name: "a status",
-    values: Values::These("sc, ur, ca"),
-};
+const STATUS: Expected = Expected::Of("a status", "sc, ur, ca");
 
-const CLASS: Expected = Expected {
-    name: "a class",
-    values: Values::These("p, np, cpl"),
-};
+const CLASS: Expected = Expected::Of("a class", "p, np, cpl");
 
 /// What is behind the next word, which has to be this one.
 pub(crate) fn keyword<'a>(

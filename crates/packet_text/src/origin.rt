@@ -5,23 +5,14 @@ ghost use Rattle.operation_text.specs.Words.{words_behind};
 ghost use Rattle.packet_text.specs.Forms as forms;
 
 use crate::fields::{id, keyword, named, tag};
-use operation_text::{Expected, LINE_END, Misfit, Values, is_ended};
+use operation_text::{Expected, LINE_END, Misfit, is_ended};
 use requester_core::Origin;
 
-const TAG_WORD: Expected = Expected {
-    name: "'tag'",
-    values: Values::Named,
-};
+const TAG_WORD: Expected = Expected::Named("'tag'");
 
-const TC_OR_END: Expected = Expected {
-    name: "'tc', 'attr' or the line's end",
-    values: Values::Named,
-};
+const TC_OR_END: Expected = Expected::Named("'tc', 'attr' or the line's end");
 
-const ATTR_OR_END: Expected = Expected {
-    name: "'attr' or the line's end",
-    values: Values::Named,
-};
+const ATTR_OR_END: Expected = Expected::Named("'attr' or the line's end");
 
 /// What may come behind Traffic Class and attributes, of which each may be left out.
 fn class_end(has_tc: bool, has_attr: bool) -> Expected {

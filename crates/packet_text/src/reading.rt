@@ -13,31 +13,22 @@ use crate::fields::{credits, sequence};
 use crate::origin::{id_and_tag, origin_with};
 use crate::packet::Packet;
 use dllp_core::Dllp;
-use operation_text::{Expected, LINE_END, Misfit, OPERATION, Values, alone, cut, number, read_op};
+use operation_text::{Expected, LINE_END, Misfit, OPERATION, alone, cut, number, read_op};
 use requester_core::{Origin, request_with};
 use seq12::Seq12;
 use tlp_core::{Tlp, TlpFault};
 
 /// A packet, by the first word of its line.
-const PACKET: Expected = Expected {
-    name: "a packet",
-    values: Values::These("read, write, add, swap, cas, completion, ack, nak, update"),
-};
+const PACKET: Expected = Expected::Of(
+    "a packet",
+    "read, write, add, swap, cas, completion, ack, nak, update",
+);
 
-const FROM: Expected = Expected {
-    name: "'from'",
-    values: Values::Named,
-};
+const FROM: Expected = Expected::Named("'from'");
 
-const HEADERS: Expected = Expected {
-    name: "HdrFC",
-    values: Values::Between(0, 255),
-};
+const HEADERS: Expected = Expected::Between("HdrFC", 0, 255);
 
-const DATA: Expected = Expected {
-    name: "DataFC",
-    values: Values::Between(0, 4095),
-};
+const DATA: Expected = Expected::Between("DataFC", 0, 4095);
 
 /// Whether the line begins with ` from `.
 fn begins(line: &[u8]) -> bool

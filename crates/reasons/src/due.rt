@@ -1,32 +1,17 @@
 //! Which line of a trace's text is due.
 use line_reasons::Reason;
-use operation_text::{Expected, Misfit, Values, cut};
+use operation_text::{Expected, Misfit, cut};
 use trace_format::trace_misfit;
 
-const HEAD: Expected = Expected {
-    name: "the head",
-    values: Values::These("pciex-trace 1, pciex-trace 2"),
-};
+const HEAD: Expected = Expected::Of("the head", "pciex-trace 1, pciex-trace 2");
 
-const MEMORY: Expected = Expected {
-    name: "the memory's line",
-    values: Values::These("memory"),
-};
+const MEMORY: Expected = Expected::Of("the memory's line", "memory");
 
-const RECORD: Expected = Expected {
-    name: "a record or the history",
-    values: Values::These("sub, ans, history"),
-};
+const RECORD: Expected = Expected::Of("a record or the history", "sub, ans, history");
 
-const ENTRY: Expected = Expected {
-    name: "an entry or the end",
-    values: Values::These("ent, end"),
-};
+const ENTRY: Expected = Expected::Of("an entry or the end", "ent, end");
 
-const NOTHING: Expected = Expected {
-    name: "the text's end",
-    values: Values::Named,
-};
+const NOTHING: Expected = Expected::Named("the text's end");
 
 /// What the next line of a trace's text is to be.
 #[derive(Clone, Copy, Debug, PartialEq, Eq)]
@@ -106,12 +91,11 @@ impl DueLine {
     /// That the text ends where a line is due.
     pub fn end_reason(self) -> Reason {
         let mut reason = Reason::new();
-        let Expected { name, values } = match self {
+        reason.put(": the text ends");
+        reason.put_expected(match self {
             DueLine::Nothing => ENTRY,
             due => due.expected(),
-        };
-        reason.put(format_args!(": the text ends where {name} is expected"));
-        reason.put_values(values);
+        });
         reason
     }
 }

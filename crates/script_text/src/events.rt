@@ -7,27 +7,19 @@ ghost use Rattle.script_text.specs.Forms as forms;
 use crate::fields::{count, fate, is_name, kind, lane, octet};
 use crate::line::Line;
 use fabric_core::Event;
-use operation_text::{Expected, Misfit, Values, alone, op_behind};
+use operation_text::{Expected, Misfit, alone, op_behind};
 use switch_core::REQUESTERS;
 
 /// A line behind the fabric's, by its first word.
-pub(crate) const EVENT: Expected = Expected {
-    name: "an event",
-    values: Values::These(
-        "submit, transmit, deliver, dllp, deliver-dllp, timer, retrained, forward, serve, collect, settle",
-    ),
-};
+pub(crate) const EVENT: Expected = Expected::Of(
+    "an event",
+    "submit, transmit, deliver, dllp, deliver-dllp, timer, retrained, forward, serve, collect, settle",
+);
 
 /// The requester of an event.
-const REQUESTER: Expected = Expected {
-    name: "a requester",
-    values: Values::Between(1, REQUESTERS as u64),
-};
+const REQUESTER: Expected = Expected::Between("a requester", 1, REQUESTERS as u64);
 
-const POSITION: Expected = Expected {
-    name: "a position",
-    values: Values::These("0 or more"),
-};
+const POSITION: Expected = Expected::Of("a position", "0 or more");
 
 #[inline(never)]
 fn submit(rest: Option<&[u8]>) -> Result<Line, Misfit>

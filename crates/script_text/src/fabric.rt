@@ -17,15 +17,9 @@ use switch_core::REQUESTERS;
 const DEFAULT_BLOCK: u16 = 64;
 
 /// The first line of a script.
-pub(crate) const FABRIC: Expected = Expected {
-    name: "a fabric",
-    values: Values::These("fabric <requesters> <base> <size>"),
-};
+pub(crate) const FABRIC: Expected = Expected::Of("a fabric", "fabric <requesters> <base> <size>");
 
-const NUMBER: Expected = Expected {
-    name: "a number of requesters",
-    values: Values::Between(1, REQUESTERS as u64),
-};
+const NUMBER: Expected = Expected::Between("a number of requesters", 1, REQUESTERS as u64);
 
 /// The most header credits of a class, all of which are finite.
 const MAX_HEADERS: u16 = 127;
@@ -39,46 +33,31 @@ const MIN_DATA: u16 = 8;
 /// The fewest data credits for the operands of any request.
 const MIN_OPERANDS: u16 = 2;
 
-const HEADERS: Values = Values::Between(1, MAX_HEADERS as u64);
+const PH: Expected = Expected::Between("the number of P header credits", 1, MAX_HEADERS as u64);
 
-const DATA: Values = Values::Between(MIN_DATA as u64, MAX_DATA as u64);
+const PD: Expected = Expected::Between(
+    "the number of P data credits",
+    MIN_DATA as u64,
+    MAX_DATA as u64,
+);
 
-const OPERANDS: Values = Values::Between(MIN_OPERANDS as u64, MAX_DATA as u64);
+const NPH: Expected = Expected::Between("the number of NP header credits", 1, MAX_HEADERS as u64);
 
-const PH: Expected = Expected {
-    name: "the number of P header credits",
-    values: HEADERS,
-};
+const NPD: Expected = Expected::Between(
+    "the number of NP data credits",
+    MIN_OPERANDS as u64,
+    MAX_DATA as u64,
+);
 
-const PD: Expected = Expected {
-    name: "the number of P data credits",
-    values: DATA,
-};
+const CPLH: Expected = Expected::Between("the number of Cpl header credits", 1, MAX_HEADERS as u64);
 
-const NPH: Expected = Expected {
-    name: "the number of NP header credits",
-    values: HEADERS,
-};
+const CPLD: Expected = Expected::Between(
+    "the number of Cpl data credits",
+    MIN_DATA as u64,
+    MAX_DATA as u64,
+);
 
-const NPD: Expected = Expected {
-    name: "the number of NP data credits",
-    values: OPERANDS,
-};
-
-const CPLH: Expected = Expected {
-    name: "the number of Cpl header credits",
-    values: HEADERS,
-};
-
-const CPLD: Expected = Expected {
-    name: "the number of Cpl data credits",
-    values: DATA,
-};
-
-const BLOCK_OR_END: Expected = Expected {
-    name: "'block' or the line's end",
-    values: Values::Named,
-};
+const BLOCK_OR_END: Expected = Expected::Named("'block' or the line's end");
 
 /// The six credits.
 fn six_credits(rest: Option<&[u8]>) -> Result<(LaneCredits, Option<&[u8]>), Misfit>

@@ -7,22 +7,13 @@ ghost use Rattle.script_text.specs.Forms as forms;
 use dllp_core::Class;
 use fabric_core::LaneName;
 use lane_core::{DllpKind, Fate};
-use operation_text::{Expected, Misfit, Values, number, word};
+use operation_text::{Expected, Misfit, number, word};
 
-const LANE: Expected = Expected {
-    name: "a lane",
-    values: Values::These("up1 to up7, down1 to down7, in, out"),
-};
+const LANE: Expected = Expected::Of("a lane", "up1 to up7, down1 to down7, in, out");
 
-const FATE: Expected = Expected {
-    name: "a fate",
-    values: Values::These("good, failed, lost"),
-};
+const FATE: Expected = Expected::Of("a fate", "good, failed, lost");
 
-const KIND: Expected = Expected {
-    name: "a kind of DLLP",
-    values: Values::These("ack, p, np, cpl"),
-};
+const KIND: Expected = Expected::Of("a kind of DLLP", "ack, p, np, cpl");
 
 /// Whether the word is that name.
 pub(crate) fn is_name(word: &[u8], name: &[u8]) -> bool

@@ -6,7 +6,7 @@ ghost use Rattle.trace_format.specs.Forms as forms;
 
 use history_check::Record;
 use operation_text::{
-    BASE, BLOCK, Expected, Misfit, SIZE, Values, alone, cut, number, op_behind, reply_behind,
+    BASE, BLOCK, Expected, Misfit, SIZE, alone, cut, number, op_behind, reply_behind,
 };
 use seq_memory::{Entry, is_base, is_size};
 
@@ -14,30 +14,18 @@ use seq_memory::{Entry, is_base, is_size};
 const MAX_NUMBER: u64 = 4_294_967_294;
 
 /// A line, by its first word.
-const LINE: Expected = Expected {
-    name: "a line of a trace",
-    values: Values::These("pciex-trace, memory, sub, ans, history, ent, end"),
-};
+const LINE: Expected = Expected::Of(
+    "a line of a trace",
+    "pciex-trace, memory, sub, ans, history, ent, end",
+);
 
-const VERSION: Expected = Expected {
-    name: "a version",
-    values: Values::These("1, 2"),
-};
+const VERSION: Expected = Expected::Of("a version", "1, 2");
 
-const REQUESTER: Expected = Expected {
-    name: "a requester",
-    values: Values::Between(1, 7),
-};
+const REQUESTER: Expected = Expected::Between("a requester", 1, 7);
 
-const NUMBER: Expected = Expected {
-    name: "a request's number",
-    values: Values::Between(0, MAX_NUMBER),
-};
+const NUMBER: Expected = Expected::Between("a request's number", 0, MAX_NUMBER);
 
-const LENGTH: Expected = Expected {
-    name: "n",
-    values: Values::These("a number of 64 bits"),
-};
+const LENGTH: Expected = Expected::Of("n", "a number of 64 bits");
 
 /// The version of a trace's text.
 #[derive(Clone, Copy, Debug, PartialEq, Eq)]
