@@ -98,7 +98,7 @@ fn request_of(line: &[u8]) -> Result<Result<Tlp, TlpFault>, Misfit>
             let origin = origin(behind)?;
             Ok(request_with(&op, origin))
         }
-        Err(misfit) => Err(in_request(misfit, line.len() - text.len())),
+        Err(misfit) => Err(in_request(misfit, line.len().saturating_sub(text.len()))),
     }
 }
 

@@ -9,7 +9,7 @@ use crate::fields::{count, octet, short};
 use crate::line::Line;
 use fabric_core::Config;
 use fc_credit::LaneCredits;
-use operation_text::{BASE, BLOCK, Expected, Misfit, SIZE, Values, alone, cut, next_word, number};
+use operation_text::{BASE, BLOCK, Expected, Misfit, SIZE, alone, cut, next_word, number};
 use seq_memory::{is_base, is_block, is_size};
 use switch_core::REQUESTERS;
 
