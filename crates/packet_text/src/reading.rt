@@ -128,14 +128,14 @@ fn update(rest: Option<&[u8]>) -> Result<Dllp, Misfit>
     alone(Dllp::Update(class, header as u8, units as u16), rest)
 }
 
-fn told_dllp(read: Result<Dllp, Misfit>) -> Result<Packet, Unread>
-    ensures ok { IfOk result (λ p. forms.dllp_read (result_ok read) ≡ Ok p) }
-    ensures err { IfErr result (λ e. forms.dllp_read (result_ok read) ≡ Err (fault_of e)) }
-    ensures in_range { IfOk read dllps.FitsDataFC → IfOk result packets.FitsDataFC }
+fn told_dllp(read: &Result<Dllp, Misfit>) -> Result<Packet, Unread>
+    ensures ok { IfOk result (λ p. forms.dllp_read (result_ok read.now) ≡ Ok p) }
+    ensures err { IfErr result (λ e. forms.dllp_read (result_ok read.now) ≡ Err (fault_of e)) }
+    ensures in_range { IfOk read.now dllps.FitsDataFC → IfOk result packets.FitsDataFC }
 {
     match read {
-        Ok(dllp) => Ok(Packet::Dllp(dllp)),
-        Err(misfit) => Err(Unread::Words(misfit)),
+        Ok(dllp) => Ok(Packet::Dllp(*dllp)),
+        Err(misfit) => Err(Unread::Words(*misfit)),
     }
 }
 
@@ -161,11 +161,11 @@ pub fn read_words(line: &[u8]) -> Result<Packet, Unread>
     if kind == b"completion".as_slice() {
         told_tlp(completion(rest))
     } else if kind == b"ack".as_slice() {
-        told_dllp(ack(rest))
+        told_dllp(&ack(rest))
     } else if kind == b"nak".as_slice() {
-        told_dllp(nak(rest))
+        told_dllp(&nak(rest))
     } else if kind == b"update".as_slice() {
-        told_dllp(update(rest))
+        told_dllp(&update(rest))
     } else {
         told_tlp(request_of(line))
     }
