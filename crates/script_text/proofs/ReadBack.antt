@@ -26,8 +26,8 @@ use Rattle.operation_text.specs.Operations.{op_spelled}
 use Rattle.operation_text.specs.Texts.{hexadecimal, op_text, IsPrinted, IsPrintedChar}
 use Rattle.script_text.specs.declared.line.Line.TheVariants as lines
 use Rattle.script_text.specs.Forms as forms
-use Rattle.script_lines.specs.Texts.{lane_text, fate_text, kind_text, event_line, credits_text, fabric_line}
-use Rattle.script_lines.specs.Spelled.{IsSpelledLane, IsSpelledEvent, IsLineOf}
+use Rattle.script_text.specs.LineTexts.{lane_text, fate_text, kind_text, event_line, credits_text, fabric_line}
+use Rattle.script_text.specs.Spelled.{IsSpelledLane, IsSpelledEvent, IsLineOf}
 
 -- what is known of the texts of numbers and operations
 pub record Laws : Type 0 where

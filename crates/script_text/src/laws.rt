@@ -3,10 +3,10 @@ ghost use Rattle.tlp_core.specs.declared.operation.Op.{Op};
 ghost use Rattle.fabric_core.specs.declared.config.Config.{Config};
 ghost use Rattle.fabric_core.specs.declared.event.Event.{Event};
 ghost use Rattle.fabric_core.specs.Config.{IsConfig};
-ghost use Rattle.trace_format.specs.Tellable.{IsSpelledOp};
+ghost use Rattle.operation_text.specs.Operations.{IsSpelledOp};
 ghost use Rattle.script_text.specs.declared.line.Line.TheVariants as lines;
-ghost use Rattle.script_lines.specs.Spelled.{IsInRange, IsSpelledEvent, IsLineOf};
-ghost use Rattle.script_lines.specs.Texts.{event_line, fabric_line};
+ghost use Rattle.script_text.specs.Spelled.{IsInRange, IsSpelledEvent, IsLineOf};
+ghost use Rattle.script_text.specs.LineTexts.{event_line, fabric_line};
 
 use operation_text::{own_digits_spell_number, own_text_spells_operation};
 

@@ -1,13 +1,8 @@
-//! A byte of a text as people are shown it.
-//!
-//! Where a text that somebody gave is repeated to people, it may have any bytes. [`shown_byte`] gives
-//! printable ASCII for each.
-#![tactic(auto)]
-
+//! A byte of a text as people are shown it: text that somebody gave may have any bytes.
 ghost use Rattle.std.specs.Prelude.{◌≡◌, ◌≤◌, ◌<◌, ◌+◌, ◌++◌, ◌∷◌, [], true};
 ghost use Rattle.std.specs.Fmt.{digit_glyph};
 ghost use Rattle.arrayvec.specs.ArrayString.{array_string_len};
-ghost use Rattle.shown_bytes.specs.Shown as spec;
+ghost use Rattle.line_reasons.specs.Shown as spec;
 
 use arrayvec::ArrayString;
 
@@ -24,7 +19,7 @@ fn put_digit(value: u8, text: &mut ArrayString<4>)
 }
 
 /// A byte as it is shown: itself where it is printable ASCII, and else `\xNN`.
-pub fn shown_byte(byte: u8) -> ArrayString<4>
+pub(crate) fn shown_byte(byte: u8) -> ArrayString<4>
     ensures { result.bytes ≡ spec.shown_byte byte }
 {
     let mut text = ArrayString::new();

@@ -1,26 +1,15 @@
 //! Writing the lines of scripts.
 ghost use Rattle.std.specs.Prelude.{◌≡◌, ◌≤◌, ◌+◌, ◌++◌, ◌∷◌, length};
-ghost use Rattle.std.specs.Fmt.{decimal};
 ghost use Rattle.arrayvec.specs.ArrayString.{array_string_len};
-ghost use Rattle.script_lines.specs.Texts.{lane_text, fate_text, kind_text, credits_text, event_line, fabric_line};
+ghost use Rattle.script_text.specs.LineTexts.{lane_text, fate_text, kind_text, credits_text, event_line, fabric_line};
 
+use crate::writing::put_number;
 use arrayvec::ArrayString;
 use dllp_core::Class;
 use fabric_core::{Config, Event, LaneName};
 use fc_credit::LaneCredits;
 use lane_core::{DllpKind, Fate};
-use operation_text::{write_decimal, write_hexadecimal, write_op};
-
-/// Adds a word and a number.
-fn put_number(word: &str, number: u64, out: &mut ArrayString<512>)
-    requires word { length word.now ≤ 8 }
-    requires room { array_string_len out.old + 28 ≤ 512 }
-    ensures text { out.new.bytes ≡ out.old.bytes ++ (word.now ++ decimal number) }
-    ensures len { array_string_len out.new ≤ array_string_len out.old + 28 }
-{
-    out.push_str(word);
-    write_decimal(number, out);
-}
+use operation_text::{write_hexadecimal, write_op};
 
 /// Adds the lane's name.
 fn put_lane(lane: LaneName, out: &mut ArrayString<512>)

@@ -16,10 +16,9 @@ use Rattle.tlp_core.specs.declared.operation.Width.TheVariants as widths
 use Rattle.tlp_core.specs.Operation.{size_of}
 use Rattle.operation_text.specs.Numbers.{numeral, byte_string, operand_of}
 use Rattle.operation_text.specs.Operations as spelled
-use Rattle.operation_text.specs.Operations.{op_spelled}
+use Rattle.operation_text.specs.Operations.{op_spelled, IsSpelledOp}
 use Rattle.operation_text.specs.Texts.{hexadecimal, operand_word, op_words}
-use Rattle.trace_format.specs.Tellable.{IsSpelledOp}
-use Rattle.script_lines.specs.Spelled.{IsData, IsOperand, IsInRange}
+use Rattle.script_text.specs.Spelled.{IsData, IsOperand, IsInRange}
 
 bytes-read : (bytes : List ℕ) → IsData bytes → byte_string (encode_upper bytes) ≡ Some bytes
 bytes-read bytes h =

@@ -1,5 +1,5 @@
-use Rattle.script_lines.proofs.ReadBack.{line-of-fabric}
-use Rattle.script_lines.proofs.laws.own_line_spells_fabric.Goals as goal
+use Rattle.script_text.proofs.ReadBack.{line-of-fabric}
+use Rattle.script_text.proofs.laws.own_line_spells_fabric.Goals as goal
 
 pub returns : goal.returns
 returns c =

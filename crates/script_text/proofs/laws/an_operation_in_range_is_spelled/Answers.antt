@@ -1,5 +1,5 @@
-use Rattle.script_lines.proofs.Operations.{op-spelled}
-use Rattle.script_lines.proofs.laws.an_operation_in_range_is_spelled.Goals as goal
+use Rattle.script_text.proofs.Operations.{op-spelled}
+use Rattle.script_text.proofs.laws.an_operation_in_range_is_spelled.Goals as goal
 
 pub returns : goal.returns
 returns c =

@@ -1,6 +1,5 @@
 -- The text of a script's lines.
 use Rattle.std.specs.Prelude.{ℕ, List, [], ◌∷◌, ◌++◌, codes}
-use Rattle.std.specs.List.{join_with_byte}
 use Rattle.std.specs.Fmt.{decimal}
 use Rattle.dllp_core.specs.declared.packet.Class.TheVariants as classes
 use Rattle.fc_credit.specs.declared.limits.LaneCredits.{LaneCredits}
@@ -14,10 +13,7 @@ use Rattle.fabric_core.specs.declared.event.LaneName.TheVariants as lanes
 use Rattle.fabric_core.specs.declared.event.Event.{Event}
 use Rattle.fabric_core.specs.declared.event.Event.TheVariants as events
 use Rattle.operation_text.specs.Texts.{hexadecimal, op_text}
-
--- words with a space between each two
-abbrev pub spaced : List (List ℕ) → List ℕ
-spaced ws = join_with_byte 32 ws
+use Rattle.script_text.specs.Texts.{spaced}
 
 -- ---- events
 
