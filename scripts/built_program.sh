@@ -96,6 +96,7 @@ cat > "$room/reasons" << 'end'
 pciex: lines 3 to 6 have no history, lines 3 to 5 have one
 pciex: line 6: ans 2 0 data 00000000, against these answers:
 pciex: line 5: ans 1 0 data 00000000
+pciex: 00000000 at 40 was there once, and two AtomicOps that change it were answered it
 end
 of_file "$room/lost_update" search
 wants "search on a lost update" 1 "$room/none" "$room/reasons"

@@ -2,6 +2,8 @@
 #![tactic(auto)]
 
 #[cfg(test)]
+mod reasons;
+#[cfg(test)]
 mod rows;
 #[cfg(test)]
 mod texts;
