@@ -26,6 +26,47 @@ pub enum Job {
     Completer,
 }
 
+/// The worker of the `up` lane of port 1 has the number after this, and so on. The requesters have 1 to 7.
+const UP: u32 = 7;
+
+/// The same for the `down` lanes.
+const DOWN: u32 = 14;
+
+const INWARD: u32 = 22;
+
+const OUTWARD: u32 = 23;
+
+const SWITCH: u32 = 24;
+
+const COMPLETER: u32 = 25;
+
+/// By this much the number of a lane's second worker is higher than the first's.
+const SECOND: u32 = 100;
+
+/// The number of a lane's first worker.
+fn number_of(lane: LaneName) -> u32
+    ensures { result < 1000 }
+{
+    match lane {
+        LaneName::Up(port) => UP + u32::from(port),
+        LaneName::Down(port) => DOWN + u32::from(port),
+        LaneName::Inward => INWARD,
+        LaneName::Outward => OUTWARD,
+    }
+}
+
+impl Job {
+    /// The number of the worker at this job, by which the gate knows it.
+    pub(crate) fn number(self) -> u32 {
+        match self {
+            Job::Sender(lane) => number_of(lane),
+            Job::Receiver(lane) => number_of(lane) + SECOND,
+            Job::Switch => SWITCH,
+            Job::Completer => COMPLETER,
+        }
+    }
+}
+
 /// What became of a call.
 #[derive(Clone, Copy, Debug, PartialEq, Eq)]
 enum Tried {
