@@ -80,6 +80,12 @@ for name in lost_ack write_passes_read credits stopped_link; do
     of_file "$room/told" check
     wants "check on what search finds for the trace of $name.txt" 0 "$room/ok" "$room/nothing"
 done
+for words in "--seed 7 --events 300" "--seed 2 --events 400 --requesters 7 --lose 5 --corrupt 6 --block 128"; do
+    # shellcheck disable=SC2086
+    $pciex generate $words | $pciex step --trace | $pciex search > "$room/told" 2> /dev/null
+    of_file "$room/told" check
+    wants "check on what search finds for generate $words" 0 "$room/ok" "$room/nothing"
+done
 {
     printf 'pciex-log 1\nmemory 0 4096 64\n'
     printf 'sub 1 0 add 40 01000000\nsub 2 0 add 40 01000000\nans 1 0 data 00000000\nans 2 0 data 00000000\n'
@@ -90,6 +96,7 @@ cat > "$room/reasons" << 'end'
 pciex: lines 3 to 6 have no history, lines 3 to 5 have one
 pciex: line 6: ans 2 0 data 00000000, against these answers:
 pciex: line 5: ans 1 0 data 00000000
+pciex: 00000000 at 40 was there once, and two AtomicOps that change it were answered it
 end
 of_file "$room/lost_update" search
 wants "search on a lost update" 1 "$room/none" "$room/reasons"
@@ -99,6 +106,25 @@ pciex: line 7: the text ends where a record or the end is expected (sub <request
 end
 of_file "$room/begun" search
 wants "search on a log without its end" 1 "$room/fault" "$room/reasons"
+cat > "$room/hard" << 'the end'
+pciex-log 1
+memory 0 4096 64
+sub 1 0 add 40 01000000
+sub 2 0 add 40 02000000
+sub 3 0 swap 44 01000000
+sub 4 0 swap 44 02000000
+sub 5 0 read 40 2 F F
+ans 5 0 data 0200000002000000
+sub 5 1 read 40 2 F F
+ans 5 1 data 0300000001000000
+end
+the end
+echo "limit 1" > "$room/limit"
+of_file "$room/hard" search --limit 1
+wants "search --limit 1" 3 "$room/limit" "$room/nothing"
+printf '8 records\n1 of 1 choices\n' > "$room/stages"
+of_file "$room/hard" search --limit 1 --progress
+wants "search --progress" 3 "$room/limit" "$room/stages"
 
 # A script goes on after a refusal where it is to, and shows its lines where it is to.
 sed 's/^submit/collect 1\nsubmit/' examples/first_script.txt > "$room/refused.txt"

@@ -79,7 +79,7 @@ class WithoutAHandle(unittest.TestCase):
         trace = pciex.search(log)
         self.assertEqual(pciex.check(trace), "ok")
         self.assertTrue(trace.endswith("\nhistory\nent 1 0 add 40 07000000\nend\n"))
-        self.assertEqual(pciex.search(trace, 2), trace)
+        self.assertEqual(pciex.search(trace, 1), trace)
         self.assertEqual(pciex.search(log.replace("data 0", "data 1")), "none 1")
         self.assertEqual(pciex.search("no log"), "fault 1 Head")
         with self.assertRaises(ValueError):

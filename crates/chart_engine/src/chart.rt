@@ -269,10 +269,10 @@ impl Responder for Charter {
             return Ok(false);
         }
         match read_line(line) {
-            None => Ok(self.no_line()),
-            Some(Line::Fabric(config)) => self.make(config),
-            Some(Line::Event(event)) => self.happen(event),
-            Some(Line::Settle) => self.settle(),
+            Err(_) => Ok(self.no_line()),
+            Ok(Line::Fabric(config)) => self.make(config),
+            Ok(Line::Event(event)) => self.happen(event),
+            Ok(Line::Settle) => self.settle(),
         }
     }
 

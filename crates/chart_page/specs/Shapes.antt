@@ -11,7 +11,7 @@ use Rattle.svg_text.specs.declared.colour.Colour.TheVariants as colours
 use Rattle.svg_text.specs.declared.shapes.Block.{Block}
 use Rattle.svg_text.specs.declared.shapes.Label.{Label}
 use Rattle.svg_text.specs.Shapes.{Shape, page_text}
-use Rattle.script_lines.specs.Texts.{event_line}
+use Rattle.script_text.specs.LineTexts.{event_line}
 use Rattle.chart_page.specs.declared.layout.Point.{Point}
 use Rattle.chart_page.specs.declared.layout.Way.{Way}
 use Rattle.chart_page.specs.declared.shapes.Pen.{Pen}

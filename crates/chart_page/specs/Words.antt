@@ -16,7 +16,7 @@ use Rattle.fabric_core.specs.declared.fault.Refusal.{Refusal}
 use Rattle.operation_text.specs.Texts.{sequence_text}
 use Rattle.script_text.specs.Names.{class_name, refusal_text}
 use Rattle.script_text.specs.Texts.{seen_text}
-use Rattle.script_lines.specs.Texts.{event_line}
+use Rattle.script_text.specs.LineTexts.{event_line}
 use Rattle.svg_text.specs.declared.colour.Colour.{Colour}
 use Rattle.svg_text.specs.declared.colour.Colour.TheVariants as colours
 use Rattle.chart_page.specs.declared.row.Kind.{Kind}

@@ -3,7 +3,7 @@ ghost use Rattle.std.specs.Prelude.{◌≡◌, ◌≤◌, ◌+◌, ◌++◌, [],
 ghost use Rattle.std.specs.Fmt.{decimal};
 ghost use Rattle.arrayvec.specs.ArrayString.{array_string_len};
 ghost use Rattle.script_text.specs.Names as names;
-ghost use Rattle.script_lines.specs.Texts as lines;
+ghost use Rattle.script_text.specs.LineTexts as lines;
 ghost use Rattle.chart_page.specs.Words as said;
 
 use crate::row::{Carried, Kind, Replay, Row};
@@ -13,7 +13,7 @@ use fabric_core::{Event, Refusal, Seen};
 use lane_ends::{Arrival, Fate};
 use link_receiver::Reception;
 use operation_text::{write_decimal, write_sequence};
-use script_lines::write_event;
+use script_text::write_event;
 use script_text::{write_refusal, write_seen};
 use seq12::Seq12;
 use std::alloc::AllocError;

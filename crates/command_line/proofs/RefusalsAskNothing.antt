@@ -119,7 +119,7 @@ tlp_nothing p option e h (Tlp base size block) a = refused_tlp p.1 option base s
 tlp_nothing p option e h r a = differ (codes "tlp") (name_of r) refl (sym e ∙ asks_name p r a)
 
 search_nothing : (p : Text × List Row) (option : ValueOption) → p.0 ≡ codes "search" → IsFirstWrong p.1 search_values option → (r : Request) → Asks (Some p) r → ⊥
-search_nothing p option e h (Search limit) a = none_wrong p.1 search_values option (search_right p.1 limit a.1) h
+search_nothing p option e h (Search limit told) a = none_wrong p.1 search_values option (search_right p.1 limit a.1) h
 search_nothing p option e h r a = differ (codes "search") (name_of r) refl (sym e ∙ asks_name p r a)
 
 draw_nothing : (p : Text × List Row) (option : ValueOption) → p.0 ≡ codes "draw" → RefusesDraw p.1 option → (r : Request) → Asks (Some p) r → ⊥

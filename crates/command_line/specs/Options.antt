@@ -36,15 +36,15 @@ option name = record (new_rule name) { long = Some name; value_names = 1 }
 abbrev pub tlp_app : App
 tlp_app = with_rule (with_rule (with_rule (new_app (codes "tlp")) (option (codes "base"))) (option (codes "size"))) (option (codes "block"))
 
-abbrev pub search_app : App
-search_app = with_rule (new_app (codes "search")) (option (codes "limit"))
-
-abbrev pub draw_app : App
-draw_app = with_rule (with_rule (new_app (codes "draw")) (option (codes "from"))) (option (codes "to"))
-
 -- a flag, whose value is `true` where it is given
 abbrev pub flag : Text → Rule
 flag name = record (new_rule name) { long = Some name; action = Some SetTrue }
+
+abbrev pub search_app : App
+search_app = with_rule (with_rule (new_app (codes "search")) (option (codes "limit"))) (flag (codes "progress"))
+
+abbrev pub draw_app : App
+draw_app = with_rule (with_rule (new_app (codes "draw")) (option (codes "from"))) (option (codes "to"))
 
 abbrev pub step_app : App
 step_app = with_rule (with_rule (with_rule (new_app (codes "step")) (flag (codes "trace"))) (flag (codes "keep-going"))) (flag (codes "echo"))
@@ -148,7 +148,7 @@ Asks (Some p) (Tlp base size block) = (p.0 ≡ codes "tlp") × AsksTlp p.1 base 
 Asks (Some p) Decode = p.0 ≡ codes "decode"
 Asks (Some p) Encode = p.0 ≡ codes "encode"
 Asks (Some p) Check = p.0 ≡ codes "check"
-Asks (Some p) (Search limit) = (p.0 ≡ codes "search") × AsksSearch p.1 limit
+Asks (Some p) (Search limit is_told) = (p.0 ≡ codes "search") × AsksSearch p.1 limit × WritesFlag (first_of (codes "progress") p.1) is_told
 Asks (Some p) (Draw from to) = (p.0 ≡ codes "draw") × AsksDraw p.1 from to
 Asks (Some p) Upgrade = p.0 ≡ codes "upgrade"
 Asks (Some p) (Step is_traced keeps_going echoes) = (p.0 ≡ codes "step") × AsksStep p.1 is_traced keeps_going echoes

@@ -113,7 +113,8 @@ fn search_command<'a>(alloc: Global) -> Result<Command<'a>, AllocError>
     ensures globals { IfOk result (λ c. (out-Command c).has_globals ≡ false) }
 {
     let search = plain_command(alloc, "search", texts::SEARCH);
-    with_arg(search, option_of(alloc, "limit", "STATES", texts::LIMIT))
+    let limit = with_arg(search, option_of(alloc, "limit", "STATES", texts::LIMIT))?;
+    with_arg(limit, flag_of(alloc, "progress", texts::STAGES))
 }
 
 /// The subcommand `draw`.

@@ -182,6 +182,10 @@ aligned block completes with Completer Abort [default: 64]";
 
 pub(crate) static LIMIT: &str = "Number of choices to look at, 1 to 1000000000 [default: 1000000]";
 
+pub(crate) static STAGES: &str =
+    "Print on standard error how many records were read and how many choices were
+looked at; on by default for 10000 records or more if standard error is a terminal";
+
 pub(crate) static FROM: &str = "First point to draw, a length of the history [default: 0]";
 
 pub(crate) static TO: &str =

@@ -38,9 +38,10 @@ pub enum Request {
     Encode,
     /// The subcommand `check`.
     Check,
-    /// The subcommand `search`, which looks at so many choices at most.
+    /// The subcommand `search`, which looks at so many choices at most, and may tell how far it is.
     Search {
         limit: u64,
+        is_told: bool,
     },
     /// The subcommand `draw`, of the points of a history from one to another.
     Draw {
@@ -148,7 +149,10 @@ fn search_of<'a>(search: &ArgMatches<'a>) -> Result<Request, RefusedValue<'a>>
     ensures err { IfErr result (Refuses (Some (codes "search", rows_of (found_of search.now)))) }
 {
     let limit = number_in(search, ValueOption::Limit, Some(1_000_000))?;
-    Ok(Request::Search { limit })
+    Ok(Request::Search {
+        limit,
+        is_told: is_set(search.get_str("progress")),
+    })
 }
 
 /// What the values of `draw` ask for.

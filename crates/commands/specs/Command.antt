@@ -32,7 +32,7 @@ IsDone (Tlp base size block) input rest out out' exit = IsRun (out_tlp base size
 IsDone Decode input rest out out' exit = IsRun out_decode input rest out out' exit
 IsDone Encode input rest out out' exit = IsRun out_encode input rest out out' exit
 IsDone Check input rest out out' exit = IsRun out_check input rest out out' exit
-IsDone (Search limit) input rest out out' exit = IsSearched limit input rest out out' exit
+IsDone (Search limit is_told) input rest out out' exit = IsSearched limit input rest out out' exit
 IsDone (Draw from to) input rest out out' exit = IsRun (out_draw (record { from = from; to = to })) input rest out out' exit
 IsDone Upgrade input rest out out' exit = IsRun out_upgrade input rest out out' exit
 IsDone (Step is_traced keeps_going echoes) input rest out out' exit =

@@ -17,7 +17,7 @@ use history_picture::Window;
 use line_engine::EngineFault;
 use link_chart::ChartWindow;
 use packet_engine::{run_decode, run_encode_with_reasons};
-use search_engine::run_search_with_reasons;
+use search_engine::{Stages, run_search_with_reasons};
 use std::alloc::Global;
 use std::convert::AsStr;
 use std::io;
@@ -107,10 +107,22 @@ pub enum Outcome {
     Run { counting: Counting, is_told: bool },
 }
 
+/// Whether it is told how far a search is.
+fn stages_of(is_told: bool, is_terminal: bool) -> Stages {
+    if is_told {
+        Stages::Shown
+    } else if is_terminal {
+        Stages::OfLongLogs
+    } else {
+        Stages::Hidden
+    }
+}
+
 /// Does what is asked for, but for a run, and gives the exit status.
 fn begin<R: Read, W: Write, E: Write>(
     alloc: Global,
     request: Request,
+    is_terminal: bool,
     reader: &mut R,
     writer: &mut W,
     errors: &mut E,
@@ -133,8 +145,9 @@ fn begin<R: Read, W: Write, E: Write>(
             let run = run_check_with_reasons(alloc, reader, writer, errors);
             Outcome::Ended(ended(run, errors))
         }
-        Request::Search { limit } => {
-            let run = run_search_with_reasons(alloc, limit, reader, writer, errors);
+        Request::Search { limit, is_told } => {
+            let stages = stages_of(is_told, is_terminal);
+            let run = run_search_with_reasons(alloc, limit, stages, reader, writer, errors);
             Outcome::Ended(ended(run, errors))
         }
         Request::Draw { from, to } => {
@@ -171,10 +184,12 @@ fn begin<R: Read, W: Write, E: Write>(
 
 /// Does what the words of the command line ask for, the program's name before them, but for a run, and gives
 /// the exit status: 0 done; 1 a fault, a flaw or a refusal was told, or reading, writing or memory failed; 2 the
-/// words ask for nothing; 3 a search was given up. It waits for no thread, so what is said of it needs no return.
+/// words ask for nothing; 3 a search was given up. A long search tells how far it is if the error stream is a terminal.
+/// It waits for no thread, so what is said of it needs no return.
 pub fn on_one_thread<S: AsStr, R: Read, W: Write, E: Write>(
     alloc: Global,
     words: &[S],
+    is_terminal: bool,
     reader: &mut R,
     writer: &mut W,
     errors: &mut E,
@@ -195,7 +210,7 @@ pub fn on_one_thread<S: AsStr, R: Read, W: Write, E: Write>(
     ensures right { IsRight result }
 {
     match options(alloc, words) {
-        Ok(request) => begin(alloc, request, reader, writer, errors),
+        Ok(request) => begin(alloc, request, is_terminal, reader, writer, errors),
         Err(fault) => Outcome::Ended(refused(&fault, writer, errors)),
     }
 }

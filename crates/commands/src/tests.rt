@@ -22,7 +22,7 @@ fn status<R: Read, W: Write, E: Write>(
     writer: &mut W,
     errors: &mut E,
 ) -> u8 {
-    status_of(on_one_thread(alloc, words, reader, writer, errors))
+    status_of(on_one_thread(alloc, words, false, reader, writer, errors))
 }
 
 /// The same over an input, what is written being kept.

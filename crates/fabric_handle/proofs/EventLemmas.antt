@@ -1,5 +1,5 @@
 -- Events that a trace has a record of, and the others.
-use Rattle.std.proofs.Common.{◌≡◌, ◌∙◌, ℕ, true, false, List, [], ◌∷◌, ◌++◌, length, refl, ap, subst}
+use Rattle.std.proofs.Common.{◌≡◌, ◌∙◌, ℕ, Bool, true, false, if◌then◌else◌, List, [], ◌∷◌, ◌++◌, length, refl, sym, ap, subst, Result, Ok, Err}
 use Rattle.std.proofs.lemmas.List.{append-nil}
 use Rattle.history_check.specs.declared.Record.{Record}
 use Rattle.history_check.specs.declared.Record.TheVariants.{Sub, Ans}
@@ -10,8 +10,10 @@ use Rattle.fabric_core.specs.declared.event.Event.TheVariants as events
 use Rattle.fabric_core.specs.declared.event.Seen.{Seen}
 use Rattle.fabric_core.specs.Kept.{records_of}
 use Rattle.fabric_core.specs.Runs.{has_record, Recorded}
-use Rattle.fabric_core.specs.Answers.{Happens}
+use Rattle.fabric_core.specs.declared.fault.Refusal.{Refusal}
+use Rattle.fabric_core.specs.Answers.{Happens, answer}
 use Rattle.fabric_core.specs.ByParts.{HappensByParts}
+use Rattle.fabric_handle.specs.Session.{Session, answered, happened}
 
 -- one without a record adds nothing
 no_record : (e : Event) (what : Seen) (n : ℕ) → has_record e ≡ false → records_of e what n ≡ []
@@ -47,3 +49,24 @@ is_there by_parts f f' e h r =
     let found = its_record f f' e r.what (length f.memory.entries) h (by_parts f f' e r.what r.happens) in
     let none : [] ≡ found.0 ∷ [] = r.now ∙ found.1 in
     cc none
+
+-- ---- what a session holds after an event without a record
+
+pub unrecorded : (v s : Session) → v ≡ s → (room : List ℕ) (e : Event) (what : Seen) (f' : Fabric) → (s.is_traced ≡ true → has_record e ≡ false) → answer v.fabric e ≡ Ok (what, f')
+    → record v { fabric = f' } ≡ (happened s room e).session
+unrecorded v s is room e what f' u h =
+    let n = length s.fabric.memory.entries in
+    let now : answer s.fabric e ≡ Ok (what, f') = ap (λ (x : Session). answer x.fabric e) (sym is) ∙ h in
+    ap (λ (x : Session). record x { fabric = f' }) is
+    ∙ ap (λ (rs : List Record). record s { fabric = f'; records = rs }) (same n s.is_traced u)
+    ∙ sym (ap (λ (x : Result (Seen × Fabric) Refusal). (answered s room e n x).session) now)
+  where
+    same : (n : ℕ) (b : Bool) → (b ≡ true → has_record e ≡ false) → s.records ≡ (if b then s.records ++ records_of e what n else s.records)
+    same n true h = sym (ap (λ (rs : List Record). s.records ++ rs) (no_record e what n (h refl)) ∙ append-nil s.records)
+    same n false h = refl
+
+pub not_moved : (v s : Session) → v ≡ s → (room : List ℕ) (e : Event) (r : Refusal) (f' : Fabric) → f' ≡ v.fabric → answer v.fabric e ≡ Err r → record v { fabric = f' } ≡ (happened s room e).session
+not_moved v s is room e r f' same h =
+    let now : answer s.fabric e ≡ Err r = ap (λ (x : Session). answer x.fabric e) (sym is) ∙ h in
+    ap (λ (f : Fabric). record v { fabric = f }) same ∙ is
+    ∙ sym (ap (λ (x : Result (Seen × Fabric) Refusal). (answered s room e (length s.fabric.memory.entries) x).session) now)

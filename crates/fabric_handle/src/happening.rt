@@ -155,7 +155,7 @@ fn happen(session: &mut Session, line: &[u8], room: &mut [u8]) -> u32
     if room.len() < LINE_ROOM {
         return SMALL_ROOM;
     }
-    let Some(Line::Event(event)) = read_line(line) else {
+    let Ok(Line::Event(event)) = read_line(line) else {
         return NO_LINE;
     };
     if session.is_traced && is_recorded(&event) {

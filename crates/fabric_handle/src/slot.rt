@@ -150,7 +150,7 @@ pub fn new_fabric(
         return SMALL_ROOM;
     }
     match read_line(line) {
-        Some(Line::Fabric(config)) => make_in(alloc, config, is_traced, room, slot),
+        Ok(Line::Fabric(config)) => make_in(alloc, config, is_traced, room, slot),
         _ => NO_LINE,
     }
 }

@@ -14,8 +14,8 @@ use Rattle.fabric_core.specs.Kept.{records_of}
 use Rattle.fabric_core.specs.Steps.{Happens}
 use Rattle.fabric_core.specs.Runs.{Runs}
 use Rattle.trace_format.specs.Texts.{lines_text}
-use Rattle.script_lines.specs.Texts.{event_line, fabric_line}
-use Rattle.script_lines.specs.Spelled.{IsSpelledEvent}
+use Rattle.script_text.specs.LineTexts.{event_line, fabric_line}
+use Rattle.script_text.specs.Spelled.{IsSpelledEvent}
 use Rattle.storm.specs.declared.Storm.{Storm}
 use Rattle.storm_events.specs.Arrivals.{IsAfter}
 use Rattle.storm_events.specs.Choice.{Choosing, IsChosen}

@@ -9,8 +9,8 @@ use Rattle.fabric_core.specs.declared.event.Event.{Event}
 use Rattle.fabric_core.specs.Config.{IsNewWith}
 use Rattle.fabric_core.specs.Runs.{Runs}
 use Rattle.trace_format.specs.Texts.{lines_text}
-use Rattle.script_lines.specs.Texts.{event_line, fabric_line}
-use Rattle.script_lines.specs.Spelled.{IsSpelledEvent}
+use Rattle.script_text.specs.LineTexts.{event_line, fabric_line}
+use Rattle.script_text.specs.Spelled.{IsSpelledEvent}
 use Rattle.storm.specs.declared.Storm.{Storm}
 use Rattle.storm_events.specs.Arrivals.{AreFated, IsAfter}
 use Rattle.storm_events.specs.Choice.{Choosing}

@@ -4,7 +4,7 @@ ghost use Rattle.std.specs.Io.KnownBytes.{Appends};
 ghost use Rattle.line_engine.specs.Run.{IsBeginning};
 ghost use Rattle.fabric_core.specs.declared.event.Event.{Event};
 ghost use Rattle.fabric_core.specs.Config.{IsNewWith};
-ghost use Rattle.script_lines.specs.Texts.{event_line};
+ghost use Rattle.script_text.specs.LineTexts.{event_line};
 ghost use Rattle.storm.specs.declared.Storm.{Storm};
 ghost use Rattle.storm.specs.Ranges.{IsStorm};
 ghost use Rattle.storm_events.specs.Arrivals.{IsCounted};

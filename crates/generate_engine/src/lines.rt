@@ -1,11 +1,11 @@
 //! Lines with the line feeds that end them.
 ghost use Rattle.std.specs.Prelude.{◌≡◌, ◌≤◌, ◌++◌, ◌∷◌, [], OnOk, OnErr};
 ghost use Rattle.arrayvec.specs.ArrayString.{array_string_len};
-ghost use Rattle.script_lines.specs.Texts.{event_line, fabric_line};
+ghost use Rattle.script_text.specs.LineTexts.{event_line, fabric_line};
 
 use arrayvec::ArrayString;
 use fabric_core::{Config, Event};
-use script_lines::{write_event, write_fabric};
+use script_text::{write_event, write_fabric};
 use std::alloc::AllocError;
 
 /// Adds a line and what ends it.

@@ -12,8 +12,7 @@ use Rattle.fabric_core.specs.Config.{IsNewWith}
 use Rattle.fabric_core.specs.Steps.{Happens}
 use Rattle.fabric_core.specs.Runs.{Runs}
 use Rattle.fabric_answers.specs.New.{new_fabric, config_fault}
-use Rattle.operation_text.specs.Words.{words}
-use Rattle.trace_format.specs.Lines.{is_skipped}
+use Rattle.operation_text.specs.Words.{words, is_skipped}
 use Rattle.script_text.specs.declared.line.Line.{Line}
 use Rattle.script_text.specs.declared.line.Line.TheVariants as lines
 use Rattle.script_text.specs.Forms.{line_of}

@@ -14,8 +14,8 @@ use Rattle.trace_format.specs.Texts.{lines_text}
 use Rattle.line_engine.specs.Lines.{lines_of, bare}
 use Rattle.script_text.specs.declared.line.Line.{Line}
 use Rattle.script_text.specs.declared.line.Line.TheVariants as lines
-use Rattle.script_lines.specs.Texts.{event_line, fabric_line}
-use Rattle.script_lines.specs.Spelled.{IsSpelledEvent, IsLineOf}
+use Rattle.script_text.specs.LineTexts.{event_line, fabric_line}
+use Rattle.script_text.specs.Spelled.{IsSpelledEvent, IsLineOf}
 use Rattle.step_engine.specs.Script.{script_of, IsScript}
 use Rattle.step_engine.specs.Script.{event_line as event_of}
 use Rattle.generate_engine.specs.Script.{text_of}

@@ -12,7 +12,7 @@ ghost use Rattle.step_engine.specs.Step.{claim_with, out_step};
 ghost use Rattle.generate_engine.specs.Script.{IsScriptOf};
 
 use fabric_answers::laws::a_configuration_has_one_answer;
-use script_lines::laws::{own_line_spells_event, own_line_spells_fabric};
+use script_text::laws::{own_line_spells_event, own_line_spells_fabric};
 use step_engine::laws::{a_traced_script_is_explained, a_traced_script_is_ok};
 
 /// What `generate` writes is read as the fabric and the events that happened.

@@ -1,2 +1,3 @@
 pub mod Clocking
 pub mod Prefixing
+pub mod Keeping

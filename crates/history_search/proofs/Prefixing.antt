@@ -11,9 +11,6 @@ use Rattle.log_runs.specs.Task.{Task}
 use Rattle.log_runs.specs.Tasks.{AreEvents, IsMisformed}
 use Rattle.log_runs.specs.Runs.{Live, Dead, start}
 use Rattle.log_runs.specs.Explainable.{IsExplainable, prefix}
-use Rattle.run_search.specs.declared.exploring.Outcome.{Outcome}
-use Rattle.run_search.specs.declared.exploring.Outcome.TheVariants as outcomes
-use Rattle.run_search.specs.Outcomes.{IsRight}
 use Rattle.log_events.specs.Formed.{MisformedAt}
 use Rattle.history_search.specs.Prefixes.{IsUnexplained}
 
@@ -30,11 +27,10 @@ copied_more xs ys zs i x y l is old same grown =
 abbrev pub HaveRuns : Type 0
 HaveRuns = (t : Observation) (es : List Event) → AreEvents t.records es → IsExplainable t → Live (record { extent = observed t; events = es }) (start (record { extent = observed t; events = es }))
 
-pub none_from_dead : (t : Observation) (count : ℕ) (es : List Event) (log : Task) (o : Outcome) → HaveRuns → AreEvents (take count t.records) es
-    → log ≡ record { extent = observed t; events = es } → IsRight log o → o ≡ outcomes.Dead → IsExplainable (prefix count t) → ⊥
-none_from_dead t count es log o law are el right dead e =
-    let none : Dead log (start log) = subst (IsRight log) dead right in
-    none (subst (λ (k : Task). Live k (start k)) (sym el) (law (prefix count t) es are e))
+pub none_from_dead : (t : Observation) (count : ℕ) (log : Task) → HaveRuns → AreEvents (take count t.records) log.events
+    → log.extent ≡ observed t → Dead log (start log) → IsExplainable (prefix count t) → ⊥
+none_from_dead t count log law are extent dead e =
+    dead (subst (λ (x : Extent). Live (of x log.events) (start (of x log.events))) (sym extent) (law (prefix count t) log.events are e))
 
 take_take : {X : Type 0} → (xs : List X) (n m : ℕ) → n ≤ m → take n (take m xs) ≡ take n xs
 take_take [] zero zero l = refl

@@ -1,6 +1,8 @@
-//! Copies of the first records.
-ghost use Rattle.std.specs.Prelude.{◌≡◌, ◌≤◌, IfOk, length, take};
+//! Copies of the first records, with all answers or with some.
+ghost use Rattle.std.specs.Prelude.{◌≡◌, ◌≤◌, ◌++◌, ◌∷◌, [], IfOk, OnOk, length, take};
 ghost use Rattle.log_runs.specs.Explainable as explainable;
+ghost use Rattle.history_search.specs.Contradictions as contradictions;
+ghost use Rattle.history_search.specs.Contradictions.{keeping_from};
 
 use arrayvec::ArrayVec;
 use history_check::{Record, Trace};
@@ -76,5 +78,55 @@ pub(crate) fn prefix(alloc: Global, trace: &Trace, count: usize) -> Result<Trace
         size: trace.size,
         block: trace.block,
         records: copy_of_records(alloc, &trace.records[..count])?,
+    })
+}
+
+/// Adds a copy of the record at the place, if it is no answer or its place is one of these.
+fn keep(
+    copy: &mut Vec<Record>,
+    item: &Record,
+    place: usize,
+    kept: &[usize],
+) -> Result<(), AllocError>
+    ensures { OnOk result (copy.new.items ≡ copy.old.items ++ keeping_from place kept.now (item.now ∷ [])) }
+{
+    match item {
+        Record::Sub { .. } => copy.push(copy_of_record(item))?,
+        Record::Ans { .. } => if kept.contains(&place) {
+            copy.push(copy_of_record(item))?;
+        },
+    }
+    Ok(())
+}
+
+fn keeping_records(
+    alloc: Global,
+    records: &[Record],
+    kept: &[usize],
+) -> Result<Vec<Record>, AllocError>
+    ensures { IfOk result (λ v. v.items ≡ keeping_from 0 kept.now records.now) }
+{
+    let mut copy = Vec::new(alloc);
+    for place in 0..records.len() {
+        keep(&mut copy, &records[place], place, kept)?;
+    }
+    Ok(copy)
+}
+
+/// The first `count` records, but of the answers those at these places alone.
+pub(crate) fn keeping(
+    alloc: Global,
+    trace: &Trace,
+    count: usize,
+    kept: &[usize],
+) -> Result<Trace, AllocError>
+    requires { count ≤ length trace.now.records }
+    ensures { IfOk result (λ t. t ≡ contradictions.keeping count kept.now trace.now) }
+{
+    Ok(Trace {
+        base: trace.base,
+        size: trace.size,
+        block: trace.block,
+        records: keeping_records(alloc, &trace.records[..count], kept)?,
     })
 }

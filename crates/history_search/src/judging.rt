@@ -1,37 +1,110 @@
 //! Whether a run leads through the first records.
-ghost use Rattle.std.specs.Prelude.{◌≡◌, ◌≤◌, true, IfOk, length};
+ghost use Rattle.std.specs.Prelude.{◌≡◌, ◌≤◌, true, IfOk, length, take};
+ghost use Rattle.history_check.specs.Observation.{observed};
+ghost use Rattle.log_runs.specs.Runs.{Dead, start};
+ghost use Rattle.log_runs.specs.Tasks.{AreEvents};
 ghost use Rattle.log_runs.specs.Explainable.{IsExplainable, prefix};
 
+use crate::alone::{dead_range, explored_on};
 use crate::copies;
 use crate::moments::confirmed;
 use history_check::Trace;
-use log_events::events_of;
-use log_runs::laws::explainable_has_a_run;
+use log_cells::Cells;
+use log_events::{events_of, form_of};
+use log_runs::laws::{explainable_has_a_run, explainable_is_well_formed, prefix_is_explainable};
 use log_runs::{Log, Step};
 use run_search::{Outcome, explore};
 use seq_memory::Memory;
 use std::alloc::{AllocError, Global};
 
-/// Looks for a run through the first `count` records, at no more than `limit` choices; the second
-/// number is how many there were. `partners` says which records may belong together.
+/// The first `count` records as a search sees them. `partners` says which records may belong together.
+pub(crate) fn log_of(
+    alloc: Global,
+    trace: &Trace,
+    partners: &[Option<usize>],
+    count: usize,
+) -> Result<Log, AllocError>
+    requires { count ≤ length trace.now.records }
+    ensures events { IfOk result (λ l. AreEvents (take count trace.now.records) l.events) }
+    ensures extent { IfOk result (λ l. l.extent ≡ observed trace.now) }
+{
+    Ok(Log {
+        memory: Memory::new(alloc, trace.base, trace.size, trace.block)?,
+        events: events_of(alloc, &trace.records[..count], partners)?,
+    })
+}
+
+/// What was found out of records.
+#[derive(Drop)]
+pub(crate) struct Judgment {
+    pub(crate) outcome: Outcome,
+    /// How many choices were looked at.
+    pub(crate) states: u64,
+    /// The addresses where cells begin and end on which there is no run, if that was found out.
+    pub(crate) range: Option<(u64, u64)>,
+}
+
+/// Looks for a run through the log, first through its part on each cell of the memory, with a tenth of
+/// the choices.
+fn explored(alloc: Global, log: &Log, limit: u64) -> Result<Judgment, AllocError>
+    ensures dead { IfOk result (λ r. r.outcome ≡ Outcome.Dead → Dead log.now (start log.now)) }
+    ensures states { IfOk result (λ r. r.states ≤ limit) }
+    ensures limit { IfOk result (λ r. r.outcome ≡ Outcome.Limit → r.states ≡ limit) }
+{
+    let (range, spent) = dead_range(alloc, log, limit / 10)?;
+    if range.is_some() {
+        return Ok(Judgment {
+            outcome: Outcome::Dead,
+            states: spent,
+            range,
+        });
+    }
+    let (outcome, states) = explore(alloc, log, limit - spent)?;
+    Ok(Judgment {
+        outcome,
+        states: spent + states,
+        range: None,
+    })
+}
+
+/// Looks for a run through the first `count` records, at no more than `limit` choices. `partners` says
+/// which records may belong together.
 pub(crate) fn judged(
     alloc: Global,
     trace: &Trace,
     partners: &[Option<usize>],
     count: usize,
     limit: u64,
-) -> Result<(Outcome, u64), AllocError>
+) -> Result<Judgment, AllocError>
     requires { count ≤ length trace.now.records }
-    ensures none { IfOk result (λ r. r.0 ≡ Outcome.Dead → IsExplainable (prefix count trace.now) → ⊥) }
-    ensures states { IfOk result (λ r. r.1 ≤ limit) }
-    ensures limit { IfOk result (λ r. r.0 ≡ Outcome.Limit → r.1 ≡ limit) }
+    ensures none { IfOk result (λ r. r.outcome ≡ Outcome.Dead → IsExplainable (prefix count trace.now) → ⊥) }
+    ensures states { IfOk result (λ r. r.states ≤ limit) }
+    ensures limit { IfOk result (λ r. r.outcome ≡ Outcome.Limit → r.states ≡ limit) }
 {
     explainable_has_a_run();
-    let events = events_of(alloc, &trace.records[..count], partners)?;
-    let memory = Memory::new(alloc, trace.base, trace.size, trace.block)?;
-    let log = Log { memory, events };
-    let found = explore(alloc, &log, limit)?;
+    let log = log_of(alloc, trace, partners, count)?;
+    let found = explored(alloc, &log, limit)?;
     Ok(found)
+}
+
+/// Looks for a run through the first `count` records on the bytes of a range alone, at no more than
+/// `limit` choices.
+pub(crate) fn judged_on(
+    alloc: Global,
+    trace: &Trace,
+    partners: &[Option<usize>],
+    count: usize,
+    range: (u64, u64),
+    limit: u64,
+) -> Result<Outcome, AllocError>
+    requires { count ≤ length trace.now.records }
+    ensures { IfOk result (λ o. o ≡ Outcome.Dead → IsExplainable (prefix count trace.now) → ⊥) }
+{
+    explainable_has_a_run();
+    let log = log_of(alloc, trace, partners, count)?;
+    let cells = Cells::of(alloc, &log)?;
+    let found = explored_on(alloc, &log, &cells, range.0, range.1, limit)?;
+    Ok(found.0)
 }
 
 /// The steps make a history that explains the trace with other n's; false where that isn't so.
@@ -56,10 +129,28 @@ pub(crate) fn is_explainable(
     ensures { IfOk result (λ yes. yes ≡ true → IsExplainable (prefix count trace.now)) }
 {
     let mut part = copies::prefix(alloc, trace, count)?;
-    let (outcome, _) = judged(alloc, trace, partners, count, limit)?;
-    let Outcome::Run(steps) = outcome else {
+    let judgment = judged(alloc, trace, partners, count, limit)?;
+    let Outcome::Run(steps) = judgment.outcome else {
         return Ok(false);
     };
     let yes = is_confirmed(alloc, &mut part, &steps)?;
     Ok(yes)
+}
+
+/// No history explains the records, as far as it is found out with `limit` choices.
+pub(crate) fn is_unexplained(alloc: Global, trace: &Trace, limit: u64) -> Result<bool, AllocError>
+    ensures { IfOk result (λ yes. yes ≡ true → IsExplainable trace.now → ⊥) }
+{
+    explainable_is_well_formed();
+    prefix_is_explainable();
+    let form = form_of(alloc, &trace.records)?;
+    if form.flaw.is_some() {
+        return Ok(true);
+    }
+    let count = trace.records.len();
+    let judgment = judged(alloc, trace, &form.partners, count, limit)?;
+    match judgment.outcome {
+        Outcome::Dead => Ok(true),
+        _ => Ok(false),
+    }
 }

@@ -4,13 +4,17 @@
 //! n's. [`search`] looks for n's and a history that make it a trace that the history explains. What
 //! it finds is checked before it is returned. Where it says that there is none, no history explains
 //! the log; it then looks for a prefix that has none either, and is as short as it can prove.
+//! [`contradiction`] looks for few answers of such a prefix that no history explains together.
 #![tactic(auto)]
 
+mod alone;
 mod clocked;
 mod copies;
 mod judging;
 mod moments;
 mod searching;
 mod shortest;
+mod thinning;
 
 pub use searching::{Sought, search};
+pub use thinning::contradiction;

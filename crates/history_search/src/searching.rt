@@ -5,7 +5,7 @@ ghost use Rattle.log_runs.specs.Explainable.{SeenAlike};
 ghost use Rattle.history_search.specs.Prefixes.{IsShortest};
 ghost use Rattle.history_search.specs.Answers.{IsFound, IsNone};
 
-use crate::judging::judged;
+use crate::judging::{Judgment, judged};
 use crate::moments::confirmed;
 use crate::shortest::{Shortest, shortened};
 use history_check::Trace;
@@ -53,7 +53,7 @@ fn misformed(
     ensures { IfOk result (IsShortest trace.now) }
 {
     explainable_is_well_formed();
-    let shortest = shortened(alloc, trace, partners, up_to(trace, flaw))?;
+    let shortest = shortened(alloc, trace, partners, up_to(trace, flaw), None)?;
     Ok(shortest)
 }
 
@@ -81,14 +81,18 @@ fn searched(
     ensures states { IfOk result (λ r. r.1 ≤ limit) }
 {
     let count = trace.records.len();
-    let (outcome, states) = judged(alloc, trace, partners, count, limit)?;
+    let Judgment {
+        outcome,
+        states,
+        range,
+    } = judged(alloc, trace, partners, count, limit)?;
     match outcome {
         Outcome::Run(steps) => match confirmed(alloc, trace, &steps)? {
             Some(history) => Ok((Sought::Found(history), states)),
             None => Ok((Sought::Limit, limit)),
         },
         Outcome::Dead => {
-            let shortest = shortened(alloc, trace, partners, count)?;
+            let shortest = shortened(alloc, trace, partners, count, range)?;
             Ok((none_of(shortest), states))
         }
         Outcome::Limit => Ok((Sought::Limit, limit)),

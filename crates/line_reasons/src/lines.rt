@@ -1,12 +1,10 @@
-//! Why the line of a script or of a packet is refused.
+//! Why a line is refused.
 ghost use Rattle.std.specs.Prelude.{◌≡◌, IfErr, OnOk, OnErr};
 ghost use Rattle.line_reasons.specs.Told.{IsReasonTold, IsReasonBegun};
 
-use crate::packets::packet_misfit;
-use crate::scripts::script_misfit;
 use crate::telling::{Reason, Shown};
 use line_engine::EngineFault;
-use operation_text::cut;
+use operation_text::Misfit;
 use std::io::Write;
 
 /// What refusals and faults mean, by their names.
@@ -72,13 +70,6 @@ fn meaning_of(name: &[u8]) -> &'static str {
     ""
 }
 
-/// What comes after the first two words of an answer: the name of a fault.
-fn name_in(answer: &[u8]) -> &[u8] {
-    let answer = answer.strip_suffix(b"\n").unwrap_or(answer);
-    let after = cut(answer).1.unwrap_or(b"");
-    cut(after).1.unwrap_or(b"")
-}
-
 /// Adds that the line is refused for what that name says.
 fn put_refused(line: &[u8], name: &[u8], reason: &mut Reason) {
     let (line, told) = (Shown(line), Shown(name));
@@ -93,36 +84,18 @@ fn put_refused(line: &[u8], name: &[u8], reason: &mut Reason) {
     }
 }
 
-/// Why a packet's line is refused, by the answer to it: the first word that doesn't fit, or the
-/// packet's fault where all do.
-fn packet_reason(line: &[u8], answer: &[u8]) -> Reason {
+/// That the line is refused for what that name says.
+fn refusal_reason(line: &[u8], name: &[u8]) -> Reason {
     let mut reason = Reason::new();
-    match packet_misfit(line) {
-        Some(misfit) => misfit.put(&mut reason),
-        None => put_refused(line, name_in(answer), &mut reason),
-    }
+    put_refused(line, name, &mut reason);
     reason
 }
 
-/// Why a script's line is refused: the fabric's refusal of its event by name, or else the first word
-/// that doesn't fit.
-fn script_reason(line: &[u8], has_fabric: bool, refusal: Option<&str>) -> Reason {
-    let mut reason = Reason::new();
-    match refusal {
-        Some(name) => put_refused(line, name.as_bytes(), &mut reason),
-        None => match script_misfit(line, has_fabric) {
-            Some(misfit) => misfit.put(&mut reason),
-            None => put_refused(line, b"", &mut reason),
-        },
-    }
-    reason
-}
-
-/// Tells why a packet's line is refused by the answer to it, where that is a fault: this is the line's
+/// Tells that the line is refused for what this name says, where it is told as a fault: this is its
 /// number then. After an `Err` a beginning of the reason was written.
-pub(crate) fn tell_packet_line<E: Write>(
+pub fn tell_refusal<E: Write>(
     line: &[u8],
-    answer: &[u8],
+    name: &str,
     fault: Option<u64>,
     errors: &mut E,
 ) -> Result<(), EngineFault>
@@ -131,18 +104,16 @@ pub(crate) fn tell_packet_line<E: Write>(
     ensures part { OnErr result (IsReasonBegun fault (E.contents errors.old) (E.contents errors.new)) }
 {
     match fault {
-        Some(number) => packet_reason(line, answer).tell_at(number, errors),
+        Some(number) => refusal_reason(line, name.as_bytes()).tell_at(number, errors),
         None => Ok(()),
     }
 }
 
-/// Tells why a script's line is refused, where it is: this is its number then. A refusal of the fabric
-/// is given by its name; without one the line is none that is due, an event where the script has its
-/// fabric. After an `Err` a beginning of the reason was written.
-pub fn tell_script_line<E: Write>(
+/// Tells what doesn't fit in the line, where it is told as a fault: this is its number then. Without a
+/// misfit the line is refused as it stands. After an `Err` a beginning of the reason was written.
+pub fn tell_misfit<E: Write>(
     line: &[u8],
-    has_fabric: bool,
-    refusal: Option<&str>,
+    misfit: Option<Misfit>,
     fault: Option<u64>,
     errors: &mut E,
 ) -> Result<(), EngineFault>
@@ -150,9 +121,10 @@ pub fn tell_script_line<E: Write>(
     ensures fault { IfErr result (λ f. f ≡ EngineFault.Write) }
     ensures part { OnErr result (IsReasonBegun fault (E.contents errors.old) (E.contents errors.new)) }
 {
-    match fault {
-        Some(number) => script_reason(line, has_fabric, refusal).tell_at(number, errors),
-        None => Ok(()),
+    match (fault, misfit) {
+        (Some(number), Some(misfit)) => Reason::of_misfit(line, &misfit).tell_at(number, errors),
+        (Some(number), None) => refusal_reason(line, b"").tell_at(number, errors),
+        (None, _) => Ok(()),
     }
 }
 

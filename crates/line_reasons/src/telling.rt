@@ -4,10 +4,10 @@ ghost use Rattle.std.specs.Fmt.{decimal};
 ghost use Rattle.arrayvec.specs.ArrayString.{array_string_len};
 ghost use Rattle.line_reasons.specs.Told.{IsReasonToldAt, IsReasonBegunAt};
 
+use crate::shown::shown_byte;
 use arrayvec::ArrayString;
 use line_engine::{EngineFault, write_out};
-use operation_text::write_decimal;
-use shown_bytes::shown_byte;
+use operation_text::{Expected, Misfit, cut, write_decimal};
 use std::fmt::Write;
 use std::{fmt, io};
 
@@ -59,6 +59,51 @@ impl Reason {
     pub fn new() -> Reason {
         Reason {
             text: ArrayString::new(),
+        }
+    }
+
+    /// What stands where something else is expected, by its column, from 1. Of two spaces the second one
+    /// stands there.
+    pub fn of_misfit(line: &[u8], misfit: &Misfit) -> Reason {
+        let mut reason = Reason::new();
+        let left = misfit.left.unwrap_or(0).min(line.len());
+        let rest = &line[line.len() - left..];
+        let column = (line.len() - left).saturating_add(1);
+        reason.put(format_args!(", column {column}: "));
+        if rest.is_empty() {
+            reason.put("the line ends");
+        } else {
+            reason.put_word(cut(rest).0);
+        }
+        reason.put_expected(misfit.expected);
+        reason
+    }
+
+    /// Adds a word in quotes, a space for an empty one.
+    fn put_word(&mut self, word: &[u8]) {
+        if word.is_empty() {
+            self.put("' '");
+        } else {
+            let word = Shown::first(word);
+            self.put(format_args!("'{word}'"));
+        }
+    }
+
+    /// Adds what is expected, and which values it has.
+    pub fn put_expected(&mut self, expected: Expected) {
+        match expected {
+            Expected::Named(name) => self.put(format_args!(" where {name} is expected")),
+            Expected::Of(name, values) => {
+                self.put(format_args!(" where {name} is expected ({values})"));
+            }
+            Expected::Between(name, least, most) => {
+                self.put(format_args!(" where {name} is expected ({least} to {most})"));
+            }
+            Expected::Multiple(name, least, most, unit) => {
+                self.put(format_args!(
+                    " where {name} is expected ({least} to {most}, a multiple of {unit})"
+                ));
+            }
         }
     }
 

@@ -20,7 +20,8 @@ fn copy_of_data(bytes: &ArrayVec<u8, MAX_PAYLOAD>) -> ArrayVec<u8, MAX_PAYLOAD>
     copy
 }
 
-fn copy_of_reply(reply: &Reply) -> Reply
+/// The same reply.
+pub fn copy_of_reply(reply: &Reply) -> Reply
     ensures { result ≡ reply.now }
 {
     match reply {

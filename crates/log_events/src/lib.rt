@@ -9,5 +9,5 @@ mod counts;
 mod events;
 mod form;
 
-pub use events::events_of;
+pub use events::{copy_of_reply, events_of};
 pub use form::{Form, form_of};

@@ -7,7 +7,7 @@ use Rattle.history_check.specs.Observation.{Observation}
 use Rattle.trace_format.specs.declared.fault.ReadFault.{ReadFault}
 use Rattle.trace_format.specs.declared.fault.ReadFaultKind.{ReadFaultKind}
 use Rattle.trace_format.specs.declared.fault.ReadFaultKind.TheVariants as faults
-use Rattle.trace_format.specs.Lines.{is_skipped}
+use Rattle.operation_text.specs.Words.{is_skipped}
 use Rattle.trace_format.specs.Reading as traces
 use Rattle.log_text.specs.declared.line.LogLine.{LogLine}
 use Rattle.log_text.specs.declared.line.LogLine.TheVariants as lines

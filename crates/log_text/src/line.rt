@@ -5,8 +5,14 @@ ghost use Rattle.trace_format.specs.Forms as fields;
 ghost use Rattle.log_text.specs.Forms as forms;
 
 use history_check::Record;
-use operation_text::{alone, cut, number, op_behind, reply_behind};
+use operation_text::{
+    BASE, BLOCK, Expected, SIZE, alone, cut, number, op_behind, reply_behind,
+};
 use seq_memory::{is_base, is_size};
+
+const REQUESTER: Expected = Expected::Between("a requester", 1, 7);
+
+const NUMBER: Expected = Expected::Between("a request's number", 0, 4_294_967_294);
 
 /// What a line of a log says.
 #[derive(Drop)]
@@ -20,7 +26,7 @@ pub(crate) enum LogLine {
 fn requester(rest: Option<&[u8]>) -> Option<(u8, Option<&[u8]>)>
     ensures { first_field fields.requester (words_behind rest.entry) ≡ option_map (λ s. (s.0, words_behind s.1)) result }
 {
-    let (requester, rest) = number(rest, 10, 7)?;
+    let (requester, rest) = number(rest, 10, 7, REQUESTER).ok()?;
     if requester == 0 {
         return None;
     }
@@ -31,20 +37,20 @@ fn requester(rest: Option<&[u8]>) -> Option<(u8, Option<&[u8]>)>
 fn request(rest: Option<&[u8]>) -> Option<(u32, Option<&[u8]>)>
     ensures { first_field fields.number (words_behind rest.entry) ≡ option_map (λ s. (s.0, words_behind s.1)) result }
 {
-    let (request, rest) = number(rest, 10, 4_294_967_294)?;
+    let (request, rest) = number(rest, 10, 4_294_967_294, NUMBER).ok()?;
     Some((request as u32, rest))
 }
 
 fn count(rest: Option<&[u8]>) -> Option<(u64, Option<&[u8]>)>
     ensures { first_field fields.count (words_behind rest.entry) ≡ option_map (λ s. (s.0, words_behind s.1)) result }
 {
-    number(rest, 10, u64::MAX)
+    number(rest, 10, u64::MAX, SIZE).ok()
 }
 
 fn block(rest: Option<&[u8]>) -> Option<(u16, Option<&[u8]>)>
     ensures { first_field fields.block (words_behind rest.entry) ≡ option_map (λ s. (s.0, words_behind s.1)) result }
 {
-    let (block, rest) = number(rest, 10, 128)?;
+    let (block, rest) = number(rest, 10, 128, BLOCK).ok()?;
     if block == 64 || block == 128 {
         return Some((block as u16, rest));
     }
@@ -56,7 +62,7 @@ fn memory_within(base: u64, size: usize, block: u16, rest: Option<&[u8]>) -> Opt
     ensures { result ≡ forms.memory_within base size block (words_behind rest.entry) }
 {
     if is_size(size) && is_base(base, size) {
-        alone(LogLine::Memory { base, size, block }, rest)
+        alone(LogLine::Memory { base, size, block }, rest).ok()
     } else {
         None
     }
@@ -65,7 +71,7 @@ fn memory_within(base: u64, size: usize, block: u16, rest: Option<&[u8]>) -> Opt
 fn memory(rest: Option<&[u8]>) -> Option<LogLine>
     ensures { result ≡ forms.memory_of (words_behind rest.entry) }
 {
-    let (base, rest) = number(rest, 16, u64::MAX)?;
+    let (base, rest) = number(rest, 16, u64::MAX, BASE).ok()?;
     let (size, rest) = count(rest)?;
     let size = size as usize;
     let (block, rest) = block(rest)?;
@@ -77,7 +83,7 @@ fn sub(rest: Option<&[u8]>) -> Option<LogLine>
 {
     let (requester, rest) = requester(rest)?;
     let (number, rest) = request(rest)?;
-    let op = op_behind(rest)?;
+    let op = op_behind(rest).ok()?;
     Some(LogLine::Record(Record::Sub {
         requester,
         number,
@@ -91,7 +97,7 @@ fn ans(rest: Option<&[u8]>) -> Option<LogLine>
 {
     let (requester, rest) = requester(rest)?;
     let (number, rest) = request(rest)?;
-    let reply = reply_behind(rest)?;
+    let reply = reply_behind(rest).ok()?;
     Some(LogLine::Record(Record::Ans {
         requester,
         number,
@@ -111,7 +117,7 @@ fn line_by(kind: &[u8], rest: Option<&[u8]>) -> Option<LogLine>
     } else if kind == b"memory".as_slice() {
         memory(rest)
     } else if kind == b"end".as_slice() {
-        alone(LogLine::End, rest)
+        alone(LogLine::End, rest).ok()
     } else {
         None
     }

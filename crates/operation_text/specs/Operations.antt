@@ -1,5 +1,5 @@
 -- The text of operations and replies.
-use Rattle.std.specs.Prelude.{ℕ, ◌==◌, if◌then◌else◌, List, [], ◌∷◌, Option, None, codes, bytes_eq}
+use Rattle.std.specs.Prelude.{ℕ, ◌≡◌, ◌==◌, if◌then◌else◌, List, [], ◌∷◌, Option, Some, None, codes, bytes_eq}
 use Rattle.tlp_core.specs.declared.operation.Op.{Op}
 use Rattle.tlp_core.specs.declared.operation.Op.TheVariants as ops
 use Rattle.tlp_core.specs.declared.operation.Width.{Width}
@@ -68,3 +68,11 @@ reply_by kind ws =
 abbrev pub reply_spelled : List (List ℕ) → Option Reply
 reply_spelled [] = None
 reply_spelled (kind ∷ ws) = reply_by kind ws
+
+-- some words spell the operation
+abbrev pub IsSpelledOp : Op → Type 0
+IsSpelledOp op = (words : List (List ℕ)) × (op_spelled words ≡ Some op)
+
+-- some words spell the reply
+abbrev pub IsSpelledReply : Reply → Type 0
+IsSpelledReply reply = (words : List (List ℕ)) × (reply_spelled words ≡ Some reply)

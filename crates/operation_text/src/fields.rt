@@ -1,10 +1,12 @@
 //! The fields of a line.
-ghost use Rattle.std.specs.Prelude.{◌≡◌, ◌≤◌, ◌<◌, [], ◌∷◌, MatchOption, SomeIff, IfSome, option_map};
+ghost use Rattle.std.specs.Prelude.{◌≡◌, ◌≤◌, ◌<◌, [], ◌∷◌, MatchOption, SomeIff, IfSome, IfOk, option_map};
+ghost use Rattle.std.specs.Result.{result_ok};
 ghost use Rattle.std.specs.Char.{digit_value};
 ghost use Rattle.operation_text.specs.Words.{words, words_behind, first_field, has_ended, ended};
 ghost use Rattle.operation_text.specs.Numbers.{numeral, numeral_after, byte_string, operand_of};
 ghost use Rattle.operation_text.specs.Operations as spelled;
 
+use crate::misfit::{Expected, LINE_END, Misfit};
 use arrayvec::ArrayVec;
 use byteorder::{ByteOrder, LittleEndian};
 use tlp_core::{MAX_PAYLOAD, Width};
@@ -40,10 +42,14 @@ pub fn is_ended(rest: Option<&[u8]>) -> bool
 }
 
 /// The value, if the line ends here.
-pub fn alone<T: Drop>(value: T, rest: Option<&[u8]>) -> Option<T>
-    ensures { result ≡ ended value (words_behind rest.entry) }
+pub fn alone<T: Drop>(value: T, rest: Option<&[u8]>) -> Result<T, Misfit>
+    ensures { result_ok result ≡ ended value (words_behind rest.entry) }
 {
-    if is_ended(rest) { Some(value) } else { None }
+    if is_ended(rest) {
+        Ok(value)
+    } else {
+        Err(LINE_END.before(rest))
+    }
 }
 
 /// The digit's value.
@@ -113,31 +119,51 @@ fn operand_in(bytes: &[u8]) -> Option<(Width, u128)>
     }
 }
 
+/// The next word, and what is behind it. `rest` is what [`cut`] left.
+pub fn word(rest: Option<&[u8]>, expected: Expected) -> Result<(&[u8], Option<&[u8]>), Misfit>
+    ensures { MatchOption (result_ok result) (words_behind rest.entry ≡ []) (λ s. words_behind rest.entry ≡ s.0.now ∷ words_behind s.1) }
+{
+    next_word(rest).ok_or(expected.at(rest))
+}
+
 /// The number that the next word spells in that radix, of at most `most` and without leading zeros,
 /// and what is behind it. `rest` is what [`cut`] left.
-pub fn number(rest: Option<&[u8]>, radix: u32, most: u64) -> Option<(u64, Option<&[u8]>)>
+pub fn number(
+    rest: Option<&[u8]>,
+    radix: u32,
+    most: u64,
+    expected: Expected,
+) -> Result<(u64, Option<&[u8]>), Misfit>
     requires low { 2 ≤ radix }
     requires high { radix ≤ 36 }
-    ensures field { first_field (numeral radix most) (words_behind rest.entry) ≡ option_map (λ s. (s.0, words_behind s.1)) result }
-    ensures range { IfSome result (λ s. s.0 ≤ most) }
+    ensures field { first_field (numeral radix most) (words_behind rest.entry) ≡ option_map (λ s. (s.0, words_behind s.1)) (result_ok result) }
+    ensures range { IfOk result (λ s. s.0 ≤ most) }
 {
-    let (word, rest) = next_word(rest)?;
-    Some((number_in(word, radix, most)?, rest))
+    let (word, behind) = word(rest, expected)?;
+    let number = number_in(word, radix, most).ok_or(expected.at(rest))?;
+    Ok((number, behind))
 }
 
 /// The bytes that the next word spells.
-pub(crate) fn bytes(rest: Option<&[u8]>) -> Option<(ArrayVec<u8, MAX_PAYLOAD>, Option<&[u8]>)>
-    ensures { first_field byte_string (words_behind rest.entry) ≡ option_map (λ s. (s.0.items, words_behind s.1)) result }
+pub(crate) fn bytes(
+    rest: Option<&[u8]>,
+    expected: Expected,
+) -> Result<(ArrayVec<u8, MAX_PAYLOAD>, Option<&[u8]>), Misfit>
+    ensures { first_field byte_string (words_behind rest.entry) ≡ option_map (λ s. (s.0.items, words_behind s.1)) (result_ok result) }
 {
-    let (word, rest) = next_word(rest)?;
-    Some((bytes_in(word)?, rest))
+    let (word, behind) = word(rest, expected)?;
+    let bytes = bytes_in(word).ok_or(expected.at(rest))?;
+    Ok((bytes, behind))
 }
 
 /// The operand that the next word spells.
-pub(crate) fn operand(rest: Option<&[u8]>) -> Option<(Width, u128, Option<&[u8]>)>
-    ensures { first_field spelled.operand (words_behind rest.entry) ≡ option_map (λ s. ((s.0, s.1), words_behind s.2)) result }
+pub(crate) fn operand(
+    rest: Option<&[u8]>,
+    expected: Expected,
+) -> Result<(Width, u128, Option<&[u8]>), Misfit>
+    ensures { first_field spelled.operand (words_behind rest.entry) ≡ option_map (λ s. ((s.0, s.1), words_behind s.2)) (result_ok result) }
 {
-    let (word, rest) = next_word(rest)?;
-    let (width, operand) = operand_in(&bytes_in(word)?)?;
-    Some((width, operand, rest))
+    let (bytes, behind) = bytes(rest, expected)?;
+    let (width, operand) = operand_in(&bytes).ok_or(expected.at(rest))?;
+    Ok((width, operand, behind))
 }

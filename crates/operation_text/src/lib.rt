@@ -17,13 +17,15 @@
 
 mod fields;
 mod laws;
+mod misfit;
 mod operations;
 mod replies;
 mod writing;
 
-pub use fields::{alone, bytes_in, cut, is_ended, next_word, number};
+pub use fields::{alone, bytes_in, cut, is_ended, next_word, number, word};
 pub use laws::{own_digits_spell_number, own_text_spells_operation, own_text_spells_reply};
-pub use operations::{op_behind, read_op};
+pub use misfit::{BASE, BLOCK, BYTES, Expected, LINE_END, Misfit, SIZE};
+pub use operations::{OPERATION, op_behind, read_op};
 pub use replies::{read_reply, reply_behind};
 pub use writing::{
     write_bytes, write_decimal, write_hexadecimal, write_octet, write_op, write_reply,

@@ -1,121 +1,134 @@
 //! The text of operations.
 ghost use Rattle.std.specs.Prelude.{◌≡◌, option_map};
+ghost use Rattle.std.specs.Result.{result_ok};
 ghost use Rattle.operation_text.specs.Words.{words, words_behind, first_field};
 ghost use Rattle.operation_text.specs.Operations as spelled;
 
-use crate::fields::{bytes, cut, is_ended, number, operand};
+use crate::fields::{alone, bytes, cut, number, operand};
+use crate::misfit::{BYTES, Expected, Misfit};
 use tlp_core::Op;
 
+/// An operation, by its first word.
+pub const OPERATION: Expected = Expected::Of("an operation", "read, write, add, swap, cas");
+
+const ADDRESS: Expected = Expected::Of(
+    "an address",
+    "hexadecimal, 0 to FFFFFFFFFFFFFFFF, without leading zeros",
+);
+
+const DW: Expected = Expected::Between("a number of DW", 1, 1024);
+
+const FIRST: Expected = Expected::Of("the First DW BE", "0 to F");
+
+const LAST: Expected = Expected::Of("the Last DW BE", "0 to F");
+
+const OPERAND: Expected = Expected::Of(
+    "an operand",
+    "two hexadecimal digits a byte, 4, 8 or 16 bytes",
+);
+
+const SWAP_OPERAND: Expected = Expected::Of("an operand", "of as many bytes as the compare value");
+
 /// The address that the next word spells.
-fn address(rest: Option<&[u8]>) -> Option<(u64, Option<&[u8]>)>
-    ensures { first_field spelled.address (words_behind rest.entry) ≡ option_map (λ s. (s.0, words_behind s.1)) result }
+fn address(rest: Option<&[u8]>) -> Result<(u64, Option<&[u8]>), Misfit>
+    ensures { first_field spelled.address (words_behind rest.entry) ≡ option_map (λ s. (s.0, words_behind s.1)) (result_ok result) }
 {
-    number(rest, 16, u64::MAX)
+    number(rest, 16, u64::MAX, ADDRESS)
 }
 
-fn count(rest: Option<&[u8]>) -> Option<(u16, Option<&[u8]>)>
-    ensures { first_field spelled.count (words_behind rest.entry) ≡ option_map (λ s. (s.0, words_behind s.1)) result }
+fn count(rest: Option<&[u8]>) -> Result<(u16, Option<&[u8]>), Misfit>
+    ensures { first_field spelled.count (words_behind rest.entry) ≡ option_map (λ s. (s.0, words_behind s.1)) (result_ok result) }
 {
-    let (dw, rest) = number(rest, 10, 65535)?;
-    Some((dw as u16, rest))
+    let (dw, rest) = number(rest, 10, 65535, DW)?;
+    Ok((dw as u16, rest))
 }
 
-fn enables(rest: Option<&[u8]>) -> Option<(u8, Option<&[u8]>)>
-    ensures { first_field spelled.enables (words_behind rest.entry) ≡ option_map (λ s. (s.0, words_behind s.1)) result }
+fn enables(rest: Option<&[u8]>, expected: Expected) -> Result<(u8, Option<&[u8]>), Misfit>
+    ensures { first_field spelled.enables (words_behind rest.entry) ≡ option_map (λ s. (s.0, words_behind s.1)) (result_ok result) }
 {
-    let (enables, rest) = number(rest, 16, 15)?;
-    Some((enables as u8, rest))
+    let (enables, rest) = number(rest, 16, 15, expected)?;
+    Ok((enables as u8, rest))
 }
 
-fn read(rest: Option<&[u8]>) -> Option<Op>
-    ensures { result ≡ spelled.read_of (words_behind rest.entry) }
+fn read(rest: Option<&[u8]>) -> Result<Op, Misfit>
+    ensures { result_ok result ≡ spelled.read_of (words_behind rest.entry) }
 {
     let (address, rest) = address(rest)?;
     let (dw, rest) = count(rest)?;
-    let (first, rest) = enables(rest)?;
-    let (last, rest) = enables(rest)?;
-    if !is_ended(rest) {
-        return None;
-    }
-    Some(Op::Read {
+    let (first, rest) = enables(rest, FIRST)?;
+    let (last, rest) = enables(rest, LAST)?;
+    let op = Op::Read {
         address,
         dw,
         first,
         last,
-    })
+    };
+    alone(op, rest)
 }
 
-fn write(rest: Option<&[u8]>) -> Option<Op>
-    ensures { result ≡ spelled.write_of (words_behind rest.entry) }
+fn write(rest: Option<&[u8]>) -> Result<Op, Misfit>
+    ensures { result_ok result ≡ spelled.write_of (words_behind rest.entry) }
 {
     let (address, rest) = address(rest)?;
-    let (first, rest) = enables(rest)?;
-    let (last, rest) = enables(rest)?;
-    let (bytes, rest) = bytes(rest)?;
-    if !is_ended(rest) {
-        return None;
-    }
-    Some(Op::Write {
+    let (first, rest) = enables(rest, FIRST)?;
+    let (last, rest) = enables(rest, LAST)?;
+    let (bytes, rest) = bytes(rest, BYTES)?;
+    let op = Op::Write {
         address,
         first,
         last,
         bytes,
-    })
+    };
+    alone(op, rest)
 }
 
-fn add(rest: Option<&[u8]>) -> Option<Op>
-    ensures { result ≡ spelled.add_of (words_behind rest.entry) }
+fn add(rest: Option<&[u8]>) -> Result<Op, Misfit>
+    ensures { result_ok result ≡ spelled.add_of (words_behind rest.entry) }
 {
     let (address, rest) = address(rest)?;
-    let (width, operand, rest) = operand(rest)?;
-    if !is_ended(rest) {
-        return None;
-    }
-    Some(Op::FetchAdd {
+    let (width, operand, rest) = operand(rest, OPERAND)?;
+    let op = Op::FetchAdd {
         address,
         width,
         operand,
-    })
+    };
+    alone(op, rest)
 }
 
-fn swap(rest: Option<&[u8]>) -> Option<Op>
-    ensures { result ≡ spelled.swap_of (words_behind rest.entry) }
+fn swap(rest: Option<&[u8]>) -> Result<Op, Misfit>
+    ensures { result_ok result ≡ spelled.swap_of (words_behind rest.entry) }
 {
     let (address, rest) = address(rest)?;
-    let (width, operand, rest) = operand(rest)?;
-    if !is_ended(rest) {
-        return None;
-    }
-    Some(Op::Swap {
+    let (width, operand, rest) = operand(rest, OPERAND)?;
+    let op = Op::Swap {
         address,
         width,
         operand,
-    })
+    };
+    alone(op, rest)
 }
 
-fn cas(rest: Option<&[u8]>) -> Option<Op>
-    ensures { result ≡ spelled.cas_of (words_behind rest.entry) }
+fn cas(rest: Option<&[u8]>) -> Result<Op, Misfit>
+    ensures { result_ok result ≡ spelled.cas_of (words_behind rest.entry) }
 {
     let (address, rest) = address(rest)?;
-    let (width, compare, rest) = operand(rest)?;
-    let (other, swap, rest) = operand(rest)?;
+    let (width, compare, rest) = operand(rest, OPERAND)?;
+    let (other, swap, behind) = operand(rest, SWAP_OPERAND)?;
     if width.size() != other.size() {
-        return None;
+        return Err(SWAP_OPERAND.at(rest));
     }
-    if !is_ended(rest) {
-        return None;
-    }
-    Some(Op::Cas {
+    let cas = Op::Cas {
         address,
         width,
         compare,
         swap,
-    })
+    };
+    alone(cas, behind)
 }
 
 /// The operation of that kind that the rest of a line spells.
-pub(crate) fn op_by(kind: &[u8], rest: Option<&[u8]>) -> Option<Op>
-    ensures { result ≡ spelled.op_by kind.now (words_behind rest.entry) }
+fn op_by(kind: &[u8], rest: Option<&[u8]>, text: &[u8]) -> Result<Op, Misfit>
+    ensures { result_ok result ≡ spelled.op_by kind.now (words_behind rest.entry) }
 {
     if kind == b"read".as_slice() {
         read(rest)
@@ -128,22 +141,25 @@ pub(crate) fn op_by(kind: &[u8], rest: Option<&[u8]>) -> Option<Op>
     } else if kind == b"cas".as_slice() {
         cas(rest)
     } else {
-        None
+        Err(OPERATION.at(Some(text)))
     }
 }
 
 /// The operation that the text spells.
-pub fn read_op(text: &[u8]) -> Option<Op>
-    ensures { result ≡ spelled.op_spelled (words text.now) }
+pub fn read_op(text: &[u8]) -> Result<Op, Misfit>
+    ensures { result_ok result ≡ spelled.op_spelled (words text.now) }
 {
     let (kind, rest) = cut(text);
-    op_by(kind, rest)
+    op_by(kind, rest, text)
 }
 
 /// The operation that the rest of a line spells, none where there is no rest. `rest` is what
 /// [`cut`] left.
-pub fn op_behind(rest: Option<&[u8]>) -> Option<Op>
-    ensures { result ≡ spelled.op_spelled (words_behind rest.entry) }
+pub fn op_behind(rest: Option<&[u8]>) -> Result<Op, Misfit>
+    ensures { result_ok result ≡ spelled.op_spelled (words_behind rest.entry) }
 {
-    read_op(rest?)
+    match rest {
+        Some(text) => read_op(text),
+        None => Err(OPERATION.at(rest)),
+    }
 }

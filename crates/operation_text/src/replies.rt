@@ -1,21 +1,26 @@
 //! The text of replies.
 ghost use Rattle.std.specs.Prelude.{◌≡◌};
+ghost use Rattle.std.specs.Result.{result_ok};
 ghost use Rattle.operation_text.specs.Words.{words, words_behind};
 ghost use Rattle.operation_text.specs.Operations as spelled;
 
 use crate::fields::{alone, bytes, cut};
+use crate::misfit::{BYTES, Expected, Misfit};
 use seq_memory::Reply;
 
-fn data(rest: Option<&[u8]>) -> Option<Reply>
-    ensures { result ≡ spelled.data_of (words_behind rest.entry) }
+/// A reply, by its first word.
+const REPLY: Expected = Expected::Of("a reply", "data, ur, ca");
+
+fn data(rest: Option<&[u8]>) -> Result<Reply, Misfit>
+    ensures { result_ok result ≡ spelled.data_of (words_behind rest.entry) }
 {
-    let (bytes, rest) = bytes(rest)?;
+    let (bytes, rest) = bytes(rest, BYTES)?;
     alone(Reply::Data(bytes), rest)
 }
 
 /// The reply of that kind that the rest of a line spells.
-pub(crate) fn reply_by(kind: &[u8], rest: Option<&[u8]>) -> Option<Reply>
-    ensures { result ≡ spelled.reply_by kind.now (words_behind rest.entry) }
+fn reply_by(kind: &[u8], rest: Option<&[u8]>, text: &[u8]) -> Result<Reply, Misfit>
+    ensures { result_ok result ≡ spelled.reply_by kind.now (words_behind rest.entry) }
 {
     if kind == b"data".as_slice() {
         data(rest)
@@ -24,22 +29,25 @@ pub(crate) fn reply_by(kind: &[u8], rest: Option<&[u8]>) -> Option<Reply>
     } else if kind == b"ca".as_slice() {
         alone(Reply::Aborted, rest)
     } else {
-        None
+        Err(REPLY.at(Some(text)))
     }
 }
 
 /// The reply that the text spells.
-pub fn read_reply(text: &[u8]) -> Option<Reply>
-    ensures { result ≡ spelled.reply_spelled (words text.now) }
+pub fn read_reply(text: &[u8]) -> Result<Reply, Misfit>
+    ensures { result_ok result ≡ spelled.reply_spelled (words text.now) }
 {
     let (kind, rest) = cut(text);
-    reply_by(kind, rest)
+    reply_by(kind, rest, text)
 }
 
 /// The reply that the rest of a line spells, none where there is no rest. `rest` is what [`cut`]
 /// left.
-pub fn reply_behind(rest: Option<&[u8]>) -> Option<Reply>
-    ensures { result ≡ spelled.reply_spelled (words_behind rest.entry) }
+pub fn reply_behind(rest: Option<&[u8]>) -> Result<Reply, Misfit>
+    ensures { result_ok result ≡ spelled.reply_spelled (words_behind rest.entry) }
 {
-    read_reply(rest?)
+    match rest {
+        Some(text) => read_reply(text),
+        None => Err(REPLY.at(rest)),
+    }
 }

@@ -9,6 +9,7 @@
 mod decoder;
 mod encoder;
 mod laws;
+mod reasoned;
 mod telling;
 
 pub use decoder::run_decode;

@@ -2,7 +2,7 @@
 use crate::rows::{Row, all_right};
 use arrayvec::ArrayString;
 use operation_text::{
-    cut, is_ended, number, op_behind, own_digits_spell_number, own_text_spells_operation,
+    LINE_END, cut, is_ended, number, op_behind, own_digits_spell_number, own_text_spells_operation,
     own_text_spells_reply, read_op, read_reply, reply_behind, write_op, write_reply,
 };
 use seq_memory::Reply;
@@ -43,7 +43,7 @@ struct Spells(&'static str, Access);
 
 impl Row for Spells {
     fn is_right(&self) -> bool {
-        read_op(self.0.as_bytes()) == Some(op_of(self.1))
+        read_op(self.0.as_bytes()) == Ok(op_of(self.1))
     }
 }
 
@@ -62,8 +62,8 @@ struct Touches(&'static str, u64, u32);
 impl Row for Touches {
     fn is_right(&self) -> bool {
         match read_op(self.0.as_bytes()) {
-            Some(op) => op.address() == self.1 && op.size() == self.2,
-            None => false,
+            Ok(op) => op.address() == self.1 && op.size() == self.2,
+            Err(_) => false,
         }
     }
 }
@@ -83,7 +83,7 @@ struct NoOp(&'static str);
 
 impl Row for NoOp {
     fn is_right(&self) -> bool {
-        read_op(self.0.as_bytes()).is_none()
+        read_op(self.0.as_bytes()).is_err()
     }
 }
 
@@ -134,7 +134,7 @@ struct ReplyText(&'static str, Want);
 
 impl Row for ReplyText {
     fn is_right(&self) -> bool {
-        is_wanted(&read_reply(self.0.as_bytes()), self.1)
+        is_wanted(&read_reply(self.0.as_bytes()).ok(), self.1)
     }
 }
 
@@ -163,8 +163,8 @@ struct Writes(&'static str, &'static str);
 impl Row for Writes {
     fn is_right(&self) -> bool {
         match read_op(self.0.as_bytes()) {
-            Some(op) => is_op_text(&op, self.1),
-            None => false,
+            Ok(op) => is_op_text(&op, self.1),
+            Err(_) => false,
         }
     }
 }
@@ -205,8 +205,8 @@ struct Answers(&'static str, &'static str);
 impl Row for Answers {
     fn is_right(&self) -> bool {
         match read_reply(self.0.as_bytes()) {
-            Some(reply) => is_reply_text(&reply, self.1),
-            None => false,
+            Ok(reply) => is_reply_text(&reply, self.1),
+            Err(_) => false,
         }
     }
 }
@@ -226,21 +226,21 @@ fn written_replies(rt: HostRuntime) {
 /// Whether a line is cut into its first word and a last number.
 fn is_cut() -> bool {
     let (word, rest) = cut(b"sub 7");
-    match number(rest, 10, 255) {
-        Some((requester, rest)) => word == b"sub".as_slice() && requester == 7 && is_ended(rest),
-        None => false,
+    match number(rest, 10, 255, LINE_END) {
+        Ok((requester, rest)) => word == b"sub".as_slice() && requester == 7 && is_ended(rest),
+        Err(_) => false,
     }
 }
 
 /// Whether what stands behind something is read as an operation.
 fn ops_behind() -> bool {
     let read = op_behind(Some(b"read 0 1 F 0"));
-    read == read_op(b"read 0 1 F 0") && op_behind(Some(b"xread 0 1 F 0")).is_none()
+    read == read_op(b"read 0 1 F 0") && op_behind(Some(b"xread 0 1 F 0")).is_err()
 }
 
 /// Whether what stands behind something is read as a reply.
 fn replies_behind() -> bool {
-    is_wanted(&reply_behind(Some(b"ca")), Want::Aborted) && reply_behind(None).is_none()
+    is_wanted(&reply_behind(Some(b"ca")).ok(), Want::Aborted) && reply_behind(None).is_err()
 }
 
 #[test]

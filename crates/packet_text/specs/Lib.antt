@@ -2,3 +2,4 @@ pub mod Packets
 pub mod Texts
 pub mod Forms
 pub mod Lines
+pub mod Faults

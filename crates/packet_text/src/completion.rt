@@ -1,14 +1,23 @@
 //! The text of completions.
-ghost use Rattle.std.specs.Prelude.{◌≡◌, ◌<◌, ◌≤◌, ◌%◌, None, IfSome, option_map, length};
+ghost use Rattle.std.specs.Prelude.{◌≡◌, ◌<◌, ◌≤◌, ◌%◌, None, IfOk, option_map, length};
+ghost use Rattle.std.specs.Result.{result_ok};
 ghost use Rattle.operation_text.specs.Words.{words_behind};
 ghost use Rattle.packet_text.specs.Forms as forms;
 
 use crate::fields::{byte_count, id, keyword, lower, status};
 use crate::origin::{id_and_tag, origin_with};
 use arrayvec::ArrayVec;
-use operation_text::{bytes_in, next_word};
+use operation_text::{BYTES, Expected, Misfit, bytes_in, word};
 use requester_core::Origin;
 use tlp_core::{Body, Kind, MAX_PAYLOAD, Status, Tlp, TlpFault};
+
+const TO: Expected = Expected::Named("'to'");
+
+const BY: Expected = Expected::Named("'by'");
+
+const COUNT_WORD: Expected = Expected::Named("'count'");
+
+const LOWER_WORD: Expected = Expected::Named("'lower'");
 
 /// Completer ID, Byte Count and Lower Address.
 #[derive(Clone, Copy, Debug, PartialEq, Eq)]
@@ -24,35 +33,35 @@ pub(crate) struct Completer {
 type Data = Option<ArrayVec<u8, MAX_PAYLOAD>>;
 
 /// The bytes of data, if they are there, and what is behind the word `to`.
-fn data_to(rest: Option<&[u8]>) -> Option<(Data, Option<&[u8]>)>
-    ensures { forms.data_to (words_behind rest.entry) ≡ option_map (λ s. (option_map (λ b. b.items) s.0, words_behind s.1)) result }
+fn data_to(rest: Option<&[u8]>) -> Result<(Data, Option<&[u8]>), Misfit>
+    ensures { forms.data_to (words_behind rest.entry) ≡ option_map (λ s. (option_map (λ b. b.items) s.0, words_behind s.1)) (result_ok result) }
 {
-    let (word, rest) = next_word(rest)?;
+    let (word, behind) = word(rest, BYTES)?;
     if word == b"to".as_slice() {
-        return Some((None, rest));
+        return Ok((None, behind));
     }
-    let bytes = bytes_in(word)?;
-    let rest = keyword(rest, b"to")?;
-    Some((Some(bytes), rest))
+    let bytes = bytes_in(word).ok_or(BYTES.at(rest))?;
+    let rest = keyword(behind, b"to", TO)?;
+    Ok((Some(bytes), rest))
 }
 
-fn completer_of(rest: Option<&[u8]>) -> Option<(Completer, Option<&[u8]>)>
-    ensures value { forms.completer (words_behind rest.entry) ≡ option_map (λ s. (s.0, words_behind s.1)) result }
-    ensures count { IfSome result (λ s. (1 ≤ s.0.byte_count) × (s.0.byte_count ≤ 4096)) }
-    ensures lower { IfSome result (λ s. s.0.lower < 128) }
+fn completer_of(rest: Option<&[u8]>) -> Result<(Completer, Option<&[u8]>), Misfit>
+    ensures value { forms.completer (words_behind rest.entry) ≡ option_map (λ s. (s.0, words_behind s.1)) (result_ok result) }
+    ensures count { IfOk result (λ s. (1 ≤ s.0.byte_count) × (s.0.byte_count ≤ 4096)) }
+    ensures lower { IfOk result (λ s. s.0.lower < 128) }
 {
-    let rest = keyword(rest, b"by")?;
+    let rest = keyword(rest, b"by", BY)?;
     let (completer, rest) = id(rest)?;
-    let rest = keyword(rest, b"count")?;
+    let rest = keyword(rest, b"count", COUNT_WORD)?;
     let (byte_count, rest) = byte_count(rest)?;
-    let rest = keyword(rest, b"lower")?;
+    let rest = keyword(rest, b"lower", LOWER_WORD)?;
     let (lower, rest) = lower(rest)?;
     let completer = Completer {
         completer,
         byte_count,
         lower,
     };
-    Some((completer, rest))
+    Ok((completer, rest))
 }
 
 /// What keeps data from being those of a completion.
@@ -98,21 +107,25 @@ fn completion_with(status: Status, given: Data, completer: Completer, origin: Or
 
 /// The completion with that status and that data that the rest of a line spells, or what keeps it
 /// from being one.
-fn completion_to(status: Status, given: Data, rest: Option<&[u8]>) -> Option<Result<Tlp, TlpFault>>
-    ensures { result ≡ forms.completion_to status (option_map (λ b. b.items) given) (words_behind rest.entry) }
+fn completion_to(
+    status: Status,
+    given: Data,
+    rest: Option<&[u8]>,
+) -> Result<Result<Tlp, TlpFault>, Misfit>
+    ensures { result_ok result ≡ forms.completion_to status (option_map (λ b. b.items) given) (words_behind rest.entry) }
 {
     let (requester, tag, rest) = id_and_tag(rest)?;
     let (completer, rest) = completer_of(rest)?;
     let origin = origin_with(requester, tag, rest)?;
     if let Some(fault) = data_fault(&given) {
-        return Some(Err(fault));
+        return Ok(Err(fault));
     }
-    Some(Ok(completion_with(status, given, completer, origin)))
+    Ok(Ok(completion_with(status, given, completer, origin)))
 }
 
 /// The completion that the rest of a line spells, or what keeps it from being one.
-pub(crate) fn completion(rest: Option<&[u8]>) -> Option<Result<Tlp, TlpFault>>
-    ensures { result ≡ forms.completion_of (words_behind rest.entry) }
+pub(crate) fn completion(rest: Option<&[u8]>) -> Result<Result<Tlp, TlpFault>, Misfit>
+    ensures { result_ok result ≡ forms.completion_of (words_behind rest.entry) }
 {
     let (status, rest) = status(rest)?;
     let (given, rest) = data_to(rest)?;

@@ -1,8 +1,10 @@
 //! Why bytes or words are no packet.
 ghost use Rattle.std.specs.Prelude.{◌≡◌};
 ghost use Rattle.packet_text.specs.Texts.{bytes_fault_name, text_fault_name};
+ghost use Rattle.packet_text.specs.Faults.{fault_of};
 
 use dllp_core::DllpFault;
+use operation_text::Misfit;
 use thiserror::Error;
 use tlp_core::TlpFault;
 
@@ -48,6 +50,27 @@ impl TextFault {
         match self {
             TextFault::Words => "words",
             TextFault::Packet(fault) => fault.name(),
+        }
+    }
+}
+
+/// Why words are no packet, and where.
+#[derive(Clone, Copy, Debug, PartialEq, Eq)]
+pub enum Unread {
+    /// The line has none of the forms: the first word that doesn't fit.
+    Words(Misfit),
+    /// The line has the form of a TLP, of which the grammar has none such.
+    Packet(TlpFault),
+}
+
+impl Unread {
+    /// The fault under which it is told.
+    pub fn fault(self) -> TextFault
+        ensures { result ≡ fault_of self }
+    {
+        match self {
+            Unread::Words(_) => TextFault::Words,
+            Unread::Packet(fault) => TextFault::Packet(fault),
         }
     }
 }

@@ -25,8 +25,8 @@ mod reading;
 mod writing;
 
 pub use bytes::{decode, encode};
-pub use fault::{BytesFault, TextFault};
+pub use fault::{BytesFault, TextFault, Unread};
 pub use laws::own_text_spells_packet;
 pub use packet::Packet;
-pub use reading::read_packet;
+pub use reading::{read_packet, read_words};
 pub use writing::{write_bytes_fault, write_packet, write_text_fault};

@@ -1,20 +1,34 @@
 //! The packet that a line spells.
-ghost use Rattle.std.specs.Prelude.{◌≡◌, ◌<◌, take, codes, bytes_eq, option_map, IfOk, IfSome};
+ghost use Rattle.std.specs.Prelude.{◌≡◌, ◌<◌, take, codes, bytes_eq, option_map, Ok, Err, IfOk, IfErr};
+ghost use Rattle.std.specs.Result.{result_ok};
 ghost use Rattle.dllp_core.specs.Layout as dllps;
 ghost use Rattle.operation_text.specs.Words.{words, words_behind};
 ghost use Rattle.packet_text.specs.Packets as packets;
+ghost use Rattle.packet_text.specs.Faults.{fault_of};
 ghost use Rattle.packet_text.specs.Forms as forms;
 
 use crate::completion::completion;
-use crate::fault::TextFault;
+use crate::fault::{TextFault, Unread};
 use crate::fields::{credits, sequence};
 use crate::origin::{id_and_tag, origin_with};
 use crate::packet::Packet;
 use dllp_core::Dllp;
-use operation_text::{alone, cut, number, read_op};
+use operation_text::{Expected, LINE_END, Misfit, OPERATION, alone, cut, number, read_op};
 use requester_core::{Origin, request_with};
 use seq12::Seq12;
 use tlp_core::{Tlp, TlpFault};
+
+/// A packet, by the first word of its line.
+const PACKET: Expected = Expected::Of(
+    "a packet",
+    "read, write, add, swap, cas, completion, ack, nak, update",
+);
+
+const FROM: Expected = Expected::Named("'from'");
+
+const HEADERS: Expected = Expected::Between("HdrFC", 0, 255);
+
+const DATA: Expected = Expected::Between("DataFC", 0, 4095);
 
 /// Whether the line begins with ` from `.
 fn begins(line: &[u8]) -> bool
@@ -38,66 +52,122 @@ fn cut_from(line: &[u8]) -> Option<(&[u8], &[u8])>
 }
 
 /// Whose request it is, by the text behind ` from `.
-fn origin(text: &[u8]) -> Option<Origin>
-    ensures value { result ≡ forms.origin (words text.now) }
-    ensures range { IfSome result (λ o. (o.tc < 8) × (o.attr < 8)) }
+fn origin(text: &[u8]) -> Result<Origin, Misfit>
+    ensures value { result_ok result ≡ forms.origin (words text.now) }
+    ensures range { IfOk result (λ o. (o.tc < 8) × (o.attr < 8)) }
 {
     let (requester, tag, rest) = id_and_tag(Some(text))?;
     origin_with(requester, tag, rest)
 }
 
-/// The request that the line spells, or what keeps it from being one.
-fn request_of(line: &[u8]) -> Option<Result<Tlp, TlpFault>>
-    ensures { result ≡ forms.request_of line.now }
-{
-    let (text, behind) = cut_from(line)?;
-    let op = read_op(text)?;
-    let origin = origin(behind)?;
-    Some(request_with(&op, origin))
+/// The misfit of an operation, in a line that has `behind` bytes more: the operation is a packet's, and
+/// ends before ` from `.
+fn in_request(misfit: Misfit, behind: usize) -> Misfit {
+    let expected = if misfit.expected == LINE_END {
+        FROM
+    } else if misfit.expected == OPERATION {
+        PACKET
+    } else {
+        misfit.expected
+    };
+    let left = match misfit.left {
+        Some(left) => Some(left.saturating_add(behind)),
+        None if behind > 0 => Some(behind - 1),
+        None => None,
+    };
+    Misfit { expected, left }
 }
 
-fn ack(rest: Option<&[u8]>) -> Option<Dllp>
-    ensures value { result ≡ forms.ack_of (words_behind rest.entry) }
-    ensures range { IfSome result dllps.FitsDataFC }
+/// What doesn't fit in a line without ` from `.
+fn without_origin(line: &[u8]) -> Misfit {
+    match read_op(line) {
+        Ok(_) => FROM.at(None),
+        Err(misfit) => in_request(misfit, 0),
+    }
+}
+
+/// The request that the line spells, or what keeps it from being one.
+fn request_of(line: &[u8]) -> Result<Result<Tlp, TlpFault>, Misfit>
+    ensures { result_ok result ≡ forms.request_of line.now }
+{
+    let Some((text, behind)) = cut_from(line) else {
+        return Err(without_origin(line));
+    };
+    match read_op(text) {
+        Ok(op) => {
+            let origin = origin(behind)?;
+            Ok(request_with(&op, origin))
+        }
+        Err(misfit) => Err(in_request(misfit, line.len().saturating_sub(text.len()))),
+    }
+}
+
+fn ack(rest: Option<&[u8]>) -> Result<Dllp, Misfit>
+    ensures value { result_ok result ≡ forms.ack_of (words_behind rest.entry) }
+    ensures range { IfOk result dllps.FitsDataFC }
 {
     let (number, rest) = sequence(rest)?;
     alone(Dllp::Ack(Seq12::new(number)), rest)
 }
 
-fn nak(rest: Option<&[u8]>) -> Option<Dllp>
-    ensures value { result ≡ forms.nak_of (words_behind rest.entry) }
-    ensures range { IfSome result dllps.FitsDataFC }
+fn nak(rest: Option<&[u8]>) -> Result<Dllp, Misfit>
+    ensures value { result_ok result ≡ forms.nak_of (words_behind rest.entry) }
+    ensures range { IfOk result dllps.FitsDataFC }
 {
     let (number, rest) = sequence(rest)?;
     alone(Dllp::Nak(Seq12::new(number)), rest)
 }
 
-fn update(rest: Option<&[u8]>) -> Option<Dllp>
-    ensures value { result ≡ forms.update_of (words_behind rest.entry) }
-    ensures range { IfSome result dllps.FitsDataFC }
+fn update(rest: Option<&[u8]>) -> Result<Dllp, Misfit>
+    ensures value { result_ok result ≡ forms.update_of (words_behind rest.entry) }
+    ensures range { IfOk result dllps.FitsDataFC }
 {
     let (class, rest) = credits(rest)?;
-    let (header, rest) = number(rest, 10, 255)?;
-    let (units, rest) = number(rest, 10, 4095)?;
+    let (header, rest) = number(rest, 10, 255, HEADERS)?;
+    let (units, rest) = number(rest, 10, 4095, DATA)?;
     alone(Dllp::Update(class, header as u8, units as u16), rest)
 }
 
-fn told_dllp(read: Option<Dllp>) -> Result<Packet, TextFault>
-    ensures { result ≡ forms.dllp_read read }
+fn told_dllp(read: &Result<Dllp, Misfit>) -> Result<Packet, Unread>
+    ensures ok { IfOk result (λ p. forms.dllp_read (result_ok read.now) ≡ Ok p) }
+    ensures err { IfErr result (λ e. forms.dllp_read (result_ok read.now) ≡ Err (fault_of e)) }
+    ensures in_range { IfOk read.now dllps.FitsDataFC → IfOk result packets.FitsDataFC }
 {
     match read {
-        None => Err(TextFault::Words),
-        Some(dllp) => Ok(Packet::Dllp(dllp)),
+        Ok(dllp) => Ok(Packet::Dllp(*dllp)),
+        Err(misfit) => Err(Unread::Words(*misfit)),
     }
 }
 
-fn told_tlp(read: Option<Result<Tlp, TlpFault>>) -> Result<Packet, TextFault>
-    ensures { result ≡ forms.tlp_read read }
+fn told_tlp(read: Result<Result<Tlp, TlpFault>, Misfit>) -> Result<Packet, Unread>
+    ensures ok { IfOk result (λ p. forms.tlp_read (result_ok read) ≡ Ok p) }
+    ensures err { IfErr result (λ e. forms.tlp_read (result_ok read) ≡ Err (fault_of e)) }
+    ensures in_range { IfOk result packets.FitsDataFC }
 {
     match read {
-        None => Err(TextFault::Words),
-        Some(Err(fault)) => Err(TextFault::Packet(fault)),
-        Some(Ok(tlp)) => Ok(Packet::Tlp(tlp)),
+        Ok(Ok(tlp)) => Ok(Packet::Tlp(tlp)),
+        Ok(Err(fault)) => Err(Unread::Packet(fault)),
+        Err(misfit) => Err(Unread::Words(misfit)),
+    }
+}
+
+/// The packet that the line spells, or what keeps it from spelling one. Takes no memory.
+pub fn read_words(line: &[u8]) -> Result<Packet, Unread>
+    ensures ok { IfOk result (λ p. forms.text_reading line.now ≡ Ok p) }
+    ensures err { IfErr result (λ e. forms.text_reading line.now ≡ Err (fault_of e)) }
+    ensures in_range { IfOk result packets.FitsDataFC }
+{
+    let (kind, rest) = cut(line);
+    if kind == b"completion".as_slice() {
+        told_tlp(completion(rest))
+    } else if kind == b"ack".as_slice() {
+        told_dllp(&ack(rest))
+    } else if kind == b"nak".as_slice() {
+        told_dllp(&nak(rest))
+    } else if kind == b"update".as_slice() {
+        told_dllp(&update(rest))
+    } else {
+        told_tlp(request_of(line))
     }
 }
 
@@ -107,16 +177,8 @@ pub fn read_packet(line: &[u8]) -> Result<Packet, TextFault>
     ensures value { result ≡ forms.text_reading line.now }
     ensures in_range { IfOk result packets.FitsDataFC }
 {
-    let (kind, rest) = cut(line);
-    if kind == b"completion".as_slice() {
-        told_tlp(completion(rest))
-    } else if kind == b"ack".as_slice() {
-        told_dllp(ack(rest))
-    } else if kind == b"nak".as_slice() {
-        told_dllp(nak(rest))
-    } else if kind == b"update".as_slice() {
-        told_dllp(update(rest))
-    } else {
-        told_tlp(request_of(line))
+    match read_words(line) {
+        Ok(packet) => Ok(packet),
+        Err(unread) => Err(unread.fault()),
     }
 }

@@ -37,7 +37,7 @@ pub fn command<T: Threads + Wait + Sync, S: AsStr, R: Read, W: Write, E: Write +
     ensures refused { AreRefused (fault_of the_app (map S.text words.now))
         → ((result ≡ 1) ⊎ (result ≡ 2)) × (W.contents writer.new ≡ W.contents writer.old) }
 {
-    match on_one_thread(alloc, words, reader, writer, errors) {
+    match on_one_thread(alloc, words, is_terminal, reader, writer, errors) {
         Outcome::Ended(status) => status,
         Outcome::Run { counting, is_told } => {
             let shows = is_told || is_terminal;

@@ -6,7 +6,9 @@ ghost use Rattle.port_monitor.specs.Heads as heads;
 ghost use Rattle.port_monitor.specs.Texts.{head_lines};
 
 use arrayvec::ArrayString;
-use operation_text::{alone, cut, next_word, number, write_decimal, write_hexadecimal};
+use operation_text::{
+    BASE, BLOCK, SIZE, alone, cut, next_word, number, write_decimal, write_hexadecimal,
+};
 
 /// What a monitor is asked to write, a trace or a log, and the memory whose ports it watches.
 #[derive(Clone, Copy, Debug, PartialEq, Eq)]
@@ -28,16 +30,16 @@ fn block(rest: Option<&[u8]>) -> Option<u16>
     if word != b"block".as_slice() {
         return None;
     }
-    let (block, rest) = number(rest, 10, 65535)?;
-    alone(block as u16, rest)
+    let (block, rest) = number(rest, 10, 65535, BLOCK).ok()?;
+    alone(block as u16, rest).ok()
 }
 
 /// The rest of the line.
 fn head_behind(is_trace: bool, rest: Option<&[u8]>) -> Option<Head>
     ensures { result ≡ heads.head_behind is_trace (words_behind rest.entry) }
 {
-    let (base, rest) = number(rest, 16, u64::MAX)?;
-    let (size, rest) = number(rest, 10, u64::MAX)?;
+    let (base, rest) = number(rest, 16, u64::MAX, BASE).ok()?;
+    let (size, rest) = number(rest, 10, u64::MAX, SIZE).ok()?;
     let block = block(rest)?;
     Some(Head {
         is_trace,

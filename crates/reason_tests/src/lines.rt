@@ -52,7 +52,7 @@ fn is_told(alloc: Global, engine: Engine, input: &[u8], want: &str) -> bool {
 }
 
 /// What an engine reads, and what it tells.
-const ROWS: [(Engine, &str, &str); 44] = [
+const ROWS: [(Engine, &str, &str); 49] = [
     (
         Engine::Step,
         "fabric 1 0 4096\ntransmit lanes\n",
@@ -77,6 +77,26 @@ const ROWS: [(Engine, &str, &str); 44] = [
         Engine::Step,
         "fabric 1 0 4096 1 8 1 1 1 8\n",
         "pciex: line 1, column 23: '1' where the number of NP data credits is expected (2 to 2047)\n",
+    ),
+    (
+        Engine::Step,
+        "fabric 1 0 4096 128 8 1 2 1 8\n",
+        "pciex: line 1, column 17: '128' where the number of P header credits is expected (1 to 127)\n",
+    ),
+    (
+        Engine::Step,
+        "fabric 1 0 4096 300 8 1 2 1 8\n",
+        "pciex: line 1, column 17: '300' where the number of P header credits is expected (1 to 127)\n",
+    ),
+    (
+        Engine::Step,
+        "fabric 1 0 4096 0 8 1 2 1 8 x\n",
+        "pciex: line 1, column 29: 'x' where 'block' or the line's end is expected\n",
+    ),
+    (
+        Engine::Step,
+        "fabric 1 0 4096 16 64 16 16 16 64 block 65\n",
+        "pciex: line 1, column 41: '65' where a block is expected (64, 128)\n",
     ),
     (
         Engine::Step,
@@ -237,6 +257,11 @@ const ROWS: [(Engine, &str, &str); 44] = [
         Engine::Encode,
         "add 40 07000000 form 0100 tag 05\n",
         "pciex: line 1, column 17: 'form' where 'from' is expected\n",
+    ),
+    (
+        Engine::Encode,
+        "add 40 from 0100 tag 05\nadd 40 0700 from 0100 tag 05\nadd 40 07000000\n",
+        "pciex: line 1, column 8: 'from' where an operand is expected (two hexadecimal digits a byte, 4, 8 or 16 bytes)\npciex: line 2, column 8: '0700' where an operand is expected (two hexadecimal digits a byte, 4, 8 or 16 bytes)\npciex: line 3, column 16: the line ends where 'from' is expected\n",
     ),
     (
         Engine::Encode,

@@ -5,10 +5,12 @@
 //! what it says is no promise, and where the stream fails, it is lost.
 #![tactic(auto)]
 
+mod due;
 mod flaws;
 pub mod laws;
 mod trace_lines;
 mod traces;
 
+pub use due::DueLine;
 pub use trace_lines::TraceLines;
 pub use traces::TraceReasons;

@@ -3,12 +3,13 @@ ghost use Rattle.std.specs.Prelude.{◌≡◌, length, Some, None, IfErr, OnOk, 
 ghost use Rattle.line_reasons.specs.Told.{IsReasonTold, IsReasonToldAt, IsReasonBegun, IsReasonBegunAt};
 ghost use Rattle.reasons.specs.Told.{first_of, news_of, line_of_flaw};
 
+use crate::due::DueLine;
 use crate::flaws::flaw_reason;
 use crate::trace_lines::TraceLines;
 use flaw_places::is_of_entry;
 use history_check::{Flaw, Trace};
 use line_engine::EngineFault;
-use line_reasons::{DueLine, tell_long_line};
+use line_reasons::tell_long_line;
 use seq_memory::Entry;
 use std::alloc::Global;
 use std::io::Write;

@@ -6,3 +6,4 @@ pub mod Covering
 pub mod Knowing
 pub mod FrameLemmas
 pub mod Readiness
+pub mod OthersOf

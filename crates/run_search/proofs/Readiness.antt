@@ -9,12 +9,13 @@ use Rattle.tlp_core.specs.Operation.{is_posted}
 use Rattle.seq_memory.specs.declared.Reply.{Reply}
 use Rattle.seq_memory.specs.declared.Reply.TheVariants as replies
 use Rattle.history_check.specs.Flaws.{same_reply}
+use Rattle.search_rules.specs.Rules.{Suits}
 use Rattle.log_runs.specs.declared.Event.{Event}
 use Rattle.log_runs.specs.declared.Event.TheVariants as events
 use Rattle.log_runs.specs.Task.{Task}
 use Rattle.log_runs.specs.Runs.{State, has_acted, MayAct, reply_of}
 use Rattle.run_search.specs.Pending.{has, submits, is_done, IsTable, is_write, blocks}
-use Rattle.run_search.specs.Ready.{is_told, is_set, is_ready}
+use Rattle.run_search.specs.Ready.{is_told, is_set, is_ready, suits}
 use Rattle.run_search.proofs.Lists.{clash}
 use Rattle.run_search.proofs.Tables.{done_is, done_from}
 
@@ -143,3 +144,10 @@ module _ (log : Task) (s : State) (p : List ℕ) (t : IsTable log s.event p s.ac
     λ ready. ready_is b (slice_get log.events b) refl (sym h ∙ ready),
     λ m. h ∙ ap (is_ready log s p b) m.submitted ∙ ready_from b m,
   )
+
+-- what the memory suits is found so
+pub suits_is : (log : Task) (m : List ℕ) (o : Option Event) → Suits log.extent m o → suits log m o ≡ true
+suits_is log m (Some (events.Sub i op told)) h = told_from told (reply_of log.extent m op) h
+suits_is log m (Some (events.Due c)) h = refl
+suits_is log m (Some events.Free) h = refl
+suits_is log m None h = refl

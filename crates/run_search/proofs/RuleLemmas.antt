@@ -21,19 +21,11 @@ acted_kept xs b c e = elim (cases_eq b c) [
   | inr other ↦ set_there xs b c true other ∙ e
 ]
 
--- s with q marked
-marked : State → ℕ → State
-marked s q = record { event = s.event; acted = slice_set s.acted q true; bytes = s.bytes }
-
 pub pass_kept : (s : State) (q : ℕ) (m : List ℕ) (o : Option Event) → MayPass s o → MayPass (record { event = s.event; acted = slice_set s.acted q true; bytes = m }) o
 pass_kept s q m (Some (events.Sub i op told)) a = tt
 pass_kept s q m (Some (events.Due b)) a = acted_kept s.acted q b a
 pass_kept s q m (Some events.Free) a = tt
 pass_kept s q m None a = absurd a
-
--- wherever the request may act, it changes nothing
-abbrev pub IsQuiet : Task → ℕ → Type 0
-IsQuiet log q = (s : State) → MayAct log s q → acted_on log.extent s.bytes (slice_get log.events q) ≡ s.bytes
 
 module _ (log : Task) where
   -- a run to the end
@@ -59,55 +51,3 @@ module _ (log : Task) where
 
   pub pass_is_forced : (s : State) → Allowed log s steps.Pass → IsForced log s steps.Pass
   pass_is_forced s a = record { allowed = a; live = λ l. pass_first l.steps s l.last l.leads l.over a }
-
-  -- ---- what changes nothing acts at once
-
-  act_kept : (s : State) (q b : ℕ) → (q ≡ b → ⊥) → MayAct log s b → MayAct log (marked s q) b
-  unfolding marked
-  act_kept s q b other m = record {
-    requester = m.requester;
-    op = m.op;
-    told = m.told;
-    submitted = m.submitted;
-    since = m.since;
-    once = set_there s.acted q b true other ∙ m.once;
-    ordered = λ c w r l at posted. acted_kept s.acted q c (m.ordered c w r l at posted);
-    replied = m.replied;
-  }
-
-  quiet_first : (q : ℕ) → IsQuiet log q → (xs : List Step) (s t : State) → Leads log s xs t → t.event ≡ length log.events → slice_get s.acted q ≡ Some false → Live log (marked s q)
-  unfolding marked
-  quiet_first q quiet [] s t leads over fresh = run (marked s q) (marked s q) [] refl (ap (λ (u : State). u.event) leads ∙ over)
-  quiet_first q quiet (steps.Pass ∷ xs) s t leads over fresh =
-      before (marked s q) steps.Pass (pass_kept s q s.bytes (slice_get log.events s.event) leads.0) (quiet_first q quiet xs (next log s steps.Pass) t leads.1 over fresh)
-  quiet_first q quiet (steps.Act b ∷ xs) s t leads over fresh = elim (cases_eq q b) [
-    | inl same ↦
-        let e : next log s (steps.Act b) ≡ marked s q =
-        subst (λ c. next log s (steps.Act c) ≡ marked s q) same (ap (λ m. record { event = s.event; acted = slice_set s.acted q true; bytes = m }) (quiet s (subst (MayAct log s) (sym same) leads.0))) in
-        subst (Live log) e (run (next log s (steps.Act b)) t xs leads.1 over)
-    | inr other ↦
-        let swapped = set_swap s.acted b q true true (λ e. other (sym e)) in
-        let still = set_there s.acted b q true (λ e. other (sym e)) ∙ fresh in
-        let later = quiet_first q quiet xs (next log s (steps.Act b)) t leads.1 over still in
-        before (marked s q) (steps.Act b) (act_kept s q b other leads.0)
-        (subst (λ a. Live log (record { event = s.event; acted = a; bytes = acted_on log.extent s.bytes (slice_get log.events b) })) swapped later)
-  ]
-
-  pub quiet_is_forced : (s : State) (q : ℕ) → IsQuiet log q → MayAct log s q → IsForced log s (steps.Act q)
-  unfolding marked
-  quiet_is_forced s q quiet a =
-      let e : marked s q ≡ next log s (steps.Act q) = ap (λ m. record { event = s.event; acted = slice_set s.acted q true; bytes = m }) (sym (quiet s a)) in
-      record { allowed = a; live = λ l. subst (Live log) e (quiet_first q quiet l.steps s l.last l.leads l.over a.once) }
-
--- the event submits a read
-abbrev pub IsRead : Task → ℕ → Type 0
-IsRead log q = (i : ℕ) × (a : ℕ) × (d : ℕ) × (f : ℕ) × (l : ℕ) × (told : Option Reply) × (slice_get log.events q ≡ Some (events.Sub i (ops.Read a d f l) told))
-
--- a read is quiet, since reads change nothing
-read_is_quiet : (log : Task) (q : ℕ) → IsRead log q → ((block base a d f l : ℕ) (m : List ℕ) → after block base m (ops.Read a d f l) ≡ m) → IsQuiet log q
-unfolding acted_on bytes_after
-read_is_quiet log q (i, a, d, f, l, told, at) still s m = ap (acted_on log.extent s.bytes) at ∙ still log.extent.block log.extent.base a d f l s.bytes
-
-pub read_is_forced : (log : Task) (s : State) (q : ℕ) → IsRead log q → ((block base a d f l : ℕ) (m : List ℕ) → after block base m (ops.Read a d f l) ≡ m) → MayAct log s q
-    → IsForced log s (steps.Act q)
-read_is_forced log s q r still may = quiet_is_forced log s q (read_is_quiet log q r still) may

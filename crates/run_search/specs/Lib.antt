@@ -3,6 +3,7 @@ pub mod Places
 pub mod Ready
 pub mod Undo
 pub mod Known
+pub mod Spared
 pub mod Offered
 pub mod Frames
 pub mod Outcomes

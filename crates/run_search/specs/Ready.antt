@@ -30,3 +30,10 @@ is_ready log s pending b (Some (events.Sub i op told)) = fits log s pending b i 
 is_ready log s pending b (Some (events.Due c)) = false
 is_ready log s pending b (Some events.Free) = false
 is_ready log s pending b None = false
+
+-- the memory answers what the request at the event was answered, if it was
+abbrev pub suits : Task → List ℕ → Option Event → Bool
+suits log m (Some (events.Sub i op told)) = is_told told (reply_of log.extent m op)
+suits log m (Some (events.Due c)) = true
+suits log m (Some events.Free) = true
+suits log m None = true

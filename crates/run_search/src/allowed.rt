@@ -53,7 +53,7 @@ fn is_free(pending: &[usize], log: &Log, requester: u8, b: usize) -> bool
 }
 
 /// The request was answered so, or not at all.
-fn agrees(told: &Option<Reply>, made: &Reply) -> bool
+pub(crate) fn agrees(told: &Option<Reply>, made: &Reply) -> bool
     ensures { result ≡ is_told told.now made.now }
 {
     match told {

@@ -1,8 +1,9 @@
 //! Whether a run leads through a log to its end.
-ghost use Rattle.std.specs.Prelude.{◌≡◌, ◌≤◌, IfOk};
-ghost use Rattle.run_search.specs.Outcomes.{IsRight};
+ghost use Rattle.std.specs.Prelude.{◌≡◌, ◌≤◌, IfOk, OnOk, IfSome, IfNone, length};
+ghost use Rattle.run_search.specs.Frames.{IsAt};
+ghost use Rattle.run_search.specs.Outcomes.{IsRun, IsRight};
 
-use crate::walk::{advance, begin, settle, steps_of};
+use crate::walk::{Walk, advance, begin, settle, steps_of};
 use log_runs::{Log, Step};
 use std::alloc::{AllocError, Global};
 
@@ -17,6 +18,21 @@ pub enum Outcome {
     Limit,
 }
 
+/// Takes the steps that may be taken at once. All steps that were taken, if they lead to the end.
+fn finished(walk: &mut Walk, alloc: Global, log: &Log) -> Result<Option<Vec<Step>>, AllocError>
+    requires { IsAt log.now walk.old }
+    ensures at { OnOk result (IsAt log.now walk.new) }
+    ensures run { IfOk result (λ o. IfSome o (λ v. IsRun log.now v.items)) }
+    ensures more { IfOk result (λ o. IfNone o (walk.new.here.key.event ≡ length log.now.events → ⊥)) }
+{
+    settle(walk, log)?;
+    if walk.here.key.event == log.events.len() {
+        let steps = steps_of(walk, alloc)?;
+        return Ok(Some(steps));
+    }
+    Ok(None)
+}
+
 /// Looks for steps that lead from the start of the log to its end, at no more than `limit` choices.
 /// The second number is how many there were.
 pub fn explore(alloc: Global, log: &Log, limit: u64) -> Result<(Outcome, u64), AllocError>
@@ -26,13 +42,15 @@ pub fn explore(alloc: Global, log: &Log, limit: u64) -> Result<(Outcome, u64), A
 {
     let mut walk = begin(alloc, log)?;
     for states in 0..limit {
-        settle(&mut walk, log)?;
-        if walk.here.key.event == log.events.len() {
-            return Ok((Outcome::Run(steps_of(&walk, alloc)?), states));
+        if let Some(steps) = finished(&mut walk, alloc, log)? {
+            return Ok((Outcome::Run(steps), states));
         }
         if !advance(&mut walk, alloc, log)? {
             return Ok((Outcome::Dead, states + 1));
         }
     }
-    Ok((Outcome::Limit, limit))
+    match finished(&mut walk, alloc, log)? {
+        Some(steps) => Ok((Outcome::Run(steps), limit)),
+        None => Ok((Outcome::Limit, limit)),
+    }
 }

@@ -2,15 +2,20 @@
 //!
 //! It goes through states: how many events were passed, who has acted, the memory's bytes. What may
 //! be done at once is done at once. Where an answer is due whose request hasn't acted, each request
-//! that may act is tried, one after the other, and each try is taken back. States from which nothing
-//! leads to the end are remembered, while there is room for them.
+//! that may act is tried, one after the other, and each try is taken back. A state is dead where a
+//! request can't have what it needs any more. States from which nothing leads to the end are
+//! remembered, while there is room for them.
 #![tactic(auto)]
 
 mod allowed;
 mod bytes;
 mod choices;
+mod due;
 mod exploring;
+mod hints;
+mod lost;
 mod memo;
+mod others;
 mod pending;
 mod place;
 mod rules;

@@ -17,6 +17,8 @@ const ROOM: usize = 268_435_456;
 #[derive(Drop)]
 pub(crate) struct Memo {
     keys: HashSet<Key>,
+    /// The numbers of events that were passed there.
+    events: HashSet<usize>,
     /// How many bytes more may be remembered.
     room: usize,
 }
@@ -27,6 +29,7 @@ pub(crate) fn empty(alloc: Global) -> Memo
 {
     Memo {
         keys: HashSet::new(alloc),
+        events: HashSet::new(alloc),
         room: ROOM,
     }
 }
@@ -35,6 +38,9 @@ pub(crate) fn empty(alloc: Global) -> Memo
 pub(crate) fn is_known(memo: &Memo, place: &Place) -> bool
     ensures { (log : Task) → AreDead log memo.now → IsPlace log place.now → IsTrue result → Dead log (state_of place.now) }
 {
+    if !memo.events.contains(&place.key.event) {
+        return false;
+    }
     memo.keys.contains(&place.key)
 }
 
@@ -73,6 +79,9 @@ pub(crate) fn note(memo: &mut Memo, alloc: Global, place: &Place)
 {
     let cost = cost(&place.key);
     if memo.room < cost {
+        return;
+    }
+    if memo.events.insert(place.key.event).is_err() {
         return;
     }
     let Ok(key) = copied(alloc, &place.key) else {

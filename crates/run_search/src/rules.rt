@@ -1,54 +1,102 @@
 //! Steps that may be taken at once.
-ghost use Rattle.std.specs.Prelude.{◌≡◌, ℕ, Option, Some, IfSome, IsTrue, slice_get};
-ghost use Rattle.tlp_core.specs.declared.operation.Op.TheVariants as ops;
-ghost use Rattle.seq_memory.specs.declared.Reply.{Reply};
-ghost use Rattle.log_runs.specs.declared.Event.TheVariants as events;
-ghost use Rattle.log_runs.specs.Runs.{IsForced};
+ghost use Rattle.std.specs.Prelude.{IfSome, IsTrue};
+ghost use Rattle.log_runs.specs.Runs.{MayAct, IsForced};
 ghost use Rattle.run_search.specs.Places.{state_of, IsPlace};
 
 use crate::allowed::{may_act, may_pass};
+use crate::due::{held_until, place_of};
+use crate::hints::may_fit;
+use crate::lost::is_left;
+use crate::others::{Asked, others_spare};
 use crate::place::Place;
-use log_runs::{Event, Log, Step};
-use seq_memory::laws::refused_and_read_change_nothing;
-use tlp_core::Op;
+use log_runs::{Log, Step};
+use search_rules::laws::{
+    the_first_acts_at_once, the_last_acts_at_once, what_changes_nothing_acts_at_once,
+};
+use search_rules::{changes_nothing, follows};
 
-/// The event submits a read.
-fn is_read(log: &Log, q: usize) -> bool
-    ensures { IsTrue result → (i : ℕ) × (a : ℕ) × (d : ℕ) × (f : ℕ) × (l : ℕ) × (told : Option Reply) × (slice_get log.now.events q ≡ Some (events.Sub i (ops.Read a d f l) told)) }
+/// The request, which may act, changes nothing.
+fn is_quiet(place: &Place, log: &Log, q: usize) -> bool
+    requires { MayAct log.now (state_of place.now) q }
+    ensures { IsTrue result → IsForced log.now (state_of place.now) (Step.Act q) }
 {
-    matches!(
-        log.events.get(q),
-        Some(Event::Sub {
-            op: Op::Read { .. },
-            ..
-        })
-    )
+    what_changes_nothing_acts_at_once();
+    changes_nothing(log, q)
 }
 
-/// The request is a read that may act: it acts at once.
-fn reads_at_once(place: &Place, log: &Log, q: usize) -> bool
+/// The request, which may act, is the last that can have what it needs.
+fn is_last(place: &Place, log: &Log, due: &[usize], q: usize) -> bool
+    requires place { IsPlace log.now place.now }
+    requires may { MayAct log.now (state_of place.now) q }
+    ensures { IsTrue result → IsForced log.now (state_of place.now) (Step.Act q) }
+{
+    the_last_acts_at_once();
+    let Some(a) = place_of(due, log, q) else {
+        return false;
+    };
+    if a < place.key.event {
+        return false;
+    }
+    others_spare(place, log, q, a, Asked::Last)
+}
+
+/// The request, which may act, is the first that can of those that have bytes of it.
+fn is_first(place: &Place, log: &Log, due: &[usize], q: usize) -> bool
+    requires place { IsPlace log.now place.now }
+    requires may { MayAct log.now (state_of place.now) q }
+    ensures { IsTrue result → IsForced log.now (state_of place.now) (Step.Act q) }
+{
+    the_first_acts_at_once();
+    let Some((a, r)) = held_until(due, log, q) else {
+        return false;
+    };
+    if a < place.key.event {
+        return false;
+    }
+    if !follows(log, q, r) {
+        return false;
+    }
+    if !is_left(place, r) {
+        return false;
+    }
+    others_spare(place, log, q, a, Asked::First)
+}
+
+/// The request may act, and acts at once.
+fn acts_at_once(place: &Place, log: &Log, due: &[usize], q: usize) -> bool
     requires { IsPlace log.now place.now }
     ensures { IsTrue result → IsForced log.now (state_of place.now) (Step.Act q) }
 {
-    refused_and_read_change_nothing();
-    if !is_read(log, q) {
+    if !may_fit(log, place.key.bytes.as_slice(), q) {
         return false;
     }
-    may_act(place, log, q)
+    if !may_act(place, log, q) {
+        return false;
+    }
+    if is_quiet(place, log, q) {
+        return true;
+    }
+    if is_first(place, log, due, q) {
+        return true;
+    }
+    is_last(place, log, due, q)
 }
 
-/// A step that may be taken at once: an event is passed, or a read acts.
-pub(crate) fn forced(place: &Place, log: &Log) -> Option<Step>
+/// A step that may be taken at once: a request acts, one of those pending from `from` on, or an
+/// event is passed.
+pub(crate) fn forced(place: &Place, log: &Log, due: &[usize], from: usize) -> Option<Step>
     requires { IsPlace log.now place.now }
     ensures { IfSome result (IsForced log.now (state_of place.now)) }
 {
+    if from < place.key.pending.len() {
+        for q in &place.key.pending[from..] {
+            if acts_at_once(place, log, due, *q) {
+                return Some(Step::Act(*q));
+            }
+        }
+    }
     if may_pass(place, log) {
         return Some(Step::Pass);
-    }
-    for q in &place.key.pending {
-        if reads_at_once(place, log, *q) {
-            return Some(Step::Act(*q));
-        }
     }
     None
 }

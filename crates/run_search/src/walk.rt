@@ -5,6 +5,9 @@ ghost use Rattle.run_search.specs.Places.{state_of, IsPlace};
 ghost use Rattle.run_search.specs.Frames as frames;
 
 use crate::choices::choices;
+use crate::due::places;
+use crate::hints::may_be_lost;
+use crate::lost::is_lost;
 use crate::memo::{Memo, empty, is_known, note};
 use crate::place::{Place, first};
 use crate::rules::forced;
@@ -12,6 +15,9 @@ use crate::steps::{Done, take, take_back};
 use log_runs::{Log, Step};
 use std::alloc::{AllocError, Global};
 use std::mem::replace;
+
+/// Of so many events to come it is looked whether their requests are lost.
+const SOON: usize = 256;
 
 /// A place from which several steps may be taken.
 #[derive(Drop)]
@@ -29,6 +35,8 @@ pub(crate) struct Walk {
     pub(crate) done: Vec<Done>,
     pub(crate) here: Place,
     pub(crate) memo: Memo,
+    /// The place of each request's answer.
+    pub(crate) due: Vec<usize>,
 }
 
 pub(crate) fn begin(alloc: Global, log: &Log) -> Result<Walk, AllocError>
@@ -39,6 +47,7 @@ pub(crate) fn begin(alloc: Global, log: &Log) -> Result<Walk, AllocError>
         done: Vec::new(alloc),
         here: first(alloc, log)?,
         memo: empty(alloc),
+        due: places(alloc, log)?,
     })
 }
 
@@ -47,9 +56,15 @@ pub(crate) fn settle(walk: &mut Walk, log: &Log) -> Result<(), AllocError>
     requires { frames.IsAt log.now walk.old }
     ensures { OnOk result (frames.IsAt log.now walk.new) }
 {
+    // the requests before it were looked at, and nothing has acted since
+    let mut from = 0;
     for _step in 0..u64::MAX {
-        let Some(step) = forced(&walk.here, log) else {
+        let Some(step) = forced(&walk.here, log, walk.due.as_slice(), from) else {
             return Ok(());
+        };
+        from = match step {
+            Step::Pass => walk.here.key.pending.len(),
+            Step::Act(_) => 0,
         };
         let done = take(&mut walk.here, log, step)?;
         walk.done.push(done)?;
@@ -118,6 +133,59 @@ fn back(walk: &mut Walk, alloc: Global, log: &Log) -> Result<bool, AllocError>
     Ok(false)
 }
 
+/// The request is lost here, as far as the steps since the last frame show.
+fn is_lost_now(walk: &Walk, log: &Log, q: usize) -> bool
+    requires { IsPlace log.now walk.now.here }
+    ensures { IsTrue result → Dead log.now (state_of walk.now.here) }
+{
+    let due = walk.due.as_slice();
+    if !may_be_lost(walk.done.as_slice(), due, log, walk.here.key.event, q) {
+        return false;
+    }
+    is_lost(&walk.here, log, due, q)
+}
+
+/// A request that was submitted is lost here.
+fn some_is_lost(walk: &Walk, log: &Log) -> bool
+    requires { IsPlace log.now walk.now.here }
+    ensures { IsTrue result → Dead log.now (state_of walk.now.here) }
+{
+    for q in &walk.here.key.pending {
+        if is_lost_now(walk, log, *q) {
+            return true;
+        }
+    }
+    false
+}
+
+/// A request that is submitted soon is lost here.
+fn later_is_lost(walk: &Walk, log: &Log) -> bool
+    requires { IsPlace log.now walk.now.here }
+    ensures { IsTrue result → Dead log.now (state_of walk.now.here) }
+{
+    let event = walk.here.key.event;
+    for q in event..event.saturating_add(SOON) {
+        if is_lost_now(walk, log, q) {
+            return true;
+        }
+    }
+    false
+}
+
+/// No run leads from here to the end, as is known or seen.
+fn is_dead(walk: &Walk, log: &Log) -> bool
+    requires { frames.IsAt log.now walk.now }
+    ensures { IsTrue result → Dead log.now (state_of walk.now.here) }
+{
+    if is_known(&walk.memo, &walk.here) {
+        return true;
+    }
+    if some_is_lost(walk, log) {
+        return true;
+    }
+    later_is_lost(walk, log)
+}
+
 /// Goes on from here; false if no run leads to the end.
 pub(crate) fn advance(walk: &mut Walk, alloc: Global, log: &Log) -> Result<bool, AllocError>
     requires at { frames.IsAt log.now walk.old }
@@ -125,7 +193,7 @@ pub(crate) fn advance(walk: &mut Walk, alloc: Global, log: &Log) -> Result<bool,
     ensures at { IfOk result (λ more. IsTrue more → frames.IsAt log.now walk.new) }
     ensures none { IfOk result (λ more. more ≡ false → Dead log.now (start log.now)) }
 {
-    if is_known(&walk.memo, &walk.here) {
+    if is_dead(walk, log) {
         rewind(walk, log)?;
     } else {
         keep(walk, alloc, log)?;

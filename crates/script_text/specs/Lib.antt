@@ -1,3 +1,5 @@
 pub mod Forms
 pub mod Names
 pub mod Texts
+pub mod LineTexts
+pub mod Spelled

@@ -1,12 +1,19 @@
 //! The fields of a script's line.
 ghost use Rattle.std.specs.Prelude.{◌≡◌, option_map, bytes_eq};
+ghost use Rattle.std.specs.Result.{result_ok};
 ghost use Rattle.operation_text.specs.Words.{words_behind, first_field};
 ghost use Rattle.script_text.specs.Forms as forms;
 
 use dllp_core::Class;
 use fabric_core::LaneName;
 use lane_core::{DllpKind, Fate};
-use operation_text::{next_word, number};
+use operation_text::{Expected, Misfit, number, word};
+
+const LANE: Expected = Expected::Of("a lane", "up1 to up7, down1 to down7, in, out");
+
+const FATE: Expected = Expected::Of("a fate", "good, failed, lost");
+
+const KIND: Expected = Expected::Of("a kind of DLLP", "ack, p, np, cpl");
 
 /// Whether the word is that name.
 pub(crate) fn is_name(word: &[u8], name: &[u8]) -> bool
@@ -21,25 +28,28 @@ pub(crate) fn is_name(word: &[u8], name: &[u8]) -> bool
     *first == *wanted && is_name(word, name)
 }
 
-pub(crate) fn octet(rest: Option<&[u8]>) -> Option<(u8, Option<&[u8]>)>
-    ensures { first_field forms.octet (words_behind rest.entry) ≡ option_map (λ s. (s.0, words_behind s.1)) result }
+pub(crate) fn octet(rest: Option<&[u8]>, expected: Expected) -> Result<(u8, Option<&[u8]>), Misfit>
+    ensures { first_field forms.octet (words_behind rest.entry) ≡ option_map (λ s. (s.0, words_behind s.1)) (result_ok result) }
 {
-    let (octet, rest) = number(rest, 10, 255)?;
-    Some((octet as u8, rest))
+    let (octet, rest) = number(rest, 10, 255, expected)?;
+    Ok((octet as u8, rest))
 }
 
-pub(crate) fn short(rest: Option<&[u8]>) -> Option<(u16, Option<&[u8]>)>
-    ensures { first_field forms.short (words_behind rest.entry) ≡ option_map (λ s. (s.0, words_behind s.1)) result }
+pub(crate) fn short(rest: Option<&[u8]>, expected: Expected) -> Result<(u16, Option<&[u8]>), Misfit>
+    ensures { first_field forms.short (words_behind rest.entry) ≡ option_map (λ s. (s.0, words_behind s.1)) (result_ok result) }
 {
-    let (short, rest) = number(rest, 10, 65535)?;
-    Some((short as u16, rest))
+    let (short, rest) = number(rest, 10, 65535, expected)?;
+    Ok((short as u16, rest))
 }
 
-pub(crate) fn count(rest: Option<&[u8]>) -> Option<(usize, Option<&[u8]>)>
-    ensures { first_field forms.count (words_behind rest.entry) ≡ option_map (λ s. (s.0, words_behind s.1)) result }
+pub(crate) fn count(
+    rest: Option<&[u8]>,
+    expected: Expected,
+) -> Result<(usize, Option<&[u8]>), Misfit>
+    ensures { first_field forms.count (words_behind rest.entry) ≡ option_map (λ s. (s.0, words_behind s.1)) (result_ok result) }
 {
-    let (count, rest) = number(rest, 10, u64::MAX)?;
-    Some((count as usize, rest))
+    let (count, rest) = number(rest, 10, u64::MAX, expected)?;
+    Ok((count as usize, rest))
 }
 
 /// The port of a lane's name.
@@ -69,11 +79,12 @@ fn lane_in(word: &[u8]) -> Option<LaneName>
     }
 }
 
-pub(crate) fn lane(rest: Option<&[u8]>) -> Option<(LaneName, Option<&[u8]>)>
-    ensures { first_field forms.lane (words_behind rest.entry) ≡ option_map (λ s. (s.0, words_behind s.1)) result }
+pub(crate) fn lane(rest: Option<&[u8]>) -> Result<(LaneName, Option<&[u8]>), Misfit>
+    ensures { first_field forms.lane (words_behind rest.entry) ≡ option_map (λ s. (s.0, words_behind s.1)) (result_ok result) }
 {
-    let (word, rest) = next_word(rest)?;
-    Some((lane_in(word)?, rest))
+    let (word, behind) = word(rest, LANE)?;
+    let lane = lane_in(word).ok_or(LANE.at(rest))?;
+    Ok((lane, behind))
 }
 
 fn fate_in(word: &[u8]) -> Option<Fate>
@@ -90,11 +101,12 @@ fn fate_in(word: &[u8]) -> Option<Fate>
     }
 }
 
-pub(crate) fn fate(rest: Option<&[u8]>) -> Option<(Fate, Option<&[u8]>)>
-    ensures { first_field forms.fate (words_behind rest.entry) ≡ option_map (λ s. (s.0, words_behind s.1)) result }
+pub(crate) fn fate(rest: Option<&[u8]>) -> Result<(Fate, Option<&[u8]>), Misfit>
+    ensures { first_field forms.fate (words_behind rest.entry) ≡ option_map (λ s. (s.0, words_behind s.1)) (result_ok result) }
 {
-    let (word, rest) = next_word(rest)?;
-    Some((fate_in(word)?, rest))
+    let (word, behind) = word(rest, FATE)?;
+    let fate = fate_in(word).ok_or(FATE.at(rest))?;
+    Ok((fate, behind))
 }
 
 fn kind_in(word: &[u8]) -> Option<DllpKind>
@@ -113,9 +125,10 @@ fn kind_in(word: &[u8]) -> Option<DllpKind>
     }
 }
 
-pub(crate) fn kind(rest: Option<&[u8]>) -> Option<(DllpKind, Option<&[u8]>)>
-    ensures { first_field forms.kind (words_behind rest.entry) ≡ option_map (λ s. (s.0, words_behind s.1)) result }
+pub(crate) fn kind(rest: Option<&[u8]>) -> Result<(DllpKind, Option<&[u8]>), Misfit>
+    ensures { first_field forms.kind (words_behind rest.entry) ≡ option_map (λ s. (s.0, words_behind s.1)) (result_ok result) }
 {
-    let (word, rest) = next_word(rest)?;
-    Some((kind_in(word)?, rest))
+    let (word, behind) = word(rest, KIND)?;
+    let kind = kind_in(word).ok_or(KIND.at(rest))?;
+    Ok((kind, behind))
 }

@@ -32,11 +32,15 @@
 #![tactic(auto)]
 
 mod events;
+mod fabric;
 mod fields;
+pub mod laws;
 mod line;
+mod line_writing;
 mod names;
 mod writing;
 
-pub use line::{Line, read_line};
+pub use line::{Line, read_line, script_misfit};
+pub use line_writing::{write_event, write_fabric};
 pub use names::{write_config_fault, write_refusal};
 pub use writing::{write_seen, write_settled, write_told};

@@ -63,11 +63,11 @@ fn put_dllp_seen(seen: DllpSeen, out: &mut ArrayString<512>)
 }
 
 /// Adds a word and a number.
-fn put_number(word: &str, number: u64, out: &mut ArrayString<512>)
-    requires word { length word.now ≤ 7 }
-    requires room { array_string_len out.old + 27 ≤ 512 }
+pub(crate) fn put_number(word: &str, number: u64, out: &mut ArrayString<512>)
+    requires word { length word.now ≤ 8 }
+    requires room { array_string_len out.old + 28 ≤ 512 }
     ensures text { out.new.bytes ≡ out.old.bytes ++ (word.now ++ decimal number) }
-    ensures len { array_string_len out.new ≤ array_string_len out.old + 27 }
+    ensures len { array_string_len out.new ≤ array_string_len out.old + 28 }
 {
     out.push_str(word);
     write_decimal(number, out);

@@ -9,11 +9,13 @@ ghost use Rattle.search_engine.specs.Findings.{is_memory, IsFinding};
 ghost use Rattle.search_engine.specs.Search.{IsAnswerTo, OutSearch};
 
 use crate::lines::{fault_text, limit_text, none_text};
+use crate::stages::{Stages, tell_choices, tell_records};
 use history_check::Trace;
 use history_search::{Sought, search};
 use log_text::read_seen;
 use seq_memory::Entry;
 use std::alloc::{AllocError, Global};
+use std::io::{Write, sink};
 use trace_format::{ReadFault, ReadFaultKind, write_trace};
 
 /// The exit status of a search that was given up.
@@ -47,10 +49,20 @@ pub struct Outcome {
 }
 
 /// Looks for a history.
-fn sought(alloc: Global, mut trace: Trace, limit: u64) -> Result<Finding, AllocError>
+fn sought<E: Write>(
+    alloc: Global,
+    mut trace: Trace,
+    limit: u64,
+    stages: Stages,
+    errors: &mut E,
+) -> Result<Finding, AllocError>
     ensures { IfOk result (IsFinding (Ok trace)) }
 {
-    let (sought, _) = search(alloc, &mut trace, limit)?;
+    let records = trace.records.len();
+    let shows = stages.are_shown(records);
+    tell_records(shows, records, errors);
+    let (sought, choices) = search(alloc, &mut trace, limit)?;
+    tell_choices(shows, choices, limit, errors);
     match sought {
         Sought::Found(history) => Ok(Finding::Found { trace, history }),
         Sought::None { prefix, explained } => Ok(Finding::None {
@@ -69,11 +81,17 @@ fn is_memory(kind: ReadFaultKind) -> bool
 }
 
 /// Reads the text, and looks for a history.
-pub(crate) fn find(alloc: Global, text: &[u8], limit: u64) -> Result<Finding, AllocError>
+pub(crate) fn find<E: Write>(
+    alloc: Global,
+    text: &[u8],
+    limit: u64,
+    stages: Stages,
+    errors: &mut E,
+) -> Result<Finding, AllocError>
     ensures { IfOk result (IsFinding (seen_of text.now)) }
 {
     match read_seen(alloc, text) {
-        Ok(trace) => sought(alloc, trace, limit),
+        Ok(trace) => sought(alloc, trace, limit, stages, errors),
         Err(fault) if is_memory(fault.kind) => Err(AllocError),
         Err(fault) => Ok(Finding::Fault(fault)),
     }
@@ -121,6 +139,6 @@ pub(crate) fn outcome_of(alloc: Global, finding: Finding, limit: u64) -> Result<
 pub fn answer_of(alloc: Global, text: &[u8], limit: u64) -> Result<Outcome, AllocError>
     ensures { IfOk result (λ o. OutSearch limit text.now o.text.items o.status) }
 {
-    let finding = find(alloc, text, limit)?;
+    let finding = find(alloc, text, limit, Stages::Hidden, &mut sink())?;
     outcome_of(alloc, finding, limit)
 }

@@ -7,11 +7,17 @@
 #![tactic(auto)]
 
 mod answering;
-mod contradiction;
+mod causes;
+mod effects;
 mod input;
+pub mod laws;
 mod lines;
+mod requests;
 mod search;
+mod stages;
 mod telling;
+mod wording;
 
 pub use answering::{LIMIT_STATUS, Outcome, answer_of};
 pub use search::{run_search, run_search_with_reasons};
+pub use stages::Stages;

@@ -4,6 +4,7 @@ ghost use Rattle.search_engine.specs.Search.{IsWhole, IsPart, OutSearch};
 
 use crate::answering::{Outcome, find, outcome_of};
 use crate::input::read_rest;
+use crate::stages::Stages;
 use crate::telling::tell;
 use line_engine::{EngineFault, write_out};
 use std::alloc::{AllocError, Global};
@@ -14,20 +15,22 @@ fn answer<E: Write>(
     alloc: Global,
     text: &[u8],
     limit: u64,
+    stages: Stages,
     errors: &mut E,
 ) -> Result<Outcome, AllocError>
     ensures { IfOk result (λ o. OutSearch limit text.now o.text.items o.status) }
 {
-    let finding = find(alloc, text, limit)?;
+    let finding = find(alloc, text, limit, stages, errors)?;
     tell(alloc, text, &finding, errors);
     outcome_of(alloc, finding, limit)
 }
 
-/// Does what [`run_search`] does, and tells on `errors` why there is no history, or why the input can't be
-/// read.
+/// Does what [`run_search`] does, and tells on `errors` how far it is, where that is shown, and why there is no
+/// history, or why the input can't be read.
 pub fn run_search_with_reasons<R: Read, W: Write, E: Write>(
     alloc: Global,
     limit: u64,
+    stages: Stages,
     reader: &mut R,
     writer: &mut W,
     errors: &mut E,
@@ -36,7 +39,7 @@ pub fn run_search_with_reasons<R: Read, W: Write, E: Write>(
     ensures err { OnErr result (IsPart limit (R.remaining reader.old) (R.remaining reader.new) (W.contents writer.old) (W.contents writer.new)) }
 {
     let text = read_rest(alloc, reader)?;
-    let outcome = answer(alloc, &text, limit, errors)?;
+    let outcome = answer(alloc, &text, limit, stages, errors)?;
     write_out(writer, &outcome.text)?;
     Ok(outcome.status)
 }
@@ -55,5 +58,5 @@ pub fn run_search<R: Read, W: Write>(
     ensures ok { IfOk result (IsWhole limit (R.remaining reader.old) (R.remaining reader.new) (W.contents writer.old) (W.contents writer.new)) }
     ensures err { OnErr result (IsPart limit (R.remaining reader.old) (R.remaining reader.new) (W.contents writer.old) (W.contents writer.new)) }
 {
-    run_search_with_reasons(alloc, limit, reader, writer, &mut sink())
+    run_search_with_reasons(alloc, limit, Stages::Hidden, reader, writer, &mut sink())
 }

@@ -1,13 +1,16 @@
 //! Why there is no history, or why the input can't be read, for people.
 use crate::answering::Finding;
-use crate::contradiction::contradiction;
+use crate::causes::cause_of;
+use crate::wording::tell_cause;
 use arrayvec::ArrayString;
 use history_check::{Record, Trace};
+use history_search::contradiction;
 use line_engine::{MAX_LINE, without_return};
-use line_reasons::{DueLine, Reason, tell_long_line};
+use line_reasons::{Reason, tell_long_line};
+use log_events::form_of;
 use memchr::memchr;
 use operation_text::write_reply;
-use reasons::TraceLines;
+use reasons::{DueLine, TraceLines};
 use std::alloc::{AllocError, Global};
 use std::io::Write;
 use trace_format::ReadFault;
@@ -156,23 +159,61 @@ fn tell_lines<E: Write>(
     let _ = errors.write(b"\n");
 }
 
-/// Tells that a submission has not the next number of its requester, if one stands at the place.
-fn tell_numbering<E: Write>(lines: &TraceLines, trace: &Trace, place: usize, errors: &mut E) {
-    let Some(
-        Record::Sub {
-            requester,
-            number,
-            ..
-        },
-    ) = trace.records.get(place)
-    else {
-        return;
-    };
+/// Tells that a submission has not the next number of its requester, and what is wrong with an answer
+/// whatever its reply is, of the record at this place.
+fn tell_form<E: Write>(lines: &TraceLines, trace: &Trace, place: usize, errors: &mut E) {
     let line = lines.of_record(place);
-    let _ = writeln!(
-        errors,
-        "pciex: line {line}: request {number} of requester {requester} where its next is expected"
-    );
+    match trace.records.get(place) {
+        Some(
+            Record::Sub {
+                requester,
+                number,
+                ..
+            },
+        ) => {
+            let _ = writeln!(
+                errors,
+                "pciex: line {line}: request {number} of requester {requester} where its next is expected"
+            );
+        }
+        Some(
+            Record::Ans {
+                requester,
+                number,
+                ..
+            },
+        ) => {
+            tell_answer(lines, trace, place, "", errors);
+            let why = misanswer(trace, place, *requester, *number);
+            let _ = writeln!(
+                errors,
+                "pciex: request {number} of requester {requester} {why}"
+            );
+        }
+        None => {}
+    }
+}
+
+/// Why the record at the place answers nothing.
+fn misanswer(trace: &Trace, place: usize, requester: u8, number: u32) -> &'static str {
+    for record in trace.records.get(..place).unwrap_or(&[]) {
+        if let Record::Sub {
+            requester: who,
+            number: own,
+            op,
+            ..
+        } = record
+        {
+            if *who == requester && *own == number {
+                return if op.is_posted() {
+                    "is a posted write, which has no answer"
+                } else {
+                    "was answered before"
+                };
+            }
+        }
+    }
+    "was not submitted before"
 }
 
 /// Tells the answer at a place, and what is behind it.
@@ -204,22 +245,30 @@ fn tell_answer<E: Write>(
     );
 }
 
-/// Tells the answer at a place, and few other answers that contradict it, if they are known.
-fn tell_answers<E: Write>(
-    lines: &TraceLines,
-    trace: &Trace,
-    place: usize,
-    others: &[usize],
-    errors: &mut E,
-) {
-    if others.is_empty() || others.len() > SHOWN {
-        tell_answer(lines, trace, place, "", errors);
-        return;
+/// Tells the answers at places, the first of which contradicts the others.
+fn tell_answers<E: Write>(lines: &TraceLines, trace: &Trace, answers: &[usize], errors: &mut E) {
+    let behind = if answers.len() > 1 {
+        ", against these answers:"
+    } else {
+        ""
+    };
+    for index in 0..answers.len() {
+        let behind = if index == 0 { behind } else { "" };
+        tell_answer(lines, trace, answers[index], behind, errors);
     }
-    tell_answer(lines, trace, place, ", against these answers:", errors);
-    for other in others {
-        tell_answer(lines, trace, *other, "", errors);
+}
+
+/// The places of the answers that are told: few that contradict each other, the last one first, or else the
+/// last one alone.
+fn told_answers(alloc: Global, trace: &Trace, prefix: usize) -> Result<Vec<usize>, AllocError> {
+    let mut others = contradiction(alloc, trace, prefix)?;
+    let last = others.pop().unwrap_or(prefix.saturating_sub(1));
+    let mut told = Vec::new(alloc);
+    told.push(last)?;
+    if others.len() <= SHOWN {
+        told.extend_from_slice(&others)?;
     }
+    Ok(told)
 }
 
 /// Tells why records have no history.
@@ -233,10 +282,16 @@ fn tell_none<E: Write>(
 ) -> Result<(), AllocError> {
     let lines = lines_of(alloc, text)?;
     tell_lines(&lines, prefix, explained, errors);
-    tell_numbering(&lines, trace, prefix.saturating_sub(1), errors);
-    let mut others = contradiction(alloc, trace, prefix)?;
-    let last = others.pop().unwrap_or(prefix.saturating_sub(1));
-    tell_answers(&lines, trace, last, others.as_slice(), errors);
+    let last = prefix.saturating_sub(1);
+    let records = trace.records.get(..prefix).unwrap_or(&[]);
+    if form_of(alloc, records)?.flaw == Some(last) {
+        tell_form(&lines, trace, last, errors);
+        return Ok(());
+    }
+    let told = told_answers(alloc, trace, prefix)?;
+    tell_answers(&lines, trace, &told, errors);
+    let cause = cause_of(alloc, trace, prefix, &told)?;
+    tell_cause(&lines, &cause, errors);
     Ok(())
 }
 

@@ -1,5 +1,9 @@
-//! Searches for histories of worked logs, and of random ones beside all histories there are.
+//! Searches for histories of worked logs, and what `search` prints of their texts.
 #![tactic(auto)]
 
 #[cfg(test)]
+mod reasons;
+#[cfg(test)]
 mod rows;
+#[cfg(test)]
+mod texts;

@@ -21,8 +21,7 @@ use Rattle.fabric_core.specs.Runs.{Runs}
 use Rattle.fabric_core.specs.Answers.{answer}
 use Rattle.fabric_answers.specs.Told.{IsTold}
 use Rattle.fabric_answers.specs.New.{new_fabric, config_fault}
-use Rattle.operation_text.specs.Words.{words}
-use Rattle.trace_format.specs.Lines.{is_skipped}
+use Rattle.operation_text.specs.Words.{words, is_skipped}
 use Rattle.trace_format.specs.Texts.{trace_text}
 use Rattle.script_text.specs.declared.line.Line.{Line}
 use Rattle.script_text.specs.declared.line.Line.TheVariants as lines

@@ -9,8 +9,7 @@ use Rattle.fabric_core.specs.Config.{IsNewWith}
 use Rattle.fabric_core.specs.Steps.{Refused}
 use Rattle.fabric_core.specs.Runs.{Recorded}
 use Rattle.fabric_answers.specs.Told.{IsTold}
-use Rattle.operation_text.specs.Words.{words}
-use Rattle.trace_format.specs.Lines.{is_skipped}
+use Rattle.operation_text.specs.Words.{words, is_skipped}
 use Rattle.script_text.specs.declared.line.Line.{Line}
 use Rattle.script_text.specs.declared.line.Line.TheVariants as lines
 use Rattle.script_text.specs.Forms.{line_of}

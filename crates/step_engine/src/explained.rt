@@ -8,8 +8,8 @@ use crate::options::StepOptions;
 use crate::step::Stepper;
 use arrayvec::ArrayString;
 use line_engine::{EngineFault, Responder, run};
-use line_reasons::{tell_long_line, tell_script_line};
-use script_text::write_refusal;
+use line_reasons::{tell_long_line, tell_misfit, tell_refusal};
+use script_text::{script_misfit, write_refusal};
 use std::alloc::{AllocError, Global};
 use std::io::{Read, Write};
 use std::marker::Model;
@@ -23,13 +23,13 @@ fn explain<E: Write>(stepper: &mut Stepper, line: &[u8], errors: &mut E) -> Resu
     ensures part { OnErr result (IsReasonBegun (Some stepper.old.lines) (E.contents errors.old) (E.contents errors.new)) }
 {
     let fault = Some(stepper.lines());
-    let has_fabric = stepper.has_fabric();
     let Some(refusal) = stepper.take_refusal() else {
-        return tell_script_line(line, has_fabric, None, fault, errors);
+        let misfit = script_misfit(line, stepper.has_fabric());
+        return tell_misfit(line, misfit, fault, errors);
     };
     let mut name = ArrayString::new();
     write_refusal(&refusal, &mut name);
-    tell_script_line(line, has_fabric, Some(name.as_str()), fault, errors)
+    tell_refusal(line, name.as_str(), fault, errors)
 }
 
 /// A script that is run line by line, and the stream on which reasons are told.

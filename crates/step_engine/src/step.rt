@@ -404,10 +404,10 @@ impl Responder for Stepper {
         }
         let asked = read_line(line);
         match &asked {
-            None => self.no_line(out),
-            Some(Line::Fabric(config)) => self.make(*config, out),
-            Some(Line::Event(event)) => self.happen(line, event, out),
-            Some(Line::Settle) => self.settle(line, out),
+            Err(_) => self.no_line(out),
+            Ok(Line::Fabric(config)) => self.make(*config, out),
+            Ok(Line::Event(event)) => self.happen(line, event, out),
+            Ok(Line::Settle) => self.settle(line, out),
         }
     }
 

@@ -12,7 +12,7 @@ use Rattle.fabric_core.specs.declared.event.LaneName.TheVariants as lanes
 use Rattle.fabric_core.specs.declared.event.Event.{Event}
 use Rattle.fabric_core.specs.declared.event.Event.TheVariants as events
 use Rattle.fault_plan.specs.Fates.{fate_of}
-use Rattle.script_lines.specs.Spelled.{IsSpelledLane, IsSpelledEvent}
+use Rattle.script_text.specs.Spelled.{IsSpelledLane, IsSpelledEvent}
 use Rattle.storm_events.specs.Arrivals.{lane_place, is_packet_at, is_dllp_at, packets_on, dllps_on, IsFated, AreFated, Arrived, nothing_arrived, next_on, HasFate, with_event, IsCounted, AreCounts, IsAfter}
 
 -- ---- places

@@ -6,7 +6,7 @@ use Rattle.fabric_laws.specs.Fabric.{Fabric}
 use Rattle.fabric_core.specs.declared.event.Event.{Event}
 use Rattle.fabric_core.specs.declared.event.Seen.{Seen}
 use Rattle.fabric_core.specs.Steps.{Happens}
-use Rattle.script_lines.specs.Spelled.{IsSpelledEvent}
+use Rattle.script_text.specs.Spelled.{IsSpelledEvent}
 use Rattle.storm.specs.declared.Storm.{Storm}
 use Rattle.storm_events.specs.Arrivals.{Arrived, nothing_arrived}
 

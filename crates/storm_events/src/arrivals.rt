@@ -1,7 +1,7 @@
 //! What becomes of the packets and DLLPs that reach the ends of wires.
 ghost use Rattle.std.specs.Prelude.{◌≡◌};
 ghost use Rattle.storm.specs.Ranges.{IsStorm};
-ghost use Rattle.script_lines.specs.Spelled.{IsSpelledLane, IsSpelledEvent};
+ghost use Rattle.script_text.specs.Spelled.{IsSpelledLane, IsSpelledEvent};
 ghost use Rattle.fault_plan.specs.Fates.{fate_of};
 ghost use Rattle.storm_events.specs.Arrivals.{nothing_arrived, next_on, with_event};
 

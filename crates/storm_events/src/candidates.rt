@@ -1,6 +1,6 @@
 //! What may happen next: events that are drawn, whether or not the fabric takes them.
 ghost use Rattle.std.specs.Prelude.{◌≤◌, ◌<◌};
-ghost use Rattle.script_lines.specs.Spelled.{IsSpelledLane, IsSpelledEvent};
+ghost use Rattle.script_text.specs.Spelled.{IsSpelledLane, IsSpelledEvent};
 ghost use Rattle.storm_events.specs.Arrivals.{Arrived, HasFate};
 
 use crate::draws::Draws;
@@ -8,7 +8,7 @@ use crate::operations::operation;
 use dllp_core::Class;
 use fabric_core::{Event, LaneName};
 use lane_core::DllpKind;
-use script_lines::laws::an_operation_in_range_is_spelled;
+use script_text::laws::an_operation_in_range_is_spelled;
 
 /// The port of one of so many requesters.
 fn port(draws: &mut Draws, requesters: u8) -> u8

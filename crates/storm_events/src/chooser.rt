@@ -1,7 +1,7 @@
 //! The choice of the next event.
 ghost use Rattle.std.specs.Prelude.{◌≡◌, ◌≤◌, true, false, IfOk, OnErr};
 ghost use Rattle.storm.specs.Ranges.{IsStorm};
-ghost use Rattle.script_lines.specs.Spelled.{IsSpelledEvent};
+ghost use Rattle.script_text.specs.Spelled.{IsSpelledEvent};
 ghost use Rattle.storm_events.specs.Arrivals.{HasFate, IsCounted, IsCountedIfAny};
 ghost use Rattle.storm_events.specs.Choice.{IsChosen, IsTried, IsDrawn, new_choosing};
 

@@ -1,6 +1,6 @@
 //! How many packets and DLLPs have reached the ends of each lane's wires.
 ghost use Rattle.std.specs.Prelude.{◌≡◌, ◌<◌, replicate};
-ghost use Rattle.script_lines.specs.Spelled.{IsSpelledLane};
+ghost use Rattle.script_text.specs.Spelled.{IsSpelledLane};
 ghost use Rattle.storm_events.specs.Arrivals.{lane_place, next_on, with_next};
 
 use fabric_core::LaneName;

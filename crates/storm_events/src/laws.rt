@@ -1,7 +1,7 @@
 //! That fates go by the events before.
 ghost use Rattle.std.specs.Prelude.{ℕ, List, [], ◌∷◌, ◌++◌};
 ghost use Rattle.fabric_core.specs.declared.event.Event.{Event};
-ghost use Rattle.script_lines.specs.Spelled.{IsSpelledEvent};
+ghost use Rattle.script_text.specs.Spelled.{IsSpelledEvent};
 ghost use Rattle.storm_events.specs.Arrivals.{Arrived, IsAfter, IsCounted, nothing_arrived};
 
 /// Of events that are counted one after another, each has the plan's fate of its count among those before it.

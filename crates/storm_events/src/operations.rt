@@ -1,6 +1,6 @@
 //! The operations of a storm.
 ghost use Rattle.std.specs.Prelude.{◌≤◌, ◌<◌, ◌*◌};
-ghost use Rattle.script_lines.specs.Spelled.{AreEnables, IsData, IsOperand, IsInRange};
+ghost use Rattle.script_text.specs.Spelled.{AreEnables, IsData, IsOperand, IsInRange};
 
 use crate::draws::Draws;
 use arrayvec::ArrayVec;

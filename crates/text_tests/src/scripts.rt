@@ -48,7 +48,7 @@ impl Row for Made {
             block: self.5,
         };
         match read_line(self.0.as_bytes()) {
-            Some(Line::Fabric(told)) => told == config,
+            Ok(Line::Fabric(told)) => told == config,
             _ => false,
         }
     }
@@ -147,7 +147,7 @@ fn event_of(act: Act) -> Event {
 /// The event that the line tells.
 fn told_by(line: &str) -> Option<Event> {
     match read_line(line.as_bytes()) {
-        Some(Line::Event(event)) => Some(event),
+        Ok(Line::Event(event)) => Some(event),
         _ => None,
     }
 }
@@ -214,7 +214,7 @@ struct NoLine(&'static str);
 
 impl Row for NoLine {
     fn is_right(&self, _: Global) -> bool {
-        read_line(self.0.as_bytes()).is_none()
+        read_line(self.0.as_bytes()).is_err()
     }
 }
 

@@ -16,7 +16,7 @@ use Rattle.seq_memory.specs.Limits.{IsSize, IsBase, IsBlock, is_size, is_base}
 use Rattle.history_check.specs.declared.Record.{Record}
 use Rattle.history_check.specs.declared.Record.TheVariants as records
 use Rattle.history_check.specs.Claim.{Claim}
-use Rattle.operation_text.specs.Words.{words}
+use Rattle.operation_text.specs.Words.{words, is_skipped}
 use Rattle.operation_text.specs.Numbers.{numeral}
 use Rattle.operation_text.specs.Operations.{address, op_spelled, reply_spelled}
 use Rattle.operation_text.specs.Texts.{hexadecimal, op_text, reply_text, IsPrinted, IsPrintedChar}
@@ -26,7 +26,6 @@ use Rattle.trace_format.specs.declared.line.Line.{Line}
 use Rattle.trace_format.specs.declared.line.Line.TheVariants as lines
 use Rattle.trace_format.specs.declared.reader.Section.{Section}
 use Rattle.trace_format.specs.declared.reader.Section.TheVariants as sections
-use Rattle.trace_format.specs.Lines.{is_skipped}
 use Rattle.trace_format.specs.Forms as forms
 use Rattle.trace_format.specs.Forms.{line_of}
 use Rattle.trace_format.specs.Reading.{Reading, nothing_read, placed, reading_of, at_end, read_of}

@@ -6,7 +6,7 @@ use Rattle.seq_memory.specs.declared.Entry.{Entry}
 use Rattle.seq_memory.specs.Limits.{IsBlock, is_size, is_base}
 use Rattle.history_check.specs.declared.Record.{Record}
 use Rattle.history_check.specs.Claim.{Claim}
-use Rattle.operation_text.specs.Words.{words}
+use Rattle.operation_text.specs.Words.{words, is_skipped}
 use Rattle.operation_text.specs.Operations.{address}
 use Rattle.trace_format.specs.declared.fault.ReadFault.{ReadFault}
 use Rattle.trace_format.specs.declared.line.Version.{Version}
@@ -14,7 +14,6 @@ use Rattle.trace_format.specs.declared.line.Line.{Line}
 use Rattle.trace_format.specs.declared.line.Line.TheVariants as lines
 use Rattle.trace_format.specs.declared.reader.Section.{Section}
 use Rattle.trace_format.specs.declared.reader.Section.TheVariants as sections
-use Rattle.trace_format.specs.Lines.{is_skipped}
 use Rattle.trace_format.specs.Forms as forms
 use Rattle.trace_format.specs.Forms.{line_of}
 use Rattle.trace_format.specs.Reading.{Reading, nothing_read, in_head, in_memory, in_records, in_history, placed, taken, after_line, after_long_line, take_line, claim_read, at_end, fault_or_end}

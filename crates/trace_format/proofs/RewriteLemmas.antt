@@ -6,13 +6,12 @@ use Rattle.seq_memory.specs.declared.Entry.{Entry}
 use Rattle.history_check.specs.declared.Record.{Record}
 use Rattle.history_check.specs.Claim.{Claim}
 use Rattle.line_engine.specs.Lines.{bare, said}
-use Rattle.operation_text.specs.Words.{words}
+use Rattle.operation_text.specs.Words.{words, is_skipped}
 use Rattle.trace_format.specs.declared.fault.ReadFault.{ReadFault}
 use Rattle.trace_format.specs.declared.line.Line.{Line}
 use Rattle.trace_format.specs.declared.line.Line.TheVariants as lines
 use Rattle.trace_format.specs.declared.reader.Section.{Section}
 use Rattle.trace_format.specs.declared.reader.Section.TheVariants as sections
-use Rattle.trace_format.specs.Lines.{is_skipped}
 use Rattle.trace_format.specs.Forms.{line_of}
 use Rattle.trace_format.specs.Reading.{Reading, nothing_read, counted, faulty, placed, taken, formless, take_line, at_end, fault_or_end, claim_read}
 use Rattle.trace_format.specs.Reading.{after_line as read_line, after_long_line as read_long_line}

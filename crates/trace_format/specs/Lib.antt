@@ -1,5 +1,4 @@
 pub mod Names
-pub mod Lines
 pub mod Forms
 pub mod Reading
 pub mod Endings

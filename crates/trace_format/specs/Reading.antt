@@ -4,7 +4,7 @@ use Rattle.line_engine.specs.Lines.{lines_of, bare, said}
 use Rattle.seq_memory.specs.declared.Entry.{Entry}
 use Rattle.history_check.specs.declared.Record.{Record}
 use Rattle.history_check.specs.Claim.{Claim}
-use Rattle.operation_text.specs.Words.{words}
+use Rattle.operation_text.specs.Words.{words, is_skipped}
 use Rattle.trace_format.specs.declared.fault.ReadFault.{ReadFault}
 use Rattle.trace_format.specs.declared.fault.ReadFaultKind.{ReadFaultKind}
 use Rattle.trace_format.specs.declared.fault.ReadFaultKind.TheVariants as faults
@@ -14,7 +14,6 @@ use Rattle.trace_format.specs.declared.line.Line.{Line}
 use Rattle.trace_format.specs.declared.line.Line.TheVariants as lines
 use Rattle.trace_format.specs.declared.reader.Section.{Section}
 use Rattle.trace_format.specs.declared.reader.Section.TheVariants as sections
-use Rattle.trace_format.specs.Lines.{is_skipped}
 use Rattle.trace_format.specs.Forms.{line_of}
 
 -- what was read so far: the section that goes on, the number of lines, skipped ones counted, and the first fault

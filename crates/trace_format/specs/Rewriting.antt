@@ -1,13 +1,12 @@
 -- A text of a trace that is written in the second version while it is read.
 use Rattle.std.specs.Prelude.{ℕ, List, [], ◌∷◌, ◌++◌, codes, if◌then◌else◌, is_some, Option, Some, None, Result, Ok, Err}
 use Rattle.history_check.specs.Claim.{Claim}
-use Rattle.operation_text.specs.Words.{words}
+use Rattle.operation_text.specs.Words.{words, is_skipped}
 use Rattle.trace_format.specs.declared.fault.ReadFault.{ReadFault}
 use Rattle.trace_format.specs.declared.line.Line.{Line}
 use Rattle.trace_format.specs.declared.line.Line.TheVariants as lines
 use Rattle.trace_format.specs.declared.reader.Section.{Section}
 use Rattle.trace_format.specs.declared.reader.Section.TheVariants as sections
-use Rattle.trace_format.specs.Lines.{is_skipped}
 use Rattle.trace_format.specs.Forms.{line_of}
 use Rattle.trace_format.specs.Reading.{Reading, nothing_read, counted, faulty, formless, placed, after_long_line, at_end}
 use Rattle.trace_format.specs.Texts.{memory_line, record_line, entry_line}

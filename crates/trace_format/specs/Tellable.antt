@@ -1,5 +1,5 @@
 -- What the text of a trace can tell.
-use Rattle.std.specs.Prelude.{ℕ, ◌≡◌, ◌-◌, ◌^◌, ◌≤◌, ◌<◌, List, Some, All}
+use Rattle.std.specs.Prelude.{ℕ, ◌-◌, ◌^◌, ◌≤◌, ◌<◌, All}
 use Rattle.tlp_core.specs.declared.operation.Op.{Op}
 use Rattle.seq_memory.specs.Limits.{IsWithinLimits}
 use Rattle.seq_memory.specs.History.{extent_of}
@@ -8,15 +8,7 @@ use Rattle.seq_memory.specs.declared.Reply.{Reply}
 use Rattle.history_check.specs.declared.Record.{Record}
 use Rattle.history_check.specs.declared.Record.TheVariants as records
 use Rattle.history_check.specs.Claim.{Claim}
-use Rattle.operation_text.specs.Operations.{op_spelled, reply_spelled}
-
--- some words spell the operation
-abbrev pub IsSpelledOp : Op → Type 0
-IsSpelledOp op = (words : List (List ℕ)) × (op_spelled words ≡ Some op)
-
--- some words spell the reply
-abbrev pub IsSpelledReply : Reply → Type 0
-IsSpelledReply reply = (words : List (List ℕ)) × (reply_spelled words ≡ Some reply)
+use Rattle.operation_text.specs.Operations.{IsSpelledOp, IsSpelledReply}
 
 -- request k of requester i: requesters are 1 to 7, and numbers below 2^32 - 1
 abbrev pub IsRequest : ℕ → ℕ → Type 0

@@ -29,6 +29,7 @@ mod writing;
 
 pub use fault::{ReadFault, ReadFaultKind};
 pub use laws::{a_rewriting_is_a_reading, own_text_spells_trace, told_trace_is_read_back};
+pub use line::trace_misfit;
 pub use reader::TraceReader;
 pub use reading::read_trace;
 pub use rewriting::TraceRewriter;

@@ -250,8 +250,8 @@ impl TraceReader {
             return Ok(());
         }
         match read_line(line, self.version) {
-            Some(line) => self.place(line),
-            None => {
+            Ok(line) => self.place(line),
+            Err(_) => {
                 self.refuse();
                 Ok(())
             }

@@ -150,8 +150,8 @@ impl TraceRewriter {
             return Ok(());
         }
         match read_line(line, self.reader.version()) {
-            Some(line) => self.place(line),
-            None => {
+            Ok(line) => self.place(line),
+            Err(_) => {
                 self.reader.refuse();
                 Ok(())
             }

@@ -19,3 +19,13 @@ pub invariant_of-session-in-Ok-None : goal.invariant_of-session-in-Ok-None
 invariant_of-session-in-Ok-None c =
     absurd (is_there c.each_event_happens_by_its_parts.ensures c.session.inside.fabric c.step_recorded.new.self c.args.event.now c.requires.recorded
     (subst (λ (t : Option Record). Recorded c.session.inside.fabric c.args.event.now [] c.step_recorded.new.self (option_to_list t)) c.in-Ok-None.field-0-is c.in-Ok-None.ensures.ok))
+
+pub returns-in-Ok-None-clause-code : goal.returns-in-Ok-None-clause-code
+returns-in-Ok-None-clause-code c = λ no_memory.
+    absurd (is_there c.each_event_happens_by_its_parts.ensures c.session.inside.fabric c.step_recorded.new.self c.args.event.now c.requires.recorded
+    (subst (λ (t : Option Record). Recorded c.session.inside.fabric c.args.event.now [] c.step_recorded.new.self (option_to_list t)) c.in-Ok-None.field-0-is c.in-Ok-None.ensures.ok))
+
+pub returns-in-Ok-None-clause-room : goal.returns-in-Ok-None-clause-room
+returns-in-Ok-None-clause-room c = λ no_memory.
+    absurd (is_there c.each_event_happens_by_its_parts.ensures c.session.inside.fabric c.step_recorded.new.self c.args.event.now c.requires.recorded
+    (subst (λ (t : Option Record). Recorded c.session.inside.fabric c.args.event.now [] c.step_recorded.new.self (option_to_list t)) c.in-Ok-None.field-0-is c.in-Ok-None.ensures.ok))

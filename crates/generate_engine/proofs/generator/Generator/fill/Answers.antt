@@ -1,5 +1,5 @@
 use Rattle.std.proofs.Common.{◌∙◌, ◌+◌, ◌++◌, ◌∷◌, [], ℕ, List, ap, sym, subst, append_assoc, arith}
-use Rattle.script_lines.specs.Texts.{event_line}
+use Rattle.script_text.specs.LineTexts.{event_line}
 use Rattle.generate_engine.specs.Script.{IsUnderWay, BeginsScript}
 use Rattle.generate_engine.proofs.Scripts.{script-next, begins-all, on_err}
 use Rattle.generate_engine.proofs.generator.Generator.fill.Goals as goal

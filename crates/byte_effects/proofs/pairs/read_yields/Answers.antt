@@ -1,0 +1,8 @@
+use Rattle.std.proofs.Common.{inl, inr, refl}
+use Rattle.byte_effects.proofs.pairs.read_yields.Goals as goal
+
+pub returns-in-None : goal.returns-in-None
+returns-in-None c = λ yes. inl c.in-None.is
+
+pub returns-in-Some : goal.returns-in-Some
+returns-in-Some c = λ yes. inr (λ block base m agrees e. c.clashes.ensures yes block base m (agrees c.in-Some.seen c.in-Some.is) e)

@@ -1,0 +1,4 @@
+use Rattle.byte_effects.proofs.waiting.waits.Goals as goal
+
+pub returns-in-Some : goal.returns-in-Some
+returns-in-Some c = λ yes block n same agrees. c.waits_for.ensures yes block n same (agrees c.in-Some.reply c.in-Some.is)

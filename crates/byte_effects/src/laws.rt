@@ -1,0 +1,27 @@
+//! Laws of what requests need and put.
+ghost use Rattle.std.specs.Prelude.{ℕ, ◌≡◌, ◌+◌, ◌-◌, ◌<◌, true, None, List, length, slice_index};
+ghost use Rattle.arrayvec.specs.ArrayVec.{ArrayVec};
+ghost use Rattle.tlp_core.specs.declared.operation.Op.{Op};
+ghost use Rattle.tlp_core.specs.Operation.{address_of};
+ghost use Rattle.seq_memory.specs.declared.Reply.TheVariants as replies;
+ghost use Rattle.seq_memory.specs.Step.{after, answer};
+ghost use Rattle.byte_effects.specs.Effects as effects;
+
+use seq_memory::laws::{only_the_place_changes, refused_and_read_change_nothing};
+
+/// Where the memory answers with data, it has the needed ones of their bytes.
+#[tactic(auto, using(crate::proofs::Needs::answered))]
+pub fn what_is_needed_is_there()
+    ensures { (block base at : ℕ) (m : List ℕ) (op : Op) (d : ArrayVec ℕ) → effects.is_needed op at ≡ true → answer block base m op ≡ replies.Data d → at < length d.items → slice_index m (address_of op - base + at) ≡ slice_index d.items at }
+{}
+
+/// Of two requests that have no byte in common, the first changes neither what the second is
+/// answered nor what it does, and their order makes no difference.
+#[tactic(auto, using(crate::proofs::Apart::answer_kept, crate::proofs::Apart::commute))]
+pub fn apart_requests_commute()
+    ensures answer { (block base : ℕ) (m : List ℕ) (one other : Op) → effects.AreApart one other → answer block base (after block base m one) other ≡ answer block base m other }
+    ensures after { (block base : ℕ) (m : List ℕ) (one other : Op) → effects.AreApart one other → after block base (after block base m one) other ≡ after block base (after block base m other) one }
+{
+    only_the_place_changes();
+    refused_and_read_change_nothing();
+}

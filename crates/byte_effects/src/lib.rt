@@ -1,0 +1,21 @@
+//! The bytes that a request needs, and the bytes that it puts.
+//!
+//! A request that was answered needs the enabled bytes of its reply: the memory answers so only if it
+//! has them. What a write leaves is known, and so is what an answered AtomicOp leaves. What one leaves
+//! that wasn't answered depends on what it meets, so nothing is known of it.
+//!
+//! Of two requests [`never_brings`] says that the first doesn't bring about the second's reply, and
+//! [`yields`] that it ends it, or that their order makes no difference. [`waits`] says that a request
+//! can't be answered as it was before another has changed the bytes.
+#![tactic(auto)]
+
+pub mod laws;
+mod pairs;
+mod puts;
+mod ranges;
+mod waiting;
+
+pub use pairs::{breaks, clashes, never_brings, yields};
+pub use puts::{is_quiet, left};
+pub use ranges::{are_apart, is_needed, is_put};
+pub use waiting::waits;

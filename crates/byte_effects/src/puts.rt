@@ -1,0 +1,136 @@
+//! What a request leaves.
+ghost use Rattle.std.specs.Prelude.{◌≡◌, ◌+◌, ◌-◌, ◌<◌, ◌≤◌, ℕ, true, None, List, length, IsTrue, slice_index};
+ghost use Rattle.arrayvec.specs.ArrayVec.{array_vec_len};
+ghost use Rattle.tlp_core.specs.Operation.{address_of, count_of};
+ghost use Rattle.seq_memory.specs.Limits.{IsBlock};
+ghost use Rattle.seq_memory.specs.declared.Reply.TheVariants as replies;
+ghost use Rattle.tlp_core.specs.declared.operation.Op.TheVariants as ops;
+ghost use Rattle.seq_memory.specs.Step.{refusal, after, answer};
+ghost use Rattle.byte_effects.specs.Effects as effects;
+ghost use Rattle.byte_effects.specs.Effects.{Agrees};
+
+use arrayvec::ArrayVec;
+use seq_memory::laws::{only_the_place_changes, refused_and_read_change_nothing};
+use seq_memory::{Reply, perform};
+use tlp_core::{MAX_PAYLOAD, Op};
+
+/// The bytes as data.
+fn copy_of(bytes: &[u8]) -> ArrayVec<u8, MAX_PAYLOAD>
+    requires { length bytes.now ≤ 128 }
+    ensures items { result.items ≡ bytes.now }
+{
+    let mut copy = ArrayVec::new();
+    let _ = copy.try_extend_from_slice(bytes);
+    copy
+}
+
+/// What an operation leaves of the bytes at its place.
+fn changed(block: u16, op: &Op, old: &[u8]) -> ArrayVec<u8, MAX_PAYLOAD>
+    requires block { IsBlock block }
+    requires few { length old.now ≤ 128 }
+    ensures { result.items ≡ after block (address_of op.now) old.now op.now }
+{
+    let mut new = copy_of(old);
+    let _ = perform(op.address(), block, new.as_mut_slice(), op);
+    new
+}
+
+fn is_atomic(op: &Op) -> bool
+    ensures { result ≡ effects.is_atomic op.now }
+{
+    match op {
+        Op::Read { .. } | Op::Write { .. } => false,
+        _ => true,
+    }
+}
+
+/// What an AtomicOp leaves where it was answered with those bytes.
+fn left_by_atomic(block: u16, op: &Op, old: &ArrayVec<u8, MAX_PAYLOAD>) -> ArrayVec<u8, MAX_PAYLOAD>
+    requires { IsBlock block }
+    ensures { (base at : ℕ) (m : List ℕ) → at < length result.items → refusal block base (length m) op.now ≡ None → answer block base m op.now ≡ replies.Data old.now → slice_index (after block base m op.now) (address_of op.now - base + at) ≡ slice_index result.items at }
+{
+    only_the_place_changes();
+    if !is_atomic(op) {
+        return ArrayVec::new();
+    }
+    changed(block, op, old.as_slice())
+}
+
+/// What a write leaves.
+fn left_by_write(op: &Op) -> ArrayVec<u8, MAX_PAYLOAD>
+    ensures { (block base at : ℕ) (m : List ℕ) → at < length result.items → effects.is_put op.now at ≡ true → refusal block base (length m) op.now ≡ None → slice_index (after block base m op.now) (address_of op.now - base + at) ≡ slice_index result.items at }
+{
+    only_the_place_changes();
+    match op {
+        Op::Write { bytes, .. } => copy_of(bytes.as_slice()),
+        _ => ArrayVec::new(),
+    }
+}
+
+/// What a request leaves that was answered so.
+fn left_by_reply(block: u16, op: &Op, reply: &Reply) -> ArrayVec<u8, MAX_PAYLOAD>
+    requires { IsBlock block }
+    ensures { (base at : ℕ) (m : List ℕ) → at < length result.items → effects.is_put op.now at ≡ true → refusal block base (length m) op.now ≡ None → answer block base m op.now ≡ reply.now → slice_index (after block base m op.now) (address_of op.now - base + at) ≡ slice_index result.items at }
+{
+    match reply {
+        Reply::Data(old) => left_by_atomic(block, op, old),
+        _ => ArrayVec::new(),
+    }
+}
+
+/// The bytes in the request's range right after it acted, where it writes them, if that is known by
+/// what it was answered; else nothing.
+pub fn left(block: u16, op: &Op, told: &Option<Reply>) -> ArrayVec<u8, MAX_PAYLOAD>
+    requires { IsBlock block }
+    ensures { (base at : ℕ) (m : List ℕ) → at < length result.items → effects.is_put op.now at ≡ true → refusal block base (length m) op.now ≡ None → Agrees block base m op.now told.now → slice_index (after block base m op.now) (address_of op.now - base + at) ≡ slice_index result.items at }
+{
+    match told {
+        Some(reply) => left_by_reply(block, op, reply),
+        None => left_by_write(op),
+    }
+}
+
+/// The AtomicOp, which was answered with those bytes, leaves them.
+fn is_kept(block: u16, op: &Op, old: &ArrayVec<u8, MAX_PAYLOAD>) -> bool
+    requires { IsBlock block }
+    ensures { IsTrue result → (base : ℕ) (m : List ℕ) → answer block base m op.now ≡ replies.Data old.now → after block base m op.now ≡ m }
+{
+    only_the_place_changes();
+    if !is_atomic(op) {
+        return false;
+    }
+    changed(block, op, old.as_slice()).as_slice() == old.as_slice()
+}
+
+pub(crate) fn is_read(op: &Op) -> bool
+    ensures { IsTrue result → (a : ℕ) × (d : ℕ) × (f : ℕ) × (l : ℕ) × (op.now ≡ ops.Read a d f l) }
+{
+    matches!(op, Op::Read { .. })
+}
+
+/// The AtomicOp, which was answered so, leaves what it was answered.
+fn is_kept_by(block: u16, op: &Op, reply: &Reply) -> bool
+    requires { IsBlock block }
+    ensures { IsTrue result → (base : ℕ) (m : List ℕ) → answer block base m op.now ≡ reply.now → after block base m op.now ≡ m }
+{
+    match reply {
+        Reply::Data(old) => is_kept(block, op, old),
+        _ => false,
+    }
+}
+
+/// Wherever the request may act, it changes nothing: a read, or an AtomicOp that leaves what it was
+/// answered.
+pub fn is_quiet(block: u16, op: &Op, told: &Option<Reply>) -> bool
+    requires { IsBlock block }
+    ensures { IsTrue result → (base : ℕ) (m : List ℕ) → Agrees block base m op.now told.now → after block base m op.now ≡ m }
+{
+    refused_and_read_change_nothing();
+    if is_read(op) {
+        return true;
+    }
+    match told {
+        Some(reply) => is_kept_by(block, op, reply),
+        None => false,
+    }
+}

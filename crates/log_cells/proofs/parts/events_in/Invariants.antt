@@ -1,0 +1,5 @@
+use Rattle.log_cells.specs.Parts.{AreKept}
+use Rattle.log_cells.proofs.parts.events_in.Given as goal
+
+abbrev pub invariant-loop-at : goal.invariant-loop-at
+invariant-loop-at l = AreKept l.log.events l.names l.low l.high l.events.items l.at

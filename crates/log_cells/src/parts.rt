@@ -1,0 +1,145 @@
+//! The part of a log on some bytes of the memory.
+ghost use Rattle.std.specs.Prelude.{◌≡◌, ◌≤◌, ℕ, IfOk, IfSome, IsTrue, Some, slice_get, length};
+ghost use Rattle.seq_memory.specs.History.{extent_of};
+ghost use Rattle.log_runs.specs.Runs.{Live, start};
+ghost use Rattle.log_cells.specs.Parts.{IsKept, NamesInside, AreKept, Holds};
+ghost use Rattle.log_cells.specs.Places.{ArePlaces};
+
+use crate::cells::Cells;
+use crate::laws::a_part_has_a_run;
+use crate::names::{name_of, names_in};
+use crate::places::place_of;
+use log_events::copy_of_reply;
+use log_runs::{Event, Log};
+use seq_memory::{ALIGNMENT, MAX_SIZE, Memory, Reply, is_base, is_size};
+use std::alloc::{AllocError, Global};
+use tlp_core::copy_of;
+
+fn copy_of_told(reply: &Option<Reply>) -> Option<Reply>
+    ensures { result ≡ reply.now }
+{
+    match reply {
+        Some(reply) => Some(copy_of_reply(reply)),
+        None => None,
+    }
+}
+
+/// The event as the part has it.
+fn kept(event: &Event, names: &[usize]) -> Event
+    ensures { IsKept names.now event.now result }
+{
+    match event {
+        Event::Sub {
+            requester,
+            op,
+            reply,
+        } => Event::Sub {
+            requester: *requester,
+            op: copy_of(op),
+            reply: copy_of_told(reply),
+        },
+        Event::Due { request } => match name_of(names, *request) {
+            Some(request) => Event::Due { request },
+            None => Event::Free,
+        },
+        Event::Free => Event::Free,
+    }
+}
+
+/// If it is a submission, all its bytes lie from `low` up to `high`.
+fn is_inside(event: &Event, low: u64, high: u64) -> bool
+    ensures { IsTrue result → NamesInside low high event.now }
+{
+    match event {
+        Event::Sub { op, .. } => place_of(op).is_inside(low, high),
+        _ => true,
+    }
+}
+
+/// The event with the name at that place.
+fn event_at<'a>(log: &'a Log, names: &[usize], at: usize) -> Option<&'a Event>
+    ensures { IfSome result (λ e. (a : ℕ) × (slice_get names.now at ≡ Some a) × (slice_get log.now.events a ≡ Some e.now)) }
+{
+    log.events.get(*names.get(at)?)
+}
+
+/// The events with these names; none if a request isn't inside.
+fn events_in(
+    alloc: Global,
+    log: &Log,
+    names: &[usize],
+    low: u64,
+    high: u64,
+) -> Result<Option<Vec<Event>>, AllocError>
+    ensures { IfOk result (λ o. IfSome o (λ v. AreKept log.now.events names.now low high v.items (length names.now))) }
+{
+    let mut events = Vec::with_capacity(alloc, names.len())?;
+    for at in 0..names.len() {
+        let Some(event) = event_at(log, names, at) else {
+            return Ok(None);
+        };
+        if !is_inside(event, low, high) {
+            return Ok(None);
+        }
+        events.push(kept(event, names))?;
+    }
+    Ok(Some(events))
+}
+
+/// How many bytes there are in whole blocks, at least one.
+fn in_blocks(count: usize) -> usize
+    requires few { count ≤ 1048576 }
+    ensures { count ≤ result }
+{
+    (count / ALIGNMENT + 1) * ALIGNMENT
+}
+
+/// A memory of whole blocks with the bytes from `low` up to `high`, if there can be one.
+fn memory_for(alloc: Global, log: &Log, low: u64, high: u64) -> Result<Option<Memory>, AllocError>
+    ensures { IfOk result (λ o. IfSome o (λ m. (m.block ≡ log.now.extent.block) × Holds (extent_of m) low high)) }
+{
+    let base = low - low % ALIGNMENT as u64;
+    if high <= base || high - base > MAX_SIZE as u64 {
+        return Ok(None);
+    }
+    let size = in_blocks((high - base) as usize);
+    if !is_size(size) || !is_base(base, size) {
+        return Ok(None);
+    }
+    let memory = Memory::new(alloc, base, size, log.memory.block())?;
+    Ok(Some(memory))
+}
+
+/// The log's memory has the bytes from `low` up to `high`.
+fn holds(log: &Log, low: u64, high: u64) -> bool
+    ensures { IsTrue result → Holds log.now.extent low high }
+{
+    let base = log.memory.base();
+    base <= low && low <= high && high - base <= log.memory.size() as u64
+}
+
+/// The part of the log on the bytes from `low` up to `high`; none if a request crosses an end of them.
+/// If no run leads through it, none leads through the log.
+pub fn part(
+    alloc: Global,
+    log: &Log,
+    cells: &Cells,
+    low: u64,
+    high: u64,
+) -> Result<Option<Log>, AllocError>
+    requires places { ArePlaces log.now.events cells.now }
+    ensures { IfOk result (λ o. IfSome o (λ p. Live log.now (start log.now) → Live p (start p))) }
+{
+    a_part_has_a_run();
+    if !holds(log, low, high) {
+        return Ok(None);
+    }
+    let Some(memory) = memory_for(alloc, log, low, high)? else {
+        return Ok(None);
+    };
+    let names = names_in(alloc, cells.places(), low, high)?;
+    let Some(events) = events_in(alloc, log, &names, low, high)? else {
+        return Ok(None);
+    };
+    Ok(Some(Log { memory, events }))
+}

@@ -1,0 +1,75 @@
+//! Which bytes the events of a log name.
+ghost use Rattle.std.specs.Prelude.{◌≡◌, ◌+◌, ◌≤◌, ◌⊎◌, ℕ, IfOk, IsTrue};
+ghost use Rattle.tlp_core.specs.Operation.{address_of, count_of};
+ghost use Rattle.log_cells.specs.Places.{ArePlaces, IsPlaceOf};
+
+use log_runs::{Event, Log};
+use std::alloc::{AllocError, Global};
+use tlp_core::Op;
+
+/// Some bytes, by their first address and their number.
+#[derive(Clone, Copy)]
+pub(crate) struct Place {
+    pub(crate) from: u64,
+    pub(crate) count: u32,
+}
+
+/// No bytes.
+const NOWHERE: Place = Place { from: 0, count: 0 };
+
+impl Place {
+    /// No byte of it lies from `low` up to `high`.
+    pub(crate) fn is_outside(self, low: u64, high: u64) -> bool
+        ensures { IsTrue result → (self.from + self.count ≤ low) ⊎ (high ≤ self.from) }
+    {
+        high <= self.from || (self.from <= low && u64::from(self.count) <= low - self.from)
+    }
+
+    /// All bytes of it lie from `low` up to `high`.
+    pub(crate) fn is_inside(self, low: u64, high: u64) -> bool
+        ensures { IsTrue result → (low ≤ self.from) × (self.from + self.count ≤ high) }
+    {
+        low <= self.from && self.from <= high && u64::from(self.count) <= high - self.from
+    }
+}
+
+pub(crate) fn place_of(op: &Op) -> Place
+    ensures from { result.from ≡ address_of op.now }
+    ensures count { result.count ≡ count_of op.now }
+{
+    Place {
+        from: op.address(),
+        count: op.size(),
+    }
+}
+
+/// The place of the request, as far as it is known.
+fn known(places: &[Place], request: usize) -> Place {
+    match places.get(request) {
+        Some(place) => *place,
+        None => NOWHERE,
+    }
+}
+
+/// The place of a request, or of the request that an answer answers.
+fn place_at(event: &Event, places: &[Place]) -> Place
+    ensures { IsPlaceOf event.now result }
+{
+    match event {
+        Event::Sub { op, .. } => place_of(op),
+        Event::Due { request } => known(places, *request),
+        Event::Free => NOWHERE,
+    }
+}
+
+/// The places of a log's events.
+pub(crate) fn places_of(alloc: Global, log: &Log) -> Result<Vec<Place>, AllocError>
+    ensures { IfOk result (λ v. ArePlaces log.now.events v.items) }
+{
+    let mut places = Vec::with_capacity(alloc, log.events.len())?;
+    for event in &log.events {
+        let place = place_at(event, &places);
+        places.push(place)?;
+    }
+    Ok(places)
+}

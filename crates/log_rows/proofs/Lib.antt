@@ -1,0 +1,4 @@
+pub mod Clocks
+pub mod Endings
+pub mod Found
+pub mod Dead

@@ -1,0 +1,14 @@
+use Rattle.std.proofs.Common.{arith}
+use Rattle.run_search.specs.Places.{state_of}
+use Rattle.run_search.proofs.rules.is_first.Goals as goal
+
+pub returns : goal.returns
+returns c = λ so.
+    c.the_first_acts_at_once.ensures c.args.log.now (state_of c.args.place.now) c.args.q c.in-Some.r c.in-Some.a (record {
+      due = c.in-Some.ensures;
+      since = omega (arith, c.if-a-place.false);
+      follows = c.follows.ensures c.if-not-follows.false;
+      left = c.is_left.ensures c.if-not-is_left.false;
+      may = c.requires.may;
+      others = c.others_spare.ensures so;
+    })

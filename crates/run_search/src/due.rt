@@ -1,0 +1,80 @@
+//! Till when requests must act.
+ghost use Rattle.std.specs.Prelude.{◌≡◌, Some, IfSome, slice_get};
+ghost use Rattle.log_runs.specs.declared.Event.TheVariants as events;
+
+use log_runs::{Event, Log};
+use std::alloc::{AllocError, Global};
+
+/// No place.
+const NOWHERE: usize = usize::MAX;
+
+fn nowhere(alloc: Global, count: usize) -> Result<Vec<usize>, AllocError> {
+    vec![in alloc; NOWHERE; count]
+}
+
+/// The place of each request's answer, by the place of its submission.
+fn answers(alloc: Global, log: &Log) -> Result<Vec<usize>, AllocError> {
+    let mut due = nowhere(alloc, log.events.len())?;
+    let mut at = 0usize;
+    for event in &log.events {
+        if let Event::Due { request } = event && *request < due.len() {
+            due[*request] = at;
+        }
+        at = at.saturating_add(1);
+    }
+    Ok(due)
+}
+
+/// Of the requester's later answered requests the least place where one is due, and that of a request.
+fn lower(log: &Log, due: &mut [usize], least: &mut [usize], b: usize) {
+    let Some(Event::Sub { requester, op, .. }) = log.events.get(b) else {
+        return;
+    };
+    let who = usize::from(*requester);
+    if who >= least.len() || b >= due.len() {
+        return;
+    }
+    if op.is_posted() {
+        due[b] = least[who];
+    } else if due[b] < least[who] {
+        least[who] = due[b];
+    }
+}
+
+/// The place of each request's answer, by the place of its submission; of a posted write, of the
+/// first answer to a later request of its requester.
+pub(crate) fn places(alloc: Global, log: &Log) -> Result<Vec<usize>, AllocError> {
+    let mut due = answers(alloc, log)?;
+    let mut least = nowhere(alloc, 256)?;
+    let count = due.len();
+    for i in 0..count {
+        lower(log, due.as_mut_slice(), least.as_mut_slice(), count - 1 - i);
+    }
+    Ok(due)
+}
+
+/// The place before which the request must act, and the request whose answer stands there.
+pub(crate) fn held_until(due: &[usize], log: &Log, q: usize) -> Option<(usize, usize)>
+    ensures { IfSome result (λ d. slice_get log.now.events d.0 ≡ Some (events.Due d.1)) }
+{
+    let Some(a) = due.get(q) else {
+        return None;
+    };
+    match log.events.get(*a) {
+        Some(Event::Due { request }) => Some((*a, *request)),
+        _ => None,
+    }
+}
+
+/// The place of the request's answer.
+pub(crate) fn place_of(due: &[usize], log: &Log, q: usize) -> Option<usize>
+    ensures { IfSome result (λ a. slice_get log.now.events a ≡ Some (events.Due q)) }
+{
+    let Some((a, r)) = held_until(due, log, q) else {
+        return None;
+    };
+    if r != q {
+        return None;
+    }
+    Some(a)
+}

@@ -1,0 +1,80 @@
+//! What the others that could act before a request do to it.
+ghost use Rattle.std.specs.Prelude.{ℕ, ◌≡◌, ◌<◌, ◌≤◌, true, IsTrue};
+ghost use Rattle.search_rules.specs.Rules.{AllOthers};
+ghost use Rattle.run_search.specs.Pending.{has};
+ghost use Rattle.run_search.specs.Places.{state_of, IsPlace};
+ghost use Rattle.run_search.specs.Spared.{Spares};
+
+use crate::place::Place;
+use log_runs::Log;
+use search_rules::laws::answers_yield;
+use search_rules::{lets_first, never_brings, yields};
+
+/// What is asked of the others.
+#[derive(Clone, Copy)]
+pub(crate) enum Asked {
+    /// They don't bring what the request needs.
+    Lost,
+    /// Nor does it make a difference to them.
+    Last,
+    /// They have none of its bytes, or can't act before it.
+    First,
+}
+
+/// Request `b` does to request `q` as is asked.
+fn spares(log: &Log, bytes: &[u8], b: usize, q: usize, asked: Asked) -> bool
+    ensures { IsTrue result → Spares log.now bytes.now q asked b }
+{
+    match asked {
+        Asked::Lost => never_brings(log, b, q),
+        Asked::Last => yields(log, b, q),
+        Asked::First => lets_first(log, bytes, b, q),
+    }
+}
+
+/// It is `q` itself, or spares it.
+fn allows(log: &Log, bytes: &[u8], b: usize, q: usize, asked: Asked) -> bool
+    ensures { IsTrue result → (q ≡ b → ⊥) → Spares log.now bytes.now q asked b }
+{
+    if b == q {
+        return true;
+    }
+    spares(log, bytes, b, q, asked)
+}
+
+/// All of the list spare `q`.
+fn all_spare(pending: &[usize], log: &Log, bytes: &[u8], q: usize, asked: Asked) -> bool
+    ensures { IsTrue result → (b : ℕ) → has pending.now b ≡ true → (q ≡ b → ⊥) → Spares log.now bytes.now q asked b }
+{
+    for b in pending {
+        if !allows(log, bytes, *b, q, asked) {
+            return false;
+        }
+    }
+    true
+}
+
+/// All that are submitted from one place on and before another spare `q`.
+fn later_spare(log: &Log, bytes: &[u8], from: usize, to: usize, q: usize, asked: Asked) -> bool
+    ensures { IsTrue result → (b : ℕ) → from ≤ b → b < to → (q ≡ b → ⊥) → Spares log.now bytes.now q asked b }
+{
+    for b in from..to {
+        if !allows(log, bytes, b, q, asked) {
+            return false;
+        }
+    }
+    true
+}
+
+/// All that could act before place `a` spare `q`.
+pub(crate) fn others_spare(place: &Place, log: &Log, q: usize, a: usize, asked: Asked) -> bool
+    requires { IsPlace log.now place.now }
+    ensures { IsTrue result → AllOthers (state_of place.now) q a (Spares log.now (state_of place.now).bytes q asked) }
+{
+    answers_yield();
+    let bytes = place.key.bytes.as_slice();
+    if !all_spare(place.key.pending.as_slice(), log, bytes, q, asked) {
+        return false;
+    }
+    later_spare(log, bytes, place.key.event, a, q, asked)
+}

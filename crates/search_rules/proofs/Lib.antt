@@ -1,0 +1,5 @@
+pub mod RuleLemmas
+pub mod LostLemmas
+pub mod LastLemmas
+pub mod PairLemmas
+pub mod FirstLemmas

@@ -1,0 +1,122 @@
+-- Two requests of a log, by what their operations do.
+use Rattle.std.proofs.Common.{◌≡◌, ◌∙◌, ◌⊎◌, inl, inr, ℕ, ◌<◌, List, length, get_or, Some, None, Option, refl, sym, ap, subst}
+use Rattle.std.specs.Prelude.{slice_get}
+use Rattle.std.proofs.lemmas.Option.{slice_get_read, same_Some}
+use Rattle.tlp_core.specs.declared.operation.Op.{Op}
+use Rattle.seq_memory.specs.declared.Reply.{Reply}
+use Rattle.seq_memory.specs.Limits.{Extent}
+use Rattle.seq_memory.specs.Step.{after, answer}
+use Rattle.byte_effects.specs.Effects.{Agrees}
+use Rattle.log_runs.specs.declared.Event.{Event}
+use Rattle.log_runs.specs.declared.Event.TheVariants as events
+use Rattle.log_runs.specs.Task.{Task}
+use Rattle.log_runs.specs.Runs.{reply_of, bytes_after, acted_on}
+use Rattle.search_rules.specs.Rules.{Answers, Suits, Ends, NeverBrings, Yields}
+
+-- an event that was read
+pub event_at : (es ds items : List Event) (b : ℕ) (r e : Event) → ds ≡ items → items ≡ es → b < length ds → r ≡ get_or ds b r → r ≡ e → slice_get es b ≡ Some e
+event_at es ds items b r e one two within read is =
+    ap (λ xs. slice_get xs b) (sym (one ∙ two)) ∙ slice_get_read ds (length ds) b r refl within read ∙ ap Some is
+
+-- ---- by their operations
+
+abbrev pub KeepsOut : ℕ → Op → Op → Option Reply → Option Reply → Type 0
+KeepsOut block one op told reply =
+    (base : ℕ) (m : List ℕ) → Agrees block base m one told → Agrees block base (after block base m one) op reply → Agrees block base m op reply
+
+abbrev pub GivesWay : ℕ → Op → Op → Option Reply → Option Reply → Type 0
+GivesWay block one op told reply =
+    (base : ℕ) (m : List ℕ) → Agrees block base m one told → Agrees block base m op reply
+    → (Agrees block base (after block base m one) op reply → ⊥)
+    ⊎ (Agrees block base (after block base m one) op reply × Agrees block base (after block base m op) one told
+    × (after block base (after block base m one) op ≡ after block base (after block base m op) one))
+
+pub brings_by : (x : Extent) (o : Option Event) (i block : ℕ) (one op : Op) (told reply : Option Reply) → block ≡ x.block → o ≡ Some (events.Sub i op reply)
+    → KeepsOut block one op told reply → (m : List ℕ) → Answers x m one told → Suits x (bytes_after x m one) o → Suits x m o
+unfolding reply_of bytes_after
+brings_by x o i block one op told reply eb at never m agrees there =
+    let never_here : KeepsOut x.block one op told reply = subst (λ n. KeepsOut n one op told reply) eb never in
+    let before : Suits x m (Some (events.Sub i op reply)) = never_here x.base m agrees (subst (Suits x (after x.block x.base m one)) at there) in
+    subst (Suits x m) (sym at) before
+
+pub yields_by : (x : Extent) (o : Option Event) (i block : ℕ) (one op : Op) (told reply : Option Reply) → block ≡ x.block → o ≡ Some (events.Sub i op reply)
+    → GivesWay block one op told reply → (m : List ℕ) → Answers x m one told → Suits x m o → (j : ℕ) → Ends x m (bytes_after x m one) (Some (events.Sub j one told)) o
+unfolding reply_of bytes_after acted_on
+yields_by x o i block one op told reply eb at yields m agrees there j =
+    let way : GivesWay x.block one op told reply = subst (λ n. GivesWay n one op told reply) eb yields in
+    let ends : Ends x m (after x.block x.base m one) (Some (events.Sub j one told)) (Some (events.Sub i op reply)) = way x.base m agrees (subst (Suits x m) at there) in
+    subst (Ends x m (after x.block x.base m one) (Some (events.Sub j one told))) (sym at) ends
+
+-- ---- by their places
+
+pub brings_at : (log : Task) (b q i : ℕ) (one : Op) (told : Option Reply) → slice_get log.events b ≡ Some (events.Sub i one told)
+    → ((m : List ℕ) → Answers log.extent m one told → Suits log.extent (bytes_after log.extent m one) (slice_get log.events q) → Suits log.extent m (slice_get log.events q))
+    → NeverBrings log b q
+unfolding acted_on
+brings_at log b q i one told at never m agrees there =
+    never m (subst (Suits log.extent m) at agrees) (subst (λ o. Suits log.extent (acted_on log.extent m o) (slice_get log.events q)) at there)
+
+pub yields_at : (log : Task) (b q i : ℕ) (one : Op) (told : Option Reply) → slice_get log.events b ≡ Some (events.Sub i one told)
+    → ((m : List ℕ) → Answers log.extent m one told → Suits log.extent m (slice_get log.events q) → (j : ℕ) → Ends log.extent m (bytes_after log.extent m one) (Some (events.Sub j one told)) (slice_get log.events q))
+    → Yields log b q
+unfolding acted_on
+yields_at log b q i one told at yields m agrees there =
+    subst (λ o. Ends log.extent m (acted_on log.extent m o) o (slice_get log.events q)) (sym at) (yields m (subst (Suits log.extent m) at agrees) there i)
+
+pub quiet_at : (x : Extent) (o : Option Event) (i block : ℕ) (op : Op) (told : Option Reply) → block ≡ x.block → o ≡ Some (events.Sub i op told)
+    → ((base : ℕ) (m : List ℕ) → Agrees block base m op told → after block base m op ≡ m) → (m : List ℕ) → Suits x m o → acted_on x m o ≡ m
+unfolding acted_on bytes_after reply_of
+quiet_at x o i block op told eb at quiet m there =
+    let here : (base : ℕ) (m : List ℕ) → Agrees x.block base m op told → after x.block base m op ≡ m =
+    subst (λ n. (base : ℕ) (m : List ℕ) → Agrees n base m op told → after n base m op ≡ m) eb quiet in
+    ap (acted_on x m) at ∙ here x.base m (subst (Suits x m) at there)
+
+-- ---- what is no submission
+
+idle : (x : Extent) (o : Option Event) → ((i : ℕ) (op : Op) (told : Option Reply) → o ≡ Some (events.Sub i op told) → ⊥) → (m : List ℕ) → acted_on x m o ≡ m
+unfolding acted_on
+idle x (Some (events.Sub i op told)) none m = absurd (none i op told refl)
+idle x (Some (events.Due b)) none m = refl
+idle x (Some events.Free) none m = refl
+idle x None none m = refl
+
+pub idle_brings : (log : Task) (b q : ℕ) → ((i : ℕ) (op : Op) (told : Option Reply) → slice_get log.events b ≡ Some (events.Sub i op told) → ⊥) → NeverBrings log b q
+idle_brings log b q none m agrees there = subst (λ k. Suits log.extent k (slice_get log.events q)) (idle log.extent (slice_get log.events b) none m) there
+
+suits_idle : (x : Extent) (o : Option Event) → ((i : ℕ) (op : Op) (told : Option Reply) → o ≡ Some (events.Sub i op told) → ⊥) → (m : List ℕ) → Suits x m o
+suits_idle x (Some (events.Sub i op told)) none m = absurd (none i op told refl)
+suits_idle x (Some (events.Due b)) none m = tt
+suits_idle x (Some events.Free) none m = tt
+suits_idle x None none m = tt
+
+pub idle_yields : (log : Task) (b q : ℕ) → ((i : ℕ) (op : Op) (told : Option Reply) → slice_get log.events b ≡ Some (events.Sub i op told) → ⊥) → Yields log b q
+idle_yields log b q none m agrees there =
+    let x = log.extent in
+    let one = slice_get log.events b in
+    let other = slice_get log.events q in
+    inr (
+      subst (λ k. Suits x k other) (sym (idle x one none m)) there,
+      suits_idle x one none (acted_on x m other),
+      ap (λ k. acted_on x k other) (idle x one none m) ∙ sym (idle x one none (acted_on x m other)),
+    )
+
+pub not_due : (o : Option Event) (c i : ℕ) (op : Op) (told : Option Reply) → o ≡ Some (events.Due c) → o ≡ Some (events.Sub i op told) → ⊥
+not_due o c i op told e f = cc
+
+pub not_free : (o : Option Event) (i : ℕ) (op : Op) (told : Option Reply) → o ≡ Some events.Free → o ≡ Some (events.Sub i op told) → ⊥
+not_free o i op told e f = cc
+
+-- one reply is all that was answered
+pub way_of : (block base : ℕ) (m : List ℕ) (one op : Op) (told asked : Option Reply) (reply : Reply) → asked ≡ Some reply
+    → ((answer block base (after block base m one) op ≡ reply → ⊥)
+    ⊎ ((answer block base (after block base m one) op ≡ reply) × Agrees block base (after block base m op) one told
+    × (after block base (after block base m one) op ≡ after block base (after block base m op) one)))
+    → (Agrees block base (after block base m one) op asked → ⊥)
+    ⊎ (Agrees block base (after block base m one) op asked × Agrees block base (after block base m op) one told
+    × (after block base (after block base m one) op ≡ after block base (after block base m op) one))
+way_of block base m one op told asked reply is (inl broken) = inl (λ there. broken (there reply is))
+way_of block base m one op told asked reply is (inr (still, agrees, swap)) =
+    inr ((λ r told_it. still ∙ same_Some reply r (sym is ∙ told_it)), agrees, swap)
+
+pub not_none : (o : Option Event) (i : ℕ) (op : Op) (told : Option Reply) → o ≡ None → o ≡ Some (events.Sub i op told) → ⊥
+not_none o i op told e f = cc

@@ -1,0 +1,13 @@
+//! Rules by which a search for a run needn't try everything.
+//!
+//! A run is dead once a request doesn't find what it needs and no other brings it before its answer is
+//! due. A request that may act acts at once, if each other that could act before it takes away for
+//! good what it needs, or makes no difference to it; and if none that has one of its bytes can act
+//! before it. [`laws`] says both of all runs, whatever the
+//! operations do. What two requests of a log do to each other is told by their bytes.
+#![tactic(auto)]
+
+pub mod laws;
+mod pairs;
+
+pub use pairs::{changes_nothing, follows, lets_first, never_brings, yields};

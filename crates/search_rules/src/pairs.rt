@@ -1,0 +1,186 @@
+//! What two requests of a log do to each other.
+ghost use Rattle.std.specs.Prelude.{ℕ, ◌≡◌, ◌⊎◌, List, Option, Some, IfSome, true, IsTrue, slice_get};
+ghost use Rattle.tlp_core.specs.Operation.{is_posted};
+ghost use Rattle.seq_memory.specs.Limits.{IsBlock};
+ghost use Rattle.seq_memory.specs.Step.{after};
+ghost use Rattle.byte_effects.specs.Effects.{Agrees, AreApart, AreSameAt};
+ghost use Rattle.log_runs.specs.declared.Event.TheVariants as events;
+ghost use Rattle.log_runs.specs.Runs.{bytes_after, acted_on};
+ghost use Rattle.search_rules.specs.Rules.{Answers, Suits, Ends, NeverBrings, Yields, LetsFirst, Follows};
+
+use byte_effects::{are_apart, waits};
+use log_runs::{Event, Log};
+use seq_memory::Reply;
+use tlp_core::Op;
+
+/// Right after the first operation the memory suits the second only if it did before.
+fn keeps_out(
+    block: u16,
+    one: &Op,
+    told: &Option<Reply>,
+    other: &Op,
+    asked: &Option<Reply>,
+) -> bool
+    requires { IsBlock block }
+    ensures { IsTrue result → (base : ℕ) (m : List ℕ) → Agrees block base m one.now told.now → Agrees block base (after block base m one.now) other.now asked.now → Agrees block base m other.now asked.now }
+{
+    match asked {
+        Some(reply) => byte_effects::never_brings(block, one, told, other, reply),
+        None => false,
+    }
+}
+
+/// Right after the operation the memory suits request `q` only if it did before.
+fn never_brings_by(log: &Log, one: &Op, told: &Option<Reply>, q: usize) -> bool
+    ensures { IsTrue result → (m : List ℕ) → Answers log.now.extent m one.now told.now → Suits log.now.extent (bytes_after log.now.extent m one.now) (slice_get log.now.events q) → Suits log.now.extent m (slice_get log.now.events q) }
+{
+    match log.events.get(q) {
+        Some(Event::Sub { op, reply, .. }) => {
+            keeps_out(log.memory.block(), one, told, op, reply)
+        }
+        _ => false,
+    }
+}
+
+/// Right after request `b` acted the memory suits request `q` only if it did before.
+pub fn never_brings(log: &Log, b: usize, q: usize) -> bool
+    ensures { IsTrue result → NeverBrings log.now b q }
+{
+    match log.events.get(b) {
+        Some(Event::Sub { op, reply, .. }) => never_brings_by(log, op, reply, q),
+        Some(Event::Due { .. }) => true,
+        Some(Event::Free) => true,
+        None => false,
+    }
+}
+
+/// [`keeps_out`]; and where the memory suits both, it doesn't suit the second right after the first,
+/// or their order makes no difference.
+fn gives_way(
+    block: u16,
+    one: &Op,
+    told: &Option<Reply>,
+    other: &Op,
+    asked: &Option<Reply>,
+) -> bool
+    requires { IsBlock block }
+    ensures brings { IsTrue result → (base : ℕ) (m : List ℕ) → Agrees block base m one.now told.now → Agrees block base (after block base m one.now) other.now asked.now → Agrees block base m other.now asked.now }
+    ensures order { IsTrue result → (base : ℕ) (m : List ℕ) → Agrees block base m one.now told.now → Agrees block base m other.now asked.now → (Agrees block base (after block base m one.now) other.now asked.now → ⊥) ⊎ (Agrees block base (after block base m one.now) other.now asked.now × Agrees block base (after block base m other.now) one.now told.now × (after block base (after block base m one.now) other.now ≡ after block base (after block base m other.now) one.now)) }
+{
+    match asked {
+        Some(reply) => byte_effects::yields(block, one, told, other, reply),
+        None => false,
+    }
+}
+
+/// [`never_brings_by`]; and where the memory suits both, it doesn't suit request `q` right after the
+/// operation, or their order makes no difference.
+fn yields_by(log: &Log, one: &Op, told: &Option<Reply>, q: usize) -> bool
+    ensures brings { IsTrue result → (m : List ℕ) → Answers log.now.extent m one.now told.now → Suits log.now.extent (bytes_after log.now.extent m one.now) (slice_get log.now.events q) → Suits log.now.extent m (slice_get log.now.events q) }
+    ensures order { IsTrue result → (m : List ℕ) → Answers log.now.extent m one.now told.now → Suits log.now.extent m (slice_get log.now.events q) → (i : ℕ) → Ends log.now.extent m (bytes_after log.now.extent m one.now) (Some (events.Sub i one.now told.now)) (slice_get log.now.events q) }
+{
+    match log.events.get(q) {
+        Some(Event::Sub { op, reply, .. }) => {
+            gives_way(log.memory.block(), one, told, op, reply)
+        }
+        _ => false,
+    }
+}
+
+/// [`never_brings`]; and where the memory suits both, it doesn't suit request `q` right after request
+/// `b`, or their order makes no difference.
+pub fn yields(log: &Log, b: usize, q: usize) -> bool
+    ensures brings { IsTrue result → NeverBrings log.now b q }
+    ensures order { IsTrue result → Yields log.now b q }
+{
+    match log.events.get(b) {
+        Some(Event::Sub { op, reply, .. }) => yields_by(log, op, reply, q),
+        Some(Event::Due { .. }) => true,
+        Some(Event::Free) => true,
+        None => false,
+    }
+}
+
+/// Wherever request `q` may act, it changes nothing.
+pub fn changes_nothing(log: &Log, q: usize) -> bool
+    ensures { IsTrue result → (m : List ℕ) → Suits log.now.extent m (slice_get log.now.events q) → acted_on log.now.extent m (slice_get log.now.events q) ≡ m }
+{
+    match log.events.get(q) {
+        Some(Event::Sub { op, reply, .. }) => {
+            byte_effects::is_quiet(log.memory.block(), op, reply)
+        }
+        _ => false,
+    }
+}
+
+/// The operations have no byte in common, or the first waits till the bytes of the second aren't these.
+fn goes_behind(base: u64, bytes: &[u8], one: &Op, told: &Option<Reply>, other: &Op) -> bool
+    ensures { IsTrue result → AreApart one.now other.now ⊎ ((block : ℕ) (n : List ℕ) → AreSameAt base other.now bytes.now n → Agrees block base n one.now told.now → ⊥) }
+{
+    if are_apart(one, other) {
+        return true;
+    }
+    waits(base, bytes, one, told, other)
+}
+
+/// The operation has no byte of request `q`, or waits till those bytes aren't these.
+fn lets_first_by(log: &Log, bytes: &[u8], one: &Op, told: &Option<Reply>, q: usize) -> bool
+    ensures { IsTrue result → (j : ℕ) (other : Op) (asked : Option Reply) → slice_get log.now.events q ≡ Some (events.Sub j other asked) → AreApart one.now other ⊎ ((n : List ℕ) → AreSameAt log.now.extent.base other bytes.now n → Answers log.now.extent n one.now told.now → ⊥) }
+{
+    match log.events.get(q) {
+        Some(Event::Sub { op, .. }) => goes_behind(log.memory.base(), bytes, one, told, op),
+        _ => false,
+    }
+}
+
+/// Request `b` has no byte of request `q`, or can't act till the bytes there aren't these.
+pub fn lets_first(log: &Log, bytes: &[u8], b: usize, q: usize) -> bool
+    ensures { IsTrue result → LetsFirst log.now bytes.now b q }
+{
+    match log.events.get(b) {
+        Some(Event::Sub { op, reply, .. }) => lets_first_by(log, bytes, op, reply, q),
+        Some(Event::Due { .. }) => true,
+        Some(Event::Free) => true,
+        None => false,
+    }
+}
+
+/// The event submits a request of the requester.
+fn is_of(log: &Log, r: usize, requester: u8) -> bool
+    ensures { IsTrue result → (op : Op) × (told : Option Reply) × (slice_get log.now.events r ≡ Some (events.Sub requester op told)) }
+{
+    match log.events.get(r) {
+        Some(Event::Sub { requester: who, .. }) => *who == requester,
+        _ => false,
+    }
+}
+
+/// The requester of posted write `q`.
+fn writer(log: &Log, q: usize) -> Option<u8>
+    ensures { IfSome result (λ i. (w : Op) × (asked : Option Reply) × (is_posted w ≡ true) × (slice_get log.now.events q ≡ Some (events.Sub i w asked))) }
+{
+    match log.events.get(q) {
+        Some(Event::Sub { requester, op, .. }) => if op.is_posted() {
+            Some(*requester)
+        } else {
+            None
+        },
+        _ => None,
+    }
+}
+
+/// Request `r` is `q`, or its requester submitted `q` before it, a posted write.
+pub fn follows(log: &Log, q: usize, r: usize) -> bool
+    ensures { IsTrue result → Follows log.now q r }
+{
+    if q == r {
+        return true;
+    }
+    if r < q {
+        return false;
+    }
+    let Some(requester) = writer(log, q) else {
+        return false;
+    };
+    is_of(log, r, requester)
+}

@@ -1,0 +1,159 @@
+//! What `search` tells on standard error of a log that has no history.
+use search_engine::{Stages, run_search_with_reasons};
+use std::alloc::Global;
+use std::test::Fail;
+
+/// The records of a log, over a memory of 4096 bytes at 0 with blocks of 64, and what is told.
+struct Row {
+    name: &'static str,
+    records: &'static str,
+    told: &'static str,
+}
+
+static ROWS: [Row; 20] = [
+    Row {
+        name: "outside, as aborted",
+        records: "sub 1 0 add 1000 01000000\nans 1 0 ca\n",
+        told: "pciex: lines 3 to 4 have no history, lines 3 to 3 have one\npciex: line 4: ans 1 0 ca\npciex: the access at 1000 isn't served: ur is expected\n",
+    },
+    Row {
+        name: "across a block, with data",
+        records: "sub 1 0 read 3C 2 F F\nans 1 0 data 0000000000000000\n",
+        told: "pciex: lines 3 to 4 have no history, lines 3 to 3 have one\npciex: line 4: ans 1 0 data 0000000000000000\npciex: the access at 3C isn't served: ca is expected\n",
+    },
+    Row {
+        name: "served, as unsupported",
+        records: "sub 1 0 swap 40 0100000000000000\nans 1 0 ur\n",
+        told: "pciex: lines 3 to 4 have no history, lines 3 to 3 have one\npciex: line 4: ans 1 0 ur\npciex: the access at 40 is served: data of 8 bytes is expected\n",
+    },
+    Row {
+        name: "too few bytes",
+        records: "sub 1 0 read 40 2 F F\nans 1 0 data 00000000\n",
+        told: "pciex: lines 3 to 4 have no history, lines 3 to 3 have one\npciex: line 4: ans 1 0 data 00000000\npciex: the access at 40 is served: data of 8 bytes is expected\n",
+    },
+    Row {
+        name: "a byte that is not enabled",
+        records: "sub 1 0 write 40 F 0 01020304\nsub 1 1 read 40 1 7 0\nans 1 1 data 01020304\n",
+        told: "pciex: lines 3 to 5 have no history, lines 3 to 4 have one\npciex: line 5: ans 1 1 data 01020304\npciex: byte 3 of the data isn't enabled: 00 is expected\n",
+    },
+    Row {
+        name: "a value that nothing puts",
+        records: "# a read of two DW\nsub 1 0 write 40 F 0 01020304\nsub 2 0 read 40 2 F F\nans 2 0 data 0102030405060708\n",
+        told: "pciex: lines 4 to 6 have no history, lines 4 to 5 have one\npciex: line 6: ans 2 0 data 0102030405060708\npciex: no request puts 05060708 at 44\n",
+    },
+    Row {
+        name: "a value that only a later write puts",
+        records: "sub 2 0 read 40 1 F 0\nans 2 0 data 01020304\nsub 1 0 write 40 F 0 01020304\n",
+        told: "pciex: lines 3 to 4 have no history, lines 3 to 3 have one\npciex: line 4: ans 2 0 data 01020304\npciex: no request puts 01020304 at 40\n",
+    },
+    Row {
+        name: "a count that no addition makes",
+        records: "sub 1 0 add 40 01000000\nsub 2 0 add 40 01000000\nans 1 0 data 00000000\nans 2 0 data 03000000\n",
+        told: "pciex: lines 3 to 6 have no history, lines 3 to 5 have one\npciex: line 6: ans 2 0 data 03000000\npciex: no request puts 03000000 at 40\n",
+    },
+    Row {
+        name: "lost update",
+        records: "sub 1 0 add 40 01000000\nsub 2 0 add 40 01000000\nans 1 0 data 00000000\nans 2 0 data 00000000\n",
+        told: "pciex: lines 3 to 6 have no history, lines 3 to 5 have one\npciex: line 6: ans 2 0 data 00000000, against these answers:\npciex: line 5: ans 1 0 data 00000000\npciex: 00000000 at 40 was there once, and two AtomicOps that change it were answered it\n",
+    },
+    Row {
+        name: "cas wins twice, of 8 bytes",
+        records: "sub 1 0 write 40 F F 0000000007000000\nsub 1 1 read 44 1 F 0\nans 1 1 data 07000000\nsub 1 2 cas 40 0000000007000000 0000000008000000\nsub 2 0 cas 40 0000000007000000 0000000009000000\nans 1 2 data 0000000007000000\nans 2 0 data 0000000007000000\n",
+        told: "pciex: lines 3 to 9 have no history, lines 3 to 8 have one\npciex: line 9: ans 2 0 data 0000000007000000, against these answers:\npciex: line 8: ans 1 2 data 0000000007000000\npciex: 07000000 at 44 was there once, and two AtomicOps that change it were answered it\n",
+    },
+    Row {
+        name: "stale read",
+        records: "sub 1 0 swap 40 05000000\nans 1 0 data 00000000\nsub 2 0 read 40 1 F 0\nans 2 0 data 00000000\nsub 2 1 read 40 1 F 0\n",
+        told: "pciex: lines 3 to 6 have no history, lines 3 to 5 have one\npciex: line 6: ans 2 0 data 00000000, against these answers:\npciex: line 4: ans 1 0 data 00000000\npciex: 00000000 at 40 was overwritten (line 3) before the request of line 5 could act\n",
+    },
+    Row {
+        name: "read behind write",
+        records: "sub 1 0 write 40 F 0 01020304\nsub 1 1 read 40 1 F 0\nans 1 1 data 00000000\n",
+        told: "pciex: lines 3 to 5 have no history, lines 3 to 4 have one\npciex: line 5: ans 1 1 data 00000000\npciex: 00000000 at 40 was overwritten (line 3) before the request of line 4 could act\n",
+    },
+    Row {
+        name: "torn write",
+        records: "sub 1 0 write 40 F F 0101010102020202\nsub 2 0 read 40 2 F F\nans 2 0 data 0101010100000000\n",
+        told: "pciex: lines 3 to 5 have no history, lines 3 to 4 have one\npciex: line 5: ans 2 0 data 0101010100000000\npciex: no order gives these answers\n",
+    },
+    Row {
+        name: "two views of two writes",
+        records: "sub 1 0 write 40 F 0 01000000\nsub 1 1 write 80 F 0 01000000\nsub 2 0 read 80 1 F 0\nans 2 0 data 01000000\nsub 2 1 read 40 1 F 0\nans 2 1 data 00000000\n",
+        told: "pciex: lines 3 to 8 have no history, lines 3 to 7 have one\npciex: line 8: ans 2 1 data 00000000, against these answers:\npciex: line 6: ans 2 0 data 01000000\npciex: no order gives these answers\n",
+    },
+    Row {
+        name: "an unanswered addition may be what puts it",
+        records: "sub 1 0 add 40 01000000\nsub 2 0 read 40 1 F 0\nans 2 0 data 02000000\n",
+        told: "pciex: lines 3 to 5 have no history, lines 3 to 4 have one\npciex: line 5: ans 2 0 data 02000000\npciex: no order gives these answers\n",
+    },
+    Row {
+        name: "some bytes of it may be put alone",
+        records: "sub 1 0 write 40 1 0 01000000\nsub 2 0 read 40 1 F 0\nans 2 0 data 01020000\n",
+        told: "pciex: lines 3 to 5 have no history, lines 3 to 4 have one\npciex: line 5: ans 2 0 data 01020000\npciex: no order gives these answers\n",
+    },
+    Row {
+        name: "number skipped",
+        records: "sub 1 0 read 40 1 F 0\nsub 1 2 read 40 1 F 0\n",
+        told: "pciex: lines 3 to 4 have no history, lines 3 to 3 have one\npciex: line 4: request 2 of requester 1 where its next is expected\n",
+    },
+    Row {
+        name: "answered twice",
+        records: "sub 1 0 read 40 1 F 0\nans 1 0 data 00000000\nans 1 0 data 00000000\n",
+        told: "pciex: lines 3 to 5 have no history, lines 3 to 4 have one\npciex: line 5: ans 1 0 data 00000000\npciex: request 0 of requester 1 was answered before\n",
+    },
+    Row {
+        name: "write answered",
+        records: "sub 1 0 write 40 F 0 01020304\nans 1 0 data 00000000\n",
+        told: "pciex: lines 3 to 4 have no history, lines 3 to 3 have one\npciex: line 4: ans 1 0 data 00000000\npciex: request 0 of requester 1 is a posted write, which has no answer\n",
+    },
+    Row {
+        name: "not submitted",
+        records: "ans 1 0 data 00000000\n",
+        told: "pciex: line 3 has no history\npciex: line 3: ans 1 0 data 00000000\npciex: request 0 of requester 1 was not submitted before\n",
+    },
+];
+
+/// Whether the search tells what the row has.
+fn tells(alloc: Global, row: &Row) -> Result<bool, Fail> {
+    let text = format!(in alloc; "pciex-log 1\nmemory 0 4096 64\n{}end\n", row.records)?;
+    let mut reader = text.as_bytes();
+    let mut out = Vec::new(alloc);
+    let mut errors = Vec::new(alloc);
+    let status = run_search_with_reasons(
+        alloc,
+        1000,
+        Stages::OfLongLogs,
+        &mut reader,
+        &mut out,
+        &mut errors,
+    );
+    Ok(status == Ok(1) && errors.as_slice() == row.told.as_bytes())
+}
+
+#[test]
+fn reasons_are_told(rt: HostRuntime) -> Result<(), Fail> {
+    for row in &ROWS {
+        assert_eq!(rt; (row.name, tells(rt.alloc(), row)?), (row.name, true));
+    }
+    Ok(())
+}
+
+#[test]
+fn stages_are_shown(rt: HostRuntime) {
+    let mut reader =
+        "pciex-log 1\nmemory 0 4096 64\nsub 1 0 swap 40 07000000\nsub 2 0 read 40 1 F 0\nans 2 0 data 07000000\nend\n".as_bytes();
+    let alloc = rt.alloc();
+    let mut out = Vec::new(alloc);
+    let mut errors = Vec::new(alloc);
+    let status = run_search_with_reasons(
+        alloc,
+        9,
+        Stages::Shown,
+        &mut reader,
+        &mut out,
+        &mut errors,
+    );
+    let is_right = errors.as_slice().starts_with(b"3 records\n".as_slice())
+        && errors.as_slice().ends_with(b" of 9 choices\n".as_slice());
+    assert!(rt; status == Ok(0) && is_right);
+}

@@ -1,0 +1,469 @@
+"""Judges `pciex search` by all histories there are, and by a device with planted defects: searches.py PROGRAM [FOLDER].
+
+It knows the memory, logs and histories by their definitions in docs/, and uses nothing of the program's code. The logs
+are the same in each run. With a FOLDER the logs are written there, and nothing is run.
+"""
+
+import os
+import re
+import subprocess
+import sys
+
+SIZE = 128
+BLOCK = 64
+HEAD = "pciex-log 1\nmemory 0 %d %d\n" % (SIZE, BLOCK)
+SMALL_LOGS = 500
+DEVICE_LOGS = 16
+# Enough for each of these logs.
+LIMIT = "200000"
+
+
+class Random:
+    """Random numbers of its own, so that each version of Python draws the same logs."""
+
+    def __init__(self, seed):
+        self.state = seed * 2654435761 % (1 << 64) + 1
+
+    def below(self, n):
+        self.state ^= self.state << 13 & 0xFFFFFFFFFFFFFFFF
+        self.state ^= self.state >> 7
+        self.state ^= self.state << 17 & 0xFFFFFFFFFFFFFFFF
+        return (self.state >> 16) % n
+
+    def between(self, least, most):
+        return least + self.below(most - least + 1)
+
+    def once_in(self, n):
+        return self.below(n) == 0
+
+    def of(self, choices):
+        return choices[self.below(len(choices))]
+
+
+# ---- the sequential memory
+
+
+class Op:
+    """An operation: its kind, its address, its size in bytes, its byte enables and its operands."""
+
+    def __init__(self, kind, address, size, first=15, last=0, data=b"", compare=b""):
+        self.kind, self.address, self.size = kind, address, size
+        self.first, self.last, self.data, self.compare = first, last, data, compare
+
+    def text(self):
+        if self.kind == "read":
+            return "read %X %d %X %X" % (self.address, self.size // 4, self.first, self.last)
+        if self.kind == "write":
+            return "write %X %X %X %s" % (self.address, self.first, self.last, shown(self.data))
+        if self.kind == "cas":
+            return "cas %X %s %s" % (self.address, shown(self.compare), shown(self.data))
+        return "%s %X %s" % (self.kind, self.address, shown(self.data))
+
+    def enables(self, place):
+        """Whether the byte at that place of a read or a write is enabled."""
+        if place < 4:
+            return self.first >> place & 1 == 1
+        return place < self.size - 4 or self.last >> place % 4 & 1 == 1
+
+
+def shown(data):
+    return data.hex().upper()
+
+
+def perform(memory, op):
+    """The memory after the operation, and the reply: None of a write."""
+    end = op.address + op.size
+    if op.address // BLOCK != (end - 1) // BLOCK:
+        return memory, None if op.kind == "write" else "ca"
+    if end > SIZE:
+        return memory, None if op.kind == "write" else "ur"
+    old = memory[op.address:end]
+    if op.kind == "read":
+        return memory, "data " + shown(bytes(b if op.enables(i) else 0 for i, b in enumerate(old)))
+    if op.kind == "write":
+        new = bytes(op.data[i] if op.enables(i) else b for i, b in enumerate(old))
+        return memory[:op.address] + new + memory[end:], None
+    if op.kind == "add":
+        total = int.from_bytes(old, "little") + int.from_bytes(op.data, "little")
+        new = (total % (1 << 8 * op.size)).to_bytes(op.size, "little")
+    elif op.kind == "swap":
+        new = op.data
+    else:
+        new = op.data if old == op.compare else old
+    return memory[:op.address] + new + memory[end:], "data " + shown(old)
+
+
+# ---- logs: lists of ("sub", requester, number, op) and ("ans", requester, number, reply)
+
+
+def line_of(record):
+    kind, requester, number, what = record
+    return "%s %d %d %s\n" % (kind, requester, number, what.text() if kind == "sub" else what)
+
+
+def text_of(records):
+    return HEAD + "".join(line_of(r) for r in records) + "end\n"
+
+
+def is_well_formed(records):
+    """Requests are numbered 0, 1, 2, .. by requester; each answer is the only one to an earlier one that isn't posted."""
+    counts, open_requests = {}, set()
+    for kind, requester, number, what in records:
+        if kind == "sub":
+            if number != counts.get(requester, 0):
+                return False
+            counts[requester] = number + 1
+            if what.kind != "write":
+                open_requests.add((requester, number))
+        elif (requester, number) in open_requests:
+            open_requests.remove((requester, number))
+        else:
+            return False
+    return True
+
+
+class Requests:
+    """The requests of a well-formed log."""
+
+    def __init__(self, records):
+        self.ops, self.replies, self.before = {}, {}, {}
+        answered, posted = [], {}
+        for kind, requester, number, what in records:
+            request = requester, number
+            if kind == "sub":
+                self.ops[request] = what
+                # What acted before this one acts: what was answered, and its requester's posted writes.
+                self.before[request] = answered + posted.get(requester, [])
+                if what.kind == "write":
+                    posted.setdefault(requester, []).append(request)
+            else:
+                self.replies[request] = what
+                answered.append(request)
+
+    def may_follow(self, request, acted):
+        return request not in acted and all(b in acted for b in self.before[request])
+
+    def is_right(self, request, reply):
+        return request not in self.replies or self.replies[request] == reply
+
+    def explains(self, history):
+        """Whether the history explains the log."""
+        memory, acted = bytes(SIZE), set()
+        for request in history:
+            if request not in self.ops or not self.may_follow(request, acted):
+                return False
+            memory, reply = perform(memory, self.ops[request])
+            if not self.is_right(request, reply):
+                return False
+            acted.add(request)
+        return all(request in acted for request in self.replies)
+
+    def has_history(self, history=(), memory=bytes(SIZE)):
+        """Whether a history that begins so explains the log: all are tried."""
+        if all(request in history for request in self.replies):
+            return True
+        for request in self.ops:
+            if self.may_follow(request, history):
+                after, reply = perform(memory, self.ops[request])
+                if self.is_right(request, reply) and self.has_history(history + (request,), after):
+                    return True
+        return False
+
+
+def is_explainable(records):
+    return is_well_formed(records) and Requests(records).has_history()
+
+
+# ---- a device: requests travel, act and are answered, each after a time of its own
+
+
+class Device:
+    """A memory behind links. Posted writes of a requester act in order, and no request passes one; all else may."""
+
+    def __init__(self, random, defect):
+        self.random, self.defect = random, defect
+        self.memory, self.before = bytes(SIZE), bytes(SIZE)
+        self.memories = [self.memory]
+        self.way, self.records = [], []
+        self.counts, self.last_posted, self.ticks = {}, {}, 0
+        self.is_planted, self.last_reply = False, None
+
+    def at(self, time, what, *of):
+        self.ticks += 1
+        self.way.append((time, self.ticks, what, of))
+
+    def plants(self, defect, once_in=3):
+        """Whether the defect happens now: once in a run, and not always where it could first."""
+        if self.defect != defect or self.is_planted or not self.random.once_in(once_in):
+            return False
+        self.is_planted = True
+        return True
+
+    def note(self, _, requester, op):
+        """The next number of the requester, under which its request is submitted."""
+        number = self.counts.get(requester, 0)
+        self.counts[requester] = number + 1
+        self.records.append(("sub", requester, number, op))
+        return number
+
+    def submit(self, now, requester, op):
+        number = self.note(now, requester, op)
+        last = self.last_posted.get(requester, 0)
+        time = max(now + self.random.between(1, 12), last + 1)
+        if op.kind == "write":
+            if last > now + 1 and self.plants("disorder", 1):
+                time = now + 1
+            self.last_posted[requester] = max(time, last)
+        self.at(time, self.act, requester, number, op)
+
+    def act(self, now, requester, number, op):
+        if op.kind == "write" and self.plants("dropped"):
+            return
+        if op.kind == "write" and op.size == 8 and self.plants("torn", 1):
+            half = Op("write", op.address, 4, data=op.data[:4])
+            self.change(half)
+            self.at(now + 12, self.act, requester, number, Op("write", op.address + 4, 4, data=op.data[4:]))
+            return
+        reply = self.change(op)
+        if reply is not None:
+            self.at(now + self.random.between(1, 12), self.answer, requester, number, reply)
+
+    def change(self, op):
+        """Acts on the memory, with a defect where one is planted."""
+        before = self.memory
+        if op.kind == "cas" and before[op.address:op.address + op.size] != op.compare and self.plants("compare"):
+            self.memory, reply = perform(before, Op("swap", op.address, op.size, data=op.data))
+            return reply
+        if op.kind == "read":
+            _, stale = perform(self.before, op)
+            _, reply = perform(before, op)
+            return stale if stale != reply and self.plants("stale") else reply
+        after, reply = perform(before, op)
+        if op.kind != "write" and after != before:
+            if self.plants("lost"):
+                return reply
+            if self.plants("twice"):
+                after, _ = perform(after, op)
+        if after != before:
+            self.memory, self.before = after, before
+            self.memories.append(after)
+        return reply
+
+    def answer(self, now, requester, number, reply):
+        if self.last_reply not in (None, reply) and self.plants("another"):
+            reply = self.last_reply
+        self.last_reply = reply
+        self.records.append(("ans", requester, number, reply))
+
+    def run(self):
+        """Until nothing is on its way."""
+        while self.way:
+            event = min(self.way)
+            self.way.remove(event)
+            time, _, what, of = event
+            what(time, *of)
+        return self.records
+
+
+DEFECTS = {
+    "lost": "an AtomicOp's new value is lost",
+    "stale": "a read is answered what was there before the last change",
+    "torn": "a write of two DW is done in two steps",
+    "dropped": "a posted write is dropped",
+    "disorder": "a posted write passes an earlier one of its requester",
+    "twice": "an AtomicOp is done twice",
+    "another": "a request is answered another one's reply",
+    "compare": "a CAS writes where the operands differ",
+}
+
+
+def operation(random, words, values, odd):
+    """An operation on one of so many words; `odd` ones now and then cross a block, lie outside, or touch some bytes."""
+    address = random.below(words) * 4
+    is_odd = odd and random.once_in(2)
+    size = 8 if random.once_in(4) else 4
+    if is_odd and random.once_in(5):
+        address = random.of([BLOCK - 4, SIZE])
+    elif size == 8:
+        address = address // 8 * 8
+    data = b"".join(values().to_bytes(4, "little") for _ in range(size // 4))
+    kind = random.of(["read", "read", "write", "write", "add", "swap", "cas"])
+    first = random.between(1, 15) if is_odd else 15
+    if kind in ("read", "write"):
+        return Op(kind, address, size, first, 15 if size == 8 else 0, data)
+    address = address // size * size
+    return Op(kind, address, size, data=data, compare=values().to_bytes(size, "little"))
+
+
+# ---- the logs
+
+
+def small_log(seed):
+    """A log of 3 to 7 requests over few words and few values. Some never act, some are unanswered, and some are answered
+    what they would have been at another time."""
+    random = Random(seed)
+    device = Device(random, random.of([None, "disorder"]))
+    requesters, words, few = random.between(2, 3), random.between(1, 2), random.between(1, 4)
+    gap, loses, lies = random.of([4, 12]), random.of([4, 100]), random.of([1, 2, 3, 100])
+    is_odd = random.once_in(2)
+    ops, now = {}, 0
+    for _ in range(random.between(3, 7)):
+        now += random.below(gap)
+        op = operation(random, words, lambda: random.below(few + 1), is_odd)
+        requester = random.between(1, requesters)
+        is_lost = op.kind != "write" and random.once_in(loses)
+        device.at(now, device.note if is_lost else device.submit, requester, op)
+    records = []
+    for record in device.run():
+        kind, requester, number, what = record
+        if kind == "sub":
+            ops[requester, number] = what
+        elif random.once_in(loses):
+            continue
+        elif random.once_in(lies):
+            record = kind, requester, number, perform(random.of(device.memories), ops[requester, number])[1]
+        records.append(record)
+    if len(records) > 1 and random.once_in(2):
+        place = random.below(len(records) - 1)
+        swapped = records[:place] + [records[place + 1], records[place]] + records[place + 2:]
+        if is_well_formed(swapped) or random.once_in(8):
+            records = swapped
+    if records and random.once_in(24):
+        records.append(random.of(records))
+    return records
+
+
+def device_log(seed, defect):
+    """A log of a device, over two words and values that differ, and whether the defect happened. The last read sees all."""
+    random = Random(seed)
+    device = Device(random, defect)
+    drawn = iter(range(1, 256))
+    now = 0
+    for _ in range(14):
+        now += random.below(10)
+        op = operation(random, 2, lambda: next(drawn) * 0x01010101, False)
+        if op.kind == "cas" and random.once_in(2):
+            op.compare = bytes(op.size)
+        device.at(now, device.submit, random.between(1, 3), op)
+    device.at(now + 40, device.submit, 1, Op("read", 0, 8, 15, 15))
+    return device.run(), device.is_planted
+
+
+# ---- the program's answers
+
+
+class Judge:
+    def __init__(self, program):
+        self.program, self.failures = program, 0
+
+    def run(self, words, text):
+        done = subprocess.run([self.program] + words, input=text, capture_output=True, text=True, timeout=60)
+        return done.returncode, done.stdout, done.stderr
+
+    def say(self, failure):
+        self.failures += 1
+        print("searches: " + failure)
+
+    def tell(self, name, why, records):
+        self.say("%s: %s\n%s" % (name, why, text_of(records).rstrip("\n")))
+
+    def answer(self, name, records):
+        """What the program says: found, none, the place and the longer and the shorter prefix that it tells of; else None."""
+        status, output, errors = self.run(["search", "--limit", LIMIT], text_of(records))
+        if status == 0:
+            if not self.is_history(output, records):
+                self.tell(name, "the history that is found does not explain the log", records)
+                return None
+            return "found", None, None
+        none = re.fullmatch("none ([0-9]+)\n", output)
+        if status != 1 or not none:
+            self.tell(name, "status %d and %r" % (status, output), records)
+            return None
+        count = int(none.group(1)) + 1
+        return "none", count, prefix_of(count, errors)
+
+    def is_history(self, output, records):
+        """Whether the output is a trace of the log whose history explains it, and `check` says so too."""
+        lines = output.splitlines(True)
+        told = [re.sub("^(sub|ans) ([0-9]+) ([0-9]+) [0-9]+ ", r"\1 \2 \3 ", line) for line in lines]
+        wanted = ["pciex-trace 2\n", HEAD.splitlines(True)[1]] + [line_of(r) for r in records] + ["history\n"]
+        entries = [line.split(" ") for line in lines[len(wanted):-1]]
+        if told[:len(wanted)] != wanted or lines[-1] != "end\n" or any(e[0] != "ent" for e in entries):
+            return False
+        requests = Requests(records)
+        history = [(int(e[1]), int(e[2])) for e in entries]
+        if any(" ".join(e[3:]) != requests.ops[h].text() + "\n" for e, h in zip(entries, history)):
+            return False
+        return requests.explains(history) and self.run(["check"], output) == (0, "ok\n", "")
+
+    def judge_small(self, name, records):
+        """Whether the answer is that of all histories, and the place the least."""
+        answer = self.answer(name, records)
+        if answer is None:
+            return "limit"
+        kind, count, explained = answer
+        if (kind == "found") != is_explainable(records):
+            self.tell(name, "%s, and by all histories it is the other way round" % kind, records)
+        elif kind == "none":
+            if is_explainable(records[:count]):
+                self.tell(name, "the first %d records have a history" % count, records)
+            elif explained != count - 1 or not is_explainable(records[:explained]):
+                self.tell(name, "%s records are said to have a history, and %d none" % (explained, count), records)
+        return kind
+
+    def logs_until_none(self, defect):
+        """How many logs with the defect are judged until one has no history; None if each has one."""
+        planted = 0
+        for seed in range(DEVICE_LOGS):
+            records, is_planted = device_log(seed, defect)
+            if is_planted:
+                planted += 1
+                answer = self.answer("device %d where %s" % (seed, DEFECTS[defect]), records)
+                if answer and answer[0] == "none":
+                    return planted
+        return None
+
+
+def prefix_of(count, errors):
+    """How many records are told to have a history, by lines: the first record stands on line 3."""
+    if count == 1:
+        return 0 if errors.startswith("pciex: line 3 has no history\n") else None
+    told = re.match("pciex: lines 3 to ([0-9]+) have no history, lines 3 to ([0-9]+) have one\n", errors)
+    if not told or int(told.group(1)) != count + 2:
+        return None
+    return int(told.group(2)) - 2
+
+
+def judge(program):
+    judge = Judge(program)
+    kinds = [judge.judge_small("small log %d" % seed, small_log(seed)) for seed in range(SMALL_LOGS)]
+    for kind in ["found", "none"]:
+        if kinds.count(kind) < SMALL_LOGS // 4:
+            judge.say("only %d of %d small logs are %s" % (kinds.count(kind), SMALL_LOGS, kind))
+    for seed in range(DEVICE_LOGS):
+        records, _ = device_log(seed, None)
+        if judge.answer("device %d" % seed, records) != ("found", None, None):
+            judge.tell("device %d" % seed, "it has no defect, and no history is found", records)
+    counts = {defect: judge.logs_until_none(defect) for defect in DEFECTS}
+    for defect, count in counts.items():
+        if count is None:
+            judge.say("each log of a device where %s has a history" % DEFECTS[defect])
+    print("searches: %d small logs, %d with a history; defects, and logs until one has none: %s; %s" % (
+        SMALL_LOGS, kinds.count("found"), ", ".join("%s %s" % c for c in counts.items()),
+        "%d failures" % judge.failures if judge.failures else "each answer is right"))
+    return judge.failures > 0
+
+
+def write(folder):
+    logs = {"small_%d" % seed: small_log(seed) for seed in range(SMALL_LOGS)}
+    for defect in [None] + list(DEFECTS):
+        for seed in range(DEVICE_LOGS):
+            logs["%s_%d" % (defect or "sound", seed)] = device_log(seed, defect)[0]
+    for name, records in logs.items():
+        with open(os.path.join(folder, name + ".txt"), "w") as file:
+            file.write(text_of(records))
+    return False
+
+
+if __name__ == "__main__":
+    sys.exit(write(sys.argv[2]) if len(sys.argv) > 2 else judge(sys.argv[1]))
