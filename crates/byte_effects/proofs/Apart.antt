@@ -1,5 +1,5 @@
 -- Requests that have no byte in common.
-use Rattle.std.proofs.Common.{◌≡◌, ◌∙◌, ◌⊎◌, inl, inr, ℕ, ◌+◌, ◌-◌, ◌<◌, ◌≤◌, List, length, get_or, Option, Some, None, refl, sym, ap, subst, arith}
+use Rattle.std.proofs.Common.{◌≡◌, ◌∙◌, ◌⊎◌, inl, inr, ℕ, ◌+◌, ◌-◌, ◌<◌, ◌≤◌, List, length, get_or, Option, Some, None, refl, sym, ap, arith}
 use Rattle.std.specs.Prelude.{slice_index}
 use Rattle.std.proofs.lemmas.Grind.{same_number_lists}
 use Rattle.std.proofs.lemmas.Bool.{cases_lt}
@@ -8,9 +8,9 @@ use Rattle.tlp_core.specs.Operation.{address_of, count_of}
 use Rattle.seq_memory.specs.declared.Refusal.{Refusal}
 use Rattle.seq_memory.specs.declared.Refusal.TheVariants as refusals
 use Rattle.seq_memory.specs.declared.Reply.{Reply}
-use Rattle.seq_memory.specs.Step.{bytes_at, patched, read_back, place_after, answer, answer_by, after, after_by, refusal}
+use Rattle.seq_memory.specs.Step.{bytes_at, read_back, place_after, answer, answer_by, after, refusal}
 use Rattle.byte_effects.specs.Effects.{AreApart}
-use Rattle.byte_effects.proofs.Places.{inside, byte_there, length_place, served_after}
+use Rattle.byte_effects.proofs.Places.{inside, byte_there, length_place}
 
 abbrev pub Others : Type 0
 Others = (block base k : ℕ) (m : List ℕ) (op : Op) → (base + k < address_of op) ⊎ (address_of op + count_of op ≤ base + k) → slice_index (after block base m op) k ≡ slice_index m k

@@ -1,5 +1,5 @@
 -- Which bytes of several DW are enabled.
-use Rattle.std.proofs.Common.{◌≡◌, ◌∙◌, ℕ, zero, suc, ◌+◌, ◌-◌, ◌*◌, ◌/◌, ◌<◌, ◌≤◌, Bool, true, false, eqb, List, ◌++◌, length, get_or, replicate, refl, sym, ap, arith, length-append}
+use Rattle.std.proofs.Common.{◌≡◌, ◌∙◌, ℕ, zero, suc, ◌+◌, ◌-◌, ◌*◌, ◌/◌, ◌<◌, ◌≤◌, true, false, eqb, ◌++◌, length, get_or, replicate, refl, sym, ap, arith, length-append}
 use Rattle.std.proofs.lemmas.List.{length-replicate, get_or_append_left, get_or-append_right}
 use Rattle.std.proofs.lemmas.Bool.{ne_eqb}
 use Rattle.tlp_core.specs.Enables.{dw_enables, enables}

@@ -1,5 +1,5 @@
 -- What is known of the bytes that a request leaves.
-use Rattle.std.proofs.Common.{◌≡◌, ◌∙◌, ℕ, zero, suc, ◌+◌, ◌-◌, ◌*◌, ◌/◌, ◌<◌, ◌≤◌, true, false, List, [], ◌∷◌, ◌++◌, length, take, drop, get_or, Option, Some, None, refl, sym, ap, subst, arith}
+use Rattle.std.proofs.Common.{◌≡◌, ◌∙◌, ℕ, ◌+◌, ◌-◌, ◌/◌, ◌<◌, true, List, length, take, get_or, None, refl, sym, ap, subst, arith}
 use Rattle.std.specs.Prelude.{slice_index}
 use Rattle.std.proofs.Math.Seq.{take-length}
 use Rattle.arrayvec.specs.ArrayVec.{ArrayVec}
@@ -7,10 +7,8 @@ use Rattle.tlp_core.specs.declared.operation.Op.{Op}
 use Rattle.tlp_core.specs.declared.operation.Op.TheVariants as ops
 use Rattle.tlp_core.specs.Enables.{enables}
 use Rattle.tlp_core.specs.Operation.{address_of, count_of}
-use Rattle.seq_memory.specs.declared.Refusal.{Refusal}
-use Rattle.seq_memory.specs.declared.Reply.{Reply}
 use Rattle.seq_memory.specs.declared.Reply.TheVariants as replies
-use Rattle.seq_memory.specs.Step.{merged, bytes_at, patched, place_after, read_back, answer, after, refusal, data_of}
+use Rattle.seq_memory.specs.Step.{bytes_at, patched, place_after, read_back, answer, after, refusal, data_of}
 use Rattle.byte_effects.specs.Effects.{is_put, is_atomic}
 use Rattle.byte_effects.proofs.Places.{inside, data_served, served_there, served_after, byte_there, length_place, merged_enabled, patched_same}
 use Rattle.byte_effects.proofs.Apart.{Sizes, Places}

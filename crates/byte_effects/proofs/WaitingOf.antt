@@ -1,5 +1,5 @@
 -- A request that doesn't find what it needs.
-use Rattle.std.proofs.Common.{◌≡◌, ◌∙◌, ℕ, ◌+◌, ◌-◌, ◌<◌, ◌≤◌, true, List, length, refl, sym, ap, subst, arith}
+use Rattle.std.proofs.Common.{◌≡◌, ◌∙◌, ℕ, ◌+◌, ◌-◌, ◌<◌, ◌≤◌, true, List, length, sym, ap, subst, arith}
 use Rattle.std.specs.Prelude.{slice_index, ◌≢◌}
 use Rattle.arrayvec.specs.ArrayVec.{ArrayVec}
 use Rattle.tlp_core.specs.declared.operation.Op.{Op}

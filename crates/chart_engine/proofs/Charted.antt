@@ -18,6 +18,7 @@ use Rattle.link_chart.specs.declared.window.ChartWindow.{ChartWindow}
 use Rattle.chart_engine.specs.declared.chart.Session.{Session}
 use Rattle.chart_engine.specs.Chart as spec
 use Rattle.chart_engine.specs.Chart.{Charting, chart_responses, out_chart, WritesDocument}
+use Rattle.chart_engine.specs.Events.{IsOfEvents, WritesEvents}
 
 -- no line is answered by a text
 
@@ -71,6 +72,9 @@ silent : (ls : List (List ℕ)) (run : Run Charting) → run.text ≡ [] → (fo
 silent [] run e = e
 silent (l ∷ ls) run e = silent ls (after_line chart_responses run l) (silent_line (nat_lt 512 (length (bare l))) run l e)
 
+pub quiet_before : (w : ChartWindow) (input : List ℕ) → (fold (after_line chart_responses) (new_run (spec.new_script w)) (lines_of input)).text ≡ []
+quiet_before w input = silent (lines_of input) (new_run (spec.new_script w)) refl
+
 abbrev Pages : Type 0
 Pages = (width height : ℕ) (shapes : List Shape) → IsDocument (page_text width height shapes)
 
@@ -91,4 +95,12 @@ document-written window start read out out' is all written = record {
   text = (run_of chart_responses start read).text;
   written = written;
   document = subst (λ (s : Charting). IsDocument (run_of chart_responses s read).text) (sym is) (all window read);
+}
+
+pub events-written : (window : ChartWindow) (start : Charting) (read : List ℕ) (out out' : Option (List ℕ)) → start ≡ spec.new_script window
+    → ((w : ChartWindow) (input : List ℕ) → IsOfEvents w (out_chart w input).text) → Appends out out' (run_of chart_responses start read).text → WritesEvents window out out'
+events-written window start read out out' is all written = record {
+  text = (run_of chart_responses start read).text;
+  written = written;
+  of_events = subst (λ (s : Charting). IsOfEvents window (run_of chart_responses s read).text) (sym is) (all window read);
 }

@@ -1,3 +1,4 @@
 mod RoundLemmas
 mod States
 mod Charted
+mod Happening

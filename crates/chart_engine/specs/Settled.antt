@@ -1,20 +1,15 @@
 -- Running a fabric by rounds of events until one moves nothing, each of which a chart is told.
-use Rattle.std.specs.Prelude.{ℕ, zero, suc, ◌-◌, ◌^◌, ◌||◌, Bool, false, if◌then◌else◌, List, [], ◌∷◌, fold, Result, Ok, Err, is_ok}
-use Rattle.dllp_core.specs.declared.packet.Class.TheVariants.{Posted, NonPosted, Completion}
-use Rattle.lane_ends.specs.declared.packet.Fate.TheVariants.{Good}
-use Rattle.lane_ends.specs.declared.packet.DllpKind.TheVariants as kinds
+use Rattle.std.specs.Prelude.{ℕ, zero, suc, ◌-◌, ◌^◌, ◌||◌, Bool, false, if◌then◌else◌, fold, Result, Ok, Err, is_ok}
 use Rattle.fabric_laws.specs.Fabric.{Fabric}
 use Rattle.fabric_core.specs.declared.event.Event.{Event}
-use Rattle.fabric_core.specs.declared.event.Event.TheVariants as events
 use Rattle.fabric_core.specs.declared.event.LaneName.{LaneName}
-use Rattle.fabric_core.specs.declared.event.LaneName.TheVariants as lanes
 use Rattle.fabric_core.specs.declared.event.Seen.{Seen}
 use Rattle.fabric_core.specs.declared.fault.Refusal.{Refusal}
 use Rattle.fabric_core.specs.Answers.{answer}
-use Rattle.settling.specs.Rounds.{is_move, all_lanes}
+use Rattle.settling.specs.declared.attempts.Attempt.{Attempt}
+use Rattle.settling.specs.declared.attempts.Attempt.TheVariants as attempts
+use Rattle.settling.specs.Rounds.{is_move, all_lanes, lane_attempts, after_lanes}
 use Rattle.link_chart.specs.ChartView.{ChartView, charted}
-use Rattle.chart_engine.specs.declared.turns.Attempt.{Attempt}
-use Rattle.chart_engine.specs.declared.turns.Attempt.TheVariants as attempts
 
 -- a fabric that is being settled, its chart, and whether the round moved something
 pub record Trail : Type 0 where
@@ -49,29 +44,6 @@ all line t event = times line (2 ^ 64 - 1) t event
 abbrev pub attempted : ℕ → Trail → Attempt → Trail
 attempted line t (attempts.Once event) = tried line t event
 attempted line t (attempts.All event) = all line t event
-
--- what a round tries of a lane
-abbrev pub lane_attempts : LaneName → List Attempt
-lane_attempts lane =
-    attempts.Once (events.Timer lane) ∷ attempts.Once (events.Retrained lane)
-    ∷ attempts.All (events.Transmit lane) ∷ attempts.All (events.Deliver lane Good) ∷ attempts.Once (events.SendDllp lane kinds.Answer)
-    ∷ attempts.Once (events.SendDllp lane (kinds.Update Posted)) ∷ attempts.Once (events.SendDllp lane (kinds.Update NonPosted))
-    ∷ attempts.Once (events.SendDllp lane (kinds.Update Completion)) ∷ attempts.All (events.DeliverDllp lane Good) ∷ []
-
--- and after the lanes
-abbrev pub after_lanes : List Attempt
-after_lanes =
-    attempts.Once (events.Forward (lanes.Up 1) 0) ∷ attempts.Once (events.Forward (lanes.Up 1) 1)
-    ∷ attempts.Once (events.Forward (lanes.Up 2) 0) ∷ attempts.Once (events.Forward (lanes.Up 2) 1)
-    ∷ attempts.Once (events.Forward (lanes.Up 3) 0) ∷ attempts.Once (events.Forward (lanes.Up 3) 1)
-    ∷ attempts.Once (events.Forward (lanes.Up 4) 0) ∷ attempts.Once (events.Forward (lanes.Up 4) 1)
-    ∷ attempts.Once (events.Forward (lanes.Up 5) 0) ∷ attempts.Once (events.Forward (lanes.Up 5) 1)
-    ∷ attempts.Once (events.Forward (lanes.Up 6) 0) ∷ attempts.Once (events.Forward (lanes.Up 6) 1)
-    ∷ attempts.Once (events.Forward (lanes.Up 7) 0) ∷ attempts.Once (events.Forward (lanes.Up 7) 1)
-    ∷ attempts.Once (events.Forward lanes.Outward 0) ∷ attempts.Once (events.Forward lanes.Outward 1)
-    ∷ attempts.Once (events.Serve 0) ∷ attempts.Once (events.Serve 1)
-    ∷ attempts.All (events.Collect 1) ∷ attempts.All (events.Collect 2) ∷ attempts.All (events.Collect 3) ∷ attempts.All (events.Collect 4)
-    ∷ attempts.All (events.Collect 5) ∷ attempts.All (events.Collect 6) ∷ attempts.All (events.Collect 7) ∷ []
 
 unfoldable pub lane_turn : ℕ → Trail → LaneName → Trail
 lane_turn line t lane = fold (attempted line) t (lane_attempts lane)

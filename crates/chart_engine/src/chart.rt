@@ -10,9 +10,10 @@ ghost use Rattle.link_chart.specs.ChartView.{refused};
 ghost use Rattle.line_engine.specs.Run.{IsAnswer, IsWhole, IsPart};
 ghost use Rattle.chart_engine.specs.Chart as spec;
 ghost use Rattle.chart_engine.specs.Chart.{WritesDocument, out_chart};
+ghost use Rattle.chart_engine.specs.Events.{WritesEvents};
 
-use crate::happen::{happen, is_memory, is_no_memory, make};
-use crate::laws::charts_are_well_formed;
+use crate::happen::{happen, is_no_memory, make};
+use crate::laws::{charts_are_well_formed, charts_show_what_happened};
 use crate::rounds::settle_charted;
 use arrayvec::ArrayString;
 use chart_page::put_title_chart;
@@ -21,6 +22,7 @@ use line_engine::{EngineFault, Responder, run};
 use link_chart::{Chart, ChartWindow};
 use operation_text::write_decimal;
 use script_text::{Line, read_line, write_config_fault, write_refusal};
+use settling::is_memory;
 use std::alloc::{AllocError, Global};
 use std::io::{Read, Write};
 use std::marker::Model;
@@ -305,9 +307,13 @@ pub fn run_chart<R: Read, W: Write>(
 
     // Whatever the input is, what is written is a well-formed document of XML.
     ensures document { OnOk result (WritesDocument (W.contents writer.old) (W.contents writer.new)) }
+
+    // It is the chart of events that happened one after the other to a new fabric, and perhaps of one refused last.
+    ensures events { OnOk result (WritesEvents window (W.contents writer.old) (W.contents writer.new)) }
 {
     let charter = Charter::new(alloc, window);
     let status = run(alloc, charter, reader, writer)?;
     charts_are_well_formed();
+    charts_show_what_happened();
     Ok(status)
 }

@@ -1,13 +1,11 @@
 //! A fabric and its events, each with its one answer.
-ghost use Rattle.std.specs.Prelude.{◌≡◌, false, None, Some, Ok, Err, IfOk, IfErr, OnOk, OnErr};
+ghost use Rattle.std.specs.Prelude.{◌≡◌, None, Some, Ok, Err, IfOk, IfErr, OnOk, OnErr};
 ghost use Rattle.fabric_core.specs.Answers.{answer};
 ghost use Rattle.fabric_answers.specs.Told.{IsTold};
 ghost use Rattle.fabric_answers.specs.New.{new_fabric, config_fault};
-ghost use Rattle.settling.specs.Rounds as rounds;
 
 use fabric_answers::laws::{a_configuration_has_one_answer, each_event_has_one_answer};
 use fabric_core::{Config, ConfigFault, Event, Fabric, Refusal, Seen};
-use lane_core::LaneRefusal;
 use std::alloc::{AllocError, Global};
 
 /// A new fabric.
@@ -38,24 +36,4 @@ pub(crate) fn happen(fabric: &mut Fabric, event: &Event) -> Result<Seen, Refusal
 {
     each_event_has_one_answer();
     fabric.step(event)
-}
-
-/// Whether there was no memory.
-pub(crate) fn is_memory(refusal: Refusal) -> bool
-    ensures { result ≡ false → IsTold refusal }
-{
-    match refusal {
-        Refusal::Memory | Refusal::Lane(LaneRefusal::Memory) => true,
-        _ => false,
-    }
-}
-
-/// Whether a round in which the event happens has moved something.
-pub(crate) fn is_move(event: &Event) -> bool
-    ensures { result ≡ rounds.is_move event.now }
-{
-    match event {
-        Event::SendDllp(_, _) | Event::DeliverDllp(_, _) | Event::Retrained(_) => false,
-        _ => true,
-    }
 }

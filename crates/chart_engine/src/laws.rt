@@ -3,6 +3,7 @@ ghost use Rattle.std.specs.Prelude.{List, ℕ};
 ghost use Rattle.svg_text.specs.Xml.{IsDocument};
 ghost use Rattle.link_chart.specs.declared.window.ChartWindow.{ChartWindow};
 ghost use Rattle.chart_engine.specs.Chart.{out_chart};
+ghost use Rattle.chart_engine.specs.Events.{IsOfEvents};
 
 use svg_text::pages_are_well_formed;
 
@@ -12,3 +13,9 @@ pub fn charts_are_well_formed()
 {
     pages_are_well_formed();
 }
+
+/// What `chart` writes is the chart of events that happened one after the other to the new fabric of a configuration, and
+/// perhaps of one that was refused last. So the law of arrows speaks of it: `chart_laws::arrows_begin_where_packets_were_sent`.
+pub fn charts_show_what_happened()
+    ensures { (window : ChartWindow) (input : List ℕ) → IsOfEvents window (out_chart window input).text }
+{}

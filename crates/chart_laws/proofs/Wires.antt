@@ -16,24 +16,24 @@ use Rattle.fabric_core.specs.declared.event.LaneName.{LaneName}
 use Rattle.fabric_core.specs.declared.event.LaneName.TheVariants as lanes
 use Rattle.fabric_core.specs.declared.event.Seen.{Seen}
 use Rattle.fabric_core.specs.declared.event.Seen.TheVariants as seen
-use Rattle.chart_page.specs.declared.row.Carried.{Carried}
-use Rattle.chart_page.specs.declared.row.Deed.{Deed}
-use Rattle.chart_page.specs.declared.row.Deed.TheVariants as deeds
-use Rattle.link_chart.specs.declared.course.Sent.{Sent}
-use Rattle.link_chart.specs.CourseView.{CourseView, quiet, entered, sent, row_of, oldest_row, arrived, without, sent_back, without_back, replayed, told as told_dllp}
+use Rattle.chart_rows.specs.declared.row.Carried.{Carried}
+use Rattle.chart_rows.specs.declared.row.Deed.{Deed}
+use Rattle.chart_rows.specs.declared.row.Deed.TheVariants as deeds
+use Rattle.chart_rows.specs.declared.row.PacketSent.{PacketSent}
+use Rattle.link_chart.specs.CourseView.{CourseView, quiet, entered, next_carried, sent, oldest, arrived, without, sent_back, without_back, replayed, told as told_dllp}
 use Rattle.link_chart.specs.Lanes.{Moved, moved, place_of, changed_found, changed, asked_found, submitted, transmitted, delivered, dllp_sent, dllp_delivered, expired, forwarded, served, collected, with_completion, is_accepted, lane_to, followed}
 use Rattle.link_chart.specs.ChartView.{ChartView}
 use Rattle.chart_laws.specs.Arrows.{Tale, told, row_in, deed_in, sent_on, begun_on, sendings, beginnings, NeverMore}
 
-abbrev rows : List Sent → List (Option ℕ)
-rows ps = map (λ (p : Sent). p.row) ps
+abbrev packets : List PacketSent → List (Option PacketSent)
+packets ps = map (λ (p : PacketSent). Some p) ps
 
-abbrev rows_on : Option CourseView → List (Option ℕ)
-rows_on o = asked_found (λ (c : CourseView). rows c.wire) [] o
+abbrev packets_on : Option CourseView → List (Option PacketSent)
+packets_on o = asked_found (λ (c : CourseView). packets c.wire) [] o
 
--- the rows in which the packets on the wire at a place were sent
-abbrev wire : ℕ → List CourseView → List (Option ℕ)
-wire k cs = rows_on (slice_get cs k)
+-- the packets on the wire at a place
+abbrev wire : ℕ → List CourseView → List (Option PacketSent)
+wire k cs = packets_on (slice_get cs k)
 
 -- ---- lists
 
@@ -54,9 +54,9 @@ len_set [] p y = refl
 len_set (x ∷ xs) zero y = refl
 len_set (x ∷ xs) (suc p) y = ap suc (len_set xs p y)
 
-rows_more : (ps : List Sent) (p : Sent) → rows (ps ++ p ∷ []) ≡ rows ps ++ p.row ∷ []
-rows_more [] p = refl
-rows_more (q ∷ ps) p = ap (λ (t : List (Option ℕ)). q.row ∷ t) (rows_more ps p)
+packets_more : (ps : List PacketSent) (p : PacketSent) → packets (ps ++ p ∷ []) ≡ packets ps ++ Some p ∷ []
+packets_more [] p = refl
+packets_more (q ∷ ps) p = ap (λ (t : List (Option PacketSent)). Some q ∷ t) (packets_more ps p)
 
 -- ---- changes
 
@@ -79,9 +79,9 @@ len : (f : CourseView → CourseView) (cs : List CourseView) (p : ℕ) (o : Opti
 len f cs p None = refl
 len f cs p (Some c) = len_set cs p (f c)
 
-same_rows : (f : CourseView → CourseView) → ((c : CourseView) → (f c).wire ≡ c.wire) → (o : Option CourseView) → rows_on (after f o) ≡ rows_on o
-same_rows f keep None = refl
-same_rows f keep (Some c) = ap (λ (ps : List Sent). rows ps) (keep c)
+same_packets : (f : CourseView → CourseView) → ((c : CourseView) → (f c).wire ≡ c.wire) → (o : Option CourseView) → packets_on (after f o) ≡ packets_on o
+same_packets f keep None = refl
+same_packets f keep (Some c) = ap (λ (ps : List PacketSent). packets ps) (keep c)
 
 abbrev Told : ℕ → ℕ → Type 0
 Told p k = (((p == k) ≡ true) × (p ≡ k)) ⊎ (((p == k) ≡ false) × (p ≢ k))
@@ -89,8 +89,8 @@ Told p k = (((p == k) ≡ true) × (p ≡ k)) ⊎ (((p == k) ≡ false) × (p �
 keeps_by : (f : CourseView → CourseView) → ((c : CourseView) → (f c).wire ≡ c.wire) → (cs : List CourseView) (p k : ℕ) → Told p k → wire k (change f cs p) ≡ wire k cs
 keeps_by f keep cs p k (inl w) =
     subst (λ (j : ℕ). wire j (change f cs p) ≡ wire j cs) w.1
-    (ap (λ (o : Option CourseView). rows_on o) (at_same f cs p (slice_get cs p) refl) ∙ same_rows f keep (slice_get cs p))
-keeps_by f keep cs p k (inr w) = ap (λ (o : Option CourseView). rows_on o) (at_other f cs p k (slice_get cs p) w.1)
+    (ap (λ (o : Option CourseView). packets_on o) (at_same f cs p (slice_get cs p) refl) ∙ same_packets f keep (slice_get cs p))
+keeps_by f keep cs p k (inr w) = ap (λ (o : Option CourseView). packets_on o) (at_other f cs p k (slice_get cs p) w.1)
 
 -- a change that leaves the packets on a wire leaves each wire
 keeps : (f : CourseView → CourseView) → ((c : CourseView) → (f c).wire ≡ c.wire) → (cs : List CourseView) (p k : ℕ) → wire k (change f cs p) ≡ wire k cs
@@ -98,46 +98,52 @@ keeps f keep cs p k = keeps_by f keep cs p k (eqb_tells p k)
 
 -- ---- packets that are sent
 
-sends_at : (row : Option ℕ) (c : CourseView) (o : Option CourseView) → o ≡ Some c → rows_on o ++ row ∷ [] ≡ rows_on (after (sent row) o)
-sends_at row c None e = absurd cc
-sends_at row c (Some d) e = sym (rows_more d.wire _)
+abbrev has : Bool → Option PacketSent → List (Option PacketSent)
+has b packet = if b then packet ∷ [] else []
 
-sends_by : (row : Option ℕ) (cs : List CourseView) (p k : ℕ) → k < length cs → Told p k → wire k cs ++ (if p == k then row ∷ [] else []) ≡ wire k (change (sent row) cs p)
-sends_by row cs p k lt (inl w) =
-    ap (λ (b : Bool). wire k cs ++ (if b then row ∷ [] else [])) w.0
-    ∙ subst (λ (j : ℕ). j < length cs → wire j cs ++ row ∷ [] ≡ wire j (change (sent row) cs p)) w.1
-    (λ below. sends_at row (get_or cs p quiet) (slice_get cs p) (slice_get-get_or cs p quiet below)
-    ∙ sym (ap (λ (o : Option CourseView). rows_on o) (at_same (sent row) cs p (slice_get cs p) refl))) lt
-sends_by row cs p k lt (inr w) =
-    ap (λ (b : Bool). wire k cs ++ (if b then row ∷ [] else [])) w.0 ∙ append-nil (wire k cs)
-    ∙ sym (ap (λ (o : Option CourseView). rows_on o) (at_other (sent row) cs p k (slice_get cs p) w.1))
+-- the packet that is sent next
+abbrev next : ℕ → Option ℕ → Option CourseView → Option PacketSent
+next number row o = Some (record { number = number; carried = asked_found next_carried None o; row = row })
+
+sends_at : (number : ℕ) (row : Option ℕ) (c : CourseView) (o : Option CourseView) → o ≡ Some c → packets_on o ++ next number row o ∷ [] ≡ packets_on (after (sent number row) o)
+sends_at number row c None e = absurd cc
+sends_at number row c (Some d) e = sym (packets_more d.wire _)
+
+sends_by : (number : ℕ) (row : Option ℕ) (cs : List CourseView) (p k : ℕ) → k < length cs → Told p k
+    → wire k cs ++ has (p == k) (next number row (slice_get cs p)) ≡ wire k (change (sent number row) cs p)
+sends_by number row cs p k lt (inl w) =
+    let packet = next number row (slice_get cs p) in
+    ap (λ (b : Bool). wire k cs ++ has b packet) w.0
+    ∙ subst (λ (j : ℕ). j < length cs → wire j cs ++ packet ∷ [] ≡ wire j (change (sent number row) cs p)) w.1
+    (λ below. sends_at number row (get_or cs p quiet) (slice_get cs p) (slice_get-get_or cs p quiet below)
+    ∙ sym (ap (λ (o : Option CourseView). packets_on o) (at_same (sent number row) cs p (slice_get cs p) refl))) lt
+sends_by number row cs p k lt (inr w) =
+    ap (λ (b : Bool). wire k cs ++ has b (next number row (slice_get cs p))) w.0 ∙ append-nil (wire k cs)
+    ∙ sym (ap (λ (o : Option CourseView). packets_on o) (at_other (sent number row) cs p k (slice_get cs p) w.1))
 
 -- ---- packets that arrive
 
-leaves : (ps : List Sent) → 1 ≤ length (rows ps) → rows ps ++ [] ≡ row_of (slice_get ps 0) ∷ rows (drop 1 ps)
+leaves : (ps : List PacketSent) → 1 ≤ length (packets ps) → packets ps ++ [] ≡ slice_get ps 0 ∷ packets (drop 1 ps)
 leaves [] le = absurd (omega arith)
-leaves (p ∷ ps) le = append-nil (rows (p ∷ ps))
+leaves (p ∷ ps) le = append-nil (packets (p ∷ ps))
 
-arrives_at : (acc : Bool) (o : Option CourseView) → 1 ≤ length (rows_on o) → rows_on o ++ [] ≡ asked_found oldest_row None o ∷ rows_on (after (arrived acc) o)
+arrives_at : (acc : Bool) (o : Option CourseView) → 1 ≤ length (packets_on o) → packets_on o ++ [] ≡ asked_found oldest None o ∷ packets_on (after (arrived acc) o)
 arrives_at acc None le = absurd (omega arith)
 arrives_at acc (Some c) le = leaves c.wire le
 
-abbrev begins : Bool → Option ℕ → List (Option ℕ)
-begins b row = if b then row ∷ [] else []
-
-arrives_by : (acc : Bool) (cs : List CourseView) (p k : ℕ) → Told p k → length (begins (p == k) (asked_found oldest_row None (slice_get cs p))) ≤ length (wire k cs)
-    → wire k cs ++ [] ≡ begins (p == k) (asked_found oldest_row None (slice_get cs p)) ++ wire k (change (arrived acc) cs p)
+arrives_by : (acc : Bool) (cs : List CourseView) (p k : ℕ) → Told p k → length (has (p == k) (asked_found oldest None (slice_get cs p))) ≤ length (wire k cs)
+    → wire k cs ++ [] ≡ has (p == k) (asked_found oldest None (slice_get cs p)) ++ wire k (change (arrived acc) cs p)
 arrives_by acc cs p k (inl w) le =
-    let row = asked_found oldest_row None (slice_get cs p) in
-    let one : 1 ≤ length (wire k cs) = subst (λ (b : Bool). length (begins b row) ≤ length (wire k cs)) w.0 le in
-    subst (λ (j : ℕ). 1 ≤ length (wire j cs) → wire j cs ++ [] ≡ row ∷ wire j (change (arrived acc) cs p)) w.1
+    let packet = asked_found oldest None (slice_get cs p) in
+    let one : 1 ≤ length (wire k cs) = subst (λ (b : Bool). length (has b packet) ≤ length (wire k cs)) w.0 le in
+    subst (λ (j : ℕ). 1 ≤ length (wire j cs) → wire j cs ++ [] ≡ packet ∷ wire j (change (arrived acc) cs p)) w.1
     (λ some. arrives_at acc (slice_get cs p) some
-    ∙ sym (ap (λ (o : Option CourseView). row ∷ rows_on o) (at_same (arrived acc) cs p (slice_get cs p) refl))) one
-    ∙ sym (ap (λ (b : Bool). begins b row ++ wire k (change (arrived acc) cs p)) w.0)
+    ∙ sym (ap (λ (o : Option CourseView). packet ∷ packets_on o) (at_same (arrived acc) cs p (slice_get cs p) refl))) one
+    ∙ sym (ap (λ (b : Bool). has b packet ++ wire k (change (arrived acc) cs p)) w.0)
 arrives_by acc cs p k (inr w) le =
-    let row = asked_found oldest_row None (slice_get cs p) in
-    append-nil (wire k cs) ∙ sym (ap (λ (o : Option CourseView). rows_on o) (at_other (arrived acc) cs p k (slice_get cs p) w.1))
-    ∙ sym (ap (λ (b : Bool). begins b row ++ wire k (change (arrived acc) cs p)) w.0)
+    let packet = asked_found oldest None (slice_get cs p) in
+    append-nil (wire k cs) ∙ sym (ap (λ (o : Option CourseView). packets_on o) (at_other (arrived acc) cs p k (slice_get cs p) w.1))
+    ∙ sym (ap (λ (b : Bool). has b packet ++ wire k (change (arrived acc) cs p)) w.0)
 
 -- ---- one event
 
@@ -150,7 +156,7 @@ still : (k : ℕ) (row : Option ℕ) (cs cs' : List CourseView) (deed : Deed) �
     → Step k row cs (moved cs' deed)
 still k row cs cs' deed s b same kept = record {
   there = same;
-  on_wire = λ lt le. ap (λ (t : List (Option ℕ)). wire k cs ++ t) s ∙ append-nil (wire k cs) ∙ sym kept ∙ sym (ap (λ (t : List (Option ℕ)). t ++ wire k cs') b);
+  on_wire = λ lt le. ap (λ (t : List (Option PacketSent)). wire k cs ++ t) s ∙ append-nil (wire k cs) ∙ sym kept ∙ sym (ap (λ (t : List (Option PacketSent)). t ++ wire k cs') b);
 }
 
 none : (k : ℕ) (row : Option ℕ) (cs : List CourseView) → Step k row cs (moved cs deeds.Nothing)
@@ -174,7 +180,7 @@ of_submit k row cs port op (seen.Collected a) = none k row cs
 
 of_transmit : (k : ℕ) (row : Option ℕ) (cs : List CourseView) (lane : LaneName) (what : Seen) → Step k row cs (transmitted cs row lane what)
 of_transmit k row cs lane (seen.Submitted n) = none k row cs
-of_transmit k row cs lane (seen.Sent n) = record { there = len (sent row) cs (place_of lane) _; on_wire = λ lt le. sends_by row cs (place_of lane) k lt (eqb_tells (place_of lane) k) }
+of_transmit k row cs lane (seen.Sent n) = record { there = len (sent n row) cs (place_of lane) _; on_wire = λ lt le. sends_by n row cs (place_of lane) k lt (eqb_tells (place_of lane) k) }
 of_transmit k row cs lane (seen.Delivered a) = none k row cs
 of_transmit k row cs lane (seen.SentDllp d) = none k row cs
 of_transmit k row cs lane (seen.SeenDllp d) = none k row cs
@@ -200,7 +206,7 @@ of_dllp : (k : ℕ) (row : Option ℕ) (cs : List CourseView) (lane : LaneName) 
 of_dllp k row cs lane (seen.Submitted n) = none k row cs
 of_dllp k row cs lane (seen.Sent n) = none k row cs
 of_dllp k row cs lane (seen.Delivered a) = none k row cs
-of_dllp k row cs lane (seen.SentDllp d) = one k row cs (sent_back row) (place_of lane) _ (λ c. refl) refl refl
+of_dllp k row cs lane (seen.SentDllp d) = one k row cs (sent_back d row) (place_of lane) _ (λ c. refl) refl refl
 of_dllp k row cs lane (seen.SeenDllp d) = none k row cs
 of_dllp k row cs lane (seen.Back n) = none k row cs
 of_dllp k row cs lane seen.Retrained = none k row cs

@@ -1,9 +1,10 @@
 -- Where packets are sent on a lane, and where their arrows begin.
-use Rattle.std.specs.Prelude.{ℕ, ◌+◌, ◌-◌, ◌≤◌, ◌==◌, if◌then◌else◌, List, [], ◌∷◌, ◌++◌, length, Option}
+use Rattle.std.specs.Prelude.{ℕ, ◌+◌, ◌-◌, ◌≤◌, ◌==◌, if◌then◌else◌, List, [], ◌∷◌, ◌++◌, length, Option, Some}
 use Rattle.fabric_core.specs.declared.event.Event.{Event}
 use Rattle.fabric_core.specs.declared.event.Seen.{Seen}
-use Rattle.chart_page.specs.declared.row.Deed.{Deed}
-use Rattle.chart_page.specs.declared.row.Deed.TheVariants as deeds
+use Rattle.chart_rows.specs.declared.row.PacketSent.{PacketSent}
+use Rattle.chart_rows.specs.declared.row.Deed.{Deed}
+use Rattle.chart_rows.specs.declared.row.Deed.TheVariants as deeds
 use Rattle.link_chart.specs.Window as window
 use Rattle.link_chart.specs.Lanes.{Moved, followed, place_of}
 use Rattle.link_chart.specs.ChartView.{ChartView, row_at, charted}
@@ -25,22 +26,22 @@ row_in v t = row_at (window.place_of v.window (length v.page.rows) t.line t.even
 abbrev pub deed_in : ChartView → Tale → Deed
 deed_in v t = (followed v.courses (row_in v t) t.event t.what).deed
 
--- the row of a packet that goes onto the lane at this place of the list of lanes
-abbrev pub sent_on : ℕ → Option ℕ → Deed → List (Option ℕ)
-sent_on k row (deeds.Sent lane number c) = if place_of lane == k then row ∷ [] else []
+-- the packet that goes onto the lane at this place of the list of lanes, in a row that is perhaps shown
+abbrev pub sent_on : ℕ → Option ℕ → Deed → List (Option PacketSent)
+sent_on k row (deeds.Sent lane number c) = if place_of lane == k then Some (record { number = number; carried = c; row = row }) ∷ [] else []
 sent_on k row _ = []
 
--- the row in which an arrow of a packet on that lane begins
-abbrev pub begun_on : ℕ → Deed → List (Option ℕ)
+-- the packet of an arrow on that lane; the arrow begins in its row
+abbrev pub begun_on : ℕ → Deed → List (Option PacketSent)
 begun_on k (deeds.Arrived lane fate arrival sent) = if place_of lane == k then sent ∷ [] else []
 begun_on k _ = []
 
 -- of all events, in turn
-abbrev pub sendings : ℕ → ChartView → List Tale → List (Option ℕ)
+abbrev pub sendings : ℕ → ChartView → List Tale → List (Option PacketSent)
 sendings k v [] = []
 sendings k v (t ∷ ts) = sent_on k (row_in v t) (deed_in v t) ++ sendings k (told v t) ts
 
-abbrev pub beginnings : ℕ → ChartView → List Tale → List (Option ℕ)
+abbrev pub beginnings : ℕ → ChartView → List Tale → List (Option PacketSent)
 beginnings k v [] = []
 beginnings k v (t ∷ ts) = begun_on k (deed_in v t) ++ beginnings k (told v t) ts
 

@@ -3,8 +3,8 @@ use Rattle.std.proofs.Common.{◌≡◌, ◌∙◌, ◌+◌, ◌∷◌, ◌++◌
 use Rattle.std.proofs.lemmas.Grind.{flat_map-append}
 use Rattle.std.proofs.lemmas.List.{append-nil}
 use Rattle.svg_text.specs.Shapes.{Shape, shape_text, shapes_text}
-use Rattle.chart_page.specs.declared.row.Row.{Row}
-use Rattle.chart_page.specs.declared.row.Open.{Open}
+use Rattle.chart_rows.specs.declared.row.Row.{Row}
+use Rattle.chart_rows.specs.declared.row.Open.{Open}
 use Rattle.chart_page.specs.Shapes.{each, open_stroke, open_strokes, requester_column, requester_columns}
 
 text-append : (a b : List Shape) → shapes_text (a ++ b) ≡ shapes_text a ++ shapes_text b
@@ -52,16 +52,11 @@ each-past f all i row o le = text-none o ∙ ap (λ (rs : List Row). o ++ shapes
 
 -- ---- what isn't seen to arrive
 
-cut-at : {X : Type 0} (xs : List X) (i : ℕ) (d : X) → i < length xs → drop i xs ≡ get_or xs i d ∷ drop (i + 1) xs
-cut-at xs i d lt =
-    let next : i + 1 ≡ suc i = omega arith in
-    rw next (drop-cons xs i d lt)
-
-pub open-next : (n : ℕ) (all : List Open) (i : ℕ) (d : Open) (o p : List ℕ) → i < length all → p ≡ o ++ shape_text (open_stroke n (get_or all i d))
+pub open-next : (n : ℕ) (all : List Open) (i : ℕ) (r : Open) (o p : List ℕ) → i < length all → r ≡ get_or all i r → p ≡ o ++ shape_text (open_stroke n r)
     → p ++ shapes_text (open_strokes n (drop (i + 1) all)) ≡ o ++ shapes_text (open_strokes n (drop i all))
-open-next n all i d o p lt e =
-    first o p (p ++ shapes_text (open_strokes n (drop (i + 1) all))) (open_stroke n (get_or all i d)) (open_strokes n (drop (i + 1) all)) e refl
-    ∙ ap (λ (os : List Open). o ++ shapes_text (open_strokes n os)) (sym (cut-at all i d lt))
+open-next n all i r o p lt is e =
+    first o p (p ++ shapes_text (open_strokes n (drop (i + 1) all))) (open_stroke n r) (open_strokes n (drop (i + 1) all)) e refl
+    ∙ ap (λ (os : List Open). o ++ shapes_text (open_strokes n os)) (sym (cut all i r lt is))
 
 pub open-past : (n : ℕ) (all : List Open) (i : ℕ) (o : List ℕ) → length all ≤ i → o ≡ o ++ shapes_text (open_strokes n (drop i all))
 open-past n all i o le = text-none o ∙ ap (λ (os : List Open). o ++ shapes_text (open_strokes n os)) (sym (past all i le))

@@ -1,4 +1,1 @@
-pub mod Layout
-pub mod Words
-pub mod PageView
 pub mod Shapes

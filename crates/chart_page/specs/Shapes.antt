@@ -9,30 +9,49 @@ use Rattle.link_receiver.specs.declared.receiver.Reception.TheVariants as recept
 use Rattle.svg_text.specs.declared.colour.Colour.{Colour}
 use Rattle.svg_text.specs.declared.colour.Colour.TheVariants as colours
 use Rattle.svg_text.specs.declared.shapes.Block.{Block}
+use Rattle.svg_text.specs.declared.shapes.Rule.{Rule}
 use Rattle.svg_text.specs.declared.shapes.Label.{Label}
 use Rattle.svg_text.specs.Shapes.{Shape, page_text}
 use Rattle.script_text.specs.LineTexts.{event_line}
-use Rattle.chart_page.specs.declared.layout.Point.{Point}
-use Rattle.chart_page.specs.declared.layout.Way.{Way}
+use Rattle.chart_rows.specs.declared.layout.Point.{Point}
+use Rattle.chart_rows.specs.declared.layout.Way.{Way}
 use Rattle.chart_page.specs.declared.shapes.Pen.{Pen}
 use Rattle.chart_page.specs.declared.shapes.Tag.{Tag}
-use Rattle.chart_page.specs.declared.row.Kind.{Kind}
-use Rattle.chart_page.specs.declared.row.Carried.{Carried}
-use Rattle.chart_page.specs.declared.row.Deed.{Deed}
-use Rattle.chart_page.specs.declared.row.Deed.TheVariants as deeds
-use Rattle.chart_page.specs.declared.row.Row.{Row}
-use Rattle.chart_page.specs.declared.row.Open.{Open}
-use Rattle.chart_page.specs.PageView.{PageView}
-use Rattle.chart_page.specs.Layout.{requester_x, switch_x, memory_x, width_of, top_of, departure, middle, packet_way, way_of, other, behind, thirds, point, start_of, finish_of}
-use Rattle.chart_page.specs.Words as said
+use Rattle.chart_rows.specs.declared.row.Kind.{Kind}
+use Rattle.chart_rows.specs.declared.row.Kind.TheVariants as requests
+use Rattle.chart_rows.specs.declared.row.Carried.{Carried}
+use Rattle.chart_rows.specs.declared.row.Deed.{Deed}
+use Rattle.chart_rows.specs.declared.row.Deed.TheVariants as deeds
+use Rattle.chart_rows.specs.declared.row.Row.{Row}
+use Rattle.chart_rows.specs.declared.row.PacketSent.{PacketSent}
+use Rattle.chart_rows.specs.declared.row.DllpSent.{DllpSent}
+use Rattle.chart_rows.specs.declared.row.Flying.{Flying}
+use Rattle.chart_rows.specs.declared.row.Flying.TheVariants as flying
+use Rattle.chart_rows.specs.declared.row.Open.{Open}
+use Rattle.chart_rows.specs.PageView.{PageView}
+use Rattle.chart_rows.specs.Layout.{requester_x, switch_x, memory_x, width_of, top_of, departure, middle, packet_way, way_of, other, behind, thirds, point, start_of, finish_of}
+use Rattle.chart_rows.specs.Words as said
+use Rattle.chart_rows.specs.Titles as titles
+use Rattle.chart_page.specs.declared.arrows.Arrow.{Arrow}
 
 -- ---- lines and squares
 
 abbrev pub pen : Colour → ℕ → ℕ → Pen
 pen colour thickness dash = record { colour = colour; thickness = thickness; dash = dash }
 
-abbrev pub line : Pen → Point → Point → Shape
-line p from to = Shape.Ruled (record { left = from.x; top = from.y; right = to.x; bottom = to.y; colour = p.colour; thickness = p.thickness; dash = p.dash })
+abbrev pub rule : Pen → Point → Point → Rule
+rule p from to = record { left = from.x; top = from.y; right = to.x; bottom = to.y; colour = p.colour; thickness = p.thickness; dash = p.dash }
+
+-- a line with a title
+abbrev pub line : Pen → Point → Point → List ℕ → Shape
+line p from to title = Shape.Lined (rule p from to ∷ []) title
+
+abbrev pub two : Rule × Rule → List Rule
+two ends = ends.0 ∷ ends.1 ∷ []
+
+-- lines with one title
+abbrev pub three : Rule → Rule × Rule → List ℕ → Shape
+three shaft ends title = Shape.Lined (shaft ∷ two ends) title
 
 abbrev pub block_at : ℕ → ℕ → ℕ → ℕ → Colour → Colour → ℕ → Block
 block_at left top right bottom fill edge thickness = record { left = left; top = top; right = right; bottom = bottom; fill = fill; edge = edge; thickness = thickness; is_open = false }
@@ -64,56 +83,73 @@ abbrev pub whole : Pen → Pen
 whole p = pen p.colour p.thickness 0
 
 -- the tip of an arrow has two short lines, by how steep the arrow is
-abbrev pub flat_tip : Pen → Bool → Point → List Shape
-flat_tip p is_right to = line p (point (behind is_right to.x 9) (to.y - 5)) to ∷ line p (point (behind is_right to.x 9) (to.y + 5)) to ∷ []
+abbrev pub flat_tip : Pen → Bool → Point → Rule × Rule
+flat_tip p is_right to = (rule p (point (behind is_right to.x 9) (to.y - 5)) to, rule p (point (behind is_right to.x 9) (to.y + 5)) to)
 
-abbrev pub slanted_tip : Pen → Bool → Point → List Shape
-slanted_tip p is_right to = line p (point (behind is_right to.x 10) (to.y - 3)) to ∷ line p (point (behind is_right to.x 3) (to.y - 10)) to ∷ []
+abbrev pub slanted_tip : Pen → Bool → Point → Rule × Rule
+slanted_tip p is_right to = (rule p (point (behind is_right to.x 10) (to.y - 3)) to, rule p (point (behind is_right to.x 3) (to.y - 10)) to)
 
-abbrev pub steep_tip : Pen → Point → List Shape
-steep_tip p to = line p (point (to.x - 5) (to.y - 9)) to ∷ line p (point (to.x + 5) (to.y - 9)) to ∷ []
+abbrev pub steep_tip : Pen → Point → Rule × Rule
+steep_tip p to = (rule p (point (to.x - 5) (to.y - 9)) to, rule p (point (to.x + 5) (to.y - 9)) to)
 
 abbrev pub across : Point → Point → ℕ
 across from to = (to.x - from.x) + (from.x - to.x)
 
-abbrev pub tip : Pen → Bool → Point → Point → List Shape
+abbrev pub tip : Pen → Bool → Point → Point → Rule × Rule
 tip p is_right from to =
     if nat_lt (2 * (to.y - from.y)) (across from to) then flat_tip p is_right to
     else (if nat_lt (2 * across from to) (to.y - from.y) then steep_tip p to else slanted_tip p is_right to)
 
-abbrev pub cross : Point → List Shape
+abbrev pub cross : Point → Rule × Rule
 cross p =
-    line (pen colours.Red 2 0) (point (p.x - 6) (p.y - 6)) (point (p.x + 6) (p.y + 6))
-    ∷ line (pen colours.Red 2 0) (point (p.x - 6) (p.y + 6)) (point (p.x + 6) (p.y - 6))
-    ∷ []
+    (rule (pen colours.Red 2 0) (point (p.x - 6) (p.y - 6)) (point (p.x + 6) (p.y + 6)), rule (pen colours.Red 2 0) (point (p.x - 6) (p.y + 6)) (point (p.x + 6) (p.y - 6)))
 
-abbrev pub failed : Point → List Shape
-failed p = square p colours.Red (codes "failed") ∷ []
+abbrev pub failed : Point → Shape
+failed p = square p colours.Red (codes "failed")
 
 -- what arrives has a tip, what fails its check a red square, and what is lost a cross
-abbrev pub ending : Fate → Pen → Bool → Point → Point → List Shape
-ending fates.Good p is_right from to = tip (whole p) is_right from to
-ending fates.Failed p is_right from to = failed to
-ending fates.Lost p is_right from to = cross to
+abbrev pub ended : Fate → Pen → Bool → Point → Point → List ℕ → List Shape
+ended fates.Good p is_right from to title = three (rule p from to) (tip (whole p) is_right from to) title ∷ []
+ended fates.Failed p is_right from to title = line p from to title ∷ failed to ∷ []
+ended fates.Lost p is_right from to title = three (rule p from to) (cross to) title ∷ []
 
 abbrev pub is_lost : Fate → Bool
 is_lost fates.Lost = true
 is_lost _ = false
 
+abbrev pub arrow_on : Way → Pen → Fate → Option ℕ → ℕ → Arrow
+arrow_on w p fate sent row = record { way = w; pen = p; fate = fate; sent = sent; row = row }
+
 -- an arrow from the row in which something was sent, where that is shown, to the row in which it arrived or was lost
-abbrev pub arrow : Way → Pen → Fate → Option ℕ → ℕ → List Shape
-arrow w p fate sent row = line p (start_of w sent row) (finish_of w (is_lost fate) row) ∷ ending fate p w.is_right (start_of w sent row) (finish_of w (is_lost fate) row)
+abbrev pub arrow : Arrow → List ℕ → List Shape
+arrow a title = ended a.fate a.pen a.way.is_right (start_of a.way a.sent a.row) (finish_of a.way (is_lost a.fate) a.row) title
+
+abbrev pub packet_row : Option PacketSent → Option ℕ
+packet_row None = None
+packet_row (Some p) = p.row
+
+abbrev pub dllp_row : Option DllpSent → Option ℕ
+dllp_row None = None
+dllp_row (Some d) = d.row
 
 -- the arrow that ends in a row of this deed
 abbrev pub strokes : ℕ → ℕ → Deed → List Shape
-strokes n row (deeds.Arrived lane fate arrival sent) = arrow (way_of n lane false) (packet_pen arrival) fate sent row
-strokes n row (deeds.ArrivedDllp lane fate sent replay) = arrow (way_of n lane true) dllp_pen fate sent row
+strokes n row (deeds.Arrived lane fate arrival sent) =
+    arrow (arrow_on (way_of n lane false) (packet_pen arrival) fate (packet_row sent) row) (titles.packet_title lane sent fate arrival)
+strokes n row (deeds.ArrivedDllp lane fate sent replay) =
+    arrow (arrow_on (way_of n lane true) dllp_pen fate (dllp_row sent) row) (titles.dllp_title lane sent fate replay)
 strokes n row _ = []
 
+abbrev pub is_dllp : Flying → Bool
+is_dllp (flying.Packet number c) = false
+is_dllp (flying.Dllp dllp) = true
+
 -- the first third of the way of what isn't seen to arrive
+abbrev pub open_line : Way → ℕ → List ℕ → Shape
+open_line w row title = line (pen colours.Grey 1 3) (point w.from (departure row)) (point (thirds w 1) (departure row + 5)) title
+
 abbrev pub open_stroke : ℕ → Open → Shape
-open_stroke n o =
-    line (pen colours.Grey 1 3) (point (way_of n o.lane o.is_dllp).from (departure o.row)) (point (thirds (way_of n o.lane o.is_dllp) 1) (departure o.row + 5))
+open_stroke n o = open_line (way_of n o.lane (is_dllp o.what)) o.row (titles.open_title o)
 
 -- ---- texts beside a line
 
@@ -136,10 +172,17 @@ plate t words = block_at (text_left t words - 2) (top_of t.row + 5) (text_left t
 abbrev pub kind_x : Tag → ℕ
 kind_x t = if t.is_right then t.x + 18 else t.x - 18
 
+abbrev pub kind_colour : Kind → Colour
+kind_colour requests.Read = colours.SkyBlue
+kind_colour requests.Write = colours.Orange
+kind_colour requests.Add = colours.Green
+kind_colour requests.Swap = colours.Yellow
+kind_colour requests.Cas = colours.Purple
+
 -- the colour of the kind of what is carried
 abbrev pub kind_square : Tag → Option Kind → List Shape
 kind_square t None = []
-kind_square t (Some kind) = square (point (kind_x t) (middle t.row)) (said.kind_colour kind) (said.kind_name kind) ∷ []
+kind_square t (Some kind) = square (point (kind_x t) (middle t.row)) (kind_colour kind) (said.kind_name kind) ∷ []
 
 abbrev pub tag_shapes : Tag → List ℕ → List Shape
 tag_shapes t words =
@@ -156,7 +199,7 @@ kind_in (Some c) = Some c.kind
 
 -- a dot on a line, and a text at its right
 abbrev pub mark : ℕ → ℕ → Option Kind → List ℕ → List Shape
-mark x row kind words = Shape.Dotted (record { x = x; y = middle row }) ∷ tag_shapes (tag x true row kind colours.Black) words
+mark x row kind words = Shape.Dotted (record { x = x; y = middle row }) words ∷ tag_shapes (tag x true row kind colours.Black) words
 
 -- a grey square at the beginning of a way, and a text on that side
 abbrev pub notice : Way → ℕ → List ℕ → List Shape
@@ -252,7 +295,7 @@ kind_signs =
 
 -- what a line means
 abbrev pub pen_sign : ℕ → Pen → List ℕ → List Shape
-pen_sign x p name = line p (point x 47) (point (x + 30) 47) ∷ Shape.Written (label_at (x + 36) 51 colours.Black) name ∷ []
+pen_sign x p name = line p (point x 47) (point (x + 30) 47) name ∷ Shape.Written (label_at (x + 36) 51 colours.Black) name ∷ []
 
 abbrev pub pen_signs : List Shape
 pen_signs =
@@ -264,7 +307,7 @@ text_at x y words = Shape.Written (label_at x y colours.Black) words ∷ []
 
 -- what the end of an arrow means
 abbrev pub lost_sign : List Shape
-lost_sign = cross (point 750 47) ++ text_at 764 51 (codes "lost")
+lost_sign = Shape.Lined (two (cross (point 750 47))) (codes "lost") ∷ text_at 764 51 (codes "lost")
 
 abbrev pub failed_sign : List Shape
 failed_sign = square (point 815 47) colours.Red (codes "failed") ∷ text_at 826 51 (codes "failed its check")
@@ -277,7 +320,7 @@ legend = kind_signs ++ (pen_signs ++ (lost_sign ++ failed_sign))
 abbrev pub column : ℕ → ℕ → List ℕ → List Shape
 column x bottom name =
     Shape.Written (record { x = x; y = 84; size = 12; colour = colours.Black; is_centred = true }) name
-    ∷ line (pen colours.Grey 1 0) (point x 92) (point x bottom)
+    ∷ line (pen colours.Grey 1 0) (point x 92) (point x bottom) name
     ∷ []
 
 abbrev pub requester_column : ℕ → ℕ → List Shape

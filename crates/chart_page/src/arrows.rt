@@ -1,15 +1,30 @@
 //! Arrows.
-ghost use Rattle.std.specs.Prelude.{◌≡◌, ◌≤◌, ◌+◌, ◌*◌, ◌++◌, OnOk};
-ghost use Rattle.svg_text.specs.Shapes.{shape_text, shapes_text};
+ghost use Rattle.std.specs.Prelude.{◌≡◌, ◌≤◌, ◌+◌, ◌*◌, ◌++◌, ◌∷◌, [], OnOk};
+ghost use Rattle.svg_text.specs.Shapes.{Shape, shape_text, shapes_text};
 ghost use Rattle.chart_page.specs.Shapes as spec;
 
-use crate::layout::{Point, Way, behind, departure, finish_of, start_of, thirds, way_of};
-use crate::row::{Deed, Open};
-use crate::shapes::{Pen, put_line, put_square};
+use crate::shapes::{Pen, put_square, rule};
+use arrayvec::ArrayString;
+use chart_rows::{
+    Deed, DllpSent, Flying, Open, PacketSent, Point, Replay, Way, behind, departure, finish_of,
+    start_of, thirds, way_of, write_dllp_title, write_open_title, write_packet_title,
+};
+use fabric_core::LaneName;
 use lane_ends::{Arrival, Fate};
 use link_receiver::Reception;
 use std::alloc::AllocError;
-use svg_text::Colour;
+use svg_text::{Colour, Rule, put_lines};
+
+/// An arrow that ends in a row.
+#[derive(Clone, Copy, Debug, PartialEq, Eq)]
+pub(crate) struct Arrow {
+    way: Way,
+    pen: Pen,
+    fate: Fate,
+    /// The row in which it begins, if that is shown.
+    sent: Option<u16>,
+    row: u16,
+}
 
 pub(crate) fn pen(colour: Colour, thickness: u64, dash: u64) -> Pen
     ensures { result ≡ spec.pen colour thickness dash }
@@ -47,55 +62,51 @@ fn whole(pen: Pen) -> Pen
     Pen { dash: 0, ..pen }
 }
 
-/// Adds the tip of an arrow that is rather flat.
-#[tactic(auto, unfolding(svg_text::specs::Shapes::shapes_text))]
-fn put_flat_tip(pen: Pen, is_right: bool, to: Point, out: &mut Vec<u8>) -> Result<(), AllocError>
+/// The tip of an arrow that is rather flat.
+fn flat_tip(pen: Pen, is_right: bool, to: Point) -> (Rule, Rule)
     requires x { to.x ≤ 300000 }
     requires y { to.y ≤ 2000100 }
-    ensures { OnOk result (out.new.items ≡ out.old.items ++ shapes_text (spec.flat_tip pen is_right to)) }
+    ensures { result ≡ spec.flat_tip pen is_right to }
 {
     let x = behind(is_right, to.x, 9);
     let high = Point {
         x,
         y: to.y.saturating_sub(5),
     };
-    put_line(pen, high, to, out)?;
-    put_line(pen, Point { x, y: to.y + 5 }, to, out)
+    let low = Point { x, y: to.y + 5 };
+    (rule(pen, high, to), rule(pen, low, to))
 }
 
-/// Adds the tip of an arrow that is neither flat nor steep.
-#[tactic(auto, unfolding(svg_text::specs::Shapes::shapes_text))]
-fn put_slanted_tip(pen: Pen, is_right: bool, to: Point, out: &mut Vec<u8>) -> Result<(), AllocError>
+/// The tip of an arrow that is neither flat nor steep.
+fn slanted_tip(pen: Pen, is_right: bool, to: Point) -> (Rule, Rule)
     requires x { to.x ≤ 300000 }
     requires y { to.y ≤ 2000100 }
-    ensures { OnOk result (out.new.items ≡ out.old.items ++ shapes_text (spec.slanted_tip pen is_right to)) }
+    ensures { result ≡ spec.slanted_tip pen is_right to }
 {
     let low = Point {
         x: behind(is_right, to.x, 10),
         y: to.y.saturating_sub(3),
     };
-    put_line(pen, low, to, out)?;
     let high = Point {
         x: behind(is_right, to.x, 3),
         y: to.y.saturating_sub(10),
     };
-    put_line(pen, high, to, out)
+    (rule(pen, low, to), rule(pen, high, to))
 }
 
-/// Adds the tip of an arrow that is rather steep.
-#[tactic(auto, unfolding(svg_text::specs::Shapes::shapes_text))]
-fn put_steep_tip(pen: Pen, to: Point, out: &mut Vec<u8>) -> Result<(), AllocError>
+/// The tip of an arrow that is rather steep.
+fn steep_tip(pen: Pen, to: Point) -> (Rule, Rule)
     requires x { to.x ≤ 300000 }
     requires y { to.y ≤ 2000100 }
-    ensures { OnOk result (out.new.items ≡ out.old.items ++ shapes_text (spec.steep_tip pen to)) }
+    ensures { result ≡ spec.steep_tip pen to }
 {
     let y = to.y.saturating_sub(9);
     let left = Point {
         x: to.x.saturating_sub(5),
         y,
     };
-    put_line(pen, left, to, out)?;
-    put_line(pen, Point { x: to.x + 5, y }, to, out)
+    let right = Point { x: to.x + 5, y };
+    (rule(pen, left, to), rule(pen, right, to))
 }
 
 /// How far it is from one point to the other, from left to right.
@@ -108,86 +119,80 @@ fn across(from: Point, to: Point) -> u64
     to.x.saturating_sub(from.x) + from.x.saturating_sub(to.x)
 }
 
-/// Adds the tip of an arrow.
-fn put_tip(
-    pen: Pen,
-    is_right: bool,
-    from: Point,
-    to: Point,
-    out: &mut Vec<u8>,
-) -> Result<(), AllocError>
+/// The tip of an arrow.
+fn tip(pen: Pen, is_right: bool, from: Point, to: Point) -> (Rule, Rule)
     requires from { from.x ≤ 300000 }
     requires x { to.x ≤ 300000 }
     requires y { to.y ≤ 2000100 }
-    ensures { OnOk result (out.new.items ≡ out.old.items ++ shapes_text (spec.tip pen is_right from to)) }
+    ensures { result ≡ spec.tip pen is_right from to }
 {
     let across = across(from, to);
     let down = to.y.saturating_sub(from.y);
     if 2 * down < across {
-        put_flat_tip(pen, is_right, to, out)
+        flat_tip(pen, is_right, to)
     } else if 2 * across < down {
-        put_steep_tip(pen, to, out)
+        steep_tip(pen, to)
     } else {
-        put_slanted_tip(pen, is_right, to, out)
+        slanted_tip(pen, is_right, to)
     }
 }
 
-/// Adds a cross.
-#[tactic(auto, unfolding(svg_text::specs::Shapes::shapes_text))]
-pub(crate) fn put_cross(at: Point, out: &mut Vec<u8>) -> Result<(), AllocError>
+/// A cross.
+pub(crate) fn cross(at: Point) -> (Rule, Rule)
     requires x { at.x ≤ 300000 }
     requires y { at.y ≤ 2000100 }
-    ensures { OnOk result (out.new.items ≡ out.old.items ++ shapes_text (spec.cross at)) }
+    ensures { result ≡ spec.cross at }
 {
     let red = pen(Colour::Red, 2, 0);
     let (left, right) = (at.x.saturating_sub(6), at.x + 6);
     let (top, bottom) = (at.y.saturating_sub(6), at.y + 6);
-    put_line(
+    let falling = rule(
         red,
         Point { x: left, y: top },
         Point {
             x: right,
             y: bottom,
         },
-        out,
-    )?;
-    put_line(
+    );
+    let rising = rule(
         red,
         Point { x: left, y: bottom },
         Point { x: right, y: top },
-        out,
-    )
+    );
+    (falling, rising)
 }
 
 /// Adds a red square where something failed its check.
-#[tactic(auto, unfolding(svg_text::specs::Shapes::shapes_text))]
 fn put_failed(at: Point, out: &mut Vec<u8>) -> Result<(), AllocError>
     requires x { at.x ≤ 300000 }
     requires y { at.y ≤ 2000100 }
-    ensures { OnOk result (out.new.items ≡ out.old.items ++ shapes_text (spec.failed at)) }
+    ensures { OnOk result (out.new.items ≡ out.old.items ++ shape_text (spec.failed at)) }
 {
     put_square(at, Colour::Red, b"failed", out)
 }
 
-/// Adds the end of an arrow.
-fn put_ending(
-    fate: Fate,
-    pen: Pen,
-    is_right: bool,
-    from: Point,
-    to: Point,
+/// Adds a line and the two lines at its end.
+#[tactic(auto, unfolding(svg_text::specs::Shapes::shapes_text))]
+fn put_three(
+    shaft: Rule,
+    ends: (Rule, Rule),
+    title: &[u8],
     out: &mut Vec<u8>,
 ) -> Result<(), AllocError>
-    requires from { from.x ≤ 300000 }
+    ensures { OnOk result (out.new.items ≡ out.old.items ++ shapes_text (spec.three shaft ends title.now ∷ [])) }
+{
+    put_lines(&[shaft, ends.0, ends.1], title, out)
+}
+
+/// Adds a line that ends in a red square.
+#[tactic(auto, unfolding(svg_text::specs::Shapes::shapes_text))]
+fn put_failing(shaft: Rule, to: Point, title: &[u8], out: &mut Vec<u8>) -> Result<(), AllocError>
     requires x { to.x ≤ 300000 }
     requires y { to.y ≤ 2000100 }
-    ensures { OnOk result (out.new.items ≡ out.old.items ++ shapes_text (spec.ending fate pen is_right from to)) }
+    ensures { OnOk result (out.new.items ≡ out.old.items ++ shapes_text (Shape.Lined (shaft ∷ []) title.now ∷ spec.failed to ∷ [])) }
 {
-    match fate {
-        Fate::Good => put_tip(whole(pen), is_right, from, to, out),
-        Fate::Failed => put_failed(to, out),
-        Fate::Lost => put_cross(to, out),
-    }
+    put_lines(&[shaft], title, out)?;
+    put_failed(to, out)
 }
 
 pub(crate) fn is_lost(fate: Fate) -> bool
@@ -199,24 +204,91 @@ pub(crate) fn is_lost(fate: Fate) -> bool
     }
 }
 
-/// Adds an arrow that ends in a row.
-#[tactic(auto, unfolding(svg_text::specs::Shapes::shapes_text))]
-fn put_arrow(
-    way: Way,
-    pen: Pen,
-    fate: Fate,
-    sent: Option<u16>,
+/// Adds an arrow with its title.
+fn put_arrow(arrow: Arrow, title: &[u8], out: &mut Vec<u8>) -> Result<(), AllocError>
+    requires from { arrow.way.from ≤ 70000 }
+    requires to { arrow.way.to ≤ 70000 }
+    ensures { OnOk result (out.new.items ≡ out.old.items ++ shapes_text (spec.arrow arrow title.now)) }
+{
+    let from = start_of(arrow.way, arrow.sent, arrow.row);
+    let to = finish_of(arrow.way, is_lost(arrow.fate), arrow.row);
+    let shaft = rule(arrow.pen, from, to);
+    match arrow.fate {
+        Fate::Good => {
+            let ends = tip(whole(arrow.pen), arrow.way.is_right, from, to);
+            put_three(shaft, ends, title, out)
+        }
+        Fate::Failed => put_failing(shaft, to, title, out),
+        Fate::Lost => put_three(shaft, cross(to), title, out),
+    }
+}
+
+/// The row in which a packet was sent, if it is shown.
+fn packet_row(sent: &Option<PacketSent>) -> Option<u16>
+    ensures { result ≡ spec.packet_row sent.now }
+{
+    match sent {
+        Some(sent) => sent.row,
+        None => None,
+    }
+}
+
+/// The row in which a DLLP was sent, if it is shown.
+fn dllp_row(sent: &Option<DllpSent>) -> Option<u16>
+    ensures { result ≡ spec.dllp_row sent.now }
+{
+    match sent {
+        Some(sent) => sent.row,
+        None => None,
+    }
+}
+
+/// Adds the arrow of a packet.
+fn put_packet(
+    requesters: u8,
     row: u16,
+    lane: LaneName,
+    fate: Fate,
+    arrival: Arrival,
+    sent: Option<PacketSent>,
     out: &mut Vec<u8>,
 ) -> Result<(), AllocError>
-    requires from { way.from ≤ 70000 }
-    requires to { way.to ≤ 70000 }
-    ensures { OnOk result (out.new.items ≡ out.old.items ++ shapes_text (spec.arrow way pen fate sent row)) }
+    ensures { OnOk result (out.new.items ≡ out.old.items ++ shapes_text (spec.strokes requesters row (Deed.Arrived lane fate arrival sent))) }
 {
-    let from = start_of(way, sent, row);
-    let to = finish_of(way, is_lost(fate), row);
-    put_line(pen, from, to, out)?;
-    put_ending(fate, pen, way.is_right, from, to, out)
+    let arrow = Arrow {
+        way: way_of(requesters, lane, false),
+        pen: packet_pen(arrival),
+        fate,
+        sent: packet_row(&sent),
+        row,
+    };
+    let mut title = ArrayString::new();
+    write_packet_title(lane, sent, fate, arrival, &mut title);
+    put_arrow(arrow, title.as_bytes(), out)
+}
+
+/// Adds the arrow of a DLLP.
+fn put_dllp(
+    requesters: u8,
+    row: u16,
+    lane: LaneName,
+    fate: Fate,
+    sent: Option<DllpSent>,
+    replay: Replay,
+    out: &mut Vec<u8>,
+) -> Result<(), AllocError>
+    ensures { OnOk result (out.new.items ≡ out.old.items ++ shapes_text (spec.strokes requesters row (Deed.ArrivedDllp lane fate sent replay))) }
+{
+    let arrow = Arrow {
+        way: way_of(requesters, lane, true),
+        pen: dllp_pen(),
+        fate,
+        sent: dllp_row(&sent),
+        row,
+    };
+    let mut title = ArrayString::new();
+    write_dllp_title(lane, sent, fate, replay, &mut title);
+    put_arrow(arrow, title.as_bytes(), out)
 }
 
 /// Adds the arrow that ends in a row of this deed, if there is one.
@@ -231,27 +303,45 @@ pub(crate) fn put_strokes(
 {
     match deed {
         Deed::Arrived(lane, fate, arrival, sent) => {
-            let way = way_of(requesters, lane, false);
-            put_arrow(way, packet_pen(arrival), fate, sent, row, out)
+            put_packet(requesters, row, lane, fate, arrival, sent, out)
         }
-        Deed::ArrivedDllp(lane, fate, sent, _) => {
-            let way = way_of(requesters, lane, true);
-            put_arrow(way, dllp_pen(), fate, sent, row, out)
+        Deed::ArrivedDllp(lane, fate, sent, replay) => {
+            put_dllp(requesters, row, lane, fate, sent, replay, out)
         }
         _ => Ok(()),
     }
+}
+
+fn is_dllp(what: Flying) -> bool
+    ensures { result ≡ spec.is_dllp what }
+{
+    match what {
+        Flying::Packet(_, _) => false,
+        Flying::Dllp(_) => true,
+    }
+}
+
+/// Adds the first third of a way.
+fn put_open_line(way: Way, row: u16, title: &[u8], out: &mut Vec<u8>) -> Result<(), AllocError>
+    requires from { way.from ≤ 70000 }
+    requires to { way.to ≤ 70000 }
+    ensures { OnOk result (out.new.items ≡ out.old.items ++ shape_text (spec.open_line way row title.now)) }
+{
+    let y = departure(row);
+    let from = Point { x: way.from, y };
+    let to = Point {
+        x: thirds(way, 1),
+        y: y + 5,
+    };
+    put_lines(&[rule(pen(Colour::Grey, 1, 3), from, to)], title, out)
 }
 
 /// Adds the first third of the way of what isn't seen to arrive.
 pub(crate) fn put_open(requesters: u8, of: &Open, out: &mut Vec<u8>) -> Result<(), AllocError>
     ensures { OnOk result (out.new.items ≡ out.old.items ++ shape_text (spec.open_stroke requesters of.now)) }
 {
-    let way = way_of(requesters, of.lane, of.is_dllp);
-    let y = departure(of.row);
-    let from = Point { x: way.from, y };
-    let to = Point {
-        x: thirds(way, 1),
-        y: y + 5,
-    };
-    put_line(pen(Colour::Grey, 1, 3), from, to, out)
+    let mut title = ArrayString::new();
+    write_open_title(of, &mut title);
+    let way = way_of(requesters, of.lane, is_dllp(of.what));
+    put_open_line(way, of.row, title.as_bytes(), out)
 }

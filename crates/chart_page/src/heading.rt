@@ -1,16 +1,16 @@
 //! What stands above the rows.
-ghost use Rattle.std.specs.Prelude.{◌≡◌, ◌≤◌, ◌+◌, ◌++◌, OnOk};
-ghost use Rattle.svg_text.specs.Shapes.{shapes_text};
-ghost use Rattle.chart_page.specs.Words as said;
+ghost use Rattle.std.specs.Prelude.{◌≡◌, ◌≤◌, ◌+◌, ◌++◌, codes, OnOk};
+ghost use Rattle.svg_text.specs.Shapes.{Shape, shape_text, shapes_text};
+ghost use Rattle.chart_rows.specs.Layout as layout;
+ghost use Rattle.chart_rows.specs.Words as said;
 ghost use Rattle.chart_page.specs.Shapes as spec;
 
-use crate::arrows::{pen, put_cross};
-use crate::layout::{Point, memory_x, requester_x, switch_x};
-use crate::shapes::{label_at, put_line, put_square};
-use crate::words::put_requester;
+use crate::arrows::{cross, pen};
+use crate::shapes::{label_at, put_square, rule};
 use arrayvec::ArrayString;
+use chart_rows::{Point, memory_x, requester_x, switch_x, write_requester};
 use std::alloc::AllocError;
-use svg_text::{Block, Colour, Label, put_block, put_label};
+use svg_text::{Block, Colour, Label, put_block, put_label, put_lines};
 
 /// Where the first line stands, in red where it tells a fault or a refusal.
 pub(crate) fn title_label(is_red: bool) -> Label
@@ -71,7 +71,8 @@ fn put_pen_sign(
     ensures { OnOk result (out.new.items ≡ out.old.items ++ shapes_text (spec.pen_sign x (spec.pen colour thickness dash) name.now)) }
 {
     let pen = pen(colour, thickness, dash);
-    put_line(pen, Point { x, y: 47 }, Point { x: x + 30, y: 47 }, out)?;
+    let line = rule(pen, Point { x, y: 47 }, Point { x: x + 30, y: 47 });
+    put_lines(&[line], name.as_bytes(), out)?;
     put_label(&label_at(x + 36, 51, Colour::Black), name.as_bytes(), out)
 }
 
@@ -94,11 +95,19 @@ fn put_text(x: u64, y: u64, words: &str, out: &mut Vec<u8>) -> Result<(), AllocE
     put_label(&label_at(x, y, Colour::Black), words.as_bytes(), out)
 }
 
+/// Adds a cross.
+fn put_cross_sign(out: &mut Vec<u8>) -> Result<(), AllocError>
+    ensures { OnOk result (out.new.items ≡ out.old.items ++ shape_text (Shape.Lined (spec.two (spec.cross (layout.point 750 47))) (codes "lost"))) }
+{
+    let lines = cross(Point { x: 750, y: 47 });
+    put_lines(&[lines.0, lines.1], b"lost", out)
+}
+
 /// Adds what a cross means.
 fn put_lost_sign(out: &mut Vec<u8>) -> Result<(), AllocError>
     ensures { OnOk result (out.new.items ≡ out.old.items ++ shapes_text spec.lost_sign) }
 {
-    put_cross(Point { x: 750, y: 47 }, out)?;
+    put_cross_sign(out)?;
     put_text(764, 51, "lost", out)?;
     Ok(())
 }
@@ -137,7 +146,8 @@ fn put_column(x: u64, bottom: u64, name: &[u8], out: &mut Vec<u8>) -> Result<(),
     };
     put_label(&label, name, out)?;
     let top = Point { x, y: 92 };
-    put_line(pen(Colour::Grey, 1, 0), top, Point { x, y: bottom }, out)
+    let line = rule(pen(Colour::Grey, 1, 0), top, Point { x, y: bottom });
+    put_lines(&[line], name, out)
 }
 
 /// Adds the line of the requester at a port.
@@ -145,7 +155,7 @@ fn put_requester_column(port: u8, bottom: u64, out: &mut Vec<u8>) -> Result<(), 
     ensures { OnOk result (out.new.items ≡ out.old.items ++ shapes_text (spec.requester_column port bottom)) }
 {
     let mut name = ArrayString::new();
-    put_requester(port, &mut name);
+    write_requester(port, &mut name);
     put_column(requester_x(port), bottom, name.as_bytes(), out)
 }
 

@@ -1,18 +1,15 @@
 //! The page of a chart: what happened on the links of a fabric, as SVG.
 //!
-//! A [`Page`] is a list of rows, one for each event that is shown, and time goes down. Each requester, the switch and
-//! the memory has a line from top to bottom. [`put_chart`] draws an arrow for each packet and each DLLP that arrived or
-//! was lost, from the row in which it was sent, marks for the other events, and what is said of each event at the left.
+//! A [`Page`](chart_rows::Page) is a list of rows, one for each event that is shown, and time goes down. Each requester,
+//! the switch and the memory has a line from top to bottom. [`put_chart`] draws an arrow for each packet and each DLLP
+//! that arrived or was lost, from the row in which it was sent, marks for the other events, and what is said of each
+//! event at the left.
 #![tactic(auto)]
 
 mod arrows;
 mod heading;
-mod layout;
 mod notes;
 mod page;
-mod row;
 mod shapes;
-mod words;
 
 pub use page::{put_chart, put_title_chart};
-pub use row::{Carried, Deed, Kind, Open, Page, Replay, Row, kind_of};

@@ -2,19 +2,18 @@
 ghost use Rattle.std.specs.Prelude.{◌≡◌, ◌≤◌, ◌++◌, length, Some, None, OnOk};
 ghost use Rattle.svg_text.specs.Shapes.{shapes_text};
 ghost use Rattle.svg_text.specs.declared.colour.Colour.TheVariants as colours;
-ghost use Rattle.chart_page.specs.Layout as layout;
-ghost use Rattle.chart_page.specs.Words as said;
+ghost use Rattle.chart_rows.specs.Layout as layout;
+ghost use Rattle.chart_rows.specs.Words as said;
 ghost use Rattle.chart_page.specs.Shapes as spec;
 
 use crate::arrows::is_lost;
-use crate::layout::{Point, Way, memory_x, middle, other, requester_x, switch_x, way_of};
-use crate::row::{Carried, Deed, Kind, Replay};
 use crate::shapes::{Tag, kind_in, put_square, put_tag};
-use crate::words::{
-    arrival_words, put_collected, put_dllp, put_dllp_arrival, put_expired, put_forwarded, put_sent,
-    put_served, put_submitted,
-};
 use arrayvec::ArrayString;
+use chart_rows::{
+    Carried, Deed, Kind, Point, Replay, Way, arrival_words, memory_x, middle, other, requester_x,
+    switch_x, way_of, write_collected, write_dllp, write_dllp_arrival, write_expired,
+    write_forwarded, write_sent, write_served, write_submitted,
+};
 use dllp_core::Dllp;
 use lane_ends::{Arrival, Fate};
 use seq12::Seq12;
@@ -35,7 +34,7 @@ fn put_mark(
     ensures { OnOk result (out.new.items ≡ out.old.items ++ shapes_text (spec.mark x row kind words.now)) }
 {
     let y = middle(row);
-    put_dot(&Dot { x, y }, out)?;
+    put_dot(&Dot { x, y }, words, out)?;
     let tag = Tag {
         x,
         is_right: true,
@@ -147,7 +146,7 @@ fn put_submitted_note(
     ensures { OnOk result (out.new.items ≡ out.old.items ++ shapes_text (spec.mark (layout.requester_x port) row (Some carried.kind) (said.submitted_words carried))) }
 {
     let mut text = ArrayString::new();
-    put_submitted(carried, &mut text);
+    write_submitted(carried, &mut text);
     let kind = Some(carried.kind);
     put_mark(requester_x(port), row, kind, text.as_bytes(), out)
 }
@@ -163,7 +162,7 @@ fn put_sent_note(
     ensures { OnOk result (out.new.items ≡ out.old.items ++ shapes_text (spec.departing way row (spec.kind_in carried) (said.sent_words number carried))) }
 {
     let mut text = ArrayString::new();
-    put_sent(number, carried, &mut text);
+    write_sent(number, carried, &mut text);
     put_departing(way, row, kind_in(carried), text.as_bytes(), out)
 }
 
@@ -186,7 +185,7 @@ fn put_dllp_note(way: Way, row: u16, dllp: Dllp, out: &mut Vec<u8>) -> Result<()
     ensures { OnOk result (out.new.items ≡ out.old.items ++ shapes_text (spec.departing way row None (said.dllp_words dllp))) }
 {
     let mut text = ArrayString::new();
-    put_dllp(dllp, &mut text);
+    write_dllp(dllp, &mut text);
     put_departing(way, row, None, text.as_bytes(), out)
 }
 
@@ -201,7 +200,7 @@ fn put_dllp_arrival_note(
     ensures { OnOk result (out.new.items ≡ out.old.items ++ shapes_text (spec.remark way row fate (spec.remark_colour fate) (said.dllp_arrival_words fate replay))) }
 {
     let mut text = ArrayString::new();
-    put_dllp_arrival(fate, replay, &mut text);
+    write_dllp_arrival(fate, replay, &mut text);
     put_remark(way, row, fate, remark_colour(fate), text.as_bytes(), out)
 }
 
@@ -210,7 +209,7 @@ fn put_expired_note(way: Way, row: u16, replay: Replay, out: &mut Vec<u8>) -> Re
     ensures { OnOk result (out.new.items ≡ out.old.items ++ shapes_text (spec.notice way row (said.expired_words replay))) }
 {
     let mut text = ArrayString::new();
-    put_expired(replay, &mut text);
+    write_expired(replay, &mut text);
     put_notice(way, row, text.as_bytes(), out)
 }
 
@@ -223,7 +222,7 @@ fn put_forwarded_note(
     ensures { OnOk result (out.new.items ≡ out.old.items ++ shapes_text (spec.mark (layout.switch_x requesters) row (spec.kind_in carried) (said.forwarded_words carried))) }
 {
     let mut text = ArrayString::new();
-    put_forwarded(carried, &mut text);
+    write_forwarded(carried, &mut text);
     let kind = kind_in(carried);
     put_mark(switch_x(requesters), row, kind, text.as_bytes(), out)
 }
@@ -238,7 +237,7 @@ fn put_served_note(
     ensures { OnOk result (out.new.items ≡ out.old.items ++ shapes_text (spec.mark (layout.memory_x requesters) row (spec.kind_in carried) (said.served_words carried index))) }
 {
     let mut text = ArrayString::new();
-    put_served(carried, index, &mut text);
+    write_served(carried, index, &mut text);
     let kind = kind_in(carried);
     put_mark(memory_x(requesters), row, kind, text.as_bytes(), out)
 }
@@ -252,7 +251,7 @@ fn put_collected_note(
     ensures { OnOk result (out.new.items ≡ out.old.items ++ shapes_text (spec.mark (layout.requester_x port) row (spec.kind_in carried) (said.collected_words carried))) }
 {
     let mut text = ArrayString::new();
-    put_collected(carried, &mut text);
+    write_collected(carried, &mut text);
     let kind = kind_in(carried);
     put_mark(requester_x(port), row, kind, text.as_bytes(), out)
 }

@@ -5,12 +5,13 @@ ghost use Rattle.chart_page.specs.Shapes as spec;
 
 use crate::arrows::{put_open, put_strokes};
 use crate::heading::{put_columns, put_legend, title_label};
-use crate::layout::{top_of, width_of};
 use crate::notes::put_note;
-use crate::row::{Deed, Open, Page, Row};
 use crate::shapes::label_at;
-use crate::words::{put_after, put_before, put_event, put_outcome, put_row_words};
 use arrayvec::ArrayString;
+use chart_rows::{
+    Deed, Open, Page, Row, top_of, width_of, write_after, write_before, write_event_words,
+    write_outcome_words, write_row_words,
+};
 use operation_text::write_decimal;
 use std::alloc::{AllocError, Global};
 use svg_text::{Block, Colour, put_block, put_label, put_page};
@@ -52,7 +53,7 @@ fn put_white(
     ensures { OnOk result (out.new.items ≡ out.old.items ++ shape_text (spec.white requesters row of.now)) }
 {
     let mut words = Vec::new(alloc);
-    put_row_words(of, &mut words)?;
+    write_row_words(of, &mut words)?;
     put_block(&band_block(requesters, row), words.as_slice(), out)
 }
 
@@ -71,7 +72,7 @@ fn put_said(alloc: Global, row: u16, of: &Row, out: &mut Vec<u8>) -> Result<(), 
     ensures { OnOk result (out.new.items ≡ out.old.items ++ shape_text (spec.event_said row of.now)) }
 {
     let mut words = Vec::new(alloc);
-    put_event(&of.event, 26, &mut words)?;
+    write_event_words(&of.event, &mut words)?;
     let label = label_at(58, top_of(row) + 17, row_colour(of.deed));
     put_label(&label, words.as_slice(), out)
 }
@@ -81,7 +82,7 @@ fn put_seen(alloc: Global, row: u16, of: &Row, out: &mut Vec<u8>) -> Result<(), 
     ensures { OnOk result (out.new.items ≡ out.old.items ++ shape_text (spec.outcome_said row of.now)) }
 {
     let mut words = Vec::new(alloc);
-    put_outcome(&of.event, &of.outcome, 20, &mut words)?;
+    write_outcome_words(&of.event, &of.outcome, &mut words)?;
     let label = label_at(254, top_of(row) + 17, row_colour(of.deed));
     put_label(&label, words.as_slice(), out)
 }
@@ -173,7 +174,7 @@ fn put_before_cut(count: u64, out: &mut Vec<u8>) -> Result<(), AllocError>
     ensures { OnOk result (out.new.items ≡ out.old.items ++ shapes_text (spec.before_cut count)) }
 {
     let mut text = ArrayString::new();
-    put_before(count, &mut text);
+    write_before(count, &mut text);
     put_cut(count, 98, text.as_bytes(), out)
 }
 
@@ -182,7 +183,7 @@ fn put_after_cut(count: u64, bottom: u64, out: &mut Vec<u8>) -> Result<(), Alloc
     ensures { OnOk result (out.new.items ≡ out.old.items ++ shapes_text (spec.after_cut count bottom)) }
 {
     let mut text = ArrayString::new();
-    put_after(count, &mut text);
+    write_after(count, &mut text);
     put_cut(count, bottom, text.as_bytes(), out)
 }
 

@@ -3,11 +3,9 @@ ghost use Rattle.std.specs.Prelude.{◌≡◌, ◌≤◌, ◌+◌, ◌++◌, len
 ghost use Rattle.svg_text.specs.Shapes.{Shape, shape_text, shapes_text};
 ghost use Rattle.chart_page.specs.Shapes as spec;
 
-use crate::layout::{Point, middle, top_of};
-use crate::row::{Carried, Kind};
-use crate::words::{kind_colour, kind_name};
+use chart_rows::{Carried, Kind, Point, kind_name, middle, top_of};
 use std::alloc::AllocError;
-use svg_text::{Block, Colour, Label, Rule, put_block, put_label, put_rule};
+use svg_text::{Block, Colour, Label, Rule, put_block, put_label};
 
 /// What a line looks like.
 #[derive(Clone, Copy, Debug, PartialEq, Eq)]
@@ -30,16 +28,11 @@ pub(crate) struct Tag {
     pub(crate) colour: Colour,
 }
 
-/// Adds a line from one point to another.
-pub(crate) fn put_line(
-    pen: Pen,
-    from: Point,
-    to: Point,
-    out: &mut Vec<u8>,
-) -> Result<(), AllocError>
-    ensures { OnOk result (out.new.items ≡ out.old.items ++ shape_text (spec.line pen from to)) }
+/// A line from one point to another.
+pub(crate) fn rule(pen: Pen, from: Point, to: Point) -> Rule
+    ensures { result ≡ spec.rule pen from to }
 {
-    let rule = Rule {
+    Rule {
         left: from.x,
         top: from.y,
         right: to.x,
@@ -47,8 +40,7 @@ pub(crate) fn put_line(
         colour: pen.colour,
         thickness: pen.thickness,
         dash: pen.dash,
-    };
-    put_rule(&rule, out)
+    }
 }
 
 fn square_block(at: Point, fill: Colour) -> Block
@@ -68,7 +60,7 @@ fn square_block(at: Point, fill: Colour) -> Block
     }
 }
 
-/// Adds a square round a point, and what is shown where one points at it.
+/// Adds a square round a point, with its title.
 pub(crate) fn put_square(
     at: Point,
     fill: Colour,
@@ -157,6 +149,18 @@ fn kind_x(tag: Tag) -> u64
         tag.x + 18
     } else {
         tag.x.saturating_sub(18)
+    }
+}
+
+fn kind_colour(kind: Kind) -> Colour
+    ensures { result ≡ spec.kind_colour kind }
+{
+    match kind {
+        Kind::Read => Colour::SkyBlue,
+        Kind::Write => Colour::Orange,
+        Kind::Add => Colour::Green,
+        Kind::Swap => Colour::Yellow,
+        Kind::Cas => Colour::Purple,
     }
 }
 

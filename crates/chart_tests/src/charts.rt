@@ -170,16 +170,16 @@ static CHARTS: [Charted; 10] = [
             "<svg xmlns=\"http://www.w3.org/2000/svg\" width=\"1300\"",
             ">the script ran to its end</text>",
             "<title>line 7: submit 1 add 40 07000000 -&gt; sub 1 0</title>",
-            ">requester 1</text><line x1=\"560\" y1=\"92\"",
+            ">requester 1</text><g><title>requester 1</title><line x1=\"560\" y1=\"92\"",
             // The packet, sent in row 1, arrives in row 2.
-            "<line x1=\"560\" y1=\"149\" x2=\"800\" y2=\"169\" stroke=\"#000000\" stroke-width=\"2\" stroke-dasharray=\"0\"",
+            "<g><title>packet 000 on up1, add of requester 1, request 0, accepted</title><line x1=\"560\" y1=\"149\" x2=\"800\" y2=\"169\" stroke=\"#000000\" stroke-width=\"2\" stroke-dasharray=\"0\"",
             // The Ack, sent in row 3, is lost in row 4, two thirds of its way back.
-            "<line x1=\"800\" y1=\"201\" x2=\"640\" y2=\"221\" stroke=\"#767676\" stroke-width=\"1\" stroke-dasharray=\"0\"",
+            "<g><title>Ack 000 on up1, lost</title><line x1=\"800\" y1=\"201\" x2=\"640\" y2=\"221\" stroke=\"#767676\" stroke-width=\"1\" stroke-dasharray=\"0\"",
             "<line x1=\"634\" y1=\"215\" x2=\"646\" y2=\"227\" stroke=\"#C00000\"",
             // The duplicate, sent in row 6, arrives in row 7.
-            "<line x1=\"560\" y1=\"279\" x2=\"800\" y2=\"299\" stroke=\"#000000\" stroke-width=\"2\" stroke-dasharray=\"6\"",
+            "<g><title>packet 000 on up1, add of requester 1, request 0, duplicate, dropped</title><line x1=\"560\" y1=\"279\" x2=\"800\" y2=\"299\" stroke=\"#000000\" stroke-width=\"2\" stroke-dasharray=\"6\"",
             // The second Ack, sent in row 8, arrives in row 9.
-            "<line x1=\"800\" y1=\"331\" x2=\"560\" y2=\"351\" stroke=\"#767676\"",
+            "<g><title>Ack 000 on up1, arrived</title><line x1=\"800\" y1=\"331\" x2=\"560\" y2=\"351\" stroke=\"#767676\"",
         ],
         0,
     ),
@@ -196,6 +196,7 @@ static CHARTS: [Charted; 10] = [
             ">duplicate, dropped</text>",
             ">Ack 000</text>",
             ">forward add 1:0</text>",
+            "<title>serve add 1:0, history 0</title></circle>",
             ">serve add 1:0, history 0</text>",
             ">000 cpl of add 1:0</text>",
             ">forward cpl of add 1:0</text>",
@@ -222,14 +223,16 @@ static CHARTS: [Charted; 10] = [
     (
         LOST_ACK,
         LOSS,
-        &["<line x1=\"720\" y1=\"117\" x2=\"640\" y2=\"117\" stroke=\"#767676\""],
+        &[
+            "<g><title>Ack 000 on up1, lost</title><line x1=\"720\" y1=\"117\" x2=\"640\" y2=\"117\" stroke=\"#767676\"",
+        ],
         0,
     ),
     (
         LOST_ACK,
         SENDING,
         &[
-            "<line x1=\"800\" y1=\"123\" x2=\"720\" y2=\"128\" stroke=\"#767676\" stroke-width=\"1\" stroke-dasharray=\"3\"",
+            "<g><title>Ack 000 on up1, not seen to arrive</title><line x1=\"800\" y1=\"123\" x2=\"720\" y2=\"128\" stroke=\"#767676\" stroke-width=\"1\" stroke-dasharray=\"3\"",
         ],
         0,
     ),
@@ -242,7 +245,8 @@ static CHARTS: [Charted; 10] = [
             "<line x1=\"560\" y1=\"175\" x2=\"800\" y2=\"221\" stroke=\"#C00000\"",
             "<rect x=\"795\" y=\"216\" width=\"10\" height=\"10\" fill=\"#C00000\"",
             "<line x1=\"560\" y1=\"201\" x2=\"800\" y2=\"247\" stroke=\"#C00000\"",
-            "<line x1=\"560\" y1=\"331\" x2=\"640\" y2=\"336\" stroke=\"#767676\" stroke-width=\"1\" stroke-dasharray=\"3\"",
+            "<g><title>Nak FFF on up1, arrived, replay 2</title>",
+            "<g><title>packet 000 on up1, read of requester 1, request 0, not seen to arrive</title><line x1=\"560\" y1=\"331\" x2=\"640\" y2=\"336\" stroke=\"#767676\" stroke-width=\"1\" stroke-dasharray=\"3\"",
             ">failed, Nak due</text>",
             ">out of order, dropped</text>",
             ">Nak FFF</text>",
@@ -255,7 +259,7 @@ static CHARTS: [Charted; 10] = [
         STOPPED,
         WHOLE,
         &[
-            ">requester 2</text><line x1=\"800\" y1=\"92\"",
+            ">requester 2</text><g><title>requester 2</title><line x1=\"800\" y1=\"92\"",
             ">submit write 2:0</text>",
             ">timer: replay 1</text>",
             ">timer: replay 1</text>",

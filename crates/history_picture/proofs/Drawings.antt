@@ -175,14 +175,16 @@ first_within : {X : Type 0} (t : X → Bool) (xs : List X) (p : ℕ) → first_p
 first_within t [] p e = absurd cc
 first_within t (x ∷ xs) p e = by_first (t x) (first_place t xs) (length xs) p e (first_within t xs)
 
-whole_dot : (count e top : ℕ) → e < count → dot_shapes (dot_at (record { from = 0; span = count }) (Some (e + 1))) top ≡ Shape.Dotted (record { x = x_at e + 36; y = top + 18 }) ∷ []
-whole_dot count e top lt =
+whole_dot : (count e top : ℕ) (words : List ℕ) → e < count
+    → dot_shapes (dot_at (record { from = 0; span = count }) (Some (e + 1))) top words ≡ Shape.Dotted (record { x = x_at e + 36; y = top + 18 }) words ∷ []
+whole_dot count e top words lt =
     let after : nat_lt 0 (e + 1) ≡ true = lt-ltb 0 (e + 1) (omega arith) in
     let before : nat_le (e + 1 - 0) count ≡ true = le-leb (e + 1 - 0) count (omega arith) in
     let x : 120 + 72 * (e + 1 - 0) - 36 ≡ 120 + 72 * e + 36 = omega arith in
-    ap₂ (λ (a : Bool). λ (b : Bool). dot_shapes (cond (a && b) (Some (e + 1 - 0)) None) top) after before ∙ ap (λ (at : ℕ). Shape.Dotted (make_dot at (top + 18)) ∷ []) x
+    ap₂ (λ (a : Bool). λ (b : Bool). dot_shapes (cond (a && b) (Some (e + 1 - 0)) None) top words) after before
+    ∙ ap (λ (at : ℕ). Shape.Dotted (make_dot at (top + 18)) words ∷ []) x
 
 pub dots : DotsStandAtEntries
-dots w h i k e top whole acted =
-    ap₂ (λ (s : Scale). λ (o : Option ℕ). dot_shapes (dot_at s (option_map (λ p. p + 1) o)) top) (whole_scale w h whole) acted
-    ∙ whole_dot (length h) e top (first_within (is_request i k) h e acted)
+dots w h i k e top words whole acted =
+    ap₂ (λ (s : Scale). λ (o : Option ℕ). dot_shapes (dot_at s (option_map (λ p. p + 1) o)) top words) (whole_scale w h whole) acted
+    ∙ whole_dot (length h) e top words (first_within (is_request i k) h e acted)

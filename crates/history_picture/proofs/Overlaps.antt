@@ -131,12 +131,12 @@ dots : Option ℕ → ℕ
 dots None = 0
 dots (Some offset) = 1
 
-past_dot : (d : Option ℕ) (at : ℕ) (rest : List Shape) (p : ℕ) (b : Block) (text : List ℕ) → slice_get (dot_shapes d at ++ rest) p ≡ Some (Shape.Filled b text)
+past_dot : (d : Option ℕ) (at : ℕ) (words : List ℕ) (rest : List Shape) (p : ℕ) (b : Block) (text : List ℕ) → slice_get (dot_shapes d at words ++ rest) p ≡ Some (Shape.Filled b text)
     → (q : ℕ) × (slice_get rest q ≡ Some (Shape.Filled b text)) × (p ≡ q + dots d)
 unfolding dots
-past_dot None at rest p b text e = (p, e, omega arith)
-past_dot (Some offset) at rest zero b text e = absurd cc
-past_dot (Some offset) at rest (suc p) b text e = (p, e, omega arith)
+past_dot None at words rest p b text e = (p, e, omega arith)
+past_dot (Some offset) at words rest zero b text e = absurd cc
+past_dot (Some offset) at words rest (suc p) b text e = (p, e, omega arith)
 
 of_filled : (a b : Block) (text words : List ℕ) → Some (Shape.Filled a text) ≡ Some (Shape.Filled b words) → a ≡ b
 of_filled a b text words e = cc
@@ -190,7 +190,7 @@ after_placed true v rs op q top ends (Some bar) rest all long zero b text e =
 after_placed true v rs op q top ends (Some bar) rest all long (suc zero) b text e = absurd cc
 after_placed true v rs op q top ends (Some bar) rest all long (suc (suc p)) b text e =
     let found : (r : ℕ) × (slice_get (rest (ends_with ends bar)) r ≡ Some (Shape.Filled b text)) × (p ≡ r + dots (dot_at v.scale q.acted)) =
-    past_dot (dot_at v.scale q.acted) _ (rest (ends_with ends bar)) p b text e in
+    past_dot (dot_at v.scale q.acted) _ _ (rest (ends_with ends bar)) p b text e in
     earlier top ends bar b (long bar refl) (all (ends_with ends bar) found.0 b text found.1)
 
 later : (v : View) (rs : List Record) (acted answer : ℕ → Option ℕ) (i top : ℕ) (all : List Record) → AllAfter top (λ ends. bars v rs acted answer i top ends all)
@@ -234,15 +234,15 @@ apart_placed true v rs op request top ends (Some bar) rest after all zero (suc (
     let block = bar_block (top + 28 * row_for ends bar.start) (is_flawed v.flawed request.requester request.number) op bar in
     let is : block ≡ a = of_filled block a _ text e in
     let found : (r : ℕ) × (slice_get (rest (ends_with ends bar)) r ≡ Some (Shape.Filled b words)) × (q ≡ r + dots (dot_at v.scale request.acted)) =
-    past_dot (dot_at v.scale request.acted) _ (rest (ends_with ends bar)) q b words f in
+    past_dot (dot_at v.scale request.acted) _ _ (rest (ends_with ends bar)) q b words f in
     let less : x_at bar.end - 1 < b.left =
     next_to v op request top ends bar b a.top (sym (ap (λ (x : Block). x.top) is)) (after (ends_with ends bar) found.0 b words found.1) same small in
     subst (λ (x : Block). x.right < b.left) is less
 apart_placed true v rs op request top ends (Some bar) rest after all (suc (suc p)) (suc (suc q)) a b text words e f =
     λ lt. λ same. λ small.
     let d = dot_at v.scale request.acted in
-    let first : (r : ℕ) × (slice_get (rest (ends_with ends bar)) r ≡ Some (Shape.Filled a text)) × (p ≡ r + dots d) = past_dot d _ (rest (ends_with ends bar)) p a text e in
-    let second : (r : ℕ) × (slice_get (rest (ends_with ends bar)) r ≡ Some (Shape.Filled b words)) × (q ≡ r + dots d) = past_dot d _ (rest (ends_with ends bar)) q b words f in
+    let first : (r : ℕ) × (slice_get (rest (ends_with ends bar)) r ≡ Some (Shape.Filled a text)) × (p ≡ r + dots d) = past_dot d _ _ (rest (ends_with ends bar)) p a text e in
+    let second : (r : ℕ) × (slice_get (rest (ends_with ends bar)) r ≡ Some (Shape.Filled b words)) × (q ≡ r + dots d) = past_dot d _ _ (rest (ends_with ends bar)) q b words f in
     let first_at : p ≡ first.0 + dots d = first.2 in
     let second_at : q ≡ second.0 + dots d = second.2 in
     all (ends_with ends bar) first.0 second.0 a b text words first.1 second.1 (omega (arith, lt, first_at, second_at)) same small

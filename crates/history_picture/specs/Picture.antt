@@ -13,6 +13,7 @@ use Rattle.flaw_places.specs.Places.{is_of_entry, flawed_request}
 use Rattle.svg_text.specs.declared.colour.Colour.{Colour}
 use Rattle.svg_text.specs.declared.colour.Colour.TheVariants as colours
 use Rattle.svg_text.specs.declared.shapes.Block.{Block}
+use Rattle.svg_text.specs.declared.shapes.Rule.{Rule}
 use Rattle.svg_text.specs.declared.shapes.Label.{Label}
 use Rattle.svg_text.specs.Shapes.{Shape, page_text}
 use Rattle.history_picture.specs.declared.scale.Window.{Window}
@@ -21,9 +22,13 @@ use Rattle.history_picture.specs.declared.bars.Bar.{Bar}
 use Rattle.history_picture.specs.declared.words.Request.{Request}
 use Rattle.history_picture.specs.declared.marks.View.{View}
 use Rattle.history_picture.specs.Layout.{scale_of, x_at, acted_in, answer_in, bar_of, dot_at, row_for, with_bar, rows_height}
-use Rattle.history_picture.specs.Words.{kind_colour, op_label, pair_words, tooltip_words, entry_words, requester_words, verdict_words, window_words, answer_at, moment_of}
+use Rattle.history_picture.specs.Words.{kind_colour, op_label, pair_words, tooltip_words, dot_words, point_words, entry_words, requester_words, verdict_words, window_words, answer_at, moment_of}
 
 -- ---- marks
+
+-- a line with a title
+abbrev pub ruled : Rule → List ℕ → Shape
+ruled r words = Shape.Lined (r ∷ []) words
 
 -- the first flaw names the request
 abbrev pub is_flawed : Option (ℕ × ℕ) → ℕ → ℕ → Bool
@@ -57,16 +62,16 @@ bar_block top flawed op bar = record {
   is_open = bar.is_open;
 }
 
-abbrev pub dot_shapes : Option ℕ → ℕ → List Shape
-dot_shapes None top = []
-dot_shapes (Some offset) top = Shape.Dotted (record { x = x_at offset - 36; y = top + 18 }) ∷ []
+abbrev pub dot_shapes : Option ℕ → ℕ → List ℕ → List Shape
+dot_shapes None top words = []
+dot_shapes (Some offset) top words = Shape.Dotted (record { x = x_at offset - 36; y = top + 18 }) words ∷ []
 
 -- a bar, its label, and its dot
 abbrev pub bar_shapes : View → List Record → Op → Request → Bar → ℕ → List Shape
 bar_shapes v rs op q bar top =
     Shape.Filled (bar_block top (is_flawed v.flawed q.requester q.number) op bar) (tooltip_words rs op q)
     ∷ Shape.Written (plain_label (x_at bar.start + 5) (top + 12)) (op_label (9 * (bar.end - bar.start) - 1) op)
-    ∷ dot_shapes (dot_at v.scale q.acted) top
+    ∷ dot_shapes (dot_at v.scale q.acted) top (dot_words q)
 
 abbrev pub bar_for : View → List Record → Op → Request → Option Bar
 bar_for v rs op q = bar_of v.scale (is_posted op) q.n (moment_of (answer_at rs q.answer)) q.acted
@@ -111,7 +116,7 @@ ends_of v rs acted answer i ends (r ∷ more) = ends_of v rs acted answer i (rec
 abbrev pub frame : ℕ → ℕ → ℕ → ℕ → List Shape
 frame width i top height =
     Shape.Written (plain_label 10 (top + 16)) (requester_words i)
-    ∷ Shape.Ruled (record { left = 0; top = top + (height - 10); right = width; bottom = top + (height - 10); colour = colours.Grey; thickness = 1; dash = 0 })
+    ∷ ruled (record { left = 0; top = top + (height - 10); right = width; bottom = top + (height - 10); colour = colours.Grey; thickness = 1; dash = 0 }) (requester_words i)
     ∷ []
 
 -- a requester of whom no bar is shown has no row
@@ -144,7 +149,7 @@ rows_bottom v rs h top (i ∷ is) = rows_bottom v rs h (top + row_height v rs h 
 abbrev pub tick : ℕ → ℕ → ℕ → List Shape
 tick from offset bottom =
     Shape.Written (centred_label (x_at offset) 72 colours.Grey) (decimal (from + offset))
-    ∷ Shape.Ruled (record { left = x_at offset; top = 78; right = x_at offset; bottom = bottom; colour = colours.Grey; thickness = 1; dash = 2 })
+    ∷ ruled (record { left = x_at offset; top = 78; right = x_at offset; bottom = bottom; colour = colours.Grey; thickness = 1; dash = 2 }) (point_words (from + offset))
     ∷ []
 
 abbrev pub entry_block : View → ℕ → Entry → Block
@@ -189,7 +194,7 @@ mark_of s rs f = if is_of_entry f.kind then entry_mark s f.place else record_mar
 abbrev pub mark_at : Option ℕ → List ℕ → ℕ → List Shape
 mark_at None name bottom = []
 mark_at (Some x) name bottom =
-    Shape.Ruled (record { left = x; top = 76; right = x; bottom = bottom + 4; colour = colours.Red; thickness = 2; dash = 0 })
+    ruled (record { left = x; top = 76; right = x; bottom = bottom + 4; colour = colours.Red; thickness = 2; dash = 0 }) name
     ∷ Shape.Written (centred_label x (bottom + 18) colours.Red) name
     ∷ []
 
@@ -229,7 +234,7 @@ kinds =
     ++ (kind_swatch 216 colours.Yellow (codes "swap") ++ kind_swatch 286 colours.Purple (codes "cas"))))
 
 abbrev pub dot_sign : List Shape
-dot_sign = Shape.Dotted (record { x = 354; y = 41 }) ∷ Shape.Written (plain_label 364 46) (codes "acted") ∷ []
+dot_sign = Shape.Dotted (record { x = 354; y = 41 }) (codes "acted") ∷ Shape.Written (plain_label 364 46) (codes "acted") ∷ []
 
 abbrev pub open_sign : List Shape
 open_sign = swatch (swatch_block 426 456 colours.White true) (codes "posted, or no answer")

@@ -57,8 +57,8 @@ BarsGoFromSubmissionToAnswer = (w : Window) (rs : List Record) (h : List Entry) 
 
 -- the dot of a request stands in the middle of its entry
 abbrev pub DotsStandAtEntries : Type 0
-DotsStandAtEntries = (w : Window) (h : List Entry) (i k e top : ℕ) → IsWholeHistory w h → place_of h i k ≡ Some e
-    → dot_shapes (dot_at (scale_of w (length h)) (acted_in h i k)) top ≡ Shape.Dotted (record { x = x_at e + 36; y = top + 18 }) ∷ []
+DotsStandAtEntries = (w : Window) (h : List Entry) (i k e top : ℕ) (words : List ℕ) → IsWholeHistory w h → place_of h i k ≡ Some e
+    → dot_shapes (dot_at (scale_of w (length h)) (acted_in h i k)) top words ≡ Shape.Dotted (record { x = x_at e + 36; y = top + 18 }) words ∷ []
 
 -- the bars of requester i, in a row whose first sub-row begins at top
 abbrev pub bars_of : View → List Record → List Entry → ℕ → ℕ → List Shape

@@ -55,6 +55,13 @@ abbrev pub answered_words : Option Record → List ℕ
 answered_words (Some (records.Ans i k reply n)) = reply_words n reply
 answered_words _ = codes "; no answer"
 
+-- which request acted, and where it stands in the history
+abbrev pub dot_words : Request → List ℕ
+dot_words q = codes "request " ++ (pair_words q.requester q.number ++ acted_words q.acted)
+
+abbrev pub point_words : ℕ → List ℕ
+point_words p = codes "point " ++ decimal p
+
 -- the answer at a place of the records
 abbrev pub answer_at : List Record → Option ℕ → Option Record
 answer_at rs None = None

@@ -5,12 +5,12 @@ ghost use Rattle.history_picture.specs.Picture as spec;
 
 use crate::marks::{View, centred_label, edge_of, thickness_of};
 use crate::scale::{Scale, x_at};
-use crate::words::{kind_colour, put_entry_words, put_pair};
+use crate::words::{kind_colour, put_entry_words, put_pair, put_point_words};
 use arrayvec::ArrayString;
 use operation_text::write_decimal;
 use seq_memory::Entry;
 use std::alloc::AllocError;
-use svg_text::{Block, Colour, Rule, put_block, put_label, put_rule};
+use svg_text::{Block, Colour, Rule, put_block, put_label, put_lines};
 
 /// Adds a point's number, and a line down from it.
 #[tactic(auto, unfolding(svg_text::specs::Shapes::shapes_text))]
@@ -32,7 +32,9 @@ fn put_tick(from: u64, offset: u64, bottom: u64, out: &mut Vec<u8>) -> Result<()
         thickness: 1,
         dash: 2,
     };
-    put_rule(&line, out)
+    number.clear();
+    put_point_words(from + offset, &mut number);
+    put_lines(&[line], number.as_bytes(), out)
 }
 
 /// The block of an entry.

@@ -9,7 +9,7 @@ use crate::words::moment_of;
 use flaw_places::is_of_entry;
 use history_check::{Flaw, Record};
 use std::alloc::AllocError;
-use svg_text::{Colour, Rule, put_label, put_rule};
+use svg_text::{Colour, Rule, put_label, put_lines};
 
 fn entry_mark(scale: Scale, place: u64) -> Option<u64>
     ensures mark { result ≡ spec.entry_mark scale place }
@@ -68,7 +68,7 @@ fn put_mark_at(
         thickness: 2,
         dash: 0,
     };
-    put_rule(&line, out)?;
+    put_lines(&[line], name.as_bytes(), out)?;
     let place = centred_label(x, bottom + 18, Colour::Red);
     put_label(&place, name.as_bytes(), out)
 }

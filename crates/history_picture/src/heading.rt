@@ -74,7 +74,7 @@ pub(crate) fn put_kinds(out: &mut Vec<u8>) -> Result<(), AllocError>
 fn put_dot_sign(out: &mut Vec<u8>) -> Result<(), AllocError>
     ensures { OnOk result (out.new.items ≡ out.old.items ++ shapes_text spec.dot_sign) }
 {
-    put_dot(&Dot { x: 354, y: 41 }, out)?;
+    put_dot(&Dot { x: 354, y: 41 }, b"acted", out)?;
     put_label(&plain_label(364, 46), b"acted", out)
 }
 

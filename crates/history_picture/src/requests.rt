@@ -5,12 +5,14 @@ ghost use Rattle.std.specs.BTreeMap.{get};
 ghost use Rattle.svg_text.specs.Shapes.{Shape, shape_text, shapes_text};
 ghost use Rattle.history_picture.specs.Layout as layout;
 ghost use Rattle.history_picture.specs.Picture as spec;
-ghost use Rattle.history_picture.specs.Words.{op_label};
+ghost use Rattle.history_picture.specs.Words.{dot_words, op_label};
 
 use crate::bars::{Bar, bar_of, dot_at, put_end, row_for};
 use crate::marks::{View, edge_of, plain_label, thickness_of};
-use crate::scale::x_at;
-use crate::words::{Request, answer_at, kind_colour, moment_of, put_op_label, put_tooltip};
+use crate::scale::{Scale, x_at};
+use crate::words::{
+    Request, answer_at, kind_colour, moment_of, put_dot_words, put_op_label, put_tooltip,
+};
 use arrayvec::ArrayString;
 use history_check::Record;
 use std::alloc::AllocError;
@@ -66,12 +68,17 @@ fn put_bar_label(top: u64, op: &Op, bar: Bar, out: &mut Vec<u8>) -> Result<(), A
     put_label(&place, label.as_bytes(), out)
 }
 
-/// Adds the dot of a request, if it is shown.
+/// Adds a dot with its title, if it is shown.
 #[tactic(auto, unfolding(svg_text::specs::Shapes::shapes_text))]
-fn put_dot_at(offset: Option<u64>, top: u64, out: &mut Vec<u8>) -> Result<(), AllocError>
+fn put_dot_at(
+    offset: Option<u64>,
+    top: u64,
+    words: &[u8],
+    out: &mut Vec<u8>,
+) -> Result<(), AllocError>
     requires offset { IfSome offset (λ o. o ≤ 4294967295) }
     requires top { top ≤ 1000000 }
-    ensures { OnOk result (out.new.items ≡ out.old.items ++ shapes_text (spec.dot_shapes offset top)) }
+    ensures { OnOk result (out.new.items ≡ out.old.items ++ shapes_text (spec.dot_shapes offset top words.now)) }
 {
     match offset {
         None => Ok(()),
@@ -80,9 +87,24 @@ fn put_dot_at(offset: Option<u64>, top: u64, out: &mut Vec<u8>) -> Result<(), Al
                 x: x_at(offset) - 36,
                 y: top + 18,
             };
-            put_dot(&dot, out)
+            put_dot(&dot, words, out)
         }
     }
+}
+
+/// Adds the dot of a request, if it is shown.
+fn put_dot_of(
+    scale: Scale,
+    request: &Request,
+    top: u64,
+    out: &mut Vec<u8>,
+) -> Result<(), AllocError>
+    requires { top ≤ 1000000 }
+    ensures { OnOk result (out.new.items ≡ out.old.items ++ shapes_text (spec.dot_shapes (layout.dot_at scale request.now.acted) top (dot_words request.now))) }
+{
+    let mut text = ArrayString::new();
+    put_dot_words(request, &mut text);
+    put_dot_at(dot_at(scale, request.acted), top, text.as_bytes(), out)
 }
 
 /// Adds a bar, its label and its dot, in a sub-row that begins so many pixels from the top. `words` is room for its
@@ -108,7 +130,7 @@ fn put_bar(
     let block = bar_block(top, is_flawed, op, bar);
     put_block(&block, words.as_slice(), out)?;
     put_bar_label(top, op, bar, out)?;
-    put_dot_at(dot_at(row.view.scale, request.acted), top, out)
+    put_dot_of(row.view.scale, request, top, out)
 }
 
 /// Adds the bar of a request, if any of it is shown, in the first sub-row that is free.

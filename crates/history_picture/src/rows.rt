@@ -11,7 +11,7 @@ use arrayvec::ArrayString;
 use history_check::Record;
 use seq_memory::Entry;
 use std::alloc::{AllocError, Global};
-use svg_text::{Colour, Rule, put_label, put_rule};
+use svg_text::{Colour, Rule, put_label, put_lines};
 
 /// Adds a requester's name, and the line below its bars.
 #[tactic(auto, unfolding(svg_text::specs::Shapes::shapes_text))]
@@ -38,7 +38,7 @@ fn put_frame(
         thickness: 1,
         dash: 0,
     };
-    put_rule(&line, out)
+    put_lines(&[line], name.as_bytes(), out)
 }
 
 /// How high the sub-rows are that have these ends.

@@ -107,6 +107,25 @@ fn put_acted(acted: Option<u64>, text: &mut ArrayString<512>)
     }
 }
 
+/// Writes which request acted, and where it stands in the history.
+pub(crate) fn put_dot_words(request: &Request, text: &mut ArrayString<512>)
+    requires { text.old.bytes ≡ [] }
+    ensures { text.new.bytes ≡ said.dot_words request.now }
+{
+    text.push_str("request ");
+    put_pair(request.requester, request.number, text);
+    put_acted(request.acted, text);
+}
+
+/// Writes which point of the history it is.
+pub(crate) fn put_point_words(point: u64, text: &mut ArrayString<512>)
+    requires { text.old.bytes ≡ [] }
+    ensures { text.new.bytes ≡ said.point_words point }
+{
+    text.push_str("point ");
+    write_decimal(point, text);
+}
+
 /// Adds when a request was answered, and how.
 fn put_reply(n: u64, reply: &Reply, text: &mut ArrayString<512>)
     requires { array_string_len text.old ≤ 150 }
@@ -155,7 +174,7 @@ fn put_course(records: &[Record], request: &Request, text: &mut ArrayString<512>
     put_answered(answer_at(records, request.answer), text);
 }
 
-/// Writes what is shown where one points at a bar.
+/// Writes the title of a bar.
 pub(crate) fn put_tooltip(
     records: &[Record],
     op: &Op,
@@ -173,7 +192,7 @@ pub(crate) fn put_tooltip(
     text.extend_from_slice(piece.as_bytes())
 }
 
-/// Writes what is shown where one points at an entry of the history.
+/// Writes the title of an entry of the history.
 pub(crate) fn put_entry_words(
     place: u64,
     requester: u8,

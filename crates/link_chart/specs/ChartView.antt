@@ -4,12 +4,15 @@ use Rattle.fabric_core.specs.declared.event.Event.{Event}
 use Rattle.fabric_core.specs.declared.event.Seen.{Seen}
 use Rattle.fabric_core.specs.declared.event.LaneName.{LaneName}
 use Rattle.fabric_core.specs.declared.fault.Refusal.{Refusal}
-use Rattle.chart_page.specs.declared.row.Row.{Row}
-use Rattle.chart_page.specs.declared.row.Open.{Open}
-use Rattle.chart_page.specs.declared.row.Deed.{Deed}
-use Rattle.chart_page.specs.declared.row.Deed.TheVariants as deeds
-use Rattle.chart_page.specs.PageView.{PageView}
-use Rattle.link_chart.specs.declared.course.Sent.{Sent}
+use Rattle.chart_rows.specs.declared.row.Row.{Row}
+use Rattle.chart_rows.specs.declared.row.PacketSent.{PacketSent}
+use Rattle.chart_rows.specs.declared.row.DllpSent.{DllpSent}
+use Rattle.chart_rows.specs.declared.row.Flying.{Flying}
+use Rattle.chart_rows.specs.declared.row.Flying.TheVariants as flying
+use Rattle.chart_rows.specs.declared.row.Open.{Open}
+use Rattle.chart_rows.specs.declared.row.Deed.{Deed}
+use Rattle.chart_rows.specs.declared.row.Deed.TheVariants as deeds
+use Rattle.chart_rows.specs.PageView.{PageView}
 use Rattle.link_chart.specs.declared.window.ChartWindow.{ChartWindow}
 use Rattle.link_chart.specs.declared.window.Place.{Place}
 use Rattle.link_chart.specs.declared.window.Place.TheVariants as places
@@ -49,14 +52,20 @@ counted _ p = p
 
 -- ---- what is drawn
 
-abbrev pub opened_at : LaneName → Bool → Option ℕ → List Open
-opened_at lane is_dllp None = []
-opened_at lane is_dllp (Some row) = record { lane = lane; is_dllp = is_dllp; row = row } ∷ []
+abbrev pub opened_at : LaneName → Flying → Option ℕ → List Open
+opened_at lane what None = []
+opened_at lane what (Some row) = record { lane = lane; what = what; row = row } ∷ []
+
+abbrev pub opened_packet : LaneName → PacketSent → List Open
+opened_packet lane p = opened_at lane (flying.Packet p.number p.carried) p.row
+
+abbrev pub opened_dllp : LaneName → DllpSent → List Open
+opened_dllp lane d = opened_at lane (flying.Dllp d.dllp) d.row
 
 -- what was sent in a row that is shown, and arrives in one that isn't
 abbrev pub opened : Deed → List Open
-opened (deeds.Arrived lane fate arrival sent) = opened_at lane false sent
-opened (deeds.ArrivedDllp lane fate sent replay) = opened_at lane true sent
+opened (deeds.Arrived lane fate arrival (Some p)) = opened_packet lane p
+opened (deeds.ArrivedDllp lane fate (Some d) replay) = opened_dllp lane d
 opened _ = []
 
 -- an event gets a row, or it ends what was sent in one
@@ -92,13 +101,13 @@ refused v line event r = refused_at v (place_of v.window (length v.page.rows) li
 -- ---- the end
 
 -- what is still on a wire
-abbrev pub left_of_wire : LaneName → List Sent → List Open
+abbrev pub left_of_wire : LaneName → List PacketSent → List Open
 left_of_wire lane [] = []
-left_of_wire lane (p ∷ ps) = opened_at lane false p.row ++ left_of_wire lane ps
+left_of_wire lane (p ∷ ps) = opened_packet lane p ++ left_of_wire lane ps
 
-abbrev pub left_of_back : LaneName → List (Option ℕ) → List Open
+abbrev pub left_of_back : LaneName → List DllpSent → List Open
 left_of_back lane [] = []
-left_of_back lane (row ∷ rows) = opened_at lane true row ++ left_of_back lane rows
+left_of_back lane (d ∷ ds) = opened_dllp lane d ++ left_of_back lane ds
 
 abbrev pub left_of : LaneName → CourseView → List Open
 left_of lane c = left_of_wire lane c.wire ++ left_of_back lane c.back

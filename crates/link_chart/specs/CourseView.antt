@@ -5,10 +5,11 @@ use Rattle.dllp_core.specs.declared.packet.Dllp.{Dllp}
 use Rattle.dllp_core.specs.declared.packet.Dllp.TheVariants as dllps
 use Rattle.lane_ends.specs.declared.packet.DllpSeen.{DllpSeen}
 use Rattle.lane_ends.specs.declared.packet.DllpSeen.TheVariants as dllps_seen
-use Rattle.chart_page.specs.declared.row.Carried.{Carried}
-use Rattle.chart_page.specs.declared.row.Replay.{Replay}
-use Rattle.chart_page.specs.declared.row.Replay.TheVariants as replays
-use Rattle.link_chart.specs.declared.course.Sent.{Sent}
+use Rattle.chart_rows.specs.declared.row.Carried.{Carried}
+use Rattle.chart_rows.specs.declared.row.PacketSent.{PacketSent}
+use Rattle.chart_rows.specs.declared.row.DllpSent.{DllpSent}
+use Rattle.chart_rows.specs.declared.row.Replay.{Replay}
+use Rattle.chart_rows.specs.declared.row.Replay.TheVariants as replays
 
 pub record CourseView : Type 0 where
   -- ACKD_SEQ, the number that was acknowledged last
@@ -20,9 +21,9 @@ pub record CourseView : Type 0 where
   -- REPLAY_NUM, the replays since a packet was acknowledged
   pub replays : ℕ
   -- the packets on the wire, oldest first
-  pub wire : List Sent
-  -- the rows in which the DLLPs on the wire back were sent, oldest first
-  pub back : List (Option ℕ)
+  pub wire : List PacketSent
+  -- the DLLPs on the wire back, oldest first
+  pub back : List DllpSent
   -- what the packets carry that were accepted and not yet taken, oldest first
   pub queue : List (Option Carried)
 
@@ -43,26 +44,21 @@ entered c s = record s { kept = s.kept ++ c ∷ [] }
 abbrev pub next_carried : CourseView → Option Carried
 next_carried s = known (slice_get s.kept s.place)
 
-abbrev pub sent : Option ℕ → CourseView → CourseView
-sent row s = record s {
-  wire = s.wire ++ record { carried = next_carried s; row = row } ∷ [];
+abbrev pub next_packet : ℕ → Option ℕ → CourseView → PacketSent
+next_packet number row s = record { number = number; carried = next_carried s; row = row }
+
+abbrev pub sent : ℕ → Option ℕ → CourseView → CourseView
+sent number row s = record s {
+  wire = s.wire ++ next_packet number row s ∷ [];
   place = if nat_lt s.place (length s.kept) then s.place + 1 else s.place;
 }
 
--- the row in which the oldest packet on the wire was sent
-abbrev pub row_of : Option Sent → Option ℕ
-row_of None = None
-row_of (Some p) = p.row
-
-abbrev pub carried_of : Option Sent → Option Carried
-carried_of None = None
-carried_of (Some p) = p.carried
-
-abbrev pub oldest_row : CourseView → Option ℕ
-oldest_row s = row_of (slice_get s.wire 0)
+-- the oldest packet on the wire
+abbrev pub oldest : CourseView → Option PacketSent
+oldest s = slice_get s.wire 0
 
 -- the oldest packet leaves the wire, and is accepted or not
-abbrev pub queued : Option Sent → List (Option Carried) → List (Option Carried)
+abbrev pub queued : Option PacketSent → List (Option Carried) → List (Option Carried)
 queued None queue = queue
 queued (Some p) queue = queue ++ p.carried ∷ []
 
@@ -81,11 +77,11 @@ without place s = record s { queue = remove s.queue place }
 
 -- ---- DLLPs
 
-abbrev pub sent_back : Option ℕ → CourseView → CourseView
-sent_back row s = record s { back = s.back ++ row ∷ [] }
+abbrev pub sent_back : Dllp → Option ℕ → CourseView → CourseView
+sent_back dllp row s = record s { back = s.back ++ record { dllp = dllp; row = row } ∷ [] }
 
-abbrev pub oldest_back : CourseView → Option ℕ
-oldest_back s = known (slice_get s.back 0)
+abbrev pub oldest_back : CourseView → Option DllpSent
+oldest_back s = slice_get s.back 0
 
 abbrev pub without_back : CourseView → CourseView
 without_back s = record s { back = drop 1 s.back }

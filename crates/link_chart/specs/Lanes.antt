@@ -11,15 +11,15 @@ use Rattle.fabric_core.specs.declared.event.LaneName.{LaneName}
 use Rattle.fabric_core.specs.declared.event.LaneName.TheVariants as lanes
 use Rattle.fabric_core.specs.declared.event.Seen.{Seen}
 use Rattle.fabric_core.specs.declared.event.Seen.TheVariants as seen
-use Rattle.chart_page.specs.declared.row.Kind.{Kind}
-use Rattle.chart_page.specs.declared.row.Kind.TheVariants as requests
-use Rattle.chart_page.specs.declared.row.Carried.{Carried}
-use Rattle.chart_page.specs.declared.row.Deed.{Deed}
-use Rattle.chart_page.specs.declared.row.Deed.TheVariants as deeds
-use Rattle.chart_page.specs.declared.row.Replay.{Replay}
-use Rattle.chart_page.specs.declared.row.Replay.TheVariants as replays
-use Rattle.chart_page.specs.Words.{kind_of}
-use Rattle.link_chart.specs.CourseView.{CourseView, entered, next_carried, sent, oldest_row, arrived, taken, without, sent_back, oldest_back, without_back, replay_of, replayed, told, told_replay}
+use Rattle.chart_rows.specs.declared.row.Kind.{Kind}
+use Rattle.chart_rows.specs.declared.row.Kind.TheVariants as requests
+use Rattle.chart_rows.specs.declared.row.Carried.{Carried}
+use Rattle.chart_rows.specs.declared.row.Deed.{Deed}
+use Rattle.chart_rows.specs.declared.row.Deed.TheVariants as deeds
+use Rattle.chart_rows.specs.declared.row.Replay.{Replay}
+use Rattle.chart_rows.specs.declared.row.Replay.TheVariants as replays
+use Rattle.chart_rows.specs.Words.{kind_of}
+use Rattle.link_chart.specs.CourseView.{CourseView, entered, next_carried, sent, oldest, arrived, taken, without, sent_back, oldest_back, without_back, replay_of, replayed, told, told_replay}
 
 -- ---- the lanes in a list
 
@@ -70,7 +70,7 @@ submitted cs port op (seen.Submitted number) = moved (changed (entered (Some (re
 submitted cs port op _ = moved cs deeds.Nothing
 
 abbrev pub transmitted : List CourseView → Option ℕ → LaneName → Seen → Moved
-transmitted cs row lane (seen.Sent number) = moved (changed (sent row) cs lane) (deeds.Sent lane number (asked next_carried None cs lane))
+transmitted cs row lane (seen.Sent number) = moved (changed (sent number row) cs lane) (deeds.Sent lane number (asked next_carried None cs lane))
 transmitted cs row lane _ = moved cs deeds.Nothing
 
 abbrev pub is_accepted : Arrival → Bool
@@ -78,11 +78,11 @@ is_accepted (arrivals.Answered receptions.Accept) = true
 is_accepted _ = false
 
 abbrev pub delivered : List CourseView → LaneName → Fate → Seen → Moved
-delivered cs lane fate (seen.Delivered arrival) = moved (changed (arrived (is_accepted arrival)) cs lane) (deeds.Arrived lane fate arrival (asked oldest_row None cs lane))
+delivered cs lane fate (seen.Delivered arrival) = moved (changed (arrived (is_accepted arrival)) cs lane) (deeds.Arrived lane fate arrival (asked oldest None cs lane))
 delivered cs lane fate _ = moved cs deeds.Nothing
 
 abbrev pub dllp_sent : List CourseView → Option ℕ → LaneName → Seen → Moved
-dllp_sent cs row lane (seen.SentDllp dllp) = moved (changed (sent_back row) cs lane) (deeds.SentDllp lane dllp)
+dllp_sent cs row lane (seen.SentDllp dllp) = moved (changed (sent_back dllp row) cs lane) (deeds.SentDllp lane dllp)
 dllp_sent cs row lane _ = moved cs deeds.Nothing
 
 abbrev pub dllp_delivered : List CourseView → LaneName → Fate → Seen → Moved

@@ -6,9 +6,10 @@ ghost use Rattle.link_chart.specs.ChartView as spec;
 
 use crate::course::Course;
 use crate::lanes::follow;
-use crate::left::{add_left, add_opened};
+use crate::left::{add_dllp, add_left, add_packet};
 use crate::window::{ChartWindow, Place};
-use chart_page::{Deed, Open, Page, Row, put_chart};
+use chart_page::put_chart;
+use chart_rows::{Deed, Open, Page, Row};
 use fabric_core::{Event, Refusal, Seen};
 use std::alloc::{AllocError, Global};
 use std::marker::Model;
@@ -55,8 +56,8 @@ fn add_open(deed: Deed, opens: &mut Vec<Open>) -> Result<(), AllocError>
     ensures { OnOk result (opens.new.items ≡ opens.old.items ++ spec.opened deed) }
 {
     match deed {
-        Deed::Arrived(lane, _, _, sent) => add_opened(lane, false, sent, opens),
-        Deed::ArrivedDllp(lane, _, sent, _) => add_opened(lane, true, sent, opens),
+        Deed::Arrived(lane, _, _, Some(sent)) => add_packet(lane, &sent, opens),
+        Deed::ArrivedDllp(lane, _, Some(sent), _) => add_dllp(lane, &sent, opens),
         _ => Ok(()),
     }
 }

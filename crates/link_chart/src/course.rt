@@ -1,7 +1,7 @@
 //! What is on a lane, as far as its events tell.
 ghost use Rattle.std.specs.Prelude.{◌≡◌, drop, remove, slice_get, IfOk, OnOk};
 
-use chart_page::{Carried, Replay};
+use chart_rows::{Carried, DllpSent, PacketSent, Replay};
 use dllp_core::Dllp;
 use lane_ends::DllpSeen;
 use seq12::Seq12;
@@ -12,13 +12,6 @@ use std::marker::Model;
 /// The greatest value of REPLAY_NUM.
 const LAST_REPLAY: u8 = 3;
 
-/// A packet on the wire: what it carries, and the row of its sending, if that is shown.
-#[derive(Clone, Copy, Debug, PartialEq, Eq)]
-pub(crate) struct Sent {
-    pub(crate) carried: Option<Carried>,
-    pub(crate) row: Option<u16>,
-}
-
 /// A lane.
 #[derive(Drop)]
 pub(crate) struct Course {
@@ -26,8 +19,8 @@ pub(crate) struct Course {
     kept: VecDeque<Option<Carried>>,
     place: usize,
     replays: u8,
-    wire: VecDeque<Sent>,
-    back: VecDeque<Option<u16>>,
+    wire: VecDeque<PacketSent>,
+    back: VecDeque<DllpSent>,
     queue: VecDeque<Option<Carried>>,
 }
 
@@ -78,14 +71,14 @@ impl Course {
     }
 
     /// The packets on the wire, oldest first.
-    pub(crate) fn wire(&self) -> &VecDeque<Sent>
+    pub(crate) fn wire(&self) -> &VecDeque<PacketSent>
         ensures { result.now.items ≡ self.now.wire }
     {
         &self.wire
     }
 
-    /// The rows in which the DLLPs on the wire back were sent, oldest first.
-    pub(crate) fn back(&self) -> &VecDeque<Option<u16>>
+    /// The DLLPs on the wire back, oldest first.
+    pub(crate) fn back(&self) -> &VecDeque<DllpSent>
         ensures { result.now.items ≡ self.now.back }
     {
         &self.back
@@ -109,23 +102,31 @@ impl Course {
         }
     }
 
-    /// The next packet goes onto the wire, in a row that is perhaps shown. Gives what it carries.
-    pub(crate) fn send(&mut self, row: Option<u16>) -> Result<Option<Carried>, AllocError>
-        ensures state { OnOk result (self.new ≡ spec.sent row self.old) }
+    /// The next packet goes onto the wire with that number, in a row that is perhaps shown. Gives what it carries.
+    pub(crate) fn send(
+        &mut self,
+        number: Seq12,
+        row: Option<u16>,
+    ) -> Result<Option<Carried>, AllocError>
+        ensures state { OnOk result (self.new ≡ spec.sent number row self.old) }
         ensures carried { IfOk result (λ c. c ≡ spec.next_carried self.old) }
     {
         let carried = self.next_carried();
-        self.wire.push_back(Sent { carried, row })?;
+        self.wire.push_back(PacketSent {
+            number,
+            carried,
+            row,
+        })?;
         if self.place < self.kept.len() {
             self.place += 1;
         }
         Ok(carried)
     }
 
-    /// The oldest packet leaves the wire, and is accepted or not. Gives the row of its sending, if that is shown.
-    pub(crate) fn arrive(&mut self, is_accepted: bool) -> Result<Option<u16>, AllocError>
+    /// The oldest packet leaves the wire, and is accepted or not.
+    pub(crate) fn arrive(&mut self, is_accepted: bool) -> Result<Option<PacketSent>, AllocError>
         ensures state { OnOk result (self.new ≡ spec.arrived is_accepted self.old) }
-        ensures row { IfOk result (λ row. row ≡ spec.oldest_row self.old) }
+        ensures packet { IfOk result (λ packet. packet ≡ spec.oldest self.old) }
     {
         let Some(sent) = self.wire.pop_front() else {
             return Ok(None);
@@ -133,7 +134,7 @@ impl Course {
         if is_accepted {
             self.queue.push_back(sent.carried)?;
         }
-        Ok(sent.row)
+        Ok(Some(sent))
     }
 
     /// Takes the packet at this place of the queue. Gives what it carries.
@@ -148,19 +149,19 @@ impl Course {
     }
 
     /// A DLLP goes onto the wire back, in a row that is perhaps shown.
-    pub(crate) fn send_dllp(&mut self, row: Option<u16>) -> Result<(), AllocError>
-        ensures { OnOk result (self.new ≡ spec.sent_back row self.old) }
+    pub(crate) fn send_dllp(&mut self, dllp: Dllp, row: Option<u16>) -> Result<(), AllocError>
+        ensures { OnOk result (self.new ≡ spec.sent_back dllp row self.old) }
     {
-        self.back.push_back(row)?;
+        self.back.push_back(DllpSent { dllp, row })?;
         Ok(())
     }
 
-    /// The oldest DLLP leaves the wire back. Gives the row of its sending, if that is shown.
-    pub(crate) fn arrive_dllp(&mut self) -> Option<u16>
+    /// The oldest DLLP leaves the wire back.
+    pub(crate) fn arrive_dllp(&mut self) -> Option<DllpSent>
         ensures state { self.new ≡ spec.without_back self.old }
-        ensures row { result ≡ spec.oldest_back self.old }
+        ensures dllp { result ≡ spec.oldest_back self.old }
     {
-        self.back.pop_front()?
+        self.back.pop_front()
     }
 
     /// The packets through this number are acknowledged.

@@ -1,14 +1,16 @@
 //! What each event does on the lanes, and what is drawn of it.
 ghost use Rattle.std.specs.Prelude.{◌≡◌, None, OnOk, IfOk};
-ghost use Rattle.chart_page.specs.declared.row.Replay.TheVariants as replays;
+ghost use Rattle.chart_rows.specs.declared.row.Replay.TheVariants as replays;
 ghost use Rattle.link_chart.specs.CourseView as course;
 ghost use Rattle.link_chart.specs.Lanes as spec;
 
 use crate::course::Course;
-use chart_page::{Carried, Deed, Kind, Replay, kind_of};
+use chart_rows::{Carried, Deed, DllpSent, Kind, PacketSent, Replay, kind_of};
+use dllp_core::Dllp;
 use fabric_core::{Event, LaneName, Seen};
 use lane_ends::{Arrival, DllpSeen, Fate};
 use link_receiver::Reception;
+use seq12::Seq12;
 use std::alloc::AllocError;
 use tlp_core::Op;
 
@@ -57,13 +59,14 @@ fn enter_on(
 fn send_on(
     courses: &mut Vec<Course>,
     lane: LaneName,
+    number: Seq12,
     row: Option<u16>,
 ) -> Result<Option<Carried>, AllocError>
-    ensures courses { OnOk result (courses.new.items ≡ spec.changed (course.sent row) courses.old.items lane) }
+    ensures courses { OnOk result (courses.new.items ≡ spec.changed (course.sent number row) courses.old.items lane) }
     ensures carried { IfOk result (λ c. c ≡ spec.asked course.next_carried None courses.old.items lane) }
 {
     match courses.get_mut(place_of(lane)) {
-        Some(course) => course.send(row),
+        Some(course) => course.send(number, row),
         None => Ok(None),
     }
 }
@@ -73,9 +76,9 @@ fn arrive_on(
     courses: &mut Vec<Course>,
     lane: LaneName,
     is_accepted: bool,
-) -> Result<Option<u16>, AllocError>
+) -> Result<Option<PacketSent>, AllocError>
     ensures courses { OnOk result (courses.new.items ≡ spec.changed (course.arrived is_accepted) courses.old.items lane) }
-    ensures row { IfOk result (λ row. row ≡ spec.asked course.oldest_row None courses.old.items lane) }
+    ensures packet { IfOk result (λ packet. packet ≡ spec.asked course.oldest None courses.old.items lane) }
 {
     match courses.get_mut(place_of(lane)) {
         Some(course) => course.arrive(is_accepted),
@@ -98,27 +101,28 @@ fn take_on(courses: &mut Vec<Course>, lane: LaneName, place: usize) -> Option<Ca
 fn send_dllp_on(
     courses: &mut Vec<Course>,
     lane: LaneName,
+    dllp: Dllp,
     row: Option<u16>,
 ) -> Result<(), AllocError>
-    ensures { OnOk result (courses.new.items ≡ spec.changed (course.sent_back row) courses.old.items lane) }
+    ensures { OnOk result (courses.new.items ≡ spec.changed (course.sent_back dllp row) courses.old.items lane) }
 {
     match courses.get_mut(place_of(lane)) {
-        Some(course) => course.send_dllp(row),
+        Some(course) => course.send_dllp(dllp, row),
         None => Ok(()),
     }
 }
 
 /// The oldest DLLP leaves the wire back of a lane, and the sender does this.
-fn told_on(courses: &mut Vec<Course>, lane: LaneName, seen: DllpSeen) -> (Option<u16>, Replay)
+fn told_on(courses: &mut Vec<Course>, lane: LaneName, seen: DllpSeen) -> (Option<DllpSent>, Replay)
     ensures courses { courses.new.items ≡ spec.changed (λ c. course.told seen (course.without_back c)) courses.old.items lane }
-    ensures row { result.0 ≡ spec.asked course.oldest_back None courses.old.items lane }
+    ensures dllp { result.0 ≡ spec.asked course.oldest_back None courses.old.items lane }
     ensures replay { result.1 ≡ spec.asked (λ c. course.told_replay seen (course.without_back c)) replays.Nothing courses.old.items lane }
 {
     match courses.get_mut(place_of(lane)) {
         Some(course) => {
-            let row = course.arrive_dllp();
+            let sent = course.arrive_dllp();
             let replay = course.told(seen);
-            (row, replay)
+            (sent, replay)
         }
         None => (None, Replay::Nothing),
     }
@@ -162,7 +166,7 @@ fn transmitted(
     let Seen::Sent(number) = seen else {
         return Ok(Deed::Nothing);
     };
-    let carried = send_on(courses, lane, row)?;
+    let carried = send_on(courses, lane, *number, row)?;
     Ok(Deed::Sent(lane, *number, carried))
 }
 
@@ -186,8 +190,8 @@ fn delivered(
     let Seen::Delivered(arrival) = seen else {
         return Ok(Deed::Nothing);
     };
-    let row = arrive_on(courses, lane, is_accepted(*arrival))?;
-    Ok(Deed::Arrived(lane, fate, *arrival, row))
+    let sent = arrive_on(courses, lane, is_accepted(*arrival))?;
+    Ok(Deed::Arrived(lane, fate, *arrival, sent))
 }
 
 fn dllp_sent(
@@ -201,7 +205,7 @@ fn dllp_sent(
     let Seen::SentDllp(dllp) = seen else {
         return Ok(Deed::Nothing);
     };
-    send_dllp_on(courses, lane, row)?;
+    send_dllp_on(courses, lane, *dllp, row)?;
     Ok(Deed::SentDllp(lane, *dllp))
 }
 
@@ -211,8 +215,8 @@ fn dllp_delivered(courses: &mut Vec<Course>, lane: LaneName, fate: Fate, seen: &
     let Seen::SeenDllp(what) = seen else {
         return Deed::Nothing;
     };
-    let (row, replay) = told_on(courses, lane, *what);
-    Deed::ArrivedDllp(lane, fate, row, replay)
+    let (sent, replay) = told_on(courses, lane, *what);
+    Deed::ArrivedDllp(lane, fate, sent, replay)
 }
 
 fn expired(courses: &mut Vec<Course>, lane: LaneName) -> Deed

@@ -5,9 +5,7 @@ ghost use Rattle.trace_format.specs.Forms as fields;
 ghost use Rattle.log_text.specs.Forms as forms;
 
 use history_check::Record;
-use operation_text::{
-    BASE, BLOCK, Expected, SIZE, alone, cut, number, op_behind, reply_behind,
-};
+use operation_text::{BASE, BLOCK, Expected, SIZE, alone, cut, number, op_behind, reply_behind};
 use seq_memory::{is_base, is_size};
 
 const REQUESTER: Expected = Expected::Between("a requester", 1, 7);

@@ -11,11 +11,7 @@ use std::marker::Model;
 
 /// Tells why a packet's line is refused, where that is told as a fault: this is the line's number then.
 /// After an `Err` a beginning of the reason was written.
-fn explain<E: Write>(
-    line: &[u8],
-    fault: Option<u64>,
-    errors: &mut E,
-) -> Result<(), EngineFault>
+fn explain<E: Write>(line: &[u8], fault: Option<u64>, errors: &mut E) -> Result<(), EngineFault>
     ensures ok { OnOk result (IsReasonTold fault (E.contents errors.old) (E.contents errors.new)) }
     ensures fault { IfErr result (λ f. f ≡ EngineFault.Write) }
     ensures part { OnErr result (IsReasonBegun fault (E.contents errors.old) (E.contents errors.new)) }

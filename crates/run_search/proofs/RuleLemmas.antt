@@ -1,18 +1,15 @@
 -- Steps that may be taken at once.
-use Rattle.std.proofs.Common.{◌≡◌, ◌∙◌, ℕ, Bool, true, false, List, [], ◌∷◌, Some, None, Option, length, refl, sym, ap, subst, inl, inr, arith}
+use Rattle.std.proofs.Common.{◌≡◌, ◌∙◌, ℕ, Bool, true, List, [], ◌∷◌, Some, None, Option, length, ap, subst, inl, inr, arith}
 use Rattle.std.specs.Prelude.{slice_get, slice_set}
 use Rattle.std.proofs.lemmas.Bool.{cases_eq}
 use Rattle.std.proofs.lemmas.Option.{slice_get_past}
-use Rattle.tlp_core.specs.declared.operation.Op.TheVariants as ops
-use Rattle.seq_memory.specs.declared.Reply.{Reply}
-use Rattle.seq_memory.specs.Step.{after}
 use Rattle.log_runs.specs.declared.Event.{Event}
 use Rattle.log_runs.specs.declared.Event.TheVariants as events
 use Rattle.log_runs.specs.declared.Step.{Step}
 use Rattle.log_runs.specs.declared.Step.TheVariants as steps
 use Rattle.log_runs.specs.Task.{Task}
-use Rattle.log_runs.specs.Runs.{State, MayPass, MayAct, Allowed, Leads, Live, IsForced, next, acted_on, bytes_after}
-use Rattle.run_search.proofs.Lists.{set_here, set_there, set_swap}
+use Rattle.log_runs.specs.Runs.{State, MayPass, Allowed, Leads, Live, IsForced, next, acted_on}
+use Rattle.run_search.proofs.Lists.{set_here, set_there}
 
 -- what has acted still has when another acts
 pub acted_kept : (xs : List Bool) (b c : ℕ) → slice_get xs c ≡ Some true → slice_get (slice_set xs b true) c ≡ Some true

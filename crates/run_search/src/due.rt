@@ -17,7 +17,9 @@ fn answers(alloc: Global, log: &Log) -> Result<Vec<usize>, AllocError> {
     let mut due = nowhere(alloc, log.events.len())?;
     let mut at = 0usize;
     for event in &log.events {
-        if let Event::Due { request } = event && *request < due.len() {
+        if let Event::Due { request } = event
+            && *request < due.len()
+        {
             due[*request] = at;
         }
         at = at.saturating_add(1);

@@ -17,8 +17,8 @@ const ROOM: usize = 268_435_456;
 #[derive(Drop)]
 pub(crate) struct Memo {
     keys: HashSet<Key>,
-    /// The numbers of events that were passed there.
-    events: HashSet<usize>,
+    /// The marks of those places. Where a mark is missing, no key has to be compared.
+    marks: HashSet<u64>,
     /// How many bytes more may be remembered.
     room: usize,
 }
@@ -29,16 +29,25 @@ pub(crate) fn empty(alloc: Global) -> Memo
 {
     Memo {
         keys: HashSet::new(alloc),
-        events: HashSet::new(alloc),
+        marks: HashSet::new(alloc),
         room: ROOM,
     }
+}
+
+/// A number that depends on the place, but for the bytes.
+fn mark(key: &Key) -> u64 {
+    let mut mark = key.event as u64;
+    for b in &key.pending {
+        mark = mark.wrapping_mul(1_000_003).wrapping_add(*b as u64);
+    }
+    mark
 }
 
 /// No run leads from the place to the end, as is known.
 pub(crate) fn is_known(memo: &Memo, place: &Place) -> bool
     ensures { (log : Task) → AreDead log memo.now → IsPlace log place.now → IsTrue result → Dead log (state_of place.now) }
 {
-    if !memo.events.contains(&place.key.event) {
+    if !memo.marks.contains(&mark(&place.key)) {
         return false;
     }
     memo.keys.contains(&place.key)
@@ -81,7 +90,7 @@ pub(crate) fn note(memo: &mut Memo, alloc: Global, place: &Place)
     if memo.room < cost {
         return;
     }
-    if memo.events.insert(place.key.event).is_err() {
+    if memo.marks.insert(mark(&place.key)).is_err() {
         return;
     }
     let Ok(key) = copied(alloc, &place.key) else {

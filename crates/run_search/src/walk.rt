@@ -172,18 +172,18 @@ fn later_is_lost(walk: &Walk, log: &Log) -> bool
     false
 }
 
-/// No run leads from here to the end, as is known or seen.
+/// No run leads from here to the end, as is seen or known.
 fn is_dead(walk: &Walk, log: &Log) -> bool
     requires { frames.IsAt log.now walk.now }
     ensures { IsTrue result → Dead log.now (state_of walk.now.here) }
 {
-    if is_known(&walk.memo, &walk.here) {
-        return true;
-    }
     if some_is_lost(walk, log) {
         return true;
     }
-    later_is_lost(walk, log)
+    if later_is_lost(walk, log) {
+        return true;
+    }
+    is_known(&walk.memo, &walk.here)
 }
 
 /// Goes on from here; false if no run leads to the end.

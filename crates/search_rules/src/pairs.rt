@@ -14,13 +14,7 @@ use seq_memory::Reply;
 use tlp_core::Op;
 
 /// Right after the first operation the memory suits the second only if it did before.
-fn keeps_out(
-    block: u16,
-    one: &Op,
-    told: &Option<Reply>,
-    other: &Op,
-    asked: &Option<Reply>,
-) -> bool
+fn keeps_out(block: u16, one: &Op, told: &Option<Reply>, other: &Op, asked: &Option<Reply>) -> bool
     requires { IsBlock block }
     ensures { IsTrue result → (base : ℕ) (m : List ℕ) → Agrees block base m one.now told.now → Agrees block base (after block base m one.now) other.now asked.now → Agrees block base m other.now asked.now }
 {
@@ -56,13 +50,7 @@ pub fn never_brings(log: &Log, b: usize, q: usize) -> bool
 
 /// [`keeps_out`]; and where the memory suits both, it doesn't suit the second right after the first,
 /// or their order makes no difference.
-fn gives_way(
-    block: u16,
-    one: &Op,
-    told: &Option<Reply>,
-    other: &Op,
-    asked: &Option<Reply>,
-) -> bool
+fn gives_way(block: u16, one: &Op, told: &Option<Reply>, other: &Op, asked: &Option<Reply>) -> bool
     requires { IsBlock block }
     ensures brings { IsTrue result → (base : ℕ) (m : List ℕ) → Agrees block base m one.now told.now → Agrees block base (after block base m one.now) other.now asked.now → Agrees block base m other.now asked.now }
     ensures order { IsTrue result → (base : ℕ) (m : List ℕ) → Agrees block base m one.now told.now → Agrees block base m other.now asked.now → (Agrees block base (after block base m one.now) other.now asked.now → ⊥) ⊎ (Agrees block base (after block base m one.now) other.now asked.now × Agrees block base (after block base m other.now) one.now told.now × (after block base (after block base m one.now) other.now ≡ after block base (after block base m other.now) one.now)) }

@@ -2,8 +2,8 @@
 #![tactic(auto)]
 
 #[cfg(test)]
-mod reasons;
-#[cfg(test)]
 mod rows;
 #[cfg(test)]
 mod texts;
+#[cfg(test)]
+mod why_none;

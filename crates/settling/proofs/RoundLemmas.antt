@@ -10,15 +10,8 @@ use Rattle.fabric_core.specs.declared.fault.Refusal.{Refusal}
 use Rattle.fabric_core.specs.Kept.{records_of}
 use Rattle.fabric_core.specs.Answers.{answer}
 use Rattle.fabric_core.specs.Runs.{Recorded}
-use Rattle.dllp_core.specs.declared.packet.Class.TheVariants.{Posted, NonPosted, Completion}
-use Rattle.lane_ends.specs.declared.packet.Fate.TheVariants.{Good}
-use Rattle.lane_ends.specs.declared.packet.DllpKind.TheVariants as kinds
-use Rattle.fabric_core.specs.declared.event.Event.TheVariants as events
 use Rattle.fabric_core.specs.declared.event.LaneName.{LaneName}
-use Rattle.fabric_core.specs.declared.event.LaneName.TheVariants as lanes
-use Rattle.settling.specs.declared.turns.Attempt.{Attempt}
-use Rattle.settling.specs.declared.turns.Attempt.TheVariants as attempts
-use Rattle.settling.specs.Rounds.{Settling, at, answered, tried, goes, times, is_move, round, rounds, if_moved, attempted, with_sent, lane_turn, all_lanes, with_lanes, with_forwards, with_answers}
+use Rattle.settling.specs.Rounds.{Settling, at, answered, tried, goes, times, is_move, round, rounds, if_moved, attempted, with_sent, lane_attempts, after_lanes, lane_turn, all_lanes, with_lanes, with_forwards, with_answers}
 
 -- an event that happens
 pub happened : (f f' : Fabric) (rs : List Record) (b : Bool) (e : Event) (what : Seen) → answer f e ≡ Ok (what, f')
@@ -125,31 +118,9 @@ fold_next f start here next xs i d inside so_far step =
 
 -- ---- lists of attempts
 
--- what is tried of a lane
-abbrev pub lane_attempts : LaneName → List Attempt
-lane_attempts lane =
-    attempts.Once (events.Timer lane) ∷ attempts.Once (events.Retrained lane)
-    ∷ attempts.All (events.Transmit lane) ∷ attempts.All (events.Deliver lane Good) ∷ attempts.Once (events.SendDllp lane kinds.Answer)
-    ∷ attempts.Once (events.SendDllp lane (kinds.Update Posted)) ∷ attempts.Once (events.SendDllp lane (kinds.Update NonPosted))
-    ∷ attempts.Once (events.SendDllp lane (kinds.Update Completion)) ∷ attempts.All (events.DeliverDllp lane Good) ∷ []
-
 pub lane_turn_is : (s : Settling) (lane : LaneName) → fold attempted s (lane_attempts lane) ≡ lane_turn s lane
 unfolding with_sent lane_turn
 lane_turn_is s lane = refl
-
--- and after the lanes
-abbrev pub after_lanes : List Attempt
-after_lanes =
-    attempts.Once (events.Forward (lanes.Up 1) 0) ∷ attempts.Once (events.Forward (lanes.Up 1) 1)
-    ∷ attempts.Once (events.Forward (lanes.Up 2) 0) ∷ attempts.Once (events.Forward (lanes.Up 2) 1)
-    ∷ attempts.Once (events.Forward (lanes.Up 3) 0) ∷ attempts.Once (events.Forward (lanes.Up 3) 1)
-    ∷ attempts.Once (events.Forward (lanes.Up 4) 0) ∷ attempts.Once (events.Forward (lanes.Up 4) 1)
-    ∷ attempts.Once (events.Forward (lanes.Up 5) 0) ∷ attempts.Once (events.Forward (lanes.Up 5) 1)
-    ∷ attempts.Once (events.Forward (lanes.Up 6) 0) ∷ attempts.Once (events.Forward (lanes.Up 6) 1)
-    ∷ attempts.Once (events.Forward (lanes.Up 7) 0) ∷ attempts.Once (events.Forward (lanes.Up 7) 1)
-    ∷ attempts.Once (events.Forward lanes.Outward 0) ∷ attempts.Once (events.Forward lanes.Outward 1)
-    ∷ attempts.Once (events.Serve 0) ∷ attempts.Once (events.Serve 1)
-    ∷ attempts.All (events.Collect 1) ∷ attempts.All (events.Collect 2) ∷ attempts.All (events.Collect 3) ∷ attempts.All (events.Collect 4) ∷ attempts.All (events.Collect 5) ∷ attempts.All (events.Collect 6) ∷ attempts.All (events.Collect 7) ∷ []
 
 pub round_is : (s : Settling) → fold attempted (fold lane_turn (at s.fabric s.records false) all_lanes) after_lanes ≡ round s
 unfolding with_lanes with_forwards with_answers

@@ -18,8 +18,8 @@ use Rattle.fabric_core.specs.declared.event.Seen.{Seen}
 use Rattle.fabric_core.specs.declared.fault.Refusal.{Refusal}
 use Rattle.fabric_core.specs.Kept.{records_of}
 use Rattle.fabric_core.specs.Answers.{answer}
-use Rattle.settling.specs.declared.turns.Attempt.{Attempt}
-use Rattle.settling.specs.declared.turns.Attempt.TheVariants as attempts
+use Rattle.settling.specs.declared.attempts.Attempt.{Attempt}
+use Rattle.settling.specs.declared.attempts.Attempt.TheVariants as attempts
 
 -- a fabric that is being settled, what its requesters collected, oldest first, and whether the round moved something
 pub record Settling : Type 0 where
@@ -129,6 +129,28 @@ with_answers s = fold collected s ports
 -- the links, the switch, the memory, the requesters
 abbrev pub round : Settling → Settling
 round s = with_answers (served (with_forwards (with_lanes (at s.fabric s.records false))))
+
+-- the same as lists: what is tried of a lane
+abbrev pub lane_attempts : LaneName → List Attempt
+lane_attempts lane =
+    attempts.Once (events.Timer lane) ∷ attempts.Once (events.Retrained lane)
+    ∷ attempts.All (events.Transmit lane) ∷ attempts.All (events.Deliver lane Good) ∷ attempts.Once (events.SendDllp lane kinds.Answer)
+    ∷ attempts.Once (events.SendDllp lane (kinds.Update Posted)) ∷ attempts.Once (events.SendDllp lane (kinds.Update NonPosted))
+    ∷ attempts.Once (events.SendDllp lane (kinds.Update Completion)) ∷ attempts.All (events.DeliverDllp lane Good) ∷ []
+
+-- and after the lanes
+abbrev pub after_lanes : List Attempt
+after_lanes =
+    attempts.Once (events.Forward (lanes.Up 1) 0) ∷ attempts.Once (events.Forward (lanes.Up 1) 1)
+    ∷ attempts.Once (events.Forward (lanes.Up 2) 0) ∷ attempts.Once (events.Forward (lanes.Up 2) 1)
+    ∷ attempts.Once (events.Forward (lanes.Up 3) 0) ∷ attempts.Once (events.Forward (lanes.Up 3) 1)
+    ∷ attempts.Once (events.Forward (lanes.Up 4) 0) ∷ attempts.Once (events.Forward (lanes.Up 4) 1)
+    ∷ attempts.Once (events.Forward (lanes.Up 5) 0) ∷ attempts.Once (events.Forward (lanes.Up 5) 1)
+    ∷ attempts.Once (events.Forward (lanes.Up 6) 0) ∷ attempts.Once (events.Forward (lanes.Up 6) 1)
+    ∷ attempts.Once (events.Forward (lanes.Up 7) 0) ∷ attempts.Once (events.Forward (lanes.Up 7) 1)
+    ∷ attempts.Once (events.Forward lanes.Outward 0) ∷ attempts.Once (events.Forward lanes.Outward 1)
+    ∷ attempts.Once (events.Serve 0) ∷ attempts.Once (events.Serve 1)
+    ∷ attempts.All (events.Collect 1) ∷ attempts.All (events.Collect 2) ∷ attempts.All (events.Collect 3) ∷ attempts.All (events.Collect 4) ∷ attempts.All (events.Collect 5) ∷ attempts.All (events.Collect 6) ∷ attempts.All (events.Collect 7) ∷ []
 
 -- ---- all rounds
 

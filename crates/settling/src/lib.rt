@@ -12,9 +12,14 @@
 //! Each is an event of the fabric, and one that is refused changes nothing. A round has moved something where a packet
 //! was sent, delivered, moved back, forwarded, served or collected. The rounds end after one that moved nothing, and
 //! after 10,000 at the latest.
+//!
+//! Who makes such rounds and keeps something else of them takes what a round tries from here: [`lane_attempts`] of each
+//! of [`LANES`], and then [`AFTER_LANES`].
 #![tactic(auto)]
 
+mod attempts;
 mod rounds;
 mod turns;
 
+pub use attempts::{AFTER_LANES, Attempt, LANES, is_memory, is_move, lane_attempts};
 pub use rounds::settle;

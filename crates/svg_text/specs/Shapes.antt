@@ -8,11 +8,11 @@ use Rattle.svg_text.specs.declared.shapes.Rule.{Rule}
 use Rattle.svg_text.specs.declared.shapes.Label.{Label}
 use Rattle.svg_text.specs.Xml.{Attribute, Value, Content, text_of}
 
--- a mark on the page; where one points at a block, its text is shown
+-- a mark on the page: a block, a dot or lines with a title, or a text
 pub data Shape : Type 0 where
   Filled : Block → List ℕ → Shape
-  Dotted : Dot → Shape
-  Ruled : Rule → Shape
+  Dotted : Dot → List ℕ → Shape
+  Lined : List Rule → List ℕ → Shape
   Written : Label → List ℕ → Shape
 
 abbrev pub colour_code : Colour → List ℕ
@@ -37,7 +37,7 @@ numbers name ns = record { name = name; value = Value.Numbers ns }
 abbrev pub words : List ℕ → List ℕ → Attribute
 words name text = record { name = name; value = Value.Words text }
 
--- one points at what lies below it
+-- one points at what lies below a text
 abbrev pub unseen : Attribute
 unseen = words (codes "pointer-events") (codes "none")
 
@@ -57,12 +57,12 @@ abbrev pub three_edges : Block → List Attribute
 three_edges b = corners b ∷ painted b
 
 abbrev pub circle : Dot → List Attribute
-circle d = number (codes "cx") d.x ∷ number (codes "cy") d.y ∷ number (codes "r") 4 ∷ words (codes "stroke") (codes "#FFFFFF") ∷ unseen ∷ []
+circle d = number (codes "cx") d.x ∷ number (codes "cy") d.y ∷ number (codes "r") 4 ∷ words (codes "stroke") (codes "#FFFFFF") ∷ []
 
 abbrev pub line : Rule → List Attribute
 line r =
     number (codes "x1") r.left ∷ number (codes "y1") r.top ∷ number (codes "x2") r.right ∷ number (codes "y2") r.bottom
-    ∷ words (codes "stroke") (colour_code r.colour) ∷ number (codes "stroke-width") r.thickness ∷ number (codes "stroke-dasharray") r.dash ∷ unseen ∷ []
+    ∷ words (codes "stroke") (colour_code r.colour) ∷ number (codes "stroke-width") r.thickness ∷ number (codes "stroke-dasharray") r.dash ∷ []
 
 abbrev pub anchor : Bool → List ℕ
 anchor is_centred = if is_centred then codes "middle" else codes "start"
@@ -74,19 +74,23 @@ placed l =
 
 -- ---- elements
 
--- what is shown where one points at the element
-abbrev pub tooltip : List ℕ → Content
-tooltip text = Content.Element (codes "title") [] (Content.Characters text Content.Nothing) Content.Nothing
+-- the title of the element around it: it is read out by readers of screens, and shown where one points at the element
+abbrev pub titled : List ℕ → Content → Content
+titled text rest = Content.Element (codes "title") [] (Content.Characters text Content.Nothing) rest
 
 abbrev pub block_before : Bool → Block → List ℕ → Content → Content
-block_before true b text rest = Content.Element (codes "polyline") (three_edges b) (tooltip text) rest
-block_before false b text rest = Content.Element (codes "rect") (rectangle b) (tooltip text) rest
+block_before true b text rest = Content.Element (codes "polyline") (three_edges b) (titled text Content.Nothing) rest
+block_before false b text rest = Content.Element (codes "rect") (rectangle b) (titled text Content.Nothing) rest
 
--- the shape, and then the rest
+abbrev pub lines : List Rule → Content
+lines [] = Content.Nothing
+lines (r ∷ rs) = Content.Element (codes "line") (line r) Content.Nothing (lines rs)
+
+-- the shape, and then the rest; lines are a group with one title
 abbrev pub before : Shape → Content → Content
 before (Shape.Filled b text) rest = block_before b.is_open b text rest
-before (Shape.Dotted d) rest = Content.Element (codes "circle") (circle d) Content.Nothing rest
-before (Shape.Ruled r) rest = Content.Element (codes "line") (line r) Content.Nothing rest
+before (Shape.Dotted d text) rest = Content.Element (codes "circle") (circle d) (titled text Content.Nothing) rest
+before (Shape.Lined rs text) rest = Content.Element (codes "g") [] (titled text (lines rs)) rest
 before (Shape.Written l text) rest = Content.Element (codes "text") (placed l) (Content.Characters text Content.Nothing) rest
 
 abbrev pub contents : List Shape → Content
@@ -99,6 +103,19 @@ shape_text s = text_of (before s Content.Nothing)
 -- the shapes, one after the other
 unfoldable pub shapes_text : List Shape → List ℕ
 shapes_text ss = flat_map shape_text ss
+
+-- ---- what is read out
+
+abbrev pub words_of : Shape → List ℕ
+words_of (Shape.Filled b text) = text
+words_of (Shape.Dotted d text) = text
+words_of (Shape.Lined rs text) = text
+words_of (Shape.Written l text) = text
+
+-- an element stands first that has the text as its title, or is the text
+pub data IsReadOut (text : List ℕ) : Content → Type 0 where
+  titled_so : {name : List ℕ} {attributes : List Attribute} {inner rest : Content} → IsReadOut text (Content.Element name attributes (titled text inner) rest)
+  written_so : {attributes : List Attribute} {rest : Content} → IsReadOut text (Content.Element (codes "text") attributes (Content.Characters text Content.Nothing) rest)
 
 -- ---- the page
 

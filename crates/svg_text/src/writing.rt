@@ -2,7 +2,7 @@
 ghost use Rattle.std.specs.Prelude.{◌≡◌, ◌≤◌, ◌+◌, ◌++◌, ◌∷◌, [], List, true, false, length, codes, OnOk, OnErr};
 ghost use Rattle.std.specs.Fmt.{decimal};
 ghost use Rattle.arrayvec.specs.ArrayString.{array_string_len};
-ghost use Rattle.svg_text.specs.Shapes.{Shape, painted, rectangle, corners, three_edges, circle, line, anchor, placed, tooltip, block_before, view, page_attributes, page_background, shape_text, shapes_text, page_text};
+ghost use Rattle.svg_text.specs.Shapes.{Shape, painted, rectangle, corners, three_edges, circle, line, lines, anchor, placed, titled, block_before, view, page_attributes, page_background, shape_text, shapes_text, page_text};
 ghost use Rattle.svg_text.specs.Xml.{Content, attribute_text, attributes_text, opening, entity, escaped, text_of};
 
 use crate::colour::Colour;
@@ -110,7 +110,6 @@ fn open_circle(dot: &Dot, piece: &mut ArrayString<512>)
     put_number("cy", dot.y, piece);
     put_number("r", 4, piece);
     put_words("stroke", "#FFFFFF", piece);
-    put_words("pointer-events", "none", piece);
     piece.push_str(">");
 }
 
@@ -127,7 +126,6 @@ fn open_line(rule: &Rule, piece: &mut ArrayString<512>)
     put_words("stroke", rule.colour.code(), piece);
     put_number("stroke-width", rule.thickness, piece);
     put_number("stroke-dasharray", rule.dash, piece);
-    put_words("pointer-events", "none", piece);
     piece.push_str(">");
 }
 
@@ -155,9 +153,9 @@ fn open_text(label: &Label, piece: &mut ArrayString<512>)
     piece.push_str(">");
 }
 
-/// Adds what is shown where one points at an element.
-fn put_tooltip(text: &[u8], out: &mut Vec<u8>) -> Result<(), AllocError>
-    ensures { OnOk result (out.new.items ≡ out.old.items ++ text_of (tooltip text.now)) }
+/// Adds the title of an element.
+fn put_title(text: &[u8], out: &mut Vec<u8>) -> Result<(), AllocError>
+    ensures { OnOk result (out.new.items ≡ out.old.items ++ text_of (titled text.now Content.Nothing)) }
 {
     out.extend_from_slice(b"<title>")?;
     put_escaped(text, out)?;
@@ -171,7 +169,7 @@ fn put_rectangle(block: &Block, text: &[u8], out: &mut Vec<u8>) -> Result<(), Al
     let mut piece = ArrayString::new();
     open_rectangle(block, &mut piece);
     out.extend_from_slice(piece.as_bytes())?;
-    put_tooltip(text, out)?;
+    put_title(text, out)?;
     out.extend_from_slice(b"</rect>")
 }
 
@@ -182,12 +180,11 @@ fn put_three_edges(block: &Block, text: &[u8], out: &mut Vec<u8>) -> Result<(), 
     let mut piece = ArrayString::new();
     open_three_edges(block, &mut piece);
     out.extend_from_slice(piece.as_bytes())?;
-    put_tooltip(text, out)?;
+    put_title(text, out)?;
     out.extend_from_slice(b"</polyline>")
 }
 
-/// Adds a block. Its text is shown where one points at it. After an `Err`, which is out of memory,
-/// some of it may be added.
+/// Adds a block with its title. After an `Err`, which is out of memory, some of it may be added.
 #[tactic(auto, unfolding(crate::specs::Shapes::shape_text))]
 pub fn put_block(block: &Block, text: &[u8], out: &mut Vec<u8>) -> Result<(), AllocError>
     ensures { OnOk result (out.new.items ≡ out.old.items ++ shape_text (Shape.Filled block.now text.now)) }
@@ -199,26 +196,47 @@ pub fn put_block(block: &Block, text: &[u8], out: &mut Vec<u8>) -> Result<(), Al
     }
 }
 
-/// Adds a dot. After an `Err` some of it may be added.
+/// Adds a dot with its title. After an `Err` some of it may be added.
 #[tactic(auto, unfolding(crate::specs::Shapes::shape_text))]
-pub fn put_dot(dot: &Dot, out: &mut Vec<u8>) -> Result<(), AllocError>
-    ensures { OnOk result (out.new.items ≡ out.old.items ++ shape_text (Shape.Dotted dot.now)) }
+pub fn put_dot(dot: &Dot, text: &[u8], out: &mut Vec<u8>) -> Result<(), AllocError>
+    ensures { OnOk result (out.new.items ≡ out.old.items ++ shape_text (Shape.Dotted dot.now text.now)) }
 {
     let mut piece = ArrayString::new();
     open_circle(dot, &mut piece);
     out.extend_from_slice(piece.as_bytes())?;
+    put_title(text, out)?;
     out.extend_from_slice(b"</circle>")
 }
 
-/// Adds a line. After an `Err` some of it may be added.
-#[tactic(auto, unfolding(crate::specs::Shapes::shape_text))]
-pub fn put_rule(rule: &Rule, out: &mut Vec<u8>) -> Result<(), AllocError>
-    ensures { OnOk result (out.new.items ≡ out.old.items ++ shape_text (Shape.Ruled rule.now)) }
+/// Adds a line.
+fn put_line(rule: &Rule, out: &mut Vec<u8>) -> Result<(), AllocError>
+    ensures { OnOk result (out.new.items ≡ out.old.items ++ text_of (lines (rule.now ∷ []))) }
 {
     let mut piece = ArrayString::new();
     open_line(rule, &mut piece);
     out.extend_from_slice(piece.as_bytes())?;
     out.extend_from_slice(b"</line>")
+}
+
+/// Adds lines, one after the other.
+fn put_each_line(rules: &[Rule], out: &mut Vec<u8>) -> Result<(), AllocError>
+    ensures { OnOk result (out.new.items ≡ out.old.items ++ text_of (lines rules.now)) }
+{
+    for rule in rules {
+        put_line(rule, out)?;
+    }
+    Ok(())
+}
+
+/// Adds lines, which have one title together: an arrow, say. After an `Err` some of them may be added.
+pub fn put_lines(rules: &[Rule], text: &[u8], out: &mut Vec<u8>) -> Result<(), AllocError>
+    ensures { OnOk result (out.new.items ≡ out.old.items ++ shape_text (Shape.Lined rules.now text.now)) }
+{
+    out.extend_from_slice(b"<g>")?;
+    put_title(text, out)?;
+    put_each_line(rules, out)?;
+    out.extend_from_slice(b"</g>")?;
+    Ok(())
 }
 
 /// Adds a text. After an `Err` some of it may be added.

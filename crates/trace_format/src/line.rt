@@ -186,12 +186,7 @@ fn ent(rest: Option<&[u8]>) -> Result<Line, Misfit>
 }
 
 /// The line of that kind that the rest of it spells.
-fn line_by(
-    kind: &[u8],
-    rest: Option<&[u8]>,
-    version: Version,
-    text: &[u8],
-) -> Result<Line, Misfit>
+fn line_by(kind: &[u8], rest: Option<&[u8]>, version: Version, text: &[u8]) -> Result<Line, Misfit>
     ensures { result_ok result ≡ forms.line_by version kind.now (words_behind rest.entry) }
 {
     if kind == b"sub".as_slice() {

@@ -1,4 +1,3 @@
-use Rattle.std.proofs.Common.{◌∙◌, sym}
 use Rattle.byte_effects.proofs.Yielding.{broken_by}
 use Rattle.byte_effects.proofs.pairs.breaks.Goals as goal
 

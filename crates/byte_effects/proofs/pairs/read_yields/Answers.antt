@@ -1,4 +1,4 @@
-use Rattle.std.proofs.Common.{inl, inr, refl}
+use Rattle.std.proofs.Common.{inl, inr}
 use Rattle.byte_effects.proofs.pairs.read_yields.Goals as goal
 
 pub returns-in-None : goal.returns-in-None

@@ -1,5 +1,4 @@
-use Rattle.std.proofs.Common.{◌∙◌, sym, ap}
-use Rattle.seq_memory.specs.Step.{after, answer}
+use Rattle.std.proofs.Common.{◌∙◌, sym}
 use Rattle.byte_effects.proofs.Yielding.{brings_broken, kept_by_read, ends_apart, ends_read, ends_broken}
 use Rattle.byte_effects.proofs.pairs.yields.Goals as goal
 

@@ -1,4 +1,4 @@
-use Rattle.std.proofs.Common.{◌≡◌, ◌∙◌, ◌-◌, ◌*◌, ◌/◌, ◌<◌, ◌≤◌, ap, get_or, false, arith}
+use Rattle.std.proofs.Common.{◌∙◌, ◌-◌, ◌*◌, ap, get_or, false, arith}
 use Rattle.tlp_core.specs.Enables.{dw_enables}
 use Rattle.byte_effects.proofs.Enabling.{of_one, of_first, of_middle, of_last}
 use Rattle.byte_effects.proofs.ranges.is_enabled.Goals as goal

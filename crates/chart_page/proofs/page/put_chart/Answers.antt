@@ -1,8 +1,8 @@
 use Rattle.std.proofs.Common.{◌∙◌, ◌++◌, ◌+◌, ap, ℕ, List}
 use Rattle.svg_text.specs.Shapes.{page_text, shapes_text}
-use Rattle.chart_page.specs.declared.row.Row.{Row}
-use Rattle.chart_page.specs.Layout.{width_of}
-use Rattle.chart_page.specs.PageView.{PageView}
+use Rattle.chart_rows.specs.declared.row.Row.{Row}
+use Rattle.chart_rows.specs.Layout.{width_of}
+use Rattle.chart_rows.specs.PageView.{PageView}
 use Rattle.chart_page.specs.Shapes.{shapes, bottom_of}
 use Rattle.chart_page.proofs.page.put_chart.Goals as goal
 

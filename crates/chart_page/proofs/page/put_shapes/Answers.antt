@@ -1,8 +1,8 @@
 use Rattle.std.proofs.Common.{◌∙◌, ◌++◌, ap, List}
 use Rattle.svg_text.specs.Shapes.{shapes_text}
-use Rattle.chart_page.specs.declared.row.Row.{Row}
-use Rattle.chart_page.specs.declared.row.Open.{Open}
-use Rattle.chart_page.specs.PageView.{PageView}
+use Rattle.chart_rows.specs.declared.row.Row.{Row}
+use Rattle.chart_rows.specs.declared.row.Open.{Open}
+use Rattle.chart_rows.specs.PageView.{PageView}
 use Rattle.chart_page.specs.Shapes.{title, legend, body}
 use Rattle.chart_page.proofs.Steps.{both}
 use Rattle.chart_page.proofs.page.put_shapes.Goals as goal

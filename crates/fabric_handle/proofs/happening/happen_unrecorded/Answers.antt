@@ -12,7 +12,7 @@ pub returns-clause-session : goal.returns-clause-session
 returns-clause-session c = λ no_memory.
     let s : Session = record { fabric = c.session.inside.fabric; is_traced = c.session.inside.is_traced; records = c.session.inside.records.items } in
     elim c.match-step.branch [
-      in-Ok w ↦ unrecorded s c.args.session.now c.session.view_is c.args.room.now c.args.event.now w.in-Ok.seen c.step.new.fabric c.requires.unrecorded w.in-Ok.ensures.ok
+      | in-Ok w ↦ unrecorded s c.args.session.now c.session.view_is c.args.room.now c.args.event.now w.in-Ok.seen c.step.new.fabric c.requires.unrecorded w.in-Ok.ensures.ok
       | in-Err w ↦ not_moved s c.args.session.now c.session.view_is c.args.room.now c.args.event.now w.in-Err.refusal c.step.new.fabric w.in-Err.ensures.err
           (w.in-Err.ensures.refused (w.put_refusal.ensures.told (λ e. no_memory (w.result-is ∙ e))))
     ]

@@ -1,4 +1,4 @@
-use Rattle.std.proofs.Common.{◌≡◌, ◌∙◌, Some, ap}
+use Rattle.std.proofs.Common.{◌≡◌, Some, ap}
 use Rattle.std.specs.Prelude.{slice_get}
 use Rattle.log_runs.specs.declared.Event.TheVariants as events
 use Rattle.log_runs.specs.Task.{Task}

@@ -2,8 +2,8 @@ use Rattle.std.proofs.Common.{◌≡◌, ◌∙◌, ℕ, ◌<◌, false, length,
 use Rattle.std.specs.Prelude.{fold}
 use Rattle.std.proofs.lemmas.Result.{on_ok_weaker}
 use Rattle.fabric_core.specs.declared.event.LaneName.TheVariants as lanes
-use Rattle.settling.specs.Rounds.{Settling, at, lane_turn, all_lanes, attempted}
-use Rattle.settling.proofs.RoundLemmas.{fold_next, after_lanes, round_is}
+use Rattle.settling.specs.Rounds.{Settling, at, lane_turn, all_lanes, after_lanes, attempted}
+use Rattle.settling.proofs.RoundLemmas.{fold_next, round_is}
 use Rattle.settling.proofs.ReachedLemmas.{then}
 use Rattle.settling.proofs.turns.round.Goals as goal
 

@@ -1,5 +1,5 @@
 use Rattle.std.proofs.Common.{◌≡◌, ◌∙◌, sym, ap}
-use Rattle.settling.specs.declared.turns.Attempt.{Attempt}
+use Rattle.settling.specs.declared.attempts.Attempt.{Attempt}
 use Rattle.settling.specs.Rounds.{at, attempted}
 use Rattle.settling.proofs.RoundLemmas.{fold_next}
 use Rattle.settling.proofs.ReachedLemmas.{then}

@@ -6,7 +6,6 @@ pub returns : goal.returns
 returns c =
     rw (
       c.push_str-2.ensures.bytes,
-      c.put_words-2.ensures.text,
       c.put_words.ensures.text,
       c.put_number-3.ensures.text,
       c.put_number-2.ensures.text,

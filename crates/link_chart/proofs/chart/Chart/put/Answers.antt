@@ -1,6 +1,6 @@
 use Rattle.std.proofs.Common.{◌∙◌, ◌++◌, ap, List}
 use Rattle.std.proofs.lemmas.Result.{on_ok_weaker}
-use Rattle.chart_page.specs.PageView.{PageView}
+use Rattle.chart_rows.specs.PageView.{PageView}
 use Rattle.chart_page.specs.Shapes.{chart_text}
 use Rattle.link_chart.specs.CourseView.{CourseView}
 use Rattle.link_chart.specs.ChartView.{ChartView, with_left, page_of}

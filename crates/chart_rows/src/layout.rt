@@ -1,25 +1,26 @@
 //! Where the parts of a fabric and the rows of a chart stand, in pixels from the left and from the top.
 ghost use Rattle.std.specs.Prelude.{◌≡◌, ◌≤◌};
-ghost use Rattle.chart_page.specs.Layout as layout;
+ghost use Rattle.chart_rows.specs.Layout as layout;
 
 use fabric_core::LaneName;
 
+/// A point.
 #[derive(Clone, Copy, Debug, PartialEq, Eq)]
-pub(crate) struct Point {
-    pub(crate) x: u64,
-    pub(crate) y: u64,
+pub struct Point {
+    pub x: u64,
+    pub y: u64,
 }
 
 /// The way from one line to another.
 #[derive(Clone, Copy, Debug, PartialEq, Eq)]
-pub(crate) struct Way {
-    pub(crate) from: u64,
-    pub(crate) to: u64,
-    pub(crate) is_right: bool,
+pub struct Way {
+    pub from: u64,
+    pub to: u64,
+    pub is_right: bool,
 }
 
 /// Where the line of the requester at a port stands.
-pub(crate) fn requester_x(port: u8) -> u64
+pub fn requester_x(port: u8) -> u64
     ensures value { result ≡ layout.requester_x port }
     ensures range { result ≤ 70000 }
 {
@@ -27,7 +28,7 @@ pub(crate) fn requester_x(port: u8) -> u64
 }
 
 /// Where the line of the switch stands.
-pub(crate) fn switch_x(requesters: u8) -> u64
+pub fn switch_x(requesters: u8) -> u64
     ensures value { result ≡ layout.switch_x requesters }
     ensures range { result ≤ 70000 }
 {
@@ -35,7 +36,7 @@ pub(crate) fn switch_x(requesters: u8) -> u64
 }
 
 /// Where the line of the memory stands.
-pub(crate) fn memory_x(requesters: u8) -> u64
+pub fn memory_x(requesters: u8) -> u64
     ensures value { result ≡ layout.memory_x requesters }
     ensures range { result ≤ 70000 }
 {
@@ -43,14 +44,14 @@ pub(crate) fn memory_x(requesters: u8) -> u64
 }
 
 /// How wide a chart is.
-pub(crate) fn width_of(requesters: u8) -> u64
+pub fn width_of(requesters: u8) -> u64
     ensures { result ≡ layout.width_of requesters }
 {
     memory_x(requesters) + 260
 }
 
 /// Where a row begins.
-pub(crate) fn top_of(row: u16) -> u64
+pub fn top_of(row: u16) -> u64
     ensures value { result ≡ layout.top_of row }
     ensures range { result ≤ 2000000 }
 {
@@ -58,7 +59,7 @@ pub(crate) fn top_of(row: u16) -> u64
 }
 
 /// Where in its row an arrow begins.
-pub(crate) fn departure(row: u16) -> u64
+pub fn departure(row: u16) -> u64
     ensures value { result ≡ layout.departure row }
     ensures range { result ≤ 2000100 }
 {
@@ -66,7 +67,7 @@ pub(crate) fn departure(row: u16) -> u64
 }
 
 /// Where in its row an arrow ends, and a mark stands.
-pub(crate) fn middle(row: u16) -> u64
+pub fn middle(row: u16) -> u64
     ensures value { result ≡ layout.middle row }
     ensures range { result ≤ 2000100 }
 {
@@ -104,14 +105,14 @@ fn packet_way(requesters: u8, lane: LaneName) -> Way
 }
 
 /// The other direction.
-pub(crate) fn other(is_right: bool) -> bool
+pub fn other(is_right: bool) -> bool
     ensures { result ≡ layout.other is_right }
 {
     !is_right
 }
 
 /// The way of DLLPs on a lane, or of packets.
-pub(crate) fn way_of(requesters: u8, lane: LaneName, is_dllp: bool) -> Way
+pub fn way_of(requesters: u8, lane: LaneName, is_dllp: bool) -> Way
     ensures value { result ≡ layout.way_of requesters lane is_dllp }
     ensures from { result.from ≤ 70000 }
     ensures to { result.to ≤ 70000 }
@@ -128,7 +129,7 @@ pub(crate) fn way_of(requesters: u8, lane: LaneName, is_dllp: bool) -> Way
 }
 
 /// A place that lies so far behind x for one who goes that way.
-pub(crate) fn behind(is_right: bool, x: u64, distance: u64) -> u64
+pub fn behind(is_right: bool, x: u64, distance: u64) -> u64
     requires x { x ≤ 3000000 }
     requires distance { distance ≤ 3000000 }
     ensures { result ≡ layout.behind is_right x distance }
@@ -141,7 +142,7 @@ pub(crate) fn behind(is_right: bool, x: u64, distance: u64) -> u64
 }
 
 /// The place so many thirds of the way from its beginning.
-pub(crate) fn thirds(way: Way, count: u64) -> u64
+pub fn thirds(way: Way, count: u64) -> u64
     requires from { way.from ≤ 70000 }
     requires to { way.to ≤ 70000 }
     requires count { count ≤ 3 }
@@ -157,7 +158,7 @@ pub(crate) fn thirds(way: Way, count: u64) -> u64
 }
 
 /// Where an arrow begins that ends in a row.
-pub(crate) fn start_of(way: Way, sent: Option<u16>, row: u16) -> Point
+pub fn start_of(way: Way, sent: Option<u16>, row: u16) -> Point
     requires from { way.from ≤ 70000 }
     requires to { way.to ≤ 70000 }
     ensures value { result ≡ layout.start_of way sent row }
@@ -177,7 +178,7 @@ pub(crate) fn start_of(way: Way, sent: Option<u16>, row: u16) -> Point
 }
 
 /// Where an arrow ends.
-pub(crate) fn finish_of(way: Way, is_lost: bool, row: u16) -> Point
+pub fn finish_of(way: Way, is_lost: bool, row: u16) -> Point
     requires from { way.from ≤ 70000 }
     requires to { way.to ≤ 70000 }
     ensures value { result ≡ layout.finish_of way is_lost row }

@@ -2,8 +2,8 @@
 use Rattle.std.specs.Prelude.{ℕ, ◌+◌, ◌-◌, ◌*◌, ◌/◌, Bool, true, false, if◌then◌else◌, nat_lt, Option, Some, None}
 use Rattle.fabric_core.specs.declared.event.LaneName.{LaneName}
 use Rattle.fabric_core.specs.declared.event.LaneName.TheVariants as lanes
-use Rattle.chart_page.specs.declared.layout.Point.{Point}
-use Rattle.chart_page.specs.declared.layout.Way.{Way}
+use Rattle.chart_rows.specs.declared.layout.Point.{Point}
+use Rattle.chart_rows.specs.declared.layout.Way.{Way}
 
 -- the lines of the requesters, from port 1 on, then that of the switch and that of the memory
 abbrev pub requester_x : ℕ → ℕ

@@ -4,7 +4,7 @@ ghost use Rattle.std.specs.Fmt.{decimal};
 ghost use Rattle.arrayvec.specs.ArrayString.{array_string_len};
 ghost use Rattle.script_text.specs.Names as names;
 ghost use Rattle.script_text.specs.LineTexts as lines;
-ghost use Rattle.chart_page.specs.Words as said;
+ghost use Rattle.chart_rows.specs.Words as said;
 
 use crate::row::{Carried, Kind, Replay, Row};
 use arrayvec::ArrayString;
@@ -13,13 +13,12 @@ use fabric_core::{Event, Refusal, Seen};
 use lane_ends::{Arrival, Fate};
 use link_receiver::Reception;
 use operation_text::{write_decimal, write_sequence};
-use script_text::write_event;
-use script_text::{write_refusal, write_seen};
+use script_text::{write_event, write_refusal, write_seen};
 use seq12::Seq12;
 use std::alloc::AllocError;
-use svg_text::Colour;
 
-pub(crate) fn kind_name(kind: Kind) -> &'static str
+/// The name of a kind.
+pub fn kind_name(kind: Kind) -> &'static str
     ensures name { result.now ≡ said.kind_name kind }
     ensures length { length result.now ≤ 5 }
 {
@@ -29,18 +28,6 @@ pub(crate) fn kind_name(kind: Kind) -> &'static str
         Kind::Add => "add",
         Kind::Swap => "swap",
         Kind::Cas => "cas",
-    }
-}
-
-pub(crate) fn kind_colour(kind: Kind) -> Colour
-    ensures { result ≡ said.kind_colour kind }
-{
-    match kind {
-        Kind::Read => Colour::SkyBlue,
-        Kind::Write => Colour::Orange,
-        Kind::Add => Colour::Green,
-        Kind::Swap => Colour::Yellow,
-        Kind::Cas => Colour::Purple,
     }
 }
 
@@ -78,7 +65,7 @@ fn put_known(carried: Option<Carried>, text: &mut ArrayString<512>)
 }
 
 /// Writes a sequence number and what its packet carries.
-pub(crate) fn put_sent(number: Seq12, carried: Option<Carried>, text: &mut ArrayString<512>)
+pub fn write_sent(number: Seq12, carried: Option<Carried>, text: &mut ArrayString<512>)
     requires { text.old.bytes ≡ [] }
     ensures text { text.new.bytes ≡ said.sent_words number carried }
     ensures len { array_string_len text.new ≤ 250 }
@@ -88,7 +75,7 @@ pub(crate) fn put_sent(number: Seq12, carried: Option<Carried>, text: &mut Array
 }
 
 /// What is said of a packet that was accepted, dropped or lost.
-pub(crate) fn arrival_words(fate: Fate, arrival: Arrival) -> &'static str
+pub fn arrival_words(fate: Fate, arrival: Arrival) -> &'static str
     ensures words { result.now ≡ said.arrival_words fate arrival }
     ensures len { length result.now ≤ 250 }
 {
@@ -118,7 +105,7 @@ fn class_name(class: Class) -> &'static str
 fn put_update(class: Class, headers: u8, units: u16, text: &mut ArrayString<512>)
     requires { text.old.bytes ≡ [] }
     ensures text { text.new.bytes ≡ said.dllp_words (Dllp.Update class headers units) }
-    ensures len { array_string_len text.new ≤ 250 }
+    ensures len { array_string_len text.new ≤ 55 }
 {
     text.push_str("UpdateFC ");
     text.push_str(class_name(class));
@@ -129,10 +116,10 @@ fn put_update(class: Class, headers: u8, units: u16, text: &mut ArrayString<512>
 }
 
 /// Writes a DLLP.
-pub(crate) fn put_dllp(dllp: Dllp, text: &mut ArrayString<512>)
+pub fn write_dllp(dllp: Dllp, text: &mut ArrayString<512>)
     requires { text.old.bytes ≡ [] }
     ensures text { text.new.bytes ≡ said.dllp_words dllp }
-    ensures len { array_string_len text.new ≤ 250 }
+    ensures len { array_string_len text.new ≤ 55 }
 {
     match dllp {
         Dllp::Ack(number) => {
@@ -158,7 +145,7 @@ fn put_again(places: u64, text: &mut ArrayString<512>)
 }
 
 /// Adds what a sender does.
-fn put_replay(replay: Replay, text: &mut ArrayString<512>)
+pub(crate) fn put_replay(replay: Replay, text: &mut ArrayString<512>)
     requires { array_string_len text.old ≤ 100 }
     ensures text { text.new.bytes ≡ text.old.bytes ++ said.replay_words replay }
     ensures len { array_string_len text.new ≤ array_string_len text.old + 39 }
@@ -174,7 +161,7 @@ fn put_replay(replay: Replay, text: &mut ArrayString<512>)
 }
 
 /// Writes what is said of a DLLP that arrived or was lost.
-pub(crate) fn put_dllp_arrival(fate: Fate, replay: Replay, text: &mut ArrayString<512>)
+pub fn write_dllp_arrival(fate: Fate, replay: Replay, text: &mut ArrayString<512>)
     requires { text.old.bytes ≡ [] }
     ensures text { text.new.bytes ≡ said.dllp_arrival_words fate replay }
     ensures len { array_string_len text.new ≤ 250 }
@@ -186,7 +173,8 @@ pub(crate) fn put_dllp_arrival(fate: Fate, replay: Replay, text: &mut ArrayStrin
     }
 }
 
-pub(crate) fn put_submitted(carried: Carried, text: &mut ArrayString<512>)
+/// Writes what is said of a submission.
+pub fn write_submitted(carried: Carried, text: &mut ArrayString<512>)
     requires { text.old.bytes ≡ [] }
     ensures text { text.new.bytes ≡ said.submitted_words carried }
     ensures len { array_string_len text.new ≤ 250 }
@@ -195,7 +183,8 @@ pub(crate) fn put_submitted(carried: Carried, text: &mut ArrayString<512>)
     put_carried(carried, text);
 }
 
-pub(crate) fn put_expired(replay: Replay, text: &mut ArrayString<512>)
+/// Writes what is said of a replay timer that expired.
+pub fn write_expired(replay: Replay, text: &mut ArrayString<512>)
     requires { text.old.bytes ≡ [] }
     ensures text { text.new.bytes ≡ said.expired_words replay }
     ensures len { array_string_len text.new ≤ 250 }
@@ -204,7 +193,8 @@ pub(crate) fn put_expired(replay: Replay, text: &mut ArrayString<512>)
     put_replay(replay, text);
 }
 
-pub(crate) fn put_forwarded(carried: Option<Carried>, text: &mut ArrayString<512>)
+/// Writes what is said of a packet that the switch passed on.
+pub fn write_forwarded(carried: Option<Carried>, text: &mut ArrayString<512>)
     requires { text.old.bytes ≡ [] }
     ensures text { text.new.bytes ≡ said.forwarded_words carried }
     ensures len { array_string_len text.new ≤ 250 }
@@ -213,7 +203,8 @@ pub(crate) fn put_forwarded(carried: Option<Carried>, text: &mut ArrayString<512
     put_known(carried, text);
 }
 
-pub(crate) fn put_served(carried: Option<Carried>, index: usize, text: &mut ArrayString<512>)
+/// Writes what is said of a request that acted on the memory.
+pub fn write_served(carried: Option<Carried>, index: usize, text: &mut ArrayString<512>)
     requires { text.old.bytes ≡ [] }
     ensures text { text.new.bytes ≡ said.served_words carried index }
     ensures len { array_string_len text.new ≤ 250 }
@@ -224,7 +215,8 @@ pub(crate) fn put_served(carried: Option<Carried>, index: usize, text: &mut Arra
     write_decimal(index as u64, text);
 }
 
-pub(crate) fn put_collected(carried: Option<Carried>, text: &mut ArrayString<512>)
+/// Writes what is said of a completion that a requester took.
+pub fn write_collected(carried: Option<Carried>, text: &mut ArrayString<512>)
     requires { text.old.bytes ≡ [] }
     ensures text { text.new.bytes ≡ said.collected_words carried }
     ensures len { array_string_len text.new ≤ 250 }
@@ -246,13 +238,21 @@ fn put_shortened(text: &[u8], most: usize, out: &mut Vec<u8>) -> Result<(), Allo
 }
 
 /// Adds the line of an event, in so many letters.
-pub(crate) fn put_event(event: &Event, most: usize, out: &mut Vec<u8>) -> Result<(), AllocError>
+fn put_event(event: &Event, most: usize, out: &mut Vec<u8>) -> Result<(), AllocError>
     requires { 2 ≤ most }
     ensures { OnOk result (out.new.items ≡ out.old.items ++ said.shortened most (lines.event_line event.now)) }
 {
     let mut text = ArrayString::new();
     write_event(event, &mut text);
     put_shortened(text.as_bytes(), most, out)
+}
+
+/// Writes the line of an event as it stands at the left of a row.
+pub fn write_event_words(event: &Event, out: &mut Vec<u8>) -> Result<(), AllocError>
+    requires { out.old.items ≡ [] }
+    ensures { OnOk result (out.new.items ≡ said.shortened 26 (lines.event_line event.now)) }
+{
+    put_event(event, 26, out)
 }
 
 /// Writes what was seen of an event, or why it was refused.
@@ -270,7 +270,7 @@ fn write_outcome(event: &Event, outcome: &Result<Seen, Refusal>, text: &mut Arra
 }
 
 /// Adds what was seen of an event or why it was refused, in so many letters.
-pub(crate) fn put_outcome(
+fn put_outcome(
     event: &Event,
     outcome: &Result<Seen, Refusal>,
     most: usize,
@@ -284,6 +284,18 @@ pub(crate) fn put_outcome(
     put_shortened(text.as_bytes(), most, out)
 }
 
+/// Writes what was seen of an event or why it was refused, as it stands at the left of a row.
+pub fn write_outcome_words(
+    event: &Event,
+    outcome: &Result<Seen, Refusal>,
+    out: &mut Vec<u8>,
+) -> Result<(), AllocError>
+    requires { out.old.items ≡ [] }
+    ensures { OnOk result (out.new.items ≡ said.shortened 20 (said.outcome_words event.now outcome.now)) }
+{
+    put_outcome(event, outcome, 20, out)
+}
+
 /// Writes the number of a line.
 fn put_line(line: u64, text: &mut ArrayString<512>)
     requires { text.old.bytes ≡ [] }
@@ -295,7 +307,7 @@ fn put_line(line: u64, text: &mut ArrayString<512>)
 }
 
 /// Writes what is shown where one points at a row.
-pub(crate) fn put_row_words(row: &Row, out: &mut Vec<u8>) -> Result<(), AllocError>
+pub fn write_row_words(row: &Row, out: &mut Vec<u8>) -> Result<(), AllocError>
     requires { out.old.items ≡ [] }
     ensures { OnOk result (out.new.items ≡ said.row_words row.now) }
 {
@@ -307,7 +319,8 @@ pub(crate) fn put_row_words(row: &Row, out: &mut Vec<u8>) -> Result<(), AllocErr
     put_outcome(&row.event, &row.outcome, 60, out)
 }
 
-pub(crate) fn put_requester(port: u8, text: &mut ArrayString<512>)
+/// Writes the name of the requester at a port.
+pub fn write_requester(port: u8, text: &mut ArrayString<512>)
     requires { text.old.bytes ≡ [] }
     ensures { text.new.bytes ≡ said.requester_words port }
 {
@@ -315,7 +328,8 @@ pub(crate) fn put_requester(port: u8, text: &mut ArrayString<512>)
     write_decimal(u64::from(port), text);
 }
 
-pub(crate) fn put_before(count: u64, text: &mut ArrayString<512>)
+/// Writes how many events aren't shown before the rows.
+pub fn write_before(count: u64, text: &mut ArrayString<512>)
     requires { text.old.bytes ≡ [] }
     ensures { text.new.bytes ≡ said.before_words count }
 {
@@ -323,7 +337,8 @@ pub(crate) fn put_before(count: u64, text: &mut ArrayString<512>)
     write_decimal(count, text);
 }
 
-pub(crate) fn put_after(count: u64, text: &mut ArrayString<512>)
+/// Writes how many events aren't shown after the rows.
+pub fn write_after(count: u64, text: &mut ArrayString<512>)
     requires { text.old.bytes ≡ [] }
     ensures { text.new.bytes ≡ said.after_words count }
 {

@@ -1,7 +1,7 @@
 -- What a chart shows.
 use Rattle.std.specs.Prelude.{ℕ, List}
-use Rattle.chart_page.specs.declared.row.Row.{Row}
-use Rattle.chart_page.specs.declared.row.Open.{Open}
+use Rattle.chart_rows.specs.declared.row.Row.{Row}
+use Rattle.chart_rows.specs.declared.row.Open.{Open}
 
 pub record PageView : Type 0 where
   pub requesters : ℕ

@@ -1,6 +1,6 @@
 //! What a chart shows.
 ghost use Rattle.std.specs.Prelude.{◌≡◌};
-ghost use Rattle.chart_page.specs.Words as said;
+ghost use Rattle.chart_rows.specs.Words as said;
 
 use dllp_core::Dllp;
 use fabric_core::{Event, LaneName, Refusal, Seen};
@@ -41,7 +41,23 @@ pub enum Replay {
     Stopped(u64),
 }
 
-/// What is drawn of an event. Rows count from 0; None is a row that isn't shown.
+/// A packet on its way: its sequence number, what it carries, and the row in which it was sent. Rows count from 0; None
+/// is a row that isn't shown.
+#[derive(Clone, Copy, Debug, PartialEq, Eq)]
+pub struct PacketSent {
+    pub number: Seq12,
+    pub carried: Option<Carried>,
+    pub row: Option<u16>,
+}
+
+/// A DLLP on its way back, and the row in which it was sent.
+#[derive(Clone, Copy, Debug, PartialEq, Eq)]
+pub struct DllpSent {
+    pub dllp: Dllp,
+    pub row: Option<u16>,
+}
+
+/// What is drawn of an event. What was sent is None if nothing is known of it.
 #[derive(Clone, Copy, Debug, PartialEq, Eq)]
 pub enum Deed {
     /// Nothing but its row: it was refused.
@@ -50,12 +66,12 @@ pub enum Deed {
     Submitted(u8, Carried),
     /// The packet with this number went onto the lane.
     Sent(LaneName, Seq12, Option<Carried>),
-    /// The packet that was sent in this row arrived so, or was lost.
-    Arrived(LaneName, Fate, Arrival, Option<u16>),
+    /// The packet arrived so, or was lost.
+    Arrived(LaneName, Fate, Arrival, Option<PacketSent>),
     /// The DLLP went onto the wire back.
     SentDllp(LaneName, Dllp),
-    /// The DLLP that was sent in this row arrived or was lost, and the sender does this.
-    ArrivedDllp(LaneName, Fate, Option<u16>, Replay),
+    /// The DLLP arrived or was lost, and the sender does this.
+    ArrivedDllp(LaneName, Fate, Option<DllpSent>, Replay),
     /// The replay timer of the lane's sender expired.
     Expired(LaneName, Replay),
     /// The lane's link was retrained.
@@ -77,11 +93,18 @@ pub struct Row {
     pub deed: Deed,
 }
 
-/// A packet or a DLLP whose sending is shown, in this row, and whose arrival isn't.
-#[derive(Debug, PartialEq, Eq, Drop)]
+/// A packet, as its sequence number and what it carries, or a DLLP.
+#[derive(Clone, Copy, Debug, PartialEq, Eq)]
+pub enum Flying {
+    Packet(Seq12, Option<Carried>),
+    Dllp(Dllp),
+}
+
+/// What was sent in a row that is shown, and isn't seen to arrive.
+#[derive(Clone, Copy, Debug, PartialEq, Eq)]
 pub struct Open {
     pub lane: LaneName,
-    pub is_dllp: bool,
+    pub what: Flying,
     pub row: u16,
 }
 
@@ -96,7 +119,7 @@ pub struct Page {
 }
 
 impl Model for Page {
-    ghost use Rattle.chart_page.specs.PageView.{PageView};
+    ghost use Rattle.chart_rows.specs.PageView.{PageView};
 
     ghost Value = { PageView };
 

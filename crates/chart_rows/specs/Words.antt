@@ -17,14 +17,12 @@ use Rattle.operation_text.specs.Texts.{sequence_text}
 use Rattle.script_text.specs.Names.{class_name, refusal_text}
 use Rattle.script_text.specs.Texts.{seen_text}
 use Rattle.script_text.specs.LineTexts.{event_line}
-use Rattle.svg_text.specs.declared.colour.Colour.{Colour}
-use Rattle.svg_text.specs.declared.colour.Colour.TheVariants as colours
-use Rattle.chart_page.specs.declared.row.Kind.{Kind}
-use Rattle.chart_page.specs.declared.row.Kind.TheVariants as requests
-use Rattle.chart_page.specs.declared.row.Carried.{Carried}
-use Rattle.chart_page.specs.declared.row.Replay.{Replay}
-use Rattle.chart_page.specs.declared.row.Replay.TheVariants as replays
-use Rattle.chart_page.specs.declared.row.Row.{Row}
+use Rattle.chart_rows.specs.declared.row.Kind.{Kind}
+use Rattle.chart_rows.specs.declared.row.Kind.TheVariants as requests
+use Rattle.chart_rows.specs.declared.row.Carried.{Carried}
+use Rattle.chart_rows.specs.declared.row.Replay.{Replay}
+use Rattle.chart_rows.specs.declared.row.Replay.TheVariants as replays
+use Rattle.chart_rows.specs.declared.row.Row.{Row}
 
 -- ---- packets
 
@@ -41,13 +39,6 @@ kind_name requests.Write = codes "write"
 kind_name requests.Add = codes "add"
 kind_name requests.Swap = codes "swap"
 kind_name requests.Cas = codes "cas"
-
-abbrev pub kind_colour : Kind → Colour
-kind_colour requests.Read = colours.SkyBlue
-kind_colour requests.Write = colours.Orange
-kind_colour requests.Add = colours.Green
-kind_colour requests.Swap = colours.Yellow
-kind_colour requests.Cas = colours.Purple
 
 -- a request, as its kind, its requester and its number, or the completion of one
 abbrev pub cpl_words : Bool → List ℕ

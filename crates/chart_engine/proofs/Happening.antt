@@ -1,0 +1,200 @@
+-- The chart of a script is told what happens to its fabric.
+use Rattle.std.proofs.Common.{◌≡◌, ◌∙◌, ◌++◌, ◌⊎◌, ℕ, zero, suc, Bool, true, false, if◌then◌else◌, List, [], ◌∷◌, refl, sym, ap, subst, inl, inr, fold, cond, length, Result, Ok, Err}
+use Rattle.std.specs.Prelude.{nat_lt, Option, Some, None}
+use Rattle.fabric_laws.specs.Fabric.{Fabric}
+use Rattle.fabric_core.specs.declared.config.Config.{Config}
+use Rattle.fabric_core.specs.declared.config.ConfigFault.{ConfigFault}
+use Rattle.fabric_core.specs.declared.event.Event.{Event}
+use Rattle.fabric_core.specs.declared.event.Seen.{Seen}
+use Rattle.fabric_core.specs.declared.event.LaneName.{LaneName}
+use Rattle.fabric_core.specs.declared.fault.Refusal.{Refusal}
+use Rattle.fabric_core.specs.Answers.{answer}
+use Rattle.fabric_answers.specs.New.{new_fabric, config_fault}
+use Rattle.settling.specs.declared.attempts.Attempt.{Attempt}
+use Rattle.settling.specs.declared.attempts.Attempt.TheVariants as attempts
+use Rattle.settling.specs.Rounds.{all_lanes, lane_attempts, after_lanes}
+use Rattle.script_text.specs.declared.line.Line.{Line}
+use Rattle.script_text.specs.declared.line.Line.TheVariants as lines
+use Rattle.line_engine.specs.Lines.{lines_of, bare, said}
+use Rattle.line_engine.specs.Run.{Answer, Run, after_line, new_run}
+use Rattle.link_chart.specs.declared.window.ChartWindow.{ChartWindow}
+use Rattle.link_chart.specs.ChartView.{ChartView, new_chart, charted, refused}
+use Rattle.chart_laws.specs.Arrows.{Tale, told}
+use Rattle.chart_laws.specs.Happened.{Happened, told_all}
+use Rattle.chart_engine.specs.declared.chart.Session.{Session}
+use Rattle.chart_engine.specs.Settled.{Trail, at, answered, tried, times, attempted, lane_turn, round, rounds, if_moved}
+use Rattle.chart_engine.specs.Chart as spec
+use Rattle.chart_engine.specs.Chart.{Charting, chart_responses, out_chart}
+use Rattle.chart_engine.specs.Events.{IsOfEvents, ShowsEvents, ShowsEventsIfAny}
+use Rattle.chart_engine.proofs.Charted.{quiet_before}
+
+-- a fabric and its chart after events that happened
+record Exact (w : ChartWindow) (f : Fabric) (v : ChartView) : Type 0 where
+  config : Config
+  faultless : config_fault config ≡ None
+  tales : List Tale
+  happened : Happened (new_fabric config) tales f
+  chart : v ≡ told_all (new_chart w config.requesters) tales
+
+-- ---- one event more
+
+happened_more : (ts : List Tale) (t : Tale) (f g h : Fabric) → Happened f ts g → answer g t.event ≡ Ok (t.what, h) → Happened f (ts ++ t ∷ []) h
+happened_more [] t f g h e a = (h, subst (λ (x : Fabric). answer x t.event ≡ Ok (t.what, h)) (sym e) a, refl)
+happened_more (s ∷ ts) t f g h e a = (e.0, e.1, happened_more ts t e.0 g h e.2 a)
+
+told_more : (ts : List Tale) (t : Tale) (v : ChartView) → told_all v (ts ++ t ∷ []) ≡ told (told_all v ts) t
+told_more [] t v = refl
+told_more (s ∷ ts) t v = told_more ts t (told v s)
+
+one_more : (w : ChartWindow) (f g : Fabric) (v : ChartView) (line : ℕ) (event : Event) (what : Seen) → Exact w f v → answer f event ≡ Ok (what, g) → Exact w g (charted v line event what)
+one_more w f g v line event what e a =
+    let t : Tale = record { line = line; event = event; what = what } in
+    record {
+      config = e.config;
+      faultless = e.faultless;
+      tales = e.tales ++ t ∷ [];
+      happened = happened_more e.tales t (new_fabric e.config) f g e.happened a;
+      chart = ap (λ (x : ChartView). charted x line event what) e.chart ∙ sym (told_more e.tales t (new_chart w e.config.requesters));
+    }
+
+-- ---- rounds of events
+
+abbrev Of : ChartWindow → Trail → Type 0
+Of w t = Exact w t.fabric t.chart
+
+of_answer : (w : ChartWindow) (line : ℕ) (t : Trail) (event : Event) (a : Result (Seen × Fabric) Refusal) → answer t.fabric event ≡ a → Of w t → Of w (answered line t event a)
+of_answer w line t event (Ok p) is e = one_more w t.fabric p.1 t.chart line event p.0 e is
+of_answer w line t event (Err r) is e = e
+
+of_tried : (w : ChartWindow) (line : ℕ) (t : Trail) (event : Event) → Of w t → Of w (tried line t event)
+unfolding tried
+of_tried w line t event e = of_answer w line t event (answer t.fabric event) refl e
+
+of_times : (w : ChartWindow) (line n : ℕ) (t : Trail) (event : Event) → Of w t → Of w (times line n t event)
+unfolding times
+of_times w line zero t event e = e
+of_times w line (suc n) t event e = of_times w line n (tried line t event) event (of_tried w line t event e)
+
+of_attempt : (w : ChartWindow) (line : ℕ) (t : Trail) (a : Attempt) → Of w t → Of w (attempted line t a)
+of_attempt w line t (attempts.Once event) e = of_tried w line t event e
+of_attempt w line t (attempts.All event) e = of_times w line 18446744073709551615 t event e
+
+of_each : {X : Type 0} (w : ChartWindow) (f : Trail → X → Trail) → ((t : Trail) (x : X) → Of w t → Of w (f t x)) → (xs : List X) (t : Trail) → Of w t → Of w (fold f t xs)
+of_each w f keeps [] t e = e
+of_each w f keeps (x ∷ xs) t e = of_each w f keeps xs (f t x) (keeps t x e)
+
+of_turn : (w : ChartWindow) (line : ℕ) (t : Trail) (lane : LaneName) → Of w t → Of w (lane_turn line t lane)
+unfolding lane_turn
+of_turn w line t lane e = of_each w (attempted line) (of_attempt w line) (lane_attempts lane) t e
+
+of_round : (w : ChartWindow) (line : ℕ) (t : Trail) → Of w t → Of w (round line t)
+unfolding round
+of_round w line t e =
+    of_each w (attempted line) (of_attempt w line) after_lanes (fold (lane_turn line) (at t.fabric t.chart false) all_lanes)
+    (of_each w (lane_turn line) (of_turn w line) all_lanes (at t.fabric t.chart false) e)
+
+of_more : (w : ChartWindow) (more : Trail → Trail) (t : Trail) (b : Bool) → ((s : Trail) → Of w s → Of w (more s)) → Of w t → Of w (if b then more t else t)
+of_more w more t true keeps e = keeps t e
+of_more w more t false keeps e = e
+
+of_rounds : (w : ChartWindow) (line n : ℕ) (t : Trail) → Of w t → Of w (rounds line n t)
+unfolding rounds
+of_rounds w line zero t e = e
+of_rounds w line (suc n) t e = of_more w (rounds line n) (round line t) (round line t).moved (λ s f. of_rounds w line n s f) (of_round w line t e)
+
+-- ---- lines
+
+abbrev ExactIfAny : ChartWindow → Option Session → Type 0
+ExactIfAny w None = Unit {0}
+ExactIfAny w (Some p) = Exact w p.fabric p.chart
+
+-- until the run ends the chart is told exactly what happened
+record Holds (w : ChartWindow) (s : Charting) : Type 0 where
+  window : s.window ≡ w
+  exact : s.ending ≡ None → ExactIfAny w s.session
+  shows : ShowsEventsIfAny w s.session
+
+shown : (w : ChartWindow) (p : Session) → Exact w p.fabric p.chart → ShowsEvents w p
+shown w p e = record { config = e.config; faultless = e.faultless; tales = e.tales; happened = e.happened; chart = inl e.chart }
+
+shown_last : (w : ChartWindow) (p : Session) (line : ℕ) (event : Event) (r : _) → Exact w p.fabric p.chart → ShowsEvents w (spec.session p.fabric (refused p.chart line event r))
+shown_last w p line event r e = record {
+  config = e.config;
+  faultless = e.faultless;
+  tales = e.tales;
+  happened = e.happened;
+  chart = inr (line, event, r, ap (λ (v : ChartView). refused v line event r) e.chart);
+}
+
+no_ending : {A : Type 0} (line : List ℕ) → Some line ≡ None → A
+no_ending line e = absurd cc
+
+goes_on : (w : ChartWindow) (s : Charting) (p : Session) → s.window ≡ w → Exact w p.fabric p.chart → Holds w (spec.goes_on s p).state
+goes_on w s p window e = record { window = window; exact = λ none. e; shows = shown w p e }
+
+ends : (w : ChartWindow) (s : Charting) (o : Option Session) (line : List ℕ) → s.window ≡ w → ShowsEventsIfAny w o → Holds w (spec.ends s o line).state
+ends w s o line window e = record { window = window; exact = λ some. no_ending line some; shows = e }
+
+of_made : (w : ChartWindow) (s : Charting) (c : Config) (x : Option ConfigFault) → Holds w s → config_fault c ≡ x → Holds w (spec.made s c x).state
+of_made w s c (Some x) h is = ends w s s.session _ h.window h.shows
+of_made w s c None h is =
+    goes_on w s (spec.session (new_fabric c) (new_chart s.window c.requesters)) h.window
+    (record { config = c; faultless = is; tales = []; happened = refl; chart = ap (λ (v : ChartWindow). new_chart v c.requesters) h.window })
+
+of_made_once : (w : ChartWindow) (s : Charting) (o : Option Session) (c : Config) → Holds w s → Holds w (spec.made_once s o c).state
+of_made_once w s None c h = of_made w s c (config_fault c) h refl
+of_made_once w s (Some p) c h = ends w s s.session _ h.window h.shows
+
+of_left : (w : ChartWindow) (s : Charting) (p : Session) (event : Event) (a : Result (Seen × Fabric) Refusal) → s.window ≡ w → answer p.fabric event ≡ a → Exact w p.fabric p.chart
+    → Holds w (spec.unless_refused s (spec.left_by (spec.next_line s) p event a) (spec.refusal_in a)).state
+of_left w s p event (Ok q) window is e = goes_on w s _ window (one_more w p.fabric q.1 p.chart (spec.next_line s) event q.0 e is)
+of_left w s p event (Err r) window is e = ends w s _ _ window (shown_last w p (spec.next_line s) event r e)
+
+of_happened : (w : ChartWindow) (s : Charting) (o : Option Session) (event : Event) → Holds w s → ExactIfAny w o → Holds w (spec.happened s o event).state
+of_happened w s None event h e = ends w s s.session _ h.window h.shows
+of_happened w s (Some p) event h e = of_left w s p event (answer p.fabric event) h.window refl e
+
+of_settled : (w : ChartWindow) (s : Charting) (o : Option Session) → Holds w s → ExactIfAny w o → Holds w (spec.settles s o).state
+of_settled w s None h e = ends w s s.session _ h.window h.shows
+of_settled w s (Some p) h e = goes_on w s _ h.window (of_rounds w (spec.next_line s) 10000 (at p.fabric p.chart false) e)
+
+of_line : (w : ChartWindow) (s : Charting) (l : Option Line) → Holds w s → ExactIfAny w s.session → Holds w (spec.by_line s l).state
+of_line w s None h e = ends w s s.session _ h.window h.shows
+of_line w s (Some (lines.Fabric c)) h e = of_made_once w s s.session c h
+of_line w s (Some (lines.Event event)) h e = of_happened w s s.session event h e
+of_line w s (Some lines.Settle) h e = of_settled w s s.session h e
+
+unless : (w : ChartWindow) (s : Charting) (ending : Option (List ℕ)) (a : Answer Charting) → Holds w s → s.ending ≡ ending → (ExactIfAny w s.session → Holds w a.state)
+    → Holds w (spec.unless_ended s ending a).state
+unless w s None a h is next = next (h.exact is)
+unless w s (Some line) a h is next = h
+
+skipped : (w : ChartWindow) (s : Charting) (b : Bool) (a : Answer Charting) → Holds w s → Holds w a.state → Holds w (cond b (spec.nothing (spec.counted s)) a).state
+skipped w s true a h next = record { window = h.window; exact = h.exact; shows = h.shows }
+skipped w s false a h next = next
+
+of_chart_line : (w : ChartWindow) (s : Charting) (line : List ℕ) → Holds w s → Holds w (spec.chart_line s line).state
+of_chart_line w s line h = unless w s s.ending _ h refl (λ e. skipped w s _ _ h (of_line w s _ h e))
+
+of_long_line : (w : ChartWindow) (s : Charting) → Holds w s → Holds w (spec.chart_long_line s).state
+of_long_line w s h = unless w s s.ending _ h refl (λ e. ends w s s.session _ h.window h.shows)
+
+of_either : (w : ChartWindow) (t : Bool) (s : Charting) (line : List ℕ) → Holds w s → Holds w (cond t (chart_responses.on_long_line s) (chart_responses.on_line s (said line))).state
+of_either w true s line h = of_long_line w s h
+of_either w false s line h = of_chart_line w s (said line) h
+
+of_lines : (w : ChartWindow) (ls : List (List ℕ)) (run : Run Charting) → Holds w run.state → Holds w (fold (after_line chart_responses) run ls).state
+of_lines w [] run h = h
+of_lines w (l ∷ ls) run h = of_lines w ls (after_line chart_responses run l) (of_either w (nat_lt 512 (length (bare l))) run.state l h)
+
+pub of_events : (w : ChartWindow) (input : List ℕ) → IsOfEvents w (out_chart w input).text
+of_events w input =
+    let start : Charting = spec.new_script w in
+    let read : Run Charting = fold (after_line chart_responses) (new_run start) (lines_of input) in
+    let holds : Holds w read.state = of_lines w (lines_of input) (new_run start) (record { window = refl; exact = λ none. tt; shows = tt }) in
+    record {
+      session = read.state.session;
+      ending = read.state.ending;
+      shows = holds.shows;
+      is = ap (λ (t : List ℕ). t ++ spec.text_of read.state.session read.state.ending) (quiet_before w input);
+    }

@@ -1,0 +1,5 @@
+use Rattle.chart_engine.proofs.Happening.{of_events}
+use Rattle.chart_engine.proofs.laws.charts_show_what_happened.Goals as goal
+
+pub returns : goal.returns
+returns c = of_events

@@ -1,0 +1,4 @@
+pub mod Layout
+pub mod Words
+pub mod Titles
+pub mod PageView
