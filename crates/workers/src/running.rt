@@ -25,7 +25,7 @@ fn run_threads<R: Threads + Wait + Sync, G: Gate + Sync>(
     run: &RunContext<'_, G>,
     crew: Crew,
 ) -> Result<Gathered, AllocError>
-    requires { IsCrewOf run.now crew }
+    requires crew { IsCrewOf run.now crew }
     ensures seats { IfOk result (λ g. (vec_len g.seats ≡ length run.now.scripts.now) × AreSeats run.now.hall.now g.seats.items) }
     ensures done { IfOk result (λ g. IsTrue g.whole → AreDone g.records.items 1 (map (λ s. s.items) run.now.scripts.now)) }
 {

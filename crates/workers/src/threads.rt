@@ -94,7 +94,8 @@ fn start<'s, E, G: Gate + Sync>(
     requires pusher { (pusher.queue ≡ run.now.recorder.now) × (pusher.pushed.requester ≡ number) × (pusher.pushed.records ≡ []) }
     ensures { IfOk result (λ h. (h.promise.hall.now ≡ run.now.hall.now) × (h.promise.recorder.now ≡ run.now.recorder.now) × (h.promise.script.now ≡ script.now) × (h.promise.requester ≡ number)) }
 {
-    let (hall, recorder) = (run.hall, run.recorder);
+    let (hall, recorder, shared, gate) = (run.hall, run.recorder, run.shared, run.gate);
+    let (limit, requesters) = (run.limit, run.requesters);
     let keeps = Keeps {
         hall,
         recorder,
@@ -104,9 +105,9 @@ fn start<'s, E, G: Gate + Sync>(
     let handle = scope.spawn_with(keeps, move || {
         one(
             Requester::new(hall, recorder, script, number, seat, pusher),
-            Turns::new(u32::from(number), run.limit, run.gate, run.shared),
-            run.shared,
-            run.requesters,
+            Turns::new(u32::from(number), limit, gate, shared),
+            shared,
+            requesters,
         )
     })?;
     Ok(handle)

@@ -3,8 +3,8 @@ use Rattle.run_report.specs.Halts.{IsCause}
 use Rattle.workers.proofs.Beginning.{first_seats, work_seats, stopped}
 use Rattle.workers.proofs.running.run_workers_counting.Goals as goal
 
-pub run_threads-gathered-requires : goal.run_threads-gathered-requires
-run_threads-gathered-requires g c κs within =
+pub run_threads-gathered-requires-clause-crew : goal.run_threads-gathered-requires-clause-crew
+run_threads-gathered-requires-clause-crew g c κs within =
     let plan = c.in_ok-fabric.ensures.ok.0 in
     let new = c.in_ok-fabric.ensures.ok.1 in
     let has = c.in-Ok.ensures.config in
