@@ -38,7 +38,7 @@ over_the_gate() {
         --crate-type staticlib --toolchain "$home/toolchain" --backend llvm -o out/libpciex_c.a
 }
 build() {
-    if [ -d crates/fabric_handle/out/rlib ] && [ ! -e crates/fabric_handle/out/rlib/stamp ]; then
+    if [ -d crates/c_fabric/out/rlib ] && [ ! -e crates/c_fabric/out/rlib/stamp ]; then
         mkdir -p "$folder" && (over_the_gate)
     else
         (cd crates/pciex_c && rt lib)

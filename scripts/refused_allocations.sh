@@ -121,9 +121,9 @@ for script in lost_ack write_passes_read credits_used_up stopped_link first_scri
     each_refused stops_for_memory examples/$script.txt $pciex chart
 done
 each_refused halts_for_memory /dev/null $pciex run --requesters 2 --each 3
-each_refused tries_again /dev/null crates/hall_alloc/out/hall_alloc
+each_refused tries_again /dev/null crates/hall_tests_alloc/out/hall_tests_alloc
 : > "$room/refusals"
-each_refused tells_the_number /dev/null crates/fabric_alloc/out/fabric_alloc
+each_refused tells_the_number /dev/null crates/fabric_tests_alloc/out/fabric_tests_alloc
 for numbers in '6 0' '5 3'; do
     if ! grep -q "^refused event $numbers\$" "$room/refusals"; then
         echo "refused allocations: no event of a fabric was refused by the numbers $numbers"

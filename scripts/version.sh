@@ -11,8 +11,8 @@ has() {
     grep -qF -- "$2" "$1" || { echo "version: $1 has no '$2'"; failed=1; }
 }
 if [ "${1:-}" = --check ]; then
-    has crates/command_line/src/subcommands.rt ".version(\"$version\")"
-    has crates/packet_words/src/names.rt "b\"pciex $version\""
+    has crates/cli_words/src/subcommands.rt ".version(\"$version\")"
+    has crates/c_packets/src/names.rt "b\"pciex $version\""
     has crates/pciex_c/src/answers.rt "(codes \"pciex $version\")"
     has c/pciex.h "#define PCIEX_VERSION \"$version\""
     has c/rust/Cargo.lock "version = \"$version\""

@@ -10,13 +10,13 @@ use Rattle.fabric_core.specs.declared.event.LaneName.{LaneName}
 use Rattle.fabric_core.specs.declared.fault.Refusal.{Refusal}
 use Rattle.fabric_core.specs.Answers.{answer}
 use Rattle.fabric_answers.specs.New.{new_fabric, config_fault}
-use Rattle.settling.specs.declared.attempts.Attempt.{Attempt}
-use Rattle.settling.specs.declared.attempts.Attempt.TheVariants as attempts
-use Rattle.settling.specs.Rounds.{all_lanes, lane_attempts, after_lanes}
+use Rattle.fabric_settle.specs.declared.attempts.Attempt.{Attempt}
+use Rattle.fabric_settle.specs.declared.attempts.Attempt.TheVariants as attempts
+use Rattle.fabric_settle.specs.Rounds.{all_lanes, lane_attempts, after_lanes}
 use Rattle.script_text.specs.declared.line.Line.{Line}
 use Rattle.script_text.specs.declared.line.Line.TheVariants as lines
-use Rattle.line_engine.specs.Lines.{lines_of, bare, said}
-use Rattle.line_engine.specs.Run.{Answer, Run, after_line, new_run}
+use Rattle.line_loop.specs.Lines.{lines_of, bare, said}
+use Rattle.line_loop.specs.Run.{Answer, Run, after_line, new_run}
 use Rattle.link_chart.specs.declared.window.ChartWindow.{ChartWindow}
 use Rattle.link_chart.specs.ChartView.{ChartView, new_chart, charted, refused}
 use Rattle.chart_laws.specs.Arrows.{Tale, told}

@@ -8,9 +8,9 @@ use Rattle.fabric_core.specs.declared.event.Seen.{Seen}
 use Rattle.fabric_core.specs.declared.event.LaneName.{LaneName}
 use Rattle.fabric_core.specs.declared.fault.Refusal.{Refusal}
 use Rattle.fabric_core.specs.Answers.{answer}
-use Rattle.settling.specs.Rounds.{is_move, all_lanes, lane_attempts, after_lanes}
+use Rattle.fabric_settle.specs.Rounds.{is_move, all_lanes, lane_attempts, after_lanes}
 use Rattle.link_chart.specs.ChartView.{ChartView, charted}
-use Rattle.settling.specs.declared.attempts.Attempt.{Attempt}
+use Rattle.fabric_settle.specs.declared.attempts.Attempt.{Attempt}
 use Rattle.chart_engine.specs.Settled.{Trail, at, answered, tried, goes, times, attempted, lane_turn, round, rounds, if_moved}
 
 -- ---- one event

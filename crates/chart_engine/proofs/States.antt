@@ -12,7 +12,7 @@ use Rattle.fabric_core.specs.Answers.{answer}
 use Rattle.fabric_answers.specs.New.{new_fabric, config_fault}
 use Rattle.script_text.specs.Names.{refusal_text}
 use Rattle.link_chart.specs.ChartView.{ChartView, new_chart}
-use Rattle.line_engine.specs.Run.{IsAnswer}
+use Rattle.line_loop.specs.Run.{IsAnswer}
 use Rattle.chart_engine.specs.declared.chart.Session.{Session}
 use Rattle.chart_engine.specs.Chart as spec
 use Rattle.chart_engine.specs.Chart.{Charting, session, next_line}

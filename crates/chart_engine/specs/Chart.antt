@@ -20,7 +20,7 @@ use Rattle.script_text.specs.Names.{refusal_text}
 use Rattle.chart_page.specs.Shapes.{chart_text, title_text}
 use Rattle.link_chart.specs.declared.window.ChartWindow.{ChartWindow}
 use Rattle.link_chart.specs.ChartView.{ChartView, new_chart, charted, refused, page_of}
-use Rattle.line_engine.specs.Run.{Answer, Responses, Run, run_of}
+use Rattle.line_loop.specs.Run.{Answer, Responses, Run, run_of}
 use Rattle.chart_engine.specs.declared.chart.Session.{Session}
 use Rattle.chart_engine.specs.Settled.{Trail, settled}
 

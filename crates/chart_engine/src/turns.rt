@@ -5,8 +5,8 @@ ghost use Rattle.chart_engine.specs.Settled as spec;
 use crate::copies::copied;
 use crate::happen::happen;
 use fabric_core::{Event, Fabric, LaneName};
+use fabric_settle::{AFTER_LANES, Attempt, LANES, is_memory, is_move, lane_attempts};
 use link_chart::Chart;
-use settling::{AFTER_LANES, Attempt, LANES, is_memory, is_move, lane_attempts};
 use std::alloc::AllocError;
 
 /// Tries the event, and tells whether it happened.

@@ -8,12 +8,12 @@ use Rattle.history_check.specs.Flaws.{first_flaw}
 use Rattle.history_picture.specs.Picture.{picture_text, line_text}
 use Rattle.trace_engine.specs.Check.{fault_line}
 use Rattle.history_picture.specs.declared.scale.Window.{Window}
-use Rattle.line_engine.specs.Lines.{lines_of, bare, said}
-use Rattle.line_engine.specs.Run.{Answer, IsAnswer, Run, after_line, new_run, run_of}
+use Rattle.line_loop.specs.Lines.{lines_of, bare, said}
+use Rattle.line_loop.specs.Run.{Answer, IsAnswer, Run, after_line, new_run, run_of}
 use Rattle.svg_text.specs.Shapes.{Shape, page_text}
 use Rattle.svg_text.specs.Xml.{IsDocument}
-use Rattle.trace_format.specs.declared.fault.ReadFault.{ReadFault}
-use Rattle.trace_format.specs.Reading.{nothing_read, at_end}
+use Rattle.trace_text.specs.declared.fault.ReadFault.{ReadFault}
+use Rattle.trace_text.specs.Reading.{nothing_read, at_end}
 use Rattle.draw_engine.specs.Draw.{Drawing, flaw_of, shows, drawn, draw_responses, out_draw, WritesDocument}
 
 -- a line more, and nothing is written

@@ -9,10 +9,10 @@ use Rattle.history_picture.specs.declared.scale.Window.{Window}
 use Rattle.history_picture.specs.Picture.{picture_text, line_text, view_of, width_of, bottom_of}
 use Rattle.history_picture.specs.Words.{flaw_words}
 use Rattle.history_picture.specs.Picture as picture
-use Rattle.line_engine.specs.Lines.{lines_of, bare, said}
-use Rattle.line_engine.specs.Run.{Run, with_answer, after_line, new_run}
-use Rattle.trace_format.specs.declared.fault.ReadFault.{ReadFault}
-use Rattle.trace_format.specs.Reading as read
+use Rattle.line_loop.specs.Lines.{lines_of, bare, said}
+use Rattle.line_loop.specs.Run.{Run, with_answer, after_line, new_run}
+use Rattle.trace_text.specs.declared.fault.ReadFault.{ReadFault}
+use Rattle.trace_text.specs.Reading as read
 use Rattle.trace_engine.specs.Check.{fault_line, flaw_line, judged, checked, check_responses, out_check}
 use Rattle.draw_engine.specs.Draw.{Drawing, shows, drawn, flaw_of, draw_responses, out_draw, SaysTheSame}
 

@@ -3,23 +3,23 @@ ghost use Rattle.std.specs.Prelude.{◌≡◌, ◌++◌, true, false, Some, None
 ghost use Rattle.history_check.specs.Claim.{claim_of};
 ghost use Rattle.history_check.specs.Flaws.{first_flaw};
 ghost use Rattle.history_picture.specs.Picture.{picture_text, line_text};
-ghost use Rattle.trace_format.specs.Reading.{nothing_read, at_end};
+ghost use Rattle.trace_text.specs.Reading.{nothing_read, at_end};
 ghost use Rattle.trace_engine.specs.Check.{fault_line};
-ghost use Rattle.line_engine.specs.Run.{IsWhole, IsPart};
+ghost use Rattle.line_loop.specs.Run.{IsWhole, IsPart};
 ghost use Rattle.draw_engine.specs.Draw.{Drawing, WritesDocument, flaw_of, out_draw};
 
 use crate::laws::pictures_are_well_formed;
 use arrayvec::ArrayString;
 use history_check::{Flaw, FlawKind, Trace, check};
 use history_picture::{Window, put_line_picture, put_picture};
-use line_engine::{EngineFault, Responder, run};
+use line_loop::{EngineFault, Responder, run};
 use seq_memory::Entry;
 use std::alloc::{AllocError, Global};
 use std::io::{Read, Write};
 use std::marker::Model;
 use std::mem;
 use trace_engine::write_fault;
-use trace_format::{ReadFault, TraceReader};
+use trace_text::{ReadFault, TraceReader};
 
 /// The first flaw of the trace and its history, if there is one.
 fn flaw_in(alloc: Global, trace: &Trace, history: &[Entry]) -> Result<Option<Flaw>, AllocError>

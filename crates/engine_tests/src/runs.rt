@@ -1,6 +1,6 @@
 //! Runs of the engines. These functions say nothing of what they do: the tests look, and a proof that rests on the exact
 //! calls would be dear.
-use line_engine::EngineFault;
+use line_loop::EngineFault;
 use packet_engine::{run_decode, run_encode};
 use std::alloc::Global;
 use step_engine::{StepOptions, run_step, run_step_with};

@@ -1,14 +1,14 @@
 -- What `generate` writes.
 use Rattle.std.specs.Prelude.{ℕ, ◌≡◌, ◌≤◌, ◌⊎◌, List, [], ◌∷◌, length, map, All, Option}
 use Rattle.std.specs.Io.KnownBytes.{Appends}
-use Rattle.line_engine.specs.Run.{IsBeginning}
+use Rattle.line_loop.specs.Run.{IsBeginning}
 use Rattle.history_check.specs.declared.Record.{Record}
 use Rattle.fabric_laws.specs.Fabric.{Fabric}
 use Rattle.fabric_core.specs.declared.config.Config.{Config}
 use Rattle.fabric_core.specs.declared.event.Event.{Event}
 use Rattle.fabric_core.specs.Config.{IsNewWith}
 use Rattle.fabric_core.specs.Runs.{Runs}
-use Rattle.trace_format.specs.Texts.{lines_text}
+use Rattle.trace_text.specs.Texts.{lines_text}
 use Rattle.script_text.specs.LineTexts.{event_line, fabric_line}
 use Rattle.script_text.specs.Spelled.{IsSpelledEvent}
 use Rattle.storm.specs.declared.Storm.{Storm}

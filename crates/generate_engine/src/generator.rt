@@ -1,7 +1,7 @@
 //! The script of a storm, a block of events at a time.
 ghost use Rattle.std.specs.Prelude.{◌≡◌, ◌≢◌, ◌+◌, ◌*◌, ◌++◌, ◌∷◌, [], ℕ, List, IfOk, IfErr, OnOk, OnErr};
 ghost use Rattle.std.specs.Io.KnownBytes.{Appends};
-ghost use Rattle.line_engine.specs.Run.{IsBeginning};
+ghost use Rattle.line_loop.specs.Run.{IsBeginning};
 ghost use Rattle.fabric_core.specs.declared.event.Event.{Event};
 ghost use Rattle.fabric_core.specs.Config.{IsNewWith};
 ghost use Rattle.script_text.specs.LineTexts.{event_line};
@@ -14,7 +14,7 @@ ghost use Rattle.generate_engine.specs.Script.{config_of, IsUnderWay, BeginsScri
 use crate::lines::{put_event, put_fabric};
 use fabric_core::{Config, Fabric};
 use fc_credit::LaneCredits;
-use line_engine::{EngineFault, write_out};
+use line_loop::{EngineFault, write_out};
 use std::alloc::{AllocError, Global};
 use std::io::Write;
 use storm::Storm;

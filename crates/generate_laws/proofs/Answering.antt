@@ -16,8 +16,8 @@ use Rattle.operation_text.specs.Words.{words, is_skipped}
 use Rattle.script_text.specs.declared.line.Line.{Line}
 use Rattle.script_text.specs.declared.line.Line.TheVariants as lines
 use Rattle.script_text.specs.Forms.{line_of}
-use Rattle.line_engine.specs.Lines.{lines_of, bare, said}
-use Rattle.line_engine.specs.Run.{Answer, Run as Output, with_answer, after_line, after_end}
+use Rattle.line_loop.specs.Lines.{lines_of, bare, said}
+use Rattle.line_loop.specs.Run.{Answer, Run as Output, with_answer, after_line, after_end}
 use Rattle.step_engine.specs.Script.{script_of, IsScript}
 use Rattle.step_engine.specs.Script.{event_line as event_of}
 use Rattle.step_engine.specs.Options.{plain}

@@ -2,7 +2,7 @@
 use fault_plan::Plan;
 use generate_engine::run_generate;
 use lane_core::Fate;
-use line_engine::EngineFault;
+use line_loop::EngineFault;
 use std::alloc::Global;
 use std::io;
 use std::io::Write;

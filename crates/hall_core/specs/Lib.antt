@@ -1,5 +1,5 @@
 pub mod Faults
 pub mod Views
-pub use Rattle.hall_parts.specs.Opens
+pub use Rattle.hall_assembly.specs.Opens
 pub use Rattle.hall_events.specs.Refusals
 pub use Rattle.hall_events.specs.Works

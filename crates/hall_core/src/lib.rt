@@ -20,9 +20,9 @@ mod told;
 
 pub use fault::HallFault;
 pub use hall::Hall;
+pub use hall_assembly::closing::StillHeld;
 pub use hall_events::refusal::HallRefusal;
 pub use hall_events::work::WorkEvent;
 pub use hall_laws::part::Part;
-pub use hall_parts::closing::StillHeld;
 pub use seats::{ReqSeat, WorkSeat};
 pub use told::{Answered, Submitted};

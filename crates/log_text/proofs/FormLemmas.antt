@@ -11,7 +11,7 @@ use Rattle.history_check.specs.declared.Record.TheVariants as records
 use Rattle.operation_text.specs.Operations.{address, op_spelled, reply_spelled}
 use Rattle.operation_text.specs.Words.{field, then_with, ended}
 use Rattle.operation_text.specs.Numbers.{numeral}
-use Rattle.trace_format.specs.Forms as fields
+use Rattle.trace_text.specs.Forms as fields
 use Rattle.log_text.specs.declared.line.LogLine.{LogLine}
 use Rattle.log_text.specs.declared.line.LogLine.TheVariants as lines
 use Rattle.log_text.specs.Forms as forms

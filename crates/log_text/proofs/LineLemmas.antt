@@ -2,12 +2,12 @@
 use Rattle.std.proofs.Common.{◌≡◌, ◌≢◌, ◌<◌, ◌+◌, ℕ, true, List, [], ◌∷◌, ◌++◌, ◌∙◌, ◌==◌, length, take, drop, slice_index, refl, sym, ap, append_assoc, fold, All, inl, inr}
 use Rattle.std.proofs.lemmas.List.Sums.{fold-append}
 use Rattle.std.specs.Prelude.{Bool, false, cond, nat_lt, Option, Some}
-use Rattle.line_engine.specs.Lines.{lines_of, bare}
-use Rattle.line_engine.specs.LineFacts.{no_feed, lines_of-feed, lines_of-last, bare-feed, ends-feed, ends-last}
-use Rattle.line_engine.specs.LineFacts.{cut-at as cut-behind}
-use Rattle.trace_format.specs.declared.fault.ReadFault.{ReadFault}
+use Rattle.line_loop.specs.Lines.{lines_of, bare}
+use Rattle.line_loop.specs.LineFacts.{no_feed, lines_of-feed, lines_of-last, bare-feed, ends-feed, ends-last}
+use Rattle.line_loop.specs.LineFacts.{cut-at as cut-behind}
+use Rattle.trace_text.specs.declared.fault.ReadFault.{ReadFault}
 use Rattle.log_text.specs.Reading.{LogReading, nothing_read, take_line, adds_by, reading_of, fault_at_next, fault_or_end, at_end, Tells}
-use Rattle.trace_format.specs.declared.fault.ReadFaultKind.TheVariants as faults
+use Rattle.trace_text.specs.declared.fault.ReadFaultKind.TheVariants as faults
 use Rattle.log_text.specs.Endings.{on_ended_line, on_last_line, adds_ended, adds_last}
 
 -- ---- lines

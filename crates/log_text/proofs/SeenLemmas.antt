@@ -2,8 +2,8 @@
 use Rattle.std.proofs.Common.{◌≡◌, ◌∙◌, ℕ, List, ap, sym, inl, inr, Result, Ok, Err}
 use Rattle.std.specs.Prelude.{IfOk, IfErr, ◌⊎◌, Bool, true, false, cond}
 use Rattle.history_check.specs.Observation.{Observation}
-use Rattle.trace_format.specs.declared.fault.ReadFault.{ReadFault}
-use Rattle.trace_format.specs.Reading as traces
+use Rattle.trace_text.specs.declared.fault.ReadFault.{ReadFault}
+use Rattle.trace_text.specs.Reading as traces
 use Rattle.log_text.specs.Reading.{log_of, seen_of, or_trace, is_head, without_history, Tells, SeenTells}
 
 pub seen-log : (text : List ℕ) (t : Observation) → log_of text ≡ Ok t → seen_of text ≡ Ok t

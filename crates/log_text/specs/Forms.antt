@@ -4,7 +4,7 @@ use Rattle.seq_memory.specs.Limits.{IsWithinLimits, is_size, is_base}
 use Rattle.history_check.specs.declared.Record.TheVariants as records
 use Rattle.operation_text.specs.Words.{words, then_with, field, ended}
 use Rattle.operation_text.specs.Operations.{address, op_spelled, reply_spelled}
-use Rattle.trace_format.specs.Forms.{requester, number, count, block}
+use Rattle.trace_text.specs.Forms.{requester, number, count, block}
 use Rattle.log_text.specs.declared.line.LogLine.{LogLine}
 use Rattle.log_text.specs.declared.line.LogLine.TheVariants as lines
 

@@ -1,7 +1,7 @@
 //! The forms of lines.
 ghost use Rattle.std.specs.Prelude.{◌≡◌, option_map, IfSome};
 ghost use Rattle.operation_text.specs.Words.{words, words_behind, first_field};
-ghost use Rattle.trace_format.specs.Forms as fields;
+ghost use Rattle.trace_text.specs.Forms as fields;
 ghost use Rattle.log_text.specs.Forms as forms;
 
 use history_check::Record;

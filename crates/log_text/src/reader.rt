@@ -9,7 +9,7 @@ use history_check::{Record, Trace};
 use seq_memory::MIN_SIZE;
 use std::alloc::{AllocError, Global};
 use std::marker::Model;
-use trace_format::{ReadFault, ReadFaultKind};
+use trace_text::{ReadFault, ReadFaultKind};
 
 /// The part of the text that goes on.
 #[derive(Clone, Copy, Debug, PartialEq, Eq)]

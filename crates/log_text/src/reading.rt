@@ -1,16 +1,16 @@
 //! Reading the whole text of a log.
 ghost use Rattle.std.specs.Prelude.{◌≡◌, ◌⊎◌, true, OnOk, OnErr, IfOk, IfErr, Ok, Err};
 ghost use Rattle.history_check.specs.Observation.{HasLimits};
-ghost use Rattle.trace_format.specs.Reading.{read_of, IsRefused};
+ghost use Rattle.trace_text.specs.Reading.{read_of, IsRefused};
 ghost use Rattle.log_text.specs.Reading.{log_of, seen_of, is_head, without_history, Tells, SeenTells};
 ghost use Rattle.log_text.specs.Endings.{on_said, on_ended_line, on_last_line, adds_said, adds_ended, adds_last};
 
 use crate::reader::LogReader;
 use history_check::Trace;
-use line_engine::{MAX_LINE, without_return};
+use line_loop::{MAX_LINE, without_return};
 use memchr::memchr;
 use std::alloc::{AllocError, Global};
-use trace_format::{ReadFault, ReadFaultKind, read_trace};
+use trace_text::{ReadFault, ReadFaultKind, read_trace};
 
 /// Takes a line, of which this is said if it isn't too long.
 fn take(reader: &mut LogReader, line: &[u8], said: &[u8]) -> Result<(), AllocError>

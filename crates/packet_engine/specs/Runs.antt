@@ -6,8 +6,8 @@ use Rattle.packet_text.specs.declared.packet.Packet.{Packet}
 use Rattle.packet_text.specs.declared.fault.BytesFault.{BytesFault}
 use Rattle.packet_text.specs.Packets.{reading}
 use Rattle.packet_text.specs.Texts.{packet_text}
-use Rattle.hex_line.specs.Line.{digits_of}
-use Rattle.line_engine.specs.Lines.{lines_of, bare, said}
+use Rattle.hex_text.specs.Line.{digits_of}
+use Rattle.line_loop.specs.Lines.{lines_of, bare, said}
 use Rattle.packet_engine.specs.Lines.{bytes_text, out_decode}
 
 -- the packet of a line of hexadecimal digits, where it has one

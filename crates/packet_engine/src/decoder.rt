@@ -1,12 +1,12 @@
 //! The subcommand `decode`: bytes to words.
 ghost use Rattle.std.specs.Prelude.{◌≡◌, IfOk, IfErr, OnErr};
 ghost use Rattle.packet_text.specs.Packets.{reading};
-ghost use Rattle.line_engine.specs.Run.{IsAnswer, IsCaughtUp, IsWhole, IsPart};
+ghost use Rattle.line_loop.specs.Run.{IsAnswer, IsCaughtUp, IsWhole, IsPart};
 ghost use Rattle.packet_engine.specs.Lines.{out_decode, decode_reading, decode_responses};
 
 use crate::telling::{tell, tell_bytes_fault, tell_words};
-use hex_line::HexLine;
-use line_engine::{EngineFault, Responder, run};
+use hex_text::HexLine;
+use line_loop::{EngineFault, Responder, run};
 use packet_text::decode;
 use std::alloc::{AllocError, Global};
 use std::io::{Read, Write};

@@ -1,12 +1,12 @@
 //! The subcommand `encode`: words to bytes.
 ghost use Rattle.std.specs.Prelude.{◌≡◌, IfOk, IfErr, OnErr};
 ghost use Rattle.packet_text.specs.Forms.{text_reading};
-ghost use Rattle.line_engine.specs.Run.{IsAnswer, IsCaughtUp, IsWhole, IsPart};
+ghost use Rattle.line_loop.specs.Run.{IsAnswer, IsCaughtUp, IsWhole, IsPart};
 ghost use Rattle.packet_engine.specs.Lines.{out_encode, encode_reading, encode_responses};
 
 use crate::reasoned::Reasoned;
 use crate::telling::{tell, tell_bytes, tell_text_fault};
-use line_engine::{EngineFault, Responder, run};
+use line_loop::{EngineFault, Responder, run};
 use packet_text::read_packet;
 use std::alloc::{AllocError, Global};
 use std::io::{Read, Write, sink};

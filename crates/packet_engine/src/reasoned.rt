@@ -1,9 +1,9 @@
 //! Answers to packets in words, with reasons beside them.
 ghost use Rattle.std.specs.Prelude.{◌≡◌, IfErr, OnOk, OnErr};
-ghost use Rattle.line_reasons.specs.Told.{IsReasonTold, IsReasonBegun};
+ghost use Rattle.diagnostics.specs.Told.{IsReasonTold, IsReasonBegun};
 
-use line_engine::{EngineFault, Responder};
-use line_reasons::{tell_long_line, tell_misfit, tell_refusal};
+use diagnostics::{tell_long_line, tell_misfit, tell_refusal};
+use line_loop::{EngineFault, Responder};
 use packet_text::{Unread, read_words};
 use std::alloc::AllocError;
 use std::io::Write;

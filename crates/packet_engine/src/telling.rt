@@ -5,7 +5,7 @@ ghost use Rattle.packet_text.specs.Texts.{packet_text, bytes_fault_text, text_fa
 ghost use Rattle.packet_engine.specs.Lines.{bytes_text};
 
 use arrayvec::{ArrayString, ArrayVec};
-use hex_line::put_bytes;
+use hex_text::put_bytes;
 use packet_text::{
     BytesFault, Packet, TextFault, encode, write_bytes_fault, write_packet, write_text_fault,
 };

@@ -1,11 +1,11 @@
 //! The program, over any streams.
 ghost use Rattle.std.specs.Prelude.{◌≡◌, ◌⊎◌, map, true};
 ghost use Rattle.clap.specs.Words.{fault_of, subcommand_of, takes};
-ghost use Rattle.command_line.specs.Options.{the_app, Asks};
-ghost use Rattle.commands.specs.Command.{IsDone, AreRefused};
-ghost use Rattle.command_line.specs.declared.words.Request.{Request};
+ghost use Rattle.cli_words.specs.Options.{the_app, Asks};
+ghost use Rattle.cli_commands.specs.Command.{IsDone, AreRefused};
+ghost use Rattle.cli_words.specs.declared.words.Request.{Request};
 
-use commands::{Outcome, ended, on_one_thread};
+use cli_commands::{Outcome, ended, on_one_thread};
 use run_engine::run_counting;
 use std::alloc::Global;
 use std::convert::AsStr;

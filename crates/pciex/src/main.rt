@@ -5,7 +5,7 @@ mod command;
 #[cfg(test)]
 mod tests;
 
-use commands::no_words;
+use cli_commands::no_words;
 use std::io;
 use std::io::IsTerminal;
 use std::process::ExitCode;

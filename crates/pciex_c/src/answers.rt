@@ -4,13 +4,13 @@ ghost use Rattle.tlp_core.specs.declared.fault.TlpFault as faults;
 ghost use Rattle.tlp_core.specs.Fault.{number_of, name_of};
 ghost use Rattle.history_check.specs.Claim.{Claim};
 ghost use Rattle.history_check.specs.Trace.{Explains};
-ghost use Rattle.trace_format.specs.Reading.{read_of};
-ghost use Rattle.caller_room.specs.declared.TheConstants.{SMALL_ROOM, NO_MEMORY, NO_FAULT};
-ghost use Rattle.caller_room.specs.Room.{filled};
-ghost use Rattle.byte_device.specs.Call.{call};
-ghost use Rattle.search_verdict.specs.Verdict.{IsSearched};
-ghost use Rattle.trace_verdict.specs.Verdict.{verdict};
-ghost use Rattle.packet_words.specs.Words.{in_words, in_bytes};
+ghost use Rattle.trace_text.specs.Reading.{read_of};
+ghost use Rattle.c_buffer.specs.declared.TheConstants.{SMALL_ROOM, NO_MEMORY, NO_FAULT};
+ghost use Rattle.c_buffer.specs.Room.{filled};
+ghost use Rattle.c_answer.specs.Call.{call};
+ghost use Rattle.c_search.specs.Verdict.{IsSearched};
+ghost use Rattle.c_check.specs.Verdict.{verdict};
+ghost use Rattle.c_packets.specs.Words.{in_words, in_bytes};
 
 use std::alloc::Global;
 
@@ -28,7 +28,7 @@ pub extern "C" fn pciex_raw_answer(
     ensures room { room.new ≡ (call base block bytes.old packet.now room.old).room }
     ensures unchanged { 1000 ≤ result → (bytes.new ≡ bytes.old) × (room.new ≡ room.old) }
 {
-    byte_device::answer_bytes(base, block, bytes, packet, room)
+    c_answer::answer_bytes(base, block, bytes, packet, room)
 }
 
 /// Whether the history of the text explains its trace.
@@ -41,7 +41,7 @@ pub extern "C" fn pciex_raw_check(alloc: Global, text: &[u8], room: &mut [u8]) -
     ensures explained { result ≡ 0 → (c : Claim) × (read_of text.now ≡ Ok c) × Explains c }
     ensures unexplained { (c : Claim) → read_of text.now ≡ Ok c → Explains c → (result ≡ 0) ⊎ (result ≡ SMALL_ROOM) ⊎ (result ≡ NO_MEMORY) }
 {
-    trace_verdict::check_text(alloc, text, room)
+    c_check::check_text(alloc, text, room)
 }
 
 /// A history that explains the log of the text, or that there is none.
@@ -57,7 +57,7 @@ pub extern "C" fn pciex_raw_search(
     ensures unchanged_size { result ≡ NO_MEMORY → size.new ≡ size.old }
     ensures unchanged { 2000 ≤ result → room.new ≡ room.old }
 {
-    search_verdict::search_text(alloc, text, limit, room, size)
+    c_search::search_text(alloc, text, limit, room, size)
 }
 
 /// The words of a TLP or a DLLP.
@@ -67,7 +67,7 @@ pub extern "C" fn pciex_raw_decode(packet: &[u8], room: &mut [u8]) -> u32
     ensures room { room.new ≡ (in_words packet.now room.old).room }
     ensures unchanged { 2000 ≤ result → room.new ≡ room.old }
 {
-    packet_words::tell_packet(packet, room)
+    c_packets::tell_packet(packet, room)
 }
 
 /// The bytes of the packet that the words spell.
@@ -77,7 +77,7 @@ pub extern "C" fn pciex_raw_encode(line: &[u8], room: &mut [u8]) -> u32
     ensures room { room.new ≡ (in_bytes line.now room.old).room }
     ensures unchanged { 2000 ≤ result → room.new ≡ room.old }
 {
-    packet_words::tell_bytes(line, room)
+    c_packets::tell_bytes(line, room)
 }
 
 /// The name of the TLP's fault with that number.
@@ -90,7 +90,7 @@ pub extern "C" fn pciex_raw_fault_name(number: u32, room: &mut [u8]) -> u32
     ensures told { result < 1000 → (f : faults.TlpFault) × (number ≡ number_of f) }
     ensures no_fault { 512 ≤ length room.old → ((f : faults.TlpFault) → ¬ (number ≡ number_of f)) → result ≡ NO_FAULT }
 {
-    packet_words::name_fault(number, room)
+    c_packets::name_fault(number, room)
 }
 
 /// The version of the library.
@@ -101,5 +101,5 @@ pub extern "C" fn pciex_raw_version(room: &mut [u8]) -> u32
     ensures small { length room.old < 512 → result ≡ SMALL_ROOM }
     ensures unchanged { 1000 ≤ result → room.new ≡ room.old }
 {
-    packet_words::tell_version(room)
+    c_packets::tell_version(room)
 }

@@ -1,10 +1,10 @@
 //! The device with a history.
 ghost use Rattle.std.specs.Prelude.{◌≡◌, ◌≤◌, ◌⊎◌, Some, [], length};
 ghost use Rattle.seq_memory.specs.History.{State};
-ghost use Rattle.caller_room.specs.declared.TheConstants.{NO_MEMORY};
-ghost use Rattle.device_handle.specs.Calls.{wrong_limits, service, IsRequestCall, entry_told, bytes_told};
+ghost use Rattle.c_buffer.specs.declared.TheConstants.{NO_MEMORY};
+ghost use Rattle.c_device.specs.Calls.{wrong_limits, service, IsRequestCall, entry_told, bytes_told};
 
-use device_handle::Slot;
+use c_device::Slot;
 use std::alloc::Global;
 
 /// A device, in a slot that holds nothing.
@@ -20,7 +20,7 @@ pub extern "C" fn pciex_raw_device_new(
     ensures made { result ≡ 0 → device.new.memory ≡ Some (record { base = base; size = size; block = block; entries = [] }) }
     ensures unchanged { 1 ≤ result → device.new ≡ device.old }
 {
-    device_handle::new_device(alloc, base, size, block, device)
+    c_device::new_device(alloc, base, size, block, device)
 }
 
 /// One packet at the device of the slot, which goes to `back`.
@@ -40,7 +40,7 @@ pub extern "C" fn pciex_raw_device_serve(
     ensures no_memory { result ≡ NO_MEMORY → IsRequestCall packet.now room.old }
     ensures unchanged { 1000 ≤ result → (back.new.memory ≡ Some memory) × (room.new ≡ room.old) }
 {
-    device_handle::serve_packet(device, number, packet, room, back)
+    c_device::serve_packet(device, number, packet, room, back)
 }
 
 /// How many requests have acted on the device of the slot, which goes to `back`.
@@ -51,7 +51,7 @@ pub extern "C" fn pciex_raw_device_history_length(device: Slot, back: &mut Slot)
     ensures value { result ≡ length memory.entries }
     ensures unchanged { back.new.memory ≡ Some memory }
 {
-    device_handle::history_length(device, back)
+    c_device::history_length(device, back)
 }
 
 /// The entry at a place of the history of the device of the slot, which goes to `back`.
@@ -68,7 +68,7 @@ pub extern "C" fn pciex_raw_device_entry(
     ensures room { room.new ≡ (entry_told memory.entries place room.old).room }
     ensures unchanged { back.new.memory ≡ Some memory }
 {
-    device_handle::tell_entry(device, place, room, back)
+    c_device::tell_entry(device, place, room, back)
 }
 
 /// The bytes of the device of the slot, which goes to `back`.
@@ -80,7 +80,7 @@ pub extern "C" fn pciex_raw_device_bytes(device: Slot, room: &mut [u8], back: &m
     ensures room { room.new ≡ (bytes_told memory room.old).room }
     ensures unchanged { back.new.memory ≡ Some memory }
 {
-    device_handle::copy_bytes(device, room, back)
+    c_device::copy_bytes(device, room, back)
 }
 
 /// Frees the device of the slot.
@@ -89,5 +89,5 @@ pub extern "C" fn pciex_raw_device_free(device: Slot)
     ghost memory: { State }
     requires { device.memory ≡ Some memory }
 {
-    device_handle::free_device(device);
+    c_device::free_device(device);
 }

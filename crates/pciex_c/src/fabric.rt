@@ -2,14 +2,14 @@
 ghost use Rattle.std.specs.Prelude.{◌≡◌, ◌≤◌, ◌↔◌, IsTrue, true, Some, length};
 ghost use Rattle.seq_memory.specs.History.{bytes_of};
 ghost use Rattle.history_check.specs.Trace.{Explains};
-ghost use Rattle.trace_format.specs.Texts.{trace_text};
+ghost use Rattle.trace_text.specs.Texts.{trace_text};
 ghost use Rattle.fabric_laws.specs.Trace.{submitted_by};
 ghost use Rattle.fabric_core.specs.declared.config.Config.{Config};
 ghost use Rattle.fabric_core.specs.Quiet.{IsQuiet};
-ghost use Rattle.caller_room.specs.declared.TheConstants.{NO_MEMORY};
-ghost use Rattle.fabric_handle.specs.Session.{Session, new_session, making, AsksFor, IsFabricCall, event_call, IsEventCall, claim, whole_told};
+ghost use Rattle.c_buffer.specs.declared.TheConstants.{NO_MEMORY};
+ghost use Rattle.c_fabric.specs.Session.{Session, new_session, making, AsksFor, IsFabricCall, event_call, IsEventCall, claim, whole_told};
 
-use fabric_handle::Slot;
+use c_fabric::Slot;
 use std::alloc::Global;
 
 /// The fabric that the line asks for, in a slot that holds nothing.
@@ -28,7 +28,7 @@ pub extern "C" fn pciex_raw_fabric_new(
     ensures unchanged { 1 ≤ result → fabric.new ≡ fabric.old }
     ensures unchanged_room { 2000 ≤ result → room.new ≡ room.old }
 {
-    fabric_handle::new_fabric(alloc, line, is_traced, room, fabric)
+    c_fabric::new_fabric(alloc, line, is_traced, room, fabric)
 }
 
 /// The event of the line happens to the fabric of the slot, which goes to `back`.
@@ -48,7 +48,7 @@ pub extern "C" fn pciex_raw_fabric_event(
     ensures unchanged { 1000 ≤ result → back.new.session ≡ Some session }
     ensures unchanged_room { 2000 ≤ result → room.new ≡ room.old }
 {
-    fabric_handle::tell_event(fabric, line, room, back)
+    c_fabric::tell_event(fabric, line, room, back)
 }
 
 /// The text of the trace and the history of the fabric of the slot, which goes to `back`.
@@ -70,7 +70,7 @@ pub extern "C" fn pciex_raw_fabric_trace(
     ensures unchanged_room { 1 ≤ result → room.new ≡ room.old }
     ensures explained { session.is_traced ≡ true → Explains (claim session) }
 {
-    fabric_handle::tell_trace(alloc, fabric, room, size, back)
+    c_fabric::tell_trace(alloc, fabric, room, size, back)
 }
 
 /// Whether the fabric of the slot is quiet; it goes to `back`.
@@ -82,7 +82,7 @@ pub extern "C" fn pciex_raw_fabric_quiet(fabric: Slot, back: &mut Slot) -> bool
     ensures all { IsTrue result → length session.fabric.memory.entries ≡ submitted_by session.fabric.requesters }
     ensures unchanged { back.new.session ≡ Some session }
 {
-    fabric_handle::is_quiet(fabric, back)
+    c_fabric::is_quiet(fabric, back)
 }
 
 /// How many requests have acted on the memory of the fabric of the slot, which goes to `back`.
@@ -93,7 +93,7 @@ pub extern "C" fn pciex_raw_fabric_history_length(fabric: Slot, back: &mut Slot)
     ensures value { result ≡ length session.fabric.memory.entries }
     ensures unchanged { back.new.session ≡ Some session }
 {
-    fabric_handle::history_length(fabric, back)
+    c_fabric::history_length(fabric, back)
 }
 
 /// The bytes of the memory of the fabric of the slot, which goes to `back`.
@@ -105,7 +105,7 @@ pub extern "C" fn pciex_raw_fabric_bytes(fabric: Slot, room: &mut [u8], back: &m
     ensures room { room.new ≡ (whole_told (bytes_of session.fabric.memory) room.old).room }
     ensures unchanged { back.new.session ≡ Some session }
 {
-    fabric_handle::copy_bytes(fabric, room, back)
+    c_fabric::copy_bytes(fabric, room, back)
 }
 
 /// Frees the fabric of the slot.
@@ -114,5 +114,5 @@ pub extern "C" fn pciex_raw_fabric_free(fabric: Slot)
     ghost session: { Session }
     requires { fabric.session ≡ Some session }
 {
-    fabric_handle::free_fabric(fabric);
+    c_fabric::free_fabric(fabric);
 }

@@ -2,10 +2,10 @@
 ghost use Rattle.std.specs.Prelude.{◌≡◌, ◌≤◌, ◌<◌, Some};
 ghost use Rattle.port_monitor.specs.declared.head.Head as heads;
 ghost use Rattle.port_monitor.specs.Monitoring.{Monitor, new, open_requests};
-ghost use Rattle.caller_room.specs.declared.TheConstants.{NO_MEMORY};
-ghost use Rattle.monitor_handle.specs.Calls.{making, AsksFor, IsMonitorCall, request_call, completion_call, acted_call, IsTraced};
+ghost use Rattle.c_buffer.specs.declared.TheConstants.{NO_MEMORY};
+ghost use Rattle.c_monitor.specs.Calls.{making, AsksFor, IsMonitorCall, request_call, completion_call, acted_call, IsTraced};
 
-use monitor_handle::Slot;
+use c_monitor::Slot;
 use std::alloc::Global;
 
 /// The monitor that the line asks for, in a slot that holds nothing.
@@ -22,7 +22,7 @@ pub extern "C" fn pciex_raw_monitor_new(
     ensures made { result < 1000 → (h : heads.Head) × AsksFor line.now h × (monitor.new.monitor ≡ Some (new h.is_trace)) }
     ensures unchanged { 1000 ≤ result → (monitor.new ≡ monitor.old) × (room.new ≡ room.old) }
 {
-    monitor_handle::new_monitor(alloc, line, room, monitor)
+    c_monitor::new_monitor(alloc, line, room, monitor)
 }
 
 /// A request that a port carried, at the monitor of the slot, which goes to `back`.
@@ -42,7 +42,7 @@ pub extern "C" fn pciex_raw_monitor_request(
     ensures no_memory { result ≡ NO_MEMORY → IsTraced held requester packet.now room.old }
     ensures unchanged { 1000 ≤ result → (back.new.monitor ≡ Some held) × (room.new ≡ room.old) }
 {
-    monitor_handle::tell_request(monitor, requester, packet, room, back)
+    c_monitor::tell_request(monitor, requester, packet, room, back)
 }
 
 /// A completion that a port carried, at the monitor of the slot, which goes to `back`.
@@ -61,7 +61,7 @@ pub extern "C" fn pciex_raw_monitor_completion(
     ensures room { room.new ≡ (completion_call held requester packet.now room.old).room }
     ensures unchanged { 1000 ≤ result → (back.new.monitor ≡ Some held) × (room.new ≡ room.old) }
 {
-    monitor_handle::tell_completion(monitor, requester, packet, room, back)
+    c_monitor::tell_completion(monitor, requester, packet, room, back)
 }
 
 /// A request that acted, at the monitor of the slot, which goes to `back`.
@@ -80,7 +80,7 @@ pub extern "C" fn pciex_raw_monitor_acted(
     ensures room { room.new ≡ (acted_call held requester number room.old).room }
     ensures unchanged { 1000 ≤ result → (back.new.monitor ≡ Some held) × (room.new ≡ room.old) }
 {
-    monitor_handle::tell_acted(monitor, requester, number, room, back)
+    c_monitor::tell_acted(monitor, requester, number, room, back)
 }
 
 /// How many requests are open at the monitor of the slot, which goes to `back`.
@@ -91,7 +91,7 @@ pub extern "C" fn pciex_raw_monitor_open(monitor: Slot, back: &mut Slot) -> usiz
     ensures value { result ≡ open_requests held }
     ensures unchanged { back.new.monitor ≡ Some held }
 {
-    monitor_handle::count_open(monitor, back)
+    c_monitor::count_open(monitor, back)
 }
 
 /// Frees the monitor of the slot.
@@ -100,5 +100,5 @@ pub extern "C" fn pciex_raw_monitor_free(monitor: Slot)
     ghost held: { Monitor }
     requires { monitor.monitor ≡ Some held }
 {
-    monitor_handle::free_monitor(monitor);
+    c_monitor::free_monitor(monitor);
 }

@@ -5,8 +5,8 @@ use Rattle.seq_memory.specs.History.{State}
 use Rattle.history_check.specs.declared.Record.{Record}
 use Rattle.history_check.specs.declared.Record.TheVariants as records
 use Rattle.operation_text.specs.Texts.{op_text, reply_text}
-use Rattle.trace_format.specs.Texts as traces
-use Rattle.trace_format.specs.Texts.{spaced, memory_line}
+use Rattle.trace_text.specs.Texts as traces
+use Rattle.trace_text.specs.Texts.{spaced, memory_line}
 
 -- a record in a log
 abbrev pub log_line : Record → List ℕ

@@ -2,7 +2,7 @@
 ghost use Rattle.std.specs.Prelude.{◌≡◌, ◌≤◌, ◌++◌, ◌∷◌, [], length};
 ghost use Rattle.std.specs.Fmt.{decimal};
 ghost use Rattle.arrayvec.specs.ArrayString.{array_string_len};
-ghost use Rattle.trace_format.specs.Texts.{entry_line};
+ghost use Rattle.trace_text.specs.Texts.{entry_line};
 ghost use Rattle.port_monitor.specs.Texts.{record_line, moment_text};
 
 use arrayvec::ArrayString;

@@ -5,10 +5,10 @@ use Rattle.std.proofs.lemmas.List.{length-map, length-replicate}
 use Rattle.tlp_core.specs.declared.operation.Op.{Op}
 use Rattle.fabric_core.specs.declared.config.Config.{Config}
 use Rattle.fabric_core.specs.Config.{IsConfig}
-use Rattle.run_report.specs.declared.halt.RunHalt.{RunHalt}
-use Rattle.run_report.specs.declared.plan.RunPlan.{RunPlan}
-use Rattle.run_report.specs.declared.report.Report.{Report}
-use Rattle.run_report.specs.Halts.{IsPlan, IsOfMemory, IsEndBy, IsCause}
+use Rattle.worker_report.specs.declared.halt.RunHalt.{RunHalt}
+use Rattle.worker_report.specs.declared.plan.RunPlan.{RunPlan}
+use Rattle.worker_report.specs.declared.report.Report.{Report}
+use Rattle.worker_report.specs.Halts.{IsPlan, IsOfMemory, IsEndBy, IsCause}
 use Rattle.workers.specs.Running.{AreDone}
 use Rattle.counting.specs.declared.Counting.{Counting}
 use Rattle.run_engine.specs.Counting.{script_of, scripts_of, config_of, IsPlanOf}

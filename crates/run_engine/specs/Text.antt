@@ -3,7 +3,7 @@ use Rattle.std.specs.Prelude.{◌≡◌, ◌⊎◌, ℕ, Bool, true, false, nat_
 use Rattle.std.specs.Fmt.{decimal}
 use Rattle.std.specs.Io.KnownBytes.{Appends}
 use Rattle.byteorder.specs.Endian.{little_number}
-use Rattle.line_engine.specs.Run.{IsBeginning}
+use Rattle.line_loop.specs.Run.{IsBeginning}
 use Rattle.seq_memory.specs.History.{bytes_of}
 use Rattle.history_check.specs.declared.Record.{Record}
 use Rattle.history_check.specs.declared.Record.TheVariants as records
@@ -11,9 +11,9 @@ use Rattle.history_check.specs.Observation.{Observation}
 use Rattle.history_check.specs.Claim.{claim_of}
 use Rattle.history_check.specs.Trace.{Explains}
 use Rattle.fabric_laws.specs.Fabric.{Fabric}
-use Rattle.run_report.specs.declared.halt.RunHalt.{RunHalt}
-use Rattle.run_report.specs.declared.halt.RunHalt.TheVariants as halts
-use Rattle.run_report.specs.Halts.{halt_name, IsOfMemory, IsEndBy}
+use Rattle.worker_report.specs.declared.halt.RunHalt.{RunHalt}
+use Rattle.worker_report.specs.declared.halt.RunHalt.TheVariants as halts
+use Rattle.worker_report.specs.Halts.{halt_name, IsOfMemory, IsEndBy}
 use Rattle.workers.specs.Running.{AreDone}
 use Rattle.counting.specs.declared.Counting.{Counting}
 use Rattle.run_engine.specs.Counting.{scripts_of, config_of}

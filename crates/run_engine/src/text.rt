@@ -3,7 +3,7 @@ ghost use Rattle.std.specs.Prelude.{◌≡◌, ◌≤◌, ◌+◌, ◌++◌, len
 ghost use Rattle.arrayvec.specs.ArrayString.{array_string_len};
 ghost use Rattle.history_check.specs.Claim.{claim_of};
 ghost use Rattle.history_check.specs.Trace.{Explains};
-ghost use Rattle.run_report.specs.Halts.{IsOfMemory, IsEndBy};
+ghost use Rattle.worker_report.specs.Halts.{IsOfMemory, IsEndBy};
 ghost use Rattle.workers.specs.Running.{AreDone};
 ghost use Rattle.counting.specs.Ranges.{IsCounting};
 ghost use Rattle.run_engine.specs.Counting.{scripts_of, config_of};
@@ -15,7 +15,7 @@ use arrayvec::ArrayString;
 use byteorder::{ByteOrder, LittleEndian};
 use counting::Counting;
 use history_check::Record;
-use line_engine::{EngineFault, write_out};
+use line_loop::{EngineFault, write_out};
 use operation_text::write_decimal;
 use std::alloc::Global;
 use std::io::Write;

@@ -3,7 +3,7 @@ use Rattle.std.proofs.Common.{◌≡◌, ◌+◌, ℕ, suc, List, [], ◌∷◌,
 use Rattle.std.specs.Prelude.{slice_get, option_to_list}
 use Rattle.fabric_laws.specs.ListFacts.{get_seam}
 use Rattle.hall_core.specs.Views.{HallView, SeatView, AreNewSeats, IsSeatOf}
-use Rattle.requester_worker.specs.Following.{IsUnusedSeat}
+use Rattle.worker_requester.specs.Following.{IsUnusedSeat}
 
 last_is : (xs ys : List SeatView) (x : SeatView) → xs ≡ ys ++ x ∷ [] → slice_get xs (length ys) ≡ Some x
 last_is xs ys x e = ap (λ (l : List SeatView). slice_get l (length ys)) e ∙ get_seam ys [] x

@@ -9,10 +9,10 @@ use hall_core::laws::take;
 use hall_core::{Hall, Part, ReqSeat, StillHeld, WorkSeat};
 use hall_driving::drive::{bytes_of, last_seat, last_worker, opened};
 use history_check::{Flaw, FlawKind, Record};
-use run_report::{fabric_of, report_of};
 use seq_memory::Reply;
 use std::alloc::{AllocError, Global};
 use std::test::Fail;
+use worker_report::{fabric_of, report_of};
 use workers::RunHalt;
 
 /// What is told of a request that never acted.

@@ -5,7 +5,7 @@ use fabric_core::Config;
 use fault_plan::Plan;
 use fc_credit::LaneCredits;
 use history_check::check;
-use line_engine::EngineFault;
+use line_loop::EngineFault;
 use std::alloc::{AllocError, Global};
 use std::sync::Wait;
 use std::test::Fail;

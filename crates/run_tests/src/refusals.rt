@@ -2,7 +2,7 @@
 ghost use Rattle.std.specs.Prelude.{◌≡◌, [], IfSome};
 ghost use Rattle.recorder.specs.Rule.{unbegun};
 ghost use Rattle.hall_core.specs.Views.{IsSeatOf, AreNewSeats};
-ghost use Rattle.requester_worker.specs.Following.{IsUnusedSeat};
+ghost use Rattle.worker_requester.specs.Following.{IsUnusedSeat};
 
 use crate::additions::{add, halt_of, plan_with};
 use crate::halts::keep;
@@ -15,7 +15,6 @@ use history_check::Record;
 use lane_core::LaneRefusal;
 use recorder::{Pusher, Recorder, Taker};
 use requester_core::SubmitRefusal;
-use requester_worker::{Requester, stop_of};
 use std::alloc::{AllocError, Global};
 use std::sync::Wait;
 use std::sync::atomic::{AtomicU64, Ordering};
@@ -23,6 +22,7 @@ use std::test::Fail;
 use std::thread;
 use std::thread::Threads;
 use tlp_core::{Op, TlpFault};
+use worker_requester::{Requester, stop_of};
 use worker_turns::{Gate, Shared, Stop, Turns};
 use workers::{RunHalt, RunPlan};
 

@@ -3,9 +3,9 @@ use Rattle.std.specs.Prelude.{◌≡◌, Bool, true, false, Result, Ok, Err}
 use Rattle.history_check.specs.Observation.{Observation}
 use Rattle.history_check.specs.Claim.{claim_of}
 use Rattle.history_check.specs.Trace.{Explains}
-use Rattle.trace_format.specs.declared.fault.ReadFault.{ReadFault}
-use Rattle.trace_format.specs.declared.fault.ReadFaultKind.{ReadFaultKind}
-use Rattle.trace_format.specs.declared.fault.ReadFaultKind.TheVariants as faults
+use Rattle.trace_text.specs.declared.fault.ReadFault.{ReadFault}
+use Rattle.trace_text.specs.declared.fault.ReadFaultKind.{ReadFaultKind}
+use Rattle.trace_text.specs.declared.fault.ReadFaultKind.TheVariants as faults
 use Rattle.log_runs.specs.Explainable.{SeenAlike, IsClocked}
 use Rattle.history_search.specs.Prefixes.{IsUnexplained}
 use Rattle.search_engine.specs.declared.answering.Finding.{Finding}

@@ -2,13 +2,13 @@
 use Rattle.std.specs.Prelude.{ℕ, ◌≡◌, ◌+◌, ◌<◌, ◌⊎◌, List, [], ◌∷◌, ◌++◌, length, codes, Option, Result, Ok, Err}
 use Rattle.std.specs.Fmt.{decimal}
 use Rattle.std.specs.Io.KnownBytes.{Appends, Consumes, IsAtEnd}
-use Rattle.line_engine.specs.Run.{IsBeginning}
+use Rattle.line_loop.specs.Run.{IsBeginning}
 use Rattle.seq_memory.specs.declared.Entry.{Entry}
 use Rattle.history_check.specs.Observation.{Observation}
 use Rattle.history_check.specs.Claim.{claim_of}
 use Rattle.history_check.specs.Trace.{Explains}
-use Rattle.trace_format.specs.declared.fault.ReadFault.{ReadFault}
-use Rattle.trace_format.specs.Texts.{trace_text}
+use Rattle.trace_text.specs.declared.fault.ReadFault.{ReadFault}
+use Rattle.trace_text.specs.Texts.{trace_text}
 use Rattle.trace_engine.specs.Check.{fault_line}
 use Rattle.log_runs.specs.Explainable.{SeenAlike, IsExplainable, IsClocked, prefix}
 use Rattle.log_text.specs.Reading.{seen_of}

@@ -2,8 +2,8 @@
 ghost use Rattle.std.specs.Prelude.{◌≡◌, Ok, IfOk, Result};
 ghost use Rattle.history_check.specs.Claim.{claim_of};
 ghost use Rattle.history_check.specs.Observation.{Observation};
-ghost use Rattle.trace_format.specs.declared.fault.ReadFault.{ReadFault};
-ghost use Rattle.trace_format.specs.Texts.{trace_text};
+ghost use Rattle.trace_text.specs.declared.fault.ReadFault.{ReadFault};
+ghost use Rattle.trace_text.specs.Texts.{trace_text};
 ghost use Rattle.log_text.specs.Reading.{seen_of};
 ghost use Rattle.search_engine.specs.Findings.{is_memory, IsFinding};
 ghost use Rattle.search_engine.specs.Search.{IsAnswerTo, OutSearch};
@@ -16,7 +16,7 @@ use log_text::read_seen;
 use seq_memory::Entry;
 use std::alloc::{AllocError, Global};
 use std::io::{Write, sink};
-use trace_format::{ReadFault, ReadFaultKind, write_trace};
+use trace_text::{ReadFault, ReadFaultKind, write_trace};
 
 /// The exit status of a search that was given up.
 pub const LIMIT_STATUS: u8 = 3;

@@ -2,7 +2,7 @@
 ghost use Rattle.std.specs.Prelude.{◌≡◌, List, ℕ, IfOk, OnErr};
 ghost use Rattle.std.specs.Io.KnownBytes.{Consumes, IsAtEnd};
 
-use line_engine::EngineFault;
+use line_loop::EngineFault;
 use std::alloc::Global;
 use std::io::Read;
 

@@ -2,12 +2,12 @@
 ghost use Rattle.std.specs.Prelude.{◌≡◌, List, ℕ, codes};
 ghost use Rattle.history_check.specs.Claim.{claim_of};
 ghost use Rattle.history_check.specs.Observation.{Observation};
-ghost use Rattle.trace_format.specs.Tellable.{IsTellable};
+ghost use Rattle.trace_text.specs.Tellable.{IsTellable};
 ghost use Rattle.trace_engine.specs.Check.{out_check};
 ghost use Rattle.search_engine.specs.Search.{IsFoundIn};
 
 use trace_engine::laws::an_explained_trace_is_ok;
-use trace_format::told_trace_is_read_back;
+use trace_text::told_trace_is_read_back;
 
 /// `check` says `ok`, with status 0, to the text of what is found, if lines can tell its requests, n's, operations
 /// and replies.

@@ -7,7 +7,7 @@ use arrayvec::ArrayString;
 use operation_text::write_decimal;
 use std::alloc::{AllocError, Global};
 use trace_engine::write_fault;
-use trace_format::ReadFault;
+use trace_text::ReadFault;
 
 /// The text in a buffer that grows.
 fn owned(alloc: Global, text: &ArrayString<512>) -> Result<Vec<u8>, AllocError>

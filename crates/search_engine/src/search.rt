@@ -6,7 +6,7 @@ use crate::answering::{Outcome, find, outcome_of};
 use crate::input::read_rest;
 use crate::stages::Stages;
 use crate::telling::tell;
-use line_engine::{EngineFault, write_out};
+use line_loop::{EngineFault, write_out};
 use std::alloc::{AllocError, Global};
 use std::io::{Read, Write, sink};
 

@@ -3,17 +3,17 @@ use crate::answering::Finding;
 use crate::causes::cause_of;
 use crate::wording::tell_cause;
 use arrayvec::ArrayString;
+use diagnostics::{Reason, tell_long_line};
 use history_check::{Record, Trace};
 use history_search::contradiction;
-use line_engine::{MAX_LINE, without_return};
-use line_reasons::{Reason, tell_long_line};
+use line_loop::{MAX_LINE, without_return};
 use log_events::form_of;
 use memchr::memchr;
 use operation_text::write_reply;
-use reasons::{DueLine, TraceLines};
 use std::alloc::{AllocError, Global};
 use std::io::Write;
-use trace_format::ReadFault;
+use trace_diagnostics::{DueLine, TraceLines};
+use trace_text::ReadFault;
 
 /// The most other answers that are told beside one.
 const SHOWN: usize = 15;

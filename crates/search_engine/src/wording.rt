@@ -3,8 +3,8 @@ use crate::causes::Cause;
 use crate::effects::Word;
 use arrayvec::ArrayString;
 use operation_text::{write_bytes, write_hexadecimal};
-use reasons::TraceLines;
 use std::io::Write;
+use trace_diagnostics::TraceLines;
 
 /// The bytes of a word, and its address.
 fn word_text(word: &Word) -> ArrayString<512> {

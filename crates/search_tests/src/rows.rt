@@ -2,7 +2,7 @@
 use history_search::{Sought, search};
 use std::alloc::Global;
 use std::test::Fail;
-use trace_format::read_trace;
+use trace_text::read_trace;
 
 /// What a search says of a log: whether a history is found, else the prefix that has none, and the
 /// one that has one.

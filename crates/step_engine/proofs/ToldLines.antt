@@ -4,8 +4,8 @@ use Rattle.std.proofs.lemmas.List.{append-nil}
 use Rattle.history_check.specs.declared.Record.{Record}
 use Rattle.fabric_laws.specs.Fabric.{Fabric}
 use Rattle.script_text.specs.Texts.{told_text, settled_text}
-use Rattle.settling.specs.Rounds.{settlement, is_quiet}
-use Rattle.line_engine.specs.Run.{IsAnswer}
+use Rattle.fabric_settle.specs.Rounds.{settlement, is_quiet}
+use Rattle.line_loop.specs.Run.{IsAnswer}
 use Rattle.step_engine.specs.Step.{Stepping, counted, shown, told_lines, settled_lines, settles_telling, settles_traced, settled}
 
 -- one line more

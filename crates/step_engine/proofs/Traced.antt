@@ -22,13 +22,13 @@ use Rattle.fabric_core.specs.Answers.{answer}
 use Rattle.fabric_answers.specs.Told.{IsTold}
 use Rattle.fabric_answers.specs.New.{new_fabric, config_fault}
 use Rattle.operation_text.specs.Words.{words, is_skipped}
-use Rattle.trace_format.specs.Texts.{trace_text}
+use Rattle.trace_text.specs.Texts.{trace_text}
 use Rattle.script_text.specs.declared.line.Line.{Line}
 use Rattle.script_text.specs.declared.line.Line.TheVariants as lines
 use Rattle.script_text.specs.Forms.{line_of}
 use Rattle.script_text.specs.Names.{refusal_text}
-use Rattle.line_engine.specs.Lines.{lines_of, bare, said}
-use Rattle.line_engine.specs.Run.{Answer, Run as Output, with_answer, after_line, after_end, new_run}
+use Rattle.line_loop.specs.Lines.{lines_of, bare, said}
+use Rattle.line_loop.specs.Run.{Answer, Run as Output, with_answer, after_line, after_end, new_run}
 use Rattle.step_engine.specs.Script.{script_of, event_line, IsScript, Progress, progress, LineDoes, LinesDo, RunsThrough}
 use Rattle.step_engine.specs.Options.{traced}
 use Rattle.step_engine.specs.Step.{Stepping, nothing, counted, made, answered, refused, by_line, step_long_line, step_responses, claim_with, out_step_with}

@@ -13,15 +13,15 @@ use Rattle.fabric_core.specs.Kept.{records_of}
 use Rattle.fabric_core.specs.Answers.{answer}
 use Rattle.fabric_answers.specs.New.{new_fabric, config_fault}
 use Rattle.operation_text.specs.Words.{words, is_skipped}
-use Rattle.trace_format.specs.Texts.{trace_text}
+use Rattle.trace_text.specs.Texts.{trace_text}
 use Rattle.script_text.specs.declared.line.Line.{Line}
 use Rattle.script_text.specs.declared.line.Line.TheVariants as lines
 use Rattle.script_text.specs.Forms.{line_of}
 use Rattle.fabric_core.specs.Config.{fault_name}
 use Rattle.script_text.specs.Names.{refusal_text}
 use Rattle.script_text.specs.Texts.{seen_text, told_text, settled_text}
-use Rattle.settling.specs.Rounds.{Settling, settlement, is_quiet}
-use Rattle.line_engine.specs.Run.{Answer, Responses, Run, run_of}
+use Rattle.fabric_settle.specs.Rounds.{Settling, settlement, is_quiet}
+use Rattle.line_loop.specs.Run.{Answer, Responses, Run, run_of}
 use Rattle.step_engine.specs.declared.options.StepOptions.{StepOptions}
 use Rattle.step_engine.specs.Options.{plain}
 

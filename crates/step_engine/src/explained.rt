@@ -1,14 +1,14 @@
 //! Answers to scripts, with reasons beside them.
 ghost use Rattle.std.specs.Prelude.{◌≡◌, Some, IfOk, IfErr, OnOk, OnErr};
-ghost use Rattle.line_engine.specs.Run.{IsCaughtUp, IsWhole, IsPart};
-ghost use Rattle.line_reasons.specs.Told.{IsReasonTold, IsReasonBegun};
+ghost use Rattle.line_loop.specs.Run.{IsCaughtUp, IsWhole, IsPart};
+ghost use Rattle.diagnostics.specs.Told.{IsReasonTold, IsReasonBegun};
 ghost use Rattle.step_engine.specs.Step as spec;
 
 use crate::options::StepOptions;
 use crate::step::Stepper;
 use arrayvec::ArrayString;
-use line_engine::{EngineFault, Responder, run};
-use line_reasons::{tell_long_line, tell_misfit, tell_refusal};
+use diagnostics::{tell_long_line, tell_misfit, tell_refusal};
+use line_loop::{EngineFault, Responder, run};
 use script_text::{script_misfit, write_refusal};
 use std::alloc::{AllocError, Global};
 use std::io::{Read, Write};

@@ -8,8 +8,8 @@ ghost use Rattle.fabric_core.specs.declared.event.Event.{Event};
 ghost use Rattle.fabric_core.specs.Config.{IsNewWith};
 ghost use Rattle.fabric_core.specs.Runs.{Runs};
 ghost use Rattle.trace_engine.specs.Check.{out_check};
-ghost use Rattle.trace_format.specs.Tellable.{IsTellable};
-ghost use Rattle.trace_format.specs.Texts.{trace_text};
+ghost use Rattle.trace_text.specs.Tellable.{IsTellable};
+ghost use Rattle.trace_text.specs.Texts.{trace_text};
 ghost use Rattle.step_engine.specs.Options.{traced};
 ghost use Rattle.step_engine.specs.Script.{IsScript, Progress, RunsThrough};
 ghost use Rattle.step_engine.specs.Step.{claim_with, out_step, out_step_with};
@@ -18,7 +18,7 @@ use fabric_answers::laws::{a_configuration_has_one_answer, each_event_has_one_an
 use fabric_core::laws::{a_new_fabric_is_sound, each_event_keeps_it_sound};
 use fabric_laws::laws::the_trace_belongs;
 use trace_engine::laws::an_explained_trace_is_ok;
-use trace_format::told_trace_is_read_back;
+use trace_text::told_trace_is_read_back;
 
 /// Where each line of a script is an event that happens, or `settle`, or with `--keep-going` an event that is refused,
 /// its run with `--trace` writes the trace of what happened with the fabric's history, and ends with status 1 where an

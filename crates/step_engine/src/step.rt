@@ -7,7 +7,7 @@ ghost use Rattle.fabric_answers.specs.New.{new_fabric, config_fault};
 ghost use Rattle.fabric_core.specs.Config.{fault_name};
 ghost use Rattle.script_text.specs.Names.{refusal_text};
 ghost use Rattle.script_text.specs.Texts.{seen_text, settled_text};
-ghost use Rattle.line_engine.specs.Run.{IsAnswer, IsCaughtUp, IsWhole, IsPart};
+ghost use Rattle.line_loop.specs.Run.{IsAnswer, IsCaughtUp, IsWhole, IsPart};
 ghost use Rattle.step_engine.specs.Options.{plain};
 ghost use Rattle.step_engine.specs.Step as spec;
 ghost use Rattle.step_engine.specs.Step.{IsRecorded};
@@ -18,13 +18,13 @@ use crate::options::StepOptions;
 use arrayvec::ArrayString;
 use fabric_answers::laws::{a_configuration_has_one_answer, each_event_has_one_answer};
 use fabric_core::{Config, ConfigFault, Event, Fabric, Refusal, Seen};
+use fabric_settle::settle;
 use history_check::Record;
 use lane_core::LaneRefusal;
-use line_engine::{EngineFault, Responder};
+use line_loop::{EngineFault, Responder};
 use script_text::{
     Line, read_line, write_config_fault, write_refusal, write_seen, write_settled, write_told,
 };
-use settling::settle;
 use std::alloc::{AllocError, Global};
 use std::io::{Read, Write, sink};
 use std::marker::Model;

@@ -1,7 +1,7 @@
 //! A small responder over worked inputs, and over streams that fail.
 use crate::rows::{Row, all_right};
 use arrayvec::ArrayVec;
-use line_engine::{EngineFault, Responder, run, write_out};
+use line_loop::{EngineFault, Responder, run, write_out};
 use std::alloc::{AllocError, Global};
 use std::cell::Cell;
 use std::io;

@@ -3,7 +3,7 @@ use crate::rows::{Row, all_right};
 use history_check::{Trace, check};
 use seq_memory::Entry;
 use std::alloc::{AllocError, Global};
-use trace_format::{
+use trace_text::{
     ReadFault, ReadFaultKind, TraceReader, own_text_spells_trace, read_trace, write_trace,
 };
 

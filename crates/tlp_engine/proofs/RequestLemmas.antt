@@ -19,7 +19,7 @@ use Rattle.seq_memory.specs.History.{State}
 use Rattle.completer_core.specs.Serving.{after_serving, with_entry, request_entry}
 use Rattle.hex.specs.Hex.{decode_of}
 use Rattle.hex.specs.declared.error.FromHexError.{FromHexError}
-use Rattle.hex_line.specs.Line.{digits_of}
+use Rattle.hex_text.specs.Line.{digits_of}
 use Rattle.tlp_engine.specs.Tlp.{Device, requests_of, answer_request, answer_line, answer_bytes, answer_reading, fault}
 
 -- the operation of a request

@@ -22,9 +22,9 @@ use Rattle.seq_memory.specs.History.{State, bytes_of, contents, extent_of}
 use Rattle.completer_core.specs.Serving.{after_serving, with_entry, request_entry, bytes_after, completion_to, completion_over}
 use Rattle.hex.specs.Hex.{decode_of}
 use Rattle.hex.specs.declared.error.FromHexError.{FromHexError}
-use Rattle.hex_line.specs.Line.{digits_of}
-use Rattle.line_engine.specs.Lines.{lines_of, ended_lines, bare, said}
-use Rattle.line_engine.specs.Run.{Answer, Responses, Run, answer_to, with_answer, after_line, new_run, run_of, IsBeginning, IsWhole, IsPart, IsCaughtUp}
+use Rattle.hex_text.specs.Line.{digits_of}
+use Rattle.line_loop.specs.Lines.{lines_of, ended_lines, bare, said}
+use Rattle.line_loop.specs.Run.{Answer, Responses, Run, answer_to, with_answer, after_line, new_run, run_of, IsBeginning, IsWhole, IsPart, IsCaughtUp}
 use Rattle.tlp_engine.specs.Tlp.{answer_request, answer_packet, answer_reading, answer_bytes, answer_line, with_history, tlp_responses, new_state, out_tlp, requests_of, fault, fault_text, nothing, completion_text}
 use Rattle.tlp_engine.specs.Kept.{Kept, new_kept, after_request, without_history, kept_responses}
 

@@ -2,7 +2,7 @@
 use Rattle.std.specs.Prelude.{ℕ, ◌/◌, ◌+◌, List, replicate, slice_index, slice_set}
 use Rattle.completer_core.specs.Serving.{bytes_after, completion_over}
 use Rattle.tlp_core.specs.Packet.{Packet}
-use Rattle.line_engine.specs.Run.{Responses}
+use Rattle.line_loop.specs.Run.{Responses}
 use Rattle.tlp_engine.specs.Tlp.{Device, responses}
 
 pub record Kept : Type 0 where

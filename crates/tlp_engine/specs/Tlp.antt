@@ -12,8 +12,8 @@ use Rattle.tlp_core.specs.Operation.{is_completion}
 use Rattle.seq_memory.specs.declared.Entry.{Entry}
 use Rattle.seq_memory.specs.History.{State}
 use Rattle.completer_core.specs.Serving.{after_serving, completion_to}
-use Rattle.hex_line.specs.Line.{digits_of, spaced}
-use Rattle.line_engine.specs.Run.{Answer, Responses, Run, run_of}
+use Rattle.hex_text.specs.Line.{digits_of, spaced}
+use Rattle.line_loop.specs.Run.{Answer, Responses, Run, run_of}
 
 -- ---- texts
 

@@ -4,11 +4,11 @@ ghost use Rattle.std.specs.Fmt.{decimal};
 ghost use Rattle.arrayvec.specs.ArrayVec.{array_vec_len};
 ghost use Rattle.hex.specs.Hex.{encode_upper};
 ghost use Rattle.tlp_core.specs.Layout.{canonical};
-ghost use Rattle.hex_line.specs.Line.{spaced};
+ghost use Rattle.hex_text.specs.Line.{spaced};
 ghost use Rattle.tlp_engine.specs.Tlp.{fault_text};
 
 use arrayvec::ArrayVec;
-use hex_line::put_bytes;
+use hex_text::put_bytes;
 use tlp_core::{Tlp, TlpFault, encode};
 
 /// Adds the bytes.

@@ -3,15 +3,15 @@ ghost use Rattle.std.specs.Prelude.{◌≡◌, ◌/◌, ◌<◌, ◌++◌, ◌�
 ghost use Rattle.seq_memory.specs.Limits.{IsSize, IsBase, IsBlock};
 ghost use Rattle.tlp_core.specs.Faults.{reading};
 ghost use Rattle.tlp_core.specs.Operation.{is_completion};
-ghost use Rattle.line_engine.specs.Run.{IsAnswer, IsCaughtUp, IsWhole, IsPart};
+ghost use Rattle.line_loop.specs.Run.{IsAnswer, IsCaughtUp, IsWhole, IsPart};
 ghost use Rattle.tlp_engine.specs.Tlp.{new_state, out_tlp, tlp_responses, answer_request, answer_packet, answer_reading, fault_text, completion_text};
 ghost use Rattle.tlp_engine.specs.Kept.{new_kept, without_history, kept_responses};
 
 use crate::text::{put_fault, put_packet};
 use arrayvec::ArrayVec;
 use completer_core::answer;
-use hex_line::HexLine;
-use line_engine::{EngineFault, Responder, run};
+use hex_text::HexLine;
+use line_loop::{EngineFault, Responder, run};
 use seq_memory::laws::history_grows_by_steps;
 use std::alloc::{AllocError, Global};
 use std::io::{Read, Write};

@@ -3,14 +3,14 @@ use Rattle.std.proofs.Common.{◌≡◌, ◌∙◌, ℕ, Bool, true, false, List
 use Rattle.std.specs.Prelude.{nat_lt, IfSome, OnErr}
 use Rattle.std.specs.Io.KnownBytes.{Appends}
 use Rattle.history_check.specs.Claim.{Claim}
-use Rattle.line_engine.specs.Lines.{lines_of, bare, said}
-use Rattle.line_engine.specs.Run.{Run, with_answer, new_run, run_of, IsBeginning, IsWhole, IsPart}
-use Rattle.line_engine.specs.Run.{after_line as run_on}
-use Rattle.trace_format.specs.declared.fault.ReadFault.{ReadFault}
-use Rattle.trace_format.specs.Reading.{Reading, nothing_read, after_line, after_long_line, take_line, at_end}
-use Rattle.trace_format.specs.Rewriting.{Rewriting, nothing_rewritten, long_line_passed, text_at_end}
-use Rattle.trace_format.specs.Rewriting.{after_line as rewritten_line}
-use Rattle.trace_format.specs.Rewritten.{rewrite_line, text_of, RewritingIsReading}
+use Rattle.line_loop.specs.Lines.{lines_of, bare, said}
+use Rattle.line_loop.specs.Run.{Run, with_answer, new_run, run_of, IsBeginning, IsWhole, IsPart}
+use Rattle.line_loop.specs.Run.{after_line as run_on}
+use Rattle.trace_text.specs.declared.fault.ReadFault.{ReadFault}
+use Rattle.trace_text.specs.Reading.{Reading, nothing_read, after_line, after_long_line, take_line, at_end}
+use Rattle.trace_text.specs.Rewriting.{Rewriting, nothing_rewritten, long_line_passed, text_at_end}
+use Rattle.trace_text.specs.Rewriting.{after_line as rewritten_line}
+use Rattle.trace_text.specs.Rewritten.{rewrite_line, text_of, RewritingIsReading}
 use Rattle.trace_engine.specs.Check.{is_read}
 use Rattle.trace_engine.specs.Upgrade.{upgraded, upgrade_responses, out_upgrade}
 use Rattle.trace_engine.specs.Rewriter.{goes_on, told, rewriter_responses}

@@ -5,10 +5,10 @@ use Rattle.history_check.specs.declared.flaws.FlawKind.{FlawKind}
 pub use Rattle.flaw_places.specs.Places.{flaw_line}
 use Rattle.history_check.specs.Claim.{Claim}
 use Rattle.history_check.specs.Flaws.{first_flaw}
-use Rattle.trace_format.specs.declared.fault.ReadFault.{ReadFault}
-use Rattle.trace_format.specs.Names.{name_of as fault_name}
-use Rattle.trace_format.specs.Reading.{Reading, nothing_read, after_line, after_long_line, at_end}
-use Rattle.line_engine.specs.Run.{Answer, Responses, Run, run_of}
+use Rattle.trace_text.specs.declared.fault.ReadFault.{ReadFault}
+use Rattle.trace_text.specs.Names.{name_of as fault_name}
+use Rattle.trace_text.specs.Reading.{Reading, nothing_read, after_line, after_long_line, at_end}
+use Rattle.line_loop.specs.Run.{Answer, Responses, Run, run_of}
 
 -- a line is read, and nothing written
 abbrev pub is_read : Reading → Answer Reading

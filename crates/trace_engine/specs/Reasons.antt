@@ -3,9 +3,9 @@ use Rattle.std.specs.Prelude.{ℕ, ◌≡◌, length, Option, Some, None}
 use Rattle.history_check.specs.declared.flaws.FlawKind.{FlawKind}
 use Rattle.history_check.specs.Claim.{Claim}
 use Rattle.history_check.specs.Flaws.{first_flaw}
-use Rattle.trace_format.specs.declared.fault.ReadFault.{ReadFault}
-use Rattle.trace_format.specs.Reading.{Reading}
-use Rattle.reasons.specs.Told.{Telling, Numbered, line_of_flaw}
+use Rattle.trace_text.specs.declared.fault.ReadFault.{ReadFault}
+use Rattle.trace_text.specs.Reading.{Reading}
+use Rattle.trace_diagnostics.specs.Told.{Telling, Numbered, line_of_flaw}
 
 abbrev pub line_of_fault : Option ReadFault → Option ℕ
 line_of_fault None = None

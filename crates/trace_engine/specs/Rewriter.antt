@@ -1,8 +1,8 @@
 -- What `upgrade` answers while it keeps the text that it is to write in place of records and entries.
 use Rattle.std.specs.Prelude.{ℕ, List, [], ◌∷◌, ◌++◌, true, false, Result, Ok, Err}
-use Rattle.trace_format.specs.declared.fault.ReadFault.{ReadFault}
-use Rattle.trace_format.specs.Rewriting.{Rewriting, nothing_rewritten, after_line, long_line_passed, text_at_end}
-use Rattle.line_engine.specs.Run.{Answer, Responses}
+use Rattle.trace_text.specs.declared.fault.ReadFault.{ReadFault}
+use Rattle.trace_text.specs.Rewriting.{Rewriting, nothing_rewritten, after_line, long_line_passed, text_at_end}
+use Rattle.line_loop.specs.Run.{Answer, Responses}
 use Rattle.trace_engine.specs.Check.{fault_line}
 
 abbrev pub goes_on : Rewriting → Answer Rewriting

@@ -1,10 +1,10 @@
 -- What `upgrade` answers to the text of a trace.
 use Rattle.std.specs.Prelude.{ℕ, List, true, false, Result, Ok, Err}
 use Rattle.history_check.specs.Claim.{Claim}
-use Rattle.trace_format.specs.declared.fault.ReadFault.{ReadFault}
-use Rattle.trace_format.specs.Reading.{Reading, nothing_read, after_line, after_long_line, at_end}
-use Rattle.trace_format.specs.Texts.{trace_text}
-use Rattle.line_engine.specs.Run.{Answer, Responses, Run, run_of}
+use Rattle.trace_text.specs.declared.fault.ReadFault.{ReadFault}
+use Rattle.trace_text.specs.Reading.{Reading, nothing_read, after_line, after_long_line, at_end}
+use Rattle.trace_text.specs.Texts.{trace_text}
+use Rattle.line_loop.specs.Run.{Answer, Responses, Run, run_of}
 use Rattle.trace_engine.specs.Check.{is_read, concludes, fault_line}
 
 -- the text in the second version, whether or not the history explains the trace

@@ -2,9 +2,9 @@
 ghost use Rattle.std.specs.Prelude.{◌≡◌, ◌++◌, ◌∷◌, [], true, false, IfOk, IfErr, OnOk, OnErr};
 ghost use Rattle.history_check.specs.Claim.{claim_of};
 ghost use Rattle.history_check.specs.Flaws.{first_flaw};
-ghost use Rattle.trace_format.specs.Reading.{nothing_read};
-ghost use Rattle.line_engine.specs.Run.{IsAnswer, IsWhole, IsPart};
-ghost use Rattle.line_reasons.specs.Told.{IsReasonTold, IsReasonBegun};
+ghost use Rattle.trace_text.specs.Reading.{nothing_read};
+ghost use Rattle.line_loop.specs.Run.{IsAnswer, IsWhole, IsPart};
+ghost use Rattle.diagnostics.specs.Told.{IsReasonTold, IsReasonBegun};
 ghost use Rattle.trace_engine.specs.Check.{flaw_line, judged, out_check};
 ghost use Rattle.trace_engine.specs.Reasons.{flawed_line};
 
@@ -12,12 +12,12 @@ use crate::traces::{TraceInput, tell_fault};
 use arrayvec::ArrayString;
 use flaw_places::write_flaw;
 use history_check::{Flaw, FlawKind, Trace, check};
-use line_engine::{EngineFault, Responder, run};
-use reasons::{TraceLines, TraceReasons};
+use line_loop::{EngineFault, Responder, run};
 use seq_memory::Entry;
 use std::alloc::{AllocError, Global};
 use std::io::{Read, Write, sink};
 use std::marker::Model;
+use trace_diagnostics::{TraceLines, TraceReasons};
 
 /// Adds the line of a flaw.
 fn tell_flaw(flaw: Flaw, out: &mut Vec<u8>) -> Result<bool, AllocError>
@@ -70,7 +70,7 @@ struct Checker<E: Write> {
 }
 
 impl<E: Write> Model for Checker<E> {
-    ghost use Rattle.trace_format.specs.Reading.{Reading};
+    ghost use Rattle.trace_text.specs.Reading.{Reading};
 
     ghost Value = { Reading };
 

@@ -5,7 +5,7 @@ ghost use Rattle.trace_engine.specs.Check.{fault_line};
 
 use arrayvec::ArrayString;
 use operation_text::write_decimal;
-use trace_format::ReadFault;
+use trace_text::ReadFault;
 
 /// Adds `fault`, the number of the line that can't be read and the fault's name, at most 34 bytes.
 pub fn write_fault(fault: ReadFault, out: &mut ArrayString<512>)

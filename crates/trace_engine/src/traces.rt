@@ -1,21 +1,21 @@
 //! What the subcommands that read a trace share.
 ghost use Rattle.std.specs.Prelude.{◌≡◌, ◌++◌, ◌∷◌, [], true, false, IfOk, IfErr, OnErr, OnOk, Ok, Err};
 ghost use Rattle.history_check.specs.Claim.{claim_of};
-ghost use Rattle.trace_format.specs.Texts.{trace_text};
-ghost use Rattle.trace_format.specs.Reading.{nothing_read, after_line, after_long_line, at_end};
+ghost use Rattle.trace_text.specs.Texts.{trace_text};
+ghost use Rattle.trace_text.specs.Reading.{nothing_read, after_line, after_long_line, at_end};
 ghost use Rattle.trace_engine.specs.Check.{fault_line};
 ghost use Rattle.trace_engine.specs.Reasons.{line_of_fault};
 
 use crate::lines::write_fault;
 use arrayvec::ArrayString;
 use history_check::Trace;
-use reasons::TraceReasons;
 use seq_memory::Entry;
 use std::alloc::{AllocError, Global};
 use std::io::Write;
 use std::marker::Model;
 use std::mem;
-use trace_format::{ReadFault, TraceReader, write_trace};
+use trace_diagnostics::TraceReasons;
+use trace_text::{ReadFault, TraceReader, write_trace};
 
 /// The number of the line that can't be read, if there is one.
 pub(crate) fn line_of_fault(fault: Option<ReadFault>) -> Option<u64>
@@ -37,7 +37,7 @@ pub struct TraceInput<E: Write> {
 }
 
 impl<E: Write> Model for TraceInput<E> {
-    ghost use Rattle.trace_format.specs.Reading.{Reading};
+    ghost use Rattle.trace_text.specs.Reading.{Reading};
     ghost use Rattle.trace_engine.specs.Reasons.{Agrees};
 
     ghost Value = { Reading };

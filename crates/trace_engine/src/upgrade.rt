@@ -1,17 +1,17 @@
 //! The subcommand `upgrade`: a trace in the second version of its text.
 ghost use Rattle.std.specs.Prelude.{◌≡◌, IfOk, IfErr, OnErr, Ok, Err};
-ghost use Rattle.trace_format.specs.Rewriting.{nothing_rewritten, text_at_end};
-ghost use Rattle.line_engine.specs.Run.{IsWhole, IsPart};
+ghost use Rattle.trace_text.specs.Rewriting.{nothing_rewritten, text_at_end};
+ghost use Rattle.line_loop.specs.Run.{IsWhole, IsPart};
 ghost use Rattle.trace_engine.specs.Upgrade.{out_upgrade};
 
 use crate::traces::{hand_over, line_of_fault, tell_fault};
-use line_engine::{EngineFault, Responder, run};
-use reasons::TraceReasons;
+use line_loop::{EngineFault, Responder, run};
 use std::alloc::{AllocError, Global};
 use std::io::{Read, Write, sink};
 use std::marker::Model;
 use std::mem;
-use trace_format::{ReadFault, TraceRewriter, a_rewriting_is_a_reading};
+use trace_diagnostics::TraceReasons;
+use trace_text::{ReadFault, TraceRewriter, a_rewriting_is_a_reading};
 
 /// A trace that is written line by line as it is read, and the reasons that are told of it. The text is
 /// handed on at the end: behind a fault nothing of it counts.
@@ -23,7 +23,7 @@ struct Upgrader<E: Write> {
 }
 
 impl<E: Write> Model for Upgrader<E> {
-    ghost use Rattle.trace_format.specs.Rewriting.{Rewriting};
+    ghost use Rattle.trace_text.specs.Rewriting.{Rewriting};
     ghost use Rattle.trace_engine.specs.Reasons.{Agrees};
 
     ghost Value = { Rewriting };

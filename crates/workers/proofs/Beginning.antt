@@ -8,12 +8,12 @@ use Rattle.fabric_core.specs.declared.config.Config.{Config}
 use Rattle.fabric_core.specs.Config.{IsNewWith}
 use Rattle.hall_laws.specs.Rule.{HasConfig}
 use Rattle.hall_core.specs.Views.{SeatView, HallView, AreNewSeats}
-use Rattle.run_report.specs.declared.halt.RunHalt.{RunHalt}
-use Rattle.run_report.specs.declared.plan.RunPlan.{RunPlan}
-use Rattle.run_report.specs.declared.report.Report.{Report}
+use Rattle.worker_report.specs.declared.halt.RunHalt.{RunHalt}
+use Rattle.worker_report.specs.declared.plan.RunPlan.{RunPlan}
+use Rattle.worker_report.specs.declared.report.Report.{Report}
 use Rattle.tlp_core.specs.declared.operation.Op.{Op}
 use Rattle.history_check.specs.declared.Record.{Record}
-use Rattle.run_report.specs.Halts.{IsPlan, IsEndBy, IsCause, halt_of}
+use Rattle.worker_report.specs.Halts.{IsPlan, IsEndBy, IsCause, halt_of}
 use Rattle.worker_turns.specs.declared.stop.Stop.{Stop}
 use Rattle.worker_turns.specs.declared.stop.Stop.TheVariants as stops
 use Rattle.workers.specs.Running.{AreUnusedSeats, AreWorkSeats, AreDone}

@@ -16,9 +16,9 @@ use Rattle.hall_core.specs.Views.{SeatView, HallView, IsSeatOf}
 use Rattle.recorder.specs.declared.laws.Pushed.{Pushed}
 use Rattle.recorder.specs.declared.laws.Taken.{Taken}
 use Rattle.recorder.specs.Rule.{records_by, IsWhole}
-use Rattle.requester_worker.specs.declared.requester.Ended.{Ended}
+use Rattle.worker_requester.specs.declared.requester.Ended.{Ended}
 use Rattle.workers.specs.declared.threads.Keeps.{Keeps}
-use Rattle.requester_worker.specs.Following.{IsUnusedSeat, Finishes}
+use Rattle.worker_requester.specs.Following.{IsUnusedSeat, Finishes}
 use Rattle.workers.specs.Running.{AreUnusedSeats, AreSeats, AreHandles, AreFinished, AreDone}
 
 pub seats_next : (hall : HallView) (i : ℕ) (ss : List SeatView) → AreUnusedSeats hall i ss → 0 < length ss → AreUnusedSeats hall (i + 1) (remove ss 0)

@@ -8,9 +8,9 @@ use Rattle.history_check.specs.declared.Record.{Record}
 use Rattle.history_check.specs.Trace.{submissions}
 use Rattle.recorder.specs.declared.laws.Pushed.{Pushed}
 use Rattle.hall_core.specs.Views.{SeatView, HallView, IsSeatOf}
-use Rattle.requester_worker.specs.declared.requester.Ended.{Ended}
+use Rattle.worker_requester.specs.declared.requester.Ended.{Ended}
 use Rattle.workers.specs.declared.threads.Keeps.{Keeps}
-use Rattle.requester_worker.specs.Following.{IsUnusedSeat, IsAnswered, Finishes}
+use Rattle.worker_requester.specs.Following.{IsUnusedSeat, IsAnswered, Finishes}
 
 -- the unused seats of that hall for the requesters from that number on
 abbrev pub AreUnusedSeats : HallView → ℕ → List SeatView → Type 0

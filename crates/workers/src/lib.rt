@@ -11,6 +11,6 @@ mod running;
 mod threads;
 
 pub use jobs::{Job, Worker};
-pub use run_report::{Report, RunHalt, RunPlan};
 pub use running::{run_workers, run_workers_counting};
+pub use worker_report::{Report, RunHalt, RunPlan};
 pub use worker_turns::{Gate, OpenGate};

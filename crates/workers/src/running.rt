@@ -4,20 +4,20 @@ ghost use Rattle.history_check.specs.Claim.{claim_of};
 ghost use Rattle.history_check.specs.Trace.{Explains};
 ghost use Rattle.hall_laws.specs.Rule.{HasConfig};
 ghost use Rattle.recorder.specs.Rule.{unbegun};
-ghost use Rattle.run_report.specs.Halts.{IsPlan, IsOfMemory, IsCause};
+ghost use Rattle.worker_report.specs.Halts.{IsPlan, IsOfMemory, IsCause};
 ghost use Rattle.workers.specs.Running.{AreUnusedSeats, AreSeats, AreWorkSeats, AreDone};
 
 use crate::threads::{Gathered, Run, drive};
 use fault_plan::Plan;
 use hall_core::{Hall, ReqSeat, WorkSeat};
 use recorder::{Recorder, Taker};
-use run_report::{Report, RunHalt, RunPlan, fabric_of, report_of};
 use std::alloc::{AllocError, Global};
 use std::sync::Wait;
 use std::sync::atomic::AtomicU64;
 use std::thread;
 use std::thread::Threads;
 use tlp_core::Op;
+use worker_report::{Report, RunHalt, RunPlan, fabric_of, report_of};
 use worker_turns::{Gate, Shared};
 
 /// Runs all threads, each joined at the return.

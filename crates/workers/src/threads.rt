@@ -2,7 +2,7 @@
 ghost use Rattle.std.specs.Prelude.{◌≡◌, ◌+◌, ◌-◌, ◌<◌, [], ◌++◌, IfOk, OnOk, IsTrue, vec_len, length, map};
 ghost use Rattle.recorder.specs.Rule.{unbegun, IsWhole};
 ghost use Rattle.hall_core.specs.Views.{IsSeatOf};
-ghost use Rattle.requester_worker.specs.Following.{IsUnusedSeat, Follows, Finishes};
+ghost use Rattle.worker_requester.specs.Following.{IsUnusedSeat, Follows, Finishes};
 ghost use Rattle.workers.specs.Running.{AreUnusedSeats, AreSeats, AreHandles, AreFinished, AreDone, AreWorkSeats};
 
 use crate::jobs::{Job, Worker};
@@ -11,13 +11,13 @@ use fault_plan::Plan;
 use hall_core::{Hall, ReqSeat, WorkSeat};
 use history_check::Record;
 use recorder::{Pusher, Recorder, Taker};
-use requester_worker::{Ended, Requester};
 use std::alloc::{AllocError, Global};
 use std::sync::Wait;
 use std::sync::atomic::{AtomicU64, Ordering};
 use std::thread;
 use std::thread::{Promise, PromisedHandle, Scope, Threads};
 use tlp_core::Op;
+use worker_requester::{Ended, Requester};
 use worker_turns::{Gate, Shared, Stop, Turns};
 
 /// What all threads are lent.
@@ -42,7 +42,7 @@ pub struct Keeps<'a> {
 }
 
 impl<'a> Promise<Ended> for Keeps<'a> {
-    ghost use Rattle.requester_worker.specs.Following.{Finishes};
+    ghost use Rattle.worker_requester.specs.Following.{Finishes};
     ghost use Rattle.std.specs.Prelude.{◌≡◌, IsTrue};
 
     ghost kept_by = { λ p r. IsSeatOf p.hall.now r.seat × (r.pusher.queue ≡ p.recorder.now) × (r.pusher.pushed.requester ≡ p.requester) × (IsTrue r.whole → Finishes p.script.now r.pusher.pushed) };

@@ -1,7 +1,7 @@
 use Rattle.std.proofs.Common.{◌∙◌, List, ap}
 use Rattle.std.specs.Prelude.{fold}
 use Rattle.std.proofs.lemmas.Result.{on_ok_weaker}
-use Rattle.settling.specs.declared.attempts.Attempt.{Attempt}
+use Rattle.fabric_settle.specs.declared.attempts.Attempt.{Attempt}
 use Rattle.chart_engine.specs.Settled.{at, attempted}
 use Rattle.chart_engine.proofs.RoundLemmas.{lane_turn_is}
 use Rattle.chart_engine.proofs.turns.lane_turn.Goals as goal

@@ -1,6 +1,6 @@
 use Rattle.std.proofs.Common.{◌∙◌, sym, ap}
 use Rattle.fabric_core.specs.declared.event.Event.{Event}
-use Rattle.settling.specs.Rounds.{is_move}
+use Rattle.fabric_settle.specs.Rounds.{is_move}
 use Rattle.link_chart.specs.ChartView.{charted}
 use Rattle.chart_engine.proofs.RoundLemmas.{happened, goes_on, stays_now, refused_goes, moved_before, moved_now}
 use Rattle.chart_engine.proofs.turns.once.Goals as goal

@@ -2,7 +2,7 @@ use Rattle.std.proofs.Common.{◌≡◌, ◌∙◌, ℕ, ◌<◌, false, length,
 use Rattle.std.specs.Prelude.{fold}
 use Rattle.std.proofs.lemmas.Result.{on_ok_weaker}
 use Rattle.fabric_core.specs.declared.event.LaneName.TheVariants as lanes
-use Rattle.settling.specs.Rounds.{all_lanes, after_lanes}
+use Rattle.fabric_settle.specs.Rounds.{all_lanes, after_lanes}
 use Rattle.chart_engine.specs.Settled.{Trail, at, lane_turn, attempted}
 use Rattle.chart_engine.proofs.RoundLemmas.{fold_next, round_is}
 use Rattle.chart_engine.proofs.turns.round.Goals as goal

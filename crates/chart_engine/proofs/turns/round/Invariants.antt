@@ -1,6 +1,6 @@
 use Rattle.std.proofs.Common.{◌≡◌, false, take}
 use Rattle.std.specs.Prelude.{fold}
-use Rattle.settling.specs.Rounds.{all_lanes}
+use Rattle.fabric_settle.specs.Rounds.{all_lanes}
 use Rattle.chart_engine.specs.Settled.{at, lane_turn}
 use Rattle.chart_engine.proofs.turns.round.Given as goal
 

@@ -1,5 +1,5 @@
 use Rattle.std.proofs.Common.{◌≡◌, ◌∙◌, sym, ap}
-use Rattle.settling.specs.declared.attempts.Attempt.{Attempt}
+use Rattle.fabric_settle.specs.declared.attempts.Attempt.{Attempt}
 use Rattle.chart_engine.specs.Settled.{at, attempted}
 use Rattle.chart_engine.proofs.RoundLemmas.{fold_next}
 use Rattle.chart_engine.proofs.turns.try_each.Goals.{in-Once+in_ok-once-in-Once, in-All+in_ok-all-in-All}

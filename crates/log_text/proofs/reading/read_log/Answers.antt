@@ -2,9 +2,9 @@ use Rattle.std.proofs.Common.{true, false, ◌≡◌, ◌∙◌, ◌++◌, ◌+�
 use Rattle.std.specs.Prelude.{◌==◌, IfOk, IfErr}
 use Rattle.std.proofs.lemmas.Bool.{eqb-true}
 use Rattle.std.proofs.lemmas.Grind.{common_steps}
-use Rattle.line_engine.specs.Lines.{lines_of}
-use Rattle.line_engine.specs.LineFacts.{none-before, none-at-all}
-use Rattle.trace_format.specs.declared.fault.ReadFault.{ReadFault}
+use Rattle.line_loop.specs.Lines.{lines_of}
+use Rattle.line_loop.specs.LineFacts.{none-before, none-at-all}
+use Rattle.trace_text.specs.declared.fault.ReadFault.{ReadFault}
 use Rattle.log_text.specs.Reading.{LogReading, reading_of, Tells, at_end}
 use Rattle.log_text.proofs.LineLemmas.{reading_on, on-last, on-none, cut-at, Stands, stands-new, fed, whole, refused, stopped, adds-feed, adds-last, lines-feed, lines-last}
 use Rattle.log_text.proofs.reading.read_log.Goals.{then-not-is_empty+in-Ok-take_last, else-not-is_empty}

@@ -1,9 +1,9 @@
 use Rattle.std.proofs.Common.{◌≡◌, ℕ, List, Option, Result, Ok, Err, IfOk, OnErr, sym, subst, inl, inr}
 use Rattle.counting.specs.declared.Counting.{Counting}
-use Rattle.line_engine.specs.declared.fault.EngineFault.{EngineFault}
-use Rattle.command_line.specs.declared.words.Request.{Request}
+use Rattle.line_loop.specs.declared.fault.EngineFault.{EngineFault}
+use Rattle.cli_words.specs.declared.words.Request.{Request}
 use Rattle.run_engine.specs.Text.{IsWhole, IsPart, IsRan}
-use Rattle.commands.specs.Command.{IsDone}
+use Rattle.cli_commands.specs.Command.{IsDone}
 use Rattle.pciex.proofs.command.command.Goals as goal
 
 -- a run, whole or stopped

@@ -1,5 +1,5 @@
 use Rattle.std.proofs.Common.{◌∙◌, ℕ, ◌-◌, ◌∷◌, ◌++◌, [], ap, refl, inl, inr, subst, arith, Result, Ok, Err}
-use Rattle.trace_format.specs.declared.fault.ReadFault.{ReadFault}
+use Rattle.trace_text.specs.declared.fault.ReadFault.{ReadFault}
 use Rattle.history_check.specs.Observation.{Observation}
 use Rattle.history_search.specs.Prefixes.{IsUnexplained}
 use Rattle.search_engine.specs.declared.answering.Finding.{Finding}

@@ -1,8 +1,8 @@
 use Rattle.std.proofs.Common.{◌≡◌, ◌∙◌, ap, ℕ, List, Ok}
 use Rattle.history_check.specs.Observation.{Observation}
 use Rattle.history_check.specs.Claim.{claim_of}
-use Rattle.trace_format.specs.Reading.{read_of}
-use Rattle.trace_format.specs.Tellable.{IsTellable}
+use Rattle.trace_text.specs.Reading.{read_of}
+use Rattle.trace_text.specs.Tellable.{IsTellable}
 use Rattle.search_engine.specs.Search.{IsFoundIn}
 use Rattle.search_engine.proofs.laws.what_is_found_is_ok.Goals as goal
 

@@ -1,5 +1,5 @@
 use Rattle.std.proofs.Common.{ℕ, OnOk, OnErr, subst}
-use Rattle.line_reasons.specs.Told.{IsReasonToldAt, IsReasonBegunAt}
+use Rattle.diagnostics.specs.Told.{IsReasonToldAt, IsReasonBegunAt}
 use Rattle.step_engine.proofs.explained.explain.Goals as goal
 
 pub returns-in_default-clause-errors : goal.returns-in_default-clause-errors

@@ -5,8 +5,8 @@ use Rattle.fabric_core.specs.declared.config.Config.{Config}
 use Rattle.fabric_core.specs.declared.event.Event.{Event}
 use Rattle.fabric_core.specs.Config.{IsNewWith}
 use Rattle.fabric_core.specs.Runs.{Runs}
-use Rattle.trace_format.specs.Reading.{read_of}
-use Rattle.trace_format.specs.Tellable.{IsTellable}
+use Rattle.trace_text.specs.Reading.{read_of}
+use Rattle.trace_text.specs.Tellable.{IsTellable}
 use Rattle.step_engine.specs.Script.{IsScript}
 use Rattle.step_engine.specs.Step.{claim_with, out_step}
 use Rattle.step_engine.proofs.laws.a_traced_script_is_ok.Goals as goal

@@ -1,5 +1,5 @@
 use Rattle.std.proofs.Common.{ap}
-use Rattle.line_engine.specs.Run.{Run}
+use Rattle.line_loop.specs.Run.{Run}
 use Rattle.step_engine.specs.Step.{Stepping}
 use Rattle.step_engine.proofs.Traced.{Laws, Answers, is_told, is_explained}
 use Rattle.step_engine.proofs.laws.what_a_script_does_is_explained.Goals as goal

@@ -1,6 +1,6 @@
 use Rattle.std.proofs.Common.{◌≡◌, ◌∙◌, ap, Bool, ℕ, List, Ok}
-use Rattle.trace_format.specs.Reading.{read_of}
-use Rattle.trace_format.specs.Tellable.{IsTellable}
+use Rattle.trace_text.specs.Reading.{read_of}
+use Rattle.trace_text.specs.Tellable.{IsTellable}
 use Rattle.step_engine.specs.Options.{traced}
 use Rattle.step_engine.specs.Script.{Progress, RunsThrough}
 use Rattle.step_engine.specs.Step.{claim_with, out_step_with}

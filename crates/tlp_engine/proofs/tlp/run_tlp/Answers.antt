@@ -2,7 +2,7 @@ use Rattle.std.proofs.Common.{ℕ, List, [], Option, Some, None, Result, Ok, Err
 use Rattle.std.proofs.lemmas.List.{append-nil}
 use Rattle.std.proofs.lemmas.Result.{err_from_is_err_and}
 use Rattle.std.specs.Io.KnownBytes.{Appends, Consumes}
-use Rattle.line_engine.specs.Run.{Run, IsBeginning, IsPart}
+use Rattle.line_loop.specs.Run.{Run, IsBeginning, IsPart}
 use Rattle.tlp_engine.specs.Tlp.{out_tlp}
 use Rattle.std.proofs.lemmas.Result.{IfOk-weaker, IfErr-weaker}
 use Rattle.tlp_engine.proofs.Simulation.{same-runs, whole, part, caught-up}

@@ -1,5 +1,5 @@
 use Rattle.std.proofs.Common.{ap, sym, subst, length, arith}
-use Rattle.run_report.specs.Halts.{IsCause}
+use Rattle.worker_report.specs.Halts.{IsCause}
 use Rattle.workers.proofs.Beginning.{first_seats, work_seats, stopped}
 use Rattle.workers.proofs.running.run_workers_counting.Goals as goal
 

@@ -1,7 +1,7 @@
 use Rattle.std.proofs.Common.{◌+◌, ◌++◌, ◌∷◌, [], ◌∙◌, true≢false, map, drop, sym, subst, ap, refl, append-nil, append_assoc, rules, arith}
 use Rattle.std.proofs.lemmas.List.{length-map}
 use Rattle.hall_core.specs.Views.{IsSeatOf}
-use Rattle.requester_worker.specs.Following.{Finishes}
+use Rattle.worker_requester.specs.Following.{Finishes}
 use Rattle.workers.specs.Running.{AreSeats, AreHandles}
 use Rattle.workers.proofs.Rows.{seats_more, split_at, finished_step, handles_length, items_of}
 use Rattle.workers.proofs.threads.join_all.Goals.{then-whole, else-whole}

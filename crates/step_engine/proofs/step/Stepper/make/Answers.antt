@@ -3,7 +3,7 @@ use Rattle.std.specs.Prelude.{is_some}
 use Rattle.std.proofs.lemmas.List.{append-nil}
 use Rattle.fabric_answers.specs.New.{new_fabric, config_fault}
 use Rattle.fabric_laws.specs.Fabric.{Fabric}
-use Rattle.line_engine.specs.Run.{IsAnswer}
+use Rattle.line_loop.specs.Run.{IsAnswer}
 use Rattle.step_engine.specs.Step.{Stepping, next_line, made, made_once}
 use Rattle.step_engine.proofs.step.Stepper.make.Goals as goal
 

@@ -1,7 +1,7 @@
 use Rattle.std.proofs.Common.{◌∙◌, IfOk, List, subst, ap}
 use Rattle.history_check.specs.declared.Record.{Record}
-use Rattle.settling.specs.Rounds.{settlement}
-use Rattle.line_engine.specs.Run.{IsAnswer}
+use Rattle.fabric_settle.specs.Rounds.{settlement}
+use Rattle.line_loop.specs.Run.{IsAnswer}
 use Rattle.step_engine.specs.Step.{Stepping, settled}
 use Rattle.step_engine.proofs.ToldLines.{told_settled}
 use Rattle.step_engine.proofs.step.Stepper.settle.Goals as goal

@@ -1,8 +1,8 @@
 use Rattle.std.proofs.Common.{◌≡◌, ◌≢◌, ◌∙◌, ◌==◌, length, slice_index, false, sym, ap, refl, subst, Ok}
 use Rattle.std.proofs.lemmas.Result.{IfOk-weaker}
 use Rattle.tlp_core.specs.Faults.{reading}
-use Rattle.line_engine.specs.Run.{Answer, IsAnswer}
-use Rattle.hex_line.specs.Line.{digits_of}
+use Rattle.line_loop.specs.Run.{Answer, IsAnswer}
+use Rattle.hex_text.specs.Line.{digits_of}
 use Rattle.tlp_engine.specs.Tlp.{answer_line, answer_reading}
 use Rattle.tlp_engine.specs.Kept.{Kept, without_history}
 use Rattle.tlp_engine.proofs.RequestLemmas.{line-read}

@@ -1,2 +1,0 @@
-pub mod Call
-pub use Rattle.caller_room.specs.Room

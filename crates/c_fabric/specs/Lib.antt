@@ -1,0 +1,3 @@
+pub mod Session
+pub mod Slot
+pub use Rattle.c_buffer.specs.Room

@@ -1,0 +1,22 @@
+//! A fabric and its trace.
+use fabric_core::Fabric;
+use history_check::Record;
+use std::marker::Model;
+
+/// A fabric, and the records of its trace where it keeps one.
+#[derive(Drop)]
+pub struct Session {
+    pub(crate) fabric: Fabric,
+    pub(crate) is_traced: bool,
+    pub(crate) records: Vec<Record>,
+}
+
+impl Model for Session {
+    ghost use Rattle.c_fabric.specs.Session.{Session, IsSession};
+
+    ghost Value = { Session };
+
+    ghost view = { λ s. record { fabric = s.fabric; is_traced = s.is_traced; records = s.records.items } };
+
+    ghost invariant = { λ s. IsSession (record { fabric = s.fabric; is_traced = s.is_traced; records = s.records.items }) };
+}

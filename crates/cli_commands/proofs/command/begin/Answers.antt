@@ -1,0 +1,64 @@
+use Rattle.std.proofs.Common.{◌≡◌, ◌∙◌, List, ℕ, Option, Result, Ok, Err, IfOk, OnOk, OnErr, sym, subst, inl, inr, refl}
+use Rattle.line_loop.specs.declared.fault.EngineFault.{EngineFault}
+use Rattle.storm.specs.declared.Storm.{Storm}
+use Rattle.generate_engine.specs.Script.{IsWhole as IsWholeScript, IsPart as IsPartOfScript}
+use Rattle.line_loop.specs.Run.{Run, IsRun, IsWhole, IsPart as IsPartOf}
+use Rattle.search_engine.specs.Search.{IsWhole as IsWholeSearch, IsPart as IsPartOfSearch, IsSearched}
+use Rattle.cli_commands.specs.Command.{IsGenerated}
+use Rattle.cli_commands.proofs.command.begin.Goals as goal
+
+-- an engine's run, whole or stopped
+run_done : {S : Type 0} (run : List ℕ → Run S) (r : Result ℕ EngineFault) (input rest out out' : Option (List ℕ)) (exit : ℕ)
+    → IfOk r (λ status. exit ≡ status) → OnErr r (exit ≡ 1)
+    → IfOk r (IsWhole run input rest out out') → OnErr r (IsPartOf run input rest out out') → IsRun run input rest out out' exit
+run_done run (Ok status) input rest out out' exit ok err whole part = inl (subst (λ (n : ℕ). IsWhole run input rest out out' n) (sym ok) whole)
+run_done run (Err fault) input rest out out' exit ok err whole part = inr (err, part)
+
+-- a script, whole or stopped
+generated : (s : Storm) (r : Result ℕ EngineFault) (out out' : Option (List ℕ)) (exit : ℕ) → IfOk r (λ status. exit ≡ status) → OnErr r (exit ≡ 1)
+    → IfOk r (λ status. status ≡ 0) → OnOk r (IsWholeScript s out out') → OnErr r (IsPartOfScript s out out') → IsGenerated s out out' exit
+generated s (Ok status) out out' exit ok err is whole part = inl (ok ∙ is, whole)
+generated s (Err fault) out out' exit ok err is whole part = inr (err, part)
+
+-- a search, whole or stopped
+searched : (limit : ℕ) (r : Result ℕ EngineFault) (input rest out out' : Option (List ℕ)) (exit : ℕ)
+    → IfOk r (λ status. exit ≡ status) → OnErr r (exit ≡ 1)
+    → IfOk r (IsWholeSearch limit input rest out out') → OnErr r (IsPartOfSearch limit input rest out out') → IsSearched limit input rest out out' exit
+searched limit (Ok status) input rest out out' exit ok err whole part = inl (subst (λ (n : ℕ). IsWholeSearch limit input rest out out' n) (sym ok) whole)
+searched limit (Err fault) input rest out out' exit ok err whole part = inr (err, part)
+
+pub returns-in-Tlp : goal.returns-in-Tlp
+returns-in-Tlp g c = record {
+  begun = rw c.in-Tlp.is (run_done _ c.run_tlp.result _ _ _ _ _ c.ended.ensures.ok c.ended.ensures.err c.run_tlp.ensures.ok c.run_tlp.ensures.err);
+  right = tt;
+}
+
+pub returns-in-Search : goal.returns-in-Search
+returns-in-Search g c = record {
+  begun = rw c.in-Search.is (searched c.in-Search.limit c.run_search_with_reasons-run.result _ _ _ _ _ c.ended-in-Search.ensures.ok c.ended-in-Search.ensures.err c.run_search_with_reasons-run.ensures.ok c.run_search_with_reasons-run.ensures.err);
+  right = tt;
+}
+
+pub returns-in-Draw : goal.returns-in-Draw
+returns-in-Draw g c = record {
+  begun = rw c.in-Draw.is (run_done _ c.run_draw.result _ _ _ _ _ c.ended-in-Draw.ensures.ok c.ended-in-Draw.ensures.err c.run_draw.ensures.ok c.run_draw.ensures.err);
+  right = tt;
+}
+
+pub returns-in-Step : goal.returns-in-Step
+returns-in-Step g c = record {
+  begun = rw c.in-Step.is (run_done _ c.run_step_with_reasons-run.result _ _ _ _ _ c.ended-in-Step.ensures.ok c.ended-in-Step.ensures.err c.run_step_with_reasons-run.ensures.ok c.run_step_with_reasons-run.ensures.err);
+  right = tt;
+}
+
+pub returns-in-Chart : goal.returns-in-Chart
+returns-in-Chart g c = record {
+  begun = rw c.in-Chart.is (run_done _ c.run_chart.result _ _ _ _ _ c.ended-in-Chart.ensures.ok c.ended-in-Chart.ensures.err c.run_chart.ensures.ok c.run_chart.ensures.err);
+  right = tt;
+}
+
+pub returns-in-Generate : goal.returns-in-Generate
+returns-in-Generate g c = record {
+  begun = rw c.in-Generate.is ((refl, generated c.in-Generate.storm c.run_generate.result _ _ _ c.ended-in-Generate.ensures.ok c.ended-in-Generate.ensures.err c.run_generate.ensures.status c.run_generate.ensures.ok c.run_generate.ensures.part));
+  right = tt;
+}

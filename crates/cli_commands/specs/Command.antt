@@ -1,0 +1,73 @@
+-- What the program does for what its words ask for.
+use Rattle.std.specs.Prelude.{◌≡◌, ◌≢◌, ◌⊎◌, ℕ, List, [], ◌∷◌, Option}
+use Rattle.clap.specs.Words.{Kinds}
+use Rattle.clap.specs.declared.error.kind.ErrorKind.TheVariants as kinds
+use Rattle.cli_words.specs.declared.words.Request.{Request}
+use Rattle.cli_words.specs.declared.words.Request.TheVariants.{Tlp, Decode, Encode, Check, Search, Draw, Upgrade, Step, Chart, Generate, Run}
+use Rattle.counting.specs.Ranges.{IsCounting}
+use Rattle.line_loop.specs.Run.{IsRun}
+use Rattle.cli_commands.specs.declared.command.Outcome.{Outcome}
+use Rattle.cli_commands.specs.declared.command.Outcome.TheVariants as outcomes
+use Rattle.chart_engine.specs.Chart.{out_chart}
+use Rattle.draw_engine.specs.Draw.{out_draw}
+use Rattle.generate_engine.specs.Script.{IsWhole, IsPart}
+use Rattle.packet_engine.specs.Lines.{out_decode, out_encode}
+use Rattle.run_engine.specs.Text.{IsRan}
+use Rattle.search_engine.specs.Search.{IsSearched}
+use Rattle.tlp_engine.specs.Tlp.{out_tlp}
+use Rattle.trace_engine.specs.Check.{out_check}
+use Rattle.trace_engine.specs.Upgrade.{out_upgrade}
+use Rattle.seq_memory.specs.Limits.{IsWithinLimits}
+use Rattle.step_engine.specs.Step.{out_step_with}
+use Rattle.storm.specs.declared.Storm.{Storm}
+use Rattle.storm.specs.Ranges.{IsStorm}
+
+-- the script of a storm was written, or a beginning of one
+abbrev pub IsGenerated : Storm → Option (List ℕ) → Option (List ℕ) → ℕ → Type 0
+IsGenerated storm out out' exit = ((exit ≡ 0) × IsWhole storm out out') ⊎ ((exit ≡ 1) × IsPart storm out out')
+
+-- the run of the subcommand, on the streams as they were and are, with its exit status
+abbrev pub IsDone : Request → Option (List ℕ) → Option (List ℕ) → Option (List ℕ) → Option (List ℕ) → ℕ → Type 0
+IsDone (Tlp base size block) input rest out out' exit = IsRun (out_tlp base size block) input rest out out' exit
+IsDone Decode input rest out out' exit = IsRun out_decode input rest out out' exit
+IsDone Encode input rest out out' exit = IsRun out_encode input rest out out' exit
+IsDone Check input rest out out' exit = IsRun out_check input rest out out' exit
+IsDone (Search limit is_told) input rest out out' exit = IsSearched limit input rest out out' exit
+IsDone (Draw from to) input rest out out' exit = IsRun (out_draw (record { from = from; to = to })) input rest out out' exit
+IsDone Upgrade input rest out out' exit = IsRun out_upgrade input rest out out' exit
+IsDone (Step is_traced keeps_going echoes) input rest out out' exit =
+    IsRun (out_step_with (record { is_traced = is_traced; keeps_going = keeps_going; echoes = echoes })) input rest out out' exit
+IsDone (Chart lane from to) input rest out out' exit = IsRun (out_chart (record { lane = lane; from = from; to = to })) input rest out out' exit
+IsDone (Generate storm) input rest out out' exit = (rest ≡ input) × IsGenerated storm out out' exit
+IsDone (Run counting is_told) input rest out out' exit = (rest ≡ input) × IsRan counting out out' exit
+
+-- the same of what one thread did, which leaves a run undone
+abbrev pub IsBegun : Request → Option (List ℕ) → Option (List ℕ) → Option (List ℕ) → Option (List ℕ) → Outcome → Type 0
+IsBegun request input rest out out' (outcomes.Ended exit) = IsDone request input rest out out' exit
+IsBegun request input rest out out' (outcomes.Run counting is_told) = (request ≡ Run counting is_told) × (rest ≡ input) × (out' ≡ out)
+
+-- status 1 or 2
+abbrev pub EndsWrong : Outcome → Type 0
+EndsWrong (outcomes.Ended exit) = (exit ≡ 1) ⊎ (exit ≡ 2)
+EndsWrong (outcomes.Run counting is_told) = ⊥
+
+-- the numbers of a run are in their ranges
+abbrev pub IsRight : Outcome → Type 0
+IsRight (outcomes.Ended exit) = Unit {0}
+IsRight (outcomes.Run counting is_told) = IsCounting counting
+
+-- the numbers of what is asked for are in their ranges
+abbrev pub IsRightRequest : Request → Type 0
+IsRightRequest (Tlp base size block) = IsWithinLimits (record { base = base; size = size; block = block })
+IsRightRequest (Generate storm) = IsStorm storm
+IsRightRequest (Run counting is_told) = IsCounting counting
+IsRightRequest request = Unit {0}
+
+-- no fault of the words asks for a text, that of `--help` or that of `--version`
+abbrev pub AskForNoText : Kinds → Type 0
+AskForNoText [] = Unit {0}
+AskForNoText (k ∷ ks) = (k ≢ kinds.DisplayHelp) × (k ≢ kinds.DisplayVersion) × AskForNoText ks
+
+-- the parser refuses the words, by a fault of one of these kinds, and they ask for no text
+abbrev pub AreRefused : Kinds → Type 0
+AreRefused faults = (faults ≢ []) × AskForNoText faults

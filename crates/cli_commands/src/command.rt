@@ -1,0 +1,216 @@
+//! The words of a command line, done on one thread.
+ghost use Rattle.std.specs.Prelude.{◌≡◌, ◌≢◌, ◌⊎◌, map, true, IfOk, OnErr};
+ghost use Rattle.std.specs.IoError.{error_kind};
+ghost use Rattle.clap.specs.Words.{fault_of, kind_of, subcommand_of, takes};
+ghost use Rattle.cli_words.specs.Faults.{IsMemoryFault, RangeFault, WordsFault};
+ghost use Rattle.cli_words.specs.Options.{the_app, Asks};
+ghost use Rattle.cli_commands.specs.Command.{IsBegun, EndsWrong, IsRight, IsRightRequest, AreRefused};
+ghost use Rattle.cli_words.specs.declared.words.Request.{Request};
+
+use chart_engine::run_chart;
+use clap::error::ErrorKind;
+use cli_words::{Request, RequestFault, options};
+use counting::Counting;
+use draw_engine::run_draw;
+use generate_engine::run_generate;
+use history_picture::Window;
+use line_loop::EngineFault;
+use link_chart::ChartWindow;
+use packet_engine::{run_decode, run_encode_with_reasons};
+use search_engine::{Stages, run_search_with_reasons};
+use std::alloc::Global;
+use std::convert::AsStr;
+use std::io;
+use std::io::{ErrorKind as IoErrorKind, Read, Write};
+use step_engine::{StepOptions, run_step_with_reasons};
+use tlp_engine::run_tlp;
+use trace_engine::{run_check_with_reasons, run_upgrade_with_reasons};
+
+/// Tells what stopped an engine, and gives the exit status for that.
+fn stopped<E: Write>(fault: EngineFault, errors: &mut E) -> u8
+    ensures { result ≡ 1 }
+{
+    let _ = writeln!(errors, "pciex: {fault}");
+    1
+}
+
+/// The exit status of an engine's run; what stopped it is told.
+pub fn ended<E: Write>(run: Result<u8, EngineFault>, errors: &mut E) -> u8
+    ensures ok { IfOk run (λ status. result ≡ status) }
+    ensures err { OnErr run (result ≡ 1) }
+{
+    run.unwrap_or_else(|fault| stopped(fault, errors))
+}
+
+/// Tells what `clap` says of the words, and gives the exit status: a text that was asked for goes
+/// to standard output, and any other to standard error.
+fn told<W: Write, E: Write>(error: &clap::Error, writer: &mut W, errors: &mut E) -> u8
+    ensures status { kind_of error.now ≡ ErrorKind.OutOfMemory → result ≡ 1 }
+    ensures same { kind_of error.now ≡ ErrorKind.OutOfMemory → W.contents writer.new ≡ W.contents writer.old }
+    ensures wrong { kind_of error.now ≢ ErrorKind.OutOfMemory → kind_of error.now ≢ ErrorKind.DisplayHelp → kind_of error.now ≢ ErrorKind.DisplayVersion → result ≡ 2 }
+    ensures wrong_same { kind_of error.now ≢ ErrorKind.DisplayHelp → kind_of error.now ≢ ErrorKind.DisplayVersion → W.contents writer.new ≡ W.contents writer.old }
+{
+    if error.kind() == ErrorKind::OutOfMemory {
+        return stopped(EngineFault::Memory, errors);
+    }
+    if error.use_stderr() {
+        let _ = write!(errors, "{error}");
+        return 2;
+    }
+    match write!(writer, "{error}") {
+        Ok(()) => 0,
+        Err(_) => stopped(EngineFault::Write, errors),
+    }
+}
+
+/// Tells why the words ask for nothing, and gives the exit status for that.
+fn refused<W: Write, E: Write>(fault: &RequestFault<'_>, writer: &mut W, errors: &mut E) -> u8
+    ensures status { IsMemoryFault fault.now → result ≡ 1 }
+    ensures same { IsMemoryFault fault.now → W.contents writer.new ≡ W.contents writer.old }
+    ensures words { WordsFault (λ e. kind_of e ≢ ErrorKind.DisplayHelp → kind_of e ≢ ErrorKind.DisplayVersion
+        → ((result ≡ 1) ⊎ (result ≡ 2)) × (W.contents writer.new ≡ W.contents writer.old)) fault.now }
+    ensures range { RangeFault (result ≡ 2) fault.now }
+    ensures range_same { RangeFault (W.contents writer.new ≡ W.contents writer.old) fault.now }
+{
+    match fault {
+        RequestFault::Words(error) => told(error, writer, errors),
+        RequestFault::Value(refused) => {
+            let _ = writeln!(errors, "pciex: options\npciex: {refused}");
+            2
+        }
+        RequestFault::Nothing => {
+            let _ = writeln!(errors, "pciex: options");
+            2
+        }
+    }
+}
+
+/// Tells why the words of the command line were not read, and gives the exit status for that: want
+/// of memory, or a word that is no text.
+pub fn no_words<E: Write>(fault: &io::Error, errors: &mut E) -> u8
+    ensures memory { error_kind fault.now ≡ IoErrorKind.OutOfMemory → result ≡ 1 }
+    ensures word { error_kind fault.now ≢ IoErrorKind.OutOfMemory → result ≡ 2 }
+{
+    if fault.kind() == IoErrorKind::OutOfMemory {
+        return stopped(EngineFault::Memory, errors);
+    }
+    let _ = writeln!(errors, "pciex: options");
+    2
+}
+
+/// What became of the words of a command line on one thread.
+#[derive(Clone, Copy, Debug, PartialEq, Eq)]
+pub enum Outcome {
+    /// The program ends with this exit status.
+    Ended(u8),
+    /// They ask for a run, of which nothing is done yet.
+    Run { counting: Counting, is_told: bool },
+}
+
+/// Whether it is told how far a search is.
+fn stages_of(is_told: bool, is_terminal: bool) -> Stages {
+    if is_told {
+        Stages::Shown
+    } else if is_terminal {
+        Stages::OfLongLogs
+    } else {
+        Stages::Hidden
+    }
+}
+
+/// Does what is asked for, but for a run, and gives the exit status.
+fn begin<R: Read, W: Write, E: Write>(
+    alloc: Global,
+    request: Request,
+    is_terminal: bool,
+    reader: &mut R,
+    writer: &mut W,
+    errors: &mut E,
+) -> Outcome
+    requires { IsRightRequest request }
+    ensures begun { IsBegun request (R.remaining reader.old) (R.remaining reader.new) (W.contents writer.old) (W.contents writer.new) result }
+    ensures right { IsRight result }
+{
+    match request {
+        Request::Tlp { base, size, block } => Outcome::Ended(ended(
+            run_tlp(alloc, base, size, block, reader, writer),
+            errors,
+        )),
+        Request::Decode => Outcome::Ended(ended(run_decode(alloc, reader, writer), errors)),
+        Request::Encode => {
+            let run = run_encode_with_reasons(alloc, reader, writer, errors);
+            Outcome::Ended(ended(run, errors))
+        }
+        Request::Check => {
+            let run = run_check_with_reasons(alloc, reader, writer, errors);
+            Outcome::Ended(ended(run, errors))
+        }
+        Request::Search { limit, is_told } => {
+            let stages = stages_of(is_told, is_terminal);
+            let run = run_search_with_reasons(alloc, limit, stages, reader, writer, errors);
+            Outcome::Ended(ended(run, errors))
+        }
+        Request::Draw { from, to } => {
+            let window = Window { from, to };
+            Outcome::Ended(ended(run_draw(alloc, window, reader, writer), errors))
+        }
+        Request::Upgrade => {
+            let run = run_upgrade_with_reasons(alloc, reader, writer, errors);
+            Outcome::Ended(ended(run, errors))
+        }
+        Request::Step {
+            is_traced,
+            keeps_going,
+            echoes,
+        } => {
+            let options = StepOptions {
+                is_traced,
+                keeps_going,
+                echoes,
+            };
+            let run = run_step_with_reasons(alloc, options, reader, writer, errors);
+            Outcome::Ended(ended(run, errors))
+        }
+        Request::Chart { lane, from, to } => {
+            let window = ChartWindow { lane, from, to };
+            Outcome::Ended(ended(run_chart(alloc, window, reader, writer), errors))
+        }
+        Request::Generate { storm } => {
+            Outcome::Ended(ended(run_generate(alloc, &storm, writer), errors))
+        }
+        Request::Run { counting, is_told } => Outcome::Run { counting, is_told },
+    }
+}
+
+/// Does what the words of the command line ask for, the program's name before them, but for a run, and gives
+/// the exit status: 0 done; 1 a fault, a flaw or a refusal was told, or reading, writing or memory failed; 2 the
+/// words ask for nothing; 3 a search was given up. A long search tells how far it is if the error stream is a terminal.
+/// It waits for no thread, so what is said of it needs no return.
+pub fn on_one_thread<S: AsStr, R: Read, W: Write, E: Write>(
+    alloc: Global,
+    words: &[S],
+    is_terminal: bool,
+    reader: &mut R,
+    writer: &mut W,
+    errors: &mut E,
+) -> Outcome
+    // Words that `clap` takes and that ask for something have the run of that.
+    ensures run { (request : Request) → takes the_app (map S.text words.now) ≡ true → Asks (subcommand_of the_app (map S.text words.now)) request
+        → IsBegun request (R.remaining reader.old) (R.remaining reader.new) (W.contents writer.old) (W.contents writer.new) result }
+
+    // Words that `clap` takes and that ask for nothing have status 2, or 1 where out of memory, and nothing is written.
+    ensures nothing { takes the_app (map S.text words.now) ≡ true → ((r : Request) → Asks (subcommand_of the_app (map S.text words.now)) r → ⊥)
+        → EndsWrong result × (W.contents writer.new ≡ W.contents writer.old) }
+
+    // So do words that `clap` refuses, but where they ask for a text.
+    ensures refused { AreRefused (fault_of the_app (map S.text words.now))
+        → EndsWrong result × (W.contents writer.new ≡ W.contents writer.old) }
+
+    // What is to be run can be.
+    ensures right { IsRight result }
+{
+    match options(alloc, words) {
+        Ok(request) => begin(alloc, request, is_terminal, reader, writer, errors),
+        Err(fault) => Outcome::Ended(refused(&fault, writer, errors)),
+    }
+}

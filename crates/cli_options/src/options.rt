@@ -1,0 +1,136 @@
+//! Options that have values, and the numbers that they may have.
+ghost use Rattle.std.specs.Prelude.{◌≡◌, ◌≢◌, ◌↔◌, IsTrue};
+ghost use Rattle.cli_options.specs.Values.{allowed_of, name_of, IsAmong};
+
+use std::fmt;
+
+/// An option that has a value.
+#[derive(Clone, Copy, Debug, PartialEq, Eq)]
+pub enum ValueOption {
+    /// The first address of a memory.
+    Base,
+    /// The size of a memory, in bytes.
+    Size,
+    /// The size of a block, in bytes.
+    Block,
+    /// The number of requesters of a fabric.
+    Requesters,
+    /// The number of additions of each requester.
+    Each,
+    /// N: one in N packets and DLLPs is lost, none if N is 0.
+    Lose,
+    /// N: one in N packets and DLLPs arrives with a failed check, none if N is 0.
+    Corrupt,
+    /// The most calls and records of each worker.
+    Turns,
+    /// The first point of a history that is drawn.
+    From,
+    /// The last point of a history that is drawn.
+    To,
+    /// The seed of a script's random choices.
+    Seed,
+    /// The number of events of a script.
+    Events,
+    /// A lane, by its name.
+    Lane,
+    /// The most choices that a search looks at.
+    Limit,
+}
+
+/// The numbers that an option may have: the multiples of the unit from the least to the most.
+#[derive(Clone, Copy, Debug, PartialEq, Eq)]
+pub struct Allowed {
+    /// The least.
+    pub least: u64,
+    /// The most.
+    pub most: u64,
+    /// What each is a multiple of; not 0.
+    pub unit: u64,
+}
+
+/// All numbers from one to another.
+const fn from_to(least: u64, most: u64) -> Allowed
+    ensures { result ≡ record { least = least; most = most; unit = 1 } }
+{
+    Allowed {
+        least,
+        most,
+        unit: 1,
+    }
+}
+
+impl Allowed {
+    /// Whether the number is one of them.
+    pub fn has(&self, number: u64) -> bool
+        requires { self.now.unit ≢ 0 }
+        ensures { IsTrue result ↔ IsAmong self.now number }
+    {
+        self.least <= number && number <= self.most && number % self.unit == 0
+    }
+}
+
+impl fmt::Display for Allowed {
+    fn fmt<W: fmt::Write>(&self, f: &mut fmt::Formatter<W>) -> fmt::Result {
+        let Allowed { least, most, unit } = *self;
+        write!(f, "{least} to {most}")?;
+        if unit > 1 {
+            write!(f, ", a multiple of {unit}")?;
+        }
+        Ok(())
+    }
+}
+
+impl ValueOption {
+    /// What it is called, without the hyphens before it.
+    pub fn name(self) -> &'static str
+        ensures { result.now ≡ name_of self }
+    {
+        match self {
+            ValueOption::Base => "base",
+            ValueOption::Size => "size",
+            ValueOption::Block => "block",
+            ValueOption::Requesters => "requesters",
+            ValueOption::Each => "each",
+            ValueOption::Lose => "lose",
+            ValueOption::Corrupt => "corrupt",
+            ValueOption::Turns => "turns",
+            ValueOption::From => "from",
+            ValueOption::To => "to",
+            ValueOption::Seed => "seed",
+            ValueOption::Events => "events",
+            ValueOption::Lane => "lane",
+            ValueOption::Limit => "limit",
+        }
+    }
+
+    /// The numbers that it may have.
+    pub fn allowed(self) -> Allowed
+        ensures which { result ≡ allowed_of self }
+        ensures unit { result.unit ≢ 0 }
+    {
+        match self {
+            ValueOption::Base => Allowed {
+                least: 0,
+                most: u64::MAX,
+                unit: 128,
+            },
+            ValueOption::Size => Allowed {
+                least: 128,
+                most: 1_048_576,
+                unit: 128,
+            },
+            ValueOption::Block => Allowed {
+                least: 64,
+                most: 128,
+                unit: 64,
+            },
+            ValueOption::Requesters => from_to(1, 7),
+            ValueOption::Each => from_to(0, 100_000),
+            ValueOption::Lose | ValueOption::Corrupt => from_to(0, 65_536),
+            ValueOption::Turns | ValueOption::Limit => from_to(1, 1_000_000_000),
+            ValueOption::Events => from_to(0, 1_000_000_000),
+            ValueOption::Lane => from_to(0, 0),
+            ValueOption::From | ValueOption::To | ValueOption::Seed => from_to(0, u64::MAX),
+        }
+    }
+}

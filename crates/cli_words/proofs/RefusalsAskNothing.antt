@@ -1,0 +1,151 @@
+-- Words of which an option is refused ask for nothing.
+use Rattle.std.proofs.Common.{◌≡◌, ◌∙◌, ◌≤◌, ℕ, List, [], ◌∷◌, Option, Some, None, refl, sym, subst, arith, codes, inl, inr}
+use Rattle.clap.specs.Words.{Row, Text, first_of}
+use Rattle.counting.specs.declared.Counting.{Counting}
+use Rattle.storm.specs.declared.Storm.{Storm}
+use Rattle.seq_memory.specs.Limits.{IsBlock}
+use Rattle.cli_options.specs.declared.options.ValueOption.{ValueOption}
+use Rattle.cli_options.specs.declared.options.ValueOption.TheVariants.{Size, From, To}
+use Rattle.cli_options.specs.declared.refused.RefusedValue.{RefusedValue}
+use Rattle.cli_options.specs.Values.{Gives, GivesBase, IsAmong, multiples}
+use Rattle.fabric_core.specs.declared.event.LaneName.{LaneName}
+use Rattle.cli_words.specs.declared.words.Request.{Request}
+use Rattle.cli_words.specs.declared.words.Request.TheVariants.{Tlp, Search, Draw, Chart, Generate, Run}
+use Rattle.cli_words.specs.Options.{Asks, AsksTlp, AsksSearch, AsksDraw, AsksChart, AsksGenerate, AsksRun}
+use Rattle.cli_words.specs.Refusals.{AreRight, IsFirstWrong, Refuses, RefusesOption, RefusesTlp, RefusesDraw, RefusesChart, tlp_values, search_values, draw_values, chart_values, generate_values, run_values}
+use Rattle.cli_words.proofs.RequestsAsked.{name_of, asks_name, differ}
+
+-- where each is right, none is the first that is wrong
+none_wrong : (rows : List Row) (ps : List (ValueOption × Option ℕ)) (option : ValueOption) → AreRight rows ps → IsFirstWrong rows ps option → ⊥
+none_wrong rows [] option a w = w
+none_wrong rows (p ∷ ps) option a (inl w) = w.1 a.0.0 a.0.1
+none_wrong rows (p ∷ ps) option a (inr w) = none_wrong rows ps option a.1 w.1
+
+among : (least most n : ℕ) → least ≤ n → n ≤ most → IsAmong (multiples 1 least most) n
+among least most n l m = record { least = l; most = m; multiple = omega arith }
+
+-- a number of 0 or more
+up_to : (most n : ℕ) → n ≤ most → IsAmong (multiples 1 0 most) n
+up_to most n m = among 0 most n (omega arith) m
+
+among_blocks : (block : ℕ) → IsBlock block → IsAmong (multiples 64 64 128) block
+among_blocks block (inl e) = subst (λ (n : ℕ). IsAmong (multiples 64 64 128) n) (sym e) (record { least = omega arith; most = omega arith; multiple = refl })
+among_blocks block (inr e) = subst (λ (n : ℕ). IsAmong (multiples 64 64 128) n) (sym e) (record { least = omega arith; most = omega arith; multiple = refl })
+
+-- the values of what is asked for are right
+tlp_base : (rows : List Row) (base size block : ℕ) → AsksTlp rows base size block → GivesBase (first_of (codes "base") rows) base
+tlp_base rows base size block a =
+    (a.base_read, record { least = omega arith; most = omega (arith, a.memory.in_base.1, a.memory.in_size.0); multiple = a.memory.in_base.0 })
+
+tlp_size : (rows : List Row) (base size block : ℕ) → AsksTlp rows base size block → Gives Size (Some 4096) (first_of (codes "size") rows) size
+tlp_size rows base size block a =
+    let m = a.memory in
+    (a.size_read, record { least = m.in_size.0; most = m.in_size.1; multiple = m.in_size.2 })
+
+tlp_right : (rows : List Row) (base size block : ℕ) → AsksTlp rows base size block → AreRight rows tlp_values
+tlp_right rows base size block a = ((size, tlp_size rows base size block a), ((block, (a.block_read, among_blocks block a.memory.in_block)), tt))
+
+search_right : (rows : List Row) (limit : ℕ) → AsksSearch rows limit → AreRight rows search_values
+search_right rows limit a = ((limit, (a.limit_read, among 1 1000000000 limit a.least a.most)), tt)
+
+draw_from : (rows : List Row) (from to : ℕ) → AsksDraw rows from to → Gives From (Some 0) (first_of (codes "from") rows) from
+draw_from rows from to a = (a.from_read, up_to 18446744073709551615 from (omega (arith, a.ordered, a.fits)))
+
+draw_to : (rows : List Row) (from to : ℕ) → AsksDraw rows from to → Gives To (Some 18446744073709551615) (first_of (codes "to") rows) to
+draw_to rows from to a = (a.to_read, up_to 18446744073709551615 to (omega (arith, a.fits)))
+
+draw_right : (rows : List Row) (from to : ℕ) → AsksDraw rows from to → AreRight rows draw_values
+draw_right rows from to a = ((from, draw_from rows from to a), ((to, draw_to rows from to a), tt))
+
+chart_from : (rows : List Row) (lane : Option LaneName) (from to : ℕ) → AsksChart rows lane from to → Gives From (Some 1) (first_of (codes "from") rows) from
+chart_from rows lane from to a = (a.from_read, up_to 18446744073709551615 from (omega (arith, a.ordered, a.fits)))
+
+chart_to : (rows : List Row) (lane : Option LaneName) (from to : ℕ) → AsksChart rows lane from to → Gives To (Some 18446744073709551615) (first_of (codes "to") rows) to
+chart_to rows lane from to a = (a.to_read, up_to 18446744073709551615 to (omega (arith, a.fits)))
+
+chart_right : (rows : List Row) (lane : Option LaneName) (from to : ℕ) → AsksChart rows lane from to → AreRight rows chart_values
+chart_right rows lane from to a = ((from, chart_from rows lane from to a), ((to, chart_to rows lane from to a), tt))
+
+generate_right : (rows : List Row) (s : Storm) → AsksGenerate rows s → AreRight rows generate_values
+generate_right rows s a =
+    let r = a.right in (
+      (s.seed, (a.seed_read, up_to 18446744073709551615 s.seed (omega (arith, a.fits)))),
+      (
+        (s.events, (a.events_read, up_to 1000000000 s.events r.events)),
+        (
+          (s.requesters, (a.requesters_read, among 1 7 s.requesters r.requesters.0 r.requesters.1)),
+          (
+            (s.lose, (a.lose_read, up_to 65536 s.lose r.lose)),
+            ((s.corrupt, (a.corrupt_read, up_to 65536 s.corrupt r.corrupt)), ((s.block, (a.block_read, among_blocks s.block r.block)), tt)),
+          ),
+        ),
+      ),
+    )
+
+run_right : (rows : List Row) (c : Counting) → AsksRun rows c → AreRight rows run_values
+run_right rows c a =
+    let r = a.right in (
+      (c.requesters, (a.requesters_read, among 1 7 c.requesters r.requesters.0 r.requesters.1)),
+      (
+        (c.each, (a.each_read, up_to 100000 c.each r.each)),
+        (
+          (c.lose, (a.lose_read, up_to 65536 c.lose r.lose)),
+          (
+            (c.corrupt, (a.corrupt_read, up_to 65536 c.corrupt r.corrupt)),
+            ((c.turns, (a.turns_read, among 1 1000000000 c.turns r.turns.0 r.turns.1)), tt),
+          ),
+        ),
+      ),
+    )
+
+-- so what is refused is not asked for
+refused_tlp : (rows : List Row) (option : ValueOption) (base size block : ℕ) → RefusesTlp rows option → AsksTlp rows base size block → ⊥
+refused_tlp rows option base size block (inl h) a = h.1 base (tlp_base rows base size block a)
+refused_tlp rows option base size block (inr (inl h)) a = none_wrong rows tlp_values option (tlp_right rows base size block a) h.1
+refused_tlp rows option base size block (inr (inr h)) a =
+    h.3 base size (tlp_base rows base size block a) (tlp_size rows base size block a) a.memory.in_base.1
+
+refused_draw : (rows : List Row) (option : ValueOption) (from to : ℕ) → RefusesDraw rows option → AsksDraw rows from to → ⊥
+refused_draw rows option from to (inl h) a = none_wrong rows draw_values option (draw_right rows from to a) h
+refused_draw rows option from to (inr h) a = h.2 from to (draw_from rows from to a) (draw_to rows from to a) a.ordered
+
+refused_chart : (rows : List Row) (option : ValueOption) (lane : Option LaneName) (from to : ℕ) → RefusesChart rows option → AsksChart rows lane from to → ⊥
+refused_chart rows option lane from to (inl h) a = h.1 lane a.lane_read
+refused_chart rows option lane from to (inr (inl h)) a = none_wrong rows chart_values option (chart_right rows lane from to a) h.1
+refused_chart rows option lane from to (inr (inr h)) a = h.3 from to (chart_from rows lane from to a) (chart_to rows lane from to a) a.ordered
+
+tlp_nothing : (p : Text × List Row) (option : ValueOption) → p.0 ≡ codes "tlp" → RefusesTlp p.1 option → (r : Request) → Asks (Some p) r → ⊥
+tlp_nothing p option e h (Tlp base size block) a = refused_tlp p.1 option base size block h a.1
+tlp_nothing p option e h r a = differ (codes "tlp") (name_of r) refl (sym e ∙ asks_name p r a)
+
+search_nothing : (p : Text × List Row) (option : ValueOption) → p.0 ≡ codes "search" → IsFirstWrong p.1 search_values option → (r : Request) → Asks (Some p) r → ⊥
+search_nothing p option e h (Search limit told) a = none_wrong p.1 search_values option (search_right p.1 limit a.1) h
+search_nothing p option e h r a = differ (codes "search") (name_of r) refl (sym e ∙ asks_name p r a)
+
+draw_nothing : (p : Text × List Row) (option : ValueOption) → p.0 ≡ codes "draw" → RefusesDraw p.1 option → (r : Request) → Asks (Some p) r → ⊥
+draw_nothing p option e h (Draw from to) a = refused_draw p.1 option from to h a.1
+draw_nothing p option e h r a = differ (codes "draw") (name_of r) refl (sym e ∙ asks_name p r a)
+
+chart_nothing : (p : Text × List Row) (option : ValueOption) → p.0 ≡ codes "chart" → RefusesChart p.1 option → (r : Request) → Asks (Some p) r → ⊥
+chart_nothing p option e h (Chart lane from to) a = refused_chart p.1 option lane from to h a.1
+chart_nothing p option e h r a = differ (codes "chart") (name_of r) refl (sym e ∙ asks_name p r a)
+
+generate_nothing : (p : Text × List Row) (option : ValueOption) → p.0 ≡ codes "generate" → IsFirstWrong p.1 generate_values option → (r : Request) → Asks (Some p) r → ⊥
+generate_nothing p option e h (Generate s) a = none_wrong p.1 generate_values option (generate_right p.1 s a.1) h
+generate_nothing p option e h r a = differ (codes "generate") (name_of r) refl (sym e ∙ asks_name p r a)
+
+run_nothing : (p : Text × List Row) (option : ValueOption) → p.0 ≡ codes "run" → IsFirstWrong p.1 run_values option → (r : Request) → Asks (Some p) r → ⊥
+run_nothing p option e h (Run c told) a = none_wrong p.1 run_values option (run_right p.1 c a.1) h
+run_nothing p option e h r a = differ (codes "run") (name_of r) refl (sym e ∙ asks_name p r a)
+
+option_nothing : (p : Text × List Row) (option : ValueOption) → RefusesOption p.0 p.1 option → (r : Request) → Asks (Some p) r → ⊥
+option_nothing p option (inl h) = tlp_nothing p option h.0 h.1
+option_nothing p option (inr (inl h)) = draw_nothing p option h.0 h.1
+option_nothing p option (inr (inr (inl h))) = generate_nothing p option h.0 h.1
+option_nothing p option (inr (inr (inr (inl h)))) = run_nothing p option h.0 h.1
+option_nothing p option (inr (inr (inr (inr (inl h))))) = chart_nothing p option h.0 h.1
+option_nothing p option (inr (inr (inr (inr (inr h))))) = search_nothing p option h.0 h.1
+
+pub refused_nothing : (o : Option (Text × List Row)) (v : RefusedValue) → Refuses o v → (r : Request) → Asks o r → ⊥
+refused_nothing None v h r a = h
+refused_nothing (Some p) v h r a = option_nothing p v.option h.1 r a

@@ -1,0 +1,117 @@
+-- Words ask for one request at most.
+use Rattle.std.proofs.Common.{◌≡◌, ◌∙◌, ℕ, Bool, true, false, List, refl, sym, ap, codes, Option, Some, None, IfNone}
+use Rattle.std.specs.Prelude.{bytes_eq}
+use Rattle.std.proofs.lemmas.Slice.Eq.{bytes_eq-Decides}
+use Rattle.clap.specs.Words.{Row, Text}
+use Rattle.counting.specs.declared.Counting.{Counting}
+use Rattle.storm.specs.declared.Storm.{Storm}
+use Rattle.cli_words.specs.declared.words.Request.{Request}
+use Rattle.cli_words.specs.declared.words.Request.TheVariants.{Tlp, Decode, Encode, Check, Search, Draw, Upgrade, Step, Chart, Generate, Run}
+use Rattle.cli_options.specs.Values.{WritesBase, WritesNumber, WritesGiven, WritesFlag}
+use Rattle.fabric_core.specs.declared.event.LaneName.{LaneName}
+use Rattle.cli_words.specs.Lanes.{WritesLane}
+use Rattle.cli_words.specs.Options.{Asks}
+
+pub if_none : {T P : Type 0} (o : Option T) → P → IfNone o P
+if_none None p = p
+if_none (Some x) p = tt
+
+pub same_base : (t : Option Text) (a b : ℕ) → WritesBase t a → WritesBase t b → a ≡ b
+same_base None a b h k = h ∙ sym k
+same_base (Some t) a b h k = h.2 ∙ sym k.2
+
+pub same_number : (default : ℕ) (t : Option Text) (a b : ℕ) → WritesNumber default t a → WritesNumber default t b → a ≡ b
+same_number default None a b h k = h ∙ sym k
+same_number default (Some t) a b h k = h.1 ∙ sym k.1
+
+pub same_given : (t : Option Text) (a b : ℕ) → WritesGiven t a → WritesGiven t b → a ≡ b
+same_given None a b h k = absurd h
+same_given (Some t) a b h k = h.1 ∙ sym k.1
+
+pub same_counting : (c d : Counting) → c.requesters ≡ d.requesters → c.each ≡ d.each → c.lose ≡ d.lose → c.corrupt ≡ d.corrupt → c.turns ≡ d.turns → c ≡ d
+same_counting c d a b e f g j = record { requesters = a j; each = b j; lose = e j; corrupt = f j; turns = g j }
+
+pub same_storm : (s t : Storm) → s.seed ≡ t.seed → s.events ≡ t.events → s.requesters ≡ t.requesters → s.lose ≡ t.lose → s.corrupt ≡ t.corrupt → s.block ≡ t.block → s ≡ t
+same_storm s t a b e f g h j = record { seed = a j; events = b j; requesters = e j; lose = f j; corrupt = g j; block = h j }
+
+-- the name of the subcommand
+abbrev pub name_of : Request → Text
+name_of (Tlp base size block) = codes "tlp"
+name_of Decode = codes "decode"
+name_of Encode = codes "encode"
+name_of Check = codes "check"
+name_of (Search limit is_told) = codes "search"
+name_of (Draw from to) = codes "draw"
+name_of Upgrade = codes "upgrade"
+name_of (Step is_traced keeps_going echoes) = codes "step"
+name_of (Chart lane from to) = codes "chart"
+name_of (Generate storm) = codes "generate"
+name_of (Run counting is_told) = codes "run"
+
+pub asks_name : (p : Text × List Row) (r : Request) → Asks (Some p) r → p.0 ≡ name_of r
+asks_name p (Tlp base size block) a = a.0
+asks_name p Decode a = a
+asks_name p Encode a = a
+asks_name p Check a = a
+asks_name p (Search limit is_told) a = a.0
+asks_name p (Draw from to) a = a.0
+asks_name p Upgrade a = a
+asks_name p (Step is_traced keeps_going echoes) a = a.0
+asks_name p (Chart lane from to) a = a.0
+asks_name p (Generate storm) a = a.0
+asks_name p (Run counting is_told) a = a.0
+
+pub differ : (x y : Text) → bytes_eq x y ≡ false → x ≡ y → ⊥
+differ x y other e = let same = (bytes_eq-Decides x y).1 e in false_true (sym other ∙ same)
+  where
+    false_true : false ≡ true → ⊥
+    false_true e = cc
+
+same_flag : (t : Option Text) (a b : Bool) → WritesFlag t a → WritesFlag t b → a ≡ b
+same_flag None a b h k = h ∙ sym k
+same_flag (Some t) a b h k = h ∙ sym k
+
+same_lane : (t : Option Text) (a b : Option LaneName) → WritesLane t a → WritesLane t b → a ≡ b
+same_lane None a b h k = h ∙ sym k
+same_lane (Some t) a b h k = h.2 ∙ sym h.1 ∙ k.1 ∙ sym k.2
+
+-- words ask for one thing
+pub asks_one : (o : Option (Text × List Row)) (r s : Request) → Asks o r → Asks o s → r ≡ s
+asks_one None r s a b = absurd a
+asks_one (Some p) (Tlp base size block) (Tlp base' size' block') a b =
+    let e = same_base _ base base' a.1.base_read b.1.base_read in
+    let f = same_number 4096 _ size size' a.1.size_read b.1.size_read in
+    let g = same_number 64 _ block block' a.1.block_read b.1.block_read in
+    ap (λ (x : ℕ). Tlp x size block) e ∙ ap (λ (x : ℕ). Tlp base' x block) f ∙ ap (λ (x : ℕ). Tlp base' size' x) g
+asks_one (Some p) Decode Decode a b = refl
+asks_one (Some p) Encode Encode a b = refl
+asks_one (Some p) Check Check a b = refl
+asks_one (Some p) (Search limit t) (Search limit' u) a b =
+    ap (λ (n : ℕ). Search n t) (same_number 1000000 _ limit limit' a.1.limit_read b.1.limit_read) ∙ ap (Search limit') (same_flag _ t u a.2 b.2)
+asks_one (Some p) (Draw from to) (Draw from' to') a b =
+    let e = same_number 0 _ from from' a.1.from_read b.1.from_read in
+    let f = same_number 18446744073709551615 _ to to' a.1.to_read b.1.to_read in
+    ap (λ (x : ℕ). Draw x to) e ∙ ap (λ (x : ℕ). Draw from' x) f
+asks_one (Some p) Upgrade Upgrade a b = refl
+asks_one (Some p) (Step t k e) (Step u l f) a b =
+    let x = a.1 in
+    let y = b.1 in
+    ap (λ (z : Bool). Step z k e) (same_flag _ t u x.trace_read y.trace_read) ∙ ap (λ (z : Bool). Step u z e) (same_flag _ k l x.keep_going_read y.keep_going_read)
+    ∙ ap (λ (z : Bool). Step u l z) (same_flag _ e f x.echo_read y.echo_read)
+asks_one (Some p) (Chart lane from to) (Chart lane' from' to') a b =
+    let e = same_lane _ lane lane' a.1.lane_read b.1.lane_read in
+    let f = same_number 1 _ from from' a.1.from_read b.1.from_read in
+    let g = same_number 18446744073709551615 _ to to' a.1.to_read b.1.to_read in
+    ap (λ (x : Option LaneName). Chart x from to) e ∙ ap (λ (x : ℕ). Chart lane' x to) f ∙ ap (λ (x : ℕ). Chart lane' from' x) g
+asks_one (Some p) (Generate s) (Generate t) a b =
+    let x = a.1 in
+    let y = b.1 in
+    ap Generate (same_storm s t (same_given _ _ _ x.seed_read y.seed_read) (same_given _ _ _ x.events_read y.events_read) (same_number 3 _ _ _ x.requesters_read y.requesters_read)
+    (same_number 0 _ _ _ x.lose_read y.lose_read) (same_number 0 _ _ _ x.corrupt_read y.corrupt_read) (same_number 64 _ _ _ x.block_read y.block_read))
+asks_one (Some p) (Run c t) (Run d u) a b =
+    let x = a.1 in
+    let y = b.1 in
+    let same = same_counting c d (same_given _ _ _ x.requesters_read y.requesters_read) (same_given _ _ _ x.each_read y.each_read) (same_number 0 _ _ _ x.lose_read y.lose_read)
+    (same_number 0 _ _ _ x.corrupt_read y.corrupt_read) (same_number 50000000 _ _ _ x.turns_read y.turns_read) in
+    ap (λ (k : Counting). Run k t) same ∙ ap (Run d) (same_flag _ t u a.2 b.2)
+asks_one (Some p) r s a b = absurd (differ (name_of r) (name_of s) refl (sym (asks_name p r a) ∙ asks_name p s b))

@@ -1,0 +1,9 @@
+use Rattle.std.proofs.Common.{ap₂, ◌∙◌}
+use Rattle.std.proofs.lemmas.Result.{IfOk-weaker}
+use Rattle.clap.specs.Words.{with_rule}
+use Rattle.cli_words.proofs.subcommands.search_command.Goals as goal
+
+pub returns-clause-app : goal.returns-clause-app
+returns-clause-app c =
+    let limit_is = c.in_ok-limit.ensures.app ∙ ap₂ with_rule c.plain_command-search.ensures.app c.option_of.ensures.rule in
+    IfOk-weaker c.with_arg-2.result _ _ (λ new h. h ∙ ap₂ with_rule limit_is c.flag_of.ensures.rule) c.with_arg-2.ensures.app

@@ -1,0 +1,30 @@
+use Rattle.std.proofs.Common.{◌∙◌, refl, subst, codes, Option}
+use Rattle.clap.specs.Words.{found_of, Text}
+use Rattle.clap.proofs.WalkLemmas.{first_value-rows}
+use Rattle.cli_options.specs.Values.{WritesFlag}
+use Rattle.cli_words.proofs.words.run_of.Goals as goal
+
+pub returns-clause-ok : goal.returns-clause-ok
+returns-clause-ok c =
+    let requesters = c.in_ok-requesters.ensures.ok in
+    let each = c.in_ok-each.ensures.ok in
+    let lose = c.in_ok-lose.ensures.ok in
+    let corrupt = c.in_ok-corrupt.ensures.ok in
+    let turns = c.in_ok-turns.ensures.ok in (
+      refl,
+      record {
+        requesters_read = requesters.0;
+        each_read = each.0;
+        lose_read = lose.0;
+        corrupt_read = corrupt.0;
+        turns_read = turns.0;
+        right = record {
+          requesters = (requesters.1.least, requesters.1.most);
+          each = each.1.most;
+          lose = lose.1.most;
+          corrupt = corrupt.1.most;
+          turns = (turns.1.least, turns.1.most);
+        };
+      },
+      subst (λ (t : Option Text). WritesFlag t c.is_set.result) (c.get_str.ensures ∙ first_value-rows (found_of c.args.run.now) (codes "progress")) c.is_set.ensures,
+    )

@@ -1,0 +1,157 @@
+-- What the words of a command line ask for.
+use Rattle.std.specs.Prelude.{◌≡◌, ◌≤◌, ◌<◌, ◌^◌, ℕ, Bool, true, List, Option, Some, None, codes}
+use Rattle.clap.specs.declared.builder.action.ArgAction.TheVariants.{SetTrue}
+use Rattle.clap.specs.Words.{App, Row, Rule, Text, first_of, new_app, new_rule, with_rule, with_subcommand}
+use Rattle.counting.specs.declared.Counting.{Counting}
+use Rattle.counting.specs.Ranges.{IsCounting}
+use Rattle.seq_memory.specs.Limits.{IsWithinLimits}
+use Rattle.storm.specs.declared.Storm.{Storm}
+use Rattle.storm.specs.Ranges.{IsStorm}
+use Rattle.cli_options.specs.Values.{WritesBase, WritesNumber, WritesGiven, WritesFlag}
+use Rattle.fabric_core.specs.declared.event.LaneName.{LaneName}
+use Rattle.cli_words.specs.Lanes.{WritesLane}
+use Rattle.cli_words.specs.declared.words.Request.{Request}
+use Rattle.cli_words.specs.declared.words.Subcommand.{Subcommand}
+use Rattle.cli_words.specs.declared.words.Subcommand.TheVariants as kinds
+use Rattle.cli_words.specs.declared.words.Request.TheVariants.{Tlp, Decode, Encode, Check, Search, Draw, Upgrade, Step, Chart, Generate, Run}
+
+-- the name of a subcommand
+abbrev pub text_of : Subcommand → Text
+text_of kinds.Tlp = codes "tlp"
+text_of kinds.Decode = codes "decode"
+text_of kinds.Encode = codes "encode"
+text_of kinds.Check = codes "check"
+text_of kinds.Search = codes "search"
+text_of kinds.Draw = codes "draw"
+text_of kinds.Upgrade = codes "upgrade"
+text_of kinds.Step = codes "step"
+text_of kinds.Chart = codes "chart"
+text_of kinds.Generate = codes "generate"
+text_of kinds.Run = codes "run"
+
+-- an option with a value
+abbrev pub option : Text → Rule
+option name = record (new_rule name) { long = Some name; value_names = 1 }
+
+abbrev pub tlp_app : App
+tlp_app = with_rule (with_rule (with_rule (new_app (codes "tlp")) (option (codes "base"))) (option (codes "size"))) (option (codes "block"))
+
+-- a flag, whose value is `true` where it is given
+abbrev pub flag : Text → Rule
+flag name = record (new_rule name) { long = Some name; action = Some SetTrue }
+
+abbrev pub search_app : App
+search_app = with_rule (with_rule (new_app (codes "search")) (option (codes "limit"))) (flag (codes "progress"))
+
+abbrev pub draw_app : App
+draw_app = with_rule (with_rule (new_app (codes "draw")) (option (codes "from"))) (option (codes "to"))
+
+abbrev pub step_app : App
+step_app = with_rule (with_rule (with_rule (new_app (codes "step")) (flag (codes "trace"))) (flag (codes "keep-going"))) (flag (codes "echo"))
+
+abbrev pub chart_app : App
+chart_app = with_rule (with_rule (with_rule (new_app (codes "chart")) (option (codes "lane"))) (option (codes "from"))) (option (codes "to"))
+
+-- an option with a value, which has to be given
+abbrev pub required : Text → Rule
+required name = record (option name) { required = true }
+
+-- with the faults of links
+abbrev pub with_links : App → App
+with_links app = with_rule (with_rule app (option (codes "lose"))) (option (codes "corrupt"))
+
+abbrev pub generate_app : App
+generate_app =
+    with_rule (with_links (with_rule (with_rule (with_rule (new_app (codes "generate")) (required (codes "seed"))) (required (codes "events"))) (option (codes "requesters"))))
+    (option (codes "block"))
+
+abbrev pub run_app : App
+run_app =
+    with_rule (with_rule (with_links (with_rule (with_rule (new_app (codes "run")) (required (codes "requesters"))) (required (codes "each")))) (option (codes "turns"))) (flag (codes "progress"))
+
+abbrev pub top_app : App
+top_app = record (new_app (codes "pciex")) {
+  top = record ((new_app (codes "pciex")).top) { has_version = true; subcommand_required = true; disable_help_subcommand = true };
+}
+
+-- with the subcommands for packets, and with those for traces
+abbrev pub with_packets : App → App
+with_packets app = with_subcommand (with_subcommand (with_subcommand app tlp_app.top) (new_app (codes "decode")).top) (new_app (codes "encode")).top
+
+abbrev pub with_traces : App → App
+with_traces app =
+    with_subcommand (with_subcommand (with_subcommand (with_subcommand app (new_app (codes "check")).top) search_app.top) draw_app.top) (new_app (codes "upgrade")).top
+
+-- the grammar of the command line
+unfoldable pub the_app : App
+the_app =
+    with_subcommand (with_subcommand (with_subcommand (with_subcommand (with_traces (with_packets top_app)) step_app.top) chart_app.top) generate_app.top) run_app.top
+
+-- the values of `tlp` ask for this memory
+pub record AsksTlp (rows : List Row) (base size block : ℕ) : Type 0 where
+  pub base_read : WritesBase (first_of (codes "base") rows) base
+  pub size_read : WritesNumber 4096 (first_of (codes "size") rows) size
+  pub block_read : WritesNumber 64 (first_of (codes "block") rows) block
+  pub memory : IsWithinLimits (record { base = base; size = size; block = block })
+
+-- the values of `search` ask to look at so many choices at most
+pub record AsksSearch (rows : List Row) (limit : ℕ) : Type 0 where
+  pub limit_read : WritesNumber 1000000 (first_of (codes "limit") rows) limit
+  pub least : 1 ≤ limit
+  pub most : limit ≤ 1000000000
+
+-- the values of `draw` ask for the points from one to another, numbers of 64 bits
+pub record AsksDraw (rows : List Row) (from to : ℕ) : Type 0 where
+  pub from_read : WritesNumber 0 (first_of (codes "from") rows) from
+  pub to_read : WritesNumber 18446744073709551615 (first_of (codes "to") rows) to
+  pub ordered : from ≤ to
+  pub fits : to < 2 ^ 64
+
+-- the values of `step` ask for the trace, to go on after refusals, to tell lines with their results
+pub record AsksStep (rows : List Row) (is_traced keeps_going echoes : Bool) : Type 0 where
+  pub trace_read : WritesFlag (first_of (codes "trace") rows) is_traced
+  pub keep_going_read : WritesFlag (first_of (codes "keep-going") rows) keeps_going
+  pub echo_read : WritesFlag (first_of (codes "echo") rows) echoes
+
+-- the values of `chart` ask for the events of this lane, or of all, on the lines from one to another, numbers of 64 bits
+pub record AsksChart (rows : List Row) (lane : Option LaneName) (from to : ℕ) : Type 0 where
+  pub lane_read : WritesLane (first_of (codes "lane") rows) lane
+  pub from_read : WritesNumber 1 (first_of (codes "from") rows) from
+  pub to_read : WritesNumber 18446744073709551615 (first_of (codes "to") rows) to
+  pub ordered : from ≤ to
+  pub fits : to < 2 ^ 64
+
+-- the values of `generate` ask for this storm, of a seed of 64 bits
+pub record AsksGenerate (rows : List Row) (s : Storm) : Type 0 where
+  pub seed_read : WritesGiven (first_of (codes "seed") rows) s.seed
+  pub events_read : WritesGiven (first_of (codes "events") rows) s.events
+  pub requesters_read : WritesNumber 3 (first_of (codes "requesters") rows) s.requesters
+  pub lose_read : WritesNumber 0 (first_of (codes "lose") rows) s.lose
+  pub corrupt_read : WritesNumber 0 (first_of (codes "corrupt") rows) s.corrupt
+  pub block_read : WritesNumber 64 (first_of (codes "block") rows) s.block
+  pub fits : s.seed < 2 ^ 64
+  pub right : IsStorm s
+
+-- the values of `run` ask for this counting
+pub record AsksRun (rows : List Row) (c : Counting) : Type 0 where
+  pub requesters_read : WritesGiven (first_of (codes "requesters") rows) c.requesters
+  pub each_read : WritesGiven (first_of (codes "each") rows) c.each
+  pub lose_read : WritesNumber 0 (first_of (codes "lose") rows) c.lose
+  pub corrupt_read : WritesNumber 0 (first_of (codes "corrupt") rows) c.corrupt
+  pub turns_read : WritesNumber 50000000 (first_of (codes "turns") rows) c.turns
+  pub right : IsCounting c
+
+-- the subcommand with its values asks for this
+abbrev pub Asks : Option (Text × List Row) → Request → Type 0
+Asks None request = ⊥
+Asks (Some p) (Tlp base size block) = (p.0 ≡ codes "tlp") × AsksTlp p.1 base size block
+Asks (Some p) Decode = p.0 ≡ codes "decode"
+Asks (Some p) Encode = p.0 ≡ codes "encode"
+Asks (Some p) Check = p.0 ≡ codes "check"
+Asks (Some p) (Search limit is_told) = (p.0 ≡ codes "search") × AsksSearch p.1 limit × WritesFlag (first_of (codes "progress") p.1) is_told
+Asks (Some p) (Draw from to) = (p.0 ≡ codes "draw") × AsksDraw p.1 from to
+Asks (Some p) Upgrade = p.0 ≡ codes "upgrade"
+Asks (Some p) (Step is_traced keeps_going echoes) = (p.0 ≡ codes "step") × AsksStep p.1 is_traced keeps_going echoes
+Asks (Some p) (Chart lane from to) = (p.0 ≡ codes "chart") × AsksChart p.1 lane from to
+Asks (Some p) (Generate storm) = (p.0 ≡ codes "generate") × AsksGenerate p.1 storm
+Asks (Some p) (Run counting is_told) = (p.0 ≡ codes "run") × AsksRun p.1 counting × WritesFlag (first_of (codes "progress") p.1) is_told

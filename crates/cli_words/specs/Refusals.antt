@@ -1,0 +1,98 @@
+-- Which option's value is refused: the first that is wrong in the grammar's order; or, where each is right, one that
+-- does not go with another.
+use Rattle.std.specs.Prelude.{◌≡◌, ◌≤◌, ◌+◌, ◌^◌, ◌⊎◌, ℕ, List, [], ◌∷◌, Option, Some, None, codes, option_map}
+use Rattle.clap.specs.Words.{Row, Text, first_of}
+use Rattle.fabric_core.specs.declared.event.LaneName.{LaneName}
+use Rattle.cli_words.specs.Lanes.{WritesLane}
+use Rattle.cli_options.specs.declared.options.ValueOption.{ValueOption}
+use Rattle.cli_options.specs.declared.options.ValueOption.TheVariants.{Base, Size, Block, Requesters, Each, Lose, Corrupt, Turns, From, To, Seed, Events, Lane, Limit}
+use Rattle.cli_options.specs.declared.refused.RefusedValue.{RefusedValue}
+use Rattle.cli_options.specs.Values.{Gives, GivesBase, name_of}
+
+-- the value gives a number that the option may have; the option stands with its default, if it has one
+abbrev pub IsRight : List Row → ValueOption × Option ℕ → Type 0
+IsRight rows p = (n : ℕ) × Gives p.0 p.1 (first_of (name_of p.0) rows) n
+
+abbrev pub IsWrong : List Row → ValueOption × Option ℕ → Type 0
+IsWrong rows p = (n : ℕ) → Gives p.0 p.1 (first_of (name_of p.0) rows) n → ⊥
+
+-- the same of a base
+abbrev pub IsRightBase : List Row → Type 0
+IsRightBase rows = (n : ℕ) × GivesBase (first_of (codes "base") rows) n
+
+abbrev pub IsWrongBase : List Row → Type 0
+IsWrongBase rows = (n : ℕ) → GivesBase (first_of (codes "base") rows) n → ⊥
+
+-- the same of a lane
+abbrev pub IsRightLane : List Row → Type 0
+IsRightLane rows = (l : Option LaneName) × WritesLane (first_of (codes "lane") rows) l
+
+abbrev pub IsWrongLane : List Row → Type 0
+IsWrongLane rows = (l : Option LaneName) → WritesLane (first_of (codes "lane") rows) l → ⊥
+
+-- the value of each option is right
+abbrev pub AreRight : List Row → List (ValueOption × Option ℕ) → Type 0
+AreRight rows [] = Unit {0}
+AreRight rows (p ∷ ps) = IsRight rows p × AreRight rows ps
+
+-- this option is the first of these whose value is wrong
+abbrev pub IsFirstWrong : List Row → List (ValueOption × Option ℕ) → ValueOption → Type 0
+IsFirstWrong rows [] option = ⊥
+IsFirstWrong rows (p ∷ ps) option = (option ≡ p.0) × IsWrong rows p ⊎ IsRight rows p × IsFirstWrong rows ps option
+
+-- the options of the subcommands that have values, but for the base
+abbrev pub tlp_values : List (ValueOption × Option ℕ)
+tlp_values = (Size, Some 4096) ∷ (Block, Some 64) ∷ []
+
+abbrev pub search_values : List (ValueOption × Option ℕ)
+search_values = (Limit, Some 1000000) ∷ []
+
+abbrev pub draw_values : List (ValueOption × Option ℕ)
+draw_values = (From, Some 0) ∷ (To, Some 18446744073709551615) ∷ []
+
+abbrev pub chart_values : List (ValueOption × Option ℕ)
+chart_values = (From, Some 1) ∷ (To, Some 18446744073709551615) ∷ []
+
+abbrev pub generate_values : List (ValueOption × Option ℕ)
+generate_values = (Seed, None) ∷ (Events, None) ∷ (Requesters, Some 3) ∷ (Lose, Some 0) ∷ (Corrupt, Some 0) ∷ (Block, Some 64) ∷ []
+
+abbrev pub run_values : List (ValueOption × Option ℕ)
+run_values = (Requesters, None) ∷ (Each, None) ∷ (Lose, Some 0) ∷ (Corrupt, Some 0) ∷ (Turns, Some 50000000) ∷ []
+
+-- a memory of this base and size would end beyond 2^64
+abbrev pub EndsBeyond : List Row → Type 0
+EndsBeyond rows = (base size : ℕ) → GivesBase (first_of (codes "base") rows) base → Gives Size (Some 4096) (first_of (codes "size") rows) size → base + size ≤ 2 ^ 64 → ⊥
+
+-- the last point lies before the first
+abbrev pub EndsBefore : List Row → Type 0
+EndsBefore rows = (from to : ℕ) → Gives From (Some 0) (first_of (codes "from") rows) from → Gives To (Some 18446744073709551615) (first_of (codes "to") rows) to → from ≤ to → ⊥
+
+-- the last line lies before the first
+abbrev pub EndsAbove : List Row → Type 0
+EndsAbove rows = (from to : ℕ) → Gives From (Some 1) (first_of (codes "from") rows) from → Gives To (Some 18446744073709551615) (first_of (codes "to") rows) to → from ≤ to → ⊥
+
+abbrev pub RefusesTlp : List Row → ValueOption → Type 0
+RefusesTlp rows option =
+    (option ≡ Base) × IsWrongBase rows ⊎ IsRightBase rows × IsFirstWrong rows tlp_values option
+    ⊎ (option ≡ Base) × IsRightBase rows × AreRight rows tlp_values × EndsBeyond rows
+
+abbrev pub RefusesDraw : List Row → ValueOption → Type 0
+RefusesDraw rows option = IsFirstWrong rows draw_values option ⊎ (option ≡ To) × AreRight rows draw_values × EndsBefore rows
+
+abbrev pub RefusesChart : List Row → ValueOption → Type 0
+RefusesChart rows option =
+    (option ≡ Lane) × IsWrongLane rows ⊎ IsRightLane rows × IsFirstWrong rows chart_values option
+    ⊎ (option ≡ To) × IsRightLane rows × AreRight rows chart_values × EndsAbove rows
+
+abbrev pub RefusesOption : Text → List Row → ValueOption → Type 0
+RefusesOption name rows option =
+    (name ≡ codes "tlp") × RefusesTlp rows option ⊎ (name ≡ codes "draw") × RefusesDraw rows option
+    ⊎ (name ≡ codes "generate") × IsFirstWrong rows generate_values option ⊎ (name ≡ codes "run") × IsFirstWrong rows run_values option
+    ⊎ (name ≡ codes "chart") × RefusesChart rows option
+    ⊎ (name ≡ codes "search") × IsFirstWrong rows search_values option
+
+-- of the subcommand with its values this option is refused, with what is written of it
+abbrev pub Refuses : Option (Text × List Row) → RefusedValue → Type 0
+Refuses None refused = ⊥
+Refuses (Some p) refused =
+    (option_map (λ t. t.now) refused.given ≡ first_of (name_of refused.option) p.1) × RefusesOption p.0 p.1 refused.option

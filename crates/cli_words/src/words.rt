@@ -1,0 +1,370 @@
+//! What the words of a command line ask for.
+ghost use Rattle.std.specs.Prelude.{◌≡◌, IfOk, IfErr, IfSome, IfNone, OnErr, map, true, codes, Some, [], option_map};
+ghost use Rattle.clap.specs.Words.{FailsBy, HasKind, fault_of, kind_of, subcommand_of, subcommand_rows_of, has_subcommand, takes, rows_of, found_of, first_of};
+ghost use Rattle.cli_options.specs.Values.{Gives, GivesBase, name_of};
+ghost use Rattle.cli_options.specs.declared.options.ValueOption.TheVariants.{Base, Lane};
+ghost use Rattle.cli_words.specs.declared.words.Request.{Request};
+ghost use Rattle.cli_words.specs.declared.words.RequestFault.TheVariants.{Value};
+ghost use Rattle.cli_words.specs.Faults.{WordsFault, RangeFault, ValueFault, IsRefusal};
+ghost use Rattle.cli_words.specs.Lanes.{WritesLane};
+ghost use Rattle.cli_words.specs.Options.{the_app, text_of, Asks};
+ghost use Rattle.cli_words.specs.declared.words.Subcommand.{Subcommand};
+ghost use Rattle.cli_words.specs.Refusals.{IsWrong, IsWrongBase, IsWrongLane, Refuses};
+
+use crate::lanes::lane_of;
+use crate::subcommands::grammar;
+use clap::ArgMatches;
+use clap::error::ErrorKind;
+use cli_options::{RefusedValue, ValueOption, base_of, is_set, number_of};
+use counting::Counting;
+use fabric_core::LaneName;
+use seq_memory::is_base;
+use std::alloc::Global;
+use std::convert::AsStr;
+use storm::Storm;
+
+/// What the words ask for.
+#[derive(Clone, Copy, Debug)]
+pub enum Request {
+    /// The subcommand `tlp`, over a memory of these limits.
+    Tlp {
+        base: u64,
+        size: usize,
+        block: u16,
+    },
+    /// The subcommand `decode`.
+    Decode,
+    /// The subcommand `encode`.
+    Encode,
+    /// The subcommand `check`.
+    Check,
+    /// The subcommand `search`, which looks at so many choices at most, and may tell how far it is.
+    Search {
+        limit: u64,
+        is_told: bool,
+    },
+    /// The subcommand `draw`, of the points of a history from one to another.
+    Draw {
+        from: u64,
+        to: u64,
+    },
+    /// The subcommand `upgrade`.
+    Upgrade,
+    /// The subcommand `step`, which tells results, or the trace alone; which may go on after a refusal, and tell each
+    /// result after its line.
+    Step {
+        is_traced: bool,
+        keeps_going: bool,
+        echoes: bool,
+    },
+    /// The subcommand `chart`, of the lane alone, if one is given, and of the lines from one to another.
+    Chart {
+        lane: Option<LaneName>,
+        from: u64,
+        to: u64,
+    },
+    /// The subcommand `generate`, which writes the script of a storm.
+    Generate {
+        storm: Storm,
+    },
+    /// The subcommand `run`, which may tell how far it is.
+    Run {
+        counting: Counting,
+        is_told: bool,
+    },
+}
+
+/// Why the words ask for nothing.
+#[derive(Debug, Drop)]
+pub enum RequestFault<'a> {
+    /// What `clap` says of the words, also a text that was asked for, and that memory ran out.
+    Words(clap::Error),
+    /// An option has a value that it may not have.
+    Value(RefusedValue<'a>),
+    /// They name none of the subcommands.
+    Nothing,
+}
+
+impl<'a> From<RefusedValue<'a>> for RequestFault<'a> {
+    ghost from_gives = { λ refused fault. fault ≡ Value refused };
+
+    fn from(refused: RefusedValue<'a>) -> RequestFault<'a> {
+        RequestFault::Value(refused)
+    }
+}
+
+/// What the words match.
+fn matches_of<'a, S: AsStr>(alloc: Global, words: &'a [S]) -> Result<ArgMatches<'a>, clap::Error>
+    ensures there { IfOk result (λ m. has_subcommand m ≡ true) }
+    ensures rows { IfOk result (λ m. subcommand_rows_of m ≡ subcommand_of the_app (map S.text words.now)) }
+    ensures err { IfErr result (λ e. takes the_app (map S.text words.now) ≡ true → kind_of e ≡ ErrorKind.OutOfMemory) }
+    ensures kinds { FailsBy (fault_of the_app (map S.text words.now)) result }
+{
+    let command = grammar(alloc)?;
+    command.try_get_matches_from(words)
+}
+
+/// The first address of a memory that the values give.
+fn base_in<'a>(values: &ArgMatches<'a>) -> Result<u64, RefusedValue<'a>>
+    ensures ok { IfOk result (GivesBase (first_of (codes "base") (rows_of (found_of values.now)))) }
+    ensures err { OnErr result (IsWrongBase (rows_of (found_of values.now))) }
+    ensures refused { IfErr result (λ e. (e.option ≡ Base) × (option_map (λ t. t.now) e.given ≡ first_of (codes "base") (rows_of (found_of values.now)))) }
+{
+    base_of(values.get_str("base"))
+}
+
+/// The number that the values give to an option.
+fn number_in<'a>(
+    values: &ArgMatches<'a>,
+    option: ValueOption,
+    default: Option<u64>,
+) -> Result<u64, RefusedValue<'a>>
+    ensures ok { IfOk result (Gives option default (first_of (name_of option) (rows_of (found_of values.now)))) }
+    ensures err { OnErr result (IsWrong (rows_of (found_of values.now)) (option, default)) }
+    ensures refused { IfErr result (λ e. (e.option ≡ option) × (option_map (λ t. t.now) e.given ≡ first_of (name_of option) (rows_of (found_of values.now)))) }
+{
+    number_of(option, default, values.get_str(option.name()))
+}
+
+/// What the values of `tlp` ask for.
+fn tlp_of<'a>(tlp: &ArgMatches<'a>) -> Result<Request, RefusedValue<'a>>
+    ensures ok { IfOk result (Asks (Some (codes "tlp", rows_of (found_of tlp.now)))) }
+    ensures err { IfErr result (Refuses (Some (codes "tlp", rows_of (found_of tlp.now)))) }
+{
+    let base = base_in(tlp)?;
+    let size = number_in(tlp, ValueOption::Size, Some(4096))? as usize;
+    let block = number_in(tlp, ValueOption::Block, Some(64))? as u16;
+    if !is_base(base, size) {
+        return Err(RefusedValue {
+            option: ValueOption::Base,
+            given: tlp.get_str("base"),
+        });
+    }
+    Ok(Request::Tlp { base, size, block })
+}
+
+/// What the values of `search` ask for.
+fn search_of<'a>(search: &ArgMatches<'a>) -> Result<Request, RefusedValue<'a>>
+    ensures ok { IfOk result (Asks (Some (codes "search", rows_of (found_of search.now)))) }
+    ensures err { IfErr result (Refuses (Some (codes "search", rows_of (found_of search.now)))) }
+{
+    let limit = number_in(search, ValueOption::Limit, Some(1_000_000))?;
+    Ok(Request::Search {
+        limit,
+        is_told: is_set(search.get_str("progress")),
+    })
+}
+
+/// What the values of `draw` ask for.
+fn draw_of<'a>(draw: &ArgMatches<'a>) -> Result<Request, RefusedValue<'a>>
+    ensures ok { IfOk result (Asks (Some (codes "draw", rows_of (found_of draw.now)))) }
+    ensures err { IfErr result (Refuses (Some (codes "draw", rows_of (found_of draw.now)))) }
+{
+    let from = number_in(draw, ValueOption::From, Some(0))?;
+    let to = number_in(draw, ValueOption::To, Some(u64::MAX))?;
+    if to < from {
+        return Err(RefusedValue {
+            option: ValueOption::To,
+            given: draw.get_str("to"),
+        });
+    }
+    Ok(Request::Draw { from, to })
+}
+
+/// The lane that the values give.
+fn lane_in<'a>(values: &ArgMatches<'a>) -> Result<Option<LaneName>, RefusedValue<'a>>
+    ensures ok { IfOk result (WritesLane (first_of (codes "lane") (rows_of (found_of values.now)))) }
+    ensures err { OnErr result (IsWrongLane (rows_of (found_of values.now))) }
+    ensures refused { IfErr result (λ e. (e.option ≡ Lane) × (option_map (λ t. t.now) e.given ≡ first_of (codes "lane") (rows_of (found_of values.now)))) }
+{
+    lane_of(values.get_str("lane"))
+}
+
+/// What the values of `chart` ask for.
+fn chart_of<'a>(chart: &ArgMatches<'a>) -> Result<Request, RefusedValue<'a>>
+    ensures ok { IfOk result (Asks (Some (codes "chart", rows_of (found_of chart.now)))) }
+    ensures err { IfErr result (Refuses (Some (codes "chart", rows_of (found_of chart.now)))) }
+{
+    let lane = lane_in(chart)?;
+    let from = number_in(chart, ValueOption::From, Some(1))?;
+    let to = number_in(chart, ValueOption::To, Some(u64::MAX))?;
+    if to < from {
+        return Err(RefusedValue {
+            option: ValueOption::To,
+            given: chart.get_str("to"),
+        });
+    }
+    Ok(Request::Chart { lane, from, to })
+}
+
+/// What the values of `step` ask for.
+fn step_of(step: &ArgMatches<'_>) -> Request
+    ensures { Asks (Some (codes "step", rows_of (found_of step.now))) result }
+{
+    Request::Step {
+        is_traced: is_set(step.get_str("trace")),
+        keeps_going: is_set(step.get_str("keep-going")),
+        echoes: is_set(step.get_str("echo")),
+    }
+}
+
+/// What the values of `generate` ask for.
+fn generate_of<'a>(generate: &ArgMatches<'a>) -> Result<Request, RefusedValue<'a>>
+    ensures ok { IfOk result (Asks (Some (codes "generate", rows_of (found_of generate.now)))) }
+    ensures err { IfErr result (Refuses (Some (codes "generate", rows_of (found_of generate.now)))) }
+{
+    let seed = number_in(generate, ValueOption::Seed, None)?;
+    let events = number_in(generate, ValueOption::Events, None)?;
+    let requesters = number_in(generate, ValueOption::Requesters, Some(3))?;
+    let lose = number_in(generate, ValueOption::Lose, Some(0))?;
+    let corrupt = number_in(generate, ValueOption::Corrupt, Some(0))?;
+    let block = number_in(generate, ValueOption::Block, Some(64))?;
+    Ok(Request::Generate {
+        storm: Storm {
+            seed,
+            events,
+            requesters,
+            lose,
+            corrupt,
+            block,
+        },
+    })
+}
+
+/// What the values of `run` ask for.
+fn run_of<'a>(run: &ArgMatches<'a>) -> Result<Request, RefusedValue<'a>>
+    ensures ok { IfOk result (Asks (Some (codes "run", rows_of (found_of run.now)))) }
+    ensures err { IfErr result (Refuses (Some (codes "run", rows_of (found_of run.now)))) }
+{
+    let requesters = number_in(run, ValueOption::Requesters, None)?;
+    let each = number_in(run, ValueOption::Each, None)?;
+    let lose = number_in(run, ValueOption::Lose, Some(0))?;
+    let corrupt = number_in(run, ValueOption::Corrupt, Some(0))?;
+    let turns = number_in(run, ValueOption::Turns, Some(50_000_000))?;
+    Ok(Request::Run {
+        counting: Counting {
+            requesters,
+            each,
+            lose,
+            corrupt,
+            turns,
+        },
+        is_told: is_set(run.get_str("progress")),
+    })
+}
+
+/// The subcommands.
+#[derive(Clone, Copy)]
+pub(crate) enum Subcommand {
+    Tlp,
+    Decode,
+    Encode,
+    Check,
+    Search,
+    Draw,
+    Upgrade,
+    Step,
+    Chart,
+    Generate,
+    Run,
+}
+
+/// The subcommand of this name.
+fn subcommand_named(name: &str) -> Option<Subcommand>
+    ensures some { IfSome result (λ s. name.now ≡ text_of s) }
+    ensures none { IfNone result ((s : Subcommand) → name.now ≡ text_of s → ⊥) }
+{
+    if name == "tlp" {
+        Some(Subcommand::Tlp)
+    } else if name == "decode" {
+        Some(Subcommand::Decode)
+    } else if name == "encode" {
+        Some(Subcommand::Encode)
+    } else if name == "check" {
+        Some(Subcommand::Check)
+    } else if name == "search" {
+        Some(Subcommand::Search)
+    } else if name == "draw" {
+        Some(Subcommand::Draw)
+    } else if name == "upgrade" {
+        Some(Subcommand::Upgrade)
+    } else if name == "step" {
+        Some(Subcommand::Step)
+    } else if name == "chart" {
+        Some(Subcommand::Chart)
+    } else if name == "generate" {
+        Some(Subcommand::Generate)
+    } else if name == "run" {
+        Some(Subcommand::Run)
+    } else {
+        None
+    }
+}
+
+/// What a subcommand with these values asks for.
+fn request_of<'a>(
+    subcommand: Subcommand,
+    values: &ArgMatches<'a>,
+) -> Result<Request, RefusedValue<'a>>
+    ensures ok { IfOk result (Asks (Some (text_of subcommand, rows_of (found_of values.now)))) }
+    ensures err { IfErr result (Refuses (Some (text_of subcommand, rows_of (found_of values.now)))) }
+{
+    match subcommand {
+        Subcommand::Tlp => tlp_of(values),
+        Subcommand::Decode => Ok(Request::Decode),
+        Subcommand::Encode => Ok(Request::Encode),
+        Subcommand::Check => Ok(Request::Check),
+        Subcommand::Search => search_of(values),
+        Subcommand::Draw => draw_of(values),
+        Subcommand::Upgrade => Ok(Request::Upgrade),
+        Subcommand::Step => Ok(step_of(values)),
+        Subcommand::Chart => chart_of(values),
+        Subcommand::Generate => generate_of(values),
+        Subcommand::Run => run_of(values),
+    }
+}
+
+/// What a name with these values asks for.
+fn named_request<'a>(name: &str, values: &ArgMatches<'a>) -> Result<Request, RequestFault<'a>>
+    ensures ok { IfOk result (Asks (Some (name.now, rows_of (found_of values.now)))) }
+    ensures err { IfErr result (IsRefusal (Some (name.now, rows_of (found_of values.now)))) }
+{
+    match subcommand_named(name) {
+        Some(subcommand) => Ok(request_of(subcommand, values)?),
+        None => Err(RequestFault::Nothing),
+    }
+}
+
+/// What the words of a command line ask for, the program's name before them.
+pub fn options<'a, S: AsStr>(alloc: Global, words: &'a [S]) -> Result<Request, RequestFault<'a>>
+    // What the words ask for.
+    ensures ok { IfOk result (Asks (subcommand_of the_app (map S.text words.now))) }
+
+    // They ask for nothing else.
+    ensures only { IfOk result (λ r. (other : Request) → Asks (subcommand_of the_app (map S.text words.now)) other → r ≡ other) }
+
+    // Words that ask for something have no fault.
+    ensures faultless { IfOk result (λ _. fault_of the_app (map S.text words.now) ≡ []) }
+
+    // The parser's fault comes only at words that it doesn't take, but for memory.
+    ensures words { IfErr result (WordsFault (λ e. takes the_app (map S.text words.now) ≡ true → kind_of e ≡ ErrorKind.OutOfMemory)) }
+
+    // It is of a kind that the words' first fault may have.
+    ensures kinds { IfErr result (WordsFault (HasKind (fault_of the_app (map S.text words.now)))) }
+
+    // And any other only at values that ask for nothing, in words that have no fault.
+    ensures range { IfErr result (RangeFault ((r : Request) → Asks (subcommand_of the_app (map S.text words.now)) r → ⊥)) }
+    ensures range_faultless { IfErr result (RangeFault (fault_of the_app (map S.text words.now) ≡ [])) }
+
+    // A value that is told is the first that is refused, as it is written.
+    ensures value { IfErr result (ValueFault (Refuses (subcommand_of the_app (map S.text words.now)))) }
+{
+    let matches = match matches_of(alloc, words) {
+        Ok(matches) => matches,
+        Err(e) => return Err(RequestFault::Words(e)),
+    };
+    match matches.subcommand() {
+        Some((name, values)) => named_request(name, values),
+        None => Err(RequestFault::Nothing),
+    }
+}

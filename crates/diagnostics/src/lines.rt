@@ -1,0 +1,151 @@
+//! Why a line is refused.
+ghost use Rattle.std.specs.Prelude.{◌≡◌, IfErr, OnOk, OnErr};
+ghost use Rattle.diagnostics.specs.Told.{IsReasonTold, IsReasonBegun};
+
+use crate::telling::{Reason, Shown};
+use line_loop::EngineFault;
+use operation_text::Misfit;
+use std::io::Write;
+
+/// What refusals and faults mean, by their names.
+const MEANINGS: [(&str, &str); 13] = [
+    (
+        "NoSuchPart",
+        "the fabric has no such requester or lane, or the switch does not forward from the lane",
+    ),
+    (
+        "Idle",
+        "there is nothing to send, deliver, replay, retrain or collect",
+    ),
+    (
+        "NotTakeable",
+        "no packet is at this position, or it may not pass an earlier one",
+    ),
+    ("TagsUsed", "the requester has 256 open requests"),
+    (
+        "NumbersUsed",
+        "the requester has used all 4294967295 request numbers",
+    ),
+    (
+        "NoCredits P",
+        "the lane that the packet would enter has too few posted credits",
+    ),
+    (
+        "NoCredits NP",
+        "the lane that the packet would enter has too few non-posted credits",
+    ),
+    (
+        "NoCredits Cpl",
+        "the lane that the packet would enter has too few completion credits",
+    ),
+    (
+        "WindowFull",
+        "the lane that the packet would enter has a full replay buffer: 2047 packets",
+    ),
+    (
+        "LengthMismatch",
+        "a read has 1 to 1024 DW, and data are whole DW",
+    ),
+    (
+        "ByteEnables",
+        "the byte enables break the rule for this number of DW at this address",
+    ),
+    (
+        "OperandSize",
+        "FetchAdd and Swap have operands of 4 or 8 bytes, CAS of 4, 8 or 16",
+    ),
+    (
+        "Unaligned",
+        "an operand's address is a multiple of the operand's size, any other of 4",
+    ),
+];
+
+/// What the name means, nothing where it says it all.
+fn meaning_of(name: &[u8]) -> &'static str {
+    for meaning in &MEANINGS {
+        if name == meaning.0.as_bytes() {
+            return meaning.1;
+        }
+    }
+    ""
+}
+
+/// Adds that the line is refused for what that name says.
+fn put_refused(line: &[u8], name: &[u8], reason: &mut Reason) {
+    let (line, told) = (Shown(line), Shown(name));
+    reason.put(format_args!(": '{line}' is refused"));
+    if name.is_empty() {
+        return;
+    }
+    reason.put(format_args!(": {told}"));
+    let meaning = meaning_of(name.strip_prefix(b"Profile ").unwrap_or(name));
+    if !meaning.is_empty() {
+        reason.put(format_args!(" ({meaning})"));
+    }
+}
+
+/// That the line is refused for what that name says.
+fn refusal_reason(line: &[u8], name: &[u8]) -> Reason {
+    let mut reason = Reason::new();
+    put_refused(line, name, &mut reason);
+    reason
+}
+
+/// Tells that the line is refused for what this name says, where it is told as a fault: this is its
+/// number then. After an `Err` a beginning of the reason was written.
+pub fn tell_refusal<E: Write>(
+    line: &[u8],
+    name: &str,
+    fault: Option<u64>,
+    errors: &mut E,
+) -> Result<(), EngineFault>
+    ensures ok { OnOk result (IsReasonTold fault (E.contents errors.old) (E.contents errors.new)) }
+    ensures fault { IfErr result (λ f. f ≡ EngineFault.Write) }
+    ensures part { OnErr result (IsReasonBegun fault (E.contents errors.old) (E.contents errors.new)) }
+{
+    match fault {
+        Some(number) => refusal_reason(line, name.as_bytes()).tell_at(number, errors),
+        None => Ok(()),
+    }
+}
+
+/// Tells what doesn't fit in the line, where it is told as a fault: this is its number then. Without a
+/// misfit the line is refused as it stands. After an `Err` a beginning of the reason was written.
+pub fn tell_misfit<E: Write>(
+    line: &[u8],
+    misfit: Option<Misfit>,
+    fault: Option<u64>,
+    errors: &mut E,
+) -> Result<(), EngineFault>
+    ensures ok { OnOk result (IsReasonTold fault (E.contents errors.old) (E.contents errors.new)) }
+    ensures fault { IfErr result (λ f. f ≡ EngineFault.Write) }
+    ensures part { OnErr result (IsReasonBegun fault (E.contents errors.old) (E.contents errors.new)) }
+{
+    match (fault, misfit) {
+        (Some(number), Some(misfit)) => Reason::of_misfit(line, &misfit).tell_at(number, errors),
+        (Some(number), None) => refusal_reason(line, b"").tell_at(number, errors),
+        (None, _) => Ok(()),
+    }
+}
+
+/// The reason of a line that is too long.
+fn long_line() -> Reason {
+    let mut reason = Reason::new();
+    reason.put(
+        ", column 513: more where the line's end is expected (a line has 512 bytes at most)",
+    );
+    reason
+}
+
+/// Tells that a line is too long, where that is told as a fault: this is its number then. After an `Err`
+/// a beginning of the reason was written.
+pub fn tell_long_line<E: Write>(fault: Option<u64>, errors: &mut E) -> Result<(), EngineFault>
+    ensures ok { OnOk result (IsReasonTold fault (E.contents errors.old) (E.contents errors.new)) }
+    ensures fault { IfErr result (λ f. f ≡ EngineFault.Write) }
+    ensures part { OnErr result (IsReasonBegun fault (E.contents errors.old) (E.contents errors.new)) }
+{
+    match fault {
+        Some(number) => long_line().tell_at(number, errors),
+        None => Ok(()),
+    }
+}

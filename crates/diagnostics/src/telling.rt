@@ -1,0 +1,128 @@
+//! The line that tells a reason.
+ghost use Rattle.std.specs.Prelude.{◌≡◌, ◌≤◌, ◌++◌, codes, IfErr, OnOk, OnErr};
+ghost use Rattle.std.specs.Fmt.{decimal};
+ghost use Rattle.arrayvec.specs.ArrayString.{array_string_len};
+ghost use Rattle.diagnostics.specs.Told.{IsReasonToldAt, IsReasonBegunAt};
+
+use crate::shown::shown_byte;
+use arrayvec::ArrayString;
+use line_loop::{EngineFault, write_out};
+use operation_text::{Expected, Misfit, cut, write_decimal};
+use std::fmt::Write;
+use std::{fmt, io};
+
+/// The most bytes of a reason, without the line that it lies on.
+const ROOM: usize = 1024;
+
+/// How many bytes are shown of a word.
+const SHOWN: usize = 40;
+
+/// Bytes of a text, those that aren't printable ASCII as `\xNN`.
+#[derive(Clone, Copy, Debug)]
+pub(crate) struct Shown<'a>(pub &'a [u8]);
+
+impl<'a> Shown<'a> {
+    /// The first 40 of them.
+    pub(crate) fn first(bytes: &'a [u8]) -> Shown<'a> {
+        Shown(&bytes[..bytes.len().min(SHOWN)])
+    }
+}
+
+impl fmt::Display for Shown<'_> {
+    fn fmt<W: fmt::Write>(&self, f: &mut fmt::Formatter<W>) -> fmt::Result {
+        for byte in self.0 {
+            f.write_str(shown_byte(*byte).as_str())?;
+        }
+        Ok(())
+    }
+}
+
+/// What is wrong, in at most 1024 bytes: what has no room is left out.
+#[derive(Debug, Drop)]
+pub struct Reason {
+    text: ArrayString<ROOM>,
+}
+
+/// The beginning of a reason's line: the number of the line of the text at which it lies.
+fn beginning(line: u64) -> ArrayString<512>
+    ensures text { result.bytes ≡ codes "pciex: line " ++ decimal line }
+    ensures len { array_string_len result ≤ 32 }
+{
+    let mut text = ArrayString::new();
+    text.push_str("pciex: line ");
+    write_decimal(line, &mut text);
+    text
+}
+
+impl Reason {
+    /// Nothing so far.
+    pub fn new() -> Reason {
+        Reason {
+            text: ArrayString::new(),
+        }
+    }
+
+    /// What stands where something else is expected, by its column, from 1. Of two spaces the second one
+    /// stands there.
+    pub fn of_misfit(line: &[u8], misfit: &Misfit) -> Reason {
+        let mut reason = Reason::new();
+        let left = misfit.left.unwrap_or(0).min(line.len());
+        let rest = &line[line.len() - left..];
+        let column = (line.len() - left).saturating_add(1);
+        reason.put(format_args!(", column {column}: "));
+        if rest.is_empty() {
+            reason.put("the line ends");
+        } else {
+            reason.put_word(cut(rest).0);
+        }
+        reason.put_expected(misfit.expected);
+        reason
+    }
+
+    /// Adds a word in quotes, a space for an empty one.
+    fn put_word(&mut self, word: &[u8]) {
+        if word.is_empty() {
+            self.put("' '");
+        } else {
+            let word = Shown::first(word);
+            self.put(format_args!("'{word}'"));
+        }
+    }
+
+    /// Adds what is expected, and which values it has.
+    pub fn put_expected(&mut self, expected: Expected) {
+        match expected {
+            Expected::Named(name) => self.put(format_args!(" where {name} is expected")),
+            Expected::Of(name, values) => {
+                self.put(format_args!(" where {name} is expected ({values})"));
+            }
+            Expected::Between(name, least, most) => {
+                self.put(format_args!(" where {name} is expected ({least} to {most})"));
+            }
+            Expected::Multiple(name, least, most, unit) => {
+                self.put(format_args!(
+                    " where {name} is expected ({least} to {most}, a multiple of {unit})"
+                ));
+            }
+        }
+    }
+
+    /// Adds to the reason.
+    pub fn put<D: fmt::Display + Drop>(&mut self, part: D) {
+        let _ = write!(self.text, "{part}");
+    }
+
+    /// Writes the line of a reason that lies on the line of this number. After an `Err` a beginning of it
+    /// was written.
+    pub fn tell_at<E: io::Write>(&self, number: u64, errors: &mut E) -> Result<(), EngineFault>
+        ensures ok { OnOk result (IsReasonToldAt number (E.contents errors.old) (E.contents errors.new)) }
+        ensures fault { IfErr result (λ f. f ≡ EngineFault.Write) }
+        ensures part { OnErr result (IsReasonBegunAt number (E.contents errors.old) (E.contents errors.new)) }
+    {
+        let mut line: ArrayString<1057> = ArrayString::new();
+        line.push_str(beginning(number).as_str());
+        line.push_str(self.text.as_str());
+        line.push_str("\n");
+        write_out(errors, line.as_bytes())
+    }
+}

@@ -1,4 +1,0 @@
-use Rattle.fabric_handle.proofs.held.history_length.Given as goal
-
-abbrev pub ghost-open : goal.ghost-open
-ghost-open g a = g.session

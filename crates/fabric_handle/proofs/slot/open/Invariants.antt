@@ -1,4 +1,0 @@
-use Rattle.fabric_handle.proofs.slot.open.Given as goal
-
-abbrev pub ghost-into_parts : goal.ghost-into_parts
-ghost-into_parts g a = g.session

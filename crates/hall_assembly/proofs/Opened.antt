@@ -1,0 +1,148 @@
+-- The rule at the start, and what a closed table is.
+use Rattle.std.proofs.Common.{◌≡◌, ◌≢◌, ℕ, subst, zero, suc, ◌<◌, ◌≤◌, List, [], ◌∷◌, length, map, replicate, sym, refl, ap, ◌∙◌, ⊎_elim, arith, Option, Some, None, get_or}
+use Rattle.std.specs.Prelude.{slice_get}
+use mathlib.Core.Option.{some, some-injective, some-ne-none}
+use mathlib.Core.Logic.{dite}
+use native.Mathlib.Decide.{ℕ_discrete, dec_lt}
+use lib.ListN.{get_elem?, length-map, length-replicate}
+use Rattle.atomic_table.specs.Table.{opening, Final, Seen}
+use Rattle.hall_assembly.proofs.Lists.{at_map, at_snoc, count_nil, there, at_length, one_is, not_same}
+use Rattle.lane_ends.specs.Steps.{Ends}
+use Rattle.lane_core.specs.Calls.{content}
+use Rattle.fabric_laws.specs.Lists.{Each, count}
+use Rattle.fabric_laws.specs.Whole.{Whole, up_of, down_of, requester_of, open_number}
+use Rattle.fabric_laws.specs.Sound.{Sound, times as stands_times}
+use Rattle.fabric_laws.specs.New.{IsNew}
+use Rattle.fabric_laws.specs.Trace.{Belongs}
+use Rattle.fabric_laws.specs.Fabric.{Fabric, items, whole_of}
+use Rattle.fabric_core.specs.declared.config.Config.{Config}
+use Rattle.fabric_core.specs.Config.{IsConfig, config_of}
+use Rattle.fabric_core.specs.Kept.{IsSoundFabric}
+use Rattle.hall_laws.specs.declared.part.PartValue.{PartValue}
+use Rattle.hall_laws.specs.declared.token.Token.{Token}
+use Rattle.hall_laws.specs.declared.token.Start.{Start}
+use Rattle.hall_laws.specs.Parts.{parts_of}
+use Rattle.hall_laws.specs.Standing.{word_of, named, serving, token_of}
+use Rattle.hall_laws.specs.Standing as hall
+use Rattle.hall_laws.specs.Rule.{Traced, IsSoundTraced, Fits, Kept, HasConfig, newcomer, newcomers, parts}
+use Rattle.hall_assembly.specs.Opens.{IsUnused, Left}
+
+-- ---- a fabric to which nothing has happened
+
+no_items : (es : List Ends) (i : ℕ) → ((i : ℕ) (e : Ends) → slice_get es i ≡ Some e → content e ≡ []) → get_or (map items es) i [] ≡ []
+no_items [] i h = refl
+no_items (e ∷ es) zero h = ap (map (λ x. _)) (h 0 e refl)
+no_items (e ∷ es) (suc i) h = no_items es i (λ j x at. h (suc j) x at)
+
+no_port : (es : List Ends) (i : ℕ) → ((i : ℕ) (e : Ends) → slice_get es i ≡ Some e → content e ≡ []) → get_or ([] ∷ map items es) i [] ≡ []
+no_port es zero h = refl
+no_port es (suc i) h = no_items es i h
+
+none_open : (o : Option ℕ) → ((k : ℕ) → o ≢ Some k) → o ≡ None
+none_open None h = refl
+none_open (Some k) h = absurd (h k refl)
+
+-- the laws of quiet fabrics
+pub record QuietLaws : Type 0 where
+  pub acted : (p : Whole) (i k : ℕ) → Sound p → p.inward ≡ [] → up_of p i ≡ [] → k < (requester_of p i).next → stands_times i k p.history ≡ 1
+  pub answered : (p : Whole) (i t k : ℕ) → Sound p → p.inward ≡ [] → up_of p i ≡ [] → p.outward ≡ [] → down_of p i ≡ [] → open_number (requester_of p i) t ≢ Some k
+
+pub unused_is_new : QuietLaws → (f : Fabric) → IsSoundFabric f → IsUnused f → IsNew (whole_of f)
+unused_is_new laws f s u =
+    let p : Whole = whole_of f in
+    let inward : p.inward ≡ [] = ap (map (λ x. _)) u.0.inward in
+    let outward : p.outward ≡ [] = ap (map (λ x. _)) u.0.outward in
+    let up : (i : ℕ) → up_of p i ≡ [] = λ i. no_port f.up i u.0.up in
+    let down : (i : ℕ) → down_of p i ≡ [] = λ i. no_port f.down i u.0.down in
+    record {
+      history = u.1;
+      inward = inward;
+      outward = outward;
+      up = up;
+      down = down;
+      next = λ i. dite (dec_lt 0 (requester_of p i).next)
+          (λ (some : 0 < (requester_of p i).next). absurd (
+          let one : stands_times i 0 p.history ≡ 1 = laws.acted p i 0 s.sound inward (up i) some in
+          let none : stands_times i 0 p.history ≡ 0 = ap (stands_times i 0) u.1 ∙ count_nil (Rattle.history_check.specs.Trace.is_request i 0) in
+          omega arith))
+          (λ none. omega arith);
+      tags = λ i t. none_open (open_number (requester_of p i) t) (λ k. laws.answered p i t k s.sound inward (up i) outward (down i));
+    }
+
+-- ---- the rule at the start
+
+all_zero : (n j x : ℕ) → get_elem? (replicate n 0) j ≡ some x → x ≡ 0
+all_zero zero j x e = absurd (some-ne-none x (sym e))
+all_zero (suc n) zero x e = sym (some-injective 0 x e)
+all_zero (suc n) (suc j) x e = all_zero n j x e
+
+numbered : (c : Config) (m count n : ℕ) → (named n (newcomers c m count) ≤ 1) × (n < m → named n (newcomers c m count) ≡ 0)
+numbered c m zero n = (omega arith, λ h. refl)
+numbered c m (suc count) n = let h = numbered c (suc m) count n in dite (ℕ_discrete n m)
+    (λ same. let one = one_is n m same in let none = h.1 (omega arith) in (omega arith, λ big. omega arith))
+    (λ ne. let zero_here = not_same n m ne in let most = h.0 in (omega arith, λ big. let none = h.1 (omega arith) in omega arith))
+
+unserved : (c : Config) (m count n : ℕ) → serving n (newcomers c m count) ≡ 0
+unserved c m zero n = refl
+unserved c m (suc count) n = let h = unserved c (suc m) count n in omega arith
+
+new_fits : (f : Fabric) (c : Config) (n : ℕ) → HasConfig f c → Fits (record { fabric = f; records = [] }) (newcomer c n).knows
+new_fits f c n config = record {
+  config = config;
+  seen = (f.memory.entries, refl);
+  made = refl;
+  pending = refl;
+  told = λ a r at. absurd (cc);
+  served = tt;
+}
+
+all_seated : (f : Fabric) (words : List ℕ) (c : Config) (m count : ℕ) → HasConfig f c → Each (hall.Seated parts IsSoundTraced Fits (record { fabric = f; records = [] }) words) (newcomers c m count)
+all_seated f words c m zero config = tt
+all_seated f words c m (suc count) config = ((tt, new_fits f c m config), all_seated f words c (suc m) count config)
+
+pub opens : (f : Fabric) (n m : ℕ) (xs : List (Option PartValue)) (key : Start) → IsSoundFabric f → Belongs (whole_of f) [] → HasConfig f key.config → xs ≡ map Some (parts_of f) → n ≡ word_of (length xs) → Kept key (opening (replicate n 0) xs (newcomers key.config 0 m))
+opens f n m xs key sound belongs config is count =
+    let long : length xs ≡ length (parts_of f) = ap length is ∙ length-map (parts_of f) Some in record {
+      whole = record { fabric = f; records = [] };
+      sound = record { sound = sound; belongs = belongs };
+      wide = omega (arith, length-replicate {A = ℕ} n 0);
+      deep = length-map xs some ∙ long;
+      at_home = λ k v free at. at_map some xs k (Some v) (ap (λ (l : List (Option PartValue)). get_elem? l k) is ∙ at_map Some (parts_of f) k v at);
+      holder = λ j k e. let z = all_zero n (word_of j) (suc k) e in absurd (omega arith);
+      tokens = λ j us e. ⊎_elim (λ (h : get_elem? [] j ≡ some us). absurd (some-ne-none us (sym h)))
+          (λ (h : newcomers key.config 0 m ≡ us). subst (Each (hall.Seated parts IsSoundTraced Fits (record { fabric = f; records = [] }) (replicate n 0))) h (all_seated f (replicate n 0) key.config 0 m config)) (at_snoc [] (newcomers key.config 0 m) us j e);
+      apart = λ k. let h = (numbered key.config 0 m k).0 in omega arith;
+      served = λ k. let h = unserved key.config 0 m k in omega arith;
+    }
+
+-- ---- a closed table
+
+same_lists : {X : Type 0} (xs ys : List X) → length xs ≡ length ys → ((k : ℕ) (y : X) → get_elem? ys k ≡ some y → get_elem? xs k ≡ some y) → xs ≡ ys
+same_lists [] [] n h = refl
+same_lists [] (y ∷ ys) n h = absurd (omega arith)
+same_lists (x ∷ xs) [] n h = absurd (omega arith)
+same_lists (x ∷ xs) (y ∷ ys) n h = let e = some-injective x y (h 0 y refl) in let r = same_lists xs ys (omega arith) (λ k z at. h (suc k) z at) in cc
+
+same_config : (f : Fabric) (c : Config) → HasConfig f c → config_of f ≡ c
+same_config f c h = λ i. record { requesters = h.requesters i; base = h.base i; size = h.size i; credits = h.credits i; block = h.block i }
+
+-- where each word is 0, the slots are the parts of a sound fabric that the seat leaves
+pub closes : (key : Start) (id : ℕ) (v : List Token) (ws : List ℕ) (xs : List (Option PartValue)) → 0 < length v → Final (Seen (Kept key) id v) ws xs → ((k : ℕ) → k < length xs → get_elem? ws (word_of k) ≡ some 0) → Left (token_of v).knows xs
+closes key id [] ws xs some_token (s, (r, at), words, count, home) free = absurd (omega arith)
+closes key id (t ∷ ts) ws xs some_token (s, (r, at), words, count, home) free =
+    let p : Traced = r.whole in
+    let mine : Fits p t.knows = (r.tokens id (t ∷ ts) at).0.1 in (
+      p.fabric,
+      record {
+        sound = r.sound.sound;
+        config = mine.config;
+        right_config = subst IsConfig (same_config p.fabric t.knows.config mine.config) r.sound.sound.config;
+        begins = mine.seen;
+        made = subst (Rattle.fabric_laws.specs.Trace.IsMade (suc t.knows.number) (Rattle.fabric_laws.specs.Whole.view (whole_of p.fabric) (suc t.knows.number))) (sym mine.made) (r.sound.belongs.made (suc t.knows.number));
+      },
+      same_lists xs (map Some (parts p)) (omega (arith, r.deep, count, length-map {A = PartValue} (parts p) Some))
+          (λ k y e. let x : (v : PartValue) × (get_elem? (parts p) k ≡ some v) = there (parts p) k (omega (arith, at_length (map Some (parts p)) k y e, length-map {A = PartValue} (parts p) Some)) in
+          let small : k < length (parts p) = at_length (parts p) k x.0 x.1 in
+          let zero_word : get_elem? s.words (word_of k) ≡ some 0 = ap (λ (l : List ℕ). get_elem? l (word_of k)) words ∙ free k (omega (arith, r.deep, count)) in
+          home k (Some x.0) (r.at_home k x.0 zero_word x.1) ∙ (sym (at_map Some (parts p) k x.0 x.1) ∙ e)),
+    )

@@ -1,0 +1,166 @@
+//! Reading the bytes of a line.
+ghost use Rattle.std.specs.Prelude.{◌≡◌, ◌≤◌, ℕ, take, ◌*◌, ◌/◌, [], true, false, Ok, IsErr, IfSome, IfNone, length, unwrap_or};
+ghost use Rattle.hex.specs.Hex.{decode_of, hex_digit_value, pair_value};
+ghost use Rattle.hex_text.specs.Line.{digits_of};
+
+use std::marker::Model;
+
+/// Copies the line's digits, all of it but the spaces, to the front of `room`, and gives their
+/// number.
+fn copy_digits(line: &[u8], room: &mut [u8; 512]) -> usize
+    requires { length line.now ≤ 512 }
+    ensures digits { take result room.new ≡ digits_of line.now }
+    ensures fits { result ≤ 512 }
+{
+    let mut count = 0;
+    for byte in line {
+        room[count] = *byte;
+        if *byte != b' ' {
+            count += 1;
+        }
+    }
+    count
+}
+
+/// The value of each hexadecimal digit, in either case, and 16 for each byte that is no digit.
+const VALUES: [u8; 256] = [
+    16, 16, 16, 16, 16, 16, 16, 16, 16, 16, 16, 16, 16, 16, 16, 16, 16, 16, 16, 16, 16, 16, 16, 16,
+    16, 16, 16, 16, 16, 16, 16, 16, 16, 16, 16, 16, 16, 16, 16, 16, 16, 16, 16, 16, 16, 16, 16, 16,
+    0, 1, 2, 3, 4, 5, 6, 7, 8, 9, 16, 16, 16, 16, 16, 16, 16, 10, 11, 12, 13, 14, 15, 16, 16, 16,
+    16, 16, 16, 16, 16, 16, 16, 16, 16, 16, 16, 16, 16, 16, 16, 16, 16, 16, 16, 16, 16, 16, 16, 10,
+    11, 12, 13, 14, 15, 16, 16, 16, 16, 16, 16, 16, 16, 16, 16, 16, 16, 16, 16, 16, 16, 16, 16, 16,
+    16, 16, 16, 16, 16, 16, 16, 16, 16, 16, 16, 16, 16, 16, 16, 16, 16, 16, 16, 16, 16, 16, 16, 16,
+    16, 16, 16, 16, 16, 16, 16, 16, 16, 16, 16, 16, 16, 16, 16, 16, 16, 16, 16, 16, 16, 16, 16, 16,
+    16, 16, 16, 16, 16, 16, 16, 16, 16, 16, 16, 16, 16, 16, 16, 16, 16, 16, 16, 16, 16, 16, 16, 16,
+    16, 16, 16, 16, 16, 16, 16, 16, 16, 16, 16, 16, 16, 16, 16, 16, 16, 16, 16, 16, 16, 16, 16, 16,
+    16, 16, 16, 16, 16, 16, 16, 16, 16, 16, 16, 16, 16, 16, 16, 16, 16, 16, 16, 16, 16, 16, 16, 16,
+    16, 16, 16, 16, 16, 16, 16, 16, 16, 16, 16, 16, 16, 16,
+];
+
+/// The value of a digit, and 16 for a byte that is none.
+fn value_of(digit: u8) -> u8
+    ensures { result ≡ unwrap_or (hex_digit_value digit) 16 }
+{
+    VALUES[usize::from(digit)]
+}
+
+/// The byte of two digits, none where one of them is no digit.
+fn byte_of(high: u8, low: u8) -> Option<u8>
+    ensures some { (i : ℕ) → IfSome result (λ byte. pair_value high low i ≡ Ok byte) }
+    ensures none { (i : ℕ) → IfNone result (IsErr (pair_value high low i)) }
+{
+    let high = value_of(high);
+    let low = value_of(low);
+    if high < 16 && low < 16 {
+        return Some(high * 16 + low);
+    }
+    None
+}
+
+/// Reads the bytes of a line whose digits stand in groups of eight, as in most lines, to the front
+/// of `bytes`, and gives their number; none of other lines.
+fn read_groups(line: &[u8], bytes: &mut [u8; 256]) -> Option<usize>
+    requires { length line.now ≤ 512 }
+    ensures read { IfSome result (λ count. decode_of (digits_of line.now) ≡ Ok (take count bytes.new)) }
+    ensures fits { IfSome result (λ count. count ≤ 256) }
+{
+    let mut count = 0;
+    let mut rest = line;
+    while let [first, after @ ..] = rest {
+        if *first == b' ' {
+            rest = after;
+        } else {
+            let [a, b, c, d, e, f, g, h, after @ ..] = rest else {
+                return None;
+            };
+            bytes[count] = byte_of(*a, *b)?;
+            bytes[count + 1] = byte_of(*c, *d)?;
+            bytes[count + 2] = byte_of(*e, *f)?;
+            bytes[count + 3] = byte_of(*g, *h)?;
+            count += 4;
+            rest = after;
+        }
+    }
+    Some(count)
+}
+
+/// Reads the bytes of the digits, and says whether they are digits of whole bytes.
+fn read_digits(digits: &[u8], bytes: &mut [u8]) -> bool
+    requires { length bytes.old ≡ length digits.now / 2 }
+    ensures read { result ≡ true → decode_of digits.now ≡ Ok bytes.new }
+    ensures not_read { result ≡ false → IsErr (decode_of digits.now) }
+{
+    hex::decode_to_slice(digits, bytes).is_ok()
+}
+
+/// Reads the bytes of the line's digits to the front of `bytes`, and gives their number; none where
+/// the digits are not those of whole bytes. What `digits` holds does not count.
+fn read_line(line: &[u8], digits: &mut [u8; 512], bytes: &mut [u8; 256]) -> Option<usize>
+    requires { length line.now ≤ 512 }
+    ensures read { IfSome result (λ count. decode_of (digits_of line.now) ≡ Ok (take count bytes.new)) }
+    ensures fits { IfSome result (λ count. count ≤ 256) }
+    ensures not_read { IfNone result (IsErr (decode_of (digits_of line.now))) }
+{
+    if let Some(count) = read_groups(line, bytes) {
+        return Some(count);
+    }
+    let count = copy_digits(line, digits);
+    let half = count / 2;
+    if read_digits(&digits[..count], &mut bytes[..half]) {
+        return Some(half);
+    }
+    None
+}
+
+/// The bytes that a line spells, and room to read them: a line is read without clearing it.
+#[derive(Drop)]
+pub struct HexLine {
+    digits: [u8; 512],
+    bytes: [u8; 256],
+    count: usize,
+}
+
+impl Model for HexLine {
+    ghost use Rattle.std.specs.Prelude.{List, ℕ, take, ◌≤◌};
+
+    ghost Value = { List ℕ };
+
+    ghost view = { λ line. take line.count line.bytes };
+
+    ghost invariant = { λ line. line.count ≤ 256 };
+}
+
+impl HexLine {
+    /// No bytes.
+    pub fn new() -> HexLine
+        ensures { result ≡ [] }
+    {
+        HexLine {
+            digits: [0; 512],
+            bytes: [0; 256],
+            count: 0,
+        }
+    }
+
+    /// Reads the bytes that the line spells, and says whether it spells bytes; where it doesn't, there are none.
+    pub fn read(&mut self, line: &[u8]) -> bool
+        requires { length line.now ≤ 512 }
+        ensures read { result ≡ true → decode_of (digits_of line.now) ≡ Ok self.new }
+        ensures not_read { result ≡ false → IsErr (decode_of (digits_of line.now)) }
+        ensures nothing { result ≡ false → self.new ≡ [] }
+    {
+        let Some(count) = read_line(line, &mut self.digits, &mut self.bytes) else {
+            self.count = 0;
+            return false;
+        };
+        self.count = count;
+        true
+    }
+
+    /// The bytes that were read last.
+    pub fn bytes(&self) -> &[u8]
+        ensures { result.now ≡ self.now }
+    {
+        &self.bytes[..self.count]
+    }
+}

@@ -1,4 +1,0 @@
-use Rattle.monitor_handle.proofs.calls.tell_completion.Given as goal
-
-abbrev pub ghost-open : goal.ghost-open
-ghost-open g a = g.monitor

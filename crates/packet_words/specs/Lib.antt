@@ -1,2 +1,0 @@
-pub mod Words
-pub use Rattle.caller_room.specs.Room

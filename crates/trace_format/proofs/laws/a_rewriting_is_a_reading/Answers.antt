@@ -1,5 +1,0 @@
-use Rattle.trace_format.proofs.RewriteLemmas.{rewriting-is-reading}
-use Rattle.trace_format.proofs.laws.a_rewriting_is_a_reading.Goals as goal
-
-pub returns : goal.returns
-returns c = rewriting-is-reading

@@ -1,0 +1,173 @@
+-- What the forms of lines tell of their values.
+use Rattle.std.proofs.Common.{◌≡◌, ℕ, Bool, true, false, List, [], ◌∷◌, refl, sym, subst, arith, Option, Some, None, inl, inr}
+use Rattle.std.specs.Prelude.{◌==◌, ◌||◌, ◌&&◌, cond, codes, bytes_eq, IfSome}
+use Rattle.std.proofs.lemmas.Bool.{cases_Bool, and_parts}
+use Rattle.std.proofs.lemmas.Bool.Decides.{nat_tests}
+use Rattle.tlp_core.specs.declared.operation.Op.{Op}
+use Rattle.seq_memory.specs.declared.Entry.{Entry}
+use Rattle.seq_memory.specs.declared.Reply.{Reply}
+use Rattle.seq_memory.specs.Limits.{IsSize, IsBase, IsBlock, is_size, is_base}
+use Rattle.history_check.specs.declared.Record.{Record}
+use Rattle.history_check.specs.declared.Record.TheVariants as records
+use Rattle.operation_text.specs.Operations.{address, op_spelled, reply_spelled}
+use Rattle.operation_text.specs.Words.{field, then_with, ended}
+use Rattle.operation_text.specs.Numbers.{numeral}
+use Rattle.trace_text.specs.declared.line.Version.{Version}
+use Rattle.trace_text.specs.declared.line.Version.TheVariants as versions
+use Rattle.trace_text.specs.declared.line.Line.{Line}
+use Rattle.trace_text.specs.declared.line.Line.TheVariants as lines
+use Rattle.trace_text.specs.Forms as forms
+use Rattle.trace_text.specs.Forms.{IsLineOfLimits, line_of}
+
+-- the field that a line begins with, and what follows
+pub record Field {X Y : Type 0} (spells : List ℕ → Option X) (f : X → List (List ℕ) → Option Y) (y : Y) : Type 0 where
+  pub value : X
+  pub word : List ℕ
+  pub rest : List (List ℕ)
+  pub is : spells word ≡ Some value
+  pub follows : f value rest ≡ Some y
+
+pub field-first : {X Y : Type 0} (spells : List ℕ → Option X) (f : X → List (List ℕ) → Option Y) (ws : List (List ℕ)) (y : Y)
+    → field spells f ws ≡ Some y → Field spells f y
+field-first spells f [] y h = absurd (cc h)
+field-first {X} {Y} spells f (w ∷ rest) y h = by (spells w) refl h
+  where
+    by : (o : Option X) → spells w ≡ o → then_with {X = X × List (List ℕ)} (then_with o (λ x. Some (x, rest))) (λ s. f s.0 s.1) ≡ Some y → Field spells f y
+    by None e k = absurd (cc k)
+    by (Some x) e k = record { value = x; word = w; rest = rest; is = e; follows = k }
+
+-- what one word spells, and what is made of it
+pub record Then {X Y : Type 0} (o : Option X) (f : X → Option Y) (y : Y) : Type 0 where
+  pub value : X
+  pub is : o ≡ Some value
+  pub follows : f value ≡ Some y
+
+pub then-first : {X Y : Type 0} (o : Option X) (f : X → Option Y) (y : Y) → then_with o f ≡ Some y → Then o f y
+then-first None f y h = absurd (cc h)
+then-first (Some x) f y h = record { value = x; is = refl; follows = h }
+
+pub ended-is : {X : Type 0} (x y : X) (ws : List (List ℕ)) → ended x ws ≡ Some y → x ≡ y
+ended-is x y [] h = cc h
+ended-is x y (w ∷ ws) h = absurd (cc h)
+
+-- one of two ways
+pub either : {Y : Type 0} (P : Type 0) (t : Bool) (a b : Option Y) (y : Y) → (a ≡ Some y → P) → (b ≡ Some y → P) → cond t a b ≡ Some y → P
+either P true a b y f g h = f h
+either P false a b y f g h = g h
+
+pub some-is : {A : Type 0} (x y : A) → Some x ≡ Some y → x ≡ y
+some-is x y e = cc e
+
+pub block-is : (w : List ℕ) (b : ℕ) → forms.block w ≡ Some b → IsBlock b
+block-is w b h =
+    let t = then-first (numeral 10 128 w) _ b h in
+    elim (cases_Bool ((t.value == 64) || (t.value == 128))) [
+      | inl hit ↦
+          let same : t.value ≡ b = some-is t.value b (rw hit at t.follows) in
+          subst IsBlock same (grind (arith, nat_tests))
+      | inr miss ↦ absurd (let k = rw miss at t.follows in cc k)
+    ]
+
+-- ---- what the values of lines are
+
+-- some words spell the value
+abbrev pub IsSpelled : {W X : Type 0} → (W → Option X) → X → Type 0
+IsSpelled {W} spells x = (w : W) × (spells w ≡ Some x)
+
+abbrev pub RecordIs : Record → Type 0
+RecordIs (records.Sub i k op n) = IsSpelled forms.requester i × IsSpelled forms.number k × IsSpelled forms.count n × IsSpelled op_spelled op
+RecordIs (records.Ans i k reply n) = IsSpelled forms.requester i × IsSpelled forms.number k × IsSpelled forms.count n × IsSpelled reply_spelled reply
+
+abbrev pub EntryIs : Entry → Type 0
+EntryIs e = IsSpelled forms.requester e.requester × IsSpelled forms.number e.number × IsSpelled op_spelled e.op
+
+abbrev pub LineIs : Line → Type 0
+LineIs (lines.Head v) = Unit {0}
+LineIs (lines.Memory base size b) = IsSpelled address base × IsSpelled forms.count size × IsBlock b × ((is_size size && is_base base size) ≡ true)
+LineIs (lines.Record r) = RecordIs r
+LineIs lines.History = Unit {0}
+LineIs (lines.Entry e) = EntryIs e
+LineIs lines.End = Unit {0}
+
+within : (base size b : ℕ) (ws : List (List ℕ)) (l : Line) → forms.memory_within base size b ws ≡ Some l
+    → ((is_size size && is_base base size) ≡ true) × (lines.Memory base size b ≡ l)
+within base size b ws l h =
+    elim (cases_Bool (is_size size && is_base base size)) [
+      | inl hit ↦ (hit, ended-is (lines.Memory base size b) l ws (rw hit at h))
+      | inr miss ↦ absurd (let k = rw miss at h in cc k)
+    ]
+
+head-is : (ws : List (List ℕ)) (l : Line) → forms.head_of ws ≡ Some l → LineIs l
+head-is ws l h =
+    let v = field-first forms.version (λ v. ended (lines.Head v)) ws l h in
+    subst LineIs (ended-is (lines.Head v.value) l v.rest v.follows) tt
+
+memory-is : (v : Version) (ws : List (List ℕ)) (l : Line) → forms.memory_of v ws ≡ Some l → LineIs l
+memory-is versions.One ws l h =
+    let base = field-first address (λ base. field forms.count (λ size. forms.memory_within base size 64)) ws l h in
+    let size = field-first forms.count (λ size. forms.memory_within base.value size 64) base.rest l base.follows in
+    let w = within base.value size.value 64 size.rest l size.follows in
+    subst LineIs w.1 ((base.word, base.is), (size.word, size.is), inl refl, w.0)
+memory-is versions.Two ws l h =
+    let base = field-first address (λ base. field forms.count (λ size. field forms.block (λ b. forms.memory_within base size b))) ws l h in
+    let size = field-first forms.count (λ size. field forms.block (λ b. forms.memory_within base.value size b)) base.rest l base.follows in
+    let b = field-first forms.block (λ b. forms.memory_within base.value size.value b) size.rest l size.follows in
+    let w = within base.value size.value b.value b.rest l b.follows in
+    subst LineIs w.1 ((base.word, base.is), (size.word, size.is), block-is b.word b.value b.is, w.0)
+
+sub-is : (ws : List (List ℕ)) (l : Line) → forms.sub_of ws ≡ Some l → LineIs l
+sub-is ws l h =
+    let made : ℕ → ℕ → ℕ → Op → Option Line = λ i k n op. Some (lines.Record (records.Sub i k op n)) in
+    let i = field-first forms.requester (λ i. field forms.number (λ k. field forms.count (λ n rest. then_with (op_spelled rest) (made i k n)))) ws l h in
+    let k = field-first forms.number (λ k. field forms.count (λ n rest. then_with (op_spelled rest) (made i.value k n))) i.rest l i.follows in
+    let n = field-first forms.count (λ n rest. then_with (op_spelled rest) (made i.value k.value n)) k.rest l k.follows in
+    let op = then-first (op_spelled n.rest) (made i.value k.value n.value) l n.follows in
+    subst LineIs (some-is (lines.Record (records.Sub i.value k.value op.value n.value)) l op.follows) ((i.word, i.is), (k.word, k.is), (n.word, n.is), (n.rest, op.is))
+
+ans-is : (ws : List (List ℕ)) (l : Line) → forms.ans_of ws ≡ Some l → LineIs l
+ans-is ws l h =
+    let made : ℕ → ℕ → ℕ → Reply → Option Line = λ i k n reply. Some (lines.Record (records.Ans i k reply n)) in
+    let i = field-first forms.requester (λ i. field forms.number (λ k. field forms.count (λ n rest. then_with (reply_spelled rest) (made i k n)))) ws l h in
+    let k = field-first forms.number (λ k. field forms.count (λ n rest. then_with (reply_spelled rest) (made i.value k n))) i.rest l i.follows in
+    let n = field-first forms.count (λ n rest. then_with (reply_spelled rest) (made i.value k.value n)) k.rest l k.follows in
+    let reply = then-first (reply_spelled n.rest) (made i.value k.value n.value) l n.follows in
+    subst LineIs (some-is (lines.Record (records.Ans i.value k.value reply.value n.value)) l reply.follows) ((i.word, i.is), (k.word, k.is), (n.word, n.is), (n.rest, reply.is))
+
+ent-is : (ws : List (List ℕ)) (l : Line) → forms.ent_of ws ≡ Some l → LineIs l
+ent-is ws l h =
+    let made : ℕ → ℕ → Op → Option Line = λ i k op. Some (lines.Entry (record { requester = i; number = k; op = op })) in
+    let i = field-first forms.requester (λ i. field forms.number (λ k rest. then_with (op_spelled rest) (made i k))) ws l h in
+    let k = field-first forms.number (λ k rest. then_with (op_spelled rest) (made i.value k)) i.rest l i.follows in
+    let op = then-first (op_spelled k.rest) (made i.value k.value) l k.follows in
+    subst LineIs (some-is (lines.Entry (record { requester = i.value; number = k.value; op = op.value })) l op.follows) ((i.word, i.is), (k.word, k.is), (k.rest, op.is))
+
+pub line-is : (v : Version) (ws : List (List ℕ)) (l : Line) → line_of v ws ≡ Some l → LineIs l
+line-is v [] l h = absurd (cc h)
+line-is v (kind ∷ ws) l h =
+    either (LineIs l) (bytes_eq kind (codes "sub")) _ _ l (sub-is ws l)
+    (either (LineIs l) (bytes_eq kind (codes "ans")) _ _ l (ans-is ws l)
+    (either (LineIs l) (bytes_eq kind (codes "ent")) _ _ l (ent-is ws l)
+    (either (LineIs l) (bytes_eq kind (codes "memory")) _ _ l (memory-is v ws l)
+    (either (LineIs l) (bytes_eq kind (codes "history")) _ _ l (λ e. subst LineIs (ended-is lines.History l ws e) tt)
+    (either (LineIs l) (bytes_eq kind (codes "end")) _ _ l (λ e. subst LineIs (ended-is lines.End l ws e) tt)
+    (either (LineIs l) (bytes_eq kind (codes "pciex-trace")) _ _ l (head-is ws l) (λ n. absurd (cc n)))))))) h
+
+size-is : (size : ℕ) → is_size size ≡ true → IsSize size
+size-is size h = grind (arith, nat_tests)
+
+base-is : (base size : ℕ) → is_base base size ≡ true → IsBase base size
+base-is base size h = grind (arith, nat_tests)
+
+of_limits : (l : Line) → LineIs l → IsLineOfLimits l
+of_limits (lines.Head v) h = tt
+of_limits (lines.Memory base size b) h =
+    let parts = and_parts (is_size size) (is_base base size) h.3 in
+    record { in_size = size-is size parts.0; in_base = base-is base size parts.1; in_block = h.2 }
+of_limits (lines.Record r) h = tt
+of_limits lines.History h = tt
+of_limits (lines.Entry e) h = tt
+of_limits lines.End h = tt
+
+pub limits-line : (v : Version) (ws : List (List ℕ)) (o : Option Line) → o ≡ line_of v ws → IfSome o IsLineOfLimits
+limits-line v ws None e = tt
+limits-line v ws (Some l) e = of_limits l (line-is v ws l (sym e))

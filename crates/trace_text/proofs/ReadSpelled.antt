@@ -1,0 +1,124 @@
+-- What is read of a trace is spelled.
+use Rattle.std.proofs.Common.{◌≡◌, ℕ, Bool, true, false, List, [], ◌∷◌, ◌++◌, length, refl, subst, fold, Option, Some, None, inl, Ok}
+use Rattle.std.specs.Prelude.{◌&&◌, nat_lt, cond, codes, is_some}
+use Rattle.line_loop.specs.Lines.{bare, said}
+use Rattle.seq_memory.specs.declared.Entry.{Entry}
+use Rattle.seq_memory.specs.Limits.{IsBlock, is_size, is_base}
+use Rattle.history_check.specs.declared.Record.{Record}
+use Rattle.history_check.specs.Claim.{Claim}
+use Rattle.operation_text.specs.Words.{words, is_skipped}
+use Rattle.operation_text.specs.Operations.{address}
+use Rattle.trace_text.specs.declared.fault.ReadFault.{ReadFault}
+use Rattle.trace_text.specs.declared.line.Version.{Version}
+use Rattle.trace_text.specs.declared.line.Line.{Line}
+use Rattle.trace_text.specs.declared.line.Line.TheVariants as lines
+use Rattle.trace_text.specs.declared.reader.Section.{Section}
+use Rattle.trace_text.specs.declared.reader.Section.TheVariants as sections
+use Rattle.trace_text.specs.Forms as forms
+use Rattle.trace_text.specs.Forms.{line_of}
+use Rattle.trace_text.specs.Reading.{Reading, nothing_read, in_head, in_memory, in_records, in_history, placed, taken, after_line, after_long_line, take_line, claim_read, at_end, fault_or_end}
+use Rattle.trace_text.proofs.FormLemmas.{IsSpelled, RecordIs, EntryIs, LineIs, line-is}
+
+abbrev pub AllRecords : List Record → Type 0
+AllRecords [] = Unit {0}
+AllRecords (r ∷ rs) = RecordIs r × AllRecords rs
+
+abbrev pub AllEntries : List Entry → Type 0
+AllEntries [] = Unit {0}
+AllEntries (e ∷ es) = EntryIs e × AllEntries es
+
+pub records-more : (rs : List Record) (r : Record) → AllRecords rs → RecordIs r → AllRecords (rs ++ r ∷ [])
+records-more [] r h hr = (hr, tt)
+records-more (x ∷ rs) r h hr = (h.0, records-more rs r h.1 hr)
+
+pub entries-more : (es : List Entry) (e : Entry) → AllEntries es → EntryIs e → AllEntries (es ++ e ∷ [])
+entries-more [] e h he = (he, tt)
+entries-more (x ∷ es) e h he = (h.0, entries-more es e h.1 he)
+
+pub record IsOwn (base size block : ℕ) (rs : List Record) (es : List Entry) : Type 0 where
+  pub within : (is_size size && is_base base size) ≡ true
+  pub base_is : IsSpelled address base
+  pub size_is : IsSpelled forms.count size
+  pub block_is : IsBlock block
+  pub records_are : AllRecords rs
+  pub entries_are : AllEntries es
+
+abbrev pub Own : Reading → Type 0
+Own s = IsOwn s.base s.size s.block s.records s.entries
+
+pub own-memory : (s : Reading) (l : Line) → Own s → LineIs l → Own (in_memory s l)
+own-memory s (lines.Memory base size block) h is = record { within = is.3; base_is = is.0; size_is = is.1; block_is = is.2; records_are = h.records_are; entries_are = h.entries_are }
+own-memory s (lines.Head v) h is = h
+own-memory s (lines.Record r) h is = h
+own-memory s lines.History h is = h
+own-memory s (lines.Entry e) h is = h
+own-memory s lines.End h is = h
+
+pub own-records : (s : Reading) (l : Line) → Own s → LineIs l → Own (in_records s l)
+own-records s (lines.Record r) h is = record { within = h.within; base_is = h.base_is; size_is = h.size_is; block_is = h.block_is; records_are = records-more s.records r h.records_are is; entries_are = h.entries_are }
+own-records s (lines.Head v) h is = h
+own-records s (lines.Memory base size block) h is = h
+own-records s lines.History h is = h
+own-records s (lines.Entry e) h is = h
+own-records s lines.End h is = h
+
+pub own-history : (s : Reading) (l : Line) → Own s → LineIs l → Own (in_history s l)
+own-history s (lines.Entry e) h is = record { within = h.within; base_is = h.base_is; size_is = h.size_is; block_is = h.block_is; records_are = h.records_are; entries_are = entries-more s.entries e h.entries_are is }
+own-history s (lines.Head v) h is = h
+own-history s (lines.Memory base size block) h is = h
+own-history s (lines.Record r) h is = h
+own-history s lines.History h is = h
+own-history s lines.End h is = h
+
+pub own-head : (s : Reading) (l : Line) → Own s → Own (in_head s (Some l))
+own-head s (lines.Head v) h = h
+own-head s (lines.Memory base size block) h = h
+own-head s (lines.Record r) h = h
+own-head s lines.History h = h
+own-head s (lines.Entry e) h = h
+own-head s lines.End h = h
+
+pub own-placed : (section : Section) (s : Reading) (l : Line) → Own s → LineIs l → Own (placed section s l)
+own-placed sections.Head s l h is = own-head s l h
+own-placed sections.Memory s l h is = own-memory s l h is
+own-placed sections.Records s l h is = own-records s l h is
+own-placed sections.History s l h is = own-history s l h is
+own-placed sections.End s l h is = h
+
+pub own-taken : (s : Reading) (v : Version) (ws : List (List ℕ)) → Own s → Own (taken s (line_of v ws))
+own-taken s v ws h = by (line_of v ws) refl
+  where
+    by : (o : Option Line) → line_of v ws ≡ o → Own (taken s o)
+    by None e = h
+    by (Some l) e = own-placed s.section s l h (line-is v ws l e)
+
+pub own-if : (t : Bool) (a b : Reading) → Own a → Own b → Own (cond t a b)
+own-if true a b ha hb = ha
+own-if false a b ha hb = hb
+
+pub own-line : (s : Reading) (line : List ℕ) → Own s → Own (take_line s line)
+own-line s line h =
+    own-if (nat_lt 512 (length (bare line))) (after_long_line s) (after_line s (said line))
+    (own-if (is_some s.fault) s (taken s None) h h)
+    (own-if (is_some s.fault) s _ h (own-if (is_skipped (said line)) _ (taken s (line_of s.version (words (said line)))) h (own-taken s s.version (words (said line)) h)))
+
+pub own-lines : (ls : List (List ℕ)) (s : Reading) → Own s → Own (fold take_line s ls)
+own-lines [] s h = h
+own-lines (l ∷ ls) s h = own-lines ls (take_line s l) (own-line s l h)
+
+pub own-nothing : Own nothing_read
+own-nothing = record { within = refl; base_is = (codes "0", refl); size_is = (codes "128", refl); block_is = inl refl; records_are = tt; entries_are = tt }
+
+abbrev pub OwnClaim : Claim → Type 0
+OwnClaim c = IsOwn c.memory.base c.memory.size c.memory.block c.records c.memory.entries
+
+pub own-end : (s : Reading) (c : Claim) → Own s → at_end s ≡ Ok c → OwnClaim c
+own-end s c h e = by s.fault s.section e
+  where
+    by : (f : Option ReadFault) (section : Section) → fault_or_end f (record s { section = section }) ≡ Ok c → OwnClaim c
+    by (Some f) section k = absurd (cc k)
+    by None sections.Head k = absurd (cc k)
+    by None sections.Memory k = absurd (cc k)
+    by None sections.Records k = absurd (cc k)
+    by None sections.History k = absurd (cc k)
+    by None sections.End k = let same : claim_read s ≡ c = cc k in subst OwnClaim same h

@@ -1,0 +1,30 @@
+use Rattle.trace_text.proofs.ReadBack.{Laws, read-back, one-claim}
+use Rattle.trace_text.proofs.laws.own_text_spells_trace.Goals as goal
+
+laws : (c : goal.After-own_text_spells_reply) → Laws
+laws c =
+    let numbers = c.own_digits_spell_number.ensures in
+    let ops = c.own_text_spells_operation.ensures in
+    let replies = c.own_text_spells_reply.ensures in
+    record {
+      range = numbers.range;
+      decimal_back = numbers.decimal;
+      hexadecimal_back = numbers.hexadecimal;
+      decimal_word = numbers.decimal_word;
+      decimal_last = numbers.decimal_last;
+      hexadecimal_word = numbers.hexadecimal_word;
+      printed = numbers.printed;
+      short = numbers.short;
+      op_back = ops.read_back;
+      op_printed = ops.printed;
+      op_short = ops.short;
+      reply_back = replies.read_back;
+      reply_printed = replies.printed;
+      reply_short = replies.short;
+    }
+
+pub returns-clause-read_back : goal.returns-clause-read_back
+returns-clause-read_back c = read-back (laws c)
+
+pub returns-clause-one_trace : goal.returns-clause-one_trace
+returns-clause-one_trace c = one-claim (laws c)

@@ -1,0 +1,16 @@
+-- The numbers and names under which faults are told.
+use Rattle.std.specs.Prelude.{ℕ, List, codes}
+use Rattle.trace_text.specs.declared.fault.ReadFaultKind.{ReadFaultKind}
+use Rattle.trace_text.specs.declared.fault.ReadFaultKind.TheVariants as faults
+
+abbrev pub number_of : ReadFaultKind → ℕ
+number_of faults.Head = 1
+number_of faults.Line = 2
+number_of faults.Section = 3
+number_of faults.Memory = 4
+
+abbrev pub name_of : ReadFaultKind → List ℕ
+name_of faults.Head = codes "Head"
+name_of faults.Line = codes "Line"
+name_of faults.Section = codes "Section"
+name_of faults.Memory = codes "Memory"

@@ -1,0 +1,56 @@
+//! Why a text is no trace.
+ghost use Rattle.std.specs.Prelude.{◌≡◌};
+ghost use Rattle.trace_text.specs.Names.{number_of, name_of};
+
+use thiserror::Error;
+
+/// The faults of a trace's text, in the order of their numbers.
+#[derive(Clone, Copy, Debug, PartialEq, Eq, Error)]
+#[error("{}", self.name())]
+pub enum ReadFaultKind {
+    /// The first line is not `pciex-trace 1` or `pciex-trace 2`, or there is none.
+    Head,
+    /// A line after the head has no known form, more than 512 bytes or a value out of range, wherever it
+    /// stands; or the text ends before the memory's line.
+    Line,
+    /// A line of a known form isn't due: another than the memory's after the head, or one of another
+    /// section, or any after `end`; or the text ends before `history` or before `end`.
+    Section,
+    /// A growth was refused: nothing is known of the text from that line on.
+    Memory,
+}
+
+impl ReadFaultKind {
+    /// The number under which the fault is told, 1 to 4.
+    pub fn number(self) -> u8
+        ensures { result ≡ number_of self }
+    {
+        match self {
+            ReadFaultKind::Head => 1,
+            ReadFaultKind::Line => 2,
+            ReadFaultKind::Section => 3,
+            ReadFaultKind::Memory => 4,
+        }
+    }
+
+    /// The name under which the fault is told, as `Display` writes it.
+    pub fn name(self) -> &'static str
+        ensures { result.now ≡ name_of self }
+    {
+        match self {
+            ReadFaultKind::Head => "Head",
+            ReadFaultKind::Line => "Line",
+            ReadFaultKind::Section => "Section",
+            ReadFaultKind::Memory => "Memory",
+        }
+    }
+}
+
+/// The first fault, and the number of its line, from 1. What is missing is told with the number
+/// behind that of the last line.
+#[derive(Clone, Copy, Debug, PartialEq, Eq, Error)]
+#[error("{kind} in line {line}")]
+pub struct ReadFault {
+    pub kind: ReadFaultKind,
+    pub line: u64,
+}

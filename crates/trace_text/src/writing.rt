@@ -1,0 +1,142 @@
+//! Writing the text of a trace.
+ghost use Rattle.std.specs.Prelude.{◌≡◌, ◌≤◌, ◌++◌, ◌∷◌, [], length, map, string_bytes, IfOk, OnOk};
+ghost use Rattle.std.specs.Fmt.{decimal};
+ghost use Rattle.arrayvec.specs.ArrayString.{array_string_len};
+ghost use Rattle.history_check.specs.Claim.{claim_of};
+ghost use Rattle.trace_text.specs.Texts.{memory_line, record_line, entry_line, lines_text, records_text, trace_text};
+
+use arrayvec::ArrayString;
+use history_check::{Record, Trace};
+use operation_text::{write_decimal, write_hexadecimal, write_op, write_reply};
+use seq_memory::Entry;
+use std::alloc::{AllocError, Global};
+
+/// Writes the kind of a record, its requester and its request's number.
+fn put_request(kind: &str, requester: u8, number: u32, line: &mut ArrayString<512>)
+    requires empty { array_string_len line.old ≡ 0 }
+    requires kind { length kind.now ≤ 4 }
+    ensures text { line.new.bytes ≡ kind.now ++ (decimal requester ++ 32 ∷ decimal number) }
+    ensures len { array_string_len line.new ≤ 45 }
+{
+    line.push_str(kind);
+    write_decimal(u64::from(requester), line);
+    line.push_str(" ");
+    write_decimal(u64::from(number), line);
+}
+
+/// Adds a space, the number and a space.
+fn put_count(count: u64, line: &mut ArrayString<512>)
+    requires { array_string_len line.old ≤ 45 }
+    ensures text { line.new.bytes ≡ line.old.bytes ++ (32 ∷ decimal count ++ 32 ∷ []) }
+    ensures len { array_string_len line.new ≤ 67 }
+{
+    line.push_str(" ");
+    write_decimal(count, line);
+    line.push_str(" ");
+}
+
+/// Writes the line of the memory.
+pub(crate) fn put_memory(base: u64, size: usize, block: u16, line: &mut ArrayString<512>)
+    requires { array_string_len line.old ≡ 0 }
+    ensures { line.new.bytes ≡ memory_line (record { base = base; size = size; block = block; entries = [] }) ++ 10 ∷ [] }
+{
+    line.push_str("memory ");
+    write_hexadecimal(base, line);
+    line.push_str(" ");
+    write_decimal(size as u64, line);
+    line.push_str(" ");
+    write_decimal(u64::from(block), line);
+    line.push_str("\n");
+}
+
+/// Writes the line of a record.
+pub(crate) fn put_record(seen: &Record, line: &mut ArrayString<512>)
+    requires { array_string_len line.old ≡ 0 }
+    ensures { line.new.bytes ≡ record_line seen.now ++ 10 ∷ [] }
+{
+    match seen {
+        Record::Sub {
+            requester,
+            number,
+            op,
+            n,
+        } => {
+            put_request("sub ", *requester, *number, line);
+            put_count(*n, line);
+            write_op(op, line);
+        }
+        Record::Ans {
+            requester,
+            number,
+            reply,
+            n,
+        } => {
+            put_request("ans ", *requester, *number, line);
+            put_count(*n, line);
+            write_reply(reply, line);
+        }
+    }
+    line.push_str("\n");
+}
+
+/// Writes the line of an entry.
+pub(crate) fn put_entry(entry: &Entry, line: &mut ArrayString<512>)
+    requires { array_string_len line.old ≡ 0 }
+    ensures { line.new.bytes ≡ entry_line entry.now ++ 10 ∷ [] }
+{
+    put_request("ent ", entry.requester, entry.number, line);
+    line.push_str(" ");
+    write_op(&entry.op, line);
+    line.push_str("\n");
+}
+
+/// Adds the lines of the records.
+fn add_records(records: &[Record], text: &mut String) -> Result<(), AllocError>
+    ensures { OnOk result (string_bytes text.new ≡ string_bytes text.old ++ lines_text (map record_line records.now)) }
+{
+    let mut line = ArrayString::new();
+    for record in records {
+        line.clear();
+        put_record(record, &mut line);
+        text.push_str(line.as_str())?;
+    }
+    Ok(())
+}
+
+/// Adds the lines of the entries.
+fn add_entries(history: &[Entry], text: &mut String) -> Result<(), AllocError>
+    ensures { OnOk result (string_bytes text.new ≡ string_bytes text.old ++ lines_text (map entry_line history.now)) }
+{
+    let mut line = ArrayString::new();
+    for entry in history {
+        line.clear();
+        put_entry(entry, &mut line);
+        text.push_str(line.as_str())?;
+    }
+    Ok(())
+}
+
+/// The text up to the entries of the history.
+fn write_records(alloc: Global, trace: &Trace) -> Result<String, AllocError>
+    ensures { IfOk result (λ text. string_bytes text ≡ records_text (claim_of trace.now [])) }
+{
+    let mut text = String::new(alloc);
+    text.push_str("pciex-trace 2\n")?;
+    let mut line = ArrayString::new();
+    put_memory(trace.base, trace.size, trace.block, &mut line);
+    text.push_str(line.as_str())?;
+    add_records(&trace.records, &mut text)?;
+    text.push_str("history\n")?;
+    Ok(text)
+}
+
+/// The text of the trace and the history, in the second version. What some text spells is read back
+/// from it.
+pub fn write_trace(alloc: Global, trace: &Trace, history: &[Entry]) -> Result<String, AllocError>
+    ensures { IfOk result (λ text. string_bytes text ≡ trace_text (claim_of trace.now history.now)) }
+{
+    let mut text = write_records(alloc, trace)?;
+    add_entries(history, &mut text)?;
+    text.push_str("end\n")?;
+    Ok(text)
+}

@@ -1,0 +1,224 @@
+//! The loop of a requester: it submits its script, collects the answers, and records both.
+ghost use Rattle.std.specs.Prelude.{◌≡◌, ◌+◌, ◌<◌, ◌≤◌, IsTrue, None, Some, length, []};
+ghost use Rattle.hall_core.specs.Views.{IsSeatOf};
+ghost use Rattle.worker_requester.specs.Following.{IsUnusedSeat, Follows, IsSame, Finishes};
+
+use crate::refused::stop_of;
+use hall_core::{Hall, HallRefusal, ReqSeat};
+use history_check::Record;
+use recorder::{Pusher, Recorder};
+use std::thread;
+use tlp_core::{Op, copy_of};
+use worker_turns::{Gate, Turns};
+
+/// A requester at work.
+#[derive(Drop)]
+pub struct Requester<'a> {
+    hall: &'a Hall,
+    recorder: &'a Recorder,
+    script: &'a [Op],
+    seat: ReqSeat,
+    number: u8,
+    pusher: Pusher,
+    /// The place in the script of what is submitted next.
+    next: usize,
+    /// How many answers are due.
+    due: usize,
+    /// The record that is not pushed yet.
+    waiting: Option<Record>,
+}
+
+/// What became of a round.
+#[derive(Clone, Copy, Debug, PartialEq, Eq)]
+pub enum Round {
+    Done,
+    Nothing,
+    Ended,
+    Stopped,
+}
+
+/// A refused call is tried again, or ends the run.
+fn go_on<G: Gate>(refusal: HallRefusal, turns: &Turns<'_, G>) -> Round
+    ensures { (¬ (result ≡ Round.Done)) × (¬ (result ≡ Round.Ended)) }
+{
+    match stop_of(refusal) {
+        Some(stop) => {
+            turns.stop(stop);
+            Round::Stopped
+        }
+        None => Round::Nothing,
+    }
+}
+
+impl<'a> Requester<'a> {
+    /// A requester that did nothing yet.
+    pub fn new(
+        hall: &'a Hall,
+        recorder: &'a Recorder,
+        script: &'a [Op],
+        number: u8,
+        seat: ReqSeat,
+        pusher: Pusher,
+    ) -> Requester<'a>
+        requires seat { IsUnusedSeat hall.now number seat }
+        requires pusher { (pusher.queue ≡ recorder.now) × (pusher.pushed.requester ≡ number) × (pusher.pushed.records ≡ []) }
+        ensures follows { Follows result }
+        ensures same { (result.hall.now ≡ hall.now) × (result.recorder.now ≡ recorder.now) × (result.script.now ≡ script.now) × (result.number ≡ number) }
+    {
+        Requester {
+            hall,
+            recorder,
+            script,
+            number,
+            seat,
+            pusher,
+            next: 0,
+            due: 0,
+            waiting: None,
+        }
+    }
+
+    /// Pushes the record that waits.
+    fn tell<G: Gate>(&mut self, recorded: Record, turns: &mut Turns<'_, G>) -> Round
+        requires follows { Follows (record self.old { waiting = Some recorded }) }
+        requires none { self.old.waiting ≡ None }
+        ensures follows { Follows self.new }
+        ensures same { IsSame self.old self.new }
+        ensures limit { turns.new.limit ≡ turns.old.limit }
+        ensures turn { ¬ (result ≡ Round.Stopped) → (turns.new.done ≡ turns.old.done + 1) × (turns.new.done ≤ turns.new.limit) }
+        ensures on { ¬ (result ≡ Round.Ended) }
+    {
+        if !turns.push() {
+            self.waiting = Some(recorded);
+            return Round::Stopped;
+        }
+        match self.recorder.push(&mut self.pusher, recorded) {
+            Ok(()) => Round::Done,
+            Err(back) => {
+                self.waiting = Some(back);
+                Round::Nothing
+            }
+        }
+    }
+
+    /// Submits the next operation of the script.
+    fn ask<G: Gate>(&mut self, turns: &mut Turns<'_, G>) -> Round
+        requires next { self.old.next < length self.old.script.now }
+        requires follows { Follows self.old }
+        requires none { self.old.waiting ≡ None }
+        ensures follows { Follows self.new }
+        ensures none { ¬ (result ≡ Round.Done) → self.new.waiting ≡ None }
+        ensures same { IsSame self.old self.new }
+        ensures limit { turns.new.limit ≡ turns.old.limit }
+        ensures turn { ¬ (result ≡ Round.Stopped) → (turns.new.done ≡ turns.old.done + 1) × (turns.new.done ≤ turns.new.limit) }
+        ensures on { ¬ (result ≡ Round.Ended) }
+    {
+        if !turns.call() {
+            return Round::Stopped;
+        }
+        let op = &self.script[self.next];
+        match self.hall.submit(&mut self.seat, copy_of(op)) {
+            Ok(submitted) => {
+                self.waiting = Some(Record::Sub {
+                    requester: self.number,
+                    number: submitted.number,
+                    op: copy_of(op),
+                    n: submitted.n,
+                });
+                self.next += 1;
+                if !op.is_posted() {
+                    self.due += 1;
+                }
+                Round::Done
+            }
+            Err(refusal) => go_on(refusal, turns),
+        }
+    }
+
+    /// Collects an answer.
+    fn hear<G: Gate>(&mut self, turns: &mut Turns<'_, G>) -> Round
+        requires follows { Follows self.old }
+        requires none { self.old.waiting ≡ None }
+        ensures follows { Follows self.new }
+        ensures same { IsSame self.old self.new }
+        ensures limit { turns.new.limit ≡ turns.old.limit }
+        ensures turn { ¬ (result ≡ Round.Stopped) → (turns.new.done ≡ turns.old.done + 1) × (turns.new.done ≤ turns.new.limit) }
+        ensures on { ¬ (result ≡ Round.Ended) }
+    {
+        if !turns.call() {
+            return Round::Stopped;
+        }
+        match self.hall.collect(&mut self.seat) {
+            Ok(Some(answered)) => {
+                self.waiting = Some(Record::Ans {
+                    requester: self.number,
+                    number: answered.number,
+                    reply: answered.reply,
+                    n: answered.n,
+                });
+                self.due -= 1;
+                Round::Done
+            }
+            Ok(None) => Round::Nothing,
+            Err(refusal) => go_on(refusal, turns),
+        }
+    }
+}
+
+/// What a requester's thread ends with.
+#[derive(Drop)]
+pub struct Ended {
+    pub seat: ReqSeat,
+    pub pusher: Pusher,
+    /// Whether the whole script was submitted, answered and recorded.
+    pub whole: bool,
+}
+
+impl<'a> Requester<'a> {
+    /// One round.
+    fn round<G: Gate>(&mut self, turns: &mut Turns<'_, G>) -> Round
+        requires { Follows self.old }
+        ensures follows { Follows self.new }
+        ensures same { IsSame self.old self.new }
+        ensures limit { turns.new.limit ≡ turns.old.limit }
+        ensures turn { ¬ (result ≡ Round.Stopped) → ¬ (result ≡ Round.Ended) → (turns.old.done < turns.new.done) × (turns.new.done ≤ turns.new.limit) }
+        ensures ended { result ≡ Round.Ended → Finishes self.new.script.now self.new.pusher.pushed }
+    {
+        if let Some(recorded) = self.waiting.take() {
+            return self.tell(recorded, turns);
+        }
+        if self.next < self.script.len() {
+            let asked = self.ask(turns);
+            if asked != Round::Nothing || self.due == 0 {
+                return asked;
+            }
+        } else if self.due == 0 {
+            return Round::Ended;
+        }
+        self.hear(turns)
+    }
+
+    /// Submits the script, collects the answers and records both.
+    pub fn run<G: Gate>(self, turns: &mut Turns<'_, G>) -> Ended
+        requires { Follows self }
+        ensures seat { IsSeatOf self.entry.hall.now result.seat }
+        ensures pusher { (result.pusher.queue ≡ self.entry.recorder.now) × (result.pusher.pushed.requester ≡ self.entry.number) }
+        ensures whole { IsTrue result.whole → Finishes self.entry.script.now result.pusher.pushed }
+    {
+        let mut at = self;
+        let whole = loop {
+            match at.round(turns) {
+                Round::Done => {}
+                Round::Nothing => thread::yield_now(),
+                Round::Ended => break true,
+                Round::Stopped => break false,
+            }
+        };
+        let Requester { seat, pusher, .. } = at;
+        Ended {
+            seat,
+            pusher,
+            whole,
+        }
+    }
+}
