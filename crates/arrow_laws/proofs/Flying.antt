@@ -6,18 +6,18 @@ use Rattle.std.proofs.lemmas.List.{length-append}
 use Rattle.std.proofs.lemmas.Bool.{eqb-true, ltb-true, ltb-false, leb-true, lt-ltb, le-ltb, eq-eqb, ne_eqb}
 use Rattle.std.proofs.lemmas.Bool.Decides.{eqb_tells}
 use Rattle.tlp_core.specs.declared.operation.Op.{Op}
-use Rattle.seq_memory.specs.History.{State}
-use Rattle.requester_core.specs.Requesting.{Requesting}
+use Rattle.seq_memory.specs.History.{MemoryView}
+use Rattle.requester_core.specs.RequesterView.{RequesterView}
 use Rattle.requester_core.specs.declared.requester.Answer.{Answer}
-use Rattle.replay_sender.specs.Carried.{Carried}
-use Rattle.replay_sender.specs.Sending.{next_item, number_at}
+use Rattle.replay_sender.specs.CargoView.{CargoView}
+use Rattle.replay_sender.specs.SenderView.{next_item, number_at}
 use Rattle.lane_ends.specs.declared.packet.WirePacket.{WirePacket}
 use Rattle.lane_ends.specs.declared.packet.Fate.{Fate}
 use Rattle.lane_ends.specs.declared.packet.Arrival.{Arrival}
 use Rattle.lane_ends.specs.declared.packet.DllpSeen.{DllpSeen}
 use Rattle.lane_ends.specs.declared.packet.DllpKind.{DllpKind}
 use Rattle.dllp_core.specs.declared.packet.Dllp.{Dllp}
-use Rattle.lane_ends.specs.Steps.{Ends, Incoming, Outgoing, all_but_first, packets_sent, transmitted, delivered, after_deliver, after_transmission, wire_after_transmit}
+use Rattle.lane_ends.specs.Steps.{LaneEndsView, ReceiverEndView, SenderEndView, all_but_first, packets_sent, transmitted, delivered, after_deliver, after_transmission, wire_after_transmit}
 use Rattle.fabric_laws.specs.Fabric.{Fabric}
 use Rattle.fabric_core.specs.declared.config.Config.{Config}
 use Rattle.fabric_core.specs.declared.config.ConfigFault.{ConfigFault}
@@ -63,7 +63,7 @@ len_set (x ∷ xs) (suc p) y = ap suc (len_set xs p y)
 
 -- ---- the lanes of a fabric
 
-abbrev on : Result Ends Refusal → ℕ
+abbrev on : Result LaneEndsView Refusal → ℕ
 on (Ok e) = length e.forward
 on (Err r) = 0
 
@@ -89,31 +89,31 @@ in_some (Some y) x r e = ap Some (ap (ok_or y) e)
 in_set : {X : Type 0} (xs : List X) (p : ℕ) (x : X) (r : Refusal) → some_or r (slice_get xs p) ≡ Ok x → slice_get xs p ≡ Some x
 in_set xs p x r e = in_some (slice_get xs p) x r e
 
-part_same : (xs : List Ends) (p : ℕ) (x y : Ends) → part_at xs p ≡ Ok x → part_at (with_part xs p y) p ≡ Ok y
+part_same : (xs : List LaneEndsView) (p : ℕ) (x y : LaneEndsView) → part_at xs p ≡ Ok x → part_at (with_part xs p y) p ≡ Ok y
 part_same xs zero x y e = absurd cc
 part_same xs (suc p) x y e = ap (some_or refusals.NoSuchPart) (get_set_same xs p x y (in_set xs p x refusals.NoSuchPart e))
 
-part_other : (xs : List Ends) (p q : ℕ) (y : Ends) → p ≢ q → part_at (with_part xs p y) q ≡ part_at xs q
+part_other : (xs : List LaneEndsView) (p q : ℕ) (y : LaneEndsView) → p ≢ q → part_at (with_part xs p y) q ≡ part_at xs q
 part_other xs zero q y ne = refl
 part_other xs (suc p) zero y ne = refl
 part_other xs (suc p) (suc q) y ne = ap (some_or refusals.NoSuchPart) (get_set_other xs p q y (λ e. ne (ap suc e)))
 
-part_len : (xs : List Ends) (p : ℕ) (y : Ends) → length (with_part xs p y) ≡ length xs
+part_len : (xs : List LaneEndsView) (p : ℕ) (y : LaneEndsView) → length (with_part xs p y) ≡ length xs
 part_len xs zero y = refl
 part_len xs (suc p) y = len_set xs p y
 
-in_list : (xs : List Ends) (p : ℕ) (x : Ends) → slice_get xs p ≡ Some x → p < length xs
+in_list : (xs : List LaneEndsView) (p : ℕ) (x : LaneEndsView) → slice_get xs p ≡ Some x → p < length xs
 in_list [] p x e = absurd cc
 in_list (y ∷ ys) zero x e = omega arith
 in_list (y ∷ ys) (suc p) x e =
     let less : p < length ys = in_list ys p x e in
     omega (arith, less)
 
-part_first : (xs : List Ends) (p : ℕ) (x : Ends) → part_at xs p ≡ Ok x → 1 ≤ p
+part_first : (xs : List LaneEndsView) (p : ℕ) (x : LaneEndsView) → part_at xs p ≡ Ok x → 1 ≤ p
 part_first xs zero x e = absurd cc
 part_first xs (suc p) x e = omega arith
 
-part_last : (xs : List Ends) (p : ℕ) (x : Ends) → part_at xs p ≡ Ok x → p ≤ length xs
+part_last : (xs : List LaneEndsView) (p : ℕ) (x : LaneEndsView) → part_at xs p ≡ Ok x → p ≤ length xs
 part_last xs zero x e = absurd cc
 part_last xs (suc p) x e =
     let less : p < length xs = in_list xs p x (in_set xs p x refusals.NoSuchPart e) in
@@ -149,7 +149,7 @@ down_at k port is low high =
     let port_is : k % 8 ≡ port = omega (arith, is, low, high) in
     rw (no_zero, more, no_eight, port_is) refl
 
-lane_is : (f : Fabric) (lane : LaneName) (e : Ends) (k : ℕ) → Few f → parts.lane_at f lane ≡ Ok e → place_of lane ≡ k → lane_at k ≡ lane
+lane_is : (f : Fabric) (lane : LaneName) (e : LaneEndsView) (k : ℕ) → Few f → parts.lane_at f lane ≡ Ok e → place_of lane ≡ k → lane_at k ≡ lane
 lane_is f lanes.Inward e k few has is = subst (λ (j : ℕ). lane_at j ≡ lanes.Inward) is refl
 lane_is f lanes.Outward e k few has is = subst (λ (j : ℕ). lane_at j ≡ lanes.Outward) is refl
 lane_is f (lanes.Up port) e k few has is =
@@ -203,18 +203,18 @@ of_kept k row cs f event what f' begun_none sent_none kept =
     record { there = omega (arith, b); left = omega (arith, b, s, same); few = few_more f f' kept.up_len kept.down_len }
 
 -- other ends of a lane, with as much on its wire
-on_with_by : (xs : List Ends) (p q : ℕ) (x y : Ends) → part_at xs p ≡ Ok x → length y.forward ≡ length x.forward
+on_with_by : (xs : List LaneEndsView) (p q : ℕ) (x y : LaneEndsView) → part_at xs p ≡ Ok x → length y.forward ≡ length x.forward
     → (((p == q) ≡ true) × (p ≡ q)) ⊎ (((p == q) ≡ false) × (p ≢ q)) → on (part_at (with_part xs p y) q) ≡ on (part_at xs q)
 on_with_by xs p q x y e same (inl w) =
     subst (λ (j : ℕ). on (part_at (with_part xs p y) j) ≡ on (part_at xs j)) w.1
-    (ap (λ (o : Result Ends Refusal). on o) (part_same xs p x y e) ∙ same ∙ sym (ap (λ (o : Result Ends Refusal). on o) e))
-on_with_by xs p q x y e same (inr w) = ap (λ (o : Result Ends Refusal). on o) (part_other xs p q y w.1)
+    (ap (λ (o : Result LaneEndsView Refusal). on o) (part_same xs p x y e) ∙ same ∙ sym (ap (λ (o : Result LaneEndsView Refusal). on o) e))
+on_with_by xs p q x y e same (inr w) = ap (λ (o : Result LaneEndsView Refusal). on o) (part_other xs p q y w.1)
 
-on_with : (xs : List Ends) (p q : ℕ) (x y : Ends) → part_at xs p ≡ Ok x → length y.forward ≡ length x.forward → on (part_at (with_part xs p y) q) ≡ on (part_at xs q)
+on_with : (xs : List LaneEndsView) (p q : ℕ) (x y : LaneEndsView) → part_at xs p ≡ Ok x → length y.forward ≡ length x.forward → on (part_at (with_part xs p y) q) ≡ on (part_at xs q)
 on_with xs p q x y e same = on_with_by xs p q x y e same (eqb_tells p q)
 
 -- a lane with other ends, and as much on its wire
-kept_with : (f : Fabric) (lane : LaneName) (e e' : Ends) → parts.lane_at f lane ≡ Ok e → length e'.forward ≡ length e.forward → Kept f (with_lane f lane e')
+kept_with : (f : Fabric) (lane : LaneName) (e e' : LaneEndsView) → parts.lane_at f lane ≡ Ok e → length e'.forward ≡ length e.forward → Kept f (with_lane f lane e')
 kept_with f (lanes.Up port) e e' has same = record {
   up = λ p. on_with f.up port p e e' has same;
   down = λ p. refl;
@@ -234,7 +234,7 @@ kept_with f (lanes.Down port) e e' has same = record {
 kept_with f lanes.Inward e e' has same = record {
   up = λ p. refl;
   down = λ p. refl;
-  inward = same ∙ sym (ap (λ (o : Result Ends Refusal). on o) has);
+  inward = same ∙ sym (ap (λ (o : Result LaneEndsView Refusal). on o) has);
   outward = refl;
   up_len = refl;
   down_len = refl;
@@ -243,7 +243,7 @@ kept_with f lanes.Outward e e' has same = record {
   up = λ p. refl;
   down = λ p. refl;
   inward = refl;
-  outward = same ∙ sym (ap (λ (o : Result Ends Refusal). on o) has);
+  outward = same ∙ sym (ap (λ (o : Result LaneEndsView Refusal). on o) has);
   up_len = refl;
   down_len = refl;
 }
@@ -286,13 +286,13 @@ if_err Q false a r b e q = of_ok Q a b e q
 -- ---- events of a link
 
 -- a lane with other ends
-ends_same : (f : Fabric) (lane : LaneName) (e e' : Ends) → parts.lane_at f lane ≡ Ok e → parts.lane_at (with_lane f lane e') lane ≡ Ok e'
+ends_same : (f : Fabric) (lane : LaneName) (e e' : LaneEndsView) → parts.lane_at f lane ≡ Ok e → parts.lane_at (with_lane f lane e') lane ≡ Ok e'
 ends_same f (lanes.Up port) e e' has = part_same f.up port e e' has
 ends_same f (lanes.Down port) e e' has = part_same f.down port e e' has
 ends_same f lanes.Inward e e' has = refl
 ends_same f lanes.Outward e e' has = refl
 
-ends_other : (f : Fabric) (lane other : LaneName) (e' : Ends) → lane ≢ other → parts.lane_at (with_lane f lane e') other ≡ parts.lane_at f other
+ends_other : (f : Fabric) (lane other : LaneName) (e' : LaneEndsView) → lane ≢ other → parts.lane_at (with_lane f lane e') other ≡ parts.lane_at f other
 ends_other f (lanes.Up port) (lanes.Up q) e' ne = part_other f.up port q e' (λ e. ne (ap lanes.Up e))
 ends_other f (lanes.Up port) (lanes.Down q) e' ne = refl
 ends_other f (lanes.Up port) lanes.Inward e' ne = refl
@@ -310,7 +310,7 @@ ends_other f lanes.Outward (lanes.Up q) e' ne = refl
 ends_other f lanes.Outward (lanes.Down q) e' ne = refl
 ends_other f lanes.Outward lanes.Inward e' ne = refl
 
-few_with : (f : Fabric) (lane : LaneName) (e' : Ends) → Few f → Few (with_lane f lane e')
+few_with : (f : Fabric) (lane : LaneName) (e' : LaneEndsView) → Few f → Few (with_lane f lane e')
 few_with f (lanes.Up port) e' few = few_more f (with_lane f (lanes.Up port) e') (part_len f.up port e') refl few
 few_with f (lanes.Down port) e' few = few_more f (with_lane f (lanes.Down port) e') refl (part_len f.down port e') few
 few_with f lanes.Inward e' few = record { up = few.up; down = few.down }
@@ -332,25 +332,25 @@ record Counts (k : ℕ) (row : Option ℕ) (cs : List CourseView) (event : Event
   begun : length (begun_on k (deed_of row cs event what)) ≡ when (place_of lane == k) b
   sent : length (sent_on k row (deed_of row cs event what)) ≡ when (place_of lane == k) s
 
-of_lane_by : (k : ℕ) (row : Option ℕ) (cs : List CourseView) (f : Fabric) (event : Event) (what : Seen) (lane : LaneName) (e e' : Ends) (b s : ℕ) → k < 16 → Few f
+of_lane_by : (k : ℕ) (row : Option ℕ) (cs : List CourseView) (f : Fabric) (event : Event) (what : Seen) (lane : LaneName) (e e' : LaneEndsView) (b s : ℕ) → k < 16 → Few f
     → parts.lane_at f lane ≡ Ok e → Counts k row cs event what lane b s → b ≤ length e.forward → length e.forward + s ≡ b + length e'.forward
     → (((place_of lane == k) ≡ true) × (place_of lane ≡ k)) ⊎ (((place_of lane == k) ≡ false) × (place_of lane ≢ k)) → Passes k row cs f event what (with_lane f lane e')
 of_lane_by k row cs f event what lane e e' b s lt few has counts enough moved (inl w) =
     let here : lane_at k ≡ lane = lane_is f lane e k few has w.1 in
     let begun : length (begun_on k (deed_of row cs event what)) ≡ b = counts.begun ∙ ap (λ (x : Bool). when x b) w.0 in
     let went : length (sent_on k row (deed_of row cs event what)) ≡ s = counts.sent ∙ ap (λ (x : Bool). when x s) w.0 in
-    let before : flying f (lane_at k) ≡ length e.forward = ap (λ (l : LaneName). flying f l) here ∙ ap (λ (o : Result Ends Refusal). on o) has in
+    let before : flying f (lane_at k) ≡ length e.forward = ap (λ (l : LaneName). flying f l) here ∙ ap (λ (o : Result LaneEndsView Refusal). on o) has in
     let after : flying (with_lane f lane e') (lane_at k) ≡ length e'.forward =
-    ap (λ (l : LaneName). flying (with_lane f lane e') l) here ∙ ap (λ (o : Result Ends Refusal). on o) (ends_same f lane e e' has) in
+    ap (λ (l : LaneName). flying (with_lane f lane e') l) here ∙ ap (λ (o : Result LaneEndsView Refusal). on o) (ends_same f lane e e' has) in
     record { there = omega (arith, begun, before, enough); left = omega (arith, begun, went, before, after, moved); few = few_with f lane e' }
 of_lane_by k row cs f event what lane e e' b s lt few has counts enough moved (inr w) =
     let other : lane ≢ lane_at k = λ is. w.1 (ap (λ (l : LaneName). place_of l) is ∙ place_at k lt) in
     let begun : length (begun_on k (deed_of row cs event what)) ≡ 0 = counts.begun ∙ ap (λ (x : Bool). when x b) w.0 in
     let went : length (sent_on k row (deed_of row cs event what)) ≡ 0 = counts.sent ∙ ap (λ (x : Bool). when x s) w.0 in
-    let same : flying (with_lane f lane e') (lane_at k) ≡ flying f (lane_at k) = ap (λ (o : Result Ends Refusal). on o) (ends_other f lane (lane_at k) e' other) in
+    let same : flying (with_lane f lane e') (lane_at k) ≡ flying f (lane_at k) = ap (λ (o : Result LaneEndsView Refusal). on o) (ends_other f lane (lane_at k) e' other) in
     record { there = omega (arith, begun); left = omega (arith, begun, went, same); few = few_with f lane e' }
 
-of_lane : (k : ℕ) (row : Option ℕ) (cs : List CourseView) (f : Fabric) (event : Event) (what : Seen) (lane : LaneName) (e e' : Ends) (b s : ℕ) → k < 16 → Few f
+of_lane : (k : ℕ) (row : Option ℕ) (cs : List CourseView) (f : Fabric) (event : Event) (what : Seen) (lane : LaneName) (e e' : LaneEndsView) (b s : ℕ) → k < 16 → Few f
     → parts.lane_at f lane ≡ Ok e → Counts k row cs event what lane b s → b ≤ length e.forward → length e.forward + s ≡ b + length e'.forward
     → Passes k row cs f event what (with_lane f lane e')
 of_lane k row cs f event what lane e e' b s lt few has counts enough moved =
@@ -362,29 +362,29 @@ shorter_by : (xs : List WirePacket) (p : WirePacket) (ps : List WirePacket) → 
 shorter_by [] p ps e = absurd cc
 shorter_by (x ∷ xs) p ps e = omega arith
 
-longer_by : (e : Ends) (o : Option Carried) (n : ℕ) → next_item e.sender.sending ≡ o → option_map (λ cargo. number_at e.sender.sending e.sender.sending.place) o ≡ Some n
+longer_by : (e : LaneEndsView) (o : Option CargoView) (n : ℕ) → next_item e.sender.sending ≡ o → option_map (λ cargo. number_at e.sender.sending e.sender.sending.place) o ≡ Some n
     → length (wire_after_transmit e.sender e.forward) ≡ length e.forward + 1
 longer_by e None n is has = absurd cc
 longer_by e (Some cargo) n is has =
-    length-append e.forward (packets_sent e.sender.sending (next_item e.sender.sending)) ∙ ap (λ (t : Option Carried). length e.forward + length (packets_sent e.sender.sending t)) is
+    length-append e.forward (packets_sent e.sender.sending (next_item e.sender.sending)) ∙ ap (λ (t : Option CargoView). length e.forward + length (packets_sent e.sender.sending t)) is
 
-shorter : (wire ps : List WirePacket) (r : Incoming) (fate : Fate) (a : Arrival) → wire ≡ ps → delivered ps r fate ≡ Some a → length wire ≡ 1 + length (all_but_first wire)
+shorter : (wire ps : List WirePacket) (r : ReceiverEndView) (fate : Fate) (a : Arrival) → wire ≡ ps → delivered ps r fate ≡ Some a → length wire ≡ 1 + length (all_but_first wire)
 shorter wire [] r fate a is has = absurd cc
 shorter wire (p ∷ ps) r fate a is has = shorter_by wire p ps is
 
 at_link : (k : ℕ) (row : Option ℕ) (cs : List CourseView) (f : Fabric) (event : Event) (lane : LaneName) (link : LinkEvent) (b : Seen × Fabric)
-    → link_at f lane link ≡ Ok b → ((e : Ends) (x : Seen × Ends) → parts.lane_at f lane ≡ Ok e → link_on e link ≡ Ok x → Passes k row cs f event x.0 (with_lane f lane x.1)) → Passes k row cs f event b.0 b.1
+    → link_at f lane link ≡ Ok b → ((e : LaneEndsView) (x : Seen × LaneEndsView) → parts.lane_at f lane ≡ Ok e → link_on e link ≡ Ok x → Passes k row cs f event x.0 (with_lane f lane x.1)) → Passes k row cs f event b.0 b.1
 at_link k row cs f event lane link b eq all =
-    of_and (λ (p : Seen × Fabric). Passes k row cs f event p.0 p.1) (parts.lane_at f lane) (λ (e : Ends). map_ok (link_on e link) (λ (x : Seen × Ends). (x.0, with_lane f lane x.1))) b eq
-    (λ e has is. of_map (λ (p : Seen × Fabric). Passes k row cs f event p.0 p.1) (link_on e link) (λ (x : Seen × Ends). (x.0, with_lane f lane x.1)) b is (λ x on. all e x has on))
+    of_and (λ (p : Seen × Fabric). Passes k row cs f event p.0 p.1) (parts.lane_at f lane) (λ (e : LaneEndsView). map_ok (link_on e link) (λ (x : Seen × LaneEndsView). (x.0, with_lane f lane x.1))) b eq
+    (λ e has is. of_map (λ (p : Seen × Fabric). Passes k row cs f event p.0 p.1) (link_on e link) (λ (x : Seen × LaneEndsView). (x.0, with_lane f lane x.1)) b is (λ x on. all e x has on))
 
 of_transmit : (k : ℕ) (row : Option ℕ) (cs : List CourseView) (f : Fabric) (lane : LaneName) (b : Seen × Fabric) → k < 16 → Few f → answer f (events.Transmit lane) ≡ Ok b
     → Passes k row cs f (events.Transmit lane) b.0 b.1
 of_transmit k row cs f lane b lt few eq =
     at_link k row cs f (events.Transmit lane) lane links.Transmit b eq
-    (λ e x has is. of_map (λ (p : Seen × Ends). Passes k row cs f (events.Transmit lane) p.0 (with_lane f lane p.1)) (transmit_on e.sender e.forward)
-    (λ (y : ℕ × Outgoing × List WirePacket). (seen.Sent y.0, record e { sender = y.1; forward = y.2 })) x is
-    (λ y on. of_map (λ (y : ℕ × Outgoing × List WirePacket). Passes k row cs f (events.Transmit lane) (seen.Sent y.0) (with_lane f lane (record e { sender = y.1; forward = y.2 })))
+    (λ e x has is. of_map (λ (p : Seen × LaneEndsView). Passes k row cs f (events.Transmit lane) p.0 (with_lane f lane p.1)) (transmit_on e.sender e.forward)
+    (λ (y : ℕ × SenderEndView × List WirePacket). (seen.Sent y.0, record e { sender = y.1; forward = y.2 })) x is
+    (λ y on. of_map (λ (y : ℕ × SenderEndView × List WirePacket). Passes k row cs f (events.Transmit lane) (seen.Sent y.0) (with_lane f lane (record e { sender = y.1; forward = y.2 })))
     (some_or refusals.Idle (transmitted e.sender)) (λ (n : ℕ). (n, after_transmission e.sender, wire_after_transmit e.sender e.forward)) y on
     (λ n went.
     let longer = longer_by e (next_item e.sender.sending) n refl (of_some refusals.Idle (transmitted e.sender) n went) in
@@ -395,9 +395,9 @@ of_deliver : (k : ℕ) (row : Option ℕ) (cs : List CourseView) (f : Fabric) (l
     → Passes k row cs f (events.Deliver lane fate) b.0 b.1
 of_deliver k row cs f lane fate b lt few eq =
     at_link k row cs f (events.Deliver lane fate) lane (links.Deliver fate) b eq
-    (λ e x has is. of_map (λ (p : Seen × Ends). Passes k row cs f (events.Deliver lane fate) p.0 (with_lane f lane p.1)) (deliver_on e.forward e.receiver fate)
-    (λ (y : Arrival × List WirePacket × Incoming). (seen.Delivered y.0, record e { forward = y.1; receiver = y.2 })) x is
-    (λ y on. of_map (λ (y : Arrival × List WirePacket × Incoming). Passes k row cs f (events.Deliver lane fate) (seen.Delivered y.0) (with_lane f lane (record e { forward = y.1; receiver = y.2 })))
+    (λ e x has is. of_map (λ (p : Seen × LaneEndsView). Passes k row cs f (events.Deliver lane fate) p.0 (with_lane f lane p.1)) (deliver_on e.forward e.receiver fate)
+    (λ (y : Arrival × List WirePacket × ReceiverEndView). (seen.Delivered y.0, record e { forward = y.1; receiver = y.2 })) x is
+    (λ y on. of_map (λ (y : Arrival × List WirePacket × ReceiverEndView). Passes k row cs f (events.Deliver lane fate) (seen.Delivered y.0) (with_lane f lane (record e { forward = y.1; receiver = y.2 })))
     (some_or refusals.Idle (delivered e.forward e.receiver fate)) (λ (a : Arrival). (a, all_but_first e.forward, after_deliver e.forward e.receiver fate)) y on
     (λ a came.
     let less = shorter e.forward e.forward e.receiver fate a refl (of_some refusals.Idle (delivered e.forward e.receiver fate) a came) in
@@ -405,7 +405,7 @@ of_deliver k row cs f lane fate b lt few eq =
     (record { begun = when_one (place_of lane == k) _; sent = when_none (place_of lane == k) }) (omega (arith, less)) (omega (arith, less)))))
 
 -- one that leaves the forward wire
-of_same : (k : ℕ) (row : Option ℕ) (cs : List CourseView) (f : Fabric) (event : Event) (what : Seen) (lane : LaneName) (e e' : Ends) → parts.lane_at f lane ≡ Ok e
+of_same : (k : ℕ) (row : Option ℕ) (cs : List CourseView) (f : Fabric) (event : Event) (what : Seen) (lane : LaneName) (e e' : LaneEndsView) → parts.lane_at f lane ≡ Ok e
     → begun_on k (deed_of row cs event what) ≡ [] → sent_on k row (deed_of row cs event what) ≡ [] → length e'.forward ≡ length e.forward → Passes k row cs f event what (with_lane f lane e')
 of_same k row cs f event what lane e e' has b s same = of_kept k row cs f event what (with_lane f lane e') b s (kept_with f lane e e' has same)
 
@@ -413,32 +413,32 @@ of_send : (k : ℕ) (row : Option ℕ) (cs : List CourseView) (f : Fabric) (lane
     → Passes k row cs f (events.SendDllp lane kind) b.0 b.1
 of_send k row cs f lane kind b eq =
     at_link k row cs f (events.SendDllp lane kind) lane (links.SendDllp kind) b eq
-    (λ e x has is. of_map (λ (p : Seen × Ends). Passes k row cs f (events.SendDllp lane kind) p.0 (with_lane f lane p.1)) (send_dllp_on e.receiver e.back kind)
-    (λ (y : Dllp × Incoming × List Dllp). (seen.SentDllp y.0, record e { receiver = y.1; back = y.2 })) x is
+    (λ e x has is. of_map (λ (p : Seen × LaneEndsView). Passes k row cs f (events.SendDllp lane kind) p.0 (with_lane f lane p.1)) (send_dllp_on e.receiver e.back kind)
+    (λ (y : Dllp × ReceiverEndView × List Dllp). (seen.SentDllp y.0, record e { receiver = y.1; back = y.2 })) x is
     (λ y on. of_same k row cs f (events.SendDllp lane kind) (seen.SentDllp y.0) lane e (record e { receiver = y.1; back = y.2 }) has refl refl refl))
 
 of_dllp : (k : ℕ) (row : Option ℕ) (cs : List CourseView) (f : Fabric) (lane : LaneName) (fate : Fate) (b : Seen × Fabric) → answer f (events.DeliverDllp lane fate) ≡ Ok b
     → Passes k row cs f (events.DeliverDllp lane fate) b.0 b.1
 of_dllp k row cs f lane fate b eq =
     at_link k row cs f (events.DeliverDllp lane fate) lane (links.DeliverDllp fate) b eq
-    (λ e x has is. of_map (λ (p : Seen × Ends). Passes k row cs f (events.DeliverDllp lane fate) p.0 (with_lane f lane p.1)) (deliver_dllp_on e.back e.sender fate)
-    (λ (y : DllpSeen × List Dllp × Outgoing). (seen.SeenDllp y.0, record e { back = y.1; sender = y.2 })) x is
+    (λ e x has is. of_map (λ (p : Seen × LaneEndsView). Passes k row cs f (events.DeliverDllp lane fate) p.0 (with_lane f lane p.1)) (deliver_dllp_on e.back e.sender fate)
+    (λ (y : DllpSeen × List Dllp × SenderEndView). (seen.SeenDllp y.0, record e { back = y.1; sender = y.2 })) x is
     (λ y on. of_same k row cs f (events.DeliverDllp lane fate) (seen.SeenDllp y.0) lane e (record e { back = y.1; sender = y.2 }) has refl refl refl))
 
 of_timer : (k : ℕ) (row : Option ℕ) (cs : List CourseView) (f : Fabric) (lane : LaneName) (b : Seen × Fabric) → answer f (events.Timer lane) ≡ Ok b
     → Passes k row cs f (events.Timer lane) b.0 b.1
 of_timer k row cs f lane b eq =
     at_link k row cs f (events.Timer lane) lane links.Timer b eq
-    (λ e x has is. of_map (λ (p : Seen × Ends). Passes k row cs f (events.Timer lane) p.0 (with_lane f lane p.1)) (timer_on e.sender)
-    (λ (y : ℕ × Outgoing). (seen.Back y.0, record e { sender = y.1 })) x is
+    (λ e x has is. of_map (λ (p : Seen × LaneEndsView). Passes k row cs f (events.Timer lane) p.0 (with_lane f lane p.1)) (timer_on e.sender)
+    (λ (y : ℕ × SenderEndView). (seen.Back y.0, record e { sender = y.1 })) x is
     (λ y on. of_same k row cs f (events.Timer lane) (seen.Back y.0) lane e (record e { sender = y.1 }) has refl refl refl))
 
 of_retrained : (k : ℕ) (row : Option ℕ) (cs : List CourseView) (f : Fabric) (lane : LaneName) (b : Seen × Fabric) → answer f (events.Retrained lane) ≡ Ok b
     → Passes k row cs f (events.Retrained lane) b.0 b.1
 of_retrained k row cs f lane b eq =
     at_link k row cs f (events.Retrained lane) lane links.Retrained b eq
-    (λ e x has is. of_map (λ (p : Seen × Ends). Passes k row cs f (events.Retrained lane) p.0 (with_lane f lane p.1)) (retrained_on e.sender)
-    (λ (s : Outgoing). (seen.Retrained, record e { sender = s })) x is
+    (λ e x has is. of_map (λ (p : Seen × LaneEndsView). Passes k row cs f (events.Retrained lane) p.0 (with_lane f lane p.1)) (retrained_on e.sender)
+    (λ (s : SenderEndView). (seen.Retrained, record e { sender = s })) x is
     (λ s on. of_same k row cs f (events.Retrained lane) seen.Retrained lane e (record e { sender = s }) has refl refl refl))
 
 -- ---- events of the other parts
@@ -450,7 +450,7 @@ of_submit k row cs f port op b eq =
     of_and (λ (p : Seen × Fabric). Passes k row cs f (events.Submit port op) p.0 p.1) (part_at f.requesters port) _ b eq
     (λ q of_q is. of_and (λ (p : Seen × Fabric). Passes k row cs f (events.Submit port op) p.0 p.1) (parts.lane_at f (lanes.Up port)) _ b is
     (λ e has was. of_map (λ (p : Seen × Fabric). Passes k row cs f (events.Submit port op) p.0 p.1) (submit_on q e.sender op)
-    (λ (x : ℕ × Requesting × Outgoing). (seen.Submitted x.0, with_requester (with_lane f (lanes.Up port) (record e { sender = x.2 })) port x.1)) b was
+    (λ (x : ℕ × RequesterView × SenderEndView). (seen.Submitted x.0, with_requester (with_lane f (lanes.Up port) (record e { sender = x.2 })) port x.1)) b was
     (λ x on.
     let kept = kept_with f (lanes.Up port) e (record e { sender = x.2 }) has refl in
     of_kept k row cs f (events.Submit port op) (seen.Submitted x.0) (with_requester (with_lane f (lanes.Up port) (record e { sender = x.2 })) port x.1) refl refl
@@ -460,12 +460,12 @@ in_no_port : {A : Type 0} (r : Result A Refusal) (a : A) → or_no_port r ≡ Ok
 in_no_port (Ok x) a e = e
 in_no_port (Err x) a e = absurd cc
 
-of_forward_to : (k : ℕ) (row : Option ℕ) (cs : List CourseView) (f : Fabric) (name : LaneName) (place to : ℕ) (e : Ends) (b : Seen × Fabric)
+of_forward_to : (k : ℕ) (row : Option ℕ) (cs : List CourseView) (f : Fabric) (name : LaneName) (place to : ℕ) (e : LaneEndsView) (b : Seen × Fabric)
     → name ≢ lane_to to → parts.lane_at f name ≡ Ok e → forward_to f name e place to ≡ Ok b → Passes k row cs f (events.Forward name place) b.0 b.1
 of_forward_to k row cs f name place to e b ne has eq =
     of_and (λ (p : Seen × Fabric). Passes k row cs f (events.Forward name place) p.0 p.1) (or_no_port (parts.lane_at f (lane_to to))) _ b eq
     (λ next there is. of_map (λ (p : Seen × Fabric). Passes k row cs f (events.Forward name place) p.0 p.1) (forward_on e.receiver place next.sender)
-    (λ (x : Incoming × Outgoing). (seen.To to, with_lane (with_lane f name (record e { receiver = x.0 })) (lane_to to) (record next { sender = x.1 }))) b is
+    (λ (x : ReceiverEndView × SenderEndView). (seen.To to, with_lane (with_lane f name (record e { receiver = x.0 })) (lane_to to) (record next { sender = x.1 }))) b is
     (λ x on.
     let from = with_lane f name (record e { receiver = x.0 }) in
     let still = ends_other f name (lane_to to) (record e { receiver = x.0 }) ne ∙ in_no_port (parts.lane_at f (lane_to to)) next there in
@@ -494,7 +494,7 @@ of_serve : (k : ℕ) (row : Option ℕ) (cs : List CourseView) (f : Fabric) (pla
     → Passes k row cs f (events.Serve place) b.0 b.1
 of_serve k row cs f place b eq =
     of_map (λ (p : Seen × Fabric). Passes k row cs f (events.Serve place) p.0 p.1) (serve_on f.inward.receiver place f.memory f.outward.sender)
-    (λ (x : ℕ × Incoming × State × Outgoing). (seen.At x.0, record f { memory = x.2; inward = record f.inward { receiver = x.1 }; outward = record f.outward { sender = x.3 } })) b eq
+    (λ (x : ℕ × ReceiverEndView × MemoryView × SenderEndView). (seen.At x.0, record f { memory = x.2; inward = record f.inward { receiver = x.1 }; outward = record f.outward { sender = x.3 } })) b eq
     (λ x on. of_kept k row cs f (events.Serve place) (seen.At x.0) (record f { memory = x.2; inward = record f.inward { receiver = x.1 }; outward = record f.outward { sender = x.3 } }) refl refl
     (record { up = λ at. refl; down = λ at. refl; inward = refl; outward = refl; up_len = refl; down_len = refl }))
 
@@ -504,7 +504,7 @@ of_collect k row cs f port b eq =
     of_and (λ (p : Seen × Fabric). Passes k row cs f (events.Collect port) p.0 p.1) (part_at f.requesters port) _ b eq
     (λ q of_q is. of_and (λ (p : Seen × Fabric). Passes k row cs f (events.Collect port) p.0 p.1) (parts.lane_at f (lanes.Down port)) _ b is
     (λ e has was. of_map (λ (p : Seen × Fabric). Passes k row cs f (events.Collect port) p.0 p.1) (collect_on e.receiver q)
-    (λ (x : Answer × Incoming × Requesting). (seen.Collected x.0, with_requester (with_lane f (lanes.Down port) (record e { receiver = x.1 })) port x.2)) b was
+    (λ (x : Answer × ReceiverEndView × RequesterView). (seen.Collected x.0, with_requester (with_lane f (lanes.Down port) (record e { receiver = x.1 })) port x.2)) b was
     (λ x on.
     let kept = kept_with f (lanes.Down port) e (record e { receiver = x.1 }) has refl in
     of_kept k row cs f (events.Collect port) (seen.Collected x.0) (with_requester (with_lane f (lanes.Down port) (record e { receiver = x.1 })) port x.2) refl refl
@@ -537,20 +537,20 @@ never (t ∷ ts) k n v f left lt few is h =
 
 -- ---- a new fabric
 
-abbrev or_nothing : Option Ends → ℕ
+abbrev or_nothing : Option LaneEndsView → ℕ
 or_nothing None = 0
 or_nothing (Some e) = length e.forward
 
-on_new : (n p : ℕ) (e : Ends) → length e.forward ≡ 0 → or_nothing (slice_get (replicate n e) p) ≡ 0
+on_new : (n p : ℕ) (e : LaneEndsView) → length e.forward ≡ 0 → or_nothing (slice_get (replicate n e) p) ≡ 0
 on_new zero p e none = refl
 on_new (suc n) zero e none = none
 on_new (suc n) (suc p) e none = on_new n p e none
 
-on_none : (o : Option Ends) → or_nothing o ≡ 0 → on (some_or refusals.NoSuchPart o) ≡ 0
+on_none : (o : Option LaneEndsView) → or_nothing o ≡ 0 → on (some_or refusals.NoSuchPart o) ≡ 0
 on_none None e = refl
 on_none (Some x) e = e
 
-on_new_part : (n p : ℕ) (e : Ends) → length e.forward ≡ 0 → on (part_at (replicate n e) p) ≡ 0
+on_new_part : (n p : ℕ) (e : LaneEndsView) → length e.forward ≡ 0 → on (part_at (replicate n e) p) ≡ 0
 on_new_part n zero e none = refl
 on_new_part n (suc p) e none = on_none (slice_get (replicate n e) p) (on_new n p e none)
 
@@ -560,7 +560,7 @@ new_flying c (lanes.Down port) = sym (on_new_part c.requesters port _ refl)
 new_flying c lanes.Inward = refl
 new_flying c lanes.Outward = refl
 
-length_new : (n : ℕ) (e : Ends) → length (replicate n e) ≡ n
+length_new : (n : ℕ) (e : LaneEndsView) → length (replicate n e) ≡ n
 length_new zero e = refl
 length_new (suc n) e = ap suc (length_new n e)
 

@@ -2,4 +2,4 @@ pub mod Verdict
 pub use Rattle.c_buffer.specs.Room
 pub use Rattle.history_check.specs.Claim
 pub use Rattle.history_check.specs.Trace
-pub use Rattle.trace_text.specs.Reading
+pub use Rattle.trace_text.specs.TraceReaderView

@@ -4,7 +4,7 @@ ghost use Rattle.history_check.specs.declared.flaws.FlawKind.{FlawKind};
 ghost use Rattle.history_check.specs.Claim.{Claim, claim_of};
 ghost use Rattle.history_check.specs.Trace.{Explains};
 ghost use Rattle.history_check.specs.Flaws.{first_flaw};
-ghost use Rattle.trace_text.specs.Reading.{read_of};
+ghost use Rattle.trace_text.specs.TraceReaderView.{read_of};
 ghost use Rattle.trace_engine.specs.Check.{fault_line, flaw_line};
 ghost use Rattle.c_buffer.specs.Room.{filled};
 ghost use Rattle.c_check.specs.Verdict.{judged, verdict};

@@ -5,10 +5,10 @@ use Rattle.tlp_core.specs.declared.fault.TlpFault.{TlpFault}
 use Rattle.tlp_core.specs.Fault.{number_of}
 use Rattle.tlp_core.specs.Faults.{reading}
 use Rattle.tlp_core.specs.Layout.{canonical}
-use Rattle.tlp_core.specs.Packet.{Packet}
+use Rattle.tlp_core.specs.TlpView.{TlpView}
 use Rattle.tlp_core.specs.Operation.{is_completion}
 use Rattle.seq_memory.specs.declared.Entry.{Entry}
-use Rattle.seq_memory.specs.History.{State, bytes_of}
+use Rattle.seq_memory.specs.History.{MemoryView, bytes_of}
 use Rattle.seq_memory.specs.Limits.{is_size, is_base}
 use Rattle.completer_core.specs.Serving.{after_serving, completion_to}
 use Rattle.operation_text.specs.Texts.{op_text}
@@ -28,36 +28,36 @@ wrong_limits base size block =
 
 pub record Service : Type 0 where
   pub code : ℕ
-  pub memory : State
+  pub memory : MemoryView
   pub room : List ℕ
 
 -- nothing changes
-abbrev pub refused : ℕ → State → List ℕ → Service
+abbrev pub refused : ℕ → MemoryView → List ℕ → Service
 refused code s room = record { code = code; memory = s; room = room }
 
 -- the completion stands in the room, if there is one
-abbrev pub answered : State → List ℕ → Option Packet → Service
+abbrev pub answered : MemoryView → List ℕ → Option TlpView → Service
 answered s room None = record { code = 0; memory = s; room = room }
 answered s room (Some c) = record { code = length (canonical c); memory = s; room = filled room (canonical c) }
 
 -- a packet is served if it is a request
-abbrev pub served : State → ℕ → List ℕ → Packet → Service
+abbrev pub served : MemoryView → ℕ → List ℕ → TlpView → Service
 served s number room t =
     if is_completion t.kind then refused NO_REQUEST s room
     else answered (after_serving s t number) room (completion_to s t)
 
-abbrev pub read : State → ℕ → List ℕ → Result Packet TlpFault → Service
+abbrev pub read : MemoryView → ℕ → List ℕ → Result TlpView TlpFault → Service
 read s number room (Err f) = refused (1000 + number_of f) s room
 read s number room (Ok t) = served s number room t
 
 -- the room is tested first, then the packet
-abbrev pub service : State → ℕ → List ℕ → List ℕ → Service
+abbrev pub service : MemoryView → ℕ → List ℕ → List ℕ → Service
 service s number packet room =
     if nat_lt (length room) 144 then refused SMALL_ROOM s room else read s number room (reading packet)
 
 -- there is nothing to refuse but memory: the room is large enough, and the bytes spell a request
 abbrev pub IsRequestCall : List ℕ → List ℕ → Type 0
-IsRequestCall packet room = (144 ≤ length room) × (t : Packet) × (reading packet ≡ Ok t) × (is_completion t.kind ≡ false)
+IsRequestCall packet room = (144 ≤ length room) × (t : TlpView) × (reading packet ≡ Ok t) × (is_completion t.kind ≡ false)
 
 -- ---- what is held
 
@@ -73,7 +73,7 @@ abbrev pub entry_told : List Entry → ℕ → List ℕ → Told
 entry_told entries place room =
     if nat_lt (length room) 512 then untold room SMALL_ROOM else found room (slice_get entries place)
 
-abbrev pub bytes_told : State → List ℕ → Told
+abbrev pub bytes_told : MemoryView → List ℕ → Told
 bytes_told s room =
     if nat_lt (length room) (length (bytes_of s)) then untold room SMALL_ROOM
     else record { code = 0; room = filled room (bytes_of s) }

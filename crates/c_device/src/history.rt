@@ -1,7 +1,7 @@
 //! What a device holds.
 ghost use Rattle.std.specs.Prelude.{◌≡◌, ◌≤◌, Some, length};
 ghost use Rattle.arrayvec.specs.ArrayString.{array_string_len};
-ghost use Rattle.seq_memory.specs.History.{State};
+ghost use Rattle.seq_memory.specs.History.{MemoryView};
 ghost use Rattle.c_buffer.specs.Room.{filled};
 ghost use Rattle.c_device.specs.Calls.{entry_text, entry_told, bytes_told};
 
@@ -65,7 +65,7 @@ fn put_bytes(memory: &Memory, room: &mut [u8]) -> u32
 
 /// How many requests have acted on the device of the slot, which goes to `back`.
 pub fn history_length(slot: Slot, back: &mut Slot) -> usize
-    ghost memory: { State }
+    ghost memory: { MemoryView }
     requires { slot.memory ≡ Some memory }
     ensures value { result ≡ length memory.entries }
     ensures unchanged { back.new.memory ≡ Some memory }
@@ -81,7 +81,7 @@ pub fn history_length(slot: Slot, back: &mut Slot) -> usize
 /// From 1000 on nothing has changed: `SMALL_ROOM` for fewer than 512 bytes, then `NO_ENTRY`. The
 /// device goes to `back`, as it was.
 pub fn tell_entry(slot: Slot, place: usize, room: &mut [u8], back: &mut Slot) -> u32
-    ghost memory: { State }
+    ghost memory: { MemoryView }
     requires { slot.memory ≡ Some memory }
     ensures code { result ≡ (entry_told memory.entries place room.old).code }
     ensures room { room.new ≡ (entry_told memory.entries place room.old).room }
@@ -96,7 +96,7 @@ pub fn tell_entry(slot: Slot, place: usize, room: &mut [u8], back: &mut Slot) ->
 /// Puts all bytes of the device, from its base address on, to the front of `room`: 0, or `SMALL_ROOM`
 /// for fewer bytes than it has, and then nothing has changed. The device goes to `back`, as it was.
 pub fn copy_bytes(slot: Slot, room: &mut [u8], back: &mut Slot) -> u32
-    ghost memory: { State }
+    ghost memory: { MemoryView }
     requires { slot.memory ≡ Some memory }
     ensures code { result ≡ (bytes_told memory room.old).code }
     ensures room { room.new ≡ (bytes_told memory room.old).room }

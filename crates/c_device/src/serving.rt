@@ -1,7 +1,7 @@
 //! Packets at a device with a history.
 ghost use Rattle.std.specs.Prelude.{◌≡◌, ◌≤◌, Some, false, length};
 ghost use Rattle.tlp_core.specs.Operation as spec;
-ghost use Rattle.seq_memory.specs.History.{State};
+ghost use Rattle.seq_memory.specs.History.{MemoryView};
 ghost use Rattle.c_device.specs.Calls.{served, service, IsRequestCall};
 
 use crate::slot::{Slot, close, open};
@@ -53,7 +53,7 @@ fn serve_bytes(memory: &mut Memory, number: u32, packet: &[u8], room: &mut [u8])
 /// number of the fault where `packet` is no packet, then `NO_REQUEST` for a completion, then
 /// `NO_MEMORY` where the history can't grow.
 pub fn serve_packet(slot: Slot, number: u32, packet: &[u8], room: &mut [u8], back: &mut Slot) -> u32
-    ghost memory: { State }
+    ghost memory: { MemoryView }
     requires { slot.memory ≡ Some memory }
     ensures code { ¬ (result ≡ NO_MEMORY) → result ≡ (service memory number packet.now room.old).code }
     ensures memory { ¬ (result ≡ NO_MEMORY) → back.new.memory ≡ Some (service memory number packet.now room.old).memory }

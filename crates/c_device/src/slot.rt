@@ -1,6 +1,6 @@
 //! Slots.
 ghost use Rattle.std.specs.Prelude.{◌≡◌, ◌≤◌, ◌⊎◌, Option, Some, []};
-ghost use Rattle.seq_memory.specs.History.{State};
+ghost use Rattle.seq_memory.specs.History.{MemoryView};
 ghost use Rattle.c_device.specs.Slot.{slot_owns, memory_coded};
 ghost use Rattle.c_device.specs.Calls.{wrong_limits};
 
@@ -34,7 +34,7 @@ fn of_parts(parts: Parts<Memory, Global>) -> Slot
 }
 
 fn into_parts(slot: Slot) -> Parts<Memory, Global>
-    ghost memory: { State }
+    ghost memory: { MemoryView }
     requires { slot.memory ≡ Some memory }
     ensures { result.value ≡ memory }
 {
@@ -47,7 +47,7 @@ fn into_parts(slot: Slot) -> Parts<Memory, Global>
 
 /// Takes the device out of the slot.
 pub(crate) fn open(slot: Slot) -> Box<Memory, Global>
-    ghost memory: { State }
+    ghost memory: { MemoryView }
     requires { slot.memory ≡ Some memory }
     ensures { result.value ≡ memory }
 {
@@ -92,7 +92,7 @@ pub fn new_device(alloc: Global, base: u64, size: usize, block: u16, slot: &mut 
 
 /// Frees the device of the slot.
 pub fn free_device(slot: Slot)
-    ghost memory: { State }
+    ghost memory: { MemoryView }
     requires { slot.memory ≡ Some memory }
 {
     drop(open(slot));

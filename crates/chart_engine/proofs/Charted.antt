@@ -17,58 +17,58 @@ use Rattle.svg_text.specs.Xml.{IsDocument}
 use Rattle.link_chart.specs.declared.window.ChartWindow.{ChartWindow}
 use Rattle.chart_engine.specs.declared.chart.Session.{Session}
 use Rattle.chart_engine.specs.Chart as spec
-use Rattle.chart_engine.specs.Chart.{Charting, chart_responses, out_chart, WritesDocument}
+use Rattle.chart_engine.specs.Chart.{CharterView, chart_responses, out_chart, WritesDocument}
 use Rattle.chart_engine.specs.Events.{IsOfEvents, WritesEvents}
 
 -- no line is answered by a text
 
-of_made : (s : Charting) (c : _) (f : Option ConfigFault) → (spec.made s c f).text ≡ []
+of_made : (s : CharterView) (c : _) (f : Option ConfigFault) → (spec.made s c f).text ≡ []
 of_made s c None = refl
 of_made s c (Some x) = refl
 
-of_config : (s : Charting) (o : Option Session) (c : _) → (spec.made_once s o c).text ≡ []
+of_config : (s : CharterView) (o : Option Session) (c : _) → (spec.made_once s o c).text ≡ []
 of_config s None c = of_made s c _
 of_config s (Some now) c = refl
 
-of_refusal : (s : Charting) (p : Session) (o : Option Refusal) → (spec.unless_refused s p o).text ≡ []
+of_refusal : (s : CharterView) (p : Session) (o : Option Refusal) → (spec.unless_refused s p o).text ≡ []
 of_refusal s p None = refl
 of_refusal s p (Some r) = refl
 
-of_event : (s : Charting) (o : Option Session) (e : Event) → (spec.happened s o e).text ≡ []
+of_event : (s : CharterView) (o : Option Session) (e : Event) → (spec.happened s o e).text ≡ []
 of_event s None e = refl
 of_event s (Some p) e = of_refusal s _ _
 
-of_settle : (s : Charting) (o : Option Session) → (spec.settles s o).text ≡ []
+of_settle : (s : CharterView) (o : Option Session) → (spec.settles s o).text ≡ []
 of_settle s None = refl
 of_settle s (Some p) = refl
 
-of_line : (s : Charting) (l : Option Line) → (spec.by_line s l).text ≡ []
+of_line : (s : CharterView) (l : Option Line) → (spec.by_line s l).text ≡ []
 of_line s None = refl
 of_line s (Some (lines.Fabric c)) = of_config s s.session c
 of_line s (Some (lines.Event e)) = of_event s s.session e
 of_line s (Some lines.Settle) = of_settle s s.session
 
-unless : (s : Charting) (ending : Option (List ℕ)) (a : Answer Charting) → a.text ≡ [] → (spec.unless_ended s ending a).text ≡ []
+unless : (s : CharterView) (ending : Option (List ℕ)) (a : Answer CharterView) → a.text ≡ [] → (spec.unless_ended s ending a).text ≡ []
 unless s None a e = e
 unless s (Some line) a e = refl
 
-skipped : (s : Charting) (b : Bool) (a : Answer Charting) → a.text ≡ [] → (cond b (spec.nothing (spec.counted s)) a).text ≡ []
+skipped : (s : CharterView) (b : Bool) (a : Answer CharterView) → a.text ≡ [] → (cond b (spec.nothing (spec.counted s)) a).text ≡ []
 skipped s true a e = refl
 skipped s false a e = e
 
-quiet_line : (s : Charting) (line : List ℕ) → (spec.chart_line s line).text ≡ []
+quiet_line : (s : CharterView) (line : List ℕ) → (spec.chart_line s line).text ≡ []
 quiet_line s line = unless s s.ending _ (skipped s _ _ (of_line s _))
 
-quiet_long : (s : Charting) → (spec.chart_long_line s).text ≡ []
+quiet_long : (s : CharterView) → (spec.chart_long_line s).text ≡ []
 quiet_long s = unless s s.ending _ refl
 
 -- a line more, and nothing is written
-silent_line : (t : Bool) (run : Run Charting) (line : List ℕ) → run.text ≡ []
+silent_line : (t : Bool) (run : Run CharterView) (line : List ℕ) → run.text ≡ []
     → run.text ++ (cond t (chart_responses.on_long_line run.state) (chart_responses.on_line run.state (said line))).text ≡ []
 silent_line true run line e = ap (λ (t : List ℕ). run.text ++ t) (quiet_long run.state) ∙ append-nil run.text ∙ e
 silent_line false run line e = ap (λ (t : List ℕ). run.text ++ t) (quiet_line run.state (said line)) ∙ append-nil run.text ∙ e
 
-silent : (ls : List (List ℕ)) (run : Run Charting) → run.text ≡ [] → (fold (after_line chart_responses) run ls).text ≡ []
+silent : (ls : List (List ℕ)) (run : Run CharterView) → run.text ≡ [] → (fold (after_line chart_responses) run ls).text ≡ []
 silent [] run e = e
 silent (l ∷ ls) run e = silent ls (after_line chart_responses run l) (silent_line (nat_lt 512 (length (bare l))) run l e)
 
@@ -84,23 +84,23 @@ shown pages (Some p) red title = pages _ _ _
 
 pub well_charted : Pages → (window : ChartWindow) (input : List ℕ) → IsDocument (out_chart window input).text
 well_charted pages window input =
-    let start : Charting = spec.new_script window in
-    let read : Run Charting = fold (after_line chart_responses) (new_run start) (lines_of input) in
+    let start : CharterView = spec.new_script window in
+    let read : Run CharterView = fold (after_line chart_responses) (new_run start) (lines_of input) in
     let quiet : read.text ≡ [] = silent (lines_of input) (new_run start) (λ i. []) in
     subst IsDocument (ap (λ (t : List ℕ). t ++ (spec.text_of read.state.session read.state.ending)) (sym quiet)) (shown pages read.state.session (spec.is_red read.state.ending) (spec.title_of read.state.ending))
 
-pub document-written : (window : ChartWindow) (start : Charting) (read : List ℕ) (out out' : Option (List ℕ)) → start ≡ spec.new_script window
+pub document-written : (window : ChartWindow) (start : CharterView) (read : List ℕ) (out out' : Option (List ℕ)) → start ≡ spec.new_script window
     → ((w : ChartWindow) (input : List ℕ) → IsDocument (out_chart w input).text) → Appends out out' (run_of chart_responses start read).text → WritesDocument out out'
 document-written window start read out out' is all written = record {
   text = (run_of chart_responses start read).text;
   written = written;
-  document = subst (λ (s : Charting). IsDocument (run_of chart_responses s read).text) (sym is) (all window read);
+  document = subst (λ (s : CharterView). IsDocument (run_of chart_responses s read).text) (sym is) (all window read);
 }
 
-pub events-written : (window : ChartWindow) (start : Charting) (read : List ℕ) (out out' : Option (List ℕ)) → start ≡ spec.new_script window
+pub events-written : (window : ChartWindow) (start : CharterView) (read : List ℕ) (out out' : Option (List ℕ)) → start ≡ spec.new_script window
     → ((w : ChartWindow) (input : List ℕ) → IsOfEvents w (out_chart w input).text) → Appends out out' (run_of chart_responses start read).text → WritesEvents window out out'
 events-written window start read out out' is all written = record {
   text = (run_of chart_responses start read).text;
   written = written;
-  of_events = subst (λ (s : Charting). IsOfEvents window (run_of chart_responses s read).text) (sym is) (all window read);
+  of_events = subst (λ (s : CharterView). IsOfEvents window (run_of chart_responses s read).text) (sym is) (all window read);
 }

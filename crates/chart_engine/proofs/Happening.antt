@@ -24,7 +24,7 @@ use Rattle.chart_laws.specs.Happened.{Happened, told_all}
 use Rattle.chart_engine.specs.declared.chart.Session.{Session}
 use Rattle.chart_engine.specs.Settled.{Trail, at, answered, tried, times, attempted, lane_turn, round, rounds, if_moved}
 use Rattle.chart_engine.specs.Chart as spec
-use Rattle.chart_engine.specs.Chart.{Charting, chart_responses, out_chart}
+use Rattle.chart_engine.specs.Chart.{CharterView, chart_responses, out_chart}
 use Rattle.chart_engine.specs.Events.{IsOfEvents, ShowsEvents, ShowsEventsIfAny}
 use Rattle.chart_engine.proofs.Charted.{quiet_before}
 
@@ -109,7 +109,7 @@ ExactIfAny w None = Unit {0}
 ExactIfAny w (Some p) = Exact w p.fabric p.chart
 
 -- until the run ends the chart is told exactly what happened
-record Holds (w : ChartWindow) (s : Charting) : Type 0 where
+record Holds (w : ChartWindow) (s : CharterView) : Type 0 where
   window : s.window ≡ w
   exact : s.ending ≡ None → ExactIfAny w s.session
   shows : ShowsEventsIfAny w s.session
@@ -129,68 +129,68 @@ shown_last w p line event r e = record {
 no_ending : {A : Type 0} (line : List ℕ) → Some line ≡ None → A
 no_ending line e = absurd cc
 
-goes_on : (w : ChartWindow) (s : Charting) (p : Session) → s.window ≡ w → Exact w p.fabric p.chart → Holds w (spec.goes_on s p).state
+goes_on : (w : ChartWindow) (s : CharterView) (p : Session) → s.window ≡ w → Exact w p.fabric p.chart → Holds w (spec.goes_on s p).state
 goes_on w s p window e = record { window = window; exact = λ none. e; shows = shown w p e }
 
-ends : (w : ChartWindow) (s : Charting) (o : Option Session) (line : List ℕ) → s.window ≡ w → ShowsEventsIfAny w o → Holds w (spec.ends s o line).state
+ends : (w : ChartWindow) (s : CharterView) (o : Option Session) (line : List ℕ) → s.window ≡ w → ShowsEventsIfAny w o → Holds w (spec.ends s o line).state
 ends w s o line window e = record { window = window; exact = λ some. no_ending line some; shows = e }
 
-of_made : (w : ChartWindow) (s : Charting) (c : Config) (x : Option ConfigFault) → Holds w s → config_fault c ≡ x → Holds w (spec.made s c x).state
+of_made : (w : ChartWindow) (s : CharterView) (c : Config) (x : Option ConfigFault) → Holds w s → config_fault c ≡ x → Holds w (spec.made s c x).state
 of_made w s c (Some x) h is = ends w s s.session _ h.window h.shows
 of_made w s c None h is =
     goes_on w s (spec.session (new_fabric c) (new_chart s.window c.requesters)) h.window
     (record { config = c; faultless = is; tales = []; happened = refl; chart = ap (λ (v : ChartWindow). new_chart v c.requesters) h.window })
 
-of_made_once : (w : ChartWindow) (s : Charting) (o : Option Session) (c : Config) → Holds w s → Holds w (spec.made_once s o c).state
+of_made_once : (w : ChartWindow) (s : CharterView) (o : Option Session) (c : Config) → Holds w s → Holds w (spec.made_once s o c).state
 of_made_once w s None c h = of_made w s c (config_fault c) h refl
 of_made_once w s (Some p) c h = ends w s s.session _ h.window h.shows
 
-of_left : (w : ChartWindow) (s : Charting) (p : Session) (event : Event) (a : Result (Seen × Fabric) Refusal) → s.window ≡ w → answer p.fabric event ≡ a → Exact w p.fabric p.chart
+of_left : (w : ChartWindow) (s : CharterView) (p : Session) (event : Event) (a : Result (Seen × Fabric) Refusal) → s.window ≡ w → answer p.fabric event ≡ a → Exact w p.fabric p.chart
     → Holds w (spec.unless_refused s (spec.left_by (spec.next_line s) p event a) (spec.refusal_in a)).state
 of_left w s p event (Ok q) window is e = goes_on w s _ window (one_more w p.fabric q.1 p.chart (spec.next_line s) event q.0 e is)
 of_left w s p event (Err r) window is e = ends w s _ _ window (shown_last w p (spec.next_line s) event r e)
 
-of_happened : (w : ChartWindow) (s : Charting) (o : Option Session) (event : Event) → Holds w s → ExactIfAny w o → Holds w (spec.happened s o event).state
+of_happened : (w : ChartWindow) (s : CharterView) (o : Option Session) (event : Event) → Holds w s → ExactIfAny w o → Holds w (spec.happened s o event).state
 of_happened w s None event h e = ends w s s.session _ h.window h.shows
 of_happened w s (Some p) event h e = of_left w s p event (answer p.fabric event) h.window refl e
 
-of_settled : (w : ChartWindow) (s : Charting) (o : Option Session) → Holds w s → ExactIfAny w o → Holds w (spec.settles s o).state
+of_settled : (w : ChartWindow) (s : CharterView) (o : Option Session) → Holds w s → ExactIfAny w o → Holds w (spec.settles s o).state
 of_settled w s None h e = ends w s s.session _ h.window h.shows
 of_settled w s (Some p) h e = goes_on w s _ h.window (of_rounds w (spec.next_line s) 10000 (at p.fabric p.chart false) e)
 
-of_line : (w : ChartWindow) (s : Charting) (l : Option Line) → Holds w s → ExactIfAny w s.session → Holds w (spec.by_line s l).state
+of_line : (w : ChartWindow) (s : CharterView) (l : Option Line) → Holds w s → ExactIfAny w s.session → Holds w (spec.by_line s l).state
 of_line w s None h e = ends w s s.session _ h.window h.shows
 of_line w s (Some (lines.Fabric c)) h e = of_made_once w s s.session c h
 of_line w s (Some (lines.Event event)) h e = of_happened w s s.session event h e
 of_line w s (Some lines.Settle) h e = of_settled w s s.session h e
 
-unless : (w : ChartWindow) (s : Charting) (ending : Option (List ℕ)) (a : Answer Charting) → Holds w s → s.ending ≡ ending → (ExactIfAny w s.session → Holds w a.state)
+unless : (w : ChartWindow) (s : CharterView) (ending : Option (List ℕ)) (a : Answer CharterView) → Holds w s → s.ending ≡ ending → (ExactIfAny w s.session → Holds w a.state)
     → Holds w (spec.unless_ended s ending a).state
 unless w s None a h is next = next (h.exact is)
 unless w s (Some line) a h is next = h
 
-skipped : (w : ChartWindow) (s : Charting) (b : Bool) (a : Answer Charting) → Holds w s → Holds w a.state → Holds w (cond b (spec.nothing (spec.counted s)) a).state
+skipped : (w : ChartWindow) (s : CharterView) (b : Bool) (a : Answer CharterView) → Holds w s → Holds w a.state → Holds w (cond b (spec.nothing (spec.counted s)) a).state
 skipped w s true a h next = record { window = h.window; exact = h.exact; shows = h.shows }
 skipped w s false a h next = next
 
-of_chart_line : (w : ChartWindow) (s : Charting) (line : List ℕ) → Holds w s → Holds w (spec.chart_line s line).state
+of_chart_line : (w : ChartWindow) (s : CharterView) (line : List ℕ) → Holds w s → Holds w (spec.chart_line s line).state
 of_chart_line w s line h = unless w s s.ending _ h refl (λ e. skipped w s _ _ h (of_line w s _ h e))
 
-of_long_line : (w : ChartWindow) (s : Charting) → Holds w s → Holds w (spec.chart_long_line s).state
+of_long_line : (w : ChartWindow) (s : CharterView) → Holds w s → Holds w (spec.chart_long_line s).state
 of_long_line w s h = unless w s s.ending _ h refl (λ e. ends w s s.session _ h.window h.shows)
 
-of_either : (w : ChartWindow) (t : Bool) (s : Charting) (line : List ℕ) → Holds w s → Holds w (cond t (chart_responses.on_long_line s) (chart_responses.on_line s (said line))).state
+of_either : (w : ChartWindow) (t : Bool) (s : CharterView) (line : List ℕ) → Holds w s → Holds w (cond t (chart_responses.on_long_line s) (chart_responses.on_line s (said line))).state
 of_either w true s line h = of_long_line w s h
 of_either w false s line h = of_chart_line w s (said line) h
 
-of_lines : (w : ChartWindow) (ls : List (List ℕ)) (run : Run Charting) → Holds w run.state → Holds w (fold (after_line chart_responses) run ls).state
+of_lines : (w : ChartWindow) (ls : List (List ℕ)) (run : Run CharterView) → Holds w run.state → Holds w (fold (after_line chart_responses) run ls).state
 of_lines w [] run h = h
 of_lines w (l ∷ ls) run h = of_lines w ls (after_line chart_responses run l) (of_either w (nat_lt 512 (length (bare l))) run.state l h)
 
 pub of_events : (w : ChartWindow) (input : List ℕ) → IsOfEvents w (out_chart w input).text
 of_events w input =
-    let start : Charting = spec.new_script w in
-    let read : Run Charting = fold (after_line chart_responses) (new_run start) (lines_of input) in
+    let start : CharterView = spec.new_script w in
+    let read : Run CharterView = fold (after_line chart_responses) (new_run start) (lines_of input) in
     let holds : Holds w read.state = of_lines w (lines_of input) (new_run start) (record { window = refl; exact = λ none. tt; shows = tt }) in
     record {
       session = read.state.session;

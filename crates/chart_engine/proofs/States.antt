@@ -15,14 +15,14 @@ use Rattle.link_chart.specs.ChartView.{ChartView, new_chart}
 use Rattle.line_loop.specs.Run.{IsAnswer}
 use Rattle.chart_engine.specs.declared.chart.Session.{Session}
 use Rattle.chart_engine.specs.Chart as spec
-use Rattle.chart_engine.specs.Chart.{Charting, session, next_line}
+use Rattle.chart_engine.specs.Chart.{CharterView, session, next_line}
 
 pub none_of : {X : Type 0} (o : Option X) → is_some o ≡ false → o ≡ None
 none_of None e = refl
 none_of (Some x) e = absurd cc
 
 -- the fabric of the script is made, with its chart
-pub is_made : (s new : Charting) (c : Config) (f : Fabric) (chart : ChartView) (out : List ℕ) → s.session ≡ None → config_fault c ≡ None → f ≡ new_fabric c
+pub is_made : (s new : CharterView) (c : Config) (f : Fabric) (chart : ChartView) (out : List ℕ) → s.session ≡ None → config_fault c ≡ None → f ≡ new_fabric c
     → chart ≡ new_chart s.window c.requesters → new ≡ record s { lines = next_line s; session = Some (session f chart) } → IsAnswer new out out false (spec.made_once s s.session c)
 is_made s new c f chart out none fault made charts now =
     subst (IsAnswer new out out false) (sym (ap (λ (o : Option Session). spec.made_once s o c) none ∙ ap (spec.made s c) fault))
@@ -33,13 +33,13 @@ is_made s new c f chart out none fault made charts now =
       is_fault = refl;
     })
 
-pub not_made : (s new : Charting) (c : Config) (x : ConfigFault) (out : List ℕ) (told : Bool) → s.session ≡ None → config_fault c ≡ Some x
+pub not_made : (s new : CharterView) (c : Config) (x : ConfigFault) (out : List ℕ) (told : Bool) → s.session ≡ None → config_fault c ≡ Some x
     → IsAnswer new out out told (spec.fault s (fault_name x)) → IsAnswer new out out told (spec.made_once s s.session c)
 not_made s new c x out told none fault answer =
     subst (IsAnswer new out out told) (sym (ap (λ (o : Option Session). spec.made_once s o c) none ∙ ap (spec.made s c) fault)) answer
 
 -- an event leaves this, and ends the run if it is refused
-pub is_left : (s new : Charting) (p : Session) (event : Event) (now : Session) (r : Option Refusal) (out : List ℕ) (told : Bool) → s.session ≡ Some p
+pub is_left : (s new : CharterView) (p : Session) (event : Event) (now : Session) (r : Option Refusal) (out : List ℕ) (told : Bool) → s.session ≡ Some p
     → now ≡ spec.left_by (next_line s) p event (answer p.fabric event) → r ≡ spec.refusal_in (answer p.fabric event)
     → IsAnswer new out out told (spec.unless_refused s now r) → IsAnswer new out out told (spec.happened s s.session event)
 is_left s new p event now r out told some left refusal answers =
@@ -48,13 +48,13 @@ is_left s new p event now r out told some left refusal answers =
     ∙ sym (ap (λ (o : Option Session). spec.happened s o event) some)) answers
 
 -- with no refusal the run goes on
-pub went_on : (s new : Charting) (now : Session) (r : Option Refusal) (out : List ℕ) → r ≡ None → new ≡ record s { lines = next_line s; session = Some now }
+pub went_on : (s new : CharterView) (now : Session) (r : Option Refusal) (out : List ℕ) → r ≡ None → new ≡ record s { lines = next_line s; session = Some now }
     → IsAnswer new out out false (spec.unless_refused s now r)
 went_on s new now r out none is =
     subst (IsAnswer new out out false) (ap (λ (x : Option Refusal). spec.unless_refused s now x) (sym none)) (record { state = is; text = sym (append-nil out); is_fault = refl })
 
-pub was_refused : (s mid new : Charting) (now : Session) (r : Option Refusal) (why : Refusal) (out : List ℕ) (told : Bool) → r ≡ Some why → mid ≡ record s { session = Some now }
+pub was_refused : (s mid new : CharterView) (now : Session) (r : Option Refusal) (why : Refusal) (out : List ℕ) (told : Bool) → r ≡ Some why → mid ≡ record s { session = Some now }
     → IsAnswer new out out told (spec.ends mid mid.session (spec.told mid (codes "refused ") (refusal_text why))) → IsAnswer new out out told (spec.unless_refused s now r)
 was_refused s mid new now r why out told some is answers =
     subst (IsAnswer new out out told) (ap (λ (x : Option Refusal). spec.unless_refused s now x) (sym some))
-    (subst (λ (m : Charting). IsAnswer new out out told (spec.ends m m.session (spec.told m (codes "refused ") (refusal_text why)))) is answers)
+    (subst (λ (m : CharterView). IsAnswer new out out told (spec.ends m m.session (spec.told m (codes "refused ") (refusal_text why)))) is answers)

@@ -30,51 +30,51 @@ session f chart = record { fabric = f; chart = chart }
 
 -- a script so far: what is shown of it, its fabric with the chart, the number of lines, skipped ones counted, and the
 -- fault or the refusal that ended its run
-pub record Charting : Type 0 where
+pub record CharterView : Type 0 where
   pub window : ChartWindow
   pub session : Option Session
   pub lines : ℕ
   pub ending : Option (List ℕ)
 
 -- the number of the line that comes next, a number of 64 bits
-abbrev pub next_line : Charting → ℕ
+abbrev pub next_line : CharterView → ℕ
 next_line s = min (s.lines + 1) (2 ^ 64 - 1)
 
 -- nothing is done
-abbrev pub nothing : Charting → Answer Charting
+abbrev pub nothing : CharterView → Answer CharterView
 nothing s = record { state = s; text = []; is_fault = false }
 
 -- one line more
-abbrev pub counted : Charting → Charting
+abbrev pub counted : CharterView → CharterView
 counted s = record s { lines = next_line s }
 
 -- the line did this to the fabric and its chart
-abbrev pub goes_on : Charting → Session → Answer Charting
+abbrev pub goes_on : CharterView → Session → Answer CharterView
 goes_on s now = record { state = record s { lines = next_line s; session = Some now }; text = []; is_fault = false }
 
 -- ---- what ends a run
 
-abbrev pub told : Charting → List ℕ → List ℕ → List ℕ
+abbrev pub told : CharterView → List ℕ → List ℕ → List ℕ
 told s kind name = kind ++ (decimal (next_line s) ++ 32 ∷ name)
 
 -- the run ends with this line
-abbrev pub ends : Charting → Option Session → List ℕ → Answer Charting
+abbrev pub ends : CharterView → Option Session → List ℕ → Answer CharterView
 ends s now line = record { state = record s { lines = next_line s; session = now; ending = Some line }; text = []; is_fault = true }
 
-abbrev pub fault : Charting → List ℕ → Answer Charting
+abbrev pub fault : CharterView → List ℕ → Answer CharterView
 fault s name = ends s s.session (told s (codes "fault ") name)
 
-abbrev pub no_line : Charting → Answer Charting
+abbrev pub no_line : CharterView → Answer CharterView
 no_line s = fault s (codes "Script")
 
 -- ---- lines
 
-abbrev pub made : Charting → Config → Option ConfigFault → Answer Charting
+abbrev pub made : CharterView → Config → Option ConfigFault → Answer CharterView
 made s c (Some x) = fault s (fault_name x)
 made s c None = goes_on s (session (new_fabric c) (new_chart s.window c.requesters))
 
 -- a script has one fabric
-abbrev pub made_once : Charting → Option Session → Config → Answer Charting
+abbrev pub made_once : CharterView → Option Session → Config → Answer CharterView
 made_once s None c = made s c (config_fault c)
 made_once s (Some now) c = no_line s
 
@@ -88,11 +88,11 @@ refusal_in (Ok a) = None
 refusal_in (Err r) = Some r
 
 -- a refusal ends the run
-abbrev pub unless_refused : Charting → Session → Option Refusal → Answer Charting
+abbrev pub unless_refused : CharterView → Session → Option Refusal → Answer CharterView
 unless_refused s now None = goes_on s now
 unless_refused s now (Some r) = ends s (Some now) (told s (codes "refused ") (refusal_text r))
 
-abbrev pub happened : Charting → Option Session → Event → Answer Charting
+abbrev pub happened : CharterView → Option Session → Event → Answer CharterView
 happened s None event = no_line s
 happened s (Some p) event = unless_refused s (left_by (next_line s) p event (answer p.fabric event)) (refusal_in (answer p.fabric event))
 
@@ -100,25 +100,25 @@ abbrev pub after_rounds : Trail → Session
 after_rounds t = session t.fabric t.chart
 
 -- rounds of events until nothing moves
-abbrev pub settles : Charting → Option Session → Answer Charting
+abbrev pub settles : CharterView → Option Session → Answer CharterView
 settles s None = no_line s
 settles s (Some p) = goes_on s (after_rounds (settled (next_line s) p.fabric p.chart))
 
-abbrev pub by_line : Charting → Option Line → Answer Charting
+abbrev pub by_line : CharterView → Option Line → Answer CharterView
 by_line s None = no_line s
 by_line s (Some (lines.Fabric c)) = made_once s s.session c
 by_line s (Some (lines.Event event)) = happened s s.session event
 by_line s (Some lines.Settle) = settles s s.session
 
 -- after the end of the run nothing is read
-abbrev pub unless_ended : Charting → Option (List ℕ) → Answer Charting → Answer Charting
+abbrev pub unless_ended : CharterView → Option (List ℕ) → Answer CharterView → Answer CharterView
 unless_ended s None a = a
 unless_ended s (Some line) a = nothing s
 
-abbrev pub chart_line : Charting → List ℕ → Answer Charting
+abbrev pub chart_line : CharterView → List ℕ → Answer CharterView
 chart_line s line = unless_ended s s.ending (if is_skipped line then nothing (counted s) else by_line s (line_of (words line)))
 
-abbrev pub chart_long_line : Charting → Answer Charting
+abbrev pub chart_long_line : CharterView → Answer CharterView
 chart_long_line s = unless_ended s s.ending (no_line s)
 
 -- ---- the end
@@ -140,13 +140,13 @@ text_below (Some p) red title = chart_text (page_of p.chart) red title
 abbrev pub text_of : Option Session → Option (List ℕ) → List ℕ
 text_of o ending = text_below o (is_red ending) (title_of ending)
 
-abbrev pub chart_end : Charting → Answer Charting
+abbrev pub chart_end : CharterView → Answer CharterView
 chart_end s = record { state = record s { session = None }; text = text_of s.session s.ending; is_fault = false }
 
-abbrev pub chart_responses : Responses Charting
+abbrev pub chart_responses : Responses CharterView
 chart_responses = record { on_line = chart_line; on_long_line = chart_long_line; on_end = chart_end }
 
-abbrev pub new_script : ChartWindow → Charting
+abbrev pub new_script : ChartWindow → CharterView
 new_script window = record { window = window; session = None; lines = 0; ending = None }
 
 -- what was written is one well-formed document of XML
@@ -156,5 +156,5 @@ pub record WritesDocument (out out' : Option (List ℕ)) : Type 0 where
   pub document : IsDocument text
 
 -- the whole run of `chart` on an input
-abbrev pub out_chart : ChartWindow → List ℕ → Run Charting
+abbrev pub out_chart : ChartWindow → List ℕ → Run CharterView
 out_chart window input = run_of chart_responses (new_script window) input

@@ -48,9 +48,9 @@ struct Charter {
 
 impl Model for Charter {
     ghost use Rattle.std.specs.Prelude.{option_map};
-    ghost use Rattle.chart_engine.specs.Chart.{Charting};
+    ghost use Rattle.chart_engine.specs.Chart.{CharterView};
 
-    ghost Value = { Charting };
+    ghost Value = { CharterView };
 
     ghost view = { λ s. record { window = s.window; session = s.session; lines = s.lines; ending = option_map (λ line. line.bytes) s.ending } };
 }

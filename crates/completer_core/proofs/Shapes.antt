@@ -15,13 +15,13 @@ use Rattle.tlp_core.specs.declared.packet.Body.TheVariants as bodies
 use Rattle.tlp_core.specs.declared.fault.TlpFault.{TlpFault}
 use Rattle.tlp_core.specs.declared.fault.TlpFault.TheVariants as faults
 use Rattle.tlp_core.specs.Enables.{enables}
-use Rattle.tlp_core.specs.Packet.{Packet}
+use Rattle.tlp_core.specs.TlpView.{TlpView}
 use Rattle.tlp_core.specs.Operation.{op_of, op_at, op_fault, is_posted, address_of, count_of, size_of}
 use Rattle.seq_memory.specs.declared.Refusal.{Refusal}
 use Rattle.seq_memory.specs.declared.Refusal.TheVariants as refusals
 use Rattle.seq_memory.specs.declared.Reply.{Reply}
 use Rattle.seq_memory.specs.Step.{is_inside, refusal, answer, answer_by, read_back, merged, bytes_at, data_of}
-use Rattle.seq_memory.specs.History.{State, bytes_of}
+use Rattle.seq_memory.specs.History.{MemoryView, bytes_of}
 use Rattle.completer_core.specs.Completion.{completion, completion_of, completion_for, unless_posted}
 use Rattle.completer_core.proofs.Spans.{length_by, one_or_more}
 use Rattle.fc_credit.specs.Needs.{need_of, completion_need}
@@ -35,7 +35,7 @@ wrote a f l b (ops.FetchAdd a' w x) e p = cc
 wrote a f l b (ops.Swap a' w x) e p = cc
 wrote a f l b (ops.Cas a' w x y) e p = cc
 
-kind_not_write : (k : Kind) (body : Body) (dw : ℕ) (b : List ℕ) (op : Op) (c : Option Packet) → op_at k body dw b ≡ Some op → is_posted op ≡ false → unless_posted k c ≡ c
+kind_not_write : (k : Kind) (body : Body) (dw : ℕ) (b : List ℕ) (op : Op) (c : Option TlpView) → op_at k body dw b ≡ Some op → is_posted op ≡ false → unless_posted k c ≡ c
 kind_not_write kinds.MemoryRead body dw b op c e p = refl
 kind_not_write kinds.MemoryWrite (bodies.Request a f l) dw b op c e p = absurd (wrote a f l b op e p)
 kind_not_write kinds.MemoryWrite (bodies.Completion i s n lower) dw b op c e p = absurd cc
@@ -84,11 +84,11 @@ bounds base size address count e = grind (arith, nat_tests)
 inside : (block base size : ℕ) (op : Op) → refusal block base size op ≡ None → (address_of op - base) + count_of op ≤ size
 inside block base size op e = bounds base size (address_of op) (count_of op) (not_refused _ _ e)
 
-need_carried : (t : Packet) (r : Reply) (n : ℕ) → ((c : Option Packet) → unless_posted t.kind c ≡ c) → IsData r n → option_map need_of (completion_of t r) ≡ Some (completion_need n)
+need_carried : (t : TlpView) (r : Reply) (n : ℕ) → ((c : Option TlpView) → unless_posted t.kind c ≡ c) → IsData r n → option_map need_of (completion_of t r) ≡ Some (completion_need n)
 need_carried t r n same d = rw d.is (ap (option_map need_of) (same (completion_for t (data_of d.bytes))) ∙ ap (λ n. Some (completion_need n)) d.size)
 
 -- what a served request that is not posted is answered
-served_data : (s : State) (op : Op) → op_fault op ≡ None → is_posted op ≡ false → refusal s.block s.base s.size op ≡ None → length (bytes_of s) ≡ s.size → IsData (answer s.block s.base (bytes_of s) op) (count_of op)
+served_data : (s : MemoryView) (op : Op) → op_fault op ≡ None → is_posted op ≡ false → refusal s.block s.base s.size op ≡ None → length (bytes_of s) ≡ s.size → IsData (answer s.block s.base (bytes_of s) op) (count_of op)
 served_data s op sound p served size =
     let m = bytes_of s in
     let old = bytes_at m (address_of op - s.base) (count_of op) in
@@ -98,10 +98,10 @@ served_data s op sound p served size =
     let d = data_read op old sound p fits in
     record { bytes = d.bytes; is = given ∙ d.is; size = d.size }
 
-asked : (s : State) (t : Packet) (op : Op) → op_of t ≡ Some op → completion_to s t ≡ completion_of t (answer s.block s.base (bytes_of s) op)
+asked : (s : MemoryView) (t : TlpView) (op : Op) → op_of t ≡ Some op → completion_to s t ≡ completion_of t (answer s.block s.base (bytes_of s) op)
 asked s t op e = ap (option_and_then (λ op. completion_of t (answer s.block s.base (bytes_of s) op))) e
 
-pub served_need : (s : State) (t : Packet) (op : Op) → op_of t ≡ Some op → op_fault op ≡ None → is_posted op ≡ false → refusal s.block s.base s.size op ≡ None → length (bytes_of s) ≡ s.size → option_map need_of (completion_to s t) ≡ Some (completion_need (count_of op))
+pub served_need : (s : MemoryView) (t : TlpView) (op : Op) → op_of t ≡ Some op → op_fault op ≡ None → is_posted op ≡ false → refusal s.block s.base s.size op ≡ None → length (bytes_of s) ≡ s.size → option_map need_of (completion_to s t) ≡ Some (completion_need (count_of op))
 served_need s t op e sound p served size =
     ap (option_map need_of) (asked s t op e)
     ∙ need_carried t (answer s.block s.base (bytes_of s) op) (count_of op) (λ c. kind_not_write t.kind t.body t.length t.payload op c e p) (served_data s op sound p served size)
@@ -119,7 +119,7 @@ quarters (ops.Swap a w x) p = whole_size w
 quarters (ops.Cas a w x y) p = whole_size w
 
 -- the completion of a served request: its data, and a Length that counts it
-pub served_completion : (s : State) (t : Packet) (op : Op) → op_of t ≡ Some op → op_fault op ≡ None → is_posted op ≡ false → refusal s.block s.base s.size op ≡ None → length (bytes_of s) ≡ s.size → IsSomeAnd (completion_to s t) (λ c. (length c.payload ≡ count_of op) × (4 * c.length ≡ length c.payload))
+pub served_completion : (s : MemoryView) (t : TlpView) (op : Op) → op_of t ≡ Some op → op_fault op ≡ None → is_posted op ≡ false → refusal s.block s.base s.size op ≡ None → length (bytes_of s) ≡ s.size → IsSomeAnd (completion_to s t) (λ c. (length c.payload ≡ count_of op) × (4 * c.length ≡ length c.payload))
 served_completion s t op e sound p served size =
     let d = served_data s op sound p served size in
     let is : completion_to s t ≡ Some (completion t kinds.CompletionData statuses.Success d.bytes) =

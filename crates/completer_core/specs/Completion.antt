@@ -7,7 +7,7 @@ use Rattle.tlp_core.specs.declared.packet.Body.TheVariants as bodies
 use Rattle.tlp_core.specs.declared.packet.Status.{Status}
 use Rattle.tlp_core.specs.declared.packet.Status.TheVariants as statuses
 use Rattle.tlp_core.specs.Enables.{enables}
-use Rattle.tlp_core.specs.Packet.{Packet}
+use Rattle.tlp_core.specs.TlpView.{TlpView}
 use Rattle.seq_memory.specs.declared.Reply.{Reply}
 use Rattle.seq_memory.specs.declared.Reply.TheVariants as replies
 use Rattle.completer_core.specs.Span.{span, low_address}
@@ -25,22 +25,22 @@ lower_address _ body dw = 0
 
 -- what carries the bytes back: the request's Requester ID, tag, TC and attributes, Completer ID 0, and the Byte
 -- Count and Lower Address that a served request has, whatever the status
-abbrev pub completion : Packet → Kind → Status → List ℕ → Packet
+abbrev pub completion : TlpView → Kind → Status → List ℕ → TlpView
 completion t kind status bytes =
     record { kind = kind; tc = t.tc; attr = t.attr; length = length bytes / 4; requester = t.requester; tag = t.tag; body = bodies.Completion 0 status (byte_count t.kind t.body t.length) (lower_address t.kind t.body t.length); payload = bytes }
 
 -- data makes a CplD with status SC, a refusal a Cpl with status UR or CA
-abbrev pub completion_for : Packet → Reply → Option Packet
+abbrev pub completion_for : TlpView → Reply → Option TlpView
 completion_for t replies.Done = None
 completion_for t (replies.Data bytes) = Some (completion t kinds.CompletionData statuses.Success bytes.items)
 completion_for t replies.Unsupported = Some (completion t kinds.Completion statuses.Unsupported [])
 completion_for t replies.Aborted = Some (completion t kinds.Completion statuses.Aborted [])
 
 -- a posted write has none, whatever became of it
-abbrev pub unless_posted : Kind → Option Packet → Option Packet
+abbrev pub unless_posted : Kind → Option TlpView → Option TlpView
 unless_posted kinds.MemoryWrite c = None
 unless_posted _ c = c
 
 -- the completion of a request with that reply
-abbrev pub completion_of : Packet → Reply → Option Packet
+abbrev pub completion_of : TlpView → Reply → Option TlpView
 completion_of t reply = unless_posted t.kind (completion_for t reply)

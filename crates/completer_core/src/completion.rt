@@ -1,7 +1,7 @@
 //! The completion that carries a reply.
 ghost use Rattle.std.specs.Prelude.{◌≡◌, ◌*◌, ◌/◌, ◌<◌, ◌≤◌, length, Some};
 ghost use Rattle.tlp_core.specs.declared.operation.Op.{Op};
-ghost use Rattle.tlp_core.specs.Packet.{FitsKind};
+ghost use Rattle.tlp_core.specs.TlpView.{FitsKind};
 ghost use Rattle.tlp_core.specs.Operation.{op_of};
 ghost use Rattle.seq_memory.specs.Step.{IsSizedFor};
 ghost use Rattle.completer_core.specs.Completion.{byte_count, lower_address, completion, completion_of};

@@ -1,14 +1,14 @@
 //! Laws of completions: what holds of the definitions that the contracts cite.
 ghost use Rattle.std.specs.Prelude.{◌≡◌, ◌*◌, false, None, Some, IsSomeAnd, length};
 ghost use Rattle.tlp_core.specs.declared.operation.Op.{Op};
-ghost use Rattle.tlp_core.specs.Packet.{Packet};
+ghost use Rattle.tlp_core.specs.TlpView.{TlpView};
 ghost use Rattle.tlp_core.specs.Operation.{op_of, op_fault, is_posted, count_of};
 ghost use Rattle.seq_memory.specs.Step.{refusal};
-ghost use Rattle.seq_memory.specs.History.{State, bytes_of};
+ghost use Rattle.seq_memory.specs.History.{MemoryView, bytes_of};
 ghost use Rattle.completer_core.specs.Serving.{completion_to};
 
 /// A served request that is not posted has a completion with as many bytes of payload as its place
 /// has, which are 4 times the completion's Length.
 pub fn a_served_completion_has_its_length()
-    ensures { (s : State) (t : Packet) (op : Op) → op_of t ≡ Some op → op_fault op ≡ None → is_posted op ≡ false → refusal s.block s.base s.size op ≡ None → length (bytes_of s) ≡ s.size → IsSomeAnd (completion_to s t) (λ c. (length c.payload ≡ count_of op) × (4 * c.length ≡ length c.payload)) }
+    ensures { (s : MemoryView) (t : TlpView) (op : Op) → op_of t ≡ Some op → op_fault op ≡ None → is_posted op ≡ false → refusal s.block s.base s.size op ≡ None → length (bytes_of s) ≡ s.size → IsSomeAnd (completion_to s t) (λ c. (length c.payload ≡ count_of op) × (4 * c.length ≡ length c.payload)) }
 {}

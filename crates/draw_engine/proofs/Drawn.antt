@@ -13,16 +13,16 @@ use Rattle.line_loop.specs.Run.{Answer, IsAnswer, Run, after_line, new_run, run_
 use Rattle.svg_text.specs.Shapes.{Shape, page_text}
 use Rattle.svg_text.specs.Xml.{IsDocument}
 use Rattle.trace_text.specs.declared.fault.ReadFault.{ReadFault}
-use Rattle.trace_text.specs.Reading.{nothing_read, at_end}
-use Rattle.draw_engine.specs.Draw.{Drawing, flaw_of, shows, drawn, draw_responses, out_draw, WritesDocument}
+use Rattle.trace_text.specs.TraceReaderView.{nothing_read, at_end}
+use Rattle.draw_engine.specs.Draw.{DrawerView, flaw_of, shows, drawn, draw_responses, out_draw, WritesDocument}
 
 -- a line more, and nothing is written
-silent_line : (t : Bool) (run : Run Drawing) (line : List ℕ) → run.text ≡ []
+silent_line : (t : Bool) (run : Run DrawerView) (line : List ℕ) → run.text ≡ []
     → run.text ++ (cond t (draw_responses.on_long_line run.state) (draw_responses.on_line run.state (said line))).text ≡ []
 silent_line true run line e = append-nil run.text ∙ e
 silent_line false run line e = append-nil run.text ∙ e
 
-silent : (ls : List (List ℕ)) (run : Run Drawing) → run.text ≡ [] → (fold (after_line draw_responses) run ls).text ≡ []
+silent : (ls : List (List ℕ)) (run : Run DrawerView) → run.text ≡ [] → (fold (after_line draw_responses) run ls).text ≡ []
 silent [] run e = e
 silent (l ∷ ls) run e = silent ls (after_line draw_responses run l) (silent_line (nat_lt 512 (length (bare l))) run l e)
 
@@ -30,17 +30,17 @@ abbrev Pages : Type 0
 Pages = (width height : ℕ) (shapes : List Shape) → IsDocument (page_text width height shapes)
 
 -- a picture was written, and nothing is left of what was read
-as_shown : {E : Type 0} (r : Result Bool E) (d new : Drawing) (read : Result Claim ReadFault) (text : List ℕ) (fault : Bool) (o p : List ℕ)
+as_shown : {E : Type 0} (r : Result Bool E) (d new : DrawerView) (read : Result Claim ReadFault) (text : List ℕ) (fault : Bool) (o p : List ℕ)
     → new ≡ record { window = d.window; reading = nothing_read } → drawn d read ≡ shows d text fault → OnOk r (p ≡ o ++ text) → IfOk r (λ told. told ≡ fault)
     → IfOk r (λ told. IsAnswer new o p told (drawn d read))
 as_shown (Ok told) d new read text fault o p gone is written tells = record {
-  state = gone ∙ ap (λ (a : Answer Drawing). a.state) (sym is);
-  text = written ∙ ap (λ (a : Answer Drawing). o ++ a.text) (sym is);
-  is_fault = tells ∙ ap (λ (a : Answer Drawing). a.is_fault) (sym is);
+  state = gone ∙ ap (λ (a : Answer DrawerView). a.state) (sym is);
+  text = written ∙ ap (λ (a : Answer DrawerView). o ++ a.text) (sym is);
+  is_fault = tells ∙ ap (λ (a : Answer DrawerView). a.is_fault) (sym is);
 }
 as_shown (Err e) d new read text fault o p gone is written tells = tt
 
-pub picture-shown : {E : Type 0} (r : Result Bool E) (d new : Drawing) (w : Window) (c c' : Claim) (o p : List ℕ)
+pub picture-shown : {E : Type 0} (r : Result Bool E) (d new : DrawerView) (w : Window) (c c' : Claim) (o p : List ℕ)
     → new ≡ record { window = d.window; reading = nothing_read } → w ≡ d.window → c' ≡ c → at_end d.reading ≡ Ok c
     → OnOk r (p ≡ o ++ picture_text w c' (flaw_of (first_flaw c'))) → IfOk r (λ told. told ≡ is_some (first_flaw c'))
     → IfOk r (λ told. IsAnswer new o p told (drawn d (at_end d.reading)))
@@ -49,26 +49,26 @@ picture-shown r d new w c c' o p gone same is read written tells =
     (ap (drawn d) read ∙ sym (ap₂ (λ (x : Window). λ (y : Claim). shows d (picture_text x y (flaw_of (first_flaw y))) (is_some (first_flaw y))) same is))
     written tells
 
-pub fault-shown : {E : Type 0} (r : Result Bool E) (d new : Drawing) (f : ReadFault) (o p : List ℕ)
+pub fault-shown : {E : Type 0} (r : Result Bool E) (d new : DrawerView) (f : ReadFault) (o p : List ℕ)
     → new ≡ record { window = d.window; reading = nothing_read } → at_end d.reading ≡ Err f → OnOk r (p ≡ o ++ line_text (fault_line f)) → IfOk r (λ told. told ≡ true)
     → IfOk r (λ told. IsAnswer new o p told (drawn d (at_end d.reading)))
 fault-shown r d new f o p gone read written tells = as_shown r d new (at_end d.reading) (line_text (fault_line f)) true o p gone (ap (drawn d) read) written tells
 
-shown : Pages → (d : Drawing) (r : Result Claim ReadFault) → IsDocument (drawn d r).text
+shown : Pages → (d : DrawerView) (r : Result Claim ReadFault) → IsDocument (drawn d r).text
 shown pages d (Err f) = pages _ _ _
 shown pages d (Ok c) = pages _ _ _
 
 pub well_drawn : Pages → (window : Window) (input : List ℕ) → IsDocument (out_draw window input).text
 well_drawn pages window input =
-    let start : Drawing = record { window = window; reading = nothing_read } in
-    let read : Run Drawing = fold (after_line draw_responses) (new_run start) (lines_of input) in
+    let start : DrawerView = record { window = window; reading = nothing_read } in
+    let read : Run DrawerView = fold (after_line draw_responses) (new_run start) (lines_of input) in
     let quiet : read.text ≡ [] = silent (lines_of input) (new_run start) (λ i. []) in
     subst IsDocument (ap (λ (t : List ℕ). t ++ (drawn read.state (at_end read.state.reading)).text) (sym quiet)) (shown pages read.state (at_end read.state.reading))
 
-pub document-written : (window : Window) (start : Drawing) (read : List ℕ) (out out' : Option (List ℕ)) → start ≡ record { window = window; reading = nothing_read }
+pub document-written : (window : Window) (start : DrawerView) (read : List ℕ) (out out' : Option (List ℕ)) → start ≡ record { window = window; reading = nothing_read }
     → ((w : Window) (input : List ℕ) → IsDocument (out_draw w input).text) → Appends out out' (run_of draw_responses start read).text → WritesDocument out out'
 document-written window start read out out' is all written = record {
   text = (run_of draw_responses start read).text;
   written = written;
-  document = subst (λ (s : Drawing). IsDocument (run_of draw_responses s read).text) (sym is) (all window read);
+  document = subst (λ (s : DrawerView). IsDocument (run_of draw_responses s read).text) (sym is) (all window read);
 }

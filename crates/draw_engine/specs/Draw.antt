@@ -10,32 +10,32 @@ use Rattle.history_picture.specs.Picture.{title_label, picture_text, line_text}
 use Rattle.svg_text.specs.Shapes.{Shape, page_text}
 use Rattle.svg_text.specs.Xml.{IsDocument}
 use Rattle.trace_text.specs.declared.fault.ReadFault.{ReadFault}
-use Rattle.trace_text.specs.Reading.{Reading, nothing_read, after_line, after_long_line, at_end}
+use Rattle.trace_text.specs.TraceReaderView.{TraceReaderView, nothing_read, after_line, after_long_line, at_end}
 use Rattle.trace_engine.specs.Check.{fault_line}
 use Rattle.line_loop.specs.Run.{Answer, Responses, Run, run_of}
 
 -- the window that is drawn, and what was read so far
-pub record Drawing : Type 0 where
+pub record DrawerView : Type 0 where
   pub window : Window
-  pub reading : Reading
+  pub reading : TraceReaderView
 
 -- a line is read, and nothing written
-abbrev pub has_read : Drawing → Reading → Answer Drawing
+abbrev pub has_read : DrawerView → TraceReaderView → Answer DrawerView
 has_read d reading = record { state = record d { reading = reading }; text = []; is_fault = false }
 
 -- the text has ended: a picture is written, and nothing is left of what was read
-abbrev pub shows : Drawing → List ℕ → Bool → Answer Drawing
+abbrev pub shows : DrawerView → List ℕ → Bool → Answer DrawerView
 shows d text is_fault = record { state = record d { reading = nothing_read }; text = text; is_fault = is_fault }
 
 abbrev pub flaw_of : Option (FlawKind × ℕ) → Option Flaw
 flaw_of o = option_map (λ f. record { kind = f.0; place = f.1 }) o
 
 -- a trace with its first flaw, if there is one, or else the line of what can't be read
-abbrev pub drawn : Drawing → Result Claim ReadFault → Answer Drawing
+abbrev pub drawn : DrawerView → Result Claim ReadFault → Answer DrawerView
 drawn d (Err f) = shows d (line_text (fault_line f)) true
 drawn d (Ok c) = shows d (picture_text d.window c (flaw_of (first_flaw c))) (is_some (first_flaw c))
 
-abbrev pub draw_responses : Responses Drawing
+abbrev pub draw_responses : Responses DrawerView
 draw_responses = record {
   on_line = λ d line. has_read d (after_line d.reading line);
   on_long_line = λ d. has_read d (after_long_line d.reading);
@@ -49,11 +49,11 @@ pub record WritesDocument (out out' : Option (List ℕ)) : Type 0 where
   pub document : IsDocument text
 
 -- the whole run of `draw` on an input
-abbrev pub out_draw : Window → List ℕ → Run Drawing
+abbrev pub out_draw : Window → List ℕ → Run DrawerView
 out_draw window input = run_of draw_responses (record { window = window; reading = nothing_read }) input
 
 -- one run draws what another tells: the line stands above the picture, in red where the exit status is 1
-pub record SaysTheSame {S : Type 0} (draw : Run Drawing) (check : Run S) : Type 0 where
+pub record SaysTheSame {S : Type 0} (draw : Run DrawerView) (check : Run S) : Type 0 where
   pub line : List ℕ
   pub flawed : Bool
   pub width : ℕ

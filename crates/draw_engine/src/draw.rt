@@ -3,10 +3,10 @@ ghost use Rattle.std.specs.Prelude.{◌≡◌, ◌++◌, true, false, Some, None
 ghost use Rattle.history_check.specs.Claim.{claim_of};
 ghost use Rattle.history_check.specs.Flaws.{first_flaw};
 ghost use Rattle.history_picture.specs.Picture.{picture_text, line_text};
-ghost use Rattle.trace_text.specs.Reading.{nothing_read, at_end};
+ghost use Rattle.trace_text.specs.TraceReaderView.{nothing_read, at_end};
 ghost use Rattle.trace_engine.specs.Check.{fault_line};
 ghost use Rattle.line_loop.specs.Run.{IsWhole, IsPart};
-ghost use Rattle.draw_engine.specs.Draw.{Drawing, WritesDocument, flaw_of, out_draw};
+ghost use Rattle.draw_engine.specs.Draw.{DrawerView, WritesDocument, flaw_of, out_draw};
 
 use crate::laws::pictures_are_well_formed;
 use arrayvec::ArrayString;
@@ -71,9 +71,9 @@ struct Drawer {
 }
 
 impl Model for Drawer {
-    ghost use Rattle.draw_engine.specs.Draw.{Drawing};
+    ghost use Rattle.draw_engine.specs.Draw.{DrawerView};
 
-    ghost Value = { Drawing };
+    ghost Value = { DrawerView };
 
     ghost view = { λ d. record { window = d.window; reading = d.reader } };
 }

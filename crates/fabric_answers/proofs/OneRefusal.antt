@@ -3,7 +3,7 @@ use Rattle.std.proofs.Common.{◌≡◌, ap, sym, subst, Result, Ok, Err}
 use Rattle.lane_ends.specs.declared.packet.LaneRefusal.TheVariants.{NoCredits, WindowFull, Memory}
 use Rattle.lane_ends.specs.declared.packet.Arrival.TheVariants.{Answered, Gone}
 use Rattle.link_receiver.specs.declared.receiver.Reception.TheVariants.{Accept, Duplicate, NakNow, Quiet}
-use Rattle.lane_ends.specs.Steps.{Outgoing}
+use Rattle.lane_ends.specs.Steps.{SenderEndView}
 use Rattle.fabric_laws.specs.Fabric.{Fabric}
 use Rattle.fabric_core.specs.declared.event.Event.{Event}
 use Rattle.fabric_core.specs.declared.event.Seen.{Seen}
@@ -16,7 +16,7 @@ use Rattle.fabric_answers.specs.Told.{IsTold}
 lane_memory : (r : Refusal) → r ≡ refusals.Lane Memory → IsTold r → ⊥
 lane_memory r h k = subst IsTold h k
 
-for_serving : (s s' : Outgoing) (r : Refusal) → serving_grows s s' r → IsTold r → ⊥
+for_serving : (s s' : SenderEndView) (r : Refusal) → serving_grows s s' r → IsTold r → ⊥
 for_serving s s' refusals.NoSuchPart h k = h
 for_serving s s' refusals.Idle h k = h
 for_serving s s' refusals.NotTakeable h k = h

@@ -2,11 +2,11 @@
 use Rattle.std.proofs.Common.{ℕ, suc, ◌≡◌, Bool, true, false, if◌then◌else◌, refl, subst, arith, Some, Result, Ok, Err, IfErr}
 use Rattle.std.specs.Prelude.{slice_get, slice_set, ◌&&◌, ◌==◌, not}
 use Rattle.std.proofs.lemmas.Bool.Decides.{nat_tests}
-use Rattle.tlp_core.specs.Packet.{Packet}
+use Rattle.tlp_core.specs.TlpView.{TlpView}
 use Rattle.tlp_core.specs.declared.operation.Op.{Op}
-use Rattle.seq_memory.specs.History.{State}
-use Rattle.requester_core.specs.Requesting.{Requesting}
-use Rattle.lane_ends.specs.Steps.{Ends, Incoming, Outgoing}
+use Rattle.seq_memory.specs.History.{MemoryView}
+use Rattle.requester_core.specs.RequesterView.{RequesterView}
+use Rattle.lane_ends.specs.Steps.{LaneEndsView, ReceiverEndView, SenderEndView}
 use Rattle.tlp_core.specs.Operation.{is_completion}
 use Rattle.vc_queue.specs.Queue.{Item, is_takeable}
 use Rattle.switch_core.specs.Routing.{route, port_of, is_requester}
@@ -27,7 +27,7 @@ refuses_given grows f (Err x) r h = h
 
 -- ---- Submit
 
-pub submit_refuses : (f : Fabric) (port place : ℕ) (op : Op) (q : Requesting) (e : Ends) (r : Result ℕ Refusal) → HasPart f.requesters port place q → HasPart f.up port place e
+pub submit_refuses : (f : Fabric) (port place : ℕ) (op : Op) (q : RequesterView) (e : LaneEndsView) (r : Result ℕ Refusal) → HasPart f.requesters port place q → HasPart f.up port place e
     → IfErr r (Refuses lane_grows (submit_on q e.sender op)) → IfErr r (Refused f (events.Submit port op))
 submit_refuses f port place op q e (Ok n) i j h = tt
 submit_refuses f port place op q e (Err x) i j h = rw (i.is_port, i.there, j.there) (refuses_given (event_grows f) _ (submit_on q e.sender op) x h)
@@ -35,13 +35,13 @@ submit_refuses f port place op q e (Err x) i j h = rw (i.is_port, i.there, j.the
 -- ---- Forward from an `up` lane
 
 -- a packet that came in from a requester goes to the memory
-pub goes_inward : (r : Incoming) (place from to : ℕ) → destination_on r place (suc from) ≡ Ok to → to ≡ 0
+pub goes_inward : (r : ReceiverEndView) (place from to : ℕ) → destination_on r place (suc from) ≡ Ok to → to ≡ 0
 goes_inward r place from to h = by_item (item_at r place) h
   where
     some_port : (suc from == 0) ≡ false
     some_port = grind (arith, nat_tests)
 
-    by_kind : (t : Packet) (c z : Bool) → z ≡ false → map_err refusals.Route (if c then (if z && is_requester (port_of t) then Ok (port_of t) else Err NoPort) else (if not z then Ok 0 else Err NoPort)) ≡ Ok to → to ≡ 0
+    by_kind : (t : TlpView) (c z : Bool) → z ≡ false → map_err refusals.Route (if c then (if z && is_requester (port_of t) then Ok (port_of t) else Err NoPort) else (if not z then Ok 0 else Err NoPort)) ≡ Ok to → to ≡ 0
     by_kind t c true e k = absurd cc
     by_kind t true false e k = absurd cc
     by_kind t false false e k = cc
@@ -50,11 +50,11 @@ goes_inward r place from to h = by_item (item_at r place) h
     by_item (Err x) e = absurd cc
     by_item (Ok x) e = by_kind x.0 (is_completion x.0.kind) (suc from == 0) some_port e
 
-up_goes : (f : Fabric) (place at : ℕ) (e : Ends) (r' : Incoming) (s' : Outgoing) → slice_get f.up at ≡ Some e → destination_on e.receiver place (suc at) ≡ Ok 0 → forward_on e.receiver place f.inward.sender ≡ Ok (r', s')
+up_goes : (f : Fabric) (place at : ℕ) (e : LaneEndsView) (r' : ReceiverEndView) (s' : SenderEndView) → slice_get f.up at ≡ Some e → destination_on e.receiver place (suc at) ≡ Ok 0 → forward_on e.receiver place f.inward.sender ≡ Ok (r', s')
     → forward_at f (lanes.Up (suc at)) place ≡ Ok (seen.To 0, record f { up = slice_set f.up at (record e { receiver = r' }); inward = record f.inward { sender = s' } })
 up_goes f place at e r' s' has d h = rw (has, d, h) refl
 
-pub forward_up_answers : (f : Fabric) (port place to at : ℕ) (e : Ends) (r' : Incoming) (s' : Outgoing) → HasPart f.up port at e → destination_on e.receiver place port ≡ Ok to → forward_on e.receiver place f.inward.sender ≡ Ok (r', s')
+pub forward_up_answers : (f : Fabric) (port place to at : ℕ) (e : LaneEndsView) (r' : ReceiverEndView) (s' : SenderEndView) → HasPart f.up port at e → destination_on e.receiver place port ≡ Ok to → forward_on e.receiver place f.inward.sender ≡ Ok (r', s')
     → forward_at f (lanes.Up port) place ≡ Ok (seen.To to, record f { up = slice_set f.up at (record e { receiver = r' }); inward = record f.inward { sender = s' } })
 forward_up_answers f port place to at e r' s' i d h =
     let d' : destination_on e.receiver place (suc at) ≡ Ok to = subst (λ (n : ℕ). destination_on e.receiver place n ≡ Ok to) i.is_port d in
@@ -62,11 +62,11 @@ forward_up_answers f port place to at e r' s' i d h =
     let d'' : destination_on e.receiver place (suc at) ≡ Ok 0 = subst (λ (n : ℕ). destination_on e.receiver place (suc at) ≡ Ok n) zero_is d' in
     rw (i.is_port, zero_is) (up_goes f place at e r' s' i.there d'' h)
 
-up_held : (f : Fabric) (place at : ℕ) (e : Ends) (r : Refusal) → slice_get f.up at ≡ Some e → destination_on e.receiver place (suc at) ≡ Ok 0 → Refuses lane_grows (forward_on e.receiver place f.inward.sender) r
+up_held : (f : Fabric) (place at : ℕ) (e : LaneEndsView) (r : Refusal) → slice_get f.up at ≡ Some e → destination_on e.receiver place (suc at) ≡ Ok 0 → Refuses lane_grows (forward_on e.receiver place f.inward.sender) r
     → Refused f (events.Forward (lanes.Up (suc at)) place) r
 up_held f place at e r has d h = rw (has, d) (refuses_given (event_grows f) _ (forward_on e.receiver place f.inward.sender) r h)
 
-pub forward_up_refuses : (f : Fabric) (port place to at : ℕ) (e : Ends) (r : Refusal) → HasPart f.up port at e → destination_on e.receiver place port ≡ Ok to → Refuses lane_grows (forward_on e.receiver place f.inward.sender) r
+pub forward_up_refuses : (f : Fabric) (port place to at : ℕ) (e : LaneEndsView) (r : Refusal) → HasPart f.up port at e → destination_on e.receiver place port ≡ Ok to → Refuses lane_grows (forward_on e.receiver place f.inward.sender) r
     → Refused f (events.Forward (lanes.Up port) place) r
 forward_up_refuses f port place to at e r i d h =
     let d' : destination_on e.receiver place (suc at) ≡ Ok to = subst (λ (n : ℕ). destination_on e.receiver place n ≡ Ok to) i.is_port d in
@@ -75,32 +75,32 @@ forward_up_refuses f port place to at e r i d h =
 
 -- ---- Forward from `out`
 
-out_goes : (f : Fabric) (place at : ℕ) (e : Ends) (r' : Incoming) (s' : Outgoing) → slice_get f.down at ≡ Some e → destination_on f.outward.receiver place 0 ≡ Ok (suc at) → forward_on f.outward.receiver place e.sender ≡ Ok (r', s')
+out_goes : (f : Fabric) (place at : ℕ) (e : LaneEndsView) (r' : ReceiverEndView) (s' : SenderEndView) → slice_get f.down at ≡ Some e → destination_on f.outward.receiver place 0 ≡ Ok (suc at) → forward_on f.outward.receiver place e.sender ≡ Ok (r', s')
     → forward_at f lanes.Outward place ≡ Ok (seen.To (suc at), record f { outward = record f.outward { receiver = r' }; down = slice_set f.down at (record e { sender = s' }) })
 out_goes f place at e r' s' has d h = rw (d, has, h) refl
 
-pub forward_out_answers : (f : Fabric) (place to at : ℕ) (e : Ends) (r' : Incoming) (s' : Outgoing) → HasPart f.down to at e → destination_on f.outward.receiver place 0 ≡ Ok to → forward_on f.outward.receiver place e.sender ≡ Ok (r', s')
+pub forward_out_answers : (f : Fabric) (place to at : ℕ) (e : LaneEndsView) (r' : ReceiverEndView) (s' : SenderEndView) → HasPart f.down to at e → destination_on f.outward.receiver place 0 ≡ Ok to → forward_on f.outward.receiver place e.sender ≡ Ok (r', s')
     → forward_at f lanes.Outward place ≡ Ok (seen.To to, record f { outward = record f.outward { receiver = r' }; down = slice_set f.down at (record e { sender = s' }) })
 forward_out_answers f place to at e r' s' i d h =
     let d' : destination_on f.outward.receiver place 0 ≡ Ok (suc at) = subst (λ (n : ℕ). destination_on f.outward.receiver place 0 ≡ Ok n) i.is_port d in
     rw i.is_port (out_goes f place at e r' s' i.there d' h)
 
-out_held : (f : Fabric) (place at : ℕ) (e : Ends) (r : Refusal) → slice_get f.down at ≡ Some e → destination_on f.outward.receiver place 0 ≡ Ok (suc at) → Refuses lane_grows (forward_on f.outward.receiver place e.sender) r
+out_held : (f : Fabric) (place at : ℕ) (e : LaneEndsView) (r : Refusal) → slice_get f.down at ≡ Some e → destination_on f.outward.receiver place 0 ≡ Ok (suc at) → Refuses lane_grows (forward_on f.outward.receiver place e.sender) r
     → Refused f (events.Forward lanes.Outward place) r
 out_held f place at e r has d h = rw (d, has) (refuses_given (event_grows f) _ (forward_on f.outward.receiver place e.sender) r h)
 
-pub forward_out_refuses : (f : Fabric) (place to at : ℕ) (e : Ends) (r : Refusal) → HasPart f.down to at e → destination_on f.outward.receiver place 0 ≡ Ok to → Refuses lane_grows (forward_on f.outward.receiver place e.sender) r
+pub forward_out_refuses : (f : Fabric) (place to at : ℕ) (e : LaneEndsView) (r : Refusal) → HasPart f.down to at e → destination_on f.outward.receiver place 0 ≡ Ok to → Refuses lane_grows (forward_on f.outward.receiver place e.sender) r
     → Refused f (events.Forward lanes.Outward place) r
 forward_out_refuses f place to at e r i d h =
     out_held f place at e r i.there (subst (λ (n : ℕ). destination_on f.outward.receiver place 0 ≡ Ok n) i.is_port d) h
 
 -- ---- Serve
 
-pub act_refuses : (r : Incoming) (place : ℕ) (m : State) (s : Outgoing) (t : Packet) (mark : ℕ) (x : Refusal) → is_takeable r.queue place ≡ true → slice_get r.queue place ≡ Some (t, mark)
-    → Refuses (λ (y : ℕ × State × Outgoing). serving_grows s y.2) (act_on m t mark s) x → Refuses (λ (y : ℕ × Incoming × State × Outgoing). serving_grows s y.3) (serve_on r place m s) x
-act_refuses r place m s t mark x may there h = rw (may, there) (refuses_given (λ (y : ℕ × Incoming × State × Outgoing). serving_grows s y.3) _ (act_on m t mark s) x h)
+pub act_refuses : (r : ReceiverEndView) (place : ℕ) (m : MemoryView) (s : SenderEndView) (t : TlpView) (mark : ℕ) (x : Refusal) → is_takeable r.queue place ≡ true → slice_get r.queue place ≡ Some (t, mark)
+    → Refuses (λ (y : ℕ × MemoryView × SenderEndView). serving_grows s y.2) (act_on m t mark s) x → Refuses (λ (y : ℕ × ReceiverEndView × MemoryView × SenderEndView). serving_grows s y.3) (serve_on r place m s) x
+act_refuses r place m s t mark x may there h = rw (may, there) (refuses_given (λ (y : ℕ × ReceiverEndView × MemoryView × SenderEndView). serving_grows s y.3) _ (act_on m t mark s) x h)
 
-pub serve_refuses : (f : Fabric) (place : ℕ) (r : Result ℕ Refusal) → IfErr r (Refuses (λ (y : ℕ × Incoming × State × Outgoing). serving_grows f.outward.sender y.3) (serve_on f.inward.receiver place f.memory f.outward.sender))
+pub serve_refuses : (f : Fabric) (place : ℕ) (r : Result ℕ Refusal) → IfErr r (Refuses (λ (y : ℕ × ReceiverEndView × MemoryView × SenderEndView). serving_grows f.outward.sender y.3) (serve_on f.inward.receiver place f.memory f.outward.sender))
     → IfErr r (Refused f (events.Serve place))
 serve_refuses f place (Ok n) h = tt
 serve_refuses f place (Err x) h = refuses_given (event_grows f) _ (serve_on f.inward.receiver place f.memory f.outward.sender) x h

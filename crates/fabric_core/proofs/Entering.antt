@@ -3,12 +3,12 @@ use Rattle.std.proofs.Common.{ℕ, ◌≡◌, ◌<◌, ◌∙◌, Bool, true, fa
 use Rattle.std.specs.Prelude.{nat_lt, ◌&&◌, slice_get, option_map}
 use Rattle.std.proofs.lemmas.Bool.Decides.{nat_tests}
 use Rattle.std.proofs.lemmas.List.{length-append}
-use Rattle.tlp_core.specs.Packet.{Packet}
+use Rattle.tlp_core.specs.TlpView.{TlpView}
 use Rattle.tlp_core.specs.Layout.{Spells, canonical}
 use Rattle.fc_credit.specs.declared.needs.Need.{Need}
-use Rattle.seq_memory.specs.History.{State}
+use Rattle.seq_memory.specs.History.{MemoryView}
 use Rattle.completer_core.specs.Serving.{completion_to, after_serving}
-use Rattle.replay_sender.specs.Carried.{Carried}
+use Rattle.replay_sender.specs.CargoView.{CargoView}
 use Rattle.fc_credit.specs.Needs.{need_of}
 use Rattle.fc_credit.specs.Credits.{gate_covers}
 use Rattle.vc_queue.specs.Queue.{is_takeable}
@@ -16,7 +16,7 @@ use Rattle.lane_ends.specs.Content.{cargo_of}
 use Rattle.lane_ends.specs.declared.packet.LaneRefusal.{LaneRefusal}
 use Rattle.lane_ends.specs.declared.packet.LaneRefusal.TheVariants as no_room
 use Rattle.lane_ends.specs.Refusals.{LacksRoom}
-use Rattle.lane_ends.specs.Steps.{Incoming, Outgoing, may_enter, entered}
+use Rattle.lane_ends.specs.Steps.{ReceiverEndView, SenderEndView, may_enter, entered}
 use Rattle.fabric_core.specs.declared.fault.Refusal.{Refusal}
 use Rattle.fabric_core.specs.declared.fault.Refusal.TheVariants as refusals
 use Rattle.fabric_core.specs.ByParts.{Enters}
@@ -27,37 +27,37 @@ both true true x y z e = refl
 both true false x y z e = absurd cc
 both false b x y z e = absurd cc
 
-pub enters_on : (s : Outgoing) (t : Packet) (mark : ℕ) (s' : Outgoing) → may_enter s (need_of t) ≡ true → s' ≡ entered s t mark → enter_on s t mark ≡ Ok s'
+pub enters_on : (s : SenderEndView) (t : TlpView) (mark : ℕ) (s' : SenderEndView) → may_enter s (need_of t) ≡ true → s' ≡ entered s t mark → enter_on s t mark ≡ Ok s'
 enters_on s t mark s' may now =
     both (gate_covers s.gate (need_of t)) (nat_lt (length s.sending.kept) 2047) (Ok (entered s t mark)) (Err (refusals.Lane no_room.WindowFull)) (Err (refusals.Lane (no_room.NoCredits (need_of t).class))) may
     ∙ ap Ok (sym now)
 
 -- the packet of a takeable place
-pub item_is : (r : Incoming) (place : ℕ) (t : Packet) (mark : ℕ) → is_takeable r.queue place ≡ true → slice_get r.queue place ≡ Some (t, mark) → item_at r place ≡ Ok (t, mark)
+pub item_is : (r : ReceiverEndView) (place : ℕ) (t : TlpView) (mark : ℕ) → is_takeable r.queue place ≡ true → slice_get r.queue place ≡ Some (t, mark) → item_at r place ≡ Ok (t, mark)
 item_is r place t mark takeable there = rw (takeable, there) refl
 
 -- what a lane has no room for doesn't enter; what finds no memory would
-pub room_answers : {A : Type 0} (grows : A → Refusal → Type 0) (f : Outgoing → A) (s : Outgoing) (t : Packet) (mark : ℕ) (x : LaneRefusal) → grows (f (entered s t mark)) (refusals.Lane no_room.Memory)
+pub room_answers : {A : Type 0} (grows : A → Refusal → Type 0) (f : SenderEndView → A) (s : SenderEndView) (t : TlpView) (mark : ℕ) (x : LaneRefusal) → grows (f (entered s t mark)) (refusals.Lane no_room.Memory)
     → LacksRoom s (need_of t) x → Refuses grows (map_ok (enter_on s t mark) f) (refusals.Lane x)
 room_answers grows f s t mark (no_room.NoCredits class) g h = rw h.1 (ap (λ c. refusals.Lane (no_room.NoCredits c)) h.0)
 room_answers grows f s t mark no_room.WindowFull g h = let full : nat_lt (length s.sending.kept) 2047 ≡ false = grind (arith, nat_tests) in rw (h.0, full) refl
 room_answers grows f s t mark no_room.Memory g h = rw (enters_on s t mark (entered s t mark) h refl) g
 
-longer : (xs : List Carried) (x : Carried) → length xs < length (xs ++ x ∷ [])
+longer : (xs : List CargoView) (x : CargoView) → length xs < length (xs ++ x ∷ [])
 longer xs x = omega (arith, length-append xs (x ∷ []))
 
 -- a completion for which there is no room
-pub act_lacks : (m : State) (t : Packet) (mark : ℕ) (s : Outgoing) (c : Packet) (x : LaneRefusal) → completion_to m t ≡ Some c → LacksRoom s (need_of c) x
-    → Refuses (λ (y : ℕ × State × Outgoing). serving_grows s y.2) (act_on m t mark s) (refusals.Lane x)
+pub act_lacks : (m : MemoryView) (t : TlpView) (mark : ℕ) (s : SenderEndView) (c : TlpView) (x : LaneRefusal) → completion_to m t ≡ Some c → LacksRoom s (need_of c) x
+    → Refuses (λ (y : ℕ × MemoryView × SenderEndView). serving_grows s y.2) (act_on m t mark s) (refusals.Lane x)
 act_lacks m t mark s c x is h =
-    rw is (room_answers (λ (y : ℕ × State × Outgoing). serving_grows s y.2) (λ s'. (length m.entries, after_serving m t mark, s')) s c mark x (longer s.sending.kept (cargo_of c mark)) h)
+    rw is (room_answers (λ (y : ℕ × MemoryView × SenderEndView). serving_grows s y.2) (λ s'. (length m.entries, after_serving m t mark, s')) s c mark x (longer s.sending.kept (cargo_of c mark)) h)
 
 -- the history can't grow for a request that may act
-pub act_memory : (m : State) (t : Packet) (mark : ℕ) (s : Outgoing) (need : Need) → option_map need_of (completion_to m t) ≡ Some need → may_enter s need ≡ true
-    → Refuses (λ (y : ℕ × State × Outgoing). serving_grows s y.2) (act_on m t mark s) refusals.Memory
+pub act_memory : (m : MemoryView) (t : TlpView) (mark : ℕ) (s : SenderEndView) (need : Need) → option_map need_of (completion_to m t) ≡ Some need → may_enter s need ≡ true
+    → Refuses (λ (y : ℕ × MemoryView × SenderEndView). serving_grows s y.2) (act_on m t mark s) refusals.Memory
 act_memory m t mark s need is may = by_completion (completion_to m t) is
   where
-    by_completion : (o : Option Packet) → option_map need_of o ≡ Some need → Refuses (λ (y : ℕ × State × Outgoing). serving_grows s y.2) (map_ok (enter_if_any s o mark) (λ s'. (length m.entries, after_serving m t mark, s'))) refusals.Memory
+    by_completion : (o : Option TlpView) → option_map need_of o ≡ Some need → Refuses (λ (y : ℕ × MemoryView × SenderEndView). serving_grows s y.2) (map_ok (enter_if_any s o mark) (λ s'. (length m.entries, after_serving m t mark, s'))) refusals.Memory
     by_completion None e = absurd cc
     by_completion (Some c) e =
         let same : need_of c ≡ need = cc in
@@ -67,12 +67,12 @@ pub ok_is : {A E : Type 0} (x y : A) → ◌≡◌ {A = Result A E} (Ok x) (Ok y
 ok_is x y e = cc
 
 -- a request acts, and its completion enters
-pub act_answers : (m m' : State) (t : Packet) (mark place : ℕ) (s s' : Outgoing) (c : Packet) → completion_to m t ≡ Some c → Enters s c mark s' → place ≡ length m.entries → m' ≡ after_serving m t mark
+pub act_answers : (m m' : MemoryView) (t : TlpView) (mark place : ℕ) (s s' : SenderEndView) (c : TlpView) → completion_to m t ≡ Some c → Enters s c mark s' → place ≡ length m.entries → m' ≡ after_serving m t mark
     → act_on m t mark s ≡ Ok (place, m', s')
 act_answers m m' t mark place s s' c is e at now = rw (is, enters_on s c mark s' e.may e.now, at, now) refl
 
-pub act_fits : (m : State) (t c : Packet) → completion_to m t ≡ Some c → Spells (canonical c) c → ActFits m t
-act_fits m t c is spelled = record { spelled = λ o e. subst (λ (p : Packet). Spells (canonical p) p) (same o e) spelled }
+pub act_fits : (m : MemoryView) (t c : TlpView) → completion_to m t ≡ Some c → Spells (canonical c) c → ActFits m t
+act_fits m t c is spelled = record { spelled = λ o e. subst (λ (p : TlpView). Spells (canonical p) p) (same o e) spelled }
   where
-    same : (o : Packet) → completion_to m t ≡ Some o → c ≡ o
+    same : (o : TlpView) → completion_to m t ≡ Some o → c ≡ o
     same o e = let both : Some c ≡ Some o = sym is ∙ e in cc

@@ -3,16 +3,16 @@ use Rattle.std.proofs.Common.{ℕ, zero, suc, ◌≡◌, Bool, true, false, List
 use Rattle.std.specs.Prelude.{slice_get, slice_set, nat_lt, ◌&&◌, ◌==◌}
 use Rattle.std.proofs.lemmas.Bool.Decides.{nat_tests}
 use Rattle.tlp_core.specs.declared.operation.Op.{Op}
-use Rattle.tlp_core.specs.Packet.{Packet}
+use Rattle.tlp_core.specs.TlpView.{TlpView}
 use Rattle.completer_core.specs.Serving.{completion_to}
 use Rattle.requester_core.specs.declared.requester.Answer.{Answer}
-use Rattle.requester_core.specs.Requesting.{Requesting, prepared, finished}
+use Rattle.requester_core.specs.RequesterView.{RequesterView, prepared, finished}
 use Rattle.fc_credit.specs.Needs.{need_of}
 use Rattle.fc_credit.specs.Credits.{gate_covers}
 use Rattle.vc_queue.specs.Queue.{Item, is_takeable}
 use Rattle.switch_core.specs.Routing.{route, port_of, is_requester}
 use Rattle.lane_ends.specs.declared.packet.LaneRefusal.TheVariants as no_room
-use Rattle.lane_ends.specs.Steps.{Ends, Incoming, Outgoing, entered, transmitted, delivered, dllp_of, dllp_seen, sender_after, after_timer, after_retraining}
+use Rattle.lane_ends.specs.Steps.{LaneEndsView, ReceiverEndView, SenderEndView, entered, transmitted, delivered, dllp_of, dllp_seen, sender_after, after_timer, after_retraining}
 use Rattle.lane_core.specs.Calls.{after_call}
 use Rattle.fabric_laws.specs.Fabric.{Fabric}
 use Rattle.fabric_core.specs.declared.event.LaneName.{LaneName}
@@ -66,14 +66,14 @@ if_ok false r x y h = absurd cc
 abbrev sees_of : {A B : Type 0} → A × B → A
 sees_of p = p.0
 
-seen_as : (e : Ends) (event : LinkEvent) (w what : Seen) (e' : Ends) → IsSeen e event w → ◌≡◌ {A = Seen × Ends} (w, after_call e (call_of event)) (what, e') → Links e event what e'
+seen_as : (e : LaneEndsView) (event : LinkEvent) (w what : Seen) (e' : LaneEndsView) → IsSeen e event w → ◌≡◌ {A = Seen × LaneEndsView} (w, after_call e (call_of event)) (what, e') → Links e event what e'
 seen_as e event w what e' s is =
-    record { sees = subst (IsSeen e event) (ap (λ (p : Seen × Ends). p.0) is) s; now = sym (ap (λ (p : Seen × Ends). p.1) is) }
+    record { sees = subst (IsSeen e event) (ap (λ (p : Seen × LaneEndsView). p.0) is) s; now = sym (ap (λ (p : Seen × LaneEndsView). p.1) is) }
 
 moved : (n : ℕ) → (n == 0) ≡ false → 0 < n
 moved n h = grind (arith, nat_tests)
 
-pub linked : (e : Ends) (event : LinkEvent) (what : Seen) (e' : Ends) → link_on e event ≡ Ok (what, e') → Links e event what e'
+pub linked : (e : LaneEndsView) (event : LinkEvent) (what : Seen) (e' : LaneEndsView) → link_on e event ≡ Ok (what, e') → Links e event what e'
 linked e links.Transmit what e' h =
     let g = given (transmit_on e.sender e.forward) _ (what, e') h in
     let k = given (some_or refusals.Idle (transmitted e.sender)) _ g.0 g.1 in
@@ -100,7 +100,7 @@ linked e links.Retrained what e' h =
     seen_as e links.Retrained seen.Retrained what e' k.0 (ap (λ s. (seen.Retrained, record e { sender = s })) k.1 ∙ g.2)
 
 -- in a list of lanes
-in_list : (parts : List Ends) (port : ℕ) (e : Ends) → part_at parts port ≡ Ok e → (place : ℕ) × HasPart parts port place e
+in_list : (parts : List LaneEndsView) (port : ℕ) (e : LaneEndsView) → part_at parts port ≡ Ok e → (place : ℕ) × HasPart parts port place e
 in_list parts zero e h = absurd cc
 in_list parts (suc place) e h = (place, record { is_port = refl; there = some_ok refusals.NoSuchPart (slice_get parts place) e h })
 
@@ -138,12 +138,12 @@ entering true true x y r s h = (refl, cc)
 entering true false x y r s h = absurd cc
 entering false b x y r s h = absurd cc
 
-pub enters : (s : Outgoing) (t : Packet) (mark : ℕ) (s' : Outgoing) → Spells (canonical t) t → enter_on s t mark ≡ Ok s' → Enters s t mark s'
+pub enters : (s : SenderEndView) (t : TlpView) (mark : ℕ) (s' : SenderEndView) → Spells (canonical t) t → enter_on s t mark ≡ Ok s' → Enters s t mark s'
 enters s t mark s' spelled h =
     let k = entering (gate_covers s.gate (need_of t)) (nat_lt (length s.sending.kept) 2047) (entered s t mark) s' (refusals.Lane no_room.WindowFull) (refusals.Lane (no_room.NoCredits (need_of t).class)) h in
     record { may = k.0; spelled = spelled; now = sym k.1 }
 
-pub at_place : (r : Incoming) (place : ℕ) (x : Item) → item_at r place ≡ Ok x → IsAt r place x.0 x.1
+pub at_place : (r : ReceiverEndView) (place : ℕ) (x : Item) → item_at r place ≡ Ok x → IsAt r place x.0 x.1
 at_place r place x h =
     let k = by_test (is_takeable r.queue place) (some_or refusals.NotTakeable (slice_get r.queue place)) h in
     record { takeable = k.0; item = some_ok refusals.NotTakeable (slice_get r.queue place) x k.1 }
@@ -154,7 +154,7 @@ at_place r place x h =
 
 -- ---- Submit
 
-pub submits : (q : Requesting) (s : Outgoing) (op : Op) (n : ℕ) (q' : Requesting) (s' : Outgoing) → SubmitFits q op → submit_on q s op ≡ Ok (n, q', s') → Submits q s op n q' s'
+pub submits : (q : RequesterView) (s : SenderEndView) (op : Op) (n : ℕ) (q' : RequesterView) (s' : SenderEndView) → SubmitFits q op → submit_on q s op ≡ Ok (n, q', s') → Submits q s op n q' s'
 submits q s op n q' s' fits h =
     let p = then_ok (map_err refusals.Submit (prepared q op)) _ (n, q', s') h in
     let g = given (enter_on s p.0.1 p.0.0) _ (n, q', s') p.2 in
@@ -170,7 +170,7 @@ submits q s op n q' s' fits h =
       now = sym (ap (λ x. x.1) g.2);
     }
 
-pub submits_at : (f : Fabric) (port : ℕ) (op : Op) (what : Seen) (f' : Fabric) → ((q : Requesting) → part_at f.requesters port ≡ Ok q → SubmitFits q op) → submit_at f port op ≡ Ok (what, f')
+pub submits_at : (f : Fabric) (port : ℕ) (op : Op) (what : Seen) (f' : Fabric) → ((q : RequesterView) → part_at f.requesters port ≡ Ok q → SubmitFits q op) → submit_at f port op ≡ Ok (what, f')
     → (n : ℕ) × (what ≡ seen.Submitted n) × SubmitsAt f port op n f'
 submits_at f zero op what f' fits h = absurd cc
 submits_at f (suc i) op what f' fits h =
@@ -194,12 +194,12 @@ submits_at f (suc i) op what f' fits h =
 
 -- ---- Forward
 
-pub routed : (r : Incoming) (place from to : ℕ) → destination_on r place from ≡ Ok to → IsRoutedAs r place from (Ok to)
+pub routed : (r : ReceiverEndView) (place from to : ℕ) → destination_on r place from ≡ Ok to → IsRoutedAs r place from (Ok to)
 routed r place from to h =
     let x = then_ok (item_at r place) _ to h in
     record { packet = x.0.0; mark = x.0.1; there = at_place r place x.0 x.1; is = named_ok refusals.Route (route x.0.0 from) to x.2 }
 
-pub forwards : (r r' : Incoming) (place : ℕ) (s s' : Outgoing) → ForwardFits r place → forward_on r place s ≡ Ok (r', s') → Forwards r r' place s s'
+pub forwards : (r r' : ReceiverEndView) (place : ℕ) (s s' : SenderEndView) → ForwardFits r place → forward_on r place s ≡ Ok (r', s') → Forwards r r' place s s'
 forwards r r' place s s' fits h =
     let x = then_ok (item_at r place) _ (r', s') h in
     let g = given (enter_on s x.0.0 x.0.1) _ (r', s') x.2 in
@@ -207,7 +207,7 @@ forwards r r' place s s' fits h =
     let e = enters s x.0.0 x.0.1 g.0 (fits.spelled x.0.0 x.0.1 x.1) g.1 in
     record { packet = x.0.0; mark = x.0.1; takeable = i.takeable; there = i.item; may = e.may; spelled = e.spelled; sent = sym (ap (λ p. p.1) g.2) ∙ e.now; left = sym (ap (λ p. p.0) g.2) }
 
-pub forwards_up : (f : Fabric) (port place : ℕ) (what : Seen) (f' : Fabric) → ((e : Ends) → part_at f.up port ≡ Ok e → ForwardFits e.receiver place) → forward_at f (lanes.Up port) place ≡ Ok (what, f')
+pub forwards_up : (f : Fabric) (port place : ℕ) (what : Seen) (f' : Fabric) → ((e : LaneEndsView) → part_at f.up port ≡ Ok e → ForwardFits e.receiver place) → forward_at f (lanes.Up port) place ≡ Ok (what, f')
     → (to : ℕ) × (what ≡ seen.To to) × ForwardsUp f port place to f'
 forwards_up f zero place what f' fits h = absurd cc
 forwards_up f (suc i) place what f' fits h =
@@ -231,12 +231,12 @@ forwards_up f (suc i) place what f' fits h =
       },
     )
 
-never_zero : (r : Incoming) (place : ℕ) → destination_on r place 0 ≡ Ok 0 → ⊥
+never_zero : (r : ReceiverEndView) (place : ℕ) → destination_on r place 0 ≡ Ok 0 → ⊥
 never_zero r place h =
     let x = then_ok (item_at r place) _ 0 h in
     by_kind x.0.0 (is_completion x.0.0.kind) (is_requester (port_of x.0.0)) refl (named_ok refusals.Route (route x.0.0 0) 0 x.2)
   where
-    by_kind : (t : Packet) (c z : Bool) → is_requester (port_of t) ≡ z → (if c then (if true && z then Ok (port_of t) else Err NoPort) else (if false then Ok 0 else Err NoPort)) ≡ Ok 0 → ⊥
+    by_kind : (t : TlpView) (c z : Bool) → is_requester (port_of t) ≡ z → (if c then (if true && z then Ok (port_of t) else Err NoPort) else (if false then Ok 0 else Err NoPort)) ≡ Ok 0 → ⊥
     by_kind t true true e k = let port : port_of t ≡ 0 = cc in grind (arith, nat_tests)
     by_kind t true false e k = absurd cc
     by_kind t false z e k = absurd cc
@@ -264,7 +264,7 @@ forwards_to f place (suc i) what f' fits d h =
       },
     )
   where
-    has_port : (a : Result Ends Refusal) (e : Ends) → or_no_port a ≡ Ok e → a ≡ Ok e
+    has_port : (a : Result LaneEndsView Refusal) (e : LaneEndsView) → or_no_port a ≡ Ok e → a ≡ Ok e
     has_port (Ok x) e k = k
     has_port (Err r) e k = absurd cc
 
@@ -275,7 +275,7 @@ forwards_out f place what f' fits h =
 
 -- ---- Serve
 
-any_enters : (s : Outgoing) (o : Option Packet) (mark : ℕ) (s' : Outgoing) → ((c : Packet) → o ≡ Some c → Spells (canonical c) c) → enter_if_any s o mark ≡ Ok s' → EntersIfAny s o mark s'
+any_enters : (s : SenderEndView) (o : Option TlpView) (mark : ℕ) (s' : SenderEndView) → ((c : TlpView) → o ≡ Some c → Spells (canonical c) c) → enter_if_any s o mark ≡ Ok s' → EntersIfAny s o mark s'
 any_enters s None mark s' spelled h = cc
 any_enters s (Some c) mark s' spelled h = enters s c mark s' (spelled c refl) h
 
@@ -309,7 +309,7 @@ serves_at f place what f' fits h =
 
 -- ---- Collect
 
-pub first_at : (r : Incoming) (x : Item) → slice_get r.queue 0 ≡ Some x → IsAt r 0 x.0 x.1
+pub first_at : (r : ReceiverEndView) (x : Item) → slice_get r.queue 0 ≡ Some x → IsAt r 0 x.0 x.1
 first_at r x h = by_queue r.queue h
   where
     by_queue : (queue : List Item) → slice_get queue 0 ≡ Some x → IsAt (record r { queue = queue }) 0 x.0 x.1

@@ -39,8 +39,8 @@ impl Model for Parts {
     ghost view = { λ p. record { credits = p.credits; memory = p.memory; requesters = p.requesters.items; inward = p.inward; outward = p.outward; up = p.up.items; down = p.down.items } };
 }
 
-ghost use Rattle.requester_core.specs.Requesting.{Requesting};
-ghost use Rattle.lane_ends.specs.Steps.{Ends};
+ghost use Rattle.requester_core.specs.RequesterView.{RequesterView};
+ghost use Rattle.lane_ends.specs.Steps.{LaneEndsView};
 ghost use Rattle.fabric_core.specs.Answers.{Refuses, link_grows, part_at, lane_at, link_at, submit_at, forward_at, serve_at, collect_at, SubmitFits, ForwardFits, ServeFits, Happens, Refused};
 ghost use Rattle.fabric_core.specs.Steps.{IsNoPort, HasLanes};
 ghost use Rattle.fabric_core.specs.Config.{config_of};
@@ -121,7 +121,7 @@ impl Parts {
         requires { length self.old.up ≡ length self.old.requesters }
         ensures answers { IfOk result (λ number. submit_at self.old port op.now ≡ Ok (Seen.Submitted number, self.new)) }
         ensures refuses { IfErr result (λ r. Refused self.old (Event.Submit port op.now) r) }
-        ensures fits { OnOk result ((q : Requesting) → part_at self.old.requesters port ≡ Ok q → SubmitFits q op.now) }
+        ensures fits { OnOk result ((q : RequesterView) → part_at self.old.requesters port ≡ Ok q → SubmitFits q op.now) }
         ensures err { OnErr result (self.new ≡ self.old) }
     {
         let place = place_of(port, self.requesters.len())?;
@@ -135,7 +135,7 @@ impl Parts {
         requires { length self.old.up ≤ 7 }
         ensures answers { IfOk result (λ to. forward_at self.old (LaneName.Up port) place ≡ Ok (Seen.To to, self.new)) }
         ensures refuses { IfErr result (λ r. Refused self.old (Event.Forward (LaneName.Up port) place) r) }
-        ensures fits { OnOk result ((e : Ends) → lane_at self.old (LaneName.Up port) ≡ Ok e → ForwardFits e.receiver place) }
+        ensures fits { OnOk result ((e : LaneEndsView) → lane_at self.old (LaneName.Up port) ≡ Ok e → ForwardFits e.receiver place) }
         ensures err { OnErr result (self.new ≡ self.old) }
     {
         let at = place_of(port, self.up.len())?;
@@ -199,7 +199,7 @@ impl Parts {
         requires { length self.old.up ≤ 7 }
         ensures answers { IfOk result (λ what. forward_at self.old name place ≡ Ok (what, self.new)) }
         ensures refuses { IfErr result (λ r. Refused self.old (Event.Forward name place) r) }
-        ensures fits { OnOk result ((e : Ends) → lane_at self.old name ≡ Ok e → ForwardFits e.receiver place) }
+        ensures fits { OnOk result ((e : LaneEndsView) → lane_at self.old name ≡ Ok e → ForwardFits e.receiver place) }
         ensures err { OnErr result (self.new ≡ self.old) }
     {
         match name {

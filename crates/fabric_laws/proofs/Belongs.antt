@@ -5,7 +5,7 @@ use Rattle.std.proofs.lemmas.List.{length_push}
 use native.Mathlib.Decide.{ℕ_discrete, dec_lt}
 use mathlib.Core.Logic.{dite}
 use Rattle.fabric_laws.specs.Lists.{Each, one_if, count}
-use Rattle.fabric_laws.specs.Whole.{Op, is_posted, Entry, MarkedPacket, reply_after, Requesting, View, Whole, view, path, up_of, down_of, requester_of, open_number, entry_of, marked_request, memory, memory_of, Extent, Reply}
+use Rattle.fabric_laws.specs.Whole.{Op, is_posted, Entry, MarkedPacket, reply_after, RequesterView, View, Whole, view, path, up_of, down_of, requester_of, open_number, entry_of, marked_request, memory, memory_of, Extent, Reply}
 use Rattle.history_check.specs.Trace.{is_request}
 use Rattle.fabric_laws.specs.Sound.{times, Sound, SoundAt, IsReply}
 use Rattle.fabric_laws.specs.Trace.{IsMade}
@@ -73,11 +73,11 @@ silent_belongs p p' rs c b = record {
       let m : length p.history ≤ length (p.history ++ c.new) = grows_by p.history c.new in
       omega arith;
   made = λ i. record {
-    spent = (b.made i).spent ∙ ap (λ (q : Requesting). q.next) (sym (c.requesters i));
+    spent = (b.made i).spent ∙ ap (λ (q : RequesterView). q.next) (sym (c.requesters i));
     each = c.paths i (λ (e : Entry). e.requester ≡ i → slice_get (made i rs) e.number ≡ Some e.op) (λ e ne own. absurd (ne own)) (b.made i).each;
   };
-  pending = λ i t k e. b.pending i t k (ap (λ (q : Requesting). open_number q t) (sym (c.requesters i)) ∙ e);
-  opened = λ a i k n o at np un. let (t, e) = b.opened a i k n o at np un in (t, ap (λ (q : Requesting). open_number q t) (c.requesters i) ∙ e);
+  pending = λ i t k e. b.pending i t k (ap (λ (q : RequesterView). open_number q t) (sym (c.requesters i)) ∙ e);
+  opened = λ a i k n o at np un. let (t, e) = b.opened a i k n o at np un in (t, ap (λ (q : RequesterView). open_number q t) (c.requesters i) ∙ e);
   later = λ a i k n o at.
       let w : n ≤ length p.history = b.within a (Sub i k o n) at in
       ap (λ (h : List Entry). stands (take n h) i k) c.grows ∙ (ap (λ (h : List Entry). stands h i k) (take_before p.history c.new n w) ∙ b.later a i k n o at);
@@ -125,7 +125,7 @@ unanswered p rs i k s b h = dite (dec_lt 0 (count (answers_to i k) rs))
 
 -- Submit
 
-module _ (p : Whole) (i tag : ℕ) (op : Op) (q' : Requesting) (rs : List Record) (s : Sound p) (b : Belongs p rs)
+module _ (p : Whole) (i tag : ℕ) (op : Op) (q' : RequesterView) (rs : List Record) (s : Sound p) (b : Belongs p rs)
     (o : IsOpened (requester_of p i) tag op q') (has_up : i < length p.up) (known : i < length p.requesters) where
   abbrev next : ℕ
   next = (requester_of p i).next
@@ -203,8 +203,8 @@ module _ (p : Whole) (i tag : ℕ) (op : Op) (q' : Requesting) (rs : List Record
     within = still_within p.history rs said refl b.within;
     made = submissions;
     pending = λ j t k e. dite (ℕ_discrete j i)
-        (λ is. subst (λ (m : ℕ). IsPending (rs ++ said ∷ []) m k) (sym is) (pending_own t k (ap (λ (q : Requesting). open_number q t) (sym requester_now) ∙ (ap (λ (m : ℕ). open_number (requester_of now m) t) (sym is) ∙ e))))
-        (λ ne. older j k (b.pending j t k (ap (λ (q : Requesting). open_number q t) (sym (requester_else j ne)) ∙ e)));
+        (λ is. subst (λ (m : ℕ). IsPending (rs ++ said ∷ []) m k) (sym is) (pending_own t k (ap (λ (q : RequesterView). open_number q t) (sym requester_now) ∙ (ap (λ (m : ℕ). open_number (requester_of now m) t) (sym is) ∙ e))))
+        (λ ne. older j k (b.pending j t k (ap (λ (q : RequesterView). open_number q t) (sym (requester_else j ne)) ∙ e)));
     opened = λ a j k n z e np un.
         let c : count (answers_to j k) (rs ++ said ∷ []) ≡ count (answers_to j k) rs + 0 = count_push (answers_to j k) rs said in
         ⊎_elim
@@ -212,15 +212,15 @@ module _ (p : Whole) (i tag : ℕ) (op : Op) (q' : Requesting) (rs : List Record
         let (t, f) = b.opened a j k n z g.1 np (none_any (answers_to j k) rs (let w : count (answers_to j k) (rs ++ said ∷ []) ≡ 0 = none_counted (answers_to j k) (rs ++ said ∷ []) un in omega arith)) in (
           t,
           dite (ℕ_discrete j i)
-              (λ is. ap (λ (m : ℕ). open_number (requester_of now m) t) is ∙ (ap (λ (q : Requesting). open_number q t) requester_now ∙ still_open i tag op (view p i) q' (s i) o t k (ap (λ (m : ℕ). open_number (requester_of p m) t) (sym is) ∙ f)))
-              (λ ne. ap (λ (q : Requesting). open_number q t) (requester_else j ne) ∙ f),
+              (λ is. ap (λ (m : ℕ). open_number (requester_of now m) t) is ∙ (ap (λ (q : RequesterView). open_number q t) requester_now ∙ still_open i tag op (view p i) q' (s i) o t k (ap (λ (m : ℕ). open_number (requester_of p m) t) (sym is) ∙ f)))
+              (λ ne. ap (λ (q : RequesterView). open_number q t) (requester_else j ne) ∙ f),
         ))
         (λ (g : (a ≡ length rs) × (said ≡ Sub j k z n)).
         let h : said ≡ Sub j k z n = g.1 in
         let own : i ≡ j = cc in
         let num : next ≡ k = cc in
         let same_op : op ≡ z = cc in
-        (tag, ap (λ (m : ℕ). open_number (requester_of now m) tag) (sym own) ∙ (ap (λ (q : Requesting). open_number q tag) requester_now ∙ (o.opened (ap is_posted same_op ∙ np) ∙ ap Some num))))
+        (tag, ap (λ (m : ℕ). open_number (requester_of now m) tag) (sym own) ∙ (ap (λ (q : RequesterView). open_number q tag) requester_now ∙ (o.opened (ap is_posted same_op ∙ np) ∙ ap Some num))))
         (get_push rs said a (Sub j k z n) e);
     later = λ a j k n z e. ⊎_elim
         (λ (g : (a < length rs) × (slice_get rs a ≡ Some (Sub j k z n))). b.later a j k n z g.1)
@@ -236,7 +236,7 @@ module _ (p : Whole) (i tag : ℕ) (op : Op) (q' : Requesting) (rs : List Record
 
 -- Collect
 
-module _ (p : Whole) (i number : ℕ) (reply : Reply) (rest : List MarkedPacket) (c : MarkedPacket) (q' : Requesting) (rs : List Record) (s : Sound p) (b : Belongs p rs)
+module _ (p : Whole) (i number : ℕ) (reply : Reply) (rest : List MarkedPacket) (c : MarkedPacket) (q' : RequesterView) (rs : List Record) (s : Sound p) (b : Belongs p rs)
     (first : down_of p i ≡ c ∷ rest) (z : IsClosed (requester_of p i) c.tag number q') (is_reply : reply ≡ c.reply) (has_down : i < length p.down) (known : i < length p.requesters) where
   abbrev answer : Record
   answer = Ans i number reply (length p.history)
@@ -355,13 +355,13 @@ module _ (p : Whole) (i number : ℕ) (reply : Reply) (rest : List MarkedPacket)
     within = still_within p.history rs answer refl b.within;
     made = λ j. record {
       spent = ap length (made_ans j i number reply (length p.history) rs) ∙ ((b.made j).spent ∙ dite (ℕ_discrete j i)
-          (λ is. ap (λ (m : ℕ). (requester_of p m).next) is ∙ (sym z.next ∙ (ap (λ (q : Requesting). q.next) (sym requester_after) ∙ ap (λ (m : ℕ). (requester_of after m).next) (sym is))))
-          (λ ne. ap (λ (q : Requesting). q.next) (sym (requester_kept j ne))));
+          (λ is. ap (λ (m : ℕ). (requester_of p m).next) is ∙ (sym z.next ∙ (ap (λ (q : RequesterView). q.next) (sym requester_after) ∙ ap (λ (m : ℕ). (requester_of after m).next) (sym is))))
+          (λ ne. ap (λ (q : RequesterView). q.next) (sym (requester_kept j ne))));
       each = subst (λ (l : List Op). Each (λ (e : Entry). e.requester ≡ j → slice_get l e.number ≡ Some e.op) (path (view p j))) (sym (made_ans j i number reply (length p.history) rs)) (b.made j).each;
     };
     pending = λ j t k e. dite (ℕ_discrete j i)
-        (λ is. subst (λ (m : ℕ). IsPending (rs ++ answer ∷ []) m k) (sym is) (pending_after t k (ap (λ (q : Requesting). open_number q t) (sym requester_after) ∙ (ap (λ (m : ℕ). open_number (requester_of after m) t) (sym is) ∙ e))))
-        (λ ne. older_pending j k (miss_left j k i number (λ h. ne (sym h))) (b.pending j t k (ap (λ (q : Requesting). open_number q t) (sym (requester_kept j ne)) ∙ e)));
+        (λ is. subst (λ (m : ℕ). IsPending (rs ++ answer ∷ []) m k) (sym is) (pending_after t k (ap (λ (q : RequesterView). open_number q t) (sym requester_after) ∙ (ap (λ (m : ℕ). open_number (requester_of after m) t) (sym is) ∙ e))))
+        (λ ne. older_pending j k (miss_left j k i number (λ h. ne (sym h))) (b.pending j t k (ap (λ (q : RequesterView). open_number q t) (sym (requester_kept j ne)) ∙ e)));
     opened = λ a j k n y e np un.
         let d : count (answers_to j k) (rs ++ answer ∷ []) ≡ count (answers_to j k) rs + one_if (answers_to j k answer) = count_push (answers_to j k) rs answer in
         let w : count (answers_to j k) (rs ++ answer ∷ []) ≡ 0 = none_counted (answers_to j k) (rs ++ answer ∷ []) un in
@@ -370,12 +370,12 @@ module _ (p : Whole) (i number : ℕ) (reply : Reply) (rest : List MarkedPacket)
           dite (ℕ_discrete j i)
               (λ is.
               let here : open_number (requester_of p i) t ≡ Some k = ap (λ (m : ℕ). open_number (requester_of p m) t) (sym is) ∙ f in
-              ap (λ (m : ℕ). open_number (requester_of after m) t) is ∙ (ap (λ (q : Requesting). open_number q t) requester_after ∙ (z.others t (λ at. absurd (
+              ap (λ (m : ℕ). open_number (requester_of after m) t) is ∙ (ap (λ (q : RequesterView). open_number q t) requester_after ∙ (z.others t (λ at. absurd (
               let g : open_number (requester_of p i) t ≡ Some number = ap (open_number (requester_of p i)) at ∙ z.was_open in
               let same_number : number ≡ k = cc in
               let one : one_if (answers_to j k answer) ≡ 1 = hit j k i number (sym is) same_number in
               omega arith)) ∙ here)))
-              (λ ne. ap (λ (q : Requesting). open_number q t) (requester_kept j ne) ∙ f),
+              (λ ne. ap (λ (q : RequesterView). open_number q t) (requester_kept j ne) ∙ f),
         );
     later = λ a j k n y e. b.later a j k n y (older_sub a j k n y e);
   }

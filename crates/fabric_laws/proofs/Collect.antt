@@ -4,7 +4,7 @@ use Rattle.std.specs.Prelude.{nat_lt, slice_get}
 use mathlib.Core.Logic.{dite}
 use native.Mathlib.Decide.{ℕ_discrete}
 use Rattle.fabric_laws.specs.Lists.{Each, one_if}
-use Rattle.fabric_laws.specs.Whole.{Entry, MarkedPacket, Op, View, Requesting, open_number, path, entry_of, Extent}
+use Rattle.fabric_laws.specs.Whole.{Entry, MarkedPacket, Op, View, RequesterView, open_number, path, entry_of, Extent}
 use Rattle.history_check.specs.Trace.{is_request}
 use Rattle.fabric_laws.specs.Sound.{times, is_answer, answers, served, IsTagged, IsSized, IsReply, IsReplyFor, SoundAt}
 use Rattle.fabric_laws.specs.Steps.{IsClosed}
@@ -37,7 +37,7 @@ not_yet i v s =
 pub acted_counted : (i k : ℕ) (o : Op) (h : List Entry) (n : ℕ) → slice_get h n ≡ Some (record { requester = i; number = k; op = o }) → 1 ≤ times i k h
 acted_counted i k o h n e = count_at (is_request i k) h n (record { requester = i; number = k; op = o }) e (both_same i k)
 
-module _ (i : ℕ) (g : Extent) (h : List Entry) (w o u rest : List MarkedPacket) (q q' : Requesting) (c : MarkedPacket) (number : ℕ) where
+module _ (i : ℕ) (g : Extent) (h : List Entry) (w o u rest : List MarkedPacket) (q q' : RequesterView) (c : MarkedPacket) (number : ℕ) where
   abbrev was : View
   was = record { extent = g; history = h; inward = w; outward = o; up = u; down = c ∷ rest; requester = q }
 

@@ -12,7 +12,7 @@ use Rattle.tlp_core.specs.declared.packet.Kind.{Kind}
 use Rattle.tlp_core.specs.declared.packet.Kind.TheVariants as kinds
 use Rattle.tlp_core.specs.declared.packet.Body.{Body}
 use Rattle.tlp_core.specs.declared.packet.Body.TheVariants as bodies
-use Rattle.tlp_core.specs.Packet.{Packet}
+use Rattle.tlp_core.specs.TlpView.{TlpView}
 use Rattle.tlp_core.specs.Operation.{op_of, op_at, is_posted, count_of}
 use Rattle.fc_credit.specs.Needs.{class_of}
 use Rattle.vc_queue.specs.Ordering.{passes, may_pass, is_same_request}
@@ -23,13 +23,13 @@ use Rattle.seq_memory.specs.declared.Entry.{Entry}
 use Rattle.seq_memory.specs.declared.Reply.{Reply}
 use Rattle.seq_memory.specs.declared.Reply.TheVariants as replies
 use Rattle.seq_memory.specs.Step.{answer, answer_by, read_back, refusal, IsSizedFor}
-use Rattle.seq_memory.specs.History.{State, bytes_of}
+use Rattle.seq_memory.specs.History.{MemoryView, bytes_of}
 use Rattle.completer_core.specs.Completion.{completion_for, completion_of, unless_posted}
 use Rattle.completer_core.specs.Serving.{completion_to, after_serving, with_entry}
 use Rattle.requester_core.specs.declared.requester.Answer.{Answer}
 use Rattle.requester_core.specs.Request.{kind_for}
-use Rattle.requester_core.specs.Requesting.{Requesting, after_opened, after_finish}
-use Rattle.lane_ends.specs.Steps.{Ends}
+use Rattle.requester_core.specs.RequesterView.{RequesterView, after_opened, after_finish}
+use Rattle.lane_ends.specs.Steps.{LaneEndsView}
 use Rattle.lane_core.specs.Calls.{content, on_the_way}
 use Rattle.history_check.specs.declared.Record.TheVariants.{Sub, Ans}
 use Rattle.fabric_laws.specs.Lists.{Each}
@@ -49,28 +49,28 @@ get_is [] i x d e = absurd (cc)
 get_is (y ∷ xs) zero x d e = cc
 get_is (y ∷ xs) (suc i) x d e = get_is xs i x d e
 
-pub get_items : (ls : List Ends) (i : ℕ) (l : Ends) → slice_get ls i ≡ Some l → get_or (map items ls) i [] ≡ items l
+pub get_items : (ls : List LaneEndsView) (i : ℕ) (l : LaneEndsView) → slice_get ls i ≡ Some l → get_or (map items ls) i [] ≡ items l
 get_items [] i l e = absurd (cc)
 get_items (m ∷ ls) zero l e = let is : m ≡ l = cc in ap items is
 get_items (m ∷ ls) (suc i) l e = get_items ls i l e
 
-set_items : (ls : List Ends) (i : ℕ) (l : Ends) (new : List MarkedPacket) → items l ≡ new → map items (slice_set ls i l) ≡ slice_set (map items ls) i new
+set_items : (ls : List LaneEndsView) (i : ℕ) (l : LaneEndsView) (new : List MarkedPacket) → items l ≡ new → map items (slice_set ls i l) ≡ slice_set (map items ls) i new
 set_items ls i l new e = map-set items ls i l ∙ ap (λ (n : List MarkedPacket). slice_set (map items ls) i n) e
 
-kept_items : (ls : List Ends) (i : ℕ) (l l' : Ends) → slice_get ls i ≡ Some l → items l' ≡ items l → map items (slice_set ls i l') ≡ map items ls
+kept_items : (ls : List LaneEndsView) (i : ℕ) (l l' : LaneEndsView) → slice_get ls i ≡ Some l → items l' ≡ items l → map items (slice_set ls i l') ≡ map items ls
 kept_items [] i l l' e same = absurd (cc)
 kept_items (m ∷ ls) zero l l' e same = let is : l ≡ m = cc in ap (λ (c : List MarkedPacket). c ∷ map items ls) (same ∙ ap items is)
 kept_items (m ∷ ls) (suc i) l l' e same = ap (λ (c : List (List MarkedPacket)). items m ∷ c) (kept_items ls i l l' e same)
 
-there : (ls : List Ends) (i : ℕ) (l : Ends) → slice_get ls i ≡ Some l → suc i < length ([] ∷ map items ls)
+there : (ls : List LaneEndsView) (i : ℕ) (l : LaneEndsView) → slice_get ls i ≡ Some l → suc i < length ([] ∷ map items ls)
 there ls i l e = let w : i < length ls = get_within ls i l e in let n : length (map items ls) ≡ length ls = length-map ls items in omega arith
 
 -- ---- what enters and what is taken
 
-abbrev as_item : Packet × ℕ → MarkedPacket
+abbrev as_item : TlpView × ℕ → MarkedPacket
 as_item x = marked_packet x.0 x.1
 
-entered_items : (e : Ends) (t : Packet) (mark : ℕ) (e' : Ends) → IsEntered e t mark e' → items e' ≡ items e ++ marked_packet t mark ∷ []
+entered_items : (e : LaneEndsView) (t : TlpView) (mark : ℕ) (e' : LaneEndsView) → IsEntered e t mark e' → items e' ≡ items e ++ marked_packet t mark ∷ []
 entered_items e t mark e' h = ap (map as_item) h ∙ map-append as_item (content e) ((t, mark) ∷ [])
 
 passes_posted : (l : Class) (b : Bool) → passes l classes.Posted b ≡ false
@@ -78,7 +78,7 @@ passes_posted classes.Posted b = refl
 passes_posted classes.NonPosted b = refl
 passes_posted classes.Completion b = refl
 
-not_posted : (t u : Packet) → may_pass t u ≡ true → class_of u.kind ≢ classes.Posted
+not_posted : (t u : TlpView) → may_pass t u ≡ true → class_of u.kind ≢ classes.Posted
 not_posted t u h is =
     let f : may_pass t u ≡ false = ap (λ (c : Class). passes (class_of t.kind) c (is_same_request t u)) is ∙ passes_posted (class_of t.kind) (is_same_request t u) in cc
 
@@ -86,21 +86,21 @@ and_both : (a b : Bool) → (a && b) ≡ true → (a ≡ true) × (b ≡ true)
 and_both true b e = (refl, e)
 and_both false b e = absurd (cc)
 
-all_passed : (t : Packet) (xs : List (Packet × ℕ)) → passes_each t xs ≡ true → Each (λ (a : MarkedPacket). a.class ≢ classes.Posted) (map as_item xs)
+all_passed : (t : TlpView) (xs : List (TlpView × ℕ)) → passes_each t xs ≡ true → Each (λ (a : MarkedPacket). a.class ≢ classes.Posted) (map as_item xs)
 all_passed t [] h = tt
 all_passed t (x ∷ xs) h = let b = and_both (may_pass t x.0) (passes_each t xs) h in (not_posted t x.0 b.0, all_passed t xs b.1)
 
-first_at : (earlier q : List (Packet × ℕ)) (n : ℕ) (x : Packet × ℕ) → slice_get q n ≡ Some x → first_passes earlier (drop n q) ≡ passes_each x.0 earlier
+first_at : (earlier q : List (TlpView × ℕ)) (n : ℕ) (x : TlpView × ℕ) → slice_get q n ≡ Some x → first_passes earlier (drop n q) ≡ passes_each x.0 earlier
 first_at earlier [] n x e = absurd (cc)
-first_at earlier (y ∷ q) zero x e = let is : y ≡ x = cc in ap (λ (z : Packet × ℕ). passes_each z.0 earlier) is
+first_at earlier (y ∷ q) zero x e = let is : y ≡ x = cc in ap (λ (z : TlpView × ℕ). passes_each z.0 earlier) is
 first_at earlier (y ∷ q) (suc n) x e = first_at earlier q n x e
 
-pub split : (xs ys : List (Packet × ℕ)) (n : ℕ) (x : Packet × ℕ) → slice_get xs n ≡ Some x → (behind : List (Packet × ℕ)) × (xs ++ ys ≡ take n xs ++ x ∷ behind) × (remove (xs ++ ys) n ≡ take n xs ++ behind)
+pub split : (xs ys : List (TlpView × ℕ)) (n : ℕ) (x : TlpView × ℕ) → slice_get xs n ≡ Some x → (behind : List (TlpView × ℕ)) × (xs ++ ys ≡ take n xs ++ x ∷ behind) × (remove (xs ++ ys) n ≡ take n xs ++ behind)
 split [] ys n x e = absurd (cc)
-split (y ∷ xs) ys zero x e = let is : y ≡ x = cc in (xs ++ ys, ap (λ (z : Packet × ℕ). z ∷ (xs ++ ys)) is, refl)
-split (y ∷ xs) ys (suc n) x e = let (b, was, now) = split xs ys n x e in (b, ap (λ (l : List (Packet × ℕ)). y ∷ l) was, ap (λ (l : List (Packet × ℕ)). y ∷ l) now)
+split (y ∷ xs) ys zero x e = let is : y ≡ x = cc in (xs ++ ys, ap (λ (z : TlpView × ℕ). z ∷ (xs ++ ys)) is, refl)
+split (y ∷ xs) ys (suc n) x e = let (b, was, now) = split xs ys n x e in (b, ap (λ (l : List (TlpView × ℕ)). y ∷ l) was, ap (λ (l : List (TlpView × ℕ)). y ∷ l) now)
 
-taken_items : (e : Ends) (place : ℕ) (t : Packet) (mark : ℕ) (e' : Ends) → IsTakenAt e place t mark e' → IsTaken (items e) (marked_packet t mark) (items e')
+taken_items : (e : LaneEndsView) (place : ℕ) (t : TlpView) (mark : ℕ) (e' : LaneEndsView) → IsTakenAt e place t mark e' → IsTaken (items e) (marked_packet t mark) (items e')
 taken_items e place t mark e' h =
     let (behind, was, now) = split e.receiver.queue (on_the_way e) place (t, mark) h.item in
     record {
@@ -111,12 +111,12 @@ taken_items e place t mark e' h =
       passes = all_passed t (take place e.receiver.queue) (sym (first_at (take place e.receiver.queue) e.receiver.queue place (t, mark) h.item) ∙ h.takeable);
     }
 
-pub head_is : (q way : List (Packet × ℕ)) (x : Packet × ℕ) → slice_get q 0 ≡ Some x → q ++ way ≡ x ∷ remove (q ++ way) 0
+pub head_is : (q way : List (TlpView × ℕ)) (x : TlpView × ℕ) → slice_get q 0 ≡ Some x → q ++ way ≡ x ∷ remove (q ++ way) 0
 head_is [] way x e = absurd (cc)
-head_is (y ∷ q) way x e = let is : y ≡ x = cc in ap (λ (z : Packet × ℕ). z ∷ (q ++ way)) is
+head_is (y ∷ q) way x e = let is : y ≡ x = cc in ap (λ (z : TlpView × ℕ). z ∷ (q ++ way)) is
 
-first_items : (e : Ends) (t : Packet) (mark : ℕ) (e' : Ends) → IsTakenAt e 0 t mark e' → items e ≡ marked_packet t mark ∷ items e'
-first_items e t mark e' h = ap (map as_item) (head_is e.receiver.queue (on_the_way e) (t, mark) h.item) ∙ ap (λ (l : List (Packet × ℕ)). marked_packet t mark ∷ map as_item l) (sym h.content)
+first_items : (e : LaneEndsView) (t : TlpView) (mark : ℕ) (e' : LaneEndsView) → IsTakenAt e 0 t mark e' → items e ≡ marked_packet t mark ∷ items e'
+first_items e t mark e' h = ap (map as_item) (head_is e.receiver.queue (on_the_way e) (t, mark) h.item) ∙ ap (λ (l : List (TlpView × ℕ)). marked_packet t mark ∷ map as_item l) (sym h.content)
 
 -- ---- a submission
 
@@ -137,13 +137,13 @@ no_reply (ops.Cas a w x y) b bytes = refl
 port_of : (p : ℕ) → p * 256 / 256 ≡ p
 port_of p = omega arith
 
-request_is : (s : Requesting) (i : ℕ) (op : Op) (n : ℕ) (t : Packet) → IsReady s op n t → s.port ≡ suc i → op_of t ≡ Some op → marked_packet t n ≡ marked_request (suc i) t.tag s.next op
+request_is : (s : RequesterView) (i : ℕ) (op : Op) (n : ℕ) (t : TlpView) → IsReady s op n t → s.port ≡ suc i → op_of t ≡ Some op → marked_packet t n ≡ marked_request (suc i) t.tag s.next op
 request_is s i op n t r port asks = λ k. record {
-  requester = (ap (λ (u : Packet). u.requester / 256) r.request ∙ (port_of s.port ∙ port)) k;
+  requester = (ap (λ (u : TlpView). u.requester / 256) r.request ∙ (port_of s.port ∙ port)) k;
   tag = t.tag;
-  class = (ap (λ (u : Packet). class_of u.kind) r.request ∙ class_for op) k;
+  class = (ap (λ (u : TlpView). class_of u.kind) r.request ∙ class_for op) k;
   op = ap (λ (o : Option Op). unwrap_or o no_op) asks k;
-  reply = (ap (λ (u : Packet). reply_in u.kind u.body u.payload) r.request ∙ no_reply op _ _) k;
+  reply = (ap (λ (u : TlpView). reply_in u.kind u.body u.payload) r.request ∙ no_reply op _ _) k;
   mark = r.number k;
 }
 
@@ -153,9 +153,9 @@ submit_is f i op f' e = submits (suc i) op (record {
   has_up = there f.up i e.lane e.has_lane;
   tag = e.request.tag;
   requester = after_opened e.requester e.request;
-  opened = subst (λ (q : Requesting). IsOpened q e.request.tag op (after_opened e.requester e.request)) (sym own) (opened_is e.requester op e.number e.request e.sound e.is_prepared);
+  opened = subst (λ (q : RequesterView). IsOpened q e.request.tag op (after_opened e.requester e.request)) (sym own) (opened_is e.requester op e.number e.request e.sound e.is_prepared);
   now = ap whole_of e.now ∙ (λ k. record (whole_of f) { up = [] ∷ set_items f.up i e.lane_after _ lane_now k; requesters = unused ∷ slice_set f.requesters i (after_opened e.requester e.request) });
-}) (ap (λ (m : ℕ). Sub (suc i) m op (length f.memory.entries) ∷ []) (r.number ∙ sym (ap (λ (q : Requesting). q.next) own)))
+}) (ap (λ (m : ℕ). Sub (suc i) m op (length f.memory.entries) ∷ []) (r.number ∙ sym (ap (λ (q : RequesterView). q.next) own)))
   where
     r : IsReady e.requester op e.number e.request
     r = ready e.requester op e.number e.request e.is_prepared
@@ -166,7 +166,7 @@ submit_is f i op f' e = submits (suc i) op (record {
     lane_now : items e.lane_after ≡ get_or (map items f.up) i [] ++ marked_request (suc i) e.request.tag (get_or f.requesters i unused).next op ∷ []
     lane_now = entered_items e.lane e.request e.number e.lane_after e.entered
         ∙ (ap (λ (l : List MarkedPacket). l ++ marked_packet e.request e.number ∷ []) (sym (get_items f.up i e.lane e.has_lane))
-        ∙ ap (λ (x : MarkedPacket). get_or (map items f.up) i [] ++ x ∷ []) (request_is e.requester i op e.number e.request r e.own_port e.asks ∙ ap (λ (m : ℕ). marked_request (suc i) e.request.tag m op) (ap (λ (q : Requesting). q.next) (sym own))))
+        ∙ ap (λ (x : MarkedPacket). get_or (map items f.up) i [] ++ x ∷ []) (request_is e.requester i op e.number e.request r e.own_port e.asks ∙ ap (λ (m : ℕ). marked_request (suc i) e.request.tag m op) (ap (λ (q : RequesterView). q.next) (sym own))))
 
 -- ---- on the way
 
@@ -203,7 +203,7 @@ collect_is f i a f' e = collects (suc i) a.number a.reply (record {
   rest = items e.lane_after;
   first = get_items f.down i e.lane e.has_lane ∙ first_items e.lane e.packet e.mark e.lane_after e.taken;
   requester = after_finish e.requester e.packet;
-  closed = subst (λ (q : Requesting). IsClosed q e.packet.tag a.number (after_finish e.requester e.packet)) (sym (get_is f.requesters i e.requester unused e.has_requester)) done.closed;
+  closed = subst (λ (q : RequesterView). IsClosed q e.packet.tag a.number (after_finish e.requester e.packet)) (sym (get_is f.requesters i e.requester unused e.has_requester)) done.closed;
   replied = done.replied;
   now = ap whole_of e.now ∙ (λ k. record (whole_of f) { down = [] ∷ set_items f.down i e.lane_after (items e.lane_after) refl k; requesters = unused ∷ slice_set f.requesters i (after_finish e.requester e.packet) });
 }) refl
@@ -213,7 +213,7 @@ collect_is f i a f' e = collects (suc i) a.number a.reply (record {
 
 -- ---- a request acts
 
-written : (k : Kind) (b : Body) (dw : ℕ) (bytes : List ℕ) (op : Op) (c : Option Packet) → op_at k b dw bytes ≡ Some op → is_posted op ≡ true → unless_posted k c ≡ None
+written : (k : Kind) (b : Body) (dw : ℕ) (bytes : List ℕ) (op : Op) (c : Option TlpView) → op_at k b dw bytes ≡ Some op → is_posted op ≡ true → unless_posted k c ≡ None
 written kinds.MemoryWrite b dw bytes op c e p = refl
 written kinds.MemoryRead (bodies.Request a f l) dw bytes op c e p = absurd (let is : ops.Read a dw f l ≡ op = cc in let n : false ≡ true = ap is_posted is ∙ p in cc)
 written kinds.FetchAdd (bodies.Request a f l) dw bytes op c e p = absurd (let is : _ ≡ op = some_is e in let n : false ≡ true = ap is_posted is ∙ p in cc)
@@ -235,7 +235,7 @@ written kinds.Cas (bodies.Completion i s n l) dw bytes op c e p = absurd (cc)
 written kinds.Completion b dw bytes op c e p = absurd (cc)
 written kinds.CompletionData b dw bytes op c e p = absurd (cc)
 
-pub asked : (k : Kind) (b : Body) (dw : ℕ) (bytes : List ℕ) (op : Op) (c : Option Packet) → op_at k b dw bytes ≡ Some op → is_posted op ≡ false → unless_posted k c ≡ c
+pub asked : (k : Kind) (b : Body) (dw : ℕ) (bytes : List ℕ) (op : Op) (c : Option TlpView) → op_at k b dw bytes ≡ Some op → is_posted op ≡ false → unless_posted k c ≡ c
 asked kinds.MemoryWrite (bodies.Request a f l) dw bytes op c e p = absurd (let is : _ ≡ op = some_is e in let n : true ≡ false = ap is_posted is ∙ p in cc)
   where
     some_is : {x y : Op} → Some x ≡ Some y → x ≡ y
@@ -257,20 +257,20 @@ never_done None (ops.FetchAdd a w x) old p e = cc
 never_done None (ops.Swap a w x) old p e = cc
 never_done None (ops.Cas a w x y) old p e = cc
 
-completed : (t : Packet) (r : Reply) → r ≢ replies.Done → (c : Packet) × (completion_for t r ≡ Some c)
+completed : (t : TlpView) (r : Reply) → r ≢ replies.Done → (c : TlpView) × (completion_for t r ≡ Some c)
 completed t replies.Done n = absurd (n refl)
 completed t (replies.Data bytes) n = (_, refl)
 completed t replies.Unsupported n = (_, refl)
 completed t replies.Aborted n = (_, refl)
 
-entered_for : (t : Packet) (mark : ℕ) (op : Op) (r : Reply) → op_of t ≡ Some op → (is_posted op ≡ false → r ≢ replies.Done) → (b : Bool) → is_posted op ≡ b
+entered_for : (t : TlpView) (mark : ℕ) (op : Op) (r : Reply) → op_of t ≡ Some op → (is_posted op ≡ false → r ≢ replies.Done) → (b : Bool) → is_posted op ≡ b
     → map as_item (are_entered (completion_of t r) mark) ≡ completions_for (record (marked_packet t mark) { op = op }) r
 entered_for t mark op r asks n true p =
-    ap (λ (c : Option Packet). map as_item (are_entered c mark)) (written t.kind t.body t.length t.payload op (completion_for t r) asks p) ∙ rw p refl
+    ap (λ (c : Option TlpView). map as_item (are_entered c mark)) (written t.kind t.body t.length t.payload op (completion_for t r) asks p) ∙ rw p refl
 entered_for t mark op r asks n false p =
     let (c, is) = completed t r (n p) in
     let made : completion_of t r ≡ Some c = asked t.kind t.body t.length t.payload op (completion_for t r) asks p ∙ is in
-    ap (λ (c : Option Packet). map as_item (are_entered c mark)) made ∙ (ap (λ (x : MarkedPacket). x ∷ []) (completion_is t c mark r made) ∙ rw p refl)
+    ap (λ (c : Option TlpView). map as_item (are_entered c mark)) made ∙ (ap (λ (x : MarkedPacket). x ∷ []) (completion_is t c mark r made) ∙ rw p refl)
 
 sized_as : (op : Op) (r : Reply) → IsSizedFor op r → FitsSize (count_of op) r
 sized_as op (replies.Data bytes) h = h
@@ -309,7 +309,7 @@ module _ (f : Fabric) (place : ℕ) (f' : Fabric) (e : IsServed f place f') (is_
   lane_now : items e.completion_lane ≡ items f.outward ++ completions_for x (reply_after g h x.op)
   lane_now = ap (map as_item) e.entered ∙ (map-append as_item (content f.outward) (are_entered (completion_to f.memory e.packet) e.mark)
       ∙ ap (λ (l : List MarkedPacket). items f.outward ++ l)
-      (ap (λ (c : Option Packet). map as_item (are_entered c e.mark)) completion_made
+      (ap (λ (c : Option TlpView). map as_item (are_entered c e.mark)) completion_made
       ∙ (entered_for e.packet e.mark e.op reply e.asks (λ p. never_done (refusal f.memory.block f.memory.base (length (bytes_of f.memory)) e.op) e.op _ p) (is_posted e.op) refl ∙ back)))
 
   pub serve_is : Step (whole_of f) (whole_of f') []
@@ -318,20 +318,20 @@ module _ (f : Fabric) (place : ℕ) (f' : Fabric) (e : IsServed f place f') (is_
     rest = items e.lane_after;
     taken = taken_items f.inward place e.packet e.mark e.lane_after e.taken;
     sized = subst (λ (o : Op). FitsSize (count_of o) (reply_after g h o)) (sym op_is) (unfold reply_after in sized_as e.op _ is_sized);
-    now = ap whole_of e.now ∙ (ap (λ (m : State). whole_of (record f { memory = m; inward = e.lane_after; outward = e.completion_lane })) grows
+    now = ap whole_of e.now ∙ (ap (λ (m : MemoryView). whole_of (record f { memory = m; inward = e.lane_after; outward = e.completion_lane })) grows
         ∙ (λ k. record (whole_of f) { history = h ++ record { requester = e.packet.requester / 256; number = e.mark; op = sym op_is k } ∷ []; inward = items e.lane_after; outward = lane_now k }));
   }) refl
 
 -- ---- calls of links
 
-pub link_up : (f : Fabric) (i : ℕ) (lanes : List Ends) → IsLinked f.up i lanes → Step (whole_of f) (whole_of (record f { up = lanes })) []
-link_up f i lanes e = links (ap (λ (l : List Ends). whole_of (record f { up = l })) e.now ∙ (λ k. record (whole_of f) { up = [] ∷ kept_items f.up i e.lane e.lane_after e.has_lane (ap (map as_item) e.kept) k })) refl
+pub link_up : (f : Fabric) (i : ℕ) (lanes : List LaneEndsView) → IsLinked f.up i lanes → Step (whole_of f) (whole_of (record f { up = lanes })) []
+link_up f i lanes e = links (ap (λ (l : List LaneEndsView). whole_of (record f { up = l })) e.now ∙ (λ k. record (whole_of f) { up = [] ∷ kept_items f.up i e.lane e.lane_after e.has_lane (ap (map as_item) e.kept) k })) refl
 
-pub link_down : (f : Fabric) (i : ℕ) (lanes : List Ends) → IsLinked f.down i lanes → Step (whole_of f) (whole_of (record f { down = lanes })) []
-link_down f i lanes e = links (ap (λ (l : List Ends). whole_of (record f { down = l })) e.now ∙ (λ k. record (whole_of f) { down = [] ∷ kept_items f.down i e.lane e.lane_after e.has_lane (ap (map as_item) e.kept) k })) refl
+pub link_down : (f : Fabric) (i : ℕ) (lanes : List LaneEndsView) → IsLinked f.down i lanes → Step (whole_of f) (whole_of (record f { down = lanes })) []
+link_down f i lanes e = links (ap (λ (l : List LaneEndsView). whole_of (record f { down = l })) e.now ∙ (λ k. record (whole_of f) { down = [] ∷ kept_items f.down i e.lane e.lane_after e.has_lane (ap (map as_item) e.kept) k })) refl
 
-pub link_in : (f : Fabric) (lane : Ends) → content lane ≡ content f.inward → Step (whole_of f) (whole_of (record f { inward = lane })) []
+pub link_in : (f : Fabric) (lane : LaneEndsView) → content lane ≡ content f.inward → Step (whole_of f) (whole_of (record f { inward = lane })) []
 link_in f lane e = links (λ k. record (whole_of f) { inward = ap (map as_item) e k }) refl
 
-pub link_out : (f : Fabric) (lane : Ends) → content lane ≡ content f.outward → Step (whole_of f) (whole_of (record f { outward = lane })) []
+pub link_out : (f : Fabric) (lane : LaneEndsView) → content lane ≡ content f.outward → Step (whole_of f) (whole_of (record f { outward = lane })) []
 link_out f lane e = links (λ k. record (whole_of f) { outward = ap (map as_item) e k }) refl

@@ -3,7 +3,7 @@ use Rattle.std.proofs.Common.{◌≡◌, ◌≢◌, ℕ, ◌+◌, Bool, true, fa
 use Rattle.std.proofs.lemmas.List.{map-append}
 use Rattle.dllp_core.specs.declared.packet.Class.TheVariants as classes
 use Rattle.fabric_laws.specs.Lists.{Each, Pairs, one_if}
-use Rattle.fabric_laws.specs.Whole.{Entry, MarkedPacket, Op, Class, class_of_op, is_posted, View, Requesting, size_at, path, entry_of, Extent}
+use Rattle.fabric_laws.specs.Whole.{Entry, MarkedPacket, Op, Class, class_of_op, is_posted, View, RequesterView, size_at, path, entry_of, Extent}
 use Rattle.history_check.specs.Trace.{is_request}
 use Rattle.fabric_laws.specs.Sound.{times, is_answer, answers, InOrder, IsRequest, IsRequestOf, IsCompletion, IsCompletionFor, IsTagged, IsAskedBy, IsSized, IsReplyFor, SoundAt}
 use Rattle.fabric_laws.proofs.Lists.{each_append, each_split, each_weaken, each_always, each_insert, each_remove, each_overtake, pairs_insert, pairs_overtake, count_insert, count_push, count_map_insert, count_map_push}
@@ -24,7 +24,7 @@ pub passed_in_order : (i : ℕ) (x : MarkedPacket) (before : List MarkedPacket) 
 passed_in_order i x [] r p = tt
 passed_in_order i x (a ∷ as') r p = ((λ own its posted_a. absurd (let n : is_posted a.op ≡ false = passed a r.0 p.0 in let y : is_posted a.op ≡ true = posted_a in cc)), passed_in_order i x as' r.1 p.1)
 
-module _ (i : ℕ) (g : Extent) (h : List Entry) (w o d before behind : List MarkedPacket) (q : Requesting) (x : MarkedPacket) where
+module _ (i : ℕ) (g : Extent) (h : List Entry) (w o d before behind : List MarkedPacket) (q : RequesterView) (x : MarkedPacket) where
   abbrev was_up : View
   was_up = record { extent = g; history = h; inward = w; outward = o; up = before ++ x ∷ behind; down = d; requester = q }
 
@@ -108,7 +108,7 @@ module _ (j : ℕ) (v : View) (x : MarkedPacket) (ne : x.requester ≢ j) where
 
 -- a completion
 
-module _ (i : ℕ) (g : Extent) (h : List Entry) (w u d before behind : List MarkedPacket) (q : Requesting) (c : MarkedPacket) where
+module _ (i : ℕ) (g : Extent) (h : List Entry) (w u d before behind : List MarkedPacket) (q : RequesterView) (c : MarkedPacket) where
   abbrev was_out : View
   was_out = record { extent = g; history = h; inward = w; outward = before ++ c ∷ behind; up = u; down = d; requester = q }
 

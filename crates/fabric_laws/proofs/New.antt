@@ -2,7 +2,7 @@
 use Rattle.std.proofs.Common.{◌≡◌, ℕ, [], length, refl, sym, ap, ◌∙◌, subst, arith, Option, Some, None}
 use Rattle.std.specs.Prelude.{slice_get}
 use Rattle.fabric_laws.specs.Lists.{Each}
-use Rattle.fabric_laws.specs.Whole.{Entry, Requesting, Whole, View, view, path, requester_of, open_number, Extent}
+use Rattle.fabric_laws.specs.Whole.{Entry, RequesterView, Whole, View, view, path, requester_of, open_number, Extent}
 use Rattle.history_check.specs.Trace.{is_request}
 use Rattle.fabric_laws.specs.Sound.{Sound, SoundAt, answers, served, is_answer}
 use Rattle.fabric_laws.specs.Trace.{Belongs}
@@ -11,14 +11,14 @@ use Rattle.fabric_laws.specs.New.{IsNew}
 use Rattle.fabric_laws.proofs.Lists.{count_nil}
 use Rattle.fabric_laws.proofs.Numbers.{not_counted}
 
-bare : Extent → Requesting → View
+bare : Extent → RequesterView → View
 bare g q = record { extent = g; history = []; inward = []; outward = []; up = []; down = []; requester = q }
 
 bare_view : (p : Whole) (i : ℕ) → IsNew p → view p i ≡ bare p.extent (requester_of p i)
 unfolding bare
 bare_view p i n = λ k. record { extent = p.extent; history = n.history k; inward = n.inward k; outward = n.outward k; up = n.up i k; down = n.down i k; requester = requester_of p i }
 
-bare_sound : (g : Extent) (i : ℕ) (q : Requesting) → q.next ≡ 0 → ((t : ℕ) → open_number q t ≡ None) → SoundAt i (bare g q)
+bare_sound : (g : Extent) (i : ℕ) (q : RequesterView) → q.next ≡ 0 → ((t : ℕ) → open_number q t ≡ None) → SoundAt i (bare g q)
 unfolding bare
 bare_sound g i q z none = record {
   whole = λ k. count_nil (is_request i k) ∙ sym (not_counted q.next k (omega arith));
@@ -54,5 +54,5 @@ new_belongs p n = record {
     nothing : (i : ℕ) → length (made i []) ≡ 0
     nothing i = refl
 
-    bare_path : (g : Extent) (i : ℕ) (q : Requesting) → Each (λ (e : Entry). e.requester ≡ i → slice_get (made i []) e.number ≡ Some e.op) (path (bare g q))
+    bare_path : (g : Extent) (i : ℕ) (q : RequesterView) → Each (λ (e : Entry). e.requester ≡ i → slice_get (made i []) e.number ≡ Some e.op) (path (bare g q))
     bare_path g i q = unfold bare in tt

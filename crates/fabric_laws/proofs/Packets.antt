@@ -5,7 +5,7 @@ use Rattle.tlp_core.specs.declared.packet.Kind.{Kind}
 use Rattle.tlp_core.specs.declared.packet.Kind.TheVariants as kinds
 use Rattle.tlp_core.specs.declared.packet.Body.{Body}
 use Rattle.tlp_core.specs.declared.packet.Body.TheVariants as bodies
-use Rattle.tlp_core.specs.Packet.{Packet}
+use Rattle.tlp_core.specs.TlpView.{TlpView}
 use Rattle.tlp_core.specs.Operation.{op_of, op_at}
 use Rattle.seq_memory.specs.declared.Reply.{Reply}
 use Rattle.seq_memory.specs.declared.Reply.TheVariants as replies
@@ -29,25 +29,25 @@ class_at kinds.FetchAdd (bodies.Completion c s n l) dw bytes op e = absurd (cc)
 class_at kinds.Swap (bodies.Completion c s n l) dw bytes op e = absurd (cc)
 class_at kinds.Cas (bodies.Completion c s n l) dw bytes op e = absurd (cc)
 
-pub request_is : (t : Packet) (mark : ℕ) (op : Op) → op_of t ≡ Some op → IsRequest (marked_packet t mark)
+pub request_is : (t : TlpView) (mark : ℕ) (op : Op) → op_of t ≡ Some op → IsRequest (marked_packet t mark)
 request_is t mark op e = class_at t.kind t.body t.length t.payload op e
 
-carries : (t c : Packet) (mark : ℕ) (reply : Reply) → completion_for t reply ≡ Some c → marked_packet c mark ≡ marked_completion (marked_packet t mark) reply
+carries : (t c : TlpView) (mark : ℕ) (reply : Reply) → completion_for t reply ≡ Some c → marked_packet c mark ≡ marked_completion (marked_packet t mark) reply
 carries t c mark replies.Done e = absurd (cc)
-carries t c mark (replies.Data bytes) e = let P : Packet → Type 0 = λ x. marked_packet x mark ≡ marked_completion (marked_packet t mark) (replies.Data bytes) in let is : _ ≡ c = some_is e in subst P is refl
+carries t c mark (replies.Data bytes) e = let P : TlpView → Type 0 = λ x. marked_packet x mark ≡ marked_completion (marked_packet t mark) (replies.Data bytes) in let is : _ ≡ c = some_is e in subst P is refl
   where
-    some_is : {x y : Packet} → Some x ≡ Some y → x ≡ y
+    some_is : {x y : TlpView} → Some x ≡ Some y → x ≡ y
     some_is h = cc
-carries t c mark replies.Unsupported e = let P : Packet → Type 0 = λ x. marked_packet x mark ≡ marked_completion (marked_packet t mark) replies.Unsupported in subst P (some_is e) refl
+carries t c mark replies.Unsupported e = let P : TlpView → Type 0 = λ x. marked_packet x mark ≡ marked_completion (marked_packet t mark) replies.Unsupported in subst P (some_is e) refl
   where
-    some_is : {x y : Packet} → Some x ≡ Some y → x ≡ y
+    some_is : {x y : TlpView} → Some x ≡ Some y → x ≡ y
     some_is h = cc
-carries t c mark replies.Aborted e = let P : Packet → Type 0 = λ x. marked_packet x mark ≡ marked_completion (marked_packet t mark) replies.Aborted in subst P (some_is e) refl
+carries t c mark replies.Aborted e = let P : TlpView → Type 0 = λ x. marked_packet x mark ≡ marked_completion (marked_packet t mark) replies.Aborted in subst P (some_is e) refl
   where
-    some_is : {x y : Packet} → Some x ≡ Some y → x ≡ y
+    some_is : {x y : TlpView} → Some x ≡ Some y → x ≡ y
     some_is h = cc
 
-pub not_written : (k : Kind) (o : Option Packet) (c : Packet) → unless_posted k o ≡ Some c → o ≡ Some c
+pub not_written : (k : Kind) (o : Option TlpView) (c : TlpView) → unless_posted k o ≡ Some c → o ≡ Some c
 not_written kinds.MemoryWrite o c e = absurd (cc)
 not_written kinds.MemoryRead o c e = e
 not_written kinds.FetchAdd o c e = e
@@ -57,5 +57,5 @@ not_written kinds.Completion o c e = e
 not_written kinds.CompletionData o c e = e
 
 -- the completion of a request, as an item
-pub completion_is : (t c : Packet) (mark : ℕ) (reply : Reply) → completion_of t reply ≡ Some c → marked_packet c mark ≡ marked_completion (marked_packet t mark) reply
+pub completion_is : (t c : TlpView) (mark : ℕ) (reply : Reply) → completion_of t reply ≡ Some c → marked_packet c mark ≡ marked_completion (marked_packet t mark) reply
 completion_is t c mark reply e = carries t c mark reply (not_written t.kind (completion_for t reply) c e)

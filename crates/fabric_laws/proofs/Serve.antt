@@ -5,7 +5,7 @@ use mathlib.Core.Logic.{dite}
 use native.Mathlib.Decide.{ℕ_discrete}
 use Rattle.dllp_core.specs.declared.packet.Class.TheVariants as classes
 use Rattle.fabric_laws.specs.Lists.{Each, Pairs, one_if}
-use Rattle.fabric_laws.specs.Whole.{Entry, MarkedPacket, Op, reply_after, is_posted, View, Requesting, open_number, count_of, FitsSize, size_at, path, entry_of, completions_for, marked_completion, Extent, Reply}
+use Rattle.fabric_laws.specs.Whole.{Entry, MarkedPacket, Op, reply_after, is_posted, View, RequesterView, open_number, count_of, FitsSize, size_at, path, entry_of, completions_for, marked_completion, Extent, Reply}
 use Rattle.history_check.specs.Trace.{is_request}
 use Rattle.fabric_laws.specs.Sound.{times, is_answer, answers, served, InOrder, IsRequest, IsCompletion, IsTagged, IsAskedBy, IsSized, IsReply, IsReplyFor, SoundAt}
 use Rattle.fabric_laws.proofs.Lists.{each_append, each_split, each_weaken, each_remove, each_overtake, pairs_overtake, count_append, count_nil, count_one, count_push, count_map_insert, get_before, get_seam, take_before, take_all, get_within}
@@ -45,7 +45,7 @@ none_for x r p = rw p
 one_for : (x : MarkedPacket) (r : Reply) → is_posted x.op ≡ false → completions_for x r ≡ marked_completion x r ∷ []
 one_for x r p = rw p
 
-older_reply : (g : Extent) (i : ℕ) (q : Requesting) (h : List Entry) (e : Entry) (c : MarkedPacket) → IsReply g i q h c → IsReply g i q (h ++ e ∷ []) c
+older_reply : (g : Extent) (i : ℕ) (q : RequesterView) (h : List Entry) (e : Entry) (c : MarkedPacket) → IsReply g i q h c → IsReply g i q (h ++ e ∷ []) c
 older_reply g i q h e c r =
     let within : r.point < length h = get_within h r.point (record { requester = i; number = r.number; op = r.op }) r.acted in
     record {
@@ -58,7 +58,7 @@ older_reply g i q h e c r =
       replied = r.replied ∙ ap (λ (l : List Entry). reply_after g l r.op) (sym (take_before h (e ∷ []) r.point (omega arith)));
     }
 
-module _ (i : ℕ) (g : Extent) (h : List Entry) (o u d before behind : List MarkedPacket) (q : Requesting) (x : MarkedPacket) where
+module _ (i : ℕ) (g : Extent) (h : List Entry) (o u d before behind : List MarkedPacket) (q : RequesterView) (x : MarkedPacket) where
   abbrev was : View
   was = record { extent = g; history = h; inward = before ++ x ∷ behind; outward = o; up = u; down = d; requester = q }
 

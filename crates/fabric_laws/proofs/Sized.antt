@@ -4,14 +4,14 @@ use Rattle.std.specs.Prelude.{IsSomeAnd, option_and_then, is_some, not, ◌||◌
 use Rattle.tlp_core.specs.declared.fault.TlpFault.{TlpFault}
 use Rattle.tlp_core.specs.declared.operation.Op.{Op}
 use Rattle.tlp_core.specs.declared.operation.Op.TheVariants as ops
-use Rattle.tlp_core.specs.Packet.{Packet}
+use Rattle.tlp_core.specs.TlpView.{TlpView}
 use Rattle.tlp_core.specs.Operation.{op_of, op_fault, is_posted, address_of, count_of}
 use Rattle.seq_memory.specs.declared.Refusal.{Refusal}
 use Rattle.seq_memory.specs.declared.Refusal.TheVariants as refusals
 use Rattle.seq_memory.specs.declared.Reply.{Reply}
 use Rattle.seq_memory.specs.declared.Reply.TheVariants as replies
 use Rattle.seq_memory.specs.Step.{answer, answer_by, read_back, refusal, bytes_at, is_in_block, is_inside, IsSizedFor}
-use Rattle.seq_memory.specs.History.{State, bytes_of}
+use Rattle.seq_memory.specs.History.{MemoryView, bytes_of}
 use Rattle.completer_core.specs.Completion.{completion_for, completion_of}
 use Rattle.completer_core.specs.Serving.{completion_to}
 use Rattle.fabric_laws.proofs.Events.{asked}
@@ -22,15 +22,15 @@ no_fault None b c e = refl
 no_fault (Some f) b c e = absurd (cc)
 
 -- a completion's payload is the data of its reply
-carried : (t : Packet) (op : Op) (r : Reply) → op_of t ≡ Some op → is_posted op ≡ false → IsSomeAnd (completion_of t r) (λ c. (length c.payload ≡ count_of op) × (4 * c.length ≡ length c.payload)) → IsSizedFor op r
+carried : (t : TlpView) (op : Op) (r : Reply) → op_of t ≡ Some op → is_posted op ≡ false → IsSomeAnd (completion_of t r) (λ c. (length c.payload ≡ count_of op) × (4 * c.length ≡ length c.payload)) → IsSizedFor op r
 carried t op (replies.Data bytes) e p h =
-    (subst (λ (o : Option Packet). IsSomeAnd o (λ c. (length c.payload ≡ count_of op) × (4 * c.length ≡ length c.payload))) (asked t.kind t.body t.length t.payload op (completion_for t (replies.Data bytes)) e p) h).0
+    (subst (λ (o : Option TlpView). IsSomeAnd o (λ c. (length c.payload ≡ count_of op) × (4 * c.length ≡ length c.payload))) (asked t.kind t.body t.length t.payload op (completion_for t (replies.Data bytes)) e p) h).0
 carried t op replies.Done e p h = tt
 carried t op replies.Unsupported e p h = tt
 carried t op replies.Aborted e p h = tt
 
-module _ (law : (s : State) (t : Packet) (op : Op) → op_of t ≡ Some op → op_fault op ≡ None → is_posted op ≡ false → refusal s.block s.base s.size op ≡ None → length (bytes_of s) ≡ s.size → IsSomeAnd (completion_to s t) (λ c. (length c.payload ≡ count_of op) × (4 * c.length ≡ length c.payload)))
-    (s : State) (t : Packet) (op : Op) (e : op_of t ≡ Some op) (whole : length (bytes_of s) ≡ s.size) where
+module _ (law : (s : MemoryView) (t : TlpView) (op : Op) → op_of t ≡ Some op → op_fault op ≡ None → is_posted op ≡ false → refusal s.block s.base s.size op ≡ None → length (bytes_of s) ≡ s.size → IsSomeAnd (completion_to s t) (λ c. (length c.payload ≡ count_of op) × (4 * c.length ≡ length c.payload)))
+    (s : MemoryView) (t : TlpView) (op : Op) (e : op_of t ≡ Some op) (whole : length (bytes_of s) ≡ s.size) where
   abbrev old : List ℕ
   old = bytes_at (bytes_of s) (address_of op - s.base) (count_of op)
 
@@ -39,7 +39,7 @@ module _ (law : (s : State) (t : Packet) (op : Op) → op_of t ≡ Some op → o
 
   served : is_posted op ≡ false → refusal s.block s.base (length (bytes_of s)) op ≡ None → IsSizedFor op (answer s.block s.base (bytes_of s) op)
   served p r = carried t op (answer s.block s.base (bytes_of s) op) e p
-      (subst (λ (o : Option Packet). IsSomeAnd o (λ c. (length c.payload ≡ count_of op) × (4 * c.length ≡ length c.payload))) made
+      (subst (λ (o : Option TlpView). IsSomeAnd o (λ c. (length c.payload ≡ count_of op) × (4 * c.length ≡ length c.payload))) made
       (law s t op e (no_fault (op_fault op) (not (is_in_block s.block (address_of op) (count_of op))) (is_inside s.base (length (bytes_of s)) (address_of op) (count_of op)) r) p (ap (λ (n : ℕ). refusal s.block s.base n op) (sym whole) ∙ r) whole))
 
   by_refusal : (r : Option Refusal) → refusal s.block s.base (length (bytes_of s)) op ≡ r → (b : Bool) → is_posted op ≡ b → IsSizedFor op (answer s.block s.base (bytes_of s) op)

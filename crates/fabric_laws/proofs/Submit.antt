@@ -5,7 +5,7 @@ use Rattle.std.proofs.lemmas.List.{map-append}
 use mathlib.Core.Logic.{dite}
 use native.Mathlib.Decide.{ℕ_discrete}
 use Rattle.fabric_laws.specs.Lists.{Each, Pairs, one_if}
-use Rattle.fabric_laws.specs.Whole.{Entry, MarkedPacket, Op, is_posted, View, Requesting, open_number, size_at, path, entry_of, marked_request}
+use Rattle.fabric_laws.specs.Whole.{Entry, MarkedPacket, Op, is_posted, View, RequesterView, open_number, size_at, path, entry_of, marked_request}
 use Rattle.history_check.specs.Trace.{is_request}
 use Rattle.fabric_laws.specs.Sound.{times, answers, served, InOrder, IsRequestOf, IsTagged, IsAskedBy, IsSized, IsReply, IsReplyFor, SoundAt}
 use Rattle.fabric_laws.specs.Steps.{IsOpened}
@@ -13,7 +13,7 @@ use Rattle.fabric_laws.proofs.Lists.{each_append, each_weaken, pairs_push, count
 use Rattle.fabric_laws.proofs.Numbers.{below_next, same, path_times, numbers_below, not_counted}
 
 -- of an open tag: it was, or it is the new one
-pub data Opening (q : Requesting) (tag : ℕ) (op : Op) (q' : Requesting) (t : ℕ) : Type 0 where
+pub data Opening (q : RequesterView) (tag : ℕ) (op : Op) (q' : RequesterView) (t : ℕ) : Type 0 where
   old : open_number q' t ≡ open_number q t → Opening q tag op q' t
   new : t ≡ tag → is_posted op ≡ false → Opening q tag op q' t
 
@@ -21,13 +21,13 @@ test_of : (b : Bool) → (b ≡ true) ⊎ (b ≡ false)
 test_of true = inl refl
 test_of false = inr refl
 
-pub opening : (q : Requesting) (tag : ℕ) (op : Op) (q' : Requesting) → IsOpened q tag op q' → (t : ℕ) → Opening q tag op q' t
+pub opening : (q : RequesterView) (tag : ℕ) (op : Op) (q' : RequesterView) → IsOpened q tag op q' → (t : ℕ) → Opening q tag op q' t
 opening q tag op q' o t = ⊎_elim
     (λ (p : is_posted op ≡ true). old (o.posted p t))
     (λ (n : is_posted op ≡ false). dite (ℕ_discrete t tag) (λ e. new e n) (λ ne. old (o.others t ne)))
     (test_of (is_posted op))
 
-module _ (i tag : ℕ) (op : Op) (v : View) (q' : Requesting) (s : SoundAt i v) (o : IsOpened v.requester tag op q') where
+module _ (i tag : ℕ) (op : Op) (v : View) (q' : RequesterView) (s : SoundAt i v) (o : IsOpened v.requester tag op q') where
   abbrev x : MarkedPacket
   x = marked_request i tag v.requester.next op
 

@@ -11,7 +11,7 @@ use Rattle.history_check.specs.declared.Record.TheVariants.{Sub}
 use Rattle.history_check.specs.Trace.{is_request, submissions, IsLegal}
 use Rattle.fabric_laws.specs.Lists.{Each, one_if, count}
 use Rattle.fabric_laws.specs.ListFacts.{each_at, get_before, get_seam}
-use Rattle.fabric_laws.specs.Whole.{Op, no_op, Entry, MarkedPacket, Requesting, View, Whole, view, path, up_of, requester_of, entry_of, marked_request, Reply}
+use Rattle.fabric_laws.specs.Whole.{Op, no_op, Entry, MarkedPacket, RequesterView, View, Whole, view, path, up_of, requester_of, entry_of, marked_request, Reply}
 use Rattle.fabric_laws.specs.Sound.{times, Sound, SoundAt}
 use Rattle.fabric_laws.specs.Steps.{IsOpened, IsSubmit, IsCollect, Step, submits, forwards, serves, returns, collects, links}
 use Rattle.fabric_laws.specs.Trace.{IsMade}
@@ -110,7 +110,7 @@ only_one i v ops others s m n = same_list ops others (m.spent ∙ sym n.spent) (
 
 -- ---- what a step adds
 
-own_submission : (i tag : ℕ) (op : Op) (v : View) (q' : Requesting) (ops : List Op) → SoundAt i v → IsOpened v.requester tag op q' → IsMade i v ops →
+own_submission : (i tag : ℕ) (op : Op) (v : View) (q' : RequesterView) (ops : List Op) → SoundAt i v → IsOpened v.requester tag op q' → IsMade i v ops →
     IsMade i (record v { up = v.up ++ marked_request i tag v.requester.next op ∷ []; requester = q' }) (ops ++ op ∷ [])
 own_submission i tag op v q' ops s o m = record {
   spent = length_push ops op ∙ (ap (λ (n : ℕ). n + 1) m.spent ∙ sym o.next);
@@ -153,7 +153,7 @@ collect_adds p i number reply p' j ops e m = subst (λ (q : Whole). IsMade j (vi
 
 silent_adds : (p p' : Whole) (j : ℕ) (ops : List Op) → Silent p p' → IsMade j (view p j) ops → IsMade j (view p' j) ops
 silent_adds p p' j ops c m = record {
-  spent = m.spent ∙ ap (λ (q : Requesting). q.next) (sym (c.requesters j));
+  spent = m.spent ∙ ap (λ (q : RequesterView). q.next) (sym (c.requesters j));
   each = c.paths j (λ (e : Entry). e.requester ≡ j → slice_get ops e.number ≡ Some e.op) (λ e ne own. absurd (ne own)) m.each;
 }
 

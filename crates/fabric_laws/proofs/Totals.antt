@@ -6,7 +6,7 @@ use mathlib.Core.Logic.{dite}
 use Rattle.history_check.specs.Trace.{is_request}
 use Rattle.fabric_laws.specs.Lists.{Each, one_if}
 use Rattle.fabric_laws.specs.ListFacts.{each_at, get_before, count_nil}
-use Rattle.fabric_laws.specs.Whole.{Entry, Requesting, Whole, view, path, up_of, requester_of, entry_of, unused}
+use Rattle.fabric_laws.specs.Whole.{Entry, RequesterView, Whole, view, path, up_of, requester_of, entry_of, unused}
 use Rattle.fabric_laws.specs.Sound.{times, Sound}
 use Rattle.fabric_laws.specs.Trace.{submitted_by}
 use Rattle.fabric_laws.proofs.Lists.{count_cons}
@@ -86,19 +86,19 @@ all_counted bound count (e ∷ es) h =
 
 -- ---- the requesters
 
-total_next : (qs : List Requesting) → sum_below (λ i. (get_or qs i unused).next) (length qs) ≡ submitted_by qs
+total_next : (qs : List RequesterView) → sum_below (λ i. (get_or qs i unused).next) (length qs) ≡ submitted_by qs
 total_next [] = refl
 total_next (q ∷ qs) = ap (λ (x : ℕ). q.next + x) (total_next qs)
 
-past_end : (qs : List Requesting) (i : ℕ) → length qs ≤ i → get_or qs i unused ≡ unused
+past_end : (qs : List RequesterView) (i : ℕ) → length qs ≤ i → get_or qs i unused ≡ unused
 past_end [] i h = refl
 past_end (q ∷ qs) zero h = absurd (omega arith)
 past_end (q ∷ qs) (suc i) h = past_end qs i (omega arith)
 
-known : (qs : List Requesting) (i m : ℕ) → m < (get_or qs i unused).next → i < length qs
+known : (qs : List RequesterView) (i m : ℕ) → m < (get_or qs i unused).next → i < length qs
 known qs i m l = dite (dec_lt i (length qs))
     (λ (b : i < length qs). b)
-    (λ no. absurd (let none : m < unused.next = subst (λ (q : Requesting). m < q.next) (past_end qs i (omega arith)) l in omega arith))
+    (λ no. absurd (let none : m < unused.next = subst (λ (q : RequesterView). m < q.next) (past_end qs i (omega arith)) l in omega arith))
 
 pub quiet_total : (p : Whole) → Sound p → p.inward ≡ [] → ((i : ℕ) → up_of p i ≡ []) → length p.history ≡ submitted_by p.requesters
 quiet_total p s a b =

@@ -1,30 +1,30 @@
 -- Each event on the parts of a fabric: what it finds, and what it leaves.
 use Rattle.std.specs.Prelude.{ℕ, ◌≡◌, ◌/◌, suc, true, List, [], ◌∷◌, ◌++◌, remove, slice_get, slice_set, Option, Some, None, Ok}
 use Rattle.tlp_core.specs.declared.operation.Op.{Op}
-use Rattle.tlp_core.specs.Packet.{Packet}
+use Rattle.tlp_core.specs.TlpView.{TlpView}
 use Rattle.tlp_core.specs.Operation.{op_of}
 use Rattle.completer_core.specs.Serving.{completion_to, after_serving}
 use Rattle.requester_core.specs.declared.requester.Answer.{Answer}
-use Rattle.requester_core.specs.Requesting.{Requesting, prepared, after_opened, finished, after_finish, IsSound}
+use Rattle.requester_core.specs.RequesterView.{RequesterView, prepared, after_opened, finished, after_finish, IsSound}
 use Rattle.vc_queue.specs.Queue.{is_takeable}
-use Rattle.lane_ends.specs.Steps.{Ends}
+use Rattle.lane_ends.specs.Steps.{LaneEndsView}
 use Rattle.lane_core.specs.Calls.{content}
 use Rattle.fabric_laws.specs.Fabric.{Fabric}
 
 -- ---- calls of a lane, by its content
 
 -- a packet was entered
-abbrev pub IsEntered : Ends → Packet → ℕ → Ends → Type 0
+abbrev pub IsEntered : LaneEndsView → TlpView → ℕ → LaneEndsView → Type 0
 IsEntered e t mark e' = content e' ≡ content e ++ (t, mark) ∷ []
 
 -- the packet of a takeable place was taken
-pub record IsTakenAt (e : Ends) (place : ℕ) (t : Packet) (mark : ℕ) (e' : Ends) : Type 0 where
+pub record IsTakenAt (e : LaneEndsView) (place : ℕ) (t : TlpView) (mark : ℕ) (e' : LaneEndsView) : Type 0 where
   pub takeable : is_takeable e.receiver.queue place ≡ true
   pub item : slice_get e.receiver.queue place ≡ Some (t, mark)
   pub content : content e' ≡ remove (content e) place
 
 -- a completion was entered, if there is one
-abbrev pub are_entered : Option Packet → ℕ → List (Packet × ℕ)
+abbrev pub are_entered : Option TlpView → ℕ → List (TlpView × ℕ)
 are_entered None mark = []
 are_entered (Some c) mark = (c, mark) ∷ []
 
@@ -32,11 +32,11 @@ are_entered (Some c) mark = (c, mark) ∷ []
 
 -- the requester of port i + 1 submits an operation
 pub record IsSubmitted (f : Fabric) (i : ℕ) (op : Op) (f' : Fabric) : Type 0 where
-  pub requester : Requesting
-  pub lane : Ends
-  pub lane_after : Ends
+  pub requester : RequesterView
+  pub lane : LaneEndsView
+  pub lane_after : LaneEndsView
   pub number : ℕ
-  pub request : Packet
+  pub request : TlpView
   pub has_requester : slice_get f.requesters i ≡ Some requester
   pub has_lane : slice_get f.up i ≡ Some lane
   pub own_port : requester.port ≡ suc i
@@ -48,10 +48,10 @@ pub record IsSubmitted (f : Fabric) (i : ℕ) (op : Op) (f' : Fabric) : Type 0 w
 
 -- a packet goes from the lane of port i + 1 to the memory's
 pub record IsForwarded (f : Fabric) (i place : ℕ) (f' : Fabric) : Type 0 where
-  pub lane : Ends
-  pub lane_after : Ends
-  pub memory_lane : Ends
-  pub packet : Packet
+  pub lane : LaneEndsView
+  pub lane_after : LaneEndsView
+  pub memory_lane : LaneEndsView
+  pub packet : TlpView
   pub mark : ℕ
   pub has_lane : slice_get f.up i ≡ Some lane
   pub taken : IsTakenAt lane place packet mark lane_after
@@ -60,9 +60,9 @@ pub record IsForwarded (f : Fabric) (i place : ℕ) (f' : Fabric) : Type 0 where
 
 -- a request acts on the memory, and its completion is entered
 pub record IsServed (f : Fabric) (place : ℕ) (f' : Fabric) : Type 0 where
-  pub lane_after : Ends
-  pub completion_lane : Ends
-  pub packet : Packet
+  pub lane_after : LaneEndsView
+  pub completion_lane : LaneEndsView
+  pub packet : TlpView
   pub mark : ℕ
   pub op : Op
   pub asks : op_of packet ≡ Some op
@@ -72,10 +72,10 @@ pub record IsServed (f : Fabric) (place : ℕ) (f' : Fabric) : Type 0 where
 
 -- a completion goes back to the lane of its port, i + 1
 pub record IsReturned (f : Fabric) (i place : ℕ) (f' : Fabric) : Type 0 where
-  pub lane_after : Ends
-  pub lane : Ends
-  pub port_lane : Ends
-  pub packet : Packet
+  pub lane_after : LaneEndsView
+  pub lane : LaneEndsView
+  pub port_lane : LaneEndsView
+  pub packet : TlpView
   pub mark : ℕ
   pub port : packet.requester / 256 ≡ suc i
   pub has_lane : slice_get f.down i ≡ Some lane
@@ -85,10 +85,10 @@ pub record IsReturned (f : Fabric) (i place : ℕ) (f' : Fabric) : Type 0 where
 
 -- the requester of port i + 1 collects the first completion of its lane
 pub record IsCollected (f : Fabric) (i : ℕ) (a : Answer) (f' : Fabric) : Type 0 where
-  pub requester : Requesting
-  pub lane : Ends
-  pub lane_after : Ends
-  pub packet : Packet
+  pub requester : RequesterView
+  pub lane : LaneEndsView
+  pub lane_after : LaneEndsView
+  pub packet : TlpView
   pub mark : ℕ
   pub has_requester : slice_get f.requesters i ≡ Some requester
   pub has_lane : slice_get f.down i ≡ Some lane
@@ -97,9 +97,9 @@ pub record IsCollected (f : Fabric) (i : ℕ) (a : Answer) (f' : Fabric) : Type 
   pub now : f' ≡ record f { down = slice_set f.down i lane_after; requesters = slice_set f.requesters i (after_finish requester packet) }
 
 -- a call of the link at place i of the lanes leaves what each holds
-pub record IsLinked (lanes : List Ends) (i : ℕ) (lanes' : List Ends) : Type 0 where
-  pub lane : Ends
-  pub lane_after : Ends
+pub record IsLinked (lanes : List LaneEndsView) (i : ℕ) (lanes' : List LaneEndsView) : Type 0 where
+  pub lane : LaneEndsView
+  pub lane_after : LaneEndsView
   pub has_lane : slice_get lanes i ≡ Some lane
   pub kept : content lane_after ≡ content lane
   pub now : lanes' ≡ slice_set lanes i lane_after

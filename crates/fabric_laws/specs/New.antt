@@ -1,7 +1,7 @@
 -- A new fabric.
 use Rattle.std.specs.Prelude.{ℕ, ◌≡◌, suc, [], Some, None, slice_get}
-use Rattle.requester_core.specs.Requesting.{Requesting, fresh}
-use Rattle.lane_ends.specs.Steps.{Ends}
+use Rattle.requester_core.specs.RequesterView.{RequesterView, fresh}
+use Rattle.lane_ends.specs.Steps.{LaneEndsView}
 use Rattle.lane_core.specs.Calls.{content}
 use Rattle.fabric_laws.specs.Fabric.{Fabric}
 use Rattle.fabric_laws.specs.Whole.{Whole, up_of, down_of, requester_of, open_number}
@@ -18,8 +18,8 @@ pub record IsNew (p : Whole) : Type 0 where
 -- a fabric with an empty history, requesters that have asked for nothing, and lanes that hold nothing
 pub record IsNewFabric (f : Fabric) : Type 0 where
   pub history : f.memory.entries ≡ []
-  pub requesters : (i : ℕ) (q : Requesting) → slice_get f.requesters i ≡ Some q → q ≡ fresh (suc i)
+  pub requesters : (i : ℕ) (q : RequesterView) → slice_get f.requesters i ≡ Some q → q ≡ fresh (suc i)
   pub inward : content f.inward ≡ []
   pub outward : content f.outward ≡ []
-  pub up : (i : ℕ) (e : Ends) → slice_get f.up i ≡ Some e → content e ≡ []
-  pub down : (i : ℕ) (e : Ends) → slice_get f.down i ≡ Some e → content e ≡ []
+  pub up : (i : ℕ) (e : LaneEndsView) → slice_get f.up i ≡ Some e → content e ≡ []
+  pub down : (i : ℕ) (e : LaneEndsView) → slice_get f.down i ≡ Some e → content e ≡ []

@@ -5,7 +5,7 @@ use Rattle.tlp_core.specs.declared.packet.Kind.TheVariants as kinds
 use Rattle.tlp_core.specs.declared.packet.Body.{Body}
 use Rattle.tlp_core.specs.declared.packet.Body.TheVariants as bodies
 use Rattle.tlp_core.specs.declared.packet.Status.TheVariants as statuses
-use Rattle.tlp_core.specs.Packet.{Packet}
+use Rattle.tlp_core.specs.TlpView.{TlpView}
 use Rattle.tlp_core.specs.Operation.{op_of}
 use Rattle.seq_memory.specs.declared.Reply.{Reply}
 use Rattle.seq_memory.specs.declared.Reply.TheVariants as replies
@@ -23,5 +23,5 @@ reply_in kinds.CompletionData body bytes = replies.Data (record { items = bytes 
 reply_in kinds.Completion body bytes = reply_by_status body
 reply_in _ body bytes = replies.Done
 
-abbrev pub marked_packet : Packet → ℕ → MarkedPacket
+abbrev pub marked_packet : TlpView → ℕ → MarkedPacket
 marked_packet t mark = record { requester = t.requester / 256; tag = t.tag; class = class_of t.kind; op = unwrap_or (op_of t) no_op; reply = reply_in t.kind t.body t.payload; mark = mark }

@@ -5,16 +5,16 @@ use Rattle.tlp_core.specs.declared.packet.Kind.TheVariants as kinds
 use Rattle.tlp_core.specs.declared.packet.Body.{Body}
 use Rattle.tlp_core.specs.declared.packet.Body.TheVariants as bodies
 use Rattle.tlp_core.specs.declared.packet.Status.TheVariants as statuses
-use Rattle.tlp_core.specs.Packet.{Packet}
+use Rattle.tlp_core.specs.TlpView.{TlpView}
 use Rattle.tlp_core.specs.Operation.{op_of}
-use Rattle.lane_ends.specs.Steps.{Ends}
+use Rattle.lane_ends.specs.Steps.{LaneEndsView}
 use Rattle.lane_core.specs.Calls.{content}
 use Rattle.fabric_laws.specs.Lists.{Each}
-use Rattle.fabric_laws.specs.Whole.{Requesting}
+use Rattle.fabric_laws.specs.Whole.{RequesterView}
 use Rattle.fabric_laws.specs.Fabric.{Fabric}
 
 -- the Requester ID is that of one of the ports 1 to n
-pub record HasPort (n : ℕ) (t : Packet) : Type 0 where
+pub record HasPort (n : ℕ) (t : TlpView) : Type 0 where
   pub place : ℕ
   pub some_port : place < n
   pub id : t.requester ≡ suc place * 256
@@ -27,16 +27,16 @@ FitsStatus kinds.Completion (bodies.Completion c statuses.Aborted n l) = Unit {0
 FitsStatus _ _ = ⊥
 
 -- requests of ports 1 to n, each for an operation
-abbrev pub HoldsRequests : ℕ → Ends → Type 0
+abbrev pub HoldsRequests : ℕ → LaneEndsView → Type 0
 HoldsRequests n e = Each (λ x. HasPort n x.0 × (is_some (op_of x.0) ≡ true)) (content e)
 
 -- completions for ports 1 to n
-abbrev pub HoldsCompletions : ℕ → Ends → Type 0
+abbrev pub HoldsCompletions : ℕ → LaneEndsView → Type 0
 HoldsCompletions n e = Each (λ x. HasPort n x.0 × FitsStatus x.0.kind x.0.body) (content e)
 
 pub record IsRouted (f : Fabric) : Type 0 where
-  pub ports : (i : ℕ) (q : Requesting) → slice_get f.requesters i ≡ Some q → q.port ≡ suc i
-  pub up : (i : ℕ) (e : Ends) → slice_get f.up i ≡ Some e → HoldsRequests (length f.requesters) e
+  pub ports : (i : ℕ) (q : RequesterView) → slice_get f.requesters i ≡ Some q → q.port ≡ suc i
+  pub up : (i : ℕ) (e : LaneEndsView) → slice_get f.up i ≡ Some e → HoldsRequests (length f.requesters) e
   pub inward : HoldsRequests (length f.requesters) f.inward
   pub outward : HoldsCompletions (length f.requesters) f.outward
-  pub down : (i : ℕ) (e : Ends) → slice_get f.down i ≡ Some e → HoldsCompletions (length f.requesters) e
+  pub down : (i : ℕ) (e : LaneEndsView) → slice_get f.down i ≡ Some e → HoldsCompletions (length f.requesters) e

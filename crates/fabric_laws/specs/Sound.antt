@@ -3,7 +3,7 @@ use Rattle.std.specs.Prelude.{ℕ, ◌≡◌, ◌+◌, ◌<◌, Bool, true, fals
 use Rattle.history_check.specs.Trace.{is_request}
 use Rattle.dllp_core.specs.declared.packet.Class.TheVariants as classes
 use Rattle.fabric_laws.specs.Lists.{Each, Pairs, one_if, count}
-use Rattle.fabric_laws.specs.Whole.{Op, is_posted, Entry, MarkedPacket, reply_after, Requesting, Whole, View, view, open_number, count_of, FitsSize, size_at, path, class_of_op, Extent}
+use Rattle.fabric_laws.specs.Whole.{Op, is_posted, Entry, MarkedPacket, reply_after, RequesterView, Whole, View, view, open_number, count_of, FitsSize, size_at, path, class_of_op, Extent}
 
 -- how often the request stands there
 abbrev pub times : ℕ → ℕ → List Entry → ℕ
@@ -36,7 +36,7 @@ IsCompletion x = x.class ≡ classes.Completion
 abbrev pub IsCompletionFor : ℕ → MarkedPacket → Type 0
 IsCompletionFor i x = (x.requester ≡ i) × IsCompletion x
 
-abbrev pub IsTagged : ℕ → Requesting → MarkedPacket → Type 0
+abbrev pub IsTagged : ℕ → RequesterView → MarkedPacket → Type 0
 IsTagged i q x = x.requester ≡ i → is_posted x.op ≡ false → open_number q x.tag ≡ Some x.mark
 
 abbrev pub IsAskedBy : ℕ → ℕ → Entry → Type 0
@@ -46,7 +46,7 @@ abbrev pub IsSized : ℕ → ℕ → ℕ → Entry → Type 0
 IsSized i k n e = e.requester ≡ i → e.number ≡ k → count_of e.op ≡ n
 
 -- the completion has the reply at the point of the open request
-pub record IsReply (g : Extent) (i : ℕ) (q : Requesting) (h : List Entry) (c : MarkedPacket) : Type 0 where
+pub record IsReply (g : Extent) (i : ℕ) (q : RequesterView) (h : List Entry) (c : MarkedPacket) : Type 0 where
   pub number : ℕ
   pub point : ℕ
   pub op : Op
@@ -55,7 +55,7 @@ pub record IsReply (g : Extent) (i : ℕ) (q : Requesting) (h : List Entry) (c :
   pub sized : FitsSize (count_of op) c.reply
   pub replied : c.reply ≡ reply_after g (take point h) op
 
-abbrev pub IsReplyFor : Extent → ℕ → Requesting → List Entry → MarkedPacket → Type 0
+abbrev pub IsReplyFor : Extent → ℕ → RequesterView → List Entry → MarkedPacket → Type 0
 IsReplyFor g i q h c = c.requester ≡ i → IsReply g i q h c
 
 pub record SoundAt (i : ℕ) (v : View) : Type 0 where

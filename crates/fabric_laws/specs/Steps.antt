@@ -4,10 +4,10 @@ use Rattle.dllp_core.specs.declared.packet.Class.TheVariants as classes
 use Rattle.fabric_laws.specs.Lists.{Each}
 use Rattle.history_check.specs.declared.Record.{Record}
 use Rattle.history_check.specs.declared.Record.TheVariants.{Sub, Ans}
-use Rattle.fabric_laws.specs.Whole.{Op, is_posted, MarkedPacket, reply_after, Requesting, Whole, up_of, down_of, requester_of, open_number, count_of, FitsSize, size_at, entry_of, marked_request, completions_for, Reply}
+use Rattle.fabric_laws.specs.Whole.{Op, is_posted, MarkedPacket, reply_after, RequesterView, Whole, up_of, down_of, requester_of, open_number, count_of, FitsSize, size_at, entry_of, marked_request, completions_for, Reply}
 
 -- the requester after a submission
-pub record IsOpened (q : Requesting) (tag : ℕ) (op : Op) (q' : Requesting) : Type 0 where
+pub record IsOpened (q : RequesterView) (tag : ℕ) (op : Op) (q' : RequesterView) : Type 0 where
   pub next : q'.next ≡ q.next + 1
   pub posted : is_posted op ≡ true → (t : ℕ) → open_number q' t ≡ open_number q t
   pub free : is_posted op ≡ false → open_number q tag ≡ None
@@ -17,7 +17,7 @@ pub record IsOpened (q : Requesting) (tag : ℕ) (op : Op) (q' : Requesting) : T
   pub kept : (t k : ℕ) → open_number q t ≡ Some k → size_at q' t ≡ size_at q t
 
 -- the requester after an answer
-pub record IsClosed (q : Requesting) (tag number : ℕ) (q' : Requesting) : Type 0 where
+pub record IsClosed (q : RequesterView) (tag number : ℕ) (q' : RequesterView) : Type 0 where
   pub next : q'.next ≡ q.next
   pub was_open : open_number q tag ≡ Some number
   pub closed : open_number q' tag ≡ None
@@ -38,7 +38,7 @@ pub record IsSubmit (p : Whole) (i : ℕ) (op : Op) (p' : Whole) : Type 0 where
   pub known : i < length p.requesters
   pub has_up : i < length p.up
   pub tag : ℕ
-  pub requester : Requesting
+  pub requester : RequesterView
   pub opened : IsOpened (requester_of p i) tag op requester
   pub now : p' ≡ record p { up = slice_set p.up i (up_of p i ++ marked_request i tag (requester_of p i).next op ∷ []); requesters = slice_set p.requesters i requester }
 
@@ -69,7 +69,7 @@ pub record IsCollect (p : Whole) (i number : ℕ) (reply : Reply) (p' : Whole) :
   pub item : MarkedPacket
   pub rest : List MarkedPacket
   pub first : down_of p i ≡ item ∷ rest
-  pub requester : Requesting
+  pub requester : RequesterView
   pub closed : IsClosed (requester_of p i) item.tag number requester
   pub replied : reply ≡ item.reply
   pub now : p' ≡ record p { down = slice_set p.down i rest; requesters = slice_set p.requesters i requester }

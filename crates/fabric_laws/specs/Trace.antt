@@ -8,7 +8,7 @@ use Rattle.history_check.specs.declared.Record.TheVariants.{Sub}
 pub use Rattle.history_check.specs.Flaws.{moment}
 use Rattle.history_check.specs.Trace.{submissions, IsNumbered, answers_to, stands, IsLinear}
 use Rattle.fabric_laws.specs.Lists.{Each}
-use Rattle.fabric_laws.specs.Whole.{Whole, Requesting, View, view, memory_of, open_number, requester_of, path}
+use Rattle.fabric_laws.specs.Whole.{Whole, RequesterView, View, view, memory_of, open_number, requester_of, path}
 
 -- the operations are those that requester i submitted: as many as its next number, and each request on its path is as
 -- submitted
@@ -17,7 +17,7 @@ pub record IsMade (i : ℕ) (v : View) (ops : List Op) : Type 0 where
   pub each : Each (λ e. e.requester ≡ i → slice_get ops e.number ≡ Some e.op) (path v)
 
 -- how many operations these requesters submitted, in all
-abbrev pub submitted_by : List Requesting → ℕ
+abbrev pub submitted_by : List RequesterView → ℕ
 submitted_by [] = 0
 submitted_by (q ∷ qs) = q.next + submitted_by qs
 

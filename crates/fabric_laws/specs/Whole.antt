@@ -10,11 +10,11 @@ use Rattle.seq_memory.specs.declared.Reply.TheVariants as replies
 use Rattle.tlp_core.specs.declared.operation.Op.TheVariants as ops
 pub use Rattle.dllp_core.specs.declared.packet.Class.{Class}
 use Rattle.dllp_core.specs.declared.packet.Class.TheVariants as classes
-pub use Rattle.requester_core.specs.Requesting.{Requesting}
+pub use Rattle.requester_core.specs.RequesterView.{RequesterView}
 use Rattle.requester_core.specs.declared.requester.OpenRequest.{OpenRequest}
 pub use Rattle.seq_memory.specs.Limits.{Extent}
 use Rattle.seq_memory.specs.Step.{answer}
-use Rattle.seq_memory.specs.History.{State, contents}
+use Rattle.seq_memory.specs.History.{MemoryView, contents}
 
 -- what the sequential memory replies to the operation after these entries
 unfoldable pub reply_after : Extent → List Entry → Op → Reply
@@ -62,13 +62,13 @@ pub record Whole : Type 0 where
   pub outward : List MarkedPacket
   pub up : List (List MarkedPacket)
   pub down : List (List MarkedPacket)
-  pub requesters : List Requesting
+  pub requesters : List RequesterView
 
-abbrev pub memory : Extent → List Entry → State
+abbrev pub memory : Extent → List Entry → MemoryView
 memory g h = record { base = g.base; size = g.size; block = g.block; entries = h }
 
 -- the memory, as contracts see it
-abbrev pub memory_of : Whole → State
+abbrev pub memory_of : Whole → MemoryView
 memory_of p = memory p.extent p.history
 
 -- what concerns one requester
@@ -79,9 +79,9 @@ pub record View : Type 0 where
   pub outward : List MarkedPacket
   pub up : List MarkedPacket
   pub down : List MarkedPacket
-  pub requester : Requesting
+  pub requester : RequesterView
 
-abbrev pub unused : Requesting
+abbrev pub unused : RequesterView
 unused = record { port = 0; next = 0; open_tags = [] }
 
 abbrev pub up_of : Whole → ℕ → List MarkedPacket
@@ -90,14 +90,14 @@ up_of p i = get_or p.up i []
 abbrev pub down_of : Whole → ℕ → List MarkedPacket
 down_of p i = get_or p.down i []
 
-abbrev pub requester_of : Whole → ℕ → Requesting
+abbrev pub requester_of : Whole → ℕ → RequesterView
 requester_of p i = get_or p.requesters i unused
 
 abbrev pub view : Whole → ℕ → View
 view p i = record { extent = p.extent; history = p.history; inward = p.inward; outward = p.outward; up = up_of p i; down = down_of p i; requester = requester_of p i }
 
 -- the number that is open under the tag
-abbrev pub open_number : Requesting → ℕ → Option ℕ
+abbrev pub open_number : RequesterView → ℕ → Option ℕ
 open_number q t = option_map (λ o. o.number) (get_or q.open_tags t None)
 
 abbrev pub size_in : Option OpenRequest → ℕ
@@ -105,7 +105,7 @@ size_in None = 0
 size_in (Some o) = o.size
 
 -- the size that is kept under the tag
-abbrev pub size_at : Requesting → ℕ → ℕ
+abbrev pub size_at : RequesterView → ℕ → ℕ
 size_at q t = size_in (get_or q.open_tags t None)
 
 abbrev pub path : View → List Entry

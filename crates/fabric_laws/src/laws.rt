@@ -4,10 +4,10 @@ ghost use Rattle.tlp_core.specs.declared.operation.Op.{Op};
 ghost use Rattle.seq_memory.specs.declared.Entry.{Entry};
 ghost use Rattle.seq_memory.specs.declared.Reply.{Reply};
 ghost use Rattle.requester_core.specs.declared.requester.Answer.{Answer};
-ghost use Rattle.tlp_core.specs.Packet.{Packet};
+ghost use Rattle.tlp_core.specs.TlpView.{TlpView};
 ghost use Rattle.tlp_core.specs.Operation.{op_of};
-ghost use Rattle.requester_core.specs.Requesting.{Requesting, finished};
-ghost use Rattle.lane_ends.specs.Steps.{Ends};
+ghost use Rattle.requester_core.specs.RequesterView.{RequesterView, finished};
+ghost use Rattle.lane_ends.specs.Steps.{LaneEndsView};
 ghost use Rattle.lane_core.specs.Calls.{content};
 ghost use Rattle.history_check.specs.declared.Record.{Record};
 ghost use Rattle.history_check.specs.declared.Record.TheVariants.{Sub, Ans};
@@ -66,10 +66,10 @@ pub fn each_event_is_a_step()
 
 /// A call of a link, which leaves what its lane holds, is a step that leaves the whole.
 pub fn each_link_call_is_a_step()
-    ensures up { (f : Fabric) (i : ℕ) (lanes : List Ends) → IsLinked f.up i lanes → Step (whole_of f) (whole_of (record f { up = lanes })) [] }
-    ensures down { (f : Fabric) (i : ℕ) (lanes : List Ends) → IsLinked f.down i lanes → Step (whole_of f) (whole_of (record f { down = lanes })) [] }
-    ensures inward { (f : Fabric) (lane : Ends) → content lane ≡ content f.inward → Step (whole_of f) (whole_of (record f { inward = lane })) [] }
-    ensures outward { (f : Fabric) (lane : Ends) → content lane ≡ content f.outward → Step (whole_of f) (whole_of (record f { outward = lane })) [] }
+    ensures up { (f : Fabric) (i : ℕ) (lanes : List LaneEndsView) → IsLinked f.up i lanes → Step (whole_of f) (whole_of (record f { up = lanes })) [] }
+    ensures down { (f : Fabric) (i : ℕ) (lanes : List LaneEndsView) → IsLinked f.down i lanes → Step (whole_of f) (whole_of (record f { down = lanes })) [] }
+    ensures inward { (f : Fabric) (lane : LaneEndsView) → content lane ≡ content f.inward → Step (whole_of f) (whole_of (record f { inward = lane })) [] }
+    ensures outward { (f : Fabric) (lane : LaneEndsView) → content lane ≡ content f.outward → Step (whole_of f) (whole_of (record f { outward = lane })) [] }
 {}
 
 /// What each requester submitted is one list of operations, which can be read off its path; and a step adds to it what
@@ -110,24 +110,24 @@ pub fn a_quiet_history_has_every_submission()
 /// Each event keeps every packet's Requester ID that of a port of the fabric, the requests such that
 /// each asks for an operation, and the completions of the form that their requesters expect.
 pub fn packets_keep_their_ports()
-    ensures asks { (f : Fabric) (place mark : ℕ) (t : Packet) → IsRouted f → slice_get (content f.inward) place ≡ Some (t, mark) → is_some (op_of t) ≡ true }
+    ensures asks { (f : Fabric) (place mark : ℕ) (t : TlpView) → IsRouted f → slice_get (content f.inward) place ≡ Some (t, mark) → is_some (op_of t) ≡ true }
     ensures submitted { (f f' : Fabric) (i : ℕ) (op : Op) → IsRouted f → IsSubmitted f i op f' → IsRouted f' }
     ensures forwarded { (f f' : Fabric) (i place : ℕ) → IsRouted f → IsForwarded f i place f' → IsRouted f' }
     ensures served { (f f' : Fabric) (place : ℕ) → IsRouted f → IsServed f place f' → IsRouted f' }
     ensures returned { (f f' : Fabric) (i place : ℕ) → IsRouted f → IsReturned f i place f' → IsRouted f' }
     ensures collected { (f f' : Fabric) (i : ℕ) (a : Answer) → IsRouted f → IsCollected f i a f' → IsRouted f' }
-    ensures up { (f : Fabric) (i : ℕ) (lanes : List Ends) → IsRouted f → IsLinked f.up i lanes → IsRouted (record f { up = lanes }) }
-    ensures down { (f : Fabric) (i : ℕ) (lanes : List Ends) → IsRouted f → IsLinked f.down i lanes → IsRouted (record f { down = lanes }) }
-    ensures inward { (f : Fabric) (lane : Ends) → IsRouted f → content lane ≡ content f.inward → IsRouted (record f { inward = lane }) }
-    ensures outward { (f : Fabric) (lane : Ends) → IsRouted f → content lane ≡ content f.outward → IsRouted (record f { outward = lane }) }
+    ensures up { (f : Fabric) (i : ℕ) (lanes : List LaneEndsView) → IsRouted f → IsLinked f.up i lanes → IsRouted (record f { up = lanes }) }
+    ensures down { (f : Fabric) (i : ℕ) (lanes : List LaneEndsView) → IsRouted f → IsLinked f.down i lanes → IsRouted (record f { down = lanes }) }
+    ensures inward { (f : Fabric) (lane : LaneEndsView) → IsRouted f → content lane ≡ content f.inward → IsRouted (record f { inward = lane }) }
+    ensures outward { (f : Fabric) (lane : LaneEndsView) → IsRouted f → content lane ≡ content f.outward → IsRouted (record f { outward = lane }) }
 {}
 
 /// What a requester of a sound fabric collects is a completion that it expects, so it is never
 /// refused; and every completion on its way back has a port to go to.
 pub fn no_completion_is_strange()
     ensures expected { (p : Whole) (i : ℕ) (c : MarkedPacket) (rest : List MarkedPacket) → Sound p → down_of p i ≡ c ∷ rest → IsExpected i (requester_of p i) c }
-    ensures finished { (f : Fabric) (i mark : ℕ) (q : Requesting) (lane : Ends) (t : Packet) → Sound (whole_of f) → IsRouted f →
+    ensures finished { (f : Fabric) (i mark : ℕ) (q : RequesterView) (lane : LaneEndsView) (t : TlpView) → Sound (whole_of f) → IsRouted f →
         slice_get f.requesters i ≡ Some q → slice_get f.down i ≡ Some lane → slice_get lane.receiver.queue 0 ≡ Some (t, mark) →
         (a : Answer) × (finished q t ≡ Ok a) }
-    ensures routed { (f : Fabric) (place mark : ℕ) (t : Packet) → IsRouted f → slice_get (content f.outward) place ≡ Some (t, mark) → HasPort (length f.requesters) t }
+    ensures routed { (f : Fabric) (place mark : ℕ) (t : TlpView) → IsRouted f → slice_get (content f.outward) place ≡ Some (t, mark) → HasPort (length f.requesters) t }
 {}

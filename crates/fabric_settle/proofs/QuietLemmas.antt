@@ -4,7 +4,7 @@ use Rattle.std.specs.Prelude.{slice_get, ◌&&◌}
 use Rattle.std.specs.List.{list_all}
 use Rattle.std.proofs.lemmas.Bool.{and_parts}
 use Rattle.vc_queue.specs.Queue.{Item}
-use Rattle.lane_ends.specs.Steps.{Ends}
+use Rattle.lane_ends.specs.Steps.{LaneEndsView}
 use Rattle.lane_core.specs.Calls.{content}
 use Rattle.fabric_laws.specs.Fabric.{Fabric}
 use Rattle.fabric_core.specs.Quiet.{IsQuiet}
@@ -17,14 +17,14 @@ empty_from (x ∷ xs) t = absurd cc
 both : (a b : Bool) → a ≡ true → b ≡ true → (a && b) ≡ true
 both a b p q = ap (λ (x : Bool). x && b) p ∙ q
 
-all_from : (es : List Ends) → list_all holds_nothing es ≡ true → (i : ℕ) (e : Ends) → slice_get es i ≡ Some e → content e ≡ []
+all_from : (es : List LaneEndsView) → list_all holds_nothing es ≡ true → (i : ℕ) (e : LaneEndsView) → slice_get es i ≡ Some e → content e ≡ []
 all_from [] t i e h = absurd cc
 all_from (x ∷ xs) t zero e h =
     let is : e ≡ x = cc in
     ap content is ∙ empty_from (content x) (and_parts (holds_nothing x) (list_all holds_nothing xs) t).0
 all_from (x ∷ xs) t (suc i) e h = all_from xs (and_parts (holds_nothing x) (list_all holds_nothing xs) t).1 i e h
 
-all_to : (es : List Ends) → ((i : ℕ) (e : Ends) → slice_get es i ≡ Some e → content e ≡ []) → list_all holds_nothing es ≡ true
+all_to : (es : List LaneEndsView) → ((i : ℕ) (e : LaneEndsView) → slice_get es i ≡ Some e → content e ≡ []) → list_all holds_nothing es ≡ true
 all_to [] h = refl
 all_to (x ∷ xs) h = both (holds_nothing x) (list_all holds_nothing xs) (ap is_empty (h zero x refl)) (all_to xs (λ i e g. h (suc i) e g))
 

@@ -7,7 +7,7 @@ use Rattle.lane_ends.specs.declared.packet.Fate.TheVariants.{Good}
 use Rattle.lane_ends.specs.declared.packet.DllpKind.{DllpKind}
 use Rattle.lane_ends.specs.declared.packet.DllpKind.TheVariants as kinds
 use Rattle.vc_queue.specs.Queue.{Item}
-use Rattle.lane_ends.specs.Steps.{Ends}
+use Rattle.lane_ends.specs.Steps.{LaneEndsView}
 use Rattle.lane_core.specs.Calls.{content}
 use Rattle.fabric_laws.specs.Fabric.{Fabric}
 use Rattle.fabric_core.specs.declared.event.Event.{Event}
@@ -185,7 +185,7 @@ abbrev pub is_empty : List Item → Bool
 is_empty [] = true
 is_empty (x ∷ xs) = false
 
-abbrev pub holds_nothing : Ends → Bool
+abbrev pub holds_nothing : LaneEndsView → Bool
 holds_nothing e = is_empty (content e)
 
 -- all that was entered was taken

@@ -7,7 +7,7 @@ use Rattle.tlp_core.specs.declared.packet.Kind.{Kind}
 use Rattle.tlp_core.specs.declared.packet.Kind.TheVariants as kinds
 use Rattle.tlp_core.specs.declared.packet.Body.{Body}
 use Rattle.tlp_core.specs.declared.packet.Body.TheVariants as bodies
-use Rattle.tlp_core.specs.Packet.{Packet, IsPacket, FitsKind}
+use Rattle.tlp_core.specs.TlpView.{TlpView, IsPacket, FitsKind}
 use Rattle.fc_credit.specs.declared.limits.LaneCredits.{LaneCredits}
 use Rattle.fc_credit.specs.declared.counter.Part.{Part}
 use Rattle.fc_credit.specs.declared.counter.Part.TheVariants.{Header, Data}
@@ -17,7 +17,7 @@ use Rattle.fc_credit.specs.Credits.{most, covers, gate_covers, first_gate, new_a
 use Rattle.fc_credit.proofs.Fits.{room_covered, infinite_counter, join}
 use Rattle.fc_credit.proofs.Runs.{zero_wraps}
 
-pub one_header : (t : Packet) → (need_of t).header ≡ 1
+pub one_header : (t : TlpView) → (need_of t).header ≡ 1
 one_header t = by_kind t.kind (units_of (length t.payload))
   where
     by_kind : (k : Kind) (units : ℕ) → (need_at k units).header ≡ 1
@@ -52,7 +52,7 @@ few_units kinds.Completion b dw given h = omega arith
 few_units kinds.CompletionData (bodies.Completion c s n low) dw given h = omega (arith, h.4, h.5)
 few_units kinds.CompletionData (bodies.Request a f l) dw given h = absurd h
 
-pub units_few : (t : Packet) → IsPacket t → (need_of t).units ≤ least_units (need_of t).class
+pub units_few : (t : TlpView) → IsPacket t → (need_of t).units ≤ least_units (need_of t).class
 units_few t k = few_units t.kind t.body t.length (length t.payload) k.fits
 
 -- a new counter covers what is at most the least of its first values
@@ -72,5 +72,5 @@ covered credits NonPosted header units l e u =
 covered credits Completion header units l e u =
     join _ _ (new_covers Header 1 credits.cplh header l.cplh (omega arith) (omega arith)) (new_covers Data 8 credits.cpld units l.cpld u (omega arith))
 
-pub goes : (credits : LaneCredits) (t : Packet) → IsInLimits credits → IsPacket t → IsTrue (gate_covers (first_gate credits) (need_of t))
+pub goes : (credits : LaneCredits) (t : TlpView) → IsInLimits credits → IsPacket t → IsTrue (gate_covers (first_gate credits) (need_of t))
 goes credits t l k = covered credits (need_of t).class (need_of t).header (need_of t).units l (one_header t) (units_few t k)

@@ -13,7 +13,7 @@ use Rattle.fc_credit.specs.declared.counter.Part.{Part}
 use Rattle.fc_credit.specs.declared.counter.Part.TheVariants.{Header, Data}
 use Rattle.fc_credit.specs.declared.ledger.CreditLedger.{CreditLedger}
 use Rattle.fc_credit.specs.Limits.{IsInfiniteOrBetween, IsInLimits}
-use Rattle.fc_credit.specs.Credits.{Gate, modulus, most, pick, covers, gate_of, gate_covers, first_of, allowance, grant, first_gate, first_ledger, new_allowance, new_grant}
+use Rattle.fc_credit.specs.Credits.{CreditGateView, modulus, most, pick, covers, gate_of, gate_covers, first_of, allowance, grant, first_gate, first_ledger, new_allowance, new_grant}
 use Rattle.fc_credit.specs.Account.{Accounts, IsCredit, HasCredit, IsRight, demand, updates_in, Direction, Event, Consume, Receive, Free, Tell, Learn, Lose, is_small, may_go, consumed_if, used_if, received_from, received_by, freed_at, given_by, learned_from, known_from, lost_from, unlearned_from, after_event, numbers_after, new_direction, first_numbers, after_events, numbers_in}
 use Rattle.fc_credit.proofs.Fits.{both, small, covered_parts, parts_covered, infinite_counter}
 use Rattle.fc_credit.proofs.Counters.{right}
@@ -159,7 +159,7 @@ pub account : (credits : LaneCredits) (events : List Event) → IsInLimits credi
 account credits events l = run_credit credits (new_direction credits) (first_numbers credits) events (new_credit credits l)
 
 -- one finite counter
-pub credit_right : (credits : LaneCredits) (gate : Gate) (ledger : CreditLedger) (numbers : Accounts) (queue way : List Need) (wire : List Dllp) (c : Class) (p : Part) →
+pub credit_right : (credits : LaneCredits) (gate : CreditGateView) (ledger : CreditLedger) (numbers : Accounts) (queue way : List Need) (wire : List Dllp) (c : Class) (p : Part) →
     HasCredit credits gate ledger numbers queue way wire → 0 < first_of c p credits →
     IsRight p (first_of c p credits) (allowance c p gate) (grant c p ledger) (numbers c p) (demand c p queue) (demand c p way)
 credit_right credits gate ledger numbers queue way wire c p k q =

@@ -19,14 +19,14 @@ use Rattle.fc_credit.specs.declared.counter.Grant.{Grant}
 use Rattle.fc_credit.specs.declared.gate.ClassGate.{ClassGate}
 use Rattle.fc_credit.specs.declared.ledger.ClassLedger.{ClassLedger}
 use Rattle.fc_credit.specs.declared.ledger.CreditLedger.{CreditLedger}
-use Rattle.fc_credit.specs.Credits.{Gate, most, same, pick, amount, covers, class_covers, gate_covers, spent, limited, taken_in, given_back, allocated, told, gate_of, ledger_of, allowance_in, grant_in, allowance, grant, with_gate, with_ledger, class_spent, class_limited, class_taken_in, class_given_back, after_consume, after_limit, after_received, after_freed, update_of, first_of}
+use Rattle.fc_credit.specs.Credits.{CreditGateView, most, same, pick, amount, covers, class_covers, gate_covers, spent, limited, taken_in, given_back, allocated, told, gate_of, ledger_of, allowance_in, grant_in, allowance, grant, with_gate, with_ledger, class_spent, class_limited, class_taken_in, class_given_back, after_consume, after_limit, after_received, after_freed, update_of, first_of}
 use Rattle.fc_credit.specs.Account.{Account, Accounts, IsCredit, HasCredit, demand, update_in, updates_in, uses, receives, gives, tells, loses, learns, told_to, lost_to, known_to}
 use Rattle.fc_credit.proofs.Fits.{covered_room, covered_parts}
 use Rattle.fc_credit.proofs.Counters.{stands, used_more, received_more, freed_more, told_more, lost_one, known_more}
 
 -- a change of one class
 
-pub gate_change : (F : ClassGate → ClassGate) (g : Gate) (class c : Class) →
+pub gate_change : (F : ClassGate → ClassGate) (g : CreditGateView) (class c : Class) →
     gate_of c (with_gate g class (F (gate_of class g))) ≡ (if same c class then F (gate_of c g) else gate_of c g)
 gate_change F g Posted Posted = refl
 gate_change F g Posted NonPosted = refl
@@ -175,7 +175,7 @@ demand_push c p needs need = sum_by-append (amount c p) needs (need ∷ []) ∙ 
 demand_first : (f : Need → ℕ) (need : Need) (needs : List Need) → sum_by f (need ∷ needs) ≡ f need + sum_by f needs
 demand_first f need needs = let e = sum_by-append f (need ∷ []) needs in omega (arith, e)
 
-pub consumed_credit : (credits : LaneCredits) (gate : Gate) (ledger : CreditLedger) (numbers : Accounts) (queue way : List Need) (wire : List Dllp) (need : Need) →
+pub consumed_credit : (credits : LaneCredits) (gate : CreditGateView) (ledger : CreditLedger) (numbers : Accounts) (queue way : List Need) (wire : List Dllp) (need : Need) →
     ((p : Part) → pick p need.header need.units ≤ most p) → IsTrue (gate_covers gate need) → HasCredit credits gate ledger numbers queue way wire →
     HasCredit credits (after_consume gate need) ledger (λ c p. uses (numbers c p) (amount c p need)) queue (way ++ need ∷ []) wire
 consumed_credit credits gate ledger numbers queue way wire need m t k =
@@ -192,7 +192,7 @@ received_if true p first a l n queue way header units ups k =
     rw (taken_part p l header units) (received_one p first a (grant_in p l) n queue way (pick p header units) ups k)
 received_if false p first a l n queue way header units ups k = rw (add-zero queue, add-zero n.received) (rw (zero-add way) at k)
 
-pub received_credit : (credits : LaneCredits) (gate : Gate) (ledger : CreditLedger) (numbers : Accounts) (queue way : List Need) (wire : List Dllp) (need : Need) →
+pub received_credit : (credits : LaneCredits) (gate : CreditGateView) (ledger : CreditLedger) (numbers : Accounts) (queue way : List Need) (wire : List Dllp) (need : Need) →
     HasCredit credits gate ledger numbers queue (need ∷ way) wire →
     HasCredit credits gate (after_received ledger need) (λ c p. receives (numbers c p) (amount c p need)) (queue ++ need ∷ []) way wire
 received_credit credits gate ledger numbers queue way wire need k =
@@ -223,14 +223,14 @@ demand_removed f (x ∷ xs) (suc i) need e =
     omega (arith, rest, all, left)
 
 -- the queue without a packet of this need, however it left
-pub left_credit : (credits : LaneCredits) (gate : Gate) (ledger : CreditLedger) (numbers : Accounts) (queue left way : List Need) (wire : List Dllp) (need : Need) →
+pub left_credit : (credits : LaneCredits) (gate : CreditGateView) (ledger : CreditLedger) (numbers : Accounts) (queue left way : List Need) (wire : List Dllp) (need : Need) →
     ((c : Class) (p : Part) → demand c p left + amount c p need ≡ demand c p queue) → HasCredit credits gate ledger numbers queue way wire →
     HasCredit credits gate (after_freed ledger need) (λ c p. gives (numbers c p) (amount c p need)) left way wire
 left_credit credits gate ledger numbers queue left way wire need e k =
     λ c p. rw (ledger_change (λ l. class_given_back l need.header need.units) ledger need.class c)
     (freed_if (same c need.class) p (first_of c p credits) (allowance c p gate) (ledger_of c ledger) (numbers c p) (demand c p queue) (demand c p left) (demand c p way) need.header need.units (updates_in c p wire) (e c p) (k c p))
 
-pub freed_credit : (credits : LaneCredits) (gate : Gate) (ledger : CreditLedger) (numbers : Accounts) (queue way : List Need) (wire : List Dllp) (place : ℕ) (need : Need) →
+pub freed_credit : (credits : LaneCredits) (gate : CreditGateView) (ledger : CreditLedger) (numbers : Accounts) (queue way : List Need) (wire : List Dllp) (place : ℕ) (need : Need) →
     slice_get queue place ≡ Some need → HasCredit credits gate ledger numbers queue way wire →
     HasCredit credits gate (after_freed ledger need) (λ c p. gives (numbers c p) (amount c p need)) (remove queue place) way wire
 freed_credit credits gate ledger numbers queue way wire place need e k =
@@ -242,13 +242,13 @@ updates_push : (c : Class) (p : Part) (wire : List Dllp) (d : Dllp) → updates_
 updates_push c p wire d = filter_map-append (update_in c p) wire (d ∷ [])
 
 -- a DLLP that is no update says nothing
-pub other_credit : (credits : LaneCredits) (gate : Gate) (ledger : CreditLedger) (numbers : Accounts) (queue way : List Need) (wire : List Dllp) (d : Dllp) →
+pub other_credit : (credits : LaneCredits) (gate : CreditGateView) (ledger : CreditLedger) (numbers : Accounts) (queue way : List Need) (wire : List Dllp) (d : Dllp) →
     ((c : Class) (p : Part) → update_in c p d ≡ None) → HasCredit credits gate ledger numbers queue way wire →
     HasCredit credits gate ledger numbers queue way (wire ++ d ∷ [])
 other_credit credits gate ledger numbers queue way wire d e k =
     λ c p. rw (updates_push c p wire d, e c p, append-nil (updates_in c p wire)) (k c p)
 
-pub told_credit : (credits : LaneCredits) (gate : Gate) (ledger : CreditLedger) (numbers : Accounts) (queue way : List Need) (wire : List Dllp) (class : Class) →
+pub told_credit : (credits : LaneCredits) (gate : CreditGateView) (ledger : CreditLedger) (numbers : Accounts) (queue way : List Need) (wire : List Dllp) (class : Class) →
     HasCredit credits gate ledger numbers queue way wire →
     HasCredit credits gate ledger (λ c p. told_to (same c class) (numbers c p)) queue way (wire ++ update_of ledger class ∷ [])
 told_credit credits gate ledger numbers queue way wire class k =
@@ -264,7 +264,7 @@ told_credit credits gate ledger numbers queue way wire class k =
 
 -- the oldest DLLP is lost, or reaches the gate
 
-pub lost_credit : (credits : LaneCredits) (gate : Gate) (ledger : CreditLedger) (numbers : Accounts) (queue way : List Need) (wire : List Dllp) (class : Class) (header units : ℕ) →
+pub lost_credit : (credits : LaneCredits) (gate : CreditGateView) (ledger : CreditLedger) (numbers : Accounts) (queue way : List Need) (wire : List Dllp) (class : Class) (header units : ℕ) →
     HasCredit credits gate ledger numbers queue way (Update class header units ∷ wire) →
     HasCredit credits gate ledger (λ c p. lost_to (same c class) (numbers c p)) queue way wire
 lost_credit credits gate ledger numbers queue way wire class header units k = λ c p. by_class (same c class) c p (k c p)
@@ -283,7 +283,7 @@ known_if true p first x g n queue way header units ups k =
     rw (limited_part p x header units) (known_update p first (allowance_in p x) g n queue way (pick p header units) ups k)
 known_if false p first x g n queue way header units ups k = k
 
-pub known_credit : (credits : LaneCredits) (gate : Gate) (ledger : CreditLedger) (numbers : Accounts) (queue way : List Need) (wire : List Dllp) (class : Class) (header units : ℕ) →
+pub known_credit : (credits : LaneCredits) (gate : CreditGateView) (ledger : CreditLedger) (numbers : Accounts) (queue way : List Need) (wire : List Dllp) (class : Class) (header units : ℕ) →
     HasCredit credits gate ledger numbers queue way (Update class header units ∷ wire) →
     HasCredit credits (after_limit gate class header units) ledger (λ c p. known_to (same c class) (numbers c p)) queue way wire
 known_credit credits gate ledger numbers queue way wire class header units k =

@@ -7,7 +7,7 @@ use Rattle.fc_credit.specs.declared.counter.Part.{Part}
 use Rattle.fc_credit.specs.declared.counter.Part.TheVariants.{Header, Data}
 use Rattle.fc_credit.specs.declared.gate.ClassGate.{ClassGate}
 use Rattle.fc_credit.specs.declared.limits.LaneCredits.{LaneCredits}
-use Rattle.fc_credit.specs.Credits.{Gate, modulus, allowance_in, with_gate, class_gate, class_spent, class_limited, first_gate, IsWrapped, IsWithin}
+use Rattle.fc_credit.specs.Credits.{CreditGateView, modulus, allowance_in, with_gate, class_gate, class_spent, class_limited, first_gate, IsWrapped, IsWithin}
 
 wrapped : (p : Part) (n : ℕ) → n % modulus p < modulus p
 wrapped Header n = omega arith
@@ -36,7 +36,7 @@ limited_within g header units h u w Header =
 limited_within g header units h u w Data =
     record { limit = either (g.units.first == 0) g.units.limit units 4096 (w Data).limit u; consumed = (w Data).consumed }
 
-pub with_within : (g : Gate) (class : Class) (x : ClassGate) → IsWithin g → ((p : Part) → IsWrapped p (allowance_in p x)) → IsWithin (with_gate g class x)
+pub with_within : (g : CreditGateView) (class : Class) (x : ClassGate) → IsWithin g → ((p : Part) → IsWrapped p (allowance_in p x)) → IsWithin (with_gate g class x)
 with_within g Posted x w k Posted p = k p
 with_within g Posted x w k NonPosted p = w NonPosted p
 with_within g Posted x w k Completion p = w Completion p

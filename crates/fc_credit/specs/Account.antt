@@ -9,7 +9,7 @@ use Rattle.fc_credit.specs.declared.counter.Part.{Part}
 use Rattle.fc_credit.specs.declared.counter.Allowance.{Allowance}
 use Rattle.fc_credit.specs.declared.counter.Grant.{Grant}
 use Rattle.fc_credit.specs.declared.ledger.CreditLedger.{CreditLedger}
-use Rattle.fc_credit.specs.Credits.{Gate, modulus, most, covers, overflows, allocated, same, pick, amount, allowance, grant, gate_covers, after_consume, after_limit, after_received, after_freed, update_of, first_of, first_gate, first_ledger}
+use Rattle.fc_credit.specs.Credits.{CreditGateView, modulus, most, covers, overflows, allocated, same, pick, amount, allowance, grant, gate_covers, after_consume, after_limit, after_received, after_freed, update_of, first_of, first_gate, first_ledger}
 
 -- ---- one counter
 
@@ -67,7 +67,7 @@ updates_in c p dllps = filter_map (update_in c p) dllps
 
 -- the numbers stand behind a gate and a ledger, where these needs are in the queue and under way, and these DLLPs are
 -- on their way back; Acks and Naks among them say nothing
-abbrev pub HasCredit : LaneCredits → Gate → CreditLedger → Accounts → List Need → List Need → List Dllp → Type 0
+abbrev pub HasCredit : LaneCredits → CreditGateView → CreditLedger → Accounts → List Need → List Need → List Dllp → Type 0
 HasCredit credits gate ledger numbers queue on_the_way wire =
     (c : Class) (p : Part) →
     IsCredit p (first_of c p credits) (allowance c p gate) (grant c p ledger) (numbers c p) (demand c p queue) (demand c p on_the_way) (updates_in c p wire)
@@ -115,7 +115,7 @@ known_to false n = n
 
 -- a gate and a ledger, the needs of the packets between them and in the queue, and the DLLPs on their way back
 pub record Direction : Type 0 where
-  pub gate : Gate
+  pub gate : CreditGateView
   pub ledger : CreditLedger
   pub on_the_way : List Need
   pub queue : List Need
@@ -140,7 +140,7 @@ pub data Event : Type 0 where
 abbrev pub is_small : Need → Bool
 is_small need = nat_le need.header 127 && nat_le need.units 2047
 
-abbrev pub may_go : Gate → Need → Bool
+abbrev pub may_go : CreditGateView → Need → Bool
 may_go gate need = is_small need && gate_covers gate need
 
 abbrev pub consumed_if : Bool → Direction → Need → Direction
@@ -156,7 +156,7 @@ abbrev pub freed_at : Option Need → Direction → ℕ → Direction
 freed_at None d place = d
 freed_at (Some need) d place = record d { ledger = after_freed d.ledger need; queue = remove d.queue place }
 
-abbrev pub gate_told : Gate → Dllp → Gate
+abbrev pub gate_told : CreditGateView → Dllp → CreditGateView
 gate_told gate (Update class header units) = after_limit gate class header units
 gate_told gate (Ack n) = gate
 gate_told gate (Nak n) = gate

@@ -83,12 +83,12 @@ abbrev pub amount : Class → Part → Need → ℕ
 amount c p need = if same c need.class then pick p need.header need.units else 0
 
 -- a `CreditGate`
-pub record Gate : Type 0 where
+pub record CreditGateView : Type 0 where
   pub posted : ClassGate
   pub non_posted : ClassGate
   pub completion : ClassGate
 
-abbrev pub gate_of : Class → Gate → ClassGate
+abbrev pub gate_of : Class → CreditGateView → ClassGate
 gate_of Posted g = g.posted
 gate_of NonPosted g = g.non_posted
 gate_of Completion g = g.completion
@@ -107,7 +107,7 @@ grant_in Header l = l.header
 grant_in Data l = l.units
 
 -- the gate's counter of a class and part
-abbrev pub allowance : Class → Part → Gate → Allowance
+abbrev pub allowance : Class → Part → CreditGateView → Allowance
 allowance c p g = allowance_in p (gate_of c g)
 
 -- CREDIT_LIMIT and CREDITS_CONSUMED are below 2 to the power of the field's size
@@ -116,7 +116,7 @@ pub record IsWrapped (p : Part) (a : Allowance) : Type 0 where
   pub consumed : a.consumed < modulus p
 
 -- so are those of each counter of a gate
-abbrev pub IsWithin : Gate → Type 0
+abbrev pub IsWithin : CreditGateView → Type 0
 IsWithin g = (c : Class) (p : Part) → IsWrapped p (allowance c p g)
 
 -- the ledger's counter of a class and part
@@ -125,7 +125,7 @@ grant c p l = grant_in p (ledger_of c l)
 
 -- ---- the calls: each changes the counters of one class
 
-abbrev pub with_gate : Gate → Class → ClassGate → Gate
+abbrev pub with_gate : CreditGateView → Class → ClassGate → CreditGateView
 with_gate g Posted x = record { posted = x; non_posted = g.non_posted; completion = g.completion }
 with_gate g NonPosted x = record { posted = g.posted; non_posted = x; completion = g.completion }
 with_gate g Completion x = record { posted = g.posted; non_posted = g.non_posted; completion = x }
@@ -153,15 +153,15 @@ class_given_back l header units =
     record { header = given_back Header l.header header; units = given_back Data l.units units }
 
 -- a packet of this need may go
-abbrev pub gate_covers : Gate → Need → Bool
+abbrev pub gate_covers : CreditGateView → Need → Bool
 gate_covers g need = class_covers (gate_of need.class g) need.header need.units
 
 -- a packet of this need went
-abbrev pub after_consume : Gate → Need → Gate
+abbrev pub after_consume : CreditGateView → Need → CreditGateView
 after_consume g need = with_gate g need.class (class_spent (gate_of need.class g) need.header need.units)
 
 -- an UpdateFC reached the gate
-abbrev pub after_limit : Gate → Class → ℕ → ℕ → Gate
+abbrev pub after_limit : CreditGateView → Class → ℕ → ℕ → CreditGateView
 after_limit g class header units = with_gate g class (class_limited (gate_of class g) header units)
 
 -- a packet of this need was received
@@ -196,7 +196,7 @@ class_gate header units = record { header = new_allowance Header header; units =
 abbrev pub class_ledger : ℕ → ℕ → ClassLedger
 class_ledger header units = record { header = new_grant header; units = new_grant units }
 
-abbrev pub first_gate : LaneCredits → Gate
+abbrev pub first_gate : LaneCredits → CreditGateView
 first_gate l =
     record { posted = class_gate l.ph l.pd; non_posted = class_gate l.nph l.npd; completion = class_gate l.cplh l.cpld }
 

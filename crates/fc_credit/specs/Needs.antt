@@ -4,7 +4,7 @@ use Rattle.dllp_core.specs.declared.packet.Class.{Class}
 use Rattle.dllp_core.specs.declared.packet.Class.TheVariants as classes
 use Rattle.tlp_core.specs.declared.packet.Kind.{Kind}
 use Rattle.tlp_core.specs.declared.packet.Kind.TheVariants as kinds
-use Rattle.tlp_core.specs.Packet.{Packet}
+use Rattle.tlp_core.specs.TlpView.{TlpView}
 use Rattle.fc_credit.specs.declared.needs.Need.{Need}
 
 -- the class of each kind of packet
@@ -36,7 +36,7 @@ need_at kinds.Completion units = takes classes.Completion 0
 need_at kinds.CompletionData units = takes classes.Completion units
 
 -- what a packet takes
-abbrev pub need_of : Packet → Need
+abbrev pub need_of : TlpView → Need
 need_of t = need_at t.kind (units_of (length t.payload))
 
 -- what a completion with so many bytes of data takes

@@ -26,9 +26,9 @@ pub struct CreditGate {
 }
 
 impl Model for CreditGate {
-    ghost use Rattle.fc_credit.specs.Credits.{Gate, IsWithin};
+    ghost use Rattle.fc_credit.specs.Credits.{CreditGateView, IsWithin};
 
-    ghost Value = { Gate };
+    ghost Value = { CreditGateView };
 
     ghost view = { λ g. record { posted = g.posted; non_posted = g.non_posted; completion = g.completion } };
 

@@ -2,14 +2,14 @@
 ghost use Rattle.std.specs.Prelude.{◌≡◌, ◌↔◌, IsTrue, ℕ, ◌+◌, ◌*◌, ◌<◌, ◌≤◌, List, []};
 ghost use Rattle.dllp_core.specs.declared.packet.Class.{Class};
 ghost use Rattle.dllp_core.specs.declared.packet.Dllp.{Dllp};
-ghost use Rattle.tlp_core.specs.Packet.{Packet, IsPacket};
+ghost use Rattle.tlp_core.specs.TlpView.{TlpView, IsPacket};
 ghost use Rattle.fc_credit.specs.declared.counter.Part.{Part};
 ghost use Rattle.fc_credit.specs.declared.limits.LaneCredits.{LaneCredits};
 ghost use Rattle.fc_credit.specs.declared.needs.Need.{Need};
 ghost use Rattle.fc_credit.specs.declared.ledger.CreditLedger.{CreditLedger};
 ghost use Rattle.fc_credit.specs.Needs.{units_of, need_of};
 ghost use Rattle.fc_credit.specs.Limits.{IsInLimits, least_units};
-ghost use Rattle.fc_credit.specs.Credits.{Gate, pick, first_of, allowance, grant, gate_covers, first_gate};
+ghost use Rattle.fc_credit.specs.Credits.{CreditGateView, pick, first_of, allowance, grant, gate_covers, first_gate};
 ghost use Rattle.fc_credit.specs.Account.{Accounts, Direction, Event, HasCredit, IsRight, demand, after_event, numbers_after, new_direction, first_numbers, after_events, numbers_in};
 
 /// The data units of a payload are the least number of units of 16 bytes that hold it.
@@ -20,9 +20,9 @@ pub fn units_are_the_least()
 
 /// No packet needs more than the least data credit of its class, so each may go on a new lane, where nothing is used.
 pub fn limits_let_each_packet_go()
-    ensures header { (t : Packet) → (need_of t).header ≡ 1 }
-    ensures units { (t : Packet) → IsPacket t → (need_of t).units ≤ least_units (need_of t).class }
-    ensures goes { (credits : LaneCredits) (t : Packet) → IsInLimits credits → IsPacket t → IsTrue (gate_covers (first_gate credits) (need_of t)) }
+    ensures header { (t : TlpView) → (need_of t).header ≡ 1 }
+    ensures units { (t : TlpView) → IsPacket t → (need_of t).units ≤ least_units (need_of t).class }
+    ensures goes { (credits : LaneCredits) (t : TlpView) → IsInLimits credits → IsPacket t → IsTrue (gate_covers (first_gate credits) (need_of t)) }
 {}
 
 /// The whole numbers behind the counters of one direction still stand behind them after each event, with the gate, the
@@ -39,7 +39,7 @@ pub fn each_event_keeps_the_account()
 /// is at most what was given, and what was given less what was used and what the queue and the packets under way hold
 /// come to the first value. The gate's test is that of the room in whole numbers, and the receiver sees no overflow.
 pub fn an_account_is_right()
-    ensures right { (credits : LaneCredits) (gate : Gate) (ledger : CreditLedger) (numbers : Accounts) (queue on_the_way : List Need) (wire : List Dllp) (c : Class) (p : Part) →
+    ensures right { (credits : LaneCredits) (gate : CreditGateView) (ledger : CreditLedger) (numbers : Accounts) (queue on_the_way : List Need) (wire : List Dllp) (c : Class) (p : Part) →
         HasCredit credits gate ledger numbers queue on_the_way wire → 0 < first_of c p credits →
         IsRight p (first_of c p credits) (allowance c p gate) (grant c p ledger) (numbers c p) (demand c p queue) (demand c p on_the_way) }
 {}

@@ -18,7 +18,7 @@ use Rattle.script_text.specs.LineTexts.{event_line, fabric_line}
 use Rattle.script_text.specs.Spelled.{IsSpelledEvent}
 use Rattle.storm.specs.declared.Storm.{Storm}
 use Rattle.storm_events.specs.Arrivals.{IsAfter}
-use Rattle.storm_events.specs.Choice.{Choosing, IsChosen}
+use Rattle.storm_events.specs.Choice.{ChooserView, IsChosen}
 use Rattle.generate_engine.specs.Script.{config_of, text_of, IsUnderWay, BeginsScript}
 
 -- ---- one event more
@@ -64,7 +64,7 @@ text-next c events event =
     ∙ lines-append (fabric_line c ∷ map event_line events) (event_line event ∷ [])
     ∙ ap (λ (t : List ℕ). text_of c events ++ t) (lines-one (event_line event))
 
-pub script-next : (s : Storm) (n m : ℕ) (text text' : List ℕ) (f f' : Fabric) (c c' : Choosing) (event : Event) (u : IsUnderWay s n text f c) → m ≡ n + 1 → IsChosen f event f'
+pub script-next : (s : Storm) (n m : ℕ) (text text' : List ℕ) (f f' : Fabric) (c c' : ChooserView) (event : Event) (u : IsUnderWay s n text f c) → m ≡ n + 1 → IsChosen f event f'
     → IsAfter s.lose s.corrupt (u.script.events ++ event ∷ []) c'.arrived → text' ≡ text ++ (event_line event ++ 10 ∷ []) → IsUnderWay s m text' f' c'
 script-next s n m text text' f f' c c' event u count chosen counted now =
     let h = u.script.happened in
@@ -87,7 +87,7 @@ script-next s n m text text' f f' c c' event u count chosen counted now =
 
 -- ---- the first line
 
-pub script-new : (s : Storm) (config : Config) (text none : List ℕ) (f : Fabric) (c : Choosing) → config ≡ config_of s → IsNewWith config f → IsAfter s.lose s.corrupt [] c.arrived → none ≡ []
+pub script-new : (s : Storm) (config : Config) (text none : List ℕ) (f : Fabric) (c : ChooserView) → config ≡ config_of s → IsNewWith config f → IsAfter s.lose s.corrupt [] c.arrived → none ≡ []
     → text ≡ none ++ (fabric_line config ++ 10 ∷ []) → IsUnderWay s 0 text f c
 script-new s config text none f c is new counted empty now = record {
   script = record {
@@ -101,7 +101,7 @@ script-new s config text none f c is new counted empty now = record {
 
 -- ---- beginnings
 
-pub begins-all : (s : Storm) (n most : ℕ) (text : List ℕ) (f : Fabric) (c : Choosing) → n ≤ most → IsUnderWay s n text f c → BeginsScript s most text
+pub begins-all : (s : Storm) (n most : ℕ) (text : List ℕ) (f : Fabric) (c : ChooserView) → n ≤ most → IsUnderWay s n text f c → BeginsScript s most text
 begins-all s n most text f c few u = record {
   count = n;
   few = few;
@@ -161,7 +161,7 @@ Appends-then (Some xs) (Some ys) (Some zs) a b x y = y ∙ ap (λ (t : List ℕ)
 
 -- ---- one script, counted and written otherwise
 
-pub script-same : (s : Storm) (n m : ℕ) (text text' : List ℕ) (f : Fabric) (c : Choosing) → IsUnderWay s n text f c → m ≡ n → text' ≡ text → IsUnderWay s m text' f c
+pub script-same : (s : Storm) (n m : ℕ) (text text' : List ℕ) (f : Fabric) (c : ChooserView) → IsUnderWay s n text f c → m ≡ n → text' ≡ text → IsUnderWay s m text' f c
 script-same s n m text text' f c u count now = record {
   script = record { events = u.script.events; number = u.script.number ∙ sym count; happened = u.script.happened; says = now ∙ u.script.says };
   counted = u.counted;

@@ -13,7 +13,7 @@ use Rattle.script_text.specs.LineTexts.{event_line, fabric_line}
 use Rattle.script_text.specs.Spelled.{IsSpelledEvent}
 use Rattle.storm.specs.declared.Storm.{Storm}
 use Rattle.storm_events.specs.Arrivals.{AreFated, IsAfter}
-use Rattle.storm_events.specs.Choice.{Choosing}
+use Rattle.storm_events.specs.Choice.{ChooserView}
 
 -- a memory of 4096 bytes at 0, and the credits that lanes have unless told otherwise
 abbrev pub config_of : Storm → Config
@@ -39,7 +39,7 @@ pub record IsScriptOf (c : Config) (count : ℕ) (text : List ℕ) (f : Fabric) 
   pub says : text ≡ text_of c events
 
 -- such a text of the storm so far, and the chooser after its events
-pub record IsUnderWay (s : Storm) (count : ℕ) (text : List ℕ) (f : Fabric) (c : Choosing) : Type 0 where
+pub record IsUnderWay (s : Storm) (count : ℕ) (text : List ℕ) (f : Fabric) (c : ChooserView) : Type 0 where
   pub script : IsScriptOf (config_of s) count text f
   pub counted : IsAfter s.lose s.corrupt script.events c.arrived
 

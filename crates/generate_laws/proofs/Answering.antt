@@ -21,32 +21,32 @@ use Rattle.line_loop.specs.Run.{Answer, Run as Output, with_answer, after_line, 
 use Rattle.step_engine.specs.Script.{script_of, IsScript}
 use Rattle.step_engine.specs.Script.{event_line as event_of}
 use Rattle.step_engine.specs.Options.{plain}
-use Rattle.step_engine.specs.Step.{Stepping, nothing, counted, made, answered, result_text, by_line, step_long_line, step_responses, out_step}
+use Rattle.step_engine.specs.Step.{StepperView, nothing, counted, made, answered, result_text, by_line, step_long_line, step_responses, out_step}
 
 pub record Answers : Type 0 where
   pub new : (c : Config) (f : Fabric) → IsNewWith c f → (f ≡ new_fabric c) × (config_fault c ≡ None)
 
 -- the script so far, with its fabric and the number of its lines
-abbrev at : Option Fabric → ℕ → Stepping
+abbrev at : Option Fabric → ℕ → StepperView
 at o n = record { options = plain false; fabric = o; records = []; lines = n; has_ended = false }
 
-abbrev run_at : Option Fabric → ℕ → List ℕ → Output Stepping
+abbrev run_at : Option Fabric → ℕ → List ℕ → Output StepperView
 run_at o n text = record { state = at o n; text = text; status = 0 }
 
-abbrev runs_on : Output Stepping → List (List ℕ) → Output Stepping
+abbrev runs_on : Output StepperView → List (List ℕ) → Output StepperView
 runs_on run ls = fold (after_line step_responses) run ls
 
 abbrev next : ℕ → ℕ
 next n = min (n + 1) (2 ^ 64 - 1)
 
 -- one line, by its tests and what it says
-abbrev by_tests : Bool → Bool → List ℕ → Option Line → Stepping → Answer Stepping
+abbrev by_tests : Bool → Bool → List ℕ → Option Line → StepperView → Answer StepperView
 by_tests long skipped line l s = if long then step_long_line s else (if s.has_ended then nothing s else (if skipped then nothing (counted s) else by_line s line l))
 
 abbrev put : Bool → Bool → Option Line → List (Option Line) → List (Option Line)
 put long skipped l rest = if long then None ∷ rest else (if skipped then rest else l ∷ rest)
 
-abbrev on_from : Bool → Bool → List ℕ → Option Line → Output Stepping → List (List ℕ) → Output Stepping
+abbrev on_from : Bool → Bool → List ℕ → Option Line → Output StepperView → List (List ℕ) → Output StepperView
 on_from long skipped line l run ls = runs_on (with_answer run (by_tests long skipped line l run.state)) ls
 
 first_same : {X : Type 0} (x y : X) (xs ys : List X) → x ∷ xs ≡ y ∷ ys → x ≡ y
@@ -56,7 +56,7 @@ rest_same : {X : Type 0} (x y : X) (xs ys : List X) → x ∷ xs ≡ y ∷ ys �
 rest_same x y xs ys e = cc
 
 -- the run comes to this fabric, its status 0
-abbrev ComesTo : Output Stepping → Fabric → Type 0
+abbrev ComesTo : Output StepperView → Fabric → Type 0
 ComesTo run f = (n : ℕ) × (text : List ℕ) × (run ≡ run_at (Some f) n text)
 
 after_event : Answers → (line : List ℕ) (event : Event) (what : Seen) (f f' : Fabric) (n : ℕ) (text : List ℕ) → Happens f event what f'
@@ -80,7 +80,7 @@ after_by a false false line l ls more (event ∷ events) f f' rs n text r e =
       all.0,
       all.1,
       ap (λ (o : Option Line). on_from false false line o (run_at (Some f) n text) ls) (first_same l (event_of event) (script_of ls) (map event_of events) e)
-          ∙ ap (λ (x : Output Stepping). runs_on x ls) (after_event a line event r.0 f r.1 n text r.3)
+          ∙ ap (λ (x : Output StepperView). runs_on x ls) (after_event a line event r.0 f r.1 n text r.3)
           ∙ all.2,
     )
 
@@ -119,4 +119,4 @@ pub ends_well : Answers → (input : List ℕ) (c : Config) (f f' : Fabric) (eve
 ends_well a input c f f' events rs s n r =
     let made_is = a.new c f n in
     let all = scripts_run a (lines_of input) c events f' rs 0 [] made_is.1 (subst (λ (g : Fabric). Runs g events rs f') made_is.0 r) s in
-    ap (λ (x : Output Stepping). (after_end step_responses x).status) all.2
+    ap (λ (x : Output StepperView). (after_end step_responses x).status) all.2

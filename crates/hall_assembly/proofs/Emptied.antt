@@ -4,9 +4,9 @@ use Rattle.std.specs.Prelude.{slice_get}
 use mathlib.Core.Option.{some, some-injective}
 use lib.ListN.{get_elem?}
 use Rattle.hall_assembly.proofs.Lists.{at_map, get_push, has_at, get_within}
-use Rattle.seq_memory.specs.History.{State}
-use Rattle.requester_core.specs.Requesting.{Requesting}
-use Rattle.lane_ends.specs.Steps.{Ends}
+use Rattle.seq_memory.specs.History.{MemoryView}
+use Rattle.requester_core.specs.RequesterView.{RequesterView}
+use Rattle.lane_ends.specs.Steps.{LaneEndsView}
 use Rattle.fabric_laws.specs.Fabric.{Fabric}
 use Rattle.fabric_core.specs.declared.event.LaneName.{LaneName}
 use Rattle.fabric_core.specs.declared.event.LaneName.TheVariants.{Up, Down, Inward, Outward}
@@ -28,7 +28,7 @@ module _ (slots : InSlots) (f : Fabric) (h : HasLanes f) (xs : List (Option Part
   pub memory_at : PartAt xs 0 (Memory f.memory)
   memory_at = part_at 0 (Memory f.memory) refl
 
-  pub ends_at : (name : LaneName) (e : Ends) (k : ℕ) → HasLane f name e → k ≡ lane_slot name → EndsAt xs k e
+  pub ends_at : (name : LaneName) (e : LaneEndsView) (k : ℕ) → HasLane f name e → k ≡ lane_slot name → EndsAt xs k e
   ends_at name e k has at = record {
     sender = part_at k (Sender e.sender) (slots.end f h name e 0 k has (omega arith) (omega arith));
     forward = part_at (k + 1) (Forward e.forward) (slots.end f h name e 1 (k + 1) has (omega arith) (omega arith));
@@ -37,7 +37,7 @@ module _ (slots : InSlots) (f : Fabric) (h : HasLanes f) (xs : List (Option Part
   }
 
   pub station_at : (i k : ℕ) → i < length f.requesters → k ≡ 9 * suc i
-      → (q : Requesting) × (u : Ends) × (d : Ends) × StationFrom xs k q u d × (slice_get f.requesters i ≡ Some q) × (slice_get f.up i ≡ Some u) × (slice_get f.down i ≡ Some d)
+      → (q : RequesterView) × (u : LaneEndsView) × (d : LaneEndsView) × StationFrom xs k q u d × (slice_get f.requesters i ≡ Some q) × (slice_get f.up i ≡ Some u) × (slice_get f.down i ≡ Some d)
   station_at i k small at =
       let q = has_at f.requesters i small in
       let u = has_at f.up i (omega (arith, h.up)) in
@@ -60,7 +60,7 @@ module _ (slots : InSlots) (f : Fabric) (h : HasLanes f) (xs : List (Option Part
 same_part : (xs : List (Option PartValue)) (k : ℕ) (v w : PartValue) → PartAt xs k v → PartAt xs k w → v ≡ w
 same_part xs k v w a b = let e : Some v ≡ Some w = some-injective (Some v) (Some w) (sym a ∙ b) in cc
 
-same_ends : (xs : List (Option PartValue)) (k : ℕ) (e g : Ends) → EndsAt xs k e → EndsAt xs k g → e ≡ g
+same_ends : (xs : List (Option PartValue)) (k : ℕ) (e g : LaneEndsView) → EndsAt xs k e → EndsAt xs k g → e ≡ g
 same_ends xs k e g a b =
     let s : Sender e.sender ≡ Sender g.sender = same_part xs k (Sender e.sender) (Sender g.sender) a.sender b.sender in
     let w : Forward e.forward ≡ Forward g.forward = same_part xs (k + 1) (Forward e.forward) (Forward g.forward) a.forward b.forward in
@@ -72,10 +72,10 @@ same_ends xs k e g a b =
     let is_r : e.receiver ≡ g.receiver = cc in
     λ i. record { sender = is_s i; forward = is_w i; back = is_y i; receiver = is_r i }
 
-same_requester : (xs : List (Option PartValue)) (k : ℕ) (p q : Requesting) → PartAt xs k (Requester p) → PartAt xs k (Requester q) → p ≡ q
+same_requester : (xs : List (Option PartValue)) (k : ℕ) (p q : RequesterView) → PartAt xs k (Requester p) → PartAt xs k (Requester q) → p ≡ q
 same_requester xs k p q a b = let e : Requester p ≡ Requester q = same_part xs k (Requester p) (Requester q) a b in cc
 
-same_memory : (xs : List (Option PartValue)) (p q : State) → PartAt xs 0 (Memory p) → PartAt xs 0 (Memory q) → p ≡ q
+same_memory : (xs : List (Option PartValue)) (p q : MemoryView) → PartAt xs 0 (Memory p) → PartAt xs 0 (Memory q) → p ≡ q
 same_memory xs p q a b = let e : Memory p ≡ Memory q = same_part xs 0 (Memory p) (Memory q) a b in cc
 
 -- lists of one length, with the same at each place
@@ -93,7 +93,7 @@ same_fabric slots f g xs h is credits memory inward outward stations =
     let a : g.inward ≡ f.inward = same_ends xs 1 g.inward f.inward inward (ends_at slots f h xs is Inward f.inward 1 refl refl) in
     let b : g.outward ≡ f.outward = same_ends xs 5 g.outward f.outward outward (ends_at slots f h xs is Outward f.outward 5 refl refl) in
     let both : (i : ℕ) → i < length f.requesters
-    → (q : Requesting) × (u : Ends) × (d : Ends) × (slice_get g.requesters i ≡ Some q) × (slice_get g.up i ≡ Some u) × (slice_get g.down i ≡ Some d) × (slice_get f.requesters i ≡ Some q) × (slice_get f.up i ≡ Some u) × (slice_get f.down i ≡ Some d) =
+    → (q : RequesterView) × (u : LaneEndsView) × (d : LaneEndsView) × (slice_get g.requesters i ≡ Some q) × (slice_get g.up i ≡ Some u) × (slice_get g.down i ≡ Some d) × (slice_get f.requesters i ≡ Some q) × (slice_get f.up i ≡ Some u) × (slice_get f.down i ≡ Some d) =
     (λ i small.
     let q = has_at g.requesters i (omega (arith, stations.requesters)) in
     let u = has_at g.up i (omega (arith, stations.up)) in
@@ -112,7 +112,7 @@ same_fabric slots f g xs h is credits memory inward outward stations =
 pub no_stations : (xs : List (Option PartValue)) → StationsAt xs 0 [] [] []
 no_stations xs = record { requesters = refl; up = refl; down = refl; each = λ i q u d a b c. absurd (cc) }
 
-pub one_station : (xs : List (Option PartValue)) (n : ℕ) (qs : List Requesting) (us ds : List Ends) (q : Requesting) (u d : Ends) → StationsAt xs n qs us ds → StationFrom xs (9 * suc n) q u d → StationsAt xs (n + 1) (qs ++ q ∷ []) (us ++ u ∷ []) (ds ++ d ∷ [])
+pub one_station : (xs : List (Option PartValue)) (n : ℕ) (qs : List RequesterView) (us ds : List LaneEndsView) (q : RequesterView) (u d : LaneEndsView) → StationsAt xs n qs us ds → StationFrom xs (9 * suc n) q u d → StationsAt xs (n + 1) (qs ++ q ∷ []) (us ++ u ∷ []) (ds ++ d ∷ [])
 one_station xs n qs us ds q u d s one = record {
   requesters = length-append qs (q ∷ []) ∙ (let h = s.requesters in let g : length qs + 1 ≡ n + 1 = omega arith in g);
   up = length-append us (u ∷ []) ∙ (let h = s.up in let g : length us + 1 ≡ n + 1 = omega arith in g);
@@ -131,7 +131,7 @@ one_station xs n qs us ds q u d s one = record {
       (λ (z : (i < length ds) × (slice_get ds i ≡ Some e)). absurd (let l = z.0 in let k = x.0 in omega (arith, s.requesters, s.down)))
       (λ (z : (i ≡ length ds) × (d ≡ e)).
       let at : n ≡ i = sym (x.0 ∙ s.requesters) in
-      subst (λ (m : ℕ). StationFrom xs (9 * suc m) p v e) at (subst (λ (w : Requesting). StationFrom xs (9 * suc n) w v e) x.1 (subst (λ (w : Ends). StationFrom xs (9 * suc n) q w e) y.1 (subst (λ (w : Ends). StationFrom xs (9 * suc n) q u w) z.1 one))))
+      subst (λ (m : ℕ). StationFrom xs (9 * suc m) p v e) at (subst (λ (w : RequesterView). StationFrom xs (9 * suc n) w v e) x.1 (subst (λ (w : LaneEndsView). StationFrom xs (9 * suc n) q w e) y.1 (subst (λ (w : LaneEndsView). StationFrom xs (9 * suc n) q u w) z.1 one))))
       (get_push ds d i e c))
       (get_push us u i v b))
       (get_push qs q i p a);

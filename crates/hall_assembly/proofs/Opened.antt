@@ -7,7 +7,7 @@ use native.Mathlib.Decide.{ℕ_discrete, dec_lt}
 use lib.ListN.{get_elem?, length-map, length-replicate}
 use Rattle.atomic_table.specs.Table.{opening, Final, Seen}
 use Rattle.hall_assembly.proofs.Lists.{at_map, at_snoc, count_nil, there, at_length, one_is, not_same}
-use Rattle.lane_ends.specs.Steps.{Ends}
+use Rattle.lane_ends.specs.Steps.{LaneEndsView}
 use Rattle.lane_core.specs.Calls.{content}
 use Rattle.fabric_laws.specs.Lists.{Each, count}
 use Rattle.fabric_laws.specs.Whole.{Whole, up_of, down_of, requester_of, open_number}
@@ -29,12 +29,12 @@ use Rattle.hall_assembly.specs.Opens.{IsUnused, Left}
 
 -- ---- a fabric to which nothing has happened
 
-no_items : (es : List Ends) (i : ℕ) → ((i : ℕ) (e : Ends) → slice_get es i ≡ Some e → content e ≡ []) → get_or (map items es) i [] ≡ []
+no_items : (es : List LaneEndsView) (i : ℕ) → ((i : ℕ) (e : LaneEndsView) → slice_get es i ≡ Some e → content e ≡ []) → get_or (map items es) i [] ≡ []
 no_items [] i h = refl
 no_items (e ∷ es) zero h = ap (map (λ x. _)) (h 0 e refl)
 no_items (e ∷ es) (suc i) h = no_items es i (λ j x at. h (suc j) x at)
 
-no_port : (es : List Ends) (i : ℕ) → ((i : ℕ) (e : Ends) → slice_get es i ≡ Some e → content e ≡ []) → get_or ([] ∷ map items es) i [] ≡ []
+no_port : (es : List LaneEndsView) (i : ℕ) → ((i : ℕ) (e : LaneEndsView) → slice_get es i ≡ Some e → content e ≡ []) → get_or ([] ∷ map items es) i [] ≡ []
 no_port es zero h = refl
 no_port es (suc i) h = no_items es i h
 

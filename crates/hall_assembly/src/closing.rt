@@ -2,8 +2,8 @@
 ghost use Rattle.std.specs.Prelude.{◌≡◌, ◌≢◌, ◌+◌, ◌*◌, ◌<◌, ◌≤◌, ℕ, [], ◌∷◌, ◌++◌, length, map, Some, IfOk, IfErr};
 ghost use Rattle.std.specs.Mem.Slots.{slots_items, slots_filled, slots_len, IsFull};
 ghost use Rattle.std.specs.Vec.{vec_len, vec_capacity};
-ghost use Rattle.requester_core.specs.Requesting.{Requesting};
-ghost use Rattle.lane_ends.specs.Steps.{Ends};
+ghost use Rattle.requester_core.specs.RequesterView.{RequesterView};
+ghost use Rattle.lane_ends.specs.Steps.{LaneEndsView};
 ghost use Rattle.fabric_laws.specs.Fabric.{Fabric};
 ghost use Rattle.fabric_core.specs.Steps.{HasLanes};
 ghost use Rattle.hall_laws.specs.Calls.{IsSized};
@@ -38,7 +38,7 @@ fn next(closed: &mut Slots, at: usize) -> PartValue
 
 /// The lane whose ends are in this slot and the three after it.
 fn next_lane(closed: &mut Slots, at: usize) -> LaneEnds
-    requires { IsEmptiedTo (slots_filled closed.old.slots) (slots_len closed.old.slots) at × (at + 3 < slots_len closed.old.slots) × (e : Ends) × EndsAt (slots_items closed.old.slots) at e }
+    requires { IsEmptiedTo (slots_filled closed.old.slots) (slots_len closed.old.slots) at × (at + 3 < slots_len closed.old.slots) × (e : LaneEndsView) × EndsAt (slots_items closed.old.slots) at e }
     ensures value { EndsAt (slots_items closed.old.slots) at result }
     ensures rest { IsEmptiedTo (slots_filled closed.new.slots) (slots_len closed.new.slots) (at + 4) × (slots_items closed.new.slots ≡ slots_items closed.old.slots) × (slots_len closed.new.slots ≡ slots_len closed.old.slots) }
 {
@@ -65,8 +65,8 @@ fn next_lane(closed: &mut Slots, at: usize) -> LaneEnds
 /// What stands at the port after those that are there.
 fn next_station(closed: &mut Slots, shelves: &mut Shelves, at: usize)
     requires room { IsEmptiedTo (slots_filled closed.old.slots) (slots_len closed.old.slots) at × (at + 8 < slots_len closed.old.slots) × (vec_len shelves.old.requesters < vec_capacity shelves.old.requesters) × (vec_len shelves.old.up < vec_capacity shelves.old.up) × (vec_len shelves.old.down < vec_capacity shelves.old.down) }
-    requires there { (q : Requesting) × (u : Ends) × (d : Ends) × StationFrom (slots_items closed.old.slots) at q u d }
-    ensures value { (q : Requesting) × (u : Ends) × (d : Ends) × StationFrom (slots_items closed.old.slots) at q u d × (shelves.new.requesters.items ≡ shelves.old.requesters.items ++ q ∷ []) × (shelves.new.up.items ≡ shelves.old.up.items ++ u ∷ []) × (shelves.new.down.items ≡ shelves.old.down.items ++ d ∷ []) }
+    requires there { (q : RequesterView) × (u : LaneEndsView) × (d : LaneEndsView) × StationFrom (slots_items closed.old.slots) at q u d }
+    ensures value { (q : RequesterView) × (u : LaneEndsView) × (d : LaneEndsView) × StationFrom (slots_items closed.old.slots) at q u d × (shelves.new.requesters.items ≡ shelves.old.requesters.items ++ q ∷ []) × (shelves.new.up.items ≡ shelves.old.up.items ++ u ∷ []) × (shelves.new.down.items ≡ shelves.old.down.items ++ d ∷ []) }
     ensures rest { IsEmptiedTo (slots_filled closed.new.slots) (slots_len closed.new.slots) (at + 9) × (slots_items closed.new.slots ≡ slots_items closed.old.slots) × (slots_len closed.new.slots ≡ slots_len closed.old.slots) }
     ensures len { (vec_len shelves.new.requesters ≡ vec_len shelves.old.requesters + 1) × (vec_len shelves.new.up ≡ vec_len shelves.old.up + 1) × (vec_len shelves.new.down ≡ vec_len shelves.old.down + 1) }
     ensures capacity { (vec_capacity shelves.new.requesters ≡ vec_capacity shelves.old.requesters) × (vec_capacity shelves.new.up ≡ vec_capacity shelves.old.up) × (vec_capacity shelves.new.down ≡ vec_capacity shelves.old.down) }

@@ -5,7 +5,7 @@ use mathlib.Core.Option.{some-injective}
 use Rattle.tlp_core.specs.declared.operation.Op.{Op}
 use Rattle.seq_memory.specs.declared.Entry.{Entry}
 use Rattle.seq_memory.specs.declared.Reply.{Reply}
-use Rattle.seq_memory.specs.History.{State, extent_of, reply_at}
+use Rattle.seq_memory.specs.History.{MemoryView, extent_of, reply_at}
 use Rattle.seq_memory.specs.Limits.{Extent}
 use Rattle.requester_core.specs.declared.requester.Answer.{Answer}
 use Rattle.history_check.specs.declared.Record.TheVariants.{Sub, Ans}
@@ -31,12 +31,12 @@ use Rattle.hall_laws.proofs.Told.{ExplainsLaw, new_request, explained, legal_for
 use Rattle.hall_laws.proofs.Waits.{waits}
 
 -- the memory was taken first, and then two other parts
-memory_held : (s : Traced) (u r : ℕ) (x y : PartValue) (m : State) (t : Token) → t.held ≡ (u, x) ∷ ((r, y) ∷ ((0, Memory m) ∷ [])) → Agrees s t.held → s.fabric.memory ≡ m
+memory_held : (s : Traced) (u r : ℕ) (x y : PartValue) (m : MemoryView) (t : Token) → t.held ≡ (u, x) ∷ ((r, y) ∷ ((0, Memory m) ∷ [])) → Agrees s t.held → s.fabric.memory ≡ m
 memory_held s u r x y m t held a =
     let b : Agrees s ((u, x) ∷ ((r, y) ∷ ((0, Memory m) ∷ []))) = subst (Agrees s) held a in
     let same : Memory s.fabric.memory ≡ Memory m = some-injective (Memory s.fabric.memory) (Memory m) b.1.1.0 in cc
 
-pub submit_tells : (laws : Laws) (t t' : Token) (ts : List Token) (u r k : ℕ) (x y v : PartValue) (m : State) (op : Op) → Known (t ∷ ts) → t.held ≡ (u, x) ∷ ((r, y) ∷ ((0, Memory m) ∷ [])) → Goes (events.Submit (suc t.knows.number) op) (seen.Submitted k) t r v t'
+pub submit_tells : (laws : Laws) (t t' : Token) (ts : List Token) (u r k : ℕ) (x y v : PartValue) (m : MemoryView) (op : Op) → Known (t ∷ ts) → t.held ≡ (u, x) ∷ ((r, y) ∷ ((0, Memory m) ∷ [])) → Goes (events.Submit (suc t.knows.number) op) (seen.Submitted k) t r v t'
     → SubmitTells t.knows k op (length m.entries) (learned (events.Submit (suc t.knows.number) op) (seen.Submitted k) m.entries t.knows)
 submit_tells laws t t' ts u r k x y v m op known held g =
     let s : Traced = known.0 in let sound : IsSoundTraced s = known.1 in let a = known.2.0.0 in let f = known.2.0.1 in
@@ -47,17 +47,17 @@ submit_tells laws t t' ts u r k x y v m op known held g =
     let happens : Happens s.fabric (events.Submit i op) (seen.Submitted k) after = go.happens in
     let same : after.memory ≡ s.fabric.memory = submit_memory s.fabric i op (seen.Submitted k) after happens in
     let b : Belongs (whole_of after) (s.records ++ Sub i k op (length s.fabric.memory.entries) ∷ []) = (stays_sound laws s after (events.Submit i op) (seen.Submitted k) sound happens).belongs in
-    let b' : Belongs (whole_of after) (s.records ++ Sub i k op (length after.memory.entries) ∷ []) = subst (λ (z : State). Belongs (whole_of after) (s.records ++ Sub i k op (length z.entries) ∷ [])) (sym same) b in
+    let b' : Belongs (whole_of after) (s.records ++ Sub i k op (length after.memory.entries) ∷ []) = subst (λ (z : MemoryView). Belongs (whole_of after) (s.records ++ Sub i k op (length z.entries) ∷ [])) (sym same) b in
     let new = new_request (whole_of after) s.records i k op b' in
     record {
-      begins = subst (λ (z : State). Begins t.knows.seen z.entries) is_m f.seen;
+      begins = subst (λ (z : MemoryView). Begins t.knows.seen z.entries) is_m f.seen;
       is_length = refl;
       number = new.0 ∙ ap length (sym f.made);
-      new = subst (λ (z : State). stands z.entries i k ≡ Rattle.std.proofs.Common.false) (same ∙ is_m) new.1;
+      new = subst (λ (z : MemoryView). stands z.entries i k ≡ Rattle.std.proofs.Common.false) (same ∙ is_m) new.1;
       knows = refl;
     }
 
-pub collect_tells : (laws : Laws) (explains : ExplainsLaw) (t t' : Token) (ts : List Token) (u r : ℕ) (x y v : PartValue) (m : State) (answer : Answer) → Known (t ∷ ts) → t.held ≡ (u, x) ∷ ((r, y) ∷ ((0, Memory m) ∷ []))
+pub collect_tells : (laws : Laws) (explains : ExplainsLaw) (t t' : Token) (ts : List Token) (u r : ℕ) (x y v : PartValue) (m : MemoryView) (answer : Answer) → Known (t ∷ ts) → t.held ≡ (u, x) ∷ ((r, y) ∷ ((0, Memory m) ∷ []))
     → Goes (events.Collect (suc t.knows.number)) (seen.Collected answer) t r v t'
     → CollectTells t.knows answer.number answer.reply (length m.entries) (learned (events.Collect (suc t.knows.number)) (seen.Collected answer) m.entries t.knows)
 collect_tells laws explains t t' ts u r x y v m answer known held g =
@@ -70,12 +70,12 @@ collect_tells laws explains t t' ts u r x y v m answer known held g =
     let happens : Happens s.fabric (events.Collect i) (seen.Collected answer) after = go.happens in
     let same : after.memory ≡ s.fabric.memory = collect_memory s.fabric i (seen.Collected answer) after happens in
     let b : Belongs (whole_of after) (s.records ++ Ans i k answer.reply (length s.fabric.memory.entries) ∷ []) = (stays_sound laws s after (events.Collect i) (seen.Collected answer) sound happens).belongs in
-    let b' : Belongs (whole_of after) (s.records ++ Ans i k answer.reply (length after.memory.entries) ∷ []) = subst (λ (z : State). Belongs (whole_of after) (s.records ++ Ans i k answer.reply (length z.entries) ∷ [])) (sym same) b in
+    let b' : Belongs (whole_of after) (s.records ++ Ans i k answer.reply (length after.memory.entries) ∷ []) = subst (λ (z : MemoryView). Belongs (whole_of after) (s.records ++ Ans i k answer.reply (length z.entries) ∷ [])) (sym same) b in
     let e = explained (whole_of after) s.records i k answer.reply b' in
-    let legal : IsLegalFor i t.knows.made m.entries = subst (λ (z : State). IsLegalFor i t.knows.made z.entries) is_m (subst (λ (l : List Op). IsLegalFor i l s.fabric.memory.entries) (sym f.made) (legal_for explains s i sound)) in
-    let there : slice_get m.entries e.point ≡ Some (record { requester = i; number = k; op = e.op }) = ap (λ (z : State). slice_get z.entries e.point) (sym (same ∙ is_m)) ∙ e.acted in
+    let legal : IsLegalFor i t.knows.made m.entries = subst (λ (z : MemoryView). IsLegalFor i t.knows.made z.entries) is_m (subst (λ (l : List Op). IsLegalFor i l s.fabric.memory.entries) (sym f.made) (legal_for explains s i sound)) in
+    let there : slice_get m.entries e.point ≡ Some (record { requester = i; number = k; op = e.op }) = ap (λ (z : MemoryView). slice_get z.entries e.point) (sym (same ∙ is_m)) ∙ e.acted in
     record {
-      begins = subst (λ (z : State). Begins t.knows.seen z.entries) is_m f.seen;
+      begins = subst (λ (z : MemoryView). Begins t.knows.seen z.entries) is_m f.seen;
       is_length = refl;
       since = e.since;
       waited = subst (Has (k, e.since)) (sym f.pending) (waits i k e.since e.place e.op s.records e.asked e.not_posted e.unanswered);
@@ -83,7 +83,7 @@ collect_tells laws explains t t' ts u r x y v m answer known held g =
       point = e.point;
       op = e.op;
       after_submission = e.after_submission;
-      before_answer = subst (λ (z : State). e.point < length z.entries) (same ∙ is_m) e.before_answer;
+      before_answer = subst (λ (z : MemoryView). e.point < length z.entries) (same ∙ is_m) e.before_answer;
       acted = there;
       submitted = (legal e.point (record { requester = i; number = k; op = e.op }) there refl).submitted;
       replied = reply_there s after same is_m f.config e.point answer.reply e.replied;
@@ -100,19 +100,19 @@ collect_tells laws explains t t' ts u r x y v m answer known held g =
         → reply_at (extent_of after.memory) after.memory.entries point ≡ Some reply → reply_at (extent_for t.knows.config) m.entries point ≡ Some reply
     reply_there s after same is_m c point reply e =
         ap (λ (x : Extent). reply_at x m.entries point) (same_extent s.fabric t.knows.config c) ∙
-        (ap (λ (l : List Entry). reply_at (extent_of s.fabric.memory) l point) (ap (λ (z : State). z.entries) (sym is_m)) ∙
-        (ap (λ (z : State). reply_at (extent_of z) z.entries point) (sym same) ∙ e))
+        (ap (λ (l : List Entry). reply_at (extent_of s.fabric.memory) l point) (ap (λ (z : MemoryView). z.entries) (sym is_m)) ∙
+        (ap (λ (z : MemoryView). reply_at (extent_of z) z.entries point) (sym same) ∙ e))
 
 -- the view that holds the memory alone: each of its tokens may have seen all of the history
-pub sees_tells : (t : Token) (ts : List Token) (m : State) → Known (t ∷ ts) → t.held ≡ (0, Memory m) ∷ [] → SeesTells t.knows (record t.knows { seen = m.entries })
+pub sees_tells : (t : Token) (ts : List Token) (m : MemoryView) → Known (t ∷ ts) → t.held ≡ (0, Memory m) ∷ [] → SeesTells t.knows (record t.knows { seen = m.entries })
 sees_tells t ts m known held =
     let b : Agrees known.0 ((0, Memory m) ∷ []) = subst (Agrees known.0) held known.2.0.0 in
     let same : Memory known.0.fabric.memory ≡ Memory m = some-injective (Memory known.0.fabric.memory) (Memory m) b.0 in
     let is_m : known.0.fabric.memory ≡ m = cc in
-    record { begins = subst (λ (z : State). Begins t.knows.seen z.entries) is_m known.2.0.1.seen; knows = refl }
+    record { begins = subst (λ (z : MemoryView). Begins t.knows.seen z.entries) is_m known.2.0.1.seen; knows = refl }
 
 -- two tokens of which the first holds the memory
-pub both_met : (explains : ExplainsLaw) (t u : Token) (m : State) → Known (t ∷ (u ∷ [])) → t.held ≡ (0, Memory m) ∷ [] → Met t.knows m.entries (record t.knows { seen = m.entries }) × Met u.knows m.entries (record u.knows { seen = m.entries })
+pub both_met : (explains : ExplainsLaw) (t u : Token) (m : MemoryView) → Known (t ∷ (u ∷ [])) → t.held ≡ (0, Memory m) ∷ [] → Met t.knows m.entries (record t.knows { seen = m.entries }) × Met u.knows m.entries (record u.knows { seen = m.entries })
 both_met explains t u m known held =
     let s : Traced = known.0 in
     let b : Agrees s ((0, Memory m) ∷ []) = subst (Agrees s) held known.2.0.0 in
@@ -122,10 +122,10 @@ both_met explains t u m known held =
   where
     met : (s : Traced) (w : Knowledge) → IsSoundTraced s → Fits s w → s.fabric.memory ≡ m → Met w m.entries (record w { seen = m.entries })
     met s w sound f is_m = record {
-      begins = subst (λ (z : State). Begins w.seen z.entries) is_m f.seen;
+      begins = subst (λ (z : MemoryView). Begins w.seen z.entries) is_m f.seen;
       knows = refl;
-      answered = subst (λ (z : State). AnsweredStand w z.entries) is_m (answered_stand s w sound f);
-      legal = subst (λ (z : State). IsLegalFor (suc w.number) w.made z.entries) is_m (subst (λ (l : List Op). IsLegalFor (suc w.number) l s.fabric.memory.entries) (sym f.made) (legal_for explains s (suc w.number) sound));
+      answered = subst (λ (z : MemoryView). AnsweredStand w z.entries) is_m (answered_stand s w sound f);
+      legal = subst (λ (z : MemoryView). IsLegalFor (suc w.number) w.made z.entries) is_m (subst (λ (l : List Op). IsLegalFor (suc w.number) l s.fabric.memory.entries) (sym f.made) (legal_for explains s (suc w.number) sound));
     }
 
 pub event_shows : (event : Event) (what : Seen) (t t' : Token) (ts : List Token) (k : ℕ) (v : PartValue) → Known (t ∷ ts) → Goes event what t k v t' → Shows t.knows event what

@@ -8,7 +8,7 @@ use native.Mathlib.Decide.{ℕ_discrete}
 use lib.ListN.{get_elem?}
 use Rattle.hall_laws.proofs.Lists.{set_here, set_else}
 use Rattle.tlp_core.specs.declared.operation.Op.{Op}
-use Rattle.tlp_core.specs.Packet.{Packet}
+use Rattle.tlp_core.specs.TlpView.{TlpView}
 use Rattle.tlp_core.specs.Operation.{op_of, is_posted}
 use Rattle.seq_memory.specs.declared.Entry.{Entry}
 use Rattle.lane_core.specs.Calls.{content}
@@ -162,7 +162,7 @@ pub record Laws : Type 0 where
   pub sound : (f f' : Fabric) (event : Event) (what : Seen) → IsSoundFabric f → Happens f event what f' → IsSoundFabric f'
   pub belongs : (p p' : Whole) (rs ss : List Record) → Sound p → Belongs p rs → Run p p' ss → Belongs p' (rs ++ ss)
   pub begins : (p p' : Whole) (rs : List Record) → Sound p → Run p p' rs → (new : List Entry) × (p'.history ≡ p.history ++ new)
-  pub asks : (f : Fabric) (place mark : ℕ) (t : Packet) → IsRouted f → slice_get (content f.inward) place ≡ Some (t, mark) → is_some (op_of t) ≡ true
+  pub asks : (f : Fabric) (place mark : ℕ) (t : TlpView) → IsRouted f → slice_get (content f.inward) place ≡ Some (t, mark) → is_some (op_of t) ≡ true
 
 module _ (laws : Laws) where
   one_step : (f f' : Fabric) (event : Event) (what : Seen) → IsSoundFabric f → Happens f event what f' → Run (whole_of f) (whole_of f') (records_of event what (length f.memory.entries))

@@ -1,7 +1,7 @@
 -- One lane of a fabric, by its name.
 use Rattle.std.proofs.Common.{◌≡◌, ℕ, zero, suc, ◌+◌, ◌*◌, ◌<◌, List, length, length-set, set, refl, sym, ap, ◌∙◌, arith}
 use Rattle.std.specs.Prelude.{slice_get}
-use Rattle.lane_ends.specs.Steps.{Ends}
+use Rattle.lane_ends.specs.Steps.{LaneEndsView}
 use Rattle.fabric_laws.specs.Fabric.{Fabric}
 use Rattle.fabric_core.specs.declared.event.LaneName.{LaneName}
 use Rattle.fabric_core.specs.declared.event.LaneName.TheVariants.{Up, Down, Inward, Outward}
@@ -10,7 +10,7 @@ use Rattle.hall_laws.specs.declared.part.PartValue.{PartValue}
 use Rattle.hall_laws.specs.Parts.{ends, parts_of, lane_slot, HasLane, IsLaneName, with_lane}
 use Rattle.hall_laws.proofs.Parts.{has_at, get_set, set_twice, put_end}
 
-pub lane_there : (f : Fabric) → HasLanes f → (name : LaneName) → IsLaneName (length f.requesters) name → (e : Ends) × HasLane f name e
+pub lane_there : (f : Fabric) → HasLanes f → (name : LaneName) → IsLaneName (length f.requesters) name → (e : LaneEndsView) × HasLane f name e
 lane_there f h (Up zero) n = absurd (let z = n.0 in omega arith)
 lane_there f h (Up (suc place)) n = let e = has_at f.up place (omega (arith, h.up, n.1)) in (e.0, (place, record { is_port = refl; there = e.1 }))
 lane_there f h (Down zero) n = absurd (let z = n.0 in omega arith)
@@ -18,7 +18,7 @@ lane_there f h (Down (suc place)) n = let e = has_at f.down place (omega (arith,
 lane_there f h Inward n = (f.inward, refl)
 lane_there f h Outward n = (f.outward, refl)
 
-pub with_lane_lanes : (f : Fabric) (name : LaneName) (e : Ends) → HasLanes f → HasLanes (with_lane f name e)
+pub with_lane_lanes : (f : Fabric) (name : LaneName) (e : LaneEndsView) → HasLanes f → HasLanes (with_lane f name e)
 with_lane_lanes f (Up zero) e h = record { few = h.few; up = h.up; down = h.down }
 with_lane_lanes f (Up (suc n)) e h = record { few = h.few; up = length-set f.up n e ∙ h.up; down = h.down }
 with_lane_lanes f (Down zero) e h = record { few = h.few; up = h.up; down = h.down }
@@ -26,7 +26,7 @@ with_lane_lanes f (Down (suc n)) e h = record { few = h.few; up = h.up; down = l
 with_lane_lanes f Inward e h = record { few = h.few; up = h.up; down = h.down }
 with_lane_lanes f Outward e h = record { few = h.few; up = h.up; down = h.down }
 
-with_lane_has : (f : Fabric) (name : LaneName) (e e' : Ends) → HasLane f name e → HasLane (with_lane f name e') name e'
+with_lane_has : (f : Fabric) (name : LaneName) (e e' : LaneEndsView) → HasLane f name e → HasLane (with_lane f name e') name e'
 with_lane_has f (Up zero) e e' (place, has) = absurd (let p = has.is_port in omega arith)
 with_lane_has f (Up (suc n)) e e' (place, has) =
     let same : place ≡ n = (let p = has.is_port in omega arith) in
@@ -38,16 +38,16 @@ with_lane_has f (Down (suc n)) e e' (place, has) =
 with_lane_has f Inward e e' has = refl
 with_lane_has f Outward e e' has = refl
 
-with_lane_twice : (f : Fabric) (name : LaneName) (e e' : Ends) → with_lane (with_lane f name e) name e' ≡ with_lane f name e'
+with_lane_twice : (f : Fabric) (name : LaneName) (e e' : LaneEndsView) → with_lane (with_lane f name e) name e' ≡ with_lane f name e'
 with_lane_twice f (Up zero) e e' = refl
-with_lane_twice f (Up (suc n)) e e' = ap (λ (l : List Ends). record f { up = l }) (set_twice f.up n e e')
+with_lane_twice f (Up (suc n)) e e' = ap (λ (l : List LaneEndsView). record f { up = l }) (set_twice f.up n e e')
 with_lane_twice f (Down zero) e e' = refl
-with_lane_twice f (Down (suc n)) e e' = ap (λ (l : List Ends). record f { down = l }) (set_twice f.down n e e')
+with_lane_twice f (Down (suc n)) e e' = ap (λ (l : List LaneEndsView). record f { down = l }) (set_twice f.down n e e')
 with_lane_twice f Inward e e' = refl
 with_lane_twice f Outward e e' = refl
 
 -- two ends of a lane change
-pub put_two : (f : Fabric) (h : HasLanes f) (name : LaneName) (e mid e' : Ends) (c d j k : ℕ) (v w : PartValue) → HasLane f name e → c < 4 → d < 4 → j ≡ lane_slot name + c → k ≡ lane_slot name + d
+pub put_two : (f : Fabric) (h : HasLanes f) (name : LaneName) (e mid e' : LaneEndsView) (c d j k : ℕ) (v w : PartValue) → HasLane f name e → c < 4 → d < 4 → j ≡ lane_slot name + c → k ≡ lane_slot name + d
     → ends mid ≡ set (ends e) c v → ends e' ≡ set (ends mid) d w → parts_of (with_lane f name e') ≡ set (set (parts_of f) j v) k w
 put_two f h name e mid e' c d j k v w has small_c small_d at_j at_k first second =
     ap parts_of (sym (with_lane_twice f name mid e'))

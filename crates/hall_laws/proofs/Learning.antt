@@ -3,15 +3,15 @@ use Rattle.std.proofs.Common.{◌≡◌, ℕ, zero, suc, ◌<◌, Bool, true, fa
 use Rattle.std.specs.Prelude.{slice_get, if◌then◌else◌, is_some}
 use Rattle.std.specs.Option.{option_map_or}
 use Rattle.tlp_core.specs.declared.operation.Op.{Op}
-use Rattle.tlp_core.specs.Packet.{Packet}
+use Rattle.tlp_core.specs.TlpView.{TlpView}
 use Rattle.tlp_core.specs.Operation.{is_posted, op_of}
 use Rattle.seq_memory.specs.declared.Entry.{Entry}
-use Rattle.seq_memory.specs.History.{State}
+use Rattle.seq_memory.specs.History.{MemoryView}
 use Rattle.requester_core.specs.declared.requester.Answer.{Answer}
-use Rattle.requester_core.specs.Requesting.{Requesting}
+use Rattle.requester_core.specs.RequesterView.{RequesterView}
 use Rattle.completer_core.specs.Serving.{completion_to, after_serving, request_entry, with_entry}
 use Rattle.vc_queue.specs.Queue.{Item, is_takeable}
-use Rattle.lane_ends.specs.Steps.{Ends, Incoming, Outgoing}
+use Rattle.lane_ends.specs.Steps.{LaneEndsView, ReceiverEndView, SenderEndView}
 use Rattle.lane_core.specs.Calls.{content}
 use Rattle.history_check.specs.declared.Record.{Record}
 use Rattle.history_check.specs.declared.Record.TheVariants.{Sub, Ans}
@@ -45,7 +45,7 @@ of_then : {A B : Type 0} (P : B → Type 0) (a : Result A Refusal) (g : A → Re
 of_then P (Ok x) g y each h = each x refl h
 of_then P (Err r) g y each h = absurd cc
 
-item_there : (r : Incoming) (place : ℕ) (x : Item) → item_at r place ≡ Ok x → slice_get r.queue place ≡ Some x
+item_there : (r : ReceiverEndView) (place : ℕ) (x : Item) → item_at r place ≡ Ok x → slice_get r.queue place ≡ Some x
 item_there r place x h = by_test (is_takeable r.queue place) (slice_get r.queue place) h
   where
     by_test : (b : Bool) (o : Option Item) → (if b then some_or refusals.NotTakeable o else Err refusals.NotTakeable) ≡ Ok x → o ≡ Some x
@@ -54,19 +54,19 @@ item_there r place x h = by_test (is_takeable r.queue place) (slice_get r.queue 
     by_test false o e = absurd cc
 
 -- of a request that acted
-abbrev Served : Incoming → ℕ → State → ℕ × Incoming × State × Outgoing → Type 0
+abbrev Served : ReceiverEndView → ℕ → MemoryView → ℕ × ReceiverEndView × MemoryView × SenderEndView → Type 0
 Served r place m y = (x : Item) × (slice_get r.queue place ≡ Some x) × (y.0 ≡ length m.entries) × (y.2 ≡ after_serving m x.0 x.1)
 
-served : (r : Incoming) (place : ℕ) (m : State) (s : Outgoing) (y : ℕ × Incoming × State × Outgoing) → serve_on r place m s ≡ Ok y → Served r place m y
+served : (r : ReceiverEndView) (place : ℕ) (m : MemoryView) (s : SenderEndView) (y : ℕ × ReceiverEndView × MemoryView × SenderEndView) → serve_on r place m s ≡ Ok y → Served r place m y
 served r place m s y h =
     of_then (Served r place m) (item_at r place) _ y
     (λ x there. of_map (Served r place m) (act_on m x.0 x.1 s) _ y
-    (λ z did. let now = of_map (λ (z : ℕ × State × Outgoing). (z.0 ≡ length m.entries) × (z.1 ≡ after_serving m x.0 x.1)) (enter_if_any s (completion_to m x.0) x.1) _ z (λ s' in_lane. (refl, refl)) did in
+    (λ z did. let now = of_map (λ (z : ℕ × MemoryView × SenderEndView). (z.0 ≡ length m.entries) × (z.1 ≡ after_serving m x.0 x.1)) (enter_if_any s (completion_to m x.0) x.1) _ z (λ s' in_lane. (refl, refl)) did in
     (x, item_there r place x there, now.0, now.1))) h
 
 -- ---- the configuration stays
 
-serving_keeps : (m : State) (t : Packet) (mark : ℕ) → ((after_serving m t mark).base ≡ m.base) × ((after_serving m t mark).size ≡ m.size) × ((after_serving m t mark).block ≡ m.block)
+serving_keeps : (m : MemoryView) (t : TlpView) (mark : ℕ) → ((after_serving m t mark).base ≡ m.base) × ((after_serving m t mark).size ≡ m.size) × ((after_serving m t mark).block ≡ m.block)
 serving_keeps m t mark = kept (op_of t)
   where
     kept : (o : Option Op) → ((option_map_or (λ op. with_entry m (request_entry t mark op)) o m).base ≡ m.base) × ((option_map_or (λ op. with_entry m (request_entry t mark op)) o m).size ≡ m.size) × ((option_map_or (λ op. with_entry m (request_entry t mark op)) o m).block ≡ m.block)
@@ -77,21 +77,21 @@ module _ (c : Config) where
   abbrev Still : Seen × Fabric → Type 0
   Still y = HasConfig y.1 c
 
-  lane_config : (f : Fabric) (name : LaneName) (e : Ends) → HasConfig f c → HasConfig (with_lane f name e) c
+  lane_config : (f : Fabric) (name : LaneName) (e : LaneEndsView) → HasConfig f c → HasConfig (with_lane f name e) c
   lane_config f (lanes.Up port) e h = record { requesters = h.requesters; base = h.base; size = h.size; block = h.block; credits = h.credits }
   lane_config f (lanes.Down port) e h = record { requesters = h.requesters; base = h.base; size = h.size; block = h.block; credits = h.credits }
   lane_config f lanes.Inward e h = record { requesters = h.requesters; base = h.base; size = h.size; block = h.block; credits = h.credits }
   lane_config f lanes.Outward e h = record { requesters = h.requesters; base = h.base; size = h.size; block = h.block; credits = h.credits }
 
-  requester_config : (f : Fabric) (port : ℕ) (q : Requesting) → HasConfig f c → HasConfig (with_requester f port q) c
+  requester_config : (f : Fabric) (port : ℕ) (q : RequesterView) → HasConfig f c → HasConfig (with_requester f port q) c
   requester_config f zero q h = record { requesters = h.requesters; base = h.base; size = h.size; block = h.block; credits = h.credits }
   requester_config f (suc i) q h = record { requesters = length-set f.requesters i q ∙ h.requesters; base = h.base; size = h.size; block = h.block; credits = h.credits }
 
-  serving_config : (f : Fabric) (place : ℕ) (y : ℕ × Incoming × State × Outgoing) → Served f.inward.receiver place f.memory y → HasConfig f c
+  serving_config : (f : Fabric) (place : ℕ) (y : ℕ × ReceiverEndView × MemoryView × SenderEndView) → Served f.inward.receiver place f.memory y → HasConfig f c
       → HasConfig (record f { memory = y.2; inward = record f.inward { receiver = y.1 }; outward = record f.outward { sender = y.3 } }) c
   serving_config f place y (x, there, at, m) h =
       let k = serving_keeps f.memory x.0 x.1 in
-      record { requesters = h.requesters; base = ap (λ (s : State). s.base) m ∙ (k.0 ∙ h.base); size = ap (λ (s : State). s.size) m ∙ (k.1 ∙ h.size); block = ap (λ (s : State). s.block) m ∙ (k.2 ∙ h.block); credits = h.credits }
+      record { requesters = h.requesters; base = ap (λ (s : MemoryView). s.base) m ∙ (k.0 ∙ h.base); size = ap (λ (s : MemoryView). s.size) m ∙ (k.1 ∙ h.size); block = ap (λ (s : MemoryView). s.block) m ∙ (k.2 ∙ h.block); credits = h.credits }
 
   link_config : (f : Fabric) (name : LaneName) (event : LinkEvent) (y : Seen × Fabric) → link_at f name event ≡ Ok y → HasConfig f c → HasConfig y.1 c
   link_config f name event y x h = of_then Still (lane_at f name) _ y (λ e there. of_map Still (link_on e event) _ y (λ z did. lane_config f name z.1 h)) x
@@ -139,14 +139,14 @@ pub data Learning (h : List Entry) (event : Event) (what : Seen) (w : Knowledge)
       → learned event what h w ≡ record w { seen = h; pending = without a.number w.pending } → Learning h event what w h'
   serves : records_of event what (length h) ≡ [] → learned event what h w ≡ record w { served = w.served ++ length h ∷ [] } → length h < length h' → Learning h event what w h'
 
-grown : (m : State) (t : Packet) (mark : ℕ) → is_some (op_of t) ≡ true → length m.entries < length (after_serving m t mark).entries
+grown : (m : MemoryView) (t : TlpView) (mark : ℕ) → is_some (op_of t) ≡ true → length m.entries < length (after_serving m t mark).entries
 grown m t mark e = go (op_of t) e
   where
     go : (o : Option Op) → is_some o ≡ true → length m.entries < length (option_map_or (λ op. with_entry m (request_entry t mark op)) o m).entries
     go None n = absurd (cc)
     go (Some op) n = let l = length-append m.entries (request_entry t mark op ∷ []) in omega arith
 
-module _ (asks : (f : Fabric) (place mark : ℕ) (t : Packet) → IsRouted f → slice_get (content f.inward) place ≡ Some (t, mark) → is_some (op_of t) ≡ true) where
+module _ (asks : (f : Fabric) (place mark : ℕ) (t : TlpView) → IsRouted f → slice_get (content f.inward) place ≡ Some (t, mark) → is_some (op_of t) ≡ true) where
   -- what is seen, and what the fabric is then
   abbrev Told : List Entry → Event → Knowledge → Seen × Fabric → Type 0
   Told h event w y = ((n : ℕ) → Each (λ (r : Record). requester_in r ≡ suc w.number) (records_of event y.0 n)) → Learning h event y.0 w y.1.memory.entries
@@ -172,7 +172,7 @@ module _ (asks : (f : Fabric) (place mark : ℕ) (t : Packet) → IsRouted f →
       let (y, there, at, m) = served f.inward.receiver place f.memory f.outward.sender z did in
       let some_op : is_some (op_of y.0) ≡ true = asks f place y.1 y.0 r (get_before f.inward.receiver.queue _ place y there) in
       let longer : length h < length (after_serving f.memory y.0 y.1).entries = grown f.memory y.0 y.1 some_op in
-      let same : length z.2.entries ≡ length (after_serving f.memory y.0 y.1).entries = ap (λ (s : State). length s.entries) m in
+      let same : length z.2.entries ≡ length (after_serving f.memory y.0 y.1).entries = ap (λ (s : MemoryView). length s.entries) m in
       serves refl (ap (λ (n : ℕ). record w { served = w.served ++ n ∷ [] }) at) (omega arith)) x.0 own
   learning f (events.Collect port) what f' w r x own =
       let P : Seen × Fabric → Type 0 = Told f.memory.entries (events.Collect port) w in

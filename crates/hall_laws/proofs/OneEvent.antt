@@ -4,15 +4,15 @@ use Rattle.std.specs.Prelude.{if◌then◌else◌, ◌==◌, ◌&&◌, not}
 use Rattle.std.proofs.lemmas.Bool.Decides.{nat_tests}
 use mathlib.Core.Option.{some, some-injective}
 use lib.ListN.{get_elem?}
-use Rattle.tlp_core.specs.Packet.{Packet}
+use Rattle.tlp_core.specs.TlpView.{TlpView}
 use Rattle.tlp_core.specs.Operation.{is_completion}
 use Rattle.dllp_core.specs.declared.packet.Dllp.{Dllp}
-use Rattle.seq_memory.specs.History.{State}
-use Rattle.requester_core.specs.Requesting.{Requesting}
+use Rattle.seq_memory.specs.History.{MemoryView}
+use Rattle.requester_core.specs.RequesterView.{RequesterView}
 use Rattle.vc_queue.specs.Queue.{Item}
 use Rattle.history_check.specs.declared.Record.{Record}
 use Rattle.lane_ends.specs.declared.packet.WirePacket.{WirePacket}
-use Rattle.lane_ends.specs.Steps.{Ends, Incoming, Outgoing}
+use Rattle.lane_ends.specs.Steps.{LaneEndsView, ReceiverEndView, SenderEndView}
 use Rattle.switch_core.specs.Routing.{route, port_of, is_requester}
 use Rattle.switch_core.specs.declared.fault.RouteFault.TheVariants.{NoPort}
 use Rattle.fabric_laws.specs.Lists.{Each}
@@ -39,10 +39,10 @@ use Rattle.hall_laws.proofs.Lanes.{lane_there}
 
 -- ---- a part by its value
 
-pub is_sender : (a b : Outgoing) → some (Sender a) ≡ some (Sender b) → a ≡ b
+pub is_sender : (a b : SenderEndView) → some (Sender a) ≡ some (Sender b) → a ≡ b
 is_sender a b e = let same : Sender a ≡ Sender b = some-injective (Sender a) (Sender b) e in cc
 
-pub is_receiver : (a b : Incoming) → some (Receiver a) ≡ some (Receiver b) → a ≡ b
+pub is_receiver : (a b : ReceiverEndView) → some (Receiver a) ≡ some (Receiver b) → a ≡ b
 is_receiver a b e = let same : Receiver a ≡ Receiver b = some-injective (Receiver a) (Receiver b) e in cc
 
 pub is_forward : (a b : List WirePacket) → some (Forward a) ≡ some (Forward b) → a ≡ b
@@ -51,15 +51,15 @@ is_forward a b e = let same : Forward a ≡ Forward b = some-injective (Forward 
 pub is_back : (a b : List Dllp) → some (Back a) ≡ some (Back b) → a ≡ b
 is_back a b e = let same : Back a ≡ Back b = some-injective (Back a) (Back b) e in cc
 
-pub is_requester_part : (a b : Requesting) → some (Requester a) ≡ some (Requester b) → a ≡ b
+pub is_requester_part : (a b : RequesterView) → some (Requester a) ≡ some (Requester b) → a ≡ b
 is_requester_part a b e = let same : Requester a ≡ Requester b = some-injective (Requester a) (Requester b) e in cc
 
-pub is_memory : (a b : State) → some (Memory a) ≡ some (Memory b) → a ≡ b
+pub is_memory : (a b : MemoryView) → some (Memory a) ≡ some (Memory b) → a ≡ b
 is_memory a b e = let same : Memory a ≡ Memory b = some-injective (Memory a) (Memory b) e in cc
 
 -- ---- the parts of a fabric
 
-pub lane_is : (f : Fabric) (name : LaneName) (e : Ends) → HasLane f name e → lane_at f name ≡ Ok e
+pub lane_is : (f : Fabric) (name : LaneName) (e : LaneEndsView) → HasLane f name e → lane_at f name ≡ Ok e
 lane_is f (lanes.Up port) e (place, has) = rw (has.is_port, has.there) refl
 lane_is f (lanes.Down port) e (place, has) = rw (has.is_port, has.there) refl
 lane_is f lanes.Inward e has = ap Ok has
@@ -68,15 +68,15 @@ lane_is f lanes.Outward e has = ap Ok has
 -- a fabric that fits what a seat knows
 module _ (s : Traced) (sound : IsSoundTraced s) (w : Knowledge) (fits : Fits s w) where
   -- it has the lane of a name that the seat knows
-  pub the_lane : (name : LaneName) → IsLaneName w.config.requesters name → (e : Ends) × HasLane s.fabric name e
+  pub the_lane : (name : LaneName) → IsLaneName w.config.requesters name → (e : LaneEndsView) × HasLane s.fabric name e
   the_lane name named = lane_there s.fabric sound.sound.lanes name (subst (λ (n : ℕ). IsLaneName n name) (sym fits.config.requesters) named)
 
   -- an end of it is the part at its slot
-  pub the_end : (name : LaneName) (e : Ends) (c k : ℕ) (v : PartValue) → HasLane s.fabric name e → c < 4 → k ≡ lane_slot name + c → get_elem? (parts s) k ≡ some v → get_elem? (ends e) c ≡ some v
+  pub the_end : (name : LaneName) (e : LaneEndsView) (c k : ℕ) (v : PartValue) → HasLane s.fabric name e → c < 4 → k ≡ lane_slot name + c → get_elem? (parts s) k ≡ some v → get_elem? (ends e) c ≡ some v
   the_end name e c k v has small at is = sym (get_end s.fabric sound.sound.lanes name e c k has small at) ∙ is
 
   -- it has a requester at a port that the seat knows, and that is the part at its slot
-  pub the_requester : (port : ℕ) (q : Requesting) → 0 < port → port ≤ w.config.requesters → get_elem? (parts s) (slot port 0) ≡ some (Requester q) → (place : ℕ) × HasPart s.fabric.requesters port place q
+  pub the_requester : (port : ℕ) (q : RequesterView) → 0 < port → port ≤ w.config.requesters → get_elem? (parts s) (slot port 0) ≡ some (Requester q) → (place : ℕ) × HasPart s.fabric.requesters port place q
   the_requester zero q some_port small is = absurd (omega arith)
   the_requester (suc i) q some_port small is =
       let there = has_at s.fabric.requesters i (omega (arith, fits.config.requesters)) in
@@ -147,13 +147,13 @@ refuses_err grows a r is = subst (λ (z : Result _ Refusal). Refuses grows z r) 
 -- ---- the ways of packets
 
 -- a packet that came in from a requester goes to the memory
-pub goes_inward : (r : Incoming) (place from to : ℕ) → 0 < from → destination_on r place from ≡ Ok to → to ≡ 0
+pub goes_inward : (r : ReceiverEndView) (place from to : ℕ) → 0 < from → destination_on r place from ≡ Ok to → to ≡ 0
 goes_inward r place from to some_port h = by_item (item_at r place) h
   where
     not_memory : (from == 0) ≡ false
     not_memory = grind (arith, nat_tests)
 
-    by_kind : (t : Packet) (c z : Bool) → z ≡ false → map_err refusals.Route (if c then (if z && is_requester (port_of t) then Ok (port_of t) else Err NoPort) else (if not z then Ok 0 else Err NoPort)) ≡ Ok to → to ≡ 0
+    by_kind : (t : TlpView) (c z : Bool) → z ≡ false → map_err refusals.Route (if c then (if z && is_requester (port_of t) then Ok (port_of t) else Err NoPort) else (if not z then Ok 0 else Err NoPort)) ≡ Ok to → to ≡ 0
     by_kind t c true e k = absurd cc
     by_kind t true false e k = absurd cc
     by_kind t false false e k = cc
@@ -163,10 +163,10 @@ goes_inward r place from to some_port h = by_item (item_at r place) h
     by_item (Ok x) e = by_kind x.0 (is_completion x.0.kind) (from == 0) not_memory e
 
 -- one that came in from the memory goes to a requester
-pub goes_outward : (r : Incoming) (place : ℕ) → destination_on r place 0 ≡ Ok 0 → ⊥
+pub goes_outward : (r : ReceiverEndView) (place : ℕ) → destination_on r place 0 ≡ Ok 0 → ⊥
 goes_outward r place h = by_item (item_at r place) h
   where
-    by_kind : (t : Packet) (c z : Bool) → is_requester (port_of t) ≡ z → map_err refusals.Route (if c then (if true && z then Ok (port_of t) else Err NoPort) else (if false then Ok 0 else Err NoPort)) ≡ Ok 0 → ⊥
+    by_kind : (t : TlpView) (c z : Bool) → is_requester (port_of t) ≡ z → map_err refusals.Route (if c then (if true && z then Ok (port_of t) else Err NoPort) else (if false then Ok 0 else Err NoPort)) ≡ Ok 0 → ⊥
     by_kind t true true e k = let port : port_of t ≡ 0 = cc in grind (arith, nat_tests)
     by_kind t true false e k = absurd cc
     by_kind t false z e k = absurd cc

@@ -5,10 +5,10 @@ use mathlib.Core.Option.{some}
 use lib.ListN.{get_elem?}
 use Rattle.dllp_core.specs.declared.packet.Dllp.{Dllp}
 use Rattle.seq_memory.specs.declared.Entry.{Entry}
-use Rattle.seq_memory.specs.History.{State}
-use Rattle.requester_core.specs.Requesting.{Requesting}
+use Rattle.seq_memory.specs.History.{MemoryView}
+use Rattle.requester_core.specs.RequesterView.{RequesterView}
 use Rattle.history_check.specs.declared.Record.{Record}
-use Rattle.lane_ends.specs.Steps.{Ends, Incoming, Outgoing}
+use Rattle.lane_ends.specs.Steps.{LaneEndsView, ReceiverEndView, SenderEndView}
 use Rattle.fabric_laws.specs.Lists.{Each}
 use Rattle.fabric_laws.specs.Fabric.{Fabric}
 use Rattle.fabric_core.specs.declared.event.Event.{Event}
@@ -49,20 +49,20 @@ record IsLinkEvent (event : Event) (name : LaneName) (link : LinkEvent) (what : 
 no_records : (event : Event) (what : Seen) (i n : ℕ) → records_of event what n ≡ [] → Each (λ (r : Record). requester_in r ≡ i) (records_of event what n)
 no_records event what i n none = subst (Each (λ (r : Record). requester_in r ≡ i)) (sym none) tt
 
-linked : (f : Fabric) (name : LaneName) (link : LinkEvent) (what : Seen) (e e' : Ends) → HasLane f name e → link_on e link ≡ Ok (what, e') → link_at f name link ≡ Ok (what, with_lane f name e')
+linked : (f : Fabric) (name : LaneName) (link : LinkEvent) (what : Seen) (e e' : LaneEndsView) → HasLane f name e → link_on e link ≡ Ok (what, e') → link_at f name link ≡ Ok (what, with_lane f name e')
 linked f name link what e e' has did = rw (lane_is f name e has, did) refl
 
 module _ (event : Event) (name : LaneName) (link : LinkEvent) (what : Seen) (is : IsLinkEvent event name link what) (t : Token) (named : KnowsLane t name) where
   -- over the ends at the places c and d, of which the first is released
   link_of_two : (c d : ℕ) (v v' w w' : PartValue) → c < 4 → d < 4 → d ≢ c → t.held ≡ (lane_slot name + d, w) ∷ ((lane_slot name + c, v) ∷ [])
-      → ((e : Ends) → get_elem? (ends e) c ≡ some v → get_elem? (ends e) d ≡ some w → (mid : Ends) × (e' : Ends) × (link_on e link ≡ Ok (what, e')) × (ends mid ≡ set (ends e) d w') × (ends e' ≡ set (ends mid) c v'))
+      → ((e : LaneEndsView) → get_elem? (ends e) c ≡ some v → get_elem? (ends e) d ≡ some w → (mid : LaneEndsView) × (e' : LaneEndsView) × (link_on e link ≡ Ok (what, e')) × (ends mid ≡ set (ends e) d w') × (ends e' ≡ set (ends mid) c v'))
       → Goes event what t (lane_slot name + c) v' (record t { held = (lane_slot name + d, w') ∷ [] })
   link_of_two c d v v' w w' small_c small_d apart held does =
       goes event what t (record t { held = (lane_slot name + d, w') ∷ [] }) (lane_slot name + c) v' ((lane_slot name + d, w) ∷ ((lane_slot name + c, v) ∷ [])) held (leave_two (lane_slot name + c) (lane_slot name + d) v w w' (λ z. apart (omega arith)))
       (λ n. no_records event what (suc t.knows.number) n (is.silent n))
       (λ s sound a f.
       let lane = the_lane s sound t.knows f name named in
-      let e : Ends = lane.0 in
+      let e : LaneEndsView = lane.0 in
       let x = does e (the_end s sound t.knows f name e c (lane_slot name + c) v lane.1 small_c refl a.1.0) (the_end s sound t.knows f name e d (lane_slot name + d) w lane.1 small_d refl a.0) in record {
         after = with_lane s.fabric name x.1;
         happens = is.happens s.fabric (with_lane s.fabric name x.1) (linked s.fabric name link what e x.1 lane.1 x.2);
@@ -71,12 +71,12 @@ module _ (event : Event) (name : LaneName) (link : LinkEvent) (what : Seen) (is 
       })
 
   -- over the sender's end
-  link_of_sender : (v v' : Outgoing) → t.held ≡ (lane_slot name, Sender v) ∷ [] → ((e : Ends) → e.sender ≡ v → link_on e link ≡ Ok (what, record e { sender = v' })) → Goes event what t (lane_slot name) (Sender v') (record t { held = [] })
+  link_of_sender : (v v' : SenderEndView) → t.held ≡ (lane_slot name, Sender v) ∷ [] → ((e : LaneEndsView) → e.sender ≡ v → link_on e link ≡ Ok (what, record e { sender = v' })) → Goes event what t (lane_slot name) (Sender v') (record t { held = [] })
   link_of_sender v v' held does =
       goes event what t (record t { held = [] }) (lane_slot name) (Sender v') ((lane_slot name, Sender v) ∷ []) held (leave_one (lane_slot name) (Sender v)) (λ n. no_records event what (suc t.knows.number) n (is.silent n))
       (λ s sound a f.
       let lane = the_lane s sound t.knows f name named in
-      let e : Ends = lane.0 in let e' : Ends = record e { sender = v' } in
+      let e : LaneEndsView = lane.0 in let e' : LaneEndsView = record e { sender = v' } in
       let same : e.sender ≡ v = is_sender e.sender v (the_end s sound t.knows f name e 0 (lane_slot name) (Sender v) lane.1 (omega arith) (omega arith) a.0) in record {
         after = with_lane s.fabric name e';
         happens = is.happens s.fabric (with_lane s.fabric name e') (linked s.fabric name link what e e' lane.1 (does e same));
@@ -102,7 +102,7 @@ send_dllp_goes t name r r' b b' kind d named held did =
     (λ e x y. let did' : send_dllp_on e.receiver e.back kind ≡ Ok (d, r', b') = rw (is_receiver e.receiver r x, is_back e.back b y) did in (
       record e { back = b' },
       record e { back = b'; receiver = r' },
-      ap (λ (a : Result (Dllp × Incoming × List Dllp) Refusal). map_ok a (λ z. (seen.SentDllp z.0, record e { receiver = z.1; back = z.2 }))) did',
+      ap (λ (a : Result (Dllp × ReceiverEndView × List Dllp) Refusal). map_ok a (λ z. (seen.SentDllp z.0, record e { receiver = z.1; back = z.2 }))) did',
       refl,
       refl,
     ))
@@ -127,10 +127,10 @@ retrained_goes t name s s' named held did =
 -- the lanes of a forwarding are two
 record AreTwo (name next : LaneName) : Type 0 where
   slots : lane_slot next ≢ lane_slot name + 3
-  keeps : (f : Fabric) (e n : Ends) → HasLane f name e → HasLane (with_lane f next n) name e
-  either : (f : Fabric) (e n : Ends) → with_lane (with_lane f name e) next n ≡ with_lane (with_lane f next n) name e
+  keeps : (f : Fabric) (e n : LaneEndsView) → HasLane f name e → HasLane (with_lane f next n) name e
+  either : (f : Fabric) (e n : LaneEndsView) → with_lane (with_lane f name e) next n ≡ with_lane (with_lane f next n) name e
 
-forward_goes : (t : Token) (name next : LaneName) (from place to : ℕ) (r r' : Incoming) (s s' : Outgoing) → KnowsLane t name → KnowsLane t next → AreTwo name next → port_from name ≡ Ok from → lane_to to ≡ next
+forward_goes : (t : Token) (name next : LaneName) (from place to : ℕ) (r r' : ReceiverEndView) (s s' : SenderEndView) → KnowsLane t name → KnowsLane t next → AreTwo name next → port_from name ≡ Ok from → lane_to to ≡ next
     → t.held ≡ (lane_slot next, Sender s) ∷ ((lane_slot name + 3, Receiver r) ∷ [])
     → destination_on r place from ≡ Ok to → forward_on r place s ≡ Ok (r', s') → ForwardFits r place
     → Goes (events.Forward name place) (seen.To to) t (lane_slot name + 3) (Receiver r') (record t { held = (lane_slot next, Sender s') ∷ [] })
@@ -140,15 +140,15 @@ forward_goes t name next from place to r r' s s' named known two is_from is_next
     (λ w sound a f.
     let g : Fabric = w.fabric in
     let here = the_lane w sound t.knows f name named in let there = the_lane w sound t.knows f next known in
-    let e : Ends = here.0 in let n : Ends = there.0 in
+    let e : LaneEndsView = here.0 in let n : LaneEndsView = there.0 in
     let is_r : e.receiver ≡ r = is_receiver e.receiver r (the_end w sound t.knows f name e 3 (lane_slot name + 3) (Receiver r) here.1 (omega arith) refl a.1.0) in
     let is_s : n.sender ≡ s = is_sender n.sender s (the_end w sound t.knows f next n 0 (lane_slot next) (Sender s) there.1 (omega arith) (omega arith) a.0) in
-    let e' : Ends = record e { receiver = r' } in let n' : Ends = record n { sender = s' } in
+    let e' : LaneEndsView = record e { receiver = r' } in let n' : LaneEndsView = record n { sender = s' } in
     let mid : Fabric = with_lane g next n' in record {
       after = with_lane (with_lane g name e') next n';
       happens = (
         rw (is_from, lane_is g name e here.1, is_r, routed, is_next, lane_is g next n there.1, is_s, did) refl,
-        λ x at. let same : e ≡ x = same_ok (sym (lane_is g name e here.1) ∙ at) in subst (λ (z : Incoming). ForwardFits z place) (sym is_r ∙ ap (λ (z : Ends). z.receiver) same) spelled,
+        λ x at. let same : e ≡ x = same_ok (sym (lane_is g name e here.1) ∙ at) in subst (λ (z : ReceiverEndView). ForwardFits z place) (sym is_r ∙ ap (λ (z : LaneEndsView). z.receiver) same) spelled,
       );
       parts = ap parts_of (two.either g e' n')
           ∙ (put_end mid (with_lane_lanes g next n' sound.sound.lanes) name e e' 3 (lane_slot name + 3) (Receiver r') (two.keeps g e n' here.1) (omega arith) refl refl
@@ -187,19 +187,19 @@ serve_goes t place at r r' m m' s s' held did spelled =
 
 -- ---- a requester's call
 
-same_requesters : (f : Fabric) (name : LaneName) (e : Ends) → (with_lane f name e).requesters ≡ f.requesters
+same_requesters : (f : Fabric) (name : LaneName) (e : LaneEndsView) → (with_lane f name e).requesters ≡ f.requesters
 same_requesters f (lanes.Up port) e = refl
 same_requesters f (lanes.Down port) e = refl
 same_requesters f lanes.Inward e = refl
 same_requesters f lanes.Outward e = refl
 
 -- over the end at the place c of this lane, whose ends are then as `after` says
-request_goes : (event : Event) (what : Seen) (t : Token) (port c u : ℕ) (name : LaneName) (m : State) (q q' : Requesting) (v v' : PartValue) (after : Ends → Ends)
+request_goes : (event : Event) (what : Seen) (t : Token) (port c u : ℕ) (name : LaneName) (m : MemoryView) (q q' : RequesterView) (v v' : PartValue) (after : LaneEndsView → LaneEndsView)
     → IsAtPort t port → KnowsLane t name → c < 4 → u ≡ lane_slot name + c → 0 < u → u ≢ slot port 0
     → t.held ≡ (u, v) ∷ ((slot port 0, Requester q) ∷ ((0, Memory m) ∷ []))
     → ((n : ℕ) → Each (λ (r : Record). requester_in r ≡ suc t.knows.number) (records_of event what n))
-    → ((e : Ends) → ends (after e) ≡ set (ends e) c v')
-    → ((f : Fabric) (e : Ends) → get_elem? (ends e) c ≡ some v → part_at f.requesters port ≡ Ok q → HasLane f name e → Happens f event what (with_requester (with_lane f name (after e)) port q'))
+    → ((e : LaneEndsView) → ends (after e) ≡ set (ends e) c v')
+    → ((f : Fabric) (e : LaneEndsView) → get_elem? (ends e) c ≡ some v → part_at f.requesters port ≡ Ok q → HasLane f name e → Happens f event what (with_requester (with_lane f name (after e)) port q'))
     → Goes event what t (slot port 0) (Requester q') (after_event event what m.entries ((u, v') ∷ ((0, Memory m) ∷ [])) t)
 request_goes event what t port c u name m q q' v v' after at named small at_u some_u apart held own is_after does =
     goes event what t (after_event event what m.entries ((u, v') ∷ ((0, Memory m) ∷ [])) t) (slot port 0) (Requester q') ((u, v) ∷ ((slot port 0, Requester q) ∷ ((0, Memory m) ∷ []))) held
@@ -208,24 +208,24 @@ request_goes event what t port c u name m q q' v v' after at named small at_u so
     let g : Fabric = w.fabric in
     let h = sound.sound.lanes in
     let lane = the_lane w sound t.knows f name named in
-    let e : Ends = lane.0 in
+    let e : LaneEndsView = lane.0 in
     let there = the_requester w sound t.knows f port q (let p = at.0 in omega arith) at.1 b.1.0 in
     let is_m : g.memory ≡ m = is_memory g.memory m b.1.1.0 in
     let mid : Fabric = with_lane g name (after e) in record {
       after = with_requester mid port q';
       happens = does g e (the_end w sound t.knows f name e c u v lane.1 small at_u b.0) (rw (there.1.is_port, there.1.there) refl) lane.1;
       parts = ap (λ (n : ℕ). parts_of (with_requester mid n q')) there.1.is_port
-          ∙ (put_requester mid (with_lane_lanes g name (after e) h) there.0 q q' (slot port 0) (ap (λ (l : List Requesting). slice_get l there.0) (same_requesters g name (after e)) ∙ there.1.there) (ap (λ (n : ℕ). slot n 0) there.1.is_port)
+          ∙ (put_requester mid (with_lane_lanes g name (after e) h) there.0 q q' (slot port 0) (ap (λ (l : List RequesterView). slice_get l there.0) (same_requesters g name (after e)) ∙ there.1.there) (ap (λ (n : ℕ). slot n 0) there.1.is_port)
           ∙ (ap (λ (l : List PartValue). set l (slot port 0) (Requester q')) (put_end g h name e (after e) c u v' lane.1 small at_u (is_after e))
-          ∙ ap (λ (z : State). set (set (set (parts_of g) 0 (Memory z)) u v') (slot port 0) (Requester q')) is_m));
-      knows = ap (λ (z : State). learned event what z.entries t.knows) (sym is_m);
+          ∙ ap (λ (z : MemoryView). set (set (set (parts_of g) 0 (Memory z)) u v') (slot port 0) (Requester q')) is_m));
+      knows = ap (λ (z : MemoryView). learned event what z.entries t.knows) (sym is_m);
     })
 
 pub submit_goes : SubmitOwes
 submit_goes t port number op m q q' s s' at held did fits =
     request_goes (events.Submit port op) (seen.Submitted number) t port 0 (slot port 1) (lanes.Up port) m q q' (Sender s) (Sender s') (λ e. record e { sender = s' }) at ((let p = at.0 in omega arith), at.1) (omega arith) (omega arith) (omega arith) (λ z. omega arith) held
     (λ n. (at.0, tt)) (λ e. refl)
-    (λ f e end part has. (rw (part, lane_is f (lanes.Up port) e has, is_sender e.sender s end, did) refl, λ x there. subst (λ (z : Requesting). SubmitFits z op) (same_ok (sym part ∙ there)) fits))
+    (λ f e end part has. (rw (part, lane_is f (lanes.Up port) e has, is_sender e.sender s end, did) refl, λ x there. subst (λ (z : RequesterView). SubmitFits z op) (same_ok (sym part ∙ there)) fits))
 
 pub collect_goes : CollectOwes
 collect_goes t port x m q q' v v' at held did =

@@ -3,9 +3,9 @@ use Rattle.std.proofs.Common.{◌≡◌, ℕ, zero, suc, ◌+◌, ◌*◌, ◌<�
 use Rattle.std.specs.Prelude.{slice_get}
 use mathlib.Core.Option.{some}
 use lib.ListN.{get_elem?}
-use Rattle.requester_core.specs.Requesting.{Requesting}
-use Rattle.seq_memory.specs.History.{State}
-use Rattle.lane_ends.specs.Steps.{Ends}
+use Rattle.requester_core.specs.RequesterView.{RequesterView}
+use Rattle.seq_memory.specs.History.{MemoryView}
+use Rattle.lane_ends.specs.Steps.{LaneEndsView}
 use Rattle.fabric_laws.specs.Fabric.{Fabric}
 use Rattle.fabric_core.specs.declared.event.LaneName.{LaneName}
 use Rattle.fabric_core.specs.declared.event.LaneName.TheVariants.{Up, Down, Inward, Outward}
@@ -75,13 +75,13 @@ set_flat (x ∷ ss) (suc i) s s' c k v e h at is =
     let same : k ≡ nine_more (9 * i + c) = omega arith in
     ap (λ l. nine x ++ l) (set_flat ss i s s' c (9 * i + c) v e h refl is) ∙ ap (λ n. set (flat (x ∷ ss)) n v) (sym same)
 
-pub stations_length : (qs : List Requesting) (us ds : List Ends) → length us ≡ length qs → length ds ≡ length qs → length (stations qs us ds) ≡ length qs
+pub stations_length : (qs : List RequesterView) (us ds : List LaneEndsView) → length us ≡ length qs → length ds ≡ length qs → length (stations qs us ds) ≡ length qs
 stations_length [] us ds h g = refl
 stations_length (q ∷ qs) [] ds h g = absurd (omega arith)
 stations_length (q ∷ qs) (u ∷ us) [] h g = absurd (omega arith)
 stations_length (q ∷ qs) (u ∷ us) (d ∷ ds) h g = let r = stations_length qs us ds (omega arith) (omega arith) in omega arith
 
-get_station : (qs : List Requesting) (us ds : List Ends) (i : ℕ) (q : Requesting) (u d : Ends) → slice_get qs i ≡ Some q → slice_get us i ≡ Some u → slice_get ds i ≡ Some d
+get_station : (qs : List RequesterView) (us ds : List LaneEndsView) (i : ℕ) (q : RequesterView) (u d : LaneEndsView) → slice_get qs i ≡ Some q → slice_get us i ≡ Some u → slice_get ds i ≡ Some d
     → slice_get (stations qs us ds) i ≡ Some (record { node = Requester q; first = u; second = d })
 get_station [] us ds i q u d a b c = absurd (cc)
 get_station (x ∷ qs) [] ds i q u d a b c = absurd (cc)
@@ -89,7 +89,7 @@ get_station (x ∷ qs) (y ∷ us) [] i q u d a b c = absurd (cc)
 get_station (x ∷ qs) (y ∷ us) (z ∷ ds) zero q u d a b c = cc
 get_station (x ∷ qs) (y ∷ us) (z ∷ ds) (suc i) q u d a b c = get_station qs us ds i q u d a b c
 
-set_requester : (qs : List Requesting) (us ds : List Ends) (i : ℕ) (q : Requesting) (u d : Ends) → slice_get us i ≡ Some u → slice_get ds i ≡ Some d
+set_requester : (qs : List RequesterView) (us ds : List LaneEndsView) (i : ℕ) (q : RequesterView) (u d : LaneEndsView) → slice_get us i ≡ Some u → slice_get ds i ≡ Some d
     → stations (set qs i q) us ds ≡ set (stations qs us ds) i (record { node = Requester q; first = u; second = d })
 set_requester [] us ds i q u d b c = refl
 set_requester (x ∷ qs) [] ds i q u d b c = absurd (cc)
@@ -97,7 +97,7 @@ set_requester (x ∷ qs) (y ∷ us) [] i q u d b c = absurd (cc)
 set_requester (x ∷ qs) (y ∷ us) (z ∷ ds) zero q u d b c = cc
 set_requester (x ∷ qs) (y ∷ us) (z ∷ ds) (suc i) q u d b c = ap (λ l. record { node = Requester x; first = y; second = z } ∷ l) (set_requester qs us ds i q u d b c)
 
-set_up : (qs : List Requesting) (us ds : List Ends) (i : ℕ) (q : Requesting) (u d : Ends) → slice_get qs i ≡ Some q → slice_get ds i ≡ Some d
+set_up : (qs : List RequesterView) (us ds : List LaneEndsView) (i : ℕ) (q : RequesterView) (u d : LaneEndsView) → slice_get qs i ≡ Some q → slice_get ds i ≡ Some d
     → stations qs (set us i u) ds ≡ set (stations qs us ds) i (record { node = Requester q; first = u; second = d })
 set_up [] us ds i q u d a c = absurd (cc)
 set_up (x ∷ qs) [] ds i q u d a c = refl
@@ -105,7 +105,7 @@ set_up (x ∷ qs) (y ∷ us) [] i q u d a c = absurd (cc)
 set_up (x ∷ qs) (y ∷ us) (z ∷ ds) zero q u d a c = cc
 set_up (x ∷ qs) (y ∷ us) (z ∷ ds) (suc i) q u d a c = ap (λ l. record { node = Requester x; first = y; second = z } ∷ l) (set_up qs us ds i q u d a c)
 
-set_down : (qs : List Requesting) (us ds : List Ends) (i : ℕ) (q : Requesting) (u d : Ends) → slice_get qs i ≡ Some q → slice_get us i ≡ Some u
+set_down : (qs : List RequesterView) (us ds : List LaneEndsView) (i : ℕ) (q : RequesterView) (u d : LaneEndsView) → slice_get qs i ≡ Some q → slice_get us i ≡ Some u
     → stations qs us (set ds i d) ≡ set (stations qs us ds) i (record { node = Requester q; first = u; second = d })
 set_down [] us ds i q u d a b = absurd (cc)
 set_down (x ∷ qs) [] ds i q u d a b = absurd (cc)
@@ -121,22 +121,22 @@ parts_length f h = let r = stations_length f.requesters f.up f.down h.up h.down 
 pub get_memory : (f : Fabric) → get_elem? (parts_of f) 0 ≡ some (Memory f.memory)
 get_memory f = refl
 
-pub put_memory : (f : Fabric) (m : State) → parts_of (record f { memory = m }) ≡ set (parts_of f) 0 (Memory m)
+pub put_memory : (f : Fabric) (m : MemoryView) → parts_of (record f { memory = m }) ≡ set (parts_of f) 0 (Memory m)
 put_memory f m = refl
 
 module _ (f : Fabric) (h : HasLanes f) (i : ℕ) where
-  station : (q : Requesting) → slice_get f.requesters i ≡ Some q → (u : Ends) × (d : Ends) × (slice_get f.up i ≡ Some u) × (slice_get f.down i ≡ Some d)
+  station : (q : RequesterView) → slice_get f.requesters i ≡ Some q → (u : LaneEndsView) × (d : LaneEndsView) × (slice_get f.up i ≡ Some u) × (slice_get f.down i ≡ Some d)
   station q a =
       let small = get_within f.requesters i q a in
       let u = has_at f.up i (omega (arith, h.up)) in
       let d = has_at f.down i (omega (arith, h.down)) in (u.0, d.0, u.1, d.1)
 
-  pub get_requester : (q : Requesting) (k : ℕ) → slice_get f.requesters i ≡ Some q → k ≡ slot (suc i) 0 → get_elem? (parts_of f) k ≡ some (Requester q)
+  pub get_requester : (q : RequesterView) (k : ℕ) → slice_get f.requesters i ≡ Some q → k ≡ slot (suc i) 0 → get_elem? (parts_of f) k ≡ some (Requester q)
   get_requester q k a at =
       let s = station q a in
       get_flat (stations_of f) (suc i) (record { node = Requester q; first = s.0; second = s.1 }) 0 k (get_station f.requesters f.up f.down i q s.0 s.1 a s.2 s.3) (omega arith) at
 
-  pub put_requester : (q q' : Requesting) (k : ℕ) → slice_get f.requesters i ≡ Some q → k ≡ slot (suc i) 0 → parts_of (record f { requesters = set f.requesters i q' }) ≡ set (parts_of f) k (Requester q')
+  pub put_requester : (q q' : RequesterView) (k : ℕ) → slice_get f.requesters i ≡ Some q → k ≡ slot (suc i) 0 → parts_of (record f { requesters = set f.requesters i q' }) ≡ set (parts_of f) k (Requester q')
   put_requester q q' k a at =
       let s = station q a in
       let old : Station = record { node = Requester q; first = s.0; second = s.1 } in
@@ -146,7 +146,7 @@ module _ (f : Fabric) (h : HasLanes f) (i : ℕ) where
 
 -- the ends of a lane
 
-pub get_end : (f : Fabric) (h : HasLanes f) (name : LaneName) (e : Ends) (c k : ℕ) → HasLane f name e → c < 4 → k ≡ lane_slot name + c → get_elem? (parts_of f) k ≡ get_elem? (ends e) c
+pub get_end : (f : Fabric) (h : HasLanes f) (name : LaneName) (e : LaneEndsView) (c k : ℕ) → HasLane f name e → c < 4 → k ≡ lane_slot name + c → get_elem? (parts_of f) k ≡ get_elem? (ends e) c
 get_end f h (Up port) e c k (place, has) small at =
     let in_up = get_within f.up place e has.there in
     let q = has_at f.requesters place (omega (arith, h.up)) in
@@ -159,11 +159,11 @@ get_end f h (Down port) e c k (place, has) small at =
     let u = has_at f.up place (omega (arith, h.down, h.up)) in
     get_flat (stations_of f) (suc place) (record { node = Requester q.0; first = u.0; second = e }) (suc (suc (suc (suc (suc c))))) k (get_station f.requesters f.up f.down place q.0 u.0 e q.1 u.1 has.there) (omega arith) (omega (arith, has.is_port, at))
 get_end f h Inward e c k has small at = get_flat (stations_of f) 0 (record { node = Memory f.memory; first = f.inward; second = f.outward }) (suc c) k refl (omega arith) (omega arith)
-    ∙ (get_left (ends f.inward) (ends f.outward) c small ∙ ap (λ (x : Ends). get_elem? (ends x) c) has)
+    ∙ (get_left (ends f.inward) (ends f.outward) c small ∙ ap (λ (x : LaneEndsView). get_elem? (ends x) c) has)
 get_end f h Outward e c k has small at = get_flat (stations_of f) 0 (record { node = Memory f.memory; first = f.inward; second = f.outward }) (suc (suc (suc (suc (suc c))))) k refl (omega arith) (omega arith)
-    ∙ ap (λ (x : Ends). get_elem? (ends x) c) has
+    ∙ ap (λ (x : LaneEndsView). get_elem? (ends x) c) has
 
-pub put_end : (f : Fabric) (h : HasLanes f) (name : LaneName) (e e' : Ends) (c k : ℕ) (v : PartValue) → HasLane f name e → c < 4 → k ≡ lane_slot name + c → ends e' ≡ set (ends e) c v → parts_of (with_lane f name e') ≡ set (parts_of f) k v
+pub put_end : (f : Fabric) (h : HasLanes f) (name : LaneName) (e e' : LaneEndsView) (c k : ℕ) (v : PartValue) → HasLane f name e → c < 4 → k ≡ lane_slot name + c → ends e' ≡ set (ends e) c v → parts_of (with_lane f name e') ≡ set (parts_of f) k v
 put_end f h (Up (suc port)) e e' c k v (place, has) small at is =
     let in_up = get_within f.up place e has.there in
     let q = has_at f.requesters place (omega (arith, h.up)) in
@@ -192,9 +192,9 @@ put_end f h Inward e e' c k v has small at is =
     let old : Station = record { node = Memory f.memory; first = f.inward; second = f.outward } in
     let new : Station = record { node = Memory f.memory; first = e'; second = f.outward } in
     set_flat (stations_of f) 0 old new (suc c) k v refl (omega arith) (omega arith)
-    (ap (λ l. Memory f.memory ∷ (l ++ ends f.outward)) (is ∙ ap (λ (x : Ends). set (ends x) c v) (sym has)) ∙ ap (λ l. Memory f.memory ∷ l) (sym (set_left (ends f.inward) (ends f.outward) c v small)))
+    (ap (λ l. Memory f.memory ∷ (l ++ ends f.outward)) (is ∙ ap (λ (x : LaneEndsView). set (ends x) c v) (sym has)) ∙ ap (λ l. Memory f.memory ∷ l) (sym (set_left (ends f.inward) (ends f.outward) c v small)))
 put_end f h Outward e e' c k v has small at is =
     let old : Station = record { node = Memory f.memory; first = f.inward; second = f.outward } in
     let new : Station = record { node = Memory f.memory; first = f.inward; second = e' } in
     set_flat (stations_of f) 0 old new (suc (suc (suc (suc (suc c))))) k v refl (omega arith) (omega arith)
-    (ap (λ l. Memory f.memory ∷ (ends f.inward ++ l)) (is ∙ ap (λ (x : Ends). set (ends x) c v) (sym has)))
+    (ap (λ l. Memory f.memory ∷ (ends f.inward ++ l)) (is ∙ ap (λ (x : LaneEndsView). set (ends x) c v) (sym has)))

@@ -5,11 +5,11 @@ use Rattle.std.proofs.lemmas.Option.{slice_get_past}
 use mathlib.Core.Option.{some}
 use lib.ListN.{get_elem?}
 use Rattle.dllp_core.specs.declared.packet.Dllp.{Dllp}
-use Rattle.seq_memory.specs.History.{State}
-use Rattle.requester_core.specs.Requesting.{Requesting}
+use Rattle.seq_memory.specs.History.{MemoryView}
+use Rattle.requester_core.specs.RequesterView.{RequesterView}
 use Rattle.switch_core.specs.declared.fault.RouteFault.TheVariants.{NoPort}
 use Rattle.lane_ends.specs.declared.packet.WirePacket.{WirePacket}
-use Rattle.lane_ends.specs.Steps.{Ends, Incoming, Outgoing}
+use Rattle.lane_ends.specs.Steps.{LaneEndsView, ReceiverEndView, SenderEndView}
 use Rattle.fabric_laws.specs.Fabric.{Fabric}
 use Rattle.fabric_core.specs.declared.event.Event.{Event}
 use Rattle.fabric_core.specs.declared.event.Event.TheVariants as events
@@ -49,13 +49,13 @@ module _ (t : Token) (ts : List Token) (held : Values) (k : KnownHolding t ts he
   may event r why = (k.0.0, k.0.1, k.0.2.0.1, why)
 
   module _ (name : LaneName) (named : KnowsLane t name) where
-    abbrev lane : (e : Ends) × HasLane whole name e
+    abbrev lane : (e : LaneEndsView) × HasLane whole name e
     lane = the_lane k.0.0 k.0.1 t.knows k.0.2.0.1 name named
 
     end : (c n : ℕ) (v : PartValue) → c < 4 → n ≡ lane_slot name + c → get_elem? (parts k.0.0) n ≡ some v → get_elem? (ends lane.0) c ≡ some v
     end c n v small at is = the_end k.0.0 k.0.1 t.knows k.0.2.0.1 name lane.0 c n v lane.1 small at is
 
-    sender : (s : Outgoing) → get_elem? (parts k.0.0) (lane_slot name) ≡ some (Sender s) → lane.0.sender ≡ s
+    sender : (s : SenderEndView) → get_elem? (parts k.0.0) (lane_slot name) ≡ some (Sender s) → lane.0.sender ≡ s
     sender s is = is_sender lane.0.sender s (end 0 (lane_slot name) (Sender s) (omega arith) (omega arith) is)
 
     forward : (w : List WirePacket) → get_elem? (parts k.0.0) (lane_slot name + 1) ≡ some (Forward w) → lane.0.forward ≡ w
@@ -64,11 +64,11 @@ module _ (t : Token) (ts : List Token) (held : Values) (k : KnownHolding t ts he
     back : (b : List Dllp) → get_elem? (parts k.0.0) (lane_slot name + 2) ≡ some (Back b) → lane.0.back ≡ b
     back b is = is_back lane.0.back b (end 2 (lane_slot name + 2) (Back b) (omega arith) refl is)
 
-    receiver : (v : Incoming) → get_elem? (parts k.0.0) (lane_slot name + 3) ≡ some (Receiver v) → lane.0.receiver ≡ v
+    receiver : (v : ReceiverEndView) → get_elem? (parts k.0.0) (lane_slot name + 3) ≡ some (Receiver v) → lane.0.receiver ≡ v
     receiver v is = is_receiver lane.0.receiver v (end 3 (lane_slot name + 3) (Receiver v) (omega arith) refl is)
 
     -- a call of the link of the lane, whose answer comes from that over its parts
-    link : {A : Type 0} (event : Event) (call : LinkEvent) (r : Refusal) (grows : A → Refusal → Type 0) (a : Result A Refusal) (g : A → Seen × Ends)
+    link : {A : Type 0} (event : Event) (call : LinkEvent) (r : Refusal) (grows : A → Refusal → Type 0) (a : Result A Refusal) (g : A → Seen × LaneEndsView)
         → ((f : Fabric) → Refuses (event_grows f) (link_at f name call) r → Refused f event r) → link_on lane.0 call ≡ map_ok a g
         → ((x : A) → grows x r → event_grows whole ((g x).0, with_lane whole name (g x).1) r) → Refuses grows a r → MayRefuse t.knows event r
     link event call r grows a g is on same why = may event r (is whole (rw (lane_is whole name lane.0 lane.1, on)
@@ -85,21 +85,21 @@ transmit_refused t ts name s w r named k why =
 pub sender_has_nothing : SenderHasNothing
 sender_has_nothing t ts name s named k none =
     let h : Values = (lane_slot name, Sender s) ∷ [] in
-    let e : Ends = (lane t ts h k name named).0 in
+    let e : LaneEndsView = (lane t ts h k name named).0 in
     link t ts h k name named (events.Transmit name) links.Transmit refusals.Idle lane_grows (transmit_on e.sender e.forward) _ (λ f x. x) refl (λ x h. h)
     (rw (sender t ts h k name named s (there t ts h k).0, none e.forward) refl)
 
 pub deliver_refused : DeliverIsRefused
 deliver_refused t ts name w v fate r named k why =
     let h : Values = (lane_slot name + 3, Receiver v) ∷ ((lane_slot name + 1, Forward w) ∷ []) in let b = there t ts h k in
-    let e : Ends = (lane t ts h k name named).0 in
+    let e : LaneEndsView = (lane t ts h k name named).0 in
     link t ts h k name named (events.Deliver name fate) (links.Deliver fate) r (λ x. arrival_grows x.0) (deliver_on e.forward e.receiver fate) _ (λ f x. x) refl (λ x h. h)
     (rw (forward t ts h k name named w b.1.0, receiver t ts h k name named v b.0) why)
 
 pub wire_has_nothing : WireHasNothing
 wire_has_nothing t ts name w fate named k none =
     let h : Values = (lane_slot name + 1, Forward w) ∷ [] in
-    let e : Ends = (lane t ts h k name named).0 in
+    let e : LaneEndsView = (lane t ts h k name named).0 in
     link t ts h k name named (events.Deliver name fate) (links.Deliver fate) refusals.Idle (λ x. arrival_grows x.0) (deliver_on e.forward e.receiver fate) _ (λ f x. x) refl (λ x h. h)
     (rw (forward t ts h k name named w (there t ts h k).0, none e.receiver) refl)
 
@@ -112,35 +112,35 @@ send_dllp_refused t ts name v b kind r named k why =
 pub deliver_dllp_refused : DeliverDllpIsRefused
 deliver_dllp_refused t ts name b s fate r named k why =
     let h : Values = (lane_slot name, Sender s) ∷ ((lane_slot name + 2, Back b) ∷ []) in let a = there t ts h k in
-    let e : Ends = (lane t ts h k name named).0 in
+    let e : LaneEndsView = (lane t ts h k name named).0 in
     link t ts h k name named (events.DeliverDllp name fate) (links.DeliverDllp fate) r nothing (deliver_dllp_on e.back e.sender fate) _ (λ f x. x) refl (λ x h. absurd h)
     (rw (back t ts h k name named b a.1.0, sender t ts h k name named s a.0, why) refl)
 
 pub back_has_nothing : BackHasNothing
 back_has_nothing t ts name b fate named k none =
     let h : Values = (lane_slot name + 2, Back b) ∷ [] in
-    let e : Ends = (lane t ts h k name named).0 in
+    let e : LaneEndsView = (lane t ts h k name named).0 in
     link t ts h k name named (events.DeliverDllp name fate) (links.DeliverDllp fate) refusals.Idle nothing (deliver_dllp_on e.back e.sender fate) _ (λ f x. x) refl (λ x h. absurd h)
     (rw (back t ts h k name named b (there t ts h k).0, none e.sender) refl)
 
 pub timer_refused : TimerIsRefused
 timer_refused t ts name s r named k why =
     let h : Values = (lane_slot name, Sender s) ∷ [] in
-    let e : Ends = (lane t ts h k name named).0 in
+    let e : LaneEndsView = (lane t ts h k name named).0 in
     link t ts h k name named (events.Timer name) links.Timer r nothing (timer_on e.sender) _ (λ f x. x) refl (λ x h. absurd h)
     (rw (sender t ts h k name named s (there t ts h k).0, why) refl)
 
 pub retrained_refused : RetrainedIsRefused
 retrained_refused t ts name s r named k why =
     let h : Values = (lane_slot name, Sender s) ∷ [] in
-    let e : Ends = (lane t ts h k name named).0 in
+    let e : LaneEndsView = (lane t ts h k name named).0 in
     link t ts h k name named (events.Retrained name) links.Retrained r nothing (retrained_on e.sender) _ (λ f x. x) refl (λ x h. absurd h)
     (rw (sender t ts h k name named s (there t ts h k).0, why) refl)
 
 -- ---- forwarding and serving
 
 -- the packet has no way
-no_way : (t : Token) (ts : List Token) (name : LaneName) (from place : ℕ) (v : Incoming) (r : Refusal) → KnowsLane t name → port_from name ≡ Ok from
+no_way : (t : Token) (ts : List Token) (name : LaneName) (from place : ℕ) (v : ReceiverEndView) (r : Refusal) → KnowsLane t name → port_from name ≡ Ok from
     → KnownHolding t ts ((lane_slot name + 3, Receiver v) ∷ []) → destination_on v place from ≡ Err r → MayRefuse t.knows (events.Forward name place) r
 no_way t ts name from place v r named is k why =
     let h : Values = (lane_slot name + 3, Receiver v) ∷ [] in
@@ -154,7 +154,7 @@ pub out_no_way : OutHasNoWay
 out_no_way t ts place v r k why = no_way t ts lanes.Outward 0 place v r tt refl k why
 
 -- the next lane has no room for it
-kept : (t : Token) (ts : List Token) (name next : LaneName) (from place to : ℕ) (v : Incoming) (s : Outgoing) (r : Refusal) → KnowsLane t name → KnowsLane t next → port_from name ≡ Ok from → lane_to to ≡ next
+kept : (t : Token) (ts : List Token) (name next : LaneName) (from place to : ℕ) (v : ReceiverEndView) (s : SenderEndView) (r : Refusal) → KnowsLane t name → KnowsLane t next → port_from name ≡ Ok from → lane_to to ≡ next
     → KnownHolding t ts ((lane_slot next, Sender s) ∷ ((lane_slot name + 3, Receiver v) ∷ []))
     → destination_on v place from ≡ Ok to → Refuses lane_grows (forward_on v place s) r → MayRefuse t.knows (events.Forward name place) r
 kept t ts name next from place to v s r named known is_from is_next k routed why =
@@ -173,8 +173,8 @@ out_kept t ts place zero v s r named k routed why = absurd (let z = named.0 in o
 out_kept t ts place (suc i) v s r named k routed why = kept t ts lanes.Outward (lanes.Down (suc i)) 0 place (suc i) v s r tt named refl refl k routed why
 
 -- its port has no lane
-no_lane : (f : Fabric) (place i : ℕ) (v : Incoming) → f.outward.receiver ≡ v → destination_on v place 0 ≡ Ok (suc i) → slice_get f.down i ≡ None → Refused f (events.Forward lanes.Outward place) (refusals.Route NoPort)
-no_lane f place i v is routed past = let routed' : destination_on f.outward.receiver place 0 ≡ Ok (suc i) = subst (λ (z : Incoming). destination_on z place 0 ≡ Ok (suc i)) (sym is) routed in rw (routed', past) refl
+no_lane : (f : Fabric) (place i : ℕ) (v : ReceiverEndView) → f.outward.receiver ≡ v → destination_on v place 0 ≡ Ok (suc i) → slice_get f.down i ≡ None → Refused f (events.Forward lanes.Outward place) (refusals.Route NoPort)
+no_lane f place i v is routed past = let routed' : destination_on f.outward.receiver place 0 ≡ Ok (suc i) = subst (λ (z : ReceiverEndView). destination_on z place 0 ≡ Ok (suc i)) (sym is) routed in rw (routed', past) refl
 
 pub out_no_lane : OutHasNoLane
 out_no_lane t ts place zero v k routed none = absurd (goes_outward v place routed)
@@ -194,21 +194,21 @@ serve_refused t ts place v m s r k why =
   where
     serving : (f : Fabric) → f.inward.receiver ≡ v → f.memory ≡ m → f.outward.sender ≡ s → Refuses (λ x. serving_grows f.outward.sender x.3) (serve_on f.inward.receiver place f.memory f.outward.sender) r
     serving f is_v is_m is_s =
-        subst (λ (z : Incoming). Refuses (λ x. serving_grows f.outward.sender x.3) (serve_on z place f.memory f.outward.sender) r) (sym is_v)
-        (subst (λ (z : State). Refuses (λ x. serving_grows f.outward.sender x.3) (serve_on v place z f.outward.sender) r) (sym is_m)
-        (subst (λ (z : Outgoing). Refuses (λ x. serving_grows z x.3) (serve_on v place m z) r) (sym is_s) why))
+        subst (λ (z : ReceiverEndView). Refuses (λ x. serving_grows f.outward.sender x.3) (serve_on z place f.memory f.outward.sender) r) (sym is_v)
+        (subst (λ (z : MemoryView). Refuses (λ x. serving_grows f.outward.sender x.3) (serve_on v place z f.outward.sender) r) (sym is_m)
+        (subst (λ (z : SenderEndView). Refuses (λ x. serving_grows z x.3) (serve_on v place m z) r) (sym is_s) why))
 
 pub in_has_nothing : InHasNothing
 in_has_nothing t ts place v k none =
     let h : Values = (4, Receiver v) ∷ [] in
     let f : Fabric = whole t ts h k in
     let none' : serve_on f.inward.receiver place f.memory f.outward.sender ≡ Err refusals.NotTakeable =
-    subst (λ (z : Incoming). serve_on z place f.memory f.outward.sender ≡ Err refusals.NotTakeable) (sym (is_receiver f.inward.receiver v (there t ts h k).0)) (none f.memory f.outward.sender) in
+    subst (λ (z : ReceiverEndView). serve_on z place f.memory f.outward.sender ≡ Err refusals.NotTakeable) (sym (is_receiver f.inward.receiver v (there t ts h k).0)) (none f.memory f.outward.sender) in
     may t ts h k (events.Serve place) refusals.NotTakeable (refuses_mapped nothing (event_grows f) _ (serve_on f.inward.receiver place f.memory f.outward.sender) refusals.NotTakeable (λ x h. absurd h) (refuses_err nothing (serve_on f.inward.receiver place f.memory f.outward.sender) refusals.NotTakeable none'))
 
 -- ---- a requester's calls
 
-module _ (t : Token) (ts : List Token) (port : ℕ) (at : IsAtPort t port) (q : Requesting) (held : Values) (k : KnownHolding t ts held) where
+module _ (t : Token) (ts : List Token) (port : ℕ) (at : IsAtPort t port) (q : RequesterView) (held : Values) (k : KnownHolding t ts held) where
   asks : get_elem? (parts k.0.0) (slot port 0) ≡ some (Requester q) → part_at k.0.0.fabric.requesters port ≡ Ok q
   asks is = let there = the_requester k.0.0 k.0.1 t.knows k.0.2.0.1 port q (let p = at.0 in omega arith) at.1 is in rw (there.1.is_port, there.1.there) refl
 

@@ -2,12 +2,12 @@
 use Rattle.std.specs.Prelude.{◌≡◌, ◌⊎◌, ℕ, ◌+◌, ◌<◌, List, [], ◌∷◌, Ok, Err}
 use Rattle.tlp_core.specs.declared.operation.Op.{Op}
 use Rattle.dllp_core.specs.declared.packet.Dllp.{Dllp}
-use Rattle.seq_memory.specs.History.{State}
-use Rattle.requester_core.specs.Requesting.{Requesting}
+use Rattle.seq_memory.specs.History.{MemoryView}
+use Rattle.requester_core.specs.RequesterView.{RequesterView}
 use Rattle.lane_ends.specs.declared.packet.WirePacket.{WirePacket}
 use Rattle.lane_ends.specs.declared.packet.Fate.{Fate}
 use Rattle.lane_ends.specs.declared.packet.DllpKind.{DllpKind}
-use Rattle.lane_ends.specs.Steps.{Incoming, Outgoing}
+use Rattle.lane_ends.specs.Steps.{ReceiverEndView, SenderEndView}
 use Rattle.switch_core.specs.declared.fault.RouteFault.TheVariants.{NoPort}
 use Rattle.fabric_core.specs.declared.event.Event.TheVariants as events
 use Rattle.fabric_core.specs.declared.event.LaneName.{LaneName}
@@ -28,18 +28,18 @@ abbrev pub KnownHolding : Token → List Token → Values → Type 0
 KnownHolding t ts held = Known (t ∷ ts) × (t.held ≡ held)
 
 abbrev pub TransmitIsRefused : Type 0
-TransmitIsRefused = (t : Token) (ts : List Token) (name : LaneName) (s : Outgoing) (w : List WirePacket) (r : Refusal) → KnowsLane t name
+TransmitIsRefused = (t : Token) (ts : List Token) (name : LaneName) (s : SenderEndView) (w : List WirePacket) (r : Refusal) → KnowsLane t name
     → KnownHolding t ts ((lane_slot name + 1, Forward w) ∷ ((lane_slot name, Sender s) ∷ []))
     → Refuses lane_grows (transmit_on s w) r → MayRefuse t.knows (events.Transmit name) r
 
 -- the sender has no packet to send, whatever the wire has
 abbrev pub SenderHasNothing : Type 0
-SenderHasNothing = (t : Token) (ts : List Token) (name : LaneName) (s : Outgoing) → KnowsLane t name
+SenderHasNothing = (t : Token) (ts : List Token) (name : LaneName) (s : SenderEndView) → KnowsLane t name
     → KnownHolding t ts ((lane_slot name, Sender s) ∷ [])
     → ((w : List WirePacket) → transmit_on s w ≡ Err refusals.Idle) → MayRefuse t.knows (events.Transmit name) refusals.Idle
 
 abbrev pub DeliverIsRefused : Type 0
-DeliverIsRefused = (t : Token) (ts : List Token) (name : LaneName) (w : List WirePacket) (v : Incoming) (fate : Fate) (r : Refusal) → KnowsLane t name
+DeliverIsRefused = (t : Token) (ts : List Token) (name : LaneName) (w : List WirePacket) (v : ReceiverEndView) (fate : Fate) (r : Refusal) → KnowsLane t name
     → KnownHolding t ts ((lane_slot name + 3, Receiver v) ∷ ((lane_slot name + 1, Forward w) ∷ []))
     → Refuses (λ x. arrival_grows x.0) (deliver_on w v fate) r → MayRefuse t.knows (events.Deliver name fate) r
 
@@ -47,15 +47,15 @@ DeliverIsRefused = (t : Token) (ts : List Token) (name : LaneName) (w : List Wir
 abbrev pub WireHasNothing : Type 0
 WireHasNothing = (t : Token) (ts : List Token) (name : LaneName) (w : List WirePacket) (fate : Fate) → KnowsLane t name
     → KnownHolding t ts ((lane_slot name + 1, Forward w) ∷ [])
-    → ((v : Incoming) → deliver_on w v fate ≡ Err refusals.Idle) → MayRefuse t.knows (events.Deliver name fate) refusals.Idle
+    → ((v : ReceiverEndView) → deliver_on w v fate ≡ Err refusals.Idle) → MayRefuse t.knows (events.Deliver name fate) refusals.Idle
 
 abbrev pub SendDllpIsRefused : Type 0
-SendDllpIsRefused = (t : Token) (ts : List Token) (name : LaneName) (v : Incoming) (b : List Dllp) (kind : DllpKind) (r : Refusal) → KnowsLane t name
+SendDllpIsRefused = (t : Token) (ts : List Token) (name : LaneName) (v : ReceiverEndView) (b : List Dllp) (kind : DllpKind) (r : Refusal) → KnowsLane t name
     → KnownHolding t ts ((lane_slot name + 2, Back b) ∷ ((lane_slot name + 3, Receiver v) ∷ []))
     → Refuses lane_grows (send_dllp_on v b kind) r → MayRefuse t.knows (events.SendDllp name kind) r
 
 abbrev pub DeliverDllpIsRefused : Type 0
-DeliverDllpIsRefused = (t : Token) (ts : List Token) (name : LaneName) (b : List Dllp) (s : Outgoing) (fate : Fate) (r : Refusal) → KnowsLane t name
+DeliverDllpIsRefused = (t : Token) (ts : List Token) (name : LaneName) (b : List Dllp) (s : SenderEndView) (fate : Fate) (r : Refusal) → KnowsLane t name
     → KnownHolding t ts ((lane_slot name, Sender s) ∷ ((lane_slot name + 2, Back b) ∷ []))
     → deliver_dllp_on b s fate ≡ Err r → MayRefuse t.knows (events.DeliverDllp name fate) r
 
@@ -63,63 +63,63 @@ DeliverDllpIsRefused = (t : Token) (ts : List Token) (name : LaneName) (b : List
 abbrev pub BackHasNothing : Type 0
 BackHasNothing = (t : Token) (ts : List Token) (name : LaneName) (b : List Dllp) (fate : Fate) → KnowsLane t name
     → KnownHolding t ts ((lane_slot name + 2, Back b) ∷ [])
-    → ((s : Outgoing) → deliver_dllp_on b s fate ≡ Err refusals.Idle) → MayRefuse t.knows (events.DeliverDllp name fate) refusals.Idle
+    → ((s : SenderEndView) → deliver_dllp_on b s fate ≡ Err refusals.Idle) → MayRefuse t.knows (events.DeliverDllp name fate) refusals.Idle
 
 abbrev pub TimerIsRefused : Type 0
-TimerIsRefused = (t : Token) (ts : List Token) (name : LaneName) (s : Outgoing) (r : Refusal) → KnowsLane t name
+TimerIsRefused = (t : Token) (ts : List Token) (name : LaneName) (s : SenderEndView) (r : Refusal) → KnowsLane t name
     → KnownHolding t ts ((lane_slot name, Sender s) ∷ [])
     → timer_on s ≡ Err r → MayRefuse t.knows (events.Timer name) r
 
 abbrev pub RetrainedIsRefused : Type 0
-RetrainedIsRefused = (t : Token) (ts : List Token) (name : LaneName) (s : Outgoing) (r : Refusal) → KnowsLane t name
+RetrainedIsRefused = (t : Token) (ts : List Token) (name : LaneName) (s : SenderEndView) (r : Refusal) → KnowsLane t name
     → KnownHolding t ts ((lane_slot name, Sender s) ∷ [])
     → retrained_on s ≡ Err r → MayRefuse t.knows (events.Retrained name) r
 
 -- of a packet of an `up` lane that has no way, or may not go
 abbrev pub UpHasNoWay : Type 0
-UpHasNoWay = (t : Token) (ts : List Token) (port place : ℕ) (v : Incoming) (r : Refusal) → KnowsLane t (lanes.Up port)
+UpHasNoWay = (t : Token) (ts : List Token) (port place : ℕ) (v : ReceiverEndView) (r : Refusal) → KnowsLane t (lanes.Up port)
     → KnownHolding t ts ((slot port 1 + 3, Receiver v) ∷ [])
     → destination_on v place port ≡ Err r → MayRefuse t.knows (events.Forward (lanes.Up port) place) r
 
 abbrev pub UpIsKept : Type 0
-UpIsKept = (t : Token) (ts : List Token) (port place to : ℕ) (v : Incoming) (s : Outgoing) (r : Refusal) → KnowsLane t (lanes.Up port)
+UpIsKept = (t : Token) (ts : List Token) (port place to : ℕ) (v : ReceiverEndView) (s : SenderEndView) (r : Refusal) → KnowsLane t (lanes.Up port)
     → KnownHolding t ts ((1, Sender s) ∷ ((slot port 1 + 3, Receiver v) ∷ []))
     → destination_on v place port ≡ Ok to → Refuses lane_grows (forward_on v place s) r → MayRefuse t.knows (events.Forward (lanes.Up port) place) r
 
 -- of a packet of `out` that has no way, or may not go
 abbrev pub OutHasNoWay : Type 0
-OutHasNoWay = (t : Token) (ts : List Token) (place : ℕ) (v : Incoming) (r : Refusal)
+OutHasNoWay = (t : Token) (ts : List Token) (place : ℕ) (v : ReceiverEndView) (r : Refusal)
     → KnownHolding t ts ((8, Receiver v) ∷ [])
     → destination_on v place 0 ≡ Err r → MayRefuse t.knows (events.Forward lanes.Outward place) r
 
 -- the port of the packet has no lane
 abbrev pub OutHasNoLane : Type 0
-OutHasNoLane = (t : Token) (ts : List Token) (place to : ℕ) (v : Incoming)
+OutHasNoLane = (t : Token) (ts : List Token) (place to : ℕ) (v : ReceiverEndView)
     → KnownHolding t ts ((8, Receiver v) ∷ [])
     → destination_on v place 0 ≡ Ok to → (to ≡ 0) ⊎ (t.knows.config.requesters < to) → MayRefuse t.knows (events.Forward lanes.Outward place) (refusals.Route NoPort)
 
 abbrev pub OutIsKept : Type 0
-OutIsKept = (t : Token) (ts : List Token) (place to : ℕ) (v : Incoming) (s : Outgoing) (r : Refusal) → KnowsLane t (lanes.Down to)
+OutIsKept = (t : Token) (ts : List Token) (place to : ℕ) (v : ReceiverEndView) (s : SenderEndView) (r : Refusal) → KnowsLane t (lanes.Down to)
     → KnownHolding t ts ((slot to 5, Sender s) ∷ ((8, Receiver v) ∷ []))
     → destination_on v place 0 ≡ Ok to → Refuses lane_grows (forward_on v place s) r → MayRefuse t.knows (events.Forward lanes.Outward place) r
 
 abbrev pub ServeIsRefused : Type 0
-ServeIsRefused = (t : Token) (ts : List Token) (place : ℕ) (v : Incoming) (m : State) (s : Outgoing) (r : Refusal)
+ServeIsRefused = (t : Token) (ts : List Token) (place : ℕ) (v : ReceiverEndView) (m : MemoryView) (s : SenderEndView) (r : Refusal)
     → KnownHolding t ts ((5, Sender s) ∷ ((0, Memory m) ∷ ((4, Receiver v) ∷ [])))
     → Refuses (λ x. serving_grows s x.3) (serve_on v place m s) r → MayRefuse t.knows (events.Serve place) r
 
 -- `in` has no request at the place that may be taken, whatever the memory and `out` have
 abbrev pub InHasNothing : Type 0
-InHasNothing = (t : Token) (ts : List Token) (place : ℕ) (v : Incoming)
+InHasNothing = (t : Token) (ts : List Token) (place : ℕ) (v : ReceiverEndView)
     → KnownHolding t ts ((4, Receiver v) ∷ [])
-    → ((m : State) (s : Outgoing) → serve_on v place m s ≡ Err refusals.NotTakeable) → MayRefuse t.knows (events.Serve place) refusals.NotTakeable
+    → ((m : MemoryView) (s : SenderEndView) → serve_on v place m s ≡ Err refusals.NotTakeable) → MayRefuse t.knows (events.Serve place) refusals.NotTakeable
 
 abbrev pub SubmitIsRefused : Type 0
-SubmitIsRefused = (t : Token) (ts : List Token) (port : ℕ) (op : Op) (m : State) (q : Requesting) (s : Outgoing) (r : Refusal) → IsAtPort t port
+SubmitIsRefused = (t : Token) (ts : List Token) (port : ℕ) (op : Op) (m : MemoryView) (q : RequesterView) (s : SenderEndView) (r : Refusal) → IsAtPort t port
     → KnownHolding t ts ((slot port 1, Sender s) ∷ ((slot port 0, Requester q) ∷ ((0, Memory m) ∷ [])))
     → Refuses lane_grows (submit_on q s op) r → MayRefuse t.knows (events.Submit port op) r
 
 abbrev pub CollectIsRefused : Type 0
-CollectIsRefused = (t : Token) (ts : List Token) (port : ℕ) (m : State) (q : Requesting) (v : Incoming) (r : Refusal) → IsAtPort t port
+CollectIsRefused = (t : Token) (ts : List Token) (port : ℕ) (m : MemoryView) (q : RequesterView) (v : ReceiverEndView) (r : Refusal) → IsAtPort t port
     → KnownHolding t ts ((slot port 5 + 3, Receiver v) ∷ ((slot port 0, Requester q) ∷ ((0, Memory m) ∷ [])))
     → collect_on v q ≡ Err r → MayRefuse t.knows (events.Collect port) r

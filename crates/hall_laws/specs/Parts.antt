@@ -3,8 +3,8 @@
 use Rattle.std.specs.Prelude.{ℕ, ◌≡◌, ◌<◌, ◌≤◌, suc, ◌+◌, ◌*◌, List, [], ◌∷◌, ◌++◌, Some, slice_get}
 use mathlib.Core.Option.{some}
 use lib.ListN.{get_elem?}
-use Rattle.requester_core.specs.Requesting.{Requesting}
-use Rattle.lane_ends.specs.Steps.{Ends}
+use Rattle.requester_core.specs.RequesterView.{RequesterView}
+use Rattle.lane_ends.specs.Steps.{LaneEndsView}
 use Rattle.fabric_laws.specs.Fabric.{Fabric}
 use Rattle.fabric_core.specs.declared.event.LaneName.{LaneName}
 use Rattle.fabric_core.specs.declared.event.LaneName.TheVariants.{Up, Down, Inward, Outward}
@@ -18,10 +18,10 @@ use Rattle.hall_laws.specs.declared.part.PartValue.TheVariants.{Memory, Requeste
 -- what stands at a port: the memory with the lanes to it and from it, or a requester with the lanes from it and to it
 pub record Station : Type 0 where
   pub node : PartValue
-  pub first : Ends
-  pub second : Ends
+  pub first : LaneEndsView
+  pub second : LaneEndsView
 
-abbrev pub ends : Ends → List PartValue
+abbrev pub ends : LaneEndsView → List PartValue
 ends e = Sender e.sender ∷ Forward e.forward ∷ Back e.back ∷ Receiver e.receiver ∷ []
 
 abbrev pub nine : Station → List PartValue
@@ -31,7 +31,7 @@ abbrev pub flat : List Station → List PartValue
 flat [] = []
 flat (s ∷ ss) = nine s ++ flat ss
 
-abbrev pub stations : List Requesting → List Ends → List Ends → List Station
+abbrev pub stations : List RequesterView → List LaneEndsView → List LaneEndsView → List Station
 stations (q ∷ qs) (u ∷ us) (d ∷ ds) = record { node = Requester q; first = u; second = d } ∷ stations qs us ds
 stations _ _ _ = []
 
@@ -77,8 +77,8 @@ IsPartName count (names.ReceiverEnd name) = IsLaneName count name
 
 -- the requester of a port stands at its slot
 abbrev pub RequestersAreInSlots : Type 0
-RequestersAreInSlots = (f : Fabric) → HasLanes f → (i : ℕ) (q : Requesting) (k : ℕ) → slice_get f.requesters i ≡ Some q → k ≡ slot (suc i) 0 → get_elem? (parts_of f) k ≡ some (Requester q)
+RequestersAreInSlots = (f : Fabric) → HasLanes f → (i : ℕ) (q : RequesterView) (k : ℕ) → slice_get f.requesters i ≡ Some q → k ≡ slot (suc i) 0 → get_elem? (parts_of f) k ≡ some (Requester q)
 
 -- the four ends of a lane stand at its slot and the three after it
 abbrev pub EndsAreInSlots : Type 0
-EndsAreInSlots = (f : Fabric) → HasLanes f → (name : LaneName) (e : Ends) (c k : ℕ) → HasLane f name e → c < 4 → k ≡ lane_slot name + c → get_elem? (parts_of f) k ≡ get_elem? (ends e) c
+EndsAreInSlots = (f : Fabric) → HasLanes f → (name : LaneName) (e : LaneEndsView) (c k : ℕ) → HasLane f name e → c < 4 → k ≡ lane_slot name + c → get_elem? (parts_of f) k ≡ get_elem? (ends e) c

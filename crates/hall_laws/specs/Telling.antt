@@ -1,7 +1,7 @@
 -- What may be concluded of parts that are held.
 use Rattle.std.specs.Prelude.{◌≡◌, ℕ, suc, List, [], ◌∷◌, length}
 use Rattle.tlp_core.specs.declared.operation.Op.{Op}
-use Rattle.seq_memory.specs.History.{State}
+use Rattle.seq_memory.specs.History.{MemoryView}
 use Rattle.requester_core.specs.declared.requester.Answer.{Answer}
 use Rattle.fabric_core.specs.declared.event.Event.{Event}
 use Rattle.fabric_core.specs.declared.event.Event.TheVariants as events
@@ -15,12 +15,12 @@ use Rattle.hall_laws.specs.Shows.{Shows}
 use Rattle.hall_laws.specs.Tells.{SubmitTells, CollectTells, SeesTells, Met}
 
 abbrev pub SubmissionTells : Type 0
-SubmissionTells = (t t' : Token) (ts : List Token) (u r k : ℕ) (x y v : PartValue) (m : State) (op : Op) → Known (t ∷ ts) → t.held ≡ (u, x) ∷ ((r, y) ∷ ((0, Memory m) ∷ []))
+SubmissionTells = (t t' : Token) (ts : List Token) (u r k : ℕ) (x y v : PartValue) (m : MemoryView) (op : Op) → Known (t ∷ ts) → t.held ≡ (u, x) ∷ ((r, y) ∷ ((0, Memory m) ∷ []))
     → Goes (events.Submit (suc t.knows.number) op) (seen.Submitted k) t r v t'
     → SubmitTells t.knows k op (length m.entries) (learned (events.Submit (suc t.knows.number) op) (seen.Submitted k) m.entries t.knows)
 
 abbrev pub CollectionTells : Type 0
-CollectionTells = (t t' : Token) (ts : List Token) (u r : ℕ) (x y v : PartValue) (m : State) (a : Answer) → Known (t ∷ ts) → t.held ≡ (u, x) ∷ ((r, y) ∷ ((0, Memory m) ∷ []))
+CollectionTells = (t t' : Token) (ts : List Token) (u r : ℕ) (x y v : PartValue) (m : MemoryView) (a : Answer) → Known (t ∷ ts) → t.held ≡ (u, x) ∷ ((r, y) ∷ ((0, Memory m) ∷ []))
     → Goes (events.Collect (suc t.knows.number)) (seen.Collected a) t r v t'
     → CollectTells t.knows a.number a.reply (length m.entries) (learned (events.Collect (suc t.knows.number)) (seen.Collected a) m.entries t.knows)
 
@@ -29,7 +29,7 @@ abbrev pub EventShows : Type 0
 EventShows = (event : Event) (what : Seen) (t t' : Token) (ts : List Token) (k : ℕ) (v : PartValue) → Known (t ∷ ts) → Goes event what t k v t' → Shows t.knows event what
 
 abbrev pub LookTells : Type 0
-LookTells = (t : Token) (ts : List Token) (m : State) → Known (t ∷ ts) → t.held ≡ (0, Memory m) ∷ [] → SeesTells t.knows (record t.knows { seen = m.entries })
+LookTells = (t : Token) (ts : List Token) (m : MemoryView) → Known (t ∷ ts) → t.held ≡ (0, Memory m) ∷ [] → SeesTells t.knows (record t.knows { seen = m.entries })
 
 abbrev pub MeetingTells : Type 0
-MeetingTells = (t u : Token) (m : State) → Known (t ∷ (u ∷ [])) → t.held ≡ (0, Memory m) ∷ [] → Met t.knows m.entries (record t.knows { seen = m.entries }) × Met u.knows m.entries (record u.knows { seen = m.entries })
+MeetingTells = (t u : Token) (m : MemoryView) → Known (t ∷ (u ∷ [])) → t.held ≡ (0, Memory m) ∷ [] → Met t.knows m.entries (record t.knows { seen = m.entries }) × Met u.knows m.entries (record u.knows { seen = m.entries })

@@ -5,7 +5,7 @@ use Rattle.tlp_core.specs.declared.operation.Op.{Op}
 use Rattle.tlp_core.specs.Operation.{is_posted}
 use Rattle.seq_memory.specs.declared.Entry.{Entry}
 use Rattle.seq_memory.specs.declared.Reply.{Reply}
-use Rattle.seq_memory.specs.History.{State, extent_of, reply_at}
+use Rattle.seq_memory.specs.History.{MemoryView, extent_of, reply_at}
 use Rattle.history_check.specs.declared.Record.{Record}
 use Rattle.history_check.specs.declared.Record.TheVariants as records
 use Rattle.history_check.specs.Claim.{Claim}
@@ -56,7 +56,7 @@ IsLegal s h = (p : ℕ) (e : Entry) → slice_get h p ≡ Some e → IsLawful s 
 -- ---- linear traces
 
 -- what must hold of an answer with that reply and n to request k of requester i
-pub record IsExplained (m : State) (before : List Record) (i k : ℕ) (reply : Reply) (n : ℕ) : Type 0 where
+pub record IsExplained (m : MemoryView) (before : List Record) (i k : ℕ) (reply : Reply) (n : ℕ) : Type 0 where
   pub place : ℕ
   pub op : Op
   pub since : ℕ
@@ -76,7 +76,7 @@ pub record IsExplained (m : State) (before : List Record) (i k : ℕ) (reply : R
   pub above : (c j n : ℕ) (r : Reply) → c < place → slice_get before c ≡ Some (records.Ans i j r n) → stands (take point m.entries) i j ≡ true
 
 -- each answer is explained by the memory's history, beside the records before it
-abbrev pub IsLinear : State → List Record → Type 0
+abbrev pub IsLinear : MemoryView → List Record → Type 0
 IsLinear m rs =
     (a i k n : ℕ) (reply : Reply) → slice_get rs a ≡ Some (records.Ans i k reply n) → IsExplained m (take a rs) i k reply n
 

@@ -57,9 +57,9 @@ pub struct Trace {
 }
 
 impl Model for Trace {
-    ghost use Rattle.history_check.specs.Observation.{Observation, HasLimits};
+    ghost use Rattle.history_check.specs.TraceView.{TraceView, HasLimits};
 
-    ghost Value = { Observation };
+    ghost Value = { TraceView };
 
     ghost view = { λ t. record { base = t.base; size = t.size; block = t.block; records = t.records.items } };
 

@@ -5,16 +5,16 @@ use Rattle.std.specs.Prelude.{slice_get}
 use Rattle.std.proofs.lemmas.Option.{slice_get_within}
 use Rattle.seq_memory.specs.Limits.{Extent}
 use Rattle.history_check.specs.declared.Record.{Record}
-use Rattle.history_check.specs.Observation.{Observation, observed}
+use Rattle.history_check.specs.TraceView.{TraceView, observed}
 use Rattle.log_runs.specs.declared.Event.{Event}
-use Rattle.log_runs.specs.Task.{Task}
+use Rattle.log_runs.specs.LogView.{LogView}
 use Rattle.log_runs.specs.Tasks.{AreEvents, IsMisformed}
 use Rattle.log_runs.specs.Runs.{Live, Dead, start}
 use Rattle.log_runs.specs.Explainable.{IsExplainable, prefix}
 use Rattle.log_events.specs.Formed.{MisformedAt}
 use Rattle.history_search.specs.Prefixes.{IsUnexplained}
 
-abbrev pub of : Extent → List Event → Task
+abbrev pub of : Extent → List Event → LogView
 of x es = record { extent = x; events = es }
 
 -- the copy of a prefix and the element after it
@@ -25,9 +25,9 @@ copied_more xs ys zs i x y l is old same grown =
 
 -- some run leads through the events of an explainable log
 abbrev pub HaveRuns : Type 0
-HaveRuns = (t : Observation) (es : List Event) → AreEvents t.records es → IsExplainable t → Live (record { extent = observed t; events = es }) (start (record { extent = observed t; events = es }))
+HaveRuns = (t : TraceView) (es : List Event) → AreEvents t.records es → IsExplainable t → Live (record { extent = observed t; events = es }) (start (record { extent = observed t; events = es }))
 
-pub none_from_dead : (t : Observation) (count : ℕ) (log : Task) → HaveRuns → AreEvents (take count t.records) log.events
+pub none_from_dead : (t : TraceView) (count : ℕ) (log : LogView) → HaveRuns → AreEvents (take count t.records) log.events
     → log.extent ≡ observed t → Dead log (start log) → IsExplainable (prefix count t) → ⊥
 none_from_dead t count log law are extent dead e =
     dead (subst (λ (x : Extent). Live (of x log.events) (start (of x log.events))) (sym extent) (law (prefix count t) log.events are e))
@@ -48,12 +48,12 @@ at_take (y ∷ ys) zero p x l e = absurd (omega arith)
 at_take (y ∷ ys) (suc n) zero x l e = e
 at_take (y ∷ ys) (suc n) (suc p) x l e = at_take ys n p x (omega arith) e
 
-pub misformed_inside : (t : Observation) (a : ℕ) → MisformedAt t.records a → a < length t.records
+pub misformed_inside : (t : TraceView) (a : ℕ) → MisformedAt t.records a → a < length t.records
 misformed_inside t a h = slice_get_within t.records a h.0 h.1
 
 -- the records up to a misformed one have no history
-pub misformed_unexplained : (t : Observation) (a : ℕ)
-    → ((u : Observation) (b : ℕ) (r : Record) → IsExplainable u → slice_get u.records b ≡ Some r → IsMisformed (take b u.records) r → ⊥)
+pub misformed_unexplained : (t : TraceView) (a : ℕ)
+    → ((u : TraceView) (b : ℕ) (r : Record) → IsExplainable u → slice_get u.records b ≡ Some r → IsMisformed (take b u.records) r → ⊥)
     → MisformedAt t.records a → IsUnexplained t (a + 1)
 misformed_unexplained t a law h =
     let (r, at, wrong) = h in

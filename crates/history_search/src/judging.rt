@@ -1,6 +1,6 @@
 //! Whether a run leads through the first records.
 ghost use Rattle.std.specs.Prelude.{◌≡◌, ◌≤◌, true, IfOk, length, take};
-ghost use Rattle.history_check.specs.Observation.{observed};
+ghost use Rattle.history_check.specs.TraceView.{observed};
 ghost use Rattle.log_runs.specs.Runs.{Dead, start};
 ghost use Rattle.log_runs.specs.Tasks.{AreEvents};
 ghost use Rattle.log_runs.specs.Explainable.{IsExplainable, prefix};

@@ -1,6 +1,6 @@
 -- The laws of packets and of credits on which those of a lane rest, as their public clauses tell them.
 use Rattle.std.proofs.Common.{◌≡◌, ◌↔◌, ℕ, ◌+◌, ◌<◌, ◌≤◌, IsTrue, List, Ok}
-use Rattle.tlp_core.specs.Packet.{Packet, IsPacket}
+use Rattle.tlp_core.specs.TlpView.{TlpView, IsPacket}
 use Rattle.tlp_core.specs.Layout.{Spells}
 use Rattle.tlp_core.specs.Faults.{reading}
 use Rattle.dllp_core.specs.declared.packet.Class.{Class}
@@ -13,12 +13,12 @@ use Rattle.fc_credit.specs.Account.{Event, HasCredit, IsRight, demand, new_direc
 
 -- what spells a packet is read as that packet
 abbrev pub IsRead : Type 0
-IsRead = (b : List ℕ) (t : Packet) → Spells b t → reading b ≡ Ok t
+IsRead = (b : List ℕ) (t : TlpView) → Spells b t → reading b ≡ Ok t
 
 pub record Below : Type 0 where
   pub read : IsRead
-  pub header : (t : Packet) → (need_of t).header ≡ 1
-  pub units : (t : Packet) → IsPacket t → (need_of t).units ≤ least_units (need_of t).class
+  pub header : (t : TlpView) → (need_of t).header ≡ 1
+  pub units : (t : TlpView) → IsPacket t → (need_of t).units ≤ least_units (need_of t).class
   pub account : (credits : LaneCredits) (events : List Event) → IsInLimits credits →
       HasCredit credits (after_events (new_direction credits) events).gate (after_events (new_direction credits) events).ledger
       (numbers_in (new_direction credits) (first_numbers credits) events)

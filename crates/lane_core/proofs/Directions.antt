@@ -6,15 +6,15 @@ use Rattle.std.proofs.lemmas.List.{append-nil, map-append, take-map, drop-map, t
 use Rattle.std.proofs.lemmas.List.Elements.{filter-append}
 use Rattle.std.proofs.lemmas.Option.{slice_get-map}
 use Rattle.std.proofs.lemmas.Bool.Decides.{nat_tests}
-use Rattle.tlp_core.specs.Packet.{Packet, IsPacket}
+use Rattle.tlp_core.specs.TlpView.{TlpView, IsPacket}
 use Rattle.tlp_core.specs.Layout.{Spells, canonical}
 use Rattle.dllp_core.specs.declared.packet.Dllp.{Dllp}
 use Rattle.dllp_core.specs.declared.packet.Dllp.TheVariants.{Ack, Nak, Update}
 use Rattle.seq12.specs.Numbers.{previous_of}
 use Rattle.link_receiver.specs.declared.receiver.NakScheduled.{NakScheduled}
 use Rattle.link_receiver.specs.declared.receiver.NakScheduled.TheVariants.{Clear, Due, Sent}
-use Rattle.link_receiver.specs.Receiving.{Receiving, acknowledgment_of, dllp_by}
-use Rattle.replay_sender.specs.Carried.{Carried}
+use Rattle.link_receiver.specs.ReceiverView.{ReceiverView, acknowledgment_of, dllp_by}
+use Rattle.replay_sender.specs.CargoView.{CargoView}
 use Rattle.fc_credit.specs.declared.needs.Need.{Need}
 use Rattle.fc_credit.specs.declared.limits.LaneCredits.{LaneCredits}
 use Rattle.fc_credit.specs.declared.ledger.CreditLedger.{CreditLedger}
@@ -22,7 +22,7 @@ use Rattle.fc_credit.specs.Needs.{need_of}
 use Rattle.fc_credit.specs.Limits.{least_units}
 use Rattle.dllp_core.specs.declared.packet.Class.{Class}
 use Rattle.dllp_core.specs.declared.packet.Class.TheVariants.{Posted, NonPosted, Completion}
-use Rattle.fc_credit.specs.Credits.{Gate, gate_covers, update_of}
+use Rattle.fc_credit.specs.Credits.{CreditGateView, gate_covers, update_of}
 use Rattle.fc_credit.specs.Account.{Direction, Event, Consume, Receive, Free, is_small, may_go, consumed_if, freed_at, new_direction, after_events, after_event}
 use Rattle.vc_queue.specs.Queue.{Item, is_takeable}
 use Rattle.lane_ends.specs.declared.packet.WirePacket.{WirePacket}
@@ -31,7 +31,7 @@ use Rattle.lane_ends.specs.declared.packet.Fate.TheVariants.{Good, Failed, Lost}
 use Rattle.lane_ends.specs.declared.packet.DllpKind.{DllpKind}
 use Rattle.lane_ends.specs.declared.packet.DllpKind.TheVariants as kinds
 use Rattle.lane_ends.specs.Content.{items_of, unaccepted_of}
-use Rattle.lane_ends.specs.Steps.{Ends, Outgoing, Incoming, new_lane, may_enter, entered, with_room, all_but_first, arrival_of, taken_on, ledger_with, queue_with, after_deliver, sender_after, after_take, ledger_freed}
+use Rattle.lane_ends.specs.Steps.{LaneEndsView, SenderEndView, ReceiverEndView, new_lane, may_enter, entered, with_room, all_but_first, arrival_of, taken_on, ledger_with, queue_with, after_deliver, sender_after, after_take, ledger_freed}
 use Rattle.lane_core.specs.Calls.{Call, MakeRoom, Release, Enter, Transmit, Deliver, SendDllp, DeliverDllp, Timer, Retrained, Take, IsCall, AreCalls, after_call, list_of, accepted_from, after_calls, on_the_way}
 use Rattle.lane_core.specs.Credit.{needs_of, is_update, direction_of, dllp_events, events_of, events_in}
 use Rattle.lane_core.proofs.Below.{Below}
@@ -48,7 +48,7 @@ few Posted = omega arith
 few NonPosted = omega arith
 few Completion = omega arith
 
-pub packet_small : Below → (t : Packet) → IsPacket t → is_small (need_of t) ≡ true
+pub packet_small : Below → (t : TlpView) → IsPacket t → is_small (need_of t) ≡ true
 packet_small laws t k =
     let units : (need_of t).units ≤ least_units (need_of t).class = laws.units t k in
     let most : least_units (need_of t).class ≤ 8 = few (need_of t).class in
@@ -56,14 +56,14 @@ packet_small laws t k =
 
 -- Enter
 
-pub goes : Below → (gate : Gate) (t : Packet) → IsPacket t → gate_covers gate (need_of t) ≡ true → may_go gate (need_of t) ≡ true
+pub goes : Below → (gate : CreditGateView) (t : TlpView) → IsPacket t → gate_covers gate (need_of t) ≡ true → may_go gate (need_of t) ≡ true
 goes laws gate t k c = rw (packet_small laws t k, c) refl
 
 consumed : (d : Direction) (need : Need) (b : Bool) → b ≡ true → consumed_if b d need ≡ consumed_if true d need
 consumed d need true e = refl
 consumed d need false e = cc
 
-enter_direction : Below → (e : Ends) (t : Packet) (mark : ℕ) (b : Bool) → may_enter e.sender (need_of t) ≡ b → Spells (canonical t) t → IsSound e →
+enter_direction : Below → (e : LaneEndsView) (t : TlpView) (mark : ℕ) (b : Bool) → may_enter e.sender (need_of t) ≡ b → Spells (canonical t) t → IsSound e →
     direction_of (if b then record e { sender = entered e.sender t mark } else e) ≡ after_events (direction_of e) (if b then Consume (need_of t) ∷ [] else [])
 enter_direction laws e t mark true h spells k =
     let tests = both_true (gate_covers e.sender.gate (need_of t)) (nat_lt (length e.sender.sending.kept) 2047) h in
@@ -75,19 +75,19 @@ enter_direction laws e t mark true h spells k =
     ∙ sym (consumed (direction_of e) (need_of t) (may_go e.sender.gate (need_of t)) (goes laws e.sender.gate t spells.grammar tests.0))
 enter_direction laws e t mark false h spells k = refl
 
-room_direction : (e : Ends) (b : Bool) → direction_of (if b then record e { sender = with_room e.sender } else e) ≡ direction_of e
+room_direction : (e : LaneEndsView) (b : Bool) → direction_of (if b then record e { sender = with_room e.sender } else e) ≡ direction_of e
 room_direction e true = refl
 room_direction e false = refl
 
 -- Deliver
 
-received_direction : (gate : Gate) (ledger : CreditLedger) (queue : List Item) (wire : List Dllp) (way left : List Item) (o : Option Item) → way ≡ list_of o ++ left →
+received_direction : (gate : CreditGateView) (ledger : CreditLedger) (queue : List Item) (wire : List Dllp) (way left : List Item) (o : Option Item) → way ≡ list_of o ++ left →
     ◌≡◌ {A = Direction} (record { gate = gate; ledger = ledger_with ledger o; on_the_way = needs_of left; queue = needs_of (queue_with queue o); wire = wire })
     (after_events (record { gate = gate; ledger = ledger; on_the_way = needs_of way; queue = needs_of queue; wire = wire }) (map (λ (item : Item). Receive) (list_of o)))
 received_direction gate ledger queue wire way left None h = rw h refl
 received_direction gate ledger queue wire way left (Some item) h = rw (h, map-append (λ (i : Item). need_of i.0) queue (item ∷ [])) refl
 
-deliver_direction : (s : Outgoing) (f : List WirePacket) (back : List Dllp) (r : Incoming) (fate : Fate) → AreNumbered s.sending f (answers_in back) r.receiving.next →
+deliver_direction : (s : SenderEndView) (f : List WirePacket) (back : List Dllp) (r : ReceiverEndView) (fate : Fate) → AreNumbered s.sending f (answers_in back) r.receiving.next →
     direction_of (record { sender = s; forward = all_but_first f; back = back; receiver = after_deliver f r fate })
     ≡ after_events (direction_of (record { sender = s; forward = f; back = back; receiver = r })) (map (λ (item : Item). Receive) (accepted_from f r fate))
 deliver_direction s [] back r fate k = refl
@@ -98,7 +98,7 @@ deliver_direction s (p ∷ f) back r fate k =
 
 -- the back wire
 
-no_update : (r : Receiving) → filter is_update (acknowledgment_of r ∷ []) ≡ []
+no_update : (r : ReceiverView) → filter is_update (acknowledgment_of r ∷ []) ≡ []
 no_update r = by_nak r.nak
   where
     by_nak : (nak : NakScheduled) → filter is_update (dllp_by nak (previous_of r.next) ∷ []) ≡ []
@@ -109,7 +109,7 @@ no_update r = by_nak r.nak
 with_wire : (d : Direction) (wire more : List Dllp) → wire ≡ more → ◌≡◌ {A = Direction} (record d { wire = wire }) (record d { wire = more })
 with_wire d wire more h = rw h refl
 
-send_direction : (e : Ends) (kind : DllpKind) → direction_of (after_call e (SendDllp kind)) ≡ after_events (direction_of e) (events_of e (SendDllp kind))
+send_direction : (e : LaneEndsView) (kind : DllpKind) → direction_of (after_call e (SendDllp kind)) ≡ after_events (direction_of e) (events_of e (SendDllp kind))
 send_direction e kinds.Answer =
     with_wire (direction_of e) (filter is_update (e.back ++ acknowledgment_of e.receiver.receiving ∷ [])) (filter is_update e.back)
     (filter-append is_update e.back (acknowledgment_of e.receiver.receiving ∷ []) ∙ ap (λ (ds : List Dllp). filter is_update e.back ++ ds) (no_update e.receiver.receiving) ∙ append-nil (filter is_update e.back))
@@ -117,11 +117,11 @@ send_direction e (kinds.Update class) =
     with_wire (direction_of e) (filter is_update (e.back ++ update_of e.receiver.ledger class ∷ [])) (filter is_update e.back ++ update_of e.receiver.ledger class ∷ [])
     (filter-append is_update e.back (update_of e.receiver.ledger class ∷ []))
 
-with_way : (d : Direction) (way more : List Carried) → way ≡ more →
+with_way : (d : Direction) (way more : List CargoView) → way ≡ more →
     ◌≡◌ {A = Direction} (record d { on_the_way = needs_of (items_of way) }) (record d { on_the_way = needs_of (items_of more) })
 with_way d way more h = rw h refl
 
-dllp_direction : (s : Outgoing) (f : List WirePacket) (back : List Dllp) (r : Incoming) (fate : Fate) → AreNumbered s.sending f (answers_in back) r.receiving.next →
+dllp_direction : (s : SenderEndView) (f : List WirePacket) (back : List Dllp) (r : ReceiverEndView) (fate : Fate) → AreNumbered s.sending f (answers_in back) r.receiving.next →
     direction_of (record { sender = sender_after back s fate; forward = f; back = all_but_first back; receiver = r })
     ≡ after_events (direction_of (record { sender = s; forward = f; back = back; receiver = r })) (dllp_events back fate)
 dllp_direction s f [] r fate k = refl
@@ -158,7 +158,7 @@ nothing_left queue place h =
     let past : length (needs_of queue) ≤ place = omega (arith, length-map queue (λ (item : Item). need_of item.0), slice_get_none queue place h) in
     rw (take_all place (needs_of queue) past, drop_all (suc place) (needs_of queue) (omega arith)) (append-nil (needs_of queue))
 
-take_direction : (e : Ends) (place : ℕ) (b : Bool) →
+take_direction : (e : LaneEndsView) (place : ℕ) (b : Bool) →
     direction_of (if b then record e { receiver = after_take e.receiver place } else e) ≡ after_events (direction_of e) (if b then Free place ∷ [] else [])
 take_direction e place false = refl
 take_direction e place true =
@@ -172,7 +172,7 @@ take_direction e place true =
 
 -- each call, and any list of them
 
-pub step_direction : Below → (e : Ends) (call : Call) → IsCall call → IsSound e → direction_of (after_call e call) ≡ after_events (direction_of e) (events_of e call)
+pub step_direction : Below → (e : LaneEndsView) (call : Call) → IsCall call → IsSound e → direction_of (after_call e call) ≡ after_events (direction_of e) (events_of e call)
 step_direction laws e (MakeRoom need) i k = room_direction e (may_enter e.sender need)
 step_direction laws e Release i k = refl
 step_direction laws e (Enter t mark) i k = enter_direction laws e t mark (may_enter e.sender (need_of t)) refl i k
@@ -188,7 +188,7 @@ events_append : (d : Direction) (xs ys : List Event) → after_events d (xs ++ y
 events_append d [] ys = refl
 events_append d (x ∷ xs) ys = events_append (after_event d x) xs ys
 
-pub run_direction : Below → (e : Ends) (calls : List Call) → AreCalls calls → IsSound e → direction_of (after_calls e calls) ≡ after_events (direction_of e) (events_in e calls)
+pub run_direction : Below → (e : LaneEndsView) (calls : List Call) → AreCalls calls → IsSound e → direction_of (after_calls e calls) ≡ after_events (direction_of e) (events_in e calls)
 run_direction laws e [] i k = refl
 run_direction laws e (call ∷ calls) i k =
     run_direction laws (after_call e call) calls i.1 (step_sound laws.read e call i.0 k).0

@@ -6,12 +6,12 @@ use Rattle.std.proofs.lemmas.List.{append-nil, append_assoc, drop_all, length-dr
 use Rattle.std.proofs.lemmas.List.Elements.{All-drop}
 use Rattle.std.proofs.lemmas.List.Edits.{remove-append_left}
 use Rattle.std.proofs.lemmas.Bool.Decides.{nat_tests}
-use Rattle.tlp_core.specs.Packet.{Packet}
+use Rattle.tlp_core.specs.TlpView.{TlpView}
 use Rattle.tlp_core.specs.Layout.{Spells, canonical}
 use Rattle.dllp_core.specs.declared.packet.Dllp.{Dllp}
 use Rattle.dllp_core.specs.declared.packet.Dllp.TheVariants.{Ack, Nak, Update}
-use Rattle.replay_sender.specs.Carried.{Carried}
-use Rattle.replay_sender.specs.Sending.{next_number}
+use Rattle.replay_sender.specs.CargoView.{CargoView}
+use Rattle.replay_sender.specs.SenderView.{next_number}
 use Rattle.link_receiver.specs.declared.receiver.Reception.TheVariants.{Accept, Duplicate, NakNow, Quiet}
 use Rattle.fc_credit.specs.declared.needs.Need.{Need}
 use Rattle.fc_credit.specs.declared.limits.LaneCredits.{LaneCredits}
@@ -30,7 +30,7 @@ use Rattle.lane_ends.specs.declared.packet.DllpKind.TheVariants as kinds
 use Rattle.tlp_core.specs.Faults.{reading}
 use Rattle.tlp_core.specs.declared.fault.TlpFault.{TlpFault}
 use Rattle.lane_ends.specs.Content.{item_read, item_spelled, items_of, IsSpelled, wire_bytes, received_of, unaccepted_of}
-use Rattle.lane_ends.specs.Steps.{Ends, Outgoing, Incoming, new_lane, may_enter, entered, with_room, all_but_first, delivered, arrival_of, taken_on, queue_with, after_deliver, is_expected, seen_by, dllp_seen, after_take}
+use Rattle.lane_ends.specs.Steps.{LaneEndsView, SenderEndView, ReceiverEndView, new_lane, may_enter, entered, with_room, all_but_first, delivered, arrival_of, taken_on, queue_with, after_deliver, is_expected, seen_by, dllp_seen, after_take}
 use Rattle.lane_core.specs.Calls.{Call, MakeRoom, Release, Enter, Transmit, Deliver, SendDllp, DeliverDllp, Timer, Retrained, Take, IsCall, AreCalls, after_call, after_calls, list_of, accepted_from, on_the_way, content, content_after, IsRightWith, IsRight, AcceptsFirst}
 use Rattle.lane_core.proofs.Below.{IsRead}
 use Rattle.lane_core.proofs.UnderWay.{AreNumbered}
@@ -61,20 +61,20 @@ calls_more : (calls : List Call) (call : Call) → AreCalls calls → IsCall cal
 calls_more [] call k i = (i, tt)
 calls_more (c ∷ calls) call k i = (k.0, calls_more calls call k.1 i)
 
-one_more : (e : Ends) (calls : List Call) (call : Call) → after_calls e (calls ++ call ∷ []) ≡ after_call (after_calls e calls) call
+one_more : (e : LaneEndsView) (calls : List Call) (call : Call) → after_calls e (calls ++ call ∷ []) ≡ after_call (after_calls e calls) call
 one_more e [] call = refl
 one_more e (c ∷ calls) call = one_more (after_call e c) calls call
 
-pub right_with : (credits : LaneCredits) (e : Ends) (call : Call) → IsCall call → IsRightWith credits e → IsRightWith credits (after_call e call)
+pub right_with : (credits : LaneCredits) (e : LaneEndsView) (call : Call) → IsCall call → IsRightWith credits e → IsRightWith credits (after_call e call)
 right_with credits e call i r =
     record {
       limits = r.limits;
       calls = r.calls ++ call ∷ [];
       are_calls = calls_more r.calls call r.are_calls i;
-      leads = one_more (new_lane credits) r.calls call ∙ ap (λ (m : Ends). after_call m call) r.leads;
+      leads = one_more (new_lane credits) r.calls call ∙ ap (λ (m : LaneEndsView). after_call m call) r.leads;
     }
 
-pub right_by : (e : Ends) (call : Call) → IsCall call → IsRight e → IsRight (after_call e call)
+pub right_by : (e : LaneEndsView) (call : Call) → IsCall call → IsRight e → IsRight (after_call e call)
 right_by e call i r = record { credits = r.credits; right = right_with r.credits e call i r.right }
 
 pub new_right_with : (credits : LaneCredits) → IsInLimits credits → IsRightWith credits (new_lane credits)
@@ -83,36 +83,36 @@ new_right_with credits l = record { limits = l; calls = []; are_calls = tt; lead
 pub new_right : (credits : LaneCredits) → IsInLimits credits → IsRight (new_lane credits)
 new_right credits l = record { credits = credits; right = new_right_with credits l }
 
-pub sound : IsRead → (e : Ends) → IsRight e → IsSound e
-sound read e r = subst (λ (m : Ends). IsSound m) r.right.leads (run_sound read (new_lane r.credits) r.right.calls r.right.are_calls (new_sound r.credits)).0
+pub sound : IsRead → (e : LaneEndsView) → IsRight e → IsSound e
+sound read e r = subst (λ (m : LaneEndsView). IsSound m) r.right.leads (run_sound read (new_lane r.credits) r.right.calls r.right.are_calls (new_sound r.credits)).0
 
-by_test : (p q : Ends) (b : Bool) → b ≡ true → IsRight (if b then q else p) → IsRight q
+by_test : (p q : LaneEndsView) (b : Bool) → b ≡ true → IsRight (if b then q else p) → IsRight q
 by_test p q true e r = r
 by_test p q false e r = cc
 
-pub right_entered : (e : Ends) (t : Packet) (mark : ℕ) → may_enter e.sender (need_of t) ≡ true → Spells (canonical t) t → IsRight e →
+pub right_entered : (e : LaneEndsView) (t : TlpView) (mark : ℕ) → may_enter e.sender (need_of t) ≡ true → Spells (canonical t) t → IsRight e →
     IsRight (record e { sender = entered e.sender t mark })
 right_entered e t mark m s r = by_test e (record e { sender = entered e.sender t mark }) (may_enter e.sender (need_of t)) m (right_by e (Enter t mark) s r)
 
-pub right_room : (e : Ends) (need : Need) → may_enter e.sender need ≡ true → IsRight e → IsRight (record e { sender = with_room e.sender })
+pub right_room : (e : LaneEndsView) (need : Need) → may_enter e.sender need ≡ true → IsRight e → IsRight (record e { sender = with_room e.sender })
 right_room e need m r = by_test e (record e { sender = with_room e.sender }) (may_enter e.sender need) m (right_by e (MakeRoom need) tt r)
 
 -- a call that has room for its packet, or takes one that is there
 
-pub enters : {A E : Type 0} (r : Result A E) (e : Ends) (t : Packet) (mark : ℕ) (new : Outgoing) → OnOk r (may_enter e.sender (need_of t) ≡ true) →
+pub enters : {A E : Type 0} (r : Result A E) (e : LaneEndsView) (t : TlpView) (mark : ℕ) (new : SenderEndView) → OnOk r (may_enter e.sender (need_of t) ≡ true) →
     OnOk r (new ≡ entered e.sender t mark) → OnOk r (record e { sender = new } ≡ after_call e (Enter t mark))
 enters (Ok a) e t mark new m h = rw (m, h) refl
 enters (Err x) e t mark new m h = tt
 
-pub makes_room : {A E : Type 0} (r : Result A E) (e : Ends) (need : Need) (new : Outgoing) → OnOk r (may_enter e.sender need ≡ true) →
+pub makes_room : {A E : Type 0} (r : Result A E) (e : LaneEndsView) (need : Need) (new : SenderEndView) → OnOk r (may_enter e.sender need ≡ true) →
     OnOk r (new ≡ with_room e.sender) → OnOk r (record e { sender = new } ≡ after_call e (MakeRoom need))
 makes_room (Ok a) e need new m h = rw (m, h) refl
 makes_room (Err x) e need new m h = tt
 
-pub takes : (e : Ends) (place : ℕ) → is_takeable e.receiver.queue place ≡ true → record e { receiver = after_take e.receiver place } ≡ after_call e (Take place)
+pub takes : (e : LaneEndsView) (place : ℕ) → is_takeable e.receiver.queue place ≡ true → record e { receiver = after_take e.receiver place } ≡ after_call e (Take place)
 takes e place t = rw t refl
 
-pub right_taken : (e : Ends) (place : ℕ) → is_takeable e.receiver.queue place ≡ true → IsRight e → IsRight (record e { receiver = after_take e.receiver place })
+pub right_taken : (e : LaneEndsView) (place : ℕ) → is_takeable e.receiver.queue place ≡ true → IsRight e → IsRight (record e { receiver = after_take e.receiver place })
 right_taken e place m r = by_test e (record e { receiver = after_take e.receiver place }) (is_takeable e.receiver.queue place) m (right_by e (Take place) tt r)
 
 room_of : (a : Bool) (n : ℕ) → a && nat_lt n 2047 ≡ true → n < 2047
@@ -121,7 +121,7 @@ room_of false n h = cc
 
 -- ---- content
 
-pub content_entered : IsRead → (e : Ends) (t : Packet) (mark : ℕ) → may_enter e.sender (need_of t) ≡ true → Spells (canonical t) t → IsRight e →
+pub content_entered : IsRead → (e : LaneEndsView) (t : TlpView) (mark : ℕ) → may_enter e.sender (need_of t) ≡ true → Spells (canonical t) t → IsRight e →
     content (record e { sender = entered e.sender t mark }) ≡ content e ++ (t, mark) ∷ []
 content_entered read e t mark m s r =
     let one = enter_one read e t mark s (room_of (gate_covers e.sender.gate (need_of t)) (length e.sender.sending.kept) m) (sound read e r) in
@@ -131,11 +131,11 @@ queue_more : (queue : List Item) (o : Option Item) → queue_with queue o ≡ qu
 queue_more queue None = sym (append-nil queue)
 queue_more queue (Some item) = refl
 
-queue_is : (f : List WirePacket) (r : Incoming) (fate : Fate) → (after_deliver f r fate).queue ≡ r.queue ++ accepted_from f r fate
+queue_is : (f : List WirePacket) (r : ReceiverEndView) (fate : Fate) → (after_deliver f r fate).queue ≡ r.queue ++ accepted_from f r fate
 queue_is [] r fate = sym (append-nil r.queue)
 queue_is (p ∷ f) r fate = queue_more r.queue (taken_on (arrival_of r.receiving p.number fate) p.cargo)
 
-pub content_delivered : IsRead → (e : Ends) (fate : Fate) → IsRight e → content (after_call e (Deliver fate)) ≡ content e
+pub content_delivered : IsRead → (e : LaneEndsView) (fate : Fate) → IsRight e → content (after_call e (Deliver fate)) ≡ content e
 content_delivered read e fate r =
     let k = sound read e r in
     let step = deliver_right e.sender.sending e.forward (answers_in e.back) e.receiver fate k.numbered in
@@ -143,32 +143,32 @@ content_delivered read e fate r =
     ∙ append_assoc e.receiver.queue (accepted_from e.forward e.receiver fate) (on_the_way (after_call e (Deliver fate)))
     ∙ ap (λ (q : List Item). e.receiver.queue ++ q) (sym step.1)
 
-pub content_sent : (e : Ends) (kind : DllpKind) → content (after_call e (SendDllp kind)) ≡ content e
+pub content_sent : (e : LaneEndsView) (kind : DllpKind) → content (after_call e (SendDllp kind)) ≡ content e
 content_sent e kinds.Answer = refl
 content_sent e (kinds.Update class) = refl
 
-pub content_told : IsRead → (e : Ends) (fate : Fate) → IsRight e → content (after_call e (DeliverDllp fate)) ≡ content e
+pub content_told : IsRead → (e : LaneEndsView) (fate : Fate) → IsRight e → content (after_call e (DeliverDllp fate)) ≡ content e
 content_told read e fate r =
-    ap (λ (cs : List Carried). e.receiver.queue ++ items_of cs) (deliver_dllp_right e.sender e.forward e.back e.receiver.receiving.next fate (sound read e r).numbered).1
+    ap (λ (cs : List CargoView). e.receiver.queue ++ items_of cs) (deliver_dllp_right e.sender e.forward e.back e.receiver.receiving.next fate (sound read e r).numbered).1
 
 takeable_there : (queue : List Item) (place : ℕ) → is_takeable queue place ≡ true → place < length queue
 takeable_there queue place h = lt_of_not-le (λ past. let none : drop place queue ≡ [] = drop_all place queue past in (let f : first_passes (take place queue) [] ≡ true = rw none at h in cc))
 
-take_content : (e : Ends) (place : ℕ) (b : Bool) → is_takeable e.receiver.queue place ≡ b →
+take_content : (e : LaneEndsView) (place : ℕ) (b : Bool) → is_takeable e.receiver.queue place ≡ b →
     content (if b then record e { receiver = after_take e.receiver place } else e) ≡ (if b then remove (content e) place else content e)
 take_content e place true h = sym (remove-append_left e.receiver.queue (on_the_way e) place (takeable_there e.receiver.queue place h))
 take_content e place false h = refl
 
-enter_content : IsRead → (e : Ends) (t : Packet) (mark : ℕ) (b : Bool) → may_enter e.sender (need_of t) ≡ b → Spells (canonical t) t → IsRight e →
+enter_content : IsRead → (e : LaneEndsView) (t : TlpView) (mark : ℕ) (b : Bool) → may_enter e.sender (need_of t) ≡ b → Spells (canonical t) t → IsRight e →
     content (if b then record e { sender = entered e.sender t mark } else e) ≡ content e ++ (if b then (t, mark) ∷ [] else [])
 enter_content read e t mark true h s r = content_entered read e t mark h s r
 enter_content read e t mark false h s r = sym (append-nil (content e))
 
-room_content : (e : Ends) (b : Bool) → content (if b then record e { sender = with_room e.sender } else e) ≡ content e
+room_content : (e : LaneEndsView) (b : Bool) → content (if b then record e { sender = with_room e.sender } else e) ≡ content e
 room_content e true = refl
 room_content e false = refl
 
-pub content_by : IsRead → (e : Ends) (call : Call) → IsCall call → IsRight e → content (after_call e call) ≡ content_after e call
+pub content_by : IsRead → (e : LaneEndsView) (call : Call) → IsCall call → IsRight e → content (after_call e call) ≡ content_after e call
 content_by read e (MakeRoom need) i r = room_content e (may_enter e.sender need)
 content_by read e Release i r = refl
 content_by read e (Enter t mark) i r = enter_content read e t mark (may_enter e.sender (need_of t)) refl i r
@@ -182,7 +182,7 @@ content_by read e (Take place) i r = take_content e place (is_takeable e.receive
 
 -- ---- never a protocol error
 
-expected : (s : Outgoing) (f : List WirePacket) (d : Dllp) (back : List Dllp) (next : ℕ) → AreNumbered s.sending f (answers_in (d ∷ back)) next → is_expected s.sending d ≡ true
+expected : (s : SenderEndView) (f : List WirePacket) (d : Dllp) (back : List Dllp) (next : ℕ) → AreNumbered s.sending f (answers_in (d ∷ back)) next → is_expected s.sending d ≡ true
 expected s f (Ack number) back next r = named s.sending f number (answers_in back) next r
 expected s f (Nak number) back next r = named s.sending f number (answers_in back) next r
 expected s f (Update class header units) back next r = refl
@@ -193,23 +193,23 @@ fate_fits d false Good e = cc
 fate_fits d fits Failed e = refl
 fate_fits d fits Lost e = refl
 
-no_fault : (s : Outgoing) (f : List WirePacket) (back : List Dllp) (next : ℕ) (fate : Fate) → AreNumbered s.sending f (answers_in back) next → IsOk (dllp_seen back s fate)
+no_fault : (s : SenderEndView) (f : List WirePacket) (back : List Dllp) (next : ℕ) (fate : Fate) → AreNumbered s.sending f (answers_in back) next → IsOk (dllp_seen back s fate)
 no_fault s f [] next fate r = refl
 no_fault s f (d ∷ back) next fate r = fate_fits d (is_expected s.sending d) fate (expected s f d back next r)
 
-pub never_fault : IsRead → (e : Ends) (fate : Fate) → IsRight e → IsOk (dllp_seen e.back e.sender fate)
+pub never_fault : IsRead → (e : LaneEndsView) (fate : Fate) → IsRight e → IsOk (dllp_seen e.back e.sender fate)
 never_fault read e fate r = no_fault e.sender e.forward e.back e.receiver.receiving.next fate (sound read e r).numbered
 
 -- ---- quiet
 
-read_item : (r : Result Packet TlpFault) (mark : ℕ) → IsOk r → (item : Item) × (item_read r mark ≡ Some item)
+read_item : (r : Result TlpView TlpFault) (mark : ℕ) → IsOk r → (item : Item) × (item_read r mark ≡ Some item)
 read_item (Ok t) mark i = ((t, mark), refl)
 read_item (Err x) mark i = cc
 
-pub spelled_some : (c : Carried) → IsSpelled c → (item : Item) × (item_spelled c ≡ Some item)
+pub spelled_some : (c : CargoView) → IsSpelled c → (item : Item) × (item_spelled c ≡ Some item)
 spelled_some c k = read_item (reading c.bytes) c.mark k
 
-none_left : (cs : List Carried) → All IsSpelled cs → items_of cs ≡ [] → cs ≡ []
+none_left : (cs : List CargoView) → All IsSpelled cs → items_of cs ≡ [] → cs ≡ []
 none_left [] k h = refl
 none_left (c ∷ cs) k h =
     let first = spelled_some c (k 0 c (omega arith)) in
@@ -227,21 +227,21 @@ same_number acked next kept a n w h = omega arith
 same_count : (acked next kept : ℕ) → acked < 4096 → next < 4096 → kept ≤ 2047 → next ≡ (acked + 1 + kept) % 4096 → (next + 4095 - acked) % 4096 ≡ kept
 same_count acked next kept a n w h = omega arith
 
-pub quiet_when : IsRead → (e : Ends) → IsRight e → e.receiver.queue ≡ [] → e.receiver.receiving.next ≡ next_number e.sender.sending → content e ≡ []
+pub quiet_when : IsRead → (e : LaneEndsView) → IsRight e → e.receiver.queue ≡ [] → e.receiver.receiving.next ≡ next_number e.sender.sending → content e ≡ []
 quiet_when read e r q h =
     let k = (sound read e r).numbered in
     let all : received_of e.sender.sending e.receiver.receiving.next ≡ length e.sender.sending.kept =
     same_count e.sender.sending.acked e.receiver.receiving.next (length e.sender.sending.kept) k.acked_in_range k.next_in_range k.window h in
     rw (q, drop_all (received_of e.sender.sending e.receiver.receiving.next) e.sender.sending.kept (omega (arith, all))) refl
 
-pub quiet_only : IsRead → (e : Ends) → IsRight e → content e ≡ [] → (e.receiver.queue ≡ []) × (e.receiver.receiving.next ≡ next_number e.sender.sending)
+pub quiet_only : IsRead → (e : LaneEndsView) → IsRight e → content e ≡ [] → (e.receiver.queue ≡ []) × (e.receiver.receiving.next ≡ next_number e.sender.sending)
 quiet_only read e r h =
     let k = sound read e r in
     let both = both_nil e.receiver.queue (on_the_way e) h in
     let count = received_of e.sender.sending e.receiver.receiving.next in
     let none : drop count e.sender.sending.kept ≡ [] =
     none_left (drop count e.sender.sending.kept) (All-drop IsSpelled count e.sender.sending.kept k.spelled) both.1 in
-    let left : length e.sender.sending.kept - count ≡ 0 = sym (length-drop count e.sender.sending.kept) ∙ ap (λ (cs : List Carried). length cs) none in
+    let left : length e.sender.sending.kept - count ≡ 0 = sym (length-drop count e.sender.sending.kept) ∙ ap (λ (cs : List CargoView). length cs) none in
     let received : count ≤ length e.sender.sending.kept = k.numbered.received in (
       both.0,
       same_number e.sender.sending.acked e.receiver.receiving.next (length e.sender.sending.kept) k.numbered.acked_in_range k.numbered.next_in_range k.numbered.window (omega arith),
@@ -249,17 +249,17 @@ quiet_only read e r h =
 
 -- ---- what is accepted was the first that was not
 
-accepted_item : (arrival : Arrival) (c : Carried) (item : Item) → arrival ≡ Answered Accept → item_spelled c ≡ Some item → list_of (taken_on arrival c) ≡ item ∷ []
+accepted_item : (arrival : Arrival) (c : CargoView) (item : Item) → arrival ≡ Answered Accept → item_spelled c ≡ Some item → list_of (taken_on arrival c) ≡ item ∷ []
 accepted_item (Answered Accept) c item e h = rw h refl
 accepted_item (Answered Duplicate) c item e h = cc
 accepted_item (Answered NakNow) c item e h = cc
 accepted_item (Answered Quiet) c item e h = cc
 accepted_item Gone c item e h = cc
 
-first_spelled : (c : Carried) (cs xs : List Carried) → xs ≡ c ∷ cs → All IsSpelled xs → IsSpelled c
-first_spelled c cs xs e k = (subst (λ (ys : List Carried). All IsSpelled ys) e k) 0 c (omega arith)
+first_spelled : (c : CargoView) (cs xs : List CargoView) → xs ≡ c ∷ cs → All IsSpelled xs → IsSpelled c
+first_spelled c cs xs e k = (subst (λ (ys : List CargoView). All IsSpelled ys) e k) 0 c (omega arith)
 
-accepting : (s : Outgoing) (f : List WirePacket) (back : List Dllp) (r : Incoming) (fate : Fate) → IsSound (record { sender = s; forward = f; back = back; receiver = r }) →
+accepting : (s : SenderEndView) (f : List WirePacket) (back : List Dllp) (r : ReceiverEndView) (fate : Fate) → IsSound (record { sender = s; forward = f; back = back; receiver = r }) →
     delivered f r fate ≡ Some (Answered Accept) →
     AcceptsFirst (record { sender = s; forward = f; back = back; receiver = r }) (record { sender = s; forward = all_but_first f; back = back; receiver = after_deliver f r fate })
 accepting s [] back r fate k e = cc
@@ -278,16 +278,16 @@ accepting s (p ∷ f) back r fate k e =
       is_last = queue_is (p ∷ f) r fate ∙ ap (λ (xs : List Item). r.queue ++ xs) one;
     }
 
-pub accepts_first : IsRead → (e : Ends) (fate : Fate) → IsRight e → delivered e.forward e.receiver fate ≡ Some (Answered Accept) → AcceptsFirst e (after_call e (Deliver fate))
+pub accepts_first : IsRead → (e : LaneEndsView) (fate : Fate) → IsRight e → delivered e.forward e.receiver fate ≡ Some (Answered Accept) → AcceptsFirst e (after_call e (Deliver fate))
 accepts_first read e fate r h = accepting e.sender e.forward e.back e.receiver fate (sound read e r) h
 
-pub accepts_when : IsRead → (e : Ends) (fate : Fate) (r : Result (Option Arrival) LaneRefusal) (new : Incoming) (wire : List WirePacket) → IsRight e →
+pub accepts_when : IsRead → (e : LaneEndsView) (fate : Fate) (r : Result (Option Arrival) LaneRefusal) (new : ReceiverEndView) (wire : List WirePacket) → IsRight e →
     IfOk r (λ arrival. arrival ≡ delivered e.forward e.receiver fate) → OnOk r (new ≡ after_deliver e.forward e.receiver fate) → OnOk r (wire ≡ all_but_first e.forward) →
     r ≡ Ok (Some (Answered Accept)) → AcceptsFirst e (record { sender = e.sender; forward = wire; back = e.back; receiver = new })
 accepts_when read e fate (Ok a) new wire k answer ok w h = rw (ok, w) (accepts_first read e fate k (cc))
 accepts_when read e fate (Err x) new wire k answer ok w h = cc
 
-pub when_entered : {A : Type 0} → IsRead → (e : Ends) (t : Packet) (mark : ℕ) (r : Result A LaneRefusal) (new : Outgoing) →
+pub when_entered : {A : Type 0} → IsRead → (e : LaneEndsView) (t : TlpView) (mark : ℕ) (r : Result A LaneRefusal) (new : SenderEndView) →
     OnOk r (may_enter e.sender (need_of t) ≡ true) → OnOk r (new ≡ entered e.sender t mark) → OnOk r (Spells (canonical t) t) → IsRight e →
     OnOk r (content (record e { sender = new }) ≡ content e ++ (t, mark) ∷ [])
 when_entered read e t mark (Ok a) new m ok s k = rw ok (content_entered read e t mark m s k)

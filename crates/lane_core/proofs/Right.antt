@@ -5,9 +5,9 @@ use Rattle.std.proofs.lemmas.Option.{slice_get_within}
 use Rattle.std.proofs.lemmas.List.{drop-drop, drop-append-le, length-drop, length_push, append-nil}
 use Rattle.std.proofs.lemmas.Bool.Decides.{nat_tests}
 use Rattle.seq12.specs.Numbers.{next_of, distance_of}
-use Rattle.replay_sender.specs.Sending.{Sending, number_at, with_accepted, after_transmit, next_item, with_reserved, released, acknowledged, from_oldest, trained}
+use Rattle.replay_sender.specs.SenderView.{SenderView, number_at, with_accepted, after_transmit, next_item, with_reserved, released, acknowledged, from_oldest, trained}
 use Rattle.lane_ends.specs.declared.packet.WirePacket.{WirePacket}
-use Rattle.replay_sender.specs.Carried.{Carried}
+use Rattle.replay_sender.specs.CargoView.{CargoView}
 use Rattle.lane_ends.specs.Content.{received_of, unaccepted_of}
 use Rattle.lane_core.proofs.UnderWay.{ahead_of, IsForward, AreNumbered}
 use Rattle.lane_ends.specs.Steps.{packets_sent}
@@ -17,11 +17,11 @@ use Rattle.lane_core.proofs.Backward as backward
 
 -- enter
 
-pub entered_unaccepted : (s : Sending) (f : List WirePacket) (b : List ℕ) (next : ℕ) (item : Carried) → AreNumbered s f b next →
+pub entered_unaccepted : (s : SenderView) (f : List WirePacket) (b : List ℕ) (next : ℕ) (item : CargoView) → AreNumbered s f b next →
     unaccepted_of (with_accepted s item) next ≡ unaccepted_of s next ++ item ∷ []
 entered_unaccepted s f b next item r = drop-append-le (received_of s next) s.kept (item ∷ []) r.received
 
-pub entered_right : (s : Sending) (f : List WirePacket) (b : List ℕ) (next : ℕ) (item : Carried) → length s.kept < 2047 → AreNumbered s f b next →
+pub entered_right : (s : SenderView) (f : List WirePacket) (b : List ℕ) (next : ℕ) (item : CargoView) → length s.kept < 2047 → AreNumbered s f b next →
     AreNumbered (with_accepted s item) f b next
 entered_right s f b next item room r =
     let longer : length (s.kept ++ item ∷ []) ≡ length s.kept + 1 = length_push s.kept item in
@@ -37,7 +37,7 @@ entered_right s f b next item room r =
 
 -- timer
 
-pub restarted_right : (s : Sending) (f : List WirePacket) (b : List ℕ) (next : ℕ) → AreNumbered s f b next → AreNumbered (from_oldest s) f b next
+pub restarted_right : (s : SenderView) (f : List WirePacket) (b : List ℕ) (next : ℕ) → AreNumbered s f b next → AreNumbered (from_oldest s) f b next
 restarted_right s f b next r =
     record {
       acked_in_range = r.acked_in_range;
@@ -49,7 +49,7 @@ restarted_right s f b next r =
       dllps = r.dllps;
     }
 
-pub trained_right : (s : Sending) (f : List WirePacket) (b : List ℕ) (next : ℕ) → AreNumbered s f b next → AreNumbered (trained s) f b next
+pub trained_right : (s : SenderView) (f : List WirePacket) (b : List ℕ) (next : ℕ) → AreNumbered s f b next → AreNumbered (trained s) f b next
 trained_right s f b next r =
     record {
       acked_in_range = r.acked_in_range;
@@ -63,7 +63,7 @@ trained_right s f b next r =
 
 -- make_room
 
-pub reserved_right : (s : Sending) (f : List WirePacket) (b : List ℕ) (next : ℕ) → AreNumbered s f b next → AreNumbered (with_reserved s) f b next
+pub reserved_right : (s : SenderView) (f : List WirePacket) (b : List ℕ) (next : ℕ) → AreNumbered s f b next → AreNumbered (with_reserved s) f b next
 reserved_right s f b next r =
     record {
       acked_in_range = r.acked_in_range;
@@ -77,7 +77,7 @@ reserved_right s f b next r =
 
 -- release
 
-pub released_right : (s : Sending) (f : List WirePacket) (b : List ℕ) (next : ℕ) → AreNumbered s f b next → AreNumbered (released s) f b next
+pub released_right : (s : SenderView) (f : List WirePacket) (b : List ℕ) (next : ℕ) → AreNumbered s f b next → AreNumbered (released s) f b next
 released_right s f b next r =
     record {
       acked_in_range = r.acked_in_range;
@@ -91,12 +91,12 @@ released_right s f b next r =
 
 -- transmit
 
-pub slice_get-drop : (xs : List Carried) (n k : ℕ) → slice_get (drop n xs) k ≡ slice_get xs (n + k)
+pub slice_get-drop : (xs : List CargoView) (n k : ℕ) → slice_get (drop n xs) k ≡ slice_get xs (n + k)
 slice_get-drop xs zero k = ap (slice_get xs) (sym (zero-add k))
 slice_get-drop [] (suc n) k = refl
 slice_get-drop (x ∷ xs) (suc n) k = let e : suc n + k ≡ suc (n + k) = omega arith in rw e (slice_get-drop xs n k)
 
-wire_right : (s : Sending) (f : List WirePacket) (next : ℕ) (got : Option Carried) → slice_get s.kept s.place ≡ got →
+wire_right : (s : SenderView) (f : List WirePacket) (next : ℕ) (got : Option CargoView) → slice_get s.kept s.place ≡ got →
     s.acked < 4096 → next < 4096 → length s.kept ≤ 2047 → received_of s next ≤ length s.kept →
     IsForward next (unaccepted_of s next) 2048 f → IsForward next (unaccepted_of s next) 2048 (f ++ packets_sent s got)
 wire_right s f next None e a n w r p = rw (append-nil f) p
@@ -114,7 +114,7 @@ wire_right s f next (Some item) e a n w r p =
           slice_get-drop s.kept (received_of s next) (ahead_of (number_at s s.place) next - 2048) ∙ ap (slice_get s.kept) back ∙ e;
     })
 
-sent_right : (s : Sending) (f : List WirePacket) (next : ℕ) (stopped : Bool) →
+sent_right : (s : SenderView) (f : List WirePacket) (next : ℕ) (stopped : Bool) →
     s.acked < 4096 → next < 4096 → length s.kept ≤ 2047 → received_of s next ≤ length s.kept →
     IsForward next (unaccepted_of s next) 2048 f → IsForward next (unaccepted_of s next) 2048 (f ++ packets_sent s (if stopped then None else slice_get s.kept s.place))
 sent_right s f next true a n w r p = rw (append-nil f) p
@@ -124,7 +124,7 @@ place_right : (place count : ℕ) (stopped : Bool) → place ≤ count → (if s
 place_right place count true h = h
 place_right place count false h = grind (arith, nat_tests)
 
-pub transmitted_right : (s : Sending) (f : List WirePacket) (b : List ℕ) (next : ℕ) → AreNumbered s f b next →
+pub transmitted_right : (s : SenderView) (f : List WirePacket) (b : List ℕ) (next : ℕ) → AreNumbered s f b next →
     AreNumbered (after_transmit s) (f ++ packets_sent s (next_item s)) b next
 transmitted_right s f b next r =
     record {
@@ -140,7 +140,7 @@ transmitted_right s f b next r =
 -- deliver
 
 -- a packet is lost or discarded
-pub discarded_right : (s : Sending) (p : WirePacket) (f : List WirePacket) (b : List ℕ) (next : ℕ) → AreNumbered s (p ∷ f) b next → AreNumbered s f b next
+pub discarded_right : (s : SenderView) (p : WirePacket) (f : List WirePacket) (b : List ℕ) (next : ℕ) → AreNumbered s (p ∷ f) b next → AreNumbered s f b next
 discarded_right s p f b next r =
     record {
       acked_in_range = r.acked_in_range;
@@ -152,20 +152,20 @@ discarded_right s p f b next r =
       dllps = r.dllps;
     }
 
-pub first_is : (xs : List Carried) (x : Carried) → slice_get xs 0 ≡ Some x → xs ≡ x ∷ drop 1 xs
+pub first_is : (xs : List CargoView) (x : CargoView) → slice_get xs 0 ≡ Some x → xs ≡ x ∷ drop 1 xs
 first_is [] x h = cc
 first_is (y ∷ xs) x h = cc
 
-here : (s : Sending) (p : WirePacket) (f : List WirePacket) (b : List ℕ) (next : ℕ) → AreNumbered s (p ∷ f) b next → p.number ≡ next → ahead_of p.number next ≡ 2048
+here : (s : SenderView) (p : WirePacket) (f : List WirePacket) (b : List ℕ) (next : ℕ) → AreNumbered s (p ∷ f) b next → p.number ≡ next → ahead_of p.number next ≡ 2048
 here s p f b next r e = rw e (ahead_same next r.next_in_range)
 
-first_unaccepted : (s : Sending) (p : WirePacket) (f : List WirePacket) (b : List ℕ) (next : ℕ) → AreNumbered s (p ∷ f) b next → p.number ≡ next →
+first_unaccepted : (s : SenderView) (p : WirePacket) (f : List WirePacket) (b : List ℕ) (next : ℕ) → AreNumbered s (p ∷ f) b next → p.number ≡ next →
     slice_get (unaccepted_of s next) 0 ≡ Some p.cargo
 first_unaccepted s p f b next r e =
     let h : ahead_of p.number next ≡ 2048 = here s p f b next r e in
     rw h at (r.packets.0.cargo (omega arith))
 
-one_received : (s : Sending) (p : WirePacket) (f : List WirePacket) (b : List ℕ) (next : ℕ) → AreNumbered s (p ∷ f) b next →
+one_received : (s : SenderView) (p : WirePacket) (f : List WirePacket) (b : List ℕ) (next : ℕ) → AreNumbered s (p ∷ f) b next →
     received_of s (next_of next) ≡ received_of s next + 1
 one_received s p f b next r =
     let window : length s.kept ≤ 2047 = r.window in
@@ -173,14 +173,14 @@ one_received s p f b next r =
     received_step s.acked next r.acked_in_range r.next_in_range (omega arith)
 
 -- the packet that is taken is the first that was not
-pub taken_first : (s : Sending) (p : WirePacket) (f : List WirePacket) (b : List ℕ) (next : ℕ) → AreNumbered s (p ∷ f) b next → p.number ≡ next →
+pub taken_first : (s : SenderView) (p : WirePacket) (f : List WirePacket) (b : List ℕ) (next : ℕ) → AreNumbered s (p ∷ f) b next → p.number ≡ next →
     unaccepted_of s next ≡ p.cargo ∷ unaccepted_of s (next_of next)
 taken_first s p f b next r e =
     first_is (unaccepted_of s next) p.cargo (first_unaccepted s p f b next r e)
-    ∙ ap (λ (rest : List Carried). p.cargo ∷ rest)
+    ∙ ap (λ (rest : List CargoView). p.cargo ∷ rest)
     (drop-drop 1 (received_of s next) s.kept ∙ ap (λ (k : ℕ). drop k s.kept) (sym (one_received s p f b next r)))
 
-pub taken_right : (s : Sending) (p : WirePacket) (f : List WirePacket) (b : List ℕ) (next : ℕ) → AreNumbered s (p ∷ f) b next → p.number ≡ next →
+pub taken_right : (s : SenderView) (p : WirePacket) (f : List WirePacket) (b : List ℕ) (next : ℕ) → AreNumbered s (p ∷ f) b next → p.number ≡ next →
     AreNumbered s f b (next_of next)
 taken_right s p f b next r e =
     let h : ahead_of p.number next ≡ 2048 = here s p f b next r e in
@@ -195,14 +195,14 @@ taken_right s p f b next r e =
       received = omega arith;
       packets =
           forward.accepted next p.cargo (unaccepted_of s (next_of next)) 2048 f r.next_in_range (omega arith)
-          (subst (λ (u : List Carried). IsForward next u 2049 f) (taken_first s p f b next r e)
+          (subst (λ (u : List CargoView). IsForward next u 2049 f) (taken_first s p f b next r e)
           (forward.weaker next (unaccepted_of s next) (max 2048 (ahead_of p.number next + 1)) 2049 f (omega arith) r.packets.1));
       dllps = backward.more_received s.acked 0 (received_of s next) (received_of s (next_of next)) b (omega arith) r.dllps;
     }
 
 -- send_dllp
 
-pub answered_right : (s : Sending) (f : List WirePacket) (b : List ℕ) (next : ℕ) (d : ℕ) → d ≡ (next + 4095) % 4096 →
+pub answered_right : (s : SenderView) (f : List WirePacket) (b : List ℕ) (next : ℕ) (d : ℕ) → d ≡ (next + 4095) % 4096 →
     AreNumbered s f b next → AreNumbered s f (b ++ d ∷ []) next
 answered_right s f b next d e r =
     record {
@@ -218,7 +218,7 @@ answered_right s f b next d e r =
 -- deliver_dllp
 
 -- a DLLP is lost
-pub forgotten_right : (s : Sending) (f : List WirePacket) (d : ℕ) (b : List ℕ) (next : ℕ) → AreNumbered s f (d ∷ b) next → AreNumbered s f b next
+pub forgotten_right : (s : SenderView) (f : List WirePacket) (d : ℕ) (b : List ℕ) (next : ℕ) → AreNumbered s f (d ∷ b) next → AreNumbered s f b next
 forgotten_right s f d b next r =
     record {
       acked_in_range = r.acked_in_range;
@@ -231,23 +231,23 @@ forgotten_right s f d b next r =
     }
 
 -- what comes back names a kept packet, or the last acknowledged one
-pub outstanding : (s : Sending) (f : List WirePacket) (d : ℕ) (b : List ℕ) (next : ℕ) → AreNumbered s f (d ∷ b) next →
+pub outstanding : (s : SenderView) (f : List WirePacket) (d : ℕ) (b : List ℕ) (next : ℕ) → AreNumbered s f (d ∷ b) next →
     distance_of d s.acked ≤ received_of s next
 outstanding s f d b next r = backward.least_below s.acked (distance_of d s.acked) (received_of s next) b r.dllps.1
 
-pub acknowledged_received : (s : Sending) (f : List WirePacket) (d : ℕ) (b : List ℕ) (next : ℕ) → AreNumbered s f (d ∷ b) next →
+pub acknowledged_received : (s : SenderView) (f : List WirePacket) (d : ℕ) (b : List ℕ) (next : ℕ) → AreNumbered s f (d ∷ b) next →
     received_of (acknowledged s d) next + distance_of d s.acked ≡ received_of s next
 acknowledged_received s f d b next r =
     received_acked next d s.acked r.next_in_range r.dllps.0.in_range r.acked_in_range (outstanding s f d b next r)
 
-pub acknowledged_unaccepted : (s : Sending) (f : List WirePacket) (d : ℕ) (b : List ℕ) (next : ℕ) → AreNumbered s f (d ∷ b) next →
+pub acknowledged_unaccepted : (s : SenderView) (f : List WirePacket) (d : ℕ) (b : List ℕ) (next : ℕ) → AreNumbered s f (d ∷ b) next →
     unaccepted_of (acknowledged s d) next ≡ unaccepted_of s next
 acknowledged_unaccepted s f d b next r =
     let count = acknowledged_received s f d b next r in
     drop-drop (received_of (acknowledged s d) next) (distance_of d s.acked) s.kept
     ∙ ap (λ (k : ℕ). drop k s.kept) (omega arith)
 
-pub acknowledged_right : (s : Sending) (f : List WirePacket) (d : ℕ) (b : List ℕ) (next : ℕ) → AreNumbered s f (d ∷ b) next →
+pub acknowledged_right : (s : SenderView) (f : List WirePacket) (d : ℕ) (b : List ℕ) (next : ℕ) → AreNumbered s f (d ∷ b) next →
     AreNumbered (acknowledged s d) f b next
 acknowledged_right s f d b next r =
     let count = acknowledged_received s f d b next r in

@@ -6,19 +6,19 @@ use Rattle.std.proofs.lemmas.List.{append-nil, append_assoc}
 use Rattle.std.proofs.lemmas.List.Elements.{filter_map-append, All-nil, All-cons, All-push, All-append, All-drop}
 use Rattle.std.proofs.lemmas.Option.{slice_get_within, get_or_from_slice_get}
 use Rattle.std.proofs.lemmas.Bool.Decides.{nat_tests}
-use Rattle.tlp_core.specs.Packet.{Packet}
+use Rattle.tlp_core.specs.TlpView.{TlpView}
 use Rattle.tlp_core.specs.Layout.{Spells, canonical}
 use Rattle.seq12.specs.Numbers.{next_of, previous_of, distance_of, class_of}
 use Rattle.seq12.specs.declared.class.SequenceClass.{SequenceClass}
 use Rattle.seq12.specs.declared.class.SequenceClass.TheVariants.{Expected, Duplicate as Older, Ahead}
 use Rattle.dllp_core.specs.declared.packet.Dllp.{Dllp}
 use Rattle.dllp_core.specs.declared.packet.Dllp.TheVariants.{Ack, Nak, Update}
-use Rattle.replay_sender.specs.Carried.{Carried}
-use Rattle.replay_sender.specs.Sending.{Sending, number_at, next_item, is_outstanding, acknowledged, from_oldest}
+use Rattle.replay_sender.specs.CargoView.{CargoView}
+use Rattle.replay_sender.specs.SenderView.{SenderView, number_at, next_item, is_outstanding, acknowledged, from_oldest}
 use Rattle.link_receiver.specs.declared.receiver.NakScheduled.{NakScheduled}
 use Rattle.link_receiver.specs.declared.receiver.NakScheduled.TheVariants.{Clear, Due, Sent}
 use Rattle.link_receiver.specs.declared.receiver.Reception.TheVariants.{Accept, Duplicate, NakNow, Quiet}
-use Rattle.link_receiver.specs.Receiving.{Receiving, reception_of, answer_by, discard_answer, acknowledgment_of, dllp_by}
+use Rattle.link_receiver.specs.ReceiverView.{ReceiverView, reception_of, answer_by, discard_answer, acknowledgment_of, dllp_by}
 use Rattle.fc_credit.specs.declared.limits.LaneCredits.{LaneCredits}
 use Rattle.fc_credit.specs.Needs.{need_of}
 use Rattle.fc_credit.specs.Credits.{gate_covers}
@@ -31,7 +31,7 @@ use Rattle.lane_ends.specs.declared.packet.Arrival.TheVariants.{Answered, Gone}
 use Rattle.lane_ends.specs.declared.packet.DllpKind.{DllpKind}
 use Rattle.lane_ends.specs.declared.packet.DllpKind.TheVariants as kinds
 use Rattle.lane_ends.specs.Content.{cargo_of, item_spelled, items_of, IsSpelled, received_of, unaccepted_of}
-use Rattle.lane_ends.specs.Steps.{Ends, Outgoing, Incoming, packets_sent, new_lane, may_enter, entered, with_room, all_but_first, arrival_of, taken_on, receiving_on, after_deliver, dllp_of, receiving_after, wire_after_send, after_dllp, sender_after, after_take}
+use Rattle.lane_ends.specs.Steps.{LaneEndsView, SenderEndView, ReceiverEndView, packets_sent, new_lane, may_enter, entered, with_room, all_but_first, arrival_of, taken_on, receiving_on, after_deliver, dllp_of, receiving_after, wire_after_send, after_dllp, sender_after, after_take}
 use Rattle.lane_core.specs.Calls.{Call, MakeRoom, Release, Enter, Transmit, Deliver, SendDllp, DeliverDllp, Timer, Retrained, Take, IsCall, AreCalls, after_call, list_of, entered_by, accepted_from, accepted_by, after_calls, entered_in, accepted_in, on_the_way}
 use Rattle.lane_core.proofs.Below.{IsRead}
 use Rattle.lane_core.proofs.UnderWay.{AreNumbered}
@@ -51,7 +51,7 @@ abbrev pub IsWireSpelled : WirePacket → Type 0
 IsWireSpelled p = IsSpelled p.cargo
 
 -- the numbers of a lane are in order, and the bytes that are kept and under way spell packets
-pub record IsSound (e : Ends) : Type 0 where
+pub record IsSound (e : LaneEndsView) : Type 0 where
   pub numbered : AreNumbered e.sender.sending e.forward (answers_in e.back) e.receiver.receiving.next
   pub spelled : All IsSpelled e.sender.sending.kept
   pub under_way : All IsWireSpelled e.forward
@@ -66,13 +66,13 @@ joined : (o : Option Item) (xs : List Item) → cons_option o xs ≡ list_of o +
 joined None xs = refl
 joined (Some x) xs = refl
 
-one_item : (c : Carried) (cs : List Carried) → items_of (c ∷ cs) ≡ list_of (item_spelled c) ++ items_of cs
+one_item : (c : CargoView) (cs : List CargoView) → items_of (c ∷ cs) ≡ list_of (item_spelled c) ++ items_of cs
 one_item c cs = joined (item_spelled c) (items_of cs)
 
-pub entered_item : IsRead → (t : Packet) (mark : ℕ) → Spells (canonical t) t → item_spelled (cargo_of t mark) ≡ Some (t, mark)
+pub entered_item : IsRead → (t : TlpView) (mark : ℕ) → Spells (canonical t) t → item_spelled (cargo_of t mark) ≡ Some (t, mark)
 entered_item read t mark k = rw (read (canonical t) t k) refl
 
-pub entered_spelled : IsRead → (t : Packet) (mark : ℕ) → Spells (canonical t) t → IsSpelled (cargo_of t mark)
+pub entered_spelled : IsRead → (t : TlpView) (mark : ℕ) → Spells (canonical t) t → IsSpelled (cargo_of t mark)
 entered_spelled read t mark k = rw (read (canonical t) t k) refl
 
 -- Deliver
@@ -98,30 +98,30 @@ expected_next next got h =
     let same : (got == next) ≡ true = expected_by (got == next) (nat_le (distance_of next got) 2048) h in
     grind (arith, nat_tests)
 
-accepts_next : (r : Receiving) (got : ℕ) (good : Bool) → reception_of r got good ≡ Accept → got ≡ r.next
+accepts_next : (r : ReceiverView) (got : ℕ) (good : Bool) → reception_of r got good ≡ Accept → got ≡ r.next
 accepts_next r got true h = expected_next r.next got (class_taken (class_of r.next got) r.nak h)
 accepts_next r got false h = absurd (discard_takes_none r.nak h)
 
-pub arrival_accepts : (r : Receiving) (number : ℕ) (fate : Fate) → arrival_of r number fate ≡ Answered Accept → number ≡ r.next
+pub arrival_accepts : (r : ReceiverView) (number : ℕ) (fate : Fate) → arrival_of r number fate ≡ Answered Accept → number ≡ r.next
 arrival_accepts r number Good h = accepts_next r number true (cc)
 arrival_accepts r number Failed h = accepts_next r number false (cc)
 arrival_accepts r number Lost h = cc
 
 -- what a packet that arrives leaves
-arrived : (s : Sending) (p : WirePacket) (f : List WirePacket) (b : List ℕ) (r : Receiving) (arrival : Arrival) → AreNumbered s (p ∷ f) b r.next →
+arrived : (s : SenderView) (p : WirePacket) (f : List WirePacket) (b : List ℕ) (r : ReceiverView) (arrival : Arrival) → AreNumbered s (p ∷ f) b r.next →
     (arrival ≡ Answered Accept → p.number ≡ r.next) →
     AreNumbered s f b (receiving_on r arrival).next
     × (items_of (unaccepted_of s r.next) ≡ list_of (taken_on arrival p.cargo) ++ items_of (unaccepted_of s (receiving_on r arrival).next))
 arrived s p f b r (Answered Accept) k e = (
   taken_right s p f b r.next k (e refl),
-  ap (λ (cs : List Carried). items_of cs) (taken_first s p f b r.next k (e refl)) ∙ one_item p.cargo (unaccepted_of s (next_of r.next)),
+  ap (λ (cs : List CargoView). items_of cs) (taken_first s p f b r.next k (e refl)) ∙ one_item p.cargo (unaccepted_of s (next_of r.next)),
 )
 arrived s p f b r (Answered Duplicate) k e = (discarded_right s p f b r.next k, refl)
 arrived s p f b r (Answered NakNow) k e = (discarded_right s p f b r.next k, refl)
 arrived s p f b r (Answered Quiet) k e = (discarded_right s p f b r.next k, refl)
 arrived s p f b r Gone k e = (discarded_right s p f b r.next k, refl)
 
-pub deliver_right : (s : Sending) (f : List WirePacket) (b : List ℕ) (r : Incoming) (fate : Fate) → AreNumbered s f b r.receiving.next →
+pub deliver_right : (s : SenderView) (f : List WirePacket) (b : List ℕ) (r : ReceiverEndView) (fate : Fate) → AreNumbered s f b r.receiving.next →
     AreNumbered s (all_but_first f) b (after_deliver f r fate).receiving.next
     × (items_of (unaccepted_of s r.receiving.next) ≡ accepted_from f r fate ++ items_of (unaccepted_of s (after_deliver f r fate).receiving.next))
 deliver_right s [] b r fate k = (k, refl)
@@ -130,7 +130,7 @@ deliver_right s (p ∷ f) b r fate k =
 
 -- SendDllp
 
-answer_is : (r : Receiving) → answers_in (acknowledgment_of r ∷ []) ≡ ((r.next + 4095) % 4096) ∷ []
+answer_is : (r : ReceiverView) → answers_in (acknowledgment_of r ∷ []) ≡ ((r.next + 4095) % 4096) ∷ []
 answer_is r = by_nak r.nak
   where
     by_nak : (nak : NakScheduled) → answers_in (dllp_by nak (previous_of r.next) ∷ []) ≡ ((r.next + 4095) % 4096) ∷ []
@@ -138,7 +138,7 @@ answer_is r = by_nak r.nak
     by_nak Due = refl
     by_nak Sent = refl
 
-send_right : (s : Sending) (f : List WirePacket) (back : List Dllp) (r : Incoming) (kind : DllpKind) → AreNumbered s f (answers_in back) r.receiving.next →
+send_right : (s : SenderView) (f : List WirePacket) (back : List Dllp) (r : ReceiverEndView) (kind : DllpKind) → AreNumbered s f (answers_in back) r.receiving.next →
     AreNumbered s f (answers_in (wire_after_send r kind back)) (receiving_after r.receiving kind).next
 send_right s f back r kinds.Answer k =
     rw (filter_map-append number_of back (acknowledgment_of r.receiving ∷ []), answer_is r.receiving)
@@ -148,13 +148,13 @@ send_right s f back r (kinds.Update class) k =
 
 -- DeliverDllp
 
-pub named : (s : Sending) (f : List WirePacket) (d : ℕ) (b : List ℕ) (next : ℕ) → AreNumbered s f (d ∷ b) next → is_outstanding s d ≡ true
+pub named : (s : SenderView) (f : List WirePacket) (d : ℕ) (b : List ℕ) (next : ℕ) → AreNumbered s f (d ∷ b) next → is_outstanding s d ≡ true
 named s f d b next r =
     let far : distance_of d s.acked ≤ received_of s next = outstanding s f d b next r in
     let received : received_of s next ≤ length s.kept = r.received in
     grind (arith, nat_tests)
 
-dllp_right : (s : Outgoing) (f : List WirePacket) (d : Dllp) (back : List Dllp) (next : ℕ) (fate : Fate) → AreNumbered s.sending f (answers_in (d ∷ back)) next →
+dllp_right : (s : SenderEndView) (f : List WirePacket) (d : Dllp) (back : List Dllp) (next : ℕ) (fate : Fate) → AreNumbered s.sending f (answers_in (d ∷ back)) next →
     AreNumbered (after_dllp s d fate).sending f (answers_in back) next × (unaccepted_of (after_dllp s d fate).sending next ≡ unaccepted_of s.sending next)
 dllp_right s f (Ack number) back next Good r =
     rw (named s.sending f number (answers_in back) next r)
@@ -180,34 +180,34 @@ dllp_right s f (Ack number) back next Lost r = (forgotten_right s.sending f numb
 dllp_right s f (Nak number) back next Failed r = (forgotten_right s.sending f number (answers_in back) next r, refl)
 dllp_right s f (Nak number) back next Lost r = (forgotten_right s.sending f number (answers_in back) next r, refl)
 
-pub deliver_dllp_right : (s : Outgoing) (f : List WirePacket) (back : List Dllp) (next : ℕ) (fate : Fate) → AreNumbered s.sending f (answers_in back) next →
+pub deliver_dllp_right : (s : SenderEndView) (f : List WirePacket) (back : List Dllp) (next : ℕ) (fate : Fate) → AreNumbered s.sending f (answers_in back) next →
     AreNumbered (sender_after back s fate).sending f (answers_in (all_but_first back)) next
     × (unaccepted_of (sender_after back s fate).sending next ≡ unaccepted_of s.sending next)
 deliver_dllp_right s f [] next fate r = (r, refl)
 deliver_dllp_right s f (d ∷ back) next fate r = dllp_right s f d back next fate r
 
-acked_spelled : (s : Sending) (number : ℕ) (b : Bool) → All IsSpelled s.kept → All IsSpelled (if b then acknowledged s number else s).kept
+acked_spelled : (s : SenderView) (number : ℕ) (b : Bool) → All IsSpelled s.kept → All IsSpelled (if b then acknowledged s number else s).kept
 acked_spelled s number true k = All-drop IsSpelled (distance_of number s.acked) s.kept k
 acked_spelled s number false k = k
 
-naked_spelled : (s : Sending) (number : ℕ) (b : Bool) → All IsSpelled s.kept → All IsSpelled (if b then from_oldest (acknowledged s number) else s).kept
+naked_spelled : (s : SenderView) (number : ℕ) (b : Bool) → All IsSpelled s.kept → All IsSpelled (if b then from_oldest (acknowledged s number) else s).kept
 naked_spelled s number true k = All-drop IsSpelled (distance_of number s.acked) s.kept k
 naked_spelled s number false k = k
 
-dllp_spelled : (s : Outgoing) (d : Dllp) (fate : Fate) → All IsSpelled s.sending.kept → All IsSpelled (after_dllp s d fate).sending.kept
+dllp_spelled : (s : SenderEndView) (d : Dllp) (fate : Fate) → All IsSpelled s.sending.kept → All IsSpelled (after_dllp s d fate).sending.kept
 dllp_spelled s (Ack number) Good k = acked_spelled s.sending number (is_outstanding s.sending number) k
 dllp_spelled s (Nak number) Good k = naked_spelled s.sending number (is_outstanding s.sending number) k
 dllp_spelled s (Update class header units) Good k = k
 dllp_spelled s d Failed k = k
 dllp_spelled s d Lost k = k
 
-pub sender_spelled : (s : Outgoing) (back : List Dllp) (fate : Fate) → All IsSpelled s.sending.kept → All IsSpelled (sender_after back s fate).sending.kept
+pub sender_spelled : (s : SenderEndView) (back : List Dllp) (fate : Fate) → All IsSpelled s.sending.kept → All IsSpelled (sender_after back s fate).sending.kept
 sender_spelled s [] fate k = k
 sender_spelled s (d ∷ back) fate k = dllp_spelled s d fate k
 
 -- Enter and MakeRoom
 
-pub enter_one : IsRead → (e : Ends) (t : Packet) (mark : ℕ) → Spells (canonical t) t → length e.sender.sending.kept < 2047 → IsSound e →
+pub enter_one : IsRead → (e : LaneEndsView) (t : TlpView) (mark : ℕ) → Spells (canonical t) t → length e.sender.sending.kept < 2047 → IsSound e →
     IsSound (record e { sender = entered e.sender t mark })
     × (on_the_way e ++ (t, mark) ∷ [] ≡ on_the_way (record e { sender = entered e.sender t mark }))
 enter_one read e t mark spells room k = (
@@ -217,12 +217,12 @@ enter_one read e t mark spells room k = (
     under_way = k.under_way;
   },
   sym
-      (ap (λ (cs : List Carried). items_of cs) (entered_unaccepted e.sender.sending e.forward (answers_in e.back) e.receiver.receiving.next (cargo_of t mark) k.numbered)
+      (ap (λ (cs : List CargoView). items_of cs) (entered_unaccepted e.sender.sending e.forward (answers_in e.back) e.receiver.receiving.next (cargo_of t mark) k.numbered)
       ∙ filter_map-append item_spelled (unaccepted_of e.sender.sending e.receiver.receiving.next) (cargo_of t mark ∷ [])
       ∙ ap (λ (o : Option Item). on_the_way e ++ cons_option o []) (entered_item read t mark spells)),
 )
 
-enter_right : IsRead → (e : Ends) (t : Packet) (mark : ℕ) (b : Bool) → may_enter e.sender (need_of t) ≡ b → Spells (canonical t) t → IsSound e →
+enter_right : IsRead → (e : LaneEndsView) (t : TlpView) (mark : ℕ) (b : Bool) → may_enter e.sender (need_of t) ≡ b → Spells (canonical t) t → IsSound e →
     IsSound (if b then record e { sender = entered e.sender t mark } else e)
     × (on_the_way e ++ (if b then (t, mark) ∷ [] else []) ≡ on_the_way (if b then record e { sender = entered e.sender t mark } else e))
 enter_right read e t mark true h spells k =
@@ -231,7 +231,7 @@ enter_right read e t mark true h spells k =
     enter_one read e t mark spells room k
 enter_right read e t mark false h spells k = (k, append-nil _)
 
-room_right : (e : Ends) (b : Bool) → IsSound e →
+room_right : (e : LaneEndsView) (b : Bool) → IsSound e →
     IsSound (if b then record e { sender = with_room e.sender } else e)
     × (on_the_way e ++ [] ≡ on_the_way (if b then record e { sender = with_room e.sender } else e))
 room_right e true k = (
@@ -240,7 +240,7 @@ room_right e true k = (
 )
 room_right e false k = (k, append-nil _)
 
-take_right : (e : Ends) (place : ℕ) (b : Bool) → IsSound e →
+take_right : (e : LaneEndsView) (place : ℕ) (b : Bool) → IsSound e →
     IsSound (if b then record e { receiver = after_take e.receiver place } else e)
     × (on_the_way e ++ [] ≡ on_the_way (if b then record e { receiver = after_take e.receiver place } else e))
 take_right e place true k = (record { numbered = k.numbered; spelled = k.spelled; under_way = k.under_way }, append-nil _)
@@ -248,17 +248,17 @@ take_right e place false k = (k, append-nil _)
 
 -- what is under way
 
-got_spelled : (s : Sending) (got : Option Carried) → slice_get s.kept s.place ≡ got → All IsSpelled s.kept → All IsWireSpelled (packets_sent s got)
+got_spelled : (s : SenderView) (got : Option CargoView) → slice_get s.kept s.place ≡ got → All IsSpelled s.kept → All IsWireSpelled (packets_sent s got)
 got_spelled s None e k = All-nil IsWireSpelled
 got_spelled s (Some cargo) e k =
     All-cons IsWireSpelled (record { number = number_at s s.place; cargo = cargo }) []
-    (subst (λ (c : Carried). IsSpelled c) (get_or_from_slice_get s.kept s.place cargo cargo e) (k s.place cargo (slice_get_within s.kept s.place cargo e))) (All-nil IsWireSpelled)
+    (subst (λ (c : CargoView). IsSpelled c) (get_or_from_slice_get s.kept s.place cargo cargo e) (k s.place cargo (slice_get_within s.kept s.place cargo e))) (All-nil IsWireSpelled)
 
-sent_spelled : (s : Sending) (stopped : Bool) → All IsSpelled s.kept → All IsWireSpelled (packets_sent s (if stopped then None else slice_get s.kept s.place))
+sent_spelled : (s : SenderView) (stopped : Bool) → All IsSpelled s.kept → All IsWireSpelled (packets_sent s (if stopped then None else slice_get s.kept s.place))
 sent_spelled s true k = All-nil IsWireSpelled
 sent_spelled s false k = got_spelled s (slice_get s.kept s.place) refl k
 
-transmitted_spelled : (s : Sending) (f : List WirePacket) → All IsSpelled s.kept → All IsWireSpelled f → All IsWireSpelled (f ++ packets_sent s (next_item s))
+transmitted_spelled : (s : SenderView) (f : List WirePacket) → All IsSpelled s.kept → All IsWireSpelled f → All IsWireSpelled (f ++ packets_sent s (next_item s))
 transmitted_spelled s f k w = All-append IsWireSpelled f (packets_sent s (next_item s)) w (sent_spelled s s.stopped k)
 
 rest_spelled : (f : List WirePacket) → All IsWireSpelled f → All IsWireSpelled (all_but_first f)
@@ -267,7 +267,7 @@ rest_spelled (p ∷ f) w = All-drop IsWireSpelled 1 (p ∷ f) w
 
 -- each call, and any list of them
 
-pub step_sound : IsRead → (e : Ends) (call : Call) → IsCall call → IsSound e →
+pub step_sound : IsRead → (e : LaneEndsView) (call : Call) → IsCall call → IsSound e →
     IsSound (after_call e call) × (on_the_way e ++ entered_by e call ≡ accepted_by e call ++ on_the_way (after_call e call))
 step_sound read e (MakeRoom need) i k = room_right e (may_enter e.sender need) k
 step_sound read e Release i k = (
@@ -291,12 +291,12 @@ step_sound read e (SendDllp kind) i k = (
   append-nil _ ∙ sent_on e kind,
 )
   where
-    sent_on : (e : Ends) (kind : DllpKind) → on_the_way e ≡ on_the_way (after_call e (SendDllp kind))
+    sent_on : (e : LaneEndsView) (kind : DllpKind) → on_the_way e ≡ on_the_way (after_call e (SendDllp kind))
     sent_on e kinds.Answer = refl
     sent_on e (kinds.Update class) = refl
 step_sound read e (DeliverDllp fate) i k =
     let step = deliver_dllp_right e.sender e.forward e.back e.receiver.receiving.next fate k.numbered in
-    (record { numbered = step.0; spelled = sender_spelled e.sender e.back fate k.spelled; under_way = k.under_way }, append-nil _ ∙ sym (ap (λ (cs : List Carried). items_of cs) step.1))
+    (record { numbered = step.0; spelled = sender_spelled e.sender e.back fate k.spelled; under_way = k.under_way }, append-nil _ ∙ sym (ap (λ (cs : List CargoView). items_of cs) step.1))
 step_sound read e Timer i k = (
   record { numbered = restarted_right e.sender.sending e.forward (answers_in e.back) e.receiver.receiving.next k.numbered; spelled = k.spelled; under_way = k.under_way },
   append-nil _,
@@ -315,7 +315,7 @@ new_sound credits =
       under_way = All-nil IsWireSpelled;
     }
 
-pub run_sound : IsRead → (e : Ends) (calls : List Call) → AreCalls calls → IsSound e →
+pub run_sound : IsRead → (e : LaneEndsView) (calls : List Call) → AreCalls calls → IsSound e →
     IsSound (after_calls e calls) × (on_the_way e ++ entered_in e calls ≡ accepted_in e calls ++ on_the_way (after_calls e calls))
 run_sound read e [] i k = (k, append-nil _)
 run_sound read e (call ∷ calls) i k =

@@ -4,7 +4,7 @@ use Rattle.std.specs.Prelude.{slice_get, nat_lt, if◌then◌else◌}
 use Rattle.std.specs.Option.{option_map}
 use Rattle.std.proofs.lemmas.List.{map-append}
 use Rattle.std.proofs.lemmas.List.Sums.{sum_by-append}
-use Rattle.tlp_core.specs.Packet.{Packet}
+use Rattle.tlp_core.specs.TlpView.{TlpView}
 use Rattle.tlp_core.specs.Layout.{Spells, canonical}
 use Rattle.dllp_core.specs.declared.packet.Class.{Class}
 use Rattle.dllp_core.specs.declared.packet.Dllp.{Dllp}
@@ -20,7 +20,7 @@ use Rattle.lane_ends.specs.declared.packet.Fate.TheVariants.{Good, Failed, Lost}
 use Rattle.lane_ends.specs.declared.packet.DllpKind.{DllpKind}
 use Rattle.lane_ends.specs.declared.packet.DllpKind.TheVariants as kinds
 use Rattle.lane_ends.specs.declared.packet.WirePacket.{WirePacket}
-use Rattle.lane_ends.specs.Steps.{Ends, Incoming, new_lane, may_enter, arrival_of, taken_on}
+use Rattle.lane_ends.specs.Steps.{LaneEndsView, ReceiverEndView, new_lane, may_enter, arrival_of, taken_on}
 use Rattle.lane_core.specs.Calls.{Call, MakeRoom, Release, Enter, Transmit, Deliver, SendDllp, DeliverDllp, Timer, Retrained, Take, IsCall, AreCalls, after_call, list_of, accepted_from, entered_by, taken_by, entered_in, taken_in}
 use Rattle.lane_core.specs.Credit.{needs_of, is_update, direction_of, dllp_events, events_of, events_in, numbers_of}
 use Rattle.lane_core.proofs.Below.{Below}
@@ -67,7 +67,7 @@ dllp_adds d numbers (Update class header units ∷ ds) Good c p e = rw e (nothin
 dllp_adds d numbers (Update class header units ∷ ds) Failed c p e = rw e (nothing (numbers c p) _ (lost_same (same c class) (numbers c p)))
 dllp_adds d numbers (Update class header units ∷ ds) Lost c p e = rw e (nothing (numbers c p) _ (lost_same (same c class) (numbers c p)))
 
-send_adds : (d : Direction) (e : Ends) (numbers : Accounts) (kind : DllpKind) (c : Class) (p : _) →
+send_adds : (d : Direction) (e : LaneEndsView) (numbers : Accounts) (kind : DllpKind) (c : Class) (p : _) →
     Adds (numbers c p) (numbers_in d numbers (events_of e (SendDllp kind)) c p) 0 0
 send_adds d e numbers kinds.Answer c p = same_used (numbers c p)
 send_adds d e numbers (kinds.Update class) c p = nothing (numbers c p) _ (told_same (same c class) (numbers c p))
@@ -81,7 +81,7 @@ arrival_adds : (d : Direction) (numbers : Accounts) (o : Option Item) (c : Class
 arrival_adds d numbers None c p = same_used (numbers c p)
 arrival_adds d numbers (Some item) c p = received_adds d.on_the_way numbers c p
 
-deliver_adds : (d : Direction) (numbers : Accounts) (f : List WirePacket) (r : Incoming) (fate : Fate) (c : Class) (p : _) →
+deliver_adds : (d : Direction) (numbers : Accounts) (f : List WirePacket) (r : ReceiverEndView) (fate : Fate) (c : Class) (p : _) →
     Adds (numbers c p) (numbers_in d numbers (map (λ (item : Item). Receive) (accepted_from f r fate)) c p) 0 0
 deliver_adds d numbers [] r fate c p = same_used (numbers c p)
 deliver_adds d numbers (q ∷ f) r fate c p = arrival_adds d numbers (taken_on (arrival_of r.receiving q.number fate) q.cargo) c p
@@ -93,7 +93,7 @@ used_true : (numbers : Accounts) (need : Need) (b : Bool) → b ≡ true → (c 
 used_true numbers need true e c p = refl
 used_true numbers need false e c p = cc
 
-enter_adds : Below → (e : Ends) (numbers : Accounts) (t : Packet) (mark : ℕ) (b : Bool) → may_enter e.sender (need_of t) ≡ b → Spells (canonical t) t → (c : Class) (p : _) →
+enter_adds : Below → (e : LaneEndsView) (numbers : Accounts) (t : TlpView) (mark : ℕ) (b : Bool) → may_enter e.sender (need_of t) ≡ b → Spells (canonical t) t → (c : Class) (p : _) →
     Adds (numbers c p) (numbers_in (direction_of e) numbers (if b then Consume (need_of t) ∷ [] else []) c p) (demand c p (needs_of (if b then (t, mark) ∷ [] else []))) 0
 enter_adds laws e numbers t mark true h s c p =
     let tests = both_true (gate_covers e.sender.gate (need_of t)) (nat_lt (length e.sender.sending.kept) 2047) h in
@@ -108,13 +108,13 @@ freed_adds numbers None c p = same_used (numbers c p)
 freed_adds numbers (Some item) c p =
     record { used = sym (add-zero (numbers c p).used); given = ap (λ (n : ℕ). (numbers c p).given + n) (sym (one_need c p (need_of item.0))) }
 
-take_adds : (e : Ends) (numbers : Accounts) (place : ℕ) (b : Bool) (c : Class) (p : _) →
+take_adds : (e : LaneEndsView) (numbers : Accounts) (place : ℕ) (b : Bool) (c : Class) (p : _) →
     Adds (numbers c p) (numbers_in (direction_of e) numbers (if b then Free place ∷ [] else []) c p) 0
     (demand c p (needs_of (if b then list_of (slice_get e.receiver.queue place) else [])))
 take_adds e numbers place true c p = rw (need_there e.receiver.queue place) (freed_adds numbers (slice_get e.receiver.queue place) c p)
 take_adds e numbers place false c p = same_used (numbers c p)
 
-call_adds : Below → (e : Ends) (numbers : Accounts) (call : Call) → IsCall call → (c : Class) (p : _) →
+call_adds : Below → (e : LaneEndsView) (numbers : Accounts) (call : Call) → IsCall call → (c : Class) (p : _) →
     Adds (numbers c p) (numbers_in (direction_of e) numbers (events_of e call) c p) (demand c p (needs_of (entered_by e call))) (demand c p (needs_of (taken_by e call)))
 call_adds laws e numbers (MakeRoom need) i c p = same_used (numbers c p)
 call_adds laws e numbers Release i c p = same_used (numbers c p)
@@ -135,7 +135,7 @@ demand_append : (c : Class) (p : _) (xs ys : List Item) → demand c p (needs_of
 demand_append c p xs ys =
     ap (λ (needs : List Need). demand c p needs) (map-append (λ (item : Item). need_of item.0) xs ys) ∙ sum_by-append (amount c p) (needs_of xs) (needs_of ys)
 
-run_adds : Below → (e : Ends) (numbers : Accounts) (calls : List Call) → AreCalls calls → IsSound e → (c : Class) (p : _) →
+run_adds : Below → (e : LaneEndsView) (numbers : Accounts) (calls : List Call) → AreCalls calls → IsSound e → (c : Class) (p : _) →
     Adds (numbers c p) (numbers_in (direction_of e) numbers (events_in e calls) c p) (demand c p (needs_of (entered_in e calls))) (demand c p (needs_of (taken_in e calls)))
 run_adds laws e numbers [] i k c p = same_used (numbers c p)
 run_adds laws e numbers (call ∷ calls) i k c p =

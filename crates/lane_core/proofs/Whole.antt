@@ -6,7 +6,7 @@ use Rattle.fc_credit.specs.declared.limits.LaneCredits.{LaneCredits}
 use Rattle.fc_credit.specs.Limits.{IsInLimits}
 use Rattle.fc_credit.specs.Credits.{most, allowance, grant, first_of, gate_covers}
 use Rattle.fc_credit.specs.Account.{Direction, demand, IsRight as IsBalanced}
-use Rattle.lane_ends.specs.Steps.{Ends, new_lane}
+use Rattle.lane_ends.specs.Steps.{LaneEndsView, new_lane}
 use Rattle.lane_core.specs.Calls.{Call, AreCalls, after_calls, on_the_way}
 use Rattle.lane_core.specs.Credit.{needs_of, events_in, numbers_of, HasRoom}
 use Rattle.lane_ends.specs.declared.packet.LaneRefusal.{LaneRefusal}
@@ -45,11 +45,11 @@ turned : (b : Bool) (R : Type 0) → IsTrue b ↔ R → (b ≡ false) ↔ (¬ R)
 turned true R h = (λ e. cc, λ n. absurd (n (h.0 refl)))
 turned false R h = (λ e r. let t : IsTrue false = h.1 r in cc, λ n. refl)
 
-pub no_room : {A : Type 0} → IsRoom → (r : Result A LaneRefusal) (e : Ends) (need : Need) → (r ≡ Err (NoCredits need.class)) ↔ (gate_covers e.sender.gate need ≡ false) →
+pub no_room : {A : Type 0} → IsRoom → (r : Result A LaneRefusal) (e : LaneEndsView) (need : Need) → (r ≡ Err (NoCredits need.class)) ↔ (gate_covers e.sender.gate need ≡ false) →
     need.header ≤ 127 → need.units ≤ 2047 → (credits : LaneCredits) (calls : List Call) → IsInLimits credits → AreCalls calls → after_calls (new_lane credits) calls ≡ e →
     (r ≡ Err (NoCredits need.class)) ↔ (¬ HasRoom credits (numbers_of credits calls) need)
 no_room room r e need n h u credits calls l k q =
     let gate : IsTrue (gate_covers e.sender.gate need) ↔ HasRoom credits (numbers_of credits calls) need =
-    subst (λ (m : Ends). IsTrue (gate_covers m.sender.gate need) ↔ HasRoom credits (numbers_of credits calls) need) q (room credits calls need l k h u) in
+    subst (λ (m : LaneEndsView). IsTrue (gate_covers m.sender.gate need) ↔ HasRoom credits (numbers_of credits calls) need) q (room credits calls need l k h u) in
     let turn = turned (gate_covers e.sender.gate need) (HasRoom credits (numbers_of credits calls) need) gate in
     (λ x. turn.0 (n.0 x), λ x. n.1 (turn.1 x))

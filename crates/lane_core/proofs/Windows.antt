@@ -6,7 +6,7 @@ use Rattle.std.specs.List.{cons_option}
 use Rattle.std.proofs.lemmas.Option.{slice_get_within}
 use Rattle.std.proofs.lemmas.List.{append-nil, append_assoc, length-append, length-drop}
 use Rattle.std.proofs.lemmas.List.Elements.{All-drop}
-use Rattle.replay_sender.specs.Carried.{Carried}
+use Rattle.replay_sender.specs.CargoView.{CargoView}
 use Rattle.link_receiver.specs.declared.receiver.Reception.TheVariants.{Accept, Duplicate, NakNow, Quiet}
 use Rattle.fc_credit.specs.declared.limits.LaneCredits.{LaneCredits}
 use Rattle.fc_credit.specs.Needs.{need_of}
@@ -16,9 +16,9 @@ use Rattle.lane_ends.specs.declared.packet.Arrival.{Arrival}
 use Rattle.lane_ends.specs.declared.packet.Arrival.TheVariants.{Answered, Gone}
 use Rattle.lane_ends.specs.declared.packet.DllpKind.{DllpKind}
 use Rattle.lane_ends.specs.declared.packet.DllpKind.TheVariants as kinds
-use Rattle.replay_sender.specs.Sending.{number_at, next_item}
+use Rattle.replay_sender.specs.SenderView.{number_at, next_item}
 use Rattle.lane_ends.specs.Content.{item_spelled, items_of, IsSpelled, received_of, unaccepted_of}
-use Rattle.lane_ends.specs.Steps.{Ends, Outgoing, packets_sent, new_lane, may_enter, entered, with_room, all_but_first, arrival_of, taken_on, receiving_on, after_arrival, after_deliver, after_take, transmitted}
+use Rattle.lane_ends.specs.Steps.{LaneEndsView, SenderEndView, packets_sent, new_lane, may_enter, entered, with_room, all_but_first, arrival_of, taken_on, receiving_on, after_arrival, after_deliver, after_take, transmitted}
 use Rattle.lane_core.specs.Calls.{Call, MakeRoom, Release, Enter, Transmit, Deliver, SendDllp, DeliverDllp, Timer, Retrained, Take, AreCalls, after_call, list_of, accepted_from, accepted_by, after_calls, accepted_in, on_the_way}
 use Rattle.lane_core.specs.Windows.{next_entered, oldest_unacknowledged, next_accepted, deliveries}
 use Rattle.lane_core.proofs.Below.{IsRead}
@@ -30,28 +30,28 @@ use Rattle.lane_core.proofs.Kept.{spelled_some}
 use Rattle.lane_core.proofs.Arithmetic.{ahead_same}
 
 -- a call that delivers nothing puts packets behind those under way
-record Passes (e new : Ends) : Type 0 where
+record Passes (e new : LaneEndsView) : Type 0 where
   more : List WirePacket
   wire : new.forward ≡ e.forward ++ more
   next : new.receiver.receiving.next ≡ e.receiver.receiving.next
 
-same_ends : (e : Ends) → Passes e e
+same_ends : (e : LaneEndsView) → Passes e e
 same_ends e = record { more = []; wire = sym (append-nil e.forward); next = refl }
 
-sender_passes : (e : Ends) (s : Outgoing) (b : Bool) → Passes e (if b then record e { sender = s } else e)
+sender_passes : (e : LaneEndsView) (s : SenderEndView) (b : Bool) → Passes e (if b then record e { sender = s } else e)
 sender_passes e s true = record { more = []; wire = sym (append-nil e.forward); next = refl }
 sender_passes e s false = same_ends e
 
-send_passes : (e : Ends) (kind : DllpKind) → Passes e (after_call e (SendDllp kind))
+send_passes : (e : LaneEndsView) (kind : DllpKind) → Passes e (after_call e (SendDllp kind))
 send_passes e kinds.Answer = record { more = []; wire = sym (append-nil e.forward); next = refl }
 send_passes e (kinds.Update class) = record { more = []; wire = sym (append-nil e.forward); next = refl }
 
-take_passes : (e : Ends) (place : ℕ) (b : Bool) → Passes e (if b then record e { receiver = after_take e.receiver place } else e)
+take_passes : (e : LaneEndsView) (place : ℕ) (b : Bool) → Passes e (if b then record e { receiver = after_take e.receiver place } else e)
 take_passes e place true = record { more = []; wire = sym (append-nil e.forward); next = refl }
 take_passes e place false = same_ends e
 
 -- a call that accepts nothing
-through : (e : Ends) (f g : List WirePacket) (u : List Carried) (call : Call) (calls : List Call) → Passes e (after_call e call) → accepted_by e call ≡ [] →
+through : (e : LaneEndsView) (f g : List WirePacket) (u : List CargoView) (call : Call) (calls : List Call) → Passes e (after_call e call) → accepted_by e call ≡ [] →
     e.forward ≡ f ++ g → e.receiver.receiving.next < 4096 → IsForward e.receiver.receiving.next u 2048 f →
     ((h : List WirePacket) → (after_call e call).forward ≡ f ++ h → (after_call e call).receiver.receiving.next < 4096 → IsForward (after_call e call).receiver.receiving.next u 2048 f →
     length (accepted_in (after_call e call) calls) ≤ length u) → length (accepted_in e (call ∷ calls)) ≤ length u
@@ -68,9 +68,9 @@ at_most_one None = omega arith
 at_most_one (Some item) = omega arith
 
 -- a packet that arrives
-arrives : (e : Ends) (p : WirePacket) (f g : List WirePacket) (u : List Carried) (arrival : Arrival) (calls : List Call) →
+arrives : (e : LaneEndsView) (p : WirePacket) (f g : List WirePacket) (u : List CargoView) (arrival : Arrival) (calls : List Call) →
     (arrival ≡ Answered Accept → p.number ≡ e.receiver.receiving.next) → e.receiver.receiving.next < 4096 → IsForward e.receiver.receiving.next u 2048 (p ∷ f) →
-    ((v : List Carried) → (receiving_on e.receiver.receiving arrival).next < 4096 → IsForward (receiving_on e.receiver.receiving arrival).next v 2048 f →
+    ((v : List CargoView) → (receiving_on e.receiver.receiving arrival).next < 4096 → IsForward (receiving_on e.receiver.receiving arrival).next v 2048 f →
     length (accepted_in (record e { forward = f ++ g; receiver = after_arrival e.receiver p.cargo arrival }) calls) ≤ length v) →
     length (list_of (taken_on arrival p.cargo) ++ accepted_in (record e { forward = f ++ g; receiver = after_arrival e.receiver p.cargo arrival }) calls) ≤ length u
 arrives e p f g u (Answered Accept) calls is n k rest =
@@ -80,10 +80,10 @@ arrives e p f g u (Answered Accept) calls is n k rest =
     let first : u ≡ p.cargo ∷ drop 1 u = first_is u p.cargo there in
     let left : IsForward ((next + 1) % 4096) (drop 1 u) 2048 f =
     forward.accepted next p.cargo (drop 1 u) 2048 f n (omega arith)
-    (subst (λ (v : List Carried). IsForward next v 2049 f) first (forward.weaker next u (max 2048 (ahead_of p.number next + 1)) 2049 f (omega arith) k.1)) in
+    (subst (λ (v : List CargoView). IsForward next v 2049 f) first (forward.weaker next u (max 2048 (ahead_of p.number next + 1)) 2049 f (omega arith) k.1)) in
     let later : length (accepted_in (record e { forward = f ++ g; receiver = after_arrival e.receiver p.cargo (Answered Accept) }) calls) ≤ length (drop 1 u) = rest (drop 1 u) (omega arith) left in
     let one : length (list_of (item_spelled p.cargo)) ≤ 1 = at_most_one (item_spelled p.cargo) in
-    let whole : length u ≡ length (drop 1 u) + 1 = ap (λ (v : List Carried). length v) first ∙ (omega arith) in
+    let whole : length u ≡ length (drop 1 u) + 1 = ap (λ (v : List CargoView). length v) first ∙ (omega arith) in
     let count = length-append (list_of (item_spelled p.cargo)) (accepted_in (record e { forward = f ++ g; receiver = after_arrival e.receiver p.cargo (Answered Accept) }) calls) in
     omega (arith, later, one, whole, count)
 arrives e p f g u (Answered Duplicate) calls is n k rest = rest u n (forward.weaker e.receiver.receiving.next u (max 2048 (ahead_of p.number e.receiver.receiving.next + 1)) 2048 f (omega arith) k.1)
@@ -92,7 +92,7 @@ arrives e p f g u (Answered Quiet) calls is n k rest = rest u n (forward.weaker 
 arrives e p f g u Gone calls is n k rest = rest u n (forward.weaker e.receiver.receiving.next u (max 2048 (ahead_of p.number e.receiver.receiving.next + 1)) 2048 f (omega arith) k.1)
 
 -- while packets that were under way are delivered, no more are accepted than were waited for
-bounded : (e : Ends) (f g : List WirePacket) (u : List Carried) (calls : List Call) → e.forward ≡ f ++ g → deliveries calls ≤ length f → e.receiver.receiving.next < 4096 →
+bounded : (e : LaneEndsView) (f g : List WirePacket) (u : List CargoView) (calls : List Call) → e.forward ≡ f ++ g → deliveries calls ≤ length f → e.receiver.receiving.next < 4096 →
     IsForward e.receiver.receiving.next u 2048 f → length (accepted_in e calls) ≤ length u
 bounded e f g u [] w d n k = omega arith
 bounded e [] g u (Deliver fate ∷ calls) w d n k = absurd (omega (arith, d))
@@ -137,7 +137,7 @@ count_one : (o : Option Item) (item : Item) (xs : List Item) → o ≡ Some item
 count_one (Some x) item xs e = omega arith
 count_one None item xs e = cc
 
-all_items : (cs : List Carried) → All IsSpelled cs → length (items_of cs) ≡ length cs
+all_items : (cs : List CargoView) → All IsSpelled cs → length (items_of cs) ≡ length cs
 all_items [] k = refl
 all_items (c ∷ cs) k =
     let first = spelled_some c (k 0 c (omega arith)) in
@@ -147,20 +147,20 @@ all_items (c ∷ cs) k =
 
 -- ---- a packet that is sent
 
-there : (kept : List Carried) (place : ℕ) (stopped : Bool) (f : Carried → ℕ) (number : ℕ) → option_map f (if stopped then None else slice_get kept place) ≡ Some number → place < length kept
+there : (kept : List CargoView) (place : ℕ) (stopped : Bool) (f : CargoView → ℕ) (number : ℕ) → option_map f (if stopped then None else slice_get kept place) ≡ Some number → place < length kept
 there kept place true f number h = cc
 there kept place false f number h = by_place (slice_get kept place) refl h
   where
-    by_place : (o : Option Carried) → slice_get kept place ≡ o → option_map f o ≡ Some number → place < length kept
+    by_place : (o : Option CargoView) → slice_get kept place ≡ o → option_map f o ≡ Some number → place < length kept
     by_place None e h = cc
     by_place (Some cargo) e h = slice_get_within kept place cargo e
 
-pub sent_is_kept : (s : Outgoing) (number : ℕ) → transmitted s ≡ Some number → s.sending.place < length s.sending.kept
+pub sent_is_kept : (s : SenderEndView) (number : ℕ) → transmitted s ≡ Some number → s.sending.place < length s.sending.kept
 sent_is_kept s number h = there s.sending.kept s.sending.place s.sending.stopped (λ cargo. number_at s.sending s.sending.place) number h
 
 -- ---- a whole list of calls
 
-accepted_more : (e : Ends) (xs ys : List Call) → accepted_in e (xs ++ ys) ≡ accepted_in e xs ++ accepted_in (after_calls e xs) ys
+accepted_more : (e : LaneEndsView) (xs ys : List Call) → accepted_in e (xs ++ ys) ≡ accepted_in e xs ++ accepted_in (after_calls e xs) ys
 accepted_more e [] ys = refl
 accepted_more e (call ∷ calls) ys =
     ap (λ (items : List Item). accepted_by e call ++ items) (accepted_more (after_call e call) calls ys)

@@ -12,7 +12,7 @@ use Rattle.lane_ends.specs.declared.packet.Fate.{Fate}
 use Rattle.lane_ends.specs.declared.packet.Fate.TheVariants.{Good, Failed, Lost}
 use Rattle.lane_ends.specs.declared.packet.DllpKind.{DllpKind}
 use Rattle.lane_ends.specs.declared.packet.DllpKind.TheVariants as kinds
-use Rattle.lane_ends.specs.Steps.{Ends, new_lane, may_enter}
+use Rattle.lane_ends.specs.Steps.{LaneEndsView, new_lane, may_enter}
 use Rattle.lane_core.specs.Calls.{Call, Enter, Deliver, SendDllp, DeliverDllp, Take, after_call, on_the_way, accepted_by}
 
 abbrev pub needs_of : List Item → List Need
@@ -24,7 +24,7 @@ is_update (Ack number) = false
 is_update (Nak number) = false
 
 -- what the credits of a lane are about: Acks and Naks aren't
-abbrev pub direction_of : Ends → Direction
+abbrev pub direction_of : LaneEndsView → Direction
 direction_of e =
     record { gate = e.sender.gate; ledger = e.receiver.ledger; on_the_way = needs_of (on_the_way e); queue = needs_of e.receiver.queue; wire = filter is_update e.back }
 
@@ -45,7 +45,7 @@ abbrev pub sent_events : DllpKind → List Event
 sent_events kinds.Answer = []
 sent_events (kinds.Update class) = Tell class ∷ []
 
-abbrev pub events_of : Ends → Call → List Event
+abbrev pub events_of : LaneEndsView → Call → List Event
 events_of e (Enter t mark) = if may_enter e.sender (need_of t) then Consume (need_of t) ∷ [] else []
 events_of e (Deliver fate) = map (λ item. Receive) (accepted_by e (Deliver fate))
 events_of e (SendDllp kind) = sent_events kind
@@ -53,7 +53,7 @@ events_of e (DeliverDllp fate) = dllp_events e.back fate
 events_of e (Take place) = if is_takeable e.receiver.queue place then Free place ∷ [] else []
 events_of e _ = []
 
-abbrev pub events_in : Ends → List Call → List Event
+abbrev pub events_in : LaneEndsView → List Call → List Event
 events_in e [] = []
 events_in e (call ∷ calls) = events_of e call ++ events_in (after_call e call) calls
 

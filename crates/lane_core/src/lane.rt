@@ -20,10 +20,10 @@ pub struct Lane {
 }
 
 impl Model for Lane {
-    ghost use Rattle.lane_ends.specs.Steps.{Ends};
+    ghost use Rattle.lane_ends.specs.Steps.{LaneEndsView};
     ghost use Rattle.lane_core.specs.Calls.{IsRight};
 
-    ghost Value = { Ends };
+    ghost Value = { LaneEndsView };
 
     ghost view = { λ l. l.ends };
 
@@ -33,7 +33,7 @@ impl Model for Lane {
 impl Lane {
     ghost use Rattle.dllp_core.specs.Layout.{FitsDataFC};
     ghost use Rattle.dllp_core.specs.declared.packet.Dllp.{Dllp};
-    ghost use Rattle.replay_sender.specs.Sending.{next_number};
+    ghost use Rattle.replay_sender.specs.SenderView.{next_number};
     ghost use Rattle.tlp_core.specs.Layout.{Spells, canonical};
     ghost use Rattle.fc_credit.specs.Limits.{IsInLimits};
     ghost use Rattle.fc_credit.specs.Needs.{need_of as need};

@@ -1,7 +1,7 @@
 //! What holds of a lane whatever calls are made, said of the values of its four ends, wherever these are.
 ghost use Rattle.std.specs.Prelude.{◌≡◌, ◌↔◌, ℕ, ◌+◌, ◌/◌, ◌<◌, ◌≤◌, All, IsOk, IsTrue, Some, List, [], ◌++◌, length};
 ghost use Rattle.dllp_core.specs.declared.packet.Class.{Class};
-ghost use Rattle.tlp_core.specs.Packet.{Packet};
+ghost use Rattle.tlp_core.specs.TlpView.{TlpView};
 ghost use Rattle.tlp_core.specs.Layout.{Spells, canonical};
 ghost use Rattle.link_receiver.specs.declared.receiver.Reception.TheVariants.{Accept};
 ghost use Rattle.fc_credit.specs.declared.needs.Need.{Need};
@@ -13,7 +13,7 @@ ghost use Rattle.lane_ends.specs.declared.packet.Fate.{Fate};
 ghost use Rattle.lane_ends.specs.declared.packet.WirePacket.{WirePacket};
 ghost use Rattle.lane_ends.specs.declared.packet.Arrival.TheVariants.{Answered};
 ghost use Rattle.lane_ends.specs.Content.{cargo_of, item_spelled, IsSpelled, wire_bytes};
-ghost use Rattle.lane_ends.specs.Steps.{Ends, new_lane, transmitted, delivered, dllp_seen, IsStill};
+ghost use Rattle.lane_ends.specs.Steps.{LaneEndsView, new_lane, transmitted, delivered, dllp_seen, IsStill};
 ghost use Rattle.lane_core.specs.Calls.{Call, Deliver, IsCall, AreCalls, after_call, entered_by, accepted_by, after_calls, entered_in, accepted_in, taken_in, IsPrefixOf, on_the_way, content, content_after, IsRightWith, IsRight, AcceptsFirst};
 ghost use Rattle.lane_core.specs.Windows.{next_entered, oldest_unacknowledged, next_accepted, deliveries};
 ghost use Rattle.lane_core.specs.Credit.{needs_of, numbers_of, HasRoom};
@@ -25,9 +25,9 @@ use tlp_core::laws::reading_is_spelling;
 /// the packet of its place, every other call leaves it.
 pub fn each_call_keeps_it_right()
     ensures new { (credits : LaneCredits) → IsInLimits credits → IsRightWith credits (new_lane credits) }
-    ensures right { (credits : LaneCredits) (e : Ends) (call : Call) → IsCall call → IsRightWith credits e → IsRightWith credits (after_call e call) }
-    ensures content { (e : Ends) (call : Call) → IsCall call → IsRight e → content (after_call e call) ≡ content_after e call }
-    ensures on_the_way { (e : Ends) (call : Call) → IsCall call → IsRight e →
+    ensures right { (credits : LaneCredits) (e : LaneEndsView) (call : Call) → IsCall call → IsRightWith credits e → IsRightWith credits (after_call e call) }
+    ensures content { (e : LaneEndsView) (call : Call) → IsCall call → IsRight e → content (after_call e call) ≡ content_after e call }
+    ensures on_the_way { (e : LaneEndsView) (call : Call) → IsCall call → IsRight e →
         on_the_way e ++ entered_by e call ≡ accepted_by e call ++ on_the_way (after_call e call) }
 {
     reading_is_spelling();
@@ -46,7 +46,7 @@ pub fn accepted_begins_entered()
 
 /// Only the first packet that is not yet accepted is accepted, and it then stands last in the queue.
 pub fn only_the_first_is_accepted()
-    ensures { (e : Ends) (fate : Fate) → IsRight e → delivered e.forward e.receiver fate ≡ Some (Answered Accept) →
+    ensures { (e : LaneEndsView) (fate : Fate) → IsRight e → delivered e.forward e.receiver fate ≡ Some (Answered Accept) →
         AcceptsFirst e (after_call e (Deliver fate)) }
 {
     reading_is_spelling();
@@ -54,7 +54,7 @@ pub fn only_the_first_is_accepted()
 
 /// No Ack or Nak of a lane is a protocol error.
 pub fn never_a_protocol_error()
-    ensures { (e : Ends) (fate : Fate) → IsRight e → IsOk (dllp_seen e.back e.sender fate) }
+    ensures { (e : LaneEndsView) (fate : Fate) → IsRight e → IsOk (dllp_seen e.back e.sender fate) }
 {
     reading_is_spelling();
 }
@@ -62,7 +62,7 @@ pub fn never_a_protocol_error()
 /// All that was entered was taken exactly where the queue is empty and the receiver waits for the number that the
 /// sender gives next.
 pub fn quiet_is_nothing_left()
-    ensures { (e : Ends) → IsRight e → (content e ≡ []) ↔ IsStill e }
+    ensures { (e : LaneEndsView) → IsRight e → (content e ≡ []) ↔ IsStill e }
 {
     reading_is_spelling();
 }
@@ -70,8 +70,8 @@ pub fn quiet_is_nothing_left()
 /// What is entered is read back from its bytes; every packet under way is of bytes that spell a packet; and the bytes
 /// on the wire tell the number and the packet's bytes, the four bits above the number being 0.
 pub fn wire_bytes_tell_the_packet()
-    ensures entered { (t : Packet) (mark : ℕ) → Spells (canonical t) t → item_spelled (cargo_of t mark) ≡ Some (t, mark) }
-    ensures under_way { (e : Ends) → IsRight e → All (λ p. IsSpelled p.cargo) e.forward }
+    ensures entered { (t : TlpView) (mark : ℕ) → Spells (canonical t) t → item_spelled (cargo_of t mark) ≡ Some (t, mark) }
+    ensures under_way { (e : LaneEndsView) → IsRight e → All (λ p. IsSpelled p.cargo) e.forward }
     ensures number { (p q : WirePacket) → wire_bytes p ≡ wire_bytes q → p.number ≡ q.number }
     ensures bytes { (p q : WirePacket) → wire_bytes p ≡ wire_bytes q → p.cargo.bytes ≡ q.cargo.bytes }
     ensures zero_bits { (p : WirePacket) → p.number < 4096 → p.number / 256 < 16 }

@@ -4,7 +4,7 @@ use Rattle.fc_credit.specs.declared.needs.Need.{Need}
 use Rattle.fc_credit.specs.Credits.{gate_covers}
 use Rattle.lane_ends.specs.declared.packet.LaneRefusal.{LaneRefusal}
 use Rattle.lane_ends.specs.declared.packet.LaneRefusal.TheVariants as lanes
-use Rattle.lane_ends.specs.Steps.{Outgoing, may_enter}
+use Rattle.lane_ends.specs.Steps.{SenderEndView, may_enter}
 
 -- the place of a refusal in the order, from 1
 abbrev pub number_of : LaneRefusal → ℕ
@@ -18,7 +18,7 @@ name_of lanes.WindowFull = codes "WindowFull"
 name_of lanes.Memory = codes "Memory"
 
 -- why there is no room for a packet of this need: `Memory` comes only where credits and window have room
-abbrev pub LacksRoom : Outgoing → Need → LaneRefusal → Type 0
+abbrev pub LacksRoom : SenderEndView → Need → LaneRefusal → Type 0
 LacksRoom s need (lanes.NoCredits class) = (class ≡ need.class) × (gate_covers s.gate need ≡ false)
 LacksRoom s need lanes.WindowFull = (gate_covers s.gate need ≡ true) × (2047 ≤ length s.sending.kept)
 LacksRoom s need lanes.Memory = may_enter s need ≡ true

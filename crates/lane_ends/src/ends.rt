@@ -18,9 +18,9 @@ pub struct LaneEnds {
 }
 
 impl Model for LaneEnds {
-    ghost use Rattle.lane_ends.specs.Steps.{Ends};
+    ghost use Rattle.lane_ends.specs.Steps.{LaneEndsView};
 
-    ghost Value = { Ends };
+    ghost Value = { LaneEndsView };
 
     ghost view = { λ l. record { sender = l.sender; forward = l.forward; back = l.back; receiver = l.receiver } };
 }

@@ -22,20 +22,20 @@ pub struct ReceiverEnd {
 }
 
 impl Model for ReceiverEnd {
-    ghost use Rattle.lane_ends.specs.Steps.{Incoming};
+    ghost use Rattle.lane_ends.specs.Steps.{ReceiverEndView};
 
-    ghost Value = { Incoming };
+    ghost Value = { ReceiverEndView };
 
     ghost view = { λ e. record { receiving = e.receiver; ledger = e.ledger; queue = e.queue } };
 }
 
 impl ReceiverEnd {
     ghost use Rattle.dllp_core.specs.Layout.{FitsDataFC};
-    ghost use Rattle.link_receiver.specs.Receiving.{reception_of};
+    ghost use Rattle.link_receiver.specs.ReceiverView.{reception_of};
     ghost use Rattle.vc_queue.specs.Queue.{is_takeable};
     ghost use Rattle.lane_ends.specs.Content.{item_spelled};
     ghost use Rattle.lane_ends.specs.declared.packet.Arrival.TheVariants.{Answered};
-    ghost use Rattle.lane_ends.specs.Steps.{Incoming, new_receiver, all_but_first, ledger_with, queue_with, after_arrival, delivered, after_deliver, dllp_of, after_send, wire_after_send, after_take};
+    ghost use Rattle.lane_ends.specs.Steps.{ReceiverEndView, new_receiver, all_but_first, ledger_with, queue_with, after_arrival, delivered, after_deliver, dllp_of, after_send, wire_after_send, after_take};
 
     /// Nothing was accepted, and these credits were given. It allocates nothing.
     pub fn new(credits: LaneCredits, alloc: Global) -> ReceiverEnd

@@ -20,9 +20,9 @@ pub struct SenderEnd {
 }
 
 impl Model for SenderEnd {
-    ghost use Rattle.lane_ends.specs.Steps.{Outgoing};
+    ghost use Rattle.lane_ends.specs.Steps.{SenderEndView};
 
-    ghost Value = { Outgoing };
+    ghost Value = { SenderEndView };
 
     ghost view = { λ e. record { sending = e.sender; gate = e.gate } };
 }
@@ -43,7 +43,7 @@ ghost use Rattle.lane_ends.specs.Content.{cargo_of};
 impl SenderEnd {
     ghost use Rattle.fc_credit.specs.Needs.{need_of as need};
     ghost use Rattle.fc_credit.specs.Credits.{gate_covers};
-    ghost use Rattle.replay_sender.specs.Sending.{next_number, next_item};
+    ghost use Rattle.replay_sender.specs.SenderView.{next_number, next_item};
     ghost use Rattle.lane_ends.specs.Refusals.{LacksRoom};
     ghost use Rattle.lane_ends.specs.Steps.{new_sender, may_enter, entered, with_room, without_room, after_timer, after_retraining, transmitted, after_transmission, wire_after_transmit, all_but_first, is_expected, after_dllp, sender_after, dllp_seen};
     ghost use Rattle.dllp_core.specs.Layout.{FitsDataFC};

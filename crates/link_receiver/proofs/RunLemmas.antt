@@ -9,7 +9,7 @@ use Rattle.link_receiver.specs.declared.receiver.NakScheduled.{NakScheduled}
 use Rattle.link_receiver.specs.declared.receiver.NakScheduled.TheVariants.{Clear, Due, Sent}
 use Rattle.link_receiver.specs.declared.receiver.Reception.{Reception}
 use Rattle.link_receiver.specs.declared.receiver.Reception.TheVariants.{Accept, Duplicate, NakNow, Quiet}
-use Rattle.link_receiver.specs.Receiving.{Receiving, discard_answer, answer_by, reception_of, next_after, nak_after, after_receive, nak_sent, after_acknowledge}
+use Rattle.link_receiver.specs.ReceiverView.{ReceiverView, discard_answer, answer_by, reception_of, next_after, nak_after, after_receive, nak_sent, after_acknowledge}
 use Rattle.link_receiver.specs.Runs.{Call, Receive, Acknowledge, after_calls, handed_up_if, handed_up_in, naks_if, naks_in, AreConsecutive}
 
 -- ---- only the packet that is waited for is accepted
@@ -34,7 +34,7 @@ accepted_is_expected classes.Expected nak e = refl
 accepted_is_expected classes.Duplicate nak e = absurd cc
 accepted_is_expected classes.Ahead nak e = absurd (discard_accepts_none nak e)
 
-accepted_is_next : (r : Receiving) (got : ℕ) (good : Bool) → reception_of r got good ≡ Accept → got ≡ r.next
+accepted_is_next : (r : ReceiverView) (got : ℕ) (good : Bool) → reception_of r got good ≡ Accept → got ≡ r.next
 accepted_is_next r got true e = expected_at r.next got (got == r.next) refl (accepted_is_expected (class_of r.next got) r.nak e)
 accepted_is_next r got false e = absurd (discard_accepts_none r.nak e)
 
@@ -47,7 +47,7 @@ consecutive_step first got Duplicate rest h k = k
 consecutive_step first got NakNow rest h k = k
 consecutive_step first got Quiet rest h k = k
 
-pub consecutive : (r : Receiving) (calls : List Call) → AreConsecutive r.next (handed_up_in r calls)
+pub consecutive : (r : ReceiverView) (calls : List Call) → AreConsecutive r.next (handed_up_in r calls)
 consecutive r [] = tt
 consecutive r (Receive got good ∷ calls) =
     consecutive_step r.next got (reception_of r got good) (handed_up_in (after_receive r got good) calls)
@@ -67,7 +67,7 @@ advance_step next got Duplicate rest = refl
 advance_step next got NakNow rest = refl
 advance_step next got Quiet rest = refl
 
-pub advanced : (r : Receiving) (calls : List Call) → r.next < 4096
+pub advanced : (r : ReceiverView) (calls : List Call) → r.next < 4096
     → (after_calls r calls).next ≡ (r.next + length (handed_up_in r calls)) % 4096
 advanced r [] h = omega arith
 advanced r (Receive got good ∷ calls) h =
@@ -98,7 +98,7 @@ answer_asks_once classes.Expected nak e = absurd cc
 answer_asks_once classes.Duplicate nak e = absurd cc
 answer_asks_once classes.Ahead nak e = discard_asks_once nak e
 
-asks_once : (r : Receiving) (got : ℕ) (good : Bool) → reception_of r got good ≡ NakNow → r.nak ≡ Clear
+asks_once : (r : ReceiverView) (got : ℕ) (good : Bool) → reception_of r got good ≡ NakNow → r.nak ≡ Clear
 asks_once r got true e = answer_asks_once (class_of r.next got) r.nak e
 asks_once r got false e = discard_asks_once r.nak e
 
@@ -121,7 +121,7 @@ few_after_acknowledge Clear n h = omega arith
 few_after_acknowledge Due n h = omega arith
 few_after_acknowledge Sent n h = omega arith
 
-few_naks : (r : Receiving) (calls : List Call) → handed_up_in r calls ≡ [] → naks_in r calls ≤ naks_left r.nak
+few_naks : (r : ReceiverView) (calls : List Call) → handed_up_in r calls ≡ [] → naks_in r calls ≤ naks_left r.nak
 few_naks r [] e = omega arith
 few_naks r (Receive got good ∷ calls) e =
     let answer = reception_of r got good in
@@ -130,5 +130,5 @@ few_naks r (Receive got good ∷ calls) e =
     (few_naks (after_receive r got good) calls (nothing_more answer got rest e))
 few_naks r (Acknowledge ∷ calls) e = few_after_acknowledge r.nak (naks_in (after_acknowledge r) calls) (few_naks (after_acknowledge r) calls e)
 
-pub one_nak : (r : Receiving) (calls : List Call) → handed_up_in r calls ≡ [] → naks_in r calls ≤ 1
+pub one_nak : (r : ReceiverView) (calls : List Call) → handed_up_in r calls ≡ [] → naks_in r calls ≤ 1
 one_nak r calls e = omega (arith, few_naks r calls e, at_most_one r.nak)

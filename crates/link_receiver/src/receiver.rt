@@ -37,9 +37,9 @@ pub struct Receiver {
 }
 
 impl Model for Receiver {
-    ghost use Rattle.link_receiver.specs.Receiving.{Receiving};
+    ghost use Rattle.link_receiver.specs.ReceiverView.{ReceiverView};
 
-    ghost Value = { Receiving };
+    ghost Value = { ReceiverView };
 
     ghost view = { λ r. record { next = r.next; nak = r.nak } };
 
@@ -47,7 +47,7 @@ impl Model for Receiver {
 }
 
 impl Receiver {
-    ghost use Rattle.link_receiver.specs.Receiving.{fresh, reception_of, after_receive, acknowledgment_of, after_acknowledge};
+    ghost use Rattle.link_receiver.specs.ReceiverView.{fresh, reception_of, after_receive, acknowledgment_of, after_acknowledge};
 
     /// NEXT_RCV_SEQ is 000h, NAK_SCHEDULED is clear.
     pub fn new() -> Receiver

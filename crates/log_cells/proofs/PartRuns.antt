@@ -10,7 +10,7 @@ use Rattle.log_runs.specs.declared.Event.{Event}
 use Rattle.log_runs.specs.declared.Event.TheVariants as events
 use Rattle.log_runs.specs.declared.Step.{Step}
 use Rattle.log_runs.specs.declared.Step.TheVariants as steps
-use Rattle.log_runs.specs.Task.{Task}
+use Rattle.log_runs.specs.LogView.{LogView}
 use Rattle.log_runs.specs.Runs.{State, MayPass, MayAct, Allowed, Leads, Live, next, start, reply_of, bytes_after, acted_on}
 use Rattle.log_cells.specs.Parts.{IsInside, IsOutside, IsKept, IsPart}
 use Rattle.log_cells.proofs.Window.{Laws, Agree, same_answer, agree_outside, agree_inside}
@@ -80,7 +80,7 @@ was_sub names i op heard (events.Sub j w told) k = record { told = told; is = rw
 was_sub names i op heard (events.Due c) k = absurd k
 was_sub names i op heard events.Free k = absurd k
 
-module _ (laws : Laws) (log part : Task) (low high : ℕ) (names : List ℕ) (p : IsPart log part low high names) where
+module _ (laws : Laws) (log part : LogView) (low high : ℕ) (names : List ℕ) (p : IsPart log part low high names) where
   -- the state of the part beside that of the log
   record Beside (s t : State) : Type 0 where
     within : t.event ≤ length part.events

@@ -8,7 +8,7 @@ use Rattle.tlp_core.specs.declared.operation.Op.{Op}
 use Rattle.seq_memory.specs.declared.Reply.{Reply}
 use Rattle.log_runs.specs.declared.Event.{Event}
 use Rattle.log_runs.specs.declared.Event.TheVariants as events
-use Rattle.log_runs.specs.Task.{Task}
+use Rattle.log_runs.specs.LogView.{LogView}
 use Rattle.log_cells.specs.declared.places.Place.{Place}
 use Rattle.log_cells.specs.Places.{IsPlaceOf, ArePlaces, IsApart, AreNames}
 use Rattle.log_cells.specs.Parts.{IsInside, IsOutside, Holds, IsKept, NamesInside, AreKept, IsPart}
@@ -150,7 +150,7 @@ outside : (low high i : ℕ) (op : Op) (told : Option Reply) (p : Place) → IsP
 outside low high i op told p is (inl before) = inl (omega (arith, before, is.0, is.1))
 outside low high i op told p is (inr behind) = inr (omega (arith, behind, is.0))
 
-pub is_part : (log part : Task) (low high : ℕ) (names : List ℕ) (ps : List Place) → ArePlaces log.events ps → AreNames names ps low high (length ps) → AreKept log.events names low high part.events (length names)
+pub is_part : (log part : LogView) (low high : ℕ) (names : List ℕ) (ps : List Place) → ArePlaces log.events ps → AreNames names ps low high (length ps) → AreKept log.events names low high part.events (length names)
     → part.extent.block ≡ log.extent.block → Holds log.extent low high → Holds part.extent low high → IsPart log part low high names
 is_part log part low high names ps places are kept block of_log of_part = record {
   block = block;

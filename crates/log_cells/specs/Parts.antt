@@ -6,7 +6,7 @@ use Rattle.seq_memory.specs.declared.Reply.{Reply}
 use Rattle.seq_memory.specs.Limits.{Extent}
 use Rattle.log_runs.specs.declared.Event.{Event}
 use Rattle.log_runs.specs.declared.Event.TheVariants as events
-use Rattle.log_runs.specs.Task.{Task}
+use Rattle.log_runs.specs.LogView.{LogView}
 
 -- each byte that the operation names lies from low up to high
 abbrev pub IsInside : ℕ → ℕ → Op → Type 0
@@ -45,7 +45,7 @@ pub record AreKept (es : List Event) (names : List ℕ) (low high : ℕ) (fs : L
       → (a : ℕ) × (slice_get names j ≡ Some a) × (e : Event) × (slice_get es a ≡ Some e) × IsKept names e f × NamesInside low high f
 
 -- the requests on the bytes from low up to high; names has the place in the log of each event of the part
-pub record IsPart (log part : Task) (low high : ℕ) (names : List ℕ) : Type 0 where
+pub record IsPart (log part : LogView) (low high : ℕ) (names : List ℕ) : Type 0 where
   -- both memories have these bytes
   pub block : part.extent.block ≡ log.extent.block
   pub of_log : Holds log.extent low high

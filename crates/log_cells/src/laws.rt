@@ -1,6 +1,6 @@
 //! Laws of parts.
 ghost use Rattle.std.specs.Prelude.{ℕ, List};
-ghost use Rattle.log_runs.specs.Task.{Task};
+ghost use Rattle.log_runs.specs.LogView.{LogView};
 ghost use Rattle.log_runs.specs.Runs.{Live, start};
 ghost use Rattle.log_cells.specs.Parts.{IsPart};
 
@@ -8,7 +8,7 @@ use seq_memory::laws::{only_the_place_changes, refused_and_read_change_nothing};
 
 /// If a run leads through a log to its end, one leads through each part of it.
 pub fn a_part_has_a_run()
-    ensures { (log part : Task) (low high : ℕ) (names : List ℕ) → IsPart log part low high names → Live log (start log) → Live part (start part) }
+    ensures { (log part : LogView) (low high : ℕ) (names : List ℕ) → IsPart log part low high names → Live log (start log) → Live part (start part) }
 {
     only_the_place_changes();
     refused_and_read_change_nothing();

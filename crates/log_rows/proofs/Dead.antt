@@ -6,7 +6,7 @@ use Rattle.tlp_core.specs.Enables.{enables, ends_in_gap, is_one_run}
 use Rattle.seq_memory.specs.declared.Reply.{Reply}
 use Rattle.history_check.specs.declared.Record.{Record}
 use Rattle.history_check.specs.declared.Record.TheVariants as records
-use Rattle.history_check.specs.Observation.{Observation, observed}
+use Rattle.history_check.specs.TraceView.{TraceView, observed}
 use Rattle.log_runs.specs.declared.Event.{Event}
 use Rattle.log_runs.specs.declared.Event.TheVariants as events
 use Rattle.log_runs.specs.Runs.{Live, start, reply_of, bytes_after, acted_on}
@@ -16,7 +16,7 @@ use Rattle.log_rows.specs.Logs.{read, swap, add, value, stale_read, lost_update}
 use Rattle.log_rows.proofs.Endings.{is_dead, all_below, no_run}
 
 abbrev pub Law : Type 0
-Law = (t : Observation) (es : List Event) → AreEvents t.records es → IsExplainable t → Live (record { extent = observed t; events = es }) (start (record { extent = observed t; events = es }))
+Law = (t : TraceView) (es : List Event) → AreEvents t.records es → IsExplainable t → Live (record { extent = observed t; events = es }) (start (record { extent = observed t; events = es }))
 
 says : (rs : List Record) (x r : Record) (y e : Event) → Some x ≡ Some r → Some y ≡ Some e → Says rs x y → Says rs r e
 says rs x r y e at there s = subst (λ z. Says rs r z) (same_Some y e there) (subst (λ z. Says rs z y) (same_Some x r at) s)

@@ -11,7 +11,7 @@ use Rattle.log_runs.specs.declared.Event.{Event}
 use Rattle.log_runs.specs.declared.Event.TheVariants as events
 use Rattle.log_runs.specs.declared.Step.{Step}
 use Rattle.log_runs.specs.declared.Step.TheVariants as steps
-use Rattle.log_runs.specs.Task.{Task}
+use Rattle.log_runs.specs.LogView.{LogView}
 use Rattle.log_runs.specs.Runs.{State, MayPass, MayAct, Leads, Live, next, start, reply_of}
 
 abbrev is_set : Option Bool → Bool
@@ -29,7 +29,7 @@ is_told None made = true
 is_told (Some reply) made = same_reply reply made
 
 -- the order of posted writes is left out
-abbrev may_act : Task → State → ℕ → Option Event → Bool
+abbrev may_act : LogView → State → ℕ → Option Event → Bool
 may_act log s b (Some (events.Sub i op told)) = nat_lt b s.event && (not (is_set (slice_get s.acted b)) && is_told told (reply_of log.extent s.bytes op))
 may_act log s b (Some (events.Due c)) = false
 may_act log s b (Some events.Free) = false
@@ -40,7 +40,7 @@ all_below test zero = true
 all_below test (suc n) = all_below test n && test n
 
 -- no run of fewer than so many steps ends, and none is longer
-unfoldable pub is_dead : ℕ → Task → State → Bool
+unfoldable pub is_dead : ℕ → LogView → State → Bool
 is_dead zero log s = false
 is_dead (suc n) log s =
     not (s.event == length log.events)
@@ -77,7 +77,7 @@ told_made : (told : Option Reply) (made : Reply) → ((r : Reply) → told ≡ S
 told_made None made h = refl
 told_made (Some reply) made h = ap (same_reply reply) (h reply refl) ∙ same_self reply
 
-acts : (log : Task) (s : State) (b : ℕ) → MayAct log s b → may_act log s b (slice_get log.events b) ≡ true
+acts : (log : LogView) (s : State) (b : ℕ) → MayAct log s b → may_act log s b (slice_get log.events b) ≡ true
 acts log s b m =
     let fresh : not (is_set (slice_get s.acted b)) ≡ true = ap (λ o. not (is_set o)) m.once in
     let told = told_made m.told (reply_of log.extent s.bytes m.op) m.replied in
@@ -87,7 +87,7 @@ acts log s b m =
 no_end : (a b : ℕ) → not (a == b) ≡ true → a ≡ b → ⊥
 no_end a b h e = let t : not (a == b) ≡ false = ap not (eq-eqb a b e) in let f : true ≡ false = sym h ∙ t in cc
 
-none : (n : ℕ) (log : Task) (s t : State) (xs : List Step) → is_dead n log s ≡ true → Leads log s xs t → t.event ≡ length log.events → ⊥
+none : (n : ℕ) (log : LogView) (s t : State) (xs : List Step) → is_dead n log s ≡ true → Leads log s xs t → t.event ≡ length log.events → ⊥
 unfolding is_dead
 none zero log s t xs h leads over = cc
 none (suc n) log s t [] h leads over = no_end s.event (length log.events) (and_parts (not (s.event == length log.events)) _ h).0 (ap (λ (u : State). u.event) leads ∙ over)
@@ -102,5 +102,5 @@ none (suc n) log s t (steps.Act b ∷ xs) h leads over =
     let one = below (λ c. not (may_act log s c (slice_get log.events c)) || is_dead n log (next log s (steps.Act c))) (length log.events) b act inside in
     none n log (next log s (steps.Act b)) t xs (then (may_act log s b (slice_get log.events b)) _ one (acts log s b leads.0)) leads.1 over
 
-pub no_run : (n : ℕ) (log : Task) → is_dead n log (start log) ≡ true → Live log (start log) → ⊥
+pub no_run : (n : ℕ) (log : LogView) → is_dead n log (start log) ≡ true → Live log (start log) → ⊥
 no_run n log h live = none n log (start log) live.last live.steps h live.leads live.over

@@ -5,7 +5,7 @@ use Rattle.tlp_core.specs.Enables.{enables, ends_in_gap, is_one_run}
 use Rattle.seq_memory.specs.declared.Entry.{Entry}
 use Rattle.seq_memory.specs.History.{contents}
 use Rattle.history_check.specs.declared.Record.TheVariants as records
-use Rattle.history_check.specs.Observation.{Observation}
+use Rattle.history_check.specs.TraceView.{TraceView}
 use Rattle.history_check.specs.Claim.{Claim, claim_of}
 use Rattle.history_check.specs.Flaws.{first_flaw, first_at, any_below, misses, numbering_at, entry_at, answer_at}
 use Rattle.history_check.specs.Trace.{Explains}
@@ -19,7 +19,7 @@ entry i k op = record { requester = i; number = k; op = op }
 abbrev pub Law : Type 0
 Law = (x : Claim) → first_flaw x ≡ None → Explains x
 
-by : Law → (t u : Observation) (h : List Entry) → SeenAlike t u → first_flaw (claim_of u h) ≡ None → climbs 0 (length h) u.records ≡ true → all_late u.records 0 h ≡ true → IsExplainable t
+by : Law → (t u : TraceView) (h : List Entry) → SeenAlike t u → first_flaw (claim_of u h) ≡ None → climbs 0 (length h) u.records ≡ true → all_late u.records 0 h ≡ true → IsExplainable t
 by law t u h alike flaw c l = (u, h, alike, law (claim_of u h) flaw, clocked (claim_of u h) c l)
 
 pub write_passes : Law → IsExplainable write_passes_read

@@ -7,9 +7,9 @@ use Rattle.seq_memory.specs.declared.Reply.{Reply}
 use Rattle.seq_memory.specs.declared.Reply.TheVariants as replies
 use Rattle.history_check.specs.declared.Record.{Record}
 use Rattle.history_check.specs.declared.Record.TheVariants as records
-use Rattle.history_check.specs.Observation.{Observation}
+use Rattle.history_check.specs.TraceView.{TraceView}
 
-abbrev pub log_of : List Record → Observation
+abbrev pub log_of : List Record → TraceView
 log_of rs = record { base = 0; size = 128; block = 64; records = rs }
 
 -- request k of requester i, and its answer
@@ -38,17 +38,17 @@ abbrev pub value : ℕ → Reply
 value x = replies.Data (record { items = x ∷ 0 ∷ 0 ∷ 0 ∷ [] })
 
 -- requester 1 submits a read, and then a posted write of 7; the read is answered 7
-abbrev pub write_passes_read : Observation
+abbrev pub write_passes_read : TraceView
 write_passes_read = log_of (sub 1 0 read ∷ sub 1 1 (write 7) ∷ ans 1 0 (value 7) ∷ [])
 
 -- a swap for 7 is never answered; a read is answered 7
-abbrev pub unanswered_swap : Observation
+abbrev pub unanswered_swap : TraceView
 unanswered_swap = log_of (sub 1 0 (swap 7) ∷ sub 2 0 read ∷ ans 2 0 (value 7) ∷ [])
 
 -- a swap for 5 is answered 0; a read that is submitted then is answered 0, too
-abbrev pub stale_read : Observation
+abbrev pub stale_read : TraceView
 stale_read = log_of (sub 1 0 (swap 5) ∷ ans 1 0 (value 0) ∷ sub 2 0 read ∷ ans 2 0 (value 0) ∷ [])
 
 -- of two additions of 1 each is answered 0
-abbrev pub lost_update : Observation
+abbrev pub lost_update : TraceView
 lost_update = log_of (sub 1 0 (add 1) ∷ sub 2 0 (add 1) ∷ ans 1 0 (value 0) ∷ ans 2 0 (value 0) ∷ [])

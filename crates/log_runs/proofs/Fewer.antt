@@ -8,7 +8,7 @@ use Rattle.seq_memory.specs.declared.Entry.{Entry}
 use Rattle.seq_memory.specs.declared.Reply.{Reply}
 use Rattle.history_check.specs.declared.Record.{Record}
 use Rattle.history_check.specs.declared.Record.TheVariants as records
-use Rattle.history_check.specs.Observation.{Observation}
+use Rattle.history_check.specs.TraceView.{TraceView}
 use Rattle.history_check.specs.Claim.{claim_of}
 use Rattle.history_check.specs.Trace.{submission, submissions, answers_to, Explains, IsNumbered, IsLegal, IsExplained}
 use Rattle.log_runs.specs.Explainable.{without_n, SeenAlike, IsClocked, IsExplainable, without}
@@ -83,7 +83,7 @@ none_take t (r ∷ rs) (suc a) (suc p) e =
     let (one, two) = both_false (t r) (list_any t (take (shift a p) rs)) e in
     ap (λ (b : Bool). b || list_any t (take p (remove rs a))) one ∙ none_take t rs a p two
 
-module _ (u : Observation) (h : List Entry) (x : Explains (claim_of u h)) (c : IsClocked (claim_of u h)) (a i0 k0 n0 : ℕ) (r0 : Reply) (gone : slice_get u.records a ≡ Some (records.Ans i0 k0 r0 n0)) where
+module _ (u : TraceView) (h : List Entry) (x : Explains (claim_of u h)) (c : IsClocked (claim_of u h)) (a i0 k0 n0 : ℕ) (r0 : Reply) (gone : slice_get u.records a ≡ Some (records.Ans i0 k0 r0 n0)) where
   back : (b : ℕ) (r : Record) → slice_get (remove u.records a) b ≡ Some r → slice_get u.records (shift a b) ≡ Some r
   back b r at = sym (get_remove u.records a b) ∙ at
 
@@ -137,7 +137,7 @@ module _ (u : Observation) (h : List Entry) (x : Explains (claim_of u h)) (c : I
     after_submission = λ p b n e op at sub. c.after_submission p (shift a b) n e op at (back b (records.Sub e.requester e.number op n) sub);
   }
 
-pub fewer_answers : (t : Observation) (a i k n : ℕ) (reply : Reply) → slice_get t.records a ≡ Some (records.Ans i k reply n) → IsExplainable t → IsExplainable (without a t)
+pub fewer_answers : (t : TraceView) (a i k n : ℕ) (reply : Reply) → slice_get t.records a ≡ Some (records.Ans i k reply n) → IsExplainable t → IsExplainable (without a t)
 fewer_answers t a i k n reply at (u, h, alike, x, c) =
     let (m, there) = ans_alike t.records u.records alike.records a i k n reply at in (
       without a u,

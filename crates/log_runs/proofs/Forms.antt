@@ -5,7 +5,7 @@ use Rattle.std.specs.List.{list_any}
 use Rattle.seq_memory.specs.declared.Entry.{Entry}
 use Rattle.history_check.specs.declared.Record.{Record}
 use Rattle.history_check.specs.declared.Record.TheVariants as records
-use Rattle.history_check.specs.Observation.{Observation}
+use Rattle.history_check.specs.TraceView.{TraceView}
 use Rattle.history_check.specs.Claim.{claim_of}
 use Rattle.history_check.specs.Trace.{submissions, answers_to, Explains}
 use Rattle.log_runs.specs.Explainable.{without_n, IsExplainable}
@@ -13,7 +13,7 @@ use Rattle.log_runs.specs.Tasks.{IsMisformed}
 use Rattle.log_runs.proofs.Lists.{clash}
 use Rattle.log_runs.proofs.Alike.{same_submissions, same_answers, same_prefix, sub_alike, ans_alike}
 
-well_formed : (rs us : List Record) → map without_n rs ≡ map without_n us → (b : Observation) (h : List Entry) → b.records ≡ us → Explains (claim_of b h) → (a : ℕ) (r : Record) → slice_get rs a ≡ Some r → IsMisformed (take a rs) r → ⊥
+well_formed : (rs us : List Record) → map without_n rs ≡ map without_n us → (b : TraceView) (h : List Entry) → b.records ≡ us → Explains (claim_of b h) → (a : ℕ) (r : Record) → slice_get rs a ≡ Some r → IsMisformed (take a rs) r → ⊥
 well_formed rs us same b h is x a (records.Sub i k op n) at wrong =
     let (m, there) = sub_alike rs us same a i k n op at in
     let here : slice_get b.records a ≡ Some (records.Sub i k op m) = ap (λ (ys : List Record). slice_get ys a) is ∙ there in
@@ -29,5 +29,5 @@ well_formed rs us same b h is x a (records.Ans i k r n) at (inr twice) =
     let f = x.linear a i k m r (ap (λ (ys : List Record). slice_get ys a) is ∙ there) in
     clash (ap (λ (ys : List Record). list_any (answers_to i k) (take a ys)) is ∙ sym (same_answers i k (take a rs) (take a us) (same_prefix a rs us same)) ∙ twice) f.unanswered
 
-pub explainable_form : (t : Observation) (a : ℕ) (r : Record) → IsExplainable t → slice_get t.records a ≡ Some r → IsMisformed (take a t.records) r → ⊥
+pub explainable_form : (t : TraceView) (a : ℕ) (r : Record) → IsExplainable t → slice_get t.records a ≡ Some r → IsMisformed (take a t.records) r → ⊥
 explainable_form t a r (u, h, alike, explains, clocked) at wrong = well_formed t.records u.records alike.records u h refl explains a r at wrong

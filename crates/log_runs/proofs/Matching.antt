@@ -11,29 +11,29 @@ use Rattle.history_check.specs.declared.Record.TheVariants as records
 use Rattle.history_check.specs.Trace.{stands, IsNumbered}
 use Rattle.log_runs.specs.declared.Event.TheVariants as events
 use Rattle.log_runs.specs.declared.Step.TheVariants as steps
-use Rattle.log_runs.specs.Task.{Task}
+use Rattle.log_runs.specs.LogView.{LogView}
 use Rattle.log_runs.specs.Runs.{State, acted_on, bytes_after, start, next}
 use Rattle.log_runs.proofs.Lists.{set_here, set_there, get_replicate}
 use Rattle.log_runs.proofs.Numbers.{unique}
 use Rattle.log_runs.proofs.Standing.{stands_same, stands_other, contents_push}
 
 -- the state's marks and bytes are those of the history
-pub record Matches (rs : List Record) (log : Task) (s : State) (h : List Entry) : Type 0 where
+pub record Matches (rs : List Record) (log : LogView) (s : State) (h : List Entry) : Type 0 where
   pub table : (b i k n : ℕ) (op : Op) → slice_get rs b ≡ Some (records.Sub i k op n) → slice_get s.acted b ≡ Some (stands h i k)
   pub bytes : s.bytes ≡ contents log.extent h
 
-pub matches_start : (rs : List Record) (log : Task) → length log.events ≡ length rs → Matches rs log (start log) []
+pub matches_start : (rs : List Record) (log : LogView) → length log.events ≡ length rs → Matches rs log (start log) []
 unfolding contents
 matches_start rs log len = record {
   table = λ b i k n op at. get_replicate (length log.events) b false (subst (λ l. b < l) (sym len) (slice_get_within rs b (records.Sub i k op n) at));
   bytes = refl;
 }
 
-acted_is : (log : Task) (m : List ℕ) (b i : ℕ) (op : Op) (o : _) → slice_get log.events b ≡ Some (events.Sub i op o) → acted_on log.extent m (slice_get log.events b) ≡ bytes_after log.extent m op
+acted_is : (log : LogView) (m : List ℕ) (b i : ℕ) (op : Op) (o : _) → slice_get log.events b ≡ Some (events.Sub i op o) → acted_on log.extent m (slice_get log.events b) ≡ bytes_after log.extent m op
 unfolding acted_on
 acted_is log m b i op o at = ap (acted_on log.extent m) at
 
-pub matches_act : (rs : List Record) (log : Task) (s : State) (h : List Entry) (b n j : ℕ) (e : Entry) (o : _) → IsNumbered rs → slice_get rs b ≡ Some (records.Sub e.requester e.number e.op n)
+pub matches_act : (rs : List Record) (log : LogView) (s : State) (h : List Entry) (b n j : ℕ) (e : Entry) (o : _) → IsNumbered rs → slice_get rs b ≡ Some (records.Sub e.requester e.number e.op n)
     → slice_get log.events b ≡ Some (events.Sub j e.op o) → Matches rs log s h → Matches rs log (next log s (steps.Act b)) (h ++ e ∷ [])
 unfolding bytes_after
 matches_act rs log s h b n j e o numbered at event m = record {

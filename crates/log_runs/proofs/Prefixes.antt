@@ -12,7 +12,7 @@ use Rattle.seq_memory.specs.Step.{answer}
 use Rattle.seq_memory.specs.History.{contents, contents_at, reply_at}
 use Rattle.history_check.specs.declared.Record.{Record}
 use Rattle.history_check.specs.declared.Record.TheVariants as records
-use Rattle.history_check.specs.Observation.{Observation, observed}
+use Rattle.history_check.specs.TraceView.{TraceView, observed}
 use Rattle.history_check.specs.Claim.{claim_of}
 use Rattle.history_check.specs.Flaws.{moment}
 use Rattle.history_check.specs.Trace.{submissions, stands, Explains, IsNumbered, IsLegal, IsExplained}
@@ -27,7 +27,7 @@ reply_before y h m p e l at =
     ∙ ap (λ (g : List Entry). option_map (λ (f : Entry). answer y.block y.base (contents y g) f.op) (Some e)) (take_of_take h p m (omega arith))
     ∙ ap (λ (o : Option Entry). option_map (λ (f : Entry). answer y.block y.base (contents_at y h p) f.op) o) (sym at)
 
-module _ (u : Observation) (h : List Entry) (x : Explains (claim_of u h)) (c : IsClocked (claim_of u h)) (n : ℕ) where
+module _ (u : TraceView) (h : List Entry) (x : Explains (claim_of u h)) (c : IsClocked (claim_of u h)) (n : ℕ) where
   -- how much of the history is kept
   record Cut (m : ℕ) : Type 0 where
     most : m ≤ length h
@@ -94,7 +94,7 @@ module _ (u : Observation) (h : List Entry) (x : Explains (claim_of u h)) (c : I
       after_submission = λ p b l e op at sub. c.after_submission p b l e op (from_take h m p e at).0 (from_take u.records n b (records.Sub e.requester e.number op l) sub).0;
     }
 
-cut_of : (u : Observation) (h : List Entry) (c : IsClocked (claim_of u h)) (x : Explains (claim_of u h)) (n : ℕ) → (m : ℕ) × Cut u h x c n m
+cut_of : (u : TraceView) (h : List Entry) (c : IsClocked (claim_of u h)) (x : Explains (claim_of u h)) (n : ℕ) → (m : ℕ) × Cut u h x c n m
 cut_of u h c x zero = (0, record { most = omega arith; above = λ a r l at. absurd (omega arith); within = λ p b l e op less at sub. absurd (omega arith) })
 cut_of u h c x (suc last) = elim (cases_lt last (length u.records)) [
   | inl inside ↦
@@ -127,7 +127,7 @@ cut_of u h c x (suc last) = elim (cases_lt last (length u.records)) [
   )
 ]
 
-pub prefix_explainable : (t : Observation) (n : ℕ) → IsExplainable t → IsExplainable (prefix n t)
+pub prefix_explainable : (t : TraceView) (n : ℕ) → IsExplainable t → IsExplainable (prefix n t)
 prefix_explainable t n (u, h, alike, x, c) =
     let (m, cut) = cut_of u h c x n in (
       prefix n u,

@@ -11,7 +11,7 @@ use Rattle.seq_memory.specs.Step.{answer}
 use Rattle.seq_memory.specs.History.{contents, contents_at, reply_at}
 use Rattle.history_check.specs.declared.Record.{Record}
 use Rattle.history_check.specs.declared.Record.TheVariants as records
-use Rattle.history_check.specs.Observation.{Observation, observed}
+use Rattle.history_check.specs.TraceView.{TraceView, observed}
 use Rattle.history_check.specs.Claim.{claim_of}
 use Rattle.history_check.specs.Flaws.{moment}
 use Rattle.history_check.specs.Trace.{stands, Explains}
@@ -19,7 +19,7 @@ use Rattle.log_runs.specs.declared.Event.{Event}
 use Rattle.log_runs.specs.declared.Event.TheVariants as events
 use Rattle.log_runs.specs.declared.Step.{Step}
 use Rattle.log_runs.specs.declared.Step.TheVariants as steps
-use Rattle.log_runs.specs.Task.{Task}
+use Rattle.log_runs.specs.LogView.{LogView}
 use Rattle.log_runs.specs.Explainable.{without_n, IsClocked, IsExplainable}
 use Rattle.log_runs.specs.Runs.{State, MayPass, MayAct, Allowed, Live, start, next, reply_of}
 use Rattle.log_runs.specs.Tasks.{Says, AreEvents}
@@ -29,10 +29,10 @@ use Rattle.log_runs.proofs.Numbers.{number_rises, listed, located}
 use Rattle.log_runs.proofs.Standing.{stands_at}
 use Rattle.log_runs.proofs.Matching.{Matches, matches_start, matches_act}
 
-here : (log : Task) (s : State) → s.event ≡ length log.events → Live log s
+here : (log : LogView) (s : State) → s.event ≡ length log.events → Live log s
 here log s e = record { steps = []; last = s; leads = refl; over = e }
 
-pub before : (log : Task) (s : State) (x : Step) → Allowed log s x → Live log (next log s x) → Live log s
+pub before : (log : LogView) (s : State) (x : Step) → Allowed log s x → Live log (next log s x) → Live log s
 before log s x a l = record { steps = x ∷ l.steps; last = l.last; leads = (a, l.leads); over = l.over }
 
 -- the events of a submission and of an answer
@@ -56,8 +56,8 @@ named : (rs : List Record) (es : List Event) (b i : ℕ) (op : Op) (told : Optio
 named rs es b i op told (records.Sub j k w n) at says = record { number = k; n = n; at = rw (← says.0, ← says.1) at }
 named rs es b i op told (records.Ans j k reply n) at says = absurd says
 
-module _ (u : Observation) (h : List Entry) (x : Explains (claim_of u h)) (c : IsClocked (claim_of u h)) (es : List Event) (ev : AreEvents u.records es) where
-  abbrev log : Task
+module _ (u : TraceView) (h : List Entry) (x : Explains (claim_of u h)) (c : IsClocked (claim_of u h)) (es : List Event) (ev : AreEvents u.records es) where
+  abbrev log : LogView
   log = record { extent = observed u; events = es }
 
   inside : (b : ℕ) (r : Record) → slice_get u.records b ≡ Some r → (e : Event) × (slice_get es b ≡ Some e)
@@ -218,7 +218,7 @@ events_alike rs us same es ev = record {
       says_alike rs us same es r s e (sym eq) (ev.at a r e back there);
 }
 
-pub has_a_run : (t : Observation) (es : List Event) → AreEvents t.records es → IsExplainable t → Live (record { extent = observed t; events = es }) (start (record { extent = observed t; events = es }))
+pub has_a_run : (t : TraceView) (es : List Event) → AreEvents t.records es → IsExplainable t → Live (record { extent = observed t; events = es }) (start (record { extent = observed t; events = es }))
 has_a_run t es ev (u, h, alike, explains, clocked) =
     let same : observed u ≡ observed t = rw (alike.base, alike.size, alike.block) refl in
     subst (λ (y : Extent). Live (record { extent = y; events = es }) (start (record { extent = y; events = es }))) same

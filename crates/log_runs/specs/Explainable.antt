@@ -4,7 +4,7 @@ use Rattle.tlp_core.specs.declared.operation.Op.{Op}
 use Rattle.seq_memory.specs.declared.Entry.{Entry}
 use Rattle.history_check.specs.declared.Record.{Record}
 use Rattle.history_check.specs.declared.Record.TheVariants as records
-use Rattle.history_check.specs.Observation.{Observation}
+use Rattle.history_check.specs.TraceView.{TraceView}
 use Rattle.history_check.specs.Claim.{Claim, claim_of}
 use Rattle.history_check.specs.Flaws.{moment}
 use Rattle.history_check.specs.Trace.{Explains}
@@ -15,7 +15,7 @@ without_n (records.Sub i k op n) = records.Sub i k op 0
 without_n (records.Ans i k reply n) = records.Ans i k reply 0
 
 -- the same memory and the same records, but for the n's
-pub record SeenAlike (t u : Observation) : Type 0 where
+pub record SeenAlike (t u : TraceView) : Type 0 where
   pub base : t.base ≡ u.base
   pub size : t.size ≡ u.size
   pub block : t.block ≡ u.block
@@ -31,14 +31,14 @@ pub record IsClocked (x : Claim) : Type 0 where
   pub after_submission : (p b n : ℕ) (e : Entry) (op : Op) → slice_get x.memory.entries p ≡ Some e → slice_get x.records b ≡ Some (records.Sub e.requester e.number op n) → n ≤ p
 
 -- with n's of some choice, some history explains what was seen
-abbrev pub IsExplainable : Observation → Type 0
+abbrev pub IsExplainable : TraceView → Type 0
 IsExplainable t =
-    (u : Observation) × (h : List Entry) × SeenAlike t u × Explains (claim_of u h) × IsClocked (claim_of u h)
+    (u : TraceView) × (h : List Entry) × SeenAlike t u × Explains (claim_of u h) × IsClocked (claim_of u h)
 
 -- the first n records
-abbrev pub prefix : ℕ → Observation → Observation
+abbrev pub prefix : ℕ → TraceView → TraceView
 prefix n t = record { base = t.base; size = t.size; block = t.block; records = take n t.records }
 
 -- all records but the one at place a
-abbrev pub without : ℕ → Observation → Observation
+abbrev pub without : ℕ → TraceView → TraceView
 without a t = record { base = t.base; size = t.size; block = t.block; records = remove t.records a }

@@ -10,7 +10,7 @@ use Rattle.log_runs.specs.declared.Event.{Event}
 use Rattle.log_runs.specs.declared.Event.TheVariants as events
 use Rattle.log_runs.specs.declared.Step.{Step}
 use Rattle.log_runs.specs.declared.Step.TheVariants as steps
-use Rattle.log_runs.specs.Task.{Task}
+use Rattle.log_runs.specs.LogView.{LogView}
 
 -- what the sequential memory answers, and its bytes afterwards
 unfoldable pub reply_of : Extent → List ℕ → Op → Reply
@@ -32,7 +32,7 @@ pub record State : Type 0 where
   pub acted : List Bool
   pub bytes : List ℕ
 
-abbrev pub start : Task → State
+abbrev pub start : LogView → State
 start log = record { event = 0; acted = replicate (length log.events) false; bytes = replicate log.extent.size 0 }
 
 abbrev pub has_acted : State → ℕ → Type 0
@@ -47,7 +47,7 @@ MayPass s None = ⊥
 
 -- a request acts once, after its submission was passed, after the posted writes that its requester submitted before it, and
 -- where the memory answers what it was answered
-pub record MayAct (log : Task) (s : State) (b : ℕ) : Type 0 where
+pub record MayAct (log : LogView) (s : State) (b : ℕ) : Type 0 where
   pub requester : ℕ
   pub op : Op
   pub told : Option Reply
@@ -57,11 +57,11 @@ pub record MayAct (log : Task) (s : State) (b : ℕ) : Type 0 where
   pub ordered : (c : ℕ) (w : Op) (r : Option Reply) → c < b → slice_get log.events c ≡ Some (events.Sub requester w r) → is_posted w ≡ true → has_acted s c
   pub replied : (r : Reply) → told ≡ Some r → reply_of log.extent s.bytes op ≡ r
 
-abbrev pub Allowed : Task → State → Step → Type 0
+abbrev pub Allowed : LogView → State → Step → Type 0
 Allowed log s steps.Pass = MayPass s (slice_get log.events s.event)
 Allowed log s (steps.Act b) = MayAct log s b
 
-abbrev pub next : Task → State → Step → State
+abbrev pub next : LogView → State → Step → State
 next log s steps.Pass = record { event = s.event + 1; acted = s.acted; bytes = s.bytes }
 next log s (steps.Act b) = record {
   event = s.event;
@@ -70,29 +70,29 @@ next log s (steps.Act b) = record {
 }
 
 -- the steps lead from s to t
-abbrev pub Leads : Task → State → List Step → State → Type 0
+abbrev pub Leads : LogView → State → List Step → State → Type 0
 Leads log s [] t = s ≡ t
 Leads log s (x ∷ xs) t = Allowed log s x × Leads log (next log s x) xs t
 
 -- steps lead from s to the end
-pub record Live (log : Task) (s : State) : Type 0 where
+pub record Live (log : LogView) (s : State) : Type 0 where
   pub steps : List Step
   pub last : State
   pub leads : Leads log s steps last
   pub over : last.event ≡ length log.events
 
-abbrev pub Dead : Task → State → Type 0
+abbrev pub Dead : LogView → State → Type 0
 Dead log s = Live log s → ⊥
 
 -- each of the steps that may be taken leads to a dead state
-abbrev pub AllDead : Task → State → List Step → Type 0
+abbrev pub AllDead : LogView → State → List Step → Type 0
 AllDead log s xs = All (λ x. Allowed log s x → Dead log (next log s x)) xs
 
 -- if no step of the list leads to the end, nothing does
-abbrev pub Covers : Task → State → List Step → Type 0
+abbrev pub Covers : LogView → State → List Step → Type 0
 Covers log s xs = AllDead log s xs → Dead log s
 
 -- the step may be taken at once
-pub record IsForced (log : Task) (s : State) (x : Step) : Type 0 where
+pub record IsForced (log : LogView) (s : State) (x : Step) : Type 0 where
   pub allowed : Allowed log s x
   pub live : Live log s → Live log (next log s x)

@@ -5,7 +5,7 @@ ghost use Rattle.seq_memory.specs.declared.Reply.{Reply};
 ghost use Rattle.history_check.specs.declared.Record.{Record};
 ghost use Rattle.history_check.specs.declared.Record.TheVariants as records;
 ghost use Rattle.history_check.specs.Trace.{IsNumbered, submissions};
-ghost use Rattle.history_check.specs.Observation.{Observation, observed};
+ghost use Rattle.history_check.specs.TraceView.{TraceView, observed};
 ghost use Rattle.log_runs.specs.declared.Event.{Event};
 ghost use Rattle.log_runs.specs.Explainable.{IsExplainable, prefix, without};
 ghost use Rattle.log_runs.specs.Runs.{Live, start};
@@ -13,22 +13,22 @@ ghost use Rattle.log_runs.specs.Tasks.{AreEvents, IsMisformed};
 
 /// A prefix of an explainable log is explainable.
 pub fn prefix_is_explainable()
-    ensures { (t : Observation) (n : ℕ) → IsExplainable t → IsExplainable (prefix n t) }
+    ensures { (t : TraceView) (n : ℕ) → IsExplainable t → IsExplainable (prefix n t) }
 {}
 
 /// An explainable log without one of its answers is explainable.
 pub fn fewer_answers_are_explainable()
-    ensures { (t : Observation) (a i k n : ℕ) (reply : Reply) → slice_get t.records a ≡ Some (records.Ans i k reply n) → IsExplainable t → IsExplainable (without a t) }
+    ensures { (t : TraceView) (a i k n : ℕ) (reply : Reply) → slice_get t.records a ≡ Some (records.Ans i k reply n) → IsExplainable t → IsExplainable (without a t) }
 {}
 
 /// An explainable log has no record whose form is wrong.
 pub fn explainable_is_well_formed()
-    ensures { (t : Observation) (a : ℕ) (r : Record) → IsExplainable t → slice_get t.records a ≡ Some r → IsMisformed (take a t.records) r → ⊥ }
+    ensures { (t : TraceView) (a : ℕ) (r : Record) → IsExplainable t → slice_get t.records a ≡ Some r → IsMisformed (take a t.records) r → ⊥ }
 {}
 
 /// Some run leads through the events of an explainable log to the end.
 pub fn explainable_has_a_run()
-    ensures { (t : Observation) (es : List Event) → AreEvents t.records es → IsExplainable t → Live (record { extent = observed t; events = es }) (start (record { extent = observed t; events = es })) }
+    ensures { (t : TraceView) (es : List Event) → AreEvents t.records es → IsExplainable t → Live (record { extent = observed t; events = es }) (start (record { extent = observed t; events = es })) }
 {}
 
 /// Where the numbers of submissions are right, a number names one submission, and is below the

@@ -39,9 +39,9 @@ pub struct Log {
 
 impl Model for Log {
     ghost use Rattle.seq_memory.specs.History.{extent_of};
-    ghost use Rattle.log_runs.specs.Task.{Task};
+    ghost use Rattle.log_runs.specs.LogView.{LogView};
 
-    ghost Value = { Task };
+    ghost Value = { LogView };
 
     ghost view = { λ m. record { extent = extent_of m.memory; events = m.events.items } };
 

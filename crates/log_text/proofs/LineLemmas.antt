@@ -6,7 +6,7 @@ use Rattle.line_loop.specs.Lines.{lines_of, bare}
 use Rattle.line_loop.specs.LineFacts.{no_feed, lines_of-feed, lines_of-last, bare-feed, ends-feed, ends-last}
 use Rattle.line_loop.specs.LineFacts.{cut-at as cut-behind}
 use Rattle.trace_text.specs.declared.fault.ReadFault.{ReadFault}
-use Rattle.log_text.specs.Reading.{LogReading, nothing_read, take_line, adds_by, reading_of, fault_at_next, fault_or_end, at_end, Tells}
+use Rattle.log_text.specs.LogReaderView.{LogReaderView, nothing_read, take_line, adds_by, reading_of, fault_at_next, fault_or_end, at_end, Tells}
 use Rattle.trace_text.specs.declared.fault.ReadFaultKind.TheVariants as faults
 use Rattle.log_text.specs.Endings.{on_ended_line, on_last_line, adds_ended, adds_last}
 
@@ -16,46 +16,46 @@ lines_of-none : lines_of [] ≡ []
 unfolding lines_of
 lines_of-none = refl
 
-pub take_line-feed : (s : LogReading) (xs : List ℕ) → take_line s (xs ++ 10 ∷ []) ≡ on_ended_line s xs
+pub take_line-feed : (s : LogReaderView) (xs : List ℕ) → take_line s (xs ++ 10 ∷ []) ≡ on_ended_line s xs
 take_line-feed s xs = rw (bare-feed xs, ends-feed xs) refl
 
-take_line-last : (s : LogReading) (xs : List ℕ) → All (λ b. b ≢ 10) xs → take_line s xs ≡ on_last_line s xs
+take_line-last : (s : LogReaderView) (xs : List ℕ) → All (λ b. b ≢ 10) xs → take_line s xs ≡ on_last_line s xs
 take_line-last s xs h = rw (ends-last xs h) refl
 
 -- ---- readings
 
 -- the lines that follow a reading
-abbrev pub reading_on : LogReading → List ℕ → LogReading
+abbrev pub reading_on : LogReaderView → List ℕ → LogReaderView
 reading_on s text = fold take_line s (lines_of text)
 
-pub on-feed : (s : LogReading) (xs more : List ℕ) → All (λ b. b ≢ 10) xs → reading_on s (xs ++ 10 ∷ more) ≡ reading_on (on_ended_line s xs) more
+pub on-feed : (s : LogReaderView) (xs more : List ℕ) → All (λ b. b ≢ 10) xs → reading_on s (xs ++ 10 ∷ more) ≡ reading_on (on_ended_line s xs) more
 on-feed s xs more h =
     ap (fold take_line s) (lines_of-feed xs more (no_feed xs h))
-    ∙ ap (λ (r : LogReading). fold take_line r (lines_of more)) (take_line-feed s xs)
+    ∙ ap (λ (r : LogReaderView). fold take_line r (lines_of more)) (take_line-feed s xs)
 
-pub on-last : (s : LogReading) (xs : List ℕ) → (xs ≡ [] → ⊥) → All (λ b. b ≢ 10) xs → reading_on s xs ≡ on_last_line s xs
+pub on-last : (s : LogReaderView) (xs : List ℕ) → (xs ≡ [] → ⊥) → All (λ b. b ≢ 10) xs → reading_on s xs ≡ on_last_line s xs
 on-last s [] some h = absurd (some refl)
 on-last s (b ∷ xs) some h = ap (fold take_line s) (lines_of-last xs b (no_feed (b ∷ xs) h)) ∙ take_line-last s (b ∷ xs) h
 
 -- behind a fault nothing is read
-take_line-stays : (s : LogReading) (f : ReadFault) (l : List ℕ) → s.fault ≡ Some f → take_line s l ≡ s
+take_line-stays : (s : LogReaderView) (f : ReadFault) (l : List ℕ) → s.fault ≡ Some f → take_line s l ≡ s
 take_line-stays s f l e = by (nat_lt 512 (length (bare l))) (rw e refl) (rw e refl)
   where
-    by : (t : Bool) {a b : LogReading} → a ≡ s → b ≡ s → cond t a b ≡ s
+    by : (t : Bool) {a b : LogReaderView} → a ≡ s → b ≡ s → cond t a b ≡ s
     by true ea eb = ea
     by false ea eb = eb
 
-pub stays : (s : LogReading) (f : ReadFault) (ls : List (List ℕ)) → s.fault ≡ Some f → fold take_line s ls ≡ s
+pub stays : (s : LogReaderView) (f : ReadFault) (ls : List (List ℕ)) → s.fault ≡ Some f → fold take_line s ls ≡ s
 stays s f [] e = refl
 stays s f (l ∷ ls) e =
     let same = take_line-stays s f l e in
-    ap (λ (r : LogReading). fold take_line r ls) same ∙ stays s f ls e
+    ap (λ (r : LogReaderView). fold take_line r ls) same ∙ stays s f ls e
 
 -- what grows
-pub adds-feed : (s : LogReading) (xs : List ℕ) → adds_by s (xs ++ 10 ∷ []) ≡ adds_ended s xs
+pub adds-feed : (s : LogReaderView) (xs : List ℕ) → adds_by s (xs ++ 10 ∷ []) ≡ adds_ended s xs
 adds-feed s xs = rw (bare-feed xs, ends-feed xs) refl
 
-pub adds-last : (s : LogReading) (xs : List ℕ) → All (λ b. b ≢ 10) xs → adds_by s xs ≡ adds_last s xs
+pub adds-last : (s : LogReaderView) (xs : List ℕ) → All (λ b. b ≢ 10) xs → adds_by s xs ≡ adds_last s xs
 adds-last s xs h = rw (ends-last xs h) refl
 
 -- the lines of a text
@@ -66,7 +66,7 @@ pub lines-last : (xs : List ℕ) → (xs ≡ [] → ⊥) → All (λ b. b ≢ 10
 lines-last [] some h = absurd (some refl)
 lines-last (b ∷ xs) some h = lines_of-last xs b (no_feed (b ∷ xs) h)
 
-pub on-none : (s : LogReading) → reading_on s [] ≡ s
+pub on-none : (s : LogReaderView) → reading_on s [] ≡ s
 on-none s = ap (fold take_line s) lines_of-none
 
 -- ---- where a line ends
@@ -77,40 +77,40 @@ cut-at xs k lt t = cut-behind xs k lt t ∙ append_assoc (take k xs) (10 ∷ [])
 
 -- ---- what stands while the lines are read
 
-abbrev pub Stands : List ℕ → LogReading → List ℕ → Type 0
+abbrev pub Stands : List ℕ → LogReaderView → List ℕ → Type 0
 Stands text s rest = (done : List (List ℕ)) × (lines_of text ≡ done ++ lines_of rest) × (fold take_line nothing_read done ≡ s)
 
-pub stands-new : (text : List ℕ) (s : LogReading) → s ≡ nothing_read → Stands text s text
+pub stands-new : (text : List ℕ) (s : LogReaderView) → s ≡ nothing_read → Stands text s text
 stands-new text s e = ([], refl, sym e)
 
-pub fed : (text rest : List ℕ) (s t : LogReading) (xs after : List ℕ) → Stands text s rest → rest ≡ xs ++ 10 ∷ after → All (λ b. b ≢ 10) xs
+pub fed : (text rest : List ℕ) (s t : LogReaderView) (xs after : List ℕ) → Stands text s rest → rest ≡ xs ++ 10 ∷ after → All (λ b. b ≢ 10) xs
     → t ≡ on_ended_line s xs → Stands text t after
 fed text rest s t xs after h cut one e = (
   h.0 ++ (xs ++ 10 ∷ []) ∷ [],
   h.1 ∙ ap (λ (r : List ℕ). h.0 ++ lines_of r) cut ∙ ap (λ (ls : List (List ℕ)). h.0 ++ ls) (lines-feed xs after one)
       ∙ sym (append_assoc h.0 ((xs ++ 10 ∷ []) ∷ []) (lines_of after)),
-  fold-append take_line nothing_read h.0 ((xs ++ 10 ∷ []) ∷ []) ∙ ap (λ (r : LogReading). take_line r (xs ++ 10 ∷ [])) h.2 ∙ take_line-feed s xs ∙ sym e,
+  fold-append take_line nothing_read h.0 ((xs ++ 10 ∷ []) ∷ []) ∙ ap (λ (r : LogReaderView). take_line r (xs ++ 10 ∷ [])) h.2 ∙ take_line-feed s xs ∙ sym e,
 )
 
 -- all was read
-pub whole : (text rest : List ℕ) (s : LogReading) → Stands text s rest → reading_of text ≡ reading_on s rest
+pub whole : (text rest : List ℕ) (s : LogReaderView) → Stands text s rest → reading_of text ≡ reading_on s rest
 whole text rest s h =
     ap (fold take_line nothing_read) h.1 ∙ fold-append take_line nothing_read h.0 (lines_of rest)
-    ∙ ap (λ (r : LogReading). fold take_line r (lines_of rest)) h.2
+    ∙ ap (λ (r : LogReaderView). fold take_line r (lines_of rest)) h.2
 
 -- a growth was refused for the line that comes next
-pub refused : (text rest line : List ℕ) (later : List (List ℕ)) (s t : LogReading) (f : ReadFault) → Stands text s rest → lines_of rest ≡ line ∷ later
+pub refused : (text rest line : List ℕ) (later : List (List ℕ)) (s t : LogReaderView) (f : ReadFault) → Stands text s rest → lines_of rest ≡ line ∷ later
     → adds_by s line ≡ true → t ≡ s → f ≡ fault_at_next t faults.Memory → Tells text f
 refused text rest line later s t f h next adds same is = inr (record {
   read = h.0;
   line = line;
   rest = later;
   begins = h.1 ∙ ap (λ (ls : List (List ℕ)). h.0 ++ ls) next;
-  adds = ap (λ (r : LogReading). adds_by r line) h.2 ∙ adds;
-  is = is ∙ ap (λ (r : LogReading). fault_at_next r faults.Memory) (same ∙ sym h.2);
+  adds = ap (λ (r : LogReaderView). adds_by r line) h.2 ∙ adds;
+  is = is ∙ ap (λ (r : LogReaderView). fault_at_next r faults.Memory) (same ∙ sym h.2);
 })
 
 -- a fault ends the reading
-pub stopped : (text rest : List ℕ) (s : LogReading) (f : ReadFault) → Stands text s rest → s.fault ≡ Some f → Tells text f
+pub stopped : (text rest : List ℕ) (s : LogReaderView) (f : ReadFault) → Stands text s rest → s.fault ≡ Some f → Tells text f
 stopped text rest s f h e =
     inl (ap at_end (whole text rest s h ∙ stays s f (lines_of rest) e) ∙ ap (λ (o : Option ReadFault). fault_or_end o s) e)

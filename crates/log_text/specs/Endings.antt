@@ -1,27 +1,27 @@
 -- The lines of a text, by how they end.
 use Rattle.std.specs.Prelude.{ℕ, List, Bool, not, ◌&&◌, nat_lt, length, if◌then◌else◌}
 use Rattle.std.specs.Io.BufRead.{strip_last}
-use Rattle.log_text.specs.Reading.{LogReading, after_line, after_long_line, adds_one}
+use Rattle.log_text.specs.LogReaderView.{LogReaderView, after_line, after_long_line, adds_one}
 
 -- a line, of which this is said if it isn't too long
-abbrev pub on_said : LogReading → List ℕ → List ℕ → LogReading
+abbrev pub on_said : LogReaderView → List ℕ → List ℕ → LogReaderView
 on_said s line said = if nat_lt 512 (length line) then after_long_line s else after_line s said
 
 -- a line that a line feed ended, given without it
-abbrev pub on_ended_line : LogReading → List ℕ → LogReading
+abbrev pub on_ended_line : LogReaderView → List ℕ → LogReaderView
 on_ended_line s line = on_said s line (strip_last 13 line)
 
 -- the last line, where no line feed ends it
-abbrev pub on_last_line : LogReading → List ℕ → LogReading
+abbrev pub on_last_line : LogReaderView → List ℕ → LogReaderView
 on_last_line s line = on_said s line line
 
 -- whether they add a record
 
-abbrev pub adds_said : LogReading → List ℕ → List ℕ → Bool
+abbrev pub adds_said : LogReaderView → List ℕ → List ℕ → Bool
 adds_said s line said = not (nat_lt 512 (length line)) && adds_one s said
 
-abbrev pub adds_ended : LogReading → List ℕ → Bool
+abbrev pub adds_ended : LogReaderView → List ℕ → Bool
 adds_ended s line = adds_said s line (strip_last 13 line)
 
-abbrev pub adds_last : LogReading → List ℕ → Bool
+abbrev pub adds_last : LogReaderView → List ℕ → Bool
 adds_last s line = adds_said s line line

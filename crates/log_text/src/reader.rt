@@ -1,8 +1,8 @@
 //! Reading a log line by line.
 ghost use Rattle.std.specs.Prelude.{◌≡◌, true, OnOk, OnErr, IfOk, IfErr, Ok, Err, Some};
-ghost use Rattle.history_check.specs.Observation.{HasLimits};
+ghost use Rattle.history_check.specs.TraceView.{HasLimits};
 ghost use Rattle.log_text.specs.Forms.{IsLineOfLimits};
-ghost use Rattle.log_text.specs.Reading as reads;
+ghost use Rattle.log_text.specs.LogReaderView as reads;
 
 use crate::line::{LogLine, read_line};
 use history_check::{Record, Trace};
@@ -38,9 +38,9 @@ pub(crate) struct LogReader {
 
 impl Model for LogReader {
     ghost use Rattle.seq_memory.specs.Limits.{IsWithinLimits};
-    ghost use Rattle.log_text.specs.Reading.{LogReading};
+    ghost use Rattle.log_text.specs.LogReaderView.{LogReaderView};
 
-    ghost Value = { LogReading };
+    ghost Value = { LogReaderView };
 
     ghost view = { λ s. record { section = s.section; lines = s.lines; base = s.base; size = s.size; block = s.block; records = s.records.items; fault = s.fault } };
 

@@ -1,8 +1,8 @@
 //! Reading the whole text of a log.
 ghost use Rattle.std.specs.Prelude.{◌≡◌, ◌⊎◌, true, OnOk, OnErr, IfOk, IfErr, Ok, Err};
-ghost use Rattle.history_check.specs.Observation.{HasLimits};
-ghost use Rattle.trace_text.specs.Reading.{read_of, IsRefused};
-ghost use Rattle.log_text.specs.Reading.{log_of, seen_of, is_head, without_history, Tells, SeenTells};
+ghost use Rattle.history_check.specs.TraceView.{HasLimits};
+ghost use Rattle.trace_text.specs.TraceReaderView.{read_of, IsRefused};
+ghost use Rattle.log_text.specs.LogReaderView.{log_of, seen_of, is_head, without_history, Tells, SeenTells};
 ghost use Rattle.log_text.specs.Endings.{on_said, on_ended_line, on_last_line, adds_said, adds_ended, adds_last};
 
 use crate::reader::LogReader;

@@ -7,7 +7,7 @@ use Rattle.tlp_core.specs.declared.packet.Kind.{Kind}
 use Rattle.tlp_core.specs.declared.packet.Kind.TheVariants as kinds
 use Rattle.tlp_core.specs.declared.fault.TlpFault.{TlpFault}
 use Rattle.tlp_core.specs.Bits.{IsBytes, has_bit}
-use Rattle.tlp_core.specs.Packet as tlp
+use Rattle.tlp_core.specs.TlpView as tlp
 use Rattle.tlp_core.specs.Layout as tlp_layout
 use Rattle.tlp_core.specs.Faults as tlp_faults
 use Rattle.dllp_core.specs.declared.packet.Dllp.{Dllp}

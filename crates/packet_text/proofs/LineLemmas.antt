@@ -17,7 +17,7 @@ use Rattle.tlp_core.specs.declared.packet.Status.TheVariants as statuses
 use Rattle.tlp_core.specs.declared.operation.Op.{Op}
 use Rattle.tlp_core.specs.declared.operation.Op.TheVariants as ops
 use Rattle.tlp_core.specs.Bits.{IsBytes}
-use Rattle.tlp_core.specs.Packet as tlp
+use Rattle.tlp_core.specs.TlpView as tlp
 use Rattle.dllp_core.specs.declared.packet.Class.{Class}
 use Rattle.dllp_core.specs.declared.packet.Class.TheVariants as classes
 use Rattle.dllp_core.specs.declared.packet.Dllp.{Dllp}

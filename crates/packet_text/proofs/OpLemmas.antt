@@ -19,7 +19,7 @@ use Rattle.tlp_core.specs.declared.operation.Width.{Width}
 use Rattle.tlp_core.specs.declared.operation.Width.TheVariants as widths
 use Rattle.tlp_core.specs.Bits.{IsBytes}
 use Rattle.tlp_core.specs.Enables.{are_enables}
-use Rattle.tlp_core.specs.Packet.{FitsKind, IsBodyInRange}
+use Rattle.tlp_core.specs.TlpView.{FitsKind, IsBodyInRange}
 use Rattle.tlp_core.specs.Operation.{op_at, op_fault, size_of, address_of, is_completion}
 use Rattle.requester_core.specs.Request.{kind_for, length_for, first_for, last_for, payload_for}
 use Rattle.operation_text.specs.Words.{words}

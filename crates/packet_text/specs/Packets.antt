@@ -2,7 +2,7 @@
 use Rattle.std.specs.Prelude.{ℕ, ◌^◌, ◌<◌, ◌==◌, if◌then◌else◌, List, length, Result, Ok, Err}
 use Rattle.tlp_core.specs.declared.fault.TlpFault.{TlpFault}
 use Rattle.tlp_core.specs.Bits.{IsBytes}
-use Rattle.tlp_core.specs.Packet as tlp
+use Rattle.tlp_core.specs.TlpView as tlp
 use Rattle.tlp_core.specs.Layout as tlp_layout
 use Rattle.tlp_core.specs.Faults as tlp_faults
 use Rattle.dllp_core.specs.declared.packet.Dllp.{Dllp}

@@ -12,7 +12,7 @@ use Rattle.tlp_core.specs.declared.packet.Status.TheVariants as statuses
 use Rattle.tlp_core.specs.declared.fault.TlpFault.{TlpFault}
 use Rattle.tlp_core.specs.Fault as tlp_fault
 use Rattle.tlp_core.specs.Operation.{op_of}
-use Rattle.tlp_core.specs.Packet as tlp
+use Rattle.tlp_core.specs.TlpView as tlp
 use Rattle.dllp_core.specs.declared.packet.Class.{Class}
 use Rattle.dllp_core.specs.declared.packet.Class.TheVariants as classes
 use Rattle.dllp_core.specs.declared.packet.Dllp.{Dllp}

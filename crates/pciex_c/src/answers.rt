@@ -4,7 +4,7 @@ ghost use Rattle.tlp_core.specs.declared.fault.TlpFault as faults;
 ghost use Rattle.tlp_core.specs.Fault.{number_of, name_of};
 ghost use Rattle.history_check.specs.Claim.{Claim};
 ghost use Rattle.history_check.specs.Trace.{Explains};
-ghost use Rattle.trace_text.specs.Reading.{read_of};
+ghost use Rattle.trace_text.specs.TraceReaderView.{read_of};
 ghost use Rattle.c_buffer.specs.declared.TheConstants.{SMALL_ROOM, NO_MEMORY, NO_FAULT};
 ghost use Rattle.c_buffer.specs.Room.{filled};
 ghost use Rattle.c_answer.specs.Call.{call};

@@ -1,6 +1,6 @@
 //! The device with a history.
 ghost use Rattle.std.specs.Prelude.{◌≡◌, ◌≤◌, ◌⊎◌, Some, [], length};
-ghost use Rattle.seq_memory.specs.History.{State};
+ghost use Rattle.seq_memory.specs.History.{MemoryView};
 ghost use Rattle.c_buffer.specs.declared.TheConstants.{NO_MEMORY};
 ghost use Rattle.c_device.specs.Calls.{wrong_limits, service, IsRequestCall, entry_told, bytes_told};
 
@@ -32,7 +32,7 @@ pub extern "C" fn pciex_raw_device_serve(
     room: &mut [u8],
     back: &mut Slot,
 ) -> u32
-    ghost memory: { State }
+    ghost memory: { MemoryView }
     requires { device.memory ≡ Some memory }
     ensures code { ¬ (result ≡ NO_MEMORY) → result ≡ (service memory number packet.now room.old).code }
     ensures memory { ¬ (result ≡ NO_MEMORY) → back.new.memory ≡ Some (service memory number packet.now room.old).memory }
@@ -46,7 +46,7 @@ pub extern "C" fn pciex_raw_device_serve(
 /// How many requests have acted on the device of the slot, which goes to `back`.
 #[unsafe(no_mangle)]
 pub extern "C" fn pciex_raw_device_history_length(device: Slot, back: &mut Slot) -> usize
-    ghost memory: { State }
+    ghost memory: { MemoryView }
     requires { device.memory ≡ Some memory }
     ensures value { result ≡ length memory.entries }
     ensures unchanged { back.new.memory ≡ Some memory }
@@ -62,7 +62,7 @@ pub extern "C" fn pciex_raw_device_entry(
     room: &mut [u8],
     back: &mut Slot,
 ) -> u32
-    ghost memory: { State }
+    ghost memory: { MemoryView }
     requires { device.memory ≡ Some memory }
     ensures code { result ≡ (entry_told memory.entries place room.old).code }
     ensures room { room.new ≡ (entry_told memory.entries place room.old).room }
@@ -74,7 +74,7 @@ pub extern "C" fn pciex_raw_device_entry(
 /// The bytes of the device of the slot, which goes to `back`.
 #[unsafe(no_mangle)]
 pub extern "C" fn pciex_raw_device_bytes(device: Slot, room: &mut [u8], back: &mut Slot) -> u32
-    ghost memory: { State }
+    ghost memory: { MemoryView }
     requires { device.memory ≡ Some memory }
     ensures code { result ≡ (bytes_told memory room.old).code }
     ensures room { room.new ≡ (bytes_told memory room.old).room }
@@ -86,7 +86,7 @@ pub extern "C" fn pciex_raw_device_bytes(device: Slot, room: &mut [u8], back: &m
 /// Frees the device of the slot.
 #[unsafe(no_mangle)]
 pub extern "C" fn pciex_raw_device_free(device: Slot)
-    ghost memory: { State }
+    ghost memory: { MemoryView }
     requires { device.memory ≡ Some memory }
 {
     c_device::free_device(device);

@@ -10,12 +10,12 @@ use Rattle.tlp_core.specs.declared.packet.Kind.TheVariants as kinds
 use Rattle.tlp_core.specs.declared.packet.Body.{Body}
 use Rattle.tlp_core.specs.declared.packet.Body.TheVariants as bodies
 use Rattle.tlp_core.specs.declared.fault.TlpFault.{TlpFault}
-use Rattle.tlp_core.specs.Packet.{Packet}
+use Rattle.tlp_core.specs.TlpView.{TlpView}
 use Rattle.tlp_core.specs.Operation.{op_at, op_of, is_posted, is_completion}
 use Rattle.tlp_core.specs.Faults.{reading}
 use Rattle.seq_memory.specs.declared.Entry.{Entry}
 use Rattle.seq_memory.specs.declared.Reply.{Reply}
-use Rattle.requester_core.specs.Requesting.{size_for}
+use Rattle.requester_core.specs.RequesterView.{size_for}
 use Rattle.history_check.specs.declared.Record.{Record}
 use Rattle.history_check.specs.declared.Record.TheVariants as records
 use Rattle.history_check.specs.Trace.{is_request}
@@ -67,7 +67,7 @@ opened_by kinds.Cas (bodies.Completion c s n l) dw bytes op tags t tag made o e 
 opened_by kinds.Completion (bodies.Completion c s n l) dw bytes op tags t tag made o e f = absurd (cc)
 opened_by kinds.CompletionData (bodies.Completion c s n l) dw bytes op tags t tag made o e f = absurd (cc)
 
-opens_it : (w : Watched) (t : Packet) (op : Op) → op_of t ≡ Some op → Opens w (after_request w t) t.tag op
+opens_it : (w : Watched) (t : TlpView) (op : Op) → op_of t ≡ Some op → Opens w (after_request w t) t.tag op
 opens_it w t op e = record {
   more = refl;
   found = λ tag o f. elim (opened_by t.kind t.body t.length t.payload op w.open_tags t.tag tag (record { number = w.next; size = size_for t.kind t.length; enables = enables_of t.kind t.body }) o e f) [
@@ -83,26 +83,26 @@ Kept m rs answer = Holds m.requesters (rs ++ record_if answer)
 refused_keeps : (m : Monitor) (rs : List Record) (f : MonitorFault) → Holds m.requesters rs → Kept m rs (Err f)
 refused_keeps m rs f h = subst (Holds m.requesters) (sym (append-nil rs)) h
 
-opening_keeps : (m : Monitor) (rs : List Record) (i : ℕ) (t : Packet) (op : Op) (f : Option MonitorFault) → Holds m.requesters rs → i < 8 → op_of t ≡ Some op
+opening_keeps : (m : Monitor) (rs : List Record) (i : ℕ) (t : TlpView) (op : Op) (f : Option MonitorFault) → Holds m.requesters rs → i < 8 → op_of t ≡ Some op
     → Kept (opening_by m i t op f).monitor rs (opening_by m i t op f).answer
 opening_keeps m rs i t op (Some f) h lt e = refused_keeps m rs f h
 opening_keeps m rs i t op None h lt e = sent_holds m.requesters rs h i t.tag m.acted op (after_request (watched m i) t) lt (opens_it (watched m i) t op e)
 
-asking_keeps : (m : Monitor) (rs : List Record) (i : ℕ) (t : Packet) (o : Option Op) → Holds m.requesters rs → i < 8 → op_of t ≡ o
+asking_keeps : (m : Monitor) (rs : List Record) (i : ℕ) (t : TlpView) (o : Option Op) → Holds m.requesters rs → i < 8 → op_of t ≡ o
     → Kept (asking m i t o).monitor rs (asking m i t o).answer
 asking_keeps m rs i t None h lt e = refused_keeps m rs faults.NoRequest h
 asking_keeps m rs i t (Some op) h lt e = opening_keeps m rs i t op (request_fault (watched m i) t) h lt e
 
-request_keeps : (m : Monitor) (rs : List Record) (i : ℕ) (r : Result Packet MonitorFault) → Holds m.requesters rs → ((t : Packet) → r ≡ Ok t → i < 8)
+request_keeps : (m : Monitor) (rs : List Record) (i : ℕ) (r : Result TlpView MonitorFault) → Holds m.requesters rs → ((t : TlpView) → r ≡ Ok t → i < 8)
     → Kept (request_by m i r).monitor rs (request_by m i r).answer
 request_keeps m rs i (Err f) h range = refused_keeps m rs f h
 request_keeps m rs i (Ok t) h range = asking_keeps m rs i t (op_of t) h (range t refl) refl
 
-range_by : (i : ℕ) (b : Bool) (r : Result Packet MonitorFault) (t : Packet) → is_requester i ≡ b → (if b then r else Err faults.NoRequester) ≡ Ok t → i < 8
+range_by : (i : ℕ) (b : Bool) (r : Result TlpView MonitorFault) (t : TlpView) → is_requester i ≡ b → (if b then r else Err faults.NoRequester) ≡ Ok t → i < 8
 range_by i true r t e f = in_range i e
 range_by i false r t e f = absurd cc
 
-packet_range : (i : ℕ) (bytes : List ℕ) (t : Packet) → packet_from i bytes ≡ Ok t → i < 8
+packet_range : (i : ℕ) (bytes : List ℕ) (t : TlpView) → packet_from i bytes ≡ Ok t → i < 8
 packet_range i bytes t e = range_by i (is_requester i) (packet_by (reading bytes)) t refl e
 
 -- ---- a completion
@@ -120,12 +120,12 @@ replied_is : (number : ℕ) (r : Option Reply) (a : ℕ × Reply) → replied nu
 replied_is number None a e = absurd cc
 replied_is number (Some r) a e = ap (λ (p : ℕ × Reply). p.0) (sym (pair_is (number, r) a e))
 
-answers_by : (b : Bool) (o : Option OpenRequest) (t : Packet) (a : ℕ × Reply) → (if b then Err faults.OtherRequester else answered_by o t) ≡ Ok a → Answers o a.0
+answers_by : (b : Bool) (o : Option OpenRequest) (t : TlpView) (a : ℕ × Reply) → (if b then Err faults.OtherRequester else answered_by o t) ≡ Ok a → Answers o a.0
 answers_by true o t a e = absurd cc
 answers_by false None t a e = absurd cc
 answers_by false (Some o) t a e = record { request = o; found = refl; same = replied_is o.number (reply_to o t) a e }
 
-completing_keeps : (m : Monitor) (rs : List Record) (i : ℕ) (t : Packet) (r : Result (ℕ × Reply) MonitorFault) → Holds m.requesters rs → i < 8 → answered (watched m i) t ≡ r
+completing_keeps : (m : Monitor) (rs : List Record) (i : ℕ) (t : TlpView) (r : Result (ℕ × Reply) MonitorFault) → Holds m.requesters rs → i < 8 → answered (watched m i) t ≡ r
     → Kept (completing_by m i t.tag r).monitor rs (completing_by m i t.tag r).answer
 completing_keeps m rs i t (Err f) h lt e = refused_keeps m rs f h
 completing_keeps m rs i t (Ok a) h lt e =
@@ -133,12 +133,12 @@ completing_keeps m rs i t (Ok a) h lt e =
     subst (λ (k : ℕ). Holds (slice_set m.requesters i (closed (watched m i) t.tag)) (rs ++ records.Ans i k a.1 m.acted ∷ [])) (sym g.same)
     (said_holds m.requesters rs h i t.tag m.acted g.request a.1 lt g.found)
 
-of_kind_keeps : (m : Monitor) (rs : List Record) (i : ℕ) (t : Packet) (b : Bool) → Holds m.requesters rs → i < 8
+of_kind_keeps : (m : Monitor) (rs : List Record) (i : ℕ) (t : TlpView) (b : Bool) → Holds m.requesters rs → i < 8
     → Kept (if b then completing m i t else refused m faults.NoCompletion).monitor rs (if b then completing m i t else refused m faults.NoCompletion).answer
 of_kind_keeps m rs i t true h lt = completing_keeps m rs i t (answered (watched m i) t) h lt refl
 of_kind_keeps m rs i t false h lt = refused_keeps m rs faults.NoCompletion h
 
-completion_keeps : (m : Monitor) (rs : List Record) (i : ℕ) (r : Result Packet MonitorFault) → Holds m.requesters rs → ((t : Packet) → r ≡ Ok t → i < 8)
+completion_keeps : (m : Monitor) (rs : List Record) (i : ℕ) (r : Result TlpView MonitorFault) → Holds m.requesters rs → ((t : TlpView) → r ≡ Ok t → i < 8)
     → Kept (completion_by m i r).monitor rs (completion_by m i r).answer
 completion_keeps m rs i (Err f) h range = refused_keeps m rs f h
 completion_keeps m rs i (Ok t) h range = of_kind_keeps m rs i t (is_completion t.kind) h (range t refl)
@@ -180,18 +180,18 @@ well_formed is_trace calls = calls_keep calls (new is_trace) [] new_holds
 record_is : (r s : Record) → ◌≡◌ {A = Result Record MonitorFault} (Ok r) (Ok s) → r ≡ s
 record_is r s e = cc
 
-opening_sub : (m : Monitor) (i : ℕ) (t : Packet) (op : Op) (f : Option MonitorFault) (r : Record) → (opening_by m i t op f).answer ≡ Ok r → r ≡ records.Sub i (watched m i).next op m.acted
+opening_sub : (m : Monitor) (i : ℕ) (t : TlpView) (op : Op) (f : Option MonitorFault) (r : Record) → (opening_by m i t op f).answer ≡ Ok r → r ≡ records.Sub i (watched m i).next op m.acted
 opening_sub m i t op (Some f) r e = absurd cc
 opening_sub m i t op None r e = sym (record_is _ r e)
 
-asking_sub : (m : Monitor) (i : ℕ) (t : Packet) (o : Option Op) (r : Record) → (asking m i t o).answer ≡ Ok r → (op : Op) × (o ≡ Some op) × (r ≡ records.Sub i (watched m i).next op m.acted)
+asking_sub : (m : Monitor) (i : ℕ) (t : TlpView) (o : Option Op) (r : Record) → (asking m i t o).answer ≡ Ok r → (op : Op) × (o ≡ Some op) × (r ≡ records.Sub i (watched m i).next op m.acted)
 asking_sub m i t None r e = absurd cc
 asking_sub m i t (Some op) r e = (op, refl, opening_sub m i t op (request_fault (watched m i) t) r e)
 
-abbrev HasOperation : Monitor → ℕ → Result Packet TlpFault → Record → Type 0
-HasOperation m i p r = (t : Packet) × (op : Op) × (p ≡ Ok t) × (op_of t ≡ Some op) × (r ≡ records.Sub i (watched m i).next op m.acted)
+abbrev HasOperation : Monitor → ℕ → Result TlpView TlpFault → Record → Type 0
+HasOperation m i p r = (t : TlpView) × (op : Op) × (p ≡ Ok t) × (op_of t ≡ Some op) × (r ≡ records.Sub i (watched m i).next op m.acted)
 
-reading_sub : (m : Monitor) (i : ℕ) (b : Bool) (p : Result Packet TlpFault) (r : Record) → (request_by m i (if b then packet_by p else Err faults.NoRequester)).answer ≡ Ok r → HasOperation m i p r
+reading_sub : (m : Monitor) (i : ℕ) (b : Bool) (p : Result TlpView TlpFault) (r : Record) → (request_by m i (if b then packet_by p else Err faults.NoRequester)).answer ≡ Ok r → HasOperation m i p r
 reading_sub m i false p r e = absurd cc
 reading_sub m i true (Err f) r e = absurd cc
 reading_sub m i true (Ok t) r e = let a = asking_sub m i t (op_of t) r e in (t, a.0, refl, a.1, a.2)

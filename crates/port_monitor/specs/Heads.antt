@@ -2,7 +2,7 @@
 use Rattle.std.specs.Prelude.{ℕ, Bool, true, false, if◌then◌else◌, List, [], ◌∷◌, Option, Some, None, codes, bytes_eq}
 use Rattle.operation_text.specs.Words.{then_with, field, ended}
 use Rattle.operation_text.specs.Numbers.{numeral}
-use Rattle.seq_memory.specs.History.{State}
+use Rattle.seq_memory.specs.History.{MemoryView}
 use Rattle.port_monitor.specs.declared.head.Head.{Head}
 
 -- `block` and its bytes
@@ -27,5 +27,5 @@ head_of (w ∷ ws) =
     else (if bytes_eq w (codes "trace") then head_behind true ws else None)
 
 -- the memory before any request acts
-abbrev pub memory_of : Head → State
+abbrev pub memory_of : Head → MemoryView
 memory_of h = record { base = h.base; size = h.size; block = h.block; entries = [] }

@@ -2,7 +2,7 @@
 use Rattle.std.specs.Prelude.{ℕ, ◌≡◌, ◌+◌, ◌==◌, ◌&&◌, nat_le, Bool, true, false, if◌then◌else◌, List, [], ◌∷◌, ◌++◌, length, replicate, slice_set, slice_get, get_or, remove, position, sum_by, Option, Some, None, Result, Ok, Err}
 use Rattle.tlp_core.specs.declared.operation.Op.{Op}
 use Rattle.tlp_core.specs.declared.fault.TlpFault.{TlpFault}
-use Rattle.tlp_core.specs.Packet.{Packet}
+use Rattle.tlp_core.specs.TlpView.{TlpView}
 use Rattle.tlp_core.specs.Operation.{op_of, is_completion}
 use Rattle.tlp_core.specs.Faults.{reading}
 use Rattle.seq_memory.specs.declared.Entry.{Entry}
@@ -56,12 +56,12 @@ refused m f = record { answer = Err f; monitor = m }
 abbrev pub is_requester : ℕ → Bool
 is_requester i = nat_le 1 i && nat_le i 7
 
-abbrev pub packet_by : Result Packet TlpFault → Result Packet MonitorFault
+abbrev pub packet_by : Result TlpView TlpFault → Result TlpView MonitorFault
 packet_by (Ok t) = Ok t
 packet_by (Err f) = Err (faults.Packet f)
 
 -- the packet that the bytes spell
-abbrev pub packet_from : ℕ → List ℕ → Result Packet MonitorFault
+abbrev pub packet_from : ℕ → List ℕ → Result TlpView MonitorFault
 packet_from i bytes = if is_requester i then packet_by (reading bytes) else Err faults.NoRequester
 
 -- ---- requests
@@ -78,7 +78,7 @@ with_waiting m i number op = record {
 abbrev pub with_requester : Monitor → ℕ → Watched → Monitor
 with_requester m i s = record { is_trace = m.is_trace; acted = m.acted; requesters = slice_set m.requesters i s; waiting = m.waiting }
 
-abbrev pub opening_by : Monitor → ℕ → Packet → Op → Option MonitorFault → Outcome Record
+abbrev pub opening_by : Monitor → ℕ → TlpView → Op → Option MonitorFault → Outcome Record
 opening_by m i t op (Some f) = refused m f
 opening_by m i t op None = record {
   answer = Ok (records.Sub i (watched m i).next op m.acted);
@@ -86,14 +86,14 @@ opening_by m i t op None = record {
 }
 
 -- a request that asks for the operation, under the requester's next number
-abbrev pub opening : Monitor → ℕ → Packet → Op → Outcome Record
+abbrev pub opening : Monitor → ℕ → TlpView → Op → Outcome Record
 opening m i t op = opening_by m i t op (request_fault (watched m i) t)
 
-abbrev pub asking : Monitor → ℕ → Packet → Option Op → Outcome Record
+abbrev pub asking : Monitor → ℕ → TlpView → Option Op → Outcome Record
 asking m i t None = refused m faults.NoRequest
 asking m i t (Some op) = opening m i t op
 
-abbrev pub request_by : Monitor → ℕ → Result Packet MonitorFault → Outcome Record
+abbrev pub request_by : Monitor → ℕ → Result TlpView MonitorFault → Outcome Record
 request_by m i (Err f) = refused m f
 request_by m i (Ok t) = asking m i t (op_of t)
 
@@ -111,10 +111,10 @@ completing_by m i tag (Ok a) = record {
 }
 
 -- the completion answers the request that is open under its tag
-abbrev pub completing : Monitor → ℕ → Packet → Outcome Record
+abbrev pub completing : Monitor → ℕ → TlpView → Outcome Record
 completing m i t = completing_by m i t.tag (answered (watched m i) t)
 
-abbrev pub completion_by : Monitor → ℕ → Result Packet MonitorFault → Outcome Record
+abbrev pub completion_by : Monitor → ℕ → Result TlpView MonitorFault → Outcome Record
 completion_by m i (Err f) = refused m f
 completion_by m i (Ok t) = if is_completion t.kind then completing m i t else refused m faults.NoCompletion
 

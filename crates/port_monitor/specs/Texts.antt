@@ -1,7 +1,7 @@
 -- The lines that a monitor writes: those of a trace, or of a log, which has no n.
 use Rattle.std.specs.Prelude.{ℕ, Bool, true, false, List, [], ◌∷◌, ◌++◌, codes}
 use Rattle.std.specs.Fmt.{decimal}
-use Rattle.seq_memory.specs.History.{State}
+use Rattle.seq_memory.specs.History.{MemoryView}
 use Rattle.history_check.specs.declared.Record.{Record}
 use Rattle.history_check.specs.declared.Record.TheVariants as records
 use Rattle.operation_text.specs.Texts.{op_text, reply_text}
@@ -29,5 +29,5 @@ first_line true = codes "pciex-trace 2"
 first_line false = codes "pciex-log 1"
 
 -- the first two lines, with a line feed between them
-abbrev pub head_lines : Bool → State → List ℕ
+abbrev pub head_lines : Bool → MemoryView → List ℕ
 head_lines is_trace m = first_line is_trace ++ 10 ∷ memory_line m

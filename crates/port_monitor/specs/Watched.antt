@@ -5,11 +5,11 @@ use Rattle.tlp_core.specs.declared.packet.Kind.TheVariants as kinds
 use Rattle.tlp_core.specs.declared.packet.Body.{Body}
 use Rattle.tlp_core.specs.declared.packet.Body.TheVariants as bodies
 use Rattle.tlp_core.specs.declared.packet.Status.TheVariants as statuses
-use Rattle.tlp_core.specs.Packet.{Packet}
+use Rattle.tlp_core.specs.TlpView.{TlpView}
 use Rattle.seq_memory.specs.declared.Reply.{Reply}
 use Rattle.seq_memory.specs.declared.Reply.TheVariants as replies
 use Rattle.seq_memory.specs.Step.{read_over}
-use Rattle.requester_core.specs.Requesting.{size_for}
+use Rattle.requester_core.specs.RequesterView.{size_for}
 use Rattle.port_monitor.specs.declared.watched.OpenRequest.{OpenRequest}
 use Rattle.port_monitor.specs.declared.watched.Watched.{Watched}
 use Rattle.port_monitor.specs.declared.fault.MonitorFault.{MonitorFault}
@@ -38,11 +38,11 @@ abbrev pub needs_tag : Kind → Bool
 needs_tag kinds.MemoryWrite = false
 needs_tag _ = true
 
-abbrev pub needs_open_tag : Watched → Packet → Bool
+abbrev pub needs_open_tag : Watched → TlpView → Bool
 needs_open_tag s t = needs_tag t.kind && is_some (open_at s t.tag)
 
 -- the first cause that keeps a request from being the next one
-abbrev pub request_fault : Watched → Packet → Option MonitorFault
+abbrev pub request_fault : Watched → TlpView → Option MonitorFault
 request_fault s t =
     if is_other s.id t.requester then Some faults.OtherRequester
     else (if needs_open_tag s t then Some faults.TagInUse
@@ -58,7 +58,7 @@ opens kinds.MemoryWrite tags tag o = tags
 opens _ tags tag o = slice_set tags tag (Some o)
 
 -- the next request is this one: a non-posted one is open under its tag
-abbrev pub after_request : Watched → Packet → Watched
+abbrev pub after_request : Watched → TlpView → Watched
 after_request s t = record {
   id = Some t.requester;
   next = s.next + 1;
@@ -82,19 +82,19 @@ carried o kinds.Completion (bodies.Completion c statuses.Aborted n lower) bytes 
 carried _ _ _ _ = None
 
 -- the reply that a completion carries to the request; none if they don't fit
-abbrev pub reply_to : OpenRequest → Packet → Option Reply
+abbrev pub reply_to : OpenRequest → TlpView → Option Reply
 reply_to o t = carried o t.kind t.body t.payload
 
 abbrev pub replied : ℕ → Option Reply → Result (ℕ × Reply) MonitorFault
 replied number None = Err faults.Mismatch
 replied number (Some reply) = Ok (number, reply)
 
-abbrev pub answered_by : Option OpenRequest → Packet → Result (ℕ × Reply) MonitorFault
+abbrev pub answered_by : Option OpenRequest → TlpView → Result (ℕ × Reply) MonitorFault
 answered_by None t = Err faults.Unexpected
 answered_by (Some o) t = replied o.number (reply_to o t)
 
 -- the number of the request that a completion answers, and the reply
-abbrev pub answered : Watched → Packet → Result (ℕ × Reply) MonitorFault
+abbrev pub answered : Watched → TlpView → Result (ℕ × Reply) MonitorFault
 answered s t = if is_other s.id t.requester then Err faults.OtherRequester else answered_by (open_at s t.tag) t
 
 -- the tag is free

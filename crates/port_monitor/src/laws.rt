@@ -2,7 +2,7 @@
 ghost use Rattle.std.specs.Prelude.{◌≡◌, Bool, ℕ, List, Ok, Some};
 ghost use Rattle.tlp_core.specs.declared.operation.Op as operations;
 ghost use Rattle.tlp_core.specs.Operation.{op_of};
-ghost use Rattle.tlp_core.specs.Packet.{Packet};
+ghost use Rattle.tlp_core.specs.TlpView.{TlpView};
 ghost use Rattle.tlp_core.specs.Faults.{reading};
 ghost use Rattle.history_check.specs.declared.Record as recorded_things;
 ghost use Rattle.history_check.specs.declared.Record.TheVariants as records;
@@ -21,5 +21,5 @@ pub fn records_are_well_formed()
 /// requester.
 pub fn a_submission_has_the_packets_operation()
     ensures { (m : Monitor) (i : ℕ) (bytes : List ℕ) (r : recorded_things.Record) → (request m i bytes).answer ≡ Ok r
-        → (t : Packet) × (op : operations.Op) × (reading bytes ≡ Ok t) × (op_of t ≡ Some op) × (r ≡ records.Sub i (watched m i).next op m.acted) }
+        → (t : TlpView) × (op : operations.Op) × (reading bytes ≡ Ok t) × (op_of t ≡ Some op) × (r ≡ records.Sub i (watched m i).next op m.acted) }
 {}

@@ -1,6 +1,6 @@
 //! What a monitor knows of one requester.
 ghost use Rattle.std.specs.Prelude.{◌≡◌, ◌≤◌, ◌<◌, ◌%◌, IfNone, length};
-ghost use Rattle.requester_core.specs.Requesting as requesting;
+ghost use Rattle.requester_core.specs.RequesterView as requesting;
 ghost use Rattle.port_monitor.specs.Watched as spec;
 
 use crate::enabled::{copy_of, enabled_bytes};

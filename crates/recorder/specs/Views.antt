@@ -3,10 +3,10 @@ use Rattle.atomic_table.specs.Seated.{TableId}
 use Rattle.recorder.specs.declared.laws.Pushed.{Pushed}
 use Rattle.recorder.specs.declared.laws.Taken.{Taken}
 
-pub record Pushing : Type 0 where
+pub record PusherView : Type 0 where
   pub queue : TableId
   pub pushed : Pushed
 
-pub record Taking : Type 0 where
+pub record TakerView : Type 0 where
   pub queue : TableId
   pub taken : Taken

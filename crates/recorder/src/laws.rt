@@ -116,9 +116,9 @@ pub struct Pusher {
 
 impl Model for Pusher {
     ghost use Rattle.std.specs.Prelude.{◌≡◌, []};
-    ghost use Rattle.recorder.specs.Views.{Pushing};
+    ghost use Rattle.recorder.specs.Views.{PusherView};
 
-    ghost Value = { Pushing };
+    ghost Value = { PusherView };
 
     ghost use Rattle.recorder.specs.Rule.{pushed_of};
     ghost use Rattle.recorder.specs.declared.laws.Knows.TheVariants as knows;
@@ -136,9 +136,9 @@ pub struct Taker {
 
 impl Model for Taker {
     ghost use Rattle.std.specs.Prelude.{◌≡◌, []};
-    ghost use Rattle.recorder.specs.Views.{Taking};
+    ghost use Rattle.recorder.specs.Views.{TakerView};
 
-    ghost Value = { Taking };
+    ghost Value = { TakerView };
 
     ghost use Rattle.recorder.specs.Rule.{taken_of};
     ghost use Rattle.recorder.specs.declared.laws.Knows.TheVariants as knows;

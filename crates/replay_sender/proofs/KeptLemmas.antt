@@ -6,8 +6,8 @@ use Rattle.std.proofs.lemmas.Bool.Decides.{nat_tests}
 use Rattle.std.proofs.lemmas.List.{append-nil, take-append-drop, get_or-append-add}
 use Rattle.std.proofs.lemmas.Option.{slice_get_within, slice_get-get_or, get_or_from_slice_get}
 use Rattle.seq12.specs.Numbers.{distance_of}
-use Rattle.replay_sender.specs.Carried.{Carried}
-use Rattle.replay_sender.specs.Sending.{Sending, fresh, number_at, next_number, sent_from, with_accepted, with_reserved, released, after_transmit, is_outstanding, acknowledged, from_oldest, trained}
+use Rattle.replay_sender.specs.CargoView.{CargoView}
+use Rattle.replay_sender.specs.SenderView.{SenderView, fresh, number_at, next_number, sent_from, with_accepted, with_reserved, released, after_transmit, is_outstanding, acknowledged, from_oldest, trained}
 use Rattle.replay_sender.specs.Runs.{Call, Accept, Reserve, Release, Transmit, Ack, Nak, Timer, Retrained, IsCall, AreCalls, after_call, accepted_by, after_calls, accepted_in, KeepsTheLast}
 
 -- ---- numbers
@@ -42,7 +42,7 @@ counter_reset false replays h = omega arith
 fresh_keeps : KeepsTheLast [] fresh
 fresh_keeps = record { dropped = []; kept = refl; acked = refl; window = omega arith; place = omega arith; replays = omega arith }
 
-accept_keeps : (xs : List Carried) (s : Sending) (cargo : Carried) (room : Bool) → nat_lt (length s.kept) 2047 ≡ room → KeepsTheLast xs s
+accept_keeps : (xs : List CargoView) (s : SenderView) (cargo : CargoView) (room : Bool) → nat_lt (length s.kept) 2047 ≡ room → KeepsTheLast xs s
     → KeepsTheLast (xs ++ (if room then cargo ∷ [] else [])) (if room then with_accepted s cargo else s)
 accept_keeps xs s cargo true has_room k =
     let below = is_below _ _ has_room in
@@ -56,11 +56,11 @@ accept_keeps xs s cargo true has_room k =
     }
 accept_keeps xs s cargo false has_room k = rw append-nil k
 
-from_oldest_keeps : (xs : List Carried) (s : Sending) → KeepsTheLast xs s → KeepsTheLast xs (from_oldest s)
+from_oldest_keeps : (xs : List CargoView) (s : SenderView) → KeepsTheLast xs s → KeepsTheLast xs (from_oldest s)
 from_oldest_keeps xs s k =
     record { dropped = k.dropped; kept = k.kept; acked = k.acked; window = k.window; place = omega arith; replays = counter_kept s.place s.replays k.replays }
 
-acknowledged_keeps : (xs : List Carried) (s : Sending) (n : ℕ) → n < 4096 → distance_of n s.acked ≤ length s.kept → KeepsTheLast xs s → KeepsTheLast xs (acknowledged s n)
+acknowledged_keeps : (xs : List CargoView) (s : SenderView) (n : ℕ) → n < 4096 → distance_of n s.acked ≤ length s.kept → KeepsTheLast xs s → KeepsTheLast xs (acknowledged s n)
 acknowledged_keeps xs s n fits outstanding k =
     let d = distance_of n s.acked in
     let count : length (k.dropped ++ take d s.kept) ≡ length k.dropped + d = omega (arith, length-append k.dropped (take d s.kept), length-take d s.kept) in
@@ -73,27 +73,27 @@ acknowledged_keeps xs s n fits outstanding k =
       replays = counter_reset (d == 0) s.replays k.replays;
     }
 
-ack_keeps : (xs : List Carried) (s : Sending) (n : ℕ) (named : Bool) → is_outstanding s n ≡ named → n < 4096 → KeepsTheLast xs s
+ack_keeps : (xs : List CargoView) (s : SenderView) (n : ℕ) (named : Bool) → is_outstanding s n ≡ named → n < 4096 → KeepsTheLast xs s
     → KeepsTheLast xs (if named then acknowledged s n else s)
 ack_keeps xs s n true outstanding fits k = acknowledged_keeps xs s n fits (is_at_most _ _ outstanding) k
 ack_keeps xs s n false outstanding fits k = k
 
-nak_keeps : (xs : List Carried) (s : Sending) (n : ℕ) (named : Bool) → is_outstanding s n ≡ named → n < 4096 → KeepsTheLast xs s
+nak_keeps : (xs : List CargoView) (s : SenderView) (n : ℕ) (named : Bool) → is_outstanding s n ≡ named → n < 4096 → KeepsTheLast xs s
     → KeepsTheLast xs (if named then from_oldest (acknowledged s n) else s)
 nak_keeps xs s n true outstanding fits k =
     from_oldest_keeps xs (acknowledged s n) (acknowledged_keeps xs s n fits (is_at_most _ _ outstanding) k)
 nak_keeps xs s n false outstanding fits k = k
 
-reserve_keeps : (xs : List Carried) (s : Sending) (room : Bool) → KeepsTheLast xs s → KeepsTheLast xs (if room then with_reserved s else s)
+reserve_keeps : (xs : List CargoView) (s : SenderView) (room : Bool) → KeepsTheLast xs s → KeepsTheLast xs (if room then with_reserved s else s)
 reserve_keeps xs s true k =
     record { dropped = k.dropped; kept = k.kept; acked = k.acked; window = k.window; place = k.place; replays = k.replays }
 reserve_keeps xs s false k = k
 
-released_keeps : (xs : List Carried) (s : Sending) → KeepsTheLast xs s → KeepsTheLast xs (released s)
+released_keeps : (xs : List CargoView) (s : SenderView) → KeepsTheLast xs s → KeepsTheLast xs (released s)
 released_keeps xs s k =
     record { dropped = k.dropped; kept = k.kept; acked = k.acked; window = k.window; place = k.place; replays = k.replays }
 
-transmit_keeps : (xs : List Carried) (s : Sending) → KeepsTheLast xs s → KeepsTheLast xs (after_transmit s)
+transmit_keeps : (xs : List CargoView) (s : SenderView) → KeepsTheLast xs s → KeepsTheLast xs (after_transmit s)
 transmit_keeps xs s k =
     record {
       dropped = k.dropped;
@@ -104,11 +104,11 @@ transmit_keeps xs s k =
       replays = k.replays;
     }
 
-trained_keeps : (xs : List Carried) (s : Sending) → KeepsTheLast xs s → KeepsTheLast xs (trained s)
+trained_keeps : (xs : List CargoView) (s : SenderView) → KeepsTheLast xs s → KeepsTheLast xs (trained s)
 trained_keeps xs s k =
     record { dropped = k.dropped; kept = k.kept; acked = k.acked; window = k.window; place = k.place; replays = k.replays }
 
-call_keeps : (xs : List Carried) (s : Sending) (call : Call) → IsCall call → KeepsTheLast xs s → KeepsTheLast (xs ++ accepted_by s call) (after_call s call)
+call_keeps : (xs : List CargoView) (s : SenderView) (call : Call) → IsCall call → KeepsTheLast xs s → KeepsTheLast (xs ++ accepted_by s call) (after_call s call)
 call_keeps xs s (Accept cargo) is k = accept_keeps xs s cargo (nat_lt (length s.kept) 2047) refl k
 call_keeps xs s Reserve is k = rw append-nil (reserve_keeps xs s (nat_lt (length s.kept) 2047) k)
 call_keeps xs s Release is k = rw append-nil (released_keeps xs s k)
@@ -120,7 +120,7 @@ call_keeps xs s Retrained is k = rw append-nil (trained_keeps xs s k)
 
 -- ---- lists of calls
 
-calls_keep : (xs : List Carried) (s : Sending) (calls : List Call) → AreCalls calls → KeepsTheLast xs s → KeepsTheLast (xs ++ accepted_in s calls) (after_calls s calls)
+calls_keep : (xs : List CargoView) (s : SenderView) (calls : List Call) → AreCalls calls → KeepsTheLast xs s → KeepsTheLast (xs ++ accepted_in s calls) (after_calls s calls)
 calls_keep xs s [] are k = rw append-nil k
 calls_keep xs s (call ∷ calls) are k =
     rw (← append_assoc xs (accepted_by s call) (accepted_in (after_call s call) calls))
@@ -130,30 +130,30 @@ pub run_keeps : (calls : List Call) → AreCalls calls → KeepsTheLast (accepte
 run_keeps calls are = calls_keep [] fresh calls are fresh_keeps
 
 -- NEXT_TRANSMIT_SEQ counts what was accepted
-pub next_counts : (xs : List Carried) (s : Sending) → KeepsTheLast xs s → next_number s ≡ length xs % 4096
+pub next_counts : (xs : List CargoView) (s : SenderView) → KeepsTheLast xs s → next_number s ≡ length xs % 4096
 next_counts xs s k =
     number_of_place s.acked (length k.dropped) (length s.kept) k.acked
     ∙ ap (λ n. n % 4096) (sym (ap length k.kept ∙ length-append k.dropped s.kept))
 
 -- ---- what is sent
 
-sent_is : (number place : ℕ) (cargo : Carried) (stopped : Bool) (got : Option Carried)
-    → ◌≡◌ {A = Option (ℕ × Carried)} (option_map (λ c. (place, c)) (if stopped then None else got)) (Some (number, cargo)) → (got ≡ Some cargo) × (number ≡ place)
+sent_is : (number place : ℕ) (cargo : CargoView) (stopped : Bool) (got : Option CargoView)
+    → ◌≡◌ {A = Option (ℕ × CargoView)} (option_map (λ c. (place, c)) (if stopped then None else got)) (Some (number, cargo)) → (got ≡ Some cargo) × (number ≡ place)
 sent_is number place cargo true got e = absurd cc
 sent_is number place cargo false None e = absurd cc
 sent_is number place cargo false (Some c) e =
-    let same : ◌≡◌ {A = ℕ × Carried} (place, c) (number, cargo) = cc in
-    (ap (λ (p : ℕ × Carried). Some p.1) same, sym (ap (λ (p : ℕ × Carried). p.0) same))
+    let same : ◌≡◌ {A = ℕ × CargoView} (place, c) (number, cargo) = cc in
+    (ap (λ (p : ℕ × CargoView). Some p.1) same, sym (ap (λ (p : ℕ × CargoView). p.0) same))
 
 -- item i behind the dropped ones
-item_behind : (xs ys : List Carried) (i : ℕ) (c : Carried) → slice_get ys i ≡ Some c → slice_get (xs ++ ys) (length xs + i) ≡ Some c
+item_behind : (xs ys : List CargoView) (i : ℕ) (c : CargoView) → slice_get ys i ≡ Some c → slice_get (xs ++ ys) (length xs + i) ≡ Some c
 item_behind xs ys i c e =
     let within = slice_get_within ys i c e in
     let inside : length xs + i < length (xs ++ ys) = omega (arith, length-append xs ys, within) in
     slice_get-get_or (xs ++ ys) (length xs + i) c inside ∙ ap Some (get_or-append-add xs ys i c ∙ get_or_from_slice_get ys i c c e)
 
 -- what is sent is one of the last accepted, under its own number
-pub sent_is_kept : (xs : List Carried) (s : Sending) → KeepsTheLast xs s → (number : ℕ) (cargo : Carried) → sent_from s ≡ Some (number, cargo)
+pub sent_is_kept : (xs : List CargoView) (s : SenderView) → KeepsTheLast xs s → (number : ℕ) (cargo : CargoView) → sent_from s ≡ Some (number, cargo)
     → (i : ℕ) × (slice_get xs i ≡ Some cargo) × (number ≡ i % 4096) × (length xs ≤ i + 2047)
 sent_is_kept xs s k number cargo e =
     let sent = sent_is number (number_at s s.place) cargo s.stopped (slice_get s.kept s.place) e in (

@@ -1,11 +1,11 @@
 -- Lists of calls of a sender, and what holds of every one.
 use Rattle.std.specs.Prelude.{◌≡◌, ℕ, ◌+◌, ◌%◌, ◌<◌, ◌≤◌, nat_lt, if◌then◌else◌, List, [], ◌∷◌, ◌++◌, length}
-use Rattle.replay_sender.specs.Carried.{Carried}
-use Rattle.replay_sender.specs.Sending.{Sending, with_accepted, with_reserved, released, after_transmit, after_ack, after_nak, from_oldest, trained}
+use Rattle.replay_sender.specs.CargoView.{CargoView}
+use Rattle.replay_sender.specs.SenderView.{SenderView, with_accepted, with_reserved, released, after_transmit, after_ack, after_nak, from_oldest, trained}
 
 -- a call of a sender; one that is refused for being out of memory changes nothing and is left out
 pub data Call : Type 0 where
-  Accept : Carried → Call
+  Accept : CargoView → Call
   Reserve : Call
   Release : Call
   Transmit : Call
@@ -25,7 +25,7 @@ AreCalls [] = Unit {0}
 AreCalls (call ∷ calls) = IsCall call × AreCalls calls
 
 -- the sender after a call
-abbrev pub after_call : Sending → Call → Sending
+abbrev pub after_call : SenderView → Call → SenderView
 after_call s (Accept cargo) = if nat_lt (length s.kept) 2047 then with_accepted s cargo else s
 after_call s Reserve = if nat_lt (length s.kept) 2047 then with_reserved s else s
 after_call s Release = released s
@@ -36,25 +36,25 @@ after_call s Timer = from_oldest s
 after_call s Retrained = trained s
 
 -- the packet that a call took
-abbrev pub accepted_by : Sending → Call → List Carried
+abbrev pub accepted_by : SenderView → Call → List CargoView
 accepted_by s (Accept cargo) = if nat_lt (length s.kept) 2047 then cargo ∷ [] else []
 accepted_by s _ = []
 
 -- the sender after all these calls
-abbrev pub after_calls : Sending → List Call → Sending
+abbrev pub after_calls : SenderView → List Call → SenderView
 after_calls s [] = s
 after_calls s (call ∷ calls) = after_calls (after_call s call) calls
 
 -- the packets that these calls took, oldest first
-abbrev pub accepted_in : Sending → List Call → List Carried
+abbrev pub accepted_in : SenderView → List Call → List CargoView
 accepted_in s [] = []
 accepted_in s (call ∷ calls) = accepted_by s call ++ accepted_in (after_call s call) calls
 
 -- The kept packets are the last ones accepted, oldest first, each once and at most 2047. Packet i of those accepted,
 -- counted from 0, has the number i modulo 4096.
-pub record KeepsTheLast (accepted : List Carried) (s : Sending) : Type 0 where
+pub record KeepsTheLast (accepted : List CargoView) (s : SenderView) : Type 0 where
   -- those that were acknowledged
-  pub dropped : List Carried
+  pub dropped : List CargoView
   pub kept : accepted ≡ dropped ++ s.kept
   pub acked : s.acked ≡ (length dropped + 4095) % 4096
   pub window : length s.kept ≤ 2047

@@ -15,9 +15,9 @@ pub struct Cargo {
 }
 
 impl Model for Cargo {
-    ghost use Rattle.replay_sender.specs.Carried.{Carried};
+    ghost use Rattle.replay_sender.specs.CargoView.{CargoView};
 
-    ghost Value = { Carried };
+    ghost Value = { CargoView };
 
     ghost view = { λ c. record { bytes = c.bytes.items; mark = c.mark } };
 

@@ -1,8 +1,8 @@
 //! What holds of a sender whatever calls are made.
 ghost use Rattle.std.specs.Prelude.{◌≡◌, ℕ, ◌+◌, ◌%◌, ◌<◌, ◌≤◌, List, length, slice_get};
 ghost use Rattle.seq12.specs.Numbers.{next_of};
-ghost use Rattle.replay_sender.specs.Carried.{Carried};
-ghost use Rattle.replay_sender.specs.Sending.{Sending, fresh, number_at, next_number, sent_from, from_oldest};
+ghost use Rattle.replay_sender.specs.CargoView.{CargoView};
+ghost use Rattle.replay_sender.specs.SenderView.{SenderView, fresh, number_at, next_number, sent_from, from_oldest};
 ghost use Rattle.replay_sender.specs.Runs.{Call, AreCalls, after_calls, accepted_in, KeepsTheLast};
 
 /// Whatever calls are made, the kept packets are the last ones accepted, oldest first, each once and at most 2047.
@@ -14,7 +14,7 @@ pub fn kept_are_the_last_accepted()
 
 /// What `transmit` gives is one of the last 2047 packets accepted, under the number that it was accepted under.
 pub fn transmitted_under_its_own_number()
-    ensures { (calls : List Call) → AreCalls calls → (number : ℕ) (cargo : Carried) →
+    ensures { (calls : List Call) → AreCalls calls → (number : ℕ) (cargo : CargoView) →
         sent_from (after_calls fresh calls) ≡ Some (number, cargo) →
         (i : ℕ) × (slice_get (accepted_in fresh calls) i ≡ Some cargo) × (number ≡ i % 4096)
         × (length (accepted_in fresh calls) ≤ i + 2047) }
@@ -23,16 +23,16 @@ pub fn transmitted_under_its_own_number()
 /// The numbers of the kept packets are consecutive, from the one after ACKD_SEQ to the one before NEXT_TRANSMIT_SEQ,
 /// and no two are equal.
 pub fn kept_numbers_are_consecutive()
-    ensures oldest { (s : Sending) → number_at s 0 ≡ next_of s.acked }
-    ensures each { (s : Sending) (i : ℕ) → number_at s (i + 1) ≡ next_of (number_at s i) }
-    ensures next { (s : Sending) → next_number s ≡ number_at s (length s.kept) }
-    ensures distinct { (s : Sending) (i j : ℕ) → length s.kept ≤ 2047 → i < length s.kept → j < length s.kept →
+    ensures oldest { (s : SenderView) → number_at s 0 ≡ next_of s.acked }
+    ensures each { (s : SenderView) (i : ℕ) → number_at s (i + 1) ≡ next_of (number_at s i) }
+    ensures next { (s : SenderView) → next_number s ≡ number_at s (length s.kept) }
+    ensures distinct { (s : SenderView) (i j : ℕ) → length s.kept ≤ 2047 → i < length s.kept → j < length s.kept →
         number_at s i ≡ number_at s j → i ≡ j }
 {}
 
 /// A replay sends the same packets under the same numbers, from the oldest on.
 pub fn replays_are_the_same()
-    ensures packets { (s : Sending) → (from_oldest s).kept ≡ s.kept }
-    ensures numbers { (s : Sending) (i : ℕ) → number_at (from_oldest s) i ≡ number_at s i }
-    ensures from_the_oldest { (s : Sending) → (from_oldest s).place ≡ 0 }
+    ensures packets { (s : SenderView) → (from_oldest s).kept ≡ s.kept }
+    ensures numbers { (s : SenderView) (i : ℕ) → number_at (from_oldest s) i ≡ number_at s i }
+    ensures from_the_oldest { (s : SenderView) → (from_oldest s).place ≡ 0 }
 {}

@@ -30,9 +30,9 @@ pub struct Sender {
 impl Model for Sender {
     ghost use Rattle.std.specs.Prelude.{◌≡◌, ◌<◌, ◌≤◌, length, true};
     ghost use Rattle.std.specs.VecDeque.{deque_len, deque_capacity};
-    ghost use Rattle.replay_sender.specs.Sending.{Sending};
+    ghost use Rattle.replay_sender.specs.SenderView.{SenderView};
 
-    ghost Value = { Sending };
+    ghost Value = { SenderView };
 
     ghost view = { λ s. record { acked = s.acked; kept = s.kept.items; place = s.place; replays = s.replays; stopped = s.stopped; reserved = s.reserved } };
 
@@ -52,7 +52,7 @@ fn drop_front(items: &mut VecDeque<Cargo>, count: usize)
 }
 
 impl Sender {
-    ghost use Rattle.replay_sender.specs.Sending.{fresh, next_number, with_accepted, with_reserved, released, next_item, sent_from, after_transmit, ack_answer, after_ack, after_nak, from_oldest, trained};
+    ghost use Rattle.replay_sender.specs.SenderView.{fresh, next_number, with_accepted, with_reserved, released, next_item, sent_from, after_transmit, ack_answer, after_ack, after_nak, from_oldest, trained};
 
     /// NEXT_TRANSMIT_SEQ is 000h, ACKD_SEQ is FFFh. It allocates nothing.
     pub fn new(alloc: Global) -> Sender

@@ -13,7 +13,7 @@ use Rattle.tlp_core.specs.declared.operation.Width.TheVariants as widths
 use Rattle.tlp_core.specs.declared.fault.TlpFault.{TlpFault}
 use Rattle.tlp_core.specs.declared.fault.TlpFault.TheVariants as faults
 use Rattle.tlp_core.specs.Enables.{are_enables}
-use Rattle.tlp_core.specs.Packet.{IsPacket, FitsKind}
+use Rattle.tlp_core.specs.TlpView.{IsPacket, FitsKind}
 use Rattle.tlp_core.specs.Operation.{op_of, op_at, op_fault, size_of, address_of, wrong_length, wrong_enables, wrong_operand, wrong_address}
 use Rattle.requester_core.specs.Request.{kind_for, length_for, first_for, last_for, payload_for, request}
 use Rattle.requester_core.specs.declared.request.Origin.{Origin}

@@ -10,11 +10,11 @@ use Rattle.tlp_core.specs.declared.operation.Op.{Op}
 use Rattle.tlp_core.specs.declared.operation.Op.TheVariants as ops
 use Rattle.tlp_core.specs.declared.packet.Kind.TheVariants as kinds
 use Rattle.tlp_core.specs.declared.fault.TlpFault.{TlpFault}
-use Rattle.tlp_core.specs.Packet.{Packet}
+use Rattle.tlp_core.specs.TlpView.{TlpView}
 use Rattle.tlp_core.specs.Operation.{op_fault, is_posted}
 use Rattle.requester_core.specs.declared.fault.SubmitRefusal.{SubmitRefusal}
 use Rattle.requester_core.specs.Request.{kind_for, request_for}
-use Rattle.requester_core.specs.Requesting.{Requesting, IsSound, lowest_free, fresh, prepared, prepared_by, lacks_tag, tag_for}
+use Rattle.requester_core.specs.RequesterView.{RequesterView, IsSound, lowest_free, fresh, prepared, prepared_by, lacks_tag, tag_for}
 
 pub lowest_in_range : (tags : List (Option OpenRequest)) → lowest_free tags ≤ length tags
 lowest_in_range tags = prefix_len-le-length _ tags
@@ -108,12 +108,12 @@ none_at tags tag o lt e = let n = get_or-set_same tags tag None None lt in cc
 number_at : (tags : List (Option OpenRequest)) (tag : ℕ) (o p : OpenRequest) → tag < length tags → get_or (slice_set tags tag (Some o)) tag None ≡ Some p → p.number ≡ o.number
 number_at tags tag o p lt e = let n = get_or-set_same tags tag (Some o) None lt in let same : ◌≡◌ {A = Option OpenRequest} (Some p) (Some o) = sym e ∙ n in ap (λ (q : OpenRequest). q.number) (some_is p o same)
 
-given_by : (s : Requesting) (tag : ℕ) (o : OpenRequest) → IsSound s → tag < length s.open_tags → o.number ≡ s.next → (k : ℕ) (p : OpenRequest) → (k ≡ tag) ⊎ (k ≡ tag → ⊥) → get_or (slice_set s.open_tags tag (Some o)) k None ≡ Some p → p.number < s.next + 1
+given_by : (s : RequesterView) (tag : ℕ) (o : OpenRequest) → IsSound s → tag < length s.open_tags → o.number ≡ s.next → (k : ℕ) (p : OpenRequest) → (k ≡ tag) ⊎ (k ≡ tag → ⊥) → get_or (slice_set s.open_tags tag (Some o)) k None ≡ Some p → p.number < s.next + 1
 given_by s tag o h lt e k p (inl same) is =
     let n = number_at s.open_tags tag o p lt (subst (λ k. get_or (slice_set s.open_tags tag (Some o)) k None ≡ Some p) same is) in omega (arith, n, e)
 given_by s tag o h lt e k p (inr other) is = let n = h.given k p (at_other s.open_tags tag k (Some o) p other is) in omega (arith, n)
 
-one_by : (s : Requesting) (tag : ℕ) (o : OpenRequest) → IsSound s → tag < length s.open_tags → o.number ≡ s.next → (k j : ℕ) (p q : OpenRequest) → (k ≡ tag) ⊎ (k ≡ tag → ⊥) → (j ≡ tag) ⊎ (j ≡ tag → ⊥) → get_or (slice_set s.open_tags tag (Some o)) k None ≡ Some p → get_or (slice_set s.open_tags tag (Some o)) j None ≡ Some q → p.number ≡ q.number → k ≡ j
+one_by : (s : RequesterView) (tag : ℕ) (o : OpenRequest) → IsSound s → tag < length s.open_tags → o.number ≡ s.next → (k j : ℕ) (p q : OpenRequest) → (k ≡ tag) ⊎ (k ≡ tag → ⊥) → (j ≡ tag) ⊎ (j ≡ tag → ⊥) → get_or (slice_set s.open_tags tag (Some o)) k None ≡ Some p → get_or (slice_set s.open_tags tag (Some o)) j None ≡ Some q → p.number ≡ q.number → k ≡ j
 one_by s tag o h lt e k j p q (inl a) (inl b) is_p is_q same = a ∙ sym b
 one_by s tag o h lt e k j p q (inl a) (inr b) is_p is_q same =
     let n = number_at s.open_tags tag o p lt (subst (λ k. get_or (slice_set s.open_tags tag (Some o)) k None ≡ Some p) a is_p) in
@@ -125,7 +125,7 @@ one_by s tag o h lt e k j p q (inr a) (inr b) is_p is_q same =
     h.one_tag k j p q (at_other s.open_tags tag k (Some o) p a is_p) (at_other s.open_tags tag j (Some o) q b is_q) same
 
 -- the next number under a tag
-pub sound_opened : (s : Requesting) (tag : ℕ) (o : OpenRequest) → IsSound s → tag < length s.open_tags → o.number ≡ s.next → s.next < 4294967295 → IsSound (record { port = s.port; next = s.next + 1; open_tags = slice_set s.open_tags tag (Some o) })
+pub sound_opened : (s : RequesterView) (tag : ℕ) (o : OpenRequest) → IsSound s → tag < length s.open_tags → o.number ≡ s.next → s.next < 4294967295 → IsSound (record { port = s.port; next = s.next + 1; open_tags = slice_set s.open_tags tag (Some o) })
 sound_opened s tag o h lt e few = record {
   some_port = h.some_port;
   few_ports = h.few_ports;
@@ -136,15 +136,15 @@ sound_opened s tag o h lt e few = record {
 }
 
 -- a number that opens no tag
-pub sound_spent : (s : Requesting) → IsSound s → s.next < 4294967295 → IsSound (record { port = s.port; next = s.next + 1; open_tags = s.open_tags })
+pub sound_spent : (s : RequesterView) → IsSound s → s.next < 4294967295 → IsSound (record { port = s.port; next = s.next + 1; open_tags = s.open_tags })
 sound_spent s h few = record { some_port = h.some_port; few_ports = h.few_ports; numbers = omega (arith, few); tags = h.tags; given = λ k p is. omega (arith, h.given k p is); one_tag = h.one_tag }
 
-still_at : (s : Requesting) (tag k : ℕ) (p : OpenRequest) → tag < length s.open_tags → (k ≡ tag) ⊎ (k ≡ tag → ⊥) → get_or (slice_set s.open_tags tag None) k None ≡ Some p → get_or s.open_tags k None ≡ Some p
+still_at : (s : RequesterView) (tag k : ℕ) (p : OpenRequest) → tag < length s.open_tags → (k ≡ tag) ⊎ (k ≡ tag → ⊥) → get_or (slice_set s.open_tags tag None) k None ≡ Some p → get_or s.open_tags k None ≡ Some p
 still_at s tag k p lt (inl same) is = absurd (none_at s.open_tags tag p lt (subst (λ k. get_or (slice_set s.open_tags tag None) k None ≡ Some p) same is))
 still_at s tag k p lt (inr other) is = at_other s.open_tags tag k None p other is
 
 -- a tag that is freed
-pub sound_freed : (s : Requesting) (tag : ℕ) → IsSound s → tag < length s.open_tags → IsSound (record { port = s.port; next = s.next; open_tags = slice_set s.open_tags tag None })
+pub sound_freed : (s : RequesterView) (tag : ℕ) → IsSound s → tag < length s.open_tags → IsSound (record { port = s.port; next = s.next; open_tags = slice_set s.open_tags tag None })
 sound_freed s tag h lt = record {
   some_port = h.some_port;
   few_ports = h.few_ports;
@@ -174,19 +174,19 @@ lowest_fresh = refl
 
 -- ---- a request that was prepared
 
-record WasPrepared (f : Option TlpFault) (tags_used numbers_used : Bool) (t u : Packet) : Type 0 where
+record WasPrepared (f : Option TlpFault) (tags_used numbers_used : Bool) (t u : TlpView) : Type 0 where
   pub sound : f ≡ None
   pub has_tag : tags_used ≡ false
   pub has_number : numbers_used ≡ false
   pub same : t ≡ u
 
-pair_is : (p q : ℕ × Packet) → ◌≡◌ {A = Result (ℕ × Packet) SubmitRefusal} (Ok p) (Ok q) → p ≡ q
+pair_is : (p q : ℕ × TlpView) → ◌≡◌ {A = Result (ℕ × TlpView) SubmitRefusal} (Ok p) (Ok q) → p ≡ q
 pair_is p q e = cc
 
-second_is : (n : ℕ) (t u : Packet) → ◌≡◌ {A = Result (ℕ × Packet) SubmitRefusal} (Ok (n, t)) (Ok (n, u)) → t ≡ u
-second_is n t u e = let same = pair_is (n, t) (n, u) e in ap (λ (p : ℕ × Packet). p.1) same
+second_is : (n : ℕ) (t u : TlpView) → ◌≡◌ {A = Result (ℕ × TlpView) SubmitRefusal} (Ok (n, t)) (Ok (n, u)) → t ≡ u
+second_is n t u e = let same = pair_is (n, t) (n, u) e in ap (λ (p : ℕ × TlpView). p.1) same
 
-is_prepared : (f : Option TlpFault) (tags_used numbers_used : Bool) (n : ℕ) (t u : Packet) → prepared_by f tags_used numbers_used n t ≡ Ok (n, u) → WasPrepared f tags_used numbers_used t u
+is_prepared : (f : Option TlpFault) (tags_used numbers_used : Bool) (n : ℕ) (t u : TlpView) → prepared_by f tags_used numbers_used n t ≡ Ok (n, u) → WasPrepared f tags_used numbers_used t u
 is_prepared (Some f) a b n t u e = absurd cc
 is_prepared None true b n t u e = absurd cc
 is_prepared None false true n t u e = absurd cc
@@ -203,12 +203,12 @@ few_numbers : (n : ℕ) → n ≤ 4294967295 → (n == 4294967295) ≡ false →
 few_numbers n h e = grind (arith, nat_tests)
 
 -- a non-posted request that was prepared has the lowest free tag, and there is a number for it
-pub prepared_tag : (s : Requesting) (op : Op) (t : Packet) → s.next ≤ 4294967295 → prepared s op ≡ Ok (s.next, t) → (t.kind ≡ kinds.MemoryWrite → ⊥) → (t.tag ≡ lowest_free s.open_tags) × (s.next < 4294967295)
+pub prepared_tag : (s : RequesterView) (op : Op) (t : TlpView) → s.next ≤ 4294967295 → prepared s op ≡ Ok (s.next, t) → (t.kind ≡ kinds.MemoryWrite → ⊥) → (t.tag ≡ lowest_free s.open_tags) × (s.next < 4294967295)
 prepared_tag s op t lt e n =
     let p = is_prepared (op_fault op) (lacks_tag s op) (s.next == 4294967295) s.next (request_for s.port (tag_for s op) op) t e in
-    (sym (ap (λ (t : Packet). t.tag) p.same) ∙ tag_of op (lowest_free s.open_tags) (λ same. n (sym (ap (λ (t : Packet). t.kind) p.same) ∙ same)), few_numbers s.next lt p.has_number)
+    (sym (ap (λ (t : TlpView). t.tag) p.same) ∙ tag_of op (lowest_free s.open_tags) (λ same. n (sym (ap (λ (t : TlpView). t.kind) p.same) ∙ same)), few_numbers s.next lt p.has_number)
 
-pub prepared_number : (s : Requesting) (op : Op) (t : Packet) → s.next ≤ 4294967295 → prepared s op ≡ Ok (s.next, t) → s.next < 4294967295
+pub prepared_number : (s : RequesterView) (op : Op) (t : TlpView) → s.next ≤ 4294967295 → prepared s op ≡ Ok (s.next, t) → s.next < 4294967295
 prepared_number s op t lt e = few_numbers s.next lt (is_prepared (op_fault op) (lacks_tag s op) (s.next == 4294967295) s.next (request_for s.port (tag_for s op) op) t e).has_number
 
 not_256 : (n : ℕ) → (n == 256) ≡ false → n ≤ 256 → n < 256
@@ -222,24 +222,24 @@ not_all (ops.Swap a w x) lowest n e h = not_256 lowest e h
 not_all (ops.Cas a w x y) lowest n e h = not_256 lowest e h
 
 -- its tag is one of the 256
-pub prepared_in_range : (s : Requesting) (op : Op) (t : Packet) → IsSound s → prepared s op ≡ Ok (s.next, t) → (t.kind ≡ kinds.MemoryWrite → ⊥) → t.tag < length s.open_tags
+pub prepared_in_range : (s : RequesterView) (op : Op) (t : TlpView) → IsSound s → prepared s op ≡ Ok (s.next, t) → (t.kind ≡ kinds.MemoryWrite → ⊥) → t.tag < length s.open_tags
 prepared_in_range s op t sound e n =
     let p = is_prepared (op_fault op) (lacks_tag s op) (s.next == 4294967295) s.next (request_for s.port (tag_for s op) op) t e in
-    let kind : kind_for op ≡ kinds.MemoryWrite → ⊥ = λ same. n (sym (ap (λ (t : Packet). t.kind) p.same) ∙ same) in
+    let kind : kind_for op ≡ kinds.MemoryWrite → ⊥ = λ same. n (sym (ap (λ (t : TlpView). t.kind) p.same) ∙ same) in
     let most = lowest_in_range s.open_tags in
     let lt = not_all op (lowest_free s.open_tags) kind p.has_tag (omega (arith, most, sound.tags)) in
     let tag = prepared_tag s op t sound.numbers e n in
     omega (arith, lt, tag.0, sound.tags)
 
-first_by : (f : Option TlpFault) (a b : Bool) (n : ℕ) (t : Packet) (p : ℕ × Packet) → prepared_by f a b n t ≡ Ok p → (n, t) ≡ p
+first_by : (f : Option TlpFault) (a b : Bool) (n : ℕ) (t : TlpView) (p : ℕ × TlpView) → prepared_by f a b n t ≡ Ok p → (n, t) ≡ p
 first_by (Some f) a b n t p e = absurd cc
 first_by None true b n t p e = absurd cc
 first_by None false true n t p e = absurd cc
 first_by None false false n t p e = pair_is (n, t) p e
 
 -- the number that is given is the next
-pub prepared_first : (s : Requesting) (op : Op) (p : ℕ × Packet) → prepared s op ≡ Ok p → s.next ≡ p.0
-prepared_first s op p e = ap (λ (q : ℕ × Packet). q.0) (first_by (op_fault op) (lacks_tag s op) (s.next == 4294967295) s.next (request_for s.port (tag_for s op) op) p e)
+pub prepared_first : (s : RequesterView) (op : Op) (p : ℕ × TlpView) → prepared s op ≡ Ok p → s.next ≡ p.0
+prepared_first s op p e = ap (λ (q : ℕ × TlpView). q.0) (first_by (op_fault op) (lacks_tag s op) (s.next == 4294967295) s.next (request_for s.port (tag_for s op) op) p e)
 
-pub prepared_next : (s : Requesting) (op : Op) (p : ℕ × Packet) → prepared s op ≡ Ok p → prepared s op ≡ Ok (s.next, p.1)
+pub prepared_next : (s : RequesterView) (op : Op) (p : ℕ × TlpView) → prepared s op ≡ Ok p → prepared s op ≡ Ok (s.next, p.1)
 prepared_next s op p e = subst (λ n. prepared s op ≡ Ok (n, p.1)) (sym (prepared_first s op p e)) e

@@ -7,7 +7,7 @@ use Rattle.tlp_core.specs.declared.packet.Kind.{Kind}
 use Rattle.tlp_core.specs.declared.packet.Kind.TheVariants as kinds
 use Rattle.tlp_core.specs.declared.packet.Body.TheVariants as bodies
 use Rattle.tlp_core.specs.declared.fault.TlpFault.{TlpFault}
-use Rattle.tlp_core.specs.Packet.{Packet}
+use Rattle.tlp_core.specs.TlpView.{TlpView}
 use Rattle.tlp_core.specs.Operation.{size_of, address_of}
 use Rattle.requester_core.specs.declared.request.Origin.{Origin}
 
@@ -46,7 +46,7 @@ payload_for (ops.Swap a w x) = little_bytes (size_of w) x
 payload_for (ops.Cas a w x y) = little_bytes (size_of w) x ++ little_bytes (size_of w) y
 
 -- the request for the operation
-abbrev pub request : Op → Origin → Packet
+abbrev pub request : Op → Origin → TlpView
 request op o = record {
   kind = kind_for op;
   tc = o.tc;
@@ -59,10 +59,10 @@ request op o = record {
 }
 
 -- the packet, if nothing keeps it from being one
-abbrev pub unless : Option TlpFault → Packet → Result Packet TlpFault
+abbrev pub unless : Option TlpFault → TlpView → Result TlpView TlpFault
 unless (Some f) t = Err f
 unless None t = Ok t
 
 -- the request of that port, with TC 0, attributes 0 and that tag
-abbrev pub request_for : ℕ → ℕ → Op → Packet
+abbrev pub request_for : ℕ → ℕ → Op → TlpView
 request_for port tag op = request op (record { requester = port * 256; tag = tag; tc = 0; attr = 0 })

@@ -1,7 +1,7 @@
 //! Laws over any list of calls on a requester.
 ghost use Rattle.std.specs.Prelude.{◌≡◌, ◌≤◌, ℕ, List, Contains};
 ghost use Rattle.std.specs.List.{range_with_len};
-ghost use Rattle.requester_core.specs.Requesting.{fresh, IsSound};
+ghost use Rattle.requester_core.specs.RequesterView.{fresh, IsSound};
 ghost use Rattle.requester_core.specs.Runs.{Call, after_calls, given_in, answered_in, NoneTwice, IsOpen};
 
 /// Whatever requests are prepared and opened and whatever packets arrive: the numbers are 0, 1, 2,

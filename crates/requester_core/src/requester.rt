@@ -41,9 +41,9 @@ pub struct Requester {
 
 impl Model for Requester {
     ghost use Rattle.std.specs.Prelude.{◌≡◌};
-    ghost use Rattle.requester_core.specs.Requesting.{Requesting, IsSound, lowest_free};
+    ghost use Rattle.requester_core.specs.RequesterView.{RequesterView, IsSound, lowest_free};
 
-    ghost Value = { Requesting };
+    ghost Value = { RequesterView };
 
     ghost view = { λ r. record { port = r.port; next = r.next; open_tags = r.open_tags } };
 
@@ -53,7 +53,7 @@ impl Model for Requester {
 impl Requester {
     ghost use Rattle.std.specs.Prelude.{IfOk, OnOk, slice_set};
     ghost use Rattle.tlp_core.specs.Operation.{op_of};
-    ghost use Rattle.requester_core.specs.Requesting.{fresh, prepared, after_opened, finished, after_finish, completed, IsSound, IsPrepared};
+    ghost use Rattle.requester_core.specs.RequesterView.{fresh, prepared, after_opened, finished, after_finish, completed, IsSound, IsPrepared};
 
     /// The requester of a port, 1 to 7, that has asked for nothing.
     pub fn new(port: u8) -> Requester
@@ -172,7 +172,7 @@ impl Requester {
 }
 
 ghost use Rattle.std.specs.Prelude.{replicate};
-ghost use Rattle.requester_core.specs.Requesting.{lowest_free, size_for, reply_carried};
+ghost use Rattle.requester_core.specs.RequesterView.{lowest_free, size_for, reply_carried};
 
 /// How many bytes of data the completion of a request has, where it is served.
 fn size_for(kind: Kind, dw: u16) -> u16

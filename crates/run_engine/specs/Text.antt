@@ -7,7 +7,7 @@ use Rattle.line_loop.specs.Run.{IsBeginning}
 use Rattle.seq_memory.specs.History.{bytes_of}
 use Rattle.history_check.specs.declared.Record.{Record}
 use Rattle.history_check.specs.declared.Record.TheVariants as records
-use Rattle.history_check.specs.Observation.{Observation}
+use Rattle.history_check.specs.TraceView.{TraceView}
 use Rattle.history_check.specs.Claim.{claim_of}
 use Rattle.history_check.specs.Trace.{Explains}
 use Rattle.fabric_laws.specs.Fabric.{Fabric}
@@ -49,7 +49,7 @@ halt_status _ = 1
 -- the text of a report whose history explains its trace, in which each requester submitted its additions and has an
 -- answer to each
 pub record IsReport (c : Counting) (text : List ℕ) : Type 0 where
-  pub trace : Observation
+  pub trace : TraceView
   pub fabric : Fabric
   pub explained : Explains (claim_of trace fabric.memory.entries)
   pub done : AreDone trace.records 1 (scripts_of c.requesters c.each)

@@ -9,7 +9,7 @@ use Rattle.std.proofs.lemmas.List.{take_all}
 use Rattle.std.proofs.lemmas.List.Folds.{list_any-append}
 use Rattle.std.proofs.lemmas.List.Elements.{All-contains, All-cons, All-nil, All-same, Contains-append_right}
 use Rattle.std.proofs.lemmas.List.Sorted.{All-permutation, Contains-permutation, IsPermutation-middle, IsPermutation-sym, IsPermutation-to_front}
-use Rattle.log_runs.specs.Task.{Task}
+use Rattle.log_runs.specs.LogView.{LogView}
 use Rattle.log_runs.specs.declared.Event.TheVariants as events
 use Rattle.log_runs.specs.declared.Step.{Step}
 use Rattle.log_runs.specs.declared.Step.TheVariants as steps
@@ -22,7 +22,7 @@ use Rattle.run_search.proofs.Tables.{done_from}
 use Rattle.run_search.proofs.RuleLemmas.{run}
 
 -- the list has each step that may be taken
-pub covers_all : (log : Task) (s : State) (xs : List Step) → (s.event ≡ length log.events → ⊥) → ((x : Step) → Allowed log s x → Contains xs x) → Covers log s xs
+pub covers_all : (log : LogView) (s : State) (xs : List Step) → (s.event ≡ length log.events → ⊥) → ((x : Step) → Allowed log s x → Contains xs x) → Covers log s xs
 covers_all log s xs more has_all dead live = first live.steps live.leads
   where
     first : (ys : List Step) → Leads log s ys live.last → ⊥
@@ -30,7 +30,7 @@ covers_all log s xs more has_all dead live = first live.steps live.leads
     first (y ∷ ys) e = All-contains (λ x. Allowed log s x → Dead log (next log s x)) xs y dead (has_all y e.0) e.0 (run log (next log s y) live.last ys e.1 live.over)
 
 -- who may act is pending
-pub acts_pending : (log : Task) (s : State) (p : List ℕ) (b : ℕ) → IsTable log s.event p s.acted → MayAct log s b → has p b ≡ true
+pub acts_pending : (log : LogView) (s : State) (p : List ℕ) (b : ℕ) → IsTable log s.event p s.acted → MayAct log s b → has p b ≡ true
 acts_pending log s p b t m =
     let inside = slice_get_within log.events b (events.Sub m.requester m.op m.told) m.submitted in
     let sub : submits (slice_get log.events b) ≡ true = ap submits m.submitted in
@@ -66,7 +66,7 @@ puts_due a b x f n d =
 
 -- ---- all of them
 
-module _ (log : Task) (s : State) where
+module _ (log : LogView) (s : State) where
   kept : (a b : Offer) (x y : Step) → Puts a b x → Contains (all_of a) y → Contains (all_of b) y
   kept a b x y p h = Contains-permutation (x ∷ all_of a) (all_of b) y p (Contains-append_right (x ∷ []) (all_of a) y h)
 

@@ -3,7 +3,7 @@ use Rattle.std.proofs.Common.{◌≡◌, ◌∙◌, ℕ, ◌+◌, ◌<◌, List,
 use Rattle.std.proofs.lemmas.List.{append-nil}
 use Rattle.std.specs.List.{All}
 use Rattle.std.proofs.lemmas.List.Elements.{All-push, All-nil, All-pop}
-use Rattle.log_runs.specs.Task.{Task}
+use Rattle.log_runs.specs.LogView.{LogView}
 use Rattle.log_runs.specs.declared.Step.{Step}
 use Rattle.log_runs.specs.Runs.{State, Allowed, Leads, Live, Dead, AllDead, Covers, IsForced, next, start}
 use Rattle.run_search.specs.declared.steps.Done.{Done}
@@ -14,7 +14,7 @@ use Rattle.run_search.specs.Frames.{LeadsBy, Path, PathFrom, Here, Back, steps_b
 use Rattle.run_search.proofs.Lists.{take_more}
 use Rattle.run_search.proofs.UndoLemmas.{one_more, one_less}
 
-module _ (log : Task) where
+module _ (log : LogView) where
   -- ---- a frame more, a frame less, and what follows at the end
 
   -- how the way goes on at a frame

@@ -8,7 +8,7 @@ use Rattle.std.proofs.lemmas.List.Folds.{list_any-append}
 use Rattle.tlp_core.specs.declared.operation.Op.{Op}
 use Rattle.seq_memory.specs.declared.Reply.{Reply}
 use Rattle.log_runs.specs.declared.Event.TheVariants as events
-use Rattle.log_runs.specs.Task.{Task}
+use Rattle.log_runs.specs.LogView.{LogView}
 use Rattle.log_runs.specs.Runs.{State}
 use Rattle.search_rules.specs.Rules.{NeverBrings, Yields, LetsFirst, AllOthers}
 use Rattle.run_search.specs.declared.others.Asked.{Asked}
@@ -39,17 +39,17 @@ pub each_end : (P : ℕ → Type 0) (xs : List ℕ) (i : ℕ) → length xs ≤ 
 each_end P xs i l all b h = all b (subst (λ ys. has ys b ≡ true) (sym (take_all i xs l)) h)
 
 -- what holds of events that are no submissions
-abbrev pub Idle : Task → ℕ → Type 0
+abbrev pub Idle : LogView → ℕ → Type 0
 Idle log b = (i : ℕ) (op : Op) (told : Option Reply) → slice_get log.events b ≡ Some (events.Sub i op told) → ⊥
 
-module _ (brings : (log : Task) (b q : ℕ) → Idle log b → NeverBrings log b q) (yields : (log : Task) (b q : ℕ) → Idle log b → Yields log b q)
-    (first : (log : Task) (m : List ℕ) (b q : ℕ) → Idle log b → LetsFirst log m b q) where
-  idle_spares : (log : Task) (m : List ℕ) (q : ℕ) (what : Asked) (b : ℕ) → Idle log b → Spares log m q what b
+module _ (brings : (log : LogView) (b q : ℕ) → Idle log b → NeverBrings log b q) (yields : (log : LogView) (b q : ℕ) → Idle log b → Yields log b q)
+    (first : (log : LogView) (m : List ℕ) (b q : ℕ) → Idle log b → LetsFirst log m b q) where
+  idle_spares : (log : LogView) (m : List ℕ) (q : ℕ) (what : Asked) (b : ℕ) → Idle log b → Spares log m q what b
   idle_spares log m q asked.Lost b none = brings log b q none
   idle_spares log m q asked.Last b none = (brings log b q none, yields log b q none)
   idle_spares log m q asked.First b none = first log m b q none
 
-  pub all_others : (log : Task) (s : State) (p : List ℕ) (m : List ℕ) (q a : ℕ) (what : Asked)
+  pub all_others : (log : LogView) (s : State) (p : List ℕ) (m : List ℕ) (q a : ℕ) (what : Asked)
       → IsTable log s.event p s.acted
       → ((b : ℕ) → has p b ≡ true → (q ≡ b → ⊥) → Spares log m q what b)
       → ((b : ℕ) → s.event ≤ b → b < a → (q ≡ b → ⊥) → Spares log m q what b)

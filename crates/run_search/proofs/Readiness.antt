@@ -12,7 +12,7 @@ use Rattle.history_check.specs.Flaws.{same_reply}
 use Rattle.search_rules.specs.Rules.{Suits}
 use Rattle.log_runs.specs.declared.Event.{Event}
 use Rattle.log_runs.specs.declared.Event.TheVariants as events
-use Rattle.log_runs.specs.Task.{Task}
+use Rattle.log_runs.specs.LogView.{LogView}
 use Rattle.log_runs.specs.Runs.{State, has_acted, MayAct, reply_of}
 use Rattle.run_search.specs.Pending.{has, submits, is_done, IsTable, is_write, blocks}
 use Rattle.run_search.specs.Ready.{is_told, is_set, is_ready, suits}
@@ -85,7 +85,7 @@ write_from i o w r e p = subst (λ x. is_write i x ≡ true) (sym e) (and_from (
 unset : (xs : List Bool) (b : ℕ) (y : Bool) → slice_get xs b ≡ Some y → is_set (slice_get xs b) ≡ false → slice_get xs b ≡ Some false
 unset xs b y at e = at ∙ ap (λ (z : Bool). Some z) (sym (ap is_set at) ∙ e)
 
-module _ (log : Task) (s : State) (p : List ℕ) (t : IsTable log s.event p s.acted) where
+module _ (log : LogView) (s : State) (p : List ℕ) (t : IsTable log s.event p s.acted) where
   -- a posted write that was passed and isn't pending has acted
   acted_before : (b i c : ℕ) (w : Op) (r : Option Reply) → b < s.event → list_any (blocks log i b) p ≡ false → c < b → slice_get log.events c ≡ Some (events.Sub i w r) → is_posted w ≡ true → has_acted s c
   acted_before b i c w r late free l at posted =
@@ -146,7 +146,7 @@ module _ (log : Task) (s : State) (p : List ℕ) (t : IsTable log s.event p s.ac
   )
 
 -- what the memory suits is found so
-pub suits_is : (log : Task) (m : List ℕ) (o : Option Event) → Suits log.extent m o → suits log m o ≡ true
+pub suits_is : (log : LogView) (m : List ℕ) (o : Option Event) → Suits log.extent m o → suits log m o ≡ true
 suits_is log m (Some (events.Sub i op told)) h = told_from told (reply_of log.extent m op) h
 suits_is log m (Some (events.Due c)) h = refl
 suits_is log m (Some events.Free) h = refl

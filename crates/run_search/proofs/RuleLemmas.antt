@@ -7,7 +7,7 @@ use Rattle.log_runs.specs.declared.Event.{Event}
 use Rattle.log_runs.specs.declared.Event.TheVariants as events
 use Rattle.log_runs.specs.declared.Step.{Step}
 use Rattle.log_runs.specs.declared.Step.TheVariants as steps
-use Rattle.log_runs.specs.Task.{Task}
+use Rattle.log_runs.specs.LogView.{LogView}
 use Rattle.log_runs.specs.Runs.{State, MayPass, Allowed, Leads, Live, IsForced, next, acted_on}
 use Rattle.run_search.proofs.Lists.{set_here, set_there}
 
@@ -24,7 +24,7 @@ pass_kept s q m (Some (events.Due b)) a = acted_kept s.acted q b a
 pass_kept s q m (Some events.Free) a = tt
 pass_kept s q m None a = absurd a
 
-module _ (log : Task) where
+module _ (log : LogView) where
   -- a run to the end
   pub run : (s t : State) (xs : List Step) → Leads log s xs t → t.event ≡ length log.events → Live log s
   run s t xs leads over = record { steps = xs; last = t; leads = leads; over = over }

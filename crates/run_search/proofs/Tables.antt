@@ -6,7 +6,7 @@ use Rattle.std.proofs.lemmas.Bool.{cases_eq, cases_order, cases_Bool, lt-ltb, le
 use Rattle.std.proofs.lemmas.Map.Views.{any-filter_same}
 use Rattle.std.proofs.lemmas.List.Sorted.{list_any-IsPermutation, IsPermutation-insert}
 use Rattle.std.proofs.lemmas.Option.{same_Some, slice_get_within}
-use Rattle.log_runs.specs.Task.{Task}
+use Rattle.log_runs.specs.LogView.{LogView}
 use Rattle.run_search.specs.Pending.{has, submits, is_done, IsTable}
 use Rattle.run_search.proofs.Lists.{clash, set_here, set_there, length_set, get_replicate, length_replicate, some_at, same_list}
 
@@ -26,7 +26,7 @@ has_filter b xs c = any-filter_same (λ x. x == c) (λ x. not (x == b)) (not (b 
 
 -- ---- who has acted
 
-module _ (log : Task) where
+module _ (log : LogView) where
   pub done_is : (e : ℕ) (p : List ℕ) (b : ℕ) → is_done log e p b ≡ true → (b < e) × (submits (slice_get log.events b) ≡ true) × (has p b ≡ false)
   done_is e p b h =
       let (early, gone) = and_parts (nat_lt b e && submits (slice_get log.events b)) (not (has p b)) h in

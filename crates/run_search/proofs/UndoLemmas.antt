@@ -1,7 +1,7 @@
 -- A step that is taken back leaves what was there before it.
 use Rattle.std.proofs.Common.{◌≡◌, ◌∙◌, ℕ, ◌+◌, ◌-◌, ◌≤◌, true, false, List, [], ◌∷◌, ◌++◌, Some, refl, sym, ap, subst, arith}
 use Rattle.std.specs.Prelude.{slice_get, slice_set}
-use Rattle.log_runs.specs.Task.{Task}
+use Rattle.log_runs.specs.LogView.{LogView}
 use Rattle.log_runs.specs.declared.Step.TheVariants as steps
 use Rattle.log_runs.specs.Runs.{State, MayAct, Allowed, next, acted_on}
 use Rattle.run_search.specs.declared.steps.Done.{Done}
@@ -10,7 +10,7 @@ use Rattle.run_search.specs.Frames.{LeadsBy}
 use Rattle.run_search.proofs.Lists.{set_back}
 
 -- an act, taken back
-pub act_undone : (log : Task) (m t u : State) (d : Done) (b : ℕ) → CameBy log m t d → d.step ≡ steps.Act b → u.event ≡ t.event → u.acted ≡ slice_set t.acted b false
+pub act_undone : (log : LogView) (m t u : State) (d : Done) (b : ℕ) → CameBy log m t d → d.step ≡ steps.Act b → u.event ≡ t.event → u.acted ≡ slice_set t.acted b false
     → ((k : List ℕ) → t.bytes ≡ acted_on log.extent k (slice_get log.events b) → d.old.items ≡ old_at log.extent k (slice_get log.events b) → u.bytes ≡ k) → u ≡ m
 act_undone log m t u d b c e same marked restored =
     let a : MayAct log m b = subst (Allowed log m) e c.may.allowed in
@@ -22,7 +22,7 @@ act_undone log m t u d b c e same marked restored =
     rw (← event, ← acted, ← bytes) refl
 
 -- an event that was passed, taken back
-pub pass_undone : (log : Task) (m t u : State) (d : Done) → CameBy log m t d → d.step ≡ steps.Pass → u.event + 1 ≡ t.event → u.acted ≡ t.acted → u.bytes ≡ t.bytes → u ≡ m
+pub pass_undone : (log : LogView) (m t u : State) (d : Done) → CameBy log m t d → d.step ≡ steps.Pass → u.event + 1 ≡ t.event → u.acted ≡ t.acted → u.bytes ≡ t.bytes → u ≡ m
 pass_undone log m t u d c e less marked kept =
     let led : t ≡ next log m steps.Pass = c.led ∙ ap (next log m) e in
     let more : t.event ≡ m.event + 1 = ap (λ (s : State). s.event) led in
@@ -32,7 +32,7 @@ pass_undone log m t u d c e less marked kept =
     rw (← event, ← acted, ← bytes) refl
 
 -- the event that was passed hadn't acted, and still hasn't
-pub pass_fresh : (log : Task) (m t : State) (d : Done) → CameBy log m t d → d.step ≡ steps.Pass → (1 ≤ t.event) × (slice_get t.acted (t.event - 1) ≡ Some true → ⊥)
+pub pass_fresh : (log : LogView) (m t : State) (d : Done) → CameBy log m t d → d.step ≡ steps.Pass → (1 ≤ t.event) × (slice_get t.acted (t.event - 1) ≡ Some true → ⊥)
 pass_fresh log m t d c e =
     let led : t ≡ next log m steps.Pass = c.led ∙ ap (next log m) e in
     let more : t.event ≡ m.event + 1 = ap (λ (s : State). s.event) led in
@@ -41,13 +41,13 @@ pass_fresh log m t d c e =
 
 -- ---- steps, one after another
 
-pub one_more : (log : Task) (s m t : State) (ds : List Done) (d : Done) → LeadsBy log s ds m → CameBy log m t d → LeadsBy log s (ds ++ d ∷ []) t
+pub one_more : (log : LogView) (s m t : State) (ds : List Done) (d : Done) → LeadsBy log s ds m → CameBy log m t d → LeadsBy log s (ds ++ d ∷ []) t
 one_more log s m t [] d leads c =
     let e : s ≡ m = leads in
     subst (λ u. MayCome log u d × (next log u d.step ≡ t)) (sym e) (c.may, sym c.led)
 one_more log s m t (x ∷ ds) d leads c = (leads.0, one_more log (next log s x.step) m t ds d leads.1 c)
 
-pub one_less : (log : Task) (s t : State) (ds : List Done) (d : Done) → LeadsBy log s (ds ++ d ∷ []) t → (m : State) × LeadsBy log s ds m × CameBy log m t d
+pub one_less : (log : LogView) (s t : State) (ds : List Done) (d : Done) → LeadsBy log s (ds ++ d ∷ []) t → (m : State) × LeadsBy log s ds m × CameBy log m t d
 one_less log s t [] d leads = (s, refl, record { may = leads.0; led = sym leads.1 })
 one_less log s t (x ∷ ds) d leads =
     let (m, before, last) = one_less log (next log s x.step) t ds d leads.1 in

@@ -2,7 +2,7 @@
 use Rattle.std.specs.Prelude.{◌≡◌, List, [], ◌∷◌, ◌++◌}
 use Rattle.std.specs.List.{All}
 use Rattle.log_runs.specs.declared.Step.{Step}
-use Rattle.log_runs.specs.Task.{Task}
+use Rattle.log_runs.specs.LogView.{LogView}
 use Rattle.log_runs.specs.Runs.{State, Allowed, Dead, AllDead, next, start}
 use Rattle.run_search.specs.declared.steps.Done.{Done}
 use Rattle.run_search.specs.declared.walk.Frame.{Frame}
@@ -12,49 +12,49 @@ use Rattle.run_search.specs.Undo.{MayCome}
 use Rattle.run_search.specs.Known.{AreDead}
 
 -- the steps lead from s to t, each with what it overwrote
-abbrev pub LeadsBy : Task → State → List Done → State → Type 0
+abbrev pub LeadsBy : LogView → State → List Done → State → Type 0
 LeadsBy log s [] t = s ≡ t
 LeadsBy log s (d ∷ ds) t = MayCome log s d × LeadsBy log (next log s d.step) ds t
 
 -- The way from s through the frames. At each frame stands some m: steps lead to it, what is left there may be done, and if
 -- it is dead, P holds. K says how it goes on from the last m, and what follows if that is dead.
-abbrev pub Path : Task → Type 0 → State → List Frame → (State → Type 0 → Type 0) → Type 0
+abbrev pub Path : LogView → Type 0 → State → List Frame → (State → Type 0 → Type 0) → Type 0
 Path log P s [] K = K s P
 Path log P s (f ∷ fs) K =
     (m : State) × LeadsBy log s f.done.items m × All (Allowed log m) f.rest.items × (Dead log m → P)
     × Path log (AllDead log m f.rest.items → Dead log m) m fs K
 
-abbrev pub PathFrom : Task → List Frame → (State → Type 0 → Type 0) → Type 0
+abbrev pub PathFrom : LogView → List Frame → (State → Type 0 → Type 0) → Type 0
 PathFrom log fs K = Path log (Dead log (start log)) (start log) fs K
 
 -- steps lead here, and if this is dead, so is the last frame but for what is left there
-abbrev pub Here : Task → List Done → State → State → Type 0 → Type 0
+abbrev pub Here : LogView → List Done → State → State → Type 0 → Type 0
 Here log ds t m P = LeadsBy log m ds t × (Dead log t → P)
 
 -- steps lead here, where nothing is to be found
-abbrev pub Back : Task → List Done → State → State → Type 0 → Type 0
+abbrev pub Back : LogView → List Done → State → State → Type 0 → Type 0
 Back log ds t m P = LeadsBy log m ds t × P
 
 -- the search stands at its place
-pub record IsAt (log : Task) (w : Walk) : Type 0 where
+pub record IsAt (log : LogView) (w : Walk) : Type 0 where
   pub path : PathFrom log w.frames.items (Here log w.done.items (state_of w.here))
   pub place : IsPlace log w.here
   pub known : AreDead log w.memo
 
 -- its place is done with
-pub record IsBack (log : Task) (w : Walk) : Type 0 where
+pub record IsBack (log : LogView) (w : Walk) : Type 0 where
   pub path : PathFrom log w.frames.items (Back log w.done.items (state_of w.here))
   pub place : IsPlace log w.here
   pub known : AreDead log w.memo
 
 -- it stands at the last frame, to go on with what is left there
-pub record IsReady (log : Task) (w : Walk) : Type 0 where
+pub record IsReady (log : LogView) (w : Walk) : Type 0 where
   pub path : PathFrom log w.frames.items (λ m P. (m ≡ state_of w.here) × P)
   pub place : IsPlace log w.here
   pub known : AreDead log w.memo
 
 -- step x was taken from the last frame's list
-pub record MayTake (log : Task) (w : Walk) (f : Frame) (x : Step) : Type 0 where
+pub record MayTake (log : LogView) (w : Walk) (f : Frame) (x : Step) : Type 0 where
   pub allowed : Allowed log (state_of w.here) x
   pub path : PathFrom log w.frames.items (λ m P.
       LeadsBy log m f.done.items (state_of w.here) × All (Allowed log (state_of w.here)) f.rest.items × (Dead log (state_of w.here) → P)

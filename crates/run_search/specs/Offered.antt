@@ -2,7 +2,7 @@
 use Rattle.std.specs.Prelude.{ℕ, ◌≡◌, ◌++◌, ◌∷◌, List, true}
 use Rattle.std.specs.List.{All, Contains}
 use Rattle.std.specs.List.Sorted.{IsPermutation}
-use Rattle.log_runs.specs.Task.{Task}
+use Rattle.log_runs.specs.LogView.{LogView}
 use Rattle.log_runs.specs.Runs.{State, Allowed, MayAct}
 use Rattle.log_runs.specs.declared.Step.{Step}
 use Rattle.log_runs.specs.declared.Step.TheVariants as steps
@@ -17,7 +17,7 @@ abbrev pub Puts : Offer → Offer → Step → Type 0
 Puts old new step = IsPermutation (step ∷ all_of old) (all_of new)
 
 -- the steps may be taken, and are all that may be taken by the requests of the list
-pub record Offers (log : Task) (s : State) (xs : List Step) (looked : List ℕ) : Type 0 where
+pub record Offers (log : LogView) (s : State) (xs : List Step) (looked : List ℕ) : Type 0 where
   pub allowed : All (Allowed log s) xs
   pub pass : Allowed log s steps.Pass → Contains xs steps.Pass
   pub each : (b : ℕ) → has looked b ≡ true → MayAct log s b → Contains xs (steps.Act b)

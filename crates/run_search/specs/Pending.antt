@@ -4,7 +4,7 @@ use Rattle.std.specs.List.{list_any}
 use Rattle.tlp_core.specs.Operation.{is_posted}
 use Rattle.log_runs.specs.declared.Event.{Event}
 use Rattle.log_runs.specs.declared.Event.TheVariants as events
-use Rattle.log_runs.specs.Task.{Task}
+use Rattle.log_runs.specs.LogView.{LogView}
 
 -- the list has the number
 abbrev pub has : List ℕ → ℕ → Bool
@@ -17,11 +17,11 @@ submits (Some events.Free) = false
 submits None = false
 
 -- the request has acted, if those of the list are the ones that were passed and haven't
-abbrev pub is_done : Task → ℕ → List ℕ → ℕ → Bool
+abbrev pub is_done : LogView → ℕ → List ℕ → ℕ → Bool
 is_done log event pending b = nat_lt b event && submits (slice_get log.events b) && not (has pending b)
 
 -- which requests have acted, by place
-pub record IsTable (log : Task) (event : ℕ) (pending : List ℕ) (acted : List Bool) : Type 0 where
+pub record IsTable (log : LogView) (event : ℕ) (pending : List ℕ) (acted : List Bool) : Type 0 where
   pub len : length acted ≡ length log.events
   pub at : (b : ℕ) → b < length log.events → slice_get acted b ≡ Some (is_done log event pending b)
 
@@ -33,5 +33,5 @@ is_write i (Some events.Free) = false
 is_write i None = false
 
 -- request c is a posted write that the requester submitted before request b
-abbrev pub blocks : Task → ℕ → ℕ → ℕ → Bool
+abbrev pub blocks : LogView → ℕ → ℕ → ℕ → Bool
 blocks log i b c = nat_lt c b && is_write i (slice_get log.events c)

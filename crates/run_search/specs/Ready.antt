@@ -6,7 +6,7 @@ use Rattle.seq_memory.specs.declared.Reply.{Reply}
 use Rattle.history_check.specs.Flaws.{same_reply}
 use Rattle.log_runs.specs.declared.Event.{Event}
 use Rattle.log_runs.specs.declared.Event.TheVariants as events
-use Rattle.log_runs.specs.Task.{Task}
+use Rattle.log_runs.specs.LogView.{LogView}
 use Rattle.log_runs.specs.Runs.{State, reply_of}
 use Rattle.run_search.specs.Pending.{blocks}
 
@@ -20,19 +20,19 @@ is_set None = false
 is_set (Some x) = x
 
 -- the requester's request, which was answered so or not at all, may act
-abbrev pub fits : Task → State → List ℕ → ℕ → ℕ → Op → Option Reply → Bool
+abbrev pub fits : LogView → State → List ℕ → ℕ → ℕ → Op → Option Reply → Bool
 fits log s pending b i op told =
     nat_lt b s.event && not (is_set (slice_get s.acted b)) && is_told told (reply_of log.extent s.bytes op) && not (list_any (blocks log i b) pending)
 
 -- the event is a submission of a request that may act
-abbrev pub is_ready : Task → State → List ℕ → ℕ → Option Event → Bool
+abbrev pub is_ready : LogView → State → List ℕ → ℕ → Option Event → Bool
 is_ready log s pending b (Some (events.Sub i op told)) = fits log s pending b i op told
 is_ready log s pending b (Some (events.Due c)) = false
 is_ready log s pending b (Some events.Free) = false
 is_ready log s pending b None = false
 
 -- the memory answers what the request at the event was answered, if it was
-abbrev pub suits : Task → List ℕ → Option Event → Bool
+abbrev pub suits : LogView → List ℕ → Option Event → Bool
 suits log m (Some (events.Sub i op told)) = is_told told (reply_of log.extent m op)
 suits log m (Some (events.Due c)) = true
 suits log m (Some events.Free) = true

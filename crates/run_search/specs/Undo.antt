@@ -6,7 +6,7 @@ use Rattle.log_runs.specs.declared.Event.{Event}
 use Rattle.log_runs.specs.declared.Event.TheVariants as events
 use Rattle.log_runs.specs.declared.Step.{Step}
 use Rattle.log_runs.specs.declared.Step.TheVariants as steps
-use Rattle.log_runs.specs.Task.{Task}
+use Rattle.log_runs.specs.LogView.{LogView}
 use Rattle.log_runs.specs.Runs.{State, Allowed, has_acted, next}
 use Rattle.run_search.specs.declared.steps.Done.{Done}
 
@@ -17,17 +17,17 @@ old_at x m (Some (events.Due b)) = []
 old_at x m (Some events.Free) = []
 old_at x m None = []
 
-abbrev pub old_of : Task → State → Step → List ℕ
+abbrev pub old_of : LogView → State → Step → List ℕ
 old_of log s steps.Pass = []
 old_of log s (steps.Act b) = old_at log.extent s.bytes (slice_get log.events b)
 
 -- the step may be taken from m, and overwrites the bytes there; what wasn't passed hasn't acted
-pub record MayCome (log : Task) (m : State) (d : Done) : Type 0 where
+pub record MayCome (log : LogView) (m : State) (d : Done) : Type 0 where
   pub allowed : Allowed log m d.step
   pub old : d.old.items ≡ old_of log m d.step
   pub fresh : (b : ℕ) → m.event ≤ b → has_acted m b → ⊥
 
 -- the step led from m to t
-pub record CameBy (log : Task) (m t : State) (d : Done) : Type 0 where
+pub record CameBy (log : LogView) (m t : State) (d : Done) : Type 0 where
   pub may : MayCome log m d
   pub led : t ≡ next log m d.step

@@ -1,7 +1,7 @@
 //! Places from which no run leads to the end.
 ghost use Rattle.std.specs.Prelude.{◌≡◌, IsTrue, IfOk};
 ghost use Rattle.std.specs.List.{All};
-ghost use Rattle.log_runs.specs.Task.{Task};
+ghost use Rattle.log_runs.specs.LogView.{LogView};
 ghost use Rattle.log_runs.specs.Runs.{Dead};
 ghost use Rattle.run_search.specs.Places.{state_of, IsPlace};
 ghost use Rattle.run_search.specs.Known.{IsDeadKey, AreDead};
@@ -25,7 +25,7 @@ pub(crate) struct Memo {
 
 /// Knows nothing.
 pub(crate) fn empty(alloc: Global) -> Memo
-    ensures { (log : Task) → AreDead log result }
+    ensures { (log : LogView) → AreDead log result }
 {
     Memo {
         keys: HashSet::new(alloc),
@@ -45,7 +45,7 @@ fn mark(key: &Key) -> u64 {
 
 /// No run leads from the place to the end, as is known.
 pub(crate) fn is_known(memo: &Memo, place: &Place) -> bool
-    ensures { (log : Task) → AreDead log memo.now → IsPlace log place.now → IsTrue result → Dead log (state_of place.now) }
+    ensures { (log : LogView) → AreDead log memo.now → IsPlace log place.now → IsTrue result → Dead log (state_of place.now) }
 {
     if !memo.marks.contains(&mark(&place.key)) {
         return false;
@@ -76,7 +76,7 @@ fn cost(key: &Key) -> usize {
 
 /// Keeps a key.
 fn insert(keys: &mut HashSet<Key>, key: Key) -> Result<(), AllocError>
-    ensures { (log : Task) → All (IsDeadKey log) keys.old.keys → IsDeadKey log key → All (IsDeadKey log) keys.new.keys }
+    ensures { (log : LogView) → All (IsDeadKey log) keys.old.keys → IsDeadKey log key → All (IsDeadKey log) keys.new.keys }
 {
     keys.insert(key)?;
     Ok(())
@@ -84,7 +84,7 @@ fn insert(keys: &mut HashSet<Key>, key: Key) -> Result<(), AllocError>
 
 /// Keeps a place from which no run leads to the end, if there is room.
 pub(crate) fn note(memo: &mut Memo, alloc: Global, place: &Place)
-    ensures { (log : Task) → AreDead log memo.old → IsPlace log place.now → Dead log (state_of place.now) → AreDead log memo.new }
+    ensures { (log : LogView) → AreDead log memo.old → IsPlace log place.now → Dead log (state_of place.now) → AreDead log memo.new }
 {
     let cost = cost(&place.key);
     if memo.room < cost {

@@ -1,6 +1,6 @@
 -- What comes of a text, before it is written.
 use Rattle.std.specs.Prelude.{◌≡◌, Bool, true, false, Result, Ok, Err}
-use Rattle.history_check.specs.Observation.{Observation}
+use Rattle.history_check.specs.TraceView.{TraceView}
 use Rattle.history_check.specs.Claim.{claim_of}
 use Rattle.history_check.specs.Trace.{Explains}
 use Rattle.trace_text.specs.declared.fault.ReadFault.{ReadFault}
@@ -16,14 +16,14 @@ is_memory faults.Memory = true
 is_memory _ = false
 
 -- of a log that was seen
-abbrev pub IsFindingOf : Observation → Finding → Type 0
+abbrev pub IsFindingOf : TraceView → Finding → Type 0
 IsFindingOf t (findings.Found trace history) = SeenAlike t trace × Explains (claim_of trace history.items) × IsClocked (claim_of trace history.items)
 IsFindingOf t (findings.None trace prefix explained) = IsUnexplained t prefix
 IsFindingOf t findings.Limit = Unit {0}
 IsFindingOf t (findings.Fault f) = ⊥
 
 -- of what was read
-abbrev pub IsFinding : Result Observation ReadFault → Finding → Type 0
+abbrev pub IsFinding : Result TraceView ReadFault → Finding → Type 0
 IsFinding (Ok t) finding = IsFindingOf t finding
 IsFinding (Err f) (findings.Found trace history) = ⊥
 IsFinding (Err f) (findings.None trace prefix explained) = ⊥

@@ -4,14 +4,14 @@ use Rattle.std.specs.Fmt.{decimal}
 use Rattle.std.specs.Io.KnownBytes.{Appends, Consumes, IsAtEnd}
 use Rattle.line_loop.specs.Run.{IsBeginning}
 use Rattle.seq_memory.specs.declared.Entry.{Entry}
-use Rattle.history_check.specs.Observation.{Observation}
+use Rattle.history_check.specs.TraceView.{TraceView}
 use Rattle.history_check.specs.Claim.{claim_of}
 use Rattle.history_check.specs.Trace.{Explains}
 use Rattle.trace_text.specs.declared.fault.ReadFault.{ReadFault}
 use Rattle.trace_text.specs.Texts.{trace_text}
 use Rattle.trace_engine.specs.Check.{fault_line}
 use Rattle.log_runs.specs.Explainable.{SeenAlike, IsExplainable, IsClocked, prefix}
-use Rattle.log_text.specs.Reading.{seen_of}
+use Rattle.log_text.specs.LogReaderView.{seen_of}
 
 abbrev pub none_line : ℕ → List ℕ
 none_line place = codes "none " ++ decimal place
@@ -20,8 +20,8 @@ abbrev pub limit_line : ℕ → List ℕ
 limit_line limit = codes "limit " ++ decimal limit
 
 -- the text is that of a trace and a history: the trace is what was seen, with n's, and the history explains it
-pub record IsFoundIn (t : Observation) (text : List ℕ) (status : ℕ) : Type 0 where
-  pub trace : Observation
+pub record IsFoundIn (t : TraceView) (text : List ℕ) (status : ℕ) : Type 0 where
+  pub trace : TraceView
   pub history : List Entry
   pub alike : SeenAlike t trace
   pub explained : Explains (claim_of trace history)
@@ -30,7 +30,7 @@ pub record IsFoundIn (t : Observation) (text : List ℕ) (status : ℕ) : Type 0
   pub tells : status ≡ 0
 
 -- the text is `none` and the place of a record: no history explains the records up to it
-pub record IsNoneIn (t : Observation) (text : List ℕ) (status : ℕ) : Type 0 where
+pub record IsNoneIn (t : TraceView) (text : List ℕ) (status : ℕ) : Type 0 where
   pub place : ℕ
   pub within : place < length t.records
   pub unexplained : IsExplainable (prefix (place + 1) t) → ⊥
@@ -42,7 +42,7 @@ abbrev pub IsLimit : ℕ → List ℕ → ℕ → Type 0
 IsLimit limit text status = (text ≡ limit_line limit ++ 10 ∷ []) × (status ≡ 3)
 
 -- an answer to what was read, and its exit status
-abbrev pub IsAnswerTo : ℕ → Result Observation ReadFault → List ℕ → ℕ → Type 0
+abbrev pub IsAnswerTo : ℕ → Result TraceView ReadFault → List ℕ → ℕ → Type 0
 IsAnswerTo limit (Ok t) text status = IsFoundIn t text status ⊎ IsNoneIn t text status ⊎ IsLimit limit text status
 IsAnswerTo limit (Err f) text status = (text ≡ fault_line f ++ 10 ∷ []) × (status ≡ 1)
 

@@ -1,10 +1,10 @@
 //! What is answered to a text.
 ghost use Rattle.std.specs.Prelude.{◌≡◌, Ok, IfOk, Result};
 ghost use Rattle.history_check.specs.Claim.{claim_of};
-ghost use Rattle.history_check.specs.Observation.{Observation};
+ghost use Rattle.history_check.specs.TraceView.{TraceView};
 ghost use Rattle.trace_text.specs.declared.fault.ReadFault.{ReadFault};
 ghost use Rattle.trace_text.specs.Texts.{trace_text};
-ghost use Rattle.log_text.specs.Reading.{seen_of};
+ghost use Rattle.log_text.specs.LogReaderView.{seen_of};
 ghost use Rattle.search_engine.specs.Findings.{is_memory, IsFinding};
 ghost use Rattle.search_engine.specs.Search.{IsAnswerTo, OutSearch};
 
@@ -107,7 +107,7 @@ fn found_text(alloc: Global, trace: &Trace, history: &[Entry]) -> Result<Vec<u8>
 
 /// What is written of what came of a text.
 pub(crate) fn outcome_of(alloc: Global, finding: Finding, limit: u64) -> Result<Outcome, AllocError>
-    ensures { (r : Result Observation ReadFault) → IsFinding r finding → IfOk result (λ o. IsAnswerTo limit r o.text.items o.status) }
+    ensures { (r : Result TraceView ReadFault) → IsFinding r finding → IfOk result (λ o. IsAnswerTo limit r o.text.items o.status) }
 {
     match finding {
         Finding::Found { trace, history } => {

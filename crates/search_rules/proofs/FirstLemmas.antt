@@ -13,13 +13,13 @@ use Rattle.log_runs.specs.declared.Event.{Event}
 use Rattle.log_runs.specs.declared.Event.TheVariants as events
 use Rattle.log_runs.specs.declared.Step.{Step}
 use Rattle.log_runs.specs.declared.Step.TheVariants as steps
-use Rattle.log_runs.specs.Task.{Task}
+use Rattle.log_runs.specs.LogView.{LogView}
 use Rattle.log_runs.specs.Runs.{State, MayPass, MayAct, Leads, Live, IsForced, next, acted_on, reply_of, bytes_after}
 use Rattle.search_rules.specs.Rules.{Answers, Suits, AreSameFor, LetsFirst, Follows, AllOthers, IsFirst}
 use Rattle.search_rules.proofs.PairLemmas.{not_due, not_free, not_none}
 use Rattle.search_rules.proofs.RuleLemmas.{clash, set_there, set_swap, gone_by, same_state, suits, run, before, may_later, pass_later}
 
-pub idle_first : (log : Task) (m : List ℕ) (b q : ℕ) → ((i : ℕ) (op : Op) (told : Option Reply) → slice_get log.events b ≡ Some (events.Sub i op told) → ⊥) → LetsFirst log m b q
+pub idle_first : (log : LogView) (m : List ℕ) (b q : ℕ) → ((i : ℕ) (op : Op) (told : Option Reply) → slice_get log.events b ≡ Some (events.Sub i op told) → ⊥) → LetsFirst log m b q
 idle_first log m b q none = inl (λ i j one other told asked at there. absurd (none i one told at))
 
 pub first_by : (x : Extent) (o : Option Event) (i base : ℕ) (one op : Op) (told reply : Option Reply) (m : List ℕ) → base ≡ x.base → o ≡ Some (events.Sub i op reply)
@@ -37,7 +37,7 @@ first_by x o i base one op told reply m eb at behind j other asked there =
     ])
 
 -- what is known of the second's event decides which it is
-first_on : (log : Task) (m : List ℕ) (b q i : ℕ) (one : Op) (told : Option Reply) (o : Option Event) → slice_get log.events b ≡ Some (events.Sub i one told) → slice_get log.events q ≡ o
+first_on : (log : LogView) (m : List ℕ) (b q i : ℕ) (one : Op) (told : Option Reply) (o : Option Event) → slice_get log.events b ≡ Some (events.Sub i one told) → slice_get log.events q ≡ o
     → ((j : ℕ) (other : Op) (asked : Option Reply) → slice_get log.events q ≡ Some (events.Sub j other asked) → AreApart one other ⊎ ((n : List ℕ) → AreSameAt log.extent.base other m n → Answers log.extent n one told → ⊥))
     → LetsFirst log m b q
 first_on log m b q i one told (Some (events.Sub j other asked)) seen e behind = elim (behind j other asked e) [
@@ -53,7 +53,7 @@ first_on log m b q i one told (Some (events.Due c)) seen e behind = inl (λ i2 j
 first_on log m b q i one told (Some events.Free) seen e behind = inl (λ i2 j2 one2 other2 told2 asked2 at there. absurd (not_free (slice_get log.events q) j2 other2 asked2 e there))
 first_on log m b q i one told None seen e behind = inl (λ i2 j2 one2 other2 told2 asked2 at there. absurd (not_none (slice_get log.events q) j2 other2 asked2 e there))
 
-pub first_at : (log : Task) (m : List ℕ) (b q i : ℕ) (one : Op) (told : Option Reply) → slice_get log.events b ≡ Some (events.Sub i one told)
+pub first_at : (log : LogView) (m : List ℕ) (b q i : ℕ) (one : Op) (told : Option Reply) → slice_get log.events b ≡ Some (events.Sub i one told)
     → ((j : ℕ) (other : Op) (asked : Option Reply) → slice_get log.events q ≡ Some (events.Sub j other asked) → AreApart one other ⊎ ((n : List ℕ) → AreSameAt log.extent.base other m n → Answers log.extent n one told → ⊥))
     → LetsFirst log m b q
 first_at log m b q i one told seen behind = first_on log m b q i one told (slice_get log.events q) seen refl behind
@@ -99,7 +99,7 @@ module _ (kept : Kept) (swaps : Swaps) (others : Others) where
   same_after x m n o i one other told at (inr high) same k front back =
       ap (λ ys. slice_index ys k) (ap (acted_on x n) at) ∙ others x.block x.base k n one (inl (omega (arith, high, back))) ∙ same k front back
 
-  module _ (log : Task) (q r a : ℕ) (m0 : List ℕ) (due : slice_get log.events a ≡ Some (events.Due r)) (follows : Follows log q r)
+  module _ (log : LogView) (q r a : ℕ) (m0 : List ℕ) (due : slice_get log.events a ≡ Some (events.Due r)) (follows : Follows log q r)
       (j : ℕ) (other : Op) (asked : Option Reply) (there : slice_get log.events q ≡ Some (events.Sub j other asked)) where
     -- t is s after q, and the bytes of q are in s as they were
     record Ahead (s t : State) : Type 0 where
@@ -180,7 +180,7 @@ module _ (kept : Kept) (swaps : Swaps) (others : Others) where
           ]
     ]
 
-  pub first_is_forced : (log : Task) (s : State) (q r a : ℕ) → IsFirst log s q r a → IsForced log s (steps.Act q)
+  pub first_is_forced : (log : LogView) (s : State) (q r a : ℕ) → IsFirst log s q r a → IsForced log s (steps.Act q)
   first_is_forced log s q r a h =
       let m : MayAct log s q = h.may in
       record {

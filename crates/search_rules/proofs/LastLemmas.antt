@@ -6,13 +6,13 @@ use Rattle.std.proofs.lemmas.Option.{same_Some}
 use Rattle.log_runs.specs.declared.Event.TheVariants as events
 use Rattle.log_runs.specs.declared.Step.{Step}
 use Rattle.log_runs.specs.declared.Step.TheVariants as steps
-use Rattle.log_runs.specs.Task.{Task}
+use Rattle.log_runs.specs.LogView.{LogView}
 use Rattle.log_runs.specs.Runs.{State, MayPass, MayAct, Leads, Live, IsForced, next, acted_on}
 use Rattle.search_rules.specs.Rules.{Suits, NeverBrings, Yields, AllOthers, IsLast}
 use Rattle.search_rules.proofs.RuleLemmas.{clash, set_there, set_swap, gone_by, same_state, suits, run, before, may_later, pass_later}
 use Rattle.search_rules.proofs.LostLemmas.{lost_ends}
 
-module _ (log : Task) (q a : ℕ) (due : slice_get log.events a ≡ Some (events.Due q)) where
+module _ (log : LogView) (q a : ℕ) (due : slice_get log.events a ≡ Some (events.Due q)) where
   -- t is s after q
   record Later (s t : State) : Type 0 where
     pub event : t.event ≡ s.event
@@ -74,7 +74,7 @@ module _ (log : Task) (q a : ℕ) (due : slice_get log.events a ≡ Some (events
         ]
   ]
 
-pub last_is_forced : (log : Task) (s : State) (q a : ℕ) → IsLast log s q a → IsForced log s (steps.Act q)
+pub last_is_forced : (log : LogView) (s : State) (q a : ℕ) → IsLast log s q a → IsForced log s (steps.Act q)
 last_is_forced log s q a h = record {
   allowed = h.may;
   live = λ l. later_live log q a h.due l.steps s (next log s (steps.Act q)) l.last l.leads l.over (record {

@@ -6,12 +6,12 @@ use Rattle.std.proofs.lemmas.Option.{same_Some, slice_get_within}
 use Rattle.log_runs.specs.declared.Event.TheVariants as events
 use Rattle.log_runs.specs.declared.Step.{Step}
 use Rattle.log_runs.specs.declared.Step.TheVariants as steps
-use Rattle.log_runs.specs.Task.{Task}
+use Rattle.log_runs.specs.LogView.{LogView}
 use Rattle.log_runs.specs.Runs.{State, MayPass, MayAct, Leads, Dead, next}
 use Rattle.search_rules.specs.Rules.{IsLost}
 use Rattle.search_rules.proofs.RuleLemmas.{clash, set_there, gone_by, suits}
 
-module _ (log : Task) (q a : ℕ) where
+module _ (log : LogView) (q a : ℕ) where
   pub lost_ends : (xs : List Step) (s t : State) → Leads log s xs t → t.event ≡ length log.events → IsLost log s q a → ⊥
   lost_ends [] s t leads over h = omega (arith, ap (λ (u : State). u.event) leads, over, h.since, slice_get_within log.events a (events.Due q) h.due)
   lost_ends (steps.Pass ∷ xs) s t leads over h = elim (cases_eq s.event a) [
@@ -39,5 +39,5 @@ module _ (log : Task) (q a : ℕ) where
         })
   ]
 
-pub lost_is_dead : (log : Task) (s : State) (q a : ℕ) → IsLost log s q a → Dead log s
+pub lost_is_dead : (log : LogView) (s : State) (q a : ℕ) → IsLost log s q a → Dead log s
 lost_is_dead log s q a h live = lost_ends log q a live.steps s live.last live.leads live.over h

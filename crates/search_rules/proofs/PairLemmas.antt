@@ -9,7 +9,7 @@ use Rattle.seq_memory.specs.Step.{after, answer}
 use Rattle.byte_effects.specs.Effects.{Agrees}
 use Rattle.log_runs.specs.declared.Event.{Event}
 use Rattle.log_runs.specs.declared.Event.TheVariants as events
-use Rattle.log_runs.specs.Task.{Task}
+use Rattle.log_runs.specs.LogView.{LogView}
 use Rattle.log_runs.specs.Runs.{reply_of, bytes_after, acted_on}
 use Rattle.search_rules.specs.Rules.{Answers, Suits, Ends, NeverBrings, Yields}
 
@@ -49,14 +49,14 @@ yields_by x o i block one op told reply eb at yields m agrees there j =
 
 -- ---- by their places
 
-pub brings_at : (log : Task) (b q i : ℕ) (one : Op) (told : Option Reply) → slice_get log.events b ≡ Some (events.Sub i one told)
+pub brings_at : (log : LogView) (b q i : ℕ) (one : Op) (told : Option Reply) → slice_get log.events b ≡ Some (events.Sub i one told)
     → ((m : List ℕ) → Answers log.extent m one told → Suits log.extent (bytes_after log.extent m one) (slice_get log.events q) → Suits log.extent m (slice_get log.events q))
     → NeverBrings log b q
 unfolding acted_on
 brings_at log b q i one told at never m agrees there =
     never m (subst (Suits log.extent m) at agrees) (subst (λ o. Suits log.extent (acted_on log.extent m o) (slice_get log.events q)) at there)
 
-pub yields_at : (log : Task) (b q i : ℕ) (one : Op) (told : Option Reply) → slice_get log.events b ≡ Some (events.Sub i one told)
+pub yields_at : (log : LogView) (b q i : ℕ) (one : Op) (told : Option Reply) → slice_get log.events b ≡ Some (events.Sub i one told)
     → ((m : List ℕ) → Answers log.extent m one told → Suits log.extent m (slice_get log.events q) → (j : ℕ) → Ends log.extent m (bytes_after log.extent m one) (Some (events.Sub j one told)) (slice_get log.events q))
     → Yields log b q
 unfolding acted_on
@@ -80,7 +80,7 @@ idle x (Some (events.Due b)) none m = refl
 idle x (Some events.Free) none m = refl
 idle x None none m = refl
 
-pub idle_brings : (log : Task) (b q : ℕ) → ((i : ℕ) (op : Op) (told : Option Reply) → slice_get log.events b ≡ Some (events.Sub i op told) → ⊥) → NeverBrings log b q
+pub idle_brings : (log : LogView) (b q : ℕ) → ((i : ℕ) (op : Op) (told : Option Reply) → slice_get log.events b ≡ Some (events.Sub i op told) → ⊥) → NeverBrings log b q
 idle_brings log b q none m agrees there = subst (λ k. Suits log.extent k (slice_get log.events q)) (idle log.extent (slice_get log.events b) none m) there
 
 suits_idle : (x : Extent) (o : Option Event) → ((i : ℕ) (op : Op) (told : Option Reply) → o ≡ Some (events.Sub i op told) → ⊥) → (m : List ℕ) → Suits x m o
@@ -89,7 +89,7 @@ suits_idle x (Some (events.Due b)) none m = tt
 suits_idle x (Some events.Free) none m = tt
 suits_idle x None none m = tt
 
-pub idle_yields : (log : Task) (b q : ℕ) → ((i : ℕ) (op : Op) (told : Option Reply) → slice_get log.events b ≡ Some (events.Sub i op told) → ⊥) → Yields log b q
+pub idle_yields : (log : LogView) (b q : ℕ) → ((i : ℕ) (op : Op) (told : Option Reply) → slice_get log.events b ≡ Some (events.Sub i op told) → ⊥) → Yields log b q
 idle_yields log b q none m agrees there =
     let x = log.extent in
     let one = slice_get log.events b in

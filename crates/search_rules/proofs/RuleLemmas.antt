@@ -7,7 +7,7 @@ use Rattle.log_runs.specs.declared.Event.{Event}
 use Rattle.log_runs.specs.declared.Event.TheVariants as events
 use Rattle.log_runs.specs.declared.Step.{Step}
 use Rattle.log_runs.specs.declared.Step.TheVariants as steps
-use Rattle.log_runs.specs.Task.{Task}
+use Rattle.log_runs.specs.LogView.{LogView}
 use Rattle.log_runs.specs.Runs.{State, MayPass, MayAct, Allowed, Leads, Live, IsForced, next, acted_on}
 use Rattle.search_rules.specs.Rules.{Suits}
 
@@ -51,10 +51,10 @@ pub same_state : (p q : State) → p.event ≡ q.event → p.acted ≡ q.acted �
 same_state p q event acted bytes = rw (← event, ← acted, ← bytes) refl
 
 -- a request that may act is suited
-pub suits : (log : Task) (s : State) (b : ℕ) → MayAct log s b → Suits log.extent s.bytes (slice_get log.events b)
+pub suits : (log : LogView) (s : State) (b : ℕ) → MayAct log s b → Suits log.extent s.bytes (slice_get log.events b)
 suits log s b m = subst (Suits log.extent s.bytes) (sym m.submitted) m.replied
 
-module _ (log : Task) where
+module _ (log : LogView) where
   pub run : (s t : State) (xs : List Step) → Leads log s xs t → t.event ≡ length log.events → Live log s
   run s t xs leads over = record { steps = xs; last = t; leads = leads; over = over }
 
@@ -116,7 +116,7 @@ module _ (log : Task) where
     quiet_next : (s : State) → MayAct log s q → Marked q s (next log s (steps.Act q))
     quiet_next s a = record { event = refl; left = a.once; acted = refl; bytes = quiet s.bytes (suits log s q a) }
 
-pub quiet_is_forced : (log : Task) (s : State) (q : ℕ) → ((m : List ℕ) → Suits log.extent m (slice_get log.events q) → acted_on log.extent m (slice_get log.events q) ≡ m)
+pub quiet_is_forced : (log : LogView) (s : State) (q : ℕ) → ((m : List ℕ) → Suits log.extent m (slice_get log.events q) → acted_on log.extent m (slice_get log.events q) ≡ m)
     → MayAct log s q → IsForced log s (steps.Act q)
 quiet_is_forced log s q quiet a =
     record { allowed = a; live = λ l. quiet_live log q quiet l.steps s (next log s (steps.Act q)) l.last l.leads l.over (quiet_next log q quiet s a) }

@@ -7,7 +7,7 @@ use Rattle.tlp_core.specs.Operation.{is_posted}
 use Rattle.byte_effects.specs.Effects.{AreApart, AreSameAt}
 use Rattle.log_runs.specs.declared.Event.{Event}
 use Rattle.log_runs.specs.declared.Event.TheVariants as events
-use Rattle.log_runs.specs.Task.{Task}
+use Rattle.log_runs.specs.LogView.{LogView}
 use Rattle.log_runs.specs.Runs.{State, MayAct, reply_of, acted_on}
 
 -- the memory answers what was answered, if anything was
@@ -22,7 +22,7 @@ Suits x m (Some events.Free) = Unit {0}
 Suits x m None = Unit {0}
 
 -- right after request b acted the memory suits request q only if it did before
-abbrev pub NeverBrings : Task → ℕ → ℕ → Type 0
+abbrev pub NeverBrings : LogView → ℕ → ℕ → Type 0
 NeverBrings log b q =
     (m : List ℕ) → Suits log.extent m (slice_get log.events b) → Suits log.extent (acted_on log.extent m (slice_get log.events b)) (slice_get log.events q)
     → Suits log.extent m (slice_get log.events q)
@@ -33,7 +33,7 @@ Ends x m n one other =
     (Suits x n other → ⊥) ⊎ (Suits x n other × Suits x (acted_on x m other) one × (acted_on x n other ≡ acted_on x (acted_on x m other) one))
 
 -- where the memory suits both, it doesn't suit q right after b, or their order makes no difference
-abbrev pub Yields : Task → ℕ → ℕ → Type 0
+abbrev pub Yields : LogView → ℕ → ℕ → Type 0
 Yields log b q =
     (m : List ℕ) → Suits log.extent m (slice_get log.events b) → Suits log.extent m (slice_get log.events q)
     → Ends log.extent m (acted_on log.extent m (slice_get log.events b)) (slice_get log.events b) (slice_get log.events q)
@@ -43,7 +43,7 @@ abbrev pub AllOthers : State → ℕ → ℕ → (ℕ → Type 0) → Type 0
 AllOthers s q a P = (b : ℕ) → b < a → (q ≡ b → ⊥) → slice_get s.acted b ≡ Some false → P b
 
 -- request q, which is due at place a, doesn't find what it needs, and nobody brings it before
-pub record IsLost (log : Task) (s : State) (q a : ℕ) : Type 0 where
+pub record IsLost (log : LogView) (s : State) (q a : ℕ) : Type 0 where
   pub due : slice_get log.events a ≡ Some (events.Due q)
   pub since : s.event ≤ a
   pub left : slice_get s.acted q ≡ Some false
@@ -51,39 +51,39 @@ pub record IsLost (log : Task) (s : State) (q a : ℕ) : Type 0 where
   pub nobody : AllOthers s q a (λ b. NeverBrings log b q)
 
 -- request q, which is due at place a, may act, and nobody who acts before it can bring what it needs once more, nor needs it
-pub record IsLast (log : Task) (s : State) (q a : ℕ) : Type 0 where
+pub record IsLast (log : LogView) (s : State) (q a : ℕ) : Type 0 where
   pub due : slice_get log.events a ≡ Some (events.Due q)
   pub since : s.event ≤ a
   pub may : MayAct log s q
   pub nobody : AllOthers s q a (λ b. NeverBrings log b q × Yields log b q)
 
 -- the operations of two submissions have no address in common
-abbrev pub AreApartThere : Task → ℕ → ℕ → Type 0
+abbrev pub AreApartThere : LogView → ℕ → ℕ → Type 0
 AreApartThere log b q =
     (i j : ℕ) (one other : Op) (told asked : Option Reply) → slice_get log.events b ≡ Some (events.Sub i one told) → slice_get log.events q ≡ Some (events.Sub j other asked)
     → AreApart one other
 
 -- the bytes at the addresses of request q are the same
-abbrev pub AreSameFor : Task → ℕ → List ℕ → List ℕ → Type 0
+abbrev pub AreSameFor : LogView → ℕ → List ℕ → List ℕ → Type 0
 AreSameFor log q m n =
     (j : ℕ) (other : Op) (asked : Option Reply) → slice_get log.events q ≡ Some (events.Sub j other asked) → AreSameAt log.extent.base other m n
 
 -- while the bytes at the addresses of request q are as in m, the memory doesn't suit request b
-abbrev pub Waits : Task → List ℕ → ℕ → ℕ → Type 0
+abbrev pub Waits : LogView → List ℕ → ℕ → ℕ → Type 0
 Waits log m b q = (n : List ℕ) → AreSameFor log q m n → Suits log.extent n (slice_get log.events b) → ⊥
 
 -- request b has no byte of request q, or can't act before q
-abbrev pub LetsFirst : Task → List ℕ → ℕ → ℕ → Type 0
+abbrev pub LetsFirst : LogView → List ℕ → ℕ → ℕ → Type 0
 LetsFirst log m b q = AreApartThere log b q ⊎ Waits log m b q
 
 -- request r is q, or its requester submitted q before it, a posted write
-abbrev pub Follows : Task → ℕ → ℕ → Type 0
+abbrev pub Follows : LogView → ℕ → ℕ → Type 0
 Follows log q r =
     (q ≡ r) ⊎ ((i : ℕ) × (w : Op) × (op : Op) × (asked : Option Reply) × (told : Option Reply) × (q < r) × (is_posted w ≡ true)
     × (slice_get log.events q ≡ Some (events.Sub i w asked)) × (slice_get log.events r ≡ Some (events.Sub i op told)))
 
 -- request q may act, and must before place a, where r is due; till then it is the first that can of those that have bytes of it
-pub record IsFirst (log : Task) (s : State) (q r a : ℕ) : Type 0 where
+pub record IsFirst (log : LogView) (s : State) (q r a : ℕ) : Type 0 where
   pub due : slice_get log.events a ≡ Some (events.Due r)
   pub since : s.event ≤ a
   pub follows : Follows log q r

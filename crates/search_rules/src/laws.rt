@@ -4,7 +4,7 @@ ghost use Rattle.tlp_core.specs.declared.operation.Op.{Op};
 ghost use Rattle.seq_memory.specs.declared.Reply.{Reply};
 ghost use Rattle.log_runs.specs.declared.Event.TheVariants as events;
 ghost use Rattle.log_runs.specs.declared.Step.TheVariants as steps;
-ghost use Rattle.log_runs.specs.Task.{Task};
+ghost use Rattle.log_runs.specs.LogView.{LogView};
 ghost use Rattle.log_runs.specs.Runs.{State, MayAct, Dead, IsForced, acted_on};
 ghost use Rattle.search_rules.specs.Rules.{Suits, NeverBrings, Yields, LetsFirst, IsLost, IsLast, IsFirst};
 
@@ -14,24 +14,24 @@ use seq_memory::laws::only_the_place_changes;
 /// Where a request is lost, no run leads to the end.
 #[tactic(auto, using(crate::proofs::LostLemmas::lost_is_dead))]
 pub fn lost_is_dead()
-    ensures { (log : Task) (s : State) (q a : ℕ) → IsLost log s q a → Dead log s }
+    ensures { (log : LogView) (s : State) (q a : ℕ) → IsLost log s q a → Dead log s }
 {}
 
 /// The last that can have what it needs may act at once.
 #[tactic(auto, using(crate::proofs::LastLemmas::last_is_forced))]
 pub fn the_last_acts_at_once()
-    ensures { (log : Task) (s : State) (q a : ℕ) → IsLast log s q a → IsForced log s (steps.Act q) }
+    ensures { (log : LogView) (s : State) (q a : ℕ) → IsLast log s q a → IsForced log s (steps.Act q) }
 {}
 
 /// A request that changes nothing wherever it suits may act at once.
 #[tactic(auto, using(crate::proofs::RuleLemmas::quiet_is_forced))]
 pub fn what_changes_nothing_acts_at_once()
-    ensures { (log : Task) (s : State) (q : ℕ) → ((m : List ℕ) → Suits log.extent m (slice_get log.events q) → acted_on log.extent m (slice_get log.events q) ≡ m) → MayAct log s q → IsForced log s (steps.Act q) }
+    ensures { (log : LogView) (s : State) (q : ℕ) → ((m : List ℕ) → Suits log.extent m (slice_get log.events q) → acted_on log.extent m (slice_get log.events q) ≡ m) → MayAct log s q → IsForced log s (steps.Act q) }
 {}
 
 /// A request that may act, and before which none can that has one of its bytes, may act at once.
 pub fn the_first_acts_at_once()
-    ensures { (log : Task) (s : State) (q r a : ℕ) → IsFirst log s q r a → IsForced log s (steps.Act q) }
+    ensures { (log : LogView) (s : State) (q r a : ℕ) → IsFirst log s q r a → IsForced log s (steps.Act q) }
 {
     apart_requests_commute();
     only_the_place_changes();
@@ -40,7 +40,7 @@ pub fn the_first_acts_at_once()
 /// An event that is no submission brings nothing, yields to any request and lets it be the first.
 #[tactic(auto, using(crate::proofs::PairLemmas::idle_brings, crate::proofs::PairLemmas::idle_yields, crate::proofs::FirstLemmas::idle_first))]
 pub fn answers_yield()
-    ensures brings { (log : Task) (b q : ℕ) → ((i : ℕ) (op : Op) (told : Option Reply) → slice_get log.events b ≡ Some (events.Sub i op told) → ⊥) → NeverBrings log b q }
-    ensures yields { (log : Task) (b q : ℕ) → ((i : ℕ) (op : Op) (told : Option Reply) → slice_get log.events b ≡ Some (events.Sub i op told) → ⊥) → Yields log b q }
-    ensures first { (log : Task) (m : List ℕ) (b q : ℕ) → ((i : ℕ) (op : Op) (told : Option Reply) → slice_get log.events b ≡ Some (events.Sub i op told) → ⊥) → LetsFirst log m b q }
+    ensures brings { (log : LogView) (b q : ℕ) → ((i : ℕ) (op : Op) (told : Option Reply) → slice_get log.events b ≡ Some (events.Sub i op told) → ⊥) → NeverBrings log b q }
+    ensures yields { (log : LogView) (b q : ℕ) → ((i : ℕ) (op : Op) (told : Option Reply) → slice_get log.events b ≡ Some (events.Sub i op told) → ⊥) → Yields log b q }
+    ensures first { (log : LogView) (m : List ℕ) (b q : ℕ) → ((i : ℕ) (op : Op) (told : Option Reply) → slice_get log.events b ≡ Some (events.Sub i op told) → ⊥) → LetsFirst log m b q }
 {}

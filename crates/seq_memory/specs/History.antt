@@ -24,20 +24,20 @@ abbrev pub AreCounts : ℕ → Width → List Entry → Type 0
 AreCounts a w entries = (p : ℕ) (e : Entry) → slice_get entries p ≡ Some e → e.op ≡ ops.FetchAdd a w 1
 
 -- a memory as contracts see it
-pub record State : Type 0 where
+pub record MemoryView : Type 0 where
   pub base : ℕ
   pub size : ℕ
   pub block : ℕ
   pub entries : List Entry
 
-abbrev pub extent_of : State → Extent
+abbrev pub extent_of : MemoryView → Extent
 extent_of s = record { base = s.base; size = s.size; block = s.block }
 
-abbrev pub bytes_of : State → List ℕ
+abbrev pub bytes_of : MemoryView → List ℕ
 bytes_of s = contents (extent_of s) s.entries
 
 -- the limits, and the bytes that the history makes
-pub record IsMemory (s : State) (bytes : List ℕ) : Type 0 where
+pub record IsMemory (s : MemoryView) (bytes : List ℕ) : Type 0 where
   pub in_size : IsSize s.size
   pub in_base : IsBase s.base s.size
   pub in_block : IsBlock s.block

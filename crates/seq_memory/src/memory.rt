@@ -22,9 +22,9 @@ pub struct Memory {
 
 impl Model for Memory {
     ghost use Rattle.std.specs.Prelude.{length};
-    ghost use Rattle.seq_memory.specs.History.{State, IsMemory};
+    ghost use Rattle.seq_memory.specs.History.{MemoryView, IsMemory};
 
-    ghost Value = { State };
+    ghost Value = { MemoryView };
 
     ghost view = { λ m. record { base = m.base; size = length m.bytes.items; block = m.block; entries = m.entries.items } };
 

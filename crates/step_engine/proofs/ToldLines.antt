@@ -6,10 +6,10 @@ use Rattle.fabric_laws.specs.Fabric.{Fabric}
 use Rattle.script_text.specs.Texts.{told_text, settled_text}
 use Rattle.fabric_settle.specs.Rounds.{settlement, is_quiet}
 use Rattle.line_loop.specs.Run.{IsAnswer}
-use Rattle.step_engine.specs.Step.{Stepping, counted, shown, told_lines, settled_lines, settles_telling, settles_traced, settled}
+use Rattle.step_engine.specs.Step.{StepperView, counted, shown, told_lines, settled_lines, settles_telling, settles_traced, settled}
 
 -- one line more
-pub told-next : (s : Stepping) (line : List ℕ) (rs : List Record) (i : ℕ) (r : Record) (text text' : List ℕ) → i < length rs → r ≡ get_or rs i r
+pub told-next : (s : StepperView) (line : List ℕ) (rs : List Record) (i : ℕ) (r : Record) (text text' : List ℕ) → i < length rs → r ≡ get_or rs i r
     → text' ≡ text ++ shown s line (told_text r) → text' ++ told_lines s line (drop (i + 1) rs) ≡ text ++ told_lines s line (drop i rs)
 unfolding told_lines
 told-next s line rs i r text text' lt is g =
@@ -22,7 +22,7 @@ told-next s line rs i r text text' lt is g =
     ∙ ap (λ (t : List ℕ). text ++ t) (sym whole)
 
 -- no line is left
-pub told-past : (s : Stepping) (line : List ℕ) (rs : List Record) (i : ℕ) (text : List ℕ) → length rs ≤ i → text ≡ text ++ told_lines s line (drop i rs)
+pub told-past : (s : StepperView) (line : List ℕ) (rs : List Record) (i : ℕ) (text : List ℕ) → length rs ≤ i → text ≡ text ++ told_lines s line (drop i rs)
 unfolding told_lines
 told-past s line [] zero text le = sym (append-nil text)
 told-past s line [] (suc i) text le = sym (append-nil text)
@@ -30,13 +30,13 @@ told-past s line (x ∷ xs) zero text le = absurd (omega arith)
 told-past s line (x ∷ xs) (suc i) text le = told-past s line xs i text (omega arith)
 
 -- the fabric says nothing of how lines are told
-told-alike : (s : Stepping) (o : Option Fabric) (line : List ℕ) (rs : List Record) → told_lines (record s { fabric = o }) line rs ≡ told_lines s line rs
+told-alike : (s : StepperView) (o : Option Fabric) (line : List ℕ) (rs : List Record) → told_lines (record s { fabric = o }) line rs ≡ told_lines s line rs
 unfolding told_lines
 told-alike s o line [] = refl
 told-alike s o line (r ∷ rs) = ap (λ (t : List ℕ). shown s line (told_text r) ++ t) (told-alike s o line rs)
 
 -- what is told of the fabric that rounds of events leave
-telling : (s : Stepping) (line : List ℕ) (f f' : Fabric) (answers : List Record) (quiet : Bool) (new : Stepping) (before after : List ℕ) (told : Bool)
+telling : (s : StepperView) (line : List ℕ) (f f' : Fabric) (answers : List Record) (quiet : Bool) (new : StepperView) (before after : List ℕ) (told : Bool)
     → s.fabric ≡ Some f → s.options.is_traced ≡ false → f' ≡ (settlement f []).fabric → answers ≡ (settlement f []).records → quiet ≡ is_quiet f'
     → new ≡ counted (record s { fabric = Some f' })
     → after ≡ before ++ (told_lines (record s { fabric = Some f' }) line answers ++ shown s line (settled_text quiet)) → told ≡ false
@@ -53,7 +53,7 @@ telling s line f f' answers quiet new before after told has plain fabric records
       is_fault = fault;
     })
 
-pub told_settled : {E : Type 0} (r : Result Bool E) (s : Stepping) (line : List ℕ) (f f' : Fabric) (answers : List Record) (quiet : Bool) (new : Stepping) (before after : List ℕ)
+pub told_settled : {E : Type 0} (r : Result Bool E) (s : StepperView) (line : List ℕ) (f f' : Fabric) (answers : List Record) (quiet : Bool) (new : StepperView) (before after : List ℕ)
     → s.fabric ≡ Some f → s.options.is_traced ≡ false → f' ≡ (settlement f []).fabric → answers ≡ (settlement f []).records → quiet ≡ is_quiet f'
     → OnOk r (new ≡ counted (record s { fabric = Some f' }))
     → OnOk r (after ≡ before ++ (told_lines (record s { fabric = Some f' }) line answers ++ shown s line (settled_text quiet))) → IfOk r (λ told. told ≡ false)

@@ -31,7 +31,7 @@ use Rattle.line_loop.specs.Lines.{lines_of, bare, said}
 use Rattle.line_loop.specs.Run.{Answer, Run as Output, with_answer, after_line, after_end, new_run}
 use Rattle.step_engine.specs.Script.{script_of, event_line, IsScript, Progress, progress, LineDoes, LinesDo, RunsThrough}
 use Rattle.step_engine.specs.Options.{traced}
-use Rattle.step_engine.specs.Step.{Stepping, nothing, counted, made, answered, refused, by_line, step_long_line, step_responses, claim_with, out_step_with}
+use Rattle.step_engine.specs.Step.{StepperView, nothing, counted, made, answered, refused, by_line, step_long_line, step_responses, claim_with, out_step_with}
 
 -- ---- the history explains the records
 
@@ -99,23 +99,23 @@ pub record Answers : Type 0 where
   pub refused : (f : Fabric) (event : Event) (r : Refusal) → Refused f event r → IsTold r → answer f event ≡ Err r
 
 -- the traced script so far
-abbrev at : Bool → Bool → Option Fabric → List Record → ℕ → Stepping
+abbrev at : Bool → Bool → Option Fabric → List Record → ℕ → StepperView
 at keeps echoes o rs n = record { options = traced keeps echoes; fabric = o; records = rs; lines = n; has_ended = false }
 
-abbrev run_at : Bool → Bool → Progress → ℕ → Output Stepping
+abbrev run_at : Bool → Bool → Progress → ℕ → Output StepperView
 run_at keeps echoes p n = record { state = at keeps echoes (Some p.fabric) p.records n; text = []; status = p.status }
 
-abbrev runs_on : Output Stepping → List (List ℕ) → Output Stepping
+abbrev runs_on : Output StepperView → List (List ℕ) → Output StepperView
 runs_on run ls = fold (after_line step_responses) run ls
 
 -- one line, by its tests and what it says
-abbrev by_tests : Bool → Bool → List ℕ → Option Line → Stepping → Answer Stepping
+abbrev by_tests : Bool → Bool → List ℕ → Option Line → StepperView → Answer StepperView
 by_tests long skipped line l s = if long then step_long_line s else (if s.has_ended then nothing s else (if skipped then nothing (counted s) else by_line s line l))
 
 abbrev put : Bool → Bool → Option Line → List (Option Line) → List (Option Line)
 put long skipped l rest = if long then None ∷ rest else (if skipped then rest else l ∷ rest)
 
-abbrev on_from : Bool → Bool → List ℕ → Option Line → Output Stepping → List (List ℕ) → Output Stepping
+abbrev on_from : Bool → Bool → List ℕ → Option Line → Output StepperView → List (List ℕ) → Output StepperView
 on_from long skipped line l run ls = runs_on (with_answer run (by_tests long skipped line l run.state)) ls
 
 first_same : {X : Type 0} (x y : X) (xs ys : List X) → x ∷ xs ≡ y ∷ ys → x ≡ y
@@ -149,7 +149,7 @@ after_one a keeps echoes line (Some lines.Settle) p p' n s h =
     ap₂ (λ (f : Fabric) (rs : List Record). run_at keeps echoes (progress f rs p.status) (min (n + 1) (2 ^ 64 - 1))) (sym h.fabric) (sym h.records)
     ∙ ap (λ (status : ℕ). run_at keeps echoes (progress p'.fabric p'.records status) (min (n + 1) (2 ^ 64 - 1))) (sym h.status)
 
-abbrev Ends : Bool → Bool → Output Stepping → List (List ℕ) → Progress → Type 0
+abbrev Ends : Bool → Bool → Output StepperView → List (List ℕ) → Progress → Type 0
 Ends keeps echoes run ls p = (m : ℕ) × (runs_on run ls ≡ run_at keeps echoes p m)
 
 abbrev Later : Bool → Bool → List (List ℕ) → Type 0
@@ -161,14 +161,14 @@ later_by w a keeps echoes true skipped line l ls more p p' n r h = absurd h.1
 later_by w a keeps echoes false true line l ls more p p' n r h = more p p' (min (n + 1) (2 ^ 64 - 1)) r h
 later_by w a keeps echoes false false line l ls more p p' n r h =
     let all = more h.0 p' (min (n + 1) (2 ^ 64 - 1)) (right_after w keeps p l h.0 h.1 r) h.2 in
-    (all.0, ap (λ (x : Output Stepping). runs_on x ls) (after_one a keeps echoes line l p h.0 n r.0 h.1) ∙ all.1)
+    (all.0, ap (λ (x : Output StepperView). runs_on x ls) (after_one a keeps echoes line l p h.0 n r.0 h.1) ∙ all.1)
 
 lines_run : Laws → Answers → (keeps echoes : Bool) (ls : List (List ℕ)) → Later keeps echoes ls
 lines_run w a keeps echoes [] p p' n r h = (n, ap (λ (x : Progress). run_at keeps echoes x n) (sym h))
 lines_run w a keeps echoes (line ∷ ls) p p' n r h =
     later_by w a keeps echoes (nat_lt 512 (length (bare line))) (is_skipped (said line)) (said line) (line_of (words (said line))) ls (lines_run w a keeps echoes ls) p p' n r h
 
-abbrev start_at : Bool → Bool → ℕ → Output Stepping
+abbrev start_at : Bool → Bool → ℕ → Output StepperView
 start_at keeps echoes n = new_run (at keeps echoes None [] n)
 
 abbrev Scripts : Bool → Bool → List (List ℕ) → Type 0
@@ -197,7 +197,7 @@ scripts_run w a keeps echoes (line ∷ ls) c after p n k r e h =
     script_by w a keeps echoes (nat_lt 512 (length (bare line))) (is_skipped (said line)) (said line) (line_of (words (said line))) ls (scripts_run w a keeps echoes ls) c after p n k r e h
 
 -- the trace is told at the end
-abbrev told : Bool → Bool → ℕ → Progress → Output Stepping
+abbrev told : Bool → Bool → ℕ → Progress → Output StepperView
 told keeps echoes m p = record { state = at keeps echoes (Some p.fabric) [] m; text = trace_text (claim_with p.fabric p.records); status = p.status }
 
 pub is_told : Laws → Answers → (keeps echoes : Bool) (input : List ℕ) (p : Progress) → RunsThrough keeps input p

@@ -27,7 +27,7 @@ use Rattle.step_engine.specs.Options.{plain}
 
 -- a script so far: what is asked of its run, the fabric, the trace's records, the number of lines, skipped ones
 -- counted, and whether the run has ended
-pub record Stepping : Type 0 where
+pub record StepperView : Type 0 where
   pub options : StepOptions
   pub fabric : Option Fabric
   pub records : List Record
@@ -35,76 +35,76 @@ pub record Stepping : Type 0 where
   pub has_ended : Bool
 
 -- the number of the line that comes next, a number of 64 bits
-abbrev pub next_line : Stepping → ℕ
+abbrev pub next_line : StepperView → ℕ
 next_line s = min (s.lines + 1) (2 ^ 64 - 1)
 
 -- one line more
-abbrev pub counted : Stepping → Stepping
+abbrev pub counted : StepperView → StepperView
 counted s = record s { lines = next_line s }
 
 -- nothing is done, and nothing written
-abbrev pub nothing : Stepping → Answer Stepping
+abbrev pub nothing : StepperView → Answer StepperView
 nothing s = record { state = s; text = []; is_fault = false }
 
 -- what answers a line is a line of its own, after the other where that is asked for
-abbrev pub echo_of : Stepping → List ℕ → List ℕ
+abbrev pub echo_of : StepperView → List ℕ → List ℕ
 echo_of s line = if s.options.echoes then line ++ codes " -> " else []
 
-abbrev pub shown : Stepping → List ℕ → List ℕ → List ℕ
+abbrev pub shown : StepperView → List ℕ → List ℕ → List ℕ
 shown s line text = echo_of s line ++ (text ++ 10 ∷ [])
 
 -- ---- what ends a run
 
-abbrev pub fault_line : Stepping → List ℕ → List ℕ
+abbrev pub fault_line : StepperView → List ℕ → List ℕ
 fault_line s name = codes "fault " ++ (decimal (next_line s) ++ 32 ∷ name)
 
-abbrev pub refused_line : Stepping → List ℕ → List ℕ
+abbrev pub refused_line : StepperView → List ℕ → List ℕ
 refused_line s name = codes "refused " ++ (decimal (next_line s) ++ 32 ∷ name)
 
-abbrev pub ended : Stepping → Stepping
+abbrev pub ended : StepperView → StepperView
 ended s = record s { lines = next_line s; has_ended = true }
 
 -- the run ends with this text
-abbrev pub ends : Stepping → List ℕ → Answer Stepping
+abbrev pub ends : StepperView → List ℕ → Answer StepperView
 ends s text = record { state = ended s; text = text; is_fault = true }
 
-abbrev pub fault : Stepping → List ℕ → Answer Stepping
+abbrev pub fault : StepperView → List ℕ → Answer StepperView
 fault s name = ends s (fault_line s name ++ 10 ∷ [])
 
-abbrev pub no_line : Stepping → Answer Stepping
+abbrev pub no_line : StepperView → Answer StepperView
 no_line s = fault s (codes "Script")
 
 -- the run goes on after this text, of which a trace has nothing
-abbrev pub passes : Stepping → List ℕ → Answer Stepping
+abbrev pub passes : StepperView → List ℕ → Answer StepperView
 passes s text = record { state = counted s; text = if s.options.is_traced then [] else text; is_fault = true }
 
 -- a refusal ends the run, or is told and changes nothing
-abbrev pub refused : Stepping → List ℕ → List ℕ → Answer Stepping
+abbrev pub refused : StepperView → List ℕ → List ℕ → Answer StepperView
 refused s line name =
     if s.options.keeps_going then passes s (shown s line (refused_line s name)) else ends s (shown s line (refused_line s name))
 
 -- ---- the first line
 
-abbrev pub made : Stepping → Config → Option ConfigFault → Answer Stepping
+abbrev pub made : StepperView → Config → Option ConfigFault → Answer StepperView
 made s c (Some x) = fault s (fault_name x)
 made s c None = record { state = record s { lines = next_line s; fabric = Some (new_fabric c) }; text = []; is_fault = false }
 
 -- a script has one fabric
-abbrev pub made_once : Stepping → Option Fabric → Config → Answer Stepping
+abbrev pub made_once : StepperView → Option Fabric → Config → Answer StepperView
 made_once s None c = made s c (config_fault c)
 made_once s (Some f) c = no_line s
 
 -- ---- events
 
 -- the result is told, or the trace grows
-abbrev pub result_text : Stepping → List ℕ → Event → Seen → List ℕ
+abbrev pub result_text : StepperView → List ℕ → Event → Seen → List ℕ
 result_text s line event what = if s.options.is_traced then [] else shown s line (seen_text event what)
 
 abbrev pub recorded : Bool → List Record → Event → Seen → ℕ → List Record
 recorded traced rs event what n = if traced then rs ++ records_of event what n else rs
 
 -- n is the length of the history before the event
-abbrev pub told_of : Stepping → List ℕ → Event → Seen → ℕ → Answer Stepping
+abbrev pub told_of : StepperView → List ℕ → Event → Seen → ℕ → Answer StepperView
 told_of s line event what n = record {
   state = record s { lines = next_line s; records = recorded s.options.is_traced s.records event what n };
   text = result_text s line event what;
@@ -112,56 +112,56 @@ told_of s line event what n = record {
 }
 
 -- with these records more
-abbrev pub kept : Stepping → List Record → Stepping
+abbrev pub kept : StepperView → List Record → StepperView
 kept s rs = record s { lines = next_line s; records = s.records ++ rs }
 
 -- the event has this answer, which leaves the fabric so, and these are its records
 abbrev pub IsRecorded : Result (Seen × Fabric) Refusal → Event → ℕ → Fabric → List Record → Type 0
 IsRecorded a event n f' rs = (what : Seen) × (a ≡ Ok (what, f')) × (rs ≡ records_of event what n)
 
-abbrev pub answered : Stepping → List ℕ → Event → ℕ → Result (Seen × Fabric) Refusal → Answer Stepping
+abbrev pub answered : StepperView → List ℕ → Event → ℕ → Result (Seen × Fabric) Refusal → Answer StepperView
 answered s line event n (Ok p) = told_of (record s { fabric = Some p.1 }) line event p.0 n
 answered s line event n (Err r) = refused s line (refusal_text r)
 
-abbrev pub happened : Stepping → List ℕ → Option Fabric → Event → Answer Stepping
+abbrev pub happened : StepperView → List ℕ → Option Fabric → Event → Answer StepperView
 happened s line None event = no_line s
 happened s line (Some f) event = answered s line event (length f.memory.entries) (answer f event)
 
 -- ---- rounds of events until nothing moves
 
 -- what is collected is told as by events, each in a line
-unfoldable pub told_lines : Stepping → List ℕ → List Record → List ℕ
+unfoldable pub told_lines : StepperView → List ℕ → List Record → List ℕ
 told_lines s line [] = []
 told_lines s line (r ∷ rs) = shown s line (told_text r) ++ told_lines s line rs
 
-abbrev pub settled_lines : Stepping → List ℕ → Settling → List ℕ
+abbrev pub settled_lines : StepperView → List ℕ → Settling → List ℕ
 settled_lines s line t = told_lines s line t.records ++ shown s line (settled_text (is_quiet t.fabric))
 
-abbrev pub settles_telling : Stepping → List ℕ → Settling → Answer Stepping
+abbrev pub settles_telling : StepperView → List ℕ → Settling → Answer StepperView
 settles_telling s line t = record { state = record s { lines = next_line s; fabric = Some t.fabric }; text = settled_lines s line t; is_fault = false }
 
-abbrev pub settles_traced : Stepping → Settling → Answer Stepping
+abbrev pub settles_traced : StepperView → Settling → Answer StepperView
 settles_traced s t = record { state = record s { lines = next_line s; fabric = Some t.fabric; records = t.records }; text = []; is_fault = false }
 
-abbrev pub settled : Stepping → List ℕ → Option Fabric → Answer Stepping
+abbrev pub settled : StepperView → List ℕ → Option Fabric → Answer StepperView
 settled s line None = no_line s
 settled s line (Some f) = if s.options.is_traced then settles_traced s (settlement f s.records) else settles_telling s line (settlement f [])
 
 -- ---- lines
 
-abbrev pub by_line : Stepping → List ℕ → Option Line → Answer Stepping
+abbrev pub by_line : StepperView → List ℕ → Option Line → Answer StepperView
 by_line s line None = no_line s
 by_line s line (Some (lines.Fabric c)) = made_once s s.fabric c
 by_line s line (Some (lines.Event event)) = happened s line s.fabric event
 by_line s line (Some lines.Settle) = settled s line s.fabric
 
 -- after the end of the run nothing is read
-abbrev pub step_line : Stepping → List ℕ → Answer Stepping
+abbrev pub step_line : StepperView → List ℕ → Answer StepperView
 step_line s line =
     if s.has_ended then nothing s
     else (if is_skipped line then nothing (counted s) else by_line s line (line_of (words line)))
 
-abbrev pub step_long_line : Stepping → Answer Stepping
+abbrev pub step_long_line : StepperView → Answer StepperView
 step_long_line s = if s.has_ended then nothing s else no_line s
 
 -- ---- the end
@@ -178,23 +178,23 @@ fabric_trace None rs = []
 fabric_trace (Some f) rs = trace_text (claim_with f rs)
 
 -- a run that ends well tells its trace, where that was asked for
-abbrev pub step_end : Stepping → Answer Stepping
+abbrev pub step_end : StepperView → Answer StepperView
 step_end s = record {
   state = record s { records = [] };
   text = if s.options.is_traced && not s.has_ended then fabric_trace s.fabric s.records else [];
   is_fault = false;
 }
 
-abbrev pub step_responses : Responses Stepping
+abbrev pub step_responses : Responses StepperView
 step_responses = record { on_line = step_line; on_long_line = step_long_line; on_end = step_end }
 
-abbrev pub new_script : StepOptions → Stepping
+abbrev pub new_script : StepOptions → StepperView
 new_script options = record { options = options; fabric = None; records = []; lines = 0; has_ended = false }
 
 -- the whole run of `step` on an input
-abbrev pub out_step_with : StepOptions → List ℕ → Run Stepping
+abbrev pub out_step_with : StepOptions → List ℕ → Run StepperView
 out_step_with options input = run_of step_responses (new_script options) input
 
 -- the same with no option, or with `--trace` alone
-abbrev pub out_step : Bool → List ℕ → Run Stepping
+abbrev pub out_step : Bool → List ℕ → Run StepperView
 out_step traced input = out_step_with (plain traced) input

@@ -40,9 +40,9 @@ struct Explained<E> {
 }
 
 impl<E> Model for Explained<E> {
-    ghost use Rattle.step_engine.specs.Step.{Stepping};
+    ghost use Rattle.step_engine.specs.Step.{StepperView};
 
-    ghost Value = { Stepping };
+    ghost Value = { StepperView };
 
     ghost view = { λ e. e.stepper };
 }

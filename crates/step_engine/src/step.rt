@@ -76,9 +76,9 @@ pub(crate) struct Stepper {
 }
 
 impl Model for Stepper {
-    ghost use Rattle.step_engine.specs.Step.{Stepping};
+    ghost use Rattle.step_engine.specs.Step.{StepperView};
 
-    ghost Value = { Stepping };
+    ghost Value = { StepperView };
 
     ghost view = { λ s. record { options = s.options; fabric = s.fabric; records = s.records.items; lines = s.lines; has_ended = s.has_ended } };
 }

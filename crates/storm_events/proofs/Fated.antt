@@ -13,7 +13,7 @@ use Rattle.fabric_core.specs.declared.event.Event.{Event}
 use Rattle.fabric_core.specs.declared.event.Event.TheVariants as events
 use Rattle.fault_plan.specs.Fates.{fate_of}
 use Rattle.script_text.specs.Spelled.{IsSpelledLane, IsSpelledEvent}
-use Rattle.storm_events.specs.Arrivals.{lane_place, is_packet_at, is_dllp_at, packets_on, dllps_on, IsFated, AreFated, Arrived, nothing_arrived, next_on, HasFate, with_event, IsCounted, AreCounts, IsAfter}
+use Rattle.storm_events.specs.Arrivals.{lane_place, is_packet_at, is_dllp_at, packets_on, dllps_on, IsFated, AreFated, ArrivalsView, nothing_arrived, next_on, HasFate, with_event, IsCounted, AreCounts, IsAfter}
 
 -- ---- places
 
@@ -102,7 +102,7 @@ counts-kept test all event counts none h = record {
   each = λ place lt. h.each place lt ∙ ap (λ (n : ℕ). n % 2 ^ 64) (sym (counted_no (test place) all event (none place)));
 }
 
-packets-next : (all : List Event) (event : Event) (a : Arrived) → IsSpelledEvent event → AreCounts is_packet_at all a.packets → AreCounts is_packet_at (all ++ event ∷ []) (with_event a event).packets
+packets-next : (all : List Event) (event : Event) (a : ArrivalsView) → IsSpelledEvent event → AreCounts is_packet_at all a.packets → AreCounts is_packet_at (all ++ event ∷ []) (with_event a event).packets
 packets-next all (events.Deliver lane fate) a s h = counts-at is_packet_at all (events.Deliver lane fate) a.packets (lane_place lane) (lane-fits lane s) (λ place. refl) h
 packets-next all (events.DeliverDllp lane fate) a s h = counts-kept is_packet_at all (events.DeliverDllp lane fate) a.packets (λ place. refl) h
 packets-next all (events.Submit port op) a s h = counts-kept is_packet_at all (events.Submit port op) a.packets (λ place. refl) h
@@ -114,7 +114,7 @@ packets-next all (events.Forward lane place) a s h = counts-kept is_packet_at al
 packets-next all (events.Serve place) a s h = counts-kept is_packet_at all (events.Serve place) a.packets (λ p. refl) h
 packets-next all (events.Collect port) a s h = counts-kept is_packet_at all (events.Collect port) a.packets (λ place. refl) h
 
-dllps-next : (all : List Event) (event : Event) (a : Arrived) → IsSpelledEvent event → AreCounts is_dllp_at all a.dllps → AreCounts is_dllp_at (all ++ event ∷ []) (with_event a event).dllps
+dllps-next : (all : List Event) (event : Event) (a : ArrivalsView) → IsSpelledEvent event → AreCounts is_dllp_at all a.dllps → AreCounts is_dllp_at (all ++ event ∷ []) (with_event a event).dllps
 dllps-next all (events.Deliver lane fate) a s h = counts-kept is_dllp_at all (events.Deliver lane fate) a.dllps (λ place. refl) h
 dllps-next all (events.DeliverDllp lane fate) a s h = counts-at is_dllp_at all (events.DeliverDllp lane fate) a.dllps (lane_place lane) (lane-fits lane s) (λ place. refl) h
 dllps-next all (events.Submit port op) a s h = counts-kept is_dllp_at all (events.Submit port op) a.dllps (λ place. refl) h
@@ -126,7 +126,7 @@ dllps-next all (events.Forward lane place) a s h = counts-kept is_dllp_at all (e
 dllps-next all (events.Serve place) a s h = counts-kept is_dllp_at all (events.Serve place) a.dllps (λ p. refl) h
 dllps-next all (events.Collect port) a s h = counts-kept is_dllp_at all (events.Collect port) a.dllps (λ place. refl) h
 
-plan-kept : (a : Arrived) (event : Event) → ((with_event a event).lose ≡ a.lose) × ((with_event a event).corrupt ≡ a.corrupt)
+plan-kept : (a : ArrivalsView) (event : Event) → ((with_event a event).lose ≡ a.lose) × ((with_event a event).corrupt ≡ a.corrupt)
 plan-kept a (events.Deliver lane fate) = (refl, refl)
 plan-kept a (events.DeliverDllp lane fate) = (refl, refl)
 plan-kept a (events.Submit port op) = (refl, refl)
@@ -154,13 +154,13 @@ fate-next : (lose corrupt n k : ℕ) → n ≡ k % 2 ^ 64 → fate_of lose corru
 fate-next lose corrupt n k e = ap (fate_left lose corrupt) (left n k e)
 
 -- the fate that the counts tell is that by the events before
-fate-told : (lose corrupt : ℕ) (a : Arrived) (counts : List ℕ) (lane : LaneName) (k : ℕ) (fate : Fate) → (a.lose ≡ lose) × (a.corrupt ≡ corrupt) → slice_index counts (lane_place lane) ≡ k % 2 ^ 64
+fate-told : (lose corrupt : ℕ) (a : ArrivalsView) (counts : List ℕ) (lane : LaneName) (k : ℕ) (fate : Fate) → (a.lose ≡ lose) × (a.corrupt ≡ corrupt) → slice_index counts (lane_place lane) ≡ k % 2 ^ 64
     → fate ≡ fate_of a.lose a.corrupt (next_on counts lane) → fate ≡ fate_of lose corrupt (k + 1)
 fate-told lose corrupt a counts lane k fate plan e f =
     f ∙ ap (λ (l : ℕ). fate_of l a.corrupt (next_on counts lane)) plan.0 ∙ ap (λ (c : ℕ). fate_of lose c (next_on counts lane)) plan.1
     ∙ fate-next lose corrupt (slice_index counts (lane_place lane)) k e
 
-fated : (lose corrupt : ℕ) (all : List Event) (event : Event) (a : Arrived) → IsSpelledEvent event → IsAfter lose corrupt all a → HasFate a event → IsFated lose corrupt all event
+fated : (lose corrupt : ℕ) (all : List Event) (event : Event) (a : ArrivalsView) → IsSpelledEvent event → IsAfter lose corrupt all a → HasFate a event → IsFated lose corrupt all event
 fated lose corrupt all (events.Deliver lane fate) a s h f =
     fate-told lose corrupt a a.packets lane (packets_on lane all) fate h.plan (h.packets.each (lane_place lane) (lane-fits lane s)) f
 fated lose corrupt all (events.DeliverDllp lane fate) a s h f =
@@ -187,7 +187,7 @@ after-none lose corrupt = record {
   dllps = no-counts is_dllp_at;
 }
 
-pub after-next : (lose corrupt : ℕ) (before : List Event) (event : Event) (a a' : Arrived) → IsSpelledEvent event → IsAfter lose corrupt before a → IsCounted a event a' → IsAfter lose corrupt (before ++ event ∷ []) a'
+pub after-next : (lose corrupt : ℕ) (before : List Event) (event : Event) (a a' : ArrivalsView) → IsSpelledEvent event → IsAfter lose corrupt before a → IsCounted a event a' → IsAfter lose corrupt (before ++ event ∷ []) a'
 after-next lose corrupt before event a a' s h c =
     let kept = plan-kept a event in
     subst (IsAfter lose corrupt (before ++ event ∷ [])) (sym c.counted) (record {

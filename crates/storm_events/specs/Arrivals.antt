@@ -45,13 +45,13 @@ AreFated lose corrupt all = (before : List Event) (event : Event) (after : List 
 -- ---- counts
 
 -- a plan, and how many packets and DLLPs have come under it: by the places of their lanes, modulo 2 ^ 64
-pub record Arrived : Type 0 where
+pub record ArrivalsView : Type 0 where
   pub lose : ℕ
   pub corrupt : ℕ
   pub packets : List ℕ
   pub dllps : List ℕ
 
-abbrev pub nothing_arrived : ℕ → ℕ → Arrived
+abbrev pub nothing_arrived : ℕ → ℕ → ArrivalsView
 nothing_arrived lose corrupt = record { lose = lose; corrupt = corrupt; packets = replicate 16 0; dllps = replicate 16 0 }
 
 -- the count of the lane's next one
@@ -63,23 +63,23 @@ abbrev pub with_next : List ℕ → LaneName → List ℕ
 with_next counts lane = slice_set counts (lane_place lane) (next_on counts lane)
 
 -- what comes has the plan's fate of its lane's next count
-abbrev pub HasFate : Arrived → Event → Type 0
+abbrev pub HasFate : ArrivalsView → Event → Type 0
 HasFate a (events.Deliver lane fate) = fate ≡ fate_of a.lose a.corrupt (next_on a.packets lane)
 HasFate a (events.DeliverDllp lane fate) = fate ≡ fate_of a.lose a.corrupt (next_on a.dllps lane)
 HasFate a _ = Unit {0}
 
-abbrev pub with_event : Arrived → Event → Arrived
+abbrev pub with_event : ArrivalsView → Event → ArrivalsView
 with_event a (events.Deliver lane fate) = record { lose = a.lose; corrupt = a.corrupt; packets = with_next a.packets lane; dllps = a.dllps }
 with_event a (events.DeliverDllp lane fate) = record { lose = a.lose; corrupt = a.corrupt; packets = a.packets; dllps = with_next a.dllps lane }
 with_event a _ = a
 
 -- the event has its fate, and is counted
-pub record IsCounted (a : Arrived) (event : Event) (a' : Arrived) : Type 0 where
+pub record IsCounted (a : ArrivalsView) (event : Event) (a' : ArrivalsView) : Type 0 where
   pub fate : HasFate a event
   pub counted : a' ≡ with_event a event
 
 -- one event happened and is counted, or none did
-abbrev pub IsCountedIfAny : Arrived → Option Event → Arrived → Type 0
+abbrev pub IsCountedIfAny : ArrivalsView → Option Event → ArrivalsView → Type 0
 IsCountedIfAny a (Some event) a' = IsCounted a event a'
 IsCountedIfAny a None a' = a' ≡ a
 
@@ -91,7 +91,7 @@ pub record AreCounts (test : ℕ → Event → Bool) (all : List Event) (counts 
   pub each : (place : ℕ) → place < 16 → slice_index counts place ≡ count_by (test place) all % 2 ^ 64
 
 -- all these events have their fates, and the counts are theirs
-pub record IsAfter (lose corrupt : ℕ) (all : List Event) (a : Arrived) : Type 0 where
+pub record IsAfter (lose corrupt : ℕ) (all : List Event) (a : ArrivalsView) : Type 0 where
   pub fated : AreFated lose corrupt all
   pub plan : (a.lose ≡ lose) × (a.corrupt ≡ corrupt)
   pub packets : AreCounts is_packet_at all a.packets

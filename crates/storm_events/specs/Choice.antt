@@ -8,15 +8,15 @@ use Rattle.fabric_core.specs.declared.event.Seen.{Seen}
 use Rattle.fabric_core.specs.Steps.{Happens}
 use Rattle.script_text.specs.Spelled.{IsSpelledEvent}
 use Rattle.storm.specs.declared.Storm.{Storm}
-use Rattle.storm_events.specs.Arrivals.{Arrived, nothing_arrived}
+use Rattle.storm_events.specs.Arrivals.{ArrivalsView, nothing_arrived}
 
 -- a chooser: the generator that it draws from, the plan and the counts
-pub record Choosing : Type 0 where
+pub record ChooserView : Type 0 where
   pub draws : Lcg
-  pub arrived : Arrived
+  pub arrived : ArrivalsView
 
 -- it begins with the storm's seed and plan
-abbrev pub new_choosing : Storm → Choosing
+abbrev pub new_choosing : Storm → ChooserView
 new_choosing s = record { draws = started 64 multiplier_64 s.seed (increment_of 64 0); arrived = nothing_arrived s.lose s.corrupt }
 
 -- the event happened to the fabric, and a line of a script can tell it

@@ -21,9 +21,9 @@ pub(crate) struct Arrivals {
 }
 
 impl Model for Arrivals {
-    ghost use Rattle.storm_events.specs.Arrivals.{Arrived};
+    ghost use Rattle.storm_events.specs.Arrivals.{ArrivalsView};
 
-    ghost Value = { Arrived };
+    ghost Value = { ArrivalsView };
 
     ghost view = { λ a. record { lose = a.plan.lose_every; corrupt = a.plan.corrupt_every; packets = a.packets; dllps = a.dllps } };
 }

@@ -1,7 +1,7 @@
 //! What may happen next: events that are drawn, whether or not the fabric takes them.
 ghost use Rattle.std.specs.Prelude.{◌≤◌, ◌<◌};
 ghost use Rattle.script_text.specs.Spelled.{IsSpelledLane, IsSpelledEvent};
-ghost use Rattle.storm_events.specs.Arrivals.{Arrived, HasFate};
+ghost use Rattle.storm_events.specs.Arrivals.{ArrivalsView, HasFate};
 
 use crate::draws::Draws;
 use crate::operations::operation;
@@ -59,7 +59,7 @@ fn kind(draws: &mut Draws, lane: LaneName) -> DllpKind {
 fn submit(draws: &mut Draws, requesters: u8) -> Event
     requires { (1 ≤ requesters) × (requesters ≤ 7) }
     ensures spelled { IsSpelledEvent result }
-    ensures fate { (a : Arrived) → HasFate a result }
+    ensures fate { (a : ArrivalsView) → HasFate a result }
 {
     an_operation_in_range_is_spelled();
     Event::Submit(port(draws, requesters), operation(draws))
@@ -68,7 +68,7 @@ fn submit(draws: &mut Draws, requesters: u8) -> Event
 fn forward(draws: &mut Draws, requesters: u8) -> Event
     requires { (1 ≤ requesters) × (requesters ≤ 7) }
     ensures spelled { IsSpelledEvent result }
-    ensures fate { (a : Arrived) → HasFate a result }
+    ensures fate { (a : ArrivalsView) → HasFate a result }
 {
     let lane = if draws.chance(2) {
         LaneName::Outward
@@ -81,7 +81,7 @@ fn forward(draws: &mut Draws, requesters: u8) -> Event
 fn dllp(draws: &mut Draws, requesters: u8) -> Event
     requires { (1 ≤ requesters) × (requesters ≤ 7) }
     ensures spelled { IsSpelledEvent result }
-    ensures fate { (a : Arrived) → HasFate a result }
+    ensures fate { (a : ArrivalsView) → HasFate a result }
 {
     let lane = lane(draws, requesters);
     Event::SendDllp(lane, kind(draws, lane))
@@ -91,7 +91,7 @@ fn dllp(draws: &mut Draws, requesters: u8) -> Event
 fn repair(draws: &mut Draws, requesters: u8) -> Event
     requires { (1 ≤ requesters) × (requesters ≤ 7) }
     ensures spelled { IsSpelledEvent result }
-    ensures fate { (a : Arrived) → HasFate a result }
+    ensures fate { (a : ArrivalsView) → HasFate a result }
 {
     let lane = lane(draws, requesters);
     if draws.chance(8) {
@@ -105,7 +105,7 @@ fn repair(draws: &mut Draws, requesters: u8) -> Event
 pub(crate) fn plain(draws: &mut Draws, requesters: u8) -> Event
     requires { (1 ≤ requesters) × (requesters ≤ 7) }
     ensures spelled { IsSpelledEvent result }
-    ensures fate { (a : Arrived) → HasFate a result }
+    ensures fate { (a : ArrivalsView) → HasFate a result }
 {
     match draws.below(40) {
         0..=5 => submit(draws, requesters),

@@ -27,9 +27,9 @@ pub struct Chooser {
 
 impl Model for Chooser {
     ghost use Rattle.std.specs.Prelude.{◌≤◌};
-    ghost use Rattle.storm_events.specs.Choice.{Choosing};
+    ghost use Rattle.storm_events.specs.Choice.{ChooserView};
 
-    ghost Value = { Choosing };
+    ghost Value = { ChooserView };
 
     ghost view = { λ c. record { draws = c.draws; arrived = c.arrivals } };
 

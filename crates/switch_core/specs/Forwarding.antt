@@ -1,15 +1,15 @@
 -- A packet moves from one lane's queue into another lane.
 use Rattle.std.specs.Prelude.{◌≡◌, ℕ, true, Some, slice_get}
-use Rattle.tlp_core.specs.Packet.{Packet}
+use Rattle.tlp_core.specs.TlpView.{TlpView}
 use Rattle.tlp_core.specs.Layout.{Spells, canonical}
 use Rattle.fc_credit.specs.Needs.{need_of}
 use Rattle.vc_queue.specs.Queue.{is_takeable}
-use Rattle.lane_ends.specs.Steps.{Incoming, Outgoing, may_enter, entered, after_take}
+use Rattle.lane_ends.specs.Steps.{ReceiverEndView, SenderEndView, may_enter, entered, after_take}
 
 -- the packet of the place, which may pass each earlier one, was taken from the first end and entered into the second
 -- unchanged, with its mark, where there was room for it
-pub record Forwards (from from_after : Incoming) (place : ℕ) (to to_after : Outgoing) : Type 0 where
-  pub packet : Packet
+pub record Forwards (from from_after : ReceiverEndView) (place : ℕ) (to to_after : SenderEndView) : Type 0 where
+  pub packet : TlpView
   pub mark : ℕ
   pub takeable : is_takeable from.queue place ≡ true
   pub there : slice_get from.queue place ≡ Some (packet, mark)

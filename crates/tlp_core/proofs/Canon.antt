@@ -11,7 +11,7 @@ use Rattle.tlp_core.specs.declared.packet.Body.TheVariants as bodies
 use Rattle.tlp_core.specs.declared.packet.Status.{Status}
 use Rattle.tlp_core.specs.declared.packet.Status.TheVariants as statuses
 use Rattle.tlp_core.specs.Bits.{bits}
-use Rattle.tlp_core.specs.Packet.{Packet, IsPacket, FitsKind, IsOneOperand, IsTwoOperands, IsBodyInRange, FitsFields}
+use Rattle.tlp_core.specs.TlpView.{TlpView, IsPacket, FitsKind, IsOneOperand, IsTwoOperands, IsBodyInRange, FitsFields}
 use Rattle.tlp_core.specs.Layout.{kind_of, or_all, header_length, dw_count, address_of, status_of, status_code, request_at, atomic_at, completion_at, body_at, length_at, requester_place, short_code, canonical, Spells, AreReservedZero}
 
 zero_bit : (n : ℕ) → n ≡ 0 → (n == 1) ≡ false
@@ -291,7 +291,7 @@ spells_fields kinds.Cas (bodies.Completion c s n lower) tc attr len req tag pay 
 spells_fields kinds.Completion (bodies.Request a f l) tc attr len req tag pay hr hb g = absurd g.fits
 spells_fields kinds.CompletionData (bodies.Request a f l) tc attr len req tag pay hr hb g = absurd g.fits
 
-pub canon_spells : (t : Packet) → t.requester < 2 ^ 16 → IsBodyInRange t.body → IsPacket t → Spells (canonical t) t
+pub canon_spells : (t : TlpView) → t.requester < 2 ^ 16 → IsBodyInRange t.body → IsPacket t → Spells (canonical t) t
 canon_spells t hr hb g = spells_fields t.kind t.body t.tc t.attr t.length t.requester t.tag t.payload hr hb g
 
 -- the fields of a packet fit their bytes

@@ -11,21 +11,21 @@ use Rattle.tlp_core.specs.declared.fault.TlpFault.{TlpFault}
 use Rattle.tlp_core.specs.declared.fault.TlpFault.TheVariants as faults
 use Rattle.tlp_core.specs.Bits.{bits, has_bit, IsBytes}
 use Rattle.tlp_core.specs.Enables.{are_enables}
-use Rattle.tlp_core.specs.Packet.{Packet, FitsKind, IsMemoryAccess, IsOneOperand, IsTwoOperands, has_data}
+use Rattle.tlp_core.specs.TlpView.{TlpView, FitsKind, IsMemoryAccess, IsOneOperand, IsTwoOperands, has_data}
 use Rattle.tlp_core.specs.Layout.{kind_of, or_all, header_length, dw_count, address_of, body_at, length_at, requester_place, Spells, AreReservedZero, packet_at}
 use Rattle.tlp_core.specs.Faults.{breaks_enables, breaks_size, breaks_alignment, promised, of_kind, holds, header_faults, kind_faults, first_of, first_fault, read_as, reading}
 
-packet_from_fields : (t : Packet) (k : Kind) (tc attr len req tag : ℕ) (body : Body) (pay : List ℕ) → t.kind ≡ k → t.tc ≡ tc → t.attr ≡ attr → t.length ≡ len → t.requester ≡ req → t.tag ≡ tag → t.body ≡ body → t.payload ≡ pay → t ≡ record { kind = k; tc = tc; attr = attr; length = len; requester = req; tag = tag; body = body; payload = pay }
+packet_from_fields : (t : TlpView) (k : Kind) (tc attr len req tag : ℕ) (body : Body) (pay : List ℕ) → t.kind ≡ k → t.tc ≡ tc → t.attr ≡ attr → t.length ≡ len → t.requester ≡ req → t.tag ≡ tag → t.body ≡ body → t.payload ≡ pay → t ≡ record { kind = k; tc = tc; attr = attr; length = len; requester = req; tag = tag; body = body; payload = pay }
 packet_from_fields t k tc attr len req tag body pay e1 e2 e3 e4 e5 e6 e7 e8 = rw (← e1, ← e2, ← e3, ← e4, ← e5, ← e6, ← e7, ← e8) refl
 
 -- the bytes have no other value than the table's
-pub spelled_is : (b : List ℕ) (t : Packet) → Spells b t → t ≡ packet_at b t.kind
+pub spelled_is : (b : List ℕ) (t : TlpView) → Spells b t → t ≡ packet_at b t.kind
 spelled_is b t s = packet_from_fields t t.kind _ _ _ _ _ _ _ refl s.tc s.attr s.dws s.requester s.tag s.body s.payload
 
 some_is : {A : Type 0} (x y : A) → ◌≡◌ {A = Option A} (Some x) (Some y) → x ≡ y
 some_is x y e = cc
 
-pub one_value : (b : List ℕ) (t u : Packet) → Spells b t → Spells b u → t ≡ u
+pub one_value : (b : List ℕ) (t u : TlpView) → Spells b t → Spells b u → t ≡ u
 one_value b t u s v = spelled_is b t s ∙ ap (packet_at b) (some_is _ _ (sym s.kind ∙ v.kind)) ∙ sym (spelled_is b u v)
 
 -- ---- faults
@@ -207,13 +207,13 @@ kept_kind b kinds.CompletionData given h = record { matches = same_test given (4
 no_prefix : (code : ℕ) (k : Kind) → kind_of code ≡ Some k → (code / 32 % 8 == 4) ≡ false
 no_prefix code k e = grind (arith, nat_tests)
 
-pub no_fault : (b : List ℕ) (t : Packet) → Spells b t → first_fault b ≡ None
+pub no_fault : (b : List ℕ) (t : TlpView) → Spells b t → first_fault b ≡ None
 no_fault b t s =
     let p : TlpFault → Bool = λ f. holds f b in
     let is = spelled_is b t s in
     let grammar = s.grammar in
     let fits : FitsKind t.kind (body_at t.kind b) (length_at t.kind b) (length b - header_length b) =
-    rw (← length-drop (header_length b) b) (subst (λ (u : Packet). FitsKind u.kind u.body u.length (length u.payload)) is grammar.fits) in
+    rw (← length-drop (header_length b) b) (subst (λ (u : TlpView). FitsKind u.kind u.body u.length (length u.payload)) is grammar.fits) in
     let rest : first_of kind_faults b ≡ None = kind_fault_none b t.kind s.kind (kept_kind b t.kind (length b - header_length b) fits) in
     let front : first_of header_faults b ≡ None =
     find_skip p faults.Short (faults.Prefix ∷ faults.Kind ∷ faults.TenBitTag ∷ faults.Hints ∷ faults.Digest ∷ faults.Poisoned ∷ faults.Translated ∷ []) (below_test (length b) (header_length b) s.whole)
@@ -227,7 +227,7 @@ no_fault b t s =
     find_after p header_faults kind_faults front ∙ rest
 
 -- for the exits of `decode`
-pub none_spelled : (b : List ℕ) (f : TlpFault) → first_fault b ≡ Some f → (t : Packet) → Spells b t → ⊥
+pub none_spelled : (b : List ℕ) (f : TlpFault) → first_fault b ≡ Some f → (t : TlpView) → Spells b t → ⊥
 none_spelled b f e t s = let n = no_fault b t s in absurd cc
 
 few_bytes : (dw given : ℕ) (some : Bool) → not (given == (if some then 4 * dw else 0)) ≡ false → (some && nat_lt 32 dw) ≡ false → given ≤ 128
@@ -256,10 +256,10 @@ made_of b k tc ido low len req r h body pay e1 e2 e3 e4 e5 e6 e7 e8 e9 s =
 pub reading_fault : (b : List ℕ) (f : TlpFault) → first_fault b ≡ Some f → reading b ≡ Err f
 reading_fault b f e = rw e refl
 
-pub reading_spelled : (b : List ℕ) (t : Packet) → Spells b t → reading b ≡ Ok t
+pub reading_spelled : (b : List ℕ) (t : TlpView) → Spells b t → reading b ≡ Ok t
 reading_spelled b t s = rw (no_fault b t s, s.kind) (ap Ok (sym (spelled_is b t s)))
 
-ok_is : (t u : Packet) → ◌≡◌ {A = Result Packet TlpFault} (Ok t) (Ok u) → t ≡ u
+ok_is : (t u : TlpView) → ◌≡◌ {A = Result TlpView TlpFault} (Ok t) (Ok u) → t ≡ u
 ok_is t u e = cc
 
 -- bytes with no fault have a kind
@@ -277,18 +277,18 @@ front_none p [] ys e = (refl, e)
 front_none p (x ∷ xs) ys e = let s = find_none p x (xs ++ ys) e in let r = front_none p xs ys s.1 in (find_skip p x xs s.0 r.0, r.1)
 
 -- bytes that meet no fault are spelled by the value that the tables make of them
-pub faultless : (b : List ℕ) → IsBytes b → first_fault b ≡ None → (t : Packet) × Spells b t
+pub faultless : (b : List ℕ) → IsBytes b → first_fault b ≡ None → (t : TlpView) × Spells b t
 faultless b fits n =
     let k = kind_there b (kind_of (slice_index b 0)) refl n in
     let s = front_none (λ f. holds f b) header_faults kind_faults n in
     let q = find_none (λ f. holds f b) faults.Short (faults.Prefix ∷ faults.Kind ∷ faults.TenBitTag ∷ faults.Hints ∷ faults.Digest ∷ faults.Poisoned ∷ faults.Translated ∷ []) s.0 in
     (packet_at b k.0, made b k.0 fits (at_most (length b) (header_length b) q.0) k.1 s.0 s.1)
 
-read_none : (o : Option TlpFault) (b : List ℕ) (k : Option Kind) (t : Packet) → read_as o k b ≡ Ok t → o ≡ None
+read_none : (o : Option TlpFault) (b : List ℕ) (k : Option Kind) (t : TlpView) → read_as o k b ≡ Ok t → o ≡ None
 read_none None b k t e = refl
 read_none (Some f) b k t e = absurd cc
 
-pub spelled_reading : (b : List ℕ) (t : Packet) → IsBytes b → reading b ≡ Ok t → Spells b t
+pub spelled_reading : (b : List ℕ) (t : TlpView) → IsBytes b → reading b ≡ Ok t → Spells b t
 spelled_reading b t fits e =
     let s = faultless b fits (read_none (first_fault b) b (kind_of (slice_index b 0)) t e) in
     subst (Spells b) (ok_is s.0 t (sym (reading_spelled b s.0 s.1) ∙ e)) s.1

@@ -9,7 +9,7 @@ use Rattle.tlp_core.specs.declared.packet.Body.TheVariants as bodies
 use Rattle.tlp_core.specs.declared.operation.Op.{Op}
 use Rattle.tlp_core.specs.declared.operation.Op.TheVariants as ops
 use Rattle.tlp_core.specs.declared.operation.Width.{Width}
-use Rattle.tlp_core.specs.Packet.{FitsKind}
+use Rattle.tlp_core.specs.TlpView.{FitsKind}
 use Rattle.tlp_core.specs.Operation.{op_fault, width_of, fits, wrong_length, wrong_enables, wrong_operand, wrong_address}
 
 -- the four tests of an operation

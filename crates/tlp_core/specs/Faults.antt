@@ -6,7 +6,7 @@ use Rattle.tlp_core.specs.declared.fault.TlpFault.{TlpFault}
 use Rattle.tlp_core.specs.declared.fault.TlpFault.TheVariants as faults
 use Rattle.tlp_core.specs.Bits.{bits, has_bit}
 use Rattle.tlp_core.specs.Enables.{are_enables}
-use Rattle.tlp_core.specs.Packet.{Packet, has_data}
+use Rattle.tlp_core.specs.TlpView.{TlpView, has_data}
 use Rattle.tlp_core.specs.Layout.{kind_of, header_length, dw_count, address_of, packet_at}
 
 -- the rule of byte enables, for the kinds that have them
@@ -74,10 +74,10 @@ abbrev pub first_fault : List ℕ → Option TlpFault
 first_fault b = first_of (header_faults ++ kind_faults) b
 
 -- the packet that the bytes spell, or their first fault
-abbrev pub read_as : Option TlpFault → Option Kind → List ℕ → Result Packet TlpFault
+abbrev pub read_as : Option TlpFault → Option Kind → List ℕ → Result TlpView TlpFault
 read_as (Some f) kind b = Err f
 read_as None (Some k) b = Ok (packet_at b k)
 read_as None None b = Err faults.Kind
 
-abbrev pub reading : List ℕ → Result Packet TlpFault
+abbrev pub reading : List ℕ → Result TlpView TlpFault
 reading b = read_as (first_fault b) (kind_of (slice_index b 0)) b

@@ -8,7 +8,7 @@ use Rattle.tlp_core.specs.declared.packet.Body.TheVariants as bodies
 use Rattle.tlp_core.specs.declared.packet.Status.{Status}
 use Rattle.tlp_core.specs.declared.packet.Status.TheVariants as statuses
 use Rattle.tlp_core.specs.Bits.{bits, has_bit}
-use Rattle.tlp_core.specs.Packet.{Packet, IsPacket}
+use Rattle.tlp_core.specs.TlpView.{TlpView, IsPacket}
 
 -- Fmt and Type, in byte 0
 abbrev pub kind_of : ℕ → Option Kind
@@ -82,7 +82,7 @@ pub record AreReservedZero (bytes : List ℕ) : Type 0 where
   pub at : bits bytes 2 2 2 ≡ 0
 
 -- The bytes are a header and the payload behind it, each field where the tables have it. No other bit counts.
-pub record Spells (bytes : List ℕ) (t : Packet) : Type 0 where
+pub record Spells (bytes : List ℕ) (t : TlpView) : Type 0 where
   pub whole : header_length bytes ≤ length bytes
   pub kind : kind_of (slice_index bytes 0) ≡ Some t.kind
   pub reserved : AreReservedZero bytes
@@ -96,7 +96,7 @@ pub record Spells (bytes : List ℕ) (t : Packet) : Type 0 where
   pub grammar : IsPacket t
 
 -- the packet that the tables read, its grammar aside
-abbrev pub packet_at : List ℕ → Kind → Packet
+abbrev pub packet_at : List ℕ → Kind → TlpView
 packet_at b k = record { kind = k; tc = bits b 1 4 3; attr = bits b 1 2 1 * 4 + bits b 2 4 2; length = length_at k b; requester = big_number 2 (drop (requester_place k) b); tag = slice_index b (requester_place k + 2); body = body_at k b; payload = drop (header_length b) b }
 
 -- ---- the canonical bytes
@@ -128,7 +128,7 @@ rest_of_header requester tag (bodies.Completion c s n lower) =
     big_bytes 2 c ++ ((status_code s * 32 + n % 4096 / 256) ∷ (n % 256) ∷ []) ++ big_bytes 2 requester ++ (tag ∷ lower ∷ [])
 
 -- the one spelling with the shortest header and zeros in all ignored bits
-abbrev pub canonical : Packet → List ℕ
+abbrev pub canonical : TlpView → List ℕ
 canonical t =
     (code_of t.kind t.body ∷ (t.tc * 16 + t.attr / 4 * 4) ∷ (t.attr % 4 * 16 + t.length % 1024 / 256) ∷ (t.length % 256) ∷ [])
     ++ rest_of_header t.requester t.tag t.body ++ t.payload

@@ -12,7 +12,7 @@ use Rattle.tlp_core.specs.declared.packet.Body.TheVariants as bodies
 use Rattle.tlp_core.specs.declared.fault.TlpFault.{TlpFault}
 use Rattle.tlp_core.specs.declared.fault.TlpFault.TheVariants as faults
 use Rattle.tlp_core.specs.Enables.{are_enables}
-use Rattle.tlp_core.specs.Packet.{Packet}
+use Rattle.tlp_core.specs.TlpView.{TlpView}
 
 -- in bytes
 abbrev pub size_of : Width → ℕ
@@ -105,5 +105,5 @@ is_completion kinds.CompletionData = true
 is_completion _ = false
 
 -- none for a completion
-abbrev pub op_of : Packet → Option Op
+abbrev pub op_of : TlpView → Option Op
 op_of t = op_at t.kind t.body t.length t.payload

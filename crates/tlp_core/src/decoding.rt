@@ -4,7 +4,7 @@
 ghost use Rattle.std.specs.Prelude.{◌≡◌, ◌+◌, ◌*◌, ◌/◌, ◌%◌, ◌^◌, ◌<◌, ◌≤◌, ◌==◌, ◌||◌, length, slice_index, IfOk, IfErr};
 ghost use Rattle.tlp_core.specs.Enables.{are_enables};
 ghost use Rattle.tlp_core.specs.Layout.{kind_of, header_length, Spells};
-ghost use Rattle.tlp_core.specs.Packet.{Packet};
+ghost use Rattle.tlp_core.specs.TlpView.{TlpView};
 ghost use Rattle.tlp_core.specs.Faults.{first_of, first_fault, header_faults, kind_faults, breaks_enables, breaks_size, breaks_alignment, promised, reading};
 
 use crate::fault::TlpFault;
@@ -157,7 +157,7 @@ fn kind_fault(kind: Kind, bytes: &[u8]) -> Option<TlpFault>
 pub fn decode(bytes: &[u8]) -> Result<Tlp, TlpFault>
     ensures reading { result ≡ reading bytes.now }
     ensures spelled { IfOk result (λ t. Spells bytes.now t) }
-    ensures only { (t : Packet) → Spells bytes.now t → result ≡ Ok t }
+    ensures only { (t : TlpView) → Spells bytes.now t → result ≡ Ok t }
     ensures fault { IfErr result (λ f. first_fault bytes.now ≡ Some f) }
 {
     let kind = header(bytes)?;

@@ -3,7 +3,7 @@ ghost use Rattle.std.specs.Prelude.{◌≡◌, ◌+◌, ◌*◌, ◌/◌, ◌%�
 ghost use Rattle.arrayvec.specs.ArrayVec.{array_vec_len};
 ghost use Rattle.byteorder.specs.Endian.{big_bytes};
 ghost use Rattle.tlp_core.specs.Layout.{canonical, short_code, code_of, status_code, rest_of_header, Spells};
-ghost use Rattle.tlp_core.specs.Packet.{FitsFields, IsBodyInRange};
+ghost use Rattle.tlp_core.specs.TlpView.{FitsFields, IsBodyInRange};
 
 use crate::packet::{Body, Kind, Status, Tlp};
 use arrayvec::ArrayVec;

@@ -2,7 +2,7 @@
 ghost use Rattle.std.specs.Prelude.{◌≡◌, ◌+◌, ◌*◌, ◌/◌, ◌%◌, ◌^◌, ◌<◌, ◌≤◌, length, slice_index};
 ghost use Rattle.tlp_core.specs.Layout.{kind_of, header_length, dw_count, address_of, status_of, body_at, length_at, requester_place, or_all};
 ghost use Rattle.tlp_core.specs.Bits.{bits};
-ghost use Rattle.tlp_core.specs.Packet.{has_data};
+ghost use Rattle.tlp_core.specs.TlpView.{has_data};
 
 use crate::packet::{Body, Kind, MAX_PAYLOAD, Status};
 use arrayvec::ArrayVec;

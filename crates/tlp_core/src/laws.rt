@@ -1,7 +1,7 @@
 //! Laws of packets: what holds of the definitions that the contracts cite.
 ghost use Rattle.std.specs.Prelude.{◌≡◌, List, ℕ, None, Ok};
 ghost use Rattle.tlp_core.specs.Bits.{IsBytes};
-ghost use Rattle.tlp_core.specs.Packet.{Packet};
+ghost use Rattle.tlp_core.specs.TlpView.{TlpView};
 ghost use Rattle.tlp_core.specs.Layout.{Spells};
 ghost use Rattle.tlp_core.specs.Faults.{first_fault, reading};
 
@@ -9,8 +9,8 @@ ghost use Rattle.tlp_core.specs.Faults.{first_fault, reading};
 /// none of the faults are spelled by a packet.
 #[tactic(auto, using(crate::proofs::Grammar::reading_spelled, crate::proofs::Grammar::spelled_reading, crate::proofs::Grammar::one_value, crate::proofs::Grammar::faultless))]
 pub fn reading_is_spelling()
-    ensures spelled { (b : List ℕ) (t : Packet) → IsBytes b → reading b ≡ Ok t → Spells b t }
-    ensures read { (b : List ℕ) (t : Packet) → Spells b t → reading b ≡ Ok t }
-    ensures one_value { (b : List ℕ) (t u : Packet) → Spells b t → Spells b u → t ≡ u }
-    ensures faultless { (b : List ℕ) → IsBytes b → first_fault b ≡ None → (t : Packet) × Spells b t }
+    ensures spelled { (b : List ℕ) (t : TlpView) → IsBytes b → reading b ≡ Ok t → Spells b t }
+    ensures read { (b : List ℕ) (t : TlpView) → Spells b t → reading b ≡ Ok t }
+    ensures one_value { (b : List ℕ) (t u : TlpView) → Spells b t → Spells b u → t ≡ u }
+    ensures faultless { (b : List ℕ) → IsBytes b → first_fault b ≡ None → (t : TlpView) × Spells b t }
 {}

@@ -79,9 +79,9 @@ pub struct Tlp {
 }
 
 impl Model for Tlp {
-    ghost use Rattle.tlp_core.specs.Packet.{Packet, IsPacket};
+    ghost use Rattle.tlp_core.specs.TlpView.{TlpView, IsPacket};
 
-    ghost Value = { Packet };
+    ghost Value = { TlpView };
 
     ghost view = { λ t. record { kind = t.kind; tc = t.tc; attr = t.attr; length = t.length; requester = t.requester; tag = t.tag; body = t.body; payload = t.payload.items } };
 

@@ -12,10 +12,10 @@ use Rattle.tlp_core.specs.declared.packet.Kind.TheVariants as kinds
 use Rattle.tlp_core.specs.declared.packet.Body.{Body}
 use Rattle.tlp_core.specs.declared.packet.Body.TheVariants as bodies
 use Rattle.tlp_core.specs.declared.operation.Op.{Op}
-use Rattle.tlp_core.specs.Packet.{Packet, IsPacket, FitsKind}
+use Rattle.tlp_core.specs.TlpView.{TlpView, IsPacket, FitsKind}
 use Rattle.tlp_core.specs.Operation.{op_at, is_completion}
 use Rattle.seq_memory.specs.declared.Entry.{Entry}
-use Rattle.seq_memory.specs.History.{State}
+use Rattle.seq_memory.specs.History.{MemoryView}
 use Rattle.completer_core.specs.Serving.{after_serving, with_entry, request_entry}
 use Rattle.hex.specs.Hex.{decode_of}
 use Rattle.hex.specs.declared.error.FromHexError.{FromHexError}
@@ -42,14 +42,14 @@ count-more : (history : List Entry) (e : Entry) (port : ℕ) → requests_of (hi
 count-more history e port = fold-append (λ (n : ℕ) (e : Entry). n + (if e.requester == port then 1 else 0)) 0 history (e ∷ [])
 
 -- the counts after a request, of its own requester and of another
-pub counted : (s : State) (t : Packet) (number own : ℕ) (counts : List ℕ) → IsPacket t → is_completion t.kind ≡ false
+pub counted : (s : MemoryView) (t : TlpView) (number own : ℕ) (counts : List ℕ) → IsPacket t → is_completion t.kind ≡ false
     → own ≡ t.requester / 256 → own < length counts → number ≡ requests_of s.entries (t.requester / 256)
     → (port : ℕ) → slice_index counts port ≡ requests_of s.entries port
     → slice_index (slice_set counts own (number + 1)) port ≡ requests_of (after_serving s t number).entries port
 counted s t number own counts p c e fits same port before =
     let op = asked t.kind t.body t.length (length t.payload) t.payload p.fits c in
     let after : after_serving s t number ≡ with_entry s (request_entry t number op.0) = ap (λ (o : Option Op). option_map_or (λ op. with_entry s (request_entry t number op)) o s) op.1 in
-    let more = ap (λ (s : State). requests_of s.entries port) after ∙ count-more s.entries (request_entry t number op.0) port in
+    let more = ap (λ (s : MemoryView). requests_of s.entries port) after ∙ count-more s.entries (request_entry t number op.0) port in
     let whole = λ (b : Bool) (test : (t.requester / 256 == port) ≡ b).
     more ∙ ap (λ (b : Bool). requests_of s.entries port + (if b then 1 else 0)) test in
     elim (cases_eq port own) [
@@ -72,7 +72,7 @@ counted s t number own counts p c e fits same port before =
 -- ---- answers
 
 -- all numbers are used
-pub numbers-used : {S : Type 0} (d : Device S) (s : S) (t : Packet) (number : ℕ) → number ≡ 4294967295 → answer_request d s t number ≡ fault s (codes "fault numbers")
+pub numbers-used : {S : Type 0} (d : Device S) (s : S) (t : TlpView) (number : ℕ) → number ≡ 4294967295 → answer_request d s t number ≡ fault s (codes "fault numbers")
 numbers-used d s t number e = rw e refl
 
 -- a line that isn't skipped

@@ -12,13 +12,13 @@ use Rattle.std.specs.Option.{option_map_or}
 use Rattle.std.proofs.lemmas.List.{get_or-replicate}
 use Rattle.tlp_core.specs.declared.fault.TlpFault.{TlpFault}
 use Rattle.tlp_core.specs.declared.operation.Op.{Op}
-use Rattle.tlp_core.specs.Packet.{Packet, IsPacket}
+use Rattle.tlp_core.specs.TlpView.{TlpView, IsPacket}
 use Rattle.tlp_core.specs.Operation.{is_completion}
 use Rattle.tlp_core.specs.Faults.{reading}
 use Rattle.seq_memory.specs.declared.Entry.{Entry}
 use Rattle.seq_memory.specs.Limits.{Extent}
 use Rattle.seq_memory.specs.Step.{after}
-use Rattle.seq_memory.specs.History.{State, bytes_of, contents, extent_of}
+use Rattle.seq_memory.specs.History.{MemoryView, bytes_of, contents, extent_of}
 use Rattle.completer_core.specs.Serving.{after_serving, with_entry, request_entry, bytes_after, completion_to, completion_over}
 use Rattle.hex.specs.Hex.{decode_of}
 use Rattle.hex.specs.declared.error.FromHexError.{FromHexError}
@@ -26,7 +26,7 @@ use Rattle.hex_text.specs.Line.{digits_of}
 use Rattle.line_loop.specs.Lines.{lines_of, ended_lines, bare, said}
 use Rattle.line_loop.specs.Run.{Answer, Responses, Run, answer_to, with_answer, after_line, new_run, run_of, IsBeginning, IsWhole, IsPart, IsCaughtUp}
 use Rattle.tlp_engine.specs.Tlp.{answer_request, answer_packet, answer_reading, answer_bytes, answer_line, with_history, tlp_responses, new_state, out_tlp, requests_of, fault, fault_text, nothing, completion_text}
-use Rattle.tlp_engine.specs.Kept.{Kept, new_kept, after_request, without_history, kept_responses}
+use Rattle.tlp_engine.specs.CompleterView.{CompleterView, new_kept, after_request, without_history, kept_responses}
 
 -- ---- any two devices, one of which stands for the other
 
@@ -79,7 +79,7 @@ runs-alike stands r q same k s input at =
 -- ---- the bytes and counts, and the history
 
 -- these bytes and counts are the history's
-pub record StandsFor (k : Kept) (s : State) : Type 0 where
+pub record StandsFor (k : CompleterView) (s : MemoryView) : Type 0 where
   pub base : k.base ≡ s.base
   pub block : k.block ≡ s.block
   pub bytes : k.bytes ≡ bytes_of s
@@ -87,7 +87,7 @@ pub record StandsFor (k : Kept) (s : State) : Type 0 where
   pub counts : (port : ℕ) → port < 256 → slice_index k.counts port ≡ requests_of s.entries port
 
 -- a packet that bytes spell: it is one of the grammar, and its Requester ID has 16 bits
-record IsRead (t : Packet) : Type 0 where
+record IsRead (t : TlpView) : Type 0 where
   grammar : IsPacket t
   requester : t.requester < 65536
 
@@ -99,19 +99,19 @@ two-bytes b place bytes =
 
 -- what the laws of packets and of histories say
 abbrev pub Spelled : Type 0
-Spelled = (b : List ℕ) (t : Packet) → IsBytes b → reading b ≡ Ok t → Spells b t
+Spelled = (b : List ℕ) (t : TlpView) → IsBytes b → reading b ≡ Ok t → Spells b t
 
 abbrev pub Grows : Type 0
 Grows = (x : Extent) (es : List Entry) (e : Entry) → contents x (es ++ e ∷ []) ≡ after x.block x.base (contents x es) e.op
 
-is-read : Spelled → (digits b : List ℕ) (t : Packet) → decode_of digits ≡ Ok b → reading b ≡ Ok t → IsRead t
+is-read : Spelled → (digits b : List ℕ) (t : TlpView) → decode_of digits ≡ Ok b → reading b ≡ Ok t → IsRead t
 is-read spelled digits b t decoded read =
     let bytes : IsBytes b = (decode_of-ok digits b decoded).3 in
     let s = spelled b t bytes read in
     record { grammar = s.grammar; requester = subst (λ (n : ℕ). n < 65536) (sym s.requester) (two-bytes b (requester_place t.kind) bytes) }
 
 -- a request leaves both alike
-request-stands : Grows → (k : Kept) (s : State) (t : Packet) (number : ℕ) → StandsFor k s → IsRead t → is_completion t.kind ≡ false
+request-stands : Grows → (k : CompleterView) (s : MemoryView) (t : TlpView) (number : ℕ) → StandsFor k s → IsRead t → is_completion t.kind ≡ false
     → number ≡ requests_of s.entries (t.requester / 256) → StandsFor (after_request k t number) (after_serving s t number)
 request-stands grows k s t number at read c same =
     let op = asked t.kind t.body t.length (length t.payload) t.payload read.grammar.fits c in
@@ -120,23 +120,23 @@ request-stands grows k s t number at read c same =
     let changed : bytes_after k.block k.base k.bytes t ≡ after k.block k.base k.bytes op.0 = ap (λ (o : Option Op). option_map_or (λ op. after k.block k.base k.bytes op) o k.bytes) op.1 in
     let inside : t.requester / 256 < length k.counts = let wide = read.requester in let ports = at.ports in omega (arith, wide, ports) in
     record {
-      base = at.base ∙ ap (λ (s : State). s.base) (sym acted);
-      block = at.block ∙ ap (λ (s : State). s.block) (sym acted);
+      base = at.base ∙ ap (λ (s : MemoryView). s.base) (sym acted);
+      block = at.block ∙ ap (λ (s : MemoryView). s.block) (sym acted);
       bytes = changed ∙ rw (at.base, at.block, at.bytes) (sym (grows (extent_of s) s.entries entry)) ∙ ap bytes_of (sym acted);
       ports = length-set k.counts (t.requester / 256) (number + 1) ∙ at.ports;
       counts = λ port lt. counted s t number (t.requester / 256) k.counts read.grammar c refl inside same port (at.counts port lt);
     }
 
-fault-alike : (k : Kept) (s : State) (text : List ℕ) → StandsFor k s → AlikeAnswer StandsFor (fault k text) (fault s text)
+fault-alike : (k : CompleterView) (s : MemoryView) (text : List ℕ) → StandsFor k s → AlikeAnswer StandsFor (fault k text) (fault s text)
 fault-alike k s text at = record { state = at; text = refl; is_fault = refl }
 
-nothing-alike : (k : Kept) (s : State) → StandsFor k s → AlikeAnswer StandsFor (nothing k) (nothing s)
+nothing-alike : (k : CompleterView) (s : MemoryView) → StandsFor k s → AlikeAnswer StandsFor (nothing k) (nothing s)
 nothing-alike k s at = record { state = at; text = refl; is_fault = refl }
 
-completions-alike : (k : Kept) (s : State) (t : Packet) → StandsFor k s → completion_over k.block k.base k.bytes t ≡ completion_to s t
+completions-alike : (k : CompleterView) (s : MemoryView) (t : TlpView) → StandsFor k s → completion_over k.block k.base k.bytes t ≡ completion_to s t
 completions-alike k s t at = rw (at.base, at.block, at.bytes) refl
 
-request-alike : Grows → (k : Kept) (s : State) (t : Packet) (number : ℕ) → StandsFor k s → IsRead t → is_completion t.kind ≡ false
+request-alike : Grows → (k : CompleterView) (s : MemoryView) (t : TlpView) (number : ℕ) → StandsFor k s → IsRead t → is_completion t.kind ≡ false
     → number ≡ requests_of s.entries (t.requester / 256)
     → AlikeAnswer StandsFor (answer_request without_history k t number) (answer_request with_history s t number)
 request-alike grows k s t number at read c same = go (number == 4294967295)
@@ -147,11 +147,11 @@ request-alike grows k s t number at read c same = go (number == 4294967295)
     go true = fault-alike k s (codes "fault numbers") at
     go false = record {
       state = request-stands grows k s t number at read c same;
-      text = ap (λ (o : Option Packet). completion_text o ++ 10 ∷ []) (completions-alike k s t at);
+      text = ap (λ (o : Option TlpView). completion_text o ++ 10 ∷ []) (completions-alike k s t at);
       is_fault = refl;
     }
 
-packet-alike : Grows → (k : Kept) (s : State) (t : Packet) → StandsFor k s → IsRead t
+packet-alike : Grows → (k : CompleterView) (s : MemoryView) (t : TlpView) → StandsFor k s → IsRead t
     → AlikeAnswer StandsFor (answer_packet without_history k t) (answer_packet with_history s t)
 packet-alike grows k s t at read = go (is_completion t.kind) refl
   where
@@ -167,17 +167,17 @@ packet-alike grows k s t at read = go (is_completion t.kind) refl
         (sym (at.counts (t.requester / 256) inside))
         (request-alike grows k s t (requests_of s.entries (t.requester / 256)) at read is refl)
 
-reading-alike : Grows → (k : Kept) (s : State) (r : Result Packet TlpFault) → StandsFor k s → ((t : Packet) → r ≡ Ok t → IsRead t)
+reading-alike : Grows → (k : CompleterView) (s : MemoryView) (r : Result TlpView TlpFault) → StandsFor k s → ((t : TlpView) → r ≡ Ok t → IsRead t)
     → AlikeAnswer StandsFor (answer_reading without_history k r) (answer_reading with_history s r)
 reading-alike grows k s (Err f) at read = fault-alike k s (fault_text f) at
 reading-alike grows k s (Ok t) at read = packet-alike grows k s t at (read t refl)
 
-bytes-alike : Spelled → Grows → (k : Kept) (s : State) (digits : List ℕ) (r : Result (List ℕ) FromHexError) → decode_of digits ≡ r → StandsFor k s
+bytes-alike : Spelled → Grows → (k : CompleterView) (s : MemoryView) (digits : List ℕ) (r : Result (List ℕ) FromHexError) → decode_of digits ≡ r → StandsFor k s
     → AlikeAnswer StandsFor (answer_bytes without_history k r) (answer_bytes with_history s r)
 bytes-alike spelled grows k s digits (Err e) decoded at = fault-alike k s (codes "fault hex") at
 bytes-alike spelled grows k s digits (Ok b) decoded at = reading-alike grows k s (reading b) at (λ t read. is-read spelled digits b t decoded read)
 
-text-alike : Spelled → Grows → (k : Kept) (s : State) (line : List ℕ) → StandsFor k s → AlikeAnswer StandsFor (answer_line without_history k line) (answer_line with_history s line)
+text-alike : Spelled → Grows → (k : CompleterView) (s : MemoryView) (line : List ℕ) → StandsFor k s → AlikeAnswer StandsFor (answer_line without_history k line) (answer_line with_history s line)
 text-alike spelled grows k s [] at = nothing-alike k s at
 text-alike spelled grows k s (first ∷ rest) at = go (first == 35)
   where
@@ -258,20 +258,20 @@ same-runs base size block spelled grows none =
     }
 
 -- the clauses of a run of the device, as those of the memory's
-pub whole : (base size block : ℕ) (k : Kept) → SameRuns base size block → k ≡ new_kept base size block → {input rest out out' : Option (List ℕ)} {exit : ℕ}
+pub whole : (base size block : ℕ) (k : CompleterView) → SameRuns base size block → k ≡ new_kept base size block → {input rest out out' : Option (List ℕ)} {exit : ℕ}
     → IsWhole (run_of kept_responses k) input rest out out' exit → IsWhole (out_tlp base size block) input rest out out' exit
 whole base size block k same is {input} {rest} {out} {out'} {exit} w =
     IsWhole-alike (run_of kept_responses (new_kept base size block)) (out_tlp base size block) same.text same.status input rest out out' exit
-    (subst (λ (k : Kept). IsWhole (run_of kept_responses k) input rest out out' exit) is w)
+    (subst (λ (k : CompleterView). IsWhole (run_of kept_responses k) input rest out out' exit) is w)
 
-pub part : (base size block : ℕ) (k : Kept) → SameRuns base size block → k ≡ new_kept base size block → {input rest out out' : Option (List ℕ)}
+pub part : (base size block : ℕ) (k : CompleterView) → SameRuns base size block → k ≡ new_kept base size block → {input rest out out' : Option (List ℕ)}
     → IsPart (run_of kept_responses k) input rest out out' → IsPart (out_tlp base size block) input rest out out'
 part base size block k same is {input} {rest} {out} {out'} p =
     IsPart-alike (run_of kept_responses (new_kept base size block)) (out_tlp base size block) same.text input rest out out'
-    (subst (λ (k : Kept). IsPart (run_of kept_responses k) input rest out out') is p)
+    (subst (λ (k : CompleterView). IsPart (run_of kept_responses k) input rest out out') is p)
 
-pub caught-up : (base size block : ℕ) (k : Kept) → SameRuns base size block → k ≡ new_kept base size block → {input rest out out' : Option (List ℕ)}
+pub caught-up : (base size block : ℕ) (k : CompleterView) → SameRuns base size block → k ≡ new_kept base size block → {input rest out out' : Option (List ℕ)}
     → IsCaughtUp kept_responses k input rest out out' → IsCaughtUp tlp_responses (new_state base size block) input rest out out'
 caught-up base size block k same is {input} {rest} {out} {out'} c =
     IsCaughtUp-alike kept_responses tlp_responses (new_kept base size block) (new_state base size block) same.lines input rest out out'
-    (subst (λ (k : Kept). IsCaughtUp kept_responses k input rest out out') is c)
+    (subst (λ (k : CompleterView). IsCaughtUp kept_responses k input rest out out') is c)

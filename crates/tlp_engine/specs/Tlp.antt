@@ -5,12 +5,12 @@ use Rattle.hex.specs.Hex.{decode_of, encode_upper}
 use Rattle.hex.specs.declared.error.FromHexError.{FromHexError}
 use Rattle.tlp_core.specs.declared.fault.TlpFault.{TlpFault}
 use Rattle.tlp_core.specs.Fault.{number_of, name_of}
-use Rattle.tlp_core.specs.Packet.{Packet}
+use Rattle.tlp_core.specs.TlpView.{TlpView}
 use Rattle.tlp_core.specs.Layout.{canonical}
 use Rattle.tlp_core.specs.Faults.{reading}
 use Rattle.tlp_core.specs.Operation.{is_completion}
 use Rattle.seq_memory.specs.declared.Entry.{Entry}
-use Rattle.seq_memory.specs.History.{State}
+use Rattle.seq_memory.specs.History.{MemoryView}
 use Rattle.completer_core.specs.Serving.{after_serving, completion_to}
 use Rattle.hex_text.specs.Line.{digits_of, spaced}
 use Rattle.line_loop.specs.Run.{Answer, Responses, Run, run_of}
@@ -18,7 +18,7 @@ use Rattle.line_loop.specs.Run.{Answer, Responses, Run, run_of}
 -- ---- texts
 
 -- the bytes of the completion, in capitals in groups of four bytes; `-` where there is none
-abbrev pub completion_text : Option Packet → List ℕ
+abbrev pub completion_text : Option TlpView → List ℕ
 completion_text None = codes "-"
 completion_text (Some t) = spaced (encode_upper (canonical t))
 
@@ -31,8 +31,8 @@ fault_text f = codes "fault " ++ decimal (number_of f) ++ 32 ∷ name_of f
 -- the request's completion
 pub record Device (S : Type 0) : Type 0 where
   pub count : S → ℕ → ℕ
-  pub after : S → Packet → ℕ → S
-  pub completion : S → Packet → Option Packet
+  pub after : S → TlpView → ℕ → S
+  pub completion : S → TlpView → Option TlpView
 
 -- the device stays, and a line tells the fault
 abbrev pub fault : {S : Type 0} → S → List ℕ → Answer S
@@ -43,17 +43,17 @@ abbrev pub nothing : {S : Type 0} → S → Answer S
 nothing s = record { state = s; text = []; is_fault = false }
 
 -- a request acts under the number of its requester's earlier ones: that has to be below 2^32 - 1
-abbrev pub answer_request : {S : Type 0} → Device S → S → Packet → ℕ → Answer S
+abbrev pub answer_request : {S : Type 0} → Device S → S → TlpView → ℕ → Answer S
 answer_request d s t number =
     if number == 4294967295 then fault s (codes "fault numbers")
     else record { state = d.after s t number; text = completion_text (d.completion s t) ++ 10 ∷ []; is_fault = false }
 
-abbrev pub answer_packet : {S : Type 0} → Device S → S → Packet → Answer S
+abbrev pub answer_packet : {S : Type 0} → Device S → S → TlpView → Answer S
 answer_packet d s t =
     if is_completion t.kind then fault s (codes "fault completion")
     else answer_request d s t (d.count s (t.requester / 256))
 
-abbrev pub answer_reading : {S : Type 0} → Device S → S → Result Packet TlpFault → Answer S
+abbrev pub answer_reading : {S : Type 0} → Device S → S → Result TlpView TlpFault → Answer S
 answer_reading d s (Err f) = fault s (fault_text f)
 answer_reading d s (Ok t) = answer_packet d s t
 
@@ -76,16 +76,16 @@ abbrev pub requests_of : List Entry → ℕ → ℕ
 requests_of history port = count_by (λ e. e.requester == port) history
 
 -- each request stands in the history
-abbrev pub with_history : Device State
+abbrev pub with_history : Device MemoryView
 with_history = record { count = λ s port. requests_of s.entries port; after = after_serving; completion = completion_to }
 
-abbrev pub tlp_responses : Responses State
+abbrev pub tlp_responses : Responses MemoryView
 tlp_responses = responses with_history
 
 -- a memory of zeros with an empty history
-abbrev pub new_state : ℕ → ℕ → ℕ → State
+abbrev pub new_state : ℕ → ℕ → ℕ → MemoryView
 new_state base size block = record { base = base; size = size; block = block; entries = [] }
 
 -- the whole run of `tlp` on an input
-abbrev pub out_tlp : ℕ → ℕ → ℕ → List ℕ → Run State
+abbrev pub out_tlp : ℕ → ℕ → ℕ → List ℕ → Run MemoryView
 out_tlp base size block input = run_of tlp_responses (new_state base size block) input

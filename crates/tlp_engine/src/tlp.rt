@@ -5,7 +5,7 @@ ghost use Rattle.tlp_core.specs.Faults.{reading};
 ghost use Rattle.tlp_core.specs.Operation.{is_completion};
 ghost use Rattle.line_loop.specs.Run.{IsAnswer, IsCaughtUp, IsWhole, IsPart};
 ghost use Rattle.tlp_engine.specs.Tlp.{new_state, out_tlp, tlp_responses, answer_request, answer_packet, answer_reading, fault_text, completion_text};
-ghost use Rattle.tlp_engine.specs.Kept.{new_kept, without_history, kept_responses};
+ghost use Rattle.tlp_engine.specs.CompleterView.{new_kept, without_history, kept_responses};
 
 use crate::text::{put_fault, put_packet};
 use arrayvec::ArrayVec;
@@ -33,9 +33,9 @@ struct Device {
 impl Model for Device {
     ghost use Rattle.std.specs.Prelude.{◌≡◌, length};
     ghost use Rattle.seq_memory.specs.Limits.{IsBlock};
-    ghost use Rattle.tlp_engine.specs.Kept.{Kept};
+    ghost use Rattle.tlp_engine.specs.CompleterView.{CompleterView};
 
-    ghost Value = { Kept };
+    ghost Value = { CompleterView };
 
     ghost view = { λ c. record { base = c.base; block = c.block; bytes = c.bytes.items; counts = c.counts } };
 
@@ -58,9 +58,9 @@ struct Completer {
 }
 
 impl Model for Completer {
-    ghost use Rattle.tlp_engine.specs.Kept.{Kept};
+    ghost use Rattle.tlp_engine.specs.CompleterView.{CompleterView};
 
-    ghost Value = { Kept };
+    ghost Value = { CompleterView };
 
     ghost view = { λ c. c.device };
 }
@@ -208,7 +208,7 @@ impl Completer {
 }
 
 impl Responder for Completer {
-    ghost use Rattle.tlp_engine.specs.Kept.{kept_responses};
+    ghost use Rattle.tlp_engine.specs.CompleterView.{kept_responses};
 
     ghost responses = { kept_responses };
 

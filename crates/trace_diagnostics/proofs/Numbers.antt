@@ -4,7 +4,7 @@ use Rattle.std.specs.Prelude.{nat_le, min, slice_get, if◌then◌else◌}
 use Rattle.std.proofs.lemmas.Bool.{le-leb, lt-leb}
 use Rattle.std.proofs.lemmas.Option.{slice_get_within}
 use Rattle.std.proofs.Math.Nat.{min-eq_left}
-use Rattle.trace_diagnostics.specs.Told.{Numbered, is_skipped, numbered, numbered_all, plus, further, unskipped, LinesHaveTheirNumbers}
+use Rattle.trace_diagnostics.specs.Told.{TraceLinesView, is_skipped, numbered, numbered_all, plus, further, unskipped, LinesHaveTheirNumbers}
 
 small : (a b : ℕ) → a + b < 2 ^ 64 → plus a b ≡ a + b
 small a b h = min-eq_left (omega (arith, h))
@@ -27,7 +27,7 @@ moves ks k n m e h w = further-push ks k n ∙ rw (e, le-leb k m h) (small m 1 w
 
 -- ---- one line more
 
-abbrev after : ℕ → List ℕ → Bool → Numbered
+abbrev after : ℕ → List ℕ → Bool → TraceLinesView
 after count ks b = record { lines = count + 1; skipped = if b then ks ++ (count + 1) ∷ [] else ks }
 
 one : (count : ℕ) (ks : List ℕ) (line : List ℕ) (b : Bool) → is_skipped line ≡ b → count + 1 < 2 ^ 64 → numbered (record { lines = count; skipped = ks }) line ≡ after count ks b
@@ -39,7 +39,7 @@ left count ks lines n = further (numbered_all (record { lines = count; skipped =
 
 on : (line : List ℕ) (rest : List (List ℕ)) (count : ℕ) (ks : List ℕ) (n m : ℕ) (b : Bool) → is_skipped line ≡ b → count + 1 < 2 ^ 64
     → further (numbered_all (after count ks b) rest).skipped n ≡ m → left count ks (line ∷ rest) n ≡ m
-on line rest count ks n m b is w known = ap (λ (z : Numbered). further (numbered_all z rest).skipped n) (one count ks line b is w) ∙ known
+on line rest count ks n m b is w known = ap (λ (z : TraceLinesView). further (numbered_all z rest).skipped n) (one count ks line b is w) ∙ known
 
 -- ---- all lines
 

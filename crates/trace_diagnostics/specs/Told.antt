@@ -14,11 +14,11 @@ news_of (Some n) found = None
 news_of None found = found
 
 -- the lines of a text so far: how many, and the numbers of those that are skipped, from 1
-pub record Numbered : Type 0 where
+pub record TraceLinesView : Type 0 where
   pub lines : ℕ
   pub skipped : List ℕ
 
-abbrev pub nothing_numbered : Numbered
+abbrev pub nothing_numbered : TraceLinesView
 nothing_numbered = record { lines = 0; skipped = [] }
 
 -- an empty line and one that begins with `#` are skipped
@@ -27,10 +27,10 @@ is_skipped [] = true
 is_skipped (first ∷ rest) = first == 35
 
 -- the number of the line that comes next, a number of 64 bits
-abbrev pub next_line : Numbered → ℕ
+abbrev pub next_line : TraceLinesView → ℕ
 next_line s = min (s.lines + 1) (2 ^ 64 - 1)
 
-abbrev pub numbered : Numbered → List ℕ → Numbered
+abbrev pub numbered : TraceLinesView → List ℕ → TraceLinesView
 numbered s line = record { lines = next_line s; skipped = if is_skipped line then s.skipped ++ next_line s ∷ [] else s.skipped }
 
 -- places are numbers of 64 bits
@@ -43,11 +43,11 @@ further [] n = n
 further (k ∷ ks) n = further ks (if nat_le k n then plus n 1 else n)
 
 -- the number of the nth line that isn't skipped, from 0
-abbrev pub number_at : Numbered → ℕ → ℕ
+abbrev pub number_at : TraceLinesView → ℕ → ℕ
 number_at s n = further s.skipped (plus n 1)
 
 -- after these lines, in their order
-abbrev pub numbered_all : Numbered → List (List ℕ) → Numbered
+abbrev pub numbered_all : TraceLinesView → List (List ℕ) → TraceLinesView
 numbered_all s [] = s
 numbered_all s (line ∷ rest) = numbered_all (numbered s line) rest
 
@@ -62,18 +62,18 @@ LinesHaveTheirNumbers = (lines : List (List ℕ)) (n number : ℕ) → length li
     → slice_get (unskipped 1 lines) n ≡ Some number → number_at (numbered_all nothing_numbered lines) n ≡ number
 
 -- the head and the memory's line stand before the records
-abbrev pub record_line : Numbered → ℕ → ℕ
+abbrev pub record_line : TraceLinesView → ℕ → ℕ
 record_line s place = number_at s (plus place 2)
 
 -- and the line that ends the records before the entries
-abbrev pub entry_line : Numbered → ℕ → ℕ → ℕ
+abbrev pub entry_line : TraceLinesView → ℕ → ℕ → ℕ
 entry_line s records index = number_at s (plus index (plus records 3))
 
 -- the place of a flaw is that of an entry, or of a record
-abbrev pub line_of_flaw : Numbered → ℕ → FlawKind → ℕ → ℕ
+abbrev pub line_of_flaw : TraceLinesView → ℕ → FlawKind → ℕ → ℕ
 line_of_flaw s records kind place = if is_of_entry kind then entry_line s records place else record_line s place
 
 -- of a text that is read: the line whose fault was told, and what the error stream holds
-pub record Telling : Type 0 where
+pub record TraceReasonsView : Type 0 where
   pub told : Option ℕ
   pub errors : Option (List ℕ)

@@ -15,9 +15,9 @@ pub struct TraceLines {
 }
 
 impl Model for TraceLines {
-    ghost use Rattle.trace_diagnostics.specs.Told.{Numbered};
+    ghost use Rattle.trace_diagnostics.specs.Told.{TraceLinesView};
 
-    ghost Value = { Numbered };
+    ghost Value = { TraceLinesView };
 
     ghost view = { λ t. record { lines = t.lines; skipped = t.skipped.items } };
 }

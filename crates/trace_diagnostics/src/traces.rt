@@ -27,9 +27,9 @@ pub struct TraceReasons<E: Write> {
 }
 
 impl<E: Write> Model for TraceReasons<E> {
-    ghost use Rattle.trace_diagnostics.specs.Told.{Telling};
+    ghost use Rattle.trace_diagnostics.specs.Told.{TraceReasonsView};
 
-    ghost Value = { Telling };
+    ghost Value = { TraceReasonsView };
 
     ghost view = { λ t. record { told = t.told; errors = E.contents t.errors } };
 }

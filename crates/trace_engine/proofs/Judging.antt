@@ -8,29 +8,29 @@ use Rattle.history_check.specs.Trace.{Explains}
 use Rattle.line_loop.specs.Lines.{lines_of, bare, said}
 use Rattle.line_loop.specs.Run.{Run, with_answer, after_line as run_on, after_end, new_run}
 use Rattle.trace_text.specs.declared.fault.ReadFault.{ReadFault}
-use Rattle.trace_text.specs.Reading.{Reading, nothing_read, after_line, after_long_line, take_line, read_of}
+use Rattle.trace_text.specs.TraceReaderView.{TraceReaderView, nothing_read, after_line, after_long_line, take_line, read_of}
 use Rattle.trace_engine.specs.Check.{is_read, judged, checked, check_responses, out_check}
 
 -- one line more is read, and nothing written
-one_line : (t : Bool) (s : Reading) (line : List ℕ) → with_answer (new_run s) (cond t (is_read (after_long_line s)) (is_read (after_line s line))) ≡ new_run (cond t (after_long_line s) (after_line s line))
+one_line : (t : Bool) (s : TraceReaderView) (line : List ℕ) → with_answer (new_run s) (cond t (is_read (after_long_line s)) (is_read (after_line s line))) ≡ new_run (cond t (after_long_line s) (after_line s line))
 one_line true s line = refl
 one_line false s line = refl
 
-all_lines : (ls : List (List ℕ)) (s : Reading) → fold (run_on check_responses) (new_run s) ls ≡ new_run (fold take_line s ls)
+all_lines : (ls : List (List ℕ)) (s : TraceReaderView) → fold (run_on check_responses) (new_run s) ls ≡ new_run (fold take_line s ls)
 all_lines [] s = refl
 all_lines (l ∷ ls) s =
-    ap (λ (r : Run Reading). fold (run_on check_responses) r ls) (one_line (nat_lt 512 (length (bare l))) s (said l))
+    ap (λ (r : Run TraceReaderView). fold (run_on check_responses) r ls) (one_line (nat_lt 512 (length (bare l))) s (said l))
     ∙ all_lines ls (take_line s l)
 
 -- the run on a text that is read so
-abbrev verdict : Result Claim ReadFault → Run Reading
+abbrev verdict : Result Claim ReadFault → Run TraceReaderView
 verdict r = with_answer (new_run nothing_read) (checked r)
 
 run_text : (text : List ℕ) → (out_check text).text ≡ (verdict (read_of text)).text
-run_text text = ap (λ (r : Run Reading). (after_end check_responses r).text) (all_lines (lines_of text) nothing_read)
+run_text text = ap (λ (r : Run TraceReaderView). (after_end check_responses r).text) (all_lines (lines_of text) nothing_read)
 
 run_status : (text : List ℕ) → (out_check text).status ≡ (verdict (read_of text)).status
-run_status text = ap (λ (r : Run Reading). (after_end check_responses r).status) (all_lines (lines_of text) nothing_read)
+run_status text = ap (λ (r : Run TraceReaderView). (after_end check_responses r).status) (all_lines (lines_of text) nothing_read)
 
 abbrev Clean : Type 0
 Clean = (c : Claim) → Explains c → first_flaw c ≡ None

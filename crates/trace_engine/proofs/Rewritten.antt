@@ -7,9 +7,9 @@ use Rattle.line_loop.specs.Lines.{lines_of, bare, said}
 use Rattle.line_loop.specs.Run.{Run, with_answer, new_run, run_of, IsBeginning, IsWhole, IsPart}
 use Rattle.line_loop.specs.Run.{after_line as run_on}
 use Rattle.trace_text.specs.declared.fault.ReadFault.{ReadFault}
-use Rattle.trace_text.specs.Reading.{Reading, nothing_read, after_line, after_long_line, take_line, at_end}
-use Rattle.trace_text.specs.Rewriting.{Rewriting, nothing_rewritten, long_line_passed, text_at_end}
-use Rattle.trace_text.specs.Rewriting.{after_line as rewritten_line}
+use Rattle.trace_text.specs.TraceReaderView.{TraceReaderView, nothing_read, after_line, after_long_line, take_line, at_end}
+use Rattle.trace_text.specs.TraceRewriterView.{TraceRewriterView, nothing_rewritten, long_line_passed, text_at_end}
+use Rattle.trace_text.specs.TraceRewriterView.{after_line as rewritten_line}
 use Rattle.trace_text.specs.Rewritten.{rewrite_line, text_of, RewritingIsReading}
 use Rattle.trace_engine.specs.Check.{is_read}
 use Rattle.trace_engine.specs.Upgrade.{upgraded, upgrade_responses, out_upgrade}
@@ -17,33 +17,33 @@ use Rattle.trace_engine.specs.Rewriter.{goes_on, told, rewriter_responses}
 
 -- ---- nothing is written before the end
 
-read_one : (t : Bool) (s : Reading) (line : List ℕ) → with_answer (new_run s) (cond t (is_read (after_long_line s)) (is_read (after_line s line))) ≡ new_run (cond t (after_long_line s) (after_line s line))
+read_one : (t : Bool) (s : TraceReaderView) (line : List ℕ) → with_answer (new_run s) (cond t (is_read (after_long_line s)) (is_read (after_line s line))) ≡ new_run (cond t (after_long_line s) (after_line s line))
 read_one true s line = refl
 read_one false s line = refl
 
-read_all : (ls : List (List ℕ)) (s : Reading) → fold (run_on upgrade_responses) (new_run s) ls ≡ new_run (fold take_line s ls)
+read_all : (ls : List (List ℕ)) (s : TraceReaderView) → fold (run_on upgrade_responses) (new_run s) ls ≡ new_run (fold take_line s ls)
 read_all [] s = refl
 read_all (l ∷ ls) s =
-    ap (λ (r : Run Reading). fold (run_on upgrade_responses) r ls) (read_one (nat_lt 512 (length (bare l))) s (said l))
+    ap (λ (r : Run TraceReaderView). fold (run_on upgrade_responses) r ls) (read_one (nat_lt 512 (length (bare l))) s (said l))
     ∙ read_all ls (take_line s l)
 
-write_one : (t : Bool) (w : Rewriting) (line : List ℕ) → with_answer (new_run w) (cond t (goes_on (long_line_passed w)) (goes_on (rewritten_line w line))) ≡ new_run (cond t (long_line_passed w) (rewritten_line w line))
+write_one : (t : Bool) (w : TraceRewriterView) (line : List ℕ) → with_answer (new_run w) (cond t (goes_on (long_line_passed w)) (goes_on (rewritten_line w line))) ≡ new_run (cond t (long_line_passed w) (rewritten_line w line))
 write_one true w line = refl
 write_one false w line = refl
 
-write_all : (ls : List (List ℕ)) (w : Rewriting) → fold (run_on rewriter_responses) (new_run w) ls ≡ new_run (fold rewrite_line w ls)
+write_all : (ls : List (List ℕ)) (w : TraceRewriterView) → fold (run_on rewriter_responses) (new_run w) ls ≡ new_run (fold rewrite_line w ls)
 write_all [] w = refl
 write_all (l ∷ ls) w =
-    ap (λ (r : Run Rewriting). fold (run_on rewriter_responses) r ls) (write_one (nat_lt 512 (length (bare l))) w (said l))
+    ap (λ (r : Run TraceRewriterView). fold (run_on rewriter_responses) r ls) (write_one (nat_lt 512 (length (bare l))) w (said l))
     ∙ write_all ls (rewrite_line w l)
 
 -- ---- the end
 
 -- what is told of a text or a fault, where nothing was written
-abbrev end_of_writing : Result (List ℕ) ReadFault → Run Rewriting
+abbrev end_of_writing : Result (List ℕ) ReadFault → Run TraceRewriterView
 end_of_writing r = with_answer (new_run nothing_rewritten) (told r)
 
-abbrev end_of_reading : Result Claim ReadFault → Run Reading
+abbrev end_of_reading : Result Claim ReadFault → Run TraceReaderView
 end_of_reading r = with_answer (new_run nothing_read) (upgraded r)
 
 same_text : (r : Result Claim ReadFault) → (end_of_writing (text_of r)).text ≡ (end_of_reading r).text
@@ -55,35 +55,35 @@ same_status (Ok c) = refl
 same_status (Err f) = refl
 
 -- the whole run of the responder
-abbrev pub rewriter_run : List ℕ → Run Rewriting
+abbrev pub rewriter_run : List ℕ → Run TraceRewriterView
 rewriter_run = run_of rewriter_responses nothing_rewritten
 
-abbrev ended_writing : Run Rewriting → Run Rewriting
+abbrev ended_writing : Run TraceRewriterView → Run TraceRewriterView
 ended_writing run = with_answer run (told (text_at_end run.state))
 
-abbrev ended_reading : Run Reading → Run Reading
+abbrev ended_reading : Run TraceReaderView → Run TraceReaderView
 ended_reading run = with_answer run (upgraded (at_end run.state))
 
 pub text-is : RewritingIsReading → (input : List ℕ) → (rewriter_run input).text ≡ (out_upgrade input).text
 text-is law input =
-    ap (λ (r : Run Rewriting). (ended_writing r).text) (write_all (lines_of input) nothing_rewritten)
+    ap (λ (r : Run TraceRewriterView). (ended_writing r).text) (write_all (lines_of input) nothing_rewritten)
     ∙ ap (λ (r : Result (List ℕ) ReadFault). (end_of_writing r).text) (law (lines_of input))
     ∙ same_text (at_end (fold take_line nothing_read (lines_of input)))
-    ∙ sym (ap (λ (r : Run Reading). (ended_reading r).text) (read_all (lines_of input) nothing_read))
+    ∙ sym (ap (λ (r : Run TraceReaderView). (ended_reading r).text) (read_all (lines_of input) nothing_read))
 
 pub status-is : RewritingIsReading → (input : List ℕ) → (rewriter_run input).status ≡ (out_upgrade input).status
 status-is law input =
-    ap (λ (r : Run Rewriting). (ended_writing r).status) (write_all (lines_of input) nothing_rewritten)
+    ap (λ (r : Run TraceRewriterView). (ended_writing r).status) (write_all (lines_of input) nothing_rewritten)
     ∙ ap (λ (r : Result (List ℕ) ReadFault). (end_of_writing r).status) (law (lines_of input))
     ∙ same_status (at_end (fold take_line nothing_read (lines_of input)))
-    ∙ sym (ap (λ (r : Run Reading). (ended_reading r).status) (read_all (lines_of input) nothing_read))
+    ∙ sym (ap (λ (r : Run TraceReaderView). (ended_reading r).status) (read_all (lines_of input) nothing_read))
 
 -- ---- what a run says of its output, moved from one to the other
 
-pub whole : RewritingIsReading → (w : Rewriting) → w ≡ nothing_rewritten → {input rest out out' : Option (List ℕ)} {exit : ℕ}
+pub whole : RewritingIsReading → (w : TraceRewriterView) → w ≡ nothing_rewritten → {input rest out out' : Option (List ℕ)} {exit : ℕ}
     → IsWhole (run_of rewriter_responses w) input rest out out' exit → IsWhole out_upgrade input rest out out' exit
 whole law w is {input} {rest} {out} {out'} {exit} h =
-    let h : IsWhole rewriter_run input rest out out' exit = subst (λ (w : Rewriting). IsWhole (run_of rewriter_responses w) input rest out out' exit) is h in
+    let h : IsWhole rewriter_run input rest out out' exit = subst (λ (w : TraceRewriterView). IsWhole (run_of rewriter_responses w) input rest out out' exit) is h in
     record {
       read = h.read;
       consumed = h.consumed;
@@ -92,10 +92,10 @@ whole law w is {input} {rest} {out} {out'} {exit} h =
       exit_status = h.exit_status ∙ status-is law h.read;
     }
 
-pub part : RewritingIsReading → (w : Rewriting) → w ≡ nothing_rewritten → {input rest out out' : Option (List ℕ)}
+pub part : RewritingIsReading → (w : TraceRewriterView) → w ≡ nothing_rewritten → {input rest out out' : Option (List ℕ)}
     → IsPart (run_of rewriter_responses w) input rest out out' → IsPart out_upgrade input rest out out'
 part law w is {input} {rest} {out} {out'} h =
-    let h : IsPart rewriter_run input rest out out' = subst (λ (w : Rewriting). IsPart (run_of rewriter_responses w) input rest out out') is h in
+    let h : IsPart rewriter_run input rest out out' = subst (λ (w : TraceRewriterView). IsPart (run_of rewriter_responses w) input rest out out') is h in
     record {
       read = h.read;
       done = h.done;

@@ -7,31 +7,31 @@ use Rattle.history_check.specs.Claim.{Claim}
 use Rattle.history_check.specs.Flaws.{first_flaw}
 use Rattle.trace_text.specs.declared.fault.ReadFault.{ReadFault}
 use Rattle.trace_text.specs.Names.{name_of as fault_name}
-use Rattle.trace_text.specs.Reading.{Reading, nothing_read, after_line, after_long_line, at_end}
+use Rattle.trace_text.specs.TraceReaderView.{TraceReaderView, nothing_read, after_line, after_long_line, at_end}
 use Rattle.line_loop.specs.Run.{Answer, Responses, Run, run_of}
 
 -- a line is read, and nothing written
-abbrev pub is_read : Reading → Answer Reading
+abbrev pub is_read : TraceReaderView → Answer TraceReaderView
 is_read s = record { state = s; text = []; is_fault = false }
 
 -- the text has ended: one line is written, and nothing is left of what was read
-abbrev pub concludes : List ℕ → Bool → Answer Reading
+abbrev pub concludes : List ℕ → Bool → Answer TraceReaderView
 concludes line is_fault = record { state = nothing_read; text = line ++ 10 ∷ []; is_fault = is_fault }
 
 abbrev pub fault_line : ReadFault → List ℕ
 fault_line f = codes "fault " ++ decimal f.line ++ 32 ∷ fault_name f.kind
 
-abbrev pub judged : Option (FlawKind × ℕ) → Answer Reading
+abbrev pub judged : Option (FlawKind × ℕ) → Answer TraceReaderView
 judged None = concludes (codes "ok") false
 judged (Some f) = concludes (flaw_line f.0 f.1) true
 
-abbrev pub checked : Result Claim ReadFault → Answer Reading
+abbrev pub checked : Result Claim ReadFault → Answer TraceReaderView
 checked (Err f) = concludes (fault_line f) true
 checked (Ok x) = judged (first_flaw x)
 
-abbrev pub check_responses : Responses Reading
+abbrev pub check_responses : Responses TraceReaderView
 check_responses = record { on_line = λ s line. is_read (after_line s line); on_long_line = λ s. is_read (after_long_line s); on_end = λ s. checked (at_end s) }
 
 -- the whole run of `check` on an input
-abbrev pub out_check : List ℕ → Run Reading
+abbrev pub out_check : List ℕ → Run TraceReaderView
 out_check input = run_of check_responses nothing_read input

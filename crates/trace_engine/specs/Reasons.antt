@@ -4,25 +4,25 @@ use Rattle.history_check.specs.declared.flaws.FlawKind.{FlawKind}
 use Rattle.history_check.specs.Claim.{Claim}
 use Rattle.history_check.specs.Flaws.{first_flaw}
 use Rattle.trace_text.specs.declared.fault.ReadFault.{ReadFault}
-use Rattle.trace_text.specs.Reading.{Reading}
-use Rattle.trace_diagnostics.specs.Told.{Telling, Numbered, line_of_flaw}
+use Rattle.trace_text.specs.TraceReaderView.{TraceReaderView}
+use Rattle.trace_diagnostics.specs.Told.{TraceReasonsView, TraceLinesView, line_of_flaw}
 
 abbrev pub line_of_fault : Option ReadFault → Option ℕ
 line_of_fault None = None
 line_of_fault (Some f) = Some f.line
 
 -- the number of the first line that can't be read, if one was found so far
-abbrev pub faulty_line : Reading → Option ℕ
+abbrev pub faulty_line : TraceReaderView → Option ℕ
 faulty_line s = line_of_fault s.fault
 
 -- a reason was told exactly where there is a fault, and its line is the fault's
-abbrev pub Agrees : Reading → Telling → Type 0
+abbrev pub Agrees : TraceReaderView → TraceReasonsView → Type 0
 Agrees s t = t.told ≡ faulty_line s
 
-abbrev pub line_of_first : Numbered → ℕ → Option (FlawKind × ℕ) → Option ℕ
+abbrev pub line_of_first : TraceLinesView → ℕ → Option (FlawKind × ℕ) → Option ℕ
 line_of_first lines records None = None
 line_of_first lines records (Some f) = Some (line_of_flaw lines records f.0 f.1)
 
 -- the number of the line on which the trace's first flaw lies, if it has one
-abbrev pub flawed_line : Numbered → Claim → Option ℕ
+abbrev pub flawed_line : TraceLinesView → Claim → Option ℕ
 flawed_line lines c = line_of_first lines (length c.records) (first_flaw c)

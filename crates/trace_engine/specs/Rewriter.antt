@@ -1,16 +1,16 @@
 -- What `upgrade` answers while it keeps the text that it is to write in place of records and entries.
 use Rattle.std.specs.Prelude.{ℕ, List, [], ◌∷◌, ◌++◌, true, false, Result, Ok, Err}
 use Rattle.trace_text.specs.declared.fault.ReadFault.{ReadFault}
-use Rattle.trace_text.specs.Rewriting.{Rewriting, nothing_rewritten, after_line, long_line_passed, text_at_end}
+use Rattle.trace_text.specs.TraceRewriterView.{TraceRewriterView, nothing_rewritten, after_line, long_line_passed, text_at_end}
 use Rattle.line_loop.specs.Run.{Answer, Responses}
 use Rattle.trace_engine.specs.Check.{fault_line}
 
-abbrev pub goes_on : Rewriting → Answer Rewriting
+abbrev pub goes_on : TraceRewriterView → Answer TraceRewriterView
 goes_on w = record { state = w; text = []; is_fault = false }
 
-abbrev pub told : Result (List ℕ) ReadFault → Answer Rewriting
+abbrev pub told : Result (List ℕ) ReadFault → Answer TraceRewriterView
 told (Err f) = record { state = nothing_rewritten; text = fault_line f ++ 10 ∷ []; is_fault = true }
 told (Ok text) = record { state = nothing_rewritten; text = text; is_fault = false }
 
-abbrev pub rewriter_responses : Responses Rewriting
+abbrev pub rewriter_responses : Responses TraceRewriterView
 rewriter_responses = record { on_line = λ w line. goes_on (after_line w line); on_long_line = λ w. goes_on (long_line_passed w); on_end = λ w. told (text_at_end w) }

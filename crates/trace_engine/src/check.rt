@@ -2,7 +2,7 @@
 ghost use Rattle.std.specs.Prelude.{◌≡◌, ◌++◌, ◌∷◌, [], true, false, IfOk, IfErr, OnOk, OnErr};
 ghost use Rattle.history_check.specs.Claim.{claim_of};
 ghost use Rattle.history_check.specs.Flaws.{first_flaw};
-ghost use Rattle.trace_text.specs.Reading.{nothing_read};
+ghost use Rattle.trace_text.specs.TraceReaderView.{nothing_read};
 ghost use Rattle.line_loop.specs.Run.{IsAnswer, IsWhole, IsPart};
 ghost use Rattle.diagnostics.specs.Told.{IsReasonTold, IsReasonBegun};
 ghost use Rattle.trace_engine.specs.Check.{flaw_line, judged, out_check};
@@ -70,9 +70,9 @@ struct Checker<E: Write> {
 }
 
 impl<E: Write> Model for Checker<E> {
-    ghost use Rattle.trace_text.specs.Reading.{Reading};
+    ghost use Rattle.trace_text.specs.TraceReaderView.{TraceReaderView};
 
-    ghost Value = { Reading };
+    ghost Value = { TraceReaderView };
 
     ghost view = { λ c. c.input };
 }

@@ -2,7 +2,7 @@
 ghost use Rattle.std.specs.Prelude.{◌≡◌, List, ℕ, Ok, codes};
 ghost use Rattle.history_check.specs.Claim.{Claim};
 ghost use Rattle.history_check.specs.Trace.{Explains};
-ghost use Rattle.trace_text.specs.Reading.{read_of};
+ghost use Rattle.trace_text.specs.TraceReaderView.{read_of};
 ghost use Rattle.trace_engine.specs.Check.{out_check};
 
 use history_check::laws::explained_is_without_flaw;

@@ -2,7 +2,7 @@
 ghost use Rattle.std.specs.Prelude.{◌≡◌, ◌++◌, ◌∷◌, [], true, false, IfOk, IfErr, OnErr, OnOk, Ok, Err};
 ghost use Rattle.history_check.specs.Claim.{claim_of};
 ghost use Rattle.trace_text.specs.Texts.{trace_text};
-ghost use Rattle.trace_text.specs.Reading.{nothing_read, after_line, after_long_line, at_end};
+ghost use Rattle.trace_text.specs.TraceReaderView.{nothing_read, after_line, after_long_line, at_end};
 ghost use Rattle.trace_engine.specs.Check.{fault_line};
 ghost use Rattle.trace_engine.specs.Reasons.{line_of_fault};
 
@@ -37,10 +37,10 @@ pub struct TraceInput<E: Write> {
 }
 
 impl<E: Write> Model for TraceInput<E> {
-    ghost use Rattle.trace_text.specs.Reading.{Reading};
+    ghost use Rattle.trace_text.specs.TraceReaderView.{TraceReaderView};
     ghost use Rattle.trace_engine.specs.Reasons.{Agrees};
 
-    ghost Value = { Reading };
+    ghost Value = { TraceReaderView };
 
     ghost view = { λ t. t.reader };
 

@@ -1,6 +1,6 @@
 //! The subcommand `upgrade`: a trace in the second version of its text.
 ghost use Rattle.std.specs.Prelude.{◌≡◌, IfOk, IfErr, OnErr, Ok, Err};
-ghost use Rattle.trace_text.specs.Rewriting.{nothing_rewritten, text_at_end};
+ghost use Rattle.trace_text.specs.TraceRewriterView.{nothing_rewritten, text_at_end};
 ghost use Rattle.line_loop.specs.Run.{IsWhole, IsPart};
 ghost use Rattle.trace_engine.specs.Upgrade.{out_upgrade};
 
@@ -23,10 +23,10 @@ struct Upgrader<E: Write> {
 }
 
 impl<E: Write> Model for Upgrader<E> {
-    ghost use Rattle.trace_text.specs.Rewriting.{Rewriting};
+    ghost use Rattle.trace_text.specs.TraceRewriterView.{TraceRewriterView};
     ghost use Rattle.trace_engine.specs.Reasons.{Agrees};
 
-    ghost Value = { Rewriting };
+    ghost Value = { TraceRewriterView };
 
     ghost view = { λ u. u.rewriter };
 

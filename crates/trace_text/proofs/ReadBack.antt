@@ -11,7 +11,7 @@ use Rattle.line_loop.specs.Lines.{lines_of}
 use Rattle.tlp_core.specs.declared.operation.Op.{Op}
 use Rattle.seq_memory.specs.declared.Entry.{Entry}
 use Rattle.seq_memory.specs.declared.Reply.{Reply}
-use Rattle.seq_memory.specs.History.{State}
+use Rattle.seq_memory.specs.History.{MemoryView}
 use Rattle.seq_memory.specs.Limits.{IsSize, IsBase, IsBlock, is_size, is_base}
 use Rattle.history_check.specs.declared.Record.{Record}
 use Rattle.history_check.specs.declared.Record.TheVariants as records
@@ -28,7 +28,7 @@ use Rattle.trace_text.specs.declared.reader.Section.{Section}
 use Rattle.trace_text.specs.declared.reader.Section.TheVariants as sections
 use Rattle.trace_text.specs.Forms as forms
 use Rattle.trace_text.specs.Forms.{line_of}
-use Rattle.trace_text.specs.Reading.{Reading, nothing_read, placed, reading_of, at_end, read_of}
+use Rattle.trace_text.specs.TraceReaderView.{TraceReaderView, nothing_read, placed, reading_of, at_end, read_of}
 use Rattle.trace_text.specs.Tellable.{IsTellableRecord, IsTellableEntry, IsTellable}
 use Rattle.trace_text.specs.Texts.{memory_line, record_line, entry_line, lines_text, trace_text}
 use Rattle.trace_text.proofs.FormLemmas.{IsSpelled, RecordIs, EntryIs, then-first, some-is}
@@ -56,7 +56,7 @@ pub record Laws : Type 0 where
 -- ---- the own text of what is spelled
 
 -- the state of a reading of the second version without a fault
-abbrev at : Section → ℕ → ℕ → ℕ → ℕ → List Record → List Entry → Reading
+abbrev at : Section → ℕ → ℕ → ℕ → ℕ → List Record → List Entry → TraceReaderView
 at section n base size block rs es = record {
   section = section;
   version = versions.Two;
@@ -89,12 +89,12 @@ no_return (c ∷ cs) h =
     let ne : (get_or (c ∷ cs) (length (c ∷ cs) - 1) 0 == 13) ≡ false = ne_eqb (get_or (c ∷ cs) (length (c ∷ cs) - 1) 0) 13 (λ e. omega (arith, last.0, e)) in
     rw ne (grind (arith, nat_tests))
 
-on-line : (s : Reading) (line more : List ℕ) (l : Line) → s.fault ≡ None → IsLine s.version line l
+on-line : (s : TraceReaderView) (line more : List ℕ) (l : Line) → s.fault ≡ None → IsLine s.version line l
     → reading_on s (line ++ 10 ∷ more) ≡ reading_on (placed s.section s l) more
 on-line s line more l none is =
     let short : nat_lt 512 (length line) ≡ false = let fits = is.fits in grind (arith, nat_tests) in
     on-feed s line more (no_feeds line is.printed)
-    ∙ ap (λ (r : Reading). reading_on r more) (rw (short, no_return line is.printed, none, is.kept, is.says) refl)
+    ∙ ap (λ (r : TraceReaderView). reading_on r more) (rw (short, no_return line is.printed, none, is.kept, is.says) refl)
 
 -- one word more
 printed-field : (w line : List ℕ) → IsPrinted w → IsPrinted line → IsPrinted (w ++ 32 ∷ line)
@@ -241,7 +241,7 @@ module _ (law : Laws) where
   block-short b (inl e) = (law.short b (omega arith)).0
   block-short b (inr e) = (law.short b (omega arith)).0
 
-  memory-line : (m : State) → IsSpelled address m.base → IsSpelled forms.count m.size → IsBlock m.block → (is_size m.size && is_base m.base m.size) ≡ true → IsLine versions.Two (memory_line m) (lines.Memory m.base m.size m.block)
+  memory-line : (m : MemoryView) → IsSpelled address m.base → IsSpelled forms.count m.size → IsBlock m.block → (is_size m.size && is_base m.base m.size) ≡ true → IsLine versions.Two (memory_line m) (lines.Memory m.base m.size m.block)
   unfolding are_printed
   memory-line m hb hs hk hw = record {
     printed =

@@ -16,7 +16,7 @@ use Rattle.trace_text.specs.declared.reader.Section.{Section}
 use Rattle.trace_text.specs.declared.reader.Section.TheVariants as sections
 use Rattle.trace_text.specs.Forms as forms
 use Rattle.trace_text.specs.Forms.{line_of}
-use Rattle.trace_text.specs.Reading.{Reading, nothing_read, in_head, in_memory, in_records, in_history, placed, taken, after_line, after_long_line, take_line, claim_read, at_end, fault_or_end}
+use Rattle.trace_text.specs.TraceReaderView.{TraceReaderView, nothing_read, in_head, in_memory, in_records, in_history, placed, taken, after_line, after_long_line, take_line, claim_read, at_end, fault_or_end}
 use Rattle.trace_text.proofs.FormLemmas.{IsSpelled, RecordIs, EntryIs, LineIs, line-is}
 
 abbrev pub AllRecords : List Record → Type 0
@@ -43,10 +43,10 @@ pub record IsOwn (base size block : ℕ) (rs : List Record) (es : List Entry) : 
   pub records_are : AllRecords rs
   pub entries_are : AllEntries es
 
-abbrev pub Own : Reading → Type 0
+abbrev pub Own : TraceReaderView → Type 0
 Own s = IsOwn s.base s.size s.block s.records s.entries
 
-pub own-memory : (s : Reading) (l : Line) → Own s → LineIs l → Own (in_memory s l)
+pub own-memory : (s : TraceReaderView) (l : Line) → Own s → LineIs l → Own (in_memory s l)
 own-memory s (lines.Memory base size block) h is = record { within = is.3; base_is = is.0; size_is = is.1; block_is = is.2; records_are = h.records_are; entries_are = h.entries_are }
 own-memory s (lines.Head v) h is = h
 own-memory s (lines.Record r) h is = h
@@ -54,7 +54,7 @@ own-memory s lines.History h is = h
 own-memory s (lines.Entry e) h is = h
 own-memory s lines.End h is = h
 
-pub own-records : (s : Reading) (l : Line) → Own s → LineIs l → Own (in_records s l)
+pub own-records : (s : TraceReaderView) (l : Line) → Own s → LineIs l → Own (in_records s l)
 own-records s (lines.Record r) h is = record { within = h.within; base_is = h.base_is; size_is = h.size_is; block_is = h.block_is; records_are = records-more s.records r h.records_are is; entries_are = h.entries_are }
 own-records s (lines.Head v) h is = h
 own-records s (lines.Memory base size block) h is = h
@@ -62,7 +62,7 @@ own-records s lines.History h is = h
 own-records s (lines.Entry e) h is = h
 own-records s lines.End h is = h
 
-pub own-history : (s : Reading) (l : Line) → Own s → LineIs l → Own (in_history s l)
+pub own-history : (s : TraceReaderView) (l : Line) → Own s → LineIs l → Own (in_history s l)
 own-history s (lines.Entry e) h is = record { within = h.within; base_is = h.base_is; size_is = h.size_is; block_is = h.block_is; records_are = h.records_are; entries_are = entries-more s.entries e h.entries_are is }
 own-history s (lines.Head v) h is = h
 own-history s (lines.Memory base size block) h is = h
@@ -70,7 +70,7 @@ own-history s (lines.Record r) h is = h
 own-history s lines.History h is = h
 own-history s lines.End h is = h
 
-pub own-head : (s : Reading) (l : Line) → Own s → Own (in_head s (Some l))
+pub own-head : (s : TraceReaderView) (l : Line) → Own s → Own (in_head s (Some l))
 own-head s (lines.Head v) h = h
 own-head s (lines.Memory base size block) h = h
 own-head s (lines.Record r) h = h
@@ -78,31 +78,31 @@ own-head s lines.History h = h
 own-head s (lines.Entry e) h = h
 own-head s lines.End h = h
 
-pub own-placed : (section : Section) (s : Reading) (l : Line) → Own s → LineIs l → Own (placed section s l)
+pub own-placed : (section : Section) (s : TraceReaderView) (l : Line) → Own s → LineIs l → Own (placed section s l)
 own-placed sections.Head s l h is = own-head s l h
 own-placed sections.Memory s l h is = own-memory s l h is
 own-placed sections.Records s l h is = own-records s l h is
 own-placed sections.History s l h is = own-history s l h is
 own-placed sections.End s l h is = h
 
-pub own-taken : (s : Reading) (v : Version) (ws : List (List ℕ)) → Own s → Own (taken s (line_of v ws))
+pub own-taken : (s : TraceReaderView) (v : Version) (ws : List (List ℕ)) → Own s → Own (taken s (line_of v ws))
 own-taken s v ws h = by (line_of v ws) refl
   where
     by : (o : Option Line) → line_of v ws ≡ o → Own (taken s o)
     by None e = h
     by (Some l) e = own-placed s.section s l h (line-is v ws l e)
 
-pub own-if : (t : Bool) (a b : Reading) → Own a → Own b → Own (cond t a b)
+pub own-if : (t : Bool) (a b : TraceReaderView) → Own a → Own b → Own (cond t a b)
 own-if true a b ha hb = ha
 own-if false a b ha hb = hb
 
-pub own-line : (s : Reading) (line : List ℕ) → Own s → Own (take_line s line)
+pub own-line : (s : TraceReaderView) (line : List ℕ) → Own s → Own (take_line s line)
 own-line s line h =
     own-if (nat_lt 512 (length (bare line))) (after_long_line s) (after_line s (said line))
     (own-if (is_some s.fault) s (taken s None) h h)
     (own-if (is_some s.fault) s _ h (own-if (is_skipped (said line)) _ (taken s (line_of s.version (words (said line)))) h (own-taken s s.version (words (said line)) h)))
 
-pub own-lines : (ls : List (List ℕ)) (s : Reading) → Own s → Own (fold take_line s ls)
+pub own-lines : (ls : List (List ℕ)) (s : TraceReaderView) → Own s → Own (fold take_line s ls)
 own-lines [] s h = h
 own-lines (l ∷ ls) s h = own-lines ls (take_line s l) (own-line s l h)
 
@@ -112,7 +112,7 @@ own-nothing = record { within = refl; base_is = (codes "0", refl); size_is = (co
 abbrev pub OwnClaim : Claim → Type 0
 OwnClaim c = IsOwn c.memory.base c.memory.size c.memory.block c.records c.memory.entries
 
-pub own-end : (s : Reading) (c : Claim) → Own s → at_end s ≡ Ok c → OwnClaim c
+pub own-end : (s : TraceReaderView) (c : Claim) → Own s → at_end s ≡ Ok c → OwnClaim c
 own-end s c h e = by s.fault s.section e
   where
     by : (f : Option ReadFault) (section : Section) → fault_or_end f (record s { section = section }) ≡ Ok c → OwnClaim c

@@ -13,10 +13,10 @@ use Rattle.trace_text.specs.declared.line.Line.TheVariants as lines
 use Rattle.trace_text.specs.declared.reader.Section.{Section}
 use Rattle.trace_text.specs.declared.reader.Section.TheVariants as sections
 use Rattle.trace_text.specs.Forms.{line_of}
-use Rattle.trace_text.specs.Reading.{Reading, nothing_read, counted, faulty, placed, taken, formless, take_line, at_end, fault_or_end, claim_read}
-use Rattle.trace_text.specs.Reading.{after_line as read_line, after_long_line as read_long_line}
+use Rattle.trace_text.specs.TraceReaderView.{TraceReaderView, nothing_read, counted, faulty, placed, taken, formless, take_line, at_end, fault_or_end, claim_read}
+use Rattle.trace_text.specs.TraceReaderView.{after_line as read_line, after_long_line as read_long_line}
 use Rattle.trace_text.specs.Texts.{memory_line, record_line, entry_line, lines_text, records_text, trace_text}
-use Rattle.trace_text.specs.Rewriting.{Rewriting, nothing_rewritten, added, onward, rewritten_by, rewritten, after_line, long_line_passed, text_or_fault, text_at_end}
+use Rattle.trace_text.specs.TraceRewriterView.{TraceRewriterView, nothing_rewritten, added, onward, rewritten_by, rewritten, after_line, long_line_passed, text_or_fault, text_at_end}
 use Rattle.trace_text.specs.Rewritten.{rewrite_line, text_of, RewritingIsReading}
 use Rattle.trace_text.proofs.TextLemmas.{lines_text-append, lines_text-next, lines_text-none, trace_text-by}
 
@@ -32,7 +32,7 @@ text_in sections.Records base size block rs es = (codes "pciex-trace 2\n" ++ (me
 text_in sections.History base size block rs es = records_text (claim_by base size block rs []) ++ lines_text (map entry_line es)
 text_in sections.End base size block rs es = (records_text (claim_by base size block rs []) ++ lines_text (map entry_line es)) ++ codes "end\n"
 
-abbrev text_so_far : Reading → List ℕ
+abbrev text_so_far : TraceReaderView → List ℕ
 text_so_far s = text_in s.section s.base s.size s.block s.records s.entries
 
 -- lists are empty until their section
@@ -43,10 +43,10 @@ IsInOrder sections.Records rs es = es ≡ []
 IsInOrder sections.History rs es = Unit {0}
 IsInOrder sections.End rs es = Unit {0}
 
-abbrev emptied : Reading → Reading
+abbrev emptied : TraceReaderView → TraceReaderView
 emptied s = record s { records = []; entries = [] }
 
-record Stands (w : Rewriting) (s : Reading) : Type 0 where
+record Stands (w : TraceRewriterView) (s : TraceReaderView) : Type 0 where
   reading : w.reading ≡ emptied s
   text : w.text ≡ text_so_far s
   order : IsInOrder s.section s.records s.entries
@@ -60,23 +60,23 @@ more f xs x =
     ∙ ap lines_text (sym (map-append f xs (x ∷ [])))
 
 -- what a section's line makes of the text and of the order
-record Goes (section : Section) (s : Reading) (l : Line) : Type 0 where
+record Goes (section : Section) (s : TraceReaderView) (l : Line) : Type 0 where
   reading : onward (emptied s) (placed section (emptied s) l) ≡ emptied (placed section s l)
   text : text_in section s.base s.size s.block s.records s.entries ++ added section l ≡ text_so_far (placed section s l)
   order : IsInOrder (placed section s l).section (placed section s l).records (placed section s l).entries
 
-record Stays (section : Section) (s : Reading) : Type 0 where
+record Stays (section : Section) (s : TraceReaderView) : Type 0 where
   text : text_in section s.base s.size s.block s.records s.entries ++ [] ≡ text_so_far s
   order : IsInOrder s.section s.records s.entries
 
 -- a line that isn't due leaves all as it is
-stays : (section : Section) (s : Reading) → s.section ≡ section → IsInOrder section s.records s.entries → Stays section s
+stays : (section : Section) (s : TraceReaderView) → s.section ≡ section → IsInOrder section s.records s.entries → Stays section s
 stays section s e h = record {
   text = append-nil (text_in section s.base s.size s.block s.records s.entries) ∙ ap (λ (x : Section). text_in x s.base s.size s.block s.records s.entries) (sym e);
   order = subst (λ (x : Section). IsInOrder x s.records s.entries) (sym e) h;
 }
 
-goes-head : (s : Reading) (l : Line) → s.section ≡ sections.Head → IsInOrder sections.Head s.records s.entries → Goes sections.Head s l
+goes-head : (s : TraceReaderView) (l : Line) → s.section ≡ sections.Head → IsInOrder sections.Head s.records s.entries → Goes sections.Head s l
 goes-head s (lines.Head v) e h = record { reading = refl; text = refl; order = h }
 goes-head s (lines.Memory base size block) e h = let k = stays sections.Head s e h in record { reading = refl; text = k.text; order = k.order }
 goes-head s (lines.Record r) e h = let k = stays sections.Head s e h in record { reading = refl; text = k.text; order = k.order }
@@ -84,7 +84,7 @@ goes-head s lines.History e h = let k = stays sections.Head s e h in record { re
 goes-head s (lines.Entry x) e h = let k = stays sections.Head s e h in record { reading = refl; text = k.text; order = k.order }
 goes-head s lines.End e h = let k = stays sections.Head s e h in record { reading = refl; text = k.text; order = k.order }
 
-goes-memory : (s : Reading) (l : Line) → s.section ≡ sections.Memory → IsInOrder sections.Memory s.records s.entries → Goes sections.Memory s l
+goes-memory : (s : TraceReaderView) (l : Line) → s.section ≡ sections.Memory → IsInOrder sections.Memory s.records s.entries → Goes sections.Memory s l
 goes-memory s (lines.Memory base size block) e h =
     let head = codes "pciex-trace 2\n" ++ (memory_line (claim_by base size block [] []).memory ++ 10 ∷ []) in
     record {
@@ -98,7 +98,7 @@ goes-memory s lines.History e h = let k = stays sections.Memory s e h in record 
 goes-memory s (lines.Entry x) e h = let k = stays sections.Memory s e h in record { reading = refl; text = k.text; order = k.order }
 goes-memory s lines.End e h = let k = stays sections.Memory s e h in record { reading = refl; text = k.text; order = k.order }
 
-goes-records : (s : Reading) (l : Line) → s.section ≡ sections.Records → IsInOrder sections.Records s.records s.entries → Goes sections.Records s l
+goes-records : (s : TraceReaderView) (l : Line) → s.section ≡ sections.Records → IsInOrder sections.Records s.records s.entries → Goes sections.Records s l
 goes-records s (lines.Record r) e h =
     let head = codes "pciex-trace 2\n" ++ (memory_line (claim_by s.base s.size s.block [] []).memory ++ 10 ∷ []) in
     record {
@@ -120,7 +120,7 @@ goes-records s (lines.Memory base size block) e h = let k = stays sections.Recor
 goes-records s (lines.Entry x) e h = let k = stays sections.Records s e h in record { reading = refl; text = k.text; order = k.order }
 goes-records s lines.End e h = let k = stays sections.Records s e h in record { reading = refl; text = k.text; order = k.order }
 
-goes-history : (s : Reading) (l : Line) → s.section ≡ sections.History → Goes sections.History s l
+goes-history : (s : TraceReaderView) (l : Line) → s.section ≡ sections.History → Goes sections.History s l
 goes-history s (lines.Entry x) e =
     let before = records_text (claim_by s.base s.size s.block s.records []) in
     record {
@@ -136,10 +136,10 @@ goes-history s (lines.Memory base size block) e = let k = stays sections.History
 goes-history s (lines.Record r) e = let k = stays sections.History s e tt in record { reading = refl; text = k.text; order = k.order }
 goes-history s lines.History e = let k = stays sections.History s e tt in record { reading = refl; text = k.text; order = k.order }
 
-goes-end : (s : Reading) (l : Line) → s.section ≡ sections.End → Goes sections.End s l
+goes-end : (s : TraceReaderView) (l : Line) → s.section ≡ sections.End → Goes sections.End s l
 goes-end s l e = let k = stays sections.End s e tt in record { reading = refl; text = k.text; order = k.order }
 
-goes : (section : Section) (s : Reading) (l : Line) → s.section ≡ section → IsInOrder section s.records s.entries → Goes section s l
+goes : (section : Section) (s : TraceReaderView) (l : Line) → s.section ≡ section → IsInOrder section s.records s.entries → Goes section s l
 goes sections.Head s l e h = goes-head s l e h
 goes sections.Memory s l e h = goes-memory s l e h
 goes sections.Records s l e h = goes-records s l e h
@@ -147,21 +147,21 @@ goes sections.History s l e h = goes-history s l e
 goes sections.End s l e h = goes-end s l e
 
 -- the same of a rewriter that stands at a reading
-by-line : (w : Rewriting) (s : Reading) (l : Line) → Stands w s → Stands (rewritten_by w.reading.section w l) (placed s.section s l)
+by-line : (w : TraceRewriterView) (s : TraceReaderView) (l : Line) → Stands w s → Stands (rewritten_by w.reading.section w l) (placed s.section s l)
 by-line w s l at =
     let g = goes s.section s l refl at.order in
     record {
-      reading = ap (λ (r : Reading). onward r (placed r.section r l)) at.reading ∙ g.reading;
-      text = ap (λ (r : Reading). w.text ++ added r.section l) at.reading ∙ ap (λ (t : List ℕ). t ++ added s.section l) at.text ∙ g.text;
+      reading = ap (λ (r : TraceReaderView). onward r (placed r.section r l)) at.reading ∙ g.reading;
+      text = ap (λ (r : TraceReaderView). w.text ++ added r.section l) at.reading ∙ ap (λ (t : List ℕ). t ++ added s.section l) at.text ∙ g.text;
       order = g.order;
     }
 
-by-form : (w : Rewriting) (s : Reading) (o : Option Line) → Stands w s → Stands (rewritten w o) (taken s o)
-by-form w s None at = record { reading = ap (λ (r : Reading). faulty r (formless r.section)) at.reading; text = at.text; order = at.order }
+by-form : (w : TraceRewriterView) (s : TraceReaderView) (o : Option Line) → Stands w s → Stands (rewritten w o) (taken s o)
+by-form w s None at = record { reading = ap (λ (r : TraceReaderView). faulty r (formless r.section)) at.reading; text = at.text; order = at.order }
 by-form w s (Some l) at = by-line w s l at
 
-after : (w : Rewriting) (s : Reading) (line : List ℕ) → Stands w s → Stands (after_line w line) (read_line s line)
-after w s line at = by (is_some w.reading.fault) (is_some s.fault) (ap (λ (r : Reading). is_some r.fault) at.reading) (is_skipped line)
+after : (w : TraceRewriterView) (s : TraceReaderView) (line : List ℕ) → Stands w s → Stands (after_line w line) (read_line s line)
+after w s line at = by (is_some w.reading.fault) (is_some s.fault) (ap (λ (r : TraceReaderView). is_some r.fault) at.reading) (is_skipped line)
   where
     mine : Option Line
     mine = line_of w.reading.version (words line)
@@ -170,7 +170,7 @@ after w s line at = by (is_some w.reading.fault) (is_some s.fault) (ap (λ (r : 
     other = line_of s.version (words line)
 
     same : mine ≡ other
-    same = ap (λ (r : Reading). line_of r.version (words line)) at.reading
+    same = ap (λ (r : TraceReaderView). line_of r.version (words line)) at.reading
 
     by : (f g : Bool) → f ≡ g → (skipped : Bool) → Stands
         (cond f w (cond skipped (record w { reading = counted w.reading }) (rewritten w mine)))
@@ -181,8 +181,8 @@ after w s line at = by (is_some w.reading.fault) (is_some s.fault) (ap (λ (r : 
     by false false e true = record { reading = ap counted at.reading; text = at.text; order = at.order }
     by false false e false = subst (λ (o : Option Line). Stands (rewritten w mine) (taken s o)) same (by-form w s mine at)
 
-after-long : (w : Rewriting) (s : Reading) → Stands w s → Stands (long_line_passed w) (read_long_line s)
-after-long w s at = by (is_some w.reading.fault) (is_some s.fault) (ap (λ (r : Reading). is_some r.fault) at.reading)
+after-long : (w : TraceRewriterView) (s : TraceReaderView) → Stands w s → Stands (long_line_passed w) (read_long_line s)
+after-long w s at = by (is_some w.reading.fault) (is_some s.fault) (ap (λ (r : TraceReaderView). is_some r.fault) at.reading)
   where
     by : (f g : Bool) → f ≡ g → Stands (record w { reading = cond f w.reading (taken w.reading None) }) (cond g s (taken s None))
     by true true e = at
@@ -190,23 +190,23 @@ after-long w s at = by (is_some w.reading.fault) (is_some s.fault) (ap (λ (r : 
     by false true e = absurd (cc e)
     by false false e = by-form w s None at
 
-line : (w : Rewriting) (s : Reading) (l : List ℕ) → Stands w s → Stands (rewrite_line w l) (take_line s l)
+line : (w : TraceRewriterView) (s : TraceReaderView) (l : List ℕ) → Stands w s → Stands (rewrite_line w l) (take_line s l)
 line w s l at = by (nat_lt 512 (length (bare l)))
   where
     by : (long : Bool) → Stands (cond long (long_line_passed w) (after_line w (said l))) (cond long (read_long_line s) (read_line s (said l)))
     by true = after-long w s at
     by false = after w s (said l) at
 
-all : (ls : List (List ℕ)) (w : Rewriting) (s : Reading) → Stands w s → Stands (fold rewrite_line w ls) (fold take_line s ls)
+all : (ls : List (List ℕ)) (w : TraceRewriterView) (s : TraceReaderView) → Stands w s → Stands (fold rewrite_line w ls) (fold take_line s ls)
 all [] w s at = at
 all (l ∷ ls) w s at = all ls (rewrite_line w l) (take_line s l) (line w s l at)
 
 -- ---- the end
 
-whole-text : (s : Reading) → text_in sections.End s.base s.size s.block s.records s.entries ≡ trace_text (claim_read s)
+whole-text : (s : TraceReaderView) → text_in sections.End s.base s.size s.block s.records s.entries ≡ trace_text (claim_read s)
 whole-text s = trace_text-by (claim_read s) (records_text (claim_read s)) (records_text (claim_read s) ++ lines_text (map entry_line s.entries)) (text_in sections.End s.base s.size s.block s.records s.entries) refl refl refl
 
-ends : (f : Option ReadFault) (section : Section) (s : Reading) → text_or_fault (text_in section s.base s.size s.block s.records s.entries) (fault_or_end f (record (emptied s) { section = section })) ≡ text_of (fault_or_end f (record s { section = section }))
+ends : (f : Option ReadFault) (section : Section) (s : TraceReaderView) → text_or_fault (text_in section s.base s.size s.block s.records s.entries) (fault_or_end f (record (emptied s) { section = section })) ≡ text_of (fault_or_end f (record s { section = section }))
 ends (Some f) section s = refl
 ends None sections.Head s = refl
 ends None sections.Memory s = refl
@@ -214,9 +214,9 @@ ends None sections.Records s = refl
 ends None sections.History s = refl
 ends None sections.End s = ap (λ (t : List ℕ). Ok t) (whole-text s)
 
-at-end : (w : Rewriting) (s : Reading) → Stands w s → text_at_end w ≡ text_of (at_end s)
+at-end : (w : TraceRewriterView) (s : TraceReaderView) → Stands w s → text_at_end w ≡ text_of (at_end s)
 at-end w s at =
-    ap (λ (r : Reading). text_or_fault w.text (at_end r)) at.reading ∙ ap (λ (t : List ℕ). text_or_fault t (at_end (emptied s))) at.text ∙ ends s.fault s.section s
+    ap (λ (r : TraceReaderView). text_or_fault w.text (at_end r)) at.reading ∙ ap (λ (t : List ℕ). text_or_fault t (at_end (emptied s))) at.text ∙ ends s.fault s.section s
 
 pub rewriting-is-reading : RewritingIsReading
 rewriting-is-reading ls = at-end _ _ (all ls nothing_rewritten nothing_read (record { reading = refl; text = refl; order = (refl, refl) }))

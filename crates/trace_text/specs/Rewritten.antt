@@ -3,12 +3,12 @@ use Rattle.std.specs.Prelude.{ℕ, ◌≡◌, List, nat_lt, if◌then◌else◌,
 use Rattle.history_check.specs.Claim.{Claim}
 use Rattle.line_loop.specs.Lines.{bare, said}
 use Rattle.trace_text.specs.declared.fault.ReadFault.{ReadFault}
-use Rattle.trace_text.specs.Reading.{nothing_read, take_line, at_end}
+use Rattle.trace_text.specs.TraceReaderView.{nothing_read, take_line, at_end}
 use Rattle.trace_text.specs.Texts.{trace_text}
-use Rattle.trace_text.specs.Rewriting.{Rewriting, nothing_rewritten, after_line, long_line_passed, text_at_end}
+use Rattle.trace_text.specs.TraceRewriterView.{TraceRewriterView, nothing_rewritten, after_line, long_line_passed, text_at_end}
 
 -- a line has at most 512 bytes before its line feed: that is tested first
-abbrev pub rewrite_line : Rewriting → List ℕ → Rewriting
+abbrev pub rewrite_line : TraceRewriterView → List ℕ → TraceRewriterView
 rewrite_line w line = if nat_lt 512 (length (bare line)) then long_line_passed w else after_line w (said line)
 
 -- the text of a trace that was read, or the first fault

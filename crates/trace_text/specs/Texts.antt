@@ -3,7 +3,7 @@ use Rattle.std.specs.Prelude.{ℕ, List, [], ◌∷◌, ◌++◌, codes, map}
 use Rattle.std.specs.List.{join_with_byte}
 use Rattle.std.specs.Fmt.{decimal}
 use Rattle.seq_memory.specs.declared.Entry.{Entry}
-use Rattle.seq_memory.specs.History.{State}
+use Rattle.seq_memory.specs.History.{MemoryView}
 use Rattle.history_check.specs.declared.Record.{Record}
 use Rattle.history_check.specs.declared.Record.TheVariants as records
 use Rattle.history_check.specs.Claim.{Claim}
@@ -13,7 +13,7 @@ use Rattle.operation_text.specs.Texts.{hexadecimal, op_text, reply_text}
 abbrev pub spaced : List (List ℕ) → List ℕ
 spaced fields = join_with_byte 32 fields
 
-abbrev pub memory_line : State → List ℕ
+abbrev pub memory_line : MemoryView → List ℕ
 memory_line m = spaced (codes "memory" ∷ hexadecimal m.base ∷ decimal m.size ∷ decimal m.block ∷ [])
 
 abbrev pub record_line : Record → List ℕ

@@ -1,7 +1,7 @@
 //! Laws of the texts: what holds of the definitions that the contracts cite.
 ghost use Rattle.std.specs.Prelude.{◌≡◌, List, ℕ, Ok};
 ghost use Rattle.history_check.specs.Claim.{Claim};
-ghost use Rattle.trace_text.specs.Reading.{read_of};
+ghost use Rattle.trace_text.specs.TraceReaderView.{read_of};
 ghost use Rattle.trace_text.specs.Tellable.{IsTellable};
 ghost use Rattle.trace_text.specs.Rewritten.{RewritingIsReading};
 ghost use Rattle.trace_text.specs.Texts.{trace_text};

@@ -1,9 +1,9 @@
 //! Reading a trace line by line.
 ghost use Rattle.std.specs.Prelude.{◌≡◌, true, OnOk, OnErr, IfOk, IfErr, Ok, Err, Some};
 ghost use Rattle.history_check.specs.Claim.{claim_of};
-ghost use Rattle.history_check.specs.Observation.{HasLimits};
+ghost use Rattle.history_check.specs.TraceView.{HasLimits};
 ghost use Rattle.trace_text.specs.Forms.{IsLineOfLimits};
-ghost use Rattle.trace_text.specs.Reading as reads;
+ghost use Rattle.trace_text.specs.TraceReaderView as reads;
 
 use crate::fault::{ReadFault, ReadFaultKind};
 use crate::line::{Line, Version, read_line};
@@ -43,9 +43,9 @@ pub struct TraceReader {
 
 impl Model for TraceReader {
     ghost use Rattle.seq_memory.specs.Limits.{IsWithinLimits};
-    ghost use Rattle.trace_text.specs.Reading.{Reading};
+    ghost use Rattle.trace_text.specs.TraceReaderView.{TraceReaderView};
 
-    ghost Value = { Reading };
+    ghost Value = { TraceReaderView };
 
     ghost view = { λ s. record { section = s.section; version = s.version; lines = s.lines; base = s.base; size = s.size; block = s.block; records = s.records.items; entries = s.entries.items; fault = s.fault } };
 

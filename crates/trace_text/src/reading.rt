@@ -1,8 +1,8 @@
 //! Reading the whole text of a trace.
 ghost use Rattle.std.specs.Prelude.{◌≡◌, true, OnOk, OnErr, IfOk, IfErr, Ok};
 ghost use Rattle.history_check.specs.Claim.{claim_of};
-ghost use Rattle.history_check.specs.Observation.{HasLimits};
-ghost use Rattle.trace_text.specs.Reading.{read_of, Tells};
+ghost use Rattle.history_check.specs.TraceView.{HasLimits};
+ghost use Rattle.trace_text.specs.TraceReaderView.{read_of, Tells};
 ghost use Rattle.trace_text.specs.Endings.{on_said, on_ended_line, on_last_line, adds_said, adds_ended, adds_last};
 
 use crate::fault::ReadFault;

@@ -1,8 +1,8 @@
 //! Writing a trace in the second version while it is read.
 ghost use Rattle.std.specs.Prelude.{◌≡◌, ◌++◌, OnOk, OnErr, IfOk, IfErr, Ok, Err};
 ghost use Rattle.trace_text.specs.Forms.{IsLineOfLimits};
-ghost use Rattle.trace_text.specs.Reading.{faulty, formless};
-ghost use Rattle.trace_text.specs.Rewriting as writes;
+ghost use Rattle.trace_text.specs.TraceReaderView.{faulty, formless};
+ghost use Rattle.trace_text.specs.TraceRewriterView as writes;
 
 use crate::fault::{ReadFault, ReadFaultKind};
 use crate::line::{Line, read_line};
@@ -25,9 +25,9 @@ pub struct TraceRewriter {
 }
 
 impl Model for TraceRewriter {
-    ghost use Rattle.trace_text.specs.Rewriting.{Rewriting};
+    ghost use Rattle.trace_text.specs.TraceRewriterView.{TraceRewriterView};
 
-    ghost Value = { Rewriting };
+    ghost Value = { TraceRewriterView };
 
     ghost view = { λ w. record { reading = w.reader; text = w.text.items } };
 }

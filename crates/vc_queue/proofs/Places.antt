@@ -6,7 +6,7 @@ use Rattle.std.specs.List.{list_all}
 use Rattle.std.proofs.lemmas.Bool.Decides.{nat_tests}
 use Rattle.dllp_core.specs.declared.packet.Class.{Class}
 use Rattle.dllp_core.specs.declared.packet.Class.TheVariants.{Posted, NonPosted, Completion}
-use Rattle.tlp_core.specs.Packet.{Packet}
+use Rattle.tlp_core.specs.TlpView.{TlpView}
 use Rattle.fc_credit.specs.Needs.{class_of}
 use Rattle.vc_queue.specs.Ordering.{is_same_request, passes, may_pass}
 use Rattle.vc_queue.specs.Queue.{Item, passes_each, first_passes, is_takeable}
@@ -104,7 +104,7 @@ passes_no_posted Posted same = refl
 passes_no_posted NonPosted same = refl
 passes_no_posted Completion same = refl
 
-posted_stops : (later earlier : Packet) → class_of earlier.kind ≡ Posted → may_pass later earlier ≡ false
+posted_stops : (later earlier : TlpView) → class_of earlier.kind ≡ Posted → may_pass later earlier ≡ false
 posted_stops later earlier e =
     ap (λ (c : Class). passes (class_of later.kind) c (is_same_request later earlier)) e ∙ passes_no_posted (class_of later.kind) (is_same_request later earlier)
 
@@ -113,7 +113,7 @@ posted_passes Posted same n = absurd (n refl)
 posted_passes NonPosted same n = refl
 posted_passes Completion same n = refl
 
-posted_goes : (later earlier : Packet) → class_of later.kind ≡ Posted → class_of earlier.kind ≢ Posted → may_pass later earlier ≡ true
+posted_goes : (later earlier : TlpView) → class_of later.kind ≡ Posted → class_of earlier.kind ≢ Posted → may_pass later earlier ≡ true
 posted_goes later earlier e n =
     ap (λ (c : Class). passes c (class_of earlier.kind) (is_same_request later earlier)) e ∙ posted_passes (class_of earlier.kind) (is_same_request later earlier) n
 
@@ -122,7 +122,7 @@ passes_non_posted Posted same = refl
 passes_non_posted NonPosted same = refl
 passes_non_posted Completion same = refl
 
-pub non_posted_is_passed : (later earlier : Packet) → class_of earlier.kind ≡ NonPosted → may_pass later earlier ≡ true
+pub non_posted_is_passed : (later earlier : TlpView) → class_of earlier.kind ≡ NonPosted → may_pass later earlier ≡ true
 non_posted_is_passed later earlier e =
     ap (λ (c : Class). passes (class_of later.kind) c (is_same_request later earlier)) e ∙ passes_non_posted (class_of later.kind) (is_same_request later earlier)
 
@@ -133,10 +133,10 @@ request_passes Posted Completion same n m = refl
 request_passes NonPosted Completion same n m = refl
 request_passes Completion Completion same n m = absurd (n refl)
 
-pub request_goes : (later earlier : Packet) → class_of later.kind ≢ Completion → class_of earlier.kind ≢ Posted → may_pass later earlier ≡ true
+pub request_goes : (later earlier : TlpView) → class_of later.kind ≢ Completion → class_of earlier.kind ≢ Posted → may_pass later earlier ≡ true
 request_goes later earlier n m = request_passes (class_of later.kind) (class_of earlier.kind) (is_same_request later earlier) n m
 
-pub request_passes_completion : (later earlier : Packet) → class_of later.kind ≢ Completion → class_of earlier.kind ≡ Completion → may_pass later earlier ≡ true
+pub request_passes_completion : (later earlier : TlpView) → class_of later.kind ≢ Completion → class_of earlier.kind ≡ Completion → may_pass later earlier ≡ true
 request_passes_completion later earlier n e = request_goes later earlier n (λ p. let no : Completion ≡ Posted = sym e ∙ p in cc)
 
 pub nothing_passes_posted : (q : List Item) (place before : ℕ) (earlier : Item) → is_takeable q place ≡ true → before < place →
@@ -159,17 +159,17 @@ pub request_is_takeable : (q : List Item) (place : ℕ) (item : Item) → slice_
 request_is_takeable q place item e n h =
     all q place item e (λ before earlier l f. request_goes item.0 earlier.0 n (h before earlier l f))
 
-different_request : (t u : Packet) → (t.requester ≢ u.requester) ⊎ (t.tag ≢ u.tag) → is_same_request t u ≡ false
+different_request : (t u : TlpView) → (t.requester ≢ u.requester) ⊎ (t.tag ≢ u.tag) → is_same_request t u ≡ false
 different_request t u d = grind (arith, nat_tests)
 
-pub different_pass : (later earlier : Packet) → class_of later.kind ≡ Completion → class_of earlier.kind ≡ Completion →
+pub different_pass : (later earlier : TlpView) → class_of later.kind ≡ Completion → class_of earlier.kind ≡ Completion →
     (later.requester ≢ earlier.requester) ⊎ (later.tag ≢ earlier.tag) → may_pass later earlier ≡ true
 different_pass later earlier e f d = rw (e, f, different_request later earlier d) refl
 
-same_request : (t u : Packet) → t.requester ≡ u.requester → t.tag ≡ u.tag → is_same_request t u ≡ true
+same_request : (t u : TlpView) → t.requester ≡ u.requester → t.tag ≡ u.tag → is_same_request t u ≡ true
 same_request t u e f = grind (arith, nat_tests)
 
-completions_stop : (later earlier : Packet) → class_of later.kind ≡ Completion → class_of earlier.kind ≡ Completion →
+completions_stop : (later earlier : TlpView) → class_of later.kind ≡ Completion → class_of earlier.kind ≡ Completion →
     later.requester ≡ earlier.requester → later.tag ≡ earlier.tag → may_pass later earlier ≡ false
 completions_stop later earlier e f r t = rw (e, f, same_request later earlier r t) refl
 

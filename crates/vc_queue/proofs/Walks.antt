@@ -12,7 +12,7 @@ use Rattle.std.proofs.lemmas.Iterator.Adapters.{position_from-zero}
 use Rattle.std.specs.List.{drop-map}
 use Rattle.dllp_core.specs.declared.packet.Class.{Class}
 use Rattle.dllp_core.specs.declared.packet.Class.TheVariants.{Posted, NonPosted, Completion}
-use Rattle.tlp_core.specs.Packet.{Packet}
+use Rattle.tlp_core.specs.TlpView.{TlpView}
 use Rattle.fc_credit.specs.Needs.{class_of}
 use Rattle.fc_credit.specs.Credits.{same}
 use Rattle.vc_queue.specs.declared.classes.Arrived.{Arrived}
@@ -40,7 +40,7 @@ none_rest c d x xs e f n = sym (keep_other c d x x (of_class d xs) e f) ∙ n
 -- ---- what is takeable
 
 -- where no posted request stands before, completions alone are to be passed
-completions_before : (t : Packet) (before : List Arrived) → of_class Posted before ≡ [] →
+completions_before : (t : TlpView) (before : List Arrived) → of_class Posted before ≡ [] →
     passes_each t (map item_of before) ≡ passes_each t (map item_of (of_class Completion before))
 completions_before t [] n = refl
 completions_before t (x ∷ xs) n = by_case (completions_before t xs) (class_in x) refl
@@ -56,7 +56,7 @@ completions_before t (x ∷ xs) n = by_case (completions_before t xs) (class_in 
         sym (ap (λ (l : List Arrived). passes_each t (map item_of l)) (keep_mine Completion x x (of_class Completion xs) e))
 
 -- and a request passes them all
-requests_before : (t : Packet) (before : List Arrived) → class_of t.kind ≢ Completion → of_class Posted before ≡ [] → passes_each t (map item_of before) ≡ true
+requests_before : (t : TlpView) (before : List Arrived) → class_of t.kind ≢ Completion → of_class Posted before ≡ [] → passes_each t (map item_of before) ≡ true
 requests_before t [] m n = refl
 requests_before t (x ∷ xs) m n = by_case (requests_before t xs m) (class_in x) refl
   where

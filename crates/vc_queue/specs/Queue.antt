@@ -2,17 +2,17 @@
 use Rattle.std.specs.Prelude.{ℕ, Bool, false, List, [], ◌∷◌, take, drop, Option}
 use Rattle.std.specs.List.{list_all, position}
 use Rattle.dllp_core.specs.declared.packet.Class.{Class}
-use Rattle.tlp_core.specs.Packet.{Packet}
+use Rattle.tlp_core.specs.TlpView.{TlpView}
 use Rattle.fc_credit.specs.Needs.{class_of}
 use Rattle.fc_credit.specs.Credits.{same}
 use Rattle.vc_queue.specs.Ordering.{may_pass}
 
 -- a packet and its mark
 abbrev pub Item : Type 0
-Item = Packet × ℕ
+Item = TlpView × ℕ
 
 -- the packet may pass each of the items
-abbrev pub passes_each : Packet → List Item → Bool
+abbrev pub passes_each : TlpView → List Item → Bool
 passes_each t earlier = list_all (λ e. may_pass t e.0) earlier
 
 -- the first of the items from a place on may pass each item before that place; false where there is none

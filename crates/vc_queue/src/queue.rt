@@ -19,10 +19,10 @@ pub struct OrderedQueue {
 
 impl Model for OrderedQueue {
     ghost use Rattle.std.specs.Prelude.{ℕ, List};
-    ghost use Rattle.tlp_core.specs.Packet.{Packet};
+    ghost use Rattle.tlp_core.specs.TlpView.{TlpView};
     ghost use Rattle.vc_queue.specs.Arrivals.{IsSound, items_of};
 
-    ghost Value = { List (Packet × ℕ) };
+    ghost Value = { List (TlpView × ℕ) };
 
     ghost view = { λ q. items_of q.classes };
 

@@ -1,7 +1,7 @@
 -- Why a run ends without a report: numbers, names and causes.
 use Rattle.std.specs.Prelude.{◌≡◌, ◌≢◌, ◌⊎◌, ℕ, ◌<◌, List, codes, length, Option, Some}
 use Rattle.seq_memory.specs.declared.Entry.{Entry}
-use Rattle.history_check.specs.Observation.{Observation}
+use Rattle.history_check.specs.TraceView.{TraceView}
 use Rattle.history_check.specs.Claim.{claim_of}
 use Rattle.history_check.specs.Flaws.{first_flaw}
 use Rattle.history_check.specs.declared.flaws.FlawKind.{FlawKind}
@@ -50,14 +50,14 @@ IsFlaw first halts.Memory = Unit {0}
 IsFlaw first _ = ⊥
 
 -- a trace of the memory of this configuration
-abbrev pub IsOfMemory : Config → Observation → Type 0
+abbrev pub IsOfMemory : Config → TraceView → Type 0
 IsOfMemory c trace = (trace.base ≡ c.base) × (trace.size ≡ c.size) × (trace.block ≡ c.block)
 
 -- what the halt of a run that began shows: a flaw is the first of a trace of the memory and a history; a part that was
 -- held has a word
 abbrev pub IsEndBy : Config → RunHalt → Type 0
 IsEndBy c halts.Plan = ⊥
-IsEndBy c (halts.Flaw f) = (trace : Observation) × (history : List Entry) × IsOfMemory c trace × (first_flaw (claim_of trace history) ≡ Some (f.kind, f.place))
+IsEndBy c (halts.Flaw f) = (trace : TraceView) × (history : List Entry) × IsOfMemory c trace × (first_flaw (claim_of trace history) ≡ Some (f.kind, f.place))
 IsEndBy c (halts.Held h) = h.word ≢ 0
 IsEndBy c halts.Turns = Unit {0}
 IsEndBy c halts.Gated = Unit {0}

@@ -61,9 +61,9 @@ pub struct Turns<'a, G> {
 }
 
 impl<'a, G> Model for Turns<'a, G> {
-    ghost use Rattle.worker_turns.specs.Turning.{Turning, IsWithin};
+    ghost use Rattle.worker_turns.specs.TurnsView.{TurnsView, IsWithin};
 
-    ghost Value = { Turning };
+    ghost Value = { TurnsView };
 
     ghost view = { λ t. record { done = t.done; limit = t.limit } };
 

@@ -2,7 +2,7 @@
 use Rattle.std.proofs.Common.{◌≡◌, ℕ, List, get_or, inl, sym, ap, subst, Bool, true, ◌∙◌}
 use Rattle.std.specs.Prelude.{Result, Ok, Err, IfOk, IfErr}
 use Rattle.std.proofs.lemmas.Option.{slice_get-get_or}
-use Rattle.seq_memory.specs.History.{State}
+use Rattle.seq_memory.specs.History.{MemoryView}
 use Rattle.fabric_laws.specs.Fabric.{Fabric}
 use Rattle.fabric_core.specs.declared.config.Config.{Config}
 use Rattle.fabric_core.specs.Config.{IsNewWith}
@@ -29,9 +29,9 @@ work_seats hall first count ss new k d below =
 pub same_config : (c d : Config) (f g : Fabric) → IsNewWith c f → HasConfig f d → HasConfig g d → HasConfig g c
 same_config c d f g n h k = record {
   requesters = k.requesters ∙ sym h.requesters ∙ n.requesters.number;
-  base = k.base ∙ sym h.base ∙ ap (λ (m : State). m.base) n.memory;
-  size = k.size ∙ sym h.size ∙ ap (λ (m : State). m.size) n.memory;
-  block = k.block ∙ sym h.block ∙ ap (λ (m : State). m.block) n.memory;
+  base = k.base ∙ sym h.base ∙ ap (λ (m : MemoryView). m.base) n.memory;
+  size = k.size ∙ sym h.size ∙ ap (λ (m : MemoryView). m.size) n.memory;
+  block = k.block ∙ sym h.block ∙ ap (λ (m : MemoryView). m.block) n.memory;
   credits = k.credits ∙ sym h.credits ∙ n.credits;
 }
 

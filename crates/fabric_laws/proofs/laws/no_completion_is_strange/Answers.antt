@@ -1,6 +1,6 @@
 use Rattle.fabric_laws.proofs.laws.no_completion_is_strange.Goals as goal
 use Rattle.std.specs.Prelude.{ℕ, length}
-use Rattle.tlp_core.specs.Packet.{Packet}
+use Rattle.tlp_core.specs.TlpView.{TlpView}
 use Rattle.lane_core.specs.Calls.{content}
 use Rattle.fabric_laws.specs.Whole.{view}
 use Rattle.fabric_laws.specs.Routed.{HasPort, FitsStatus}
@@ -12,5 +12,5 @@ pub returns : goal.returns
 returns x = record {
   expected = λ p i c rest s d. expected i (view p i) c rest (s i) d;
   finished = λ f i mark q lane t s r a b c. finishes f i q lane t mark s r a b c;
-  routed = λ f place mark t r at. (each_at (λ (x : Packet × ℕ). HasPort (length f.requesters) x.0 × FitsStatus x.0.kind x.0.body) (content f.outward) place (t, mark) at r.outward).0;
+  routed = λ f place mark t r at. (each_at (λ (x : TlpView × ℕ). HasPort (length f.requesters) x.0 × FitsStatus x.0.kind x.0.body) (content f.outward) place (t, mark) at r.outward).0;
 }

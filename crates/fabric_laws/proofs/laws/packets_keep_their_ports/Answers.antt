@@ -1,6 +1,6 @@
 use Rattle.fabric_laws.proofs.laws.packets_keep_their_ports.Goals as goal
 use Rattle.std.specs.Prelude.{ℕ, ◌≡◌, true, length, is_some}
-use Rattle.tlp_core.specs.Packet.{Packet}
+use Rattle.tlp_core.specs.TlpView.{TlpView}
 use Rattle.tlp_core.specs.Operation.{op_of}
 use Rattle.lane_core.specs.Calls.{content}
 use Rattle.fabric_laws.specs.Routed.{HasPort}
@@ -9,7 +9,7 @@ use Rattle.fabric_laws.proofs.Routed.{submit_routed, forward_routed, serve_route
 
 pub returns : goal.returns
 returns c = record {
-  asks = λ f place mark t r at. (each_at (λ (x : Packet × ℕ). HasPort (length f.requesters) x.0 × (is_some (op_of x.0) ≡ true)) (content f.inward) place (t, mark) at r.inward).1;
+  asks = λ f place mark t r at. (each_at (λ (x : TlpView × ℕ). HasPort (length f.requesters) x.0 × (is_some (op_of x.0) ≡ true)) (content f.inward) place (t, mark) at r.inward).1;
   submitted = λ f f' i op r e. submit_routed f i op f' r e;
   forwarded = λ f f' i place r e. forward_routed f i place f' r e;
   served = λ f f' place r e. serve_routed f place f' r e;

@@ -1,7 +1,7 @@
 use Rattle.std.proofs.Common.{◌≡◌, ◌+◌, ◌*◌, ◌++◌, ◌∷◌, [], ℕ, suc, List, Option, arith, sym, ◌∙◌, subst}
 use Rattle.std.specs.Mem.Slots.{slots_items, slots_filled, slots_len}
-use Rattle.requester_core.specs.Requesting.{Requesting}
-use Rattle.lane_ends.specs.Steps.{Ends}
+use Rattle.requester_core.specs.RequesterView.{RequesterView}
+use Rattle.lane_ends.specs.Steps.{LaneEndsView}
 use Rattle.hall_laws.specs.declared.part.PartValue.{PartValue}
 use Rattle.hall_assembly.specs.Closes.{IsEmptiedTo, StationFrom, StationsAt}
 use Rattle.hall_assembly.proofs.Emptied.{station_at, one_station}
@@ -25,9 +25,9 @@ loop-place-preserved c =
     let at : 9 * (c.from.result + 1) ≡ 9 * suc n = omega (arith, c.from.ensures) in
     let one : StationFrom xs (9 * suc n) v.0 v.1 v.2 = subst (λ (k : ℕ). StationFrom xs k v.0 v.1 v.2) at (subst (λ (l : List (Option PartValue)). StationFrom l (9 * (c.from.result + 1)) v.0 v.1 v.2) i.2 v.3) in
     let more : StationsAt xs (n + 1) (c.loop-place.shelves.requesters.items ++ v.0 ∷ []) (c.loop-place.shelves.up.items ++ v.1 ∷ []) (c.loop-place.shelves.down.items ++ v.2 ∷ []) = one_station xs n c.loop-place.shelves.requesters.items c.loop-place.shelves.up.items c.loop-place.shelves.down.items v.0 v.1 v.2 i.0 one in
-    let Q : List Requesting → Type 0 = λ l. StationsAt xs (n + 1) l c.next_station.new.shelves.up.items c.next_station.new.shelves.down.items in
-    let U : List Ends → Type 0 = λ l. StationsAt xs (n + 1) (c.loop-place.shelves.requesters.items ++ v.0 ∷ []) l c.next_station.new.shelves.down.items in
-    let D : List Ends → Type 0 = λ l. StationsAt xs (n + 1) (c.loop-place.shelves.requesters.items ++ v.0 ∷ []) (c.loop-place.shelves.up.items ++ v.1 ∷ []) l in
+    let Q : List RequesterView → Type 0 = λ l. StationsAt xs (n + 1) l c.next_station.new.shelves.up.items c.next_station.new.shelves.down.items in
+    let U : List LaneEndsView → Type 0 = λ l. StationsAt xs (n + 1) (c.loop-place.shelves.requesters.items ++ v.0 ∷ []) l c.next_station.new.shelves.down.items in
+    let D : List LaneEndsView → Type 0 = λ l. StationsAt xs (n + 1) (c.loop-place.shelves.requesters.items ++ v.0 ∷ []) (c.loop-place.shelves.up.items ++ v.1 ∷ []) l in
     let far : 9 * (c.from.result + 1) + 9 ≡ 9 * (n + 1 + 1) = omega (arith, c.from.ensures) in (
       subst Q (sym v.4) (subst U (sym v.5) (subst D (sym v.6) more)),
       subst (λ (k : ℕ). IsEmptiedTo (slots_filled c.next_station.new.closed.slots) (slots_len c.next_station.new.closed.slots) k) far r.0,

@@ -1,5 +1,5 @@
 use Rattle.std.proofs.Common.{◌≡◌, ◌<◌, List, ◌∷◌, length, ap, sym, ◌∙◌, arith}
-use Rattle.requester_core.specs.Requesting.{Requesting}
+use Rattle.requester_core.specs.RequesterView.{RequesterView}
 use Rattle.hall_assembly.proofs.Shelved.{first_out, pushed_station}
 use Rattle.hall_assembly.proofs.opening.push_stations.Goals as goal
 
@@ -12,8 +12,8 @@ loop-place-preserved c =
     let some_u : 0 < length us.items = omega (arith, i.2, us.ok.0, more) in
     let some_d : 0 < length ds.items = omega (arith, i.3, ds.ok.0, more) in
     let q = c.remove-requester.ensures in let u = c.remove-up.ensures in let d = c.remove-down.ensures in
-    let rest : List Requesting = c.remove-requester.new.self.items in
-    let out_q : qs.items ≡ c.in_ok-requester.requester ∷ rest = first_out qs.items rest c.remove-requester.result some_q q.value q.items ∙ ap (λ (z : Requesting). z ∷ rest) (sym c.in_ok-requester.ensures) in
+    let rest : List RequesterView = c.remove-requester.new.self.items in
+    let out_q : qs.items ≡ c.in_ok-requester.requester ∷ rest = first_out qs.items rest c.remove-requester.result some_q q.value q.items ∙ ap (λ (z : RequesterView). z ∷ rest) (sym c.in_ok-requester.ensures) in
     let out_u : us.items ≡ c.remove-up.result ∷ c.remove-up.new.self.items = first_out us.items c.remove-up.new.self.items c.remove-up.result some_u u.value u.items in
     let out_d : ds.items ≡ c.remove-down.result ∷ c.remove-down.new.self.items = first_out ds.items c.remove-down.new.self.items c.remove-down.result some_d d.value d.items in (
       pushed_station c.loop-place.slots.items c.push_station.new.slots.items _ qs.items c.remove-requester.new.self.items us.items c.remove-up.new.self.items ds.items c.remove-down.new.self.items c.in_ok-requester.requester c.remove-up.result c.remove-down.result i.0 out_q out_u out_d c.in_ok-push_station.ensures.items,

@@ -1,5 +1,5 @@
 use Rattle.std.proofs.Common.{rules, ◌≡◌, ◌⊎◌, ◌≤◌, ◌<◌, ℕ, List, [], ◌∷◌, inl, inr, sym, subst, arith, Ok}
-use Rattle.lane_ends.specs.Steps.{Incoming}
+use Rattle.lane_ends.specs.Steps.{ReceiverEndView}
 use Rattle.fabric_core.specs.declared.event.Event.TheVariants.{Forward}
 use Rattle.fabric_core.specs.declared.event.Seen.TheVariants.{To}
 use Rattle.fabric_core.specs.declared.event.LaneName.TheVariants as lanes
@@ -50,7 +50,7 @@ returns-in-Ok-forward-clause-shows c =
     (c.forwarding_out.ensures.owes t c.args.at to r c.forward.new.receiver s c.forward.new.sender (some_port, omega (arith, many, small)) held routed c.in-Ok-forward.ensures.ok c.in-Ok-forward.ensures.fits))
 
 -- a packet of `out` that has no way, or no lane at its port
-out_refused : (t : Token) (ts : List Token) (place count : ℕ) (v : Incoming) (r : Refusal) → OutHasNoWay → OutHasNoLane → t.knows.config.requesters ≡ count → KnownHolding t ts ((8, Receiver v) ∷ []) → HasNoWayDown v place count r → MayRefuse t.knows (Forward lanes.Outward place) r
+out_refused : (t : Token) (ts : List Token) (place count : ℕ) (v : ReceiverEndView) (r : Refusal) → OutHasNoWay → OutHasNoLane → t.knows.config.requesters ≡ count → KnownHolding t ts ((8, Receiver v) ∷ []) → HasNoWayDown v place count r → MayRefuse t.knows (Forward lanes.Outward place) r
 out_refused t ts place count v r no_way no_lane many k (inl h) = no_way t ts place v r k h
 out_refused t ts place count v r no_way no_lane many k (inr h) =
     let beyond : (h.1 ≡ 0) ⊎ (t.knows.config.requesters < h.1) = subst (λ (n : ℕ). (h.1 ≡ 0) ⊎ (n < h.1)) (sym many) h.3 in

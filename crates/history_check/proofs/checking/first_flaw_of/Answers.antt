@@ -1,13 +1,13 @@
 use Rattle.std.proofs.Common.{◌≡◌, ap, sym, ◌∙◌}
 use Rattle.history_check.specs.Claim.{claim_of}
 use Rattle.history_check.specs.Lookup.{AreTables}
-use Rattle.history_check.specs.Observation.{Observation}
+use Rattle.history_check.specs.TraceView.{TraceView}
 use Rattle.history_check.proofs.Verdicts.{on_ok, if_err, tables_are, all_clean, last_tells}
 use Rattle.history_check.proofs.checking.first_flaw_of.Goals as goal
 
 -- the records are the trace's
 same : (c : goal.After-drop-index-inside-2) → c.args.trace.now.records ≡ c.as_slice-records.result.now
-same c = sym (ap (λ (t : Observation). t.records) c.trace.view_is) ∙ sym c.as_slice-records.ensures.value
+same c = sym (ap (λ (t : TraceView). t.records) c.trace.view_is) ∙ sym c.as_slice-records.ensures.value
 
 tables : (c : goal.After-drop-index-inside-2)
     → AreTables (claim_of c.args.trace.now c.args.history.now) c.in_ok-index.index c.as_slice-records.result.now c.deref-3.result.now c.deref-4.result.now c.deref-5.result.now c.deref-6.result.now

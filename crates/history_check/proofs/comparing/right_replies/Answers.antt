@@ -2,7 +2,7 @@ use Rattle.std.proofs.Common.{rules, ℕ, ◌≡◌, ◌+◌, ◌++◌, length, 
 use Rattle.std.specs.Prelude.{replicate}
 use Rattle.std.proofs.lemmas.List.{length-replicate, drop_all, take_all, append-nil, length_push}
 use Rattle.history_check.specs.Claim.{claim_of}
-use Rattle.history_check.specs.Observation.{Observation, observed}
+use Rattle.history_check.specs.TraceView.{TraceView, observed}
 use Rattle.history_check.proofs.Tables.{read_at}
 use Rattle.history_check.proofs.Replies.{contents_none, contents_next, right_next, right_all}
 use Rattle.history_check.proofs.comparing.right_replies.Goals as goal
@@ -14,7 +14,7 @@ written_back n old new e1 e2 =
 pub loop-p-init : goal.loop-p-init
 loop-p-init c =
     let t = c.args.trace.now in
-    let size : c.trace.inside.size ≡ t.size = ap (λ (t : Observation). t.size) c.trace.view_is in
+    let size : c.trace.inside.size ≡ t.size = ap (λ (t : TraceView). t.size) c.trace.view_is in
     record {
       bytes = c.in_ok-bytes.ensures ∙ ap (λ n. replicate n 0) size ∙ sym (contents_none (observed t));
       size = ap (length {A = ℕ}) c.in_ok-bytes.ensures ∙ length-replicate {A = ℕ} c.trace.inside.size 0 ∙ size;

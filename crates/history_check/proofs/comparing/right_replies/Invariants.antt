@@ -2,7 +2,7 @@ use Rattle.std.proofs.Common.{ℕ, ◌≡◌, ◌<◌, take, length}
 use Rattle.std.specs.Prelude.{slice_get}
 use Rattle.seq_memory.specs.History.{contents}
 use Rattle.history_check.specs.Claim.{claim_of}
-use Rattle.history_check.specs.Observation.{observed}
+use Rattle.history_check.specs.TraceView.{observed}
 use Rattle.history_check.specs.Lookup.{right_in}
 use Rattle.history_check.proofs.comparing.right_replies.Given as goal
 

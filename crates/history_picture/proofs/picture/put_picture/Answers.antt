@@ -1,6 +1,6 @@
 use Rattle.std.proofs.Common.{◌∙◌, ◌++◌, ap, List}
 use Rattle.history_check.specs.declared.Record.{Record}
-use Rattle.history_check.specs.Observation.{Observation}
+use Rattle.history_check.specs.TraceView.{TraceView}
 use Rattle.history_picture.specs.declared.marks.View.{View}
 use Rattle.history_picture.specs.Picture.{view_of, view_text}
 use Rattle.history_picture.proofs.picture.put_picture.Goals as goal
@@ -11,4 +11,4 @@ returns-clause-ok c =
     let h = c.args.history.now in
     c.in_ok-put_whole.ensures.ok
     ∙ ap (λ (v : View). o ++ view_text v c.as_slice-records.result.now h c.args.flaw) c.view_of-view.ensures.view
-    ∙ ap (λ (rs : List Record). o ++ view_text (view_of c.args.window rs h c.args.flaw) rs h c.args.flaw) (c.as_slice-records.ensures.value ∙ ap (λ (t : Observation). t.records) c.trace.view_is)
+    ∙ ap (λ (rs : List Record). o ++ view_text (view_of c.args.window rs h c.args.flaw) rs h c.args.flaw) (c.as_slice-records.ensures.value ∙ ap (λ (t : TraceView). t.records) c.trace.view_is)

@@ -1,4 +1,4 @@
-use Rattle.link_receiver.specs.Receiving.{fresh}
+use Rattle.link_receiver.specs.ReceiverView.{fresh}
 use Rattle.link_receiver.proofs.RunLemmas.{advanced, consecutive}
 use Rattle.link_receiver.proofs.laws.hands_up_what_it_advanced_by.Goals as goal
 

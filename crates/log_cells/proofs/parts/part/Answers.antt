@@ -1,6 +1,6 @@
 use Rattle.std.proofs.Common.{◌≡◌, List, length, refl, subst}
 use Rattle.std.specs.Prelude.{IfSome}
-use Rattle.seq_memory.specs.History.{State, extent_of}
+use Rattle.seq_memory.specs.History.{MemoryView, extent_of}
 use Rattle.log_cells.specs.declared.places.Place.{Place}
 use Rattle.log_cells.specs.Parts.{AreKept, Holds}
 use Rattle.log_cells.specs.Places.{AreNames}
@@ -12,7 +12,7 @@ returns c =
     let names = c.in_ok-names.names.items in
     let memory = c.in-Some.memory in
     let events = c.in-Some-2.events.items in
-    let made = subst (λ o. IfSome o (λ (m : State). (m.block ≡ c.args.log.now.extent.block) × Holds (extent_of m) c.args.low c.args.high)) c.in-Some.is c.in_ok-memory.ensures in
+    let made = subst (λ o. IfSome o (λ (m : MemoryView). (m.block ≡ c.args.log.now.extent.block) × Holds (extent_of m) c.args.low c.args.high)) c.in-Some.is c.in_ok-memory.ensures in
     let are = subst (λ (ps : List Place). AreNames names ps c.args.low c.args.high (length ps)) c.places.ensures c.in_ok-names.ensures in
     let kept = subst (λ o. IfSome o (λ v. AreKept c.args.log.now.events c.deref.result.now c.args.low c.args.high v.items (length c.deref.result.now))) c.in-Some-2.is c.in_ok-events.ensures in
     let kept_names = subst (λ ns. AreKept c.args.log.now.events ns c.args.low c.args.high events (length ns)) c.deref.ensures.value kept in

@@ -5,7 +5,7 @@ use Rattle.std.proofs.lemmas.Grind.{common_steps}
 use Rattle.line_loop.specs.Lines.{lines_of}
 use Rattle.line_loop.specs.LineFacts.{none-before, none-at-all}
 use Rattle.trace_text.specs.declared.fault.ReadFault.{ReadFault}
-use Rattle.log_text.specs.Reading.{LogReading, reading_of, Tells, at_end}
+use Rattle.log_text.specs.LogReaderView.{LogReaderView, reading_of, Tells, at_end}
 use Rattle.log_text.proofs.LineLemmas.{reading_on, on-last, on-none, cut-at, Stands, stands-new, fed, whole, refused, stopped, adds-feed, adds-last, lines-feed, lines-last}
 use Rattle.log_text.proofs.reading.read_log.Goals.{then-not-is_empty+in-Ok-take_last, else-not-is_empty}
 use Rattle.log_text.proofs.reading.read_log.Goals as goal
@@ -15,7 +15,7 @@ left : (xs : List ℕ) (n : ℕ) → take (length xs - n) (drop n xs) ≡ drop n
 left xs n = grind (arith, common_steps)
 
 -- a fault of the whole text
-told : {T : Type 0} (text : List ℕ) (s : LogReading) (r : Result T ReadFault) → reading_of text ≡ s → IfErr r (λ f. at_end s ≡ Err f) → IfErr r (Tells text)
+told : {T : Type 0} (text : List ℕ) (s : LogReaderView) (r : Result T ReadFault) → reading_of text ≡ s → IfErr r (λ f. at_end s ≡ Err f) → IfErr r (Tells text)
 told text s (Ok t) e h = tt
 told text s (Err f) e h = inl (ap at_end e ∙ h)
 
@@ -83,7 +83,7 @@ all_read c = elim c.if-not-is_empty.branch [
 
 pub returns-clause-ok : goal.returns-clause-ok
 returns-clause-ok c =
-    subst (λ (s : LogReading). IfOk c.end.result (λ t. at_end s ≡ Ok t)) (sym (all_read c)) c.end.ensures.ok
+    subst (λ (s : LogReaderView). IfOk c.end.result (λ t. at_end s ≡ Ok t)) (sym (all_read c)) c.end.ensures.ok
 
 pub returns-clause-err : goal.returns-clause-err
 returns-clause-err c = told c.args.text.now c.if-not-is_empty.reader c.end.result (all_read c) c.end.ensures.err

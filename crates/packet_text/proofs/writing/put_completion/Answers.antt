@@ -2,7 +2,7 @@ use Rattle.std.proofs.Common.{◌≡◌, ◌++◌, ◌∙◌, ap, sym}
 use Rattle.std.specs.Prelude.{codes}
 use Rattle.tlp_core.specs.declared.packet.Body.{Body}
 use Rattle.tlp_core.specs.declared.packet.Body.TheVariants as bodies
-use Rattle.tlp_core.specs.Packet.{Packet}
+use Rattle.tlp_core.specs.TlpView.{TlpView}
 use Rattle.packet_text.specs.Texts as texts
 use Rattle.packet_text.proofs.TextLemmas.{then}
 use Rattle.packet_text.proofs.writing.put_completion.Goals as goal
@@ -17,7 +17,7 @@ returns-clause-text c =
     let class = texts.class_text t.tc t.attr in
     let end = c.put_class.new.out.bytes in
     let body : t.body ≡ bodies.Completion c.in-Completion.completer c.in-Completion.status c.in-Completion.byte_count c.in-Completion.lower =
-    sym (ap (λ (p : Packet). p.body) c.tlp.view_is) ∙ c.in-Completion.is in
+    sym (ap (λ (p : TlpView). p.body) c.tlp.view_is) ∙ c.in-Completion.is in
     then c.args.out.now.bytes c.push_str.new.self.bytes end (codes "completion ") (status ++ (bytes ++ (codes " to " ++ (origin ++ (completer ++ class))))) c.push_str.ensures.bytes
     (then c.push_str.new.self.bytes c.put_status.new.out.bytes end status (bytes ++ (codes " to " ++ (origin ++ (completer ++ class)))) c.put_status.ensures.text
     (then c.put_status.new.out.bytes c.put_data.new.out.bytes end bytes (codes " to " ++ (origin ++ (completer ++ class))) c.put_data.ensures.text

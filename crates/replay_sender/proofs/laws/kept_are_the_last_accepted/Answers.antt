@@ -1,4 +1,4 @@
-use Rattle.replay_sender.specs.Sending.{fresh}
+use Rattle.replay_sender.specs.SenderView.{fresh}
 use Rattle.replay_sender.specs.Runs.{after_calls, accepted_in}
 use Rattle.replay_sender.proofs.KeptLemmas.{run_keeps, next_counts}
 use Rattle.replay_sender.proofs.laws.kept_are_the_last_accepted.Goals as goal

@@ -1,4 +1,4 @@
-use Rattle.replay_sender.specs.Sending.{fresh}
+use Rattle.replay_sender.specs.SenderView.{fresh}
 use Rattle.replay_sender.specs.Runs.{after_calls, accepted_in}
 use Rattle.replay_sender.proofs.KeptLemmas.{run_keeps, sent_is_kept}
 use Rattle.replay_sender.proofs.laws.transmitted_under_its_own_number.Goals as goal

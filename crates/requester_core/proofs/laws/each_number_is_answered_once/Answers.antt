@@ -1,6 +1,6 @@
 use Rattle.std.proofs.Common.{sym, ap, ◌∙◌, zero-add}
 use Rattle.std.specs.List.{range_with_len}
-use Rattle.requester_core.specs.Requesting.{fresh}
+use Rattle.requester_core.specs.RequesterView.{fresh}
 use Rattle.requester_core.proofs.Tags.{sound_fresh}
 use Rattle.requester_core.proofs.Numbers.{gave_calls, sound_calls, not_yet, once}
 use Rattle.requester_core.proofs.laws.each_number_is_answered_once.Goals as goal

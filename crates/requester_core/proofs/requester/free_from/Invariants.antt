@@ -1,5 +1,5 @@
 use Rattle.std.proofs.Common.{◌-◌, ◌≤◌, length}
-use Rattle.requester_core.specs.Requesting.{lowest_free}
+use Rattle.requester_core.specs.RequesterView.{lowest_free}
 use Rattle.requester_core.proofs.requester.free_from.Given as goal
 
 abbrev pub invariant-loop-place : goal.invariant-loop-place

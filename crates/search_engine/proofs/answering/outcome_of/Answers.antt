@@ -1,6 +1,6 @@
 use Rattle.std.proofs.Common.{◌∙◌, ℕ, ◌-◌, ◌∷◌, ◌++◌, [], ap, refl, inl, inr, subst, arith, Result, Ok, Err}
 use Rattle.trace_text.specs.declared.fault.ReadFault.{ReadFault}
-use Rattle.history_check.specs.Observation.{Observation}
+use Rattle.history_check.specs.TraceView.{TraceView}
 use Rattle.history_search.specs.Prefixes.{IsUnexplained}
 use Rattle.search_engine.specs.declared.answering.Finding.{Finding}
 use Rattle.search_engine.specs.Findings.{IsFinding}
@@ -11,7 +11,7 @@ use Rattle.search_engine.proofs.answering.outcome_of.Goals as goal
 pub returns-in-None : goal.returns-in-None
 returns-in-None c = by
   where
-    by : (r : Result Observation ReadFault) → IsFinding r c.args.finding → IsAnswerTo c.args.limit r c.in_ok-text-in-None.text.items 1
+    by : (r : Result TraceView ReadFault) → IsFinding r c.args.finding → IsAnswerTo c.args.limit r c.in_ok-text-in-None.text.items 1
     by (Ok t) h =
         let is : IsUnexplained t c.in-None.prefix = subst (λ (f : Finding). IsFinding (Ok t) f) c.in-None.is h in
         let some = some-records t c.in-None.prefix is.unexplained in

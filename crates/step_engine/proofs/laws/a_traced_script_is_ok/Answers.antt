@@ -5,7 +5,7 @@ use Rattle.fabric_core.specs.declared.config.Config.{Config}
 use Rattle.fabric_core.specs.declared.event.Event.{Event}
 use Rattle.fabric_core.specs.Config.{IsNewWith}
 use Rattle.fabric_core.specs.Runs.{Runs}
-use Rattle.trace_text.specs.Reading.{read_of}
+use Rattle.trace_text.specs.TraceReaderView.{read_of}
 use Rattle.trace_text.specs.Tellable.{IsTellable}
 use Rattle.step_engine.specs.Script.{IsScript}
 use Rattle.step_engine.specs.Step.{claim_with, out_step}

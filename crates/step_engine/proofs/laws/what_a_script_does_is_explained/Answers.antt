@@ -1,6 +1,6 @@
 use Rattle.std.proofs.Common.{ap}
 use Rattle.line_loop.specs.Run.{Run}
-use Rattle.step_engine.specs.Step.{Stepping}
+use Rattle.step_engine.specs.Step.{StepperView}
 use Rattle.step_engine.proofs.Traced.{Laws, Answers, is_told, is_explained}
 use Rattle.step_engine.proofs.laws.what_a_script_does_is_explained.Goals as goal
 
@@ -22,7 +22,7 @@ answers_of c = record {
 
 pub returns : goal.returns
 returns c = record {
-  text = λ keeps echoes input p h. ap (λ (x : Run Stepping). x.text) (is_told (laws_of c) (answers_of c) keeps echoes input p h).1;
-  status = λ keeps echoes input p h. ap (λ (x : Run Stepping). x.status) (is_told (laws_of c) (answers_of c) keeps echoes input p h).1;
+  text = λ keeps echoes input p h. ap (λ (x : Run StepperView). x.text) (is_told (laws_of c) (answers_of c) keeps echoes input p h).1;
+  status = λ keeps echoes input p h. ap (λ (x : Run StepperView). x.status) (is_told (laws_of c) (answers_of c) keeps echoes input p h).1;
   explained = is_explained (laws_of c);
 }

@@ -1,5 +1,5 @@
 use Rattle.std.proofs.Common.{◌≡◌, ◌∙◌, ap, Bool, ℕ, List, Ok}
-use Rattle.trace_text.specs.Reading.{read_of}
+use Rattle.trace_text.specs.TraceReaderView.{read_of}
 use Rattle.trace_text.specs.Tellable.{IsTellable}
 use Rattle.step_engine.specs.Options.{traced}
 use Rattle.step_engine.specs.Script.{Progress, RunsThrough}

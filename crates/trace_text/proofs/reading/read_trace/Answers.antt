@@ -6,7 +6,7 @@ use Rattle.history_check.specs.Claim.{claim_of}
 use Rattle.line_loop.specs.Lines.{lines_of}
 use Rattle.line_loop.specs.LineFacts.{none-before, none-at-all}
 use Rattle.trace_text.specs.declared.fault.ReadFault.{ReadFault}
-use Rattle.trace_text.specs.Reading.{Reading, reading_of, Tells, at_end}
+use Rattle.trace_text.specs.TraceReaderView.{TraceReaderView, reading_of, Tells, at_end}
 use Rattle.trace_text.proofs.LineLemmas.{reading_on, on-last, on-none, cut-at, Stands, stands-new, fed, whole, refused, stopped, adds-feed, adds-last, lines-feed, lines-last}
 use Rattle.trace_text.proofs.reading.read_trace.Goals.{then-not-is_empty+in-Ok-take_last, else-not-is_empty}
 use Rattle.trace_text.proofs.reading.read_trace.Goals as goal
@@ -16,7 +16,7 @@ left : (xs : List ℕ) (n : ℕ) → take (length xs - n) (drop n xs) ≡ drop n
 left xs n = grind (arith, common_steps)
 
 -- a fault of the whole text
-told : {T : Type 0} (text : List ℕ) (s : Reading) (r : Result T ReadFault) → reading_of text ≡ s → IfErr r (λ f. at_end s ≡ Err f) → IfErr r (Tells text)
+told : {T : Type 0} (text : List ℕ) (s : TraceReaderView) (r : Result T ReadFault) → reading_of text ≡ s → IfErr r (λ f. at_end s ≡ Err f) → IfErr r (Tells text)
 told text s (Ok t) e h = tt
 told text s (Err f) e h = inl (ap at_end e ∙ h)
 
@@ -84,7 +84,7 @@ all_read c = elim c.if-not-is_empty.branch [
 
 pub returns-clause-ok : goal.returns-clause-ok
 returns-clause-ok c =
-    subst (λ (s : Reading). IfOk c.end.result (λ t. at_end s ≡ Ok (claim_of t.0 t.1.items))) (sym (all_read c)) c.end.ensures.ok
+    subst (λ (s : TraceReaderView). IfOk c.end.result (λ t. at_end s ≡ Ok (claim_of t.0 t.1.items))) (sym (all_read c)) c.end.ensures.ok
 
 pub returns-clause-err : goal.returns-clause-err
 returns-clause-err c = told c.args.text.now c.if-not-is_empty.reader c.end.result (all_read c) c.end.ensures.err

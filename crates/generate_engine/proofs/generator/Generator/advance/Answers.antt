@@ -1,6 +1,6 @@
 use Rattle.std.proofs.Common.{◌+◌, ◌++◌, subst, sym, arith}
 use Rattle.fabric_laws.specs.Fabric.{Fabric}
-use Rattle.storm_events.specs.Choice.{Choosing}
+use Rattle.storm_events.specs.Choice.{ChooserView}
 use Rattle.generate_engine.specs.Script.{IsUnderWay, BeginsScript}
 use Rattle.generate_engine.proofs.Scripts.{begins-all, begins-part, on_err, either}
 use Rattle.generate_engine.proofs.generator.Generator.advance.Goals as goal
@@ -28,5 +28,5 @@ returns-clause-ok g c =
       c.in_ok-flush.ensures.text,
       λ storm n written u.
           subst (λ (f : Fabric). IsUnderWay storm (n + c.args.count) (written ++ filled.pending.items) f left.chooser) (sym c.flush.ensures.fabric)
-          (subst (λ (x : Choosing). IsUnderWay storm (n + c.args.count) (written ++ filled.pending.items) filled.fabric x) (sym c.flush.ensures.chooser) (c.in_ok-filled.ensures.ok storm n written u)),
+          (subst (λ (x : ChooserView). IsUnderWay storm (n + c.args.count) (written ++ filled.pending.items) filled.fabric x) (sym c.flush.ensures.chooser) (c.in_ok-filled.ensures.ok storm n written u)),
     )

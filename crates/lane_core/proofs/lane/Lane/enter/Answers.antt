@@ -1,6 +1,6 @@
 use Rattle.std.proofs.Common.{◌≤◌, arith}
 use Rattle.fc_credit.specs.Needs.{need_of}
-use Rattle.lane_ends.specs.Steps.{Outgoing, entered}
+use Rattle.lane_ends.specs.Steps.{SenderEndView, entered}
 use Rattle.lane_core.specs.Calls.{IsRight}
 use Rattle.lane_core.proofs.Kept.{ok_or, of_ok, when_entered, right_entered, enters}
 use Rattle.lane_core.proofs.Whole.{no_room}
@@ -8,7 +8,7 @@ use Rattle.lane_core.proofs.lane.Lane.enter.Goals as goal
 
 pub invariant_of-self : goal.invariant_of-self
 invariant_of-self c =
-    ok_or (λ (s : Outgoing). IsRight (record { sender = s; forward = c.ends.inside.forward; back = c.ends.inside.back; receiver = c.ends.inside.receiver }))
+    ok_or (λ (s : SenderEndView). IsRight (record { sender = s; forward = c.ends.inside.forward; back = c.ends.inside.back; receiver = c.ends.inside.receiver }))
     c.enter.result c.enter.new.self (entered c.ends.inside.sender c.args.tlp.now c.args.mark) c.ends.inside.sender c.enter.ensures.ok c.enter.ensures.err
     (λ a h. right_entered _ c.args.tlp.now c.args.mark (of_ok c.enter.result a h c.enter.ensures.may) (of_ok c.enter.result a h c.enter.ensures.spelled) (rw (← c.ends.view_is) at c.self.invariant))
     (rw (← c.ends.view_is) at c.self.invariant)

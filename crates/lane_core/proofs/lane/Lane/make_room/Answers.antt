@@ -1,4 +1,4 @@
-use Rattle.lane_ends.specs.Steps.{Outgoing, with_room}
+use Rattle.lane_ends.specs.Steps.{SenderEndView, with_room}
 use Rattle.lane_core.specs.Calls.{IsRight}
 use Rattle.lane_core.proofs.Kept.{ok_or, of_ok, right_room, makes_room}
 use Rattle.lane_core.proofs.Whole.{no_room}
@@ -6,7 +6,7 @@ use Rattle.lane_core.proofs.lane.Lane.make_room.Goals as goal
 
 pub invariant_of-self : goal.invariant_of-self
 invariant_of-self c =
-    ok_or (λ (s : Outgoing). IsRight (record { sender = s; forward = c.ends.inside.forward; back = c.ends.inside.back; receiver = c.ends.inside.receiver }))
+    ok_or (λ (s : SenderEndView). IsRight (record { sender = s; forward = c.ends.inside.forward; back = c.ends.inside.back; receiver = c.ends.inside.receiver }))
     c.make_room.result c.make_room.new.self (with_room c.ends.inside.sender) c.ends.inside.sender c.make_room.ensures.ok c.make_room.ensures.err
     (λ a h. right_room _ c.args.need (of_ok c.make_room.result a h c.make_room.ensures.may) (rw (← c.ends.view_is) at c.self.invariant))
     (rw (← c.ends.view_is) at c.self.invariant)

@@ -4,7 +4,7 @@ use Rattle.std.proofs.lemmas.List.{append-nil}
 use Rattle.fabric_answers.specs.New.{new_fabric, config_fault}
 use Rattle.fabric_laws.specs.Fabric.{Fabric}
 use Rattle.line_loop.specs.Run.{IsAnswer}
-use Rattle.step_engine.specs.Step.{Stepping, next_line, made, made_once}
+use Rattle.step_engine.specs.Step.{StepperView, next_line, made, made_once}
 use Rattle.step_engine.proofs.step.Stepper.make.Goals as goal
 
 none_of : {X : Type 0} (o : Option X) → is_some o ≡ false → o ≡ None
@@ -12,7 +12,7 @@ none_of None e = refl
 none_of (Some x) e = absurd cc
 
 -- the fabric of the script is made
-is_made : (s : Stepping) (c : _) (f : Fabric) (new : Stepping) (out : List ℕ) → s.fabric ≡ None → config_fault c ≡ None → f ≡ new_fabric c
+is_made : (s : StepperView) (c : _) (f : Fabric) (new : StepperView) (out : List ℕ) → s.fabric ≡ None → config_fault c ≡ None → f ≡ new_fabric c
     → new ≡ record s { lines = next_line s; fabric = Some f } → IsAnswer new out out false (made_once s s.fabric c)
 is_made s c f new out none fault made_is now =
     subst (IsAnswer new out out false) (sym (ap (λ (o : Option Fabric). made_once s o c) none ∙ ap (made s c) fault))
@@ -21,4 +21,4 @@ is_made s c f new out none fault made_is now =
 pub returns-in-Ok-clause-ok : goal.returns-in-Ok-clause-ok
 returns-in-Ok-clause-ok c =
     is_made c.args.self.now c.args.config c.in-Ok.fabric c.count.new.self c.args.out.now.items
-    (sym (ap (λ (s : Stepping). s.fabric) c.self.view_is) ∙ none_of c.self.inside.fabric (sym c.is_some.ensures ∙ c.if-is_some.false)) c.in-Ok.ensures.ok.1 c.in-Ok.ensures.ok.0 (search rules)
+    (sym (ap (λ (s : StepperView). s.fabric) c.self.view_is) ∙ none_of c.self.inside.fabric (sym c.is_some.ensures ∙ c.if-is_some.false)) c.in-Ok.ensures.ok.1 c.in-Ok.ensures.ok.0 (search rules)

@@ -2,19 +2,19 @@ use Rattle.std.proofs.Common.{◌∙◌, IfOk, List, subst, ap}
 use Rattle.history_check.specs.declared.Record.{Record}
 use Rattle.fabric_settle.specs.Rounds.{settlement}
 use Rattle.line_loop.specs.Run.{IsAnswer}
-use Rattle.step_engine.specs.Step.{Stepping, settled}
+use Rattle.step_engine.specs.Step.{StepperView, settled}
 use Rattle.step_engine.proofs.ToldLines.{told_settled}
 use Rattle.step_engine.proofs.step.Stepper.settle.Goals as goal
 
 pub returns-clause-ok : goal.returns-clause-ok
 returns-clause-ok c =
     let inside = c.self.inside in
-    let start : Stepping = record { options = inside.options; fabric = inside.fabric; records = inside.records.items; lines = inside.lines; has_ended = inside.has_ended } in
+    let start : StepperView = record { options = inside.options; fabric = inside.fabric; records = inside.records.items; lines = inside.lines; has_ended = inside.has_ended } in
     let line = c.args.line.now in
     let f = c.in-Some.fabric in
     let left = c.in_ok-is_quiet.ensures in
     let empty = c.new-answers.ensures.items in
-    subst (λ (s : Stepping). IfOk c.tell_settled.result (λ told. IsAnswer c.tell_settled.new.self c.args.out.now.items c.tell_settled.new.out.items told (settled s line s.fabric))) c.self.view_is
+    subst (λ (s : StepperView). IfOk c.tell_settled.result (λ told. IsAnswer c.tell_settled.new.self c.args.out.now.items c.tell_settled.new.out.items told (settled s line s.fabric))) c.self.view_is
     (told_settled c.tell_settled.result start line f c.settle-2.new.fabric c.as_slice.result.now c.in_ok-is_quiet.is_quiet
     c.tell_settled.new.self c.args.out.now.items c.tell_settled.new.out.items
     c.in-Some.is c.if-self.false

@@ -4,7 +4,7 @@ use Rattle.tlp_core.specs.Faults.{reading}
 use Rattle.line_loop.specs.Run.{Answer, IsAnswer}
 use Rattle.hex_text.specs.Line.{digits_of}
 use Rattle.tlp_engine.specs.Tlp.{answer_line, answer_reading}
-use Rattle.tlp_engine.specs.Kept.{Kept, without_history}
+use Rattle.tlp_engine.specs.CompleterView.{CompleterView, without_history}
 use Rattle.tlp_engine.proofs.RequestLemmas.{line-read}
 use Rattle.tlp_engine.proofs.tlp.CompleterResponder.on_line.Goals as goal
 
@@ -16,7 +16,7 @@ returns-clause-ok c =
     let read = c.read.ensures.read c.if-not-read.false ∙ ap Ok (sym c.bytes.ensures) in
     let same : answer_reading without_history c.self.inside.device (reading c.bytes.result.now) ≡ answer_line without_history c.args.self.now line =
     sym (line-read without_history c.self.inside.device line (digits_of line) c.bytes.result.now some not refl read)
-    ∙ ap (λ (k : Kept). answer_line without_history k line) c.self.view_is in
+    ∙ ap (λ (k : CompleterView). answer_line without_history k line) c.self.view_is in
     IfOk-weaker c.answer_bytes.result _ _
-    (λ told h. subst (λ (a : Answer Kept). IsAnswer c.answer_bytes.new.self c.args.out.now.items c.answer_bytes.new.out.items told a) same h)
+    (λ told h. subst (λ (a : Answer CompleterView). IsAnswer c.answer_bytes.new.self c.args.out.now.items c.answer_bytes.new.out.items told a) same h)
     c.answer_bytes.ensures.ok

@@ -1,6 +1,6 @@
 use Rattle.std.proofs.Common.{◌∙◌, sym, refl}
 use Rattle.std.proofs.lemmas.Result.{IfOk-weaker}
-use Rattle.tlp_engine.specs.Kept.{without_history}
+use Rattle.tlp_engine.specs.CompleterView.{without_history}
 use Rattle.tlp_engine.proofs.RequestLemmas.{numbers-used}
 use Rattle.tlp_engine.proofs.tlp.Device.answer_request.Goals as goal
 

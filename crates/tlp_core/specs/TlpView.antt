@@ -7,7 +7,7 @@ use Rattle.tlp_core.specs.declared.packet.Body.TheVariants as bodies
 use Rattle.tlp_core.specs.Enables.{are_enables}
 
 -- a `Tlp`, its payload as a list
-pub record Packet : Type 0 where
+pub record TlpView : Type 0 where
   pub kind : Kind
   pub tc : ℕ
   pub attr : ℕ
@@ -55,7 +55,7 @@ FitsKind kinds.CompletionData (bodies.Completion c s n lower) dw given =
 FitsKind _ _ dw given = ⊥
 
 -- the packets of the grammar
-pub record IsPacket (t : Packet) : Type 0 where
+pub record IsPacket (t : TlpView) : Type 0 where
   pub tc : t.tc < 8
   pub attr : t.attr < 8
   pub fits : FitsKind t.kind t.body t.length (length t.payload)

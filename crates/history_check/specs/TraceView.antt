@@ -4,16 +4,16 @@ use Rattle.seq_memory.specs.Limits.{Extent, IsWithinLimits}
 use Rattle.history_check.specs.declared.Record.{Record}
 
 -- what requesters submitted and were answered, over a memory of that base, size and block
-pub record Observation : Type 0 where
+pub record TraceView : Type 0 where
   pub base : ℕ
   pub size : ℕ
   pub block : ℕ
   pub records : List Record
 
 -- where that memory lies
-abbrev pub observed : Observation → Extent
+abbrev pub observed : TraceView → Extent
 observed t = record { base = t.base; size = t.size; block = t.block }
 
 -- the memory is one that there can be
-abbrev pub HasLimits : Observation → Type 0
+abbrev pub HasLimits : TraceView → Type 0
 HasLimits t = IsWithinLimits (observed t)

@@ -17,7 +17,7 @@ use Rattle.trace_text.specs.declared.reader.Section.TheVariants as sections
 use Rattle.trace_text.specs.Forms.{line_of}
 
 -- what was read so far: the section that goes on, the number of lines, skipped ones counted, and the first fault
-pub record Reading : Type 0 where
+pub record TraceReaderView : Type 0 where
   pub section : Section
   pub version : Version
   pub lines : ℕ
@@ -29,7 +29,7 @@ pub record Reading : Type 0 where
   pub fault : Option ReadFault
 
 -- base, size and block are told by the memory's line, and those of a memory until then
-abbrev pub nothing_read : Reading
+abbrev pub nothing_read : TraceReaderView
 nothing_read = record {
   section = sections.Head;
   version = versions.One;
@@ -43,44 +43,44 @@ nothing_read = record {
 }
 
 -- the number of the line that comes next, a number of 64 bits
-abbrev pub next_line : Reading → ℕ
+abbrev pub next_line : TraceReaderView → ℕ
 next_line s = min (s.lines + 1) (2 ^ 64 - 1)
 
-abbrev pub fault_at_next : Reading → ReadFaultKind → ReadFault
+abbrev pub fault_at_next : TraceReaderView → ReadFaultKind → ReadFault
 fault_at_next s kind = record { kind = kind; line = next_line s }
 
 -- one line more
-abbrev pub counted : Reading → Reading
+abbrev pub counted : TraceReaderView → TraceReaderView
 counted s = record s { lines = next_line s }
 
-abbrev pub faulty : Reading → ReadFaultKind → Reading
+abbrev pub faulty : TraceReaderView → ReadFaultKind → TraceReaderView
 faulty s kind = record s { lines = next_line s; fault = Some (fault_at_next s kind) }
 
 -- one line more, which ends a section
-abbrev pub entered : Reading → Section → Reading
+abbrev pub entered : TraceReaderView → Section → TraceReaderView
 entered s section = record s { lines = next_line s; section = section }
 
 -- ---- sections: each takes its lines, and the line that ends it
 
-abbrev pub in_head : Reading → Option Line → Reading
+abbrev pub in_head : TraceReaderView → Option Line → TraceReaderView
 in_head s (Some (lines.Head v)) = record s { lines = next_line s; section = sections.Memory; version = v }
 in_head s _ = faulty s faults.Head
 
-abbrev pub in_memory : Reading → Line → Reading
+abbrev pub in_memory : TraceReaderView → Line → TraceReaderView
 in_memory s (lines.Memory base size block) = record s { lines = next_line s; section = sections.Records; base = base; size = size; block = block }
 in_memory s _ = faulty s faults.Section
 
-abbrev pub in_records : Reading → Line → Reading
+abbrev pub in_records : TraceReaderView → Line → TraceReaderView
 in_records s (lines.Record r) = record s { lines = next_line s; records = s.records ++ r ∷ [] }
 in_records s lines.History = record s { lines = next_line s; section = sections.History }
 in_records s _ = faulty s faults.Section
 
-abbrev pub in_history : Reading → Line → Reading
+abbrev pub in_history : TraceReaderView → Line → TraceReaderView
 in_history s (lines.Entry e) = record s { lines = next_line s; entries = s.entries ++ e ∷ [] }
 in_history s lines.End = record s { lines = next_line s; section = sections.End }
 in_history s _ = faulty s faults.Section
 
-abbrev pub placed : Section → Reading → Line → Reading
+abbrev pub placed : Section → TraceReaderView → Line → TraceReaderView
 placed sections.Head s l = in_head s (Some l)
 placed sections.Memory s l = in_memory s l
 placed sections.Records s l = in_records s l
@@ -92,28 +92,28 @@ abbrev pub formless : Section → ReadFaultKind
 formless sections.Head = faults.Head
 formless _ = faults.Line
 
-abbrev pub taken : Reading → Option Line → Reading
+abbrev pub taken : TraceReaderView → Option Line → TraceReaderView
 taken s None = faulty s (formless s.section)
 taken s (Some l) = placed s.section s l
 
 -- ---- lines
 
 -- behind a fault nothing is read
-abbrev pub after_line : Reading → List ℕ → Reading
+abbrev pub after_line : TraceReaderView → List ℕ → TraceReaderView
 after_line s line =
     if is_some s.fault then s
     else (if is_skipped line then counted s else taken s (line_of s.version (words line)))
 
 -- a line over the limit has no form
-abbrev pub after_long_line : Reading → Reading
+abbrev pub after_long_line : TraceReaderView → TraceReaderView
 after_long_line s = if is_some s.fault then s else taken s None
 
 -- a line has at most 512 bytes before its line feed: that is tested first
-abbrev pub take_line : Reading → List ℕ → Reading
+abbrev pub take_line : TraceReaderView → List ℕ → TraceReaderView
 take_line s line = if nat_lt 512 (length (bare line)) then after_long_line s else after_line s (said line)
 
 -- what was read of a text
-abbrev pub reading_of : List ℕ → Reading
+abbrev pub reading_of : List ℕ → TraceReaderView
 reading_of text = fold take_line nothing_read (lines_of text)
 
 -- ---- growth
@@ -125,34 +125,34 @@ adds sections.History (Some (lines.Entry e)) = true
 adds _ _ = false
 
 -- no fault was read before, and the line adds a record or an entry
-abbrev pub adds_one : Reading → List ℕ → Bool
+abbrev pub adds_one : TraceReaderView → List ℕ → Bool
 adds_one s line = not (is_some s.fault) && (not (is_skipped line) && adds s.section (line_of s.version (words line)))
 
 -- the same of a line with what ends it
-abbrev pub adds_by : Reading → List ℕ → Bool
+abbrev pub adds_by : TraceReaderView → List ℕ → Bool
 adds_by s line = not (nat_lt 512 (length (bare line))) && adds_one s (said line)
 
 -- ---- the end
 
-abbrev pub claim_read : Reading → Claim
+abbrev pub claim_read : TraceReaderView → Claim
 claim_read s = record {
   memory = record { base = s.base; size = s.size; block = s.block; entries = s.entries };
   records = s.records;
 }
 
 -- what is missing
-abbrev pub ended_in : Section → Reading → Result Claim ReadFault
+abbrev pub ended_in : Section → TraceReaderView → Result Claim ReadFault
 ended_in sections.Head s = Err (fault_at_next s faults.Head)
 ended_in sections.Memory s = Err (fault_at_next s faults.Line)
 ended_in sections.Records s = Err (fault_at_next s faults.Section)
 ended_in sections.History s = Err (fault_at_next s faults.Section)
 ended_in sections.End s = Ok (claim_read s)
 
-abbrev pub fault_or_end : Option ReadFault → Reading → Result Claim ReadFault
+abbrev pub fault_or_end : Option ReadFault → TraceReaderView → Result Claim ReadFault
 fault_or_end (Some f) s = Err f
 fault_or_end None s = ended_in s.section s
 
-abbrev pub at_end : Reading → Result Claim ReadFault
+abbrev pub at_end : TraceReaderView → Result Claim ReadFault
 at_end s = fault_or_end s.fault s
 
 -- the trace and the history that a text spells, or its first fault

@@ -4,13 +4,13 @@ use Rattle.std.specs.Option.{option_map}
 use Rattle.seq12.specs.Numbers.{distance_of}
 use Rattle.replay_sender.specs.declared.fault.AckFault.{AckFault}
 use Rattle.replay_sender.specs.declared.fault.AckFault.TheVariants.{NotOutstanding}
-use Rattle.replay_sender.specs.Carried.{Carried}
+use Rattle.replay_sender.specs.CargoView.{CargoView}
 
-pub record Sending : Type 0 where
+pub record SenderView : Type 0 where
   -- ACKD_SEQ, the number that was acknowledged last
   pub acked : ℕ
   -- the unacknowledged packets, oldest first
-  pub kept : List Carried
+  pub kept : List CargoView
   -- how many of them were sent since the last replay
   pub place : ℕ
   -- REPLAY_NUM, the replays since a packet was acknowledged
@@ -21,42 +21,42 @@ pub record Sending : Type 0 where
   pub reserved : Bool
 
 -- a sender that has taken nothing
-abbrev pub fresh : Sending
+abbrev pub fresh : SenderView
 fresh = record { acked = 4095; kept = []; place = 0; replays = 0; stopped = false; reserved = false }
 
 -- the number of the kept packet at a place
-abbrev pub number_at : Sending → ℕ → ℕ
+abbrev pub number_at : SenderView → ℕ → ℕ
 number_at s i = (s.acked + 1 + i) % 4096
 
 -- NEXT_TRANSMIT_SEQ, the number of the packet that is accepted next
-abbrev pub next_number : Sending → ℕ
+abbrev pub next_number : SenderView → ℕ
 next_number s = number_at s (length s.kept)
 
 -- a packet is taken as the last
-abbrev pub with_accepted : Sending → Carried → Sending
+abbrev pub with_accepted : SenderView → CargoView → SenderView
 with_accepted s cargo =
     record { acked = s.acked; kept = s.kept ++ cargo ∷ []; place = s.place; replays = s.replays; stopped = s.stopped; reserved = false }
 
 -- room is kept for one more packet
-abbrev pub with_reserved : Sending → Sending
+abbrev pub with_reserved : SenderView → SenderView
 with_reserved s =
     record { acked = s.acked; kept = s.kept; place = s.place; replays = s.replays; stopped = s.stopped; reserved = true }
 
 -- room is no longer kept
-abbrev pub released : Sending → Sending
+abbrev pub released : SenderView → SenderView
 released s =
     record { acked = s.acked; kept = s.kept; place = s.place; replays = s.replays; stopped = s.stopped; reserved = false }
 
 -- the packet at the place, unless the link waits to be retrained
-abbrev pub next_item : Sending → Option Carried
+abbrev pub next_item : SenderView → Option CargoView
 next_item s = if s.stopped then None else slice_get s.kept s.place
 
 -- what is sent next, under its own number
-abbrev pub sent_from : Sending → Option (ℕ × Carried)
+abbrev pub sent_from : SenderView → Option (ℕ × CargoView)
 sent_from s = option_map (λ cargo. (number_at s s.place, cargo)) (next_item s)
 
 -- the place moves on by what was sent
-abbrev pub after_transmit : Sending → Sending
+abbrev pub after_transmit : SenderView → SenderView
 after_transmit s =
     record {
       acked = s.acked;
@@ -68,15 +68,15 @@ after_transmit s =
     }
 
 -- the number of an unacknowledged packet, or ACKD_SEQ
-abbrev pub is_outstanding : Sending → ℕ → Bool
+abbrev pub is_outstanding : SenderView → ℕ → Bool
 is_outstanding s number = nat_le (distance_of number s.acked) (length s.kept)
 
 -- how many packets an Ack or Nak of this number drops
-abbrev pub ack_answer : Sending → ℕ → Result ℕ AckFault
+abbrev pub ack_answer : SenderView → ℕ → Result ℕ AckFault
 ack_answer s number = if is_outstanding s number then Ok (distance_of number s.acked) else Err NotOutstanding
 
 -- all packets through that number are dropped
-abbrev pub acknowledged : Sending → ℕ → Sending
+abbrev pub acknowledged : SenderView → ℕ → SenderView
 acknowledged s number =
     record {
       acked = number;
@@ -88,25 +88,25 @@ acknowledged s number =
     }
 
 -- a replay is a move back by at least one place; REPLAY_NUM has 2 bits, and the replay that finds 3 stops the sender
-abbrev pub replays_after : Sending → ℕ
+abbrev pub replays_after : SenderView → ℕ
 replays_after s = if s.place == 0 then s.replays else (if s.replays == 3 then 0 else s.replays + 1)
 
-abbrev pub stopped_after : Sending → Bool
+abbrev pub stopped_after : SenderView → Bool
 stopped_after s = if s.place == 0 then s.stopped else (if s.replays == 3 then true else s.stopped)
 
 -- the place moves back to the oldest packet
-abbrev pub from_oldest : Sending → Sending
+abbrev pub from_oldest : SenderView → SenderView
 from_oldest s =
     record { acked = s.acked; kept = s.kept; place = 0; replays = replays_after s; stopped = stopped_after s; reserved = s.reserved }
 
 -- the link was retrained
-abbrev pub trained : Sending → Sending
+abbrev pub trained : SenderView → SenderView
 trained s =
     record { acked = s.acked; kept = s.kept; place = s.place; replays = s.replays; stopped = false; reserved = s.reserved }
 
-abbrev pub after_ack : Sending → ℕ → Sending
+abbrev pub after_ack : SenderView → ℕ → SenderView
 after_ack s number = if is_outstanding s number then acknowledged s number else s
 
 -- a Nak is an Ack, and then a replay from the oldest
-abbrev pub after_nak : Sending → ℕ → Sending
+abbrev pub after_nak : SenderView → ℕ → SenderView
 after_nak s number = if is_outstanding s number then from_oldest (acknowledged s number) else s

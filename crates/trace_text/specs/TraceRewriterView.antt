@@ -8,15 +8,15 @@ use Rattle.trace_text.specs.declared.line.Line.TheVariants as lines
 use Rattle.trace_text.specs.declared.reader.Section.{Section}
 use Rattle.trace_text.specs.declared.reader.Section.TheVariants as sections
 use Rattle.trace_text.specs.Forms.{line_of}
-use Rattle.trace_text.specs.Reading.{Reading, nothing_read, counted, faulty, formless, placed, after_long_line, at_end}
+use Rattle.trace_text.specs.TraceReaderView.{TraceReaderView, nothing_read, counted, faulty, formless, placed, after_long_line, at_end}
 use Rattle.trace_text.specs.Texts.{memory_line, record_line, entry_line}
 
 -- what was read so far, without the records and entries, and what was written of it
-pub record Rewriting : Type 0 where
-  pub reading : Reading
+pub record TraceRewriterView : Type 0 where
+  pub reading : TraceReaderView
   pub text : List ℕ
 
-abbrev pub nothing_rewritten : Rewriting
+abbrev pub nothing_rewritten : TraceRewriterView
 nothing_rewritten = record { reading = nothing_read; text = [] }
 
 -- what a line adds to the text in each section
@@ -30,24 +30,24 @@ added sections.History lines.End = codes "end\n"
 added _ _ = []
 
 -- a reading that goes on to another one, and takes no record and no entry
-abbrev pub onward : Reading → Reading → Reading
+abbrev pub onward : TraceReaderView → TraceReaderView → TraceReaderView
 onward s t = record t { records = s.records; entries = s.entries }
 
 -- a line of that form is taken, and written
-abbrev pub rewritten_by : Section → Rewriting → Line → Rewriting
+abbrev pub rewritten_by : Section → TraceRewriterView → Line → TraceRewriterView
 rewritten_by section w l = record { reading = onward w.reading (placed section w.reading l); text = w.text ++ added section l }
 
-abbrev pub rewritten : Rewriting → Option Line → Rewriting
+abbrev pub rewritten : TraceRewriterView → Option Line → TraceRewriterView
 rewritten w None = record w { reading = faulty w.reading (formless w.reading.section) }
 rewritten w (Some l) = rewritten_by w.reading.section w l
 
 -- behind a fault nothing is read
-abbrev pub after_line : Rewriting → List ℕ → Rewriting
+abbrev pub after_line : TraceRewriterView → List ℕ → TraceRewriterView
 after_line w line =
     if is_some w.reading.fault then w
     else (if is_skipped line then record w { reading = counted w.reading } else rewritten w (line_of w.reading.version (words line)))
 
-abbrev pub long_line_passed : Rewriting → Rewriting
+abbrev pub long_line_passed : TraceRewriterView → TraceRewriterView
 long_line_passed w = record w { reading = after_long_line w.reading }
 
 abbrev pub text_or_fault : List ℕ → Result Claim ReadFault → Result (List ℕ) ReadFault
@@ -55,5 +55,5 @@ text_or_fault text (Err f) = Err f
 text_or_fault text (Ok x) = Ok text
 
 -- the text in the second version, or the first fault
-abbrev pub text_at_end : Rewriting → Result (List ℕ) ReadFault
+abbrev pub text_at_end : TraceRewriterView → Result (List ℕ) ReadFault
 text_at_end w = text_or_fault w.text (at_end w.reading)

@@ -8,7 +8,7 @@ use Rattle.tlp_core.specs.declared.packet.Body.{Body}
 use Rattle.tlp_core.specs.declared.packet.Body.TheVariants as bodies
 use Rattle.tlp_core.specs.declared.packet.Status.TheVariants as statuses
 use Rattle.tlp_core.specs.declared.fault.TlpFault.{TlpFault}
-use Rattle.tlp_core.specs.Packet.{Packet}
+use Rattle.tlp_core.specs.TlpView.{TlpView}
 use Rattle.tlp_core.specs.Operation.{op_fault, is_posted, is_completion}
 use Rattle.seq_memory.specs.declared.Reply.{Reply}
 use Rattle.seq_memory.specs.declared.Reply.TheVariants as replies
@@ -20,7 +20,7 @@ use Rattle.requester_core.specs.declared.fault.CompletionFault.{CompletionFault}
 use Rattle.requester_core.specs.declared.fault.CompletionFault.TheVariants as faults
 use Rattle.requester_core.specs.Request.{request_for}
 
-pub record Requesting : Type 0 where
+pub record RequesterView : Type 0 where
   -- its port, 1 to 7; its Requester ID is 256 times that
   pub port : ℕ
   -- the number of the next request, which is also how many there were
@@ -29,7 +29,7 @@ pub record Requesting : Type 0 where
   pub open_tags : List (Option OpenRequest)
 
 -- a requester that has asked for nothing
-abbrev pub fresh : ℕ → Requesting
+abbrev pub fresh : ℕ → RequesterView
 fresh port = record { port = port; next = 0; open_tags = replicate 256 None }
 
 -- the lowest free tag; 256 where all are open
@@ -37,32 +37,32 @@ abbrev pub lowest_free : List (Option OpenRequest) → ℕ
 lowest_free tags = position_or_len is_none tags
 
 -- what is open under a tag
-abbrev pub open_at : Requesting → ℕ → Option OpenRequest
+abbrev pub open_at : RequesterView → ℕ → Option OpenRequest
 open_at s tag = get_or s.open_tags tag None
 
 -- ---- a request is prepared
 
 -- the tag of the next request: a posted one has 0, and opens none
-abbrev pub tag_for : Requesting → Op → ℕ
+abbrev pub tag_for : RequesterView → Op → ℕ
 tag_for s op = if is_posted op then 0 else lowest_free s.open_tags
 
 -- a request that needs a tag where all are open
-abbrev pub lacks_tag : Requesting → Op → Bool
+abbrev pub lacks_tag : RequesterView → Op → Bool
 lacks_tag s op = not (is_posted op) && (lowest_free s.open_tags == 256)
 
-abbrev pub prepared_by : Option TlpFault → Bool → Bool → ℕ → Packet → Result (ℕ × Packet) SubmitRefusal
+abbrev pub prepared_by : Option TlpFault → Bool → Bool → ℕ → TlpView → Result (ℕ × TlpView) SubmitRefusal
 prepared_by (Some f) tags_used numbers_used number t = Err (refusals.Profile f)
 prepared_by None true numbers_used number t = Err refusals.TagsUsed
 prepared_by None false true number t = Err refusals.NumbersUsed
 prepared_by None false false number t = Ok (number, t)
 
 -- the number and the request for an operation, or the first cause that refuses it
-abbrev pub prepared : Requesting → Op → Result (ℕ × Packet) SubmitRefusal
+abbrev pub prepared : RequesterView → Op → Result (ℕ × TlpView) SubmitRefusal
 prepared s op =
     prepared_by (op_fault op) (lacks_tag s op) (s.next == 4294967295) s.next (request_for s.port (tag_for s op) op)
 
 -- the request is one that is prepared next
-pub record IsPrepared (s : Requesting) (t : Packet) : Type 0 where
+pub record IsPrepared (s : RequesterView) (t : TlpView) : Type 0 where
   pub op : Op
   pub number : ℕ
   pub is : prepared s op ≡ Ok (number, t)
@@ -79,18 +79,18 @@ opens kinds.MemoryWrite tags tag o = tags
 opens _ tags tag o = slice_set tags tag (Some o)
 
 -- the number is spent, and a non-posted request is open under its tag
-abbrev pub after_opened : Requesting → Packet → Requesting
+abbrev pub after_opened : RequesterView → TlpView → RequesterView
 after_opened s t =
     record { port = s.port; next = s.next + 1; open_tags = opens t.kind s.open_tags t.tag (record { number = s.next; size = size_for t.kind t.length }) }
 
 -- ---- a completion arrives
 
 -- a completion for this requester
-abbrev pub is_ours : Requesting → Packet → Bool
+abbrev pub is_ours : RequesterView → TlpView → Bool
 is_ours s t = is_completion t.kind && (t.requester == s.port * 256)
 
 -- the request that a packet completes
-abbrev pub completed : Requesting → Packet → Option OpenRequest
+abbrev pub completed : RequesterView → TlpView → Option OpenRequest
 completed s t = if is_ours s t then open_at s t.tag else None
 
 -- the reply that a completion of a request of that size carries; none where they don't agree
@@ -105,26 +105,26 @@ abbrev pub answered : ℕ → Option Reply → Result Answer CompletionFault
 answered number None = Err faults.Mismatch
 answered number (Some reply) = Ok (record { number = number; reply = reply })
 
-abbrev pub finished_by : Option OpenRequest → Packet → Result Answer CompletionFault
+abbrev pub finished_by : Option OpenRequest → TlpView → Result Answer CompletionFault
 finished_by None t = Err faults.Unexpected
 finished_by (Some o) t = answered o.number (reply_carried o.size t.kind t.body t.payload)
 
 -- the number and the reply of the request that is completed, or the first cause that refuses the packet
-abbrev pub finished : Requesting → Packet → Result Answer CompletionFault
+abbrev pub finished : RequesterView → TlpView → Result Answer CompletionFault
 finished s t = finished_by (completed s t) t
 
-abbrev pub closes : Result Answer CompletionFault → Requesting → ℕ → Requesting
+abbrev pub closes : Result Answer CompletionFault → RequesterView → ℕ → RequesterView
 closes (Ok a) s tag = record { port = s.port; next = s.next; open_tags = slice_set s.open_tags tag None }
 closes (Err e) s tag = s
 
 -- the tag of the request that is completed is free; a packet that is refused changes nothing
-abbrev pub after_finish : Requesting → Packet → Requesting
+abbrev pub after_finish : RequesterView → TlpView → RequesterView
 after_finish s t = closes (finished s t) s t.tag
 
 -- ---- what holds of each requester
 
 -- each open number was given, and to one tag
-pub record IsSound (s : Requesting) : Type 0 where
+pub record IsSound (s : RequesterView) : Type 0 where
   pub some_port : 1 ≤ s.port
   pub few_ports : s.port ≤ 7
   pub numbers : s.next ≤ 4294967295

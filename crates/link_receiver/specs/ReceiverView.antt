@@ -10,14 +10,14 @@ use Rattle.link_receiver.specs.declared.receiver.NakScheduled.TheVariants.{Clear
 use Rattle.link_receiver.specs.declared.receiver.Reception.{Reception}
 use Rattle.link_receiver.specs.declared.receiver.Reception.TheVariants.{Accept, Duplicate, NakNow, Quiet}
 
-pub record Receiving : Type 0 where
+pub record ReceiverView : Type 0 where
   -- NEXT_RCV_SEQ, the number that is waited for
   pub next : ℕ
   -- NAK_SCHEDULED, and whether the Nak was sent
   pub nak : NakScheduled
 
 -- a receiver that has accepted nothing
-abbrev pub fresh : Receiving
+abbrev pub fresh : ReceiverView
 fresh = record { next = 0; nak = Clear }
 
 -- a packet that can't be used asks for a Nak, unless one is scheduled
@@ -33,7 +33,7 @@ answer_by classes.Duplicate nak = Duplicate
 answer_by classes.Ahead nak = discard_answer nak
 
 -- the answer to a packet of this number, whose check was good or failed
-abbrev pub reception_of : Receiving → ℕ → Bool → Reception
+abbrev pub reception_of : ReceiverView → ℕ → Bool → Reception
 reception_of r got good = if good then answer_by (class_of r.next got) r.nak else discard_answer r.nak
 
 -- NEXT_RCV_SEQ after this answer: it advances where a packet was accepted
@@ -50,10 +50,10 @@ nak_after nak Duplicate = nak
 nak_after nak NakNow = Due
 nak_after nak Quiet = nak
 
-abbrev pub after_reception : Receiving → Reception → Receiving
+abbrev pub after_reception : ReceiverView → Reception → ReceiverView
 after_reception r answer = record { next = next_after r.next answer; nak = nak_after r.nak answer }
 
-abbrev pub after_receive : Receiving → ℕ → Bool → Receiving
+abbrev pub after_receive : ReceiverView → ℕ → Bool → ReceiverView
 after_receive r got good = after_reception r (reception_of r got good)
 
 -- a Nak where one is due, and else an Ack
@@ -63,7 +63,7 @@ dllp_by Due number = Nak number
 dllp_by Sent number = Ack number
 
 -- what is sent back, with the number of the packet that was accepted last
-abbrev pub acknowledgment_of : Receiving → Dllp
+abbrev pub acknowledgment_of : ReceiverView → Dllp
 acknowledgment_of r = dllp_by r.nak (previous_of r.next)
 
 -- a Nak that was sent is no longer due, and stays scheduled
@@ -72,5 +72,5 @@ nak_sent Clear = Clear
 nak_sent Due = Sent
 nak_sent Sent = Sent
 
-abbrev pub after_acknowledge : Receiving → Receiving
+abbrev pub after_acknowledge : ReceiverView → ReceiverView
 after_acknowledge r = record { next = r.next; nak = nak_sent r.nak }

@@ -4,6 +4,6 @@ use Rattle.seq_memory.specs.Limits.{Extent}
 use Rattle.log_runs.specs.declared.Event.{Event}
 
 -- the events of a log over a memory of that base, size and block
-pub record Task : Type 0 where
+pub record LogView : Type 0 where
   pub extent : Extent
   pub events : List Event
