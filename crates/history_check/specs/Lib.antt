@@ -1,4 +1,4 @@
-pub mod Observation
+pub mod TraceView
 pub mod Claim
 pub mod Names
 pub mod Trace

@@ -1,2 +1,2 @@
-pub mod Receiving
+pub mod ReceiverView
 pub mod Runs

@@ -1,4 +1,4 @@
 pub mod Explainable
-pub mod Task
+pub mod LogView
 pub mod Runs
 pub mod Tasks

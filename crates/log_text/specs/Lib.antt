@@ -1,3 +1,3 @@
 pub mod Forms
-pub mod Reading
+pub mod LogReaderView
 pub mod Endings

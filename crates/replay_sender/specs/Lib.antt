@@ -1,4 +1,4 @@
-pub mod Carried
-pub mod Sending
+pub mod CargoView
+pub mod SenderView
 pub mod Refusals
 pub mod Runs

@@ -1,5 +1,5 @@
 pub mod Request
-pub mod Requesting
+pub mod RequesterView
 pub mod Faults
 pub mod Runs
 pub use Rattle.tlp_core.specs.TlpView

@@ -1,6 +1,6 @@
 pub mod Bits
 pub mod Enables
-pub mod Packet
+pub mod TlpView
 pub mod Layout
 pub mod Fault
 pub mod Faults

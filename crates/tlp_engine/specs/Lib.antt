@@ -1,2 +1,2 @@
 pub mod Tlp
-pub mod Kept
+pub mod CompleterView

@@ -1,8 +1,8 @@
 pub mod Names
 pub mod Forms
-pub mod Reading
+pub mod TraceReaderView
 pub mod Endings
 pub mod Texts
-pub mod Rewriting
+pub mod TraceRewriterView
 pub mod Rewritten
 pub mod Tellable
