@@ -3,12 +3,11 @@ ghost use Rattle.std.specs.Prelude.{◌≡◌, ℕ, List, [], IfOk, Some, slice_
 ghost use Rattle.log_runs.specs.Runs.{reply_of, bytes_after, acted_on};
 ghost use Rattle.run_search.specs.Undo.{old_at};
 
-use arrayvec::ArrayVec;
 use log_runs::{Event, Log};
 use memory_undo::{put_back, reply, saved};
 use seq_memory::{Reply, perform};
 use std::alloc::{AllocError, Global};
-use tlp_core::{MAX_PAYLOAD, Op};
+use tlp_core::Op;
 
 pub(crate) fn zeros(alloc: Global, size: usize) -> Result<Vec<u8>, AllocError>
     ensures { IfOk result (λ v. v.items ≡ replicate size 0) }
@@ -25,12 +24,20 @@ pub(crate) fn reply_to(log: &Log, bytes: &[u8], op: &Op) -> Reply
 }
 
 /// The bytes at the request's place.
-pub(crate) fn bytes_of(log: &Log, bytes: &[u8], b: usize) -> ArrayVec<u8, MAX_PAYLOAD>
-    ensures { result.items ≡ old_at log.now.extent bytes.now (slice_get log.now.events b) }
+pub(crate) fn bytes_of(
+    alloc: Global,
+    log: &Log,
+    bytes: &[u8],
+    b: usize,
+) -> Result<Vec<u8>, AllocError>
+    ensures { IfOk result (λ v. v.items ≡ old_at log.now.extent bytes.now (slice_get log.now.events b)) }
 {
     match log.events.get(b) {
-        Some(Event::Sub { op, .. }) => { saved(log.memory.base(), log.memory.block(), bytes, op) }
-        _ => ArrayVec::new(),
+        Some(Event::Sub { op, .. }) => {
+            let old = saved(log.memory.base(), log.memory.block(), bytes, op);
+            Vec::from_slice(alloc, old.as_slice())
+        }
+        _ => Ok(Vec::new(alloc)),
     }
 }
 

@@ -25,7 +25,7 @@ fn finished(walk: &mut Walk, alloc: Global, log: &Log) -> Result<Option<Vec<Step
     ensures run { IfOk result (λ o. IfSome o (λ v. IsRun log.now v.items)) }
     ensures more { IfOk result (λ o. IfNone o (walk.new.here.key.event ≡ length log.now.events → ⊥)) }
 {
-    settle(walk, log)?;
+    settle(walk, alloc, log)?;
     if walk.here.key.event == log.events.len() {
         let steps = steps_of(walk, alloc)?;
         return Ok(Some(steps));

@@ -5,7 +5,7 @@ ghost use Rattle.run_search.specs.Places.{state_of, IsPlace};
 
 use crate::allowed::{may_act, may_pass};
 use crate::due::{held_until, place_of};
-use crate::hints::may_fit;
+use crate::hints::{Hint, may_fit};
 use crate::lost::is_left;
 use crate::others::{Asked, others_spare};
 use crate::place::Place;
@@ -63,11 +63,11 @@ fn is_first(place: &Place, log: &Log, due: &[usize], q: usize) -> bool
 }
 
 /// The request may act, and acts at once.
-fn acts_at_once(place: &Place, log: &Log, due: &[usize], q: usize) -> bool
+fn acts_at_once(place: &Place, log: &Log, hints: &[Hint], due: &[usize], q: usize) -> bool
     requires { IsPlace log.now place.now }
     ensures { IsTrue result → IsForced log.now (state_of place.now) (Step.Act q) }
 {
-    if !may_fit(log, place.key.bytes.as_slice(), q) {
+    if !may_fit(hints, place.key.bytes.as_slice(), q) {
         return false;
     }
     if !may_act(place, log, q) {
@@ -84,13 +84,13 @@ fn acts_at_once(place: &Place, log: &Log, due: &[usize], q: usize) -> bool
 
 /// A step that may be taken at once: a request acts, one of those pending from `from` on, or an
 /// event is passed.
-pub(crate) fn forced(place: &Place, log: &Log, due: &[usize], from: usize) -> Option<Step>
+pub(crate) fn forced(place: &Place, log: &Log, hints: &[Hint], due: &[usize], from: usize) -> Option<Step>
     requires { IsPlace log.now place.now }
     ensures { IfSome result (IsForced log.now (state_of place.now)) }
 {
     if from < place.key.pending.len() {
         for q in &place.key.pending[from..] {
-            if acts_at_once(place, log, due, *q) {
+            if acts_at_once(place, log, hints, due, *q) {
                 return Some(Step::Act(*q));
             }
         }

@@ -9,25 +9,23 @@ ghost use Rattle.run_search.specs.Undo.{old_at, old_of, CameBy};
 use crate::bytes::{act_on, bytes_of, restore};
 use crate::pending::{add, remove};
 use crate::place::{Place, mark};
-use arrayvec::ArrayVec;
 use log_runs::{Event, Log, Step};
-use std::alloc::AllocError;
-use tlp_core::MAX_PAYLOAD;
+use std::alloc::{AllocError, Global};
 
 /// A step that was taken, and the bytes that it overwrote.
 #[derive(Drop)]
 pub(crate) struct Done {
     pub(crate) step: Step,
-    pub(crate) old: ArrayVec<u8, MAX_PAYLOAD>,
+    pub(crate) old: Vec<u8>,
 }
 
 /// The bytes that the step overwrites.
-fn old(place: &Place, log: &Log, step: Step) -> ArrayVec<u8, MAX_PAYLOAD>
-    ensures { result.items ≡ old_of log.now (state_of place.now) step }
+fn old(place: &Place, alloc: Global, log: &Log, step: Step) -> Result<Vec<u8>, AllocError>
+    ensures { IfOk result (λ v. v.items ≡ old_of log.now (state_of place.now) step) }
 {
     match step {
-        Step::Pass => ArrayVec::new(),
-        Step::Act(b) => bytes_of(log, place.key.bytes.as_slice(), b),
+        Step::Pass => Ok(Vec::new(alloc)),
+        Step::Act(b) => bytes_of(alloc, log, place.key.bytes.as_slice(), b),
     }
 }
 
@@ -85,14 +83,19 @@ fn go(place: &mut Place, log: &Log, step: Step) -> Result<(), AllocError>
 }
 
 /// Takes a step, so that it can be taken back.
-pub(crate) fn take(place: &mut Place, log: &Log, step: Step) -> Result<Done, AllocError>
+pub(crate) fn take(
+    place: &mut Place,
+    alloc: Global,
+    log: &Log,
+    step: Step,
+) -> Result<Done, AllocError>
     requires place { IsPlace log.now place.old }
     requires allowed { Allowed log.now (state_of place.old) step }
     ensures came { IfOk result (CameBy log.now (state_of place.old) (state_of place.new)) }
     ensures step { IfOk result (λ d. d.step ≡ step) }
     ensures place { OnOk result (IsPlace log.now place.new) }
 {
-    let old = old(place, log, step);
+    let old = old(place, alloc, log, step)?;
     go(place, log, step)?;
     Ok(Done { step, old })
 }

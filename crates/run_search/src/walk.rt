@@ -6,7 +6,7 @@ ghost use Rattle.run_search.specs.Frames as frames;
 
 use crate::choices::choices;
 use crate::due::places;
-use crate::hints::may_be_lost;
+use crate::hints::{Hint, changed, hints_of, is_touched, some_overwrote};
 use crate::lost::is_lost;
 use crate::memo::{Memo, empty, is_known, note};
 use crate::place::{Place, first};
@@ -37,6 +37,8 @@ pub(crate) struct Walk {
     pub(crate) memo: Memo,
     /// The place of each request's answer.
     pub(crate) due: Vec<usize>,
+    /// What is seen of each event.
+    pub(crate) hints: Vec<Hint>,
 }
 
 pub(crate) fn begin(alloc: Global, log: &Log) -> Result<Walk, AllocError>
@@ -48,25 +50,27 @@ pub(crate) fn begin(alloc: Global, log: &Log) -> Result<Walk, AllocError>
         here: first(alloc, log)?,
         memo: empty(alloc),
         due: places(alloc, log)?,
+        hints: hints_of(alloc, log)?,
     })
 }
 
 /// Takes the steps that may be taken at once.
-pub(crate) fn settle(walk: &mut Walk, log: &Log) -> Result<(), AllocError>
+pub(crate) fn settle(walk: &mut Walk, alloc: Global, log: &Log) -> Result<(), AllocError>
     requires { frames.IsAt log.now walk.old }
     ensures { OnOk result (frames.IsAt log.now walk.new) }
 {
     // the requests before it were looked at, and nothing has acted since
     let mut from = 0;
     for _step in 0..u64::MAX {
-        let Some(step) = forced(&walk.here, log, walk.due.as_slice(), from) else {
+        let Some(step) = forced(&walk.here, log, walk.hints.as_slice(), walk.due.as_slice(), from)
+        else {
             return Ok(());
         };
         from = match step {
             Step::Pass => walk.here.key.pending.len(),
             Step::Act(_) => 0,
         };
-        let done = take(&mut walk.here, log, step)?;
+        let done = take(&mut walk.here, alloc, log, step)?;
         walk.done.push(done)?;
     }
     Ok(())
@@ -107,7 +111,7 @@ fn go_on(
     requires { frames.MayTake log.now walk.old frame step }
     ensures { OnOk result (frames.IsAt log.now walk.new) }
 {
-    let done = take(&mut walk.here, log, step)?;
+    let done = take(&mut walk.here, alloc, log, step)?;
     walk.done = Vec::new(alloc);
     walk.done.push(done)?;
     walk.frames.push(frame)?;
@@ -133,25 +137,33 @@ fn back(walk: &mut Walk, alloc: Global, log: &Log) -> Result<bool, AllocError>
     Ok(false)
 }
 
+/// The request is due now, or the steps since the last frame overwrote bytes that it needs. `words` has
+/// bits for the words that these changed.
+fn may_be_lost(walk: &Walk, log: &Log, words: u64, q: usize) -> bool {
+    if walk.due.get(q) == Some(&walk.here.key.event) {
+        return true;
+    }
+    is_touched(&walk.hints, words, q) && some_overwrote(&walk.done, log, q)
+}
+
 /// The request is lost here, as far as the steps since the last frame show.
-fn is_lost_now(walk: &Walk, log: &Log, q: usize) -> bool
+fn is_lost_now(walk: &Walk, log: &Log, words: u64, q: usize) -> bool
     requires { IsPlace log.now walk.now.here }
     ensures { IsTrue result → Dead log.now (state_of walk.now.here) }
 {
-    let due = walk.due.as_slice();
-    if !may_be_lost(walk.done.as_slice(), due, log, walk.here.key.event, q) {
+    if !may_be_lost(walk, log, words, q) {
         return false;
     }
-    is_lost(&walk.here, log, due, q)
+    is_lost(&walk.here, log, walk.due.as_slice(), q)
 }
 
 /// A request that was submitted is lost here.
-fn some_is_lost(walk: &Walk, log: &Log) -> bool
+fn some_is_lost(walk: &Walk, log: &Log, words: u64) -> bool
     requires { IsPlace log.now walk.now.here }
     ensures { IsTrue result → Dead log.now (state_of walk.now.here) }
 {
     for q in &walk.here.key.pending {
-        if is_lost_now(walk, log, *q) {
+        if is_lost_now(walk, log, words, *q) {
             return true;
         }
     }
@@ -159,13 +171,13 @@ fn some_is_lost(walk: &Walk, log: &Log) -> bool
 }
 
 /// A request that is submitted soon is lost here.
-fn later_is_lost(walk: &Walk, log: &Log) -> bool
+fn later_is_lost(walk: &Walk, log: &Log, words: u64) -> bool
     requires { IsPlace log.now walk.now.here }
     ensures { IsTrue result → Dead log.now (state_of walk.now.here) }
 {
     let event = walk.here.key.event;
     for q in event..event.saturating_add(SOON) {
-        if is_lost_now(walk, log, q) {
+        if is_lost_now(walk, log, words, q) {
             return true;
         }
     }
@@ -177,10 +189,11 @@ fn is_dead(walk: &Walk, log: &Log) -> bool
     requires { frames.IsAt log.now walk.now }
     ensures { IsTrue result → Dead log.now (state_of walk.now.here) }
 {
-    if some_is_lost(walk, log) {
+    let words = changed(&walk.hints, &walk.done);
+    if some_is_lost(walk, log, words) {
         return true;
     }
-    if later_is_lost(walk, log) {
+    if later_is_lost(walk, log, words) {
         return true;
     }
     is_known(&walk.memo, &walk.here)
