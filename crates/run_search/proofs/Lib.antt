@@ -7,3 +7,5 @@ pub mod Knowing
 pub mod FrameLemmas
 pub mod Readiness
 pub mod OthersOf
+pub mod ValueLemmas
+pub mod SketchLemmas

@@ -7,3 +7,6 @@ pub mod Spared
 pub mod Offered
 pub mod Frames
 pub mod Outcomes
+pub mod Sketches
+pub mod Values
+pub mod Catalogs

@@ -1,8 +1,9 @@
 //! Which steps may be taken.
 ghost use Rattle.std.specs.Prelude.{◌≡◌, ◌<◌, ◌≤◌, ◌↔◌, ℕ, IsTrue, slice_get, not};
 ghost use Rattle.std.specs.List.{list_any};
-ghost use Rattle.log_runs.specs.Runs.{MayPass, MayAct};
+ghost use Rattle.log_runs.specs.Runs.{MayPass, MayAct, reply_of};
 ghost use Rattle.run_search.specs.Pending.{blocks};
+ghost use Rattle.run_search.specs.Pending as pending;
 ghost use Rattle.run_search.specs.Places.{state_of, IsPlace};
 ghost use Rattle.run_search.specs.Ready.{is_told};
 ghost use Rattle.run_search.specs.Ready as ready;
@@ -24,9 +25,9 @@ pub(crate) fn may_pass(place: &Place, log: &Log) -> bool
     }
 }
 
-/// Request `c` is a posted write that the requester submitted before request `b`.
-fn does_block(log: &Log, requester: u8, b: usize, c: usize) -> bool
-    ensures { result ≡ blocks log.now requester b c }
+/// The event is a posted write of the requester.
+fn is_write(log: &Log, requester: u8, c: usize) -> bool
+    ensures { result ≡ pending.is_write requester (slice_get log.now.events c) }
 {
     match log.events.get(c) {
         Some(
@@ -35,9 +36,16 @@ fn does_block(log: &Log, requester: u8, b: usize, c: usize) -> bool
                 op,
                 ..
             },
-        ) => c < b && requester == *who && op.is_posted(),
+        ) => requester == *who && op.is_posted(),
         _ => false,
     }
+}
+
+/// Request `c` is a posted write that the requester submitted before request `b`.
+fn does_block(log: &Log, requester: u8, b: usize, c: usize) -> bool
+    ensures { result ≡ blocks log.now requester b c }
+{
+    c < b && is_write(log, requester, c)
 }
 
 /// No posted write is pending that the requester submitted before request `b`.
@@ -52,12 +60,12 @@ fn is_free(pending: &[usize], log: &Log, requester: u8, b: usize) -> bool
     true
 }
 
-/// The request was answered so, or not at all.
-pub(crate) fn agrees(told: &Option<Reply>, made: &Reply) -> bool
-    ensures { result ≡ is_told told.now made.now }
+/// The memory answers the operation so, or the request wasn't answered.
+pub(crate) fn agrees(log: &Log, bytes: &[u8], op: &Op, told: &Option<Reply>) -> bool
+    ensures { result ≡ is_told told.now (reply_of log.now.extent bytes.now op.now) }
 {
     match told {
-        Some(reply) => *reply == *made,
+        Some(reply) => *reply == reply_to(log, bytes, op),
         None => true,
     }
 }
@@ -68,7 +76,7 @@ fn fits(place: &Place, log: &Log, b: usize, requester: u8, op: &Op, told: &Optio
 {
     b < place.key.event
         && !has_acted(place, b)
-        && agrees(told, &reply_to(log, place.key.bytes.as_slice(), op))
+        && agrees(log, place.key.bytes.as_slice(), op, told)
         && is_free(place.key.pending.as_slice(), log, requester, b)
 }
 

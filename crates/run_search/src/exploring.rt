@@ -1,8 +1,10 @@
 //! Whether a run leads through a log to its end.
 ghost use Rattle.std.specs.Prelude.{◌≡◌, ◌≤◌, IfOk, OnOk, IfSome, IfNone, length};
+ghost use Rattle.run_search.specs.Catalogs.{IsCatalog};
 ghost use Rattle.run_search.specs.Frames.{IsAt};
 ghost use Rattle.run_search.specs.Outcomes.{IsRun, IsRight};
 
+use crate::catalog::{Catalog, catalog_of};
 use crate::walk::{Walk, advance, begin, settle, steps_of};
 use log_runs::{Log, Step};
 use std::alloc::{AllocError, Global};
@@ -19,13 +21,19 @@ pub enum Outcome {
 }
 
 /// Takes the steps that may be taken at once. All steps that were taken, if they lead to the end.
-fn finished(walk: &mut Walk, alloc: Global, log: &Log) -> Result<Option<Vec<Step>>, AllocError>
-    requires { IsAt log.now walk.old }
+fn finished(
+    walk: &mut Walk,
+    alloc: Global,
+    log: &Log,
+    catalog: &Catalog,
+) -> Result<Option<Vec<Step>>, AllocError>
+    requires at { IsAt log.now walk.old }
+    requires catalog { IsCatalog log.now catalog.now }
     ensures at { OnOk result (IsAt log.now walk.new) }
     ensures run { IfOk result (λ o. IfSome o (λ v. IsRun log.now v.items)) }
     ensures more { IfOk result (λ o. IfNone o (walk.new.here.key.event ≡ length log.now.events → ⊥)) }
 {
-    settle(walk, alloc, log)?;
+    settle(walk, alloc, log, catalog)?;
     if walk.here.key.event == log.events.len() {
         let steps = steps_of(walk, alloc)?;
         return Ok(Some(steps));
@@ -40,16 +48,17 @@ pub fn explore(alloc: Global, log: &Log, limit: u64) -> Result<(Outcome, u64), A
     ensures states { IfOk result (λ r. r.1 ≤ limit) }
     ensures limit { IfOk result (λ r. r.0 ≡ Outcome.Limit → r.1 ≡ limit) }
 {
+    let catalog = catalog_of(alloc, log)?;
     let mut walk = begin(alloc, log)?;
     for states in 0..limit {
-        if let Some(steps) = finished(&mut walk, alloc, log)? {
+        if let Some(steps) = finished(&mut walk, alloc, log, &catalog)? {
             return Ok((Outcome::Run(steps), states));
         }
-        if !advance(&mut walk, alloc, log)? {
+        if !advance(&mut walk, alloc, log, &catalog)? {
             return Ok((Outcome::Dead, states + 1));
         }
     }
-    match finished(&mut walk, alloc, log)? {
+    match finished(&mut walk, alloc, log, &catalog)? {
         Some(steps) => Ok((Outcome::Run(steps), limit)),
         None => Ok((Outcome::Limit, limit)),
     }

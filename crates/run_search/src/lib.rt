@@ -9,6 +9,7 @@
 
 mod allowed;
 mod bytes;
+mod catalog;
 mod choices;
 mod due;
 mod exploring;
@@ -19,7 +20,9 @@ mod others;
 mod pending;
 mod place;
 mod rules;
+mod sketches;
 mod steps;
+mod values;
 mod walk;
 
 pub use exploring::{Outcome, explore};

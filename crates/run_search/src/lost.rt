@@ -1,11 +1,12 @@
 //! Requests that can't have what they need.
 ghost use Rattle.std.specs.Prelude.{◌≡◌, Some, false, IsTrue, slice_get};
 ghost use Rattle.log_runs.specs.Runs.{Dead};
+ghost use Rattle.run_search.specs.Catalogs.{IsCatalog};
 ghost use Rattle.run_search.specs.Places.{state_of, IsPlace};
 ghost use Rattle.run_search.specs.Ready as ready;
 
 use crate::allowed::agrees;
-use crate::bytes::reply_to;
+use crate::catalog::Catalog;
 use crate::due::place_of;
 use crate::others::{Asked, others_spare};
 use crate::place::Place;
@@ -27,20 +28,19 @@ fn suits(place: &Place, log: &Log, q: usize) -> bool
     ensures { result ≡ ready.suits log.now (state_of place.now).bytes (slice_get log.now.events q) }
 {
     match log.events.get(q) {
-        Some(Event::Sub { op, reply, .. }) => {
-            agrees(reply, &reply_to(log, place.key.bytes.as_slice(), op))
-        }
+        Some(Event::Sub { op, reply, .. }) => agrees(log, place.key.bytes.as_slice(), op, reply),
         _ => true,
     }
 }
 
 /// The request doesn't find what it needs, and nobody brings it before it is due.
-pub(crate) fn is_lost(place: &Place, log: &Log, due: &[usize], q: usize) -> bool
-    requires { IsPlace log.now place.now }
+pub(crate) fn is_lost(place: &Place, log: &Log, catalog: &Catalog, q: usize) -> bool
+    requires place { IsPlace log.now place.now }
+    requires catalog { IsCatalog log.now catalog.now }
     ensures { IsTrue result → Dead log.now (state_of place.now) }
 {
     lost_is_dead();
-    let Some(a) = place_of(due, log, q) else {
+    let Some(a) = place_of(&catalog.due, log, q) else {
         return false;
     };
     if a < place.key.event {
@@ -52,5 +52,5 @@ pub(crate) fn is_lost(place: &Place, log: &Log, due: &[usize], q: usize) -> bool
     if suits(place, log, q) {
         return false;
     }
-    others_spare(place, log, q, a, Asked::Lost)
+    others_spare(place, log, catalog, q, a, Asked::Lost)
 }

@@ -2,10 +2,15 @@
 ghost use Rattle.std.specs.Prelude.{ℕ, ◌≡◌, ◌<◌, ◌≤◌, true, IsTrue};
 ghost use Rattle.search_rules.specs.Rules.{AllOthers};
 ghost use Rattle.run_search.specs.Pending.{has};
+ghost use Rattle.run_search.specs.Catalogs.{IsCatalog};
 ghost use Rattle.run_search.specs.Places.{state_of, IsPlace};
+ghost use Rattle.run_search.specs.Sketches.{AreSketches};
 ghost use Rattle.run_search.specs.Spared.{Spares};
 
+use crate::catalog::Catalog;
 use crate::place::Place;
+use crate::sketches::{Sketch, are_far};
+use byte_effects::laws::apart_requests_commute;
 use log_runs::Log;
 use search_rules::laws::answers_yield;
 use search_rules::{lets_first, never_brings, yields};
@@ -33,21 +38,34 @@ fn spares(log: &Log, bytes: &[u8], b: usize, q: usize, asked: Asked) -> bool
 }
 
 /// It is `q` itself, or spares it.
-fn allows(log: &Log, bytes: &[u8], b: usize, q: usize, asked: Asked) -> bool
+fn allows(log: &Log, sketches: &[Sketch], bytes: &[u8], b: usize, q: usize, asked: Asked) -> bool
+    requires { AreSketches log.now.events sketches.now }
     ensures { IsTrue result → (q ≡ b → ⊥) → Spares log.now bytes.now q asked b }
 {
+    apart_requests_commute();
     if b == q {
+        return true;
+    }
+    if are_far(sketches, b, q) {
         return true;
     }
     spares(log, bytes, b, q, asked)
 }
 
 /// All of the list spare `q`.
-fn all_spare(pending: &[usize], log: &Log, bytes: &[u8], q: usize, asked: Asked) -> bool
+fn all_spare(
+    pending: &[usize],
+    log: &Log,
+    sketches: &[Sketch],
+    bytes: &[u8],
+    q: usize,
+    asked: Asked,
+) -> bool
+    requires { AreSketches log.now.events sketches.now }
     ensures { IsTrue result → (b : ℕ) → has pending.now b ≡ true → (q ≡ b → ⊥) → Spares log.now bytes.now q asked b }
 {
     for b in pending {
-        if !allows(log, bytes, *b, q, asked) {
+        if !allows(log, sketches, bytes, *b, q, asked) {
             return false;
         }
     }
@@ -55,11 +73,20 @@ fn all_spare(pending: &[usize], log: &Log, bytes: &[u8], q: usize, asked: Asked)
 }
 
 /// All that are submitted from one place on and before another spare `q`.
-fn later_spare(log: &Log, bytes: &[u8], from: usize, to: usize, q: usize, asked: Asked) -> bool
+fn later_spare(
+    log: &Log,
+    sketches: &[Sketch],
+    bytes: &[u8],
+    from: usize,
+    to: usize,
+    q: usize,
+    asked: Asked,
+) -> bool
+    requires { AreSketches log.now.events sketches.now }
     ensures { IsTrue result → (b : ℕ) → from ≤ b → b < to → (q ≡ b → ⊥) → Spares log.now bytes.now q asked b }
 {
     for b in from..to {
-        if !allows(log, bytes, b, q, asked) {
+        if !allows(log, sketches, bytes, b, q, asked) {
             return false;
         }
     }
@@ -67,14 +94,23 @@ fn later_spare(log: &Log, bytes: &[u8], from: usize, to: usize, q: usize, asked:
 }
 
 /// All that could act before place `a` spare `q`.
-pub(crate) fn others_spare(place: &Place, log: &Log, q: usize, a: usize, asked: Asked) -> bool
-    requires { IsPlace log.now place.now }
+pub(crate) fn others_spare(
+    place: &Place,
+    log: &Log,
+    catalog: &Catalog,
+    q: usize,
+    a: usize,
+    asked: Asked,
+) -> bool
+    requires place { IsPlace log.now place.now }
+    requires catalog { IsCatalog log.now catalog.now }
     ensures { IsTrue result → AllOthers (state_of place.now) q a (Spares log.now (state_of place.now).bytes q asked) }
 {
     answers_yield();
     let bytes = place.key.bytes.as_slice();
-    if !all_spare(place.key.pending.as_slice(), log, bytes, q, asked) {
+    let sketches = catalog.sketches.as_slice();
+    if !all_spare(place.key.pending.as_slice(), log, sketches, bytes, q, asked) {
         return false;
     }
-    later_spare(log, bytes, place.key.event, a, q, asked)
+    later_spare(log, sketches, bytes, place.key.event, a, q, asked)
 }

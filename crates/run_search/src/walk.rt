@@ -2,11 +2,12 @@
 ghost use Rattle.std.specs.Prelude.{◌≡◌, ◌++◌, ◌∷◌, [], ℕ, List, true, false, length, IsTrue, IfOk, OnOk};
 ghost use Rattle.log_runs.specs.Runs.{Dead, start};
 ghost use Rattle.run_search.specs.Places.{state_of, IsPlace};
+ghost use Rattle.run_search.specs.Catalogs.{IsCatalog};
 ghost use Rattle.run_search.specs.Frames as frames;
 
+use crate::catalog::Catalog;
 use crate::choices::choices;
-use crate::due::places;
-use crate::hints::{Hint, changed, hints_of, is_touched, some_overwrote};
+use crate::hints::{Look, Loss, losses_of, may_need};
 use crate::lost::is_lost;
 use crate::memo::{Memo, empty, is_known, note};
 use crate::place::{Place, first};
@@ -35,10 +36,6 @@ pub(crate) struct Walk {
     pub(crate) done: Vec<Done>,
     pub(crate) here: Place,
     pub(crate) memo: Memo,
-    /// The place of each request's answer.
-    pub(crate) due: Vec<usize>,
-    /// What is seen of each event.
-    pub(crate) hints: Vec<Hint>,
 }
 
 pub(crate) fn begin(alloc: Global, log: &Log) -> Result<Walk, AllocError>
@@ -49,27 +46,26 @@ pub(crate) fn begin(alloc: Global, log: &Log) -> Result<Walk, AllocError>
         done: Vec::new(alloc),
         here: first(alloc, log)?,
         memo: empty(alloc),
-        due: places(alloc, log)?,
-        hints: hints_of(alloc, log)?,
     })
 }
 
 /// Takes the steps that may be taken at once.
-pub(crate) fn settle(walk: &mut Walk, alloc: Global, log: &Log) -> Result<(), AllocError>
-    requires { frames.IsAt log.now walk.old }
+pub(crate) fn settle(
+    walk: &mut Walk,
+    alloc: Global,
+    log: &Log,
+    catalog: &Catalog,
+) -> Result<(), AllocError>
+    requires at { frames.IsAt log.now walk.old }
+    requires catalog { IsCatalog log.now catalog.now }
     ensures { OnOk result (frames.IsAt log.now walk.new) }
 {
-    // the requests before it were looked at, and nothing has acted since
-    let mut from = 0;
+    let mut look = Look::all();
     for _step in 0..u64::MAX {
-        let Some(step) = forced(&walk.here, log, walk.hints.as_slice(), walk.due.as_slice(), from)
-        else {
+        let Some(step) = forced(&walk.here, log, catalog, look) else {
             return Ok(());
         };
-        from = match step {
-            Step::Pass => walk.here.key.pending.len(),
-            Step::Act(_) => 0,
-        };
+        look = look.after(&catalog.sketches, walk.here.key.pending.len(), step);
         let done = take(&mut walk.here, alloc, log, step)?;
         walk.done.push(done)?;
     }
@@ -137,33 +133,31 @@ fn back(walk: &mut Walk, alloc: Global, log: &Log) -> Result<bool, AllocError>
     Ok(false)
 }
 
-/// The request is due now, or the steps since the last frame overwrote bytes that it needs. `words` has
-/// bits for the words that these changed.
-fn may_be_lost(walk: &Walk, log: &Log, words: u64, q: usize) -> bool {
-    if walk.due.get(q) == Some(&walk.here.key.event) {
-        return true;
-    }
-    is_touched(&walk.hints, words, q) && some_overwrote(&walk.done, log, q)
+/// The request is due now, or may need what the steps since the last frame overwrote.
+fn may_be_lost(walk: &Walk, catalog: &Catalog, losses: &[Loss], q: usize) -> bool {
+    catalog.due.get(q) == Some(&walk.here.key.event) || may_need(losses, &catalog.sketches, q)
 }
 
 /// The request is lost here, as far as the steps since the last frame show.
-fn is_lost_now(walk: &Walk, log: &Log, words: u64, q: usize) -> bool
-    requires { IsPlace log.now walk.now.here }
+fn is_lost_now(walk: &Walk, log: &Log, catalog: &Catalog, losses: &[Loss], q: usize) -> bool
+    requires place { IsPlace log.now walk.now.here }
+    requires catalog { IsCatalog log.now catalog.now }
     ensures { IsTrue result → Dead log.now (state_of walk.now.here) }
 {
-    if !may_be_lost(walk, log, words, q) {
+    if !may_be_lost(walk, catalog, losses, q) {
         return false;
     }
-    is_lost(&walk.here, log, walk.due.as_slice(), q)
+    is_lost(&walk.here, log, catalog, q)
 }
 
 /// A request that was submitted is lost here.
-fn some_is_lost(walk: &Walk, log: &Log, words: u64) -> bool
-    requires { IsPlace log.now walk.now.here }
+fn some_is_lost(walk: &Walk, log: &Log, catalog: &Catalog, losses: &[Loss]) -> bool
+    requires place { IsPlace log.now walk.now.here }
+    requires catalog { IsCatalog log.now catalog.now }
     ensures { IsTrue result → Dead log.now (state_of walk.now.here) }
 {
     for q in &walk.here.key.pending {
-        if is_lost_now(walk, log, words, *q) {
+        if is_lost_now(walk, log, catalog, losses, *q) {
             return true;
         }
     }
@@ -171,13 +165,14 @@ fn some_is_lost(walk: &Walk, log: &Log, words: u64) -> bool
 }
 
 /// A request that is submitted soon is lost here.
-fn later_is_lost(walk: &Walk, log: &Log, words: u64) -> bool
-    requires { IsPlace log.now walk.now.here }
+fn later_is_lost(walk: &Walk, log: &Log, catalog: &Catalog, losses: &[Loss]) -> bool
+    requires place { IsPlace log.now walk.now.here }
+    requires catalog { IsCatalog log.now catalog.now }
     ensures { IsTrue result → Dead log.now (state_of walk.now.here) }
 {
     let event = walk.here.key.event;
     for q in event..event.saturating_add(SOON) {
-        if is_lost_now(walk, log, words, q) {
+        if is_lost_now(walk, log, catalog, losses, q) {
             return true;
         }
     }
@@ -185,28 +180,35 @@ fn later_is_lost(walk: &Walk, log: &Log, words: u64) -> bool
 }
 
 /// No run leads from here to the end, as is seen or known.
-fn is_dead(walk: &Walk, log: &Log) -> bool
-    requires { frames.IsAt log.now walk.now }
-    ensures { IsTrue result → Dead log.now (state_of walk.now.here) }
+fn is_dead(walk: &Walk, alloc: Global, log: &Log, catalog: &Catalog) -> Result<bool, AllocError>
+    requires at { frames.IsAt log.now walk.now }
+    requires catalog { IsCatalog log.now catalog.now }
+    ensures { IfOk result (λ dead. IsTrue dead → Dead log.now (state_of walk.now.here)) }
 {
-    let words = changed(&walk.hints, &walk.done);
-    if some_is_lost(walk, log, words) {
-        return true;
+    let losses = losses_of(alloc, &catalog.sketches, &walk.done)?;
+    if some_is_lost(walk, log, catalog, &losses) {
+        return Ok(true);
     }
-    if later_is_lost(walk, log, words) {
-        return true;
+    if later_is_lost(walk, log, catalog, &losses) {
+        return Ok(true);
     }
-    is_known(&walk.memo, &walk.here)
+    Ok(is_known(&walk.memo, &walk.here))
 }
 
 /// Goes on from here; false if no run leads to the end.
-pub(crate) fn advance(walk: &mut Walk, alloc: Global, log: &Log) -> Result<bool, AllocError>
+pub(crate) fn advance(
+    walk: &mut Walk,
+    alloc: Global,
+    log: &Log,
+    catalog: &Catalog,
+) -> Result<bool, AllocError>
     requires at { frames.IsAt log.now walk.old }
+    requires catalog { IsCatalog log.now catalog.now }
     requires more { walk.old.here.key.event ≡ length log.now.events → ⊥ }
     ensures at { IfOk result (λ more. IsTrue more → frames.IsAt log.now walk.new) }
     ensures none { IfOk result (λ more. more ≡ false → Dead log.now (start log.now)) }
 {
-    if is_dead(walk, log) {
+    if is_dead(walk, alloc, log, catalog)? {
         rewind(walk, log)?;
     } else {
         keep(walk, alloc, log)?;

@@ -10,7 +10,7 @@ returns c = λ so.
     let log = c.args.log.now in
     let s = state_of c.args.place.now in
     all_others c.answers_yield.ensures.brings c.answers_yield.ensures.yields c.answers_yield.ensures.first
-    log s c.args.place.now.key.pending.items s.bytes c.args.q c.args.a c.args.asked c.requires
+    log s c.args.place.now.key.pending.items s.bytes c.args.q c.args.a c.args.asked c.requires.place
     (λ b h other. subst (λ (m : List ℕ). Spares log m c.args.q c.args.asked b) c.as_slice-bytes.ensures.value
     (c.all_spare.ensures c.if-not-all_spare.false b (subst (λ (ys : List ℕ). has ys b ≡ true) (sym c.as_slice.ensures.value) h) other))
     (λ b low high other. subst (λ (m : List ℕ). Spares log m c.args.q c.args.asked b) c.as_slice-bytes.ensures.value (c.later_spare.ensures so b low high other))

@@ -1,0 +1,28 @@
+//! What is known of a log before the search begins.
+ghost use Rattle.std.specs.Prelude.{IfOk};
+ghost use Rattle.run_search.specs.Catalogs.{IsCatalog};
+
+use crate::due::places;
+use crate::sketches::{Sketch, sketches_of};
+use crate::values::{Values, values_of};
+use log_runs::Log;
+use std::alloc::{AllocError, Global};
+
+/// What is known of a log's requests.
+#[derive(Drop)]
+pub(crate) struct Catalog {
+    /// The place of each request's answer.
+    pub(crate) due: Vec<usize>,
+    pub(crate) sketches: Vec<Sketch>,
+    pub(crate) values: Values,
+}
+
+pub(crate) fn catalog_of(alloc: Global, log: &Log) -> Result<Catalog, AllocError>
+    ensures { IfOk result (IsCatalog log.now) }
+{
+    Ok(Catalog {
+        due: places(alloc, log)?,
+        sketches: sketches_of(alloc, log)?,
+        values: values_of(alloc, log)?,
+    })
+}
