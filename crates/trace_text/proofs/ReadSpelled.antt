@@ -1,6 +1,6 @@
 -- What is read of a trace is spelled.
 use Rattle.std.proofs.Common.{◌≡◌, ℕ, Bool, true, false, List, [], ◌∷◌, ◌++◌, length, refl, subst, fold, Option, Some, None, inl, Ok}
-use Rattle.std.specs.Prelude.{◌&&◌, nat_lt, cond, codes, is_some}
+use Rattle.std.specs.Prelude.{nat_lt, cond, codes, is_some}
 use Rattle.line_loop.specs.Lines.{bare, said}
 use Rattle.seq_memory.specs.declared.Entry.{Entry}
 use Rattle.seq_memory.specs.Limits.{IsBlock, Extent, is_within_limits}
