@@ -94,7 +94,7 @@ fn acts_as_seen(place: &Place, log: &Log, catalog: &Catalog, look: Look, q: usiz
     requires catalog { IsCatalog log.now catalog.now }
     ensures { IsTrue result → IsForced log.now (state_of place.now) (Step.Act q) }
 {
-    if !look.is_at(&catalog.sketches, log.memory.base(), &place.key.bytes, q) {
+    if !look.is_at(&catalog.sketches, log.extent.base(), &place.key.bytes, q) {
         return false;
     }
     acts_at_once(place, log, catalog, q)

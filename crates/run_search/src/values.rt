@@ -162,7 +162,7 @@ impl Gathering {
         requires { at < length log.now.events }
         ensures { OnOk result (AreGathered log.now self.old at → AreGathered log.now self.new (at + 1)) }
     {
-        self.take_event(log.memory.base(), &log.events[at])?;
+        self.take_event(log.extent.base(), &log.events[at])?;
         Ok(())
     }
 }
@@ -184,7 +184,7 @@ pub(crate) fn values_of(alloc: Global, log: &Log) -> Result<Values, AllocError>
         seen: HashSet::new(alloc),
         values: Values {
             shared: HashSet::new(alloc),
-            mixed: vec![in alloc; false; log.memory.size() / 4]?,
+            mixed: vec![in alloc; false; log.extent.size() / 4]?,
         },
     };
     for at in 0..log.events.len() {
@@ -229,7 +229,7 @@ pub(crate) fn is_alone(values: &Values, log: &Log, q: usize) -> bool
                 reply: Some(Reply::Data(data)),
                 ..
             },
-        ) => is_alone_for(values, log.memory.base(), op, data.as_slice()),
+        ) => is_alone_for(values, log.extent.base(), op, data.as_slice()),
         _ => false,
     }
 }
