@@ -70,7 +70,6 @@ far_apart log ks b q k l are at there apart i j one other told asked here too =
 module _ (answers : (base block : ℕ) (m : List ℕ) (one other : Op) → AreApart one other → answer base block (after base block m one) other ≡ answer base block m other)
     (commute : (base block : ℕ) (m : List ℕ) (one other : Op) → AreApart one other → after base block (after base block m one) other ≡ after base block (after base block m other) one)
     (log : LogView) (b q : ℕ) (apart : AreApartThere log b q) where
-
   keeps : (m : List ℕ) (o p : Option Event) → slice_get log.events b ≡ o → slice_get log.events q ≡ p → Suits log.extent (acted_on log.extent m o) p → Suits log.extent m p
   unfolding reply_of bytes_after acted_on
   keeps m (Some (events.Sub i one told)) (Some (events.Sub j other asked)) at there suits =

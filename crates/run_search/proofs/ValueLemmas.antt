@@ -87,12 +87,12 @@ module _ (log : LogView) where
     same_key q m n j one other d e k l kd ke at place same there here =
         let base = log.extent.base in
         let each : (i : ℕ) → i < 4 → slice_index d.items i ≡ slice_index e.items i = λ i low.
-            let x : address_of other ≤ base + (address_of other - base + i) = omega (arith, ke.place) in
-            let y : base + (address_of other - base + i) < address_of other + count_of other = omega (arith, ke.place, ke.whole, low) in
-            sym (found n one d k i kd here low)
-            ∙ ap (λ a. slice_index n (a - base + i)) place
-            ∙ same j other (Some (replies.Data e)) at (address_of other - base + i) x y
-            ∙ found m other e l i ke there low in
+        let x : address_of other ≤ base + (address_of other - base + i) = omega (arith, ke.place) in
+        let y : base + (address_of other - base + i) < address_of other + count_of other = omega (arith, ke.place, ke.whole, low) in
+        sym (found n one d k i kd here low)
+        ∙ ap (λ a. slice_index n (a - base + i)) place
+        ∙ same j other (Some (replies.Data e)) at (address_of other - base + i) x y
+        ∙ found m other e l i ke there low in
         let word : kd.word ≡ ke.word = omega (arith, kd.place, ke.place, place) in
         kd.key ∙ ap (λ w. w * 4294967296 + word_value d.items) word ∙ ap (λ v. ke.word * 4294967296 + v) (same_value d.items e.items each) ∙ sym ke.key
 
@@ -100,9 +100,9 @@ module _ (log : LogView) where
     other_key : (q b : ℕ) (m : List ℕ) (k l : ℕ) → HasKey log.extent.base (slice_get log.events b) k → HasKey log.extent.base (slice_get log.events q) l → (k ≡ l → ⊥)
         → Suits log.extent m (slice_get log.events q) → LetsFirst log m b q
     other_key q b m k l kb kq differ suits =
-        let there : Answers log.extent m kq.op (Some (replies.Data kq.data)) = subst (Suits log.extent m) kq.is suits in
+        let there : Answers log.extent m kq.op (Some (replies.Data kq.bytes)) = subst (Suits log.extent m) kq.is suits in
         elim (cases_eq (address_of kb.op) (address_of kq.op)) [
-          | inl same ↦ inr (λ n alike here. differ (same_key q m n kq.requester kb.op kq.op kb.data kq.data k l kb.key kq.key kq.is same alike there (subst (Suits log.extent n) kb.is here)))
+          | inl same ↦ inr (λ n alike here. differ (same_key q m n kq.requester kb.op kq.op kb.bytes kq.bytes k l kb.key kq.key kq.is same alike there (subst (Suits log.extent n) kb.is here)))
           | inr away ↦ inl (apart_there log b q (λ i one told at.
               let place : address_at (slice_get log.events q) ≡ log.extent.base + 4 * kq.key.word = ap address_at kq.is ∙ kq.key.place in
               let whole : count_at (slice_get log.events q) ≡ 4 = ap count_at kq.is ∙ kq.key.whole in
@@ -123,14 +123,14 @@ module _ (log : LogView) where
     alone v q i op d values one at b m other suits =
         let base = log.extent.base in
         let mixed = v.mixed.items in
-        let mine : HasKey base (slice_get log.events q) one.number = record { requester = i; op = op; data = d; is = at; key = one.key } in
+        let mine : HasKey base (slice_get log.events q) one.number = record { requester = i; op = op; bytes = d; is = at; key = one.key } in
         let inside : q < length log.events = slice_get_within log.events q (events.Sub i op (Some (replies.Data d))) at in
         let place : address_at (slice_get log.events q) ≡ base + 4 * one.word = ap address_at at ∙ one.place in
         let whole : count_at (slice_get log.events q) ≡ 4 = ap count_at at ∙ one.key.whole in
         let far : IsMixed base (slice_get log.events b) mixed → LetsFirst log m b q = λ marks. inl (mixed_apart mixed b q one.word marks one.pure place whole) in
         let touches : Touches base op one.word = (omega (arith, one.place, one.key.whole), omega (arith, one.place)) in
         let never : IsMixed base (slice_get log.events q) mixed → ⊥ = λ marks.
-            clash refl (same_Some true false (sym (marks i one.word op (Some (replies.Data d)) at touches (slice_get_within mixed one.word false one.pure)) ∙ one.pure)) in
+        clash refl (same_Some true false (sym (marks i one.word op (Some (replies.Data d)) at touches (slice_get_within mixed one.word false one.pure)) ∙ one.pure)) in
         let shared : ((has v.shared.keys one.number ≡ true) ⊎ IsMixed base (slice_get log.events b) mixed ⊎ IsMixed base (slice_get log.events q) mixed) → LetsFirst log m b q = λ s. elim s [
           | inl twice ↦ absurd (clash twice one.unshared)
           | inr (inl marks) ↦ far marks
@@ -161,11 +161,11 @@ module _ (log : LogView) where
 
   one_key : (base : ℕ) (o : Option Event) (k l : ℕ) → HasKey base o k → HasKey base o l → k ≡ l
   one_key base o k l x y =
-      let same : Some (events.Sub x.requester x.op (Some (replies.Data x.data))) ≡ Some (events.Sub y.requester y.op (Some (replies.Data y.data))) = sym x.is ∙ y.is in
+      let same : Some (events.Sub x.requester x.op (Some (replies.Data x.bytes))) ≡ Some (events.Sub y.requester y.op (Some (replies.Data y.bytes))) = sym x.is ∙ y.is in
       let place : address_of x.op ≡ address_of y.op = ap address_at same in
-      let data : x.data.items ≡ y.data.items = ap data_at same in
+      let bytes : x.bytes.items ≡ y.bytes.items = ap data_at same in
       let word : x.key.word ≡ y.key.word = omega (arith, x.key.place, y.key.place, place) in
-      x.key.key ∙ ap (λ w. w * 4294967296 + word_value x.data.items) word ∙ ap (λ d. y.key.word * 4294967296 + word_value d) data ∙ sym y.key.key
+      x.key.key ∙ ap (λ w. w * 4294967296 + word_value x.bytes.items) word ∙ ap (λ d. y.key.word * 4294967296 + word_value d) bytes ∙ sym y.key.key
     where
       data_at : Option Event → List ℕ
       data_at (Some (events.Sub i op (Some (replies.Data d)))) = d.items

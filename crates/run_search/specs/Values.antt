@@ -19,21 +19,21 @@ abbrev pub word_value : List ℕ → ℕ
 word_value d = slice_index d 0 + 256 * slice_index d 1 + 65536 * slice_index d 2 + 16777216 * slice_index d 3
 
 -- the operation, answered with those bytes, needs all of a word; k says which word and what it has to be
-pub record KeyFor (base : ℕ) (op : Op) (data : List ℕ) (k : ℕ) : Type 0 where
+pub record KeyFor (base : ℕ) (op : Op) (bytes : List ℕ) (k : ℕ) : Type 0 where
   pub word : ℕ
   pub place : address_of op ≡ base + 4 * word
   pub whole : count_of op ≡ 4
   pub needed : (at : ℕ) → at < 4 → effects.is_needed op at ≡ true
-  pub len : length data ≡ 4
-  pub key : k ≡ word * 4294967296 + word_value data
+  pub len : length bytes ≡ 4
+  pub key : k ≡ word * 4294967296 + word_value bytes
 
 -- the event is a request with the key k
 pub record HasKey (base : ℕ) (o : Option Event) (k : ℕ) : Type 0 where
   pub requester : ℕ
   pub op : Op
-  pub data : ArrayVec ℕ
-  pub is : o ≡ Some (events.Sub requester op (Some (replies.Data data)))
-  pub key : KeyFor base op data.items k
+  pub bytes : ArrayVec ℕ
+  pub is : o ≡ Some (events.Sub requester op (Some (replies.Data bytes)))
+  pub key : KeyFor base op bytes.items k
 
 -- the operation names bytes of word w
 abbrev pub Touches : ℕ → Op → ℕ → Type 0
@@ -66,9 +66,9 @@ pub record Adds (base : ℕ) (o : Option Event) (old new : Gathering) : Type 0 w
       ⊎ IsMixed base o new.values.mixed.items
 
 -- no other request has the operation's key, and its word isn't marked
-pub record IsAloneFor (base : ℕ) (op : Op) (data : List ℕ) (v : Values) : Type 0 where
+pub record IsAloneFor (base : ℕ) (op : Op) (bytes : List ℕ) (v : Values) : Type 0 where
   pub number : ℕ
-  pub key : KeyFor base op data number
+  pub key : KeyFor base op bytes number
   pub unshared : has v.shared.keys number ≡ false
   pub word : ℕ
   pub place : address_of op ≡ base + 4 * word

@@ -61,7 +61,11 @@ impl Look {
         };
         Look {
             from: 0,
-            marks: if self.from == 0 { self.marks | frees } else { frees },
+            marks: if self.from == 0 {
+                self.marks | frees
+            } else {
+                frees
+            },
         }
     }
 

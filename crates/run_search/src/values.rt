@@ -51,31 +51,31 @@ fn word_of(base: u64, op: &Op) -> Option<u64>
 }
 
 /// What the word has to be.
-fn value_of(data: &[u8]) -> Option<u64>
-    ensures len { IfSome result (λ v. length data.now ≡ 4) }
-    ensures value { IfSome result (λ v. v ≡ word_value data.now) }
+fn value_of(bytes: &[u8]) -> Option<u64>
+    ensures len { IfSome result (λ v. length bytes.now ≡ 4) }
+    ensures value { IfSome result (λ v. v ≡ word_value bytes.now) }
     ensures few { IfSome result (λ v. v < 4294967296) }
 {
-    if data.len() != 4 {
+    if bytes.len() != 4 {
         return None;
     }
     Some(
-        u64::from(data[0])
-            + 256 * u64::from(data[1])
-            + 65_536 * u64::from(data[2])
-            + 16_777_216 * u64::from(data[3]),
+        u64::from(bytes[0])
+            + 256 * u64::from(bytes[1])
+            + 65_536 * u64::from(bytes[2])
+            + 16_777_216 * u64::from(bytes[3]),
     )
 }
 
-/// The key of an operation that was answered with the data.
-fn key_for(base: u64, op: &Op, data: &[u8]) -> Option<u64>
-    ensures { IfSome result (KeyFor base op.now data.now) }
+/// The key of an operation that was answered with these bytes.
+fn key_for(base: u64, op: &Op, bytes: &[u8]) -> Option<u64>
+    ensures { IfSome result (KeyFor base op.now bytes.now) }
 {
     if !is_whole(op) {
         return None;
     }
     let word = word_of(base, op)?;
-    let value = value_of(data)?;
+    let value = value_of(bytes)?;
     Some(word * 4_294_967_296 + value)
 }
 
@@ -86,9 +86,9 @@ fn key_of(base: u64, event: &Event) -> Option<u64>
     match event {
         Event::Sub {
             op,
-            reply: Some(Reply::Data(data)),
+            reply: Some(Reply::Data(bytes)),
             ..
-        } => key_for(base, op, data.as_slice()),
+        } => key_for(base, op, bytes.as_slice()),
         _ => None,
     }
 }
@@ -204,10 +204,10 @@ fn is_pure(values: &Values, word: u64) -> bool
 }
 
 /// No other request has the operation's key, nor another need in its word.
-fn is_alone_for(values: &Values, base: u64, op: &Op, data: &[u8]) -> bool
-    ensures { IsTrue result → IsAloneFor base op.now data.now values.now }
+fn is_alone_for(values: &Values, base: u64, op: &Op, bytes: &[u8]) -> bool
+    ensures { IsTrue result → IsAloneFor base op.now bytes.now values.now }
 {
-    let Some(key) = key_for(base, op, data) else {
+    let Some(key) = key_for(base, op, bytes) else {
         return false;
     };
     let Some(word) = word_of(base, op) else {
@@ -226,10 +226,10 @@ pub(crate) fn is_alone(values: &Values, log: &Log, q: usize) -> bool
         Some(
             Event::Sub {
                 op,
-                reply: Some(Reply::Data(data)),
+                reply: Some(Reply::Data(bytes)),
                 ..
             },
-        ) => is_alone_for(values, log.extent.base(), op, data.as_slice()),
+        ) => is_alone_for(values, log.extent.base(), op, bytes.as_slice()),
         _ => false,
     }
 }
