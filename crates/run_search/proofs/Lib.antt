@@ -7,5 +7,4 @@ pub mod Knowing
 pub mod FrameLemmas
 pub mod Readiness
 pub mod OthersOf
-pub mod ValueLemmas
 pub mod SketchLemmas

@@ -1,5 +1,5 @@
 //! What is looked at often of a request, in a table.
-ghost use Rattle.std.specs.Prelude.{◌≡◌, ◌+◌, ◌≤◌, ◌⊎◌, IfOk, IsTrue};
+ghost use Rattle.std.specs.Prelude.{◌≡◌, ◌+◌, ◌≤◌, ◌⊎◌, IfOk, IfSome, IsTrue, Some, slice_get};
 ghost use Rattle.log_runs.specs.LogView.{LogView};
 ghost use Rattle.search_rules.specs.Rules.{AreApartThere};
 ghost use Rattle.run_search.specs.Sketches.{IsSketchOf, AreSketches};
@@ -142,12 +142,25 @@ pub(crate) fn sketches_of(alloc: Global, log: &Log) -> Result<Vec<Sketch>, Alloc
     Ok(sketches)
 }
 
+fn sketch_at(sketches: &[Sketch], b: usize) -> Option<Sketch>
+    ensures { IfSome result (λ k. slice_get sketches.now b ≡ Some k) }
+{
+    match sketches.get(b) {
+        Some(sketch) => Some(*sketch),
+        None => None,
+    }
+}
+
 /// The two requests have no byte in common, as far as there are sketches of them.
+#[tactic(auto, using(crate::proofs::SketchLemmas::far_apart))]
 pub(crate) fn are_far(sketches: &[Sketch], b: usize, q: usize) -> bool
     ensures { IsTrue result → (log : LogView) → AreSketches log.events sketches.now → AreApartThere log b q }
 {
-    match (sketches.get(b), sketches.get(q)) {
-        (Some(one), Some(other)) => one.is_apart(*other),
-        _ => false,
-    }
+    let Some(one) = sketch_at(sketches, b) else {
+        return false;
+    };
+    let Some(other) = sketch_at(sketches, q) else {
+        return false;
+    };
+    one.is_apart(other)
 }

@@ -208,7 +208,8 @@ pub(crate) fn advance(
     ensures at { IfOk result (λ more. IsTrue more → frames.IsAt log.now walk.new) }
     ensures none { IfOk result (λ more. more ≡ false → Dead log.now (start log.now)) }
 {
-    if is_dead(walk, alloc, log, catalog)? {
+    let dead = is_dead(walk, alloc, log, catalog)?;
+    if dead {
         rewind(walk, log)?;
     } else {
         keep(walk, alloc, log)?;
