@@ -1,2 +1,6 @@
 pub mod Holding
 pub mod Refused
+pub mod Mapped
+pub mod Linking
+pub mod Forwarding
+pub mod Serving

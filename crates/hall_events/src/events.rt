@@ -1,189 +1,195 @@
-//! The events of the fabric over parts in places of their own.
-ghost use Rattle.std.specs.Prelude.{◌≡◌, ◌↔◌, [], None, Ok, Err, IsTrue, IfOk, IfErr, OnOk, OnErr};
+//! The fabric's events over parts that are held.
+ghost use Rattle.std.specs.Prelude.{◌≡◌, ◌↔◌, Ok, Err, IsTrue, IfOk, IfErr, OnOk, OnErr, length};
 ghost use Rattle.vc_queue.specs.Queue.{is_takeable};
-ghost use Rattle.lane_ends.specs.Steps.{transmitted};
-ghost use Rattle.fabric_core.specs.Answers.{Refuses, lane_grows, arrival_grows, serving_grows, transmit_on, deliver_on, send_dllp_on, deliver_dllp_on, timer_on, retrained_on, submit_on, destination_on, forward_on, serve_on, collect_on, SubmitFits, ForwardFits, ServeFits};
+ghost use Rattle.fabric_core.specs.Answers.{Refuses, lane_grows, link_grows, serving_grows, destination_on};
+ghost use Rattle.hall_laws.specs.Parts.{IsMemory, IsRequester, IsSender, IsReceiver};
+ghost use Rattle.hall_laws.specs.Rule.{history_in};
+ghost use Rattle.hall_events.specs.Acts.{acts, acts_alone, AreEnds, HasNothing, leads, is_free, forwards, ForwardsFit, serves, ServesFit, serves_grow, submits, SubmitsFit, collects};
 
-use dllp_core::Dllp;
-use fabric_core::{Refusal, events};
-use hall_laws::boxed::Boxed;
-use lane_core::{Arrival, BackWire, DllpKind, DllpSeen, Fate, ForwardWire, ReceiverEnd, SenderEnd};
-use requester_core::{Answer, Requester};
-use seq_memory::Memory;
-use seq12::Seq12;
+use fabric_core::{LinkEvent, Refusal, Seen, events};
+use hall_laws::part::PartValue;
+use requester_core::Answer;
 use switch_core::Port;
 use tlp_core::Op;
 
-/// [`events::submit`].
-pub fn submit(
-    requester: &mut Boxed<Requester>,
-    sender: &mut Boxed<SenderEnd>,
-    op: &Op,
-) -> Result<u32, Refusal>
-    ensures ok { IfOk result (λ number. submit_on requester.old sender.old op.now ≡ Ok (number, requester.new, sender.new)) }
-    ensures fits { OnOk result (SubmitFits requester.old op.now) }
-    ensures refused { IfErr result (λ r. Refuses lane_grows (submit_on requester.old sender.old op.now) r) }
-    ensures err_requester { OnErr result (requester.new ≡ requester.old) }
-    ensures err_sender { OnErr result (sender.new ≡ sender.old) }
+/// An event of a link over the two ends that it uses.
+pub fn act(event: LinkEvent, one: &mut PartValue, two: &mut PartValue) -> Result<Seen, Refusal>
+    requires { AreEnds event one.old two.old }
+    ensures ok { IfOk result (λ what. acts event one.old two.old ≡ Ok (what, one.new, two.new)) }
+    ensures refused { IfErr result (λ r. Refuses (λ x. link_grows x.0) (acts event one.old two.old) r) }
+    ensures err_one { OnErr result (one.new ≡ one.old) }
+    ensures err_two { OnErr result (two.new ≡ two.old) }
 {
-    events::submit(&mut requester.inner, &mut sender.inner, op)
+    match (event, one, two) {
+        (LinkEvent::Transmit, PartValue::Sender(sender), PartValue::Forward(wire)) => {
+            Ok(Seen::Sent(events::transmit(&mut sender.inner, &mut wire.inner)?))
+        }
+        (LinkEvent::Deliver(fate), PartValue::Forward(wire), PartValue::Receiver(receiver)) => {
+            Ok(Seen::Delivered(events::deliver(&mut wire.inner, &mut receiver.inner, fate)?))
+        }
+        (LinkEvent::SendDllp(kind), PartValue::Receiver(receiver), PartValue::Back(wire)) => {
+            Ok(Seen::SentDllp(events::send_dllp(&mut receiver.inner, &mut wire.inner, kind)?))
+        }
+        (LinkEvent::DeliverDllp(fate), PartValue::Back(wire), PartValue::Sender(sender)) => {
+            Ok(Seen::SeenDllp(events::deliver_dllp(&mut wire.inner, &mut sender.inner, fate)?))
+        }
+        _ => unreachable!(),
+    }
 }
 
-/// The sender has no packet to send, or is stopped.
-pub fn has_nothing_to_send(sender: &Boxed<SenderEnd>) -> bool
-    ensures { IsTrue result ↔ (transmitted sender.now ≡ None) }
+/// The end that was taken first shows that an event of a link has nothing to do.
+pub fn has_nothing(event: LinkEvent, one: &PartValue) -> bool
+    ensures { IsTrue result ↔ HasNothing event one.now }
 {
-    !sender.inner.can_transmit()
+    match (event, one) {
+        (LinkEvent::Transmit, PartValue::Sender(sender)) => !sender.inner.can_transmit(),
+        (LinkEvent::Deliver(_), PartValue::Forward(wire)) => wire.inner.is_empty(),
+        (LinkEvent::DeliverDllp(_), PartValue::Back(wire)) => wire.inner.is_empty(),
+        _ => false,
+    }
 }
 
-/// [`events::transmit`].
-pub fn transmit(
-    sender: &mut Boxed<SenderEnd>,
-    wire: &mut Boxed<ForwardWire>,
-) -> Result<Seq12, Refusal>
-    ensures ok { IfOk result (λ number. transmit_on sender.old wire.old ≡ Ok (number, sender.new, wire.new)) }
-    ensures refused { IfErr result (λ r. Refuses lane_grows (transmit_on sender.old wire.old) r) }
-    ensures err_sender { OnErr result (sender.new ≡ sender.old) }
-    ensures err_wire { OnErr result (wire.new ≡ wire.old) }
+/// The replay timer of the sender's end expires, or its link was retrained.
+pub fn act_alone(event: LinkEvent, one: &mut PartValue) -> Result<Seen, Refusal>
+    ensures ok { IfOk result (λ what. acts_alone event one.old ≡ Ok (what, one.new)) }
+    ensures refused { IfErr result (λ r. acts_alone event one.old ≡ Err r) }
+    ensures err { OnErr result (one.new ≡ one.old) }
 {
-    events::transmit(&mut sender.inner, &mut wire.inner)
-}
-
-/// The forward wire is empty.
-pub fn has_nothing_forward(wire: &Boxed<ForwardWire>) -> bool
-    ensures { IsTrue result ↔ (wire.now ≡ []) }
-{
-    wire.inner.is_empty()
-}
-
-/// [`events::deliver`].
-pub fn deliver(
-    wire: &mut Boxed<ForwardWire>,
-    receiver: &mut Boxed<ReceiverEnd>,
-    fate: Fate,
-) -> Result<Arrival, Refusal>
-    ensures ok { IfOk result (λ arrival. deliver_on wire.old receiver.old fate ≡ Ok (arrival, wire.new, receiver.new)) }
-    ensures refused { IfErr result (λ r. Refuses (λ x. arrival_grows x.0) (deliver_on wire.old receiver.old fate) r) }
-    ensures err_receiver { OnErr result (receiver.new ≡ receiver.old) }
-    ensures err_wire { OnErr result (wire.new ≡ wire.old) }
-{
-    events::deliver(&mut wire.inner, &mut receiver.inner, fate)
-}
-
-/// [`events::send_dllp`].
-pub fn send_dllp(
-    receiver: &mut Boxed<ReceiverEnd>,
-    wire: &mut Boxed<BackWire>,
-    kind: DllpKind,
-) -> Result<Dllp, Refusal>
-    ensures ok { IfOk result (λ dllp. send_dllp_on receiver.old wire.old kind ≡ Ok (dllp, receiver.new, wire.new)) }
-    ensures refused { IfErr result (λ r. Refuses lane_grows (send_dllp_on receiver.old wire.old kind) r) }
-    ensures err_receiver { OnErr result (receiver.new ≡ receiver.old) }
-    ensures err_wire { OnErr result (wire.new ≡ wire.old) }
-{
-    events::send_dllp(&mut receiver.inner, &mut wire.inner, kind)
-}
-
-/// The back wire is empty.
-pub fn has_nothing_back(wire: &Boxed<BackWire>) -> bool
-    ensures { IsTrue result ↔ (wire.now ≡ []) }
-{
-    wire.inner.is_empty()
-}
-
-/// [`events::deliver_dllp`].
-pub fn deliver_dllp(
-    wire: &mut Boxed<BackWire>,
-    sender: &mut Boxed<SenderEnd>,
-    fate: Fate,
-) -> Result<DllpSeen, Refusal>
-    ensures ok { IfOk result (λ seen. deliver_dllp_on wire.old sender.old fate ≡ Ok (seen, wire.new, sender.new)) }
-    ensures refused { IfErr result (λ r. deliver_dllp_on wire.old sender.old fate ≡ Err r) }
-    ensures err_sender { OnErr result (sender.new ≡ sender.old) }
-    ensures err_wire { OnErr result (wire.new ≡ wire.old) }
-{
-    events::deliver_dllp(&mut wire.inner, &mut sender.inner, fate)
-}
-
-/// [`events::timer`].
-pub fn timer(sender: &mut Boxed<SenderEnd>) -> Result<usize, Refusal>
-    ensures ok { IfOk result (λ moved. timer_on sender.old ≡ Ok (moved, sender.new)) }
-    ensures refused { IfErr result (λ r. timer_on sender.old ≡ Err r) }
-    ensures err { OnErr result (sender.new ≡ sender.old) }
-{
-    events::timer(&mut sender.inner)
-}
-
-/// [`events::retrained`].
-pub fn retrained(sender: &mut Boxed<SenderEnd>) -> Result<(), Refusal>
-    ensures ok { OnOk result (retrained_on sender.old ≡ Ok sender.new) }
-    ensures refused { IfErr result (λ r. retrained_on sender.old ≡ Err r) }
-    ensures err { OnErr result (sender.new ≡ sender.old) }
-{
-    events::retrained(&mut sender.inner)
+    match (event, one) {
+        (LinkEvent::Timer, PartValue::Sender(sender)) => {
+            Ok(Seen::Back(events::timer(&mut sender.inner)?))
+        }
+        (LinkEvent::Retrained, PartValue::Sender(sender)) => {
+            events::retrained(&mut sender.inner)?;
+            Ok(Seen::Retrained)
+        }
+        _ => Err(Refusal::NoSuchPart),
+    }
 }
 
 /// [`events::destination`].
-pub fn destination(receiver: &Boxed<ReceiverEnd>, place: usize, from: Port) -> Result<Port, Refusal>
-    ensures ok { IfOk result (λ port. destination_on receiver.now place from ≡ Ok port) }
-    ensures refused { IfErr result (λ r. destination_on receiver.now place from ≡ Err r) }
+pub fn destination(receiver: &PartValue, place: usize, from: Port) -> Result<Port, Refusal>
+    ensures ok { IfOk result (λ port. leads receiver.now place from ≡ Ok port) }
+    ensures refused { IfErr result (λ r. leads receiver.now place from ≡ Err r) }
 {
-    events::destination(&receiver.inner, place, from)
+    match receiver {
+        PartValue::Receiver(receiver) => events::destination(&receiver.inner, place, from),
+        _ => Err(Refusal::NoSuchPart),
+    }
 }
 
-/// [`events::forward`].
+/// The packet at this place goes into the next lane, which leads to this port.
 pub fn forward(
-    receiver: &mut Boxed<ReceiverEnd>,
+    receiver: &mut PartValue,
     place: usize,
-    sender: &mut Boxed<SenderEnd>,
-) -> Result<(), Refusal>
-    ensures ok { OnOk result (forward_on receiver.old place sender.old ≡ Ok (receiver.new, sender.new)) }
-    ensures fits { OnOk result (ForwardFits receiver.old place) }
-    ensures refused { IfErr result (λ r. Refuses lane_grows (forward_on receiver.old place sender.old) r) }
+    sender: &mut PartValue,
+    to: u8,
+) -> Result<Seen, Refusal>
+    requires { IsReceiver receiver.old × IsSender sender.old }
+    ensures ok { IfOk result (λ what. forwards receiver.old place sender.old to ≡ Ok (what, receiver.new, sender.new)) }
+    ensures fits { OnOk result (ForwardsFit receiver.old place) }
+    ensures refused { IfErr result (λ r. Refuses lane_grows (forwards receiver.old place sender.old to) r) }
     ensures err_receiver { OnErr result (receiver.new ≡ receiver.old) }
     ensures err_sender { OnErr result (sender.new ≡ sender.old) }
 {
-    events::forward(&mut receiver.inner, place, &mut sender.inner)
+    match (receiver, sender) {
+        (PartValue::Receiver(receiver), PartValue::Sender(sender)) => {
+            events::forward(&mut receiver.inner, place, &mut sender.inner)?;
+            Ok(Seen::To(to))
+        }
+        _ => unreachable!(),
+    }
 }
 
 /// There is a packet at this place, and it may pass each earlier one.
-pub fn is_takeable(receiver: &Boxed<ReceiverEnd>, place: usize) -> bool
-    ensures { result ≡ is_takeable receiver.now.queue place }
+pub fn is_takeable(receiver: &PartValue, place: usize) -> bool
+    ensures { result ≡ is_free receiver.now place }
 {
-    receiver.inner.takeable(place)
+    match receiver {
+        PartValue::Receiver(receiver) => receiver.inner.takeable(place),
+        _ => false,
+    }
 }
 
 /// [`events::serve`].
 pub fn serve(
-    receiver: &mut Boxed<ReceiverEnd>,
+    receiver: &mut PartValue,
     place: usize,
-    memory: &mut Boxed<Memory>,
-    sender: &mut Boxed<SenderEnd>,
+    memory: &mut PartValue,
+    sender: &mut PartValue,
 ) -> Result<usize, Refusal>
-    ensures ok { IfOk result (λ at. serve_on receiver.old place memory.old sender.old ≡ Ok (at, receiver.new, memory.new, sender.new)) }
-    ensures fits { OnOk result (ServeFits receiver.old place memory.old) }
-    ensures refused { IfErr result (λ r. Refuses (λ x. serving_grows sender.old x.3) (serve_on receiver.old place memory.old sender.old) r) }
+    requires { IsReceiver receiver.old × IsMemory memory.old × IsSender sender.old }
+    ensures ok { IfOk result (λ at. serves receiver.old place memory.old sender.old ≡ Ok (at, receiver.new, memory.new, sender.new)) }
+    ensures fits { OnOk result (ServesFit receiver.old place memory.old) }
+    ensures refused { IfErr result (λ r. Refuses (λ x. serves_grow sender.old x.3) (serves receiver.old place memory.old sender.old) r) }
     ensures err_receiver { OnErr result (receiver.new ≡ receiver.old) }
     ensures err_memory { OnErr result (memory.new ≡ memory.old) }
     ensures err_sender { OnErr result (sender.new ≡ sender.old) }
 {
-    events::serve(
-        &mut receiver.inner,
-        place,
-        &mut memory.inner,
-        &mut sender.inner,
-    )
+    match (receiver, memory, sender) {
+        (
+            PartValue::Receiver(receiver),
+            PartValue::Memory(memory),
+            PartValue::Sender(sender),
+        ) => {
+            let at = events::serve(
+                &mut receiver.inner,
+                place,
+                &mut memory.inner,
+                &mut sender.inner,
+            )?;
+            Ok(at)
+        }
+        _ => unreachable!(),
+    }
+}
+
+/// [`events::submit`].
+pub fn submit(
+    requester: &mut PartValue,
+    sender: &mut PartValue,
+    op: &Op,
+) -> Result<u32, Refusal>
+    requires { IsRequester requester.old × IsSender sender.old }
+    ensures ok { IfOk result (λ number. submits requester.old sender.old op.now ≡ Ok (number, requester.new, sender.new)) }
+    ensures fits { OnOk result (SubmitsFit requester.old op.now) }
+    ensures refused { IfErr result (λ r. Refuses lane_grows (submits requester.old sender.old op.now) r) }
+    ensures err_requester { OnErr result (requester.new ≡ requester.old) }
+    ensures err_sender { OnErr result (sender.new ≡ sender.old) }
+{
+    match (requester, sender) {
+        (PartValue::Requester(requester), PartValue::Sender(sender)) => {
+            let number = events::submit(&mut requester.inner, &mut sender.inner, op)?;
+            Ok(number)
+        }
+        _ => unreachable!(),
+    }
 }
 
 /// [`events::collect`].
-pub fn collect(
-    receiver: &mut Boxed<ReceiverEnd>,
-    requester: &mut Boxed<Requester>,
-) -> Result<Answer, Refusal>
-    ensures ok { IfOk result (λ a. collect_on receiver.old requester.old ≡ Ok (a, receiver.new, requester.new)) }
-    ensures refused { IfErr result (λ r. collect_on receiver.old requester.old ≡ Err r) }
+pub fn collect(receiver: &mut PartValue, requester: &mut PartValue) -> Result<Answer, Refusal>
+    requires { IsReceiver receiver.old × IsRequester requester.old }
+    ensures ok { IfOk result (λ a. collects receiver.old requester.old ≡ Ok (a, receiver.new, requester.new)) }
+    ensures refused { IfErr result (λ r. collects receiver.old requester.old ≡ Err r) }
     ensures err_receiver { OnErr result (receiver.new ≡ receiver.old) }
     ensures err_requester { OnErr result (requester.new ≡ requester.old) }
 {
-    events::collect(&mut receiver.inner, &mut requester.inner)
+    match (receiver, requester) {
+        (PartValue::Receiver(receiver), PartValue::Requester(requester)) => {
+            let answer = events::collect(&mut receiver.inner, &mut requester.inner)?;
+            Ok(answer)
+        }
+        _ => unreachable!(),
+    }
+}
+
+/// The length of the history of the memory.
+pub fn history_length(memory: &PartValue) -> u64
+    requires { IsMemory memory.now }
+    ensures { result ≡ length (history_in memory.now) }
+{
+    match memory {
+        PartValue::Memory(memory) => memory.inner.entries().len() as u64,
+        _ => unreachable!(),
+    }
 }

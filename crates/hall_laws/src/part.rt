@@ -1,6 +1,8 @@
 //! The parts of a fabric, each with its slot.
-ghost use Rattle.std.specs.Prelude.{◌≡◌, ◌+◌};
-ghost use Rattle.hall_laws.specs.Parts.{slot, lane_slot, part_slot};
+ghost use Rattle.std.specs.Prelude.{◌≡◌, ◌+◌, ℕ};
+ghost use Rattle.atomic_table.specs.Seated.{TableId};
+ghost use Rattle.hall_laws.specs.Parts.{slot, lane_slot, part_slot, IsPartName};
+ghost use Rattle.hall_laws.specs.Calls.{IsSized, HasSlot};
 
 use crate::boxed::Boxed;
 use fabric_core::LaneName;
@@ -44,8 +46,10 @@ pub fn lane_slot(name: LaneName) -> usize
 }
 
 impl Part {
+    /// The slot of the part. Each table of a fabric that has the part has its slot.
     pub fn slot(self) -> usize
-        ensures { result ≡ part_slot self }
+        ensures slot { result ≡ part_slot self }
+        ensures within { (z : TableId) (requesters : ℕ) → IsSized z requesters → IsPartName requesters self → HasSlot z result }
     {
         match self {
             Part::Memory => 0,
