@@ -23,26 +23,12 @@ pub written_back : (n : ℕ) (old new : List ℕ) → n ≡ length old → lengt
 written_back n old new e1 e2 =
     rw (drop_all (length new) old (omega arith), append-nil new) (take_all n new (omega arith))
 
-<<<<<<< HEAD
--- the memory after its bytes and its history took the step
-pub stepped : (base block n : ℕ) (old new : List ℕ) (es es' : List Entry) (e : Entry) (op : Op) → n ≡ length old → length new ≡ length old
-    → IsMemory (record { base = base; size = length old; block = block; entries = es }) old
-    → new ≡ after base block old op → op ≡ e.op → es' ≡ es ++ e ∷ []
-    → IsMemory (record { base = base; size = length (take n (new ++ drop (length new) old)); block = block; entries = es' }) (take n (new ++ drop (length new) old))
-stepped base block n old new es es' e op en el inv step same pushed =
-    let back = written_back n old new en el in
-    let x : Extent = record { base = base; size = length old; block = block } in
-    let made : new ≡ contents x es' =
-    step ∙ ap (λ op. after base block old op) same ∙ ap (λ m. after base block m e.op) inv.made ∙ sym (contents-push x es e) ∙ ap (contents x) (sym pushed) in
-    rw (back, el) (record { in_size = inv.in_size; in_base = inv.in_base; in_block = inv.in_block; made = made })
-=======
 -- the bytes after they and the history took the step
 pub stepped : (x : Extent) (n : ℕ) (old new : List ℕ) (es es' : List Entry) (e : Entry) (op : Op) → n ≡ length old → length new ≡ length old
     → old ≡ contents x es → new ≡ after x.base x.block old op → op ≡ e.op → es' ≡ es ++ e ∷ []
     → take n (new ++ drop (length new) old) ≡ contents x es'
 stepped x n old new es es' e op en el made step same pushed =
     written_back n old new en el ∙ step ∙ ap (λ op. after x.base x.block old op) same ∙ ap (λ m. after x.base x.block m e.op) made ∙ sym (contents-push x es e) ∙ ap (contents x) (sym pushed)
->>>>>>> a44c86503fdeb0309f7dcb3dd991d26abf61c442
 
 pub pushed_op : (es es' : List Entry) (e r : Entry) (place : ℕ) → es' ≡ es ++ e ∷ [] → place ≡ length es' - 1 → r ≡ get_or es' place r → r.op ≡ e.op
 pushed_op es es' e r place pushed p index =
