@@ -3,4 +3,3 @@ pub mod Refused
 pub mod Mapped
 pub mod Linking
 pub mod Forwarding
-pub mod Serving

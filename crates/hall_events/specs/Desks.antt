@@ -51,8 +51,9 @@ IsLast d h =
 abbrev pub AreApart : Desk → Held → Held → Type 0
 AreApart d one two = IsPartName d.requesters one.part × IsPartName d.requesters two.part × (part_slot one.part ≢ part_slot two.part)
 
--- the two parts that were taken, one and then two, had values with which this is seen of some event, and have those after it
-abbrev pub Happened : Desk → Held → Held → Seen → Type 0
-Happened d one two what =
+-- the two parts that were taken, one and then two, had values with which some event happens, and have those after it
+abbrev pub Happened : Desk → Held → Held → Type 0
+Happened d one two =
     (v : PartValue) × (w : PartValue) × (d.place.now.me ≡ having (knows d) ((part_slot two.part, w) ∷ ((part_slot one.part, v) ∷ [])))
-    × (event : Event) × Goes event what (record { knows = knows d; held = (part_slot two.part, w) ∷ ((part_slot one.part, v) ∷ []) }) (part_slot one.part) one.value (record { knows = knows d; held = entry two ∷ [] })
+    × (event : Event) × (what : Seen)
+    × Goes event what (record { knows = knows d; held = (part_slot two.part, w) ∷ ((part_slot one.part, v) ∷ []) }) (part_slot one.part) one.value (record { knows = knows d; held = entry two ∷ [] })

@@ -12,7 +12,7 @@ ghost use Rattle.hall_events.specs.Holds.{having};
 ghost use Rattle.hall_events.specs.Refusals.{IsBusy};
 
 use crate::refusal::HallRefusal;
-use fabric_core::{Refusal, Seen};
+use fabric_core::Refusal;
 use hall_laws::laws::{AfterEvent, Place, Steps, event, put_back, put_back_seen};
 use hall_laws::part::{Part, PartValue};
 use hall_laws::takes::take_part;
@@ -37,12 +37,7 @@ pub struct Desk<'a> {
 
 impl<'a> Desk<'a> {
     /// The desk of the seat at this place.
-    pub fn new(
-        steps: &'a Steps,
-        place: &'a mut Place,
-        number: usize,
-        requesters: u8,
-    ) -> Desk<'a>
+    pub fn new(steps: &'a Steps, place: &'a mut Place, number: usize, requesters: u8) -> Desk<'a>
         ensures same { result.place.ghost_name ≡ place.entry.ghost_name }
         ensures fields { (result.steps ≡ steps) × (result.place.now ≡ place.old) × (result.number ≡ number) × (result.requesters ≡ requesters) }
     {
@@ -62,24 +57,14 @@ impl<'a> Desk<'a> {
         ensures taken { IfOk result (λ h. (h.part ≡ part) × IsPartValue part h.value × Has self.new (knows self.old) ((part_slot part, h.value) ∷ held_at self.old)) }
         ensures busy { IfErr result (λ r. IsBusy r × (self.new.place.now.me ≡ self.old.place.now.me)) }
     {
-        match take_part(
-            self.steps,
-            self.place,
-            self.number,
-            self.requesters,
-            part,
-        ) {
+        match take_part(self.steps, self.place, self.number, self.requesters, part) {
             Ok(value) => Ok(Held { part, value }),
             Err(word) => Err(HallRefusal::Busy { part, word }),
         }
     }
 
     /// Takes a second part. `Busy` where another seat has it; the first then goes back.
-    pub(crate) fn take_second(
-        &mut self,
-        one: Held,
-        part: Part,
-    ) -> Result<(Held, Held), HallRefusal>
+    pub(crate) fn take_second(&mut self, one: Held, part: Part) -> Result<(Held, Held), HallRefusal>
         requires desk { IsDesk self.old × IsPartName self.old.requesters part × IsPartName self.old.requesters one.part }
         requires held { self.old.place.now.me ≡ having (knows self.old) (entry one ∷ []) }
         ensures desk { IsDesk self.new × IsSame self.old self.new }
@@ -170,30 +155,27 @@ impl<'a> Desk<'a> {
         HallRefusal::Core(refusal)
     }
 
-    /// Both parts go home: as the event left them where it happened, and else as they were.
-    pub(crate) fn settle(
-        &mut self,
-        one: Held,
-        two: Held,
-        outcome: Result<Seen, Refusal>,
-    ) -> Result<Seen, HallRefusal>
+    /// The event over two parts happens as they go home.
+    pub(crate) fn happen(&mut self, one: Held, two: Held)
         requires table { IsAtTable self.old × AreApart self.old one two }
-        requires outcome { MatchResult outcome (λ what. Happened self.old one two what) (λ _. self.old.place.now.me ≡ having (knows self.old) (entry two ∷ (entry one ∷ []))) }
+        requires event { Happened self.old one two }
         ensures same { IsSame self.old self.new }
         ensures idle { self.new.place.now.me ≡ knowing (knows self.old) }
-        ensures settled { MatchResult outcome (λ what. result ≡ Ok what) (λ r. result ≡ Err (HallRefusal.Core r)) }
     {
-        match outcome {
-            Ok(what) => {
-                self.place.turn();
-                self.event::<Brand, _>(one, &two);
-                self.put_back(two);
-                Ok(what)
-            }
-            Err(refusal) => {
-                self.put_back(two);
-                Err(self.refuse(one, refusal))
-            }
-        }
+        self.place.turn();
+        self.event::<Brand, _>(one, &two);
+        self.put_back(two);
+    }
+
+    /// The two parts that were taken go back, since the fabric refuses the event.
+    pub(crate) fn refuse_both(&mut self, one: Held, two: Held, refusal: Refusal) -> HallRefusal
+        requires table { IsAtTable self.old × AreApart self.old one two }
+        requires held { self.old.place.now.me ≡ having (knows self.old) (entry two ∷ (entry one ∷ [])) }
+        ensures same { IsSame self.old self.new }
+        ensures idle { self.new.place.now.me ≡ knowing (knows self.old) }
+        ensures refused { result ≡ HallRefusal.Core refusal }
+    {
+        self.put_back(two);
+        self.refuse(one, refusal)
     }
 }

@@ -104,8 +104,13 @@ impl<'a> Desk<'a> {
             return Err(self.refuse(one, Refusal::Idle));
         }
         let (mut one, mut two) = self.take_second(one, second)?;
-        let outcome = act(event, &mut one.value, &mut two.value);
-        self.settle(one, two, outcome)
+        match act(event, &mut one.value, &mut two.value) {
+            Ok(what) => {
+                self.happen(one, two);
+                Ok(what)
+            }
+            Err(refusal) => Err(self.refuse_both(one, two, refusal)),
+        }
     }
 
     /// An event of a lane's link, and what is seen of it.

@@ -10,7 +10,6 @@ ghost use Rattle.hall_laws.specs.Rule.{dropped_seen, history_in};
 ghost use Rattle.hall_laws.specs.Tells.{Met};
 ghost use Rattle.hall_events.specs.Refusals.{IsBusy};
 
-use crate::events::history_length;
 use crate::refusal::HallRefusal;
 use hall_laws::duties::meeting;
 use hall_laws::laws::{Place, Steps, join, put_back_seen, split};
@@ -27,12 +26,14 @@ fn see(steps: &Steps, place: &mut Place, memory: PartValue) -> u64
     ensures seen { place.new.me ≡ (dropped_seen (history_in memory) place.old.me.0, rest place.old.me.1) }
     ensures number { result ≡ length (history_in memory) }
 {
-    let n = history_length(&memory);
     match memory {
-        PartValue::Memory(memory) => put_back_seen(steps, place, Part::Memory.slot(), memory),
+        PartValue::Memory(memory) => {
+            let n = memory.inner.entries().len();
+            put_back_seen(steps, place, Part::Memory.slot(), memory);
+            n as u64
+        }
         _ => unreachable!(),
     }
-    n
 }
 
 /// Both seats have seen one history then, and its length is given. `Busy` where another seat has the memory.
@@ -52,13 +53,7 @@ pub fn meet_as(
     meeting();
     let mut both = first;
     join(steps, &mut both, second);
-    let memory = match take_part(
-        steps,
-        &mut both,
-        number,
-        requesters,
-        Part::Memory,
-    ) {
+    let memory = match take_part(steps, &mut both, number, requesters, Part::Memory) {
         Ok(memory) => memory,
         Err(word) => {
             let one = split(steps, &mut both);

@@ -8,9 +8,8 @@ ghost use Rattle.hall_events.specs.Desks.{knows, IsDesk, IsSame};
 ghost use Rattle.hall_events.specs.Refusals.{IsRefused};
 
 use crate::desk::Desk;
-use crate::events::{collect, history_length, submit};
 use crate::refusal::HallRefusal;
-use fabric_core::{LaneName, Refusal};
+use fabric_core::{LaneName, Refusal, events};
 use hall_laws::duties::{collecting, submitting};
 use hall_laws::part::Part;
 use requester_core::Answer;
@@ -32,10 +31,13 @@ impl<'a> Desk<'a> {
         let port = self.number as u8 + 1;
         let memory = self.take(Part::Memory)?;
         let (memory, requester) = self.take_second(memory, Part::Requester(port))?;
-        let (memory, mut requester, mut sender) = self
-            .take_third(memory, requester, Part::SenderEnd(LaneName::Up(port)))?;
-        let n = history_length(&memory.value);
-        match submit(&mut requester.value, &mut sender.value, op) {
+        let (mut memory, mut requester, mut sender) = self.take_third(
+            memory,
+            requester,
+            Part::SenderEnd(LaneName::Up(port)),
+        )?;
+        let n = memory.value.memory().entries().len() as u64;
+        match events::submit(requester.value.requester(), sender.value.sender(), op) {
             Ok(number) => {
                 self.place.turn();
                 let told = (number, port, op, &memory, &sender);
@@ -47,8 +49,7 @@ impl<'a> Desk<'a> {
             }
             Err(refusal) => {
                 self.put_back(sender);
-                self.put_back(requester);
-                Err(self.refuse(memory, refusal))
+                Err(self.refuse_both(memory, requester, refusal))
             }
         }
     }
@@ -68,10 +69,13 @@ impl<'a> Desk<'a> {
         let port = self.number as u8 + 1;
         let memory = self.take(Part::Memory)?;
         let (memory, requester) = self.take_second(memory, Part::Requester(port))?;
-        let (memory, mut requester, mut receiver) = self
-            .take_third(memory, requester, Part::ReceiverEnd(LaneName::Down(port)))?;
-        let n = history_length(&memory.value);
-        match collect(&mut receiver.value, &mut requester.value) {
+        let (mut memory, mut requester, mut receiver) = self.take_third(
+            memory,
+            requester,
+            Part::ReceiverEnd(LaneName::Down(port)),
+        )?;
+        let n = memory.value.memory().entries().len() as u64;
+        match events::collect(receiver.value.receiver(), requester.value.requester()) {
             Ok(answer) => {
                 self.place.turn();
                 let told = (port, &answer, &memory, &receiver);
@@ -89,8 +93,7 @@ impl<'a> Desk<'a> {
             }
             Err(refusal) => {
                 self.put_back(receiver);
-                self.put_back(requester);
-                Err(self.refuse(memory, refusal))
+                Err(self.refuse_both(memory, requester, refusal))
             }
         }
     }

@@ -1,9 +1,8 @@
 //! Packets that go on, and requests that act.
 ghost use Rattle.std.specs.Prelude.{◌≡◌, ◌↔◌, ◌<◌, ◌≤◌, IsTrue, IfOk, IfErr, OnErr};
-ghost use Rattle.fabric_core.specs.declared.event.Event.TheVariants as events;
-ghost use Rattle.fabric_core.specs.declared.event.Seen.TheVariants as seen;
+ghost use Rattle.fabric_core.specs.declared.event.Event.TheVariants.{Forward, Serve};
+ghost use Rattle.fabric_core.specs.declared.event.Seen.TheVariants.{At};
 ghost use Rattle.hall_laws.specs.Calls.{IsIdle, knowing, serving_also};
-ghost use Rattle.hall_laws.specs.Parts.{IsReceiver};
 ghost use Rattle.hall_laws.specs.Shows.{Shows};
 ghost use Rattle.hall_laws.specs.Telling.{EventShows};
 ghost use Rattle.hall_events.specs.Desks.{knows, IsDesk, IsSame};
@@ -11,11 +10,11 @@ ghost use Rattle.hall_events.specs.Refusals.{IsRefused};
 ghost use Rattle.hall_events.specs.Ways.{LeadsIn, Leads, HasNoWay, ForwardOwes, ForwardIsRefused, PacketHasNoWay};
 
 use crate::desk::Desk;
-use crate::events::{destination, forward, is_takeable, serve};
 use crate::refusal::HallRefusal;
-use fabric_core::{LaneName, Refusal, Seen};
+use fabric_core::{LaneName, Refusal, Seen, events};
 use hall_laws::duties::{forwarding_out, forwarding_up, serving};
-use hall_laws::part::{Part, PartValue};
+use hall_laws::part::Part;
+use lane_core::ReceiverEnd;
 use std::marker::Brand;
 use switch_core::{Port, RouteFault};
 
@@ -47,7 +46,7 @@ fn leads_in(name: LaneName, requesters: u8) -> bool
 /// may not pass an earlier one, then `Route`.
 fn way(
     name: LaneName,
-    receiver: &PartValue,
+    receiver: &ReceiverEnd,
     place: usize,
     requesters: u8,
 ) -> Result<(u8, LaneName), Refusal>
@@ -56,10 +55,10 @@ fn way(
     ensures refused { IfErr result (λ r. HasNoWay requesters name receiver.now place r) }
 {
     if let LaneName::Up(port) = name {
-        let to = destination(receiver, place, Port::new(port))?;
+        let to = events::destination(receiver, place, Port::new(port))?;
         return Ok((to.number(), LaneName::Inward));
     }
-    let to = destination(receiver, place, Port::MEMORY)?.number();
+    let to = events::destination(receiver, place, Port::MEMORY)?.number();
     if to == 0 || to > requesters {
         return Err(Refusal::Route(RouteFault::NoPort));
     }
@@ -73,21 +72,26 @@ impl<'a> Desk<'a> {
         requires idle { IsIdle self.old.place.now.me }
         ensures seat { IsSame self.old self.new }
         ensures same { self.new.place.now.me ≡ self.old.place.now.me }
-        ensures shows { IfOk result (λ what. Shows (knows self.old) (events.Forward name place) what) }
-        ensures why { IfErr result (λ r. IsRefused (knows self.old) (events.Forward name place) r) }
+        ensures shows { IfOk result (λ what. Shows (knows self.old) (Forward name place) what) }
+        ensures why { IfErr result (λ r. IsRefused (knows self.old) (Forward name place) r) }
     {
         forwarding();
         if !leads_in(name, self.requesters) {
             return Err(HallRefusal::Core(Refusal::NoSuchPart));
         }
-        let one = self.take(Part::ReceiverEnd(name))?;
-        let (to, next) = match way(name, &one.value, place, self.requesters) {
+        let mut one = self.take(Part::ReceiverEnd(name))?;
+        let (to, next) = match way(name, one.value.receiver(), place, self.requesters) {
             Ok(way) => way,
             Err(refusal) => return Err(self.refuse(one, refusal)),
         };
         let (mut one, mut two) = self.take_second(one, Part::SenderEnd(next))?;
-        let outcome = forward(&mut one.value, place, &mut two.value, to);
-        self.settle(one, two, outcome)
+        match events::forward(one.value.receiver(), place, two.value.sender()) {
+            Ok(()) => {
+                self.happen(one, two);
+                Ok(Seen::To(to))
+            }
+            Err(refusal) => Err(self.refuse_both(one, two, refusal)),
+        }
     }
 
     /// The request at this place of `in` acts on the memory. Gives its place in the history. `NotTakeable` where `in`
@@ -98,22 +102,25 @@ impl<'a> Desk<'a> {
         ensures seat { IsSame self.old self.new }
         ensures served { IfOk result (λ n. self.new.place.now.me ≡ knowing (serving_also n (knows self.old))) }
         ensures refused { OnErr result (self.new.place.now.me ≡ self.old.place.now.me) }
-        ensures shows { IfOk result (λ n. Shows (knows self.old) (events.Serve place) (seen.At n)) }
-        ensures why { IfErr result (λ r. IsRefused (knows self.old) (events.Serve place) r) }
+        ensures shows { IfOk result (λ n. Shows (knows self.old) (Serve place) (At n)) }
+        ensures why { IfErr result (λ r. IsRefused (knows self.old) (Serve place) r) }
     {
         serving();
-        let receiver = self.take(Part::ReceiverEnd(LaneName::Inward))?;
-        if !is_takeable(&receiver.value, place) {
+        let mut receiver = self.take(Part::ReceiverEnd(LaneName::Inward))?;
+        if !receiver.value.receiver().takeable(place) {
             return Err(self.refuse(receiver, Refusal::NotTakeable));
         }
         let (receiver, memory) = self.take_second(receiver, Part::Memory)?;
-        let (mut receiver, mut memory, mut sender) = self
-            .take_third(receiver, memory, Part::SenderEnd(LaneName::Outward))?;
-        match serve(
-            &mut receiver.value,
+        let (mut receiver, mut memory, mut sender) = self.take_third(
+            receiver,
+            memory,
+            Part::SenderEnd(LaneName::Outward),
+        )?;
+        match events::serve(
+            receiver.value.receiver(),
             place,
-            &mut memory.value,
-            &mut sender.value,
+            memory.value.memory(),
+            sender.value.sender(),
         ) {
             Ok(n) => {
                 self.place.turn();
@@ -126,8 +133,7 @@ impl<'a> Desk<'a> {
             }
             Err(refusal) => {
                 self.put_back(sender);
-                self.put_back(memory);
-                Err(self.refuse(receiver, refusal))
+                Err(self.refuse_both(receiver, memory, refusal))
             }
         }
     }
