@@ -39,7 +39,7 @@ impl<'a> Desk<'a> {
     /// The desk of the seat at this place.
     pub fn new(steps: &'a Steps, place: &'a mut Place, number: usize, requesters: u8) -> Desk<'a>
         ensures same { result.place.ghost_name ≡ place.entry.ghost_name }
-        ensures fields { (result.steps ≡ steps) × (result.place.now ≡ place.old) × (result.number ≡ number) × (result.requesters ≡ requesters) }
+        ensures fields { (result.steps.now ≡ steps.now) × (result.place.now ≡ place.old) × (result.number ≡ number) × (result.requesters ≡ requesters) }
     {
         Desk {
             steps,
