@@ -7,6 +7,7 @@ use Rattle.fabric_core.specs.declared.event.LaneName.{LaneName}
 use Rattle.fabric_core.specs.declared.event.LinkEvent.{LinkEvent}
 use Rattle.fabric_core.specs.declared.event.LinkEvent.TheVariants as links
 use Rattle.fabric_core.specs.declared.event.Seen.{Seen}
+use Rattle.fabric_core.specs.declared.event.Seen.TheVariants as seen
 use Rattle.fabric_core.specs.declared.fault.Refusal.{Refusal}
 use Rattle.fabric_core.specs.declared.fault.Refusal.TheVariants.{Idle}
 use Rattle.fabric_core.specs.Answers.{Refuses, link_grows, lane_grows, arrival_grows, transmit_on, deliver_on, send_dllp_on, deliver_dllp_on, timer_on, retrained_on}
@@ -68,7 +69,7 @@ link_owes transmit deliver send_dllp deliver_dllp t name event first second one 
     (λ held did. of_ok (deliver_on ends.0.0 ends.1.0 fate) _ (After t (links.Deliver fate) (lane_slot name + 1) (lane_slot name + 3)) (what, one', two') (λ x is. deliver t name ends.0.0 x.1 ends.1.0 x.2 fate x.0 named held is) did))
     (λ kind t one two one' two' what named ends.
     over (λ (v w : PartValue). t.held ≡ (lane_slot name + 2, w) ∷ ((lane_slot name + 3, v) ∷ []) → acts (links.SendDllp kind) v w ≡ Ok (what, one', two') → After t (links.SendDllp kind) (lane_slot name + 3) (lane_slot name + 2) (what, one', two')) ends.0.1 ends.1.1
-    (λ held did. of_ok (send_dllp_on ends.0.0 ends.1.0 kind) _ (After t (links.SendDllp kind) (lane_slot name + 3) (lane_slot name + 2)) (what, one', two') (λ x is. send_dllp t name ends.0.0 x.1 ends.1.0 x.2 kind x.0 named held is) did))
+    (λ held did. of_ok (send_dllp_on ends.0.0 ends.1.0 kind) (λ x. (seen.SentDllp x.0, Receiver x.1, Back x.2)) (After t (links.SendDllp kind) (lane_slot name + 3) (lane_slot name + 2)) (what, one', two') (λ x is. send_dllp t name ends.0.0 x.1 ends.1.0 x.2 kind x.0 named held is) did))
     (λ fate t one two one' two' what named ends.
     over (λ (v w : PartValue). t.held ≡ (lane_slot name, w) ∷ ((lane_slot name + 2, v) ∷ []) → acts (links.DeliverDllp fate) v w ≡ Ok (what, one', two') → After t (links.DeliverDllp fate) (lane_slot name + 2) (lane_slot name) (what, one', two')) ends.0.1 ends.1.1
     (λ held did. of_ok (deliver_dllp_on ends.0.0 ends.1.0 fate) _ (After t (links.DeliverDllp fate) (lane_slot name + 2) (lane_slot name)) (what, one', two') (λ x is. deliver_dllp t name ends.0.0 x.1 ends.1.0 x.2 fate x.0 named held is) did))
@@ -93,7 +94,7 @@ link_refused transmit deliver send_dllp deliver_dllp t ts name event first secon
     (λ known why. deliver t ts name ends.0.0 ends.1.0 fate r named known (of_refused (deliver_on ends.0.0 ends.1.0 fate) _ (λ x. link_grows x.0) (λ x. arrival_grows x.0) r (λ x h. h) why)))
     (λ kind t ts one two r named ends.
     over (λ (v w : PartValue). KnownHolding t ts ((lane_slot name + 2, w) ∷ ((lane_slot name + 3, v) ∷ [])) → Refuses (λ x. link_grows x.0) (acts (links.SendDllp kind) v w) r → MayRefuse t.knows (events.SendDllp name kind) r) ends.0.1 ends.1.1
-    (λ known why. send_dllp t ts name ends.0.0 ends.1.0 kind r named known (of_refused (send_dllp_on ends.0.0 ends.1.0 kind) _ (λ x. link_grows x.0) lane_grows r (λ x h. h) why)))
+    (λ known why. send_dllp t ts name ends.0.0 ends.1.0 kind r named known (of_refused (send_dllp_on ends.0.0 ends.1.0 kind) (λ x. (seen.SentDllp x.0, Receiver x.1, Back x.2)) (λ x. link_grows x.0) lane_grows r (λ x h. h) why)))
     (λ fate t ts one two r named ends.
     over (λ (v w : PartValue). KnownHolding t ts ((lane_slot name, w) ∷ ((lane_slot name + 2, v) ∷ [])) → Refuses (λ x. link_grows x.0) (acts (links.DeliverDllp fate) v w) r → MayRefuse t.knows (events.DeliverDllp name fate) r) ends.0.1 ends.1.1
     (λ known why. deliver_dllp t ts name ends.0.0 ends.1.0 fate r named known (of_error (deliver_dllp_on ends.0.0 ends.1.0 fate) _ (λ x. link_grows x.0) r (λ x h. h) why)))

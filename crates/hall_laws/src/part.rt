@@ -121,19 +121,26 @@ pub fn lane_slot(name: LaneName) -> usize
     }
 }
 
+/// The slot of a part.
+fn part_slot(part: Part) -> usize
+    ensures { result ≡ part_slot part }
+{
+    match part {
+        Part::Memory => 0,
+        Part::Requester(port) => 9 * usize::from(port),
+        Part::SenderEnd(name) => lane_slot(name),
+        Part::ForwardWire(name) => lane_slot(name) + 1,
+        Part::BackWire(name) => lane_slot(name) + 2,
+        Part::ReceiverEnd(name) => lane_slot(name) + 3,
+    }
+}
+
 impl Part {
     /// The slot of the part. Each table of a fabric that has the part has its slot.
     pub fn slot(self) -> usize
         ensures slot { result ≡ part_slot self }
         ensures within { (z : TableId) (requesters : ℕ) → IsSized z requesters → IsPartName requesters self → HasSlot z result }
     {
-        match self {
-            Part::Memory => 0,
-            Part::Requester(port) => 9 * usize::from(port),
-            Part::SenderEnd(name) => lane_slot(name),
-            Part::ForwardWire(name) => lane_slot(name) + 1,
-            Part::BackWire(name) => lane_slot(name) + 2,
-            Part::ReceiverEnd(name) => lane_slot(name) + 3,
-        }
+        part_slot(self)
     }
 }

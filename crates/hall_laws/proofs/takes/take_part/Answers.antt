@@ -7,7 +7,7 @@ use Rattle.hall_laws.proofs.Held.{part_there}
 use Rattle.hall_laws.proofs.takes.take_part.Goals as goal
 
 pub take-requires-clause-table : goal.take-requires-clause-table
-take-requires-clause-table c = (c.requires.1.0, c.slot.ensures.within _ _ c.requires.0 c.requires.2)
+take-requires-clause-table c = (c.requires.1.0, c.slot.ensures.within c.args.steps.now.table_id c.args.requesters c.requires.0 c.requires.2)
 
 each_value : {A E : Type 0} (r : Result A E) (P Q : A → Type 0) (F : E → Type 0) → ((a : A) → P a → Q a) → MatchResult r P F → MatchResult r Q F
 each_value (Ok a) P Q F law h = law a h
