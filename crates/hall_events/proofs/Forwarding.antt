@@ -35,8 +35,8 @@ forward_owes up out t (lanes.Up port) next place to r r' s s' named leads =
 forward_owes up out t lanes.Outward next place to r r' s s' named leads =
     subst (λ (n : LaneName). t.held ≡ (lane_slot n, Sender s) ∷ ((8, Receiver r) ∷ []) → forward_on r place s ≡ Ok (r', s') → ForwardFits r place → Goes (events.Forward lanes.Outward place) (To to) t 8 (Receiver r') (record t { held = (lane_slot n, Sender s') ∷ [] })) (sym leads.1)
     (λ held did fits. out t place to r r' s s' (leads.2, leads.3) held leads.0 did fits)
-forward_owes up out t lanes.Inward next place to r r' s s' named leads held did fits = absurd named
-forward_owes up out t (lanes.Down port) next place to r r' s s' named leads held did fits = absurd named
+forward_owes up out t lanes.Inward next place to r r' s s' named leads = absurd named
+forward_owes up out t (lanes.Down port) next place to r r' s s' named leads = absurd named
 
 pub forward_refused : UpIsKept → OutIsKept → ForwardIsRefused
 forward_refused up out t ts (lanes.Up port) next place to r s why named leads =
@@ -45,8 +45,8 @@ forward_refused up out t ts (lanes.Up port) next place to r s why named leads =
 forward_refused up out t ts lanes.Outward next place to r s why named leads =
     subst (λ (n : LaneName). KnownHolding t ts ((lane_slot n, Sender s) ∷ ((8, Receiver r) ∷ [])) → Refuses lane_grows (forward_on r place s) why → MayRefuse t.knows (events.Forward lanes.Outward place) why) (sym leads.1)
     (λ known h. out t ts place to r s why (leads.2, leads.3) known leads.0 h)
-forward_refused up out t ts lanes.Inward next place to r s why named leads known h = absurd named
-forward_refused up out t ts (lanes.Down port) next place to r s why named leads known h = absurd named
+forward_refused up out t ts lanes.Inward next place to r s why named leads = absurd named
+forward_refused up out t ts (lanes.Down port) next place to r s why named leads = absurd named
 
 pub no_way : UpHasNoWay → OutHasNoWay → OutHasNoLane → PacketHasNoWay
 no_way up out none t ts (lanes.Up port) place r why named known h = up t ts port place r why named known h

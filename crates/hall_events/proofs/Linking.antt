@@ -62,16 +62,16 @@ pub link_owes : TransmitOwes → DeliverOwes → SendDllpOwes → DeliverDllpOwe
 link_owes transmit deliver send_dllp deliver_dllp t name event first second one two one' two' what named is ends held did =
     by_ends name (Owed name)
     (λ t one two one' two' what named ends.
-    over (λ (v w : PartValue). t.held ≡ (lane_slot name + 1, w) ∷ ((lane_slot name, v) ∷ []) → acts links.Transmit v w ≡ Ok (what, one', two') → After t links.Transmit (lane_slot name) (lane_slot name + 1) (what, one', two')) ends.0.1 ends.1.1
+    over (λ (v w : PartValue). t.held ≡ (lane_slot name + 1, w) ∷ ((lane_slot name, v) ∷ []) → acts links.Transmit v w ≡ Ok (what, one', two') → After t links.Transmit (lane_slot name) (lane_slot name + 1) (what, one', two')) _ _ _ _ ends.0.1 ends.1.1
     (λ held did. of_ok (transmit_on ends.0.0 ends.1.0) _ (After t links.Transmit (lane_slot name) (lane_slot name + 1)) (what, one', two') (λ x is. transmit t name ends.0.0 x.1 ends.1.0 x.2 x.0 named held is) did))
     (λ fate t one two one' two' what named ends.
-    over (λ (v w : PartValue). t.held ≡ (lane_slot name + 3, w) ∷ ((lane_slot name + 1, v) ∷ []) → acts (links.Deliver fate) v w ≡ Ok (what, one', two') → After t (links.Deliver fate) (lane_slot name + 1) (lane_slot name + 3) (what, one', two')) ends.0.1 ends.1.1
+    over (λ (v w : PartValue). t.held ≡ (lane_slot name + 3, w) ∷ ((lane_slot name + 1, v) ∷ []) → acts (links.Deliver fate) v w ≡ Ok (what, one', two') → After t (links.Deliver fate) (lane_slot name + 1) (lane_slot name + 3) (what, one', two')) _ _ _ _ ends.0.1 ends.1.1
     (λ held did. of_ok (deliver_on ends.0.0 ends.1.0 fate) _ (After t (links.Deliver fate) (lane_slot name + 1) (lane_slot name + 3)) (what, one', two') (λ x is. deliver t name ends.0.0 x.1 ends.1.0 x.2 fate x.0 named held is) did))
     (λ kind t one two one' two' what named ends.
-    over (λ (v w : PartValue). t.held ≡ (lane_slot name + 2, w) ∷ ((lane_slot name + 3, v) ∷ []) → acts (links.SendDllp kind) v w ≡ Ok (what, one', two') → After t (links.SendDllp kind) (lane_slot name + 3) (lane_slot name + 2) (what, one', two')) ends.0.1 ends.1.1
+    over (λ (v w : PartValue). t.held ≡ (lane_slot name + 2, w) ∷ ((lane_slot name + 3, v) ∷ []) → acts (links.SendDllp kind) v w ≡ Ok (what, one', two') → After t (links.SendDllp kind) (lane_slot name + 3) (lane_slot name + 2) (what, one', two')) _ _ _ _ ends.0.1 ends.1.1
     (λ held did. of_ok (send_dllp_on ends.0.0 ends.1.0 kind) (λ x. (seen.SentDllp x.0, Receiver x.1, Back x.2)) (After t (links.SendDllp kind) (lane_slot name + 3) (lane_slot name + 2)) (what, one', two') (λ x is. send_dllp t name ends.0.0 x.1 ends.1.0 x.2 kind x.0 named held is) did))
     (λ fate t one two one' two' what named ends.
-    over (λ (v w : PartValue). t.held ≡ (lane_slot name, w) ∷ ((lane_slot name + 2, v) ∷ []) → acts (links.DeliverDllp fate) v w ≡ Ok (what, one', two') → After t (links.DeliverDllp fate) (lane_slot name + 2) (lane_slot name) (what, one', two')) ends.0.1 ends.1.1
+    over (λ (v w : PartValue). t.held ≡ (lane_slot name, w) ∷ ((lane_slot name + 2, v) ∷ []) → acts (links.DeliverDllp fate) v w ≡ Ok (what, one', two') → After t (links.DeliverDllp fate) (lane_slot name + 2) (lane_slot name) (what, one', two')) _ _ _ _ ends.0.1 ends.1.1
     (λ held did. of_ok (deliver_dllp_on ends.0.0 ends.1.0 fate) _ (After t (links.DeliverDllp fate) (lane_slot name + 2) (lane_slot name)) (what, one', two') (λ x is. deliver_dllp t name ends.0.0 x.1 ends.1.0 x.2 fate x.0 named held is) did))
     event first second is t one two one' two' what named ends held did
   where
@@ -87,16 +87,16 @@ pub link_refused : TransmitIsRefused → DeliverIsRefused → SendDllpIsRefused 
 link_refused transmit deliver send_dllp deliver_dllp t ts name event first second one two r named is ends known why =
     by_ends name (MayBeRefused name)
     (λ t ts one two r named ends.
-    over (λ (v w : PartValue). KnownHolding t ts ((lane_slot name + 1, w) ∷ ((lane_slot name, v) ∷ [])) → Refuses (λ x. link_grows x.0) (acts links.Transmit v w) r → MayRefuse t.knows (events.Transmit name) r) ends.0.1 ends.1.1
+    over (λ (v w : PartValue). KnownHolding t ts ((lane_slot name + 1, w) ∷ ((lane_slot name, v) ∷ [])) → Refuses (λ x. link_grows x.0) (acts links.Transmit v w) r → MayRefuse t.knows (events.Transmit name) r) _ _ _ _ ends.0.1 ends.1.1
     (λ known why. transmit t ts name ends.0.0 ends.1.0 r named known (of_refused (transmit_on ends.0.0 ends.1.0) _ (λ x. link_grows x.0) lane_grows r (λ x h. h) why)))
     (λ fate t ts one two r named ends.
-    over (λ (v w : PartValue). KnownHolding t ts ((lane_slot name + 3, w) ∷ ((lane_slot name + 1, v) ∷ [])) → Refuses (λ x. link_grows x.0) (acts (links.Deliver fate) v w) r → MayRefuse t.knows (events.Deliver name fate) r) ends.0.1 ends.1.1
+    over (λ (v w : PartValue). KnownHolding t ts ((lane_slot name + 3, w) ∷ ((lane_slot name + 1, v) ∷ [])) → Refuses (λ x. link_grows x.0) (acts (links.Deliver fate) v w) r → MayRefuse t.knows (events.Deliver name fate) r) _ _ _ _ ends.0.1 ends.1.1
     (λ known why. deliver t ts name ends.0.0 ends.1.0 fate r named known (of_refused (deliver_on ends.0.0 ends.1.0 fate) _ (λ x. link_grows x.0) (λ x. arrival_grows x.0) r (λ x h. h) why)))
     (λ kind t ts one two r named ends.
-    over (λ (v w : PartValue). KnownHolding t ts ((lane_slot name + 2, w) ∷ ((lane_slot name + 3, v) ∷ [])) → Refuses (λ x. link_grows x.0) (acts (links.SendDllp kind) v w) r → MayRefuse t.knows (events.SendDllp name kind) r) ends.0.1 ends.1.1
-    (λ known why. send_dllp t ts name ends.0.0 ends.1.0 kind r named known (of_refused (send_dllp_on ends.0.0 ends.1.0 kind) (λ x. (seen.SentDllp x.0, Receiver x.1, Back x.2)) (λ x. link_grows x.0) lane_grows r (λ x h. h) why)))
+    over (λ (v w : PartValue). KnownHolding t ts ((lane_slot name + 2, w) ∷ ((lane_slot name + 3, v) ∷ [])) → Refuses (λ x. link_grows x.0) (acts (links.SendDllp kind) v w) r → MayRefuse t.knows (events.SendDllp name kind) r) _ _ _ _ ends.0.1 ends.1.1
+    (λ known why. send_dllp t ts name ends.0.0 ends.1.0 kind r named known (of_refused {B = Seen × PartValue × PartValue} (send_dllp_on ends.0.0 ends.1.0 kind) (λ x. (seen.SentDllp x.0, Receiver x.1, Back x.2)) (λ x. link_grows x.0) lane_grows r (λ x h. h) why)))
     (λ fate t ts one two r named ends.
-    over (λ (v w : PartValue). KnownHolding t ts ((lane_slot name, w) ∷ ((lane_slot name + 2, v) ∷ [])) → Refuses (λ x. link_grows x.0) (acts (links.DeliverDllp fate) v w) r → MayRefuse t.knows (events.DeliverDllp name fate) r) ends.0.1 ends.1.1
+    over (λ (v w : PartValue). KnownHolding t ts ((lane_slot name, w) ∷ ((lane_slot name + 2, v) ∷ [])) → Refuses (λ x. link_grows x.0) (acts (links.DeliverDllp fate) v w) r → MayRefuse t.knows (events.DeliverDllp name fate) r) _ _ _ _ ends.0.1 ends.1.1
     (λ known why. deliver_dllp t ts name ends.0.0 ends.1.0 fate r named known (of_error (deliver_dllp_on ends.0.0 ends.1.0 fate) _ (λ x. link_grows x.0) r (λ x h. h) why)))
     event first second is t ts one two r named ends known why
 
@@ -122,17 +122,17 @@ alone_owes timer retrained t name links.Timer one one' what named end is =
 alone_owes timer retrained t name links.Retrained one one' what named end is =
     subst (λ (v : PartValue). t.held ≡ (lane_slot name, v) ∷ [] → acts_alone links.Retrained v ≡ Ok (what, one') → Goes (events.Retrained name) what t (lane_slot name) one' (record t { held = [] })) (sym end.1)
     (λ held did. of_ok (retrained_on end.0) _ (λ (y : Seen × PartValue). Goes (events.Retrained name) y.0 t (lane_slot name) y.1 (record t { held = [] })) (what, one') (λ x is. retrained t name end.0 x named held is) did)
-alone_owes timer retrained t name links.Transmit one one' what named end is held did = absurd (cc)
-alone_owes timer retrained t name (links.Deliver fate) one one' what named end is held did = absurd (cc)
-alone_owes timer retrained t name (links.SendDllp kind) one one' what named end is held did = absurd (cc)
-alone_owes timer retrained t name (links.DeliverDllp fate) one one' what named end is held did = absurd (cc)
+alone_owes timer retrained t name links.Transmit one one' what named end is = absurd (cc)
+alone_owes timer retrained t name (links.Deliver fate) one one' what named end is = absurd (cc)
+alone_owes timer retrained t name (links.SendDllp kind) one one' what named end is = absurd (cc)
+alone_owes timer retrained t name (links.DeliverDllp fate) one one' what named end is = absurd (cc)
 
 pub alone_refused : TimerIsRefused → RetrainedIsRefused → AloneIsRefused
 alone_refused timer retrained t ts name links.Timer one r named end is =
     subst (λ (v : PartValue). KnownHolding t ts ((lane_slot name, v) ∷ []) → acts_alone links.Timer v ≡ Err r → MayRefuse t.knows (events.Timer name) r) (sym end.1) (λ known why. timer t ts name end.0 r named known (of_err (timer_on end.0) _ r why))
 alone_refused timer retrained t ts name links.Retrained one r named end is =
     subst (λ (v : PartValue). KnownHolding t ts ((lane_slot name, v) ∷ []) → acts_alone links.Retrained v ≡ Err r → MayRefuse t.knows (events.Retrained name) r) (sym end.1) (λ known why. retrained t ts name end.0 r named known (of_err (retrained_on end.0) _ r why))
-alone_refused timer retrained t ts name links.Transmit one r named end is known why = absurd (cc)
-alone_refused timer retrained t ts name (links.Deliver fate) one r named end is known why = absurd (cc)
-alone_refused timer retrained t ts name (links.SendDllp kind) one r named end is known why = absurd (cc)
-alone_refused timer retrained t ts name (links.DeliverDllp fate) one r named end is known why = absurd (cc)
+alone_refused timer retrained t ts name links.Transmit one r named end is = absurd (cc)
+alone_refused timer retrained t ts name (links.Deliver fate) one r named end is = absurd (cc)
+alone_refused timer retrained t ts name (links.SendDllp kind) one r named end is = absurd (cc)
+alone_refused timer retrained t ts name (links.DeliverDllp fate) one r named end is = absurd (cc)

@@ -7,8 +7,8 @@ pub same_ok : {A E : Type 0} {x y : A} → ◌≡◌ {A = Result A E} (Ok x) (Ok
 same_ok h = cc
 
 -- what holds of two values holds of any that they are
-pub over : {A B : Type 0} (Q : A → B → Type 0) {a a' : A} {b b' : B} → a ≡ a' → b ≡ b' → Q a' b' → Q a b
-over Q {a} {a'} {b} {b'} x y q = subst (λ (z : A). Q z b) (sym x) (subst (λ (z : B). Q a' z) (sym y) q)
+pub over : {A B : Type 0} (Q : A → B → Type 0) (a a' : A) (b b' : B) → a ≡ a' → b ≡ b' → Q a' b' → Q a b
+over {A = A} {B = B} Q a a' b b' x y q = subst (λ (z : A). Q z b) (sym x) (subst (λ (z : B). Q a' z) (sym y) q)
 
 -- what holds of each value holds of the one that a mapped result has
 pub of_ok : {A B : Type 0} (r : Result A Refusal) (f : A → B) (G : B → Type 0) (y : B) → ((a : A) → r ≡ Ok a → G (f a)) → map_ok r f ≡ Ok y → G y
