@@ -12,6 +12,7 @@ use Rattle.hall_laws.specs.declared.part.PartValue.TheVariants.{Memory, Requeste
 use Rattle.hall_laws.specs.declared.token.Token.{Token}
 use Rattle.hall_laws.specs.declared.token.Knowledge.{Knowledge}
 use Rattle.hall_laws.specs.Calls.{knowing}
+use Rattle.hall_laws.specs.Duties.{IsAtPort}
 use Rattle.hall_laws.specs.Parts.{slot, part_slot}
 use Rattle.hall_laws.specs.Standing.{Sat, token_of}
 use Rattle.hall_laws.specs.Rule.{Known, Goes, after_event, learned}
@@ -32,7 +33,7 @@ event-requires-clause-event c =
     let number : w.number ≡ c.args.self.now.number = c.requires.desk.0.1.2 in
     let many : w.config.requesters ≡ c.args.self.now.requesters = c.requires.desk.0.1.3 in
     let own : port ≡ suc w.number = omega (arith, number) in
-    let at = (own, omega (arith, many, c.requires.desk.1)) in
+    let at : IsAtPort t port = (own, omega (arith, many, c.requires.desk.1)) in
     let x = c.in-Ok.answer in let q' = c.collect.new.requester in let e' = c.collect.new.receiver in
     let after : Token = after_event (Collect port) (Collected x) m.entries ((slot port 5 + 3, Receiver e') ∷ ((0, Memory m) ∷ [])) t in
     let goes : Goes (Collect port) (Collected x) t (slot port 0) (Requester q') after = c.collecting.ensures.owes t port x m q q' e e' at refl c.in-Ok.ensures.answers in
@@ -53,7 +54,7 @@ returns-in-Ok-clause-collected c =
     let number : w.number ≡ c.args.self.now.number = c.requires.desk.0.1.2 in
     let many : w.config.requesters ≡ c.args.self.now.requesters = c.requires.desk.0.1.3 in
     let own : port ≡ suc w.number = omega (arith, number) in
-    let at = (own, omega (arith, many, c.requires.desk.1)) in
+    let at : IsAtPort t port = (own, omega (arith, many, c.requires.desk.1)) in
     let known : Known (t ∷ []) = subst (λ (z : Sat). Known z.0) me c.in_ok-memory-3.ensures.taken.4.1 in
     let x = c.in-Ok.answer in let q' = c.collect.new.requester in let e' = c.collect.new.receiver in
     let after : Token = after_event (Collect port) (Collected x) m.entries ((slot port 5 + 3, Receiver e') ∷ ((0, Memory m) ∷ [])) t in
@@ -72,7 +73,7 @@ returns-in-Err c =
     let number : w.number ≡ c.args.self.now.number = c.requires.desk.0.1.2 in
     let many : w.config.requesters ≡ c.args.self.now.requesters = c.requires.desk.0.1.3 in
     let own : port ≡ suc w.number = omega (arith, number) in
-    let at = (own, omega (arith, many, c.requires.desk.1)) in
+    let at : IsAtPort t port = (own, omega (arith, many, c.requires.desk.1)) in
     let known : Known (t ∷ []) = subst (λ (z : Sat). Known z.0) me c.in_ok-memory-3.ensures.taken.4.1 in
     let same : knows c.put_back-in-Err.new.self ≡ w = search rules in
     let idle : c.refuse_both.new.self.place.now.me ≡ c.args.self.now.place.now.me = c.refuse_both.ensures.idle ∙ (ap knowing same ∙ sym (idle_has _ c.requires.idle)) in

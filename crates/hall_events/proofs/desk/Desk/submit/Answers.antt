@@ -12,6 +12,7 @@ use Rattle.hall_laws.specs.declared.part.PartValue.TheVariants.{Memory, Requeste
 use Rattle.hall_laws.specs.declared.token.Token.{Token}
 use Rattle.hall_laws.specs.declared.token.Knowledge.{Knowledge}
 use Rattle.hall_laws.specs.Calls.{knowing}
+use Rattle.hall_laws.specs.Duties.{IsAtPort}
 use Rattle.hall_laws.specs.Parts.{slot, part_slot}
 use Rattle.hall_laws.specs.Standing.{Sat, token_of}
 use Rattle.hall_laws.specs.Rule.{Known, Goes, after_event, learned}
@@ -32,7 +33,7 @@ event-requires-clause-event c =
     let number : w.number ≡ c.args.self.now.number = c.requires.desk.0.1.2 in
     let many : w.config.requesters ≡ c.args.self.now.requesters = c.requires.desk.0.1.3 in
     let own : port ≡ suc w.number = omega (arith, number) in
-    let at = (own, omega (arith, many, c.requires.desk.1)) in
+    let at : IsAtPort t port = (own, omega (arith, many, c.requires.desk.1)) in
     let op = c.args.op.now in
     let k : ℕ = c.in-Ok.number in let q' = c.submit.new.requester in let e' = c.submit.new.sender in
     let after : Token = after_event (Submit port op) (Submitted k) m.entries ((slot port 1, Sender e') ∷ ((0, Memory m) ∷ [])) t in
@@ -54,7 +55,7 @@ returns-in-Ok-clause-submitted c =
     let number : w.number ≡ c.args.self.now.number = c.requires.desk.0.1.2 in
     let many : w.config.requesters ≡ c.args.self.now.requesters = c.requires.desk.0.1.3 in
     let own : port ≡ suc w.number = omega (arith, number) in
-    let at = (own, omega (arith, many, c.requires.desk.1)) in
+    let at : IsAtPort t port = (own, omega (arith, many, c.requires.desk.1)) in
     let op = c.args.op.now in
     let known : Known (t ∷ []) = subst (λ (z : Sat). Known z.0) me c.in_ok-memory-3.ensures.taken.4.1 in
     let k : ℕ = c.in-Ok.number in let q' = c.submit.new.requester in let e' = c.submit.new.sender in
@@ -74,7 +75,7 @@ returns-in-Err-clause-why c =
     let number : w.number ≡ c.args.self.now.number = c.requires.desk.0.1.2 in
     let many : w.config.requesters ≡ c.args.self.now.requesters = c.requires.desk.0.1.3 in
     let own : port ≡ suc w.number = omega (arith, number) in
-    let at = (own, omega (arith, many, c.requires.desk.1)) in
+    let at : IsAtPort t port = (own, omega (arith, many, c.requires.desk.1)) in
     let op = c.args.op.now in
     let known : Known (t ∷ []) = subst (λ (z : Sat). Known z.0) me c.in_ok-memory-3.ensures.taken.4.1 in
     subst (IsRefused w (Submit port op)) (sym c.refuse_both.ensures.refused) (inl (c.submitting.ensures.refused t [] port op m q e c.in-Err.refusal at (known, refl) c.in-Err.ensures.refuses))
