@@ -37,3 +37,7 @@ happened d one two w j k v u event what at_one at_two me goes =
     let same : knows d ≡ w = ap (λ (s : Sat). (token_of s.0).knows) me in
     let r : G (knows d) (part_slot one.part) (part_slot two.part) = subst (λ (z : Knowledge). G z (part_slot one.part) (part_slot two.part)) (sym same) (over (G w) _ _ _ _ at_one at_two (me, goes)) in
     (v, u, r.0, event, what, r.1)
+
+-- the part that was taken last is back
+pub last_back : (m m' : Sat) (w : Knowledge) (x : ℕ × PartValue) (h : Values) → m ≡ having w (x ∷ h) → m' ≡ having (token_of m.0).knows (drop 1 (token_of m.0).held) → m' ≡ having w h
+last_back m m' w x h is now = now ∙ ap (λ (s : Sat). having (token_of s.0).knows (drop 1 (token_of s.0).held)) is

@@ -1,4 +1,4 @@
-use Rattle.std.proofs.Common.{rules, ◌≡◌, ◌+◌, ℕ, suc, List, [], ◌∷◌, length, inl, refl, sym, subst, ap, ◌∙◌, arith}
+use Rattle.std.proofs.Common.{rules, ◌≡◌, ◌+◌, ℕ, suc, List, [], ◌∷◌, length, inl, refl, sym, subst, ap, ◌∙◌, arith, drop}
 use Rattle.seq_memory.specs.declared.Entry.{Entry}
 use Rattle.seq_memory.specs.History.{MemoryView}
 use Rattle.requester_core.specs.RequesterView.{RequesterView}
@@ -14,13 +14,13 @@ use Rattle.hall_laws.specs.declared.token.Knowledge.{Knowledge}
 use Rattle.hall_laws.specs.Calls.{knowing}
 use Rattle.hall_laws.specs.Duties.{IsAtPort}
 use Rattle.hall_laws.specs.Parts.{slot, part_slot}
-use Rattle.hall_laws.specs.Standing.{Sat, token_of}
+use Rattle.hall_laws.specs.Standing.{Sat, token_of, others_of}
 use Rattle.hall_laws.specs.Rule.{Known, Goes, after_event, learned}
 use Rattle.hall_laws.specs.Tells.{CollectTells}
 use Rattle.hall_events.specs.Desks.{knows}
 use Rattle.hall_events.specs.Holds.{having}
 use Rattle.hall_events.specs.Refusals.{IsRefused}
-use Rattle.hall_events.proofs.Holding.{idle_has}
+use Rattle.hall_events.proofs.Holding.{idle_has, last_back}
 use Rattle.hall_events.proofs.Mapped.{over}
 use Rattle.hall_events.proofs.desk.Desk.collect.Goals as goal
 
@@ -62,7 +62,14 @@ returns-in-Ok-clause-collected c =
     let G : ℕ → Type 0 = λ p. Goes (Collect p) (Collected x) t (slot port 0) (Requester q') after in
     let tells : CollectTells w x.number x.reply (length m.entries) (learned (Collect port) (Collected x) m.entries w) = c.collecting.ensures.tells t after [] (slot port 5 + 3) (slot port 0) (Receiver e) (Requester q) (Requester q') m x known refl (subst G own goes) in
     let N : List Entry → Type 0 = λ l. CollectTells w x.number x.reply (length l) (learned (Collect port) (Collected x) m.entries w) in
-    (learned (Collect port) (Collected x) m.entries w, search rules, subst N (sym c.entries.ensures) tells)
+    let h = c.in_ok-memory-3 in let learns : Knowledge = learned (Collect port) (Collected x) m.entries w in
+    let ts : c.turn.new.self.me.0 ≡ t ∷ [] = ap (λ (z : Sat). z.0) c.turn.ensures.2 ∙ ap (λ (z : Sat). z.0) me in
+    let T : List Token → List Token = λ l. after_event (Collect port) (Collected x) m.entries ((part_slot h.receiver.part, Receiver e') ∷ ((part_slot h.memory.part, Memory m) ∷ [])) (token_of l) ∷ others_of l in
+    let event : c.event.new.self.place.now.me.0 ≡ T c.turn.new.self.me.0 = ap (λ (z : Sat). z.0) c.event.ensures.happened in
+    let turned : c.turn-in-Ok.new.self.me.0 ≡ T (t ∷ []) = ap (λ (z : Sat). z.0) c.turn-in-Ok.ensures.2 ∙ (event ∙ ap T ts) in
+    let back : c.put_back.new.self.place.now.me ≡ having learns ((part_slot h.memory.part, Memory m) ∷ []) = c.put_back.ensures.back ∙ ap (λ (l : List Token). having (token_of l).knows (drop 1 (token_of l).held)) turned in
+    let idle : c.put_back-in-Ok.new.self.place.now.me ≡ knowing learns = last_back _ _ learns _ [] back c.put_back-in-Ok.ensures.back in
+    (learned (Collect port) (Collected x) m.entries w, idle, subst N (sym c.entries.ensures) tells)
 
 pub returns-in-Err : goal.returns-in-Err
 returns-in-Err c =
@@ -75,6 +82,6 @@ returns-in-Err c =
     let own : port ≡ suc w.number = omega (arith, number) in
     let at : IsAtPort t port = (own, omega (arith, many, c.requires.desk.1)) in
     let known : Known (t ∷ []) = subst (λ (z : Sat). Known z.0) me c.in_ok-memory-3.ensures.taken.4.1 in
-    let same : knows c.put_back-in-Err.new.self ≡ w = search rules in
+    let same : knows c.put_back-in-Err.new.self ≡ w = ap (λ (z : Sat). (token_of z.0).knows) c.put_back-in-Err.ensures.back ∙ ap (λ (z : Sat). (token_of z.0).knows) me in
     let idle : c.refuse_both.new.self.place.now.me ≡ c.args.self.now.place.now.me = c.refuse_both.ensures.idle ∙ (ap knowing same ∙ sym (idle_has _ c.requires.idle)) in
     record { seat = search rules; config = ap (λ (z : Sat). (token_of z.0).knows.config) idle; collected = tt; refused = idle; why = (subst (IsRefused w (Collect port)) (sym c.refuse_both.ensures.refused) (inl (c.collecting.ensures.refused t [] port m q e c.in-Err.refusal at (known, refl) c.in-Err.ensures.refuses))) }

@@ -1,4 +1,4 @@
-use Rattle.std.proofs.Common.{rules, ◌≡◌, ◌+◌, ℕ, suc, List, [], ◌∷◌, length, inl, refl, sym, subst, ap, ◌∙◌, arith}
+use Rattle.std.proofs.Common.{rules, ◌≡◌, ◌+◌, ℕ, suc, List, [], ◌∷◌, length, inl, refl, sym, subst, ap, ◌∙◌, arith, drop}
 use Rattle.seq_memory.specs.declared.Entry.{Entry}
 use Rattle.seq_memory.specs.History.{MemoryView}
 use Rattle.requester_core.specs.RequesterView.{RequesterView}
@@ -14,13 +14,13 @@ use Rattle.hall_laws.specs.declared.token.Knowledge.{Knowledge}
 use Rattle.hall_laws.specs.Calls.{knowing}
 use Rattle.hall_laws.specs.Duties.{IsAtPort}
 use Rattle.hall_laws.specs.Parts.{slot, part_slot}
-use Rattle.hall_laws.specs.Standing.{Sat, token_of}
+use Rattle.hall_laws.specs.Standing.{Sat, token_of, others_of}
 use Rattle.hall_laws.specs.Rule.{Known, Goes, after_event, learned}
 use Rattle.hall_laws.specs.Tells.{SubmitTells}
 use Rattle.hall_events.specs.Desks.{knows}
 use Rattle.hall_events.specs.Holds.{having}
 use Rattle.hall_events.specs.Refusals.{IsRefused}
-use Rattle.hall_events.proofs.Holding.{idle_has}
+use Rattle.hall_events.proofs.Holding.{idle_has, last_back}
 use Rattle.hall_events.proofs.Mapped.{over}
 use Rattle.hall_events.proofs.desk.Desk.submit.Goals as goal
 
@@ -64,7 +64,14 @@ returns-in-Ok-clause-submitted c =
     let G : ℕ → Type 0 = λ p. Goes (Submit p op) (Submitted k) t (slot port 0) (Requester q') after in
     let tells : SubmitTells w k op (length m.entries) (learned (Submit port op) (Submitted k) m.entries w) = c.submitting.ensures.tells t after [] (slot port 1) (slot port 0) k (Sender e) (Requester q) (Requester q') m op known refl (subst G own goes) in
     let N : List Entry → Type 0 = λ l. SubmitTells w k op (length l) (learned (Submit port op) (Submitted k) m.entries w) in
-    (learned (Submit port op) (Submitted k) m.entries w, search rules, subst N (sym c.entries.ensures) tells)
+    let h = c.in_ok-memory-3 in let learns : Knowledge = learned (Submit port op) (Submitted k) m.entries w in
+    let ts : c.turn.new.self.me.0 ≡ t ∷ [] = ap (λ (z : Sat). z.0) c.turn.ensures.2 ∙ ap (λ (z : Sat). z.0) me in
+    let T : List Token → List Token = λ l. after_event (Submit port op) (Submitted k) m.entries ((part_slot h.sender.part, Sender e') ∷ ((part_slot h.memory.part, Memory m) ∷ [])) (token_of l) ∷ others_of l in
+    let event : c.event.new.self.place.now.me.0 ≡ T c.turn.new.self.me.0 = ap (λ (z : Sat). z.0) c.event.ensures.happened in
+    let turned : c.turn-in-Ok.new.self.me.0 ≡ T (t ∷ []) = ap (λ (z : Sat). z.0) c.turn-in-Ok.ensures.2 ∙ (event ∙ ap T ts) in
+    let back : c.put_back.new.self.place.now.me ≡ having learns ((part_slot h.memory.part, Memory m) ∷ []) = c.put_back.ensures.back ∙ ap (λ (l : List Token). having (token_of l).knows (drop 1 (token_of l).held)) turned in
+    let idle : c.put_back-in-Ok.new.self.place.now.me ≡ knowing learns = last_back _ _ learns _ [] back c.put_back-in-Ok.ensures.back in
+    (learned (Submit port op) (Submitted k) m.entries w, idle, subst N (sym c.entries.ensures) tells)
 
 pub returns-in-Err-clause-why : goal.returns-in-Err-clause-why
 returns-in-Err-clause-why c =
