@@ -25,3 +25,14 @@ pub fn apart_requests_commute()
     only_the_place_changes();
     refused_and_read_change_nothing();
 }
+
+/// What the memory answers depends on the bytes at the request's addresses, and what it makes of
+/// another byte on that byte, too.
+#[tactic(auto, using(crate::proofs::Apart::same_answer, crate::proofs::Apart::same_byte))]
+pub fn a_request_sees_its_addresses()
+    ensures answer { (block base : ℕ) (m n : List ℕ) (op : Op) → length n ≡ length m → effects.AreSameAt base op m n → answer block base n op ≡ answer block base m op }
+    ensures after { (block base k : ℕ) (m n : List ℕ) (op : Op) → length n ≡ length m → effects.AreSameAt base op m n → slice_index n k ≡ slice_index m k → slice_index (after block base n op) k ≡ slice_index (after block base m op) k }
+{
+    only_the_place_changes();
+    refused_and_read_change_nothing();
+}

@@ -8,6 +8,8 @@
 #![tactic(auto)]
 
 pub mod laws;
+mod junk;
 mod pairs;
 
+pub use junk::is_junk_to;
 pub use pairs::{changes_nothing, follows, lets_first, never_brings, yields};
