@@ -42,7 +42,7 @@ fn spans(one: &Op, other: &Op) -> bool
 /// The first is a write of all bytes of the second: where it is served, it makes no difference what
 /// stood there.
 pub fn covers(one: &Op, other: &Op) -> bool
-    ensures { IsTrue result → (block base : ℕ) (m n : List ℕ) → refusal block base (length m) one.now ≡ None → AreSameBut base other.now m n → after block base n one.now ≡ after block base m one.now }
+    ensures { IsTrue result → (base block : ℕ) (m n : List ℕ) → refusal base (length m) block one.now ≡ None → AreSameBut base other.now m n → after base block n one.now ≡ after base block m one.now }
 {
     only_the_place_changes();
     if !is_write(one) {

@@ -1,11 +1,9 @@
 //! Where a rule is worth its test. Nothing rests on what these functions say.
 
 use crate::due::place_of;
-use crate::place::Place;
 use crate::steps::Done;
 use byte_effects::are_apart;
 use log_runs::{Event, Log, Step};
-use search_rules::{changes_nothing, is_junk_to};
 use seq_memory::Reply;
 use tlp_core::Op;
 
@@ -31,7 +29,7 @@ pub(crate) fn may_fit(log: &Log, bytes: &[u8], q: usize) -> bool {
     if matches!(op, Op::Read { .. }) {
         return true;
     }
-    let base = log.memory.base();
+    let base = log.extent.base();
     if op.address() < base {
         return false;
     }
@@ -74,20 +72,4 @@ pub(crate) fn may_be_lost(done: &[Done], due: &[usize], log: &Log, event: usize,
         return false;
     };
     place_of(due, log, q) == Some(event) || some_overwrote(done, log, op, need)
-}
-
-/// What stands where request `q` writes and what it leaves there may be nothing to all others.
-pub(crate) fn may_be_over_junk(place: &Place, log: &Log, q: usize) -> bool {
-    let bytes = place.key.bytes.as_slice();
-    for b in &place.key.pending {
-        if *b != q && !is_junk_to(log, bytes, *b, q) && !changes_nothing(log, *b) {
-            return false;
-        }
-    }
-    for b in place.key.event..log.events.len() {
-        if !is_junk_to(log, bytes, b, q) {
-            return false;
-        }
-    }
-    true
 }

@@ -13,7 +13,6 @@ mod choices;
 mod due;
 mod exploring;
 mod hints;
-mod junk;
 mod lost;
 mod memo;
 mod others;

@@ -1,13 +1,12 @@
 //! The search's stack.
-ghost use Rattle.std.specs.Prelude.{◌≡◌, ◌++◌, ◌∷◌, [], ℕ, List, true, false, length, IsTrue, IfOk, OnOk, IfSome};
-ghost use Rattle.log_runs.specs.Runs.{Dead, IsForced, start};
+ghost use Rattle.std.specs.Prelude.{◌≡◌, ◌++◌, ◌∷◌, [], ℕ, List, true, false, length, IsTrue, IfOk, OnOk};
+ghost use Rattle.log_runs.specs.Runs.{Dead, start};
 ghost use Rattle.run_search.specs.Places.{state_of, IsPlace};
 ghost use Rattle.run_search.specs.Frames as frames;
 
 use crate::choices::choices;
 use crate::due::places;
 use crate::hints::may_be_lost;
-use crate::junk::over_junk;
 use crate::lost::is_lost;
 use crate::memo::{Memo, empty, is_known, note};
 use crate::place::{Place, first};
@@ -52,24 +51,6 @@ pub(crate) fn begin(alloc: Global, log: &Log) -> Result<Walk, AllocError>
     })
 }
 
-/// A step that may be taken at once, a request over junk only where there is no other.
-fn at_once(
-    place: &mut Place,
-    log: &Log,
-    due: &[usize],
-    from: usize,
-) -> Result<Option<Step>, AllocError>
-    requires { IsPlace log.now place.old }
-    ensures state { OnOk result (state_of place.new ≡ state_of place.old) }
-    ensures place { OnOk result (IsPlace log.now place.new) }
-    ensures forced { IfOk result (λ o. IfSome o (IsForced log.now (state_of place.old))) }
-{
-    if let Some(step) = forced(place, log, due, from) {
-        return Ok(Some(step));
-    }
-    over_junk(place, log)
-}
-
 /// Takes the steps that may be taken at once.
 pub(crate) fn settle(walk: &mut Walk, log: &Log) -> Result<(), AllocError>
     requires { frames.IsAt log.now walk.old }
@@ -78,7 +59,7 @@ pub(crate) fn settle(walk: &mut Walk, log: &Log) -> Result<(), AllocError>
     // the requests before it were looked at, and nothing has acted since
     let mut from = 0;
     for _step in 0..u64::MAX {
-        let Some(step) = at_once(&mut walk.here, log, walk.due.as_slice(), from)? else {
+        let Some(step) = forced(&walk.here, log, walk.due.as_slice(), from) else {
             return Ok(());
         };
         from = match step {

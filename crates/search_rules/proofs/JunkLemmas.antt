@@ -21,15 +21,15 @@ use Rattle.search_rules.proofs.FirstLemmas.{Others}
 use Rattle.search_rules.proofs.RuleLemmas.{clash, set_here, set_there, acted_kept, gone_by, suits, run, before}
 
 abbrev pub Answered : Type 0
-Answered = (block base : ℕ) (m n : List ℕ) (op : Op) → length n ≡ length m → AreSameAt base op m n → answer block base n op ≡ answer block base m op
+Answered = (base block : ℕ) (m n : List ℕ) (op : Op) → length n ≡ length m → AreSameAt base op m n → answer base block n op ≡ answer base block m op
 
 abbrev pub Bytes : Type 0
-Bytes = (block base k : ℕ) (m n : List ℕ) (op : Op) → length n ≡ length m → AreSameAt base op m n → slice_index n k ≡ slice_index m k → slice_index (after block base n op) k ≡ slice_index (after block base m op) k
+Bytes = (base block k : ℕ) (m n : List ℕ) (op : Op) → length n ≡ length m → AreSameAt base op m n → slice_index n k ≡ slice_index m k → slice_index (after base block n op) k ≡ slice_index (after base block m op) k
 
 abbrev pub Sizes : Type 0
-Sizes = (block base : ℕ) (m : List ℕ) (op : Op) → length (after block base m op) ≡ length m
+Sizes = (base block : ℕ) (m : List ℕ) (op : Op) → length (after base block m op) ≡ length m
 
-acted_is : (x : Extent) (m : List ℕ) (o : Option Event) (i : ℕ) (op : Op) (told : Option Reply) → o ≡ Some (events.Sub i op told) → acted_on x m o ≡ after x.block x.base m op
+acted_is : (x : Extent) (m : List ℕ) (o : Option Event) (i : ℕ) (op : Op) (told : Option Reply) → o ≡ Some (events.Sub i op told) → acted_on x m o ≡ after x.base x.block m op
 unfolding acted_on bytes_after
 acted_is x m o i op told at = ap (acted_on x m) at
 
@@ -43,51 +43,50 @@ module _ (answered : Answered) (bytes_of : Bytes) (others : Others) (sizes : Siz
   out_of base k op other (inl low) front back = inr (omega (arith, low, front))
   out_of base k op other (inr high) front back = inl (omega (arith, high, back))
 
-  but_after : (block base : ℕ) (m n : List ℕ) (op other : Op) → AreApart op other → AreSameBut base other m n → AreSameBut base other (after block base m op) (after block base n op)
-  but_after block base m n op other apart same = record {
-    size = sizes block base n op ∙ same.size ∙ sym (sizes block base m op);
-    others = λ k out. bytes_of block base k m n op same.size (same_there base m n op other apart same) (same.others k out);
+  but_after : (base block : ℕ) (m n : List ℕ) (op other : Op) → AreApart op other → AreSameBut base other m n → AreSameBut base other (after base block m op) (after base block n op)
+  but_after base block m n op other apart same = record {
+    size = sizes base block n op ∙ same.size ∙ sym (sizes base block m op);
+    others = λ k out. bytes_of base block k m n op same.size (same_there base m n op other apart same) (same.others k out);
   }
 
-  agrees_there : (x : Extent) (m n : List ℕ) (op other : Op) (told : Option Reply) → AreApart op other → AreSameBut x.base other m n → Agrees x.block x.base m op told → Agrees x.block x.base n op told
-  agrees_there x m n op other told apart same agrees r e = answered x.block x.base m n op same.size (same_there x.base m n op other apart same) ∙ agrees r e
+  agrees_there : (x : Extent) (m n : List ℕ) (op other : Op) (told : Option Reply) → AreApart op other → AreSameBut x.base other m n → Agrees x.base x.block m op told → Agrees x.base x.block n op told
+  agrees_there x m n op other told apart same agrees r e = answered x.base x.block m n op same.size (same_there x.base m n op other apart same) ∙ agrees r e
 
   -- nobody needs what stands at the other's addresses in m
   module _ (x : Extent) (m0 : List ℕ) (other : Op) (asked : Option Reply) where
     Junk : List ℕ → Type 0
-    Junk m = (one : Op) (told : Option Reply) → Misses x m0 one told other asked → (n : List ℕ) → AreSameAt x.base other m n → Agrees x.block x.base n one told → ⊥
+    Junk m = (one : Op) (told : Option Reply) → Misses x m0 one told other asked → (n : List ℕ) → AreSameAt x.base other m n → Agrees x.base x.block n one told → ⊥
 
     -- the same, but for junk in m
     Alike : List ℕ → List ℕ → Type 0
     Alike m n = (n ≡ m) ⊎ (AreSameBut x.base other m n × Junk m)
 
-    junk_after : (m : List ℕ) (op : Op) → AreApart op other → Junk m → Junk (after x.block x.base m op)
+    junk_after : (m : List ℕ) (op : Op) → AreApart op other → Junk m → Junk (after x.base x.block m op)
     unfolding Junk
     junk_after m op apart junk one told misses n same agrees =
         junk one told misses n
-        (λ k front back. same k front back ∙ others x.block x.base k m op (out_of x.base k op other apart front back)) agrees
+        (λ k front back. same k front back ∙ others x.base x.block k m op (out_of x.base k op other apart front back)) agrees
 
     -- one that is left acts on both
-    both : (m n : List ℕ) (op : Op) (told : Option Reply) → length m ≡ x.size → Alike m n → Agrees x.block x.base m op told → IsJunk x m0 op told other asked
-        → Agrees x.block x.base n op told × Alike (after x.block x.base m op) (after x.block x.base n op)
+    both : (m n : List ℕ) (op : Op) (told : Option Reply) → length m ≡ x.size → Alike m n → Agrees x.base x.block m op told → IsJunk x m0 op told other asked
+        → Agrees x.base x.block n op told × Alike (after x.base x.block m op) (after x.base x.block n op)
     unfolding Alike Junk
     both m n op told size (inl same) agrees junk =
-        (subst (λ k. Agrees x.block x.base k op told) (sym same) agrees, inl (ap (λ k. after x.block x.base k op) same))
+        (subst (λ k. Agrees x.base x.block k op told) (sym same) agrees, inl (ap (λ k. after x.base x.block k op) same))
     both m n op told size (inr (same, junk)) agrees (inl apart) =
-        (agrees_there x m n op other told apart same agrees, inr (but_after x.block x.base m n op other apart same, junk_after m op apart junk))
+        (agrees_there x m n op other told apart same agrees, inr (but_after x.base x.block m n op other apart same, junk_after m op apart junk))
     both m n op told size (inr (same, junk)) agrees (inr (inl overlooks)) =
-        let (suited, leaves) = overlooks m n size same in
-        (
+        let (suited, leaves) = overlooks m n size same in (
           suited,
           elim leaves [
             | inl alike ↦ inl alike
-            | inr still ↦ inr (subst (λ k. AreSameBut x.base other k (after x.block x.base n op)) (sym still.0) (subst (AreSameBut x.base other m) (sym still.1) same), subst Junk (sym still.0) junk)
+            | inr still ↦ inr (subst (λ k. AreSameBut x.base other k (after x.base x.block n op)) (sym still.0) (subst (AreSameBut x.base other m) (sym still.1) same), subst Junk (sym still.0) junk)
           ],
         )
     both m n op told size (inr (same, junk)) agrees (inr (inr misses)) = absurd (junk op told misses m (λ k front back. refl) agrees)
 
     -- the other acts on the one alone
-    own : (m n : List ℕ) → length m ≡ x.size → Alike m n → Agrees x.block x.base m other asked → Alike (after x.block x.base m other) n
+    own : (m n : List ℕ) → length m ≡ x.size → Alike m n → Agrees x.base x.block m other asked → Alike (after x.base x.block m other) n
     unfolding Alike Junk
     own m n size alike agrees =
         let long : length n ≡ length m = elim alike [
@@ -100,8 +99,8 @@ module _ (answered : Answered) (bytes_of : Bytes) (others : Others) (sizes : Siz
         ] in
         inr (
           record {
-            size = long ∙ sym (sizes x.block x.base m other);
-            others = λ k out. byte k out ∙ sym (others x.block x.base k m other out);
+            size = long ∙ sym (sizes x.base x.block m other);
+            others = λ k out. byte k out ∙ sym (others x.base x.block k m other out);
           },
           λ one told misses n same. misses.new m n size agrees same,
         )
@@ -145,7 +144,7 @@ module _ (answered : Answered) (bytes_of : Bytes) (others : Others) (sizes : Siz
     }
 
     length_acted : (m : List ℕ) (c i : ℕ) (op : Op) (told : Option Reply) → slice_get log.events c ≡ Some (events.Sub i op told) → length (acted_on log.extent m (slice_get log.events c)) ≡ length m
-    length_acted m c i op told at = ap length (acted_is log.extent m (slice_get log.events c) i op told at) ∙ sizes log.extent.block log.extent.base m op
+    length_acted m c i op told at = ap length (acted_is log.extent m (slice_get log.events c) i op told at) ∙ sizes log.extent.base log.extent.block m op
 
     -- it acts in both
     both_act : (s t : State) → Beside s t → (c : ℕ) (m : MayAct log s c) → slice_get t.acted c ≡ Some false → With (next log s (steps.Act c)).bytes (next log t (steps.Act c)).bytes
@@ -192,11 +191,10 @@ module _ (answered : Answered) (bytes_of : Bytes) (others : Others) (sizes : Siz
         let x = log.extent in
         let o = slice_get log.events c in
         let (suited, left) = both x m0 other asked s.bytes n m.op m.told size alike m.replied (junk m.requester j m.op other m.told asked m.submitted there) in
-        let in_s : acted_on x s.bytes o ≡ after x.block x.base s.bytes m.op = acted_is x s.bytes o m.requester m.op m.told m.submitted in
-        let in_n : acted_on x n o ≡ after x.block x.base n m.op = acted_is x n o m.requester m.op m.told m.submitted in
-        (
+        let in_s : acted_on x s.bytes o ≡ after x.base x.block s.bytes m.op = acted_is x s.bytes o m.requester m.op m.told m.submitted in
+        let in_n : acted_on x n o ≡ after x.base x.block n m.op = acted_is x n o m.requester m.op m.told m.submitted in (
           subst (Suits x n) (sym m.submitted) suited,
-          subst (λ k. Alike x m0 other asked k (acted_on x n o)) (sym in_s) (subst (Alike x m0 other asked (after x.block x.base s.bytes m.op)) (sym in_n) left),
+          subst (λ k. Alike x m0 other asked k (acted_on x n o)) (sym in_s) (subst (Alike x m0 other asked (after x.base x.block s.bytes m.op)) (sym in_n) left),
         )
 
     own_with : (s : State) (n : List ℕ) → length s.bytes ≡ log.extent.size → With s.bytes n → MayAct log s q → With (acted_on log.extent s.bytes (slice_get log.events q)) n
@@ -320,9 +318,9 @@ module _ (answered : Answered) (bytes_of : Bytes) (others : Others) (sizes : Siz
       unfolding With Alike Junk
       start_with n same =
           let x = log.extent in
-          let is : n ≡ after x.block x.base s.bytes other = same ∙ acted_is x s.bytes (slice_get log.events q) j other asked there in
+          let is : n ≡ after x.base x.block s.bytes other = same ∙ acted_is x s.bytes (slice_get log.events q) j other asked there in
           subst (λ k. Alike x m0 other asked s.bytes k) (sym is) (inr (
-            record { size = sizes x.block x.base s.bytes other; others = λ k out. others x.block x.base k s.bytes other out },
+            record { size = sizes x.base x.block s.bytes other; others = λ k out. others x.base x.block k s.bytes other out },
             λ one told misses n same. misses.old n (λ k front back. same k front back ∙ ap (λ ys. slice_index ys k) (sym first)),
           ))
 

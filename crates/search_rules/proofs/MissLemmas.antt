@@ -12,19 +12,19 @@ use Rattle.log_runs.specs.LogView.{LogView}
 use Rattle.search_rules.specs.Junk.{Misses, IsJunk}
 use Rattle.search_rules.specs.Rules.{IsJunkTo}
 
-pub misses_by : (x : Extent) (block base : ℕ) (m : List ℕ) (one other : Op) (told asked : Option Reply) (reply : Reply) → block ≡ x.block → base ≡ x.base → told ≡ Some reply
-    → refusal x.block x.base x.size other ≡ None
-    → ((block : ℕ) (n : List ℕ) → AreSameAt base other m n → Agrees block base n one told → ⊥)
-    → ((base : ℕ) (k n : List ℕ) → refusal block base (length k) other ≡ None → Agrees block base k other asked → AreSameAt base other (after block base k other) n → answer block base n one ≡ reply → ⊥)
+pub misses_by : (x : Extent) (base block : ℕ) (m : List ℕ) (one other : Op) (told asked : Option Reply) (reply : Reply) → block ≡ x.block → base ≡ x.base → told ≡ Some reply
+    → refusal x.base x.size x.block other ≡ None
+    → ((block : ℕ) (n : List ℕ) → AreSameAt base other m n → Agrees base block n one told → ⊥)
+    → ((base : ℕ) (k n : List ℕ) → refusal base (length k) block other ≡ None → Agrees base block k other asked → AreSameAt base other (after base block k other) n → answer base block n one ≡ reply → ⊥)
     → Misses x m one told other asked
-misses_by x block base m one other told asked reply eb ea is served old new =
-    let old_here : (c : ℕ) (n : List ℕ) → AreSameAt x.base other m n → Agrees c x.base n one told → ⊥ =
-    subst (λ z. (c : ℕ) (n : List ℕ) → AreSameAt z other m n → Agrees c z n one told → ⊥) ea old in
-    let new_here : (d : ℕ) (k n : List ℕ) → refusal x.block d (length k) other ≡ None → Agrees x.block d k other asked → AreSameAt d other (after x.block d k other) n → answer x.block d n one ≡ reply → ⊥ =
-    subst (λ z. (d : ℕ) (k n : List ℕ) → refusal z d (length k) other ≡ None → Agrees z d k other asked → AreSameAt d other (after z d k other) n → answer z d n one ≡ reply → ⊥) eb new in
+misses_by x base block m one other told asked reply eb ea is served old new =
+    let old_here : (c : ℕ) (n : List ℕ) → AreSameAt x.base other m n → Agrees x.base c n one told → ⊥ =
+    subst (λ z. (c : ℕ) (n : List ℕ) → AreSameAt z other m n → Agrees z c n one told → ⊥) ea old in
+    let new_here : (d : ℕ) (k n : List ℕ) → refusal d (length k) x.block other ≡ None → Agrees d x.block k other asked → AreSameAt d other (after d x.block k other) n → answer d x.block n one ≡ reply → ⊥ =
+    subst (λ z. (d : ℕ) (k n : List ℕ) → refusal d (length k) z other ≡ None → Agrees d z k other asked → AreSameAt d other (after d z k other) n → answer d z n one ≡ reply → ⊥) eb new in
     record {
       old = old_here x.block;
-      new = λ k n size agrees same suited. new_here x.base k n (ap (λ z. refusal x.block x.base z other) size ∙ served) agrees same (suited reply is);
+      new = λ k n size agrees same suited. new_here x.base k n (ap (λ z. refusal x.base z x.block other) size ∙ served) agrees same (suited reply is);
     }
 
 pub junk_at : (log : LogView) (m : List ℕ) (b q i : ℕ) (one : Op) (told : Option Reply) → slice_get log.events b ≡ Some (events.Sub i one told)

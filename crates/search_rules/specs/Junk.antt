@@ -10,13 +10,13 @@ use Rattle.byte_effects.specs.Effects.{Agrees, AreApart, AreSameAt, AreSameBut}
 abbrev pub Overlooks : Extent → Op → Option Reply → Op → Type 0
 Overlooks x one told other =
     (m n : List ℕ) → length m ≡ x.size → AreSameBut x.base other m n
-    → Agrees x.block x.base n one told
-    × ((after x.block x.base n one ≡ after x.block x.base m one) ⊎ ((after x.block x.base m one ≡ m) × (after x.block x.base n one ≡ n)))
+    → Agrees x.base x.block n one told
+    × ((after x.base x.block n one ≡ after x.base x.block m one) ⊎ ((after x.base x.block m one ≡ m) × (after x.base x.block n one ≡ n)))
 
 -- the memory doesn't agree while the bytes at the other's addresses are as in m, nor while they are as the other left them
 pub record Misses (x : Extent) (m : List ℕ) (one : Op) (told : Option Reply) (other : Op) (asked : Option Reply) : Type 0 where
-  pub old : (n : List ℕ) → AreSameAt x.base other m n → Agrees x.block x.base n one told → ⊥
-  pub new : (k n : List ℕ) → length k ≡ x.size → Agrees x.block x.base k other asked → AreSameAt x.base other (after x.block x.base k other) n → Agrees x.block x.base n one told → ⊥
+  pub old : (n : List ℕ) → AreSameAt x.base other m n → Agrees x.base x.block n one told → ⊥
+  pub new : (k n : List ℕ) → length k ≡ x.size → Agrees x.base x.block k other asked → AreSameAt x.base other (after x.base x.block k other) n → Agrees x.base x.block n one told → ⊥
 
 abbrev pub IsJunk : Extent → List ℕ → Op → Option Reply → Op → Option Reply → Type 0
 IsJunk x m one told other asked = AreApart one other ⊎ Overlooks x one told other ⊎ Misses x m one told other asked

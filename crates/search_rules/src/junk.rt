@@ -2,21 +2,22 @@
 ghost use Rattle.std.specs.Prelude.{ℕ, ◌≡◌, ◌⊎◌, List, Option, Some, None, IsTrue, length, slice_get};
 ghost use Rattle.tlp_core.specs.declared.operation.Op.{Op};
 ghost use Rattle.seq_memory.specs.declared.Reply.{Reply};
-ghost use Rattle.seq_memory.specs.Step.{refusal};
+ghost use Rattle.seq_memory.specs.Step as step;
 ghost use Rattle.log_runs.specs.declared.Event.TheVariants as events;
 ghost use Rattle.search_rules.specs.Rules.{IsJunkTo};
 ghost use Rattle.search_rules.specs.Junk as specs;
 
 use byte_effects::{are_apart, breaks, covers, waits};
 use log_runs::{Event, Log};
+use memory_undo::refusal;
 use seq_memory::Reply;
 use tlp_core::Op;
 
 /// The memory would do the operation.
 fn is_served(log: &Log, op: &Op) -> bool
-    ensures { IsTrue result → refusal log.now.extent.block log.now.extent.base log.now.extent.size op.now ≡ None }
+    ensures { IsTrue result → step.refusal log.now.extent.base log.now.extent.size log.now.extent.block op.now ≡ None }
 {
-    log.memory.refusal(op).is_none()
+    refusal(log.extent.base(), log.extent.block(), log.extent.size(), op).is_none()
 }
 
 /// The operation, which wasn't answered, is a read, or writes all bytes of the other.
@@ -26,7 +27,7 @@ fn overlooks(log: &Log, one: &Op, told: &Option<Reply>, other: &Op) -> bool
     if told.is_some() {
         return false;
     }
-    if byte_effects::is_quiet(log.memory.block(), one, told) {
+    if byte_effects::is_quiet(log.extent.block(), one, told) {
         return true;
     }
     if !is_served(log, one) {
@@ -52,10 +53,10 @@ fn misses(
     if !is_served(log, other) {
         return false;
     }
-    if !waits(log.memory.base(), bytes, one, told, other) {
+    if !waits(log.extent.base(), bytes, one, told, other) {
         return false;
     }
-    breaks(log.memory.block(), other, asked, one, reply)
+    breaks(log.extent.block(), other, asked, one, reply)
 }
 
 /// Both these bytes at the addresses of the other and what it leaves there are nothing to the
