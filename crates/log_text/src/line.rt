@@ -1,12 +1,12 @@
 //! The forms of lines.
-ghost use Rattle.std.specs.Prelude.{◌≡◌, IfOk};
+ghost use Rattle.std.specs.Prelude.{◌≡◌};
 ghost use Rattle.std.specs.Result.{result_ok};
 ghost use Rattle.operation_text.specs.Words.{words, words_behind};
 ghost use Rattle.log_text.specs.Forms as forms;
 
 use history_check::Record;
 use operation_text::{BASE, Expected, Misfit, SIZE, alone, cut, number, op_behind, reply_behind};
-use seq_memory::{is_base, is_size};
+use seq_memory::Extent;
 use trace_text::{block, count, no_memory, request, requester};
 
 /// A line, by its first word.
@@ -16,7 +16,7 @@ const LINE: Expected = Expected::Of("a line of a log", "pciex-log, memory, sub, 
 #[derive(Drop)]
 pub(crate) enum LogLine {
     Head,
-    Memory { base: u64, size: usize, block: u16 },
+    Memory(Extent),
     Record(Record),
     End,
 }
@@ -29,12 +29,11 @@ fn memory_within(
     place: Option<&[u8]>,
     rest: Option<&[u8]>,
 ) -> Result<LogLine, Misfit>
-    ensures { result_ok result ≡ forms.memory_within base size block (words_behind rest.entry) }
+    ensures { result_ok result ≡ forms.memory_within (record { base = base; size = size; block = block }) (words_behind rest.entry) }
 {
-    if is_size(size) && is_base(base, size) {
-        alone(LogLine::Memory { base, size, block }, rest)
-    } else {
-        Err(no_memory(size, place))
+    match Extent::new(base, size, block) {
+        Some(extent) => alone(LogLine::Memory(extent), rest),
+        None => Err(no_memory(size, place)),
     }
 }
 
@@ -102,8 +101,7 @@ fn line_in_words(text: &[u8]) -> Result<LogLine, Misfit>
 
 /// The line that the text spells.
 pub(crate) fn read_line(text: &[u8]) -> Result<LogLine, Misfit>
-    ensures value { result_ok result ≡ forms.line_of text.now }
-    ensures limits { IfOk result forms.IsLineOfLimits }
+    ensures { result_ok result ≡ forms.line_of text.now }
 {
     if text == b"pciex-log 1".as_slice() {
         Ok(LogLine::Head)
