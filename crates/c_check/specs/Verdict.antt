@@ -5,7 +5,8 @@ use Rattle.history_check.specs.Claim.{Claim}
 use Rattle.history_check.specs.Flaws.{first_flaw}
 use Rattle.trace_text.specs.declared.fault.ReadFault.{ReadFault}
 use Rattle.trace_text.specs.TraceReaderView.{read_of}
-use Rattle.trace_engine.specs.Check.{fault_line, flaw_line}
+use Rattle.trace_text.specs.Names.{fault_line}
+use Rattle.flaw_places.specs.Places.{flaw_line}
 use Rattle.c_buffer.specs.declared.TheConstants.{SMALL_ROOM}
 use Rattle.c_buffer.specs.Room.{Told, untold, told_fault}
 

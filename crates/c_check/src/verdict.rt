@@ -5,17 +5,18 @@ ghost use Rattle.history_check.specs.Claim.{Claim, claim_of};
 ghost use Rattle.history_check.specs.Trace.{Explains};
 ghost use Rattle.history_check.specs.Flaws.{first_flaw};
 ghost use Rattle.trace_text.specs.TraceReaderView.{read_of};
-ghost use Rattle.trace_engine.specs.Check.{fault_line, flaw_line};
+ghost use Rattle.trace_text.specs.Names.{fault_line};
+ghost use Rattle.flaw_places.specs.Places.{flaw_line};
 ghost use Rattle.c_buffer.specs.Room.{filled};
 ghost use Rattle.c_check.specs.Verdict.{judged, verdict};
 
 use arrayvec::ArrayString;
 use c_buffer::{LINE_ROOM, NO_MEMORY, SMALL_ROOM, fill};
+use flaw_places::write_flaw;
 use history_check::{Flaw, FlawKind, Trace, check};
 use seq_memory::Entry;
 use std::alloc::Global;
-use trace_engine::{write_fault, write_flaw};
-use trace_text::{ReadFault, ReadFaultKind, read_trace};
+use trace_text::{ReadFault, ReadFaultKind, read_trace, write_fault};
 
 /// Puts the line of a flaw to the front of the room.
 fn put_flaw(flaw: Flaw, room: &mut [u8]) -> u32

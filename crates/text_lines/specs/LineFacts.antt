@@ -7,7 +7,7 @@ use Rattle.std.proofs.lemmas.List.{length-take-le, take-append-drop, take_more}
 use Rattle.std.proofs.lemmas.List.Elements.{All-head, All-drop, All-get_or, All-from_get_or}
 use Rattle.std.proofs.Math.Seq.{get_or-take}
 use Rattle.memchr.specs.Find.{Nowhere, Passes, is_byte}
-use Rattle.line_loop.specs.Lines.{lines_of, bare}
+use Rattle.text_lines.specs.Lines.{lines_of, bare}
 
 -- the same as All, by recursion
 abbrev pub NoFeed : List ℕ → Type 0

@@ -1,5 +1,5 @@
 -- The lines of a text.
-use Rattle.std.specs.Prelude.{ℕ, List, [], ◌∷◌, ◌==◌, filter, if◌then◌else◌}
+use Rattle.std.specs.Prelude.{ℕ, List, [], ◌∷◌, ◌==◌, Bool, true, filter, if◌then◌else◌}
 use Rattle.std.specs.Io.BufRead.{strip_last, ends_with_byte}
 
 -- the first line begins with b
@@ -23,3 +23,8 @@ said line = if ends_with_byte 10 line then strip_last 13 (bare line) else line
 -- those of them that a line feed has ended
 abbrev pub ended_lines : List ℕ → List (List ℕ)
 ended_lines bytes = filter (ends_with_byte 10) (lines_of bytes)
+
+-- empty lines and those that begin with `#` are skipped
+abbrev pub is_skipped : List ℕ → Bool
+is_skipped [] = true
+is_skipped (c ∷ cs) = c == 35
