@@ -1,11 +1,12 @@
 //! Slots.
-ghost use Rattle.std.specs.Prelude.{◌≡◌, ◌≤◌, ◌⊎◌, Option, Some, []};
+ghost use Rattle.std.specs.Prelude.{◌≡◌, ◌⊎◌, Option, Some, Ok, Err, IsOk, IsErr, []};
 ghost use Rattle.seq_memory.specs.History.{MemoryView};
+ghost use Rattle.c_buffer.specs.declared.outcome.Failure.TheVariants.{NoMemory};
 ghost use Rattle.c_device.specs.Slot.{slot_owns, memory_coded};
-ghost use Rattle.c_device.specs.Calls.{wrong_limits};
+ghost use Rattle.c_device.specs.Calls.{limits};
 
 use c_box::Parts;
-use c_buffer::{NO_MEMORY, WRONG_BASE, WRONG_BLOCK, WRONG_SIZE};
+use c_buffer::Failure;
 use seq_memory::{Memory, is_base, is_size};
 use std::alloc::Global;
 use std::marker::Model;
@@ -16,7 +17,7 @@ use std::marker::Model;
 pub struct Slot {
     at: *mut (),
     alloc: Global,
-    pub ghost memory: { Option State } by { memory_coded },
+    pub ghost memory: { Option MemoryView } by { memory_coded },
 }
 
 impl Model for Slot {
@@ -62,31 +63,37 @@ pub(crate) fn close(held: Box<Memory, Global>) -> Slot
 }
 
 /// Makes a memory of `size` zeros at `base` with an empty history, which serves accesses by blocks of
-/// `block` bytes, in a slot that holds nothing. 0 where it is made, else the slot stays as it was:
-/// `WRONG_SIZE`, `WRONG_BASE`, `WRONG_BLOCK`, `NO_MEMORY`, tested in this order.
-pub fn new_device(alloc: Global, base: u64, size: usize, block: u16, slot: &mut Slot) -> u32
-    ensures code { (result ≡ wrong_limits base size block) ⊎ ((wrong_limits base size block ≡ 0) × (result ≡ NO_MEMORY)) }
-    ensures made { result ≡ 0 → slot.new.memory ≡ Some (record { base = base; size = size; block = block; entries = [] }) }
-    ensures unchanged { 1 ≤ result → slot.new ≡ slot.old }
+/// `block` bytes, in a slot that holds nothing. With an error the slot stays as it was: `WrongSize`,
+/// `WrongBase`, `WrongBlock`, `NoMemory`, tested in this order.
+pub fn new_device(
+    alloc: Global,
+    base: u64,
+    size: usize,
+    block: u16,
+    slot: &mut Slot,
+) -> Result<(), Failure>
+    ensures outcome { (result ≡ limits base size block) ⊎ ((limits base size block ≡ Ok tt) × (result ≡ Err NoMemory)) }
+    ensures made { IsOk result → slot.new.memory ≡ Some (record { base = base; size = size; block = block; entries = [] }) }
+    ensures unchanged { IsErr result → slot.new ≡ slot.old }
 {
     if !is_size(size) {
-        return WRONG_SIZE;
+        return Err(Failure::WrongSize);
     }
     if !is_base(base, size) {
-        return WRONG_BASE;
+        return Err(Failure::WrongBase);
     }
     if block != 64 && block != 128 {
-        return WRONG_BLOCK;
+        return Err(Failure::WrongBlock);
     }
     let Ok(memory) = Memory::new(alloc, base, size, block) else {
-        return NO_MEMORY;
+        return Err(Failure::NoMemory);
     };
     match Box::new(alloc, memory) {
         Ok(held) => {
             *slot = close(held);
-            0
+            Ok(())
         }
-        Err(_) => NO_MEMORY,
+        Err(_) => Err(Failure::NoMemory),
     }
 }
 

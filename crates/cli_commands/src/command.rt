@@ -10,7 +10,7 @@ ghost use Rattle.cli_words.specs.declared.words.Request.{Request};
 use chart_engine::run_chart;
 use clap::error::ErrorKind;
 use cli_words::{Request, RequestFault, options};
-use counting::Counting;
+use parameters::Counting;
 use draw_engine::run_draw;
 use generate_engine::run_generate;
 use history_picture::Window;

@@ -7,7 +7,7 @@ use std::alloc::Global;
 use std::io;
 use std::io::Write;
 use step_engine::run_step;
-use storm::Storm;
+use parameters::Storm;
 use trace_engine::run_check;
 
 /// How many events each storm has.

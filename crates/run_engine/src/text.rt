@@ -5,7 +5,7 @@ ghost use Rattle.history_check.specs.Claim.{claim_of};
 ghost use Rattle.history_check.specs.Trace.{Explains};
 ghost use Rattle.worker_report.specs.Halts.{IsOfMemory, IsEndBy};
 ghost use Rattle.workers.specs.Running.{AreDone};
-ghost use Rattle.counting.specs.Ranges.{IsCounting};
+ghost use Rattle.parameters.specs.Ranges.{IsCounting};
 ghost use Rattle.run_engine.specs.Counting.{scripts_of, config_of};
 ghost use Rattle.run_engine.specs.Text.{number_line, is_answer, answers_in, first_word, report_text, halt_text, halt_status, IsOutput, IsWhole, IsPart};
 
@@ -13,7 +13,7 @@ use crate::plan::plan_of;
 use crate::progress::watched;
 use arrayvec::ArrayString;
 use byteorder::{ByteOrder, LittleEndian};
-use counting::Counting;
+use parameters::Counting;
 use history_check::Record;
 use line_loop::{EngineFault, write_out};
 use operation_text::write_decimal;
