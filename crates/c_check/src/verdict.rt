@@ -40,12 +40,7 @@ fn put_fault(fault: ReadFault, buffer: &mut [u8]) -> Failure
 }
 
 /// Whether the history explains the trace.
-fn judge(
-    alloc: Global,
-    trace: &Trace,
-    history: &[Entry],
-    buffer: &mut [u8],
-) -> Result<(), Failure>
+fn judge(alloc: Global, trace: &Trace, history: &[Entry], buffer: &mut [u8]) -> Result<(), Failure>
     requires { 512 ≤ length buffer.old }
     ensures outcome { ¬ (result ≡ Err NoMemory) → result ≡ (judged buffer.old (first_flaw (claim_of trace.now history.now))).outcome }
     ensures buffer { ¬ (result ≡ Err NoMemory) → buffer.new ≡ (judged buffer.old (first_flaw (claim_of trace.now history.now))).buffer }

@@ -37,7 +37,12 @@ fn put_entry(entry: &Entry, buffer: &mut [u8]) -> Length
     tell(line.as_bytes(), buffer)
 }
 
-fn request(monitor: &mut Monitor, requester: u8, packet: &[u8], buffer: &mut [u8]) -> Result<Length, Failure>
+fn request(
+    monitor: &mut Monitor,
+    requester: u8,
+    packet: &[u8],
+    buffer: &mut [u8],
+) -> Result<Length, Failure>
     ensures outcome { ¬ (result ≡ Err NoMemory) → result ≡ (request_call monitor.old requester packet.now buffer.old).outcome }
     ensures monitor { ¬ (result ≡ Err NoMemory) → monitor.new ≡ (request_call monitor.old requester packet.now buffer.old).monitor }
     ensures buffer { ¬ (result ≡ Err NoMemory) → buffer.new ≡ (request_call monitor.old requester packet.now buffer.old).buffer }
@@ -54,7 +59,12 @@ fn request(monitor: &mut Monitor, requester: u8, packet: &[u8], buffer: &mut [u8
     }
 }
 
-fn completion(monitor: &mut Monitor, requester: u8, packet: &[u8], buffer: &mut [u8]) -> Result<Length, Failure>
+fn completion(
+    monitor: &mut Monitor,
+    requester: u8,
+    packet: &[u8],
+    buffer: &mut [u8],
+) -> Result<Length, Failure>
     ensures outcome { result ≡ (completion_call monitor.old requester packet.now buffer.old).outcome }
     ensures monitor { monitor.new ≡ (completion_call monitor.old requester packet.now buffer.old).monitor }
     ensures buffer { buffer.new ≡ (completion_call monitor.old requester packet.now buffer.old).buffer }
@@ -70,7 +80,12 @@ fn completion(monitor: &mut Monitor, requester: u8, packet: &[u8], buffer: &mut 
     }
 }
 
-fn acted(monitor: &mut Monitor, requester: u8, number: u32, buffer: &mut [u8]) -> Result<Length, Failure>
+fn acted(
+    monitor: &mut Monitor,
+    requester: u8,
+    number: u32,
+    buffer: &mut [u8],
+) -> Result<Length, Failure>
     ensures outcome { result ≡ (acted_call monitor.old requester number buffer.old).outcome }
     ensures monitor { monitor.new ≡ (acted_call monitor.old requester number buffer.old).monitor }
     ensures buffer { buffer.new ≡ (acted_call monitor.old requester number buffer.old).buffer }
@@ -140,7 +155,13 @@ pub fn tell_completion(
 /// `buffer`: `ent 1 0 add 40 07000000`. With an error nothing has changed, and it is the first of these:
 /// `SmallBuffer` for fewer than 512 bytes, `NoRequester`, fault 21 (`Unexpected`) if no request of that
 /// number waits to act, as in a log, 24 (`NumbersUsed`). The monitor goes to `back`.
-pub fn tell_acted(slot: Slot, requester: u8, number: u32, buffer: &mut [u8], back: &mut Slot) -> Result<Length, Failure>
+pub fn tell_acted(
+    slot: Slot,
+    requester: u8,
+    number: u32,
+    buffer: &mut [u8],
+    back: &mut Slot,
+) -> Result<Length, Failure>
     ghost monitor: { spec.Monitor }
     requires { slot.monitor ≡ Some monitor }
     ensures outcome { result ≡ (acted_call monitor requester number buffer.old).outcome }

@@ -15,9 +15,9 @@ use crate::lines::{put_event, put_fabric};
 use fabric_core::{Config, Fabric};
 use fc_credit::LaneCredits;
 use line_loop::{EngineFault, write_out};
+use parameters::Storm;
 use std::alloc::{AllocError, Global};
 use std::io::Write;
-use parameters::Storm;
 use storm_events::Chooser;
 use storm_events::laws::counted_events_are_fated;
 

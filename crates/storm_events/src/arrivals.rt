@@ -9,8 +9,8 @@ use crate::counts::Counts;
 use fabric_core::{Event, LaneName};
 use fault_plan::Plan;
 use lane_core::Fate;
-use std::marker::Model;
 use parameters::Storm;
+use std::marker::Model;
 
 /// A plan of faults, and the counts that it goes by.
 #[derive(Drop)]

@@ -10,9 +10,9 @@ use crate::candidates::{lane, plain};
 use crate::draws::Draws;
 use fabric_core::{Event, Fabric, LaneName, Refusal};
 use lane_core::{DllpKind, LaneRefusal};
+use parameters::Storm;
 use std::alloc::AllocError;
 use std::marker::Model;
-use parameters::Storm;
 
 /// How many candidates are tried before an event comes that can always happen.
 const TRIES: u32 = 256;
