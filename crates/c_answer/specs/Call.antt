@@ -29,7 +29,7 @@ answered bytes buffer (Some c) = record { outcome = Ok (length (canonical c)); b
 abbrev pub served : ℕ → ℕ → List ℕ → List ℕ → TlpView → Call
 served base block bytes buffer t =
     if is_completion t.kind then refused failures.NoRequest bytes buffer
-    else answered (bytes_after block base bytes t) buffer (completion_over block base bytes t)
+    else answered (bytes_after base block bytes t) buffer (completion_over base block bytes t)
 
 abbrev pub read : ℕ → ℕ → List ℕ → List ℕ → Result TlpView TlpFault → Call
 read base block bytes buffer (Err f) = refused (failures.Fault (number_of f)) bytes buffer
