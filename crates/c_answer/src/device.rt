@@ -2,14 +2,13 @@
 ghost use Rattle.std.specs.Prelude.{◌≡◌, ◌≤◌, IsErr, length};
 ghost use Rattle.tlp_core.specs.Layout.{canonical};
 ghost use Rattle.c_buffer.specs.Buffer.{filled};
-ghost use Rattle.tlp_core.specs.Operation as spec;
 ghost use Rattle.seq_memory.specs.Limits.{IsBlock};
 ghost use Rattle.c_answer.specs.Call.{served, call};
 
 use arrayvec::ArrayVec;
 use c_buffer::{Failure, Length, tell};
 use completer_core::answer;
-use tlp_core::{Kind, MAX_TLP, Tlp, decode, encode};
+use tlp_core::{MAX_TLP, Tlp, decode, encode};
 
 /// The bytes of buffer that a call asks for, whatever its completion has.
 pub const MAX_COMPLETION: usize = MAX_TLP;
@@ -24,13 +23,6 @@ pub fn tell_completion(completion: &Tlp, buffer: &mut [u8]) -> Length
     let mut canonical = ArrayVec::new();
     encode(completion, &mut canonical);
     tell(&canonical, buffer)
-}
-
-/// Whether the kind is a completion's, with data or without.
-pub fn is_completion(kind: Kind) -> bool
-    ensures { result ≡ spec.is_completion kind }
-{
-    matches!(kind, Kind::Completion | Kind::CompletionData)
 }
 
 /// Answers a packet.
@@ -48,7 +40,7 @@ fn answer_packet(
     ensures buffer { buffer.new ≡ (served base block bytes.old buffer.old packet.now).buffer }
     ensures unchanged { IsErr result → (bytes.new ≡ bytes.old) × (buffer.new ≡ buffer.old) }
 {
-    if is_completion(packet.kind) {
+    if packet.kind.is_completion() {
         return Err(Failure::NoRequest);
     }
     match answer(base, block, bytes, packet) {

@@ -6,7 +6,7 @@ ghost use Rattle.c_buffer.specs.declared.outcome.Failure.TheVariants.{NoMemory};
 ghost use Rattle.c_device.specs.Calls.{served, service, IsRequestCall};
 
 use crate::slot::{Slot, close, open};
-use c_answer::{MAX_COMPLETION, is_completion, tell_completion};
+use c_answer::{MAX_COMPLETION, tell_completion};
 use c_buffer::{Failure, Length};
 use completer_core::serve;
 use seq_memory::Memory;
@@ -26,7 +26,7 @@ fn serve_tlp(
     ensures no_memory { result ≡ Err NoMemory → spec.is_completion packet.now.kind ≡ false }
     ensures unchanged { IsErr result → (memory.new ≡ memory.old) × (buffer.new ≡ buffer.old) }
 {
-    if is_completion(packet.kind) {
+    if packet.kind.is_completion() {
         return Err(Failure::NoRequest);
     }
     match serve(memory, packet, number) {

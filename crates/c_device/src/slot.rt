@@ -1,13 +1,13 @@
 //! Slots.
-ghost use Rattle.std.specs.Prelude.{◌≡◌, ◌⊎◌, Option, Some, Ok, Err, IsOk, IsErr, []};
+ghost use Rattle.std.specs.Prelude.{◌≡◌, ◌⊎◌, Option, Some, Err, IsOk, IsErr, IfErr, []};
 ghost use Rattle.seq_memory.specs.History.{MemoryView};
 ghost use Rattle.c_buffer.specs.declared.outcome.Failure.TheVariants.{NoMemory};
 ghost use Rattle.c_device.specs.Slot.{slot_owns, memory_coded};
-ghost use Rattle.c_device.specs.Calls.{limits};
+ghost use Rattle.c_device.specs.Calls.{extent};
 
 use c_box::Parts;
 use c_buffer::Failure;
-use seq_memory::{Memory, is_base, is_size};
+use seq_memory::{Extent, Memory, is_base, is_size};
 use std::alloc::Global;
 use std::marker::Model;
 
@@ -62,6 +62,41 @@ pub(crate) fn close(held: Box<Memory, Global>) -> Slot
     of_parts(Parts::of(held))
 }
 
+/// The extent of these three, or the first limit that isn't kept: `WrongSize`, `WrongBase`,
+/// `WrongBlock`.
+pub fn extent_of(base: u64, size: usize, block: u16) -> Result<Extent, Failure>
+    ensures { result ≡ extent base size block }
+{
+    if !is_size(size) {
+        return Err(Failure::WrongSize);
+    }
+    if !is_base(base, size) {
+        return Err(Failure::WrongBase);
+    }
+    match Extent::new(base, size, block) {
+        Some(extent) => Ok(extent),
+        None => Err(Failure::WrongBlock),
+    }
+}
+
+/// Makes a memory of zeros in a slot that holds nothing.
+fn make_in(alloc: Global, extent: Extent, slot: &mut Slot) -> Result<(), Failure>
+    ensures memory { IsErr result → result ≡ Err NoMemory }
+    ensures made { IsOk result → slot.new.memory ≡ Some (record { base = extent.base; size = extent.size; block = extent.block; entries = [] }) }
+    ensures unchanged { IsErr result → slot.new ≡ slot.old }
+{
+    let Ok(memory) = Memory::new(alloc, extent) else {
+        return Err(Failure::NoMemory);
+    };
+    match Box::new(alloc, memory) {
+        Ok(held) => {
+            *slot = close(held);
+            Ok(())
+        }
+        Err(_) => Err(Failure::NoMemory),
+    }
+}
+
 /// Makes a memory of `size` zeros at `base` with an empty history, which serves accesses by blocks of
 /// `block` bytes, in a slot that holds nothing. With an error the slot stays as it was: `WrongSize`,
 /// `WrongBase`, `WrongBlock`, `NoMemory`, tested in this order.
@@ -72,29 +107,12 @@ pub fn new_device(
     block: u16,
     slot: &mut Slot,
 ) -> Result<(), Failure>
-    ensures outcome { (result ≡ limits base size block) ⊎ ((limits base size block ≡ Ok tt) × (result ≡ Err NoMemory)) }
+    ensures ok { IsOk result → IsOk (extent base size block) }
+    ensures failure { IfErr result (λ f. (extent base size block ≡ Err f) ⊎ (IsOk (extent base size block) × (f ≡ NoMemory))) }
     ensures made { IsOk result → slot.new.memory ≡ Some (record { base = base; size = size; block = block; entries = [] }) }
     ensures unchanged { IsErr result → slot.new ≡ slot.old }
 {
-    if !is_size(size) {
-        return Err(Failure::WrongSize);
-    }
-    if !is_base(base, size) {
-        return Err(Failure::WrongBase);
-    }
-    if block != 64 && block != 128 {
-        return Err(Failure::WrongBlock);
-    }
-    let Ok(memory) = Memory::new(alloc, base, size, block) else {
-        return Err(Failure::NoMemory);
-    };
-    match Box::new(alloc, memory) {
-        Ok(held) => {
-            *slot = close(held);
-            Ok(())
-        }
-        Err(_) => Err(Failure::NoMemory),
-    }
+    make_in(alloc, extent_of(base, size, block)?, slot)
 }
 
 /// Frees the device of the slot.

@@ -6,15 +6,15 @@ ghost use Rattle.port_monitor.specs.Texts.{head_lines};
 ghost use Rattle.port_monitor.specs.Heads.{memory_of};
 ghost use Rattle.c_buffer.specs.declared.outcome.Failure.TheVariants.{NoMemory};
 ghost use Rattle.c_buffer.specs.Buffer.{filled};
-ghost use Rattle.c_device.specs.Calls.{limits};
+ghost use Rattle.c_device.specs.Calls.{extent};
 ghost use Rattle.c_monitor.specs.Slot.{slot_owns, monitor_coded};
 ghost use Rattle.c_monitor.specs.Calls.{made, making, AsksFor, IsMonitorCall};
 
 use arrayvec::ArrayString;
 use c_box::Parts;
 use c_buffer::{Failure, LINE_BUFFER, Length, tell};
+use c_device::extent_of;
 use port_monitor::{Head, Monitor, read_head, write_head};
-use seq_memory::{is_base, is_size};
 use std::alloc::Global;
 use std::marker::Model;
 
@@ -69,22 +69,6 @@ pub(crate) fn close(held: Box<Monitor, Global>) -> Slot
     of_parts(Parts::of(held))
 }
 
-/// Tests the limits of the head's memory, and fails with the first that isn't kept.
-fn test_limits(head: &Head) -> Result<(), Failure>
-    ensures { result ≡ limits head.now.base head.now.size head.now.block }
-{
-    if !is_size(head.size) {
-        return Err(Failure::WrongSize);
-    }
-    if !is_base(head.base, head.size) {
-        return Err(Failure::WrongBase);
-    }
-    if head.block != 64 && head.block != 128 {
-        return Err(Failure::WrongBlock);
-    }
-    Ok(())
-}
-
 /// Puts the head's lines to the front of the buffer.
 fn put_head(head: &Head, buffer: &mut [u8]) -> Length
     requires { 512 ≤ length buffer.old }
@@ -104,7 +88,7 @@ fn make_in(
     slot: &mut Slot,
 ) -> Result<Length, Failure>
     requires buffer { 512 ≤ length buffer.old }
-    requires limits { limits head.now.base head.now.size head.now.block ≡ Ok tt }
+    requires extent { IsOk (extent head.now.base head.now.size head.now.block) }
     ensures outcome { ¬ (result ≡ Err NoMemory) → result ≡ Ok (length (head_lines head.now.is_trace (memory_of head.now))) }
     ensures buffer { ¬ (result ≡ Err NoMemory) → buffer.new ≡ filled buffer.old (head_lines head.now.is_trace (memory_of head.now)) }
     ensures made { IsOk result → slot.new.monitor ≡ Some (spec.new head.now.is_trace) }
@@ -145,7 +129,7 @@ pub fn new_monitor(
     let Some(head) = read_head(line) else {
         return Err(Failure::NoLine);
     };
-    test_limits(&head)?;
+    extent_of(head.base, head.size, head.block)?;
     make_in(alloc, &head, buffer, slot)
 }
 
