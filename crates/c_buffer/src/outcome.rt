@@ -62,7 +62,7 @@ pub enum Failure {
     WrongSize,
     /// The base address of a memory is none for its size.
     WrongBase,
-    /// A history has no entry at that place.
+    /// A history has no entry of that index.
     NoEntry,
     /// No fault has that number.
     NoFault,

@@ -90,7 +90,7 @@ pub extern "C" fn pciex_raw_fault_name(number: u32, buffer: &mut [u8]) -> u32
     ensures buffer { (f : faults.TlpFault) → number ≡ number_of f → 512 ≤ length buffer.old → buffer.new ≡ filled buffer.old (name_of f) }
     ensures small { length buffer.old < 512 → result ≡ SMALL_BUFFER }
     ensures unchanged { 1000 ≤ result → buffer.new ≡ buffer.old }
-    ensures told { result < 1000 → (f : faults.TlpFault) × (number ≡ number_of f) }
+    ensures named { result < 1000 → (f : faults.TlpFault) × (number ≡ number_of f) }
     ensures no_fault { 512 ≤ length buffer.old → ((f : faults.TlpFault) → ¬ (number ≡ number_of f)) → result ≡ NO_FAULT }
 {
     code(c_packets::name_fault(number, buffer))
