@@ -22,7 +22,6 @@ use fabric_core::laws::each_event_happens_by_its_parts;
 use fabric_core::{Event, Fabric, Refusal, Seen};
 use fabric_laws::laws::the_trace_belongs;
 use history_check::Record;
-use lane_core::LaneRefusal;
 use script_text::{Line, read_line, write_refusal, write_seen, write_told};
 
 /// An event happens to the fabric.
@@ -87,7 +86,7 @@ fn put_refusal(refusal: Refusal, buffer: &mut [u8]) -> Failure
     ensures buffer { ¬ (result ≡ NoMemory) → buffer.new ≡ filled buffer.old (refusal_text refusal) }
     ensures unchanged { result ≡ NoMemory → buffer.new ≡ buffer.old }
 {
-    if let Refusal::Memory | Refusal::Lane(LaneRefusal::Memory) = refusal {
+    if refusal.is_memory() {
         return Failure::NoMemory;
     }
     let mut text = ArrayString::new();
