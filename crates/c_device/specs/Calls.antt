@@ -1,5 +1,5 @@
 -- The calls of a device with a history: what its memory and the caller's buffer hold after them, and what they return.
-use Rattle.std.specs.Prelude.{ℕ, ◌≡◌, ◌≤◌, not, false, nat_lt, if◌then◌else◌, List, ◌∷◌, ◌++◌, length, slice_get, Option, Some, None, Result, Ok, Err}
+use Rattle.std.specs.Prelude.{ℕ, ⊤, ◌≡◌, ◌≤◌, not, false, nat_lt, if◌then◌else◌, List, ◌∷◌, ◌++◌, length, slice_get, Option, Some, None, Result, Ok, Err}
 use Rattle.std.specs.Fmt.{decimal}
 use Rattle.tlp_core.specs.declared.fault.TlpFault.{TlpFault}
 use Rattle.tlp_core.specs.Fault.{number_of}
@@ -9,7 +9,7 @@ use Rattle.tlp_core.specs.TlpView.{TlpView}
 use Rattle.tlp_core.specs.Operation.{is_completion}
 use Rattle.seq_memory.specs.declared.Entry.{Entry}
 use Rattle.seq_memory.specs.History.{MemoryView}
-use Rattle.seq_memory.specs.Limits.{Extent, is_size, is_base, is_block}
+use Rattle.seq_memory.specs.Limits.{is_size, is_base, is_block}
 use Rattle.completer_core.specs.Serving.{after_serving, completion_to}
 use Rattle.operation_text.specs.Texts.{op_text}
 use Rattle.c_buffer.specs.declared.outcome.Failure.{Failure}
@@ -18,12 +18,12 @@ use Rattle.c_buffer.specs.Buffer.{filled, Told, untold, told}
 
 -- ---- making
 
--- the extent of these, or the first limit that is not kept
-abbrev pub extent : ℕ → ℕ → ℕ → Result Extent Failure
-extent base size block =
+-- the first limit that is not kept, if there is one
+abbrev pub limits : ℕ → ℕ → ℕ → Result ⊤ Failure
+limits base size block =
     if not (is_size size) then Err failures.WrongSize
     else (if not (is_base base size) then Err failures.WrongBase
-    else (if is_block block then Ok (record { base = base; size = size; block = block }) else Err failures.WrongBlock))
+    else (if is_block block then Ok tt else Err failures.WrongBlock))
 
 -- ---- serving
 

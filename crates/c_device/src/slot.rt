@@ -1,9 +1,9 @@
 //! Slots.
-ghost use Rattle.std.specs.Prelude.{◌≡◌, ◌⊎◌, Option, Some, Err, IsOk, IsErr, IfErr, []};
+ghost use Rattle.std.specs.Prelude.{◌≡◌, ◌⊎◌, Option, Some, Ok, Err, IsOk, IsErr, IfOk, IfErr, []};
 ghost use Rattle.seq_memory.specs.History.{MemoryView};
 ghost use Rattle.c_buffer.specs.declared.outcome.Failure.TheVariants.{NoMemory};
 ghost use Rattle.c_device.specs.Slot.{slot_owns, memory_coded};
-ghost use Rattle.c_device.specs.Calls.{extent};
+ghost use Rattle.c_device.specs.Calls.{limits};
 
 use c_box::Parts;
 use c_buffer::Failure;
@@ -65,7 +65,8 @@ pub(crate) fn close(held: Box<Memory, Global>) -> Slot
 /// The extent of these three, or the first limit that isn't kept: `WrongSize`, `WrongBase`,
 /// `WrongBlock`.
 pub fn extent_of(base: u64, size: usize, block: u16) -> Result<Extent, Failure>
-    ensures { result ≡ extent base size block }
+    ensures ok { IfOk result (λ x. (x ≡ record { base = base; size = size; block = block }) × (limits base size block ≡ Ok tt)) }
+    ensures err { IfErr result (λ f. limits base size block ≡ Err f) }
 {
     if !is_size(size) {
         return Err(Failure::WrongSize);
@@ -107,8 +108,7 @@ pub fn new_device(
     block: u16,
     slot: &mut Slot,
 ) -> Result<(), Failure>
-    ensures ok { IsOk result → IsOk (extent base size block) }
-    ensures failure { IfErr result (λ f. (extent base size block ≡ Err f) ⊎ (IsOk (extent base size block) × (f ≡ NoMemory))) }
+    ensures outcome { (result ≡ limits base size block) ⊎ ((limits base size block ≡ Ok tt) × (result ≡ Err NoMemory)) }
     ensures made { IsOk result → slot.new.memory ≡ Some (record { base = base; size = size; block = block; entries = [] }) }
     ensures unchanged { IsErr result → slot.new ≡ slot.old }
 {

@@ -1,7 +1,6 @@
 -- The calls of a monitor: what it and the caller's buffer hold after them, and what they return.
-use Rattle.std.specs.Prelude.{ℕ, ◌≡◌, ◌≤◌, true, nat_lt, if◌then◌else◌, List, length, Option, Some, None, Result, Ok, Err, IsOk}
+use Rattle.std.specs.Prelude.{ℕ, ⊤, ◌≡◌, ◌≤◌, true, nat_lt, if◌then◌else◌, List, length, Option, Some, None, Result, Ok, Err, IsOk}
 use Rattle.seq_memory.specs.declared.Entry.{Entry}
-use Rattle.seq_memory.specs.Limits.{Extent}
 use Rattle.history_check.specs.declared.Record.{Record}
 use Rattle.operation_text.specs.Words.{words}
 use Rattle.trace_text.specs.Texts.{entry_line}
@@ -13,19 +12,19 @@ use Rattle.port_monitor.specs.Monitoring.{Monitor, request, completion, acted}
 use Rattle.c_buffer.specs.declared.outcome.Failure.{Failure}
 use Rattle.c_buffer.specs.declared.outcome.Failure.TheVariants.{SmallBuffer, NoLine}
 use Rattle.c_buffer.specs.Buffer.{filled, Told, untold, told}
-use Rattle.c_device.specs.Calls.{extent}
+use Rattle.c_device.specs.Calls.{limits}
 use Rattle.c_monitor.specs.Failures.{failure_of}
 
 -- ---- making
 
 -- the head's lines, unless there is no memory of these limits
-abbrev pub made : List ℕ → Head → Result Extent Failure → Told ℕ
+abbrev pub made : List ℕ → Head → Result ⊤ Failure → Told ℕ
 made buffer h (Ok _) = told buffer (head_lines h.is_trace (memory_of h))
 made buffer h (Err f) = untold buffer (Err f)
 
 abbrev pub made_by : List ℕ → Option Head → Told ℕ
 made_by buffer None = untold buffer (Err NoLine)
-made_by buffer (Some h) = made buffer h (extent h.base h.size h.block)
+made_by buffer (Some h) = made buffer h (limits h.base h.size h.block)
 
 -- the buffer is tested first, then the line, then the limits of its memory
 abbrev pub making : List ℕ → List ℕ → Told ℕ
@@ -33,7 +32,7 @@ making line buffer = if nat_lt (length buffer) 512 then untold buffer (Err Small
 
 -- the line asks for this
 abbrev pub AsksFor : List ℕ → Head → Type 0
-AsksFor line h = (head_of (words line) ≡ Some h) × (IsOk (extent h.base h.size h.block))
+AsksFor line h = (head_of (words line) ≡ Some h) × (limits h.base h.size h.block ≡ Ok tt)
 
 -- there is nothing to refuse but memory
 abbrev pub IsMonitorCall : List ℕ → List ℕ → Type 0

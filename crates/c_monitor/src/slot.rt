@@ -6,7 +6,7 @@ ghost use Rattle.port_monitor.specs.Texts.{head_lines};
 ghost use Rattle.port_monitor.specs.Heads.{memory_of};
 ghost use Rattle.c_buffer.specs.declared.outcome.Failure.TheVariants.{NoMemory};
 ghost use Rattle.c_buffer.specs.Buffer.{filled};
-ghost use Rattle.c_device.specs.Calls.{extent};
+ghost use Rattle.c_device.specs.Calls.{limits};
 ghost use Rattle.c_monitor.specs.Slot.{slot_owns, monitor_coded};
 ghost use Rattle.c_monitor.specs.Calls.{made, making, AsksFor, IsMonitorCall};
 
@@ -88,7 +88,7 @@ fn make_in(
     slot: &mut Slot,
 ) -> Result<Length, Failure>
     requires buffer { 512 ≤ length buffer.old }
-    requires extent { IsOk (extent head.now.base head.now.size head.now.block) }
+    requires limits { limits head.now.base head.now.size head.now.block ≡ Ok tt }
     ensures outcome { ¬ (result ≡ Err NoMemory) → result ≡ Ok (length (head_lines head.now.is_trace (memory_of head.now))) }
     ensures buffer { ¬ (result ≡ Err NoMemory) → buffer.new ≡ filled buffer.old (head_lines head.now.is_trace (memory_of head.now)) }
     ensures made { IsOk result → slot.new.monitor ≡ Some (spec.new head.now.is_trace) }

@@ -1,5 +1,5 @@
 -- The numbers of 32 bits that stand for what calls return.
-use Rattle.std.specs.Prelude.{ℕ, ◌+◌, Result, Ok, Err}
+use Rattle.std.specs.Prelude.{ℕ, ⊤, ◌+◌, Result, Ok, Err}
 use Rattle.c_buffer.specs.declared.outcome.Failure.{Failure}
 use Rattle.c_buffer.specs.declared.outcome.Failure.TheVariants as failures
 
@@ -25,6 +25,6 @@ code_of (Ok n) = n
 code_of (Err f) = failure_code f
 
 -- 0 for a call that returns no number
-abbrev pub status_of : {T : Type 0} → Result T Failure → ℕ
+abbrev pub status_of : Result ⊤ Failure → ℕ
 status_of (Ok _) = 0
 status_of (Err f) = failure_code f

@@ -1,9 +1,9 @@
 //! The device with a history.
-ghost use Rattle.std.specs.Prelude.{◌≡◌, ◌≤◌, ◌⊎◌, Some, IsOk, [], length};
+ghost use Rattle.std.specs.Prelude.{◌≡◌, ◌≤◌, ◌⊎◌, Some, Ok, [], length};
 ghost use Rattle.seq_memory.specs.History.{MemoryView, bytes_of};
 ghost use Rattle.pciex_c.specs.declared.codes.TheConstants.{NO_MEMORY};
 ghost use Rattle.c_buffer.specs.Buffer.{copied};
-ghost use Rattle.c_device.specs.Calls.{extent, service, IsRequestCall, entry_told};
+ghost use Rattle.c_device.specs.Calls.{limits, service, IsRequestCall, entry_told};
 ghost use Rattle.pciex_c.specs.Codes.{code_of, status_of};
 
 use crate::codes::{code, status};
@@ -19,7 +19,7 @@ pub extern "C" fn pciex_raw_device_new(
     block: u16,
     device: &mut Slot,
 ) -> u32
-    ensures code { (result ≡ status_of (extent base size block)) ⊎ (IsOk (extent base size block) × (result ≡ NO_MEMORY)) }
+    ensures code { (result ≡ status_of (limits base size block)) ⊎ ((limits base size block ≡ Ok tt) × (result ≡ NO_MEMORY)) }
     ensures made { result ≡ 0 → device.new.memory ≡ Some (record { base = base; size = size; block = block; entries = [] }) }
     ensures unchanged { 1 ≤ result → device.new ≡ device.old }
 {
