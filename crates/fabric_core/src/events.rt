@@ -65,6 +65,9 @@ pub fn transmit(sender: &mut SenderEnd, wire: &mut ForwardWire) -> Result<Seq12,
     ensures err_sender { OnErr result (sender.new ≡ sender.old) }
     ensures err_wire { OnErr result (wire.new ≡ wire.old) }
 {
+    if !sender.can_transmit() {
+        return Err(Refusal::Idle);
+    }
     match sender.transmit(wire) {
         Ok(Some(number)) => Ok(number),
         Ok(None) => Err(Refusal::Idle),
@@ -84,6 +87,9 @@ pub fn deliver(
     ensures err_receiver { OnErr result (receiver.new ≡ receiver.old) }
     ensures err_wire { OnErr result (wire.new ≡ wire.old) }
 {
+    if wire.is_empty() {
+        return Err(Refusal::Idle);
+    }
     match receiver.deliver(wire, fate) {
         Ok(Some(arrival)) => Ok(arrival),
         Ok(None) => Err(Refusal::Idle),
