@@ -1,8 +1,11 @@
 //! What `generate` is asked for: a storm of events on a fabric, from a seed.
-#![tactic(auto)]
-
 ghost use Rattle.std.specs.Prelude.{◌↔◌, IsTrue};
-ghost use Rattle.storm.specs.Ranges.{IsStorm};
+ghost use Rattle.parameters.specs.Ranges.{IsStorm};
+
+use switch_core::REQUESTERS;
+
+/// The most events of a storm.
+pub const MOST_EVENTS: u64 = 1_000_000_000;
 
 /// How many events happen to what fabric, over what links, and where their choice begins.
 #[derive(Clone, Copy, Debug, PartialEq, Eq)]
@@ -13,9 +16,9 @@ pub struct Storm {
     pub events: u64,
     /// The requesters of the fabric, 1 to 7.
     pub requesters: u64,
-    /// One of so many packets and DLLPs of a lane is lost, none where it is 0; 0 to 65,536.
+    /// N: one in N packets and DLLPs of a lane is lost, none if N is 0; 0 to 65,536.
     pub lose: u64,
-    /// One of so many arrives with a failed check, none where it is 0; 0 to 65,536.
+    /// N: one in N arrives with a failed check, none if N is 0; 0 to 65,536.
     pub corrupt: u64,
     /// The bytes of a block of the memory, 64 or 128.
     pub block: u64,
@@ -26,11 +29,11 @@ impl Storm {
     pub fn is_right(&self) -> bool
         ensures { IsTrue result ↔ IsStorm self.now }
     {
-        self.events <= 1_000_000_000
+        self.events <= MOST_EVENTS
             && self.requesters >= 1
-            && self.requesters <= 7
-            && self.lose <= 65_536
-            && self.corrupt <= 65_536
+            && self.requesters <= u64::from(REQUESTERS)
+            && self.lose <= u64::from(fault_plan::MOST)
+            && self.corrupt <= u64::from(fault_plan::MOST)
             && (self.block == 64 || self.block == 128)
     }
 }
