@@ -26,13 +26,13 @@ same_items xs d e =
     ap (λ (v : ArrayVec ℕ). v.items) same
 
 -- what an AtomicOp met, by its answer
-pub met : (block base : ℕ) (m : List ℕ) (op : Op) (d : ArrayVec ℕ) → IsWhole op → answer block base m op ≡ replies.Data d
-    → (refusal block base (length m) op ≡ None) × (bytes_at m (address_of op - base) (count_of op) ≡ d.items) × (length d.items ≡ count_of op)
-met block base m op d whole_op e =
+pub met : (base block : ℕ) (m : List ℕ) (op : Op) (d : ArrayVec ℕ) → IsWhole op → answer base block m op ≡ replies.Data d
+    → (refusal base (length m) block op ≡ None) × (bytes_at m (address_of op - base) (count_of op) ≡ d.items) × (length d.items ≡ count_of op)
+met base block m op d whole_op e =
     let place = bytes_at m (address_of op - base) (count_of op) in
-    let (served, there) = data_served (refusal block base (length m) op) (read_back op place) d e in
+    let (served, there) = data_served (refusal base (length m) block op) (read_back op place) d e in
     let same : place ≡ d.items = same_items place d (sym (whole_op place) ∙ there) in
-    let (low, high) = inside block base (length m) op served in
+    let (low, high) = inside base block (length m) op served in
     (served, same, ap length (sym same) ∙ length_place m (address_of op - base) (count_of op) (omega (arith, low, high)))
 
 pub whole_if : (op : Op) → is_atomic op ≡ true → IsWhole op
@@ -44,57 +44,57 @@ whole_if (ops.Cas a w x y) e = λ xs. refl
 
 module _ (sizes : Sizes) (places : Places) where
   -- an operation does to its bytes alone what it does to them in the memory
-  apart_after : (block base size : ℕ) (op : Op) (xs : List ℕ) → refusal block base size op ≡ None → length xs ≡ count_of op → after block (address_of op) xs op ≡ place_after op xs
-  apart_after block base size op xs served e =
+  apart_after : (base block size : ℕ) (op : Op) (xs : List ℕ) → refusal base size block op ≡ None → length xs ≡ count_of op → after (address_of op) block xs op ≡ place_after op xs
+  apart_after base block size op xs served e =
       let a = address_of op in
       let c = count_of op in
       let zero_offset : a - a ≡ 0 = omega arith in
-      let here : refusal block a (length xs) op ≡ None = ap (λ n. refusal block a n op) e ∙ served_there block base size op served in
-      let new = after block a xs op in
-      sym (whole new c (sizes block a xs op ∙ e)) ∙ ap (λ i. bytes_at new i c) (sym zero_offset) ∙ places block a xs op here
+      let here : refusal a (length xs) block op ≡ None = ap (λ n. refusal a n block op) e ∙ served_there base block size op served in
+      let new = after a block xs op in
+      sym (whole new c (sizes a block xs op ∙ e)) ∙ ap (λ i. bytes_at new i c) (sym zero_offset) ∙ places a block xs op here
       ∙ ap (λ i. place_after op (bytes_at xs i c)) zero_offset ∙ ap (place_after op) (whole xs c e)
 
   -- what an answered AtomicOp leaves
-  pub atomic_left : (block : ℕ) (op : Op) (d : ArrayVec ℕ) (xs : List ℕ) → is_atomic op ≡ true → xs ≡ after block (address_of op) d.items op
-      → (base at : ℕ) (m : List ℕ) → at < length xs → refusal block base (length m) op ≡ None → answer block base m op ≡ replies.Data d
-      → slice_index (after block base m op) (address_of op - base + at) ≡ slice_index xs at
+  pub atomic_left : (block : ℕ) (op : Op) (d : ArrayVec ℕ) (xs : List ℕ) → is_atomic op ≡ true → xs ≡ after (address_of op) block d.items op
+      → (base at : ℕ) (m : List ℕ) → at < length xs → refusal base (length m) block op ≡ None → answer base block m op ≡ replies.Data d
+      → slice_index (after base block m op) (address_of op - base + at) ≡ slice_index xs at
   atomic_left block op d xs atomic made base at m l served answered =
       let i = address_of op - base in
-      let (_, same, count) = met block base m op d (whole_if op atomic) answered in
-      let short : at < count_of op = omega (arith, l, ap length made, sizes block (address_of op) d.items op, count) in
-      sym (byte_there (after block base m op) i (count_of op) at short)
-      ∙ ap (λ ys. get_or ys at 0) (places block base m op served ∙ ap (place_after op) same ∙ sym (apart_after block base (length m) op d.items served count) ∙ sym made)
+      let (_, same, count) = met base block m op d (whole_if op atomic) answered in
+      let short : at < count_of op = omega (arith, l, ap length made, sizes (address_of op) block d.items op, count) in
+      sym (byte_there (after base block m op) i (count_of op) at short)
+      ∙ ap (λ ys. get_or ys at 0) (places base block m op served ∙ ap (place_after op) same ∙ sym (apart_after base block (length m) op d.items served count) ∙ sym made)
 
   -- what a write leaves
   pub write_left : (block a f l : ℕ) (bytes : ArrayVec ℕ) (xs : List ℕ) → xs ≡ bytes.items
-      → (base at : ℕ) (m : List ℕ) → at < length xs → is_put (ops.Write a f l bytes) at ≡ true → refusal block base (length m) (ops.Write a f l bytes) ≡ None
-      → slice_index (after block base m (ops.Write a f l bytes)) (a - base + at) ≡ slice_index xs at
+      → (base at : ℕ) (m : List ℕ) → at < length xs → is_put (ops.Write a f l bytes) at ≡ true → refusal base (length m) block (ops.Write a f l bytes) ≡ None
+      → slice_index (after base block m (ops.Write a f l bytes)) (a - base + at) ≡ slice_index xs at
   write_left block a f l bytes xs made base at m h put served =
       let op = ops.Write a f l bytes in
       let i = a - base in
       let c = length bytes.items in
-      let (low, high) = inside block base (length m) op served in
+      let (low, high) = inside base block (length m) op served in
       let old = bytes_at m i c in
       let long : length old ≡ c = length_place m i c (omega (arith, low, high)) in
       let short : at < c = subst (λ ys. at < length ys) made h in
-      sym (byte_there (after block base m op) i c at short)
-      ∙ ap (λ ys. get_or ys at 0) (places block base m op served)
+      sym (byte_there (after base block m op) i c at short)
+      ∙ ap (λ ys. get_or ys at 0) (places base block m op served)
       ∙ merged_enabled (enables (c / 4) f l) bytes.items old at put short (omega (arith, short, long))
       ∙ ap (λ ys. get_or ys at 0) (sym made)
 
   -- an AtomicOp that leaves what it met changes nothing
-  pub atomic_quiet : (block : ℕ) (op : Op) (d : ArrayVec ℕ) (xs : List ℕ) → is_atomic op ≡ true → xs ≡ after block (address_of op) d.items op → xs ≡ d.items
-      → (base : ℕ) (m : List ℕ) → answer block base m op ≡ replies.Data d → after block base m op ≡ m
+  pub atomic_quiet : (block : ℕ) (op : Op) (d : ArrayVec ℕ) (xs : List ℕ) → is_atomic op ≡ true → xs ≡ after (address_of op) block d.items op → xs ≡ d.items
+      → (base : ℕ) (m : List ℕ) → answer base block m op ≡ replies.Data d → after base block m op ≡ m
   atomic_quiet block op d xs atomic made still base m answered =
       let i = address_of op - base in
-      let (served, same, count) = met block base m op d (whole_if op atomic) answered in
+      let (served, same, count) = met base block m op d (whole_if op atomic) answered in
       let kept : place_after op (bytes_at m i (count_of op)) ≡ bytes_at m i (count_of op) =
-      ap (place_after op) same ∙ sym (apart_after block base (length m) op d.items served count) ∙ sym made ∙ still ∙ sym same in
-      served_after block base m op served ∙ ap (patched m i (count_of op)) kept ∙ patched_same m i (count_of op)
+      ap (place_after op) same ∙ sym (apart_after base block (length m) op d.items served count) ∙ sym made ∙ still ∙ sym same in
+      served_after base block m op served ∙ ap (patched m i (count_of op)) kept ∙ patched_same m i (count_of op)
 
   pub write_by : (op : Op) (a f l : ℕ) (bytes : ArrayVec ℕ) (xs : List ℕ) → op ≡ ops.Write a f l bytes → xs ≡ bytes.items
-      → (block base at : ℕ) (m : List ℕ) → at < length xs → is_put op at ≡ true → refusal block base (length m) op ≡ None
-      → slice_index (after block base m op) (address_of op - base + at) ≡ slice_index xs at
-  write_by op a f l bytes xs is made block base at m h =
-      subst (λ o. is_put o at ≡ true → refusal block base (length m) o ≡ None → slice_index (after block base m o) (address_of o - base + at) ≡ slice_index xs at)
+      → (base block at : ℕ) (m : List ℕ) → at < length xs → is_put op at ≡ true → refusal base (length m) block op ≡ None
+      → slice_index (after base block m op) (address_of op - base + at) ≡ slice_index xs at
+  write_by op a f l bytes xs is made base block at m h =
+      subst (λ o. is_put o at ≡ true → refusal base (length m) block o ≡ None → slice_index (after base block m o) (address_of o - base + at) ≡ slice_index xs at)
       (sym is) (write_left block a f l bytes xs made base at m h)

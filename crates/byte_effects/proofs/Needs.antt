@@ -35,7 +35,7 @@ read_there (ops.FetchAdd a w x) m i at d need e h = plain m i (count_of (ops.Fet
 read_there (ops.Swap a w x) m i at d need e h = plain m i (count_of (ops.Swap a w x)) at d e h
 read_there (ops.Cas a w x y) m i at d need e h = plain m i (count_of (ops.Cas a w x y)) at d e h
 
-pub answered : (block base at : ℕ) (m : List ℕ) (op : Op) (d : ArrayVec ℕ) → is_needed op at ≡ true → answer block base m op ≡ replies.Data d → at < length d.items → slice_index m (address_of op - base + at) ≡ slice_index d.items at
-answered block base at m op d need e l =
-    let (served, there) = data_served (refusal block base (length m) op) (read_back op (bytes_at m (address_of op - base) (count_of op))) d e in
+pub answered : (base block at : ℕ) (m : List ℕ) (op : Op) (d : ArrayVec ℕ) → is_needed op at ≡ true → answer base block m op ≡ replies.Data d → at < length d.items → slice_index m (address_of op - base + at) ≡ slice_index d.items at
+answered base block at m op d need e l =
+    let (served, there) = data_served (refusal base (length m) block op) (read_back op (bytes_at m (address_of op - base) (count_of op))) d e in
     read_there op m (address_of op - base) at d need there l

@@ -27,15 +27,15 @@ below : (a b : ℕ) → nat_le a b ≡ true → a ≤ b
 below a b h = grind (arith, nat_tests)
 
 -- a served operation lies in the memory
-pub inside : (block base size : ℕ) (op : Op) → refusal block base size op ≡ None → (base ≤ address_of op) × (address_of op + count_of op ≤ base + size)
-inside block base size op h =
+pub inside : (base block size : ℕ) (op : Op) → refusal base size block op ≡ None → (base ≤ address_of op) × (address_of op + count_of op ≤ base + size)
+inside base block size op h =
     let parts = none_refused (is_some (op_fault op)) (is_in_block block (address_of op) (count_of op)) (is_inside base size (address_of op) (count_of op)) h in
     let both = both_true (nat_le base (address_of op)) (nat_le (address_of op + count_of op) (base + size)) parts.2 in
     (below _ _ both.0, below _ _ both.1)
 
 -- the place itself serves it, too
-pub served_there : (block base size : ℕ) (op : Op) → refusal block base size op ≡ None → refusal block (address_of op) (count_of op) op ≡ None
-served_there block base size op h =
+pub served_there : (base block size : ℕ) (op : Op) → refusal base size block op ≡ None → refusal (address_of op) (count_of op) block op ≡ None
+served_there base block size op h =
     let parts = none_refused (is_some (op_fault op)) (is_in_block block (address_of op) (count_of op)) (is_inside base size (address_of op) (count_of op)) h in
     let low : nat_le (address_of op) (address_of op) ≡ true = grind (arith, nat_tests) in
     let high : nat_le (address_of op + count_of op) (address_of op + count_of op) ≡ true = grind (arith, nat_tests) in
@@ -47,8 +47,8 @@ data_served None r d e = (refl, e)
 data_served (Some refusals.Aborted) r d e = absurd (cc)
 data_served (Some refusals.Unsupported) r d e = absurd (cc)
 
-pub served_after : (block base : ℕ) (m : List ℕ) (op : Op) → refusal block base (length m) op ≡ None → after block base m op ≡ patched m (address_of op - base) (count_of op) (place_after op (bytes_at m (address_of op - base) (count_of op)))
-served_after block base m op e = ap (λ o. after_by o m (patched m (address_of op - base) (count_of op) (place_after op (bytes_at m (address_of op - base) (count_of op))))) e
+pub served_after : (base block : ℕ) (m : List ℕ) (op : Op) → refusal base (length m) block op ≡ None → after base block m op ≡ patched m (address_of op - base) (count_of op) (place_after op (bytes_at m (address_of op - base) (count_of op)))
+served_after base block m op e = ap (λ o. after_by o m (patched m (address_of op - base) (count_of op) (place_after op (bytes_at m (address_of op - base) (count_of op))))) e
 
 -- a byte of a place
 pub byte_there : (m : List ℕ) (i c k : ℕ) → k < c → get_or (bytes_at m i c) k 0 ≡ get_or m (i + k) 0

@@ -10,11 +10,11 @@ use Rattle.seq_memory.specs.Step.{answer}
 use Rattle.byte_effects.specs.Effects.{is_needed, AreSameAt}
 use Rattle.byte_effects.proofs.Yielding.{Needed}
 
-pub waits_by : Needed → (block base : ℕ) (m n : List ℕ) (one other : Op) (seen : ArrayVec ℕ) (old : List ℕ) (told : Reply) → old ≡ seen.items → told ≡ replies.Data seen
+pub waits_by : Needed → (base block : ℕ) (m n : List ℕ) (one other : Op) (seen : ArrayVec ℕ) (old : List ℕ) (told : Reply) → old ≡ seen.items → told ≡ replies.Data seen
     → ((at : ℕ) × (base ≤ address_of one) × (address_of other ≤ address_of one + at) × (address_of one + at < address_of other + count_of other) × (at < length old) × (is_needed one at ≡ true) × (slice_index m (address_of one - base + at) ≢ slice_index old at))
-    → AreSameAt base other m n → answer block base n one ≡ told → ⊥
-waits_by needed block base m n one other seen old told eo et (at, low, front, back, short, need, differ) same e =
+    → AreSameAt base other m n → answer base block n one ≡ told → ⊥
+waits_by needed base block m n one other seen old told eo et (at, low, front, back, short, need, differ) same e =
     let k = address_of one - base + at in
     let place : base + k ≡ address_of one + at = omega (arith, low) in
     let still : slice_index n k ≡ slice_index m k = same k (omega (arith, place, front)) (omega (arith, place, back)) in
-    differ (sym still ∙ needed block base at n one seen need (e ∙ et) (subst (λ (xs : List ℕ). at < length xs) eo short) ∙ sym (ap (λ xs. slice_index xs at) eo))
+    differ (sym still ∙ needed base block at n one seen need (e ∙ et) (subst (λ (xs : List ℕ). at < length xs) eo short) ∙ sym (ap (λ xs. slice_index xs at) eo))

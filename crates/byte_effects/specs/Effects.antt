@@ -8,7 +8,7 @@ use Rattle.seq_memory.specs.Step.{answer, is_enabled}
 
 -- the memory answers what the request was answered, if it was
 abbrev pub Agrees : ℕ → ℕ → List ℕ → Op → Option Reply → Type 0
-Agrees block base m op told = (r : Reply) → told ≡ Some r → answer block base m op ≡ r
+Agrees base block m op told = (r : Reply) → told ≡ Some r → answer base block m op ≡ r
 
 -- the data of its reply have the byte at that place in its range
 abbrev pub is_needed : Op → ℕ → Bool

@@ -12,15 +12,15 @@ use seq_memory::laws::{only_the_place_changes, refused_and_read_change_nothing};
 /// Where the memory answers with data, it has the needed ones of their bytes.
 #[tactic(auto, using(crate::proofs::Needs::answered))]
 pub fn what_is_needed_is_there()
-    ensures { (block base at : ℕ) (m : List ℕ) (op : Op) (d : ArrayVec ℕ) → effects.is_needed op at ≡ true → answer block base m op ≡ replies.Data d → at < length d.items → slice_index m (address_of op - base + at) ≡ slice_index d.items at }
+    ensures { (base block at : ℕ) (m : List ℕ) (op : Op) (d : ArrayVec ℕ) → effects.is_needed op at ≡ true → answer base block m op ≡ replies.Data d → at < length d.items → slice_index m (address_of op - base + at) ≡ slice_index d.items at }
 {}
 
 /// Of two requests that have no byte in common, the first changes neither what the second is
 /// answered nor what it does, and their order makes no difference.
 #[tactic(auto, using(crate::proofs::Apart::answer_kept, crate::proofs::Apart::commute))]
 pub fn apart_requests_commute()
-    ensures answer { (block base : ℕ) (m : List ℕ) (one other : Op) → effects.AreApart one other → answer block base (after block base m one) other ≡ answer block base m other }
-    ensures after { (block base : ℕ) (m : List ℕ) (one other : Op) → effects.AreApart one other → after block base (after block base m one) other ≡ after block base (after block base m other) one }
+    ensures answer { (base block : ℕ) (m : List ℕ) (one other : Op) → effects.AreApart one other → answer base block (after base block m one) other ≡ answer base block m other }
+    ensures after { (base block : ℕ) (m : List ℕ) (one other : Op) → effects.AreApart one other → after base block (after base block m one) other ≡ after base block (after base block m other) one }
 {
     only_the_place_changes();
     refused_and_read_change_nothing();

@@ -39,7 +39,7 @@ fn some_put_other(one: &Op, new: &[u8], other: &Op, need: &[u8]) -> bool
 /// answer `reply` to `other`.
 pub fn breaks(block: u16, one: &Op, told: &Option<Reply>, other: &Op, reply: &Reply) -> bool
     requires { IsBlock block }
-    ensures { IsTrue result → (base : ℕ) (m : List ℕ) → refusal block base (length m) one.now ≡ None → Agrees block base m one.now told.now → answer block base (after block base m one.now) other.now ≡ reply.now → ⊥ }
+    ensures { IsTrue result → (base : ℕ) (m : List ℕ) → refusal base (length m) block one.now ≡ None → Agrees base block m one.now told.now → answer base block (after base block m one.now) other.now ≡ reply.now → ⊥ }
 {
     what_is_needed_is_there();
     let Reply::Data(need) = reply else {
@@ -77,7 +77,7 @@ fn some_need_other(one: &Op, old: &[u8], other: &Op, need: &[u8]) -> bool
 
 /// No bytes give both replies.
 pub fn clashes(one: &Op, told: &Reply, other: &Op, reply: &Reply) -> bool
-    ensures { IsTrue result → (block base : ℕ) (m : List ℕ) → answer block base m one.now ≡ told.now → answer block base m other.now ≡ reply.now → ⊥ }
+    ensures { IsTrue result → (base block : ℕ) (m : List ℕ) → answer base block m one.now ≡ told.now → answer base block m other.now ≡ reply.now → ⊥ }
 {
     what_is_needed_is_there();
     let Reply::Data(old) = told else {
@@ -93,7 +93,7 @@ pub fn clashes(one: &Op, told: &Reply, other: &Op, reply: &Reply) -> bool
 /// only if it did before.
 pub fn never_brings(block: u16, one: &Op, told: &Option<Reply>, other: &Op, reply: &Reply) -> bool
     requires { IsBlock block }
-    ensures { IsTrue result → (base : ℕ) (m : List ℕ) → Agrees block base m one.now told.now → answer block base (after block base m one.now) other.now ≡ reply.now → answer block base m other.now ≡ reply.now }
+    ensures { IsTrue result → (base : ℕ) (m : List ℕ) → Agrees base block m one.now told.now → answer base block (after base block m one.now) other.now ≡ reply.now → answer base block m other.now ≡ reply.now }
 {
     apart_requests_commute();
     refused_and_read_change_nothing();
@@ -108,7 +108,7 @@ pub fn never_brings(block: u16, one: &Op, told: &Option<Reply>, other: &Op, repl
 
 /// The read wasn't answered, or no bytes give both replies.
 fn read_yields(one: &Op, told: &Option<Reply>, other: &Op, reply: &Reply) -> bool
-    ensures { IsTrue result → (told.now ≡ None) ⊎ ((block base : ℕ) (m : List ℕ) → Agrees block base m one.now told.now → answer block base m other.now ≡ reply.now → ⊥) }
+    ensures { IsTrue result → (told.now ≡ None) ⊎ ((base block : ℕ) (m : List ℕ) → Agrees base block m one.now told.now → answer base block m other.now ≡ reply.now → ⊥) }
 {
     match told {
         None => true,
@@ -120,8 +120,8 @@ fn read_yields(one: &Op, told: &Option<Reply>, other: &Op, reply: &Reply) -> boo
 /// after `one`, or their order makes no difference.
 pub fn yields(block: u16, one: &Op, told: &Option<Reply>, other: &Op, reply: &Reply) -> bool
     requires { IsBlock block }
-    ensures brings { IsTrue result → (base : ℕ) (m : List ℕ) → Agrees block base m one.now told.now → answer block base (after block base m one.now) other.now ≡ reply.now → answer block base m other.now ≡ reply.now }
-    ensures order { IsTrue result → (base : ℕ) (m : List ℕ) → Agrees block base m one.now told.now → answer block base m other.now ≡ reply.now → (answer block base (after block base m one.now) other.now ≡ reply.now → ⊥) ⊎ ((answer block base (after block base m one.now) other.now ≡ reply.now) × Agrees block base (after block base m other.now) one.now told.now × (after block base (after block base m one.now) other.now ≡ after block base (after block base m other.now) one.now)) }
+    ensures brings { IsTrue result → (base : ℕ) (m : List ℕ) → Agrees base block m one.now told.now → answer base block (after base block m one.now) other.now ≡ reply.now → answer base block m other.now ≡ reply.now }
+    ensures order { IsTrue result → (base : ℕ) (m : List ℕ) → Agrees base block m one.now told.now → answer base block m other.now ≡ reply.now → (answer base block (after base block m one.now) other.now ≡ reply.now → ⊥) ⊎ ((answer base block (after base block m one.now) other.now ≡ reply.now) × Agrees base block (after base block m other.now) one.now told.now × (after base block (after base block m one.now) other.now ≡ after base block (after base block m other.now) one.now)) }
 {
     apart_requests_commute();
     only_the_place_changes();

@@ -28,7 +28,7 @@ fn copy_of(bytes: &[u8]) -> ArrayVec<u8, MAX_PAYLOAD>
 fn changed(block: u16, op: &Op, old: &[u8]) -> ArrayVec<u8, MAX_PAYLOAD>
     requires block { IsBlock block }
     requires few { length old.now ≤ 128 }
-    ensures { result.items ≡ after block (address_of op.now) old.now op.now }
+    ensures { result.items ≡ after (address_of op.now) block old.now op.now }
 {
     let mut new = copy_of(old);
     let _ = perform(op.address(), block, new.as_mut_slice(), op);
@@ -47,7 +47,7 @@ fn is_atomic(op: &Op) -> bool
 /// What an AtomicOp leaves where it was answered with those bytes.
 fn left_by_atomic(block: u16, op: &Op, old: &ArrayVec<u8, MAX_PAYLOAD>) -> ArrayVec<u8, MAX_PAYLOAD>
     requires { IsBlock block }
-    ensures { (base at : ℕ) (m : List ℕ) → at < length result.items → refusal block base (length m) op.now ≡ None → answer block base m op.now ≡ replies.Data old.now → slice_index (after block base m op.now) (address_of op.now - base + at) ≡ slice_index result.items at }
+    ensures { (base at : ℕ) (m : List ℕ) → at < length result.items → refusal base (length m) block op.now ≡ None → answer base block m op.now ≡ replies.Data old.now → slice_index (after base block m op.now) (address_of op.now - base + at) ≡ slice_index result.items at }
 {
     only_the_place_changes();
     if !is_atomic(op) {
@@ -58,7 +58,7 @@ fn left_by_atomic(block: u16, op: &Op, old: &ArrayVec<u8, MAX_PAYLOAD>) -> Array
 
 /// What a write leaves.
 fn left_by_write(op: &Op) -> ArrayVec<u8, MAX_PAYLOAD>
-    ensures { (block base at : ℕ) (m : List ℕ) → at < length result.items → effects.is_put op.now at ≡ true → refusal block base (length m) op.now ≡ None → slice_index (after block base m op.now) (address_of op.now - base + at) ≡ slice_index result.items at }
+    ensures { (base block at : ℕ) (m : List ℕ) → at < length result.items → effects.is_put op.now at ≡ true → refusal base (length m) block op.now ≡ None → slice_index (after base block m op.now) (address_of op.now - base + at) ≡ slice_index result.items at }
 {
     only_the_place_changes();
     match op {
@@ -70,7 +70,7 @@ fn left_by_write(op: &Op) -> ArrayVec<u8, MAX_PAYLOAD>
 /// What a request leaves that was answered so.
 fn left_by_reply(block: u16, op: &Op, reply: &Reply) -> ArrayVec<u8, MAX_PAYLOAD>
     requires { IsBlock block }
-    ensures { (base at : ℕ) (m : List ℕ) → at < length result.items → effects.is_put op.now at ≡ true → refusal block base (length m) op.now ≡ None → answer block base m op.now ≡ reply.now → slice_index (after block base m op.now) (address_of op.now - base + at) ≡ slice_index result.items at }
+    ensures { (base at : ℕ) (m : List ℕ) → at < length result.items → effects.is_put op.now at ≡ true → refusal base (length m) block op.now ≡ None → answer base block m op.now ≡ reply.now → slice_index (after base block m op.now) (address_of op.now - base + at) ≡ slice_index result.items at }
 {
     match reply {
         Reply::Data(old) => left_by_atomic(block, op, old),
@@ -82,7 +82,7 @@ fn left_by_reply(block: u16, op: &Op, reply: &Reply) -> ArrayVec<u8, MAX_PAYLOAD
 /// what it was answered; else nothing.
 pub fn left(block: u16, op: &Op, told: &Option<Reply>) -> ArrayVec<u8, MAX_PAYLOAD>
     requires { IsBlock block }
-    ensures { (base at : ℕ) (m : List ℕ) → at < length result.items → effects.is_put op.now at ≡ true → refusal block base (length m) op.now ≡ None → Agrees block base m op.now told.now → slice_index (after block base m op.now) (address_of op.now - base + at) ≡ slice_index result.items at }
+    ensures { (base at : ℕ) (m : List ℕ) → at < length result.items → effects.is_put op.now at ≡ true → refusal base (length m) block op.now ≡ None → Agrees base block m op.now told.now → slice_index (after base block m op.now) (address_of op.now - base + at) ≡ slice_index result.items at }
 {
     match told {
         Some(reply) => left_by_reply(block, op, reply),
@@ -93,7 +93,7 @@ pub fn left(block: u16, op: &Op, told: &Option<Reply>) -> ArrayVec<u8, MAX_PAYLO
 /// The AtomicOp, which was answered with those bytes, leaves them.
 fn is_kept(block: u16, op: &Op, old: &ArrayVec<u8, MAX_PAYLOAD>) -> bool
     requires { IsBlock block }
-    ensures { IsTrue result → (base : ℕ) (m : List ℕ) → answer block base m op.now ≡ replies.Data old.now → after block base m op.now ≡ m }
+    ensures { IsTrue result → (base : ℕ) (m : List ℕ) → answer base block m op.now ≡ replies.Data old.now → after base block m op.now ≡ m }
 {
     only_the_place_changes();
     if !is_atomic(op) {
@@ -111,7 +111,7 @@ pub(crate) fn is_read(op: &Op) -> bool
 /// The AtomicOp, which was answered so, leaves what it was answered.
 fn is_kept_by(block: u16, op: &Op, reply: &Reply) -> bool
     requires { IsBlock block }
-    ensures { IsTrue result → (base : ℕ) (m : List ℕ) → answer block base m op.now ≡ reply.now → after block base m op.now ≡ m }
+    ensures { IsTrue result → (base : ℕ) (m : List ℕ) → answer base block m op.now ≡ reply.now → after base block m op.now ≡ m }
 {
     match reply {
         Reply::Data(old) => is_kept(block, op, old),
@@ -123,7 +123,7 @@ fn is_kept_by(block: u16, op: &Op, reply: &Reply) -> bool
 /// answered.
 pub fn is_quiet(block: u16, op: &Op, told: &Option<Reply>) -> bool
     requires { IsBlock block }
-    ensures { IsTrue result → (base : ℕ) (m : List ℕ) → Agrees block base m op.now told.now → after block base m op.now ≡ m }
+    ensures { IsTrue result → (base : ℕ) (m : List ℕ) → Agrees base block m op.now told.now → after base block m op.now ≡ m }
 {
     refused_and_read_change_nothing();
     if is_read(op) {

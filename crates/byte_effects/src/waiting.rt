@@ -42,7 +42,7 @@ fn some_differs(base: u64, bytes: &[u8], one: &Op, old: &[u8], other: &Op) -> bo
 
 /// The memory doesn't answer so while the bytes in the second's range are these.
 fn waits_for(base: u64, bytes: &[u8], one: &Op, reply: &Reply, other: &Op) -> bool
-    ensures { IsTrue result → (block : ℕ) (n : List ℕ) → AreSameAt base other.now bytes.now n → answer block base n one.now ≡ reply.now → ⊥ }
+    ensures { IsTrue result → (block : ℕ) (n : List ℕ) → AreSameAt base other.now bytes.now n → answer base block n one.now ≡ reply.now → ⊥ }
 {
     what_is_needed_is_there();
     let Reply::Data(old) = reply else {
@@ -54,7 +54,7 @@ fn waits_for(base: u64, bytes: &[u8], one: &Op, reply: &Reply, other: &Op) -> bo
 /// The memory doesn't answer the first request what it was answered while the bytes in the second's
 /// range are these.
 pub fn waits(base: u64, bytes: &[u8], one: &Op, told: &Option<Reply>, other: &Op) -> bool
-    ensures { IsTrue result → (block : ℕ) (n : List ℕ) → AreSameAt base other.now bytes.now n → Agrees block base n one.now told.now → ⊥ }
+    ensures { IsTrue result → (block : ℕ) (n : List ℕ) → AreSameAt base other.now bytes.now n → Agrees base block n one.now told.now → ⊥ }
 {
     match told {
         Some(reply) => waits_for(base, bytes, one, reply, other),

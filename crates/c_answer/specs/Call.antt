@@ -27,7 +27,7 @@ answered bytes room (Some c) = record { code = length (canonical c); bytes = byt
 abbrev pub served : ℕ → ℕ → List ℕ → List ℕ → TlpView → Call
 served base block bytes room t =
     if is_completion t.kind then refused 2002 bytes room
-    else answered (bytes_after block base bytes t) room (completion_over block base bytes t)
+    else answered (bytes_after base block bytes t) room (completion_over base block bytes t)
 
 abbrev pub read : ℕ → ℕ → List ℕ → List ℕ → Result TlpView TlpFault → Call
 read base block bytes room (Err f) = refused (1000 + number_of f) bytes room

@@ -81,30 +81,30 @@ not_refused false false e = absurd cc
 bounds : (base size address count : ℕ) → is_inside base size address count ≡ true → (address - base) + count ≤ size
 bounds base size address count e = grind (arith, nat_tests)
 
-inside : (block base size : ℕ) (op : Op) → refusal block base size op ≡ None → (address_of op - base) + count_of op ≤ size
-inside block base size op e = bounds base size (address_of op) (count_of op) (not_refused _ _ e)
+inside : (base block size : ℕ) (op : Op) → refusal base size block op ≡ None → (address_of op - base) + count_of op ≤ size
+inside base block size op e = bounds base size (address_of op) (count_of op) (not_refused _ _ e)
 
 need_carried : (t : TlpView) (r : Reply) (n : ℕ) → ((c : Option TlpView) → unless_posted t.kind c ≡ c) → IsData r n → option_map need_of (completion_of t r) ≡ Some (completion_need n)
 need_carried t r n same d = rw d.is (ap (option_map need_of) (same (completion_for t (data_of d.bytes))) ∙ ap (λ n. Some (completion_need n)) d.size)
 
 -- what a served request that is not posted is answered
-served_data : (s : MemoryView) (op : Op) → op_fault op ≡ None → is_posted op ≡ false → refusal s.block s.base s.size op ≡ None → length (bytes_of s) ≡ s.size → IsData (answer s.block s.base (bytes_of s) op) (count_of op)
+served_data : (s : MemoryView) (op : Op) → op_fault op ≡ None → is_posted op ≡ false → refusal s.base s.size s.block op ≡ None → length (bytes_of s) ≡ s.size → IsData (answer s.base s.block (bytes_of s) op) (count_of op)
 served_data s op sound p served size =
     let m = bytes_of s in
     let old = bytes_at m (address_of op - s.base) (count_of op) in
-    let r' : refusal s.block s.base (length m) op ≡ None = rw size served in
-    let given : answer s.block s.base m op ≡ read_back op old = ap (λ r. answer_by r (read_back op old)) r' in
-    let fits : length old ≡ count_of op = length_at m (address_of op - s.base) (count_of op) (rw size (inside s.block s.base s.size op served)) in
+    let r' : refusal s.base (length m) s.block op ≡ None = rw size served in
+    let given : answer s.base s.block m op ≡ read_back op old = ap (λ r. answer_by r (read_back op old)) r' in
+    let fits : length old ≡ count_of op = length_at m (address_of op - s.base) (count_of op) (rw size (inside s.base s.block s.size op served)) in
     let d = data_read op old sound p fits in
     record { bytes = d.bytes; is = given ∙ d.is; size = d.size }
 
-asked : (s : MemoryView) (t : TlpView) (op : Op) → op_of t ≡ Some op → completion_to s t ≡ completion_of t (answer s.block s.base (bytes_of s) op)
-asked s t op e = ap (option_and_then (λ op. completion_of t (answer s.block s.base (bytes_of s) op))) e
+asked : (s : MemoryView) (t : TlpView) (op : Op) → op_of t ≡ Some op → completion_to s t ≡ completion_of t (answer s.base s.block (bytes_of s) op)
+asked s t op e = ap (option_and_then (λ op. completion_of t (answer s.base s.block (bytes_of s) op))) e
 
-pub served_need : (s : MemoryView) (t : TlpView) (op : Op) → op_of t ≡ Some op → op_fault op ≡ None → is_posted op ≡ false → refusal s.block s.base s.size op ≡ None → length (bytes_of s) ≡ s.size → option_map need_of (completion_to s t) ≡ Some (completion_need (count_of op))
+pub served_need : (s : MemoryView) (t : TlpView) (op : Op) → op_of t ≡ Some op → op_fault op ≡ None → is_posted op ≡ false → refusal s.base s.size s.block op ≡ None → length (bytes_of s) ≡ s.size → option_map need_of (completion_to s t) ≡ Some (completion_need (count_of op))
 served_need s t op e sound p served size =
     ap (option_map need_of) (asked s t op e)
-    ∙ need_carried t (answer s.block s.base (bytes_of s) op) (count_of op) (λ c. kind_not_write t.kind t.body t.length t.payload op c e p) (served_data s op sound p served size)
+    ∙ need_carried t (answer s.base s.block (bytes_of s) op) (count_of op) (λ c. kind_not_write t.kind t.body t.length t.payload op c e p) (served_data s op sound p served size)
 
 whole_size : (w : Width) → 4 * (size_of w / 4) ≡ size_of w
 whole_size widths.Four = refl
@@ -119,7 +119,7 @@ quarters (ops.Swap a w x) p = whole_size w
 quarters (ops.Cas a w x y) p = whole_size w
 
 -- the completion of a served request: its data, and a Length that counts it
-pub served_completion : (s : MemoryView) (t : TlpView) (op : Op) → op_of t ≡ Some op → op_fault op ≡ None → is_posted op ≡ false → refusal s.block s.base s.size op ≡ None → length (bytes_of s) ≡ s.size → IsSomeAnd (completion_to s t) (λ c. (length c.payload ≡ count_of op) × (4 * c.length ≡ length c.payload))
+pub served_completion : (s : MemoryView) (t : TlpView) (op : Op) → op_of t ≡ Some op → op_fault op ≡ None → is_posted op ≡ false → refusal s.base s.size s.block op ≡ None → length (bytes_of s) ≡ s.size → IsSomeAnd (completion_to s t) (λ c. (length c.payload ≡ count_of op) × (4 * c.length ≡ length c.payload))
 served_completion s t op e sound p served size =
     let d = served_data s op sound p served size in
     let is : completion_to s t ≡ Some (completion t kinds.CompletionData statuses.Success d.bytes) =

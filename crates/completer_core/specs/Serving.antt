@@ -23,12 +23,12 @@ after_serving s t number = option_map_or (λ op. with_entry s (request_entry t n
 
 -- the bytes, from an address on, after the request; a packet that asks for nothing changes nothing
 abbrev pub bytes_after : ℕ → ℕ → List ℕ → TlpView → List ℕ
-bytes_after block base m t = option_map_or (λ op. after block base m op) (op_of t) m
+bytes_after base block m t = option_map_or (λ op. after base block m op) (op_of t) m
 
 -- the completion of the request, which carries the reply of those bytes
 abbrev pub completion_over : ℕ → ℕ → List ℕ → TlpView → Option TlpView
-completion_over block base m t = option_and_then (λ op. completion_of t (answer block base m op)) (op_of t)
+completion_over base block m t = option_and_then (λ op. completion_of t (answer base block m op)) (op_of t)
 
 -- the completion of the request by a memory
 abbrev pub completion_to : MemoryView → TlpView → Option TlpView
-completion_to s t = completion_over s.block s.base (bytes_of s) t
+completion_to s t = completion_over s.base s.block (bytes_of s) t

@@ -10,5 +10,5 @@ ghost use Rattle.completer_core.specs.Serving.{completion_to};
 /// A served request that is not posted has a completion with as many bytes of payload as its place
 /// has, which are 4 times the completion's Length.
 pub fn a_served_completion_has_its_length()
-    ensures { (s : MemoryView) (t : TlpView) (op : Op) → op_of t ≡ Some op → op_fault op ≡ None → is_posted op ≡ false → refusal s.block s.base s.size op ≡ None → length (bytes_of s) ≡ s.size → IsSomeAnd (completion_to s t) (λ c. (length c.payload ≡ count_of op) × (4 * c.length ≡ length c.payload)) }
+    ensures { (s : MemoryView) (t : TlpView) (op : Op) → op_of t ≡ Some op → op_fault op ≡ None → is_posted op ≡ false → refusal s.base s.size s.block op ≡ None → length (bytes_of s) ≡ s.size → IsSomeAnd (completion_to s t) (λ c. (length c.payload ≡ count_of op) × (4 * c.length ≡ length c.payload)) }
 {}

@@ -39,8 +39,8 @@ pub fn serve(memory: &mut Memory, request: &Tlp, number: u32) -> Result<Option<T
 #[inline(always)]
 pub fn answer(base: u64, block: u16, bytes: &mut [u8], request: &Tlp) -> Option<Tlp>
     requires { IsBlock block }
-    ensures bytes { bytes.new ≡ bytes_after block base bytes.old request.now }
-    ensures completion { result ≡ completion_over block base bytes.old request.now }
+    ensures bytes { bytes.new ≡ bytes_after base block bytes.old request.now }
+    ensures completion { result ≡ completion_over base block bytes.old request.now }
 {
     let op = op_of(request)?;
     let reply = perform(base, block, bytes, &op);

@@ -278,7 +278,7 @@ sized_as op replies.Done h = tt
 sized_as op replies.Unsupported h = tt
 sized_as op replies.Aborted h = tt
 
-module _ (f : Fabric) (place : ℕ) (f' : Fabric) (e : IsServed f place f') (is_sized : IsSizedFor e.op (answer f.memory.block f.memory.base (bytes_of f.memory) e.op)) where
+module _ (f : Fabric) (place : ℕ) (f' : Fabric) (e : IsServed f place f') (is_sized : IsSizedFor e.op (answer f.memory.base f.memory.block (bytes_of f.memory) e.op)) where
   abbrev g : Rattle.fabric_laws.specs.Whole.Extent
   g = (whole_of f).extent
 
@@ -298,19 +298,19 @@ module _ (f : Fabric) (place : ℕ) (f' : Fabric) (e : IsServed f place f') (is_
   grows = ap (λ (o : Option Op). option_map_or (λ p. with_entry f.memory (entry p)) o f.memory) e.asks
 
   abbrev reply : Reply
-  reply = answer f.memory.block f.memory.base (bytes_of f.memory) e.op
+  reply = answer f.memory.base f.memory.block (bytes_of f.memory) e.op
 
   completion_made : completion_to f.memory e.packet ≡ completion_of e.packet reply
-  completion_made = ap (λ (o : Option Op). option_and_then (λ p. completion_of e.packet (answer f.memory.block f.memory.base (bytes_of f.memory) p)) o) e.asks
+  completion_made = ap (λ (o : Option Op). option_and_then (λ p. completion_of e.packet (answer f.memory.base f.memory.block (bytes_of f.memory) p)) o) e.asks
 
   back : completions_for (record x { op = e.op }) reply ≡ completions_for x (reply_after g h x.op)
-  back = unfold reply_after in ap (λ (o : Op). completions_for (record x { op = o }) (answer f.memory.block f.memory.base (bytes_of f.memory) o)) (sym op_is)
+  back = unfold reply_after in ap (λ (o : Op). completions_for (record x { op = o }) (answer f.memory.base f.memory.block (bytes_of f.memory) o)) (sym op_is)
 
   lane_now : items e.completion_lane ≡ items f.outward ++ completions_for x (reply_after g h x.op)
   lane_now = ap (map as_item) e.entered ∙ (map-append as_item (content f.outward) (are_entered (completion_to f.memory e.packet) e.mark)
       ∙ ap (λ (l : List MarkedPacket). items f.outward ++ l)
       (ap (λ (c : Option TlpView). map as_item (are_entered c e.mark)) completion_made
-      ∙ (entered_for e.packet e.mark e.op reply e.asks (λ p. never_done (refusal f.memory.block f.memory.base (length (bytes_of f.memory)) e.op) e.op _ p) (is_posted e.op) refl ∙ back)))
+      ∙ (entered_for e.packet e.mark e.op reply e.asks (λ p. never_done (refusal f.memory.base (length (bytes_of f.memory)) f.memory.block e.op) e.op _ p) (is_posted e.op) refl ∙ back)))
 
   pub serve_is : Step (whole_of f) (whole_of f') []
   serve_is = serves (record {

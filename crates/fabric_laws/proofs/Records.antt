@@ -83,4 +83,4 @@ some_any p xs h = ⊎_elim
 
 -- the reply at the place of an entry
 pub reply_there : (g : Extent) (h : List Entry) (p : ℕ) (e : Entry) → slice_get h p ≡ Some e → reply_at g h p ≡ Some (reply_after g (take p h) e.op)
-reply_there g h p e at = unfold reply_after in ap (option_map (λ (e : Entry). answer g.block g.base (contents g (take p h)) e.op)) at
+reply_there g h p e at = unfold reply_after in ap (option_map (λ (e : Entry). answer g.base g.block (contents g (take p h)) e.op)) at

@@ -148,15 +148,15 @@ entered_fit n t r mark p (Some c) e = (made_for n t c r p (not_written t.kind (c
 pub serve_routed : (f : Fabric) (place : ℕ) (f' : Fabric) → IsRouted f → IsServed f place f' → IsRouted f'
 serve_routed f place f' r e =
     let t = taken_keeps (λ (x : TlpView × ℕ). HasPort (length f.requesters) x.0 × (is_some (op_of x.0) ≡ true)) f.inward place e.packet e.mark e.lane_after e.taken r.inward in
-    let made : completion_to f.memory e.packet ≡ completion_of e.packet (answer f.memory.block f.memory.base (bytes_of f.memory) e.op) =
-    ap (λ (o : Option Op). option_and_then (λ p. completion_of e.packet (answer f.memory.block f.memory.base (bytes_of f.memory) p)) o) e.asks in
+    let made : completion_to f.memory e.packet ≡ completion_of e.packet (answer f.memory.base f.memory.block (bytes_of f.memory) e.op) =
+    ap (λ (o : Option Op). option_and_then (λ p. completion_of e.packet (answer f.memory.base f.memory.block (bytes_of f.memory) p)) o) e.asks in
     subst IsRouted (sym e.now) (record {
       ports = r.ports;
       up = r.up;
       inward = t.1;
       outward = subst (Each (λ (x : TlpView × ℕ). HasPort (length f.requesters) x.0 × FitsStatus x.0.kind x.0.body)) (sym e.entered)
           (each_append (λ (x : TlpView × ℕ). HasPort (length f.requesters) x.0 × FitsStatus x.0.kind x.0.body) (content f.outward) (are_entered (completion_to f.memory e.packet) e.mark) r.outward
-          (entered_fit (length f.requesters) e.packet (answer f.memory.block f.memory.base (bytes_of f.memory) e.op) e.mark t.0.0 (completion_to f.memory e.packet) (sym made)));
+          (entered_fit (length f.requesters) e.packet (answer f.memory.base f.memory.block (bytes_of f.memory) e.op) e.mark t.0.0 (completion_to f.memory e.packet) (sym made)));
       down = r.down;
     })
 

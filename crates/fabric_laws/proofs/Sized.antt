@@ -29,20 +29,20 @@ carried t op replies.Done e p h = tt
 carried t op replies.Unsupported e p h = tt
 carried t op replies.Aborted e p h = tt
 
-module _ (law : (s : MemoryView) (t : TlpView) (op : Op) → op_of t ≡ Some op → op_fault op ≡ None → is_posted op ≡ false → refusal s.block s.base s.size op ≡ None → length (bytes_of s) ≡ s.size → IsSomeAnd (completion_to s t) (λ c. (length c.payload ≡ count_of op) × (4 * c.length ≡ length c.payload)))
+module _ (law : (s : MemoryView) (t : TlpView) (op : Op) → op_of t ≡ Some op → op_fault op ≡ None → is_posted op ≡ false → refusal s.base s.size s.block op ≡ None → length (bytes_of s) ≡ s.size → IsSomeAnd (completion_to s t) (λ c. (length c.payload ≡ count_of op) × (4 * c.length ≡ length c.payload)))
     (s : MemoryView) (t : TlpView) (op : Op) (e : op_of t ≡ Some op) (whole : length (bytes_of s) ≡ s.size) where
   abbrev old : List ℕ
   old = bytes_at (bytes_of s) (address_of op - s.base) (count_of op)
 
-  made : completion_to s t ≡ completion_of t (answer s.block s.base (bytes_of s) op)
-  made = ap (λ (o : Option Op). option_and_then (λ p. completion_of t (answer s.block s.base (bytes_of s) p)) o) e
+  made : completion_to s t ≡ completion_of t (answer s.base s.block (bytes_of s) op)
+  made = ap (λ (o : Option Op). option_and_then (λ p. completion_of t (answer s.base s.block (bytes_of s) p)) o) e
 
-  served : is_posted op ≡ false → refusal s.block s.base (length (bytes_of s)) op ≡ None → IsSizedFor op (answer s.block s.base (bytes_of s) op)
-  served p r = carried t op (answer s.block s.base (bytes_of s) op) e p
+  served : is_posted op ≡ false → refusal s.base (length (bytes_of s)) s.block op ≡ None → IsSizedFor op (answer s.base s.block (bytes_of s) op)
+  served p r = carried t op (answer s.base s.block (bytes_of s) op) e p
       (subst (λ (o : Option TlpView). IsSomeAnd o (λ c. (length c.payload ≡ count_of op) × (4 * c.length ≡ length c.payload))) made
-      (law s t op e (no_fault (op_fault op) (not (is_in_block s.block (address_of op) (count_of op))) (is_inside s.base (length (bytes_of s)) (address_of op) (count_of op)) r) p (ap (λ (n : ℕ). refusal s.block s.base n op) (sym whole) ∙ r) whole))
+      (law s t op e (no_fault (op_fault op) (not (is_in_block s.block (address_of op) (count_of op))) (is_inside s.base (length (bytes_of s)) (address_of op) (count_of op)) r) p (ap (λ (n : ℕ). refusal s.base n s.block op) (sym whole) ∙ r) whole))
 
-  by_refusal : (r : Option Refusal) → refusal s.block s.base (length (bytes_of s)) op ≡ r → (b : Bool) → is_posted op ≡ b → IsSizedFor op (answer s.block s.base (bytes_of s) op)
+  by_refusal : (r : Option Refusal) → refusal s.base (length (bytes_of s)) s.block op ≡ r → (b : Bool) → is_posted op ≡ b → IsSizedFor op (answer s.base s.block (bytes_of s) op)
   by_refusal None r false p = served p r
   by_refusal None r true p = subst (IsSizedFor op) (sym (ap (λ (x : Option Refusal). answer_by x (read_back op old)) r)) (posted op old p)
     where
@@ -55,5 +55,5 @@ module _ (law : (s : MemoryView) (t : TlpView) (op : Op) → op_of t ≡ Some op
   by_refusal (Some refusals.Aborted) r b p = subst (IsSizedFor op) (sym (ap (λ (x : Option Refusal). answer_by x (read_back op old)) r)) tt
   by_refusal (Some refusals.Unsupported) r b p = subst (IsSizedFor op) (sym (ap (λ (x : Option Refusal). answer_by x (read_back op old)) r)) tt
 
-  pub sized : IsSizedFor op (answer s.block s.base (bytes_of s) op)
-  sized = by_refusal (refusal s.block s.base (length (bytes_of s)) op) refl (is_posted op) refl
+  pub sized : IsSizedFor op (answer s.base s.block (bytes_of s) op)
+  sized = by_refusal (refusal s.base (length (bytes_of s)) s.block op) refl (is_posted op) refl

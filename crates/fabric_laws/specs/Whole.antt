@@ -18,7 +18,7 @@ use Rattle.seq_memory.specs.History.{MemoryView, contents}
 
 -- what the sequential memory replies to the operation after these entries
 unfoldable pub reply_after : Extent → List Entry → Op → Reply
-reply_after g h op = answer g.block g.base (contents g h) op
+reply_after g h op = answer g.base g.block (contents g h) op
 
 -- the reply has that many bytes, or none
 abbrev pub FitsSize : ℕ → Reply → Type 0

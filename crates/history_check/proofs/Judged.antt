@@ -65,11 +65,11 @@ right_is : (x : Claim) (rows : List (List ℕ)) (rs : List Record) (points floor
 right_is x rows rs points floors firsts right i k b p a n reply t small s acted first at =
     let m = x.memory in
     let f = first_there (is_request i k) m.entries p acted in
-    let made : Reply = answer m.block m.base (contents_at (extent_of m) m.entries p) f.value.op in
-    ap (λ (o : Option Bool). some_and o (λ t. t)) (t.compared p ∙ ap (option_map (λ (e : Entry). is_told_in rows firsts x.records e (answer m.block m.base (contents_at (extent_of m) m.entries p) e.op))) f.at)
+    let made : Reply = answer m.base m.block (contents_at (extent_of m) m.entries p) f.value.op in
+    ap (λ (o : Option Bool). some_and o (λ t. t)) (t.compared p ∙ ap (option_map (λ (e : Entry). is_told_in rows firsts x.records e (answer m.base m.block (contents_at (extent_of m) m.entries p) e.op))) f.at)
     ∙ ap (λ (rs : List Record). is_told_in rows firsts rs f.value made) t.same
     ∙ told rows rs firsts i k b a n f.value reply made t.indexed t.answered small s first at f.passes
-    ∙ ap (λ (o : Option Reply). some_and o (same_reply reply)) (sym (ap (option_map (λ (e : Entry). answer m.block m.base (contents_at (extent_of m) m.entries p) e.op)) f.at))
+    ∙ ap (λ (o : Option Reply). some_and o (same_reply reply)) (sym (ap (option_map (λ (e : Entry). answer m.base m.block (contents_at (extent_of m) m.entries p) e.op)) f.at))
 
 -- ---- the flaws
 

@@ -76,7 +76,7 @@ is_told_in rows firsts rs e made = is_told_at rs (point_in rows firsts e.request
 abbrev pub right_in : List (List ℕ) → List (Option ℕ) → Claim → ℕ → Option Bool
 right_in rows firsts x p =
     let m = x.memory in
-    option_map (λ e. is_told_in rows firsts x.records e (answer m.block m.base (contents_at (extent_of m) m.entries p) e.op)) (slice_get m.entries p)
+    option_map (λ e. is_told_in rows firsts x.records e (answer m.base m.block (contents_at (extent_of m) m.entries p) e.op)) (slice_get m.entries p)
 
 abbrev pub acted_in : List Record → List (Option ℕ) → List Bool → ℕ → ℕ → ℕ → Option FlawKind
 acted_in rs floors right n b p =

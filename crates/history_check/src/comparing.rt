@@ -56,8 +56,8 @@ fn compare(
     bytes: &mut [u8],
     entry: &Entry,
 ) -> bool
-    ensures bytes { bytes.new ≡ after trace.now.block trace.now.base bytes.old entry.now.op }
-    ensures told { result ≡ is_told_in index.now firsts.now trace.now.records entry.now (answer trace.now.block trace.now.base bytes.old entry.now.op) }
+    ensures bytes { bytes.new ≡ after trace.now.base trace.now.block bytes.old entry.now.op }
+    ensures told { result ≡ is_told_in index.now firsts.now trace.now.records entry.now (answer trace.now.base trace.now.block bytes.old entry.now.op) }
 {
     let made = seq_memory::perform(trace.base, trace.block, bytes, &entry.op);
     let place = point(index, firsts, entry.requester, entry.number);

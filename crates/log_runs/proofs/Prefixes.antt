@@ -23,9 +23,9 @@ use Rattle.log_runs.proofs.Numbers.{listed, located}
 
 reply_before : (y : Extent) (h : List Entry) (m p : ℕ) (e : Entry) → p < m → slice_get h p ≡ Some e → reply_at y (take m h) p ≡ reply_at y h p
 reply_before y h m p e l at =
-    ap (λ (o : Option Entry). option_map (λ (f : Entry). answer y.block y.base (contents_at y (take m h) p) f.op) o) (to_take h m p e l at)
-    ∙ ap (λ (g : List Entry). option_map (λ (f : Entry). answer y.block y.base (contents y g) f.op) (Some e)) (take_of_take h p m (omega arith))
-    ∙ ap (λ (o : Option Entry). option_map (λ (f : Entry). answer y.block y.base (contents_at y h p) f.op) o) (sym at)
+    ap (λ (o : Option Entry). option_map (λ (f : Entry). answer y.base y.block (contents_at y (take m h) p) f.op) o) (to_take h m p e l at)
+    ∙ ap (λ (g : List Entry). option_map (λ (f : Entry). answer y.base y.block (contents y g) f.op) (Some e)) (take_of_take h p m (omega arith))
+    ∙ ap (λ (o : Option Entry). option_map (λ (f : Entry). answer y.base y.block (contents_at y h p) f.op) o) (sym at)
 
 module _ (u : TraceView) (h : List Entry) (x : Explains (claim_of u h)) (c : IsClocked (claim_of u h)) (n : ℕ) where
   -- how much of the history is kept

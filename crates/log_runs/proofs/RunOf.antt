@@ -107,12 +107,12 @@ module _ (u : TraceView) (h : List Entry) (x : Explains (claim_of u h)) (c : IsC
   -- ---- a request acts
 
   replies : (p i k a n : ℕ) (e : Entry) (r : Reply) → slice_get h p ≡ Some e → e.requester ≡ i → e.number ≡ k → slice_get u.records a ≡ Some (records.Ans i k r n)
-      → answer u.block u.base (contents (observed u) (take p h)) e.op ≡ r
+      → answer u.base u.block (contents (observed u) (take p h)) e.op ≡ r
   replies p i k a n e r at one two ans =
       let f = x.linear a i k n r ans in
       let same : f.point ≡ p = one_point f.point p (record { requester = i; number = k; op = f.op }) e f.acted at (sym one) (sym two) in
       let told : reply_at (observed u) h p ≡ Some r = subst (λ q. reply_at (observed u) h q ≡ Some r) same f.replied in
-      same_Some _ r (sym (ap (λ (o : Option Entry). option_map (λ (e : Entry). answer u.block u.base (contents_at (observed u) h p) e.op) o) at) ∙ told)
+      same_Some _ r (sym (ap (λ (o : Option Entry). option_map (λ (e : Entry). answer u.base u.block (contents_at (observed u) h p) e.op) o) at) ∙ told)
 
   record Acting (p : ℕ) (e : Entry) : Type 0 where
     place : ℕ
@@ -141,7 +141,7 @@ module _ (u : TraceView) (h : List Entry) (x : Explains (claim_of u h)) (c : IsC
         ∙ ap Some ((x.legal p e at).ordered f.number w (number_rises u.records x.numbered b a.place e.requester f.number e.number f.n a.n w e.op f.at a.sub l) (listed u.records x.numbered b e.requester f.number f.n w f.at) posted);
     replied = λ r is.
         let (b, l, ans) = a.event.because r is in
-        ap (λ y. answer u.block u.base y e.op) m.bytes ∙ replies p e.requester e.number b l e r at refl refl ans;
+        ap (λ y. answer u.base u.block y e.op) m.bytes ∙ replies p e.requester e.number b l e r at refl refl ans;
   }
 
   matches_next : (s : State) (p : ℕ) (e : Entry) (at : slice_get h p ≡ Some e) (a : Acting p e) → Matches u.records log s (take p h) → Matches u.records log (next log s (steps.Act a.place)) (take (p + 1) h)

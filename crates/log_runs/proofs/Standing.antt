@@ -47,6 +47,6 @@ one_stands t (y ∷ ys) (suc p) x at e = or_right (t y) (list_any t ys) (one_sta
 pub stands_at : (h : List Entry) (p q : ℕ) (e : Entry) → slice_get h p ≡ Some e → p < q → stands (take q h) e.requester e.number ≡ true
 stands_at h p q e at l = one_stands (is_request e.requester e.number) (take q h) p e (to_take h q p e l at) (own e)
 
-pub contents_push : (x : Extent) (h : List Entry) (e : Entry) → contents x (h ++ e ∷ []) ≡ after x.block x.base (contents x h) e.op
+pub contents_push : (x : Extent) (h : List Entry) (e : Entry) → contents x (h ++ e ∷ []) ≡ after x.base x.block (contents x h) e.op
 unfolding contents
-contents_push x h e = fold-append (λ m (e : Entry). after x.block x.base m e.op) _ h (e ∷ [])
+contents_push x h e = fold-append (λ m (e : Entry). after x.base x.block m e.op) _ h (e ∷ [])

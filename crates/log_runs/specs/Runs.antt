@@ -14,10 +14,10 @@ use Rattle.log_runs.specs.LogView.{LogView}
 
 -- what the sequential memory answers, and its bytes afterwards
 unfoldable pub reply_of : Extent → List ℕ → Op → Reply
-reply_of x m op = answer x.block x.base m op
+reply_of x m op = answer x.base x.block m op
 
 unfoldable pub bytes_after : Extent → List ℕ → Op → List ℕ
-bytes_after x m op = after x.block x.base m op
+bytes_after x m op = after x.base x.block m op
 
 -- the bytes after the request at the event acted
 unfoldable pub acted_on : Extent → List ℕ → Option Event → List ℕ

@@ -14,8 +14,8 @@ no_fault : (a b : Bool) → (if a then Some refusals.Aborted else (if b then Non
 no_fault true b e = cc
 no_fault false b e = refl
 
-served : (block base size : ℕ) (op : Op) → refusal block base size op ≡ None → refusal block (address_of op) (count_of op) op ≡ None
-served block base size op e =
+served : (base block size : ℕ) (op : Op) → refusal base size block op ≡ None → refusal (address_of op) (count_of op) block op ≡ None
+served base block size op e =
     let first = no_fault (is_some (op_fault op) || not (is_in_block block (address_of op) (count_of op))) (is_inside base size (address_of op) (count_of op)) e in
     rw (first, le-leb (address_of op) (address_of op) (omega arith), le-leb (address_of op + count_of op) (address_of op + count_of op) (omega arith)) refl
 
@@ -25,14 +25,14 @@ place_size m i c l = length-take-le c (drop i m) (omega (arith, length-drop i m)
 whole : (xs : List ℕ) (c : ℕ) → length xs ≡ c → bytes_at xs 0 c ≡ xs
 whole xs c e = ap (λ n. take n xs) (sym e) ∙ take-length xs
 
-pub apart : (block base : ℕ) (m : List ℕ) (op : Op) → refusal block base (length m) op ≡ None → base ≤ address_of op → address_of op + count_of op ≤ base + length m
-    → answer block (address_of op) (bytes_at m (address_of op - base) (count_of op)) op ≡ answer block base m op
-apart block base m op e low high =
+pub apart : (base block : ℕ) (m : List ℕ) (op : Op) → refusal base (length m) block op ≡ None → base ≤ address_of op → address_of op + count_of op ≤ base + length m
+    → answer (address_of op) block (bytes_at m (address_of op - base) (count_of op)) op ≡ answer base block m op
+apart base block m op e low high =
     let place = bytes_at m (address_of op - base) (count_of op) in
     let size : length place ≡ count_of op = place_size m (address_of op - base) (count_of op) (omega arith) in
     let zero_offset : address_of op - address_of op ≡ 0 = omega arith in
     ap (λ n. answer_by (refusal block (address_of op) n op) (read_back op (bytes_at place (address_of op - address_of op) (count_of op)))) size
-    ∙ ap (λ o. answer_by o (read_back op (bytes_at place (address_of op - address_of op) (count_of op)))) (served block base (length m) op e)
+    ∙ ap (λ o. answer_by o (read_back op (bytes_at place (address_of op - address_of op) (count_of op)))) (served base block (length m) op e)
     ∙ ap (λ k. read_back op (bytes_at place k (count_of op))) zero_offset
     ∙ ap (read_back op) (whole place (count_of op) size)
     ∙ sym (ap (λ o. answer_by o (read_back op place)) e)

@@ -54,26 +54,26 @@ none_of (Some x) e = cc
 
 abbrev pub Others : Type 0
 Others =
-    (block base k : ℕ) (m : List ℕ) (op : Op) → (base + k < address_of op) ⊎ (address_of op + count_of op ≤ base + k) → slice_index (after block base m op) k ≡ slice_index m k
+    (base block k : ℕ) (m : List ℕ) (op : Op) → (base + k < address_of op) ⊎ (address_of op + count_of op ≤ base + k) → slice_index (after base block m op) k ≡ slice_index m k
 
 abbrev pub Sizes : Type 0
-Sizes = (block base : ℕ) (m : List ℕ) (op : Op) → length (after block base m op) ≡ length m
+Sizes = (base block : ℕ) (m : List ℕ) (op : Op) → length (after base block m op) ≡ length m
 
-pub refused_back : (block base : ℕ) (m a : List ℕ) (op : Op) (o : Option Refusal) → Sizes → ((block base : ℕ) (m : List ℕ) (op : Op) (r : Refusal) → refusal block base (length m) op ≡ Some r → after block base m op ≡ m)
-    → a ≡ after block base m op → o ≡ refusal block base (length a) op → is_some o ≡ true → a ≡ m
-refused_back block base m a op None sizes same is e some = cc
-refused_back block base m a op (Some r) sizes same is e some =
-    is ∙ same block base m op r (ap (λ n. refusal block base n op) (sym (ap length is ∙ sizes block base m op)) ∙ sym e)
+pub refused_back : (base block : ℕ) (m a : List ℕ) (op : Op) (o : Option Refusal) → Sizes → ((base block : ℕ) (m : List ℕ) (op : Op) (r : Refusal) → refusal base (length m) block op ≡ Some r → after base block m op ≡ m)
+    → a ≡ after base block m op → o ≡ refusal base (length a) block op → is_some o ≡ true → a ≡ m
+refused_back base block m a op None sizes same is e some = cc
+refused_back base block m a op (Some r) sizes same is e some =
+    is ∙ same base block m op r (ap (λ n. refusal base n block op) (sym (ap length is ∙ sizes base block m op)) ∙ sym e)
 
-module _ (others : Others) (sizes : Sizes) (block base : ℕ) (m a old : List ℕ) (op : Op) (is : a ≡ after block base m op) (saved : old ≡ saved_at block base m op) (served : refusal block base (length a) op ≡ None) (low : base ≤ address_of op) where
+module _ (others : Others) (sizes : Sizes) (base block : ℕ) (m a old : List ℕ) (op : Op) (is : a ≡ after base block m op) (saved : old ≡ saved_at base block m op) (served : refusal base (length a) block op ≡ None) (low : base ≤ address_of op) where
   len : length a ≡ length m
-  len = ap length is ∙ sizes block base m op
+  len = ap length is ∙ sizes base block m op
 
   pub old_is : old ≡ bytes_at m (address_of op - base) (count_of op)
-  old_is = saved ∙ ap (λ o. saved_by o (bytes_at m (address_of op - base) (count_of op))) (ap (λ n. refusal block base n op) (sym len) ∙ served)
+  old_is = saved ∙ ap (λ o. saved_by o (bytes_at m (address_of op - base) (count_of op))) (ap (λ n. refusal base n block op) (sym len) ∙ served)
 
   apart : (k : ℕ) → (k < address_of op - base) ⊎ ((address_of op - base) + count_of op ≤ k) → slice_index a k ≡ slice_index m k
-  apart k w = ap (λ (b : List ℕ). slice_index b k) is ∙ others block base k m op (by w)
+  apart k w = ap (λ (b : List ℕ). slice_index b k) is ∙ others base block k m op (by w)
     where
       by : (k < address_of op - base) ⊎ ((address_of op - base) + count_of op ≤ k) → (base + k < address_of op) ⊎ (address_of op + count_of op ≤ base + k)
       by (inl l) = inl (omega arith)

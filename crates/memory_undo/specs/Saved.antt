@@ -11,4 +11,4 @@ saved_by (Some r) place = []
 
 -- the bytes at the operation's place, if it is served
 abbrev pub saved_at : ℕ → ℕ → List ℕ → Op → List ℕ
-saved_at block base m op = saved_by (refusal block base (length m) op) (bytes_at m (address_of op - base) (count_of op))
+saved_at base block m op = saved_by (refusal base (length m) block op) (bytes_at m (address_of op - base) (count_of op))

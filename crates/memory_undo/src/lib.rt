@@ -34,7 +34,7 @@ fn copy_of(bytes: &[u8]) -> ArrayVec<u8, MAX_PAYLOAD>
 #[tactic(auto, using(crate::proofs::Apart::apart))]
 pub fn reply(base: u64, block: u16, bytes: &[u8], op: &Op) -> Reply
     requires { IsBlock block }
-    ensures { result ≡ answer block base bytes.now op.now }
+    ensures { result ≡ answer base block bytes.now op.now }
 {
     match refusal(base, block, bytes.len(), op) {
         Some(Refusal::Aborted) => Reply::Aborted,
@@ -50,7 +50,7 @@ pub fn reply(base: u64, block: u16, bytes: &[u8], op: &Op) -> Reply
 /// The bytes at the operation's place, if it is served, for [`put_back`]; else none.
 pub fn saved(base: u64, block: u16, bytes: &[u8], op: &Op) -> ArrayVec<u8, MAX_PAYLOAD>
     requires { IsBlock block }
-    ensures { result.items ≡ saved_at block base bytes.now op.now }
+    ensures { result.items ≡ saved_at base block bytes.now op.now }
 {
     if refusal(base, block, bytes.len(), op).is_some() {
         return copy_of(&[]);
@@ -62,7 +62,7 @@ pub fn saved(base: u64, block: u16, bytes: &[u8], op: &Op) -> ArrayVec<u8, MAX_P
 /// Makes the bytes what they were before the operation, if `old` is what [`saved`] returned then.
 pub fn put_back(base: u64, block: u16, bytes: &mut [u8], op: &Op, old: &[u8])
     requires { IsBlock block }
-    ensures { (m : List ℕ) → bytes.old ≡ after block base m op.now → old.now ≡ saved_at block base m op.now → bytes.new ≡ m }
+    ensures { (m : List ℕ) → bytes.old ≡ after base block m op.now → old.now ≡ saved_at base block m op.now → bytes.new ≡ m }
 {
     only_the_place_changes();
     refused_and_read_change_nothing();

@@ -32,7 +32,7 @@ fn is_inside(base: u64, size: usize, address: u64, count: u32) -> bool
 /// Why the operation is not served, none where it is.
 pub(crate) fn refusal(base: u64, block: u16, size: usize, op: &Op) -> Option<Refusal>
     requires { IsBlock block }
-    ensures value { result ≡ step.refusal block base size op.now }
+    ensures value { result ≡ step.refusal base size block op.now }
     ensures few { IfNone result (count_of op.now ≤ 128) }
     ensures low { IfNone result (base ≤ address_of op.now) }
     ensures high { IfNone result (address_of op.now + count_of op.now ≤ base + size) }

@@ -12,7 +12,7 @@ use Rattle.run_search.specs.declared.steps.Done.{Done}
 
 -- the bytes at the request's place
 abbrev pub old_at : Extent → List ℕ → Option Event → List ℕ
-old_at x m (Some (events.Sub i op told)) = saved_at x.block x.base m op
+old_at x m (Some (events.Sub i op told)) = saved_at x.base x.block m op
 old_at x m (Some (events.Due b)) = []
 old_at x m (Some events.Free) = []
 old_at x m None = []

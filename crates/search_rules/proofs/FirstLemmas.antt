@@ -23,13 +23,13 @@ pub idle_first : (log : LogView) (m : List ℕ) (b q : ℕ) → ((i : ℕ) (op :
 idle_first log m b q none = inl (λ i j one other told asked at there. absurd (none i one told at))
 
 pub first_by : (x : Extent) (o : Option Event) (i base : ℕ) (one op : Op) (told reply : Option Reply) (m : List ℕ) → base ≡ x.base → o ≡ Some (events.Sub i op reply)
-    → AreApart one op ⊎ ((block : ℕ) (n : List ℕ) → AreSameAt base op m n → Agrees block base n one told → ⊥)
+    → AreApart one op ⊎ ((block : ℕ) (n : List ℕ) → AreSameAt base op m n → Agrees base block n one told → ⊥)
     → (j : ℕ) (other : Op) (asked : Option Reply) → o ≡ Some (events.Sub j other asked) → AreApart one other ⊎ ((n : List ℕ) → AreSameAt x.base other m n → Answers x n one told → ⊥)
 unfolding reply_of
 first_by x o i base one op told reply m eb at behind j other asked there =
     let e : Some (events.Sub i op reply) ≡ Some (events.Sub j other asked) = sym at ∙ there in
     let same : op ≡ other = cc in
-    let here : AreApart one op ⊎ ((block : ℕ) (n : List ℕ) → AreSameAt x.base op m n → Agrees block x.base n one told → ⊥) =
+    let here : AreApart one op ⊎ ((block : ℕ) (n : List ℕ) → AreSameAt x.base op m n → Agrees x.base block n one told → ⊥) =
     subst (λ z. AreApart one op ⊎ ((block : ℕ) (n : List ℕ) → AreSameAt z op m n → Agrees block z n one told → ⊥)) eb behind in
     subst (λ w. AreApart one w ⊎ ((n : List ℕ) → AreSameAt x.base w m n → Answers x n one told → ⊥)) same (elim here [
       | inl apart ↦ inl apart
@@ -59,13 +59,13 @@ pub first_at : (log : LogView) (m : List ℕ) (b q i : ℕ) (one : Op) (told : O
 first_at log m b q i one told seen behind = first_on log m b q i one told (slice_get log.events q) seen refl behind
 
 abbrev pub Kept : Type 0
-Kept = (block base : ℕ) (m : List ℕ) (one other : Op) → AreApart one other → answer block base (after block base m one) other ≡ answer block base m other
+Kept = (base block : ℕ) (m : List ℕ) (one other : Op) → AreApart one other → answer base block (after base block m one) other ≡ answer base block m other
 
 abbrev pub Swaps : Type 0
-Swaps = (block base : ℕ) (m : List ℕ) (one other : Op) → AreApart one other → after block base (after block base m one) other ≡ after block base (after block base m other) one
+Swaps = (base block : ℕ) (m : List ℕ) (one other : Op) → AreApart one other → after base block (after base block m one) other ≡ after base block (after base block m other) one
 
 abbrev pub Others : Type 0
-Others = (block base k : ℕ) (m : List ℕ) (op : Op) → (base + k < address_of op) ⊎ (address_of op + count_of op ≤ base + k) → slice_index (after block base m op) k ≡ slice_index m k
+Others = (base block k : ℕ) (m : List ℕ) (op : Op) → (base + k < address_of op) ⊎ (address_of op + count_of op ≤ base + k) → slice_index (after base block m op) k ≡ slice_index m k
 
 flipped : (one other : Op) → AreApart one other → AreApart other one
 flipped one other (inl low) = inr low
@@ -79,25 +79,25 @@ module _ (kept : Kept) (swaps : Swaps) (others : Others) where
   unfolding acted_on bytes_after reply_of
   suits_after x m o p i j one other told asked at there apart suited =
       let before : (r : Reply) → asked ≡ Some r → reply_of x m other ≡ r = subst (Suits x m) there suited in
-      let later : (r : Reply) → asked ≡ Some r → reply_of x (after x.block x.base m one) other ≡ r = λ r e. kept x.block x.base m one other apart ∙ before r e in
-      subst (λ k. Suits x k p) (sym (ap (acted_on x m) at)) (subst (Suits x (after x.block x.base m one)) (sym there) later)
+      let later : (r : Reply) → asked ≡ Some r → reply_of x (after x.base x.block m one) other ≡ r = λ r e. kept x.base x.block m one other apart ∙ before r e in
+      subst (λ k. Suits x k p) (sym (ap (acted_on x m) at)) (subst (Suits x (after x.base x.block m one)) (sym there) later)
 
   swapped : (x : Extent) (m : List ℕ) (o p : Option Event) (i j : ℕ) (one other : Op) (told asked : Option Reply) → o ≡ Some (events.Sub i one told) → p ≡ Some (events.Sub j other asked) → AreApart one other
       → acted_on x (acted_on x m o) p ≡ acted_on x (acted_on x m p) o
   unfolding acted_on bytes_after
   swapped x m o p i j one other told asked at there apart =
-      let of_o : (k : List ℕ) → acted_on x k o ≡ after x.block x.base k one = λ k. ap (acted_on x k) at in
-      let of_p : (k : List ℕ) → acted_on x k p ≡ after x.block x.base k other = λ k. ap (acted_on x k) there in
-      of_p (acted_on x m o) ∙ ap (λ k. after x.block x.base k other) (of_o m) ∙ swaps x.block x.base m one other apart
-      ∙ sym (of_o (acted_on x m p) ∙ ap (λ k. after x.block x.base k one) (of_p m))
+      let of_o : (k : List ℕ) → acted_on x k o ≡ after x.base x.block k one = λ k. ap (acted_on x k) at in
+      let of_p : (k : List ℕ) → acted_on x k p ≡ after x.base x.block k other = λ k. ap (acted_on x k) there in
+      of_p (acted_on x m o) ∙ ap (λ k. after x.base x.block k other) (of_o m) ∙ swaps x.base x.block m one other apart
+      ∙ sym (of_o (acted_on x m p) ∙ ap (λ k. after x.base x.block k one) (of_p m))
 
   same_after : (x : Extent) (m n : List ℕ) (o : Option Event) (i : ℕ) (one other : Op) (told : Option Reply) → o ≡ Some (events.Sub i one told) → AreApart one other
       → AreSameAt x.base other m n → AreSameAt x.base other m (acted_on x n o)
   unfolding acted_on bytes_after
   same_after x m n o i one other told at (inl low) same k front back =
-      ap (λ ys. slice_index ys k) (ap (acted_on x n) at) ∙ others x.block x.base k n one (inr (omega (arith, low, front))) ∙ same k front back
+      ap (λ ys. slice_index ys k) (ap (acted_on x n) at) ∙ others x.base x.block k n one (inr (omega (arith, low, front))) ∙ same k front back
   same_after x m n o i one other told at (inr high) same k front back =
-      ap (λ ys. slice_index ys k) (ap (acted_on x n) at) ∙ others x.block x.base k n one (inl (omega (arith, high, back))) ∙ same k front back
+      ap (λ ys. slice_index ys k) (ap (acted_on x n) at) ∙ others x.base x.block k n one (inl (omega (arith, high, back))) ∙ same k front back
 
   module _ (log : LogView) (q r a : ℕ) (m0 : List ℕ) (due : slice_get log.events a ≡ Some (events.Due r)) (follows : Follows log q r)
       (j : ℕ) (other : Op) (asked : Option Reply) (there : slice_get log.events q ≡ Some (events.Sub j other asked)) where

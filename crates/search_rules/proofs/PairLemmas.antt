@@ -22,21 +22,21 @@ event_at es ds items b r e one two within read is =
 
 abbrev pub KeepsOut : ℕ → Op → Op → Option Reply → Option Reply → Type 0
 KeepsOut block one op told reply =
-    (base : ℕ) (m : List ℕ) → Agrees block base m one told → Agrees block base (after block base m one) op reply → Agrees block base m op reply
+    (base : ℕ) (m : List ℕ) → Agrees base block m one told → Agrees base block (after base block m one) op reply → Agrees base block m op reply
 
 abbrev pub GivesWay : ℕ → Op → Op → Option Reply → Option Reply → Type 0
 GivesWay block one op told reply =
-    (base : ℕ) (m : List ℕ) → Agrees block base m one told → Agrees block base m op reply
-    → (Agrees block base (after block base m one) op reply → ⊥)
-    ⊎ (Agrees block base (after block base m one) op reply × Agrees block base (after block base m op) one told
-    × (after block base (after block base m one) op ≡ after block base (after block base m op) one))
+    (base : ℕ) (m : List ℕ) → Agrees base block m one told → Agrees base block m op reply
+    → (Agrees base block (after base block m one) op reply → ⊥)
+    ⊎ (Agrees base block (after base block m one) op reply × Agrees base block (after base block m op) one told
+    × (after base block (after base block m one) op ≡ after base block (after base block m op) one))
 
 pub brings_by : (x : Extent) (o : Option Event) (i block : ℕ) (one op : Op) (told reply : Option Reply) → block ≡ x.block → o ≡ Some (events.Sub i op reply)
     → KeepsOut block one op told reply → (m : List ℕ) → Answers x m one told → Suits x (bytes_after x m one) o → Suits x m o
 unfolding reply_of bytes_after
 brings_by x o i block one op told reply eb at never m agrees there =
     let never_here : KeepsOut x.block one op told reply = subst (λ n. KeepsOut n one op told reply) eb never in
-    let before : Suits x m (Some (events.Sub i op reply)) = never_here x.base m agrees (subst (Suits x (after x.block x.base m one)) at there) in
+    let before : Suits x m (Some (events.Sub i op reply)) = never_here x.base m agrees (subst (Suits x (after x.base x.block m one)) at there) in
     subst (Suits x m) (sym at) before
 
 pub yields_by : (x : Extent) (o : Option Event) (i block : ℕ) (one op : Op) (told reply : Option Reply) → block ≡ x.block → o ≡ Some (events.Sub i op reply)
@@ -44,8 +44,8 @@ pub yields_by : (x : Extent) (o : Option Event) (i block : ℕ) (one op : Op) (t
 unfolding reply_of bytes_after acted_on
 yields_by x o i block one op told reply eb at yields m agrees there j =
     let way : GivesWay x.block one op told reply = subst (λ n. GivesWay n one op told reply) eb yields in
-    let ends : Ends x m (after x.block x.base m one) (Some (events.Sub j one told)) (Some (events.Sub i op reply)) = way x.base m agrees (subst (Suits x m) at there) in
-    subst (Ends x m (after x.block x.base m one) (Some (events.Sub j one told))) (sym at) ends
+    let ends : Ends x m (after x.base x.block m one) (Some (events.Sub j one told)) (Some (events.Sub i op reply)) = way x.base m agrees (subst (Suits x m) at there) in
+    subst (Ends x m (after x.base x.block m one) (Some (events.Sub j one told))) (sym at) ends
 
 -- ---- by their places
 
@@ -64,10 +64,10 @@ yields_at log b q i one told at yields m agrees there =
     subst (λ o. Ends log.extent m (acted_on log.extent m o) o (slice_get log.events q)) (sym at) (yields m (subst (Suits log.extent m) at agrees) there i)
 
 pub quiet_at : (x : Extent) (o : Option Event) (i block : ℕ) (op : Op) (told : Option Reply) → block ≡ x.block → o ≡ Some (events.Sub i op told)
-    → ((base : ℕ) (m : List ℕ) → Agrees block base m op told → after block base m op ≡ m) → (m : List ℕ) → Suits x m o → acted_on x m o ≡ m
+    → ((base : ℕ) (m : List ℕ) → Agrees base block m op told → after base block m op ≡ m) → (m : List ℕ) → Suits x m o → acted_on x m o ≡ m
 unfolding acted_on bytes_after reply_of
 quiet_at x o i block op told eb at quiet m there =
-    let here : (base : ℕ) (m : List ℕ) → Agrees x.block base m op told → after x.block base m op ≡ m =
+    let here : (base : ℕ) (m : List ℕ) → Agrees base x.block m op told → after base x.block m op ≡ m =
     subst (λ n. (base : ℕ) (m : List ℕ) → Agrees n base m op told → after n base m op ≡ m) eb quiet in
     ap (acted_on x m) at ∙ here x.base m (subst (Suits x m) at there)
 
@@ -107,15 +107,15 @@ pub not_free : (o : Option Event) (i : ℕ) (op : Op) (told : Option Reply) → 
 not_free o i op told e f = cc
 
 -- one reply is all that was answered
-pub way_of : (block base : ℕ) (m : List ℕ) (one op : Op) (told asked : Option Reply) (reply : Reply) → asked ≡ Some reply
-    → ((answer block base (after block base m one) op ≡ reply → ⊥)
-    ⊎ ((answer block base (after block base m one) op ≡ reply) × Agrees block base (after block base m op) one told
-    × (after block base (after block base m one) op ≡ after block base (after block base m op) one)))
-    → (Agrees block base (after block base m one) op asked → ⊥)
-    ⊎ (Agrees block base (after block base m one) op asked × Agrees block base (after block base m op) one told
-    × (after block base (after block base m one) op ≡ after block base (after block base m op) one))
-way_of block base m one op told asked reply is (inl broken) = inl (λ there. broken (there reply is))
-way_of block base m one op told asked reply is (inr (still, agrees, swap)) =
+pub way_of : (base block : ℕ) (m : List ℕ) (one op : Op) (told asked : Option Reply) (reply : Reply) → asked ≡ Some reply
+    → ((answer base block (after base block m one) op ≡ reply → ⊥)
+    ⊎ ((answer base block (after base block m one) op ≡ reply) × Agrees base block (after base block m op) one told
+    × (after base block (after base block m one) op ≡ after base block (after base block m op) one)))
+    → (Agrees base block (after base block m one) op asked → ⊥)
+    ⊎ (Agrees base block (after base block m one) op asked × Agrees base block (after base block m op) one told
+    × (after base block (after base block m one) op ≡ after base block (after base block m op) one))
+way_of base block m one op told asked reply is (inl broken) = inl (λ there. broken (there reply is))
+way_of base block m one op told asked reply is (inr (still, agrees, swap)) =
     inr ((λ r told_it. still ∙ same_Some reply r (sym is ∙ told_it)), agrees, swap)
 
 pub not_none : (o : Option Event) (i : ℕ) (op : Op) (told : Option Reply) → o ≡ None → o ≡ Some (events.Sub i op told) → ⊥

@@ -16,7 +16,7 @@ use tlp_core::Op;
 /// Right after the first operation the memory suits the second only if it did before.
 fn keeps_out(block: u16, one: &Op, told: &Option<Reply>, other: &Op, asked: &Option<Reply>) -> bool
     requires { IsBlock block }
-    ensures { IsTrue result → (base : ℕ) (m : List ℕ) → Agrees block base m one.now told.now → Agrees block base (after block base m one.now) other.now asked.now → Agrees block base m other.now asked.now }
+    ensures { IsTrue result → (base : ℕ) (m : List ℕ) → Agrees base block m one.now told.now → Agrees base block (after base block m one.now) other.now asked.now → Agrees base block m other.now asked.now }
 {
     match asked {
         Some(reply) => byte_effects::never_brings(block, one, told, other, reply),
@@ -52,8 +52,8 @@ pub fn never_brings(log: &Log, b: usize, q: usize) -> bool
 /// or their order makes no difference.
 fn gives_way(block: u16, one: &Op, told: &Option<Reply>, other: &Op, asked: &Option<Reply>) -> bool
     requires { IsBlock block }
-    ensures brings { IsTrue result → (base : ℕ) (m : List ℕ) → Agrees block base m one.now told.now → Agrees block base (after block base m one.now) other.now asked.now → Agrees block base m other.now asked.now }
-    ensures order { IsTrue result → (base : ℕ) (m : List ℕ) → Agrees block base m one.now told.now → Agrees block base m other.now asked.now → (Agrees block base (after block base m one.now) other.now asked.now → ⊥) ⊎ (Agrees block base (after block base m one.now) other.now asked.now × Agrees block base (after block base m other.now) one.now told.now × (after block base (after block base m one.now) other.now ≡ after block base (after block base m other.now) one.now)) }
+    ensures brings { IsTrue result → (base : ℕ) (m : List ℕ) → Agrees base block m one.now told.now → Agrees base block (after base block m one.now) other.now asked.now → Agrees base block m other.now asked.now }
+    ensures order { IsTrue result → (base : ℕ) (m : List ℕ) → Agrees base block m one.now told.now → Agrees base block m other.now asked.now → (Agrees base block (after base block m one.now) other.now asked.now → ⊥) ⊎ (Agrees base block (after base block m one.now) other.now asked.now × Agrees base block (after base block m other.now) one.now told.now × (after base block (after base block m one.now) other.now ≡ after base block (after base block m other.now) one.now)) }
 {
     match asked {
         Some(reply) => byte_effects::yields(block, one, told, other, reply),
@@ -103,7 +103,7 @@ pub fn changes_nothing(log: &Log, q: usize) -> bool
 
 /// The operations have no byte in common, or the first waits till the bytes of the second aren't these.
 fn goes_behind(base: u64, bytes: &[u8], one: &Op, told: &Option<Reply>, other: &Op) -> bool
-    ensures { IsTrue result → AreApart one.now other.now ⊎ ((block : ℕ) (n : List ℕ) → AreSameAt base other.now bytes.now n → Agrees block base n one.now told.now → ⊥) }
+    ensures { IsTrue result → AreApart one.now other.now ⊎ ((block : ℕ) (n : List ℕ) → AreSameAt base other.now bytes.now n → Agrees base block n one.now told.now → ⊥) }
 {
     if are_apart(one, other) {
         return true;

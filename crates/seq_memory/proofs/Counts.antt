@@ -39,46 +39,46 @@ one_more x m =
     ap (λ y. (y + 1) % m) (mod-mod x m) ∙ mod-add-mod x m 1
 
 -- one FetchAdd of 1
-counted : (block base a : ℕ) (w : Width) (m : List ℕ) (x : ℕ) → refusal block base (length m) (ops.FetchAdd a w 1) ≡ None
+counted : (base block a : ℕ) (w : Width) (m : List ℕ) (x : ℕ) → refusal base (length m) block (ops.FetchAdd a w 1) ≡ None
     → bytes_at m (a - base) (size_of w) ≡ little_bytes (size_of w) (x % 2 ^ (8 * size_of w))
-    → bytes_at (after block base m (ops.FetchAdd a w 1)) (a - base) (size_of w) ≡ little_bytes (size_of w) ((x + 1) % 2 ^ (8 * size_of w))
-counted block base a w m x e h =
+    → bytes_at (after base block m (ops.FetchAdd a w 1)) (a - base) (size_of w) ≡ little_bytes (size_of w) ((x + 1) % 2 ^ (8 * size_of w))
+counted base block a w m x e h =
     let n = size_of w in
     let all = 2 ^ (8 * n) in
-    place_is block base m (ops.FetchAdd a w 1) e
+    place_is base block m (ops.FetchAdd a w 1) e
     ∙ ap (λ old. little_bytes n ((little_number n old + 1) % all)) h
     ∙ ap (λ y. little_bytes n ((y + 1) % all)) (number_told w (x % all))
     ∙ ap (little_bytes n) (one_more x all)
 
-counted_all : (block base a : ℕ) (w : Width) (es : List Entry) (m : List ℕ) (x : ℕ) → AreCounts a w es → refusal block base (length m) (ops.FetchAdd a w 1) ≡ None
+counted_all : (base block a : ℕ) (w : Width) (es : List Entry) (m : List ℕ) (x : ℕ) → AreCounts a w es → refusal base (length m) block (ops.FetchAdd a w 1) ≡ None
     → bytes_at m (a - base) (size_of w) ≡ little_bytes (size_of w) (x % 2 ^ (8 * size_of w))
-    → bytes_at (fold (λ m e. after block base m e.op) m es) (a - base) (size_of w) ≡ little_bytes (size_of w) ((x + length es) % 2 ^ (8 * size_of w))
-counted_all block base a w [] m x c e h = h ∙ ap (λ y. little_bytes (size_of w) (y % 2 ^ (8 * size_of w))) (omega arith)
-counted_all block base a w (f ∷ es) m x c e h =
+    → bytes_at (fold (λ m e. after base block m e.op) m es) (a - base) (size_of w) ≡ little_bytes (size_of w) ((x + length es) % 2 ^ (8 * size_of w))
+counted_all base block a w [] m x c e h = h ∙ ap (λ y. little_bytes (size_of w) (y % 2 ^ (8 * size_of w))) (omega arith)
+counted_all base block a w (f ∷ es) m x c e h =
     let op = ops.FetchAdd a w 1 in
     let is : f.op ≡ op = c 0 f refl in
-    let next = after block base m f.op in
-    let served : refusal block base (length next) op ≡ None = ap (λ k. refusal block base k op) (size_kept block base m f.op) ∙ e in
-    let there = ap (λ o. bytes_at (after block base m o) (a - base) (size_of w)) is ∙ counted block base a w m x e h in
-    counted_all block base a w es next (x + 1) (λ p f' at. c (suc p) f' at) served there
+    let next = after base block m f.op in
+    let served : refusal base (length next) block op ≡ None = ap (λ k. refusal base k block op) (size_kept base block m f.op) ∙ e in
+    let there = ap (λ o. bytes_at (after base block m o) (a - base) (size_of w)) is ∙ counted base block a w m x e h in
+    counted_all base block a w es next (x + 1) (λ p f' at. c (suc p) f' at) served there
     ∙ ap (λ y. little_bytes (size_of w) (y % 2 ^ (8 * size_of w))) (omega arith)
 
 -- zeros at a place that is served
 zeros_there : (base size i n : ℕ) → i + n ≤ size → bytes_at (replicate size 0) i n ≡ replicate n 0
 zeros_there base size i n h = grind (arith, take-replicate, drop-replicate)
 
-pub count_bytes : (x : Extent) (a : ℕ) (w : Width) (es : List Entry) → refusal x.block x.base x.size (ops.FetchAdd a w 1) ≡ None → AreCounts a w es
+pub count_bytes : (x : Extent) (a : ℕ) (w : Width) (es : List Entry) → refusal x.base x.size x.block (ops.FetchAdd a w 1) ≡ None → AreCounts a w es
     → bytes_at (contents x es) (a - x.base) (size_of w) ≡ little_bytes (size_of w) (length es % 2 ^ (8 * size_of w))
 unfolding contents
 count_bytes x a w es e c =
     let op = ops.FetchAdd a w 1 in
     let long : length {A = ℕ} (replicate x.size 0) ≡ x.size = length-replicate {A = ℕ} x.size 0 in
-    let place = placed x.block x.base x.size op (served x.block x.base x.size op e) in
-    counted_all x.block x.base a w es (replicate x.size 0) 0 c (ap (λ k. refusal x.block x.base k op) long ∙ e)
+    let place = placed x.base x.block x.size op (served x.base x.block x.size op e) in
+    counted_all x.base x.block a w es (replicate x.size 0) 0 c (ap (λ k. refusal x.base k x.block op) long ∙ e)
     (zeros_there x.base x.size (a - x.base) (size_of w) place.fits ∙ zero_bytes w)
     ∙ ap (λ y. little_bytes (size_of w) (y % 2 ^ (8 * size_of w))) (omega arith)
 
-pub count_number : (x : Extent) (a : ℕ) (w : Width) (es : List Entry) → refusal x.block x.base x.size (ops.FetchAdd a w 1) ≡ None → AreCounts a w es
+pub count_number : (x : Extent) (a : ℕ) (w : Width) (es : List Entry) → refusal x.base x.size x.block (ops.FetchAdd a w 1) ≡ None → AreCounts a w es
     → little_number (size_of w) (bytes_at (contents x es) (a - x.base) (size_of w)) ≡ length es % 2 ^ (8 * size_of w)
 count_number x a w es e c =
     ap (little_number (size_of w)) (count_bytes x a w es e c)

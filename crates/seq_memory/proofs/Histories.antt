@@ -15,9 +15,9 @@ pub contents-none : (x : Extent) → contents x [] ≡ replicate x.size 0
 unfolding contents
 contents-none x = refl
 
-pub contents-push : (x : Extent) (es : List Entry) (e : Entry) → contents x (es ++ e ∷ []) ≡ after x.block x.base (contents x es) e.op
+pub contents-push : (x : Extent) (es : List Entry) (e : Entry) → contents x (es ++ e ∷ []) ≡ after x.base x.block (contents x es) e.op
 unfolding contents
-contents-push x es e = fold-append (λ m e. after x.block x.base m e.op) (replicate x.size 0) es (e ∷ [])
+contents-push x es e = fold-append (λ m e. after x.base x.block m e.op) (replicate x.size 0) es (e ∷ [])
 
 pub written_back : (n : ℕ) (old new : List ℕ) → n ≡ length old → length new ≡ length old → take n (new ++ drop (length new) old) ≡ new
 written_back n old new e1 e2 =
@@ -26,13 +26,13 @@ written_back n old new e1 e2 =
 -- the memory after its bytes and its history took the step
 pub stepped : (base block n : ℕ) (old new : List ℕ) (es es' : List Entry) (e : Entry) (op : Op) → n ≡ length old → length new ≡ length old
     → IsMemory (record { base = base; size = length old; block = block; entries = es }) old
-    → new ≡ after block base old op → op ≡ e.op → es' ≡ es ++ e ∷ []
+    → new ≡ after base block old op → op ≡ e.op → es' ≡ es ++ e ∷ []
     → IsMemory (record { base = base; size = length (take n (new ++ drop (length new) old)); block = block; entries = es' }) (take n (new ++ drop (length new) old))
 stepped base block n old new es es' e op en el inv step same pushed =
     let back = written_back n old new en el in
     let x : Extent = record { base = base; size = length old; block = block } in
     let made : new ≡ contents x es' =
-    step ∙ ap (λ op. after block base old op) same ∙ ap (λ m. after block base m e.op) inv.made ∙ sym (contents-push x es e) ∙ ap (contents x) (sym pushed) in
+    step ∙ ap (λ op. after base block old op) same ∙ ap (λ m. after base block m e.op) inv.made ∙ sym (contents-push x es e) ∙ ap (contents x) (sym pushed) in
     rw (back, el) (record { in_size = inv.in_size; in_base = inv.in_base; in_block = inv.in_block; made = made })
 
 pub pushed_op : (es es' : List Entry) (e r : Entry) (place : ℕ) → es' ≡ es ++ e ∷ [] → place ≡ length es' - 1 → r ≡ get_or es' place r → r.op ≡ e.op
@@ -48,13 +48,13 @@ begins base size block items es zeros len none in_size in_base in_block =
 
 -- ---- laws of histories
 
-size_folded : (block base : ℕ) (m : List ℕ) (es : List Entry) → length (fold (λ m e. after block base m e.op) m es) ≡ length m
-size_folded block base m [] = refl
-size_folded block base m (e ∷ es) = size_folded block base (after block base m e.op) es ∙ size_kept block base m e.op
+size_folded : (base block : ℕ) (m : List ℕ) (es : List Entry) → length (fold (λ m e. after base block m e.op) m es) ≡ length m
+size_folded base block m [] = refl
+size_folded base block m (e ∷ es) = size_folded base block (after base block m e.op) es ∙ size_kept base block m e.op
 
 pub contents-size : (x : Extent) (es : List Entry) → length (contents x es) ≡ x.size
 unfolding contents
-contents-size x es = size_folded x.block x.base (replicate x.size 0) es ∙ length-replicate x.size 0
+contents-size x es = size_folded x.base x.block (replicate x.size 0) es ∙ length-replicate x.size 0
 
 get_left : (xs ys : List Entry) (k : ℕ) → k < length xs → slice_get (xs ++ ys) k ≡ slice_get xs k
 get_left [] ys k h = absurd (omega arith)
@@ -65,20 +65,20 @@ get_seam : (xs : List Entry) (y : Entry) (ys : List Entry) → slice_get (xs ++ 
 get_seam [] y ys = refl
 get_seam (x ∷ xs) y ys = get_seam xs y ys
 
-pub contents-at : (x : Extent) (es : List Entry) (p : ℕ) (e : Entry) → slice_get es p ≡ Some e → contents_at x es (p + 1) ≡ after x.block x.base (contents_at x es p) e.op
+pub contents-at : (x : Extent) (es : List Entry) (p : ℕ) (e : Entry) → slice_get es p ≡ Some e → contents_at x es (p + 1) ≡ after x.base x.block (contents_at x es p) e.op
 contents-at x es p e at =
     let one_more : take (p + 1) es ≡ take p es ++ e ∷ [] = take_more es p e (slice_get_within es p e at) ∙ ap (λ y. take p es ++ y ∷ []) (get_or_from_slice_get es p e e at) in
     ap (contents x) one_more ∙ contents-push x (take p es) e
 
 pub reply-before : (x : Extent) (es fs : List Entry) (p : ℕ) → p < length es → reply_at x (es ++ fs) p ≡ reply_at x es p
 reply-before x es fs p h =
-    ap (option_map (λ (e : Entry). answer x.block x.base (contents_at x (es ++ fs) p) e.op)) (get_left es fs p h)
-    ∙ ap (λ (hs : List Entry). option_map (λ (e : Entry). answer x.block x.base (contents x hs) e.op) (slice_get es p)) (take-append-le p es fs (omega (arith, h)))
+    ap (option_map (λ (e : Entry). answer x.base x.block (contents_at x (es ++ fs) p) e.op)) (get_left es fs p h)
+    ∙ ap (λ (hs : List Entry). option_map (λ (e : Entry). answer x.base x.block (contents x hs) e.op) (slice_get es p)) (take-append-le p es fs (omega (arith, h)))
 
-pub reply-seam : (x : Extent) (es : List Entry) (e : Entry) (fs : List Entry) → reply_at x (es ++ e ∷ fs) (length es) ≡ Some (answer x.block x.base (contents x es) e.op)
+pub reply-seam : (x : Extent) (es : List Entry) (e : Entry) (fs : List Entry) → reply_at x (es ++ e ∷ fs) (length es) ≡ Some (answer x.base x.block (contents x es) e.op)
 reply-seam x es e fs =
-    ap (option_map (λ (y : Entry). answer x.block x.base (contents_at x (es ++ e ∷ fs) (length es)) y.op)) (get_seam es e fs)
-    ∙ ap (λ (hs : List Entry). Some (answer x.block x.base (contents x hs) e.op)) (take_at es (e ∷ fs) (length es) refl)
+    ap (option_map (λ (y : Entry). answer x.base x.block (contents_at x (es ++ e ∷ fs) (length es)) y.op)) (get_seam es e fs)
+    ∙ ap (λ (hs : List Entry). Some (answer x.base x.block (contents x hs) e.op)) (take_at es (e ∷ fs) (length es) refl)
 
 pub reply-past : (x : Extent) (es : List Entry) (p : ℕ) → length es ≤ p → reply_at x es p ≡ None
-reply-past x es p h = ap (option_map (λ (e : Entry). answer x.block x.base (contents_at x es p) e.op)) (slice_get_past es p h)
+reply-past x es p h = ap (option_map (λ (e : Entry). answer x.base x.block (contents_at x es p) e.op)) (slice_get_past es p h)

@@ -37,7 +37,7 @@ no_fault : (o : Option TlpFault) → is_some o ≡ false → o ≡ None
 no_fault None h = refl
 no_fault (Some f) h = absurd (cc)
 
-pub record Served (block base size : ℕ) (op : Op) : Type 0 where
+pub record Served (base block size : ℕ) (op : Op) : Type 0 where
   pub sound : op_fault op ≡ None
   pub within : is_in_block block (address_of op) (count_of op) ≡ true
   pub inside : is_inside base size (address_of op) (count_of op) ≡ true
@@ -47,8 +47,8 @@ pub record Served (block base size : ℕ) (op : Op) : Type 0 where
 below : (a b : ℕ) → nat_le a b ≡ true → a ≤ b
 below a b h = grind (arith, nat_tests)
 
-pub served : (block base size : ℕ) (op : Op) → refusal block base size op ≡ None → Served block base size op
-served block base size op h =
+pub served : (base block size : ℕ) (op : Op) → refusal base size block op ≡ None → Served base block size op
+served base block size op h =
     let parts = none_refused (is_some (op_fault op)) (is_in_block block (address_of op) (count_of op)) (is_inside base size (address_of op) (count_of op)) h in
     let inside = both_true (nat_le base (address_of op)) (nat_le (address_of op + count_of op) (base + size)) parts.2 in
     record { sound = no_fault (op_fault op) parts.0; within = parts.1; inside = parts.2; low = below _ _ inside.0; high = below _ _ inside.1 }
@@ -135,50 +135,50 @@ pub record IsPlaced (base size : ℕ) (op : Op) : Type 0 where
   pub fits : address_of op - base + count_of op ≤ size
   pub low : base ≤ address_of op
 
-pub placed : (block base size : ℕ) (op : Op) → Served block base size op → IsPlaced base size op
-placed block base size op s = let l = s.low in let h = s.high in record { fits = omega (arith, l, h); low = l }
+pub placed : (base block size : ℕ) (op : Op) → Served base block size op → IsPlaced base size op
+placed base block size op s = let l = s.low in let h = s.high in record { fits = omega (arith, l, h); low = l }
 
-new_length : (block base : ℕ) (m : List ℕ) (op : Op) → Served block base (length m) op → length (place_after op (bytes_at m (address_of op - base) (count_of op))) ≡ count_of op
-new_length block base m op s =
-    length_place op (bytes_at m (address_of op - base) (count_of op)) s.sound (length_at m (address_of op - base) (count_of op) (placed block base (length m) op s).fits)
+new_length : (base block : ℕ) (m : List ℕ) (op : Op) → Served base block (length m) op → length (place_after op (bytes_at m (address_of op - base) (count_of op))) ≡ count_of op
+new_length base block m op s =
+    length_place op (bytes_at m (address_of op - base) (count_of op)) s.sound (length_at m (address_of op - base) (count_of op) (placed base block (length m) op s).fits)
 
-pub size_kept : (block base : ℕ) (m : List ℕ) (op : Op) → length (after block base m op) ≡ length m
-size_kept block base m op =
-    by_refusal (λ xs. length xs ≡ length m) (refusal block base (length m) op) m _ refl
-    (λ e. let s = served block base (length m) op e in length_patched m (address_of op - base) (count_of op) _ (placed block base (length m) op s).fits (new_length block base m op s))
+pub size_kept : (base block : ℕ) (m : List ℕ) (op : Op) → length (after base block m op) ≡ length m
+size_kept base block m op =
+    by_refusal (λ xs. length xs ≡ length m) (refusal base (length m) block op) m _ refl
+    (λ e. let s = served base block (length m) op e in length_patched m (address_of op - base) (count_of op) _ (placed base block (length m) op s).fits (new_length base block m op s))
 
-pub others_kept : (block base k : ℕ) (m : List ℕ) (op : Op) → (base + k < address_of op) ⊎ (address_of op + count_of op ≤ base + k) → slice_index (after block base m op) k ≡ slice_index m k
-others_kept block base k m op (inl h) =
-    by_refusal (λ xs. get_or xs k 0 ≡ get_or m k 0) (refusal block base (length m) op) m _ refl
-    (λ e. let s = served block base (length m) op e in patched_below m (address_of op - base) (count_of op) _ k (placed block base (length m) op s).fits (omega (arith, h)))
-others_kept block base k m op (inr h) =
-    by_refusal (λ xs. get_or xs k 0 ≡ get_or m k 0) (refusal block base (length m) op) m _ refl
+pub others_kept : (base block k : ℕ) (m : List ℕ) (op : Op) → (base + k < address_of op) ⊎ (address_of op + count_of op ≤ base + k) → slice_index (after base block m op) k ≡ slice_index m k
+others_kept base block k m op (inl h) =
+    by_refusal (λ xs. get_or xs k 0 ≡ get_or m k 0) (refusal base (length m) block op) m _ refl
+    (λ e. let s = served base block (length m) op e in patched_below m (address_of op - base) (count_of op) _ k (placed base block (length m) op s).fits (omega (arith, h)))
+others_kept base block k m op (inr h) =
+    by_refusal (λ xs. get_or xs k 0 ≡ get_or m k 0) (refusal base (length m) block op) m _ refl
     (λ e.
-    let s = served block base (length m) op e in
+    let s = served base block (length m) op e in
     let low = s.low in
-    patched_above m (address_of op - base) (count_of op) _ k (placed block base (length m) op s).fits (new_length block base m op s) (omega (arith, h, low)))
+    patched_above m (address_of op - base) (count_of op) _ k (placed base block (length m) op s).fits (new_length base block m op s) (omega (arith, h, low)))
 
-pub refused_kept : (block base : ℕ) (m : List ℕ) (op : Op) (r : Refusal) → refusal block base (length m) op ≡ Some r → after block base m op ≡ m
-refused_kept block base m op r e = ap (λ o. after_by o m (patched m (address_of op - base) (count_of op) (place_after op (bytes_at m (address_of op - base) (count_of op))))) e
+pub refused_kept : (base block : ℕ) (m : List ℕ) (op : Op) (r : Refusal) → refusal base (length m) block op ≡ Some r → after base block m op ≡ m
+refused_kept base block m op r e = ap (λ o. after_by o m (patched m (address_of op - base) (count_of op) (place_after op (bytes_at m (address_of op - base) (count_of op))))) e
 
-pub refused_answer : (block base : ℕ) (m : List ℕ) (op : Op) (r : Refusal) → refusal block base (length m) op ≡ Some r → answer block base m op ≡ answer_by (Some r) (read_back op (bytes_at m (address_of op - base) (count_of op)))
-refused_answer block base m op r e = ap (λ o. answer_by o (read_back op (bytes_at m (address_of op - base) (count_of op)))) e
+pub refused_answer : (base block : ℕ) (m : List ℕ) (op : Op) (r : Refusal) → refusal base (length m) block op ≡ Some r → answer base block m op ≡ answer_by (Some r) (read_back op (bytes_at m (address_of op - base) (count_of op)))
+refused_answer base block m op r e = ap (λ o. answer_by o (read_back op (bytes_at m (address_of op - base) (count_of op)))) e
 
-pub served_answer : (block base : ℕ) (m : List ℕ) (op : Op) → refusal block base (length m) op ≡ None → answer block base m op ≡ read_back op (bytes_at m (address_of op - base) (count_of op))
-served_answer block base m op e = ap (λ o. answer_by o (read_back op (bytes_at m (address_of op - base) (count_of op)))) e
+pub served_answer : (base block : ℕ) (m : List ℕ) (op : Op) → refusal base (length m) block op ≡ None → answer base block m op ≡ read_back op (bytes_at m (address_of op - base) (count_of op))
+served_answer base block m op e = ap (λ o. answer_by o (read_back op (bytes_at m (address_of op - base) (count_of op)))) e
 
-served_after : (block base : ℕ) (m : List ℕ) (op : Op) → refusal block base (length m) op ≡ None → after block base m op ≡ patched m (address_of op - base) (count_of op) (place_after op (bytes_at m (address_of op - base) (count_of op)))
-served_after block base m op e = ap (λ o. after_by o m (patched m (address_of op - base) (count_of op) (place_after op (bytes_at m (address_of op - base) (count_of op))))) e
+served_after : (base block : ℕ) (m : List ℕ) (op : Op) → refusal base (length m) block op ≡ None → after base block m op ≡ patched m (address_of op - base) (count_of op) (place_after op (bytes_at m (address_of op - base) (count_of op)))
+served_after base block m op e = ap (λ o. after_by o m (patched m (address_of op - base) (count_of op) (place_after op (bytes_at m (address_of op - base) (count_of op))))) e
 
-pub place_is : (block base : ℕ) (m : List ℕ) (op : Op) → refusal block base (length m) op ≡ None → bytes_at (after block base m op) (address_of op - base) (count_of op) ≡ place_after op (bytes_at m (address_of op - base) (count_of op))
-place_is block base m op e =
-    let s = served block base (length m) op e in
-    ap (λ xs. bytes_at xs (address_of op - base) (count_of op)) (served_after block base m op e)
-    ∙ patched_at m (address_of op - base) (count_of op) _ (placed block base (length m) op s).fits (new_length block base m op s)
+pub place_is : (base block : ℕ) (m : List ℕ) (op : Op) → refusal base (length m) block op ≡ None → bytes_at (after base block m op) (address_of op - base) (count_of op) ≡ place_after op (bytes_at m (address_of op - base) (count_of op))
+place_is base block m op e =
+    let s = served base block (length m) op e in
+    ap (λ xs. bytes_at xs (address_of op - base) (count_of op)) (served_after base block m op e)
+    ∙ patched_at m (address_of op - base) (count_of op) _ (placed base block (length m) op s).fits (new_length base block m op s)
 
-pub reads_keep : (block base a dw f l : ℕ) (m : List ℕ) → after block base m (ops.Read a dw f l) ≡ m
-reads_keep block base a dw f l m =
-    by_refusal (λ xs. xs ≡ m) (refusal block base (length m) (ops.Read a dw f l)) m _ refl (λ e. patched_same m (a - base) (4 * dw))
+pub reads_keep : (base block a dw f l : ℕ) (m : List ℕ) → after base block m (ops.Read a dw f l) ≡ m
+reads_keep base block a dw f l m =
+    by_refusal (λ xs. xs ≡ m) (refusal base (length m) block (ops.Read a dw f l)) m _ refl (λ e. patched_same m (a - base) (4 * dw))
 
 -- ---- what was written is read
 
@@ -196,10 +196,10 @@ some_dw : (n : ℕ) → 4 ≤ n → n ≤ 128 → ((n / 4 == 0) || nat_lt 1024 (
 some_dw n h s = grind (arith, nat_tests)
 
 -- a read of the DW of a write that is served is served
-read_served : (block base size a f l : ℕ) (bytes : ArrayVec ℕ) → IsBlock block → refusal block base size (ops.Write a f l bytes) ≡ None → refusal block base size (ops.Read a (length bytes.items / 4) f l) ≡ None
-read_served block base size a f l bytes b e =
+read_served : (base block size a f l : ℕ) (bytes : ArrayVec ℕ) → IsBlock block → refusal base size block (ops.Write a f l bytes) ≡ None → refusal base size block (ops.Read a (length bytes.items / 4) f l) ≡ None
+read_served base block size a f l bytes b e =
     let n = length bytes.items in
-    let s = served block base size (ops.Write a f l bytes) e in
+    let s = served base block size (ops.Write a f l bytes) e in
     let parts = sound_parts (ops.Write a f l bytes) s.sound in
     let w = whole_dw n parts.0 in
     let few = small block a n b (omega (arith, w.0)) s.within in
@@ -209,55 +209,55 @@ read_served block base size a f l bytes b e =
     (sym w.1) (none_served (is_some (op_fault (ops.Read a (n / 4) f l))) (is_in_block block a n) (is_inside base size a n) (ap is_some none) s.within s.inside)
 
 -- what a read right after a write of the same DW gives, whatever bytes each of them enables
-pub write_read_any : (block base a f l g h : ℕ) (m : List ℕ) (bytes : ArrayVec ℕ)
-    → refusal block base (length m) (ops.Write a f l bytes) ≡ None
-    → refusal block base (length m) (ops.Read a (length bytes.items / 4) g h) ≡ None
-    → answer block base (after block base m (ops.Write a f l bytes)) (ops.Read a (length bytes.items / 4) g h) ≡ data_of (read_over g h bytes.items (written_over f l bytes.items (bytes_at m (a - base) (length bytes.items))))
-write_read_any block base a f l g h m bytes e e' =
+pub write_read_any : (base block a f l g h : ℕ) (m : List ℕ) (bytes : ArrayVec ℕ)
+    → refusal base (length m) block (ops.Write a f l bytes) ≡ None
+    → refusal base (length m) block (ops.Read a (length bytes.items / 4) g h) ≡ None
+    → answer base block (after base block m (ops.Write a f l bytes)) (ops.Read a (length bytes.items / 4) g h) ≡ data_of (read_over g h bytes.items (written_over f l bytes.items (bytes_at m (a - base) (length bytes.items))))
+write_read_any base block a f l g h m bytes e e' =
     let n = length bytes.items in
-    let m' = after block base m (ops.Write a f l bytes) in
-    let s = served block base (length m) (ops.Write a f l bytes) e in
+    let m' = after base block m (ops.Write a f l bytes) in
+    let s = served base block (length m) (ops.Write a f l bytes) e in
     let w = whole_dw n (sound_parts (ops.Write a f l bytes) s.sound).0 in
-    let read : refusal block base (length m') (ops.Read a (n / 4) g h) ≡ None =
-    ap (λ k. refusal block base k (ops.Read a (n / 4) g h)) (size_kept block base m (ops.Write a f l bytes)) ∙ e' in
-    served_answer block base m' (ops.Read a (n / 4) g h) read
+    let read : refusal base (length m') block (ops.Read a (n / 4) g h) ≡ None =
+    ap (λ k. refusal base k block (ops.Read a (n / 4) g h)) (size_kept base block m (ops.Write a f l bytes)) ∙ e' in
+    served_answer base block m' (ops.Read a (n / 4) g h) read
     ∙ ap (λ k. data_of (merged (enables (n / 4) g h) (bytes_at m' (a - base) k) (replicate k 0))) w.1
-    ∙ ap (λ xs. data_of (merged (enables (n / 4) g h) xs (replicate n 0))) (place_is block base m (ops.Write a f l bytes) e)
+    ∙ ap (λ xs. data_of (merged (enables (n / 4) g h) xs (replicate n 0))) (place_is base block m (ops.Write a f l bytes) e)
 
 -- of the bytes that both enable
-pub enabled_read : (block base a f l g h k : ℕ) (m : List ℕ) (bytes : ArrayVec ℕ)
-    → refusal block base (length m) (ops.Write a f l bytes) ≡ None
+pub enabled_read : (base block a f l g h k : ℕ) (m : List ℕ) (bytes : ArrayVec ℕ)
+    → refusal base (length m) block (ops.Write a f l bytes) ≡ None
     → is_enabled (length bytes.items / 4) f l k ≡ true → is_enabled (length bytes.items / 4) g h k ≡ true
     → slice_get (read_over g h bytes.items (written_over f l bytes.items (bytes_at m (a - base) (length bytes.items)))) k ≡ slice_get bytes.items k
-enabled_read block base a f l g h k m bytes e w r =
+enabled_read base block a f l g h k m bytes e w r =
     let n = length bytes.items in
     let old = bytes_at m (a - base) n in
-    let s = served block base (length m) (ops.Write a f l bytes) e in
+    let s = served base block (length m) (ops.Write a f l bytes) e in
     let whole = whole_dw n (sound_parts (ops.Write a f l bytes) s.sound).0 in
     let some : 1 ≤ n / 4 = omega (arith, whole.0) in
     let of_write : length (enables (n / 4) f l) ≡ n = length_enables (n / 4) f l some ∙ whole.1 in
     let of_read : length (enables (n / 4) g h) ≡ n = length_enables (n / 4) g h some ∙ whole.1 in
-    let there : length old ≡ n = length_at m (a - base) n (placed block base (length m) (ops.Write a f l bytes) s).fits in
+    let there : length old ≡ n = length_at m (a - base) n (placed base block (length m) (ops.Write a f l bytes) s).fits in
     let zeros : length {A = ℕ} (replicate n 0) ≡ n = length-replicate {A = ℕ} n 0 in
     let new : length (merged (enables (n / 4) f l) bytes.items old) ≡ n = length_merged (enables (n / 4) f l) bytes.items old (sym of_write) (there ∙ sym of_write) ∙ of_write in
     merged_at (enables (n / 4) g h) (merged (enables (n / 4) f l) bytes.items old) (replicate n 0) k (new ∙ sym of_read) (zeros ∙ sym of_read) r
     ∙ merged_at (enables (n / 4) f l) bytes.items old k (sym of_write) (there ∙ sym of_write) w
 
-pub write_read : (block base a f l : ℕ) (m : List ℕ) (bytes : ArrayVec ℕ) → IsBlock block
+pub write_read : (base block a f l : ℕ) (m : List ℕ) (bytes : ArrayVec ℕ) → IsBlock block
     → enables (length bytes.items / 4) f l ≡ replicate (length bytes.items) true
-    → refusal block base (length m) (ops.Write a f l bytes) ≡ None
-    → answer block base (after block base m (ops.Write a f l bytes)) (ops.Read a (length bytes.items / 4) f l) ≡ data_of bytes.items
-write_read block base a f l m bytes b all e =
+    → refusal base (length m) block (ops.Write a f l bytes) ≡ None
+    → answer base block (after base block m (ops.Write a f l bytes)) (ops.Read a (length bytes.items / 4) f l) ≡ data_of bytes.items
+write_read base block a f l m bytes b all e =
     let n = length bytes.items in
-    let m' = after block base m (ops.Write a f l bytes) in
-    let s = served block base (length m) (ops.Write a f l bytes) e in
+    let m' = after base block m (ops.Write a f l bytes) in
+    let s = served base block (length m) (ops.Write a f l bytes) e in
     let w = whole_dw n (sound_parts (ops.Write a f l bytes) s.sound).0 in
-    let read : refusal block base (length m') (ops.Read a (n / 4) f l) ≡ None =
-    ap (λ k. refusal block base k (ops.Read a (n / 4) f l)) (size_kept block base m (ops.Write a f l bytes)) ∙ read_served block base (length m) a f l bytes b e in
-    let there : bytes_at m' (a - base) n ≡ bytes.items = place_is block base m (ops.Write a f l bytes) e
+    let read : refusal base (length m') block (ops.Read a (n / 4) f l) ≡ None =
+    ap (λ k. refusal base k block (ops.Read a (n / 4) f l)) (size_kept base block m (ops.Write a f l bytes)) ∙ read_served base block (length m) a f l bytes b e in
+    let there : bytes_at m' (a - base) n ≡ bytes.items = place_is base block m (ops.Write a f l bytes) e
     ∙ ap (λ es. merged es bytes.items (bytes_at m (a - base) n)) all
-    ∙ merged_all n bytes.items (bytes_at m (a - base) n) refl (length_at m (a - base) n (placed block base (length m) (ops.Write a f l bytes) s).fits) in
-    served_answer block base m' (ops.Read a (n / 4) f l) read
+    ∙ merged_all n bytes.items (bytes_at m (a - base) n) refl (length_at m (a - base) n (placed base block (length m) (ops.Write a f l bytes) s).fits) in
+    served_answer base block m' (ops.Read a (n / 4) f l) read
     ∙ ap (λ k. data_of (merged (enables (n / 4) f l) (bytes_at m' (a - base) k) (replicate k 0))) w.1
     ∙ ap (λ es. data_of (merged es (bytes_at m' (a - base) n) (replicate n 0))) all
     ∙ ap (λ xs. data_of (merged (replicate n true) xs (replicate n 0))) there

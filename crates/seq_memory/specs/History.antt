@@ -9,7 +9,7 @@ use Rattle.seq_memory.specs.Step.{after, answer}
 
 -- the bytes after all entries, which began as zeros
 unfoldable pub contents : Extent → List Entry → List ℕ
-contents x entries = fold (λ m e. after x.block x.base m e.op) (replicate x.size 0) entries
+contents x entries = fold (λ m e. after x.base x.block m e.op) (replicate x.size 0) entries
 
 -- the bytes before the entry at place p
 abbrev pub contents_at : Extent → List Entry → ℕ → List ℕ
@@ -17,7 +17,7 @@ contents_at x entries p = contents x (take p entries)
 
 -- the reply to the entry at place p, by the bytes before it; none past the end
 abbrev pub reply_at : Extent → List Entry → ℕ → Option Reply
-reply_at x entries p = option_map (λ e. answer x.block x.base (contents_at x entries p) e.op) (slice_get entries p)
+reply_at x entries p = option_map (λ e. answer x.base x.block (contents_at x entries p) e.op) (slice_get entries p)
 
 -- each request is a FetchAdd of 1, of that width and at that address
 abbrev pub AreCounts : ℕ → Width → List Entry → Type 0

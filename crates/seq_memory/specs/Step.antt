@@ -26,7 +26,7 @@ is_inside base size address count = nat_le base address && nat_le (address + cou
 
 -- why an operation is not served, the block tested first
 abbrev pub refusal : ℕ → ℕ → ℕ → Op → Option Refusal
-refusal block base size op =
+refusal base size block op =
     if is_some (op_fault op) || not (is_in_block block (address_of op) (count_of op)) then Some refusals.Aborted
     else (if is_inside base size (address_of op) (count_of op) then None else Some refusals.Unsupported)
 
@@ -81,14 +81,14 @@ answer_by (Some refusals.Unsupported) r = replies.Unsupported
 
 -- the bytes after the operation
 abbrev pub after : ℕ → ℕ → List ℕ → Op → List ℕ
-after block base m op =
-    after_by (refusal block base (length m) op) m
+after base block m op =
+    after_by (refusal base (length m) block op) m
     (patched m (address_of op - base) (count_of op) (place_after op (bytes_at m (address_of op - base) (count_of op))))
 
 -- the reply to the operation
 abbrev pub answer : ℕ → ℕ → List ℕ → Op → Reply
-answer block base m op =
-    answer_by (refusal block base (length m) op) (read_back op (bytes_at m (address_of op - base) (count_of op)))
+answer base block m op =
+    answer_by (refusal base (length m) block op) (read_back op (bytes_at m (address_of op - base) (count_of op)))
 
 -- ---- a read right after a write of the same DW
 

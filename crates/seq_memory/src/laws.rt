@@ -17,24 +17,24 @@ ghost use Rattle.seq_memory.specs.History.{contents, contents_at, reply_at, AreC
 /// its place what it makes of the bytes that were there.
 #[tactic(auto, using(crate::proofs::Steps::others_kept, crate::proofs::Steps::size_kept, crate::proofs::Steps::place_is))]
 pub fn only_the_place_changes()
-    ensures others { (block base k : ℕ) (m : List ℕ) (op : Op) → (base + k < address_of op) ⊎ (address_of op + count_of op ≤ base + k) → slice_index (after block base m op) k ≡ slice_index m k }
-    ensures size { (block base : ℕ) (m : List ℕ) (op : Op) → length (after block base m op) ≡ length m }
-    ensures place { (block base : ℕ) (m : List ℕ) (op : Op) → refusal block base (length m) op ≡ None → bytes_at (after block base m op) (address_of op - base) (count_of op) ≡ place_after op (bytes_at m (address_of op - base) (count_of op)) }
+    ensures others { (base block k : ℕ) (m : List ℕ) (op : Op) → (base + k < address_of op) ⊎ (address_of op + count_of op ≤ base + k) → slice_index (after base block m op) k ≡ slice_index m k }
+    ensures size { (base block : ℕ) (m : List ℕ) (op : Op) → length (after base block m op) ≡ length m }
+    ensures place { (base block : ℕ) (m : List ℕ) (op : Op) → refusal base (length m) block op ≡ None → bytes_at (after base block m op) (address_of op - base) (count_of op) ≡ place_after op (bytes_at m (address_of op - base) (count_of op)) }
 {}
 
 /// An operation that is not served changes nothing, and neither does a read.
 #[tactic(auto, using(crate::proofs::Steps::refused_kept))]
 pub fn refused_and_read_change_nothing()
-    ensures refused { (block base : ℕ) (m : List ℕ) (op : Op) (r : Refusal) → refusal block base (length m) op ≡ Some r → after block base m op ≡ m }
-    ensures reads { (block base a dw f l : ℕ) (m : List ℕ) → after block base m (ops.Read a dw f l) ≡ m }
+    ensures refused { (base block : ℕ) (m : List ℕ) (op : Op) (r : Refusal) → refusal base (length m) block op ≡ Some r → after base block m op ≡ m }
+    ensures reads { (base block a dw f l : ℕ) (m : List ℕ) → after base block m (ops.Read a dw f l) ≡ m }
 {}
 
 /// A served AtomicOp returns the original bytes of its operand.
 #[tactic(auto, using(crate::proofs::Steps::served_answer))]
 pub fn atomics_return_the_original()
-    ensures fetch_add { (block base a x : ℕ) (w : Width) (m : List ℕ) → refusal block base (length m) (ops.FetchAdd a w x) ≡ None → answer block base m (ops.FetchAdd a w x) ≡ data_of (bytes_at m (a - base) (size_of w)) }
-    ensures swap { (block base a x : ℕ) (w : Width) (m : List ℕ) → refusal block base (length m) (ops.Swap a w x) ≡ None → answer block base m (ops.Swap a w x) ≡ data_of (bytes_at m (a - base) (size_of w)) }
-    ensures cas { (block base a x y : ℕ) (w : Width) (m : List ℕ) → refusal block base (length m) (ops.Cas a w x y) ≡ None → answer block base m (ops.Cas a w x y) ≡ data_of (bytes_at m (a - base) (size_of w)) }
+    ensures fetch_add { (base block a x : ℕ) (w : Width) (m : List ℕ) → refusal base (length m) block (ops.FetchAdd a w x) ≡ None → answer base block m (ops.FetchAdd a w x) ≡ data_of (bytes_at m (a - base) (size_of w)) }
+    ensures swap { (base block a x : ℕ) (w : Width) (m : List ℕ) → refusal base (length m) block (ops.Swap a w x) ≡ None → answer base block m (ops.Swap a w x) ≡ data_of (bytes_at m (a - base) (size_of w)) }
+    ensures cas { (base block a x y : ℕ) (w : Width) (m : List ℕ) → refusal base (length m) block (ops.Cas a w x y) ≡ None → answer base block m (ops.Cas a w x y) ≡ data_of (bytes_at m (a - base) (size_of w)) }
 {}
 
 /// A read of the DW of a served write, right after it, gives what was written, of the bytes that
@@ -42,17 +42,17 @@ pub fn atomics_return_the_original()
 /// the same enables is served too where all bytes are enabled.
 #[tactic(auto, using(crate::proofs::Steps::write_read, crate::proofs::Steps::write_read_any, crate::proofs::Steps::enabled_read))]
 pub fn what_was_written_is_read()
-    ensures any { (block base a f l g h : ℕ) (m : List ℕ) (bytes : ArrayVec ℕ) → refusal block base (length m) (ops.Write a f l bytes) ≡ None → refusal block base (length m) (ops.Read a (length bytes.items / 4) g h) ≡ None → answer block base (after block base m (ops.Write a f l bytes)) (ops.Read a (length bytes.items / 4) g h) ≡ data_of (read_over g h bytes.items (written_over f l bytes.items (bytes_at m (a - base) (length bytes.items)))) }
-    ensures both { (block base a f l g h k : ℕ) (m : List ℕ) (bytes : ArrayVec ℕ) → refusal block base (length m) (ops.Write a f l bytes) ≡ None → is_enabled (length bytes.items / 4) f l k ≡ true → is_enabled (length bytes.items / 4) g h k ≡ true → slice_get (read_over g h bytes.items (written_over f l bytes.items (bytes_at m (a - base) (length bytes.items)))) k ≡ slice_get bytes.items k }
-    ensures all { (block base a f l : ℕ) (m : List ℕ) (bytes : ArrayVec ℕ) → IsBlock block → enables (length bytes.items / 4) f l ≡ replicate (length bytes.items) true → refusal block base (length m) (ops.Write a f l bytes) ≡ None → answer block base (after block base m (ops.Write a f l bytes)) (ops.Read a (length bytes.items / 4) f l) ≡ data_of bytes.items }
+    ensures any { (base block a f l g h : ℕ) (m : List ℕ) (bytes : ArrayVec ℕ) → refusal base (length m) block (ops.Write a f l bytes) ≡ None → refusal base (length m) block (ops.Read a (length bytes.items / 4) g h) ≡ None → answer base block (after base block m (ops.Write a f l bytes)) (ops.Read a (length bytes.items / 4) g h) ≡ data_of (read_over g h bytes.items (written_over f l bytes.items (bytes_at m (a - base) (length bytes.items)))) }
+    ensures both { (base block a f l g h k : ℕ) (m : List ℕ) (bytes : ArrayVec ℕ) → refusal base (length m) block (ops.Write a f l bytes) ≡ None → is_enabled (length bytes.items / 4) f l k ≡ true → is_enabled (length bytes.items / 4) g h k ≡ true → slice_get (read_over g h bytes.items (written_over f l bytes.items (bytes_at m (a - base) (length bytes.items)))) k ≡ slice_get bytes.items k }
+    ensures all { (base block a f l : ℕ) (m : List ℕ) (bytes : ArrayVec ℕ) → IsBlock block → enables (length bytes.items / 4) f l ≡ replicate (length bytes.items) true → refusal base (length m) block (ops.Write a f l bytes) ≡ None → answer base block (after base block m (ops.Write a f l bytes)) (ops.Read a (length bytes.items / 4) f l) ≡ data_of bytes.items }
 {}
 
 /// A history of no entries leaves zeros, and one more entry takes one step; the bytes keep their
 /// number.
 pub fn history_grows_by_steps()
     ensures none { (x : Extent) → contents x [] ≡ replicate x.size 0 }
-    ensures next { (x : Extent) (es : List Entry) (e : Entry) → contents x (es ++ e ∷ []) ≡ after x.block x.base (contents x es) e.op }
-    ensures at { (x : Extent) (p : ℕ) (es : List Entry) (e : Entry) → slice_get es p ≡ Some e → contents_at x es (p + 1) ≡ after x.block x.base (contents_at x es p) e.op }
+    ensures next { (x : Extent) (es : List Entry) (e : Entry) → contents x (es ++ e ∷ []) ≡ after x.base x.block (contents x es) e.op }
+    ensures at { (x : Extent) (p : ℕ) (es : List Entry) (e : Entry) → slice_get es p ≡ Some e → contents_at x es (p + 1) ≡ after x.base x.block (contents_at x es p) e.op }
     ensures size { (x : Extent) (es : List Entry) → length (contents x es) ≡ x.size }
 {}
 
@@ -60,14 +60,14 @@ pub fn history_grows_by_steps()
 /// served, leaves its length there, modulo 2 to the number of the operand's bits.
 #[tactic(auto, using(crate::proofs::Counts::count_number, crate::proofs::Counts::count_bytes))]
 pub fn a_counter_counts_each_once()
-    ensures number { (x : Extent) (a : ℕ) (w : Width) (es : List Entry) → refusal x.block x.base x.size (ops.FetchAdd a w 1) ≡ None → AreCounts a w es → little_number (size_of w) (bytes_at (contents x es) (a - x.base) (size_of w)) ≡ length es % 2 ^ (8 * size_of w) }
-    ensures bytes { (x : Extent) (a : ℕ) (w : Width) (es : List Entry) → refusal x.block x.base x.size (ops.FetchAdd a w 1) ≡ None → AreCounts a w es → bytes_at (contents x es) (a - x.base) (size_of w) ≡ little_bytes (size_of w) (length es % 2 ^ (8 * size_of w)) }
+    ensures number { (x : Extent) (a : ℕ) (w : Width) (es : List Entry) → refusal x.base x.size x.block (ops.FetchAdd a w 1) ≡ None → AreCounts a w es → little_number (size_of w) (bytes_at (contents x es) (a - x.base) (size_of w)) ≡ length es % 2 ^ (8 * size_of w) }
+    ensures bytes { (x : Extent) (a : ℕ) (w : Width) (es : List Entry) → refusal x.base x.size x.block (ops.FetchAdd a w 1) ≡ None → AreCounts a w es → bytes_at (contents x es) (a - x.base) (size_of w) ≡ little_bytes (size_of w) (length es % 2 ^ (8 * size_of w)) }
 {}
 
 /// The reply to an entry is the answer of the memory that the entries before it make, whatever
 /// comes behind it.
 pub fn replies_stay()
     ensures before { (x : Extent) (p : ℕ) (es fs : List Entry) → p < length es → reply_at x (es ++ fs) p ≡ reply_at x es p }
-    ensures next { (x : Extent) (es fs : List Entry) (e : Entry) → reply_at x (es ++ e ∷ fs) (length es) ≡ Some (answer x.block x.base (contents x es) e.op) }
+    ensures next { (x : Extent) (es fs : List Entry) (e : Entry) → reply_at x (es ++ e ∷ fs) (length es) ≡ Some (answer x.base x.block (contents x es) e.op) }
     ensures past { (x : Extent) (p : ℕ) (es : List Entry) → length es ≤ p → reply_at x es p ≡ None }
 {}

@@ -62,7 +62,7 @@ impl Memory {
     #[inline(always)]
     pub fn act(&mut self, entry: Entry) -> Result<Reply, AllocError>
         ensures entry { OnOk result (self.new ≡ record self.old { entries = self.old.entries ++ entry ∷ [] }) }
-        ensures reply { IfOk result (λ r. r ≡ answer self.old.block self.old.base (bytes_of self.old) entry.op) }
+        ensures reply { IfOk result (λ r. r ≡ answer self.old.base self.old.block (bytes_of self.old) entry.op) }
         ensures size { IfOk result (λ r. IsSizedFor entry.op r) }
         ensures err { OnErr result (self.new ≡ self.old) }
     {
@@ -75,7 +75,7 @@ impl Memory {
     /// Why [`act`](Memory::act) would not serve the operation, none where it would; what it would
     /// reply is known by that but for the data of a read or an AtomicOp.
     pub fn refusal(&self, op: &Op) -> Option<Refusal>
-        ensures value { result ≡ refusal self.now.block self.now.base self.now.size op.now }
+        ensures value { result ≡ refusal self.now.base self.now.size self.now.block op.now }
         ensures size { length (bytes_of self.now) ≡ self.now.size }
     {
         refusal_of(self.base, self.block, self.bytes.len(), op)

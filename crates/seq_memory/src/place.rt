@@ -32,7 +32,7 @@ fn lies_inside(base: u64, size: usize, address: u64, count: u32) -> bool
 /// Why the operation is not served, none where it is.
 pub(crate) fn refusal_of(base: u64, block: u16, size: usize, op: &Op) -> Option<Refusal>
     requires { IsBlock block }
-    ensures value { result ≡ refusal block base size op.now }
+    ensures value { result ≡ refusal base size block op.now }
     ensures sound { IfNone result (op_fault op.now ≡ None) }
     ensures few { IfNone result (count_of op.now ≤ 128) }
     ensures low { IfNone result (base ≤ address_of op.now) }

@@ -158,8 +158,8 @@ fn serve(place: &mut [u8], op: &Op) -> Reply
 #[inline(always)]
 pub fn perform(base: u64, block: u16, bytes: &mut [u8], op: &Op) -> Reply
     requires { IsBlock block }
-    ensures bytes { bytes.new ≡ after block base bytes.old op.now }
-    ensures reply { result ≡ answer block base bytes.old op.now }
+    ensures bytes { bytes.new ≡ after base block bytes.old op.now }
+    ensures reply { result ≡ answer base block bytes.old op.now }
     ensures size { IsSizedFor op.now result }
 {
     match refusal_of(base, block, bytes.len(), op) {

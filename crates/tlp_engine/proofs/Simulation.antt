@@ -102,7 +102,7 @@ abbrev pub Spelled : Type 0
 Spelled = (b : List ℕ) (t : TlpView) → IsBytes b → reading b ≡ Ok t → Spells b t
 
 abbrev pub Grows : Type 0
-Grows = (x : Extent) (es : List Entry) (e : Entry) → contents x (es ++ e ∷ []) ≡ after x.block x.base (contents x es) e.op
+Grows = (x : Extent) (es : List Entry) (e : Entry) → contents x (es ++ e ∷ []) ≡ after x.base x.block (contents x es) e.op
 
 is-read : Spelled → (digits b : List ℕ) (t : TlpView) → decode_of digits ≡ Ok b → reading b ≡ Ok t → IsRead t
 is-read spelled digits b t decoded read =
@@ -117,7 +117,7 @@ request-stands grows k s t number at read c same =
     let op = asked t.kind t.body t.length (length t.payload) t.payload read.grammar.fits c in
     let entry = request_entry t number op.0 in
     let acted : after_serving s t number ≡ with_entry s entry = ap (λ (o : Option Op). option_map_or (λ op. with_entry s (request_entry t number op)) o s) op.1 in
-    let changed : bytes_after k.block k.base k.bytes t ≡ after k.block k.base k.bytes op.0 = ap (λ (o : Option Op). option_map_or (λ op. after k.block k.base k.bytes op) o k.bytes) op.1 in
+    let changed : bytes_after k.base k.block k.bytes t ≡ after k.base k.block k.bytes op.0 = ap (λ (o : Option Op). option_map_or (λ op. after k.base k.block k.bytes op) o k.bytes) op.1 in
     let inside : t.requester / 256 < length k.counts = let wide = read.requester in let ports = at.ports in omega (arith, wide, ports) in
     record {
       base = at.base ∙ ap (λ (s : MemoryView). s.base) (sym acted);
@@ -133,7 +133,7 @@ fault-alike k s text at = record { state = at; text = refl; is_fault = refl }
 nothing-alike : (k : CompleterView) (s : MemoryView) → StandsFor k s → AlikeAnswer StandsFor (nothing k) (nothing s)
 nothing-alike k s at = record { state = at; text = refl; is_fault = refl }
 
-completions-alike : (k : CompleterView) (s : MemoryView) (t : TlpView) → StandsFor k s → completion_over k.block k.base k.bytes t ≡ completion_to s t
+completions-alike : (k : CompleterView) (s : MemoryView) (t : TlpView) → StandsFor k s → completion_over k.base k.block k.bytes t ≡ completion_to s t
 completions-alike k s t at = rw (at.base, at.block, at.bytes) refl
 
 request-alike : Grows → (k : CompleterView) (s : MemoryView) (t : TlpView) (number : ℕ) → StandsFor k s → IsRead t → is_completion t.kind ≡ false
@@ -142,7 +142,7 @@ request-alike : Grows → (k : CompleterView) (s : MemoryView) (t : TlpView) (nu
 request-alike grows k s t number at read c same = go (number == 4294967295)
   where
     go : (used : Bool) → AlikeAnswer StandsFor
-        (if used then fault k (codes "fault numbers") else record { state = after_request k t number; text = completion_text (completion_over k.block k.base k.bytes t) ++ 10 ∷ []; is_fault = false })
+        (if used then fault k (codes "fault numbers") else record { state = after_request k t number; text = completion_text (completion_over k.base k.block k.bytes t) ++ 10 ∷ []; is_fault = false })
         (if used then fault s (codes "fault numbers") else record { state = after_serving s t number; text = completion_text (completion_to s t) ++ 10 ∷ []; is_fault = false })
     go true = fault-alike k s (codes "fault numbers") at
     go false = record {

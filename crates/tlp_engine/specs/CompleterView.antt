@@ -17,10 +17,10 @@ new_kept base size block = record { base = base; block = block; bytes = replicat
 
 -- a request acts on the bytes, and counts for its port
 abbrev pub after_request : CompleterView → TlpView → ℕ → CompleterView
-after_request k t number = record k { bytes = bytes_after k.block k.base k.bytes t; counts = slice_set k.counts (t.requester / 256) (number + 1) }
+after_request k t number = record k { bytes = bytes_after k.base k.block k.bytes t; counts = slice_set k.counts (t.requester / 256) (number + 1) }
 
 abbrev pub without_history : Device CompleterView
-without_history = record { count = λ k port. slice_index k.counts port; after = after_request; completion = λ k t. completion_over k.block k.base k.bytes t }
+without_history = record { count = λ k port. slice_index k.counts port; after = after_request; completion = λ k t. completion_over k.base k.block k.bytes t }
 
 abbrev pub kept_responses : Responses CompleterView
 kept_responses = responses without_history

@@ -7,7 +7,7 @@ use Rattle.memory_undo.proofs.put_back.Goals as goal
 
 pub returns-then-is_some : goal.returns-then-is_some
 returns-then-is_some c = λ m is old.
-    refused_back c.args.block c.args.base m c.args.bytes.now c.args.op.now c.refusal.result c.only_the_place_changes.ensures.size c.refused_and_read_change_nothing.ensures.refused is c.refusal.ensures.value (sym c.is_some.ensures ∙ c.if-is_some.true)
+    refused_back c.args.base c.args.block m c.args.bytes.now c.args.op.now c.refusal.result c.only_the_place_changes.ensures.size c.refused_and_read_change_nothing.ensures.refused is c.refusal.ensures.value (sym c.is_some.ensures ∙ c.if-is_some.true)
 
 pub returns-then-place-old : goal.returns-then-place-old
 returns-then-place-old c = λ m is old.
@@ -15,7 +15,7 @@ returns-then-place-old c = λ m is old.
     let served = sym c.refusal.ensures.value ∙ none in
     let low = if_none c.refusal.result (c.args.base ≤ address_of c.args.op.now) none c.refusal.ensures.low in
     ap (λ (xs : List ℕ). take (c.address.result - c.args.base) c.args.bytes.now ++ (xs ++ drop (c.address.result - c.args.base + c.size.result - (c.address.result - c.args.base)) (drop (c.address.result - c.args.base) c.args.bytes.now))) c.copy_from_slice.ensures.after
-    ∙ put_there c.only_the_place_changes.ensures.others c.only_the_place_changes.ensures.size c.args.block c.args.base m c.args.bytes.now c.args.old.now c.args.op.now is old served low
+    ∙ put_there c.only_the_place_changes.ensures.others c.only_the_place_changes.ensures.size c.args.base c.args.block m c.args.bytes.now c.args.old.now c.args.op.now is old served low
     (c.address.result - c.args.base) (c.address.result - c.args.base + c.size.result - (c.address.result - c.args.base))
     (ap (λ n. n - c.args.base) c.address.ensures) (omega (arith, c.size.ensures.value))
 
@@ -25,8 +25,8 @@ returns-else-place-old c = λ m is old.
     let served = sym c.refusal.ensures.value ∙ none in
     let low = if_none c.refusal.result (c.args.base ≤ address_of c.args.op.now) none c.refusal.ensures.low in
     let high = if_none c.refusal.result (address_of c.args.op.now + count_of c.args.op.now ≤ c.args.base + length c.args.bytes.now) none c.refusal.ensures.high in
-    let len : length c.args.bytes.now ≡ length m = ap length is ∙ c.only_the_place_changes.ensures.size c.args.block c.args.base m c.args.op.now in
-    let there = old_is c.only_the_place_changes.ensures.others c.only_the_place_changes.ensures.size c.args.block c.args.base m c.args.bytes.now c.args.old.now c.args.op.now is old served low in
+    let len : length c.args.bytes.now ≡ length m = ap length is ∙ c.only_the_place_changes.ensures.size c.args.base c.args.block m c.args.op.now in
+    let there = old_is c.only_the_place_changes.ensures.others c.only_the_place_changes.ensures.size c.args.base c.args.block m c.args.bytes.now c.args.old.now c.args.op.now is old served low in
     let count : length c.args.old.now ≡ count_of c.args.op.now =
     ap length there ∙ length-take-le (count_of c.args.op.now) (drop (address_of c.args.op.now - c.args.base) m) (omega (arith, length-drop (address_of c.args.op.now - c.args.base) m)) in
     let i = c.address.result - c.args.base in

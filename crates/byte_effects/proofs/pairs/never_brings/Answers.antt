@@ -3,13 +3,13 @@ use Rattle.byte_effects.proofs.Yielding.{brings_broken, kept_by_read}
 use Rattle.byte_effects.proofs.pairs.never_brings.Goals as goal
 
 pub returns-then-are_apart : goal.returns-then-are_apart
-returns-then-are_apart c = λ yes base m agrees e. sym (c.apart_requests_commute.ensures.answer c.args.block base m c.args.one.now c.args.other.now (c.are_apart.ensures c.if-are_apart.true)) ∙ e
+returns-then-are_apart c = λ yes base m agrees e. sym (c.apart_requests_commute.ensures.answer base c.args.block m c.args.one.now c.args.other.now (c.are_apart.ensures c.if-are_apart.true)) ∙ e
 
 pub returns-then-is_read : goal.returns-then-is_read
 returns-then-is_read c = λ yes base m agrees e.
-    kept_by_read c.args.block base m c.args.one.now c.args.other.now c.args.reply.now (c.refused_and_read_change_nothing.ensures.reads c.args.block base) (c.is_read.ensures c.if-is_read.true) e
+    kept_by_read base c.args.block m c.args.one.now c.args.other.now c.args.reply.now (c.refused_and_read_change_nothing.ensures.reads base c.args.block) (c.is_read.ensures c.if-is_read.true) e
 
 pub returns : goal.returns
 returns c = λ yes base m agrees e.
-    brings_broken c.refused_and_read_change_nothing.ensures.refused c.args.block base m c.args.one.now c.args.other.now c.args.reply.now
+    brings_broken c.refused_and_read_change_nothing.ensures.refused base c.args.block m c.args.one.now c.args.other.now c.args.reply.now
     (λ served. c.breaks.ensures yes base m served agrees) e

@@ -5,4 +5,4 @@ pub returns-in-None : goal.returns-in-None
 returns-in-None c = λ yes. inl c.in-None.is
 
 pub returns-in-Some : goal.returns-in-Some
-returns-in-Some c = λ yes. inr (λ block base m agrees e. c.clashes.ensures yes block base m (agrees c.in-Some.seen c.in-Some.is) e)
+returns-in-Some c = λ yes. inr (λ base block m agrees e. c.clashes.ensures yes base block m (agrees c.in-Some.seen c.in-Some.is) e)

@@ -3,28 +3,28 @@ use Rattle.byte_effects.proofs.Yielding.{brings_broken, kept_by_read, ends_apart
 use Rattle.byte_effects.proofs.pairs.yields.Goals as goal
 
 pub returns-then-are_apart-clause-brings : goal.returns-then-are_apart-clause-brings
-returns-then-are_apart-clause-brings c = λ yes base m agrees e. sym (c.apart_requests_commute.ensures.answer c.args.block base m c.args.one.now c.args.other.now (c.are_apart.ensures c.if-are_apart.true)) ∙ e
+returns-then-are_apart-clause-brings c = λ yes base m agrees e. sym (c.apart_requests_commute.ensures.answer base c.args.block m c.args.one.now c.args.other.now (c.are_apart.ensures c.if-are_apart.true)) ∙ e
 
 pub returns-then-are_apart-clause-order : goal.returns-then-are_apart-clause-order
 returns-then-are_apart-clause-order c = λ yes base m agrees e.
-    ends_apart c.args.block base m c.args.one.now c.args.other.now c.args.told.now c.args.reply.now
-    (c.apart_requests_commute.ensures.answer c.args.block base) (c.apart_requests_commute.ensures.after c.args.block base) (c.are_apart.ensures c.if-are_apart.true) agrees e
+    ends_apart base c.args.block m c.args.one.now c.args.other.now c.args.told.now c.args.reply.now
+    (c.apart_requests_commute.ensures.answer base c.args.block) (c.apart_requests_commute.ensures.after base c.args.block) (c.are_apart.ensures c.if-are_apart.true) agrees e
 
 pub returns-then-is_read-clause-brings : goal.returns-then-is_read-clause-brings
 returns-then-is_read-clause-brings c = λ yes base m agrees e.
-    kept_by_read c.args.block base m c.args.one.now c.args.other.now c.args.reply.now (c.refused_and_read_change_nothing.ensures.reads c.args.block base) (c.is_read.ensures c.if-is_read.true) e
+    kept_by_read base c.args.block m c.args.one.now c.args.other.now c.args.reply.now (c.refused_and_read_change_nothing.ensures.reads base c.args.block) (c.is_read.ensures c.if-is_read.true) e
 
 pub returns-then-is_read-clause-order : goal.returns-then-is_read-clause-order
 returns-then-is_read-clause-order c = λ yes base m agrees e.
-    ends_read c.args.block base m c.args.one.now c.args.other.now c.args.told.now c.args.reply.now
-    (c.refused_and_read_change_nothing.ensures.reads c.args.block base) (c.is_read.ensures c.if-is_read.true) (c.read_yields.ensures yes) agrees e
+    ends_read base c.args.block m c.args.one.now c.args.other.now c.args.told.now c.args.reply.now
+    (c.refused_and_read_change_nothing.ensures.reads base c.args.block) (c.is_read.ensures c.if-is_read.true) (c.read_yields.ensures yes) agrees e
 
 pub returns-clause-brings : goal.returns-clause-brings
 returns-clause-brings c = λ yes base m agrees e.
-    brings_broken c.refused_and_read_change_nothing.ensures.refused c.args.block base m c.args.one.now c.args.other.now c.args.reply.now
+    brings_broken c.refused_and_read_change_nothing.ensures.refused base c.args.block m c.args.one.now c.args.other.now c.args.reply.now
     (λ served. c.breaks.ensures yes base m served agrees) e
 
 pub returns-clause-order : goal.returns-clause-order
 returns-clause-order c = λ yes base m agrees e.
-    ends_broken c.only_the_place_changes.ensures.size c.refused_and_read_change_nothing.ensures.refused c.args.block base m c.args.one.now c.args.other.now c.args.told.now c.args.reply.now
+    ends_broken c.only_the_place_changes.ensures.size c.refused_and_read_change_nothing.ensures.refused base c.args.block m c.args.one.now c.args.other.now c.args.told.now c.args.reply.now
     (λ served. c.breaks.ensures yes base m served agrees) agrees e

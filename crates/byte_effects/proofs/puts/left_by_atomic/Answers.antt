@@ -8,5 +8,5 @@ pub returns : goal.returns
 returns c = λ base at m l served answered.
     atomic_left c.only_the_place_changes.ensures.size c.only_the_place_changes.ensures.place c.args.block c.args.op.now c.args.old.now c.changed.result.items
     (sym c.is_atomic.ensures ∙ c.if-not-is_atomic.false)
-    (c.changed.ensures ∙ ap (λ (xs : List ℕ). after c.args.block (address_of c.args.op.now) xs c.args.op.now) c.as_slice.ensures.value)
+    (c.changed.ensures ∙ ap (λ (xs : List ℕ). after (address_of c.args.op.now) c.args.block xs c.args.op.now) c.as_slice.ensures.value)
     base at m l served answered

@@ -9,5 +9,5 @@ returns-in-Some-clause-brings c = λ yes base m agrees there r told_it.
 
 pub returns-in-Some-clause-order : goal.returns-in-Some-clause-order
 returns-in-Some-clause-order c = λ yes base m agrees there.
-    way_of c.args.block base m c.args.one.now c.args.other.now c.args.told.now c.args.asked.now c.in-Some.reply c.in-Some.is
+    way_of base c.args.block m c.args.one.now c.args.other.now c.args.told.now c.args.asked.now c.in-Some.reply c.in-Some.is
     (c.yields.ensures.order yes base m agrees (there c.in-Some.reply c.in-Some.is))

@@ -9,6 +9,6 @@ invariant_of-self-2 c =
     let old = c.deref_mut.ensures.value in
     stepped i.base i.block i.bytes.len i.bytes.items c.perform.new.bytes i.entries.items c.push.new.self.items c.args.entry c.index.result.now.op
     i.bytes.ok.0 (c.perform.auto.bytes ∙ ap (length {A = ℕ}) old) c.self.invariant
-    (c.perform.ensures.bytes ∙ ap (λ (m : List ℕ). after i.block i.base m c.index.result.now.op) old)
+    (c.perform.ensures.bytes ∙ ap (λ (m : List ℕ). after i.base i.block m c.index.result.now.op) old)
     (pushed_op i.entries.items c.push.new.self.items c.args.entry c.index.result.now _ c.in_ok-push.ensures.items (ap (λ (n : ℕ). n - 1) (c.len-last.ensures ∙ c.push.new.self.ok.0)) c.index.ensures)
     c.in_ok-push.ensures.items
