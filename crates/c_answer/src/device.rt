@@ -2,14 +2,13 @@
 ghost use Rattle.std.specs.Prelude.{◌≡◌, ◌≤◌, length};
 ghost use Rattle.tlp_core.specs.Layout.{canonical};
 ghost use Rattle.c_buffer.specs.Room.{filled};
-ghost use Rattle.tlp_core.specs.Operation as spec;
 ghost use Rattle.seq_memory.specs.Limits.{IsBlock};
 ghost use Rattle.c_answer.specs.Call.{served, call};
 
 use arrayvec::ArrayVec;
 use c_buffer::{NO_REQUEST, SMALL_ROOM, WRONG_BLOCK, fill};
 use completer_core::answer;
-use tlp_core::{Kind, MAX_TLP, Tlp, decode, encode};
+use tlp_core::{MAX_TLP, Tlp, decode, encode};
 
 /// The bytes of room that a call asks for, whatever its completion has.
 pub const MAX_COMPLETION: usize = MAX_TLP;
@@ -28,13 +27,6 @@ pub fn put_completion(completion: &Tlp, room: &mut [u8]) -> u32
     canonical.len() as u32
 }
 
-/// Whether the kind is a completion's, with data or without.
-pub fn is_completion(kind: Kind) -> bool
-    ensures { result ≡ spec.is_completion kind }
-{
-    matches!(kind, Kind::Completion | Kind::CompletionData)
-}
-
 /// Answers a packet.
 fn answer_packet(base: u64, block: u16, bytes: &mut [u8], packet: &Tlp, room: &mut [u8]) -> u32
     requires block { IsBlock block }
@@ -44,7 +36,7 @@ fn answer_packet(base: u64, block: u16, bytes: &mut [u8], packet: &Tlp, room: &m
     ensures room { room.new ≡ (served base block bytes.old room.old packet.now).room }
     ensures unchanged { 1000 ≤ result → (bytes.new ≡ bytes.old) × (room.new ≡ room.old) }
 {
-    if is_completion(packet.kind) {
+    if packet.kind.is_completion() {
         return NO_REQUEST;
     }
     match answer(base, block, bytes, packet) {

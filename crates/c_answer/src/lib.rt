@@ -4,4 +4,4 @@
 
 mod device;
 
-pub use device::{MAX_COMPLETION, answer_bytes, is_completion, put_completion};
+pub use device::{MAX_COMPLETION, answer_bytes, put_completion};

@@ -5,7 +5,7 @@ ghost use Rattle.seq_memory.specs.History.{MemoryView};
 ghost use Rattle.c_device.specs.Calls.{served, service, IsRequestCall};
 
 use crate::slot::{Slot, close, open};
-use c_answer::{MAX_COMPLETION, is_completion, put_completion};
+use c_answer::{MAX_COMPLETION, put_completion};
 use c_buffer::{NO_MEMORY, NO_REQUEST, SMALL_ROOM};
 use completer_core::serve;
 use seq_memory::Memory;
@@ -20,7 +20,7 @@ fn serve_tlp(memory: &mut Memory, number: u32, packet: &Tlp, room: &mut [u8]) ->
     ensures no_memory { result ≡ NO_MEMORY → spec.is_completion packet.now.kind ≡ false }
     ensures unchanged { 1000 ≤ result → (memory.new ≡ memory.old) × (room.new ≡ room.old) }
 {
-    if is_completion(packet.kind) {
+    if packet.kind.is_completion() {
         return NO_REQUEST;
     }
     match serve(memory, packet, number) {

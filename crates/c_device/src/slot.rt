@@ -6,7 +6,7 @@ ghost use Rattle.c_device.specs.Calls.{wrong_limits};
 
 use c_box::Parts;
 use c_buffer::{NO_MEMORY, WRONG_BASE, WRONG_BLOCK, WRONG_SIZE};
-use seq_memory::{Memory, is_base, is_size};
+use seq_memory::{Extent, Memory, is_base, is_size};
 use std::alloc::Global;
 use std::marker::Model;
 
@@ -75,10 +75,10 @@ pub fn new_device(alloc: Global, base: u64, size: usize, block: u16, slot: &mut 
     if !is_base(base, size) {
         return WRONG_BASE;
     }
-    if block != 64 && block != 128 {
+    let Some(extent) = Extent::new(base, size, block) else {
         return WRONG_BLOCK;
-    }
-    let Ok(memory) = Memory::new(alloc, base, size, block) else {
+    };
+    let Ok(memory) = Memory::new(alloc, extent) else {
         return NO_MEMORY;
     };
     match Box::new(alloc, memory) {

@@ -21,7 +21,6 @@ use fabric_core::laws::each_event_happens_by_its_parts;
 use fabric_core::{Event, Fabric, Refusal, Seen};
 use fabric_laws::laws::the_trace_belongs;
 use history_check::Record;
-use lane_core::LaneRefusal;
 use script_text::{Line, read_line, write_refusal, write_seen, write_told};
 
 /// An event happens to the fabric.
@@ -91,7 +90,7 @@ fn put_refusal(refusal: Refusal, room: &mut [u8]) -> u32
     ensures room { ¬ (result ≡ NO_MEMORY) → room.new ≡ filled room.old (refusal_text refusal) }
     ensures unchanged { 2000 ≤ result → room.new ≡ room.old }
 {
-    if let Refusal::Memory | Refusal::Lane(LaneRefusal::Memory) = refusal {
+    if refusal.is_memory() {
         return NO_MEMORY;
     }
     let mut text = ArrayString::new();

@@ -18,7 +18,6 @@ use crate::rounds::settle_charted;
 use arrayvec::ArrayString;
 use chart_page::put_title_chart;
 use fabric_core::{Config, ConfigFault, Event, Fabric, Refusal};
-use fabric_settle::is_memory;
 use line_loop::{EngineFault, Responder, run};
 use link_chart::{Chart, ChartWindow};
 use operation_text::write_decimal;
@@ -78,7 +77,7 @@ fn tell_refused(
     ensures told { OnOk result (IsTold refusal) }
     ensures chart { OnOk result (chart.new ≡ refused chart.old line event refusal) }
 {
-    if is_memory(refusal) {
+    if refusal.is_memory() {
         return Err(AllocError);
     }
     chart.refused(line, event, refusal)

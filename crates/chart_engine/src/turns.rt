@@ -5,7 +5,7 @@ ghost use Rattle.chart_engine.specs.Settled as spec;
 use crate::copies::copied;
 use crate::happen::happen;
 use fabric_core::{Event, Fabric, LaneName};
-use fabric_settle::{AFTER_LANES, Attempt, LANES, is_memory, is_move, lane_attempts};
+use fabric_settle::{AFTER_LANES, Attempt, LANES, is_move, lane_attempts};
 use link_chart::Chart;
 use std::alloc::AllocError;
 
@@ -26,7 +26,7 @@ fn once(
             *moved = *moved || is_move(event);
             Ok(true)
         }
-        Err(refusal) if is_memory(refusal) => Err(AllocError),
+        Err(refusal) if refusal.is_memory() => Err(AllocError),
         Err(_) => Ok(false),
     }
 }

@@ -17,7 +17,6 @@ use Rattle.search_engine.specs.Search.{IsSearched}
 use Rattle.tlp_engine.specs.Tlp.{out_tlp}
 use Rattle.trace_engine.specs.Check.{out_check}
 use Rattle.trace_engine.specs.Upgrade.{out_upgrade}
-use Rattle.seq_memory.specs.Limits.{IsWithinLimits}
 use Rattle.step_engine.specs.Step.{out_step_with}
 use Rattle.storm.specs.declared.Storm.{Storm}
 use Rattle.storm.specs.Ranges.{IsStorm}
@@ -28,7 +27,7 @@ IsGenerated storm out out' exit = ((exit ≡ 0) × IsWhole storm out out') ⊎ (
 
 -- the run of the subcommand, on the streams as they were and are, with its exit status
 abbrev pub IsDone : Request → Option (List ℕ) → Option (List ℕ) → Option (List ℕ) → Option (List ℕ) → ℕ → Type 0
-IsDone (Tlp base size block) input rest out out' exit = IsRun (out_tlp base size block) input rest out out' exit
+IsDone (Tlp x) input rest out out' exit = IsRun (out_tlp x) input rest out out' exit
 IsDone Decode input rest out out' exit = IsRun out_decode input rest out out' exit
 IsDone Encode input rest out out' exit = IsRun out_encode input rest out out' exit
 IsDone Check input rest out out' exit = IsRun out_check input rest out out' exit
@@ -58,7 +57,6 @@ IsRight (outcomes.Run counting is_told) = IsCounting counting
 
 -- the numbers of what is asked for are in their ranges
 abbrev pub IsRightRequest : Request → Type 0
-IsRightRequest (Tlp base size block) = IsWithinLimits (record { base = base; size = size; block = block })
 IsRightRequest (Generate storm) = IsStorm storm
 IsRightRequest (Run counting is_told) = IsCounting counting
 IsRightRequest request = Unit {0}

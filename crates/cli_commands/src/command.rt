@@ -132,10 +132,9 @@ fn begin<R: Read, W: Write, E: Write>(
     ensures right { IsRight result }
 {
     match request {
-        Request::Tlp { base, size, block } => Outcome::Ended(ended(
-            run_tlp(alloc, base, size, block, reader, writer),
-            errors,
-        )),
+        Request::Tlp(extent) => {
+            Outcome::Ended(ended(run_tlp(alloc, extent, reader, writer), errors))
+        }
         Request::Decode => Outcome::Ended(ended(run_decode(alloc, reader, writer), errors)),
         Request::Encode => {
             let run = run_encode_with_reasons(alloc, reader, writer, errors);

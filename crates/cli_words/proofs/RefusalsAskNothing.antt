@@ -3,7 +3,7 @@ use Rattle.std.proofs.Common.{◌≡◌, ◌∙◌, ◌≤◌, ℕ, List, [], �
 use Rattle.clap.specs.Words.{Row, Text, first_of}
 use Rattle.counting.specs.declared.Counting.{Counting}
 use Rattle.storm.specs.declared.Storm.{Storm}
-use Rattle.seq_memory.specs.Limits.{IsBlock}
+use Rattle.seq_memory.specs.Limits.{Extent, IsBlock}
 use Rattle.cli_options.specs.declared.options.ValueOption.{ValueOption}
 use Rattle.cli_options.specs.declared.options.ValueOption.TheVariants.{Size, From, To}
 use Rattle.cli_options.specs.declared.refused.RefusedValue.{RefusedValue}
@@ -33,17 +33,17 @@ among_blocks block (inl e) = subst (λ (n : ℕ). IsAmong (multiples 64 64 128) 
 among_blocks block (inr e) = subst (λ (n : ℕ). IsAmong (multiples 64 64 128) n) (sym e) (record { least = omega arith; most = omega arith; multiple = refl })
 
 -- the values of what is asked for are right
-tlp_base : (rows : List Row) (base size block : ℕ) → AsksTlp rows base size block → GivesBase (first_of (codes "base") rows) base
-tlp_base rows base size block a =
+tlp_base : (rows : List Row) (x : Extent) → AsksTlp rows x → GivesBase (first_of (codes "base") rows) x.base
+tlp_base rows x a =
     (a.base_read, record { least = omega arith; most = omega (arith, a.memory.in_base.1, a.memory.in_size.0); multiple = a.memory.in_base.0 })
 
-tlp_size : (rows : List Row) (base size block : ℕ) → AsksTlp rows base size block → Gives Size (Some 4096) (first_of (codes "size") rows) size
-tlp_size rows base size block a =
+tlp_size : (rows : List Row) (x : Extent) → AsksTlp rows x → Gives Size (Some 4096) (first_of (codes "size") rows) x.size
+tlp_size rows x a =
     let m = a.memory in
     (a.size_read, record { least = m.in_size.0; most = m.in_size.1; multiple = m.in_size.2 })
 
-tlp_right : (rows : List Row) (base size block : ℕ) → AsksTlp rows base size block → AreRight rows tlp_values
-tlp_right rows base size block a = ((size, tlp_size rows base size block a), ((block, (a.block_read, among_blocks block a.memory.in_block)), tt))
+tlp_right : (rows : List Row) (x : Extent) → AsksTlp rows x → AreRight rows tlp_values
+tlp_right rows x a = ((x.size, tlp_size rows x a), ((x.block, (a.block_read, among_blocks x.block a.memory.in_block)), tt))
 
 search_right : (rows : List Row) (limit : ℕ) → AsksSearch rows limit → AreRight rows search_values
 search_right rows limit a = ((limit, (a.limit_read, among 1 1000000000 limit a.least a.most)), tt)
@@ -99,11 +99,11 @@ run_right rows c a =
     )
 
 -- so what is refused is not asked for
-refused_tlp : (rows : List Row) (option : ValueOption) (base size block : ℕ) → RefusesTlp rows option → AsksTlp rows base size block → ⊥
-refused_tlp rows option base size block (inl h) a = h.1 base (tlp_base rows base size block a)
-refused_tlp rows option base size block (inr (inl h)) a = none_wrong rows tlp_values option (tlp_right rows base size block a) h.1
-refused_tlp rows option base size block (inr (inr h)) a =
-    h.3 base size (tlp_base rows base size block a) (tlp_size rows base size block a) a.memory.in_base.1
+refused_tlp : (rows : List Row) (option : ValueOption) (x : Extent) → RefusesTlp rows option → AsksTlp rows x → ⊥
+refused_tlp rows option x (inl h) a = h.1 x.base (tlp_base rows x a)
+refused_tlp rows option x (inr (inl h)) a = none_wrong rows tlp_values option (tlp_right rows x a) h.1
+refused_tlp rows option x (inr (inr h)) a =
+    h.3 x.base x.size (tlp_base rows x a) (tlp_size rows x a) a.memory.in_base.1
 
 refused_draw : (rows : List Row) (option : ValueOption) (from to : ℕ) → RefusesDraw rows option → AsksDraw rows from to → ⊥
 refused_draw rows option from to (inl h) a = none_wrong rows draw_values option (draw_right rows from to a) h
@@ -115,7 +115,7 @@ refused_chart rows option lane from to (inr (inl h)) a = none_wrong rows chart_v
 refused_chart rows option lane from to (inr (inr h)) a = h.3 from to (chart_from rows lane from to a) (chart_to rows lane from to a) a.ordered
 
 tlp_nothing : (p : Text × List Row) (option : ValueOption) → p.0 ≡ codes "tlp" → RefusesTlp p.1 option → (r : Request) → Asks (Some p) r → ⊥
-tlp_nothing p option e h (Tlp base size block) a = refused_tlp p.1 option base size block h a.1
+tlp_nothing p option e h (Tlp x) a = refused_tlp p.1 option x h a.1
 tlp_nothing p option e h r a = differ (codes "tlp") (name_of r) refl (sym e ∙ asks_name p r a)
 
 search_nothing : (p : Text × List Row) (option : ValueOption) → p.0 ≡ codes "search" → IsFirstWrong p.1 search_values option → (r : Request) → Asks (Some p) r → ⊥

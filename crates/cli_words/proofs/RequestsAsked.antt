@@ -4,6 +4,7 @@ use Rattle.std.specs.Prelude.{bytes_eq}
 use Rattle.std.proofs.lemmas.Slice.Eq.{bytes_eq-Decides}
 use Rattle.clap.specs.Words.{Row, Text}
 use Rattle.counting.specs.declared.Counting.{Counting}
+use Rattle.seq_memory.specs.Limits.{Extent}
 use Rattle.storm.specs.declared.Storm.{Storm}
 use Rattle.cli_words.specs.declared.words.Request.{Request}
 use Rattle.cli_words.specs.declared.words.Request.TheVariants.{Tlp, Decode, Encode, Check, Search, Draw, Upgrade, Step, Chart, Generate, Run}
@@ -28,6 +29,9 @@ pub same_given : (t : Option Text) (a b : ℕ) → WritesGiven t a → WritesGiv
 same_given None a b h k = absurd h
 same_given (Some t) a b h k = h.1 ∙ sym k.1
 
+pub same_extent : (x y : Extent) → x.base ≡ y.base → x.size ≡ y.size → x.block ≡ y.block → x ≡ y
+same_extent x y a b e j = record { base = a j; size = b j; block = e j }
+
 pub same_counting : (c d : Counting) → c.requesters ≡ d.requesters → c.each ≡ d.each → c.lose ≡ d.lose → c.corrupt ≡ d.corrupt → c.turns ≡ d.turns → c ≡ d
 same_counting c d a b e f g j = record { requesters = a j; each = b j; lose = e j; corrupt = f j; turns = g j }
 
@@ -36,7 +40,7 @@ same_storm s t a b e f g h j = record { seed = a j; events = b j; requesters = e
 
 -- the name of the subcommand
 abbrev pub name_of : Request → Text
-name_of (Tlp base size block) = codes "tlp"
+name_of (Tlp x) = codes "tlp"
 name_of Decode = codes "decode"
 name_of Encode = codes "encode"
 name_of Check = codes "check"
@@ -49,7 +53,7 @@ name_of (Generate storm) = codes "generate"
 name_of (Run counting is_told) = codes "run"
 
 pub asks_name : (p : Text × List Row) (r : Request) → Asks (Some p) r → p.0 ≡ name_of r
-asks_name p (Tlp base size block) a = a.0
+asks_name p (Tlp x) a = a.0
 asks_name p Decode a = a
 asks_name p Encode a = a
 asks_name p Check a = a
@@ -78,11 +82,11 @@ same_lane (Some t) a b h k = h.2 ∙ sym h.1 ∙ k.1 ∙ sym k.2
 -- words ask for one thing
 pub asks_one : (o : Option (Text × List Row)) (r s : Request) → Asks o r → Asks o s → r ≡ s
 asks_one None r s a b = absurd a
-asks_one (Some p) (Tlp base size block) (Tlp base' size' block') a b =
-    let e = same_base _ base base' a.1.base_read b.1.base_read in
-    let f = same_number 4096 _ size size' a.1.size_read b.1.size_read in
-    let g = same_number 64 _ block block' a.1.block_read b.1.block_read in
-    ap (λ (x : ℕ). Tlp x size block) e ∙ ap (λ (x : ℕ). Tlp base' x block) f ∙ ap (λ (x : ℕ). Tlp base' size' x) g
+asks_one (Some p) (Tlp x) (Tlp y) a b =
+    let e = same_base _ x.base y.base a.1.base_read b.1.base_read in
+    let f = same_number 4096 _ x.size y.size a.1.size_read b.1.size_read in
+    let g = same_number 64 _ x.block y.block a.1.block_read b.1.block_read in
+    ap Tlp (same_extent x y e f g)
 asks_one (Some p) Decode Decode a b = refl
 asks_one (Some p) Encode Encode a b = refl
 asks_one (Some p) Check Check a b = refl

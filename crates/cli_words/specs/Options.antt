@@ -4,7 +4,7 @@ use Rattle.clap.specs.declared.builder.action.ArgAction.TheVariants.{SetTrue}
 use Rattle.clap.specs.Words.{App, Row, Rule, Text, first_of, new_app, new_rule, with_rule, with_subcommand}
 use Rattle.counting.specs.declared.Counting.{Counting}
 use Rattle.counting.specs.Ranges.{IsCounting}
-use Rattle.seq_memory.specs.Limits.{IsWithinLimits}
+use Rattle.seq_memory.specs.Limits.{Extent, IsWithinLimits}
 use Rattle.storm.specs.declared.Storm.{Storm}
 use Rattle.storm.specs.Ranges.{IsStorm}
 use Rattle.cli_options.specs.Values.{WritesBase, WritesNumber, WritesGiven, WritesFlag}
@@ -88,11 +88,11 @@ the_app =
     with_subcommand (with_subcommand (with_subcommand (with_subcommand (with_traces (with_packets top_app)) step_app.top) chart_app.top) generate_app.top) run_app.top
 
 -- the values of `tlp` ask for this memory
-pub record AsksTlp (rows : List Row) (base size block : ℕ) : Type 0 where
-  pub base_read : WritesBase (first_of (codes "base") rows) base
-  pub size_read : WritesNumber 4096 (first_of (codes "size") rows) size
-  pub block_read : WritesNumber 64 (first_of (codes "block") rows) block
-  pub memory : IsWithinLimits (record { base = base; size = size; block = block })
+pub record AsksTlp (rows : List Row) (x : Extent) : Type 0 where
+  pub base_read : WritesBase (first_of (codes "base") rows) x.base
+  pub size_read : WritesNumber 4096 (first_of (codes "size") rows) x.size
+  pub block_read : WritesNumber 64 (first_of (codes "block") rows) x.block
+  pub memory : IsWithinLimits x
 
 -- the values of `search` ask to look at so many choices at most
 pub record AsksSearch (rows : List Row) (limit : ℕ) : Type 0 where
@@ -144,7 +144,7 @@ pub record AsksRun (rows : List Row) (c : Counting) : Type 0 where
 -- the subcommand with its values asks for this
 abbrev pub Asks : Option (Text × List Row) → Request → Type 0
 Asks None request = ⊥
-Asks (Some p) (Tlp base size block) = (p.0 ≡ codes "tlp") × AsksTlp p.1 base size block
+Asks (Some p) (Tlp x) = (p.0 ≡ codes "tlp") × AsksTlp p.1 x
 Asks (Some p) Decode = p.0 ≡ codes "decode"
 Asks (Some p) Encode = p.0 ≡ codes "encode"
 Asks (Some p) Check = p.0 ≡ codes "check"

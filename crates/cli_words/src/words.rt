@@ -18,7 +18,7 @@ use clap::error::ErrorKind;
 use cli_options::{RefusedValue, ValueOption, base_of, is_set, number_of};
 use counting::Counting;
 use fabric_core::LaneName;
-use seq_memory::is_base;
+use seq_memory::Extent;
 use std::alloc::Global;
 use std::convert::AsStr;
 use storm::Storm;
@@ -26,12 +26,8 @@ use storm::Storm;
 /// What the words ask for.
 #[derive(Clone, Copy, Debug)]
 pub enum Request {
-    /// The subcommand `tlp`, over a memory of these limits.
-    Tlp {
-        base: u64,
-        size: usize,
-        block: u16,
-    },
+    /// The subcommand `tlp`, over a memory in that place.
+    Tlp(Extent),
     /// The subcommand `decode`.
     Decode,
     /// The subcommand `encode`.
@@ -134,13 +130,13 @@ fn tlp_of<'a>(tlp: &ArgMatches<'a>) -> Result<Request, RefusedValue<'a>>
     let base = base_in(tlp)?;
     let size = number_in(tlp, ValueOption::Size, Some(4096))? as usize;
     let block = number_in(tlp, ValueOption::Block, Some(64))? as u16;
-    if !is_base(base, size) {
-        return Err(RefusedValue {
+    match Extent::new(base, size, block) {
+        Some(extent) => Ok(Request::Tlp(extent)),
+        None => Err(RefusedValue {
             option: ValueOption::Base,
             given: tlp.get_str("base"),
-        });
+        }),
     }
-    Ok(Request::Tlp { base, size, block })
 }
 
 /// What the values of `search` ask for.

@@ -1,5 +1,6 @@
 //! Requests at the memory.
-ghost use Rattle.std.specs.Prelude.{◌≡◌, IfOk, OnOk, OnErr, option_map};
+ghost use Rattle.std.specs.Prelude.{◌≡◌, Some, None, IfOk, OnOk, OnErr, option_map};
+ghost use Rattle.tlp_core.specs.Operation.{op_of, op_fault};
 ghost use Rattle.seq_memory.specs.Limits.{IsBlock};
 ghost use Rattle.fc_credit.specs.Needs.{need_of};
 ghost use Rattle.completer_core.specs.Serving.{after_serving, completion_to, bytes_after, completion_over};
@@ -8,7 +9,7 @@ use crate::completion::completion_with;
 use fc_credit::Need;
 use seq_memory::{Entry, Memory, Refusal, perform};
 use std::alloc::AllocError;
-use tlp_core::{Tlp, op_of};
+use tlp_core::{Op, Tlp, op_of};
 
 /// Lets the request act on the memory under that number, and gives its completion; none for a
 /// posted write. A request that is aborted or unsupported changes no byte, and stands in the
@@ -23,6 +24,22 @@ pub fn serve(memory: &mut Memory, request: &Tlp, number: u32) -> Result<Option<T
     let Some(op) = op_of(request) else {
         return Ok(None);
     };
+    serve_op(memory, request, op, number)
+}
+
+/// What [`serve`] does for a request whose operation was taken out of it.
+#[inline(always)]
+pub fn serve_op(
+    memory: &mut Memory,
+    request: &Tlp,
+    op: Op,
+    number: u32,
+) -> Result<Option<Tlp>, AllocError>
+    requires { op_of request.now ≡ Some op }
+    ensures memory { OnOk result (memory.new ≡ after_serving memory.old request.now number) }
+    ensures completion { IfOk result (λ c. c ≡ completion_to memory.old request.now) }
+    ensures err { OnErr result (memory.new ≡ memory.old) }
+{
     let requester = (request.requester / 256) as u8;
     let reply = memory.act(Entry {
         requester,
@@ -53,10 +70,19 @@ pub fn need_to_answer(memory: &Memory, request: &Tlp) -> Option<Need>
     ensures { result ≡ option_map need_of (completion_to memory.now request.now) }
 {
     let op = op_of(request)?;
+    need_for(memory, request, &op)
+}
+
+/// What [`need_to_answer`] gives for a request whose operation was taken out of it.
+pub fn need_for(memory: &Memory, request: &Tlp, op: &Op) -> Option<Need>
+    requires asks { op_of request.now ≡ Some op.now }
+    requires sound { op_fault op.now ≡ None }
+    ensures { result ≡ option_map need_of (completion_to memory.now request.now) }
+{
     if op.is_posted() {
         return None;
     }
-    Some(match memory.refusal(&op) {
+    Some(match memory.refusal(op) {
         None => Need::completion(op.size() as u16),
         Some(Refusal::Aborted | Refusal::Unsupported) => Need::completion(0),
     })

@@ -14,7 +14,7 @@ use Rattle.fabric_core.specs.Answers.{Refuses, Refused, answer, event_grows, ser
 use Rattle.fabric_answers.specs.Told.{IsTold}
 
 lane_memory : (r : Refusal) → r ≡ refusals.Lane Memory → IsTold r → ⊥
-lane_memory r h k = subst IsTold h k
+lane_memory r h k = let no : IsTold (refusals.Lane Memory) = subst IsTold h k in cc
 
 for_serving : (s s' : SenderEndView) (r : Refusal) → serving_grows s s' r → IsTold r → ⊥
 for_serving s s' refusals.NoSuchPart h k = h
@@ -23,8 +23,8 @@ for_serving s s' refusals.NotTakeable h k = h
 for_serving s s' (refusals.Submit x) h k = h
 for_serving s s' (refusals.Lane (NoCredits c)) h k = h
 for_serving s s' (refusals.Lane WindowFull) h k = h
-for_serving s s' (refusals.Lane Memory) h k = k
-for_serving s s' refusals.Memory h k = k
+for_serving s s' (refusals.Lane Memory) h k = cc
+for_serving s s' refusals.Memory h k = cc
 for_serving s s' (refusals.Protocol x) h k = h
 for_serving s s' (refusals.Strange x) h k = h
 for_serving s s' (refusals.Route x) h k = h

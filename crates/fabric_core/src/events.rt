@@ -2,6 +2,7 @@
 ghost use Rattle.std.specs.Prelude.{◌≡◌, ◌↔◌, ◌<◌, [], true, false, length, option_map, Some, IfOk, IfErr, OnOk, OnErr};
 ghost use Rattle.dllp_core.specs.Layout.{FitsDataFC};
 ghost use Rattle.tlp_core.specs.Layout.{Spells, canonical};
+ghost use Rattle.tlp_core.specs.Operation.{op_of};
 ghost use Rattle.dllp_core.specs.declared.packet.Dllp.{Dllp};
 ghost use Rattle.fc_credit.specs.Needs.{need_of};
 ghost use Rattle.completer_core.specs.Serving.{completion_to, after_serving};
@@ -12,7 +13,7 @@ ghost use Rattle.fabric_core.specs.Answers.{Refuses, lane_grows, arrival_grows, 
 
 use crate::event::{LinkEvent, Seen};
 use crate::fault::Refusal;
-use completer_core::{need_to_answer, serve as serve_request};
+use completer_core::{need_for, serve_op};
 use dllp_core::Dllp;
 use fc_credit::Need;
 use lane_core::{
@@ -23,7 +24,7 @@ use requester_core::{Answer, Requester};
 use seq_memory::Memory;
 use seq12::Seq12;
 use switch_core::{ForwardRefusal, Port, forward_ends, route};
-use tlp_core::{Op, Tlp};
+use tlp_core::{Op, Tlp, op_of};
 
 /// A packet enters a lane with its mark.
 fn enter(sender: &mut SenderEnd, tlp: &Tlp, mark: u32) -> Result<(), LaneRefusal>
@@ -191,10 +192,7 @@ pub fn destination(receiver: &ReceiverEnd, place: usize, from: Port) -> Result<P
     ensures answers { IfOk result (λ port. destination_on receiver.now place from ≡ Ok port) }
     ensures refuses { IfErr result (λ r. destination_on receiver.now place from ≡ Err r) }
 {
-    if !receiver.takeable(place) {
-        return Err(Refusal::NotTakeable);
-    }
-    let Some((packet, _)) = receiver.at(place) else {
+    let Some((packet, _)) = receiver.peek(place) else {
         return Err(Refusal::NotTakeable);
     };
     match route(packet, from) {
@@ -231,10 +229,7 @@ pub fn collect(receiver: &mut ReceiverEnd, requester: &mut Requester) -> Result<
     ensures err_receiver { OnErr result (receiver.new ≡ receiver.old) }
     ensures err_requester { OnErr result (requester.new ≡ requester.old) }
 {
-    if !receiver.takeable(0) {
-        return Err(Refusal::Idle);
-    }
-    let Some((packet, _)) = receiver.at(0) else {
+    let Some((packet, _)) = receiver.peek(0) else {
         return Err(Refusal::Idle);
     };
     match requester.finish(packet) {
@@ -247,14 +242,15 @@ pub fn collect(receiver: &mut ReceiverEnd, requester: &mut Requester) -> Result<
 }
 
 /// A posted write acts on the memory.
-fn act_alone(memory: &mut Memory, request: &Tlp, mark: u32) -> Result<usize, Refusal>
+fn act_alone(memory: &mut Memory, request: &Tlp, op: Op, mark: u32) -> Result<usize, Refusal>
+    requires { op_of request.now ≡ Some op }
     ensures place { IfOk result (λ place. place ≡ length memory.old.entries) }
     ensures ok { OnOk result (memory.new ≡ after_serving memory.old request.now mark) }
     ensures errors { IfErr result (λ r. r ≡ Refusal.Memory) }
     ensures err { OnErr result (memory.new ≡ memory.old) }
 {
     let place = memory.entries().len();
-    match serve_request(memory, request, mark) {
+    match serve_op(memory, request, op, mark) {
         Ok(_) => Ok(place),
         Err(_) => Err(Refusal::Memory),
     }
@@ -264,11 +260,13 @@ fn act_alone(memory: &mut Memory, request: &Tlp, mark: u32) -> Result<usize, Ref
 fn act_and_answer(
     memory: &mut Memory,
     request: &Tlp,
+    op: Op,
     mark: u32,
     sender: &mut SenderEnd,
     need: Need,
 ) -> Result<usize, Refusal>
-    requires { option_map need_of (completion_to memory.old request.now) ≡ Some need }
+    requires asks { op_of request.now ≡ Some op }
+    requires need { option_map need_of (completion_to memory.old request.now) ≡ Some need }
     ensures answers { IfOk result (λ place. act_on memory.old request.now mark sender.old ≡ Ok (place, memory.new, sender.new)) }
     ensures refuses { IfErr result (λ r. Refuses (λ x. serving_grows sender.old x.2) (act_on memory.old request.now mark sender.old) r) }
     ensures fits { OnOk result (ActFits memory.old request.now) }
@@ -280,7 +278,7 @@ fn act_and_answer(
     if let Err(refusal) = sender.make_room(need) {
         return Err(Refusal::Lane(refusal));
     }
-    match serve_request(memory, request, mark) {
+    match serve_op(memory, request, op, mark) {
         Ok(Some(completion)) => {
             let _ = sender.enter(&completion, mark);
             Ok(place)
@@ -308,9 +306,13 @@ fn act(
     ensures err_memory { OnErr result (memory.new ≡ memory.old) }
     ensures err_sender { OnErr result (sender.new ≡ sender.old) }
 {
-    match need_to_answer(memory, request) {
-        Some(need) => act_and_answer(memory, request, mark, sender, need),
-        None => act_alone(memory, request, mark),
+    let Some(op) = op_of(request) else {
+        // A completion asks for nothing.
+        return Ok(memory.entries().len());
+    };
+    match need_for(memory, request, &op) {
+        Some(need) => act_and_answer(memory, request, op, mark, sender, need),
+        None => act_alone(memory, request, op, mark),
     }
 }
 
@@ -330,10 +332,7 @@ pub fn serve(
     ensures err_memory { OnErr result (memory.new ≡ memory.old) }
     ensures err_sender { OnErr result (sender.new ≡ sender.old) }
 {
-    if !receiver.takeable(place) {
-        return Err(Refusal::NotTakeable);
-    }
-    let Some((request, mark)) = receiver.at(place) else {
+    let Some((request, mark)) = receiver.peek(place) else {
         return Err(Refusal::NotTakeable);
     };
     let at = act(memory, request, mark, sender)?;

@@ -1,11 +1,10 @@
 //! What a round tries, in order.
-ghost use Rattle.std.specs.Prelude.{◌≡◌, false};
-ghost use Rattle.fabric_answers.specs.Told.{IsTold};
+ghost use Rattle.std.specs.Prelude.{◌≡◌};
 ghost use Rattle.fabric_settle.specs.Rounds as spec;
 
 use dllp_core::Class;
-use fabric_core::{Event, LaneName, Refusal};
-use lane_core::{DllpKind, Fate, LaneRefusal};
+use fabric_core::{Event, LaneName};
+use lane_core::{DllpKind, Fate};
 
 /// The lanes of a fabric with seven requesters.
 pub const LANES: [LaneName; 16] = [
@@ -72,16 +71,6 @@ pub fn is_move(event: &Event) -> bool
     match event {
         Event::SendDllp(_, _) | Event::DeliverDllp(_, _) | Event::Retrained(_) => false,
         _ => true,
-    }
-}
-
-/// Whether an event was refused because an allocation failed, which is none of the fabric's own refusals.
-pub fn is_memory(refusal: Refusal) -> bool
-    ensures { result ≡ false → IsTold refusal }
-{
-    match refusal {
-        Refusal::Memory | Refusal::Lane(LaneRefusal::Memory) => true,
-        _ => false,
     }
 }
 

@@ -21,5 +21,5 @@ mod attempts;
 mod rounds;
 mod turns;
 
-pub use attempts::{AFTER_LANES, Attempt, LANES, is_memory, is_move, lane_attempts};
+pub use attempts::{AFTER_LANES, Attempt, LANES, is_move, lane_attempts};
 pub use rounds::settle;

@@ -3,7 +3,7 @@ ghost use Rattle.std.specs.Prelude.{◌≡◌, ◌<◌, ◌++◌, vec_len, vec_c
 ghost use Rattle.fabric_settle.specs.Reached.{Reached};
 ghost use Rattle.fabric_settle.specs.Rounds as spec;
 
-use crate::attempts::{AFTER_LANES, Attempt, LANES, is_memory, is_move, lane_attempts};
+use crate::attempts::{AFTER_LANES, Attempt, LANES, is_move, lane_attempts};
 use fabric_answers::laws::each_event_has_one_answer;
 use fabric_core::{Event, Fabric, LaneName};
 use history_check::Record;
@@ -38,7 +38,7 @@ fn once(
             *moved = *moved || is_move(event);
             Ok(true)
         }
-        Err(refusal) if is_memory(refusal) => Err(AllocError),
+        Err(refusal) if refusal.is_memory() => Err(AllocError),
         Err(_) => Ok(false),
     }
 }

@@ -19,5 +19,5 @@ pub use laws::{
     limits_let_each_packet_go, units_are_the_least,
 };
 pub use ledger::CreditLedger;
-pub use limits::LaneCredits;
+pub use limits::{LaneCredits, MAX_DATA, MAX_HEADERS, MIN_ATOMIC_DATA, MIN_DATA};
 pub use needs::{Need, class_of, need_of};

@@ -19,22 +19,24 @@ pub struct LaneCredits {
     pub cpld: u16,
 }
 
-/// The most header credit that may be unused.
-const MAX_HEADER: u8 = 127;
+/// The most header credit that may be unused, in header units.
+pub const MAX_HEADERS: u8 = 127;
 
-/// The most data credit that may be unused.
-const MAX_DATA: u16 = 2047;
+/// The most data credit that may be unused, in data units of 16 bytes.
+pub const MAX_DATA: u16 = 2047;
 
-/// The data units of the greatest payload, 128 bytes.
-const MIN_DATA: u16 = 8;
+/// The least finite data credit of posted requests and completions, in data units: those of the greatest payload, 128
+/// bytes.
+pub const MIN_DATA: u16 = 8;
 
-/// The data units of the greatest AtomicOp, a CAS of two operands of 16 bytes.
-const MIN_ATOMIC: u16 = 2;
+/// The least finite data credit of non-posted requests, in data units: those of the greatest AtomicOp, a CAS of two
+/// operands of 16 bytes.
+pub const MIN_ATOMIC_DATA: u16 = 2;
 
 fn is_header(first: u8) -> bool
     ensures { IsTrue result ↔ IsInfiniteOrBetween 1 127 first }
 {
-    first <= MAX_HEADER
+    first <= MAX_HEADERS
 }
 
 fn is_data(least: u16, first: u16) -> bool
@@ -61,7 +63,7 @@ impl LaneCredits {
         is_header(self.ph)
             && is_data(MIN_DATA, self.pd)
             && is_header(self.nph)
-            && is_data(MIN_ATOMIC, self.npd)
+            && is_data(MIN_ATOMIC_DATA, self.npd)
             && is_header(self.cplh)
             && is_data(MIN_DATA, self.cpld)
     }

@@ -7,9 +7,8 @@ use crate::drive::{
     OpenFault, add_one, back, collect, last_seat, last_worker, opened, out_and_served, pump, read,
     small, submit, write,
 };
-use fabric_core::{ConfigFault, Refusal};
+use fabric_core::ConfigFault;
 use hall_core::{Hall, HallFault, HallRefusal, ReqSeat, WorkEvent, WorkSeat};
-use lane_core::LaneRefusal;
 use seq_memory::Reply;
 use std::alloc::Global;
 use std::io;
@@ -17,10 +16,7 @@ use tlp_core::Op;
 
 /// Whether the refusal is for being out of memory.
 fn lacks_memory(refusal: HallRefusal) -> bool {
-    matches!(
-        refusal,
-        HallRefusal::Core(Refusal::Memory) | HallRefusal::Core(Refusal::Lane(LaneRefusal::Memory))
-    )
+    matches!(refusal, HallRefusal::Core(refusal) if refusal.is_memory())
 }
 
 /// A hall with its seats, made again of a new fabric where memory was refused.

@@ -1,6 +1,6 @@
 -- A trace as contracts see it.
 use Rattle.std.specs.Prelude.{ℕ, List}
-use Rattle.seq_memory.specs.Limits.{Extent, IsWithinLimits}
+use Rattle.seq_memory.specs.Limits.{Extent}
 use Rattle.history_check.specs.declared.Record.{Record}
 
 -- what requesters submitted and were answered, over a memory of that base, size and block
@@ -13,7 +13,3 @@ pub record TraceView : Type 0 where
 -- where that memory lies
 abbrev pub observed : TraceView → Extent
 observed t = record { base = t.base; size = t.size; block = t.block }
-
--- the memory is one that there can be
-abbrev pub HasLimits : TraceView → Type 0
-HasLimits t = IsWithinLimits (observed t)

@@ -7,7 +7,7 @@ ghost use Rattle.history_check.specs.Lookup.{IsIndex, AreFirsts, is_told_at, is_
 use crate::acting::{no_points, point};
 use crate::index::Index;
 use crate::{Record, Trace};
-use seq_memory::{Entry, Reply};
+use seq_memory::{Entry, Reply, perform};
 use std::alloc::{AllocError, Global};
 
 /// By the place of each submission, where the first answer to it stands.
@@ -59,7 +59,8 @@ fn compare(
     ensures bytes { bytes.new ≡ after trace.now.base trace.now.block bytes.old entry.now.op }
     ensures told { result ≡ is_told_in index.now firsts.now trace.now.records entry.now (answer trace.now.base trace.now.block bytes.old entry.now.op) }
 {
-    let made = seq_memory::perform(trace.base, trace.block, bytes, &entry.op);
+    let extent = trace.extent;
+    let made = perform(extent.base(), extent.block(), bytes, &entry.op);
     let place = point(index, firsts, entry.requester, entry.number);
     tells(trace.records.as_slice(), place, &made)
 }
@@ -80,7 +81,7 @@ pub(crate) fn right_replies(
 ) -> Result<Vec<bool>, AllocError>
     ensures { IfOk result (λ v. (p : ℕ) → slice_get v.items p ≡ right_in index.now firsts.now (claim_of trace.now history.now) p) }
 {
-    let mut bytes = zero_bytes(alloc, trace.size)?;
+    let mut bytes = zero_bytes(alloc, trace.extent.size())?;
     let mut right = Vec::with_capacity(alloc, history.len())?;
     for p in 0..history.len() {
         right.push(compare(trace, index, firsts, &mut bytes, &history[p]))?;

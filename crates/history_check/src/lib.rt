@@ -20,7 +20,7 @@ pub mod laws;
 
 pub use checking::check;
 pub use flaws::{Flaw, FlawKind};
-use seq_memory::Reply;
+use seq_memory::{Extent, Reply};
 use std::marker::Model;
 use tlp_core::Op;
 
@@ -43,25 +43,18 @@ pub enum Record {
     },
 }
 
-/// What requesters submitted to a memory and were answered, in the order of events. The memory has
-/// `size` bytes, zeros at first, from the address `base` on, and serves accesses by blocks of
-/// `block` bytes. All three are within the limits of a memory: [`is_size`](seq_memory::is_size),
-/// [`is_base`](seq_memory::is_base) and [`is_block`](seq_memory::is_block) test them. A literal
-/// proves that where it is made.
+/// What requesters submitted to a memory and were answered, in the order of events.
 #[derive(Clone, Debug, Drop)]
 pub struct Trace {
-    pub base: u64,
-    pub size: usize,
-    pub block: u16,
+    /// The memory, whose bytes are zeros at first.
+    pub extent: Extent,
     pub records: Vec<Record>,
 }
 
 impl Model for Trace {
-    ghost use Rattle.history_check.specs.TraceView.{TraceView, HasLimits};
+    ghost use Rattle.history_check.specs.TraceView.{TraceView};
 
     ghost Value = { TraceView };
 
-    ghost view = { λ t. record { base = t.base; size = t.size; block = t.block; records = t.records.items } };
-
-    ghost invariant = { λ t. HasLimits (record { base = t.base; size = t.size; block = t.block; records = t.records.items }) };
+    ghost view = { λ t. record { base = t.extent.base; size = t.extent.size; block = t.extent.block; records = t.records.items } };
 }

@@ -74,9 +74,7 @@ pub(crate) fn prefix(alloc: Global, trace: &Trace, count: usize) -> Result<Trace
     ensures { IfOk result (λ t. t ≡ explainable.prefix count trace.now) }
 {
     Ok(Trace {
-        base: trace.base,
-        size: trace.size,
-        block: trace.block,
+        extent: trace.extent,
         records: copy_of_records(alloc, &trace.records[..count])?,
     })
 }
@@ -124,9 +122,7 @@ pub(crate) fn keeping(
     ensures { IfOk result (λ t. t ≡ contradictions.keeping count kept.now trace.now) }
 {
     Ok(Trace {
-        base: trace.base,
-        size: trace.size,
-        block: trace.block,
+        extent: trace.extent,
         records: keeping_records(alloc, &trace.records[..count], kept)?,
     })
 }

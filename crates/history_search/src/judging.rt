@@ -14,7 +14,6 @@ use log_events::{events_of, form_of};
 use log_runs::laws::{explainable_has_a_run, explainable_is_well_formed, prefix_is_explainable};
 use log_runs::{Log, Step};
 use run_search::{Outcome, explore};
-use seq_memory::Memory;
 use std::alloc::{AllocError, Global};
 
 /// The first `count` records as a search sees them. `partners` says which records may belong together.
@@ -29,7 +28,7 @@ pub(crate) fn log_of(
     ensures extent { IfOk result (λ l. l.extent ≡ observed trace.now) }
 {
     Ok(Log {
-        memory: Memory::new(alloc, trace.base, trace.size, trace.block)?,
+        extent: trace.extent,
         events: events_of(alloc, &trace.records[..count], partners)?,
     })
 }

@@ -1,5 +1,5 @@
 //! The four ends together.
-ghost use Rattle.std.specs.Prelude.{◌≡◌, ◌+◌, ◌<◌, ◌≤◌, ◌↔◌, ◌⊎◌, List, [], ◌∷◌, ◌++◌, length, true, false, remove, slice_get, Some, IsTrue, IsOk, IsSome, IfSome, OnOk, OnErr, IfOk, IfErr};
+ghost use Rattle.std.specs.Prelude.{◌≡◌, ◌+◌, ◌<◌, ◌≤◌, ◌↔◌, ◌⊎◌, List, [], ◌∷◌, ◌++◌, length, true, false, remove, slice_get, Some, IsTrue, IsOk, IsSome, IsNone, IfSome, OnOk, OnErr, IfOk, IfErr};
 
 use crate::laws::{quiet_is_nothing_left, room_is_known_less_used};
 use dllp_core::Dllp;
@@ -193,6 +193,14 @@ impl Lane {
         ensures { result ≡ is_takeable self.now.receiver.queue place }
     {
         self.ends.receiver.takeable(place)
+    }
+
+    /// The accepted packet of a place and its mark if [`take`](Self::take) would take them, otherwise none.
+    pub fn peek(&self, place: usize) -> Option<(&Tlp, u32)>
+        ensures none { IsNone result ↔ (is_takeable self.now.receiver.queue place ≡ false) }
+        ensures item { IfSome result (λ x. IsTrue (is_takeable self.now.receiver.queue place) × (slice_get self.now.receiver.queue place ≡ Some (x.0.now, x.1))) }
+    {
+        self.ends.receiver.peek(place)
     }
 
     /// The accepted packet of a place and its mark, oldest first from 0; None past the end.

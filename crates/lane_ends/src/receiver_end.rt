@@ -1,5 +1,5 @@
 //! The receiver's end of a lane.
-ghost use Rattle.std.specs.Prelude.{◌≡◌, ◌<◌, ◌↔◌, [], length, slice_get, Some, IsTrue, IsSome, IfSome, OnOk, OnErr, IfOk, IfErr};
+ghost use Rattle.std.specs.Prelude.{◌≡◌, ◌<◌, ◌↔◌, [], length, slice_get, Some, true, false, IsTrue, IsSome, IsNone, IfSome, OnOk, OnErr, IfOk, IfErr};
 
 use crate::packet::{Arrival, DllpKind, Fate, LaneRefusal, WirePacket};
 use crate::wires::{BackWire, ForwardWire};
@@ -157,6 +157,14 @@ impl ReceiverEnd {
         ensures { result ≡ is_takeable self.now.queue place }
     {
         self.queue.takeable(place)
+    }
+
+    /// The accepted packet of a place and its mark if [`take`](Self::take) would take them, otherwise none.
+    pub fn peek(&self, place: usize) -> Option<(&Tlp, u32)>
+        ensures none { IsNone result ↔ (is_takeable self.now.queue place ≡ false) }
+        ensures item { IfSome result (λ x. IsTrue (is_takeable self.now.queue place) × (slice_get self.now.queue place ≡ Some (x.0.now, x.1))) }
+    {
+        self.queue.peek(place)
     }
 
     /// The accepted packet of a place and its mark, oldest first from 0; None past the end.

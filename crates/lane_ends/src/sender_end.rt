@@ -145,19 +145,18 @@ impl SenderEnd {
         ensures err_sender { OnErr result (self.new ≡ self.old) }
         ensures err_wire { OnErr result (wire.new ≡ wire.old) }
     {
-        if !self.sender.can_transmit() {
+        let Some((number, cargo)) = self.sender.next_packet() else {
             return Ok(None);
-        }
-        if wire.packets.try_reserve(1).is_err() {
+        };
+        if wire
+            .packets
+            .push_back(WirePacket { number, cargo })
+            .is_err()
+        {
             return Err(LaneRefusal::Memory);
         }
-        match self.sender.transmit() {
-            Some((number, cargo)) => {
-                let _ = wire.packets.push_back(WirePacket { number, cargo });
-                Ok(Some(number))
-            }
-            None => Ok(None),
-        }
+        self.sender.advance();
+        Ok(Some(number))
     }
 
     /// A good DLLP takes effect.

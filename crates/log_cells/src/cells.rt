@@ -133,8 +133,8 @@ impl Cells {
         ensures { IfOk result (λ c. ArePlaces log.now.events c) }
     {
         let places = places_of(alloc, log)?;
-        let base = log.memory.base();
-        let size = log.memory.size() as u64;
+        let base = log.extent.base();
+        let size = log.extent.size() as u64;
         let words = joined(alloc, &places, base, size)?;
         let beginnings = beginnings(alloc, &words)?;
         let most = WORK / places.len().saturating_add(1);

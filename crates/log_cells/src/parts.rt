@@ -1,6 +1,5 @@
 //! The part of a log on some bytes of the memory.
 ghost use Rattle.std.specs.Prelude.{◌≡◌, ◌≤◌, ℕ, IfOk, IfSome, IsTrue, Some, slice_get, length};
-ghost use Rattle.seq_memory.specs.History.{extent_of};
 ghost use Rattle.log_runs.specs.Runs.{Live, start};
 ghost use Rattle.log_cells.specs.Parts.{IsKept, NamesInside, AreKept, Holds};
 ghost use Rattle.log_cells.specs.Places.{ArePlaces};
@@ -11,7 +10,7 @@ use crate::names::{name_of, names_in};
 use crate::places::place_of;
 use log_events::copy_of_reply;
 use log_runs::{Event, Log};
-use seq_memory::{ALIGNMENT, MAX_SIZE, Memory, Reply, is_base, is_size};
+use seq_memory::{ALIGNMENT, Extent, MAX_SIZE, Reply};
 use std::alloc::{AllocError, Global};
 use tlp_core::copy_of;
 
@@ -94,28 +93,23 @@ fn in_blocks(count: usize) -> usize
     (count / ALIGNMENT + 1) * ALIGNMENT
 }
 
-/// A memory of whole blocks with the bytes from `low` up to `high`, if there can be one.
-fn memory_for(alloc: Global, log: &Log, low: u64, high: u64) -> Result<Option<Memory>, AllocError>
-    ensures { IfOk result (λ o. IfSome o (λ m. (m.block ≡ log.now.extent.block) × Holds (extent_of m) low high)) }
+/// Whole blocks with the bytes from `low` up to `high`, if a memory can have them.
+fn extent_for(log: &Log, low: u64, high: u64) -> Option<Extent>
+    ensures { IfSome result (λ x. (x.block ≡ log.now.extent.block) × Holds x low high) }
 {
     let base = low - low % ALIGNMENT as u64;
     if high <= base || high - base > MAX_SIZE as u64 {
-        return Ok(None);
+        return None;
     }
-    let size = in_blocks((high - base) as usize);
-    if !is_size(size) || !is_base(base, size) {
-        return Ok(None);
-    }
-    let memory = Memory::new(alloc, base, size, log.memory.block())?;
-    Ok(Some(memory))
+    Extent::new(base, in_blocks((high - base) as usize), log.extent.block())
 }
 
 /// The log's memory has the bytes from `low` up to `high`.
 fn holds(log: &Log, low: u64, high: u64) -> bool
     ensures { IsTrue result → Holds log.now.extent low high }
 {
-    let base = log.memory.base();
-    base <= low && low <= high && high - base <= log.memory.size() as u64
+    let base = log.extent.base();
+    base <= low && low <= high && high - base <= log.extent.size() as u64
 }
 
 /// The part of the log on the bytes from `low` up to `high`; none if a request crosses an end of them.
@@ -134,12 +128,12 @@ pub fn part(
     if !holds(log, low, high) {
         return Ok(None);
     }
-    let Some(memory) = memory_for(alloc, log, low, high)? else {
+    let Some(extent) = extent_for(log, low, high) else {
         return Ok(None);
     };
     let names = names_in(alloc, cells.places(), low, high)?;
     let Some(events) = events_in(alloc, log, &names, low, high)? else {
         return Ok(None);
     };
-    Ok(Some(Log { memory, events }))
+    Ok(Some(Log { extent, events }))
 }

@@ -8,7 +8,7 @@
 
 pub mod laws;
 
-use seq_memory::{Memory, Reply};
+use seq_memory::{Extent, Reply};
 use std::marker::Model;
 use tlp_core::Op;
 
@@ -29,23 +29,19 @@ pub enum Event {
     Free,
 }
 
-/// What a search goes through: the events of a log, and a memory of its base, size and block, whose
-/// contents don't matter.
+/// What a search goes through: the events of a log, and where its memory lies.
 #[derive(Drop)]
 pub struct Log {
-    pub memory: Memory,
+    pub extent: Extent,
     pub events: Vec<Event>,
 }
 
 impl Model for Log {
-    ghost use Rattle.seq_memory.specs.History.{extent_of};
     ghost use Rattle.log_runs.specs.LogView.{LogView};
 
     ghost Value = { LogView };
 
-    ghost view = { λ m. record { extent = extent_of m.memory; events = m.events.items } };
-
-    ghost invariant = { λ m. Unit {0} };
+    ghost view = { λ m. record { extent = m.extent; events = m.events.items } };
 }
 
 /// A step of a run through a log.

@@ -1,3 +1,2 @@
-mod FormLemmas
 mod LineLemmas
 mod SeenLemmas

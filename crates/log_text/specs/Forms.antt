@@ -1,6 +1,6 @@
 -- The forms of a log's lines: those of a trace of version 2, whose records have no n.
-use Rattle.std.specs.Prelude.{ℕ, ◌&&◌, if◌then◌else◌, List, [], ◌∷◌, Option, Some, None, codes, bytes_eq}
-use Rattle.seq_memory.specs.Limits.{IsWithinLimits, is_size, is_base}
+use Rattle.std.specs.Prelude.{if◌then◌else◌, List, [], ◌∷◌, Option, Some, None, codes, bytes_eq}
+use Rattle.seq_memory.specs.Limits.{Extent, is_within_limits}
 use Rattle.history_check.specs.declared.Record.TheVariants as records
 use Rattle.operation_text.specs.Words.{words, then_with, field, ended}
 use Rattle.operation_text.specs.Operations.{address, op_spelled, reply_spelled}
@@ -8,12 +8,12 @@ use Rattle.trace_text.specs.Forms.{requester, number, count, block}
 use Rattle.log_text.specs.declared.line.LogLine.{LogLine}
 use Rattle.log_text.specs.declared.line.LogLine.TheVariants as lines
 
--- a memory of that base and size, if there can be one
-abbrev pub memory_within : ℕ → ℕ → ℕ → List (List ℕ) → Option LogLine
-memory_within base size b ws = if is_size size && is_base base size then ended (lines.Memory base size b) ws else None
+-- a memory of that extent, if there can be one
+abbrev pub memory_within : Extent → List (List ℕ) → Option LogLine
+memory_within x ws = if is_within_limits x then ended (lines.Memory x) ws else None
 
 abbrev pub memory_of : List (List ℕ) → Option LogLine
-memory_of ws = field address (λ base. field count (λ size. field block (λ b. memory_within base size b))) ws
+memory_of ws = field address (λ base. field count (λ size. field block (λ b. memory_within (record { base = base; size = size; block = b })))) ws
 
 -- a record's n is 0: it says nothing
 abbrev pub sub_of : List (List ℕ) → Option LogLine
@@ -37,8 +37,3 @@ line_in_words (kind ∷ ws) = line_by kind ws
 -- the line that the text spells
 abbrev pub line_of : List ℕ → Option LogLine
 line_of line = if bytes_eq line (codes "pciex-log 1") then Some lines.Head else line_in_words (words line)
-
--- a memory's line tells a base, size and block that a memory can have
-abbrev pub IsLineOfLimits : LogLine → Type 0
-IsLineOfLimits (lines.Memory base size b) = IsWithinLimits (record { base = base; size = size; block = b })
-IsLineOfLimits _ = Unit {0}

@@ -1,6 +1,7 @@
 -- What a text of a log is read as, line by line; and a text that has a log or a trace.
 use Rattle.std.specs.Prelude.{ℕ, ◌≡◌, ◌+◌, ◌-◌, ◌^◌, ◌⊎◌, ◌&&◌, Bool, true, false, not, min, nat_lt, if◌then◌else◌, List, [], ◌∷◌, ◌++◌, length, fold, Option, Some, None, is_some, Result, Ok, Err}
 use Rattle.line_loop.specs.Lines.{lines_of, bare, said}
+use Rattle.seq_memory.specs.Limits.{Extent}
 use Rattle.history_check.specs.declared.Record.{Record}
 use Rattle.history_check.specs.Claim.{Claim}
 use Rattle.history_check.specs.TraceView.{TraceView}
@@ -19,15 +20,13 @@ use Rattle.log_text.specs.Forms.{line_of}
 pub record LogReaderView : Type 0 where
   pub section : LogSection
   pub lines : ℕ
-  pub base : ℕ
-  pub size : ℕ
-  pub block : ℕ
+  pub extent : Extent
   pub records : List Record
   pub fault : Option ReadFault
 
--- base, size and block are told by the memory's line, and those of a memory until then
+-- the extent is told by the memory's line, and that of the least memory until then
 abbrev pub nothing_read : LogReaderView
-nothing_read = record { section = sections.Head; lines = 0; base = 0; size = 128; block = 64; records = []; fault = None }
+nothing_read = record { section = sections.Head; lines = 0; extent = record { base = 0; size = 128; block = 64 }; records = []; fault = None }
 
 -- the number of the line that comes next, a number of 64 bits
 abbrev pub next_line : LogReaderView → ℕ
@@ -50,7 +49,7 @@ in_head s lines.Head = record s { lines = next_line s; section = sections.Memory
 in_head s _ = faulty s faults.Head
 
 abbrev pub in_memory : LogReaderView → LogLine → LogReaderView
-in_memory s (lines.Memory base size block) = record s { lines = next_line s; section = sections.Records; base = base; size = size; block = block }
+in_memory s (lines.Memory x) = record s { lines = next_line s; section = sections.Records; extent = x }
 in_memory s _ = faulty s faults.Section
 
 abbrev pub in_records : LogReaderView → LogLine → LogReaderView
@@ -111,7 +110,7 @@ adds_by s line = not (nat_lt 512 (length (bare line))) && adds_one s (said line)
 -- ---- the end
 
 abbrev pub log_read : LogReaderView → TraceView
-log_read s = record { base = s.base; size = s.size; block = s.block; records = s.records }
+log_read s = record { base = s.extent.base; size = s.extent.size; block = s.extent.block; records = s.records }
 
 -- what is missing
 abbrev pub ended_in : LogSection → LogReaderView → Result TraceView ReadFault

@@ -1,12 +1,12 @@
 //! The forms of lines.
-ghost use Rattle.std.specs.Prelude.{◌≡◌, option_map, IfSome};
+ghost use Rattle.std.specs.Prelude.{◌≡◌, option_map};
 ghost use Rattle.operation_text.specs.Words.{words, words_behind, first_field};
 ghost use Rattle.trace_text.specs.Forms as fields;
 ghost use Rattle.log_text.specs.Forms as forms;
 
 use history_check::Record;
 use operation_text::{BASE, BLOCK, Expected, SIZE, alone, cut, number, op_behind, reply_behind};
-use seq_memory::{is_base, is_size};
+use seq_memory::Extent;
 
 const REQUESTER: Expected = Expected::Between("a requester", 1, 7);
 
@@ -16,7 +16,7 @@ const NUMBER: Expected = Expected::Between("a request's number", 0, 4_294_967_29
 #[derive(Drop)]
 pub(crate) enum LogLine {
     Head,
-    Memory { base: u64, size: usize, block: u16 },
+    Memory(Extent),
     Record(Record),
     End,
 }
@@ -57,13 +57,10 @@ fn block(rest: Option<&[u8]>) -> Option<(u16, Option<&[u8]>)>
 
 /// The line of a memory, if there can be one of that base and size.
 fn memory_within(base: u64, size: usize, block: u16, rest: Option<&[u8]>) -> Option<LogLine>
-    ensures { result ≡ forms.memory_within base size block (words_behind rest.entry) }
+    ensures { result ≡ forms.memory_within (record { base = base; size = size; block = block }) (words_behind rest.entry) }
 {
-    if is_size(size) && is_base(base, size) {
-        alone(LogLine::Memory { base, size, block }, rest).ok()
-    } else {
-        None
-    }
+    let extent = Extent::new(base, size, block)?;
+    alone(LogLine::Memory(extent), rest).ok()
 }
 
 fn memory(rest: Option<&[u8]>) -> Option<LogLine>
@@ -130,8 +127,7 @@ fn line_in_words(text: &[u8]) -> Option<LogLine>
 
 /// The line that the text spells.
 pub(crate) fn read_line(text: &[u8]) -> Option<LogLine>
-    ensures value { result ≡ forms.line_of text.now }
-    ensures limits { IfSome result forms.IsLineOfLimits }
+    ensures { result ≡ forms.line_of text.now }
 {
     if text == b"pciex-log 1".as_slice() {
         Some(LogLine::Head)

@@ -1,12 +1,10 @@
 //! Reading a log line by line.
 ghost use Rattle.std.specs.Prelude.{◌≡◌, true, OnOk, OnErr, IfOk, IfErr, Ok, Err, Some};
-ghost use Rattle.history_check.specs.TraceView.{HasLimits};
-ghost use Rattle.log_text.specs.Forms.{IsLineOfLimits};
 ghost use Rattle.log_text.specs.LogReaderView as reads;
 
 use crate::line::{LogLine, read_line};
 use history_check::{Record, Trace};
-use seq_memory::MIN_SIZE;
+use seq_memory::{Extent, MIN_SIZE};
 use std::alloc::{AllocError, Global};
 use std::marker::Model;
 use trace_text::{ReadFault, ReadFaultKind};
@@ -29,22 +27,17 @@ pub(crate) enum LogSection {
 pub(crate) struct LogReader {
     section: LogSection,
     lines: u64,
-    base: u64,
-    size: usize,
-    block: u16,
+    extent: Extent,
     records: Vec<Record>,
     fault: Option<ReadFault>,
 }
 
 impl Model for LogReader {
-    ghost use Rattle.seq_memory.specs.Limits.{IsWithinLimits};
     ghost use Rattle.log_text.specs.LogReaderView.{LogReaderView};
 
     ghost Value = { LogReaderView };
 
-    ghost view = { λ s. record { section = s.section; lines = s.lines; base = s.base; size = s.size; block = s.block; records = s.records.items; fault = s.fault } };
-
-    ghost invariant = { λ s. IsWithinLimits (record { base = s.base; size = s.size; block = s.block }) };
+    ghost view = { λ s. record { section = s.section; lines = s.lines; extent = s.extent; records = s.records.items; fault = s.fault } };
 }
 
 impl LogReader {
@@ -55,9 +48,7 @@ impl LogReader {
         LogReader {
             section: LogSection::Head,
             lines: 0,
-            base: 0,
-            size: MIN_SIZE,
-            block: 64,
+            extent: Extent::new(0, MIN_SIZE, 64).unwrap(),
             records: Vec::new(alloc),
             fault: None,
         }
@@ -122,15 +113,12 @@ impl LogReader {
     }
 
     fn in_memory(&mut self, line: LogLine)
-        requires { IsLineOfLimits line }
         ensures { self.new ≡ reads.in_memory self.old line }
     {
         match line {
-            LogLine::Memory { base, size, block } => {
+            LogLine::Memory(extent) => {
                 self.section = LogSection::Records;
-                self.base = base;
-                self.size = size;
-                self.block = block;
+                self.extent = extent;
                 self.count();
             }
             _ => self.tell(ReadFaultKind::Section),
@@ -158,7 +146,6 @@ impl LogReader {
 
     /// Takes a line of that form.
     fn place(&mut self, line: LogLine) -> Result<(), AllocError>
-        requires { IsLineOfLimits line }
         ensures ok { OnOk result (self.new ≡ reads.placed self.old.section self.old line) }
         ensures err { OnErr result (self.new ≡ self.old) }
         ensures adds { OnErr result (reads.adds self.old.section (Some line) ≡ true) }
@@ -221,7 +208,6 @@ impl LogReader {
     pub(crate) fn end(self) -> Result<Trace, ReadFault>
         ensures ok { IfOk result (λ t. reads.at_end self ≡ Ok t) }
         ensures err { IfErr result (λ f. reads.at_end self ≡ Err f) }
-        ensures limits { IfOk result HasLimits }
     {
         if let Some(fault) = self.fault {
             return Err(fault);
@@ -231,9 +217,7 @@ impl LogReader {
             LogSection::Memory => Err(self.fault_at_next(ReadFaultKind::Line)),
             LogSection::Records => Err(self.fault_at_next(ReadFaultKind::Section)),
             LogSection::End => Ok(Trace {
-                base: self.base,
-                size: self.size,
-                block: self.block,
+                extent: self.extent,
                 records: self.records,
             }),
         }

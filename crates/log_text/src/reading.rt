@@ -1,6 +1,5 @@
 //! Reading the whole text of a log.
 ghost use Rattle.std.specs.Prelude.{◌≡◌, ◌⊎◌, true, OnOk, OnErr, IfOk, IfErr, Ok, Err};
-ghost use Rattle.history_check.specs.TraceView.{HasLimits};
 ghost use Rattle.trace_text.specs.TraceReaderView.{read_of, IsRefused};
 ghost use Rattle.log_text.specs.LogReaderView.{log_of, seen_of, is_head, without_history, Tells, SeenTells};
 ghost use Rattle.log_text.specs.Endings.{on_said, on_ended_line, on_last_line, adds_said, adds_ended, adds_last};
@@ -50,7 +49,6 @@ fn take_last(reader: &mut LogReader, line: &[u8]) -> Result<(), AllocError>
 pub fn read_log(alloc: Global, text: &[u8]) -> Result<Trace, ReadFault>
     ensures ok { IfOk result (λ t. log_of text.now ≡ Ok t) }
     ensures err { IfErr result (Tells text.now) }
-    ensures limits { IfOk result HasLimits }
 {
     let mut reader = LogReader::new(alloc);
     let mut rest = text;
@@ -82,7 +80,6 @@ fn is_head(kind: ReadFaultKind) -> bool
 fn read_seen_trace(alloc: Global, text: &[u8]) -> Result<Trace, ReadFault>
     ensures ok { IfOk result (λ t. without_history (read_of text.now) ≡ Ok t) }
     ensures err { IfErr result (λ f. (without_history (read_of text.now) ≡ Err f) ⊎ IsRefused text.now f) }
-    ensures limits { IfOk result HasLimits }
 {
     match read_trace(alloc, text) {
         Ok((trace, _)) => Ok(trace),
@@ -96,7 +93,6 @@ fn read_seen_trace(alloc: Global, text: &[u8]) -> Result<Trace, ReadFault>
 pub fn read_seen(alloc: Global, text: &[u8]) -> Result<Trace, ReadFault>
     ensures ok { IfOk result (λ t. seen_of text.now ≡ Ok t) }
     ensures err { IfErr result (SeenTells text.now) }
-    ensures limits { IfOk result HasLimits }
 {
     match read_log(alloc, text) {
         Ok(log) => Ok(log),

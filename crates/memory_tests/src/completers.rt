@@ -2,7 +2,7 @@
 use arrayvec::ArrayVec;
 use completer_core::{need_to_answer, serve};
 use fc_credit::Need;
-use seq_memory::Memory;
+use seq_memory::{Extent, Memory};
 use std::alloc::{AllocError, Global};
 use tlp_core::{Tlp, decode, encode};
 
@@ -51,7 +51,7 @@ fn serves(memory: &mut Memory) -> Result<bool, AllocError> {
 }
 
 fn new_serves(alloc: Global) -> Result<bool, AllocError> {
-    let mut memory = Memory::new(alloc, 0, 4096, 64)?;
+    let mut memory = Memory::new(alloc, Extent::new(0, 4096, 64).unwrap())?;
     serves(&mut memory)
 }
 

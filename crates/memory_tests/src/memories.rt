@@ -1,6 +1,6 @@
 //! What memories hold, answer and refuse.
 use arrayvec::ArrayVec;
-use seq_memory::{Entry, Memory, Refusal, Reply, is_base, is_block, is_size, perform};
+use seq_memory::{Entry, Extent, Memory, Refusal, Reply, is_base, is_block, is_size, perform};
 use std::alloc::{AllocError, Global};
 use tlp_core::{MAX_PAYLOAD, Op, Width};
 
@@ -80,7 +80,7 @@ fn act(memory: &mut Memory, access: Access) -> Result<Reply, AllocError> {
 }
 
 fn small(alloc: Global) -> Result<Memory, AllocError> {
-    Memory::new(alloc, 0, 4096, 64)
+    Memory::new(alloc, Extent::new(0, 4096, 64).unwrap())
 }
 
 /// What a memory answers.
@@ -214,12 +214,12 @@ fn refuse_all(narrow: &Memory, wide: &Memory, rows: &[Refused]) -> bool {
 
 /// Beside blocks of 128 bytes.
 fn refuse_beside(narrow: &Memory, rows: &[Refused], alloc: Global) -> Result<bool, AllocError> {
-    let wide = Memory::new(alloc, 0x1000, 4096, 128)?;
+    let wide = Memory::new(alloc, Extent::new(0x1000, 4096, 128).unwrap())?;
     Ok(refuse_all(narrow, &wide, rows))
 }
 
 fn both_refuse(rows: &[Refused], alloc: Global) -> Result<bool, AllocError> {
-    let narrow = Memory::new(alloc, 0x1000, 4096, 64)?;
+    let narrow = Memory::new(alloc, Extent::new(0x1000, 4096, 64).unwrap())?;
     refuse_beside(&narrow, rows, alloc)
 }
 

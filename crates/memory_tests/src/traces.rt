@@ -1,7 +1,7 @@
 //! Worked traces of one requester, of reads and writes at 40h.
 use arrayvec::ArrayVec;
 use history_check::{Flaw, FlawKind, Record, Trace, check};
-use seq_memory::{Entry, Reply};
+use seq_memory::{Entry, Extent, Reply};
 use std::alloc::{AllocError, Global};
 use tlp_core::{MAX_PAYLOAD, Op};
 
@@ -122,9 +122,7 @@ fn trace_of(alloc: Global, events: &[Event]) -> Result<Trace, AllocError> {
     let mut records = Vec::new(alloc);
     record_all(&mut records, events)?;
     Ok(Trace {
-        base: 0,
-        size: 4096,
-        block: 64,
+        extent: Extent::new(0, 4096, 64).unwrap(),
         records,
     })
 }

@@ -31,7 +31,7 @@ apart base block m op e low high =
     let place = bytes_at m (address_of op - base) (count_of op) in
     let size : length place ≡ count_of op = place_size m (address_of op - base) (count_of op) (omega arith) in
     let zero_offset : address_of op - address_of op ≡ 0 = omega arith in
-    ap (λ n. answer_by (refusal block (address_of op) n op) (read_back op (bytes_at place (address_of op - address_of op) (count_of op)))) size
+    ap (λ n. answer_by (refusal (address_of op) n block op) (read_back op (bytes_at place (address_of op - address_of op) (count_of op)))) size
     ∙ ap (λ o. answer_by o (read_back op (bytes_at place (address_of op - address_of op) (count_of op)))) (served base block (length m) op e)
     ∙ ap (λ k. read_back op (bytes_at place k (count_of op))) zero_offset
     ∙ ap (read_back op) (whole place (count_of op) size)

@@ -1,6 +1,5 @@
 //! The monitor.
 ghost use Rattle.std.specs.Prelude.{◌≡◌, ◌<◌, ◌≤◌, ◌∷◌, ◌++◌, [], true, length, replicate, position, Some, Err, IfOk, OnOk, IfErr, OnErr, IsOk};
-ghost use Rattle.tlp_core.specs.Operation.{is_completion};
 ghost use Rattle.history_check.specs.Trace.{is_request};
 ghost use Rattle.port_monitor.specs.declared.fault.MonitorFault.TheVariants as faults;
 ghost use Rattle.port_monitor.specs.Watched.{fresh};
@@ -13,7 +12,7 @@ use history_check::Record;
 use seq_memory::Entry;
 use std::alloc::{AllocError, Global};
 use std::marker::Model;
-use tlp_core::{Kind, Op, Tlp, copy_of, op_of};
+use tlp_core::{Op, Tlp, copy_of, op_of};
 
 /// The requesters, 1 to 7, and a place for 0.
 const PLACES: u8 = 8;
@@ -57,12 +56,6 @@ fn place_of(waiting: &[Entry], requester: u8, number: u32) -> Option<usize>
     ensures { result ≡ position (is_request requester number) waiting.now }
 {
     waiting.iter().position(|entry| entry.requester == requester && entry.number == number)
-}
-
-fn is_completion(kind: Kind) -> bool
-    ensures { result ≡ is_completion kind }
-{
-    matches!(kind, Kind::Completion | Kind::CompletionData)
 }
 
 impl Monitor {
@@ -188,7 +181,7 @@ impl Monitor {
         ensures unchanged { OnErr result (self.new ≡ self.old) }
     {
         let completion = packet_from(requester, tlp)?;
-        if !is_completion(completion.kind) {
+        if !completion.kind.is_completion() {
             return Err(MonitorFault::NoCompletion);
         }
         self.answer(requester, &completion)

@@ -6,6 +6,7 @@ ghost use Rattle.port_monitor.specs.Watched as spec;
 use crate::enabled::{copy_of, enabled_bytes};
 use crate::fault::MonitorFault;
 use arrayvec::ArrayVec;
+use requester_core::NUMBERS;
 use seq_memory::Reply;
 use tlp_core::{Body, Kind, MAX_PAYLOAD, Status, Tlp};
 
@@ -138,7 +139,7 @@ impl Watched {
         if self.needs_open_tag(request) {
             return Some(MonitorFault::TagInUse);
         }
-        if self.next == u32::MAX {
+        if self.next == NUMBERS {
             return Some(MonitorFault::NumbersUsed);
         }
         None

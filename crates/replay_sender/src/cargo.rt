@@ -3,9 +3,10 @@ ghost use Rattle.std.specs.Prelude.{◌≡◌};
 
 use arrayvec::ArrayVec;
 use std::marker::Model;
+use tlp_core::MAX_TLP;
 
-/// The most bytes of a packet: a header of 16 and a payload of 128.
-pub const CARGO_BYTES: usize = 144;
+/// The most bytes of a packet.
+pub const CARGO_BYTES: usize = MAX_TLP;
 
 /// The bytes of a transaction layer packet, and a mark that rides beside them and isn't on the wire.
 #[derive(Debug, PartialEq, Eq, Drop)]

@@ -160,19 +160,37 @@ impl Sender {
         !self.stopped && self.place < self.kept.len()
     }
 
-    /// A copy of the packet at the place, under its number, and the place moves on. None where all were sent, and
-    /// while the sender is stopped. It takes no memory.
-    pub fn transmit(&mut self) -> Option<(Seq12, Cargo)>
-        ensures packet { result ≡ sent_from self.old }
-        ensures state { self.new ≡ after_transmit self.old }
+    /// A copy of the packet at the place, under its number. None where all were sent, and while the sender is stopped.
+    /// It takes no memory.
+    pub fn next_packet(&self) -> Option<(Seq12, Cargo)>
+        ensures packet { result ≡ sent_from self.now }
+        ensures some { is_some result ≡ is_some (next_item self.now) }
     {
         if !self.can_transmit() {
             return None;
         }
         let cargo = self.kept[self.place].copied();
         let number = self.acked.plus(self.place as u16 + 1);
-        self.place += 1;
         Some((number, cargo))
+    }
+
+    /// The place moves on: the packet that [`next_packet`](Self::next_packet) gives was sent.
+    pub fn advance(&mut self)
+        requires { IsTrue (is_some (next_item self.old)) }
+        ensures { self.new ≡ after_transmit self.old }
+    {
+        self.place += 1;
+    }
+
+    /// A copy of the packet at the place, under its number, and the place moves on. None where all were sent, and
+    /// while the sender is stopped. It takes no memory.
+    pub fn transmit(&mut self) -> Option<(Seq12, Cargo)>
+        ensures packet { result ≡ sent_from self.old }
+        ensures state { self.new ≡ after_transmit self.old }
+    {
+        let sent = self.next_packet()?;
+        self.advance();
+        Some(sent)
     }
 
     /// An Ack: all packets through its number are dropped. Gives how many; takes time in their number, and no memory.

@@ -9,4 +9,4 @@ mod requester;
 
 pub use fault::{CompletionFault, SubmitRefusal};
 pub use request::{Origin, request_with};
-pub use requester::{Answer, OpenRequest, Requester, TAGS};
+pub use requester::{Answer, NUMBERS, OpenRequest, Requester, TAGS};

@@ -11,6 +11,9 @@ use tlp_core::{Body, Kind, MAX_PAYLOAD, Op, Status, Tlp, op_fault};
 /// How many tags a requester has: those of 8 bits.
 pub const TAGS: usize = 256;
 
+/// How many requests a requester can ask for: their numbers are 0 to `NUMBERS - 1`.
+pub const NUMBERS: u32 = 4_294_967_295;
+
 /// A request that waits for its completion.
 #[derive(Clone, Copy, Debug, PartialEq, Eq)]
 pub struct OpenRequest {
@@ -93,7 +96,7 @@ impl Requester {
         if tag == TAGS {
             return Err(SubmitRefusal::TagsUsed);
         }
-        if self.next == u32::MAX {
+        if self.next == NUMBERS {
             return Err(SubmitRefusal::NumbersUsed);
         }
         Ok((self.next, request_for(self.port, tag as u8, op)))
@@ -142,7 +145,7 @@ impl Requester {
         ensures { result ≡ completed self.now packet.now }
     {
         let ours = packet.requester == u16::from(self.port) * 256;
-        if !matches!(packet.kind, Kind::Completion | Kind::CompletionData) || !ours {
+        if !packet.kind.is_completion() || !ours {
             return None;
         }
         self.open_tags[usize::from(packet.tag)]

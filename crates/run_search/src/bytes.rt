@@ -21,7 +21,7 @@ pub(crate) fn zeros(alloc: Global, size: usize) -> Result<Vec<u8>, AllocError>
 pub(crate) fn reply_to(log: &Log, bytes: &[u8], op: &Op) -> Reply
     ensures { result ≡ reply_of log.now.extent bytes.now op.now }
 {
-    reply(log.memory.base(), log.memory.block(), bytes, op)
+    reply(log.extent.base(), log.extent.block(), bytes, op)
 }
 
 /// The bytes at the request's place.
@@ -29,7 +29,7 @@ pub(crate) fn bytes_of(log: &Log, bytes: &[u8], b: usize) -> ArrayVec<u8, MAX_PA
     ensures { result.items ≡ old_at log.now.extent bytes.now (slice_get log.now.events b) }
 {
     match log.events.get(b) {
-        Some(Event::Sub { op, .. }) => { saved(log.memory.base(), log.memory.block(), bytes, op) }
+        Some(Event::Sub { op, .. }) => { saved(log.extent.base(), log.extent.block(), bytes, op) }
         _ => ArrayVec::new(),
     }
 }
@@ -40,7 +40,7 @@ pub(crate) fn act_on(log: &Log, bytes: &mut [u8], b: usize)
     ensures { bytes.new ≡ acted_on log.now.extent bytes.old (slice_get log.now.events b) }
 {
     if let Some(Event::Sub { op, .. }) = log.events.get(b) {
-        let _ = perform(log.memory.base(), log.memory.block(), bytes, op);
+        let _ = perform(log.extent.base(), log.extent.block(), bytes, op);
     }
 }
 
@@ -50,6 +50,6 @@ pub(crate) fn restore(log: &Log, bytes: &mut [u8], b: usize, old: &[u8])
     ensures { (m : List ℕ) → bytes.old ≡ acted_on log.now.extent m (slice_get log.now.events b) → old.now ≡ old_at log.now.extent m (slice_get log.now.events b) → bytes.new ≡ m }
 {
     if let Some(Event::Sub { op, .. }) = log.events.get(b) {
-        put_back(log.memory.base(), log.memory.block(), bytes, op, old);
+        put_back(log.extent.base(), log.extent.block(), bytes, op, old);
     }
 }

@@ -29,7 +29,7 @@ pub(crate) fn may_fit(log: &Log, bytes: &[u8], q: usize) -> bool {
     if matches!(op, Op::Read { .. }) {
         return true;
     }
-    let base = log.memory.base();
+    let base = log.extent.base();
     if op.address() < base {
         return false;
     }

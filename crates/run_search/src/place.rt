@@ -41,7 +41,7 @@ pub(crate) fn first(alloc: Global, log: &Log) -> Result<Place, AllocError>
         key: Key {
             event: 0,
             pending: Vec::new(alloc),
-            bytes: zeros(alloc, log.memory.size())?,
+            bytes: zeros(alloc, log.extent.size())?,
         },
         acted: none_acted(alloc, log.events.len())?,
     })

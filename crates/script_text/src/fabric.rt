@@ -8,7 +8,7 @@ ghost use Rattle.script_text.specs.Forms as forms;
 use crate::fields::{count, octet, short};
 use crate::line::Line;
 use fabric_core::Config;
-use fc_credit::LaneCredits;
+use fc_credit::{LaneCredits, MAX_DATA, MAX_HEADERS, MIN_ATOMIC_DATA, MIN_DATA};
 use operation_text::{BASE, BLOCK, Expected, Misfit, SIZE, alone, cut, next_word, number};
 use seq_memory::{is_base, is_block, is_size};
 use switch_core::REQUESTERS;
@@ -20,18 +20,6 @@ const DEFAULT_BLOCK: u16 = 64;
 pub(crate) const FABRIC: Expected = Expected::Of("a fabric", "fabric <requesters> <base> <size>");
 
 const NUMBER: Expected = Expected::Between("a number of requesters", 1, REQUESTERS as u64);
-
-/// The most header credits of a class, all of which are finite.
-const MAX_HEADERS: u16 = 127;
-
-/// The most data credits of a class.
-const MAX_DATA: u16 = 2047;
-
-/// The fewest data credits for the largest write and for the largest completion.
-const MIN_DATA: u16 = 8;
-
-/// The fewest data credits for the operands of any request.
-const MIN_OPERANDS: u16 = 2;
 
 const PH: Expected = Expected::Between("the number of P header credits", 1, MAX_HEADERS as u64);
 
@@ -45,7 +33,7 @@ const NPH: Expected = Expected::Between("the number of NP header credits", 1, MA
 
 const NPD: Expected = Expected::Between(
     "the number of NP data credits",
-    MIN_OPERANDS as u64,
+    MIN_ATOMIC_DATA as u64,
     MAX_DATA as u64,
 );
 
@@ -134,19 +122,19 @@ fn is_between(least: u16, most: u16, credit: u16) -> bool
 fn unfit_credit(credits: &LaneCredits) -> Option<(usize, Expected)>
     ensures { MatchOption result (AreCredits credits.now) (λ _. ¬ AreCredits credits.now) }
 {
-    if !is_between(1, MAX_HEADERS, u16::from(credits.ph)) {
+    if !is_between(1, u16::from(MAX_HEADERS), u16::from(credits.ph)) {
         return Some((4, PH));
     }
     if !is_between(MIN_DATA, MAX_DATA, credits.pd) {
         return Some((5, PD));
     }
-    if !is_between(1, MAX_HEADERS, u16::from(credits.nph)) {
+    if !is_between(1, u16::from(MAX_HEADERS), u16::from(credits.nph)) {
         return Some((6, NPH));
     }
-    if !is_between(MIN_OPERANDS, MAX_DATA, credits.npd) {
+    if !is_between(MIN_ATOMIC_DATA, MAX_DATA, credits.npd) {
         return Some((7, NPD));
     }
-    if !is_between(1, MAX_HEADERS, u16::from(credits.cplh)) {
+    if !is_between(1, u16::from(MAX_HEADERS), u16::from(credits.cplh)) {
         return Some((8, CPLH));
     }
     if !is_between(MIN_DATA, MAX_DATA, credits.cpld) {

@@ -2,7 +2,7 @@
 use crate::effects::{Effect, Word, effect_by, shows};
 use crate::requests::{Request, op_of, reply_to, request_at, requester_of, requests_of};
 use history_check::{Record, Trace};
-use seq_memory::{Reply, is_block, perform};
+use seq_memory::{Reply, perform};
 use std::alloc::{AllocError, Global};
 use tlp_core::Op;
 
@@ -140,7 +140,7 @@ impl<'a> Question<'a> {
         };
         let reply = reply_to(self.records, request);
         let trace = self.trace;
-        match effect_by(trace.block, word, op, reply) {
+        match effect_by(trace.extent.block(), word, op, reply) {
             Effect::Keeps => {}
             Effect::Unknown => tally.is_known = false,
             Effect::Puts => tally.put(request.due),
@@ -183,12 +183,10 @@ impl<'a> Question<'a> {
 }
 
 /// The reply of a memory whose bytes are all 255.
-fn reply_of_ones(alloc: Global, trace: &Trace, op: &Op) -> Result<Option<Reply>, AllocError> {
-    if !is_block(trace.block) {
-        return Ok(None);
-    }
-    let mut bytes = vec![in alloc; 255u8; trace.size]?;
-    Ok(Some(perform(trace.base, trace.block, &mut bytes, op)))
+fn reply_of_ones(alloc: Global, trace: &Trace, op: &Op) -> Result<Reply, AllocError> {
+    let extent = trace.extent;
+    let mut bytes = vec![in alloc; 255u8; extent.size()]?;
+    Ok(perform(extent.base(), extent.block(), &mut bytes, op))
 }
 
 /// Whether the reply has a form that no memory returns to the operation, on which `expected` is the reply
@@ -260,9 +258,7 @@ fn cause_at(
     question: &Question<'_>,
     kind: Option<Kind>,
 ) -> Result<Option<Cause>, AllocError> {
-    let Some(expected) = reply_of_ones(alloc, question.trace, question.op)? else {
-        return Ok(None);
-    };
+    let expected = reply_of_ones(alloc, question.trace, question.op)?;
     match (kind, &expected) {
         (None, _) => Ok(misreply(question.op, question.reply, &expected)),
         (Some(kind), Reply::Data(enabled)) => {

@@ -30,7 +30,7 @@ first_by x o i base one op told reply m eb at behind j other asked there =
     let e : Some (events.Sub i op reply) ≡ Some (events.Sub j other asked) = sym at ∙ there in
     let same : op ≡ other = cc in
     let here : AreApart one op ⊎ ((block : ℕ) (n : List ℕ) → AreSameAt x.base op m n → Agrees x.base block n one told → ⊥) =
-    subst (λ z. AreApart one op ⊎ ((block : ℕ) (n : List ℕ) → AreSameAt z op m n → Agrees block z n one told → ⊥)) eb behind in
+    subst (λ z. AreApart one op ⊎ ((block : ℕ) (n : List ℕ) → AreSameAt z op m n → Agrees z block n one told → ⊥)) eb behind in
     subst (λ w. AreApart one w ⊎ ((n : List ℕ) → AreSameAt x.base w m n → Answers x n one told → ⊥)) same (elim here [
       | inl apart ↦ inl apart
       | inr waits ↦ inr (waits x.block)

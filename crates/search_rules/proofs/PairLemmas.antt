@@ -68,7 +68,7 @@ pub quiet_at : (x : Extent) (o : Option Event) (i block : ℕ) (op : Op) (told :
 unfolding acted_on bytes_after reply_of
 quiet_at x o i block op told eb at quiet m there =
     let here : (base : ℕ) (m : List ℕ) → Agrees base x.block m op told → after base x.block m op ≡ m =
-    subst (λ n. (base : ℕ) (m : List ℕ) → Agrees n base m op told → after n base m op ≡ m) eb quiet in
+    subst (λ n. (base : ℕ) (m : List ℕ) → Agrees base n m op told → after base n m op ≡ m) eb quiet in
     ap (acted_on x m) at ∙ here x.base m (subst (Suits x m) at there)
 
 -- ---- what is no submission

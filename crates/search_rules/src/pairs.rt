@@ -30,7 +30,7 @@ fn never_brings_by(log: &Log, one: &Op, told: &Option<Reply>, q: usize) -> bool
 {
     match log.events.get(q) {
         Some(Event::Sub { op, reply, .. }) => {
-            keeps_out(log.memory.block(), one, told, op, reply)
+            keeps_out(log.extent.block(), one, told, op, reply)
         }
         _ => false,
     }
@@ -69,7 +69,7 @@ fn yields_by(log: &Log, one: &Op, told: &Option<Reply>, q: usize) -> bool
 {
     match log.events.get(q) {
         Some(Event::Sub { op, reply, .. }) => {
-            gives_way(log.memory.block(), one, told, op, reply)
+            gives_way(log.extent.block(), one, told, op, reply)
         }
         _ => false,
     }
@@ -95,7 +95,7 @@ pub fn changes_nothing(log: &Log, q: usize) -> bool
 {
     match log.events.get(q) {
         Some(Event::Sub { op, reply, .. }) => {
-            byte_effects::is_quiet(log.memory.block(), op, reply)
+            byte_effects::is_quiet(log.extent.block(), op, reply)
         }
         _ => false,
     }
@@ -116,7 +116,7 @@ fn lets_first_by(log: &Log, bytes: &[u8], one: &Op, told: &Option<Reply>, q: usi
     ensures { IsTrue result → (j : ℕ) (other : Op) (asked : Option Reply) → slice_get log.now.events q ≡ Some (events.Sub j other asked) → AreApart one.now other ⊎ ((n : List ℕ) → AreSameAt log.now.extent.base other bytes.now n → Answers log.now.extent n one.now told.now → ⊥) }
 {
     match log.events.get(q) {
-        Some(Event::Sub { op, .. }) => goes_behind(log.memory.base(), bytes, one, told, op),
+        Some(Event::Sub { op, .. }) => goes_behind(log.extent.base(), bytes, one, told, op),
         _ => false,
     }
 }

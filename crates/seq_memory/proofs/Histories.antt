@@ -7,8 +7,8 @@ use Rattle.std.proofs.lemmas.List.Sums.{fold-append}
 use Rattle.tlp_core.specs.declared.operation.Op.{Op}
 use Rattle.seq_memory.specs.declared.Entry.{Entry}
 use Rattle.seq_memory.specs.Step.{after, answer}
-use Rattle.seq_memory.specs.Limits.{IsSize, IsBase, IsBlock, Extent}
-use Rattle.seq_memory.specs.History.{contents, contents_at, reply_at, IsMemory}
+use Rattle.seq_memory.specs.Limits.{Extent}
+use Rattle.seq_memory.specs.History.{contents, contents_at, reply_at}
 use Rattle.seq_memory.proofs.Steps.{size_kept}
 
 pub contents-none : (x : Extent) → contents x [] ≡ replicate x.size 0
@@ -23,28 +23,18 @@ pub written_back : (n : ℕ) (old new : List ℕ) → n ≡ length old → lengt
 written_back n old new e1 e2 =
     rw (drop_all (length new) old (omega arith), append-nil new) (take_all n new (omega arith))
 
--- the memory after its bytes and its history took the step
-pub stepped : (base block n : ℕ) (old new : List ℕ) (es es' : List Entry) (e : Entry) (op : Op) → n ≡ length old → length new ≡ length old
-    → IsMemory (record { base = base; size = length old; block = block; entries = es }) old
-    → new ≡ after base block old op → op ≡ e.op → es' ≡ es ++ e ∷ []
-    → IsMemory (record { base = base; size = length (take n (new ++ drop (length new) old)); block = block; entries = es' }) (take n (new ++ drop (length new) old))
-stepped base block n old new es es' e op en el inv step same pushed =
-    let back = written_back n old new en el in
-    let x : Extent = record { base = base; size = length old; block = block } in
-    let made : new ≡ contents x es' =
-    step ∙ ap (λ op. after base block old op) same ∙ ap (λ m. after base block m e.op) inv.made ∙ sym (contents-push x es e) ∙ ap (contents x) (sym pushed) in
-    rw (back, el) (record { in_size = inv.in_size; in_base = inv.in_base; in_block = inv.in_block; made = made })
+-- the bytes after they and the history took the step
+pub stepped : (x : Extent) (n : ℕ) (old new : List ℕ) (es es' : List Entry) (e : Entry) (op : Op) → n ≡ length old → length new ≡ length old
+    → old ≡ contents x es → new ≡ after x.base x.block old op → op ≡ e.op → es' ≡ es ++ e ∷ []
+    → take n (new ++ drop (length new) old) ≡ contents x es'
+stepped x n old new es es' e op en el made step same pushed =
+    written_back n old new en el ∙ step ∙ ap (λ op. after x.base x.block old op) same ∙ ap (λ m. after x.base x.block m e.op) made ∙ sym (contents-push x es e) ∙ ap (contents x) (sym pushed)
 
 pub pushed_op : (es es' : List Entry) (e r : Entry) (place : ℕ) → es' ≡ es ++ e ∷ [] → place ≡ length es' - 1 → r ≡ get_or es' place r → r.op ≡ e.op
 pushed_op es es' e r place pushed p index =
     let at : place ≡ length es = omega (arith, p, ap length pushed, length-append es (e ∷ [])) in
     let same : r ≡ e = index ∙ ap (λ (xs : List Entry). get_or xs place r) pushed ∙ get_or_at es e [] r place (sym at) in
     ap (λ (x : Entry). x.op) same
-
-pub begins : (base size block : ℕ) (items : List ℕ) (es : List Entry) → items ≡ replicate size 0 → length items ≡ size → es ≡ [] → IsSize size → IsBase base size → IsBlock block
-    → IsMemory (record { base = base; size = length items; block = block; entries = es }) items
-begins base size block items es zeros len none in_size in_base in_block =
-    rw (len, none) (record { in_size = in_size; in_base = in_base; in_block = in_block; made = zeros ∙ sym (contents-none (record { base = base; size = size; block = block })) })
 
 -- ---- laws of histories
 

@@ -4,7 +4,7 @@ use Rattle.tlp_core.specs.declared.operation.Op.TheVariants as ops
 use Rattle.tlp_core.specs.declared.operation.Width.{Width}
 use Rattle.seq_memory.specs.declared.Entry.{Entry}
 use Rattle.seq_memory.specs.declared.Reply.{Reply}
-use Rattle.seq_memory.specs.Limits.{IsSize, IsBase, IsBlock, Extent}
+use Rattle.seq_memory.specs.Limits.{Extent}
 use Rattle.seq_memory.specs.Step.{after, answer}
 
 -- the bytes after all entries, which began as zeros
@@ -35,10 +35,3 @@ extent_of s = record { base = s.base; size = s.size; block = s.block }
 
 abbrev pub bytes_of : MemoryView → List ℕ
 bytes_of s = contents (extent_of s) s.entries
-
--- the limits, and the bytes that the history makes
-pub record IsMemory (s : MemoryView) (bytes : List ℕ) : Type 0 where
-  pub in_size : IsSize s.size
-  pub in_base : IsBase s.base s.size
-  pub in_block : IsBlock s.block
-  pub made : bytes ≡ bytes_of s

@@ -1,5 +1,5 @@
 -- Where a memory can lie, how large it is, and the blocks by which accesses are served.
-use Rattle.std.specs.Prelude.{ℕ, ◌≡◌, ◌+◌, ◌%◌, ◌^◌, ◌≤◌, ◌⊎◌, Bool, ◌&&◌, ◌==◌, nat_le}
+use Rattle.std.specs.Prelude.{ℕ, ◌≡◌, ◌+◌, ◌%◌, ◌^◌, ◌≤◌, ◌⊎◌, Bool, ◌&&◌, ◌||◌, ◌==◌, nat_le}
 
 -- 128 bytes to 1 MiB, whole blocks
 abbrev pub IsSize : ℕ → Type 0
@@ -32,3 +32,9 @@ is_size size = nat_le 128 size && nat_le size 1048576 && (size % 128 == 0)
 
 abbrev pub is_base : ℕ → ℕ → Bool
 is_base base size = (base % 128 == 0) && nat_le (base + size) (2 ^ 64)
+
+abbrev pub is_block : ℕ → Bool
+is_block block = (block == 64) || (block == 128)
+
+abbrev pub is_within_limits : Extent → Bool
+is_within_limits x = is_size x.size && is_base x.base x.size && is_block x.block

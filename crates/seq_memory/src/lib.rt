@@ -10,6 +10,7 @@
 //! are little-endian.
 #![tactic(auto)]
 
+mod extent;
 pub mod laws;
 mod limits;
 mod memory;
@@ -17,6 +18,7 @@ mod place;
 mod step;
 
 use arrayvec::ArrayVec;
+pub use extent::Extent;
 pub use limits::{ALIGNMENT, MAX_SIZE, MIN_SIZE, is_base, is_block, is_size};
 pub use memory::Memory;
 pub use step::perform;

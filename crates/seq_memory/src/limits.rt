@@ -32,7 +32,8 @@ pub fn is_base(base: u64, size: usize) -> bool
 
 /// Whether accesses can be served by blocks of so many bytes: 64 or 128.
 pub fn is_block(block: u16) -> bool
-    ensures { IsTrue result ↔ IsBlock block }
+    ensures limits { IsTrue result ↔ IsBlock block }
+    ensures test { result ≡ limits.is_block block }
 {
     block == 64 || block == 128
 }

@@ -1,12 +1,12 @@
 //! The memory and its history.
 ghost use Rattle.std.specs.Prelude.{◌≡◌, [], ◌∷◌, ◌++◌, length, replicate, IfOk, OnOk, OnErr};
 ghost use Rattle.seq_memory.specs.Limits.{IsSize, IsBase, IsBlock};
-ghost use Rattle.seq_memory.specs.History.{bytes_of};
+ghost use Rattle.seq_memory.specs.History.{bytes_of, extent_of};
 ghost use Rattle.seq_memory.specs.Step.{refusal, answer, IsSizedFor};
 
 use crate::place::refusal_of;
 use crate::step::perform;
-use crate::{Entry, Refusal, Reply};
+use crate::{Entry, Extent, Refusal, Reply};
 use std::alloc::{AllocError, Global};
 use std::marker::Model;
 use tlp_core::Op;
@@ -14,21 +14,20 @@ use tlp_core::Op;
 /// Bytes from a base address on, and the history of the requests that made them of zeros.
 #[derive(Drop)]
 pub struct Memory {
-    base: u64,
-    block: u16,
+    extent: Extent,
     bytes: Vec<u8>,
     entries: Vec<Entry>,
 }
 
 impl Model for Memory {
-    ghost use Rattle.std.specs.Prelude.{length};
-    ghost use Rattle.seq_memory.specs.History.{MemoryView, IsMemory};
+    ghost use Rattle.std.specs.Prelude.{◌≡◌};
+    ghost use Rattle.seq_memory.specs.History.{MemoryView, contents};
 
     ghost Value = { MemoryView };
 
-    ghost view = { λ m. record { base = m.base; size = length m.bytes.items; block = m.block; entries = m.entries.items } };
+    ghost view = { λ m. record { base = m.extent.base; size = m.extent.size; block = m.extent.block; entries = m.entries.items } };
 
-    ghost invariant = { λ m. IsMemory (record { base = m.base; size = length m.bytes.items; block = m.block; entries = m.entries.items }) m.bytes.items };
+    ghost invariant = { λ m. m.bytes.items ≡ contents m.extent m.entries.items };
 }
 
 fn zeros(alloc: Global, size: usize) -> Result<Vec<u8>, AllocError>
@@ -39,19 +38,13 @@ fn zeros(alloc: Global, size: usize) -> Result<Vec<u8>, AllocError>
 }
 
 impl Memory {
-    /// A memory of `size` zeros at `base` with an empty history, which serves accesses by blocks of
-    /// `block` bytes. [`is_size`](crate::is_size), [`is_base`](crate::is_base) and
-    /// [`is_block`](crate::is_block) test what it can be.
-    pub fn new(alloc: Global, base: u64, size: usize, block: u16) -> Result<Self, AllocError>
-        requires size { IsSize size }
-        requires base { IsBase base size }
-        requires block { IsBlock block }
-        ensures { IfOk result (λ m. m ≡ record { base = base; size = size; block = block; entries = [] }) }
+    /// A memory of zeros in that place, with an empty history.
+    pub fn new(alloc: Global, extent: Extent) -> Result<Self, AllocError>
+        ensures { IfOk result (λ m. m ≡ record { base = extent.base; size = extent.size; block = extent.block; entries = [] }) }
     {
-        let bytes = zeros(alloc, size)?;
+        let bytes = zeros(alloc, extent.size())?;
         Ok(Memory {
-            base,
-            block,
+            extent,
             bytes,
             entries: Vec::new(alloc),
         })
@@ -69,7 +62,7 @@ impl Memory {
         self.entries.push(entry)?;
         let last = self.entries.len() - 1;
         let op = &self.entries[last].op;
-        Ok(perform(self.base, self.block, &mut self.bytes, op))
+        Ok(perform(self.extent.base(), self.extent.block(), &mut self.bytes, op))
     }
 
     /// Why [`act`](Memory::act) would not serve the operation, none where it would; what it would
@@ -78,7 +71,12 @@ impl Memory {
         ensures value { result ≡ refusal self.now.base self.now.size self.now.block op.now }
         ensures size { length (bytes_of self.now) ≡ self.now.size }
     {
-        refusal_of(self.base, self.block, self.bytes.len(), op)
+        refusal_of(
+            self.extent.base(),
+            self.extent.block(),
+            self.extent.size(),
+            op,
+        )
     }
 
     /// The history, oldest first.
@@ -94,7 +92,15 @@ impl Memory {
         ensures size { length result.now ≡ self.now.size }
         ensures range { IsSize self.now.size }
     {
+        let _size = self.extent.size();
         &self.bytes
+    }
+
+    /// Where it lies, how large it is, and by which blocks accesses are served.
+    pub fn extent(&self) -> Extent
+        ensures { result ≡ extent_of self.now }
+    {
+        self.extent
     }
 
     /// How many bytes there are.
@@ -102,7 +108,7 @@ impl Memory {
         ensures value { result ≡ self.now.size }
         ensures range { IsSize result }
     {
-        self.bytes.len()
+        self.extent.size()
     }
 
     /// The first address.
@@ -110,7 +116,7 @@ impl Memory {
         ensures value { result ≡ self.now.base }
         ensures range { IsBase result self.now.size }
     {
-        self.base
+        self.extent.base()
     }
 
     /// The bytes of a block, 64 or 128: an access across its bounds is aborted.
@@ -118,6 +124,6 @@ impl Memory {
         ensures value { result ≡ self.now.block }
         ensures range { IsBlock result }
     {
-        self.block
+        self.extent.block()
     }
 }

@@ -20,7 +20,6 @@ use fabric_answers::laws::{a_configuration_has_one_answer, each_event_has_one_an
 use fabric_core::{Config, ConfigFault, Event, Fabric, Refusal, Seen};
 use fabric_settle::settle;
 use history_check::Record;
-use lane_core::LaneRefusal;
 use line_loop::{EngineFault, Responder};
 use script_text::{
     Line, read_line, write_config_fault, write_refusal, write_seen, write_settled, write_told,
@@ -233,7 +232,7 @@ impl Stepper {
         ensures ok { IfOk result (λ told. IsTold refusal × IsAnswer self.new out.old.items out.new.items told (spec.refused self.old line.now (refusal_text refusal))) }
         ensures err { OnErr result (out.new.items ≡ out.old.items) }
     {
-        if let Refusal::Memory | Refusal::Lane(LaneRefusal::Memory) = refusal {
+        if refusal.is_memory() {
             return Err(AllocError);
         }
         let mut text = ending("refused ", self.next_line());

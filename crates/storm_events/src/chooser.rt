@@ -8,8 +8,8 @@ ghost use Rattle.storm_events.specs.Choice.{IsChosen, IsTried, IsDrawn, new_choo
 use crate::arrivals::Arrivals;
 use crate::candidates::{lane, plain};
 use crate::draws::Draws;
-use fabric_core::{Event, Fabric, LaneName, Refusal};
-use lane_core::{DllpKind, LaneRefusal};
+use fabric_core::{Event, Fabric, LaneName};
+use lane_core::DllpKind;
 use std::alloc::AllocError;
 use std::marker::Model;
 use storm::Storm;
@@ -43,7 +43,7 @@ fn try_event(fabric: &mut Fabric, event: &Event) -> Result<bool, AllocError>
 {
     match fabric.step(event) {
         Ok(_) => Ok(true),
-        Err(Refusal::Memory | Refusal::Lane(LaneRefusal::Memory)) => Err(AllocError),
+        Err(refusal) if refusal.is_memory() => Err(AllocError),
         Err(_) => Ok(false),
     }
 }

@@ -33,10 +33,7 @@ pub fn forward_ends(
     ensures err_from { OnErr result (from.new ≡ from.old) }
     ensures err_to { OnErr result (to.new ≡ to.old) }
 {
-    if !from.takeable(place) {
-        return Err(ForwardRefusal::NotTakeable);
-    }
-    let Some((tlp, mark)) = from.at(place) else {
+    let Some((tlp, mark)) = from.peek(place) else {
         return Err(ForwardRefusal::NotTakeable);
     };
     match to.enter(tlp, mark) {
@@ -66,13 +63,9 @@ pub fn forward(from: &mut Lane, place: usize, to: &mut Lane) -> Result<(), Forwa
     ensures err_from { OnErr result (from.new ≡ from.old) }
     ensures err_to { OnErr result (to.new ≡ to.old) }
 {
-    let takeable = from.takeable(place);
-    let Some((packet, mark)) = from.at(place) else {
+    let Some((packet, mark)) = from.peek(place) else {
         return Err(ForwardRefusal::NotTakeable);
     };
-    if !takeable {
-        return Err(ForwardRefusal::NotTakeable);
-    }
     match to.enter(packet, mark) {
         Ok(_) => {
             let (_, _) = from.take(place);

@@ -1,11 +1,10 @@
 //! Ports, and the port that a packet goes to.
 ghost use Rattle.std.specs.Prelude.{◌≡◌, ◌<◌, ℕ};
-ghost use Rattle.tlp_core.specs.Operation.{is_completion};
 ghost use Rattle.switch_core.specs.Routing as spec;
 
 use crate::fault::RouteFault;
 use std::marker::Model;
-use tlp_core::{Kind, Tlp};
+use tlp_core::Tlp;
 
 /// How many requesters the switch can have, at the ports 1 to 7.
 pub const REQUESTERS: u8 = 7;
@@ -47,12 +46,6 @@ impl Port {
     }
 }
 
-fn is_completion(kind: Kind) -> bool
-    ensures { result ≡ is_completion kind }
-{
-    matches!(kind, Kind::Completion | Kind::CompletionData)
-}
-
 /// The port that a packet goes to which came in from another: a request from a requester goes to
 /// the memory, a completion from the memory to the port of its Requester ID, `Requester ID / 256`.
 /// `NoPort` for all else: there is no traffic between requesters, and the memory asks for nothing.
@@ -61,7 +54,7 @@ pub fn route(tlp: &Tlp, from: Port) -> Result<Port, RouteFault>
     ensures { result ≡ spec.route tlp.now from }
 {
     let requester = tlp.requester / 256;
-    if is_completion(tlp.kind) {
+    if tlp.kind.is_completion() {
         if from.number() == 0 && (1..=u16::from(REQUESTERS)).contains(&requester) {
             return Ok(Port::new(requester as u8));
         }

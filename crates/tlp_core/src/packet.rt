@@ -4,6 +4,9 @@
 //! many bytes as its Length says, its byte enables keep section 2.2.5 and its address is aligned.
 //! A literal proves that where it is made.
 
+ghost use Rattle.std.specs.Prelude.{◌≡◌};
+ghost use Rattle.tlp_core.specs.Operation.{is_completion};
+
 use arrayvec::ArrayVec;
 use std::marker::Model;
 
@@ -25,6 +28,15 @@ pub enum Kind {
     Completion,
     /// CplD.
     CompletionData,
+}
+
+impl Kind {
+    /// Whether it is a completion's, with data or without.
+    pub fn is_completion(self) -> bool
+        ensures { result ≡ is_completion self }
+    {
+        matches!(self, Kind::Completion | Kind::CompletionData)
+    }
 }
 
 /// Completion Status (section 2.2.9).

@@ -195,11 +195,11 @@ simulates spelled grows = record {
 }
 
 -- a new device stands for a new memory
-pub new-stands : (base size block : ℕ) → ((x : Extent) → contents x [] ≡ replicate x.size 0) → StandsFor (new_kept base size block) (new_state base size block)
-new-stands base size block none = record {
+pub new-stands : (x : Extent) → ((x : Extent) → contents x [] ≡ replicate x.size 0) → StandsFor (new_kept x) (new_state x)
+new-stands x none = record {
   base = refl;
   block = refl;
-  bytes = sym (none (record { base = base; size = size; block = block }));
+  bytes = sym (none x);
   ports = length-replicate {A = ℕ} 256 0;
   counts = λ port lt. get_or-replicate 256 port 0 0 lt;
 }
@@ -242,36 +242,36 @@ IsCaughtUp-alike r q k s texts input rest out out' c = record {
 }
 
 -- the run of a new device, and that of a new memory
-pub record SameRuns (base size block : ℕ) : Type 0 where
-  pub text : (input : List ℕ) → (run_of kept_responses (new_kept base size block) input).text ≡ (out_tlp base size block input).text
-  pub status : (input : List ℕ) → (run_of kept_responses (new_kept base size block) input).status ≡ (out_tlp base size block input).status
-  pub lines : (lines : List (List ℕ)) → (fold (after_line kept_responses) (new_run (new_kept base size block)) lines).text ≡ (fold (after_line tlp_responses) (new_run (new_state base size block)) lines).text
+pub record SameRuns (x : Extent) : Type 0 where
+  pub text : (input : List ℕ) → (run_of kept_responses (new_kept x) input).text ≡ (out_tlp x input).text
+  pub status : (input : List ℕ) → (run_of kept_responses (new_kept x) input).status ≡ (out_tlp x input).status
+  pub lines : (lines : List (List ℕ)) → (fold (after_line kept_responses) (new_run (new_kept x)) lines).text ≡ (fold (after_line tlp_responses) (new_run (new_state x)) lines).text
 
-pub same-runs : (base size block : ℕ) → Spelled → Grows → ((x : Extent) → contents x [] ≡ replicate x.size 0) → SameRuns base size block
-same-runs base size block spelled grows none =
+pub same-runs : (x : Extent) → Spelled → Grows → ((x : Extent) → contents x [] ≡ replicate x.size 0) → SameRuns x
+same-runs x spelled grows none =
     let same = simulates spelled grows in
-    let at = new-stands base size block none in
+    let at = new-stands x none in
     record {
-      text = λ input. (runs-alike StandsFor kept_responses tlp_responses same (new_kept base size block) (new_state base size block) input at).text;
-      status = λ input. (runs-alike StandsFor kept_responses tlp_responses same (new_kept base size block) (new_state base size block) input at).status;
-      lines = λ lines. (lines-alike StandsFor kept_responses tlp_responses same (new_run (new_kept base size block)) (new_run (new_state base size block)) lines (record { state = at; text = refl; status = refl })).text;
+      text = λ input. (runs-alike StandsFor kept_responses tlp_responses same (new_kept x) (new_state x) input at).text;
+      status = λ input. (runs-alike StandsFor kept_responses tlp_responses same (new_kept x) (new_state x) input at).status;
+      lines = λ lines. (lines-alike StandsFor kept_responses tlp_responses same (new_run (new_kept x)) (new_run (new_state x)) lines (record { state = at; text = refl; status = refl })).text;
     }
 
 -- the clauses of a run of the device, as those of the memory's
-pub whole : (base size block : ℕ) (k : CompleterView) → SameRuns base size block → k ≡ new_kept base size block → {input rest out out' : Option (List ℕ)} {exit : ℕ}
-    → IsWhole (run_of kept_responses k) input rest out out' exit → IsWhole (out_tlp base size block) input rest out out' exit
-whole base size block k same is {input} {rest} {out} {out'} {exit} w =
-    IsWhole-alike (run_of kept_responses (new_kept base size block)) (out_tlp base size block) same.text same.status input rest out out' exit
+pub whole : (x : Extent) (k : CompleterView) → SameRuns x → k ≡ new_kept x → {input rest out out' : Option (List ℕ)} {exit : ℕ}
+    → IsWhole (run_of kept_responses k) input rest out out' exit → IsWhole (out_tlp x) input rest out out' exit
+whole x k same is {input} {rest} {out} {out'} {exit} w =
+    IsWhole-alike (run_of kept_responses (new_kept x)) (out_tlp x) same.text same.status input rest out out' exit
     (subst (λ (k : CompleterView). IsWhole (run_of kept_responses k) input rest out out' exit) is w)
 
-pub part : (base size block : ℕ) (k : CompleterView) → SameRuns base size block → k ≡ new_kept base size block → {input rest out out' : Option (List ℕ)}
-    → IsPart (run_of kept_responses k) input rest out out' → IsPart (out_tlp base size block) input rest out out'
-part base size block k same is {input} {rest} {out} {out'} p =
-    IsPart-alike (run_of kept_responses (new_kept base size block)) (out_tlp base size block) same.text input rest out out'
+pub part : (x : Extent) (k : CompleterView) → SameRuns x → k ≡ new_kept x → {input rest out out' : Option (List ℕ)}
+    → IsPart (run_of kept_responses k) input rest out out' → IsPart (out_tlp x) input rest out out'
+part x k same is {input} {rest} {out} {out'} p =
+    IsPart-alike (run_of kept_responses (new_kept x)) (out_tlp x) same.text input rest out out'
     (subst (λ (k : CompleterView). IsPart (run_of kept_responses k) input rest out out') is p)
 
-pub caught-up : (base size block : ℕ) (k : CompleterView) → SameRuns base size block → k ≡ new_kept base size block → {input rest out out' : Option (List ℕ)}
-    → IsCaughtUp kept_responses k input rest out out' → IsCaughtUp tlp_responses (new_state base size block) input rest out out'
-caught-up base size block k same is {input} {rest} {out} {out'} c =
-    IsCaughtUp-alike kept_responses tlp_responses (new_kept base size block) (new_state base size block) same.lines input rest out out'
+pub caught-up : (x : Extent) (k : CompleterView) → SameRuns x → k ≡ new_kept x → {input rest out out' : Option (List ℕ)}
+    → IsCaughtUp kept_responses k input rest out out' → IsCaughtUp tlp_responses (new_state x) input rest out out'
+caught-up x k same is {input} {rest} {out} {out'} c =
+    IsCaughtUp-alike kept_responses tlp_responses (new_kept x) (new_state x) same.lines input rest out out'
     (subst (λ (k : CompleterView). IsCaughtUp kept_responses k input rest out out') is c)

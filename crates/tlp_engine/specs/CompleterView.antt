@@ -1,5 +1,6 @@
 -- What the engine keeps of a memory and its history: the bytes, and how many requests of each port acted.
 use Rattle.std.specs.Prelude.{ℕ, ◌/◌, ◌+◌, List, replicate, slice_index, slice_set}
+use Rattle.seq_memory.specs.Limits.{Extent}
 use Rattle.completer_core.specs.Serving.{bytes_after, completion_over}
 use Rattle.tlp_core.specs.TlpView.{TlpView}
 use Rattle.line_loop.specs.Run.{Responses}
@@ -12,8 +13,8 @@ pub record CompleterView : Type 0 where
   pub counts : List ℕ
 
 -- zeros, and no request of any port
-abbrev pub new_kept : ℕ → ℕ → ℕ → CompleterView
-new_kept base size block = record { base = base; block = block; bytes = replicate size 0; counts = replicate 256 0 }
+abbrev pub new_kept : Extent → CompleterView
+new_kept x = record { base = x.base; block = x.block; bytes = replicate x.size 0; counts = replicate 256 0 }
 
 -- a request acts on the bytes, and counts for its port
 abbrev pub after_request : CompleterView → TlpView → ℕ → CompleterView

@@ -10,6 +10,7 @@ use Rattle.tlp_core.specs.Layout.{canonical}
 use Rattle.tlp_core.specs.Faults.{reading}
 use Rattle.tlp_core.specs.Operation.{is_completion}
 use Rattle.seq_memory.specs.declared.Entry.{Entry}
+use Rattle.seq_memory.specs.Limits.{Extent}
 use Rattle.seq_memory.specs.History.{MemoryView}
 use Rattle.completer_core.specs.Serving.{after_serving, completion_to}
 use Rattle.hex_text.specs.Line.{digits_of, spaced}
@@ -83,9 +84,9 @@ abbrev pub tlp_responses : Responses MemoryView
 tlp_responses = responses with_history
 
 -- a memory of zeros with an empty history
-abbrev pub new_state : ℕ → ℕ → ℕ → MemoryView
-new_state base size block = record { base = base; size = size; block = block; entries = [] }
+abbrev pub new_state : Extent → MemoryView
+new_state x = record { base = x.base; size = x.size; block = x.block; entries = [] }
 
 -- the whole run of `tlp` on an input
-abbrev pub out_tlp : ℕ → ℕ → ℕ → List ℕ → Run MemoryView
-out_tlp base size block input = run_of tlp_responses (new_state base size block) input
+abbrev pub out_tlp : Extent → List ℕ → Run MemoryView
+out_tlp x input = run_of tlp_responses (new_state x) input

@@ -1,6 +1,5 @@
 //! The subcommand `tlp`: requests in, completions out, over one memory.
 ghost use Rattle.std.specs.Prelude.{◌≡◌, ◌/◌, ◌<◌, ◌++◌, ◌∷◌, [], ℕ, true, false, IfOk, IfErr, OnErr, length, replicate, slice_index};
-ghost use Rattle.seq_memory.specs.Limits.{IsSize, IsBase, IsBlock};
 ghost use Rattle.tlp_core.specs.Faults.{reading};
 ghost use Rattle.tlp_core.specs.Operation.{is_completion};
 ghost use Rattle.line_loop.specs.Run.{IsAnswer, IsCaughtUp, IsWhole, IsPart};
@@ -12,6 +11,7 @@ use arrayvec::ArrayVec;
 use completer_core::answer;
 use hex_text::HexLine;
 use line_loop::{EngineFault, Responder, run};
+use seq_memory::Extent;
 use seq_memory::laws::history_grows_by_steps;
 use std::alloc::{AllocError, Global};
 use std::io::{Read, Write};
@@ -23,23 +23,18 @@ use tlp_core::{Kind, Tlp, TlpFault, decode};
 /// a history, in memory that doesn't grow.
 #[derive(Drop)]
 struct Device {
-    base: u64,
-    block: u16,
+    extent: Extent,
     bytes: Vec<u8>,
     /// By port.
     counts: [u32; 256],
 }
 
 impl Model for Device {
-    ghost use Rattle.std.specs.Prelude.{◌≡◌, length};
-    ghost use Rattle.seq_memory.specs.Limits.{IsBlock};
     ghost use Rattle.tlp_engine.specs.CompleterView.{CompleterView};
 
     ghost Value = { CompleterView };
 
-    ghost view = { λ c. record { base = c.base; block = c.block; bytes = c.bytes.items; counts = c.counts } };
-
-    ghost invariant = { λ c. IsBlock c.block };
+    ghost view = { λ c. record { base = c.extent.base; block = c.extent.block; bytes = c.bytes.items; counts = c.counts } };
 }
 
 /// Buffers for an answer, used again and again: what they hold does not count.
@@ -119,15 +114,13 @@ fn tell_completion(
 }
 
 impl Device {
-    fn new(alloc: Global, base: u64, size: usize, block: u16) -> Result<Device, AllocError>
-        requires { IsBlock block }
-        ensures { IfOk result (λ c. c ≡ new_kept base size block) }
+    fn new(alloc: Global, extent: Extent) -> Result<Device, AllocError>
+        ensures { IfOk result (λ c. c ≡ new_kept extent) }
     {
-        let bytes = zeros(alloc, size)?;
+        let bytes = zeros(alloc, extent.size())?;
         let counts = no_counts();
         Ok(Device {
-            base,
-            block,
+            extent,
             bytes,
             counts,
         })
@@ -154,7 +147,8 @@ impl Device {
         if number == u32::MAX {
             return tell(b"fault numbers\n", out);
         }
-        let completion = answer(self.base, self.block, &mut self.bytes, request);
+        let (base, block) = (self.extent.base(), self.extent.block());
+        let completion = answer(base, block, &mut self.bytes, request);
         self.counts[usize::from(request.requester / 256)] = number + 1;
         tell_completion(&completion, room, out)
     }
@@ -193,11 +187,10 @@ impl Device {
 }
 
 impl Completer {
-    fn new(alloc: Global, base: u64, size: usize, block: u16) -> Result<Completer, AllocError>
-        requires { IsBlock block }
-        ensures { IfOk result (λ c. c ≡ new_kept base size block) }
+    fn new(alloc: Global, extent: Extent) -> Result<Completer, AllocError>
+        ensures { IfOk result (λ c. c ≡ new_kept extent) }
     {
-        let device = Device::new(alloc, base, size, block)?;
+        let device = Device::new(alloc, extent)?;
         let room = Room {
             bytes: ArrayVec::new(),
             text: ArrayVec::new(),
@@ -233,28 +226,23 @@ impl Responder for Completer {
 }
 
 /// Answers each line of the reader's input with a line: it holds the bytes of a request, which acts
-/// on a memory of `size` zeros at `base` with blocks of `block` bytes. The answer is the request's
+/// on a memory of zeros in that place. The answer is the request's
 /// completion, `-` for a posted write, or a fault. `Ok` is the exit status, 1 if there was a fault.
 /// After an `Err` what was written is a prefix of the whole output. The memory that it takes doesn't
 /// grow with the input.
 pub fn run_tlp<R: Read, W: Write>(
     alloc: Global,
-    base: u64,
-    size: usize,
-    block: u16,
+    extent: Extent,
     reader: &mut R,
     writer: &mut W,
 ) -> Result<u8, EngineFault>
-    requires size { IsSize size }
-    requires base { IsBase base size }
-    requires block { IsBlock block }
-    ensures ok { IfOk result (IsWhole (out_tlp base size block) (R.remaining reader.old) (R.remaining reader.new) (W.contents writer.old) (W.contents writer.new)) }
-    ensures err { OnErr result (IsPart (out_tlp base size block) (R.remaining reader.old) (R.remaining reader.new) (W.contents writer.old) (W.contents writer.new)) }
-    ensures read { IfErr result (λ f. f ≡ EngineFault.Read → IsCaughtUp tlp_responses (new_state base size block) (R.remaining reader.old) (R.remaining reader.new) (W.contents writer.old) (W.contents writer.new)) }
+    ensures ok { IfOk result (IsWhole (out_tlp extent) (R.remaining reader.old) (R.remaining reader.new) (W.contents writer.old) (W.contents writer.new)) }
+    ensures err { OnErr result (IsPart (out_tlp extent) (R.remaining reader.old) (R.remaining reader.new) (W.contents writer.old) (W.contents writer.new)) }
+    ensures read { IfErr result (λ f. f ≡ EngineFault.Read → IsCaughtUp tlp_responses (new_state extent) (R.remaining reader.old) (R.remaining reader.new) (W.contents writer.old) (W.contents writer.new)) }
 {
     reading_is_spelling();
     history_grows_by_steps();
-    let completer = Completer::new(alloc, base, size, block)?;
+    let completer = Completer::new(alloc, extent)?;
     run(alloc, completer, reader, writer)
 }
 
@@ -273,7 +261,8 @@ const ANSWERS: &[u8] =
 /// The answers of a device that has one number left for port 1.
 #[cfg(test)]
 fn answers_at_the_last_number(alloc: Global) -> Result<Vec<u8>, AllocError> {
-    let mut completer = Completer::new(alloc, 0, 128, 64)?;
+    let extent = Extent::new(0, 128, 64).unwrap();
+    let mut completer = Completer::new(alloc, extent)?;
     completer.device.counts[1] = u32::MAX - 1;
     let mut out = Vec::new(alloc);
     for line in [ADD, ADD, OTHER_ADD] {

@@ -246,10 +246,11 @@ fn zeros(alloc: Global, size: usize) -> Result<Vec<u8>, AllocError> {
 
 /// What the memory answers at the end of the history.
 fn reply_at_end(alloc: Global, trace: &Trace, history: &[Entry]) -> Option<Reply> {
-    let mut bytes = zeros(alloc, trace.size).ok()?;
+    let mut bytes = zeros(alloc, trace.extent.size()).ok()?;
+    let (base, block) = (trace.extent.base(), trace.extent.block());
     let mut last = None;
     for entry in history {
-        last = Some(perform(trace.base, trace.block, &mut bytes, &entry.op));
+        last = Some(perform(base, block, &mut bytes, &entry.op));
     }
     last
 }

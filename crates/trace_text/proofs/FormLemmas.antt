@@ -1,12 +1,12 @@
 -- What the forms of lines tell of their values.
-use Rattle.std.proofs.Common.{◌≡◌, ℕ, Bool, true, false, List, [], ◌∷◌, refl, sym, subst, arith, Option, Some, None, inl, inr}
-use Rattle.std.specs.Prelude.{◌==◌, ◌||◌, ◌&&◌, cond, codes, bytes_eq, IfSome}
-use Rattle.std.proofs.lemmas.Bool.{cases_Bool, and_parts}
+use Rattle.std.proofs.Common.{◌≡◌, ℕ, Bool, true, false, List, [], ◌∷◌, refl, subst, arith, Option, Some, None, inl, inr}
+use Rattle.std.specs.Prelude.{◌==◌, ◌||◌, cond, codes, bytes_eq}
+use Rattle.std.proofs.lemmas.Bool.{cases_Bool}
 use Rattle.std.proofs.lemmas.Bool.Decides.{nat_tests}
 use Rattle.tlp_core.specs.declared.operation.Op.{Op}
 use Rattle.seq_memory.specs.declared.Entry.{Entry}
 use Rattle.seq_memory.specs.declared.Reply.{Reply}
-use Rattle.seq_memory.specs.Limits.{IsSize, IsBase, IsBlock, is_size, is_base}
+use Rattle.seq_memory.specs.Limits.{IsBlock, Extent, is_within_limits}
 use Rattle.history_check.specs.declared.Record.{Record}
 use Rattle.history_check.specs.declared.Record.TheVariants as records
 use Rattle.operation_text.specs.Operations.{address, op_spelled, reply_spelled}
@@ -17,7 +17,7 @@ use Rattle.trace_text.specs.declared.line.Version.TheVariants as versions
 use Rattle.trace_text.specs.declared.line.Line.{Line}
 use Rattle.trace_text.specs.declared.line.Line.TheVariants as lines
 use Rattle.trace_text.specs.Forms as forms
-use Rattle.trace_text.specs.Forms.{IsLineOfLimits, line_of}
+use Rattle.trace_text.specs.Forms.{line_of}
 
 -- the field that a line begins with, and what follows
 pub record Field {X Y : Type 0} (spells : List ℕ → Option X) (f : X → List (List ℕ) → Option Y) (y : Y) : Type 0 where
@@ -83,17 +83,16 @@ EntryIs e = IsSpelled forms.requester e.requester × IsSpelled forms.number e.nu
 
 abbrev pub LineIs : Line → Type 0
 LineIs (lines.Head v) = Unit {0}
-LineIs (lines.Memory base size b) = IsSpelled address base × IsSpelled forms.count size × IsBlock b × ((is_size size && is_base base size) ≡ true)
+LineIs (lines.Memory x) = IsSpelled address x.base × IsSpelled forms.count x.size × IsBlock x.block × (is_within_limits x ≡ true)
 LineIs (lines.Record r) = RecordIs r
 LineIs lines.History = Unit {0}
 LineIs (lines.Entry e) = EntryIs e
 LineIs lines.End = Unit {0}
 
-within : (base size b : ℕ) (ws : List (List ℕ)) (l : Line) → forms.memory_within base size b ws ≡ Some l
-    → ((is_size size && is_base base size) ≡ true) × (lines.Memory base size b ≡ l)
-within base size b ws l h =
-    elim (cases_Bool (is_size size && is_base base size)) [
-      | inl hit ↦ (hit, ended-is (lines.Memory base size b) l ws (rw hit at h))
+within : (x : Extent) (ws : List (List ℕ)) (l : Line) → forms.memory_within x ws ≡ Some l → (is_within_limits x ≡ true) × (lines.Memory x ≡ l)
+within x ws l h =
+    elim (cases_Bool (is_within_limits x)) [
+      | inl hit ↦ (hit, ended-is (lines.Memory x) l ws (rw hit at h))
       | inr miss ↦ absurd (let k = rw miss at h in cc k)
     ]
 
@@ -102,17 +101,20 @@ head-is ws l h =
     let v = field-first forms.version (λ v. ended (lines.Head v)) ws l h in
     subst LineIs (ended-is (lines.Head v.value) l v.rest v.follows) tt
 
+abbrev extent : ℕ → ℕ → ℕ → Extent
+extent base size block = record { base = base; size = size; block = block }
+
 memory-is : (v : Version) (ws : List (List ℕ)) (l : Line) → forms.memory_of v ws ≡ Some l → LineIs l
 memory-is versions.One ws l h =
-    let base = field-first address (λ base. field forms.count (λ size. forms.memory_within base size 64)) ws l h in
-    let size = field-first forms.count (λ size. forms.memory_within base.value size 64) base.rest l base.follows in
-    let w = within base.value size.value 64 size.rest l size.follows in
+    let base = field-first address (λ base. field forms.count (λ size. forms.memory_within (extent base size 64))) ws l h in
+    let size = field-first forms.count (λ size. forms.memory_within (extent base.value size 64)) base.rest l base.follows in
+    let w = within (extent base.value size.value 64) size.rest l size.follows in
     subst LineIs w.1 ((base.word, base.is), (size.word, size.is), inl refl, w.0)
 memory-is versions.Two ws l h =
-    let base = field-first address (λ base. field forms.count (λ size. field forms.block (λ b. forms.memory_within base size b))) ws l h in
-    let size = field-first forms.count (λ size. field forms.block (λ b. forms.memory_within base.value size b)) base.rest l base.follows in
-    let b = field-first forms.block (λ b. forms.memory_within base.value size.value b) size.rest l size.follows in
-    let w = within base.value size.value b.value b.rest l b.follows in
+    let base = field-first address (λ base. field forms.count (λ size. field forms.block (λ b. forms.memory_within (extent base size b)))) ws l h in
+    let size = field-first forms.count (λ size. field forms.block (λ b. forms.memory_within (extent base.value size b))) base.rest l base.follows in
+    let b = field-first forms.block (λ b. forms.memory_within (extent base.value size.value b)) size.rest l size.follows in
+    let w = within (extent base.value size.value b.value) b.rest l b.follows in
     subst LineIs w.1 ((base.word, base.is), (size.word, size.is), block-is b.word b.value b.is, w.0)
 
 sub-is : (ws : List (List ℕ)) (l : Line) → forms.sub_of ws ≡ Some l → LineIs l
@@ -151,23 +153,3 @@ line-is v (kind ∷ ws) l h =
     (either (LineIs l) (bytes_eq kind (codes "history")) _ _ l (λ e. subst LineIs (ended-is lines.History l ws e) tt)
     (either (LineIs l) (bytes_eq kind (codes "end")) _ _ l (λ e. subst LineIs (ended-is lines.End l ws e) tt)
     (either (LineIs l) (bytes_eq kind (codes "pciex-trace")) _ _ l (head-is ws l) (λ n. absurd (cc n)))))))) h
-
-size-is : (size : ℕ) → is_size size ≡ true → IsSize size
-size-is size h = grind (arith, nat_tests)
-
-base-is : (base size : ℕ) → is_base base size ≡ true → IsBase base size
-base-is base size h = grind (arith, nat_tests)
-
-of_limits : (l : Line) → LineIs l → IsLineOfLimits l
-of_limits (lines.Head v) h = tt
-of_limits (lines.Memory base size b) h =
-    let parts = and_parts (is_size size) (is_base base size) h.3 in
-    record { in_size = size-is size parts.0; in_base = base-is base size parts.1; in_block = h.2 }
-of_limits (lines.Record r) h = tt
-of_limits lines.History h = tt
-of_limits (lines.Entry e) h = tt
-of_limits lines.End h = tt
-
-pub limits-line : (v : Version) (ws : List (List ℕ)) (o : Option Line) → o ≡ line_of v ws → IfSome o IsLineOfLimits
-limits-line v ws None e = tt
-limits-line v ws (Some l) e = of_limits l (line-is v ws l (sym e))

@@ -11,8 +11,8 @@ use Rattle.line_loop.specs.Lines.{lines_of}
 use Rattle.tlp_core.specs.declared.operation.Op.{Op}
 use Rattle.seq_memory.specs.declared.Entry.{Entry}
 use Rattle.seq_memory.specs.declared.Reply.{Reply}
-use Rattle.seq_memory.specs.History.{MemoryView}
-use Rattle.seq_memory.specs.Limits.{IsSize, IsBase, IsBlock, is_size, is_base}
+use Rattle.seq_memory.specs.History.{MemoryView, extent_of}
+use Rattle.seq_memory.specs.Limits.{IsSize, IsBase, IsBlock, IsWithinLimits, Extent, is_size, is_base, is_block, is_within_limits}
 use Rattle.history_check.specs.declared.Record.{Record}
 use Rattle.history_check.specs.declared.Record.TheVariants as records
 use Rattle.history_check.specs.Claim.{Claim}
@@ -56,14 +56,12 @@ pub record Laws : Type 0 where
 -- ---- the own text of what is spelled
 
 -- the state of a reading of the second version without a fault
-abbrev at : Section → ℕ → ℕ → ℕ → ℕ → List Record → List Entry → TraceReaderView
-at section n base size block rs es = record {
+abbrev at : Section → ℕ → Extent → List Record → List Entry → TraceReaderView
+at section n x rs es = record {
   section = section;
   version = versions.Two;
   lines = n;
-  base = base;
-  size = size;
-  block = block;
+  extent = x;
   records = rs;
   entries = es;
   fault = None;
@@ -241,7 +239,7 @@ module _ (law : Laws) where
   block-short b (inl e) = (law.short b (omega arith)).0
   block-short b (inr e) = (law.short b (omega arith)).0
 
-  memory-line : (m : MemoryView) → IsSpelled address m.base → IsSpelled forms.count m.size → IsBlock m.block → (is_size m.size && is_base m.base m.size) ≡ true → IsLine versions.Two (memory_line m) (lines.Memory m.base m.size m.block)
+  memory-line : (m : MemoryView) → IsSpelled address m.base → IsSpelled forms.count m.size → IsBlock m.block → is_within_limits (extent_of m) ≡ true → IsLine versions.Two (memory_line m) (lines.Memory (extent_of m))
   unfolding are_printed
   memory-line m hb hs hk hw = record {
     printed =
@@ -266,40 +264,40 @@ module _ (law : Laws) where
 
   -- ---- the lines one after the other
 
-  on-records : (base size block n : ℕ) (done rs : List Record) (more : List ℕ) → AllRecords rs
-      → (m : ℕ) × (reading_on (at sections.Records n base size block done []) (lines_text (map record_line rs) ++ more) ≡ reading_on (at sections.Records m base size block (done ++ rs) []) more)
-  on-records base size block n done [] more h = (
+  on-records : (x : Extent) (n : ℕ) (done rs : List Record) (more : List ℕ) → AllRecords rs
+      → (m : ℕ) × (reading_on (at sections.Records n x done []) (lines_text (map record_line rs) ++ more) ≡ reading_on (at sections.Records m x (done ++ rs) []) more)
+  on-records x n done [] more h = (
     n,
-    ap (λ (t : List ℕ). reading_on (at sections.Records n base size block done []) (t ++ more)) lines_text-none
-        ∙ ap (λ (rs : List Record). reading_on (at sections.Records n base size block rs []) more) (sym (append-nil done)),
+    ap (λ (t : List ℕ). reading_on (at sections.Records n x done []) (t ++ more)) lines_text-none
+        ∙ ap (λ (rs : List Record). reading_on (at sections.Records n x rs []) more) (sym (append-nil done)),
   )
-  on-records base size block n done (r ∷ rs) more h =
-      let s = at sections.Records n base size block done [] in
-      let rest = on-records base size block (min (n + 1) (2 ^ 64 - 1)) (done ++ r ∷ []) rs more h.1 in (
+  on-records x n done (r ∷ rs) more h =
+      let s = at sections.Records n x done [] in
+      let rest = on-records x (min (n + 1) (2 ^ 64 - 1)) (done ++ r ∷ []) rs more h.1 in (
         rest.0,
         ap (λ (t : List ℕ). reading_on s (t ++ more)) (lines_text-next (record_line r) (map record_line rs))
             ∙ ap (reading_on s) (append_assoc (record_line r) (10 ∷ lines_text (map record_line rs)) more)
             ∙ on-line s (record_line r) (lines_text (map record_line rs) ++ more) (lines.Record r) refl (record-line r h.0)
             ∙ rest.1
-            ∙ ap (λ (rs : List Record). reading_on (at sections.Records rest.0 base size block rs []) more) (append_assoc done (r ∷ []) rs),
+            ∙ ap (λ (rs : List Record). reading_on (at sections.Records rest.0 x rs []) more) (append_assoc done (r ∷ []) rs),
       )
 
-  on-entries : (base size block n : ℕ) (rs : List Record) (done es : List Entry) (more : List ℕ) → AllEntries es
-      → (m : ℕ) × (reading_on (at sections.History n base size block rs done) (lines_text (map entry_line es) ++ more) ≡ reading_on (at sections.History m base size block rs (done ++ es)) more)
-  on-entries base size block n rs done [] more h = (
+  on-entries : (x : Extent) (n : ℕ) (rs : List Record) (done es : List Entry) (more : List ℕ) → AllEntries es
+      → (m : ℕ) × (reading_on (at sections.History n x rs done) (lines_text (map entry_line es) ++ more) ≡ reading_on (at sections.History m x rs (done ++ es)) more)
+  on-entries x n rs done [] more h = (
     n,
-    ap (λ (t : List ℕ). reading_on (at sections.History n base size block rs done) (t ++ more)) lines_text-none
-        ∙ ap (λ (es : List Entry). reading_on (at sections.History n base size block rs es) more) (sym (append-nil done)),
+    ap (λ (t : List ℕ). reading_on (at sections.History n x rs done) (t ++ more)) lines_text-none
+        ∙ ap (λ (es : List Entry). reading_on (at sections.History n x rs es) more) (sym (append-nil done)),
   )
-  on-entries base size block n rs done (e ∷ es) more h =
-      let s = at sections.History n base size block rs done in
-      let rest = on-entries base size block (min (n + 1) (2 ^ 64 - 1)) rs (done ++ e ∷ []) es more h.1 in (
+  on-entries x n rs done (e ∷ es) more h =
+      let s = at sections.History n x rs done in
+      let rest = on-entries x (min (n + 1) (2 ^ 64 - 1)) rs (done ++ e ∷ []) es more h.1 in (
         rest.0,
         ap (λ (t : List ℕ). reading_on s (t ++ more)) (lines_text-next (entry_line e) (map entry_line es))
             ∙ ap (reading_on s) (append_assoc (entry_line e) (10 ∷ lines_text (map entry_line es)) more)
             ∙ on-line s (entry_line e) (lines_text (map entry_line es) ++ more) (lines.Entry e) refl (entry-line e h.0)
             ∙ rest.1
-            ∙ ap (λ (es : List Entry). reading_on (at sections.History rest.0 base size block rs es) more) (append_assoc done (e ∷ []) es),
+            ∙ ap (λ (es : List Entry). reading_on (at sections.History rest.0 x rs es) more) (append_assoc done (e ∷ []) es),
       )
 
   head-line : IsLine versions.One (codes "pciex-trace 2") (lines.Head versions.Two)
@@ -315,11 +313,9 @@ module _ (law : Laws) where
   end-line = record { printed = printed-is (codes "end") refl; fits = omega arith; kept = refl; says = refl }
 
   -- all that is read of the whole text
-  on-text : (c : Claim) → OwnClaim c → (n : ℕ) × (reading_of (trace_text c) ≡ at sections.End n c.memory.base c.memory.size c.memory.block c.records c.memory.entries)
+  on-text : (c : Claim) → OwnClaim c → (n : ℕ) × (reading_of (trace_text c) ≡ at sections.End n (extent_of c.memory) c.records c.memory.entries)
   on-text c h =
-      let base = c.memory.base in
-      let size = c.memory.size in
-      let block = c.memory.block in
+      let x : Extent = extent_of c.memory in
       let rs = c.records in
       let es = c.memory.entries in
       let last = codes "end" ++ 10 ∷ [] in
@@ -328,18 +324,18 @@ module _ (law : Laws) where
       let first = memory_line c.memory ++ 10 ∷ second in
       let n0 : ℕ = min (0 + 1) (2 ^ 64 - 1) in
       let n1 : ℕ = min (n0 + 1) (2 ^ 64 - 1) in
-      let read = on-records base size block n1 [] rs third h.records_are in
+      let read = on-records x n1 [] rs third h.records_are in
       let n2 : ℕ = min (read.0 + 1) (2 ^ 64 - 1) in
-      let entered = on-entries base size block n2 rs [] es last h.entries_are in (
+      let entered = on-entries x n2 rs [] es last h.entries_are in (
         min (entered.0 + 1) (2 ^ 64 - 1),
         ap reading_of (trace_text-is c)
             ∙ on-line nothing_read (codes "pciex-trace 2") first (lines.Head versions.Two) refl head-line
-            ∙ on-line (at sections.Memory n0 0 128 64 [] []) (memory_line c.memory) second (lines.Memory base size block) refl (memory-line c.memory h.base_is h.size_is h.block_is h.within)
+            ∙ on-line (at sections.Memory n0 (record { base = 0; size = 128; block = 64 }) [] []) (memory_line c.memory) second (lines.Memory x) refl (memory-line c.memory h.base_is h.size_is h.block_is h.within)
             ∙ read.1
-            ∙ on-line (at sections.Records read.0 base size block rs []) (codes "history") (lines_text (map entry_line es) ++ last) lines.History refl history-line
+            ∙ on-line (at sections.Records read.0 x rs []) (codes "history") (lines_text (map entry_line es) ++ last) lines.History refl history-line
             ∙ entered.1
-            ∙ on-line (at sections.History entered.0 base size block rs es) (codes "end") [] lines.End refl end-line
-            ∙ on-none (at sections.End (min (entered.0 + 1) (2 ^ 64 - 1)) base size block rs es),
+            ∙ on-line (at sections.History entered.0 x rs es) (codes "end") [] lines.End refl end-line
+            ∙ on-none (at sections.End (min (entered.0 + 1) (2 ^ 64 - 1)) x rs es),
       )
 
   pub read-back : (text : List ℕ) (c : Claim) → read_of text ≡ Ok c → read_of (trace_text c) ≡ Ok c
@@ -381,18 +377,27 @@ module _ (law : Laws) where
   entries-told [] h = tt
   entries-told (e ∷ es) h = (entry-told e (All-head IsTellableEntry e es h), entries-told es (All-tail IsTellableEntry e es h))
 
-  limits-test : (base size : ℕ) → IsSize size → IsBase base size → (is_size size && is_base base size) ≡ true
-  limits-test base size s b = grind (arith, nat_tests)
+  size-test : (size : ℕ) → IsSize size → is_size size ≡ true
+  size-test size h = grind (arith, nat_tests)
+
+  base-test : (base size : ℕ) → IsBase base size → is_base base size ≡ true
+  base-test base size h = grind (arith, nat_tests)
+
+  block-test : (block : ℕ) → IsBlock block → is_block block ≡ true
+  block-test block (inl e) = rw e refl
+  block-test block (inr e) = rw e refl
+
+  limits-test : (x : Extent) → IsWithinLimits x → is_within_limits x ≡ true
+  limits-test x h = rw (size-test x.size h.in_size, base-test x.base x.size h.in_base, block-test x.block h.in_block) refl
 
   claim-told : (c : Claim) → IsTellable c → OwnClaim c
   claim-told c h =
-      let size = c.memory.size in
       let s = h.limits.in_size in
       let b = h.limits.in_base in
       record {
-        within = limits-test c.memory.base size s b;
+        within = limits-test (extent_of c.memory) h.limits;
         base_is = address-told c.memory.base (omega (arith, s.0, b.1));
-        size_is = count-told size (omega (arith, s.1));
+        size_is = count-told c.memory.size (omega (arith, s.1));
         block_is = h.limits.in_block;
         records_are = records-told c.records h.records_are;
         entries_are = entries-told c.memory.entries h.entries_are;

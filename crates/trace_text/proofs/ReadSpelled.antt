@@ -1,9 +1,10 @@
 -- What is read of a trace is spelled.
 use Rattle.std.proofs.Common.{◌≡◌, ℕ, Bool, true, false, List, [], ◌∷◌, ◌++◌, length, refl, subst, fold, Option, Some, None, inl, Ok}
-use Rattle.std.specs.Prelude.{◌&&◌, nat_lt, cond, codes, is_some}
+use Rattle.std.specs.Prelude.{nat_lt, cond, codes, is_some}
 use Rattle.line_loop.specs.Lines.{bare, said}
 use Rattle.seq_memory.specs.declared.Entry.{Entry}
-use Rattle.seq_memory.specs.Limits.{IsBlock, is_size, is_base}
+use Rattle.seq_memory.specs.Limits.{IsBlock, Extent, is_within_limits}
+use Rattle.seq_memory.specs.History.{extent_of}
 use Rattle.history_check.specs.declared.Record.{Record}
 use Rattle.history_check.specs.Claim.{Claim}
 use Rattle.operation_text.specs.Words.{words, is_skipped}
@@ -35,19 +36,19 @@ pub entries-more : (es : List Entry) (e : Entry) → AllEntries es → EntryIs e
 entries-more [] e h he = (he, tt)
 entries-more (x ∷ es) e h he = (h.0, entries-more es e h.1 he)
 
-pub record IsOwn (base size block : ℕ) (rs : List Record) (es : List Entry) : Type 0 where
-  pub within : (is_size size && is_base base size) ≡ true
-  pub base_is : IsSpelled address base
-  pub size_is : IsSpelled forms.count size
-  pub block_is : IsBlock block
+pub record IsOwn (x : Extent) (rs : List Record) (es : List Entry) : Type 0 where
+  pub within : is_within_limits x ≡ true
+  pub base_is : IsSpelled address x.base
+  pub size_is : IsSpelled forms.count x.size
+  pub block_is : IsBlock x.block
   pub records_are : AllRecords rs
   pub entries_are : AllEntries es
 
 abbrev pub Own : TraceReaderView → Type 0
-Own s = IsOwn s.base s.size s.block s.records s.entries
+Own s = IsOwn s.extent s.records s.entries
 
 pub own-memory : (s : TraceReaderView) (l : Line) → Own s → LineIs l → Own (in_memory s l)
-own-memory s (lines.Memory base size block) h is = record { within = is.3; base_is = is.0; size_is = is.1; block_is = is.2; records_are = h.records_are; entries_are = h.entries_are }
+own-memory s (lines.Memory x) h is = record { within = is.3; base_is = is.0; size_is = is.1; block_is = is.2; records_are = h.records_are; entries_are = h.entries_are }
 own-memory s (lines.Head v) h is = h
 own-memory s (lines.Record r) h is = h
 own-memory s lines.History h is = h
@@ -57,7 +58,7 @@ own-memory s lines.End h is = h
 pub own-records : (s : TraceReaderView) (l : Line) → Own s → LineIs l → Own (in_records s l)
 own-records s (lines.Record r) h is = record { within = h.within; base_is = h.base_is; size_is = h.size_is; block_is = h.block_is; records_are = records-more s.records r h.records_are is; entries_are = h.entries_are }
 own-records s (lines.Head v) h is = h
-own-records s (lines.Memory base size block) h is = h
+own-records s (lines.Memory x) h is = h
 own-records s lines.History h is = h
 own-records s (lines.Entry e) h is = h
 own-records s lines.End h is = h
@@ -65,14 +66,14 @@ own-records s lines.End h is = h
 pub own-history : (s : TraceReaderView) (l : Line) → Own s → LineIs l → Own (in_history s l)
 own-history s (lines.Entry e) h is = record { within = h.within; base_is = h.base_is; size_is = h.size_is; block_is = h.block_is; records_are = h.records_are; entries_are = entries-more s.entries e h.entries_are is }
 own-history s (lines.Head v) h is = h
-own-history s (lines.Memory base size block) h is = h
+own-history s (lines.Memory x) h is = h
 own-history s (lines.Record r) h is = h
 own-history s lines.History h is = h
 own-history s lines.End h is = h
 
 pub own-head : (s : TraceReaderView) (l : Line) → Own s → Own (in_head s (Some l))
 own-head s (lines.Head v) h = h
-own-head s (lines.Memory base size block) h = h
+own-head s (lines.Memory x) h = h
 own-head s (lines.Record r) h = h
 own-head s lines.History h = h
 own-head s (lines.Entry e) h = h
@@ -110,7 +111,7 @@ pub own-nothing : Own nothing_read
 own-nothing = record { within = refl; base_is = (codes "0", refl); size_is = (codes "128", refl); block_is = inl refl; records_are = tt; entries_are = tt }
 
 abbrev pub OwnClaim : Claim → Type 0
-OwnClaim c = IsOwn c.memory.base c.memory.size c.memory.block c.records c.memory.entries
+OwnClaim c = IsOwn (extent_of c.memory) c.records c.memory.entries
 
 pub own-end : (s : TraceReaderView) (c : Claim) → Own s → at_end s ≡ Ok c → OwnClaim c
 own-end s c h e = by s.fault s.section e

@@ -2,6 +2,7 @@
 use Rattle.std.proofs.Common.{◌≡◌, ◌∙◌, ℕ, Bool, true, false, List, [], ◌∷◌, ◌++◌, length, refl, sym, ap, subst, fold, cond, map, append_assoc, Option, Some, None, Ok}
 use Rattle.std.specs.Prelude.{nat_lt, is_some, codes}
 use Rattle.std.proofs.lemmas.List.{append-nil, map-append}
+use Rattle.seq_memory.specs.Limits.{Extent}
 use Rattle.seq_memory.specs.declared.Entry.{Entry}
 use Rattle.history_check.specs.declared.Record.{Record}
 use Rattle.history_check.specs.Claim.{Claim}
@@ -21,19 +22,19 @@ use Rattle.trace_text.specs.Rewritten.{rewrite_line, text_of, RewritingIsReading
 use Rattle.trace_text.proofs.TextLemmas.{lines_text-append, lines_text-next, lines_text-none, trace_text-by}
 
 -- a trace and a history
-abbrev claim_by : ℕ → ℕ → ℕ → List Record → List Entry → Claim
-claim_by base size block rs es = record { memory = record { base = base; size = size; block = block; entries = es }; records = rs }
+abbrev claim_by : Extent → List Record → List Entry → Claim
+claim_by m rs es = record { memory = record { base = m.base; size = m.size; block = m.block; entries = es }; records = rs }
 
 -- what is written of a reading, by its section
-abbrev text_in : Section → ℕ → ℕ → ℕ → List Record → List Entry → List ℕ
-text_in sections.Head base size block rs es = []
-text_in sections.Memory base size block rs es = codes "pciex-trace 2\n"
-text_in sections.Records base size block rs es = (codes "pciex-trace 2\n" ++ (memory_line (claim_by base size block [] []).memory ++ 10 ∷ [])) ++ lines_text (map record_line rs)
-text_in sections.History base size block rs es = records_text (claim_by base size block rs []) ++ lines_text (map entry_line es)
-text_in sections.End base size block rs es = (records_text (claim_by base size block rs []) ++ lines_text (map entry_line es)) ++ codes "end\n"
+abbrev text_in : Section → Extent → List Record → List Entry → List ℕ
+text_in sections.Head m rs es = []
+text_in sections.Memory m rs es = codes "pciex-trace 2\n"
+text_in sections.Records m rs es = (codes "pciex-trace 2\n" ++ (memory_line (claim_by m [] []).memory ++ 10 ∷ [])) ++ lines_text (map record_line rs)
+text_in sections.History m rs es = records_text (claim_by m rs []) ++ lines_text (map entry_line es)
+text_in sections.End m rs es = (records_text (claim_by m rs []) ++ lines_text (map entry_line es)) ++ codes "end\n"
 
 abbrev text_so_far : TraceReaderView → List ℕ
-text_so_far s = text_in s.section s.base s.size s.block s.records s.entries
+text_so_far s = text_in s.section s.extent s.records s.entries
 
 -- lists are empty until their section
 abbrev IsInOrder : Section → List Record → List Entry → Type 0
@@ -62,31 +63,31 @@ more f xs x =
 -- what a section's line makes of the text and of the order
 record Goes (section : Section) (s : TraceReaderView) (l : Line) : Type 0 where
   reading : onward (emptied s) (placed section (emptied s) l) ≡ emptied (placed section s l)
-  text : text_in section s.base s.size s.block s.records s.entries ++ added section l ≡ text_so_far (placed section s l)
+  text : text_in section s.extent s.records s.entries ++ added section l ≡ text_so_far (placed section s l)
   order : IsInOrder (placed section s l).section (placed section s l).records (placed section s l).entries
 
 record Stays (section : Section) (s : TraceReaderView) : Type 0 where
-  text : text_in section s.base s.size s.block s.records s.entries ++ [] ≡ text_so_far s
+  text : text_in section s.extent s.records s.entries ++ [] ≡ text_so_far s
   order : IsInOrder s.section s.records s.entries
 
 -- a line that isn't due leaves all as it is
 stays : (section : Section) (s : TraceReaderView) → s.section ≡ section → IsInOrder section s.records s.entries → Stays section s
 stays section s e h = record {
-  text = append-nil (text_in section s.base s.size s.block s.records s.entries) ∙ ap (λ (x : Section). text_in x s.base s.size s.block s.records s.entries) (sym e);
+  text = append-nil (text_in section s.extent s.records s.entries) ∙ ap (λ (x : Section). text_in x s.extent s.records s.entries) (sym e);
   order = subst (λ (x : Section). IsInOrder x s.records s.entries) (sym e) h;
 }
 
 goes-head : (s : TraceReaderView) (l : Line) → s.section ≡ sections.Head → IsInOrder sections.Head s.records s.entries → Goes sections.Head s l
 goes-head s (lines.Head v) e h = record { reading = refl; text = refl; order = h }
-goes-head s (lines.Memory base size block) e h = let k = stays sections.Head s e h in record { reading = refl; text = k.text; order = k.order }
+goes-head s (lines.Memory m) e h = let k = stays sections.Head s e h in record { reading = refl; text = k.text; order = k.order }
 goes-head s (lines.Record r) e h = let k = stays sections.Head s e h in record { reading = refl; text = k.text; order = k.order }
 goes-head s lines.History e h = let k = stays sections.Head s e h in record { reading = refl; text = k.text; order = k.order }
 goes-head s (lines.Entry x) e h = let k = stays sections.Head s e h in record { reading = refl; text = k.text; order = k.order }
 goes-head s lines.End e h = let k = stays sections.Head s e h in record { reading = refl; text = k.text; order = k.order }
 
 goes-memory : (s : TraceReaderView) (l : Line) → s.section ≡ sections.Memory → IsInOrder sections.Memory s.records s.entries → Goes sections.Memory s l
-goes-memory s (lines.Memory base size block) e h =
-    let head = codes "pciex-trace 2\n" ++ (memory_line (claim_by base size block [] []).memory ++ 10 ∷ []) in
+goes-memory s (lines.Memory m) e h =
+    let head = codes "pciex-trace 2\n" ++ (memory_line (claim_by m [] []).memory ++ 10 ∷ []) in
     record {
       reading = refl;
       text = sym (append-nil head) ∙ ap (λ (t : List ℕ). head ++ t) (sym lines_text-none) ∙ ap (λ (rs : List Record). head ++ lines_text (map record_line rs)) (sym h.0);
@@ -100,39 +101,39 @@ goes-memory s lines.End e h = let k = stays sections.Memory s e h in record { re
 
 goes-records : (s : TraceReaderView) (l : Line) → s.section ≡ sections.Records → IsInOrder sections.Records s.records s.entries → Goes sections.Records s l
 goes-records s (lines.Record r) e h =
-    let head = codes "pciex-trace 2\n" ++ (memory_line (claim_by s.base s.size s.block [] []).memory ++ 10 ∷ []) in
+    let head = codes "pciex-trace 2\n" ++ (memory_line (claim_by s.extent [] []).memory ++ 10 ∷ []) in
     record {
       reading = refl;
       text = append_assoc head (lines_text (map record_line s.records)) (record_line r ++ 10 ∷ [])
           ∙ ap (λ (t : List ℕ). head ++ t) (more record_line s.records r)
-          ∙ ap (λ (x : Section). text_in x s.base s.size s.block (s.records ++ r ∷ []) s.entries) (sym e);
+          ∙ ap (λ (x : Section). text_in x s.extent (s.records ++ r ∷ []) s.entries) (sym e);
       order = subst (λ (x : Section). IsInOrder x (s.records ++ r ∷ []) s.entries) (sym e) h;
     }
 goes-records s lines.History e h =
-    let before = records_text (claim_by s.base s.size s.block s.records []) in
+    let before = records_text (claim_by s.extent s.records []) in
     record {
       reading = refl;
       text = sym (append-nil before) ∙ ap (λ (t : List ℕ). before ++ t) (sym lines_text-none) ∙ ap (λ (es : List Entry). before ++ lines_text (map entry_line es)) (sym h);
       order = tt;
     }
 goes-records s (lines.Head v) e h = let k = stays sections.Records s e h in record { reading = refl; text = k.text; order = k.order }
-goes-records s (lines.Memory base size block) e h = let k = stays sections.Records s e h in record { reading = refl; text = k.text; order = k.order }
+goes-records s (lines.Memory m) e h = let k = stays sections.Records s e h in record { reading = refl; text = k.text; order = k.order }
 goes-records s (lines.Entry x) e h = let k = stays sections.Records s e h in record { reading = refl; text = k.text; order = k.order }
 goes-records s lines.End e h = let k = stays sections.Records s e h in record { reading = refl; text = k.text; order = k.order }
 
 goes-history : (s : TraceReaderView) (l : Line) → s.section ≡ sections.History → Goes sections.History s l
 goes-history s (lines.Entry x) e =
-    let before = records_text (claim_by s.base s.size s.block s.records []) in
+    let before = records_text (claim_by s.extent s.records []) in
     record {
       reading = refl;
       text = append_assoc before (lines_text (map entry_line s.entries)) (entry_line x ++ 10 ∷ [])
           ∙ ap (λ (t : List ℕ). before ++ t) (more entry_line s.entries x)
-          ∙ ap (λ (y : Section). text_in y s.base s.size s.block s.records (s.entries ++ x ∷ [])) (sym e);
+          ∙ ap (λ (y : Section). text_in y s.extent s.records (s.entries ++ x ∷ [])) (sym e);
       order = subst (λ (y : Section). IsInOrder y s.records (s.entries ++ x ∷ [])) (sym e) tt;
     }
 goes-history s lines.End e = record { reading = refl; text = refl; order = tt }
 goes-history s (lines.Head v) e = let k = stays sections.History s e tt in record { reading = refl; text = k.text; order = k.order }
-goes-history s (lines.Memory base size block) e = let k = stays sections.History s e tt in record { reading = refl; text = k.text; order = k.order }
+goes-history s (lines.Memory m) e = let k = stays sections.History s e tt in record { reading = refl; text = k.text; order = k.order }
 goes-history s (lines.Record r) e = let k = stays sections.History s e tt in record { reading = refl; text = k.text; order = k.order }
 goes-history s lines.History e = let k = stays sections.History s e tt in record { reading = refl; text = k.text; order = k.order }
 
@@ -203,10 +204,10 @@ all (l ∷ ls) w s at = all ls (rewrite_line w l) (take_line s l) (line w s l at
 
 -- ---- the end
 
-whole-text : (s : TraceReaderView) → text_in sections.End s.base s.size s.block s.records s.entries ≡ trace_text (claim_read s)
-whole-text s = trace_text-by (claim_read s) (records_text (claim_read s)) (records_text (claim_read s) ++ lines_text (map entry_line s.entries)) (text_in sections.End s.base s.size s.block s.records s.entries) refl refl refl
+whole-text : (s : TraceReaderView) → text_in sections.End s.extent s.records s.entries ≡ trace_text (claim_read s)
+whole-text s = trace_text-by (claim_read s) (records_text (claim_read s)) (records_text (claim_read s) ++ lines_text (map entry_line s.entries)) (text_in sections.End s.extent s.records s.entries) refl refl refl
 
-ends : (f : Option ReadFault) (section : Section) (s : TraceReaderView) → text_or_fault (text_in section s.base s.size s.block s.records s.entries) (fault_or_end f (record (emptied s) { section = section })) ≡ text_of (fault_or_end f (record s { section = section }))
+ends : (f : Option ReadFault) (section : Section) (s : TraceReaderView) → text_or_fault (text_in section s.extent s.records s.entries) (fault_or_end f (record (emptied s) { section = section })) ≡ text_of (fault_or_end f (record s { section = section }))
 ends (Some f) section s = refl
 ends None sections.Head s = refl
 ends None sections.Memory s = refl

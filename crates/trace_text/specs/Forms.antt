@@ -1,6 +1,6 @@
 -- The forms of lines.
-use Rattle.std.specs.Prelude.{ℕ, ◌==◌, ◌||◌, ◌&&◌, if◌then◌else◌, List, [], ◌∷◌, Option, Some, None, codes, bytes_eq}
-use Rattle.seq_memory.specs.Limits.{IsWithinLimits, is_size, is_base}
+use Rattle.std.specs.Prelude.{ℕ, ◌==◌, ◌||◌, if◌then◌else◌, List, [], ◌∷◌, Option, Some, None, codes, bytes_eq}
+use Rattle.seq_memory.specs.Limits.{Extent, is_within_limits}
 use Rattle.history_check.specs.declared.Record.TheVariants as records
 use Rattle.operation_text.specs.Words.{then_with, field, ended}
 use Rattle.operation_text.specs.Numbers.{numeral}
@@ -35,14 +35,14 @@ version w = then_with (numeral 10 2 w) version_by
 abbrev pub head_of : List (List ℕ) → Option Line
 head_of ws = field version (λ v. ended (lines.Head v)) ws
 
--- a memory of that base and size, if there can be one
-abbrev pub memory_within : ℕ → ℕ → ℕ → List (List ℕ) → Option Line
-memory_within base size b ws = if is_size size && is_base base size then ended (lines.Memory base size b) ws else None
+-- a memory of that extent, if there can be one
+abbrev pub memory_within : Extent → List (List ℕ) → Option Line
+memory_within x ws = if is_within_limits x then ended (lines.Memory x) ws else None
 
 -- the first version means blocks of 64 bytes
 abbrev pub memory_of : Version → List (List ℕ) → Option Line
-memory_of versions.One ws = field address (λ base. field count (λ size. memory_within base size 64)) ws
-memory_of versions.Two ws = field address (λ base. field count (λ size. field block (λ b. memory_within base size b))) ws
+memory_of versions.One ws = field address (λ base. field count (λ size. memory_within (record { base = base; size = size; block = 64 }))) ws
+memory_of versions.Two ws = field address (λ base. field count (λ size. field block (λ b. memory_within (record { base = base; size = size; block = b })))) ws
 
 abbrev pub sub_of : List (List ℕ) → Option Line
 sub_of ws = field requester (λ i. field number (λ k. field count (λ n rest. then_with (op_spelled rest) (λ op. Some (lines.Record (records.Sub i k op n)))))) ws
@@ -68,8 +68,3 @@ line_by v kind ws =
 abbrev pub line_of : Version → List (List ℕ) → Option Line
 line_of v [] = None
 line_of v (kind ∷ ws) = line_by v kind ws
-
--- a memory's line tells a base, size and block that a memory can have
-abbrev pub IsLineOfLimits : Line → Type 0
-IsLineOfLimits (lines.Memory base size b) = IsWithinLimits (record { base = base; size = size; block = b })
-IsLineOfLimits _ = Unit {0}

@@ -1,6 +1,7 @@
 -- What a text of a trace is read as, line by line.
 use Rattle.std.specs.Prelude.{ℕ, ◌≡◌, ◌+◌, ◌-◌, ◌^◌, ◌⊎◌, ◌&&◌, Bool, true, false, not, min, nat_lt, if◌then◌else◌, List, [], ◌∷◌, ◌++◌, length, fold, Option, Some, None, is_some, Result, Ok, Err}
 use Rattle.line_loop.specs.Lines.{lines_of, bare, said}
+use Rattle.seq_memory.specs.Limits.{Extent}
 use Rattle.seq_memory.specs.declared.Entry.{Entry}
 use Rattle.history_check.specs.declared.Record.{Record}
 use Rattle.history_check.specs.Claim.{Claim}
@@ -21,22 +22,18 @@ pub record TraceReaderView : Type 0 where
   pub section : Section
   pub version : Version
   pub lines : ℕ
-  pub base : ℕ
-  pub size : ℕ
-  pub block : ℕ
+  pub extent : Extent
   pub records : List Record
   pub entries : List Entry
   pub fault : Option ReadFault
 
--- base, size and block are told by the memory's line, and those of a memory until then
+-- the extent is told by the memory's line, and that of the least memory until then
 abbrev pub nothing_read : TraceReaderView
 nothing_read = record {
   section = sections.Head;
   version = versions.One;
   lines = 0;
-  base = 0;
-  size = 128;
-  block = 64;
+  extent = record { base = 0; size = 128; block = 64 };
   records = [];
   entries = [];
   fault = None;
@@ -67,7 +64,7 @@ in_head s (Some (lines.Head v)) = record s { lines = next_line s; section = sect
 in_head s _ = faulty s faults.Head
 
 abbrev pub in_memory : TraceReaderView → Line → TraceReaderView
-in_memory s (lines.Memory base size block) = record s { lines = next_line s; section = sections.Records; base = base; size = size; block = block }
+in_memory s (lines.Memory x) = record s { lines = next_line s; section = sections.Records; extent = x }
 in_memory s _ = faulty s faults.Section
 
 abbrev pub in_records : TraceReaderView → Line → TraceReaderView
@@ -136,7 +133,7 @@ adds_by s line = not (nat_lt 512 (length (bare line))) && adds_one s (said line)
 
 abbrev pub claim_read : TraceReaderView → Claim
 claim_read s = record {
-  memory = record { base = s.base; size = s.size; block = s.block; entries = s.entries };
+  memory = record { base = s.extent.base; size = s.extent.size; block = s.extent.block; entries = s.entries };
   records = s.records;
 }
 

@@ -22,7 +22,7 @@ nothing_rewritten = record { reading = nothing_read; text = [] }
 -- what a line adds to the text in each section
 abbrev pub added : Section → Line → List ℕ
 added sections.Head (lines.Head v) = codes "pciex-trace 2\n"
-added sections.Memory (lines.Memory base size block) = memory_line (record { base = base; size = size; block = block; entries = [] }) ++ 10 ∷ []
+added sections.Memory (lines.Memory x) = memory_line (record { base = x.base; size = x.size; block = x.block; entries = [] }) ++ 10 ∷ []
 added sections.Records (lines.Record r) = record_line r ++ 10 ∷ []
 added sections.Records lines.History = codes "history\n"
 added sections.History (lines.Entry e) = entry_line e ++ 10 ∷ []

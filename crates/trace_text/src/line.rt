@@ -1,5 +1,5 @@
 //! The forms of lines.
-ghost use Rattle.std.specs.Prelude.{◌≡◌, option_map, IfOk};
+ghost use Rattle.std.specs.Prelude.{◌≡◌, option_map};
 ghost use Rattle.std.specs.Result.{result_ok};
 ghost use Rattle.operation_text.specs.Words.{words, words_behind, first_field};
 ghost use Rattle.trace_text.specs.Forms as forms;
@@ -8,7 +8,7 @@ use history_check::Record;
 use operation_text::{
     BASE, BLOCK, Expected, Misfit, SIZE, alone, cut, number, op_behind, reply_behind,
 };
-use seq_memory::{Entry, is_base, is_size};
+use seq_memory::{Entry, Extent, is_size};
 
 /// The greatest number of a request.
 const MAX_NUMBER: u64 = 4_294_967_294;
@@ -40,7 +40,7 @@ pub(crate) enum Version {
 #[derive(Drop)]
 pub(crate) enum Line {
     Head(Version),
-    Memory { base: u64, size: usize, block: u16 },
+    Memory(Extent),
     Record(Record),
     History,
     Entry(Entry),
@@ -118,12 +118,11 @@ fn memory_within(
     place: Option<&[u8]>,
     rest: Option<&[u8]>,
 ) -> Result<Line, Misfit>
-    ensures { result_ok result ≡ forms.memory_within base size block (words_behind rest.entry) }
+    ensures { result_ok result ≡ forms.memory_within (record { base = base; size = size; block = block }) (words_behind rest.entry) }
 {
-    if is_size(size) && is_base(base, size) {
-        alone(Line::Memory { base, size, block }, rest)
-    } else {
-        Err(no_memory(size, place))
+    match Extent::new(base, size, block) {
+        Some(extent) => alone(Line::Memory(extent), rest),
+        None => Err(no_memory(size, place)),
     }
 }
 
@@ -210,8 +209,7 @@ fn line_by(kind: &[u8], rest: Option<&[u8]>, version: Version, text: &[u8]) -> R
 
 /// The line that the text spells in a trace of that version.
 pub(crate) fn read_line(text: &[u8], version: Version) -> Result<Line, Misfit>
-    ensures value { result_ok result ≡ forms.line_of version (words text.now) }
-    ensures limits { IfOk result forms.IsLineOfLimits }
+    ensures { result_ok result ≡ forms.line_of version (words text.now) }
 {
     let (kind, rest) = cut(text);
     line_by(kind, rest, version, text)

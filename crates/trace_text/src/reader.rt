@@ -1,14 +1,12 @@
 //! Reading a trace line by line.
 ghost use Rattle.std.specs.Prelude.{◌≡◌, true, OnOk, OnErr, IfOk, IfErr, Ok, Err, Some};
 ghost use Rattle.history_check.specs.Claim.{claim_of};
-ghost use Rattle.history_check.specs.TraceView.{HasLimits};
-ghost use Rattle.trace_text.specs.Forms.{IsLineOfLimits};
 ghost use Rattle.trace_text.specs.TraceReaderView as reads;
 
 use crate::fault::{ReadFault, ReadFaultKind};
 use crate::line::{Line, Version, read_line};
 use history_check::{Record, Trace};
-use seq_memory::{Entry, MIN_SIZE};
+use seq_memory::{Entry, Extent, MIN_SIZE};
 use std::alloc::{AllocError, Global};
 use std::marker::Model;
 
@@ -33,23 +31,18 @@ pub struct TraceReader {
     section: Section,
     version: Version,
     lines: u64,
-    base: u64,
-    size: usize,
-    block: u16,
+    extent: Extent,
     records: Vec<Record>,
     entries: Vec<Entry>,
     fault: Option<ReadFault>,
 }
 
 impl Model for TraceReader {
-    ghost use Rattle.seq_memory.specs.Limits.{IsWithinLimits};
     ghost use Rattle.trace_text.specs.TraceReaderView.{TraceReaderView};
 
     ghost Value = { TraceReaderView };
 
-    ghost view = { λ s. record { section = s.section; version = s.version; lines = s.lines; base = s.base; size = s.size; block = s.block; records = s.records.items; entries = s.entries.items; fault = s.fault } };
-
-    ghost invariant = { λ s. IsWithinLimits (record { base = s.base; size = s.size; block = s.block }) };
+    ghost view = { λ s. record { section = s.section; version = s.version; lines = s.lines; extent = s.extent; records = s.records.items; entries = s.entries.items; fault = s.fault } };
 }
 
 impl TraceReader {
@@ -61,9 +54,7 @@ impl TraceReader {
             section: Section::Head,
             version: Version::One,
             lines: 0,
-            base: 0,
-            size: MIN_SIZE,
-            block: 64,
+            extent: Extent::new(0, MIN_SIZE, 64).unwrap(),
             records: Vec::new(alloc),
             entries: Vec::new(alloc),
             fault: None,
@@ -152,15 +143,12 @@ impl TraceReader {
     }
 
     pub(crate) fn in_memory(&mut self, line: Line)
-        requires { IsLineOfLimits line }
         ensures { self.new ≡ reads.in_memory self.old line }
     {
         match line {
-            Line::Memory { base, size, block } => {
+            Line::Memory(extent) => {
                 self.section = Section::Records;
-                self.base = base;
-                self.size = size;
-                self.block = block;
+                self.extent = extent;
                 self.count();
             }
             _ => self.tell(ReadFaultKind::Section),
@@ -207,7 +195,6 @@ impl TraceReader {
 
     /// Takes a line of that form.
     fn place(&mut self, line: Line) -> Result<(), AllocError>
-        requires { IsLineOfLimits line }
         ensures ok { OnOk result (self.new ≡ reads.placed self.old.section self.old line) }
         ensures err { OnErr result (self.new ≡ self.old) }
         ensures adds { OnErr result (reads.adds self.old.section (Some line) ≡ true) }
@@ -271,7 +258,6 @@ impl TraceReader {
     pub fn end(self) -> Result<(Trace, Vec<Entry>), ReadFault>
         ensures ok { IfOk result (λ t. reads.at_end self ≡ Ok (claim_of t.0 t.1.items)) }
         ensures err { IfErr result (λ f. reads.at_end self ≡ Err f) }
-        ensures limits { IfOk result (λ t. HasLimits t.0) }
     {
         if let Some(fault) = self.fault {
             return Err(fault);
@@ -284,9 +270,7 @@ impl TraceReader {
             }
             Section::End => {
                 let trace = Trace {
-                    base: self.base,
-                    size: self.size,
-                    block: self.block,
+                    extent: self.extent,
                     records: self.records,
                 };
                 Ok((trace, self.entries))

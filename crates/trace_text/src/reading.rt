@@ -1,7 +1,6 @@
 //! Reading the whole text of a trace.
 ghost use Rattle.std.specs.Prelude.{◌≡◌, true, OnOk, OnErr, IfOk, IfErr, Ok};
 ghost use Rattle.history_check.specs.Claim.{claim_of};
-ghost use Rattle.history_check.specs.TraceView.{HasLimits};
 ghost use Rattle.trace_text.specs.TraceReaderView.{read_of, Tells};
 ghost use Rattle.trace_text.specs.Endings.{on_said, on_ended_line, on_last_line, adds_said, adds_ended, adds_last};
 
@@ -51,7 +50,6 @@ fn take_last(reader: &mut TraceReader, line: &[u8]) -> Result<(), AllocError>
 pub fn read_trace(alloc: Global, text: &[u8]) -> Result<(Trace, Vec<Entry>), ReadFault>
     ensures ok { IfOk result (λ t. read_of text.now ≡ Ok (claim_of t.0 t.1.items)) }
     ensures err { IfErr result (Tells text.now) }
-    ensures limits { IfOk result (λ t. HasLimits t.0) }
 {
     let mut reader = TraceReader::new(alloc);
     let mut rest = text;

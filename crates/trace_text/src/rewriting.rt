@@ -1,6 +1,5 @@
 //! Writing a trace in the second version while it is read.
 ghost use Rattle.std.specs.Prelude.{◌≡◌, ◌++◌, OnOk, OnErr, IfOk, IfErr, Ok, Err};
-ghost use Rattle.trace_text.specs.Forms.{IsLineOfLimits};
 ghost use Rattle.trace_text.specs.TraceReaderView.{faulty, formless};
 ghost use Rattle.trace_text.specs.TraceRewriterView as writes;
 
@@ -63,13 +62,12 @@ impl TraceRewriter {
     }
 
     fn in_memory(&mut self, line: Line) -> Result<(), AllocError>
-        requires { IsLineOfLimits line }
         ensures ok { OnOk result (self.new ≡ writes.rewritten_by Section.Memory self.old line) }
         ensures err { OnErr result (self.new ≡ self.old) }
     {
-        if let Line::Memory { base, size, block } = line {
+        if let Line::Memory(extent) = line {
             self.line.clear();
-            put_memory(base, size, block, &mut self.line);
+            put_memory(extent, &mut self.line);
             self.text.extend_from_slice(self.line.as_bytes())?;
         }
         self.reader.in_memory(line);
@@ -118,7 +116,6 @@ impl TraceRewriter {
 
     /// Takes a line of that form.
     fn place(&mut self, line: Line) -> Result<(), AllocError>
-        requires { IsLineOfLimits line }
         ensures ok { OnOk result (self.new ≡ writes.rewritten_by self.old.reading.section self.old line) }
         ensures err { OnErr result (self.new ≡ self.old) }
     {

@@ -8,7 +8,7 @@ ghost use Rattle.trace_text.specs.Texts.{memory_line, record_line, entry_line, l
 use arrayvec::ArrayString;
 use history_check::{Record, Trace};
 use operation_text::{write_decimal, write_hexadecimal, write_op, write_reply};
-use seq_memory::Entry;
+use seq_memory::{Entry, Extent};
 use std::alloc::{AllocError, Global};
 
 /// Writes the kind of a record, its requester and its request's number.
@@ -36,16 +36,16 @@ fn put_count(count: u64, line: &mut ArrayString<512>)
 }
 
 /// Writes the line of the memory.
-pub(crate) fn put_memory(base: u64, size: usize, block: u16, line: &mut ArrayString<512>)
+pub(crate) fn put_memory(extent: Extent, line: &mut ArrayString<512>)
     requires { array_string_len line.old ≡ 0 }
-    ensures { line.new.bytes ≡ memory_line (record { base = base; size = size; block = block; entries = [] }) ++ 10 ∷ [] }
+    ensures { line.new.bytes ≡ memory_line (record { base = extent.base; size = extent.size; block = extent.block; entries = [] }) ++ 10 ∷ [] }
 {
     line.push_str("memory ");
-    write_hexadecimal(base, line);
+    write_hexadecimal(extent.base(), line);
     line.push_str(" ");
-    write_decimal(size as u64, line);
+    write_decimal(extent.size() as u64, line);
     line.push_str(" ");
-    write_decimal(u64::from(block), line);
+    write_decimal(u64::from(extent.block()), line);
     line.push_str("\n");
 }
 
@@ -123,7 +123,7 @@ fn write_records(alloc: Global, trace: &Trace) -> Result<String, AllocError>
     let mut text = String::new(alloc);
     text.push_str("pciex-trace 2\n")?;
     let mut line = ArrayString::new();
-    put_memory(trace.base, trace.size, trace.block, &mut line);
+    put_memory(trace.extent, &mut line);
     text.push_str(line.as_str())?;
     add_records(&trace.records, &mut text)?;
     text.push_str("history\n")?;

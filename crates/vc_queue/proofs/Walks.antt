@@ -1,7 +1,10 @@
 -- Walks over a queue: what is takeable, the first place of a class, and what is lent of a class.
 use Rattle.std.proofs.Common.{◌≡◌, ◌≢◌, ℕ, zero, suc, ◌+◌, ◌<◌, ◌≤◌, Bool, true, false, List, [], ◌∷◌, ◌++◌, length, take, drop, map, Option, Some, None, refl, sym, ◌∙◌, ap, arith}
 use Rattle.std.specs.Prelude.{◌&&◌, nat_lt, slice_get, slice_index_or, remove}
-use Rattle.std.specs.Option.{IsSome}
+use Rattle.std.specs.Option.{IsSome, option_map}
+use Rattle.std.specs.Prelude.{MatchOption, is_some}
+use Rattle.std.specs.Borrow.{Bor}
+use Rattle.std.proofs.lemmas.Option.{slice_get-map}
 use Rattle.std.proofs.lemmas.List.{map-append}
 use Rattle.std.specs.List.{list_all}
 use Rattle.std.proofs.lemmas.List.Folds.{list_all-map}
@@ -20,9 +23,9 @@ use Rattle.vc_queue.specs.declared.classes.Classes.{Classes}
 use Rattle.vc_queue.specs.declared.classes.Cut.{Cut}
 use Rattle.vc_queue.specs.Ordering.{may_pass}
 use Rattle.vc_queue.specs.Queue.{Item, passes_each, first_passes, is_takeable, first_of}
-use Rattle.vc_queue.specs.Arrivals.{item_of, class_in, IsSplit, IsCut, IsRising, list_of, count_in, past, keep, of_class, Rises, smaller, numbered, AreItemsOf}
+use Rattle.vc_queue.specs.Arrivals.{item_of, class_in, IsSplit, IsCut, IsRising, list_of, count_in, past, keep, of_class, first_class, Rises, smaller, numbered, AreItemsOf}
 use Rattle.vc_queue.proofs.Places.{drop_read, takeable_is_there, takeable_from, non_posted_is_passed, request_goes, nothing_passes_posted}
-use Rattle.vc_queue.proofs.Merged.{same_class, keep_mine, keep_other, of_list, of_cut, of_append, first_of_none, nothing_left, left, split_at, TellsFirst}
+use Rattle.vc_queue.proofs.Merged.{same_class, keep_mine, keep_other, of_list, of_cut, of_append, first_of_some, first_of_none, nothing_left, left, split_at, TellsFirst}
 use Rattle.vc_queue.proofs.Taken.{found_class, got_of_drop}
 
 -- ---- classes
@@ -78,10 +81,15 @@ read_at n m x ys e =
 none_posted : (n : ℕ) (m : List Arrived) (cut : Cut) → IsCut (take n m) cut → cut.posted ≡ 0 → of_class Posted (take n m) ≡ []
 none_posted n m cut k z = empty (of_class Posted (take n m)) (sym k.is_posted ∙ z)
 
-pub takeable_request : (n : ℕ) (m : List Arrived) (q : Classes) (cut : Cut) (found : Option Class) (c : Class) → IsSplit m q → IsCut (take n m) cut → cut.posted ≡ 0 →
-    TellsFirst q cut found → found ≡ Some c → c ≢ Completion → is_takeable (map item_of m) n ≡ true
-takeable_request n m q cut found c s k z f e d =
-    let first = found_class m n q cut found c s k f e in
+-- the class of the first item behind a cut
+pub first_behind : (n : ℕ) (m : List Arrived) (q : Classes) (cut : Cut) (found : Option Class) (c : Class) → IsSplit m q → IsCut (take n m) cut → TellsFirst q cut found → found ≡ Some c →
+    first_class (drop n m) ≡ Some c
+first_behind n m q cut found c s k f e = sym (f (take n m) (drop n m) (split_at n m q s) k) ∙ e
+
+pub takeable_request : (n : ℕ) (m : List Arrived) (cut : Cut) (c : Class) → IsCut (take n m) cut → cut.posted ≡ 0 → first_class (drop n m) ≡ Some c → c ≢ Completion →
+    is_takeable (map item_of m) n ≡ true
+takeable_request n m cut c k z e d =
+    let first = first_of_some (drop n m) c e in
     read_at n m first.0 first.1 first.2 ∙
     requests_before first.0.tlp (take n m) (λ p. d (sym first.3 ∙ p)) (none_posted n m cut k z)
 
@@ -100,10 +108,10 @@ taken_of c n j m list e f =
 left_of : (c : Class) (n j : ℕ) (m list : List Arrived) → list ≡ of_class c m → j ≡ length (of_class c (take n m)) → drop j list ≡ of_class c (drop n m)
 left_of c n j m list e f = left c (take n m) (drop n m) j list (e ∙ ap (of_class c) (sym (take-append-drop n m))) f
 
-pub takeable_completion : (n : ℕ) (m : List Arrived) (q : Classes) (cut : Cut) (found : Option Class) → IsSplit m q → IsCut (take n m) cut → cut.posted ≡ 0 →
-    TellsFirst q cut found → found ≡ Some Completion → is_takeable (map item_of q.completion.items) cut.completion ≡ is_takeable (map item_of m) n
-takeable_completion n m q cut found s k z f e =
-    let first = found_class m n q cut found Completion s k f e in
+pub takeable_completion : (n : ℕ) (m : List Arrived) (q : Classes) (cut : Cut) → IsSplit m q → IsCut (take n m) cut → cut.posted ≡ 0 → first_class (drop n m) ≡ Some Completion →
+    is_takeable (map item_of q.completion.items) cut.completion ≡ is_takeable (map item_of m) n
+takeable_completion n m q cut s k z e =
+    let first = first_of_some (drop n m) Completion e in
     let behind : drop cut.completion q.completion.items ≡ first.0 ∷ of_class Completion first.1 =
     left_of Completion n cut.completion m q.completion.items s.parts.is_completion k.is_completion ∙
     (ap (of_class Completion) first.2 ∙ keep_mine Completion first.0 first.0 (of_class Completion first.1) first.3) in
@@ -294,3 +302,17 @@ is_there q n None t e =
     let there = takeable_is_there q n t in
     let no : None ≡ Some there.0 = e ∙ there.1 in
     absurd (cc)
+
+-- what may be taken is lent
+pub may_be_taken : (m : List Arrived) (n : ℕ) (got : Option (Bor Arrived)) → is_takeable (map item_of m) n ≡ true → MatchOption got (slice_get m n ≡ None) (λ y. slice_get m n ≡ Some y.now) →
+    MatchOption got (is_takeable (map item_of m) n ≡ false) (λ y. (is_takeable (map item_of m) n ≡ true) × (slice_get m n ≡ Some y.now))
+may_be_taken m n (Some y) t h = (t, h)
+may_be_taken m n None t h =
+    let there = takeable_is_there (map item_of m) n t in
+    let none : slice_get (map item_of m) n ≡ None = slice_get-map item_of m n ∙ ap (option_map item_of) h in
+    let no : None ≡ Some there.0 = sym none ∙ there.1 in
+    absurd (cc)
+
+pub is_some_if : {X : Type 0} (P : X → Type 0) (got : Option X) (b : Bool) → MatchOption got (b ≡ false) (λ x. (b ≡ true) × P x) → is_some got ≡ b
+is_some_if P (Some x) b h = sym h.0
+is_some_if P None b h = sym h

@@ -1,5 +1,5 @@
 //! A queue for each class.
-ghost use Rattle.std.specs.Prelude.{◌≡◌, ◌+◌, ◌<◌, ◌^◌, List, [], ◌∷◌, ◌++◌, length, take, remove, map, slice_get, false, IfSome, OnOk, OnErr, Some, None, MatchOption};
+ghost use Rattle.std.specs.Prelude.{◌≡◌, ◌+◌, ◌<◌, ◌^◌, ℕ, List, [], ◌∷◌, ◌++◌, length, take, drop, remove, map, slice_get, true, false, IfSome, OnOk, OnErr, Some, None, MatchOption};
 ghost use Rattle.std.specs.Option.{option_map};
 
 use crate::numbers::{is_same, number_at, oldest_of, passes_before, renumber, take_item};
@@ -215,20 +215,37 @@ impl Classes {
         Some(cut)
     }
 
-    /// Whether there is a packet at a place of all that may pass every earlier one.
-    pub(crate) fn takeable(&self, place: usize) -> bool
-        ensures { (all : List _) → IsSplit all self.now → result ≡ is_takeable (map item_of all) place }
+    /// Whether the packet behind a cut, of this class, may pass the packets before it in its own queue.
+    fn passes_its_own(&self, class: Class, cut: Cut) -> bool
+        ensures { (all : List _) (place : ℕ) → IsSplit all self.now → IsCut (take place all) cut → cut.posted ≡ 0 → first_class (drop place all) ≡ Some class → result ≡ is_takeable (map item_of all) place }
     {
-        let Some(cut) = self.cut_free(place) else {
-            return false;
-        };
-        let Some(class) = self.oldest(cut) else {
-            return false;
-        };
         if is_same(class, Class::Completion) {
             return passes_before(&self.completion, cut.completion);
         }
         true
+    }
+
+    /// The packet at a place of all that may pass every earlier one; none otherwise.
+    pub(crate) fn peek(&self, place: usize) -> Option<&Arrived>
+        ensures { (all : List _) → IsSplit all self.now → MatchOption result (is_takeable (map item_of all) place ≡ false) (λ x. (is_takeable (map item_of all) place ≡ true) × (slice_get all place ≡ Some x.now)) }
+    {
+        let Some(cut) = self.cut_free(place) else {
+            return None;
+        };
+        let Some(class) = self.oldest(cut) else {
+            return None;
+        };
+        if !self.passes_its_own(class, cut) {
+            return None;
+        }
+        self.of(class).get(cut.count(class))
+    }
+
+    /// Whether there is a packet at a place of all that may pass every earlier one.
+    pub(crate) fn takeable(&self, place: usize) -> bool
+        ensures { (all : List _) → IsSplit all self.now → result ≡ is_takeable (map item_of all) place }
+    {
+        self.peek(place).is_some()
     }
 
     /// The first place of a class.

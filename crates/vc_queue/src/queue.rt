@@ -1,5 +1,5 @@
 //! The receive queue.
-ghost use Rattle.std.specs.Prelude.{◌≡◌, ◌+◌, ◌<◌, ◌↔◌, ◌==◌, ◌∷◌, ◌++◌, [], Some, length, take, remove, slice_get, IsTrue, IsSome, IfSome, OnOk, OnErr};
+ghost use Rattle.std.specs.Prelude.{◌≡◌, ◌+◌, ◌<◌, ◌↔◌, ◌==◌, ◌∷◌, ◌++◌, [], Some, length, take, remove, slice_get, true, false, IsTrue, IsSome, IsNone, IfSome, OnOk, OnErr};
 ghost use Rattle.vc_queue.specs.Queue.{is_takeable, first_of};
 ghost use Rattle.vc_queue.specs.Arrivals.{AreItemsOf};
 
@@ -73,6 +73,15 @@ impl OrderedQueue {
         ensures { result ≡ is_takeable self.now place }
     {
         self.classes.takeable(place)
+    }
+
+    /// The packet and the mark at this place if [`take`](Self::take) would take them out, otherwise none.
+    pub fn peek(&self, place: usize) -> Option<(&Tlp, u32)>
+        ensures none { IsNone result ↔ (is_takeable self.now place ≡ false) }
+        ensures item { IfSome result (λ x. IsTrue (is_takeable self.now place) × (slice_get self.now place ≡ Some (x.0.now, x.1))) }
+    {
+        let arrived = self.classes.peek(place)?;
+        Some((&arrived.tlp, arrived.mark))
     }
 
     /// The packet and the mark at this place, none past the end.

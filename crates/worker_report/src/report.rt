@@ -12,6 +12,7 @@ use crate::halt::RunHalt;
 use fabric_core::{Config, Fabric};
 use hall_core::{Hall, ReqSeat};
 use history_check::{FlawKind, Record, Trace, check};
+use seq_memory::Extent;
 use std::alloc::Global;
 
 /// What a run did.
@@ -57,12 +58,8 @@ pub fn report_of(
         Ok(fabric) => fabric,
         Err(held) => return Err(RunHalt::Held(held)),
     };
-    let trace = Trace {
-        base: config.base,
-        size: config.size,
-        block: config.block,
-        records,
-    };
+    let extent = Extent::new(config.base, config.size, config.block).unwrap();
+    let trace = Trace { extent, records };
     match explained(alloc, &trace, &fabric) {
         Ok(()) if whole => Ok(Report { trace, fabric }),
         Ok(()) => Err(RunHalt::Missing),

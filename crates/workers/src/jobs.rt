@@ -7,7 +7,7 @@ use dllp_core::Class;
 use fabric_core::{LaneName, Refusal};
 use fault_plan::Plan;
 use hall_core::{Hall, HallRefusal, WorkEvent, WorkSeat};
-use lane_core::{DllpKind, LaneRefusal};
+use lane_core::DllpKind;
 use std::thread;
 use worker_turns::{
     COMPLETER, DOWN_LANES, Gate, INWARD_LANE, OUTWARD_LANE, RECEIVERS, SWITCH, Stop, Turns,
@@ -121,7 +121,7 @@ impl<'a> Worker<'a> {
             Ok(_seen) => Some(Tried::Done),
             Err(HallRefusal::Busy { .. }) => Some(Tried::Busy),
             Err(HallRefusal::Core(Refusal::Idle)) => Some(Tried::Idle),
-            Err(HallRefusal::Core(Refusal::Memory | Refusal::Lane(LaneRefusal::Memory))) => {
+            Err(HallRefusal::Core(refusal)) if refusal.is_memory() => {
                 turns.stop(Stop::Memory);
                 None
             }

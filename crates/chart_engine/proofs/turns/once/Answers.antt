@@ -26,8 +26,8 @@ returns-else-moved-clause-went c = goes_on c.args.fabric.now c.happen.new.fabric
 pub returns-in-Err-2-clause-state : goal.returns-in-Err-2-clause-state
 returns-in-Err-2-clause-state c =
     stays_now c.args.fabric.now c.happen.new.fabric c.args.chart.now c.args.moved.now c.args.line c.args.event.now c.in-Err.refusal
-    (c.in-Err.ensures.refused (c.is_memory.ensures c.if-is_memory.false)) c.in-Err.ensures.err
+    (c.in-Err.ensures.refused (sym c.is_memory.ensures ∙ c.if-is_memory.false)) c.in-Err.ensures.err
 
 pub returns-in-Err-2-clause-went : goal.returns-in-Err-2-clause-went
 returns-in-Err-2-clause-went c =
-    sym (refused_goes c.args.fabric.now c.args.chart.now c.args.moved.now c.args.event.now c.in-Err.refusal (c.in-Err.ensures.refused (c.is_memory.ensures c.if-is_memory.false)))
+    sym (refused_goes c.args.fabric.now c.args.chart.now c.args.moved.now c.args.event.now c.in-Err.refusal (c.in-Err.ensures.refused (sym c.is_memory.ensures ∙ c.if-is_memory.false)))

@@ -67,7 +67,7 @@ nothing-searched limit u w = record { read = []; consumed = consumes-nothing u; 
 
 -- nothing was done, and status 1 tells it
 undone : (r : Request) (input out : Option (List ℕ)) (exit : ℕ) → exit ≡ 1 → IsDone r input input out out exit
-undone (Tlp base size block) input out exit e = inr (e, nothing-done _ input out)
+undone (Tlp x) input out exit e = inr (e, nothing-done _ input out)
 undone Decode input out exit e = inr (e, nothing-done _ input out)
 undone Encode input out exit e = inr (e, nothing-done _ input out)
 undone Check input out exit e = inr (e, nothing-done _ input out)
@@ -123,7 +123,6 @@ refused_words faults.Nothing kinds_of status old new kind range told refused = n
 -- what is asked for can be done
 right_request : (o : Option (Text × List Row)) (r : Request) → Asks o r → IsRightRequest r
 right_request None r a = absurd a
-right_request (Some p) (Tlp base size block) a = a.1.memory
 right_request (Some p) (Generate storm) a = a.1.right
 right_request (Some p) (run_words counting is_told) a = a.1.right
 right_request (Some p) r a = tt

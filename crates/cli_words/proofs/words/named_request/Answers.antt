@@ -10,7 +10,7 @@ use Rattle.cli_words.proofs.words.named_request.Goals as goal
 
 -- the subcommand that asks for the request
 abbrev kind_of : Request → Subcommand
-kind_of (requests.Tlp base size block) = kinds.Tlp
+kind_of (requests.Tlp x) = kinds.Tlp
 kind_of requests.Decode = kinds.Decode
 kind_of requests.Encode = kinds.Encode
 kind_of requests.Check = kinds.Check
@@ -23,7 +23,7 @@ kind_of (requests.Generate storm) = kinds.Generate
 kind_of (requests.Run counting is_told) = kinds.Run
 
 named : (r : Request) → name_of r ≡ text_of (kind_of r)
-named (requests.Tlp base size block) = refl
+named (requests.Tlp x) = refl
 named requests.Decode = refl
 named requests.Encode = refl
 named requests.Check = refl

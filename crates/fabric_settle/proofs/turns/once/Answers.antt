@@ -44,10 +44,10 @@ returns-else-moved-clause-reached c =
 pub returns-in-Err-2-clause-state : goal.returns-in-Err-2-clause-state
 returns-in-Err-2-clause-state c =
     stays_now c.args.fabric.now c.step_recorded.new.self c.args.records.now.items c.try_reserve.new.self.items c.args.moved.now c.args.event.now c.in-Err.refusal
-    (c.each_event_has_one_answer.ensures.refused c.args.fabric.now c.args.event.now c.in-Err.refusal c.in-Err.ensures.refused (c.is_memory.ensures c.if-is_memory.false))
+    (c.each_event_has_one_answer.ensures.refused c.args.fabric.now c.args.event.now c.in-Err.refusal c.in-Err.ensures.refused (sym c.is_memory.ensures ∙ c.if-is_memory.false))
     c.in-Err.ensures.err c.try_reserve.ensures.items
 
 pub returns-in-Err-2-clause-went : goal.returns-in-Err-2-clause-went
 returns-in-Err-2-clause-went c =
     sym (refused_goes c.args.fabric.now c.args.records.now.items c.args.moved.now c.args.event.now c.in-Err.refusal
-    (c.each_event_has_one_answer.ensures.refused c.args.fabric.now c.args.event.now c.in-Err.refusal c.in-Err.ensures.refused (c.is_memory.ensures c.if-is_memory.false)))
+    (c.each_event_has_one_answer.ensures.refused c.args.fabric.now c.args.event.now c.in-Err.refusal c.in-Err.ensures.refused (sym c.is_memory.ensures ∙ c.if-is_memory.false)))

@@ -14,10 +14,10 @@ written_back n old new e1 e2 =
 pub loop-p-init : goal.loop-p-init
 loop-p-init c =
     let t = c.args.trace.now in
-    let size : c.trace.inside.size ≡ t.size = ap (λ (t : TraceView). t.size) c.trace.view_is in
+    let size : c.size.result ≡ t.size = c.size.ensures.value ∙ ap (λ (t : TraceView). t.size) c.trace.view_is in
     record {
       bytes = c.in_ok-bytes.ensures ∙ ap (λ n. replicate n 0) size ∙ sym (contents_none (observed t));
-      size = ap (length {A = ℕ}) c.in_ok-bytes.ensures ∙ length-replicate {A = ℕ} c.trace.inside.size 0 ∙ size;
+      size = ap (length {A = ℕ}) c.in_ok-bytes.ensures ∙ length-replicate {A = ℕ} c.size.result 0 ∙ size;
       len = search rules;
       right = λ q l. absurd (omega arith);
     }

@@ -4,8 +4,8 @@ pub returns-in-Ok-clause-ok : goal.returns-in-Ok-clause-ok
 returns-in-Ok-clause-ok c = record {
   packet = c.in-Some.tlp.now;
   mark = c.in-Some.mark;
-  takeable = let value = c.takeable.ensures in let no = c.if-not-takeable.false in cc;
-  there = c.in-Some.ensures.item;
+  takeable = c.in-Some.ensures.item.0;
+  there = c.in-Some.ensures.item.1;
   may = c.in-Ok.ensures.may;
   spelled = c.in-Ok.ensures.spelled;
   sent = c.in-Ok.ensures.ok;

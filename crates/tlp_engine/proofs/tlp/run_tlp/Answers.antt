@@ -41,7 +41,7 @@ OnErr-weaker (Err e) go h = go h
 
 pub returns-in_err-completer-clause-err : goal.returns-in_err-completer-clause-err
 returns-in_err-completer-clause-err g c =
-    on_err c.from_residual.result (nothing-done (out_tlp c.args.base c.args.size c.args.block) (g.R.Read.remaining c.args.reader.now) (g.W.Write.contents c.args.writer.now))
+    on_err c.from_residual.result (nothing-done (out_tlp c.args.extent) (g.R.Read.remaining c.args.reader.now) (g.W.Write.contents c.args.writer.now))
 
 pub returns-in_err-completer-clause-read : goal.returns-in_err-completer-clause-read
 returns-in_err-completer-clause-read g c =
@@ -50,15 +50,15 @@ returns-in_err-completer-clause-read g c =
 
 pub returns-clause-ok : goal.returns-clause-ok
 returns-clause-ok g c =
-    let same = same-runs c.args.base c.args.size c.args.block c.reading_is_spelling.ensures.spelled c.history_grows_by_steps.ensures.next c.history_grows_by_steps.ensures.none in
-    IfOk-weaker c.run.result _ _ (λ exit h. whole c.args.base c.args.size c.args.block c.in_ok-completer.completer same c.in_ok-completer.ensures h) c.run.ensures.ok
+    let same = same-runs c.args.extent c.reading_is_spelling.ensures.spelled c.history_grows_by_steps.ensures.next c.history_grows_by_steps.ensures.none in
+    IfOk-weaker c.run.result _ _ (λ exit h. whole c.args.extent c.in_ok-completer.completer same c.in_ok-completer.ensures h) c.run.ensures.ok
 
 pub returns-clause-err : goal.returns-clause-err
 returns-clause-err g c =
-    let same = same-runs c.args.base c.args.size c.args.block c.reading_is_spelling.ensures.spelled c.history_grows_by_steps.ensures.next c.history_grows_by_steps.ensures.none in
-    OnErr-weaker c.run.result (λ h. part c.args.base c.args.size c.args.block c.in_ok-completer.completer same c.in_ok-completer.ensures h) c.run.ensures.err
+    let same = same-runs c.args.extent c.reading_is_spelling.ensures.spelled c.history_grows_by_steps.ensures.next c.history_grows_by_steps.ensures.none in
+    OnErr-weaker c.run.result (λ h. part c.args.extent c.in_ok-completer.completer same c.in_ok-completer.ensures h) c.run.ensures.err
 
 pub returns-clause-read : goal.returns-clause-read
 returns-clause-read g c =
-    let same = same-runs c.args.base c.args.size c.args.block c.reading_is_spelling.ensures.spelled c.history_grows_by_steps.ensures.next c.history_grows_by_steps.ensures.none in
-    IfErr-weaker c.run.result _ _ (λ f h is. caught-up c.args.base c.args.size c.args.block c.in_ok-completer.completer same c.in_ok-completer.ensures (h is)) c.run.ensures.read
+    let same = same-runs c.args.extent c.reading_is_spelling.ensures.spelled c.history_grows_by_steps.ensures.next c.history_grows_by_steps.ensures.none in
+    IfErr-weaker c.run.result _ _ (λ f h is. caught-up c.args.extent c.in_ok-completer.completer same c.in_ok-completer.ensures (h is)) c.run.ensures.read

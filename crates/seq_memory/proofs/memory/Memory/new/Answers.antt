@@ -1,5 +1,11 @@
-use Rattle.seq_memory.proofs.Histories.{begins}
+use Rattle.std.proofs.Common.{◌∙◌, ap, ℕ, List, sym}
+use Rattle.std.specs.Prelude.{replicate}
+use Rattle.seq_memory.specs.History.{contents}
+use Rattle.seq_memory.specs.declared.Entry.{Entry}
+use Rattle.seq_memory.proofs.Histories.{contents-none}
 use Rattle.seq_memory.proofs.memory.Memory.new.Goals as goal
 
 pub invariant_of-result : goal.invariant_of-result
-invariant_of-result c = begins c.args.base c.args.size c.args.block c.in_ok-bytes.bytes.items c.new.result.items c.in_ok-bytes.ensures.items c.in_ok-bytes.ensures.len c.new.ensures.items c.requires.size c.requires.base c.requires.block
+invariant_of-result c =
+    c.in_ok-bytes.ensures.items ∙ ap (λ (n : ℕ). replicate n 0) c.size.ensures.value ∙ sym (contents-none c.args.extent)
+    ∙ ap (λ (es : List Entry). contents c.args.extent es) (sym c.new.ensures.items)
