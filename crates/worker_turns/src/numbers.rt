@@ -12,8 +12,10 @@ pub const INWARD_LANE: u32 = 22;
 /// The sender of `out`.
 pub const OUTWARD_LANE: u32 = 23;
 
+/// The worker of the switch.
 pub const SWITCH: u32 = 24;
 
+/// The worker of the completer.
 pub const COMPLETER: u32 = 25;
 
 /// A lane's receiver has its sender's number and this much more.

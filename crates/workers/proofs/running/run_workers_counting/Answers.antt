@@ -1,4 +1,4 @@
-use Rattle.std.proofs.Common.{ap, sym, subst, length, rules, arith}
+use Rattle.std.proofs.Common.{sym, subst, rules, arith}
 use Rattle.worker_report.specs.Halts.{IsCause}
 use Rattle.workers.proofs.Beginning.{first_seats, work_seats, stopped}
 use Rattle.workers.proofs.running.run_workers_counting.Goals as goal
@@ -11,12 +11,11 @@ run_threads-gathered-requires-clause-crew g c κs within =
     let number = c.in-Ok.ensures.requesters.number in
     let count = has.requesters in
     let made = new.requesters.number in
-    let scripts = c.as_slice.ensures.value in
     let same = plan.1 in
     let few = plan.0.requesters.1 in
     record {
-      count = omega (arith, c.in-Ok.seats.ok.0, ap length scripts);
-      few = omega (arith, ap length scripts);
+      count = omega (arith, c.in-Ok.seats.ok.0);
+      few = omega arith;
       seats = first_seats c.in-Ok.hall c.in-Ok.seats.items c.in-Ok.ensures.requesters;
       requesters = omega arith;
       workers = work_seats c.in-Ok.hall _ _ c.in-Ok.workers.items c.in-Ok.ensures.work;
