@@ -16,7 +16,7 @@ use std::marker::Model;
 pub struct Slot {
     at: *mut (),
     alloc: Global,
-    pub ghost memory: { Option State } by { memory_coded },
+    pub ghost memory: { Option MemoryView } by { memory_coded },
 }
 
 impl Model for Slot {
