@@ -1,6 +1,9 @@
-use Rattle.std.proofs.Common.{refl}
+use Rattle.std.proofs.Common.{ap}
+use Rattle.seq_memory.specs.Limits.{Extent}
 use Rattle.worker_report.proofs.Ends.{flaw_ends}
 use Rattle.worker_report.proofs.report.report_of.Goals as goal
 
 pub returns-in-Err-explained-clause-halt : goal.returns-in-Err-explained-clause-halt
-returns-in-Err-explained-clause-halt c = flaw_ends c.args.config _ _ c.in-Err-explained.halt (refl, refl, refl) c.in-Err-explained.ensures.flaw
+returns-in-Err-explained-clause-halt c =
+    let is = c.extent_of.ensures in
+    flaw_ends c.args.config _ _ c.in-Err-explained.halt (ap (λ (x : Extent). x.base) is, ap (λ (x : Extent). x.size) is, ap (λ (x : Extent). x.block) is) c.in-Err-explained.ensures.flaw
