@@ -1,4 +1,4 @@
-use Rattle.std.proofs.Common.{◌≡◌, ◌∙◌, arith, refl, codes, inl, inr, ℕ, true, false, is_some, None}
+use Rattle.std.proofs.Common.{◌≡◌, ◌∙◌, arith, refl, sym, ap, codes, inl, inr, ℕ, is_some}
 use Rattle.std.specs.Prelude.{◌==◌}
 use Rattle.std.proofs.lemmas.Bool.{cases_Bool}
 use Rattle.std.proofs.lemmas.Bool.Decides.{nat_tests}
@@ -21,18 +21,17 @@ pub returns-in-None-clause-err : goal.returns-in-None-clause-err
 returns-in-None-clause-err c =
     let base = c.in_ok-base.base in
     let size = c.in_ok-size.size in
-    let block = c.in_ok-block.field-0 in
     let given = c.get_str.ensures ∙ first_value-rows (found_of c.args.tlp.now) (codes "base") in
     let s = c.in_ok-size.ensures.ok.1 in
-    let in_block = block_among block c.in_ok-block.ensures.ok.1 in
-    let never : IsBase base size → ⊥ = λ m. let yes = c.new.ensures.limits.1 (record { in_size = (s.least, s.most, s.multiple); in_base = m; in_block = in_block }) in cc in (
+    let in_block = block_among _ c.in_ok-block.ensures.ok.1 in
+    let never : IsBase base size → ⊥ = λ m. cc (sym (c.new.ensures.limits.1 (record { in_size = (s.least, s.most, s.multiple); in_base = m; in_block = in_block })) ∙ ap is_some c.in-None.is) in (
       given,
       inl (
         refl,
         inr (inr (
           refl,
           (base, c.in_ok-base.ensures.ok),
-          ((size, c.in_ok-size.ensures.ok), ((block, c.in_ok-block.ensures.ok), tt)),
+          ((size, c.in_ok-size.ensures.ok), ((_, c.in_ok-block.ensures.ok), tt)),
           λ b s gives_b gives_s ends.
               let same_b : b ≡ base = same_base _ b base gives_b.0 c.in_ok-base.ensures.ok.0 in
               let same_s : s ≡ size = same_number 4096 _ s size gives_s.0 c.in_ok-size.ensures.ok.0 in
