@@ -36,14 +36,6 @@ fn explained(alloc: Global, trace: &Trace, fabric: &Fabric) -> Result<(), RunHal
     }
 }
 
-/// Where the memory of this configuration lies.
-fn extent_of(config: &Config) -> Extent
-    requires { IsConfig config.now }
-    ensures { result ≡ record { base = config.now.base; size = config.now.size; block = config.now.block } }
-{
-    Extent::new(config.base, config.size, config.block).unwrap()
-}
-
 /// The report of a run, where its history explains its trace and all is answered. The hall is closed by one
 /// of its requesters' seats. The halts are `Held`, then `Flaw` or `Memory`, then `Missing`.
 pub fn report_of(
@@ -66,10 +58,8 @@ pub fn report_of(
         Ok(fabric) => fabric,
         Err(held) => return Err(RunHalt::Held(held)),
     };
-    let trace = Trace {
-        extent: extent_of(&config),
-        records,
-    };
+    let extent = Extent::new(config.base, config.size, config.block).unwrap();
+    let trace = Trace { extent, records };
     match explained(alloc, &trace, &fabric) {
         Ok(()) if whole => Ok(Report { trace, fabric }),
         Ok(()) => Err(RunHalt::Missing),
