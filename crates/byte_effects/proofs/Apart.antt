@@ -9,7 +9,7 @@ use Rattle.seq_memory.specs.declared.Refusal.{Refusal}
 use Rattle.seq_memory.specs.declared.Refusal.TheVariants as refusals
 use Rattle.seq_memory.specs.declared.Reply.{Reply}
 use Rattle.seq_memory.specs.Step.{bytes_at, read_back, place_after, answer, answer_by, after, refusal}
-use Rattle.byte_effects.specs.Effects.{AreApart}
+use Rattle.byte_effects.specs.Effects.{AreApart, AreSameAt}
 use Rattle.byte_effects.proofs.Places.{inside, byte_there, length_place}
 
 abbrev pub Others : Type 0
@@ -19,7 +19,7 @@ abbrev pub Sizes : Type 0
 Sizes = (base block : ℕ) (m : List ℕ) (op : Op) → length (after base block m op) ≡ length m
 
 -- in the operation's place, or not
-where_is : (a c b : ℕ) → ((a ≤ b) × (b < a + c)) ⊎ ((b < a) ⊎ (a + c ≤ b))
+pub where_is : (a c b : ℕ) → ((a ≤ b) × (b < a + c)) ⊎ ((b < a) ⊎ (a + c ≤ b))
 where_is a c b = elim (cases_lt b a) [
   | inl low ↦ inr (inl low)
   | inr up ↦ elim (cases_lt b (a + c)) [
@@ -42,6 +42,26 @@ Refused = (base block : ℕ) (m : List ℕ) (op : Op) (r : Refusal) → refusal 
 pub served_or_not : (P : Type 0) (o : Option Refusal) → (o ≡ None → P) → ((r : Refusal) → o ≡ Some r → P) → P
 served_or_not P None p q = p refl
 served_or_not P (Some r) p q = q r refl
+
+-- the bytes at a request's addresses are those that it meets
+met_alike : (base block : ℕ) (m n : List ℕ) (op : Op) → length n ≡ length m → AreSameAt base op m n → refusal base (length m) block op ≡ None
+    → bytes_at n (address_of op - base) (count_of op) ≡ bytes_at m (address_of op - base) (count_of op)
+met_alike base block m n op size same served =
+    let i = address_of op - base in
+    let c = count_of op in
+    let (low, high) = inside base block (length m) op served in
+    let in_m : length (bytes_at m i c) ≡ c = length_place m i c (omega (arith, low, high)) in
+    let in_n : length (bytes_at n i c) ≡ c = length_place n i c (omega (arith, low, high, size)) in
+    same_number_lists (bytes_at n i c) (bytes_at m i c) (in_n ∙ sym in_m) (λ k h.
+    let below : k < c = omega (arith, h, in_n) in
+    byte_there n i c k below ∙ same (i + k) (omega (arith, low)) (omega (arith, low, below)) ∙ sym (byte_there m i c k below))
+
+pub same_answer : (base block : ℕ) (m n : List ℕ) (op : Op) → length n ≡ length m → AreSameAt base op m n → answer base block n op ≡ answer base block m op
+same_answer base block m n op size same =
+    let i = address_of op - base in
+    ap (λ z. answer_by (refusal base z block op) (read_back op (bytes_at n i (count_of op)))) size
+    ∙ answers_alike (refusal base (length m) block op) (read_back op (bytes_at n i (count_of op))) (read_back op (bytes_at m i (count_of op)))
+    (λ served. ap (read_back op) (met_alike base block m n op size same served))
 
 module _ (others : Others) (sizes : Sizes) where
   -- the bytes at a place are the same after a request that has none of them
@@ -102,6 +122,10 @@ module _ (others : Others) (sizes : Sizes) where
           ap (λ xs. slice_index xs k) (refused base block n op r in_n) ∙ there ∙ sym (ap (λ xs. slice_index xs k) (refused base block m op r not_served)))
       | inr out ↦ others base block k n op out ∙ there ∙ sym (others base block k m op out)
     ]
+
+    pub same_byte : (base block k : ℕ) (m n : List ℕ) (op : Op) → length n ≡ length m → AreSameAt base op m n → slice_index n k ≡ slice_index m k
+        → slice_index (after base block n op) k ≡ slice_index (after base block m op) k
+    same_byte base block k m n op size same there = alike base block m n op k size there (λ served. met_alike base block m n op size same served)
 
     turned : (one other : Op) → AreApart one other → AreApart other one
     turned one other (inl before) = inr before

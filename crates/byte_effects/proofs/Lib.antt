@@ -5,3 +5,4 @@ pub mod Leaving
 pub mod Yielding
 pub mod Enabling
 pub mod WaitingOf
+pub mod Written

@@ -10,7 +10,7 @@ use Rattle.seq_memory.specs.declared.Refusal.TheVariants as refusals
 use Rattle.seq_memory.specs.declared.Reply.{Reply}
 use Rattle.seq_memory.specs.declared.Reply.TheVariants as replies
 use Rattle.seq_memory.specs.Step.{bytes_at, read_back, answer, answer_by, after, refusal}
-use Rattle.byte_effects.specs.Effects.{Agrees, AreApart, is_needed, is_put}
+use Rattle.byte_effects.specs.Effects.{Agrees, AreApart, AreSameAt, is_needed, is_put}
 use Rattle.byte_effects.proofs.Places.{inside, data_served}
 use Rattle.byte_effects.proofs.Apart.{Sizes, Refused, served_or_not}
 
@@ -27,13 +27,16 @@ low_of base block m op d e =
     (inside base block (length m) op (data_served (refusal base (length m) block op) (read_back op (bytes_at m (address_of op - base) (count_of op))) d e).0).0
 
 -- the first leaves another byte than the second needs
-pub broken : Needed → (base block : ℕ) (m : List ℕ) (one other : Op) (new : List ℕ) (need : ArrayVec ℕ) (i at : ℕ)
+pub broken : Needed → (base block : ℕ) (m n : List ℕ) (one other : Op) (new : List ℕ) (need : ArrayVec ℕ) (i at : ℕ)
     → (slice_index (after base block m one) (address_of one - base + i) ≡ slice_index new i) → refusal base (length m) block one ≡ None
+    → AreSameAt base one (after base block m one) n → i < count_of one
     → address_of one + i ≡ address_of other + at → is_needed other at ≡ true → at < length need.items → slice_index new i ≢ slice_index need.items at
-    → answer base block (after base block m one) other ≡ replies.Data need → ⊥
-broken needed base block m one other new need i at left served same there short differ e =
-    let place = same_place base (address_of one) i (address_of other) at (inside base block (length m) one served).0 (low_of base block (after base block m one) other need e) same in
-    differ (sym left ∙ ap (slice_index (after base block m one)) place ∙ needed base block at (after base block m one) other need there e short)
+    → answer base block n other ≡ replies.Data need → ⊥
+broken needed base block m n one other new need i at left served kept inner same there short differ e =
+    let low : base ≤ address_of one = (inside base block (length m) one served).0 in
+    let place = same_place base (address_of one) i (address_of other) at low (low_of base block n other need e) same in
+    let still : slice_index n (address_of one - base + i) ≡ slice_index (after base block m one) (address_of one - base + i) = kept (address_of one - base + i) (omega (arith, low)) (omega (arith, low, inner)) in
+    differ (sym left ∙ sym still ∙ ap (slice_index n) place ∙ needed base block at n other need there e short)
 
 -- they need different bytes
 pub clashing : Needed → (base block : ℕ) (m : List ℕ) (one other : Op) (old need : ArrayVec ℕ) (i at : ℕ)
@@ -43,15 +46,15 @@ clashing needed base block m one other old need i at same here first there short
     let place = same_place base (address_of one) i (address_of other) at (low_of base block m one old e) (low_of base block m other need f) same in
     differ (sym (needed base block i m one old here e first) ∙ ap (slice_index m) place ∙ needed base block at m other need there f short)
 
-pub broken_by : Needed → (base block : ℕ) (m : List ℕ) (one other : Op) (told : Option Reply) (left new : List ℕ) (asked : ArrayVec ℕ) (need : List ℕ) (reply : Reply)
+pub broken_by : Needed → (base block : ℕ) (m n : List ℕ) (one other : Op) (told : Option Reply) (left new : List ℕ) (asked : ArrayVec ℕ) (need : List ℕ) (reply : Reply)
     → ((at : ℕ) (m : List ℕ) → at < length left → is_put one at ≡ true → refusal base (length m) block one ≡ None → Agrees base block m one told → slice_index (after base block m one) (address_of one - base + at) ≡ slice_index left at)
     → new ≡ left → need ≡ asked.items → reply ≡ replies.Data asked
-    → ((at : ℕ) × (i : ℕ) × (address_of one + i ≡ address_of other + at) × (i < length new) × (is_put one i ≡ true) × (at < length need) × (is_needed other at ≡ true) × (slice_index new i ≢ slice_index need at))
-    → refusal base (length m) block one ≡ None → Agrees base block m one told → answer base block (after base block m one) other ≡ reply → ⊥
-broken_by needed base block m one other told left new asked need reply leaves en ed er (at, i, same, inside, put, short, there, differ) served agrees e =
+    → ((at : ℕ) × (i : ℕ) × (address_of one + i ≡ address_of other + at) × (i < length new) × (is_put one i ≡ true) × (at < length need) × (is_needed other at ≡ true) × (slice_index new i ≢ slice_index need at) × (i < count_of one))
+    → refusal base (length m) block one ≡ None → Agrees base block m one told → AreSameAt base one (after base block m one) n → answer base block n other ≡ reply → ⊥
+broken_by needed base block m n one other told left new asked need reply leaves en ed er (at, i, same, inside, put, short, there, differ, inner) served agrees kept e =
     let first : slice_index (after base block m one) (address_of one - base + i) ≡ slice_index new i =
     leaves i m (subst (λ (xs : List ℕ). i < length xs) en inside) put served agrees ∙ sym (ap (λ xs. slice_index xs i) en) in
-    broken needed base block m one other new asked i at first served same there (subst (λ (xs : List ℕ). at < length xs) ed short)
+    broken needed base block m n one other new asked i at first served kept inner same there (subst (λ (xs : List ℕ). at < length xs) ed short)
     (λ f. differ (f ∙ sym (ap (λ xs. slice_index xs at) ed))) (e ∙ er)
 
 pub clashing_by : Needed → (base block : ℕ) (m : List ℕ) (one other : Op) (seen : ArrayVec ℕ) (old : List ℕ) (asked : ArrayVec ℕ) (need : List ℕ) (told reply : Reply)

@@ -41,3 +41,8 @@ AreApart one other = (address_of one + count_of one ≤ address_of other) ⊎ (a
 -- the bytes at the operation's addresses are the same
 abbrev pub AreSameAt : ℕ → Op → List ℕ → List ℕ → Type 0
 AreSameAt base op m n = (k : ℕ) → address_of op ≤ base + k → base + k < address_of op + count_of op → slice_index n k ≡ slice_index m k
+
+-- the bytes but for those at the operation's addresses are the same, and as many
+pub record AreSameBut (base : ℕ) (op : Op) (m n : List ℕ) : Type 0 where
+  pub size : length n ≡ length m
+  pub others : (k : ℕ) → (base + k < address_of op) ⊎ (address_of op + count_of op ≤ base + k) → slice_index n k ≡ slice_index m k

@@ -25,3 +25,14 @@ pub fn apart_requests_commute()
     only_the_place_changes();
     refused_and_read_change_nothing();
 }
+
+/// What the memory answers depends on the bytes at the request's addresses, and what it makes of
+/// another byte on that byte, too.
+#[tactic(auto, using(crate::proofs::Apart::same_answer, crate::proofs::Apart::same_byte))]
+pub fn a_request_sees_its_addresses()
+    ensures answer { (base block : ℕ) (m n : List ℕ) (op : Op) → length n ≡ length m → effects.AreSameAt base op m n → answer base block n op ≡ answer base block m op }
+    ensures after { (base block k : ℕ) (m n : List ℕ) (op : Op) → length n ≡ length m → effects.AreSameAt base op m n → slice_index n k ≡ slice_index m k → slice_index (after base block n op) k ≡ slice_index (after base block m op) k }
+{
+    only_the_place_changes();
+    refused_and_read_change_nothing();
+}

@@ -1,10 +1,10 @@
 //! Two requests.
 ghost use Rattle.std.specs.Prelude.{◌≡◌, ◌+◌, ◌<◌, ◌≢◌, ◌⊎◌, ℕ, true, None, List, length, IsTrue, slice_index};
-ghost use Rattle.tlp_core.specs.Operation.{address_of};
+ghost use Rattle.tlp_core.specs.Operation.{address_of, count_of};
 ghost use Rattle.seq_memory.specs.Limits.{IsBlock};
 ghost use Rattle.seq_memory.specs.Step.{refusal, after, answer};
 ghost use Rattle.byte_effects.specs.Effects as effects;
-ghost use Rattle.byte_effects.specs.Effects.{Agrees};
+ghost use Rattle.byte_effects.specs.Effects.{Agrees, AreSameAt};
 
 use crate::laws::{apart_requests_commute, what_is_needed_is_there};
 use crate::puts::{is_read, left};
@@ -15,17 +15,22 @@ use tlp_core::Op;
 
 /// The first operation puts another byte at the place of the second than the second needs.
 fn puts_other(one: &Op, new: &[u8], other: &Op, need: &[u8], at: usize) -> bool
-    ensures { IsTrue result → (i : ℕ) × (address_of one.now + i ≡ address_of other.now + at) × (i < length new.now) × (effects.is_put one.now i ≡ true) × (at < length need.now) × (effects.is_needed other.now at ≡ true) × (slice_index new.now i ≢ slice_index need.now at) }
+    ensures { IsTrue result → (i : ℕ) × (address_of one.now + i ≡ address_of other.now + at) × (i < length new.now) × (effects.is_put one.now i ≡ true) × (at < length need.now) × (effects.is_needed other.now at ≡ true) × (slice_index new.now i ≢ slice_index need.now at) × (i < count_of one.now) }
 {
     let Some(i) = place_in(one, other, at) else {
         return false;
     };
-    i < new.len() && at < need.len() && new[i] != need[at] && is_put(one, i) && is_needed(other, at)
+    i < new.len()
+        && i < one.size() as usize
+        && at < need.len()
+        && new[i] != need[at]
+        && is_put(one, i)
+        && is_needed(other, at)
 }
 
 /// It does so at some place.
 fn some_put_other(one: &Op, new: &[u8], other: &Op, need: &[u8]) -> bool
-    ensures { IsTrue result → (at : ℕ) × (i : ℕ) × (address_of one.now + i ≡ address_of other.now + at) × (i < length new.now) × (effects.is_put one.now i ≡ true) × (at < length need.now) × (effects.is_needed other.now at ≡ true) × (slice_index new.now i ≢ slice_index need.now at) }
+    ensures { IsTrue result → (at : ℕ) × (i : ℕ) × (address_of one.now + i ≡ address_of other.now + at) × (i < length new.now) × (effects.is_put one.now i ≡ true) × (at < length need.now) × (effects.is_needed other.now at ≡ true) × (slice_index new.now i ≢ slice_index need.now at) × (i < count_of one.now) }
 {
     for at in 0..need.len() {
         if puts_other(one, new, other, need, at) {
@@ -35,11 +40,11 @@ fn some_put_other(one: &Op, new: &[u8], other: &Op, need: &[u8]) -> bool
     false
 }
 
-/// Right after `one`, which is served and was answered `told` or not at all, the memory doesn't
-/// answer `reply` to `other`.
+/// After `one`, which is served and was answered `told` or not at all, the memory doesn't answer
+/// `reply` to `other` while the bytes in the range of `one` are as it left them.
 pub fn breaks(block: u16, one: &Op, told: &Option<Reply>, other: &Op, reply: &Reply) -> bool
     requires { IsBlock block }
-    ensures { IsTrue result → (base : ℕ) (m : List ℕ) → refusal base (length m) block one.now ≡ None → Agrees base block m one.now told.now → answer base block (after base block m one.now) other.now ≡ reply.now → ⊥ }
+    ensures { IsTrue result → (base : ℕ) (m n : List ℕ) → refusal base (length m) block one.now ≡ None → Agrees base block m one.now told.now → AreSameAt base one.now (after base block m one.now) n → answer base block n other.now ≡ reply.now → ⊥ }
 {
     what_is_needed_is_there();
     let Reply::Data(need) = reply else {

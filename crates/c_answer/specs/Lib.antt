@@ -1,2 +1,2 @@
 pub mod Call
-pub use Rattle.c_buffer.specs.Room
+pub use Rattle.c_buffer.specs.Buffer

@@ -4,4 +4,4 @@
 
 mod device;
 
-pub use device::{MAX_COMPLETION, answer_bytes, put_completion};
+pub use device::{MAX_COMPLETION, answer_bytes, tell_completion};

@@ -1,4 +1,4 @@
-//! The checker of histories over texts and rooms: the text of a trace in, the line that `pciex check`
+//! The checker of histories over texts and buffers: the text of a trace in, the line that `pciex check`
 //! prints of it out.
 #![tactic(auto)]
 

@@ -1,5 +1,5 @@
--- The calls of a device with a history: what its memory and the caller's room hold after them, and their codes.
-use Rattle.std.specs.Prelude.{ℕ, ◌≡◌, ◌+◌, ◌≤◌, ◌==◌, ◌||◌, not, false, nat_lt, if◌then◌else◌, List, ◌∷◌, ◌++◌, length, slice_get, Option, Some, None, Result, Ok, Err}
+-- The calls of a device with a history: what its memory and the caller's buffer hold after them, and what they return.
+use Rattle.std.specs.Prelude.{ℕ, ⊤, ◌≡◌, ◌≤◌, not, false, nat_lt, if◌then◌else◌, List, ◌∷◌, ◌++◌, length, slice_get, Option, Some, None, Result, Ok, Err}
 use Rattle.std.specs.Fmt.{decimal}
 use Rattle.tlp_core.specs.declared.fault.TlpFault.{TlpFault}
 use Rattle.tlp_core.specs.Fault.{number_of}
@@ -8,56 +8,57 @@ use Rattle.tlp_core.specs.Layout.{canonical}
 use Rattle.tlp_core.specs.TlpView.{TlpView}
 use Rattle.tlp_core.specs.Operation.{is_completion}
 use Rattle.seq_memory.specs.declared.Entry.{Entry}
-use Rattle.seq_memory.specs.History.{MemoryView, bytes_of}
-use Rattle.seq_memory.specs.Limits.{is_size, is_base}
+use Rattle.seq_memory.specs.History.{MemoryView}
+use Rattle.seq_memory.specs.Limits.{is_size, is_base, is_block}
 use Rattle.completer_core.specs.Serving.{after_serving, completion_to}
 use Rattle.operation_text.specs.Texts.{op_text}
-use Rattle.c_buffer.specs.declared.TheConstants.{SMALL_ROOM, WRONG_BLOCK, NO_REQUEST, WRONG_SIZE, WRONG_BASE, NO_ENTRY}
-use Rattle.c_buffer.specs.Room.{filled, Told, untold, told}
+use Rattle.c_buffer.specs.declared.outcome.Failure.{Failure}
+use Rattle.c_buffer.specs.declared.outcome.Failure.TheVariants as failures
+use Rattle.c_buffer.specs.Buffer.{filled, Told, untold, told}
 
 -- ---- making
 
--- the code of the first limit that is not kept, or 0
-abbrev pub wrong_limits : ℕ → ℕ → ℕ → ℕ
-wrong_limits base size block =
-    if not (is_size size) then WRONG_SIZE
-    else (if not (is_base base size) then WRONG_BASE
-    else (if (block == 64) || (block == 128) then 0 else WRONG_BLOCK))
+-- the first limit that is not kept, if there is one
+abbrev pub limits : ℕ → ℕ → ℕ → Result ⊤ Failure
+limits base size block =
+    if not (is_size size) then Err failures.WrongSize
+    else (if not (is_base base size) then Err failures.WrongBase
+    else (if is_block block then Ok tt else Err failures.WrongBlock))
 
 -- ---- serving
 
 pub record Service : Type 0 where
-  pub code : ℕ
+  pub outcome : Result ℕ Failure
   pub memory : MemoryView
-  pub room : List ℕ
+  pub buffer : List ℕ
 
 -- nothing changes
-abbrev pub refused : ℕ → MemoryView → List ℕ → Service
-refused code s room = record { code = code; memory = s; room = room }
+abbrev pub refused : Failure → MemoryView → List ℕ → Service
+refused failure s buffer = record { outcome = Err failure; memory = s; buffer = buffer }
 
--- the completion stands in the room, if there is one
+-- the completion stands in the buffer, if there is one
 abbrev pub answered : MemoryView → List ℕ → Option TlpView → Service
-answered s room None = record { code = 0; memory = s; room = room }
-answered s room (Some c) = record { code = length (canonical c); memory = s; room = filled room (canonical c) }
+answered s buffer None = record { outcome = Ok 0; memory = s; buffer = buffer }
+answered s buffer (Some c) = record { outcome = Ok (length (canonical c)); memory = s; buffer = filled buffer (canonical c) }
 
 -- a packet is served if it is a request
 abbrev pub served : MemoryView → ℕ → List ℕ → TlpView → Service
-served s number room t =
-    if is_completion t.kind then refused NO_REQUEST s room
-    else answered (after_serving s t number) room (completion_to s t)
+served s number buffer t =
+    if is_completion t.kind then refused failures.NoRequest s buffer
+    else answered (after_serving s t number) buffer (completion_to s t)
 
 abbrev pub read : MemoryView → ℕ → List ℕ → Result TlpView TlpFault → Service
-read s number room (Err f) = refused (1000 + number_of f) s room
-read s number room (Ok t) = served s number room t
+read s number buffer (Err f) = refused (failures.Fault (number_of f)) s buffer
+read s number buffer (Ok t) = served s number buffer t
 
--- the room is tested first, then the packet
+-- the buffer is tested first, then the packet
 abbrev pub service : MemoryView → ℕ → List ℕ → List ℕ → Service
-service s number packet room =
-    if nat_lt (length room) 144 then refused SMALL_ROOM s room else read s number room (reading packet)
+service s number packet buffer =
+    if nat_lt (length buffer) 144 then refused failures.SmallBuffer s buffer else read s number buffer (reading packet)
 
--- there is nothing to refuse but memory: the room is large enough, and the bytes spell a request
+-- there is nothing to refuse but memory: the buffer is large enough, and the bytes spell a request
 abbrev pub IsRequestCall : List ℕ → List ℕ → Type 0
-IsRequestCall packet room = (144 ≤ length room) × (t : TlpView) × (reading packet ≡ Ok t) × (is_completion t.kind ≡ false)
+IsRequestCall packet buffer = (144 ≤ length buffer) × (t : TlpView) × (reading packet ≡ Ok t) × (is_completion t.kind ≡ false)
 
 -- ---- what is held
 
@@ -65,15 +66,10 @@ IsRequestCall packet room = (144 ≤ length room) × (t : TlpView) × (reading p
 abbrev pub entry_text : Entry → List ℕ
 entry_text e = decimal e.requester ++ 32 ∷ decimal e.number ++ 32 ∷ op_text e.op
 
-abbrev pub found : List ℕ → Option Entry → Told
-found room None = untold room NO_ENTRY
-found room (Some e) = told room (entry_text e)
+abbrev pub found : List ℕ → Option Entry → Told ℕ
+found buffer None = untold buffer (Err failures.NoEntry)
+found buffer (Some e) = told buffer (entry_text e)
 
-abbrev pub entry_told : List Entry → ℕ → List ℕ → Told
-entry_told entries place room =
-    if nat_lt (length room) 512 then untold room SMALL_ROOM else found room (slice_get entries place)
-
-abbrev pub bytes_told : MemoryView → List ℕ → Told
-bytes_told s room =
-    if nat_lt (length room) (length (bytes_of s)) then untold room SMALL_ROOM
-    else record { code = 0; room = filled room (bytes_of s) }
+abbrev pub entry_told : List Entry → ℕ → List ℕ → Told ℕ
+entry_told entries index buffer =
+    if nat_lt (length buffer) 512 then untold buffer (Err failures.SmallBuffer) else found buffer (slice_get entries index)

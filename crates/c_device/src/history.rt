@@ -1,13 +1,13 @@
 //! What a device holds.
-ghost use Rattle.std.specs.Prelude.{◌≡◌, ◌≤◌, Some, length};
+ghost use Rattle.std.specs.Prelude.{◌≡◌, ◌≤◌, Some, IsErr, length};
 ghost use Rattle.arrayvec.specs.ArrayString.{array_string_len};
-ghost use Rattle.seq_memory.specs.History.{MemoryView};
-ghost use Rattle.c_buffer.specs.Room.{filled};
-ghost use Rattle.c_device.specs.Calls.{entry_text, entry_told, bytes_told};
+ghost use Rattle.seq_memory.specs.History.{MemoryView, bytes_of};
+ghost use Rattle.c_buffer.specs.Buffer.{filled, copied};
+ghost use Rattle.c_device.specs.Calls.{entry_text, entry_told};
 
 use crate::slot::{Slot, close, open};
 use arrayvec::ArrayString;
-use c_buffer::{LINE_ROOM, NO_ENTRY, SMALL_ROOM, fill};
+use c_buffer::{Failure, LINE_BUFFER, Length, copy, tell};
 use operation_text::{write_decimal, write_op};
 use seq_memory::{Entry, Memory};
 
@@ -24,43 +24,29 @@ fn write_entry(entry: &Entry, text: &mut ArrayString<512>)
     write_op(&entry.op, text);
 }
 
-/// Puts the text of an entry to the front of the room.
-fn put_entry(entry: &Entry, room: &mut [u8]) -> u32
-    requires { 512 ≤ length room.old }
-    ensures code { result ≡ length (entry_text entry.now) }
-    ensures range { result ≤ 400 }
-    ensures room { room.new ≡ filled room.old (entry_text entry.now) }
+/// Puts the text of an entry to the front of the buffer.
+fn put_entry(entry: &Entry, buffer: &mut [u8]) -> Length
+    requires { 512 ≤ length buffer.old }
+    ensures length { result ≡ length (entry_text entry.now) }
+    ensures buffer { buffer.new ≡ filled buffer.old (entry_text entry.now) }
 {
     let mut text = ArrayString::new();
     write_entry(entry, &mut text);
-    fill(room, text.as_bytes());
-    text.len() as u32
+    tell(text.as_bytes(), buffer)
 }
 
-fn put_entry_at(memory: &Memory, place: usize, room: &mut [u8]) -> u32
-    ensures code { result ≡ (entry_told memory.now.entries place room.old).code }
-    ensures room { room.new ≡ (entry_told memory.now.entries place room.old).room }
-    ensures unchanged { 1000 ≤ result → room.new ≡ room.old }
+fn put_entry_at(memory: &Memory, index: usize, buffer: &mut [u8]) -> Result<Length, Failure>
+    ensures outcome { result ≡ (entry_told memory.now.entries index buffer.old).outcome }
+    ensures buffer { buffer.new ≡ (entry_told memory.now.entries index buffer.old).buffer }
+    ensures unchanged { IsErr result → buffer.new ≡ buffer.old }
 {
-    if room.len() < LINE_ROOM {
-        return SMALL_ROOM;
+    if buffer.len() < LINE_BUFFER {
+        return Err(Failure::SmallBuffer);
     }
-    match memory.entries().get(place) {
-        Some(entry) => put_entry(entry, room),
-        None => NO_ENTRY,
+    match memory.entries().get(index) {
+        Some(entry) => Ok(put_entry(entry, buffer)),
+        None => Err(Failure::NoEntry),
     }
-}
-
-fn put_bytes(memory: &Memory, room: &mut [u8]) -> u32
-    ensures code { result ≡ (bytes_told memory.now room.old).code }
-    ensures room { room.new ≡ (bytes_told memory.now room.old).room }
-{
-    let bytes = memory.bytes();
-    if room.len() < bytes.len() {
-        return SMALL_ROOM;
-    }
-    fill(room, bytes);
-    0
 }
 
 /// How many requests have acted on the device of the slot, which goes to `back`.
@@ -76,34 +62,40 @@ pub fn history_length(slot: Slot, back: &mut Slot) -> usize
     count
 }
 
-/// Puts the entry at a place of the history, from 0, to the front of `room`: its requester, its
-/// number and its operation, `1 0 add 40 07000000`. Below 1000 the result is how many bytes it has.
-/// From 1000 on nothing has changed: `SMALL_ROOM` for fewer than 512 bytes, then `NO_ENTRY`. The
-/// device goes to `back`, as it was.
-pub fn tell_entry(slot: Slot, place: usize, room: &mut [u8], back: &mut Slot) -> u32
+/// Puts the entry of that index in the history, from 0, to the front of `buffer`: its requester, its
+/// number and its operation, `1 0 add 40 07000000`. Ok is how many bytes it has. With an error
+/// nothing has changed: `SmallBuffer` for fewer than 512 bytes, then `NoEntry`. The device goes to
+/// `back`, as it was.
+pub fn tell_entry(
+    slot: Slot,
+    index: usize,
+    buffer: &mut [u8],
+    back: &mut Slot,
+) -> Result<Length, Failure>
     ghost memory: { MemoryView }
     requires { slot.memory ≡ Some memory }
-    ensures code { result ≡ (entry_told memory.entries place room.old).code }
-    ensures room { room.new ≡ (entry_told memory.entries place room.old).room }
+    ensures outcome { result ≡ (entry_told memory.entries index buffer.old).outcome }
+    ensures buffer { buffer.new ≡ (entry_told memory.entries index buffer.old).buffer }
     ensures unchanged { back.new.memory ≡ Some memory }
+    ensures unchanged_buffer { IsErr result → buffer.new ≡ buffer.old }
 {
     let held = open(slot);
-    let code = put_entry_at(&held, place, room);
+    let outcome = put_entry_at(&held, index, buffer);
     *back = close(held);
-    code
+    outcome
 }
 
-/// Puts all bytes of the device, from its base address on, to the front of `room`: 0, or `SMALL_ROOM`
-/// for fewer bytes than it has, and then nothing has changed. The device goes to `back`, as it was.
-pub fn copy_bytes(slot: Slot, room: &mut [u8], back: &mut Slot) -> u32
+/// Puts all bytes of the device, from its base address on, to the front of `buffer`. `SmallBuffer` for
+/// fewer bytes than it has, and then nothing has changed. The device goes to `back`, as it was.
+pub fn copy_bytes(slot: Slot, buffer: &mut [u8], back: &mut Slot) -> Result<(), Failure>
     ghost memory: { MemoryView }
     requires { slot.memory ≡ Some memory }
-    ensures code { result ≡ (bytes_told memory room.old).code }
-    ensures room { room.new ≡ (bytes_told memory room.old).room }
+    ensures outcome { result ≡ (copied buffer.old (bytes_of memory)).outcome }
+    ensures buffer { buffer.new ≡ (copied buffer.old (bytes_of memory)).buffer }
     ensures unchanged { back.new.memory ≡ Some memory }
 {
     let held = open(slot);
-    let code = put_bytes(&held, room);
+    let outcome = copy(held.bytes(), buffer);
     *back = close(held);
-    code
+    outcome
 }

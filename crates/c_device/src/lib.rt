@@ -10,4 +10,4 @@ mod slot;
 
 pub use history::{copy_bytes, history_length, tell_entry};
 pub use serving::serve_packet;
-pub use slot::{Slot, free_device, new_device};
+pub use slot::{Slot, extent_of, free_device, new_device};

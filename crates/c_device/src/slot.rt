@@ -1,11 +1,12 @@
 //! Slots.
-ghost use Rattle.std.specs.Prelude.{◌≡◌, ◌≤◌, ◌⊎◌, Option, Some, []};
+ghost use Rattle.std.specs.Prelude.{◌≡◌, ◌⊎◌, Option, Some, Ok, Err, IsOk, IsErr, IfOk, IfErr, []};
 ghost use Rattle.seq_memory.specs.History.{MemoryView};
+ghost use Rattle.c_buffer.specs.declared.outcome.Failure.TheVariants.{NoMemory};
 ghost use Rattle.c_device.specs.Slot.{slot_owns, memory_coded};
-ghost use Rattle.c_device.specs.Calls.{wrong_limits};
+ghost use Rattle.c_device.specs.Calls.{limits};
 
 use c_box::Parts;
-use c_buffer::{NO_MEMORY, WRONG_BASE, WRONG_BLOCK, WRONG_SIZE};
+use c_buffer::Failure;
 use seq_memory::{Extent, Memory, is_base, is_size};
 use std::alloc::Global;
 use std::marker::Model;
@@ -16,7 +17,7 @@ use std::marker::Model;
 pub struct Slot {
     at: *mut (),
     alloc: Global,
-    pub ghost memory: { Option State } by { memory_coded },
+    pub ghost memory: { Option MemoryView } by { memory_coded },
 }
 
 impl Model for Slot {
@@ -61,33 +62,57 @@ pub(crate) fn close(held: Box<Memory, Global>) -> Slot
     of_parts(Parts::of(held))
 }
 
-/// Makes a memory of `size` zeros at `base` with an empty history, which serves accesses by blocks of
-/// `block` bytes, in a slot that holds nothing. 0 where it is made, else the slot stays as it was:
-/// `WRONG_SIZE`, `WRONG_BASE`, `WRONG_BLOCK`, `NO_MEMORY`, tested in this order.
-pub fn new_device(alloc: Global, base: u64, size: usize, block: u16, slot: &mut Slot) -> u32
-    ensures code { (result ≡ wrong_limits base size block) ⊎ ((wrong_limits base size block ≡ 0) × (result ≡ NO_MEMORY)) }
-    ensures made { result ≡ 0 → slot.new.memory ≡ Some (record { base = base; size = size; block = block; entries = [] }) }
-    ensures unchanged { 1 ≤ result → slot.new ≡ slot.old }
+/// The extent of these three, or the first limit that isn't kept: `WrongSize`, `WrongBase`,
+/// `WrongBlock`.
+pub fn extent_of(base: u64, size: usize, block: u16) -> Result<Extent, Failure>
+    ensures ok { IfOk result (λ x. (x ≡ record { base = base; size = size; block = block }) × (limits base size block ≡ Ok tt)) }
+    ensures err { IfErr result (λ f. limits base size block ≡ Err f) }
 {
     if !is_size(size) {
-        return WRONG_SIZE;
+        return Err(Failure::WrongSize);
     }
     if !is_base(base, size) {
-        return WRONG_BASE;
+        return Err(Failure::WrongBase);
     }
-    let Some(extent) = Extent::new(base, size, block) else {
-        return WRONG_BLOCK;
-    };
+    match Extent::new(base, size, block) {
+        Some(extent) => Ok(extent),
+        None => Err(Failure::WrongBlock),
+    }
+}
+
+/// Makes a memory of zeros in a slot that holds nothing.
+fn make_in(alloc: Global, extent: Extent, slot: &mut Slot) -> Result<(), Failure>
+    ensures memory { IsErr result → result ≡ Err NoMemory }
+    ensures made { IsOk result → slot.new.memory ≡ Some (record { base = extent.base; size = extent.size; block = extent.block; entries = [] }) }
+    ensures unchanged { IsErr result → slot.new ≡ slot.old }
+{
     let Ok(memory) = Memory::new(alloc, extent) else {
-        return NO_MEMORY;
+        return Err(Failure::NoMemory);
     };
     match Box::new(alloc, memory) {
         Ok(held) => {
             *slot = close(held);
-            0
+            Ok(())
         }
-        Err(_) => NO_MEMORY,
+        Err(_) => Err(Failure::NoMemory),
     }
+}
+
+/// Makes a memory of `size` zeros at `base` with an empty history, which serves accesses by blocks of
+/// `block` bytes, in a slot that holds nothing. With an error the slot stays as it was: `WrongSize`,
+/// `WrongBase`, `WrongBlock`, `NoMemory`, tested in this order.
+pub fn new_device(
+    alloc: Global,
+    base: u64,
+    size: usize,
+    block: u16,
+    slot: &mut Slot,
+) -> Result<(), Failure>
+    ensures outcome { (result ≡ limits base size block) ⊎ ((limits base size block ≡ Ok tt) × (result ≡ Err NoMemory)) }
+    ensures made { IsOk result → slot.new.memory ≡ Some (record { base = base; size = size; block = block; entries = [] }) }
+    ensures unchanged { IsErr result → slot.new ≡ slot.old }
+{
+    make_in(alloc, extent_of(base, size, block)?, slot)
 }
 
 /// Frees the device of the slot.

@@ -13,7 +13,8 @@ use Rattle.fabric_core.specs.Runs.{has_record, Recorded}
 use Rattle.fabric_core.specs.declared.fault.Refusal.{Refusal}
 use Rattle.fabric_core.specs.Answers.{Happens, answer}
 use Rattle.fabric_core.specs.ByParts.{HappensByParts}
-use Rattle.c_fabric.specs.Session.{Session, answered, happened}
+use Rattle.c_fabric.specs.SessionView.{SessionView}
+use Rattle.c_fabric.specs.Calls.{answered, happened}
 
 -- one without a record adds nothing
 no_record : (e : Event) (what : Seen) (n : ℕ) → has_record e ≡ false → records_of e what n ≡ []
@@ -52,21 +53,21 @@ is_there by_parts f f' e h r =
 
 -- ---- what a session holds after an event without a record
 
-pub unrecorded : (v s : Session) → v ≡ s → (room : List ℕ) (e : Event) (what : Seen) (f' : Fabric) → (s.is_traced ≡ true → has_record e ≡ false) → answer v.fabric e ≡ Ok (what, f')
-    → record v { fabric = f' } ≡ (happened s room e).session
-unrecorded v s is room e what f' u h =
+pub unrecorded : (v s : SessionView) → v ≡ s → (buffer : List ℕ) (e : Event) (what : Seen) (f' : Fabric) → (s.is_traced ≡ true → has_record e ≡ false) → answer v.fabric e ≡ Ok (what, f')
+    → record v { fabric = f' } ≡ (happened s buffer e).session
+unrecorded v s is buffer e what f' u h =
     let n = length s.fabric.memory.entries in
-    let now : answer s.fabric e ≡ Ok (what, f') = ap (λ (x : Session). answer x.fabric e) (sym is) ∙ h in
-    ap (λ (x : Session). record x { fabric = f' }) is
+    let now : answer s.fabric e ≡ Ok (what, f') = ap (λ (x : SessionView). answer x.fabric e) (sym is) ∙ h in
+    ap (λ (x : SessionView). record x { fabric = f' }) is
     ∙ ap (λ (rs : List Record). record s { fabric = f'; records = rs }) (same n s.is_traced u)
-    ∙ sym (ap (λ (x : Result (Seen × Fabric) Refusal). (answered s room e n x).session) now)
+    ∙ sym (ap (λ (x : Result (Seen × Fabric) Refusal). (answered s buffer e n x).session) now)
   where
     same : (n : ℕ) (b : Bool) → (b ≡ true → has_record e ≡ false) → s.records ≡ (if b then s.records ++ records_of e what n else s.records)
     same n true h = sym (ap (λ (rs : List Record). s.records ++ rs) (no_record e what n (h refl)) ∙ append-nil s.records)
     same n false h = refl
 
-pub not_moved : (v s : Session) → v ≡ s → (room : List ℕ) (e : Event) (r : Refusal) (f' : Fabric) → f' ≡ v.fabric → answer v.fabric e ≡ Err r → record v { fabric = f' } ≡ (happened s room e).session
-not_moved v s is room e r f' same h =
-    let now : answer s.fabric e ≡ Err r = ap (λ (x : Session). answer x.fabric e) (sym is) ∙ h in
+pub not_moved : (v s : SessionView) → v ≡ s → (buffer : List ℕ) (e : Event) (r : Refusal) (f' : Fabric) → f' ≡ v.fabric → answer v.fabric e ≡ Err r → record v { fabric = f' } ≡ (happened s buffer e).session
+not_moved v s is buffer e r f' same h =
+    let now : answer s.fabric e ≡ Err r = ap (λ (x : SessionView). answer x.fabric e) (sym is) ∙ h in
     ap (λ (f : Fabric). record v { fabric = f }) same ∙ is
-    ∙ sym (ap (λ (x : Result (Seen × Fabric) Refusal). (answered s room e (length s.fabric.memory.entries) x).session) now)
+    ∙ sym (ap (λ (x : Result (Seen × Fabric) Refusal). (answered s buffer e (length s.fabric.memory.entries) x).session) now)

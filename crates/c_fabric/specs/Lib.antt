@@ -1,3 +1,4 @@
-pub mod Session
+pub mod SessionView
+pub mod Calls
 pub mod Slot
-pub use Rattle.c_buffer.specs.Room
+pub use Rattle.c_buffer.specs.Buffer

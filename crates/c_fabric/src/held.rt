@@ -1,16 +1,17 @@
 //! What a fabric holds.
-ghost use Rattle.std.specs.Prelude.{◌≡◌, ◌≤◌, ◌↔◌, IsTrue, true, Some, length, string_bytes, IfOk};
+ghost use Rattle.std.specs.Prelude.{◌≡◌, ◌↔◌, IsTrue, true, Some, Err, IsErr, length, string_bytes, IfOk};
 ghost use Rattle.seq_memory.specs.History.{bytes_of};
 ghost use Rattle.history_check.specs.Trace.{Explains};
 ghost use Rattle.trace_text.specs.Texts.{trace_text};
 ghost use Rattle.fabric_laws.specs.Trace.{submitted_by};
 ghost use Rattle.fabric_core.specs.Quiet.{IsQuiet};
-ghost use Rattle.c_fabric.specs.Session as spec;
-ghost use Rattle.c_fabric.specs.Session.{claim, whole_told};
+ghost use Rattle.c_buffer.specs.declared.outcome.Failure.TheVariants.{NoMemory};
+ghost use Rattle.c_buffer.specs.Buffer.{copied};
+ghost use Rattle.c_fabric.specs.SessionView.{SessionView, claim};
 
 use crate::session::Session;
 use crate::slot::{Slot, close, open};
-use c_buffer::{NO_MEMORY, SMALL_ROOM, fill};
+use c_buffer::{Failure, copy};
 use fabric_laws::laws::the_trace_belongs;
 use std::alloc::{AllocError, Global};
 use std::mem;
@@ -36,59 +37,45 @@ fn text_of(alloc: Global, session: &mut Session) -> Result<String, AllocError>
     text
 }
 
-/// Puts the bytes to the front of a room with at least as many.
-fn put_whole(bytes: &[u8], room: &mut [u8]) -> u32
-    ensures code { result ≡ (whole_told bytes.now room.old).code }
-    ensures room { room.new ≡ (whole_told bytes.now room.old).room }
-    ensures range { result ≤ SMALL_ROOM }
-    ensures unchanged { 1 ≤ result → room.new ≡ room.old }
-{
-    if room.len() < bytes.len() {
-        return SMALL_ROOM;
-    }
-    fill(room, bytes);
-    0
-}
-
 /// Puts the text of the trace and the history of the fabric, as `pciex step --trace` writes it, to the
-/// front of `room`: 0, or `SMALL_ROOM` for fewer bytes than it has, and in both cases `size` is how
-/// many it has; or `NO_MEMORY`, and then `size` stays as it was. Where the fabric keeps no trace, there
+/// front of `buffer`, or `SmallBuffer` for fewer bytes than it has, and in both cases `size` is how
+/// many it has; or `NoMemory`, and then `size` stays as it was. If the fabric keeps no trace, there
 /// are no records. The fabric goes to `back`, as it was. The history explains a kept trace.
 pub fn tell_trace(
     alloc: Global,
     slot: Slot,
-    room: &mut [u8],
+    buffer: &mut [u8],
     size: &mut usize,
     back: &mut Slot,
-) -> u32
-    ghost session: { spec.Session }
+) -> Result<(), Failure>
+    ghost session: { SessionView }
     requires { slot.session ≡ Some session }
-    ensures code { ¬ (result ≡ NO_MEMORY) → result ≡ (whole_told (trace_text (claim session)) room.old).code }
-    ensures room { ¬ (result ≡ NO_MEMORY) → room.new ≡ (whole_told (trace_text (claim session)) room.old).room }
-    ensures size { ¬ (result ≡ NO_MEMORY) → size.new ≡ length (trace_text (claim session)) }
-    ensures unchanged_size { result ≡ NO_MEMORY → size.new ≡ size.old }
+    ensures outcome { ¬ (result ≡ Err NoMemory) → result ≡ (copied buffer.old (trace_text (claim session))).outcome }
+    ensures buffer { ¬ (result ≡ Err NoMemory) → buffer.new ≡ (copied buffer.old (trace_text (claim session))).buffer }
+    ensures size { ¬ (result ≡ Err NoMemory) → size.new ≡ length (trace_text (claim session)) }
+    ensures unchanged_size { result ≡ Err NoMemory → size.new ≡ size.old }
     ensures unchanged { back.new.session ≡ Some session }
-    ensures unchanged_room { 1 ≤ result → room.new ≡ room.old }
+    ensures unchanged_buffer { IsErr result → buffer.new ≡ buffer.old }
     ensures explained { session.is_traced ≡ true → Explains (claim session) }
 {
     let mut held = open(slot);
     explain(&held);
-    let code = match text_of(alloc, &mut held) {
+    let outcome = match text_of(alloc, &mut held) {
         Ok(text) => {
             *size = text.len();
-            put_whole(text.as_bytes(), room)
+            copy(text.as_bytes(), buffer)
         }
-        Err(_) => NO_MEMORY,
+        Err(_) => Err(Failure::NoMemory),
     };
     *back = close(held);
-    code
+    outcome
 }
 
 /// Whether all that was entered into the lanes of the fabric of the slot was taken: then each
 /// submission stands in the history once, and none waits for its completion. The fabric goes to
 /// `back`, as it was.
 pub fn is_quiet(slot: Slot, back: &mut Slot) -> bool
-    ghost session: { spec.Session }
+    ghost session: { SessionView }
     requires { slot.session ≡ Some session }
     ensures quiet { IsTrue result ↔ IsQuiet session.fabric }
     ensures all { IsTrue result → length session.fabric.memory.entries ≡ submitted_by session.fabric.requesters }
@@ -102,7 +89,7 @@ pub fn is_quiet(slot: Slot, back: &mut Slot) -> bool
 
 /// How many requests have acted on the memory of the fabric of the slot, which goes to `back`.
 pub fn history_length(slot: Slot, back: &mut Slot) -> usize
-    ghost session: { spec.Session }
+    ghost session: { SessionView }
     requires { slot.session ≡ Some session }
     ensures value { result ≡ length session.fabric.memory.entries }
     ensures unchanged { back.new.session ≡ Some session }
@@ -113,17 +100,17 @@ pub fn history_length(slot: Slot, back: &mut Slot) -> usize
     count
 }
 
-/// Puts all bytes of the memory, from its base address on, to the front of `room`: 0, or `SMALL_ROOM`
-/// for fewer bytes than it has, and then nothing has changed. The fabric goes to `back`, as it was.
-pub fn copy_bytes(slot: Slot, room: &mut [u8], back: &mut Slot) -> u32
-    ghost session: { spec.Session }
+/// Puts all bytes of the memory, from its base address on, to the front of `buffer`. `SmallBuffer` for
+/// fewer bytes than it has, and then nothing has changed. The fabric goes to `back`, as it was.
+pub fn copy_bytes(slot: Slot, buffer: &mut [u8], back: &mut Slot) -> Result<(), Failure>
+    ghost session: { SessionView }
     requires { slot.session ≡ Some session }
-    ensures code { result ≡ (whole_told (bytes_of session.fabric.memory) room.old).code }
-    ensures room { room.new ≡ (whole_told (bytes_of session.fabric.memory) room.old).room }
+    ensures outcome { result ≡ (copied buffer.old (bytes_of session.fabric.memory)).outcome }
+    ensures buffer { buffer.new ≡ (copied buffer.old (bytes_of session.fabric.memory)).buffer }
     ensures unchanged { back.new.session ≡ Some session }
 {
     let held = open(slot);
-    let code = put_whole(held.fabric.bytes(), room);
+    let outcome = copy(held.fabric.bytes(), buffer);
     *back = close(held);
-    code
+    outcome
 }

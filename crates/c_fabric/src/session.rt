@@ -12,9 +12,9 @@ pub struct Session {
 }
 
 impl Model for Session {
-    ghost use Rattle.c_fabric.specs.Session.{Session, IsSession};
+    ghost use Rattle.c_fabric.specs.SessionView.{SessionView, IsSession};
 
-    ghost Value = { Session };
+    ghost Value = { SessionView };
 
     ghost view = { λ s. record { fabric = s.fabric; is_traced = s.is_traced; records = s.records.items } };
 

@@ -1,17 +1,18 @@
 //! Slots.
-ghost use Rattle.std.specs.Prelude.{◌≡◌, ◌≤◌, ◌<◌, ◌+◌, Option, Some, None, IfOk, IfErr, OnOk, length};
+ghost use Rattle.std.specs.Prelude.{◌≡◌, ◌≤◌, Option, Some, None, Err, true, IsOk, IsErr, IfOk, IfErr, OnOk, length};
 ghost use Rattle.fabric_core.specs.declared.config.Config as configs;
 ghost use Rattle.fabric_core.specs.Config.{IsConfig, fault_name};
 ghost use Rattle.fabric_answers.specs.New as new;
-ghost use Rattle.c_buffer.specs.Room.{filled};
-ghost use Rattle.c_fabric.specs.Session as spec;
-ghost use Rattle.c_fabric.specs.Session.{new_session, making, AsksFor, IsFabricCall};
+ghost use Rattle.c_buffer.specs.declared.outcome.Failure.TheVariants.{Text, NoMemory};
+ghost use Rattle.c_buffer.specs.Buffer.{filled, is_silent};
+ghost use Rattle.c_fabric.specs.SessionView.{SessionView, new_session};
+ghost use Rattle.c_fabric.specs.Calls.{made, making, AsksFor, IsFabricCall};
 ghost use Rattle.c_fabric.specs.Slot.{slot_owns, session_coded};
 
 use crate::session::Session;
 use arrayvec::ArrayString;
 use c_box::Parts;
-use c_buffer::{LINE_ROOM, NO_LINE, NO_MEMORY, SMALL_ROOM, fill};
+use c_buffer::{Failure, LINE_BUFFER, tell_fault};
 use fabric_answers::laws::a_configuration_has_one_answer;
 use fabric_core::{Config, ConfigFault, Fabric};
 use script_text::{Line, read_line, write_config_fault};
@@ -24,7 +25,7 @@ use std::marker::Model;
 pub struct Slot {
     at: *mut (),
     alloc: Global,
-    pub ghost session: { Option spec.Session } by { session_coded },
+    pub ghost session: { Option SessionView } by { session_coded },
 }
 
 impl Model for Slot {
@@ -42,7 +43,7 @@ fn of_parts(parts: Parts<Session, Global>) -> Slot
 }
 
 fn into_parts(slot: Slot) -> Parts<Session, Global>
-    ghost session: { spec.Session }
+    ghost session: { SessionView }
     requires { slot.session ≡ Some session }
     ensures { result.value ≡ session }
 {
@@ -55,7 +56,7 @@ fn into_parts(slot: Slot) -> Parts<Session, Global>
 
 /// Takes the session out of the slot.
 pub(crate) fn open(slot: Slot) -> Box<Session, Global>
-    ghost session: { spec.Session }
+    ghost session: { SessionView }
     requires { slot.session ≡ Some session }
     ensures { result.value ≡ session }
 {
@@ -85,79 +86,82 @@ fn make(alloc: Global, config: Config, is_traced: bool) -> Result<Session, Confi
     })
 }
 
-/// Puts the name of a fault other than `Memory` to the front of the room.
-fn put_fault(fault: ConfigFault, room: &mut [u8]) -> u32
-    requires { 512 ≤ length room.old }
-    ensures told { ¬ (result ≡ NO_MEMORY) → ¬ (fault ≡ ConfigFault.Memory) }
-    ensures no_memory { result ≡ NO_MEMORY → fault ≡ ConfigFault.Memory }
-    ensures code { ¬ (result ≡ NO_MEMORY) → result ≡ 1000 + length (fault_name fault) }
-    ensures range { (1000 ≤ result) × (result ≤ NO_MEMORY) }
-    ensures room { ¬ (result ≡ NO_MEMORY) → room.new ≡ filled room.old (fault_name fault) }
-    ensures unchanged { 2000 ≤ result → room.new ≡ room.old }
+/// Puts the name of a fault other than `Memory` to the front of the buffer.
+fn put_fault(fault: ConfigFault, buffer: &mut [u8]) -> Failure
+    requires { 512 ≤ length buffer.old }
+    ensures told { ¬ (result ≡ NoMemory) → ¬ (fault ≡ ConfigFault.Memory) }
+    ensures no_memory { result ≡ NoMemory → fault ≡ ConfigFault.Memory }
+    ensures failure { ¬ (result ≡ NoMemory) → result ≡ Text (length (fault_name fault)) }
+    ensures buffer { ¬ (result ≡ NoMemory) → buffer.new ≡ filled buffer.old (fault_name fault) }
+    ensures unchanged { result ≡ NoMemory → buffer.new ≡ buffer.old }
 {
     if let ConfigFault::Memory = fault {
-        return NO_MEMORY;
+        return Failure::NoMemory;
     }
     let mut text = ArrayString::new();
     write_config_fault(&fault, &mut text);
-    fill(room, text.as_bytes());
-    1000 + text.len() as u32
+    tell_fault(text.as_bytes(), buffer)
 }
 
 /// Makes the fabric of a configuration.
-fn make_in(alloc: Global, config: Config, is_traced: bool, room: &mut [u8], slot: &mut Slot) -> u32
-    requires { 512 ≤ length room.old }
-    ensures code { ¬ (result ≡ NO_MEMORY) → result ≡ (spec.made room.old (new.config_fault config)).code }
-    ensures room { ¬ (result ≡ NO_MEMORY) → room.new ≡ (spec.made room.old (new.config_fault config)).room }
-    ensures no_memory { result ≡ NO_MEMORY → IsConfig config }
-    ensures made { result ≡ 0 → slot.new.session ≡ Some (new_session config is_traced) }
-    ensures unchanged { 1 ≤ result → slot.new ≡ slot.old }
-    ensures unchanged_room { 2000 ≤ result → room.new ≡ room.old }
+fn make_in(
+    alloc: Global,
+    config: Config,
+    is_traced: bool,
+    buffer: &mut [u8],
+    slot: &mut Slot,
+) -> Result<(), Failure>
+    requires { 512 ≤ length buffer.old }
+    ensures outcome { ¬ (result ≡ Err NoMemory) → result ≡ (made buffer.old (new.config_fault config)).outcome }
+    ensures buffer { ¬ (result ≡ Err NoMemory) → buffer.new ≡ (made buffer.old (new.config_fault config)).buffer }
+    ensures no_memory { result ≡ Err NoMemory → IsConfig config }
+    ensures made { IsOk result → slot.new.session ≡ Some (new_session config is_traced) }
+    ensures unchanged { IsErr result → slot.new ≡ slot.old }
+    ensures unchanged_buffer { is_silent result ≡ true → buffer.new ≡ buffer.old }
 {
     match make(alloc, config, is_traced) {
         Ok(session) => match Box::new(alloc, session) {
             Ok(held) => {
                 *slot = close(held);
-                0
+                Ok(())
             }
-            Err(_) => NO_MEMORY,
+            Err(_) => Err(Failure::NoMemory),
         },
-        Err(fault) => put_fault(fault, room),
+        Err(fault) => Err(put_fault(fault, buffer)),
     }
 }
 
 /// Makes the fabric that the line of a script asks for in a slot that holds nothing; with `is_traced`
-/// it keeps a trace, which grows by a record for each submission and each answer. 0 where it is made,
-/// else the slot stays as it was: `SMALL_ROOM` for fewer than 512 bytes, then `NO_LINE` where the line
-/// is none of a fabric, then 1000 and the length of its name for a fault of the configuration, which
-/// then stands at the front of `room`, or `NO_MEMORY` where it has no fault. With the others the room
-/// stays as it was, too.
+/// it keeps a trace, which grows by a record for each submission and each answer. With an error the
+/// slot stays as it was: `SmallBuffer` for fewer than 512 bytes, then `NoLine` if the line is none of a
+/// fabric, then the text of a fault of the configuration, its name, which stands at the front of
+/// `buffer`, or `NoMemory` if it has no fault. Without a text the buffer stays as it was, too.
 pub fn new_fabric(
     alloc: Global,
     line: &[u8],
     is_traced: bool,
-    room: &mut [u8],
+    buffer: &mut [u8],
     slot: &mut Slot,
-) -> u32
-    ensures code { ¬ (result ≡ NO_MEMORY) → result ≡ (making line.now room.old).code }
-    ensures room { ¬ (result ≡ NO_MEMORY) → room.new ≡ (making line.now room.old).room }
-    ensures no_memory { result ≡ NO_MEMORY → IsFabricCall line.now room.old }
-    ensures made { result ≡ 0 → (c : configs.Config) × AsksFor line.now c × (slot.new.session ≡ Some (new_session c is_traced)) }
-    ensures unchanged { 1 ≤ result → slot.new ≡ slot.old }
-    ensures unchanged_room { 2000 ≤ result → room.new ≡ room.old }
+) -> Result<(), Failure>
+    ensures outcome { ¬ (result ≡ Err NoMemory) → result ≡ (making line.now buffer.old).outcome }
+    ensures buffer { ¬ (result ≡ Err NoMemory) → buffer.new ≡ (making line.now buffer.old).buffer }
+    ensures no_memory { result ≡ Err NoMemory → IsFabricCall line.now buffer.old }
+    ensures made { IsOk result → (c : configs.Config) × AsksFor line.now c × (slot.new.session ≡ Some (new_session c is_traced)) }
+    ensures unchanged { IsErr result → slot.new ≡ slot.old }
+    ensures unchanged_buffer { is_silent result ≡ true → buffer.new ≡ buffer.old }
 {
-    if room.len() < LINE_ROOM {
-        return SMALL_ROOM;
+    if buffer.len() < LINE_BUFFER {
+        return Err(Failure::SmallBuffer);
     }
     match read_line(line) {
-        Ok(Line::Fabric(config)) => make_in(alloc, config, is_traced, room, slot),
-        _ => NO_LINE,
+        Ok(Line::Fabric(config)) => make_in(alloc, config, is_traced, buffer, slot),
+        _ => Err(Failure::NoLine),
     }
 }
 
 /// Frees the fabric of the slot.
 pub fn free_fabric(slot: Slot)
-    ghost session: { spec.Session }
+    ghost session: { SessionView }
     requires { slot.session ≡ Some session }
 {
     drop(open(slot));

@@ -1,5 +1,5 @@
--- The calls of a monitor: what it and the caller's room hold after them, and their codes.
-use Rattle.std.specs.Prelude.{ℕ, ◌≡◌, ◌≤◌, ◌==◌, true, nat_lt, if◌then◌else◌, List, length, Option, Some, None, Result, Ok, Err, IsOk}
+-- The calls of a monitor: what it and the caller's buffer hold after them, and what they return.
+use Rattle.std.specs.Prelude.{ℕ, ⊤, ◌≡◌, ◌≤◌, true, nat_lt, if◌then◌else◌, List, length, Option, Some, None, Result, Ok, Err, IsOk}
 use Rattle.seq_memory.specs.declared.Entry.{Entry}
 use Rattle.history_check.specs.declared.Record.{Record}
 use Rattle.operation_text.specs.Words.{words}
@@ -9,71 +9,73 @@ use Rattle.port_monitor.specs.declared.fault.MonitorFault.{MonitorFault}
 use Rattle.port_monitor.specs.Heads.{head_of, memory_of}
 use Rattle.port_monitor.specs.Texts.{head_lines, record_line}
 use Rattle.port_monitor.specs.Monitoring.{Monitor, request, completion, acted}
-use Rattle.c_buffer.specs.declared.TheConstants.{SMALL_ROOM, NO_LINE}
-use Rattle.c_buffer.specs.Room.{filled, Told, untold, told}
-use Rattle.c_device.specs.Calls.{wrong_limits}
-use Rattle.c_monitor.specs.Codes.{code_of}
+use Rattle.c_buffer.specs.declared.outcome.Failure.{Failure}
+use Rattle.c_buffer.specs.declared.outcome.Failure.TheVariants.{SmallBuffer, NoLine}
+use Rattle.c_buffer.specs.Buffer.{filled, Told, untold, told}
+use Rattle.c_device.specs.Calls.{limits}
+use Rattle.c_monitor.specs.Failures.{failure_of}
 
 -- ---- making
 
 -- the head's lines, unless there is no memory of these limits
-abbrev pub made : List ℕ → Head → ℕ → Told
-made room h code = if code == 0 then told room (head_lines h.is_trace (memory_of h)) else untold room code
+abbrev pub made : List ℕ → Head → Result ⊤ Failure → Told ℕ
+made buffer h (Ok _) = told buffer (head_lines h.is_trace (memory_of h))
+made buffer h (Err f) = untold buffer (Err f)
 
-abbrev pub made_by : List ℕ → Option Head → Told
-made_by room None = untold room NO_LINE
-made_by room (Some h) = made room h (wrong_limits h.base h.size h.block)
+abbrev pub made_by : List ℕ → Option Head → Told ℕ
+made_by buffer None = untold buffer (Err NoLine)
+made_by buffer (Some h) = made buffer h (limits h.base h.size h.block)
 
--- the room is tested first, then the line, then the limits of its memory
-abbrev pub making : List ℕ → List ℕ → Told
-making line room = if nat_lt (length room) 512 then untold room SMALL_ROOM else made_by room (head_of (words line))
+-- the buffer is tested first, then the line, then the limits of its memory
+abbrev pub making : List ℕ → List ℕ → Told ℕ
+making line buffer = if nat_lt (length buffer) 512 then untold buffer (Err SmallBuffer) else made_by buffer (head_of (words line))
 
 -- the line asks for this
 abbrev pub AsksFor : List ℕ → Head → Type 0
-AsksFor line h = (head_of (words line) ≡ Some h) × (wrong_limits h.base h.size h.block ≡ 0)
+AsksFor line h = (head_of (words line) ≡ Some h) × (limits h.base h.size h.block ≡ Ok tt)
 
 -- there is nothing to refuse but memory
 abbrev pub IsMonitorCall : List ℕ → List ℕ → Type 0
-IsMonitorCall line room = (512 ≤ length room) × (h : Head) × AsksFor line h
+IsMonitorCall line buffer = (512 ≤ length buffer) × (h : Head) × AsksFor line h
 
 -- ---- packets, and requests that act
 
-pub record Outcome : Type 0 where
-  pub code : ℕ
+pub record MonitorCall : Type 0 where
+  pub outcome : Result ℕ Failure
   pub monitor : Monitor
-  pub room : List ℕ
+  pub buffer : List ℕ
 
-abbrev pub unmoved : Monitor → List ℕ → ℕ → Outcome
-unmoved m room code = record { code = code; monitor = m; room = room }
+abbrev pub unmoved : Monitor → List ℕ → Failure → MonitorCall
+unmoved m buffer failure = record { outcome = Err failure; monitor = m; buffer = buffer }
 
--- the line stands in the room
-abbrev pub said : Monitor → List ℕ → List ℕ → Outcome
-said m room line = record { code = length line; monitor = m; room = filled room line }
+-- the line stands in the buffer
+abbrev pub said : Monitor → List ℕ → List ℕ → MonitorCall
+said m buffer line = record { outcome = Ok (length line); monitor = m; buffer = filled buffer line }
 
-abbrev pub recorded : Monitor → List ℕ → Result Record MonitorFault → Monitor → Outcome
-recorded m room (Ok r) after = said after room (record_line m.is_trace r)
-recorded m room (Err f) after = unmoved m room (code_of f)
+abbrev pub recorded : Monitor → List ℕ → Result Record MonitorFault → Monitor → MonitorCall
+recorded m buffer (Ok r) after = said after buffer (record_line m.is_trace r)
+recorded m buffer (Err f) after = unmoved m buffer (failure_of f)
 
-abbrev pub entered : Monitor → List ℕ → Result Entry MonitorFault → Monitor → Outcome
-entered m room (Ok e) after = said after room (entry_line e)
-entered m room (Err f) after = unmoved m room (code_of f)
+abbrev pub entered : Monitor → List ℕ → Result Entry MonitorFault → Monitor → MonitorCall
+entered m buffer (Ok e) after = said after buffer (entry_line e)
+entered m buffer (Err f) after = unmoved m buffer (failure_of f)
 
--- the room is tested first
-abbrev pub request_call : Monitor → ℕ → List ℕ → List ℕ → Outcome
-request_call m i packet room =
-    if nat_lt (length room) 512 then unmoved m room SMALL_ROOM
-    else recorded m room (request m i packet).answer (request m i packet).monitor
+-- the buffer is tested first
+abbrev pub request_call : Monitor → ℕ → List ℕ → List ℕ → MonitorCall
+request_call m i packet buffer =
+    if nat_lt (length buffer) 512 then unmoved m buffer SmallBuffer
+    else recorded m buffer (request m i packet).answer (request m i packet).monitor
 
-abbrev pub completion_call : Monitor → ℕ → List ℕ → List ℕ → Outcome
-completion_call m i packet room =
-    if nat_lt (length room) 512 then unmoved m room SMALL_ROOM
-    else recorded m room (completion m i packet).answer (completion m i packet).monitor
+abbrev pub completion_call : Monitor → ℕ → List ℕ → List ℕ → MonitorCall
+completion_call m i packet buffer =
+    if nat_lt (length buffer) 512 then unmoved m buffer SmallBuffer
+    else recorded m buffer (completion m i packet).answer (completion m i packet).monitor
 
-abbrev pub acted_call : Monitor → ℕ → ℕ → List ℕ → Outcome
-acted_call m i number room =
-    if nat_lt (length room) 512 then unmoved m room SMALL_ROOM
-    else entered m room (acted m i number).answer (acted m i number).monitor
+abbrev pub acted_call : Monitor → ℕ → ℕ → List ℕ → MonitorCall
+acted_call m i number buffer =
+    if nat_lt (length buffer) 512 then unmoved m buffer SmallBuffer
+    else entered m buffer (acted m i number).answer (acted m i number).monitor
 
--- there is nothing to refuse but memory: the room is large enough, and a trace takes the request
+-- there is nothing to refuse but memory: the buffer is large enough, and a trace takes the request
 abbrev pub IsTraced : Monitor → ℕ → List ℕ → List ℕ → Type 0
-IsTraced m i packet room = (512 ≤ length room) × (m.is_trace ≡ true) × IsOk (request m i packet).answer
+IsTraced m i packet buffer = (512 ≤ length buffer) × (m.is_trace ≡ true) × IsOk (request m i packet).answer

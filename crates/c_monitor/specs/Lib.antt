@@ -1,5 +1,5 @@
 pub mod Slot
-pub mod Codes
+pub mod Failures
 pub mod Calls
-pub use Rattle.c_buffer.specs.Room
+pub use Rattle.c_buffer.specs.Buffer
 pub use Rattle.port_monitor.specs.Monitoring

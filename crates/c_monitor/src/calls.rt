@@ -1,162 +1,178 @@
 //! Packets at the monitor of a slot.
-ghost use Rattle.std.specs.Prelude.{◌≡◌, ◌≤◌, ◌<◌, Some, length};
+ghost use Rattle.std.specs.Prelude.{◌≡◌, ◌≤◌, Some, Err, IsErr, length};
 ghost use Rattle.port_monitor.specs.Monitoring as spec;
 ghost use Rattle.port_monitor.specs.Texts.{record_line};
 ghost use Rattle.trace_text.specs.Texts.{entry_line};
-ghost use Rattle.c_buffer.specs.Room.{filled};
+ghost use Rattle.c_buffer.specs.declared.outcome.Failure.TheVariants.{NoMemory};
+ghost use Rattle.c_buffer.specs.Buffer.{filled};
 ghost use Rattle.c_monitor.specs.Calls.{request_call, completion_call, acted_call, IsTraced};
 
-use crate::codes::code_of;
+use crate::failures::failure;
 use crate::slot::{Slot, close, open};
 use arrayvec::ArrayString;
-use c_buffer::{LINE_ROOM, NO_MEMORY, SMALL_ROOM, fill};
+use c_buffer::{Failure, LINE_BUFFER, Length, tell};
 use history_check::Record;
 use port_monitor::{Monitor, write_entry, write_record};
 use seq_memory::Entry;
 
-/// Puts the line of a record to the front of the room.
-fn put_record(is_trace: bool, seen: &Record, room: &mut [u8]) -> u32
-    requires { 512 ≤ length room.old }
-    ensures code { result ≡ length (record_line is_trace seen.now) }
-    ensures range { result < 1000 }
-    ensures room { room.new ≡ filled room.old (record_line is_trace seen.now) }
+/// Puts the line of a record to the front of the buffer.
+fn put_record(is_trace: bool, seen: &Record, buffer: &mut [u8]) -> Length
+    requires { 512 ≤ length buffer.old }
+    ensures length { result ≡ length (record_line is_trace seen.now) }
+    ensures buffer { buffer.new ≡ filled buffer.old (record_line is_trace seen.now) }
 {
     let mut line = ArrayString::new();
     write_record(is_trace, seen, &mut line);
-    fill(room, line.as_bytes());
-    line.len() as u32
+    tell(line.as_bytes(), buffer)
 }
 
-/// Puts the line of an entry to the front of the room.
-fn put_entry(entry: &Entry, room: &mut [u8]) -> u32
-    requires { 512 ≤ length room.old }
-    ensures code { result ≡ length (entry_line entry.now) }
-    ensures range { result < 1000 }
-    ensures room { room.new ≡ filled room.old (entry_line entry.now) }
+/// Puts the line of an entry to the front of the buffer.
+fn put_entry(entry: &Entry, buffer: &mut [u8]) -> Length
+    requires { 512 ≤ length buffer.old }
+    ensures length { result ≡ length (entry_line entry.now) }
+    ensures buffer { buffer.new ≡ filled buffer.old (entry_line entry.now) }
 {
     let mut line = ArrayString::new();
     write_entry(entry, &mut line);
-    fill(room, line.as_bytes());
-    line.len() as u32
+    tell(line.as_bytes(), buffer)
 }
 
-fn request(monitor: &mut Monitor, requester: u8, packet: &[u8], room: &mut [u8]) -> u32
-    ensures code { ¬ (result ≡ NO_MEMORY) → result ≡ (request_call monitor.old requester packet.now room.old).code }
-    ensures monitor { ¬ (result ≡ NO_MEMORY) → monitor.new ≡ (request_call monitor.old requester packet.now room.old).monitor }
-    ensures room { ¬ (result ≡ NO_MEMORY) → room.new ≡ (request_call monitor.old requester packet.now room.old).room }
-    ensures no_memory { result ≡ NO_MEMORY → IsTraced monitor.old requester packet.now room.old }
-    ensures unchanged { 1000 ≤ result → (monitor.new ≡ monitor.old) × (room.new ≡ room.old) }
+fn request(
+    monitor: &mut Monitor,
+    requester: u8,
+    packet: &[u8],
+    buffer: &mut [u8],
+) -> Result<Length, Failure>
+    ensures outcome { ¬ (result ≡ Err NoMemory) → result ≡ (request_call monitor.old requester packet.now buffer.old).outcome }
+    ensures monitor { ¬ (result ≡ Err NoMemory) → monitor.new ≡ (request_call monitor.old requester packet.now buffer.old).monitor }
+    ensures buffer { ¬ (result ≡ Err NoMemory) → buffer.new ≡ (request_call monitor.old requester packet.now buffer.old).buffer }
+    ensures no_memory { result ≡ Err NoMemory → IsTraced monitor.old requester packet.now buffer.old }
+    ensures unchanged { IsErr result → (monitor.new ≡ monitor.old) × (buffer.new ≡ buffer.old) }
 {
-    if room.len() < LINE_ROOM {
-        return SMALL_ROOM;
+    if buffer.len() < LINE_BUFFER {
+        return Err(Failure::SmallBuffer);
     }
     let is_trace = monitor.is_trace();
     match monitor.request(requester, packet) {
-        Ok(seen) => put_record(is_trace, &seen, room),
-        Err(fault) => code_of(fault),
+        Ok(seen) => Ok(put_record(is_trace, &seen, buffer)),
+        Err(fault) => Err(failure(fault)),
     }
 }
 
-fn completion(monitor: &mut Monitor, requester: u8, packet: &[u8], room: &mut [u8]) -> u32
-    ensures code { result ≡ (completion_call monitor.old requester packet.now room.old).code }
-    ensures monitor { monitor.new ≡ (completion_call monitor.old requester packet.now room.old).monitor }
-    ensures room { room.new ≡ (completion_call monitor.old requester packet.now room.old).room }
-    ensures unchanged { 1000 ≤ result → (monitor.new ≡ monitor.old) × (room.new ≡ room.old) }
+fn completion(
+    monitor: &mut Monitor,
+    requester: u8,
+    packet: &[u8],
+    buffer: &mut [u8],
+) -> Result<Length, Failure>
+    ensures outcome { result ≡ (completion_call monitor.old requester packet.now buffer.old).outcome }
+    ensures monitor { monitor.new ≡ (completion_call monitor.old requester packet.now buffer.old).monitor }
+    ensures buffer { buffer.new ≡ (completion_call monitor.old requester packet.now buffer.old).buffer }
+    ensures unchanged { IsErr result → (monitor.new ≡ monitor.old) × (buffer.new ≡ buffer.old) }
 {
-    if room.len() < LINE_ROOM {
-        return SMALL_ROOM;
+    if buffer.len() < LINE_BUFFER {
+        return Err(Failure::SmallBuffer);
     }
     let is_trace = monitor.is_trace();
     match monitor.completion(requester, packet) {
-        Ok(seen) => put_record(is_trace, &seen, room),
-        Err(fault) => code_of(fault),
+        Ok(seen) => Ok(put_record(is_trace, &seen, buffer)),
+        Err(fault) => Err(failure(fault)),
     }
 }
 
-fn acted(monitor: &mut Monitor, requester: u8, number: u32, room: &mut [u8]) -> u32
-    ensures code { result ≡ (acted_call monitor.old requester number room.old).code }
-    ensures monitor { monitor.new ≡ (acted_call monitor.old requester number room.old).monitor }
-    ensures room { room.new ≡ (acted_call monitor.old requester number room.old).room }
-    ensures unchanged { 1000 ≤ result → (monitor.new ≡ monitor.old) × (room.new ≡ room.old) }
+fn acted(
+    monitor: &mut Monitor,
+    requester: u8,
+    number: u32,
+    buffer: &mut [u8],
+) -> Result<Length, Failure>
+    ensures outcome { result ≡ (acted_call monitor.old requester number buffer.old).outcome }
+    ensures monitor { monitor.new ≡ (acted_call monitor.old requester number buffer.old).monitor }
+    ensures buffer { buffer.new ≡ (acted_call monitor.old requester number buffer.old).buffer }
+    ensures unchanged { IsErr result → (monitor.new ≡ monitor.old) × (buffer.new ≡ buffer.old) }
 {
-    if room.len() < LINE_ROOM {
-        return SMALL_ROOM;
+    if buffer.len() < LINE_BUFFER {
+        return Err(Failure::SmallBuffer);
     }
     match monitor.acted(requester, number) {
-        Ok(entry) => put_entry(&entry, room),
-        Err(fault) => code_of(fault),
+        Ok(entry) => Ok(put_entry(&entry, buffer)),
+        Err(fault) => Err(failure(fault)),
     }
 }
 
-/// A port carried a request of the requester, 1 to 7. Below 1000 the result is how many bytes its line
-/// has, at the front of `room`: `sub 1 0 add 40 07000000`, in a trace with n behind the number. From
-/// 1000 on nothing has changed, and the first of these holds: `SMALL_ROOM` for fewer than 512 bytes,
-/// `NO_REQUESTER`, 1000 and the number of the packet's fault, `NO_REQUEST` for a completion, 1023
-/// (`OtherRequester`), 1020 (`TagInUse`), 1024 (`NumbersUsed`), in a trace alone `NO_MEMORY`. The
-/// monitor goes to `back`.
+/// A port carried a request of the requester, 1 to 7. Ok is how many bytes its line has, at the front of
+/// `buffer`: `sub 1 0 add 40 07000000`, in a trace with n behind the number. With an error nothing has
+/// changed, and it is the first of these: `SmallBuffer` for fewer than 512 bytes, `NoRequester`, the
+/// number of the packet's fault, `NoRequest` for a completion, fault 23 (`OtherRequester`), 20
+/// (`TagInUse`), 24 (`NumbersUsed`), in a trace alone `NoMemory`. The monitor goes to `back`.
 pub fn tell_request(
     slot: Slot,
     requester: u8,
     packet: &[u8],
-    room: &mut [u8],
+    buffer: &mut [u8],
     back: &mut Slot,
-) -> u32
+) -> Result<Length, Failure>
     ghost monitor: { spec.Monitor }
     requires { slot.monitor ≡ Some monitor }
-    ensures code { ¬ (result ≡ NO_MEMORY) → result ≡ (request_call monitor requester packet.now room.old).code }
-    ensures monitor { ¬ (result ≡ NO_MEMORY) → back.new.monitor ≡ Some (request_call monitor requester packet.now room.old).monitor }
-    ensures room { ¬ (result ≡ NO_MEMORY) → room.new ≡ (request_call monitor requester packet.now room.old).room }
-    ensures no_memory { result ≡ NO_MEMORY → IsTraced monitor requester packet.now room.old }
-    ensures unchanged { 1000 ≤ result → (back.new.monitor ≡ Some monitor) × (room.new ≡ room.old) }
+    ensures outcome { ¬ (result ≡ Err NoMemory) → result ≡ (request_call monitor requester packet.now buffer.old).outcome }
+    ensures monitor { ¬ (result ≡ Err NoMemory) → back.new.monitor ≡ Some (request_call monitor requester packet.now buffer.old).monitor }
+    ensures buffer { ¬ (result ≡ Err NoMemory) → buffer.new ≡ (request_call monitor requester packet.now buffer.old).buffer }
+    ensures no_memory { result ≡ Err NoMemory → IsTraced monitor requester packet.now buffer.old }
+    ensures unchanged { IsErr result → (back.new.monitor ≡ Some monitor) × (buffer.new ≡ buffer.old) }
 {
     let mut held = open(slot);
-    let code = request(&mut held, requester, packet, room);
+    let outcome = request(&mut held, requester, packet, buffer);
     *back = close(held);
-    code
+    outcome
 }
 
-/// A port carried a completion to the requester, 1 to 7. Below 1000 the result is how many bytes its
-/// line has, at the front of `room`: `ans 1 0 data 00000000`, in a trace with n behind the number;
-/// bytes of a read that were not enabled are 00. From 1000 on nothing has changed, and the first of
-/// these holds: `SMALL_ROOM` for fewer than 512 bytes, `NO_REQUESTER`, 1000 and the number of the
-/// packet's fault, `NO_COMPLETION` for a request, 1023 (`OtherRequester`), 1021 (`Unexpected`), 1022
-/// (`Mismatch`). The monitor goes to `back`.
+/// A port carried a completion to the requester, 1 to 7. Ok is how many bytes its line has, at the front
+/// of `buffer`: `ans 1 0 data 00000000`, in a trace with n behind the number; bytes of a read that were
+/// not enabled are 00. With an error nothing has changed, and it is the first of these: `SmallBuffer`
+/// for fewer than 512 bytes, `NoRequester`, the number of the packet's fault, `NoCompletion` for a
+/// request, fault 23 (`OtherRequester`), 21 (`Unexpected`), 22 (`Mismatch`). The monitor goes to `back`.
 pub fn tell_completion(
     slot: Slot,
     requester: u8,
     packet: &[u8],
-    room: &mut [u8],
+    buffer: &mut [u8],
     back: &mut Slot,
-) -> u32
+) -> Result<Length, Failure>
     ghost monitor: { spec.Monitor }
     requires { slot.monitor ≡ Some monitor }
-    ensures code { result ≡ (completion_call monitor requester packet.now room.old).code }
-    ensures monitor { back.new.monitor ≡ Some (completion_call monitor requester packet.now room.old).monitor }
-    ensures room { room.new ≡ (completion_call monitor requester packet.now room.old).room }
-    ensures unchanged { 1000 ≤ result → (back.new.monitor ≡ Some monitor) × (room.new ≡ room.old) }
+    ensures outcome { result ≡ (completion_call monitor requester packet.now buffer.old).outcome }
+    ensures monitor { back.new.monitor ≡ Some (completion_call monitor requester packet.now buffer.old).monitor }
+    ensures buffer { buffer.new ≡ (completion_call monitor requester packet.now buffer.old).buffer }
+    ensures unchanged { IsErr result → (back.new.monitor ≡ Some monitor) × (buffer.new ≡ buffer.old) }
 {
     let mut held = open(slot);
-    let code = completion(&mut held, requester, packet, room);
+    let outcome = completion(&mut held, requester, packet, buffer);
     *back = close(held);
-    code
+    outcome
 }
 
-/// A request acted on the memory. Below 1000 the result is how many bytes the line of its entry has, at
-/// the front of `room`: `ent 1 0 add 40 07000000`. From 1000 on nothing has changed, and the first of
-/// these holds: `SMALL_ROOM` for fewer than 512 bytes, `NO_REQUESTER`, 1021 (`Unexpected`) if no
-/// request of that number waits to act, as in a log, 1024 (`NumbersUsed`). The monitor goes to `back`.
-pub fn tell_acted(slot: Slot, requester: u8, number: u32, room: &mut [u8], back: &mut Slot) -> u32
+/// A request acted on the memory. Ok is how many bytes the line of its entry has, at the front of
+/// `buffer`: `ent 1 0 add 40 07000000`. With an error nothing has changed, and it is the first of these:
+/// `SmallBuffer` for fewer than 512 bytes, `NoRequester`, fault 21 (`Unexpected`) if no request of that
+/// number waits to act, as in a log, 24 (`NumbersUsed`). The monitor goes to `back`.
+pub fn tell_acted(
+    slot: Slot,
+    requester: u8,
+    number: u32,
+    buffer: &mut [u8],
+    back: &mut Slot,
+) -> Result<Length, Failure>
     ghost monitor: { spec.Monitor }
     requires { slot.monitor ≡ Some monitor }
-    ensures code { result ≡ (acted_call monitor requester number room.old).code }
-    ensures monitor { back.new.monitor ≡ Some (acted_call monitor requester number room.old).monitor }
-    ensures room { room.new ≡ (acted_call monitor requester number room.old).room }
-    ensures unchanged { 1000 ≤ result → (back.new.monitor ≡ Some monitor) × (room.new ≡ room.old) }
+    ensures outcome { result ≡ (acted_call monitor requester number buffer.old).outcome }
+    ensures monitor { back.new.monitor ≡ Some (acted_call monitor requester number buffer.old).monitor }
+    ensures buffer { buffer.new ≡ (acted_call monitor requester number buffer.old).buffer }
+    ensures unchanged { IsErr result → (back.new.monitor ≡ Some monitor) × (buffer.new ≡ buffer.old) }
 {
     let mut held = open(slot);
-    let code = acted(&mut held, requester, number, room);
+    let outcome = acted(&mut held, requester, number, buffer);
     *back = close(held);
-    code
+    outcome
 }
 
 /// How many requests wait for their completions at the monitor of the slot, which goes to `back`.

@@ -5,9 +5,8 @@
 #![tactic(auto)]
 
 mod calls;
-mod codes;
+mod failures;
 mod slot;
 
 pub use calls::{count_open, tell_acted, tell_completion, tell_request};
-pub use codes::{NO_COMPLETION, NO_REQUESTER};
 pub use slot::{Slot, free_monitor, new_monitor};

@@ -1,21 +1,20 @@
 //! Slots.
-ghost use Rattle.std.specs.Prelude.{◌≡◌, ◌≤◌, ◌<◌, Option, Some, length};
+ghost use Rattle.std.specs.Prelude.{◌≡◌, ◌≤◌, Option, Some, Ok, Err, IsOk, IsErr, length};
 ghost use Rattle.port_monitor.specs.declared.head.Head as heads;
 ghost use Rattle.port_monitor.specs.Monitoring as spec;
 ghost use Rattle.port_monitor.specs.Texts.{head_lines};
 ghost use Rattle.port_monitor.specs.Heads.{memory_of};
-ghost use Rattle.c_buffer.specs.Room.{filled};
-ghost use Rattle.c_device.specs.Calls.{wrong_limits};
+ghost use Rattle.c_buffer.specs.declared.outcome.Failure.TheVariants.{NoMemory};
+ghost use Rattle.c_buffer.specs.Buffer.{filled};
+ghost use Rattle.c_device.specs.Calls.{limits};
 ghost use Rattle.c_monitor.specs.Slot.{slot_owns, monitor_coded};
 ghost use Rattle.c_monitor.specs.Calls.{made, making, AsksFor, IsMonitorCall};
 
 use arrayvec::ArrayString;
 use c_box::Parts;
-use c_buffer::{
-    LINE_ROOM, NO_LINE, NO_MEMORY, SMALL_ROOM, WRONG_BASE, WRONG_BLOCK, WRONG_SIZE, fill,
-};
+use c_buffer::{Failure, LINE_BUFFER, Length, tell};
+use c_device::extent_of;
 use port_monitor::{Head, Monitor, read_head, write_head};
-use seq_memory::{is_base, is_size};
 use std::alloc::Global;
 use std::marker::Model;
 
@@ -70,81 +69,68 @@ pub(crate) fn close(held: Box<Monitor, Global>) -> Slot
     of_parts(Parts::of(held))
 }
 
-/// The code of the first limit of a memory that the head doesn't keep, or 0.
-fn wrong_limits(head: &Head) -> u32
-    ensures value { result ≡ wrong_limits head.now.base head.now.size head.now.block }
-    ensures range { (1 ≤ result → 2000 < result) × (result < 2006) × ¬ (result ≡ NO_MEMORY) }
-{
-    if !is_size(head.size) {
-        return WRONG_SIZE;
-    }
-    if !is_base(head.base, head.size) {
-        return WRONG_BASE;
-    }
-    if head.block != 64 && head.block != 128 {
-        return WRONG_BLOCK;
-    }
-    0
-}
-
-/// Puts the head's lines to the front of the room.
-fn put_head(head: &Head, room: &mut [u8]) -> u32
-    requires { 512 ≤ length room.old }
-    ensures code { result ≡ length (head_lines head.now.is_trace (memory_of head.now)) }
-    ensures range { result < 1000 }
-    ensures room { room.new ≡ filled room.old (head_lines head.now.is_trace (memory_of head.now)) }
+/// Puts the head's lines to the front of the buffer.
+fn put_head(head: &Head, buffer: &mut [u8]) -> Length
+    requires { 512 ≤ length buffer.old }
+    ensures length { result ≡ length (head_lines head.now.is_trace (memory_of head.now)) }
+    ensures buffer { buffer.new ≡ filled buffer.old (head_lines head.now.is_trace (memory_of head.now)) }
 {
     let mut text = ArrayString::new();
     write_head(head, &mut text);
-    fill(room, text.as_bytes());
-    text.len() as u32
+    tell(text.as_bytes(), buffer)
 }
 
 /// Makes the monitor that a head asks for.
-fn make_in(alloc: Global, head: &Head, room: &mut [u8], slot: &mut Slot) -> u32
-    requires room { 512 ≤ length room.old }
-    requires limits { wrong_limits head.now.base head.now.size head.now.block ≡ 0 }
-    ensures code { ¬ (result ≡ NO_MEMORY) → result ≡ length (head_lines head.now.is_trace (memory_of head.now)) }
-    ensures room { ¬ (result ≡ NO_MEMORY) → room.new ≡ filled room.old (head_lines head.now.is_trace (memory_of head.now)) }
-    ensures made { result < 1000 → slot.new.monitor ≡ Some (spec.new head.now.is_trace) }
-    ensures range { ¬ (result ≡ NO_MEMORY) → result < 1000 }
-    ensures unchanged { 1000 ≤ result → (slot.new ≡ slot.old) × (room.new ≡ room.old) }
+fn make_in(
+    alloc: Global,
+    head: &Head,
+    buffer: &mut [u8],
+    slot: &mut Slot,
+) -> Result<Length, Failure>
+    requires buffer { 512 ≤ length buffer.old }
+    requires limits { limits head.now.base head.now.size head.now.block ≡ Ok tt }
+    ensures outcome { ¬ (result ≡ Err NoMemory) → result ≡ Ok (length (head_lines head.now.is_trace (memory_of head.now))) }
+    ensures buffer { ¬ (result ≡ Err NoMemory) → buffer.new ≡ filled buffer.old (head_lines head.now.is_trace (memory_of head.now)) }
+    ensures made { IsOk result → slot.new.monitor ≡ Some (spec.new head.now.is_trace) }
+    ensures unchanged { IsErr result → (slot.new ≡ slot.old) × (buffer.new ≡ buffer.old) }
 {
     let Ok(monitor) = Monitor::new(alloc, head.is_trace) else {
-        return NO_MEMORY;
+        return Err(Failure::NoMemory);
     };
     match Box::new(alloc, monitor) {
         Ok(held) => {
             *slot = close(held);
-            put_head(head, room)
+            Ok(put_head(head, buffer))
         }
-        Err(_) => NO_MEMORY,
+        Err(_) => Err(Failure::NoMemory),
     }
 }
 
 /// Makes the monitor that the line asks for, as `log 0 4096 block 64` or `trace 0 4096 block 64`, in a
-/// slot that holds nothing. Below 1000 the result is how many bytes the first two lines of the log or
-/// the trace have, which stand at the front of `room` with a line feed between them. From 1000 on
-/// nothing has changed: `SMALL_ROOM` for fewer than 512 bytes, `NO_LINE`, `WRONG_SIZE`, `WRONG_BASE`,
-/// `WRONG_BLOCK`, `NO_MEMORY`, tested in this order.
-pub fn new_monitor(alloc: Global, line: &[u8], room: &mut [u8], slot: &mut Slot) -> u32
-    ensures code { ¬ (result ≡ NO_MEMORY) → result ≡ (making line.now room.old).code }
-    ensures room { ¬ (result ≡ NO_MEMORY) → room.new ≡ (making line.now room.old).room }
-    ensures no_memory { result ≡ NO_MEMORY → IsMonitorCall line.now room.old }
-    ensures made { result < 1000 → (h : heads.Head) × AsksFor line.now h × (slot.new.monitor ≡ Some (spec.new h.is_trace)) }
-    ensures unchanged { 1000 ≤ result → (slot.new ≡ slot.old) × (room.new ≡ room.old) }
+/// slot that holds nothing. Ok is how many bytes the first two lines of the log or the trace have, which
+/// stand at the front of `buffer` with a line feed between them. With an error nothing has changed:
+/// `SmallBuffer` for fewer than 512 bytes, `NoLine`, `WrongSize`, `WrongBase`, `WrongBlock`, `NoMemory`,
+/// tested in this order.
+pub fn new_monitor(
+    alloc: Global,
+    line: &[u8],
+    buffer: &mut [u8],
+    slot: &mut Slot,
+) -> Result<Length, Failure>
+    ensures outcome { ¬ (result ≡ Err NoMemory) → result ≡ (making line.now buffer.old).outcome }
+    ensures buffer { ¬ (result ≡ Err NoMemory) → buffer.new ≡ (making line.now buffer.old).buffer }
+    ensures no_memory { result ≡ Err NoMemory → IsMonitorCall line.now buffer.old }
+    ensures made { IsOk result → (h : heads.Head) × AsksFor line.now h × (slot.new.monitor ≡ Some (spec.new h.is_trace)) }
+    ensures unchanged { IsErr result → (slot.new ≡ slot.old) × (buffer.new ≡ buffer.old) }
 {
-    if room.len() < LINE_ROOM {
-        return SMALL_ROOM;
+    if buffer.len() < LINE_BUFFER {
+        return Err(Failure::SmallBuffer);
     }
     let Some(head) = read_head(line) else {
-        return NO_LINE;
+        return Err(Failure::NoLine);
     };
-    let code = wrong_limits(&head);
-    if code > 0 {
-        return code;
-    }
-    make_in(alloc, &head, room, slot)
+    extent_of(head.base, head.size, head.block)?;
+    make_in(alloc, &head, buffer, slot)
 }
 
 /// Frees the monitor of the slot.

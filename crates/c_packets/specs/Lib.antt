@@ -1,2 +1,2 @@
 pub mod Words
-pub use Rattle.c_buffer.specs.Room
+pub use Rattle.c_buffer.specs.Buffer

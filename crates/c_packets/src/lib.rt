@@ -1,4 +1,4 @@
-//! Packets in words over rooms: the bytes of a TLP or a DLLP in, its line out, and back; and the names
+//! Packets in words over buffers: the bytes of a TLP or a DLLP in, its line out, and back; and the names
 //! of a TLP's faults.
 #![tactic(auto)]
 

@@ -1,10 +1,11 @@
 //! The names of faults.
-ghost use Rattle.std.specs.Prelude.{◌≡◌, ◌≤◌, ◌<◌, codes, length, Some, IfSome};
+ghost use Rattle.std.specs.Prelude.{◌≡◌, ◌≤◌, ◌<◌, codes, length, Some, Ok, Err, IsOk, IsErr, IfSome};
 ghost use Rattle.tlp_core.specs.declared.fault.TlpFault as faults;
 ghost use Rattle.tlp_core.specs.Fault.{number_of, name_of};
-ghost use Rattle.c_buffer.specs.Room.{filled};
+ghost use Rattle.c_buffer.specs.declared.outcome.Failure.TheVariants.{SmallBuffer, NoFault};
+ghost use Rattle.c_buffer.specs.Buffer.{filled};
 
-use c_buffer::{LINE_ROOM, NO_FAULT, SMALL_ROOM, fill};
+use c_buffer::{Failure, LINE_BUFFER, Length, tell};
 use tlp_core::TlpFault;
 
 /// The fault that is told under that number.
@@ -30,39 +31,36 @@ fn fault_of(number: u32) -> Option<TlpFault>
     }
 }
 
-/// Puts the name of a TLP's fault to the front of `room`: below 1000 the result is how many bytes it
-/// has. `SMALL_ROOM` for fewer than 512 bytes, then `NO_FAULT` for a number above 13 or 0, and then
-/// the room stays as it was.
-pub fn name_fault(number: u32, room: &mut [u8]) -> u32
-    ensures code { (f : faults.TlpFault) → number ≡ number_of f → 512 ≤ length room.old → result ≡ length (name_of f) }
-    ensures room { (f : faults.TlpFault) → number ≡ number_of f → 512 ≤ length room.old → room.new ≡ filled room.old (name_of f) }
-    ensures small { length room.old < 512 → result ≡ 2000 }
-    ensures unchanged { 1000 ≤ result → room.new ≡ room.old }
-    ensures told { result < 1000 → (f : faults.TlpFault) × (number ≡ number_of f) }
-    ensures no_fault { 512 ≤ length room.old → ((f : faults.TlpFault) → ¬ (number ≡ number_of f)) → result ≡ 2007 }
+/// Puts the name of a TLP's fault to the front of `buffer`, and returns how many bytes it has.
+/// `SmallBuffer` for fewer than 512 bytes, then `NoFault` for a number above 13 or 0, and then the
+/// buffer stays as it was.
+pub fn name_fault(number: u32, buffer: &mut [u8]) -> Result<Length, Failure>
+    ensures outcome { (f : faults.TlpFault) → number ≡ number_of f → 512 ≤ length buffer.old → result ≡ Ok (length (name_of f)) }
+    ensures buffer { (f : faults.TlpFault) → number ≡ number_of f → 512 ≤ length buffer.old → buffer.new ≡ filled buffer.old (name_of f) }
+    ensures small { length buffer.old < 512 → result ≡ Err SmallBuffer }
+    ensures unchanged { IsErr result → buffer.new ≡ buffer.old }
+    ensures named { IsOk result → (f : faults.TlpFault) × (number ≡ number_of f) }
+    ensures no_fault { 512 ≤ length buffer.old → ((f : faults.TlpFault) → ¬ (number ≡ number_of f)) → result ≡ Err NoFault }
 {
-    if room.len() < LINE_ROOM {
-        return SMALL_ROOM;
+    if buffer.len() < LINE_BUFFER {
+        return Err(Failure::SmallBuffer);
     }
     let Some(fault) = fault_of(number) else {
-        return NO_FAULT;
+        return Err(Failure::NoFault);
     };
-    let name = fault.name().as_bytes();
-    fill(room, name);
-    name.len() as u32
+    Ok(tell(fault.name().as_bytes(), buffer))
 }
 
-/// Puts the library's version to the front of `room`: its 11 bytes, or `SMALL_ROOM` for fewer than 512
-/// bytes, and then the room stays as it was.
-pub fn tell_version(room: &mut [u8]) -> u32
-    ensures code { 512 ≤ length room.old → result ≡ 11 }
-    ensures room { 512 ≤ length room.old → room.new ≡ filled room.old (codes "pciex 0.2.0") }
-    ensures small { length room.old < 512 → result ≡ 2000 }
-    ensures unchanged { 1000 ≤ result → room.new ≡ room.old }
+/// Puts the library's version to the front of `buffer`, and returns how many bytes it has, 11.
+/// `SmallBuffer` for fewer than 512 bytes, and then the buffer stays as it was.
+pub fn tell_version(buffer: &mut [u8]) -> Result<Length, Failure>
+    ensures outcome { 512 ≤ length buffer.old → result ≡ Ok 11 }
+    ensures buffer { 512 ≤ length buffer.old → buffer.new ≡ filled buffer.old (codes "pciex 0.2.0") }
+    ensures small { length buffer.old < 512 → result ≡ Err SmallBuffer }
+    ensures unchanged { IsErr result → buffer.new ≡ buffer.old }
 {
-    if room.len() < LINE_ROOM {
-        return SMALL_ROOM;
+    if buffer.len() < LINE_BUFFER {
+        return Err(Failure::SmallBuffer);
     }
-    fill(room, b"pciex 0.2.0");
-    11
+    Ok(tell(b"pciex 0.2.0", buffer))
 }

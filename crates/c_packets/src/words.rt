@@ -1,98 +1,89 @@
 //! Packets in words.
-ghost use Rattle.std.specs.Prelude.{◌≡◌, ◌≤◌, ◌<◌, ◌+◌, length};
+ghost use Rattle.std.specs.Prelude.{◌≡◌, ◌≤◌, length, true};
 ghost use Rattle.packet_text.specs.Packets.{FitsDataFC, canonical};
 ghost use Rattle.packet_text.specs.Texts.{packet_text, bytes_fault_text, text_fault_text};
-ghost use Rattle.c_buffer.specs.Room.{filled};
+ghost use Rattle.c_buffer.specs.declared.outcome.Failure.TheVariants.{Text};
+ghost use Rattle.c_buffer.specs.Buffer.{filled, is_silent};
 ghost use Rattle.c_packets.specs.Words.{in_words, in_bytes};
 
 use arrayvec::{ArrayString, ArrayVec};
-use c_buffer::{LINE_ROOM, SMALL_ROOM, fill};
+use c_buffer::{Failure, LINE_BUFFER, Length, tell, tell_fault};
 use packet_text::{
     BytesFault, Packet, TextFault, decode, encode, read_packet, write_bytes_fault, write_packet,
     write_text_fault,
 };
 
-fn put_packet(packet: &Packet, room: &mut [u8]) -> u32
-    requires { 512 ≤ length room.old }
-    ensures code { result ≡ length (packet_text packet.now) }
-    ensures range { result < 1000 }
-    ensures room { room.new ≡ filled room.old (packet_text packet.now) }
+fn put_packet(packet: &Packet, buffer: &mut [u8]) -> Length
+    requires { 512 ≤ length buffer.old }
+    ensures length { result ≡ length (packet_text packet.now) }
+    ensures buffer { buffer.new ≡ filled buffer.old (packet_text packet.now) }
 {
     let mut text = ArrayString::new();
     write_packet(packet, &mut text);
-    fill(room, text.as_bytes());
-    text.len() as u32
+    tell(text.as_bytes(), buffer)
 }
 
-fn put_bytes(packet: &Packet, room: &mut [u8]) -> u32
+fn put_bytes(packet: &Packet, buffer: &mut [u8]) -> Length
     requires fits { FitsDataFC packet.now }
-    requires room { 512 ≤ length room.old }
-    ensures code { result ≡ length (canonical packet.now) }
-    ensures range { result < 1000 }
-    ensures room { room.new ≡ filled room.old (canonical packet.now) }
+    requires buffer { 512 ≤ length buffer.old }
+    ensures length { result ≡ length (canonical packet.now) }
+    ensures buffer { buffer.new ≡ filled buffer.old (canonical packet.now) }
 {
     let mut bytes = ArrayVec::new();
     encode(packet, &mut bytes);
-    fill(room, &bytes);
-    bytes.len() as u32
+    tell(&bytes, buffer)
 }
 
-fn put_bytes_fault(fault: BytesFault, room: &mut [u8]) -> u32
-    requires { 512 ≤ length room.old }
-    ensures code { result ≡ 1000 + length (bytes_fault_text fault) }
-    ensures range { (1000 ≤ result) × (result < 2000) }
-    ensures room { room.new ≡ filled room.old (bytes_fault_text fault) }
+fn put_bytes_fault(fault: BytesFault, buffer: &mut [u8]) -> Failure
+    requires { 512 ≤ length buffer.old }
+    ensures failure { result ≡ Text (length (bytes_fault_text fault)) }
+    ensures buffer { buffer.new ≡ filled buffer.old (bytes_fault_text fault) }
 {
     let mut text = ArrayString::new();
     write_bytes_fault(fault, &mut text);
-    fill(room, text.as_bytes());
-    1000 + text.len() as u32
+    tell_fault(text.as_bytes(), buffer)
 }
 
-fn put_text_fault(fault: TextFault, room: &mut [u8]) -> u32
-    requires { 512 ≤ length room.old }
-    ensures code { result ≡ 1000 + length (text_fault_text fault) }
-    ensures range { (1000 ≤ result) × (result < 2000) }
-    ensures room { room.new ≡ filled room.old (text_fault_text fault) }
+fn put_text_fault(fault: TextFault, buffer: &mut [u8]) -> Failure
+    requires { 512 ≤ length buffer.old }
+    ensures failure { result ≡ Text (length (text_fault_text fault)) }
+    ensures buffer { buffer.new ≡ filled buffer.old (text_fault_text fault) }
 {
     let mut text = ArrayString::new();
     write_text_fault(fault, &mut text);
-    fill(room, text.as_bytes());
-    1000 + text.len() as u32
+    tell_fault(text.as_bytes(), buffer)
 }
 
-/// Puts the words of a TLP or, of four bytes, a DLLP to the front of `room`, as `pciex decode` writes
-/// them. Below 1000 the result is how many bytes they have; 1000 and the length of its text where the
-/// bytes have a fault, which then stands there; `SMALL_ROOM` for fewer than 512 bytes, and then the
-/// room stays as it was.
-pub fn tell_packet(bytes: &[u8], room: &mut [u8]) -> u32
-    ensures code { result ≡ (in_words bytes.now room.old).code }
-    ensures room { room.new ≡ (in_words bytes.now room.old).room }
-    ensures unchanged { 2000 ≤ result → room.new ≡ room.old }
+/// Puts the words of a TLP or, of four bytes, a DLLP to the front of `buffer`, as `pciex decode`
+/// writes them, and returns how many bytes they have. If the bytes have a fault, its text stands
+/// there. `SmallBuffer` for fewer than 512 bytes, and then the buffer stays as it was.
+pub fn tell_packet(bytes: &[u8], buffer: &mut [u8]) -> Result<Length, Failure>
+    ensures outcome { result ≡ (in_words bytes.now buffer.old).outcome }
+    ensures buffer { buffer.new ≡ (in_words bytes.now buffer.old).buffer }
+    ensures unchanged { is_silent result ≡ true → buffer.new ≡ buffer.old }
 {
-    if room.len() < LINE_ROOM {
-        return SMALL_ROOM;
+    if buffer.len() < LINE_BUFFER {
+        return Err(Failure::SmallBuffer);
     }
     match decode(bytes) {
-        Ok(packet) => put_packet(&packet, room),
-        Err(fault) => put_bytes_fault(fault, room),
+        Ok(packet) => Ok(put_packet(&packet, buffer)),
+        Err(fault) => Err(put_bytes_fault(fault, buffer)),
     }
 }
 
-/// Puts the canonical bytes of the packet that the line spells to the front of `room`, as `pciex
-/// encode` writes them in digits. Below 1000 the result is how many they are; 1000 and the length of
-/// its text where the line has a fault, which then stands there; `SMALL_ROOM` for fewer than 512
-/// bytes, and then the room stays as it was.
-pub fn tell_bytes(line: &[u8], room: &mut [u8]) -> u32
-    ensures code { result ≡ (in_bytes line.now room.old).code }
-    ensures room { room.new ≡ (in_bytes line.now room.old).room }
-    ensures unchanged { 2000 ≤ result → room.new ≡ room.old }
+/// Puts the canonical bytes of the packet that the line spells to the front of `buffer`, as `pciex
+/// encode` writes them in digits, and returns how many they are. If the line has a fault, its text
+/// stands there. `SmallBuffer` for fewer than 512 bytes, and then the buffer stays as it was.
+pub fn tell_bytes(line: &[u8], buffer: &mut [u8]) -> Result<Length, Failure>
+    ensures outcome { result ≡ (in_bytes line.now buffer.old).outcome }
+    ensures buffer { buffer.new ≡ (in_bytes line.now buffer.old).buffer }
+    ensures unchanged { is_silent result ≡ true → buffer.new ≡ buffer.old }
 {
-    if room.len() < LINE_ROOM {
-        return SMALL_ROOM;
+    if buffer.len() < LINE_BUFFER {
+        return Err(Failure::SmallBuffer);
     }
     match read_packet(line) {
-        Ok(packet) => put_bytes(&packet, room),
-        Err(fault) => put_text_fault(fault, room),
+        Ok(packet) => Ok(put_bytes(&packet, buffer)),
+        Err(fault) => Err(put_text_fault(fault, buffer)),
     }
 }

@@ -1,4 +1,4 @@
-//! The search for a history over texts and rooms: the text of a log in, what `pciex search` prints of it
+//! The search for a history over texts and buffers: the text of a log in, what `pciex search` prints of it
 //! out.
 #![tactic(auto)]
 

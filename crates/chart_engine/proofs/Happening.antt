@@ -15,7 +15,7 @@ use Rattle.fabric_settle.specs.declared.attempts.Attempt.TheVariants as attempts
 use Rattle.fabric_settle.specs.Rounds.{all_lanes, lane_attempts, after_lanes}
 use Rattle.script_text.specs.declared.line.Line.{Line}
 use Rattle.script_text.specs.declared.line.Line.TheVariants as lines
-use Rattle.line_loop.specs.Lines.{lines_of, bare, said}
+use Rattle.text_lines.specs.Lines.{lines_of, bare, said}
 use Rattle.line_loop.specs.Run.{Answer, Run, after_line, new_run}
 use Rattle.link_chart.specs.declared.window.ChartWindow.{ChartWindow}
 use Rattle.link_chart.specs.ChartView.{ChartView, new_chart, charted, refused}

@@ -18,7 +18,7 @@ use crate::rounds::settle_charted;
 use arrayvec::ArrayString;
 use chart_page::put_title_chart;
 use fabric_core::{Config, ConfigFault, Event, Fabric, Refusal};
-use line_loop::{EngineFault, Responder, run};
+use line_loop::{EngineFault, Responder, Verdict, run};
 use link_chart::{Chart, ChartWindow};
 use operation_text::write_decimal;
 use script_text::{Line, read_line, write_config_fault, write_refusal};
@@ -26,6 +26,7 @@ use std::alloc::{AllocError, Global};
 use std::io::{Read, Write};
 use std::marker::Model;
 use std::mem;
+use text_lines::is_skipped;
 
 /// A fabric and its chart.
 #[derive(Drop)]
@@ -141,38 +142,38 @@ impl Charter {
     }
 
     /// The line is none of a script.
-    fn no_line(&mut self) -> bool
+    fn no_line(&mut self) -> Verdict
         ensures { (o : _) → IsAnswer self.new o o result (spec.no_line self.old) }
     {
         let mut line = told("fault ", self.next_line());
         line.push_str("Script");
         self.end(line);
-        true
+        Verdict::Fault
     }
 
     /// There is no fabric of the configuration.
-    fn not_made(&mut self, fault: ConfigFault) -> bool
+    fn not_made(&mut self, fault: ConfigFault) -> Verdict
         ensures { (o : _) → IsAnswer self.new o o result (spec.fault self.old (fault_name fault)) }
     {
         let mut line = told("fault ", self.next_line());
         write_config_fault(&fault, &mut line);
         self.end(line);
-        true
+        Verdict::Fault
     }
 
     /// The fabric refused an event.
-    fn end_refused(&mut self, refusal: Refusal) -> bool
+    fn end_refused(&mut self, refusal: Refusal) -> Verdict
         ensures { (o : _) → IsAnswer self.new o o result (spec.ends self.old self.old.session (spec.told self.old (codes "refused ") (refusal_text refusal))) }
     {
         let mut line = told("refused ", self.next_line());
         write_refusal(&refusal, &mut line);
         self.end(line);
-        true
+        Verdict::Fault
     }
 
     /// The fabric of the script is made, with its chart.
-    fn make(&mut self, config: Config) -> Result<bool, AllocError>
-        ensures { IfOk result (λ told. (o : _) → IsAnswer self.new o o told (spec.made_once self.old self.old.session config)) }
+    fn make(&mut self, config: Config) -> Result<Verdict, AllocError>
+        ensures { IfOk result (λ verdict. (o : _) → IsAnswer self.new o o verdict (spec.made_once self.old self.old.session config)) }
     {
         if self.session.is_some() {
             return Ok(self.no_line());
@@ -182,7 +183,7 @@ impl Charter {
                 let chart = Chart::new(self.alloc, self.window, config.requesters)?;
                 self.session = Some(Session { fabric, chart });
                 self.count();
-                Ok(false)
+                Ok(Verdict::Fine)
             }
             Err(fault) => {
                 is_no_memory(fault)?;
@@ -192,8 +193,8 @@ impl Charter {
     }
 
     /// An event happens, or is refused.
-    fn happen(&mut self, event: Event) -> Result<bool, AllocError>
-        ensures { IfOk result (λ told. (o : _) → IsAnswer self.new o o told (spec.happened self.old self.old.session event)) }
+    fn happen(&mut self, event: Event) -> Result<Verdict, AllocError>
+        ensures { IfOk result (λ verdict. (o : _) → IsAnswer self.new o o verdict (spec.happened self.old self.old.session event)) }
     {
         let line = self.next_line();
         let Some(session) = &mut self.session else {
@@ -203,15 +204,15 @@ impl Charter {
         match refusal {
             None => {
                 self.count();
-                Ok(false)
+                Ok(Verdict::Fine)
             }
             Some(refusal) => Ok(self.end_refused(refusal)),
         }
     }
 
     /// The fabric is run until nothing moves.
-    fn settle(&mut self) -> Result<bool, AllocError>
-        ensures { IfOk result (λ told. (o : _) → IsAnswer self.new o o told (spec.settles self.old self.old.session)) }
+    fn settle(&mut self) -> Result<Verdict, AllocError>
+        ensures { IfOk result (λ verdict. (o : _) → IsAnswer self.new o o verdict (spec.settles self.old self.old.session)) }
     {
         let line = self.next_line();
         let Some(session) = &mut self.session else {
@@ -219,7 +220,7 @@ impl Charter {
         };
         settle_charted(&mut session.fabric, &mut session.chart, line)?;
         self.count();
-        Ok(false)
+        Ok(Verdict::Fine)
     }
 }
 
@@ -261,13 +262,13 @@ impl Responder for Charter {
 
     ghost responses = { chart_responses };
 
-    fn on_line(&mut self, line: &[u8], _out: &mut Vec<u8>) -> Result<bool, AllocError> {
+    fn on_line(&mut self, line: &[u8], _out: &mut Vec<u8>) -> Result<Verdict, AllocError> {
         if self.ending.is_some() {
-            return Ok(false);
+            return Ok(Verdict::Fine);
         }
-        if line.is_empty() || line[0] == b'#' {
+        if is_skipped(line) {
             self.count();
-            return Ok(false);
+            return Ok(Verdict::Fine);
         }
         match read_line(line) {
             Err(_) => Ok(self.no_line()),
@@ -277,17 +278,17 @@ impl Responder for Charter {
         }
     }
 
-    fn on_long_line(&mut self, _out: &mut Vec<u8>) -> Result<bool, AllocError> {
+    fn on_long_line(&mut self, _out: &mut Vec<u8>) -> Result<Verdict, AllocError> {
         if self.ending.is_some() {
-            return Ok(false);
+            return Ok(Verdict::Fine);
         }
         Ok(self.no_line())
     }
 
-    fn on_end(&mut self, out: &mut Vec<u8>) -> Result<bool, AllocError> {
+    fn on_end(&mut self, out: &mut Vec<u8>) -> Result<Verdict, AllocError> {
         let session = mem::replace(&mut self.session, None);
         put_text(self.alloc, session, &self.ending, out)?;
-        Ok(false)
+        Ok(Verdict::Fine)
     }
 }
 

@@ -4,7 +4,7 @@ use Rattle.clap.specs.Words.{Kinds}
 use Rattle.clap.specs.declared.error.kind.ErrorKind.TheVariants as kinds
 use Rattle.cli_words.specs.declared.words.Request.{Request}
 use Rattle.cli_words.specs.declared.words.Request.TheVariants.{Tlp, Decode, Encode, Check, Search, Draw, Upgrade, Step, Chart, Generate, Run}
-use Rattle.counting.specs.Ranges.{IsCounting}
+use Rattle.parameters.specs.Ranges.{IsCounting}
 use Rattle.line_loop.specs.Run.{IsRun}
 use Rattle.cli_commands.specs.declared.command.Outcome.{Outcome}
 use Rattle.cli_commands.specs.declared.command.Outcome.TheVariants as outcomes
@@ -18,8 +18,8 @@ use Rattle.tlp_engine.specs.Tlp.{out_tlp}
 use Rattle.trace_engine.specs.Check.{out_check}
 use Rattle.trace_engine.specs.Upgrade.{out_upgrade}
 use Rattle.step_engine.specs.Step.{out_step_with}
-use Rattle.storm.specs.declared.Storm.{Storm}
-use Rattle.storm.specs.Ranges.{IsStorm}
+use Rattle.parameters.specs.declared.storm.Storm.{Storm}
+use Rattle.parameters.specs.Ranges.{IsStorm}
 
 -- the script of a storm was written, or a beginning of one
 abbrev pub IsGenerated : Storm → Option (List ℕ) → Option (List ℕ) → ℕ → Type 0

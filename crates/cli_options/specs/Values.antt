@@ -1,6 +1,12 @@
 -- What the options of a command line are called, which numbers they may have, and what their values write.
 use Rattle.std.specs.Prelude.{◌≡◌, ◌≤◌, ◌%◌, ℕ, Bool, false, List, length, Option, Some, None, codes, bytes_eq}
 use Rattle.std.specs.Str.Parse.{IsNumeral, digits_value}
+use Rattle.seq_memory.specs.declared.limits.TheConstants.{MIN_SIZE, MAX_SIZE, ALIGNMENT}
+use Rattle.switch_core.specs.declared.routing.TheConstants.{REQUESTERS}
+use Rattle.fault_plan.specs.declared.TheConstants.{MOST}
+use Rattle.parameters.specs.declared.counting.TheConstants.{MOST_ADDITIONS, MOST_TURNS}
+use Rattle.parameters.specs.declared.storm.TheConstants.{MOST_EVENTS}
+use Rattle.cli_options.specs.declared.options.TheConstants.{MOST_CHOICES}
 use Rattle.cli_options.specs.declared.options.Allowed.{Allowed}
 use Rattle.cli_options.specs.declared.options.ValueOption.{ValueOption}
 use Rattle.cli_options.specs.declared.options.ValueOption.TheVariants.{Base, Size, Block, Requesters, Each, Lose, Corrupt, Turns, From, To, Seed, Events, Lane, Limit}
@@ -27,20 +33,20 @@ multiples unit least most = record { least = least; most = most; unit = unit }
 
 -- the numbers that an option may have; a lane has a name, and no number counts
 abbrev pub allowed_of : ValueOption → Allowed
-allowed_of Base = multiples 128 0 18446744073709551615
-allowed_of Size = multiples 128 128 1048576
+allowed_of Base = multiples ALIGNMENT 0 18446744073709551615
+allowed_of Size = multiples ALIGNMENT MIN_SIZE MAX_SIZE
 allowed_of Block = multiples 64 64 128
-allowed_of Requesters = multiples 1 1 7
-allowed_of Each = multiples 1 0 100000
-allowed_of Lose = multiples 1 0 65536
-allowed_of Corrupt = multiples 1 0 65536
-allowed_of Turns = multiples 1 1 1000000000
+allowed_of Requesters = multiples 1 1 REQUESTERS
+allowed_of Each = multiples 1 0 MOST_ADDITIONS
+allowed_of Lose = multiples 1 0 MOST
+allowed_of Corrupt = multiples 1 0 MOST
+allowed_of Turns = multiples 1 1 MOST_TURNS
 allowed_of From = multiples 1 0 18446744073709551615
 allowed_of To = multiples 1 0 18446744073709551615
 allowed_of Seed = multiples 1 0 18446744073709551615
-allowed_of Events = multiples 1 0 1000000000
+allowed_of Events = multiples 1 0 MOST_EVENTS
 allowed_of Lane = multiples 1 0 0
-allowed_of Limit = multiples 1 1 1000000000
+allowed_of Limit = multiples 1 1 MOST_CHOICES
 
 pub record IsAmong (a : Allowed) (n : ℕ) : Type 0 where
   pub least : a.least ≤ n

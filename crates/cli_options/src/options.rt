@@ -2,7 +2,13 @@
 ghost use Rattle.std.specs.Prelude.{◌≡◌, ◌≢◌, ◌↔◌, IsTrue};
 ghost use Rattle.cli_options.specs.Values.{allowed_of, name_of, IsAmong};
 
+use parameters::{MOST_ADDITIONS, MOST_EVENTS, MOST_TURNS};
+use seq_memory::{ALIGNMENT, MAX_SIZE, MIN_SIZE};
 use std::fmt;
+use switch_core::REQUESTERS;
+
+/// The most choices that a search may be asked to look at.
+pub const MOST_CHOICES: u64 = 1_000_000_000;
 
 /// An option that has a value.
 #[derive(Clone, Copy, Debug, PartialEq, Eq)]
@@ -112,23 +118,24 @@ impl ValueOption {
             ValueOption::Base => Allowed {
                 least: 0,
                 most: u64::MAX,
-                unit: 128,
+                unit: ALIGNMENT as u64,
             },
             ValueOption::Size => Allowed {
-                least: 128,
-                most: 1_048_576,
-                unit: 128,
+                least: MIN_SIZE as u64,
+                most: MAX_SIZE as u64,
+                unit: ALIGNMENT as u64,
             },
             ValueOption::Block => Allowed {
                 least: 64,
                 most: 128,
                 unit: 64,
             },
-            ValueOption::Requesters => from_to(1, 7),
-            ValueOption::Each => from_to(0, 100_000),
-            ValueOption::Lose | ValueOption::Corrupt => from_to(0, 65_536),
-            ValueOption::Turns | ValueOption::Limit => from_to(1, 1_000_000_000),
-            ValueOption::Events => from_to(0, 1_000_000_000),
+            ValueOption::Requesters => from_to(1, u64::from(REQUESTERS)),
+            ValueOption::Each => from_to(0, MOST_ADDITIONS),
+            ValueOption::Lose | ValueOption::Corrupt => from_to(0, u64::from(fault_plan::MOST)),
+            ValueOption::Turns => from_to(1, MOST_TURNS),
+            ValueOption::Limit => from_to(1, MOST_CHOICES),
+            ValueOption::Events => from_to(0, MOST_EVENTS),
             ValueOption::Lane => from_to(0, 0),
             ValueOption::From | ValueOption::To | ValueOption::Seed => from_to(0, u64::MAX),
         }

@@ -1,6 +1,7 @@
 //! Which option's value is refused, for people.
-use crate::options::ValueOption;
+use crate::options::{Allowed, ValueOption};
 use std::fmt;
+use switch_core::REQUESTERS;
 
 /// How many bytes are shown of a value.
 const SHOWN: usize = 40;
@@ -47,12 +48,21 @@ impl fmt::Display for RefusedValue<'_> {
             None => write!(f, "--{name} is missing: expected ")?,
         }
         match option {
-            ValueOption::Base => write!(
+            ValueOption::Base => {
+                let Allowed { unit, .. } = allowed;
+                write!(
+                    f,
+                    "1 to 16 hexadecimal digits, a multiple of {unit:X}h; the memory ends at 2^64 or below"
+                )
+            }
+            ValueOption::Block => {
+                let Allowed { least, most, .. } = allowed;
+                write!(f, "{least} or {most}")
+            }
+            ValueOption::Lane => write!(
                 f,
-                "1 to 16 hexadecimal digits, a multiple of 80h; the memory ends at 2^64 or below"
+                "up1 to up{REQUESTERS}, down1 to down{REQUESTERS}, in or out"
             ),
-            ValueOption::Block => f.write_str("64 or 128"),
-            ValueOption::Lane => f.write_str("up1 to up7, down1 to down7, in or out"),
             ValueOption::To => write!(f, "{allowed}, at least --from"),
             _ => write!(f, "{allowed}"),
         }

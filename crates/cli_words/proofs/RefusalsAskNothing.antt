@@ -1,8 +1,8 @@
 -- Words of which an option is refused ask for nothing.
 use Rattle.std.proofs.Common.{◌≡◌, ◌∙◌, ◌≤◌, ℕ, List, [], ◌∷◌, Option, Some, None, refl, sym, subst, arith, codes, inl, inr}
 use Rattle.clap.specs.Words.{Row, Text, first_of}
-use Rattle.counting.specs.declared.Counting.{Counting}
-use Rattle.storm.specs.declared.Storm.{Storm}
+use Rattle.parameters.specs.declared.counting.Counting.{Counting}
+use Rattle.parameters.specs.declared.storm.Storm.{Storm}
 use Rattle.seq_memory.specs.Limits.{Extent, IsBlock}
 use Rattle.cli_options.specs.declared.options.ValueOption.{ValueOption}
 use Rattle.cli_options.specs.declared.options.ValueOption.TheVariants.{Size, From, To}

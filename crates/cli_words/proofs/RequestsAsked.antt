@@ -3,9 +3,9 @@ use Rattle.std.proofs.Common.{◌≡◌, ◌∙◌, ℕ, Bool, true, false, List
 use Rattle.std.specs.Prelude.{bytes_eq}
 use Rattle.std.proofs.lemmas.Slice.Eq.{bytes_eq-Decides}
 use Rattle.clap.specs.Words.{Row, Text}
-use Rattle.counting.specs.declared.Counting.{Counting}
+use Rattle.parameters.specs.declared.counting.Counting.{Counting}
+use Rattle.parameters.specs.declared.storm.Storm.{Storm}
 use Rattle.seq_memory.specs.Limits.{Extent}
-use Rattle.storm.specs.declared.Storm.{Storm}
 use Rattle.cli_words.specs.declared.words.Request.{Request}
 use Rattle.cli_words.specs.declared.words.Request.TheVariants.{Tlp, Decode, Encode, Check, Search, Draw, Upgrade, Step, Chart, Generate, Run}
 use Rattle.cli_options.specs.Values.{WritesBase, WritesNumber, WritesGiven, WritesFlag}

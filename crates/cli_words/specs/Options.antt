@@ -2,11 +2,12 @@
 use Rattle.std.specs.Prelude.{◌≡◌, ◌≤◌, ◌<◌, ◌^◌, ℕ, Bool, true, List, Option, Some, None, codes}
 use Rattle.clap.specs.declared.builder.action.ArgAction.TheVariants.{SetTrue}
 use Rattle.clap.specs.Words.{App, Row, Rule, Text, first_of, new_app, new_rule, with_rule, with_subcommand}
-use Rattle.counting.specs.declared.Counting.{Counting}
-use Rattle.counting.specs.Ranges.{IsCounting}
+use Rattle.parameters.specs.declared.counting.Counting.{Counting}
+use Rattle.parameters.specs.Ranges.{IsCounting}
 use Rattle.seq_memory.specs.Limits.{Extent, IsWithinLimits}
-use Rattle.storm.specs.declared.Storm.{Storm}
-use Rattle.storm.specs.Ranges.{IsStorm}
+use Rattle.parameters.specs.declared.storm.Storm.{Storm}
+use Rattle.parameters.specs.Ranges.{IsStorm}
+use Rattle.cli_options.specs.declared.options.TheConstants.{MOST_CHOICES}
 use Rattle.cli_options.specs.Values.{WritesBase, WritesNumber, WritesGiven, WritesFlag}
 use Rattle.fabric_core.specs.declared.event.LaneName.{LaneName}
 use Rattle.cli_words.specs.Lanes.{WritesLane}
@@ -98,7 +99,7 @@ pub record AsksTlp (rows : List Row) (x : Extent) : Type 0 where
 pub record AsksSearch (rows : List Row) (limit : ℕ) : Type 0 where
   pub limit_read : WritesNumber 1000000 (first_of (codes "limit") rows) limit
   pub least : 1 ≤ limit
-  pub most : limit ≤ 1000000000
+  pub most : limit ≤ MOST_CHOICES
 
 -- the values of `draw` ask for the points from one to another, numbers of 64 bits
 pub record AsksDraw (rows : List Row) (from to : ℕ) : Type 0 where

@@ -16,12 +16,11 @@ use crate::subcommands::grammar;
 use clap::ArgMatches;
 use clap::error::ErrorKind;
 use cli_options::{RefusedValue, ValueOption, base_of, is_set, number_of};
-use counting::Counting;
 use fabric_core::LaneName;
+use parameters::{Counting, Storm};
 use seq_memory::Extent;
 use std::alloc::Global;
 use std::convert::AsStr;
-use storm::Storm;
 
 /// What the words ask for.
 #[derive(Clone, Copy, Debug)]

@@ -1,15 +1,18 @@
 -- What is written is a picture, and nothing before it.
 use Rattle.std.proofs.Common.{◌≡◌, ◌∙◌, ◌++◌, ℕ, Bool, true, false, List, [], ◌∷◌, length, sym, ap, ap₂, subst, fold, cond, Result, Ok, Err, IfOk, OnOk}
 use Rattle.std.proofs.lemmas.List.{append-nil}
+use Rattle.std.proofs.lemmas.Result.{IfOk-weaker}
 use Rattle.std.specs.Io.KnownBytes.{Appends}
 use Rattle.std.specs.Prelude.{nat_lt, is_some, Option}
 use Rattle.history_check.specs.Claim.{Claim}
 use Rattle.history_check.specs.Flaws.{first_flaw}
 use Rattle.history_picture.specs.Picture.{picture_text, line_text}
-use Rattle.trace_engine.specs.Check.{fault_line}
+use Rattle.trace_text.specs.Names.{fault_line}
 use Rattle.history_picture.specs.declared.scale.Window.{Window}
-use Rattle.line_loop.specs.Lines.{lines_of, bare, said}
-use Rattle.line_loop.specs.Run.{Answer, IsAnswer, Run, after_line, new_run, run_of}
+use Rattle.text_lines.specs.Lines.{lines_of, bare, said}
+use Rattle.line_loop.specs.declared.verdict.Verdict.{Verdict}
+use Rattle.line_loop.specs.declared.verdict.Verdict.TheVariants as verdicts
+use Rattle.line_loop.specs.Run.{Answer, IsAnswer, is_fault, Run, after_line, new_run, run_of}
 use Rattle.svg_text.specs.Shapes.{Shape, page_text}
 use Rattle.svg_text.specs.Xml.{IsDocument}
 use Rattle.trace_text.specs.declared.fault.ReadFault.{ReadFault}
@@ -30,29 +33,30 @@ abbrev Pages : Type 0
 Pages = (width height : ℕ) (shapes : List Shape) → IsDocument (page_text width height shapes)
 
 -- a picture was written, and nothing is left of what was read
-as_shown : {E : Type 0} (r : Result Bool E) (d new : DrawerView) (read : Result Claim ReadFault) (text : List ℕ) (fault : Bool) (o p : List ℕ)
-    → new ≡ record { window = d.window; reading = nothing_read } → drawn d read ≡ shows d text fault → OnOk r (p ≡ o ++ text) → IfOk r (λ told. told ≡ fault)
-    → IfOk r (λ told. IsAnswer new o p told (drawn d read))
-as_shown (Ok told) d new read text fault o p gone is written tells = record {
+as_shown : {E : Type 0} (r : Result Verdict E) (d new : DrawerView) (read : Result Claim ReadFault) (text : List ℕ) (fault : Bool) (o p : List ℕ)
+    → new ≡ record { window = d.window; reading = nothing_read } → drawn d read ≡ shows d text fault → OnOk r (p ≡ o ++ text) → IfOk r (λ verdict. is_fault verdict ≡ fault)
+    → IfOk r (λ verdict. IsAnswer new o p verdict (drawn d read))
+as_shown (Ok verdict) d new read text fault o p gone is written tells = record {
   state = gone ∙ ap (λ (a : Answer DrawerView). a.state) (sym is);
   text = written ∙ ap (λ (a : Answer DrawerView). o ++ a.text) (sym is);
   is_fault = tells ∙ ap (λ (a : Answer DrawerView). a.is_fault) (sym is);
 }
 as_shown (Err e) d new read text fault o p gone is written tells = tt
 
-pub picture-shown : {E : Type 0} (r : Result Bool E) (d new : DrawerView) (w : Window) (c c' : Claim) (o p : List ℕ)
+pub picture-shown : {E : Type 0} (r : Result Verdict E) (d new : DrawerView) (w : Window) (c c' : Claim) (o p : List ℕ)
     → new ≡ record { window = d.window; reading = nothing_read } → w ≡ d.window → c' ≡ c → at_end d.reading ≡ Ok c
-    → OnOk r (p ≡ o ++ picture_text w c' (flaw_of (first_flaw c'))) → IfOk r (λ told. told ≡ is_some (first_flaw c'))
-    → IfOk r (λ told. IsAnswer new o p told (drawn d (at_end d.reading)))
+    → OnOk r (p ≡ o ++ picture_text w c' (flaw_of (first_flaw c'))) → IfOk r (λ verdict. is_fault verdict ≡ is_some (first_flaw c'))
+    → IfOk r (λ verdict. IsAnswer new o p verdict (drawn d (at_end d.reading)))
 picture-shown r d new w c c' o p gone same is read written tells =
     as_shown r d new (at_end d.reading) (picture_text w c' (flaw_of (first_flaw c'))) (is_some (first_flaw c')) o p gone
     (ap (drawn d) read ∙ sym (ap₂ (λ (x : Window). λ (y : Claim). shows d (picture_text x y (flaw_of (first_flaw y))) (is_some (first_flaw y))) same is))
     written tells
 
-pub fault-shown : {E : Type 0} (r : Result Bool E) (d new : DrawerView) (f : ReadFault) (o p : List ℕ)
-    → new ≡ record { window = d.window; reading = nothing_read } → at_end d.reading ≡ Err f → OnOk r (p ≡ o ++ line_text (fault_line f)) → IfOk r (λ told. told ≡ true)
-    → IfOk r (λ told. IsAnswer new o p told (drawn d (at_end d.reading)))
-fault-shown r d new f o p gone read written tells = as_shown r d new (at_end d.reading) (line_text (fault_line f)) true o p gone (ap (drawn d) read) written tells
+pub fault-shown : {E : Type 0} (r : Result Verdict E) (d new : DrawerView) (f : ReadFault) (o p : List ℕ)
+    → new ≡ record { window = d.window; reading = nothing_read } → at_end d.reading ≡ Err f → OnOk r (p ≡ o ++ line_text (fault_line f)) → IfOk r (λ verdict. verdict ≡ verdicts.Fault)
+    → IfOk r (λ verdict. IsAnswer new o p verdict (drawn d (at_end d.reading)))
+fault-shown r d new f o p gone read written tells = as_shown r d new (at_end d.reading) (line_text (fault_line f)) true o p gone (ap (drawn d) read) written
+    (IfOk-weaker r _ _ (λ verdict is. ap is_fault is) tells)
 
 shown : Pages → (d : DrawerView) (r : Result Claim ReadFault) → IsDocument (drawn d r).text
 shown pages d (Err f) = pages _ _ _

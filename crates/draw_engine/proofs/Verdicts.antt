@@ -9,25 +9,27 @@ use Rattle.history_picture.specs.declared.scale.Window.{Window}
 use Rattle.history_picture.specs.Picture.{picture_text, line_text, view_of, width_of, bottom_of}
 use Rattle.history_picture.specs.Words.{flaw_words}
 use Rattle.history_picture.specs.Picture as picture
-use Rattle.line_loop.specs.Lines.{lines_of, bare, said}
+use Rattle.text_lines.specs.Lines.{lines_of, bare, said}
 use Rattle.line_loop.specs.Run.{Run, with_answer, after_line, new_run}
 use Rattle.trace_text.specs.declared.fault.ReadFault.{ReadFault}
 use Rattle.trace_text.specs.TraceReaderView as read
-use Rattle.trace_engine.specs.Check.{fault_line, flaw_line, judged, checked, check_responses, out_check}
+use Rattle.trace_text.specs.Names.{fault_line}
+use Rattle.flaw_places.specs.Places.{flaw_line}
+use Rattle.trace_engine.specs.Check.{judged, checked, check_responses, out_check}
 use Rattle.draw_engine.specs.Draw.{DrawerView, shows, drawn, flaw_of, draw_responses, out_draw, SaysTheSame}
 
-abbrev has_next : DrawerView → read.Reading → DrawerView
+abbrev has_next : DrawerView → read.TraceReaderView → DrawerView
 has_next d reading = record { window = d.window; reading = reading }
 
 -- both have read the same, and nothing is written
-record IsAlong (w : Window) (a : Run DrawerView) (b : Run read.Reading) : Type 0 where
+record IsAlong (w : Window) (a : Run DrawerView) (b : Run read.TraceReaderView) : Type 0 where
   state : a.state ≡ record { window = w; reading = b.state }
   a_text : a.text ≡ []
   b_text : b.text ≡ []
   a_status : a.status ≡ 0
   b_status : b.status ≡ 0
 
-step_by : (t : Bool) (w : Window) (a : Run DrawerView) (b : Run read.Reading) (line : List ℕ) → IsAlong w a b
+step_by : (t : Bool) (w : Window) (a : Run DrawerView) (b : Run read.TraceReaderView) (line : List ℕ) → IsAlong w a b
     → IsAlong w (with_answer a (cond t (draw_responses.on_long_line a.state) (draw_responses.on_line a.state line)))
     (with_answer b (cond t (check_responses.on_long_line b.state) (check_responses.on_line b.state line)))
 step_by true w a b line s = record {
@@ -45,7 +47,7 @@ step_by false w a b line s = record {
   b_status = s.b_status;
 }
 
-along : (w : Window) (ls : List (List ℕ)) (a : Run DrawerView) (b : Run read.Reading) → IsAlong w a b
+along : (w : Window) (ls : List (List ℕ)) (a : Run DrawerView) (b : Run read.TraceReaderView) → IsAlong w a b
     → IsAlong w (fold (after_line draw_responses) a ls) (fold (after_line check_responses) b ls)
 along w [] a b s = s
 along w (l ∷ ls) a b s = along w ls (after_line draw_responses a l) (after_line check_responses b l) (step_by (nat_lt 512 (length (bare l))) w a b (said l) s)
@@ -54,7 +56,7 @@ line_same : (kind : FlawKind) (place : ℕ) → flaw_line kind place ≡ flaw_wo
 line_same kind place = refl
 
 -- the picture of a trace, by its first flaw
-of_flaw : (w : Window) (c : Claim) (o : Option (FlawKind × ℕ)) (d : DrawerView) (a : Run DrawerView) (b : Run read.Reading) → IsAlong w a b
+of_flaw : (w : Window) (c : Claim) (o : Option (FlawKind × ℕ)) (d : DrawerView) (a : Run DrawerView) (b : Run read.TraceReaderView) → IsAlong w a b
     → SaysTheSame (with_answer a (shows d (picture_text w c (flaw_of o)) (is_some o))) (with_answer b (judged o))
 of_flaw w c None d a b s = record {
   line = codes "ok";
@@ -81,7 +83,7 @@ of_flaw w c (Some f) d a b s =
       draw_status = refl;
     }
 
-ended : (w : Window) (d : DrawerView) (r : Result Claim ReadFault) (a : Run DrawerView) (b : Run read.Reading) → d.window ≡ w → IsAlong w a b
+ended : (w : Window) (d : DrawerView) (r : Result Claim ReadFault) (a : Run DrawerView) (b : Run read.TraceReaderView) → d.window ≡ w → IsAlong w a b
     → SaysTheSame (with_answer a (drawn d r)) (with_answer b (checked r))
 ended w d (Err f) a b e s = record {
   line = fault_line f;
@@ -102,7 +104,7 @@ pub same : (window : Window) (input : List ℕ) → SaysTheSame (out_draw window
 same window input =
     let start : DrawerView = record { window = window; reading = read.nothing_read } in
     let a : Run DrawerView = fold (after_line draw_responses) (new_run start) (lines_of input) in
-    let b : Run read.Reading = fold (after_line check_responses) (new_run read.nothing_read) (lines_of input) in
+    let b : Run read.TraceReaderView = fold (after_line check_responses) (new_run read.nothing_read) (lines_of input) in
     let s : IsAlong window a b = along window (lines_of input) (new_run start) (new_run read.nothing_read) (record { state = refl; a_text = refl; b_text = refl; a_status = refl; b_status = refl }) in
     subst (λ (d : DrawerView). SaysTheSame (with_answer a (drawn d (read.at_end d.reading))) (with_answer b (checked (read.at_end b.state)))) (sym s.state)
     (ended window (record { window = window; reading = b.state }) (read.at_end b.state) a b refl s)

@@ -1,25 +1,24 @@
 //! The subcommand `draw`: a picture of a history.
-ghost use Rattle.std.specs.Prelude.{◌≡◌, ◌++◌, true, false, Some, None, Ok, Err, IfOk, IfErr, OnErr, OnOk, is_some};
+ghost use Rattle.std.specs.Prelude.{◌≡◌, ◌++◌, Some, None, Ok, Err, IfOk, IfErr, OnErr, OnOk, is_some};
 ghost use Rattle.history_check.specs.Claim.{claim_of};
 ghost use Rattle.history_check.specs.Flaws.{first_flaw};
 ghost use Rattle.history_picture.specs.Picture.{picture_text, line_text};
 ghost use Rattle.trace_text.specs.TraceReaderView.{nothing_read, at_end};
-ghost use Rattle.trace_engine.specs.Check.{fault_line};
-ghost use Rattle.line_loop.specs.Run.{IsWhole, IsPart};
+ghost use Rattle.trace_text.specs.Names.{fault_line};
+ghost use Rattle.line_loop.specs.Run.{IsWhole, IsPart, is_fault};
 ghost use Rattle.draw_engine.specs.Draw.{DrawerView, WritesDocument, flaw_of, out_draw};
 
 use crate::laws::pictures_are_well_formed;
 use arrayvec::ArrayString;
 use history_check::{Flaw, FlawKind, Trace, check};
 use history_picture::{Window, put_line_picture, put_picture};
-use line_loop::{EngineFault, Responder, run};
+use line_loop::{EngineFault, Responder, Verdict, run};
 use seq_memory::Entry;
 use std::alloc::{AllocError, Global};
 use std::io::{Read, Write};
 use std::marker::Model;
 use std::mem;
-use trace_engine::write_fault;
-use trace_text::{ReadFault, TraceReader};
+use trace_text::{ReadFault, TraceReader, write_fault};
 
 /// The first flaw of the trace and its history, if there is one.
 fn flaw_in(alloc: Global, trace: &Trace, history: &[Entry]) -> Result<Option<Flaw>, AllocError>
@@ -32,34 +31,37 @@ fn flaw_in(alloc: Global, trace: &Trace, history: &[Entry]) -> Result<Option<Fla
     }
 }
 
-/// Adds the picture of a trace and its history, and tells whether there is a flaw.
+/// Adds the picture of a trace and its history. The verdict tells whether there is a flaw.
 fn show(
     alloc: Global,
     window: Window,
     trace: &Trace,
     history: &[Entry],
     out: &mut Vec<u8>,
-) -> Result<bool, AllocError>
+) -> Result<Verdict, AllocError>
     ensures text { OnOk result (out.new.items ≡ out.old.items
         ++ picture_text window (claim_of trace.now history.now) (flaw_of (first_flaw (claim_of trace.now history.now)))) }
-    ensures told { IfOk result (λ told. told ≡ is_some (first_flaw (claim_of trace.now history.now))) }
+    ensures verdict { IfOk result (λ verdict. is_fault verdict ≡ is_some (first_flaw (claim_of trace.now history.now))) }
     ensures err { OnErr result (out.new.items ≡ out.old.items) }
 {
     let flaw = flaw_in(alloc, trace, history)?;
     put_picture(alloc, trace, history, flaw, window, out)?;
-    Ok(flaw.is_some())
+    match flaw {
+        None => Ok(Verdict::Fine),
+        Some(_) => Ok(Verdict::Fault),
+    }
 }
 
 /// Adds the picture of a text that can't be read.
-fn show_fault(alloc: Global, fault: ReadFault, out: &mut Vec<u8>) -> Result<bool, AllocError>
+fn show_fault(alloc: Global, fault: ReadFault, out: &mut Vec<u8>) -> Result<Verdict, AllocError>
     ensures text { OnOk result (out.new.items ≡ out.old.items ++ line_text (fault_line fault)) }
-    ensures told { IfOk result (λ told. told ≡ true) }
+    ensures verdict { IfOk result (λ verdict. verdict ≡ Verdict.Fault) }
     ensures err { OnErr result (out.new.items ≡ out.old.items) }
 {
     let mut words = ArrayString::new();
     write_fault(fault, &mut words);
     put_line_picture(alloc, words.as_bytes(), out)?;
-    Ok(true)
+    Ok(Verdict::Fault)
 }
 
 /// A trace that is read, and then drawn.
@@ -106,17 +108,17 @@ impl Responder for Drawer {
 
     ghost responses = { draw_responses };
 
-    fn on_line(&mut self, line: &[u8], _out: &mut Vec<u8>) -> Result<bool, AllocError> {
+    fn on_line(&mut self, line: &[u8], _out: &mut Vec<u8>) -> Result<Verdict, AllocError> {
         self.reader.line(line)?;
-        Ok(false)
+        Ok(Verdict::Fine)
     }
 
-    fn on_long_line(&mut self, _out: &mut Vec<u8>) -> Result<bool, AllocError> {
+    fn on_long_line(&mut self, _out: &mut Vec<u8>) -> Result<Verdict, AllocError> {
         self.reader.long_line();
-        Ok(false)
+        Ok(Verdict::Fine)
     }
 
-    fn on_end(&mut self, out: &mut Vec<u8>) -> Result<bool, AllocError> {
+    fn on_end(&mut self, out: &mut Vec<u8>) -> Result<Verdict, AllocError> {
         match self.end() {
             Ok((trace, history)) => {
                 show(self.alloc, self.window, &trace, history.as_slice(), out)

@@ -2,6 +2,7 @@
 //! calls would be dear.
 use line_loop::EngineFault;
 use packet_engine::{run_decode, run_encode};
+use seq_memory::Extent;
 use std::alloc::Global;
 use step_engine::{StepOptions, run_step, run_step_with};
 use tlp_engine::run_tlp;
@@ -35,9 +36,14 @@ fn run(
     out: &mut Vec<u8>,
 ) -> Result<u8, EngineFault> {
     match engine {
-        Engine::Tlp => run_tlp(alloc, 0, 4096, 64, reader, out),
-        Engine::TlpOfLargeBlocks => run_tlp(alloc, 0, 4096, 128, reader, out),
-        Engine::TlpOfLastBytes => run_tlp(alloc, 0xFFFF_FFFF_FFFF_FF80, 128, 64, reader, out),
+        Engine::Tlp => run_tlp(alloc, Extent::new(0, 4096, 64).unwrap(), reader, out),
+        Engine::TlpOfLargeBlocks => run_tlp(alloc, Extent::new(0, 4096, 128).unwrap(), reader, out),
+        Engine::TlpOfLastBytes => run_tlp(
+            alloc,
+            Extent::new(0xFFFF_FFFF_FFFF_FF80, 128, 64).unwrap(),
+            reader,
+            out,
+        ),
         Engine::Decode => run_decode(alloc, reader, out),
         Engine::Encode => run_encode(alloc, reader, out),
         Engine::Check => run_check(alloc, reader, out),

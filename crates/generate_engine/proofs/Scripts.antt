@@ -16,7 +16,7 @@ use Rattle.fabric_core.specs.Runs.{Runs}
 use Rattle.trace_text.specs.Texts.{lines_text}
 use Rattle.script_text.specs.LineTexts.{event_line, fabric_line}
 use Rattle.script_text.specs.Spelled.{IsSpelledEvent}
-use Rattle.storm.specs.declared.Storm.{Storm}
+use Rattle.parameters.specs.declared.storm.Storm.{Storm}
 use Rattle.storm_events.specs.Arrivals.{IsAfter}
 use Rattle.storm_events.specs.Choice.{ChooserView, IsChosen}
 use Rattle.generate_engine.specs.Script.{config_of, text_of, IsUnderWay, BeginsScript}

@@ -12,11 +12,11 @@ use Rattle.fabric_core.specs.Config.{IsNewWith}
 use Rattle.fabric_core.specs.Steps.{Happens}
 use Rattle.fabric_core.specs.Runs.{Runs}
 use Rattle.fabric_answers.specs.New.{new_fabric, config_fault}
-use Rattle.operation_text.specs.Words.{words, is_skipped}
+use Rattle.operation_text.specs.Words.{words}
 use Rattle.script_text.specs.declared.line.Line.{Line}
 use Rattle.script_text.specs.declared.line.Line.TheVariants as lines
 use Rattle.script_text.specs.Forms.{line_of}
-use Rattle.line_loop.specs.Lines.{lines_of, bare, said}
+use Rattle.text_lines.specs.Lines.{lines_of, bare, said, is_skipped}
 use Rattle.line_loop.specs.Run.{Answer, Run as Output, with_answer, after_line, after_end}
 use Rattle.step_engine.specs.Script.{script_of, IsScript}
 use Rattle.step_engine.specs.Script.{event_line as event_of}

@@ -11,7 +11,7 @@ use Rattle.fabric_core.specs.declared.event.Event.{Event}
 use Rattle.fabric_core.specs.Config.{IsConfig}
 use Rattle.operation_text.specs.Texts.{IsPrinted, IsPrintedChar}
 use Rattle.trace_text.specs.Texts.{lines_text}
-use Rattle.line_loop.specs.Lines.{lines_of, bare}
+use Rattle.text_lines.specs.Lines.{lines_of, bare}
 use Rattle.script_text.specs.declared.line.Line.{Line}
 use Rattle.script_text.specs.declared.line.Line.TheVariants as lines
 use Rattle.script_text.specs.LineTexts.{event_line, fabric_line}

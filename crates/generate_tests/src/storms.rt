@@ -3,11 +3,11 @@ use fault_plan::Plan;
 use generate_engine::run_generate;
 use lane_core::Fate;
 use line_loop::EngineFault;
+use parameters::Storm;
 use std::alloc::Global;
 use std::io;
 use std::io::Write;
 use step_engine::run_step;
-use storm::Storm;
 use trace_engine::run_check;
 
 /// How many events each storm has.

@@ -18,10 +18,10 @@ use crate::told::{Answered, Submitted};
 use fabric_core::{Config, Fabric, Seen};
 use hall_assembly::closing::{StillHeld, close};
 use hall_assembly::opening::{Board, Opened, Shelves, open};
+use hall_events::desk::Desk;
 use hall_events::meeting::meet_as;
 use hall_events::refusal::{HallRefusal, each_refusal_is_possible};
-use hall_events::requests::{collect_as, submit_as};
-use hall_events::work::{WorkEvent, pump_as};
+use hall_events::work::WorkEvent;
 use hall_laws::laws::Steps;
 use std::alloc::Global;
 use std::marker::Model;
@@ -119,14 +119,14 @@ impl Hall {
         ensures possible { IfErr result (λ r. IsPossibleInHall r) }
     {
         each_refusal_is_possible();
-        match submit_as(
+        let number = usize::from(seat.number);
+        let mut desk = Desk::new(
             &self.board.shared,
             &mut seat.place,
-            usize::from(seat.number),
+            number,
             self.config.requesters,
-            seat.number + 1,
-            &op,
-        ) {
+        );
+        match desk.submit(&op) {
             Ok((number, n)) => Ok(Submitted { number, n }),
             Err(refusal) => Err(refusal),
         }
@@ -146,13 +146,14 @@ impl Hall {
         ensures possible { IfErr result (λ r. IsPossibleInHall r) }
     {
         each_refusal_is_possible();
-        match collect_as(
+        let number = usize::from(seat.number);
+        let mut desk = Desk::new(
             &self.board.shared,
             &mut seat.place,
-            usize::from(seat.number),
+            number,
             self.config.requesters,
-            seat.number + 1,
-        ) {
+        );
+        match desk.collect() {
             Ok(Some((answer, n))) => Ok(Some(Answered {
                 number: answer.number,
                 reply: answer.reply,
@@ -209,13 +210,14 @@ impl Hall {
         ensures possible { IfErr result (λ r. IsPossibleInHall r) }
     {
         each_refusal_is_possible();
-        pump_as(
+        let number = seat.number;
+        let mut desk = Desk::new(
             &self.board.shared,
             &mut seat.place,
-            seat.number,
+            number,
             self.config.requesters,
-            event,
-        )
+        );
+        desk.pump(event)
     }
 
     /// The fabric of all parts, whose history begins with all that the seat has seen. Where a part's word isn't 0, that

@@ -1,353 +1,133 @@
 //! The events of a link, each over the ends that it uses.
-ghost use Rattle.std.specs.Prelude.{◌≡◌, ◌+◌, ◌<◌, IfOk, IfErr};
-ghost use Rattle.fabric_core.specs.declared.event.Event.TheVariants as events;
-ghost use Rattle.hall_events.specs.Refusals.{IsRefused};
-ghost use Rattle.hall_laws.specs.Calls.{IsSized, IsOf, IsIdle};
+ghost use Rattle.std.specs.Prelude.{◌≡◌, ◌↔◌, Some, None, IsTrue, IfOk, IfErr};
+ghost use Rattle.hall_laws.specs.Calls.{IsIdle};
 ghost use Rattle.hall_laws.specs.Parts.{IsLaneName};
 ghost use Rattle.hall_laws.specs.Shows.{Shows};
-ghost use Rattle.hall_laws.specs.Standing.{token_of};
+ghost use Rattle.hall_laws.specs.Telling.{EventShows};
+ghost use Rattle.hall_events.specs.Desks.{knows, IsDesk, IsSame};
+ghost use Rattle.hall_events.specs.Ends.{ends_of, LinkOwes, LinkIsRefused, LinkHasNothing, AloneOwes, AloneIsRefused};
+ghost use Rattle.hall_events.specs.Refusals.{IsRefused};
+ghost use Rattle.hall_events.specs.Works.{link_event};
 
-use crate::events;
+use crate::desk::Desk;
+use crate::events::{act, act_alone, has_nothing};
 use crate::refusal::HallRefusal;
-use fabric_core::{LaneName, Refusal, Seen};
+use fabric_core::{LaneName, LinkEvent, Refusal, Seen};
 use hall_laws::duties::{
     delivering, delivering_a_dllp, expiring, retraining, sending_a_dllp, transmitting,
 };
-use hall_laws::laws::{Place, Steps, event, put_back};
-use hall_laws::part::{Part, PartValue, lane_slot};
-use hall_laws::takes::{take_back, take_forward, take_receiver, take_sender};
-use lane_core::{DllpKind, Fate};
+use hall_laws::part::Part;
 use std::marker::Brand;
 
-/// The sender's next packet goes onto the forward wire.
-pub fn transmit(
-    steps: &Steps,
-    place: &mut Place,
-    number: usize,
-    requesters: u8,
-    name: LaneName,
-) -> Result<Seen, HallRefusal>
-    requires table { IsSized steps.now.table_id requesters × IsOf steps.now.table_id requesters number place.old × IsLaneName requesters name }
-    requires idle { IsIdle place.old.me }
-    ensures seat { (place.new.table_id ≡ place.old.table_id) × (place.new.id ≡ place.old.id) }
-    ensures same { place.new.me ≡ place.old.me }
-    ensures shows { IfOk result (λ what. Shows (token_of place.old.me.0).knows (events.Transmit name) what) }
-    ensures why { IfErr result (λ r. IsRefused (token_of place.old.me.0).knows (events.Transmit name) r) }
+/// An event of a link over the ends that it uses is that event of the fabric, which shows what is seen of it; where the
+/// ends refuse it, so does the fabric, and so it does where the first alone shows that there is nothing to do.
+fn linking()
+    ensures owes { LinkOwes }
+    ensures refused { LinkIsRefused }
+    ensures nothing { LinkHasNothing }
+    ensures owes_alone { AloneOwes }
+    ensures refused_alone { AloneIsRefused }
+    ensures shown { EventShows }
 {
     transmitting();
-    let mut sender = match take_sender(steps, place, number, requesters, name) {
-        Ok(sender) => sender,
-        Err(word) => return Err(HallRefusal::Busy {
-            part: Part::SenderEnd(name),
-            word,
-        }),
-    };
-    if events::has_nothing_to_send(&sender) {
-        put_back(steps, place, lane_slot(name), PartValue::Sender(sender));
-        return Err(HallRefusal::Core(Refusal::Idle));
-    }
-    let mut wire = match take_forward(steps, place, number, requesters, name) {
-        Ok(wire) => wire,
-        Err(word) => {
-            put_back(steps, place, lane_slot(name), PartValue::Sender(sender));
-            return Err(HallRefusal::Busy {
-                part: Part::ForwardWire(name),
-                word,
-            });
-        }
-    };
-    match events::transmit(&mut sender, &mut wire) {
-        Ok(seen) => {
-            place.turn();
-            event::<Brand, _>(
-                steps,
-                place,
-                lane_slot(name),
-                PartValue::Sender(sender),
-                &(name, &wire),
-            );
-            put_back(steps, place, lane_slot(name) + 1, PartValue::Forward(wire));
-            Ok(Seen::Sent(seen))
-        }
-        Err(refusal) => {
-            put_back(steps, place, lane_slot(name) + 1, PartValue::Forward(wire));
-            put_back(steps, place, lane_slot(name), PartValue::Sender(sender));
-            Err(HallRefusal::Core(refusal))
-        }
-    }
-}
-
-/// The oldest packet of the forward wire reaches the receiver, or doesn't.
-pub fn deliver(
-    steps: &Steps,
-    place: &mut Place,
-    number: usize,
-    requesters: u8,
-    name: LaneName,
-    fate: Fate,
-) -> Result<Seen, HallRefusal>
-    requires table { IsSized steps.now.table_id requesters × IsOf steps.now.table_id requesters number place.old × IsLaneName requesters name }
-    requires idle { IsIdle place.old.me }
-    ensures seat { (place.new.table_id ≡ place.old.table_id) × (place.new.id ≡ place.old.id) }
-    ensures same { place.new.me ≡ place.old.me }
-    ensures shows { IfOk result (λ what. Shows (token_of place.old.me.0).knows (events.Deliver name fate) what) }
-    ensures why { IfErr result (λ r. IsRefused (token_of place.old.me.0).knows (events.Deliver name fate) r) }
-{
     delivering();
-    let mut wire = match take_forward(steps, place, number, requesters, name) {
-        Ok(wire) => wire,
-        Err(word) => return Err(HallRefusal::Busy {
-            part: Part::ForwardWire(name),
-            word,
-        }),
-    };
-    if events::has_nothing_forward(&wire) {
-        put_back(steps, place, lane_slot(name) + 1, PartValue::Forward(wire));
-        return Err(HallRefusal::Core(Refusal::Idle));
-    }
-    let mut receiver = match take_receiver(steps, place, number, requesters, name) {
-        Ok(receiver) => receiver,
-        Err(word) => {
-            put_back(steps, place, lane_slot(name) + 1, PartValue::Forward(wire));
-            return Err(HallRefusal::Busy {
-                part: Part::ReceiverEnd(name),
-                word,
-            });
-        }
-    };
-    match events::deliver(&mut wire, &mut receiver, fate) {
-        Ok(seen) => {
-            place.turn();
-            event::<Brand, _>(
-                steps,
-                place,
-                lane_slot(name) + 1,
-                PartValue::Forward(wire),
-                &(name, &receiver),
-            );
-            put_back(
-                steps,
-                place,
-                lane_slot(name) + 3,
-                PartValue::Receiver(receiver),
-            );
-            Ok(Seen::Delivered(seen))
-        }
-        Err(refusal) => {
-            put_back(
-                steps,
-                place,
-                lane_slot(name) + 3,
-                PartValue::Receiver(receiver),
-            );
-            put_back(steps, place, lane_slot(name) + 1, PartValue::Forward(wire));
-            Err(HallRefusal::Core(refusal))
-        }
-    }
-}
-
-/// The receiver puts a DLLP on the back wire.
-pub fn send_dllp(
-    steps: &Steps,
-    place: &mut Place,
-    number: usize,
-    requesters: u8,
-    name: LaneName,
-    kind: DllpKind,
-) -> Result<Seen, HallRefusal>
-    requires table { IsSized steps.now.table_id requesters × IsOf steps.now.table_id requesters number place.old × IsLaneName requesters name }
-    requires idle { IsIdle place.old.me }
-    ensures seat { (place.new.table_id ≡ place.old.table_id) × (place.new.id ≡ place.old.id) }
-    ensures same { place.new.me ≡ place.old.me }
-    ensures shows { IfOk result (λ what. Shows (token_of place.old.me.0).knows (events.SendDllp name kind) what) }
-    ensures why { IfErr result (λ r. IsRefused (token_of place.old.me.0).knows (events.SendDllp name kind) r) }
-{
     sending_a_dllp();
-    let mut receiver = match take_receiver(steps, place, number, requesters, name) {
-        Ok(receiver) => receiver,
-        Err(word) => return Err(HallRefusal::Busy {
-            part: Part::ReceiverEnd(name),
-            word,
-        }),
-    };
-    let mut wire = match take_back(steps, place, number, requesters, name) {
-        Ok(wire) => wire,
-        Err(word) => {
-            put_back(
-                steps,
-                place,
-                lane_slot(name) + 3,
-                PartValue::Receiver(receiver),
-            );
-            return Err(HallRefusal::Busy {
-                part: Part::BackWire(name),
-                word,
-            });
-        }
-    };
-    match events::send_dllp(&mut receiver, &mut wire, kind) {
-        Ok(seen) => {
-            place.turn();
-            event::<Brand, _>(
-                steps,
-                place,
-                lane_slot(name) + 3,
-                PartValue::Receiver(receiver),
-                &(name, &wire),
-            );
-            put_back(steps, place, lane_slot(name) + 2, PartValue::Back(wire));
-            Ok(Seen::SentDllp(seen))
-        }
-        Err(refusal) => {
-            put_back(steps, place, lane_slot(name) + 2, PartValue::Back(wire));
-            put_back(
-                steps,
-                place,
-                lane_slot(name) + 3,
-                PartValue::Receiver(receiver),
-            );
-            Err(HallRefusal::Core(refusal))
-        }
-    }
-}
-
-/// The oldest DLLP of the back wire reaches the sender, or doesn't.
-pub fn deliver_dllp(
-    steps: &Steps,
-    place: &mut Place,
-    number: usize,
-    requesters: u8,
-    name: LaneName,
-    fate: Fate,
-) -> Result<Seen, HallRefusal>
-    requires table { IsSized steps.now.table_id requesters × IsOf steps.now.table_id requesters number place.old × IsLaneName requesters name }
-    requires idle { IsIdle place.old.me }
-    ensures seat { (place.new.table_id ≡ place.old.table_id) × (place.new.id ≡ place.old.id) }
-    ensures same { place.new.me ≡ place.old.me }
-    ensures shows { IfOk result (λ what. Shows (token_of place.old.me.0).knows (events.DeliverDllp name fate) what) }
-    ensures why { IfErr result (λ r. IsRefused (token_of place.old.me.0).knows (events.DeliverDllp name fate) r) }
-{
     delivering_a_dllp();
-    let mut wire = match take_back(steps, place, number, requesters, name) {
-        Ok(wire) => wire,
-        Err(word) => return Err(HallRefusal::Busy {
-            part: Part::BackWire(name),
-            word,
-        }),
-    };
-    if events::has_nothing_back(&wire) {
-        put_back(steps, place, lane_slot(name) + 2, PartValue::Back(wire));
-        return Err(HallRefusal::Core(Refusal::Idle));
-    }
-    let mut sender = match take_sender(steps, place, number, requesters, name) {
-        Ok(sender) => sender,
-        Err(word) => {
-            put_back(steps, place, lane_slot(name) + 2, PartValue::Back(wire));
-            return Err(HallRefusal::Busy {
-                part: Part::SenderEnd(name),
-                word,
-            });
-        }
-    };
-    match events::deliver_dllp(&mut wire, &mut sender, fate) {
-        Ok(seen) => {
-            place.turn();
-            event::<Brand, _>(
-                steps,
-                place,
-                lane_slot(name) + 2,
-                PartValue::Back(wire),
-                &(name, &sender),
-            );
-            put_back(steps, place, lane_slot(name), PartValue::Sender(sender));
-            Ok(Seen::SeenDllp(seen))
-        }
-        Err(refusal) => {
-            put_back(steps, place, lane_slot(name), PartValue::Sender(sender));
-            put_back(steps, place, lane_slot(name) + 2, PartValue::Back(wire));
-            Err(HallRefusal::Core(refusal))
-        }
-    }
-}
-
-/// The replay timer of the sender expires.
-pub fn timer(
-    steps: &Steps,
-    place: &mut Place,
-    number: usize,
-    requesters: u8,
-    name: LaneName,
-) -> Result<Seen, HallRefusal>
-    requires table { IsSized steps.now.table_id requesters × IsOf steps.now.table_id requesters number place.old × IsLaneName requesters name }
-    requires idle { IsIdle place.old.me }
-    ensures seat { (place.new.table_id ≡ place.old.table_id) × (place.new.id ≡ place.old.id) }
-    ensures same { place.new.me ≡ place.old.me }
-    ensures shows { IfOk result (λ what. Shows (token_of place.old.me.0).knows (events.Timer name) what) }
-    ensures why { IfErr result (λ r. IsRefused (token_of place.old.me.0).knows (events.Timer name) r) }
-{
     expiring();
-    let mut sender = match take_sender(steps, place, number, requesters, name) {
-        Ok(sender) => sender,
-        Err(word) => return Err(HallRefusal::Busy {
-            part: Part::SenderEnd(name),
-            word,
-        }),
-    };
-    match events::timer(&mut sender) {
-        Ok(seen) => {
-            event::<Brand, _>(
-                steps,
-                place,
-                lane_slot(name),
-                PartValue::Sender(sender),
-                &(),
-            );
-            Ok(Seen::Back(seen))
-        }
-        Err(refusal) => {
-            put_back(steps, place, lane_slot(name), PartValue::Sender(sender));
-            Err(HallRefusal::Core(refusal))
-        }
+    retraining();
+}
+
+/// The two ends that an event of a link uses, in the order of their taking. None where it uses the sender's end alone.
+fn ends_of(name: LaneName, event: LinkEvent) -> Option<(Part, Part)>
+    ensures { result ≡ ends_of name event }
+{
+    match event {
+        LinkEvent::Transmit => Some((Part::SenderEnd(name), Part::ForwardWire(name))),
+        LinkEvent::Deliver(_) => Some((Part::ForwardWire(name), Part::ReceiverEnd(name))),
+        LinkEvent::SendDllp(_) => Some((Part::ReceiverEnd(name), Part::BackWire(name))),
+        LinkEvent::DeliverDllp(_) => Some((Part::BackWire(name), Part::SenderEnd(name))),
+        LinkEvent::Timer | LinkEvent::Retrained => None,
     }
 }
 
-/// The link was retrained.
-pub fn retrained(
-    steps: &Steps,
-    place: &mut Place,
-    number: usize,
-    requesters: u8,
-    name: LaneName,
-) -> Result<Seen, HallRefusal>
-    requires table { IsSized steps.now.table_id requesters × IsOf steps.now.table_id requesters number place.old × IsLaneName requesters name }
-    requires idle { IsIdle place.old.me }
-    ensures seat { (place.new.table_id ≡ place.old.table_id) × (place.new.id ≡ place.old.id) }
-    ensures same { place.new.me ≡ place.old.me }
-    ensures shows { IfOk result (λ what. Shows (token_of place.old.me.0).knows (events.Retrained name) what) }
-    ensures why { IfErr result (λ r. IsRefused (token_of place.old.me.0).knows (events.Retrained name) r) }
+/// The fabric has this lane.
+fn is_lane(name: LaneName, requesters: u8) -> bool
+    ensures { IsTrue result ↔ IsLaneName requesters name }
 {
-    retraining();
-    let mut sender = match take_sender(steps, place, number, requesters, name) {
-        Ok(sender) => sender,
-        Err(word) => return Err(HallRefusal::Busy {
-            part: Part::SenderEnd(name),
-            word,
-        }),
-    };
-    match events::retrained(&mut sender) {
-        Ok(()) => {
-            event::<Brand, _>(
-                steps,
-                place,
-                lane_slot(name),
-                PartValue::Sender(sender),
-                &(),
-            );
-            Ok(Seen::Retrained)
+    match name {
+        LaneName::Up(port) | LaneName::Down(port) => 0 < port && port <= requesters,
+        LaneName::Inward | LaneName::Outward => true,
+    }
+}
+
+impl<'a> Desk<'a> {
+    /// An event over the sender's end.
+    fn link_alone(&mut self, name: LaneName, event: LinkEvent) -> Result<Seen, HallRefusal>
+        requires desk { IsDesk self.old × IsLaneName self.old.requesters name }
+        requires idle { IsIdle self.old.place.now.me }
+        requires ends { ends_of name event ≡ None }
+        ensures seat { IsSame self.old self.new }
+        ensures same { self.new.place.now.me ≡ self.old.place.now.me }
+        ensures shows { IfOk result (λ what. Shows (knows self.old) (link_event name event) what) }
+        ensures why { IfErr result (λ r. IsRefused (knows self.old) (link_event name event) r) }
+    {
+        linking();
+        let mut sender = self.take(Part::SenderEnd(name))?;
+        match act_alone(event, &mut sender.value) {
+            Ok(what) => {
+                self.event::<Brand, _>(sender, &());
+                Ok(what)
+            }
+            Err(refusal) => Err(self.refuse(sender, refusal)),
         }
-        Err(refusal) => {
-            put_back(steps, place, lane_slot(name), PartValue::Sender(sender));
-            Err(HallRefusal::Core(refusal))
+    }
+
+    /// An event over two ends.
+    fn link_both(
+        &mut self,
+        name: LaneName,
+        event: LinkEvent,
+        first: Part,
+        second: Part,
+    ) -> Result<Seen, HallRefusal>
+        requires desk { IsDesk self.old × IsLaneName self.old.requesters name }
+        requires idle { IsIdle self.old.place.now.me }
+        requires ends { ends_of name event ≡ Some (first, second) }
+        ensures seat { IsSame self.old self.new }
+        ensures same { self.new.place.now.me ≡ self.old.place.now.me }
+        ensures shows { IfOk result (λ what. Shows (knows self.old) (link_event name event) what) }
+        ensures why { IfErr result (λ r. IsRefused (knows self.old) (link_event name event) r) }
+    {
+        linking();
+        let one = self.take(first)?;
+        if has_nothing(event, &one.value) {
+            return Err(self.refuse(one, Refusal::Idle));
+        }
+        let (mut one, mut two) = self.take_second(one, second)?;
+        match act(event, &mut one.value, &mut two.value) {
+            Ok(what) => {
+                self.happen(one, two);
+                Ok(what)
+            }
+            Err(refusal) => Err(self.refuse_both(one, two, refusal)),
+        }
+    }
+
+    /// An event of a lane's link, and what is seen of it.
+    pub(crate) fn link(&mut self, name: LaneName, event: LinkEvent) -> Result<Seen, HallRefusal>
+        requires desk { IsDesk self.old }
+        requires idle { IsIdle self.old.place.now.me }
+        ensures seat { IsSame self.old self.new }
+        ensures same { self.new.place.now.me ≡ self.old.place.now.me }
+        ensures shows { IfOk result (λ what. Shows (knows self.old) (link_event name event) what) }
+        ensures why { IfErr result (λ r. IsRefused (knows self.old) (link_event name event) r) }
+    {
+        if !is_lane(name, self.requesters) {
+            return Err(HallRefusal::Core(Refusal::NoSuchPart));
+        }
+        match ends_of(name, event) {
+            None => self.link_alone(name, event),
+            Some((first, second)) => self.link_both(name, event, first, second),
         }
     }
 }

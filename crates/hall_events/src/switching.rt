@@ -1,281 +1,140 @@
 //! Packets that go on, and requests that act.
-ghost use Rattle.std.specs.Prelude.{◌≡◌, ◌+◌, ◌<◌, ◌≤◌, [], ◌∷◌, IfOk, IfErr, OnErr};
-ghost use Rattle.fabric_core.specs.declared.event.Event.TheVariants as events;
-ghost use Rattle.fabric_core.specs.declared.event.LaneName.TheVariants as lanes;
-ghost use Rattle.fabric_core.specs.declared.event.Seen.TheVariants as seen;
+ghost use Rattle.std.specs.Prelude.{◌≡◌, ◌↔◌, ◌<◌, ◌≤◌, IsTrue, IfOk, IfErr, OnErr};
+ghost use Rattle.fabric_core.specs.declared.event.Event.TheVariants.{Forward, Serve};
+ghost use Rattle.fabric_core.specs.declared.event.Seen.TheVariants.{At};
+ghost use Rattle.hall_laws.specs.Calls.{IsIdle, knowing, serving_also};
 ghost use Rattle.hall_laws.specs.Shows.{Shows};
-ghost use Rattle.hall_laws.specs.Calls.{IsSized, IsOf, IsIdle, knowing, serving_also};
-ghost use Rattle.hall_laws.specs.Rule.{Known};
-ghost use Rattle.hall_laws.specs.Standing.{token_of};
-ghost use Rattle.hall_events.specs.Holds.{having};
+ghost use Rattle.hall_laws.specs.Telling.{EventShows};
+ghost use Rattle.hall_events.specs.Desks.{knows, IsDesk, IsSame};
 ghost use Rattle.hall_events.specs.Refusals.{IsRefused};
-ghost use Rattle.hall_events.specs.Ways.{GoesDown, HasNoWayDown};
+ghost use Rattle.hall_events.specs.Ways.{LeadsIn, Leads, HasNoWay, ForwardOwes, ForwardIsRefused, PacketHasNoWay};
 
-use crate::events;
+use crate::desk::Desk;
 use crate::refusal::HallRefusal;
-use fabric_core::{LaneName, Refusal, Seen};
-use hall_laws::boxed::Boxed;
+use fabric_core::{LaneName, Refusal, Seen, events};
 use hall_laws::duties::{forwarding_out, forwarding_up, serving};
-use hall_laws::laws::{Place, Steps, event, put_back};
-use hall_laws::part::{Part, PartValue, lane_slot};
-use hall_laws::takes::{take_memory, take_receiver, take_sender};
-use lane_core::{ReceiverEnd, SenderEnd};
-use seq_memory::Memory;
+use hall_laws::part::Part;
+use lane_core::ReceiverEnd;
 use std::marker::Brand;
 use switch_core::{Port, RouteFault};
 
-/// The packet at this place of a requester's `up` lane goes into `in`.
-pub fn forward_up(
-    steps: &Steps,
-    place: &mut Place,
-    number: usize,
-    requesters: u8,
-    port: u8,
-    at: usize,
-) -> Result<Seen, HallRefusal>
-    requires table { IsSized steps.now.table_id requesters × IsOf steps.now.table_id requesters number place.old × (0 < port) × (port ≤ requesters) }
-    requires idle { IsIdle place.old.me }
-    ensures seat { (place.new.table_id ≡ place.old.table_id) × (place.new.id ≡ place.old.id) }
-    ensures same { place.new.me ≡ place.old.me }
-    ensures shows { IfOk result (λ what. Shows (token_of place.old.me.0).knows (events.Forward (lanes.Up port) at) what) }
-    ensures why { IfErr result (λ r. IsRefused (token_of place.old.me.0).knows (events.Forward (lanes.Up port) at) r) }
+/// A packet that goes on, over the receiver's end of its lane and the sender's end of the next, is that event of the
+/// fabric, which shows what is seen of it; where they refuse it, so does the fabric, and so it does where the packet has
+/// no way.
+fn forwarding()
+    ensures owes { ForwardOwes }
+    ensures refused { ForwardIsRefused }
+    ensures no_way { PacketHasNoWay }
+    ensures shown { EventShows }
 {
     forwarding_up();
-    let up = LaneName::Up(port);
-    let mut receiver = match take_receiver(steps, place, number, requesters, up) {
-        Ok(receiver) => receiver,
-        Err(word) => return Err(HallRefusal::Busy {
-            part: Part::ReceiverEnd(up),
-            word,
-        }),
-    };
-    let to = match events::destination(&receiver, at, Port::new(port)) {
-        Ok(to) => to,
-        Err(refusal) => {
-            put_back(
-                steps,
-                place,
-                lane_slot(up) + 3,
-                PartValue::Receiver(receiver),
-            );
-            return Err(HallRefusal::Core(refusal));
-        }
-    };
-    let mut sender = match take_sender(steps, place, number, requesters, LaneName::Inward) {
-        Ok(sender) => sender,
-        Err(word) => {
-            put_back(
-                steps,
-                place,
-                lane_slot(up) + 3,
-                PartValue::Receiver(receiver),
-            );
-            return Err(HallRefusal::Busy {
-                part: Part::SenderEnd(LaneName::Inward),
-                word,
-            });
-        }
-    };
-    match events::forward(&mut receiver, at, &mut sender) {
-        Ok(()) => {
-            place.turn();
-            event::<Brand, _>(
-                steps,
-                place,
-                lane_slot(up) + 3,
-                PartValue::Receiver(receiver),
-                &(1usize, &sender),
-            );
-            put_back(steps, place, 1, PartValue::Sender(sender));
-            Ok(Seen::To(to.number()))
-        }
-        Err(refusal) => {
-            put_back(steps, place, 1, PartValue::Sender(sender));
-            put_back(
-                steps,
-                place,
-                lane_slot(up) + 3,
-                PartValue::Receiver(receiver),
-            );
-            Err(HallRefusal::Core(refusal))
-        }
+    forwarding_out();
+}
+
+/// The fabric has this lane, and it leads to the switch.
+fn leads_in(name: LaneName, requesters: u8) -> bool
+    ensures { IsTrue result ↔ LeadsIn requesters name }
+{
+    match name {
+        LaneName::Up(port) => 0 < port && port <= requesters,
+        LaneName::Outward => true,
+        LaneName::Down(_) | LaneName::Inward => false,
     }
 }
 
-/// The port of the requester to which the packet at this place of `out` goes. `NotTakeable` where there is none or it
+/// The port to which the packet at this place of a lane goes, and the next lane. `NotTakeable` where there is none or it
 /// may not pass an earlier one, then `Route`.
-fn port_down(receiver: &Boxed<ReceiverEnd>, at: usize, requesters: u8) -> Result<u8, Refusal>
-    ensures ok { IfOk result (λ to. GoesDown receiver.now at requesters to) }
-    ensures refused { IfErr result (λ r. HasNoWayDown receiver.now at requesters r) }
+fn way(
+    name: LaneName,
+    receiver: &ReceiverEnd,
+    place: usize,
+    requesters: u8,
+) -> Result<(u8, LaneName), Refusal>
+    requires { LeadsIn requesters name × (requesters ≤ 7) }
+    ensures ok { IfOk result (λ w. Leads requesters name receiver.now place w.0 w.1) }
+    ensures refused { IfErr result (λ r. HasNoWay requesters name receiver.now place r) }
 {
-    let to = match events::destination(receiver, at, Port::MEMORY) {
-        Ok(to) => to.number(),
-        Err(refusal) => return Err(refusal),
-    };
+    if let LaneName::Up(port) = name {
+        let to = events::destination(receiver, place, Port::new(port))?;
+        return Ok((to.number(), LaneName::Inward));
+    }
+    let to = events::destination(receiver, place, Port::MEMORY)?.number();
     if to == 0 || to > requesters {
         return Err(Refusal::Route(RouteFault::NoPort));
     }
-    Ok(to)
+    Ok((to, LaneName::Down(to)))
 }
 
-/// The packet at this place of `out` goes into the `down` lane of its port.
-pub fn forward_out(
-    steps: &Steps,
-    place: &mut Place,
-    number: usize,
-    requesters: u8,
-    at: usize,
-) -> Result<Seen, HallRefusal>
-    requires table { IsSized steps.now.table_id requesters × IsOf steps.now.table_id requesters number place.old }
-    requires idle { IsIdle place.old.me }
-    ensures seat { (place.new.table_id ≡ place.old.table_id) × (place.new.id ≡ place.old.id) }
-    ensures same { place.new.me ≡ place.old.me }
-    ensures shows { IfOk result (λ what. Shows (token_of place.old.me.0).knows (events.Forward lanes.Outward at) what) }
-    ensures why { IfErr result (λ r. IsRefused (token_of place.old.me.0).knows (events.Forward lanes.Outward at) r) }
-{
-    forwarding_out();
-    let mut receiver = match take_receiver(steps, place, number, requesters, LaneName::Outward) {
-        Ok(receiver) => receiver,
-        Err(word) => return Err(HallRefusal::Busy {
-            part: Part::ReceiverEnd(LaneName::Outward),
-            word,
-        }),
-    };
-    let to = match port_down(&receiver, at, requesters) {
-        Ok(to) => to,
-        Err(refusal) => {
-            put_back(steps, place, 8, PartValue::Receiver(receiver));
-            return Err(HallRefusal::Core(refusal));
+impl<'a> Desk<'a> {
+    /// The packet at this place of a lane to the switch goes into the lane that leads to its port.
+    pub(crate) fn forward(&mut self, name: LaneName, place: usize) -> Result<Seen, HallRefusal>
+        requires desk { IsDesk self.old }
+        requires idle { IsIdle self.old.place.now.me }
+        ensures seat { IsSame self.old self.new }
+        ensures same { self.new.place.now.me ≡ self.old.place.now.me }
+        ensures shows { IfOk result (λ what. Shows (knows self.old) (Forward name place) what) }
+        ensures why { IfErr result (λ r. IsRefused (knows self.old) (Forward name place) r) }
+    {
+        forwarding();
+        if !leads_in(name, self.requesters) {
+            return Err(HallRefusal::Core(Refusal::NoSuchPart));
         }
-    };
-    let down = LaneName::Down(to);
-    let mut sender = match take_sender(steps, place, number, requesters, down) {
-        Ok(sender) => sender,
-        Err(word) => {
-            put_back(steps, place, 8, PartValue::Receiver(receiver));
-            return Err(HallRefusal::Busy {
-                part: Part::SenderEnd(down),
-                word,
-            });
-        }
-    };
-    match events::forward(&mut receiver, at, &mut sender) {
-        Ok(()) => {
-            place.turn();
-            event::<Brand, _>(
-                steps,
-                place,
-                8,
-                PartValue::Receiver(receiver),
-                &(to, &sender),
-            );
-            put_back(steps, place, lane_slot(down), PartValue::Sender(sender));
-            Ok(Seen::To(to))
-        }
-        Err(refusal) => {
-            put_back(steps, place, lane_slot(down), PartValue::Sender(sender));
-            put_back(steps, place, 8, PartValue::Receiver(receiver));
-            Err(HallRefusal::Core(refusal))
+        let mut one = self.take(Part::ReceiverEnd(name))?;
+        let (to, next) = match way(name, one.value.receiver(), place, self.requesters) {
+            Ok(way) => way,
+            Err(refusal) => return Err(self.refuse(one, refusal)),
+        };
+        let (mut one, mut two) = self.take_second(one, Part::SenderEnd(next))?;
+        match events::forward(one.value.receiver(), place, two.value.sender()) {
+            Ok(()) => {
+                self.happen(one, two);
+                Ok(Seen::To(to))
+            }
+            Err(refusal) => Err(self.refuse_both(one, two, refusal)),
         }
     }
-}
 
-/// The parts of a serving, in the order of their taking. `NotTakeable` where `in` alone shows that no request of this
-/// place may act.
-fn take_to_serve(
-    steps: &Steps,
-    place: &mut Place,
-    number: usize,
-    requesters: u8,
-    at: usize,
-) -> Result<(Boxed<ReceiverEnd>, Boxed<Memory>, Boxed<SenderEnd>), HallRefusal>
-    requires table { IsSized steps.now.table_id requesters × IsOf steps.now.table_id requesters number place.old }
-    requires idle { IsIdle place.old.me }
-    ensures seat { (place.new.table_id ≡ place.old.table_id) × (place.new.id ≡ place.old.id) }
-    ensures taken { IfOk result (λ t. place.new.me ≡ having (token_of place.old.me.0).knows ((5, PartValue.Sender t.2) ∷ ((0, PartValue.Memory t.1) ∷ ((4, PartValue.Receiver t.0) ∷ [])))) }
-    ensures known { IfOk result (λ _. Known place.new.me.0) }
-    ensures same { OnErr result (place.new.me ≡ place.old.me) }
-    ensures why { IfErr result (λ r. IsRefused (token_of place.old.me.0).knows (events.Serve at) r) }
-{
-    serving();
-    let receiver = match take_receiver(steps, place, number, requesters, LaneName::Inward) {
-        Ok(receiver) => receiver,
-        Err(word) => return Err(HallRefusal::Busy {
-            part: Part::ReceiverEnd(LaneName::Inward),
-            word,
-        }),
-    };
-    if !events::is_takeable(&receiver, at) {
-        put_back(steps, place, 4, PartValue::Receiver(receiver));
-        return Err(HallRefusal::Core(Refusal::NotTakeable));
-    }
-    let memory = match take_memory(steps, place, number, requesters) {
-        Ok(memory) => memory,
-        Err(word) => {
-            put_back(steps, place, 4, PartValue::Receiver(receiver));
-            return Err(HallRefusal::Busy {
-                part: Part::Memory,
-                word,
-            });
+    /// The request at this place of `in` acts on the memory. Gives its place in the history. `NotTakeable` where `in`
+    /// alone shows that no request of this place may act.
+    pub(crate) fn serve(&mut self, place: usize) -> Result<usize, HallRefusal>
+        requires desk { IsDesk self.old }
+        requires idle { IsIdle self.old.place.now.me }
+        ensures seat { IsSame self.old self.new }
+        ensures served { IfOk result (λ n. self.new.place.now.me ≡ knowing (serving_also n (knows self.old))) }
+        ensures refused { OnErr result (self.new.place.now.me ≡ self.old.place.now.me) }
+        ensures shows { IfOk result (λ n. Shows (knows self.old) (Serve place) (At n)) }
+        ensures why { IfErr result (λ r. IsRefused (knows self.old) (Serve place) r) }
+    {
+        serving();
+        let mut receiver = self.take(Part::ReceiverEnd(LaneName::Inward))?;
+        if !receiver.value.receiver().takeable(place) {
+            return Err(self.refuse(receiver, Refusal::NotTakeable));
         }
-    };
-    match take_sender(steps, place, number, requesters, LaneName::Outward) {
-        Ok(sender) => Ok((receiver, memory, sender)),
-        Err(word) => {
-            put_back(steps, place, 0, PartValue::Memory(memory));
-            put_back(steps, place, 4, PartValue::Receiver(receiver));
-            Err(HallRefusal::Busy {
-                part: Part::SenderEnd(LaneName::Outward),
-                word,
-            })
-        }
-    }
-}
-
-/// The request at this place of `in` acts on the memory. Gives its place in the history.
-pub fn serve(
-    steps: &Steps,
-    place: &mut Place,
-    number: usize,
-    requesters: u8,
-    at: usize,
-) -> Result<usize, HallRefusal>
-    requires table { IsSized steps.now.table_id requesters × IsOf steps.now.table_id requesters number place.old }
-    requires idle { IsIdle place.old.me }
-    ensures seat { (place.new.table_id ≡ place.old.table_id) × (place.new.id ≡ place.old.id) }
-    ensures served { IfOk result (λ n. place.new.me ≡ knowing (serving_also n (token_of place.old.me.0).knows)) }
-    ensures refused { IfErr result (λ _. place.new.me ≡ place.old.me) }
-    ensures shows { IfOk result (λ n. Shows (token_of place.old.me.0).knows (events.Serve at) (seen.At n)) }
-    ensures why { IfErr result (λ r. IsRefused (token_of place.old.me.0).knows (events.Serve at) r) }
-{
-    serving();
-    let (mut receiver, mut memory, mut sender) = match take_to_serve(
-        steps, place, number, requesters, at,
-    ) {
-        Ok(parts) => parts,
-        Err(refusal) => return Err(refusal),
-    };
-    match events::serve(&mut receiver, at, &mut memory, &mut sender) {
-        Ok(n) => {
-            place.turn();
-            place.turn();
-            event::<Brand, _>(
-                steps,
-                place,
-                4,
-                PartValue::Receiver(receiver),
-                &(at, n, &memory, &sender),
-            );
-            place.turn();
-            put_back(steps, place, 0, PartValue::Memory(memory));
-            put_back(steps, place, 5, PartValue::Sender(sender));
-            Ok(n)
-        }
-        Err(refusal) => {
-            put_back(steps, place, 5, PartValue::Sender(sender));
-            put_back(steps, place, 0, PartValue::Memory(memory));
-            put_back(steps, place, 4, PartValue::Receiver(receiver));
-            Err(HallRefusal::Core(refusal))
+        let (receiver, memory) = self.take_second(receiver, Part::Memory)?;
+        let (mut receiver, mut memory, mut sender) = self.take_third(
+            receiver,
+            memory,
+            Part::SenderEnd(LaneName::Outward),
+        )?;
+        match events::serve(
+            receiver.value.receiver(),
+            place,
+            memory.value.memory(),
+            sender.value.sender(),
+        ) {
+            Ok(n) => {
+                self.place.turn();
+                self.place.turn();
+                self.event::<Brand, _>(receiver, &(n, &memory, &sender));
+                self.place.turn();
+                self.put_back(memory);
+                self.put_back(sender);
+                Ok(n)
+            }
+            Err(refusal) => {
+                self.put_back(sender);
+                Err(self.refuse_both(receiver, memory, refusal))
+            }
         }
     }
 }

@@ -275,7 +275,7 @@ put_back_releases [] k v some_token held apart = absurd (omega arith)
 put_back_releases (t ∷ ts) k v some_token held apart = back_releases t ts ts k v (drop 1 t.held) held apart t.knows refl (same_alike ts) (λ s sound at f. f) refl
 
 -- the memory is put back, and all tokens have seen its history
-pub put_back_seen_releases : (ts : List Token) (k : ℕ) (m : Rattle.seq_memory.specs.History.State) → k ≡ 0 → 0 < length ts → (token_of ts).held ≡ (k, Memory m) ∷ drop 1 (token_of ts).held → Outside k (drop 1 (token_of ts).held)
+pub put_back_seen_releases : (ts : List Token) (k : ℕ) (m : Rattle.seq_memory.specs.History.MemoryView) → k ≡ 0 → 0 < length ts → (token_of ts).held ≡ (k, Memory m) ∷ drop 1 (token_of ts).held → Outside k (drop 1 (token_of ts).held)
     → Releases ts k (Memory m) (dropped_seen m.entries ts)
 put_back_seen_releases [] k m is some_token held apart = absurd (omega arith)
 put_back_seen_releases (t ∷ ts) k m is some_token held apart = back_releases t ts (map (having_seen m.entries) ts) k (Memory m) (drop 1 t.held) held apart (record t.knows { seen = m.entries }) refl (seen_alike m.entries ts)

@@ -7,7 +7,11 @@ use Rattle.fabric_core.specs.declared.event.LaneName.{LaneName}
 use Rattle.fabric_core.specs.declared.event.LaneName.TheVariants.{Up, Down, Inward, Outward}
 use Rattle.fabric_core.specs.Steps.{HasLanes}
 use Rattle.hall_laws.specs.declared.part.PartValue.{PartValue}
-use Rattle.hall_laws.specs.Parts.{ends, parts_of, lane_slot, HasLane, IsLaneName, with_lane}
+use Rattle.hall_laws.specs.declared.part.Part.{Part}
+use Rattle.hall_laws.specs.declared.part.Part.TheVariants as names
+use Rattle.hall_laws.specs.Parts.{ends, parts_of, lane_slot, part_slot, HasLane, IsLaneName, IsPartName, with_lane}
+use Rattle.atomic_table.specs.Seated.{TableId}
+use Rattle.hall_laws.specs.Calls.{IsSized, HasSlot}
 use Rattle.hall_laws.proofs.Parts.{has_at, get_set, set_twice, put_end}
 
 pub lane_there : (f : Fabric) → HasLanes f → (name : LaneName) → IsLaneName (length f.requesters) name → (e : LaneEndsView) × HasLane f name e
@@ -60,3 +64,15 @@ in_table count (Up port) c n small = let a = n.0 in let b = n.1 in omega arith
 in_table count (Down port) c n small = let a = n.0 in let b = n.1 in omega arith
 in_table count Inward c n small = omega arith
 in_table count Outward c n small = omega arith
+
+-- and those of all parts
+pub part_in_table : (count : ℕ) (part : Part) → IsPartName count part → part_slot part < 9 * (1 + count)
+part_in_table count names.Memory n = omega arith
+part_in_table count (names.Requester port) n = let a = n.0 in let b = n.1 in omega arith
+part_in_table count (names.SenderEnd name) n = let small = in_table count name 0 n (omega arith) in omega (arith, small)
+part_in_table count (names.ForwardWire name) n = in_table count name 1 n (omega arith)
+part_in_table count (names.BackWire name) n = in_table count name 2 n (omega arith)
+part_in_table count (names.ReceiverEnd name) n = in_table count name 3 n (omega arith)
+
+pub part_within : (z : TableId) (count : ℕ) (part : Part) → IsSized z count → IsPartName count part → HasSlot z (part_slot part)
+part_within z count part sized named = let small = part_in_table count part named in (omega (arith, sized.0, small), omega (arith, sized.1, small), omega (arith, sized.1, sized.2))

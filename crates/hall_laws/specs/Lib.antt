@@ -1,4 +1,5 @@
 pub mod Parts
+pub mod Lending
 pub mod Standing
 pub mod Waiting
 pub mod Rule

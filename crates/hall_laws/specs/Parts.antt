@@ -3,8 +3,11 @@
 use Rattle.std.specs.Prelude.{ℕ, ◌≡◌, ◌<◌, ◌≤◌, suc, ◌+◌, ◌*◌, List, [], ◌∷◌, ◌++◌, Some, slice_get}
 use mathlib.Core.Option.{some}
 use lib.ListN.{get_elem?}
+use Rattle.dllp_core.specs.declared.packet.Dllp.{Dllp}
+use Rattle.seq_memory.specs.History.{MemoryView}
 use Rattle.requester_core.specs.RequesterView.{RequesterView}
-use Rattle.lane_ends.specs.Steps.{LaneEndsView}
+use Rattle.lane_ends.specs.declared.packet.WirePacket.{WirePacket}
+use Rattle.lane_ends.specs.Steps.{LaneEndsView, ReceiverEndView, SenderEndView}
 use Rattle.fabric_laws.specs.Fabric.{Fabric}
 use Rattle.fabric_core.specs.declared.event.LaneName.{LaneName}
 use Rattle.fabric_core.specs.declared.event.LaneName.TheVariants.{Up, Down, Inward, Outward}
@@ -74,6 +77,34 @@ IsPartName count (names.SenderEnd name) = IsLaneName count name
 IsPartName count (names.ForwardWire name) = IsLaneName count name
 IsPartName count (names.BackWire name) = IsLaneName count name
 IsPartName count (names.ReceiverEnd name) = IsLaneName count name
+
+-- the kinds of parts
+abbrev pub IsMemory : PartValue → Type 0
+IsMemory v = (m : MemoryView) × (v ≡ Memory m)
+
+abbrev pub IsRequester : PartValue → Type 0
+IsRequester v = (q : RequesterView) × (v ≡ Requester q)
+
+abbrev pub IsSender : PartValue → Type 0
+IsSender v = (s : SenderEndView) × (v ≡ Sender s)
+
+abbrev pub IsForward : PartValue → Type 0
+IsForward v = (w : List WirePacket) × (v ≡ Forward w)
+
+abbrev pub IsBack : PartValue → Type 0
+IsBack v = (b : List Dllp) × (v ≡ Back b)
+
+abbrev pub IsReceiver : PartValue → Type 0
+IsReceiver v = (r : ReceiverEndView) × (v ≡ Receiver r)
+
+-- the part of that name is of this kind
+abbrev pub IsPartValue : Part → PartValue → Type 0
+IsPartValue names.Memory v = IsMemory v
+IsPartValue (names.Requester port) v = IsRequester v
+IsPartValue (names.SenderEnd name) v = IsSender v
+IsPartValue (names.ForwardWire name) v = IsForward v
+IsPartValue (names.BackWire name) v = IsBack v
+IsPartValue (names.ReceiverEnd name) v = IsReceiver v
 
 -- the requester of a port stands at its slot
 abbrev pub RequestersAreInSlots : Type 0

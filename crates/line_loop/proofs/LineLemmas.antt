@@ -1,5 +1,5 @@
 -- What each line feed, and the end of the input, does to an engine's stand.
-use Rattle.std.proofs.Common.{◌≡◌, ◌≢◌, ◌<◌, ◌+◌, ◌-◌, ℕ, true, List, [], ◌∷◌, ◌++◌, ◌∙◌, if◌then◌else◌, length, take, refl, ap, ap₂, sym, append_assoc, arith, filter, fold, All, nat_lt, inl, inr, subst, Option, Some, None, IfSome, Result, Ok, Err, OnOk, OnErr}
+use Rattle.std.proofs.Common.{◌≡◌, ◌≢◌, ◌<◌, ℕ, true, List, [], ◌∷◌, ◌++◌, ◌∙◌, if◌then◌else◌, length, take, refl, ap, ap₂, sym, append_assoc, arith, filter, fold, All, nat_lt, inl, inr, subst, Option, Some, None, IfSome, Result, Ok, Err, OnOk, OnErr}
 use Rattle.std.specs.Io.KnownBytes.{Consumes, IsAtEnd}
 use Rattle.std.specs.Io.BufRead.{ends_with_byte}
 use Rattle.std.proofs.lemmas.Bool.{cases_lt}
@@ -7,8 +7,8 @@ use Rattle.std.proofs.lemmas.Bool.Decides.{nat_tests}
 use Rattle.std.proofs.lemmas.List.{append-nil, take-append-le, take_all, length-take-le}
 use Rattle.std.proofs.lemmas.List.Sums.{fold-append}
 use Rattle.std.proofs.lemmas.List.Elements.{filter-append, All-nil, All-append}
-use Rattle.line_loop.specs.LineFacts.{NoFeed, no_feed, lines_of-feed, lines_of-last, ends-feed, bare-feed, ends-last}
-use Rattle.line_loop.specs.Lines.{lines_of, ended_lines, bare}
+use Rattle.text_lines.specs.LineFacts.{NoFeed, no_feed, lines_of-feed, lines_of-last, ends-feed, bare-feed, ends-last}
+use Rattle.text_lines.specs.Lines.{lines_of, ended_lines}
 use Rattle.line_loop.specs.Run.{Responses, Run, Answer, answer_to, after_line, after_end, with_answer, new_run, run_of, IsBeginning}
 use Rattle.line_loop.specs.Engine.{Stands, Begins, IsAnswered, run_at, on_ended_line, on_last_line}
 

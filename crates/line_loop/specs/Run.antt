@@ -1,7 +1,9 @@
 -- What a subcommand makes of its input, line by line.
-use Rattle.std.specs.Prelude.{◌≡◌, ◌⊎◌, ℕ, List, [], ◌++◌, Bool, nat_lt, if◌then◌else◌, length, fold, Option, IfSome}
+use Rattle.std.specs.Prelude.{◌≡◌, ◌⊎◌, ℕ, List, [], ◌++◌, Bool, true, false, nat_lt, if◌then◌else◌, length, fold, Option, IfSome}
 use Rattle.std.specs.Io.KnownBytes.{Appends, Consumes, IsAtEnd}
-use Rattle.line_loop.specs.Lines.{lines_of, ended_lines, bare, said}
+use Rattle.text_lines.specs.Lines.{lines_of, ended_lines, bare, said}
+use Rattle.line_loop.specs.declared.verdict.Verdict.{Verdict}
+use Rattle.line_loop.specs.declared.verdict.Verdict.TheVariants as verdicts
 
 -- what one line makes: the state after it, the text that is written, and whether the exit status tells a fault
 pub record Answer (S : Type 0) : Type 0 where
@@ -45,11 +47,15 @@ new_run start = record { state = start; text = []; status = 0 }
 abbrev pub run_of : {S : Type 0} → Responses S → S → List ℕ → Run S
 run_of r start input = after_end r (fold (after_line r) (new_run start) (lines_of input))
 
--- a call made this answer: it left this state, wrote this text, and told this
-pub record IsAnswer {S : Type 0} (new : S) (before after : List ℕ) (told : Bool) (a : Answer S) : Type 0 where
+abbrev pub is_fault : Verdict → Bool
+is_fault verdicts.Fine = false
+is_fault verdicts.Fault = true
+
+-- a call made this answer: it left this state, wrote this text, and returned this verdict
+pub record IsAnswer {S : Type 0} (new : S) (before after : List ℕ) (verdict : Verdict) (a : Answer S) : Type 0 where
   pub state : new ≡ a.state
   pub text : after ≡ before ++ a.text
-  pub is_fault : told ≡ a.is_fault
+  pub is_fault : is_fault verdict ≡ a.is_fault
 
 -- the first is a first part of the second, perhaps all of it
 abbrev pub IsBeginning : List ℕ → List ℕ → Type 0

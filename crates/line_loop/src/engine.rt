@@ -2,19 +2,18 @@
 ghost use Rattle.std.specs.Prelude.{◌≡◌, ◌≢◌, ◌≤◌, ◌++◌, List, ℕ, [], take, length, OnOk, IfOk, IfErr, OnErr, if◌then◌else◌};
 ghost use Rattle.std.specs.Io.BufRead.{strip_last};
 ghost use Rattle.std.specs.Io.KnownBytes.{Appends};
-ghost use Rattle.line_loop.specs.Run.{IsAnswer, IsBeginning, IsCaughtUp, IsWhole, IsPart, run_of};
+ghost use Rattle.line_loop.specs.Run.{IsAnswer, IsBeginning, IsCaughtUp, IsWhole, IsPart, is_fault, run_of};
 ghost use Rattle.line_loop.specs.Engine.{Stands, Begins, IsAnswered, on_said, on_ended_line, on_last_line};
 
 use crate::fault::EngineFault;
 use crate::output::write_out;
 use crate::responder::Responder;
+use crate::verdict::Verdict;
 use arrayvec::ArrayVec;
 use memchr::memchr;
 use std::alloc::{AllocError, Global};
 use std::io::{Read, Write};
-
-/// The most bytes that a line may have before its line feed: 512.
-pub const MAX_LINE: usize = 512;
+use text_lines::{MAX_LINE, is_too_long, without_return};
 
 /// What is kept of an unfinished line: one byte more than a line may have.
 const KEPT: usize = MAX_LINE + 1;
@@ -22,29 +21,19 @@ const KEPT: usize = MAX_LINE + 1;
 /// How many bytes are read at once, at most.
 const BLOCK: usize = 8192;
 
-/// The line with no carriage return at its end.
-pub fn without_return(line: &[u8]) -> &[u8]
-    ensures { result.now ≡ strip_last 13 line.now }
-{
-    match line {
-        [front @ .., b'\r'] => front,
-        _ => line,
-    }
-}
-
 /// Answers a line, of which this is said if it isn't too long.
 fn answer<P: Responder>(
     responder: &mut P,
     line: &[u8],
     said: &[u8],
     out: &mut Vec<u8>,
-) -> Result<bool, AllocError>
+) -> Result<Verdict, AllocError>
     requires { length said.now ≤ length line.now }
-    ensures ok { IfOk result (λ told. IsAnswer responder.new out.old.items out.new.items told
+    ensures ok { IfOk result (λ verdict. IsAnswer responder.new out.old.items out.new.items verdict
         (on_said P.responses responder.old line.now said.now)) }
     ensures err { OnErr result (out.new.items ≡ out.old.items) }
 {
-    if line.len() > MAX_LINE {
+    if is_too_long(line) {
         responder.on_long_line(out)
     } else {
         responder.on_line(said, out)
@@ -56,8 +45,8 @@ fn answer_ended<P: Responder>(
     responder: &mut P,
     line: &[u8],
     out: &mut Vec<u8>,
-) -> Result<bool, AllocError>
-    ensures ok { IfOk result (λ told. IsAnswer responder.new out.old.items out.new.items told
+) -> Result<Verdict, AllocError>
+    ensures ok { IfOk result (λ verdict. IsAnswer responder.new out.old.items out.new.items verdict
         (on_ended_line P.responses responder.old line.now)) }
     ensures err { OnErr result (out.new.items ≡ out.old.items) }
 {
@@ -69,8 +58,8 @@ fn answer_last<P: Responder>(
     responder: &mut P,
     line: &[u8],
     out: &mut Vec<u8>,
-) -> Result<bool, AllocError>
-    ensures ok { IfOk result (λ told. IsAnswer responder.new out.old.items out.new.items told
+) -> Result<Verdict, AllocError>
+    ensures ok { IfOk result (λ verdict. IsAnswer responder.new out.old.items out.new.items verdict
         (on_last_line P.responses responder.old line.now)) }
     ensures err { OnErr result (out.new.items ≡ out.old.items) }
 {
@@ -102,14 +91,14 @@ impl<P: Responder> Engine<P> {
         }
     }
 
-    /// Notes what an answer told.
-    fn note(&mut self, is_fault: bool)
-        ensures status { self.new.status ≡ (if is_fault then 1 else self.old.status) }
+    /// Notes the verdict of an answer.
+    fn note(&mut self, verdict: Verdict)
+        ensures status { self.new.status ≡ (if is_fault verdict then 1 else self.old.status) }
         ensures responder { self.new.responder ≡ self.old.responder }
         ensures line { self.new.line.items ≡ self.old.line.items }
         ensures pending { self.new.pending.items ≡ self.old.pending.items }
     {
-        if is_fault {
+        if verdict.is_fault() {
             self.status = 1;
         }
     }
@@ -136,13 +125,13 @@ impl<P: Responder> Engine<P> {
         ensures err { OnErr result (self.new.pending.items ≡ self.old.pending.items) }
     {
         if self.line.is_empty() {
-            let told = answer_ended(&mut self.responder, tail, &mut self.pending)?;
-            self.note(told);
+            let verdict = answer_ended(&mut self.responder, tail, &mut self.pending)?;
+            self.note(verdict);
             return Ok(());
         }
         self.keep(tail);
-        let told = answer_ended(&mut self.responder, self.line.as_slice(), &mut self.pending)?;
-        self.note(told);
+        let verdict = answer_ended(&mut self.responder, self.line.as_slice(), &mut self.pending)?;
+        self.note(verdict);
         self.line.clear();
         Ok(())
     }
@@ -177,8 +166,8 @@ impl<P: Responder> Engine<P> {
         if self.line.is_empty() {
             return Ok(());
         }
-        let told = answer_last(&mut self.responder, self.line.as_slice(), &mut self.pending)?;
-        self.note(told);
+        let verdict = answer_last(&mut self.responder, self.line.as_slice(), &mut self.pending)?;
+        self.note(verdict);
         Ok(())
     }
 
@@ -193,8 +182,8 @@ impl<P: Responder> Engine<P> {
             → IsBeginning (written ++ self.new.pending.items) (run_of P.responses start read).text) }
     {
         self.end_last()?;
-        let told = self.responder.on_end(&mut self.pending)?;
-        self.note(told);
+        let verdict = self.responder.on_end(&mut self.pending)?;
+        self.note(verdict);
         Ok(())
     }
 }
@@ -256,7 +245,7 @@ impl<P: Responder> Engine<P> {
 }
 
 /// Answers the reader's input to its end, a block at a time: the answers to the lines that have
-/// ended are written before more is read. `Ok` is the exit status, 1 where an answer told a fault.
+/// ended are written before more is read. `Ok` is the exit status, 1 if the verdict of an answer was a fault.
 pub fn run<P: Responder, R: Read, W: Write>(
     alloc: Global,
     responder: P,

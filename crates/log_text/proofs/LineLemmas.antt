@@ -2,9 +2,9 @@
 use Rattle.std.proofs.Common.{◌≡◌, ◌≢◌, ◌<◌, ◌+◌, ℕ, true, List, [], ◌∷◌, ◌++◌, ◌∙◌, ◌==◌, length, take, drop, slice_index, refl, sym, ap, append_assoc, fold, All, inl, inr}
 use Rattle.std.proofs.lemmas.List.Sums.{fold-append}
 use Rattle.std.specs.Prelude.{Bool, false, cond, nat_lt, Option, Some}
-use Rattle.line_loop.specs.Lines.{lines_of, bare}
-use Rattle.line_loop.specs.LineFacts.{no_feed, lines_of-feed, lines_of-last, bare-feed, ends-feed, ends-last}
-use Rattle.line_loop.specs.LineFacts.{cut-at as cut-behind}
+use Rattle.text_lines.specs.Lines.{lines_of, bare}
+use Rattle.text_lines.specs.LineFacts.{no_feed, lines_of-feed, lines_of-last, bare-feed, ends-feed, ends-last}
+use Rattle.text_lines.specs.LineFacts.{cut-at as cut-behind}
 use Rattle.trace_text.specs.declared.fault.ReadFault.{ReadFault}
 use Rattle.log_text.specs.LogReaderView.{LogReaderView, nothing_read, take_line, adds_by, reading_of, fault_at_next, fault_or_end, at_end, Tells}
 use Rattle.trace_text.specs.declared.fault.ReadFaultKind.TheVariants as faults

@@ -1,5 +1,5 @@
 -- The forms of a log's lines: those of a trace of version 2, whose records have no n.
-use Rattle.std.specs.Prelude.{if◌then◌else◌, List, [], ◌∷◌, Option, Some, None, codes, bytes_eq}
+use Rattle.std.specs.Prelude.{ℕ, if◌then◌else◌, List, [], ◌∷◌, Option, Some, None, codes, bytes_eq}
 use Rattle.seq_memory.specs.Limits.{Extent, is_within_limits}
 use Rattle.history_check.specs.declared.Record.TheVariants as records
 use Rattle.operation_text.specs.Words.{words, then_with, field, ended}

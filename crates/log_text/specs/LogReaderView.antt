@@ -1,6 +1,6 @@
 -- What a text of a log is read as, line by line; and a text that has a log or a trace.
 use Rattle.std.specs.Prelude.{ℕ, ◌≡◌, ◌+◌, ◌-◌, ◌^◌, ◌⊎◌, ◌&&◌, Bool, true, false, not, min, nat_lt, if◌then◌else◌, List, [], ◌∷◌, ◌++◌, length, fold, Option, Some, None, is_some, Result, Ok, Err}
-use Rattle.line_loop.specs.Lines.{lines_of, bare, said}
+use Rattle.text_lines.specs.Lines.{lines_of, bare, said, is_skipped}
 use Rattle.seq_memory.specs.Limits.{Extent}
 use Rattle.history_check.specs.declared.Record.{Record}
 use Rattle.history_check.specs.Claim.{Claim}
@@ -8,7 +8,6 @@ use Rattle.history_check.specs.TraceView.{TraceView}
 use Rattle.trace_text.specs.declared.fault.ReadFault.{ReadFault}
 use Rattle.trace_text.specs.declared.fault.ReadFaultKind.{ReadFaultKind}
 use Rattle.trace_text.specs.declared.fault.ReadFaultKind.TheVariants as faults
-use Rattle.operation_text.specs.Words.{is_skipped}
 use Rattle.trace_text.specs.TraceReaderView as traces
 use Rattle.log_text.specs.declared.line.LogLine.{LogLine}
 use Rattle.log_text.specs.declared.line.LogLine.TheVariants as lines

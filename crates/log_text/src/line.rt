@@ -1,16 +1,16 @@
 //! The forms of lines.
-ghost use Rattle.std.specs.Prelude.{◌≡◌, option_map};
-ghost use Rattle.operation_text.specs.Words.{words, words_behind, first_field};
-ghost use Rattle.trace_text.specs.Forms as fields;
+ghost use Rattle.std.specs.Prelude.{◌≡◌};
+ghost use Rattle.std.specs.Result.{result_ok};
+ghost use Rattle.operation_text.specs.Words.{words, words_behind};
 ghost use Rattle.log_text.specs.Forms as forms;
 
 use history_check::Record;
-use operation_text::{BASE, BLOCK, Expected, SIZE, alone, cut, number, op_behind, reply_behind};
+use operation_text::{BASE, Expected, Misfit, SIZE, alone, cut, number, op_behind, reply_behind};
 use seq_memory::Extent;
+use trace_text::{block, count, no_memory, request, requester};
 
-const REQUESTER: Expected = Expected::Between("a requester", 1, 7);
-
-const NUMBER: Expected = Expected::Between("a request's number", 0, 4_294_967_294);
+/// A line, by its first word.
+const LINE: Expected = Expected::Of("a line of a log", "pciex-log, memory, sub, ans, end");
 
 /// What a line of a log says.
 #[derive(Drop)]
@@ -21,65 +21,39 @@ pub(crate) enum LogLine {
     End,
 }
 
-fn requester(rest: Option<&[u8]>) -> Option<(u8, Option<&[u8]>)>
-    ensures { first_field fields.requester (words_behind rest.entry) ≡ option_map (λ s. (s.0, words_behind s.1)) result }
+/// The line of a memory, if there can be one of that base and size, which come in `place`.
+fn memory_within(
+    base: u64,
+    size: usize,
+    block: u16,
+    place: Option<&[u8]>,
+    rest: Option<&[u8]>,
+) -> Result<LogLine, Misfit>
+    ensures { result_ok result ≡ forms.memory_within (record { base = base; size = size; block = block }) (words_behind rest.entry) }
 {
-    let (requester, rest) = number(rest, 10, 7, REQUESTER).ok()?;
-    if requester == 0 {
-        return None;
+    match Extent::new(base, size, block) {
+        Some(extent) => alone(LogLine::Memory(extent), rest),
+        None => Err(no_memory(size, place)),
     }
-    Some((requester as u8, rest))
 }
 
-/// The number of a request.
-fn request(rest: Option<&[u8]>) -> Option<(u32, Option<&[u8]>)>
-    ensures { first_field fields.number (words_behind rest.entry) ≡ option_map (λ s. (s.0, words_behind s.1)) result }
+fn memory(place: Option<&[u8]>) -> Result<LogLine, Misfit>
+    ensures { result_ok result ≡ forms.memory_of (words_behind place.entry) }
 {
-    let (request, rest) = number(rest, 10, 4_294_967_294, NUMBER).ok()?;
-    Some((request as u32, rest))
-}
-
-fn count(rest: Option<&[u8]>) -> Option<(u64, Option<&[u8]>)>
-    ensures { first_field fields.count (words_behind rest.entry) ≡ option_map (λ s. (s.0, words_behind s.1)) result }
-{
-    number(rest, 10, u64::MAX, SIZE).ok()
-}
-
-fn block(rest: Option<&[u8]>) -> Option<(u16, Option<&[u8]>)>
-    ensures { first_field fields.block (words_behind rest.entry) ≡ option_map (λ s. (s.0, words_behind s.1)) result }
-{
-    let (block, rest) = number(rest, 10, 128, BLOCK).ok()?;
-    if block == 64 || block == 128 {
-        return Some((block as u16, rest));
-    }
-    None
-}
-
-/// The line of a memory, if there can be one of that base and size.
-fn memory_within(base: u64, size: usize, block: u16, rest: Option<&[u8]>) -> Option<LogLine>
-    ensures { result ≡ forms.memory_within (record { base = base; size = size; block = block }) (words_behind rest.entry) }
-{
-    let extent = Extent::new(base, size, block)?;
-    alone(LogLine::Memory(extent), rest).ok()
-}
-
-fn memory(rest: Option<&[u8]>) -> Option<LogLine>
-    ensures { result ≡ forms.memory_of (words_behind rest.entry) }
-{
-    let (base, rest) = number(rest, 16, u64::MAX, BASE).ok()?;
-    let (size, rest) = count(rest)?;
+    let (base, rest) = number(place, 16, u64::MAX, BASE)?;
+    let (size, rest) = count(rest, SIZE)?;
     let size = size as usize;
     let (block, rest) = block(rest)?;
-    memory_within(base, size, block, rest)
+    memory_within(base, size, block, place, rest)
 }
 
-fn sub(rest: Option<&[u8]>) -> Option<LogLine>
-    ensures { result ≡ forms.sub_of (words_behind rest.entry) }
+fn sub(rest: Option<&[u8]>) -> Result<LogLine, Misfit>
+    ensures { result_ok result ≡ forms.sub_of (words_behind rest.entry) }
 {
     let (requester, rest) = requester(rest)?;
     let (number, rest) = request(rest)?;
-    let op = op_behind(rest).ok()?;
-    Some(LogLine::Record(Record::Sub {
+    let op = op_behind(rest)?;
+    Ok(LogLine::Record(Record::Sub {
         requester,
         number,
         op,
@@ -87,13 +61,13 @@ fn sub(rest: Option<&[u8]>) -> Option<LogLine>
     }))
 }
 
-fn ans(rest: Option<&[u8]>) -> Option<LogLine>
-    ensures { result ≡ forms.ans_of (words_behind rest.entry) }
+fn ans(rest: Option<&[u8]>) -> Result<LogLine, Misfit>
+    ensures { result_ok result ≡ forms.ans_of (words_behind rest.entry) }
 {
     let (requester, rest) = requester(rest)?;
     let (number, rest) = request(rest)?;
-    let reply = reply_behind(rest).ok()?;
-    Some(LogLine::Record(Record::Ans {
+    let reply = reply_behind(rest)?;
+    Ok(LogLine::Record(Record::Ans {
         requester,
         number,
         reply,
@@ -102,8 +76,8 @@ fn ans(rest: Option<&[u8]>) -> Option<LogLine>
 }
 
 /// The line of that kind that the rest of it spells.
-fn line_by(kind: &[u8], rest: Option<&[u8]>) -> Option<LogLine>
-    ensures { result ≡ forms.line_by kind.now (words_behind rest.entry) }
+fn line_by(kind: &[u8], rest: Option<&[u8]>, text: &[u8]) -> Result<LogLine, Misfit>
+    ensures { result_ok result ≡ forms.line_by kind.now (words_behind rest.entry) }
 {
     if kind == b"sub".as_slice() {
         sub(rest)
@@ -112,25 +86,25 @@ fn line_by(kind: &[u8], rest: Option<&[u8]>) -> Option<LogLine>
     } else if kind == b"memory".as_slice() {
         memory(rest)
     } else if kind == b"end".as_slice() {
-        alone(LogLine::End, rest).ok()
+        alone(LogLine::End, rest)
     } else {
-        None
+        Err(LINE.at(Some(text)))
     }
 }
 
-fn line_in_words(text: &[u8]) -> Option<LogLine>
-    ensures { result ≡ forms.line_in_words (words text.now) }
+fn line_in_words(text: &[u8]) -> Result<LogLine, Misfit>
+    ensures { result_ok result ≡ forms.line_in_words (words text.now) }
 {
     let (kind, rest) = cut(text);
-    line_by(kind, rest)
+    line_by(kind, rest, text)
 }
 
 /// The line that the text spells.
-pub(crate) fn read_line(text: &[u8]) -> Option<LogLine>
-    ensures { result ≡ forms.line_of text.now }
+pub(crate) fn read_line(text: &[u8]) -> Result<LogLine, Misfit>
+    ensures { result_ok result ≡ forms.line_of text.now }
 {
     if text == b"pciex-log 1".as_slice() {
-        Some(LogLine::Head)
+        Ok(LogLine::Head)
     } else {
         line_in_words(text)
     }

@@ -7,6 +7,7 @@ use history_check::{Record, Trace};
 use seq_memory::{Extent, MIN_SIZE};
 use std::alloc::{AllocError, Global};
 use std::marker::Model;
+use text_lines::is_skipped;
 use trace_text::{ReadFault, ReadFaultKind};
 
 /// The part of the text that goes on.
@@ -182,13 +183,13 @@ impl LogReader {
         if self.fault.is_some() {
             return Ok(());
         }
-        if line.is_empty() || line[0] == b'#' {
+        if is_skipped(line) {
             self.count();
             return Ok(());
         }
         match read_line(line) {
-            Some(line) => self.place(line),
-            None => {
+            Ok(line) => self.place(line),
+            Err(_) => {
                 self.refuse();
                 Ok(())
             }

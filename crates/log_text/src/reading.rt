@@ -6,9 +6,9 @@ ghost use Rattle.log_text.specs.Endings.{on_said, on_ended_line, on_last_line, a
 
 use crate::reader::LogReader;
 use history_check::Trace;
-use line_loop::{MAX_LINE, without_return};
 use memchr::memchr;
 use std::alloc::{AllocError, Global};
+use text_lines::{is_too_long, without_return};
 use trace_text::{ReadFault, ReadFaultKind, read_trace};
 
 /// Takes a line, of which this is said if it isn't too long.
@@ -17,7 +17,7 @@ fn take(reader: &mut LogReader, line: &[u8], said: &[u8]) -> Result<(), AllocErr
     ensures err { OnErr result (reader.new ≡ reader.old) }
     ensures adds { OnErr result (adds_said reader.old line.now said.now ≡ true) }
 {
-    if line.len() > MAX_LINE {
+    if is_too_long(line) {
         reader.long_line();
         return Ok(());
     }

@@ -12,10 +12,10 @@ ghost use Rattle.seq_memory.specs.Limits.{IsBlock};
 ghost use Rattle.seq_memory.specs.Step.{after, answer};
 ghost use Rattle.memory_undo.specs.Saved.{saved_at};
 
-use crate::serving::refusal;
 use arrayvec::ArrayVec;
 use seq_memory::laws::{only_the_place_changes, refused_and_read_change_nothing};
 use seq_memory::{Refusal, Reply, perform};
+pub use serving::refusal;
 use tlp_core::{MAX_PAYLOAD, Op};
 
 /// The bytes as data.

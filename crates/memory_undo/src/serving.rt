@@ -30,7 +30,7 @@ fn is_inside(base: u64, size: usize, address: u64, count: u32) -> bool
 }
 
 /// Why the operation is not served, none where it is.
-pub(crate) fn refusal(base: u64, block: u16, size: usize, op: &Op) -> Option<Refusal>
+pub fn refusal(base: u64, block: u16, size: usize, op: &Op) -> Option<Refusal>
     requires { IsBlock block }
     ensures value { result ≡ step.refusal base size block op.now }
     ensures few { IfNone result (count_of op.now ≤ 128) }

@@ -3,11 +3,6 @@ use Rattle.std.specs.Prelude.{ℕ, ◌==◌, Bool, true, false, if◌then◌else
 use Rattle.std.specs.Borrow.{Bor}
 use Rattle.std.specs.List.{slice_split}
 
--- an empty line, and one that begins with `#`, says nothing
-abbrev pub is_skipped : List ℕ → Bool
-is_skipped [] = true
-is_skipped (c ∷ cs) = c == 35
-
 abbrev pub is_space : ℕ → Bool
 is_space c = c == 32
 

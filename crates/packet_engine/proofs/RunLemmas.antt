@@ -19,9 +19,10 @@ use Rattle.packet_text.specs.Texts.{packet_text}
 use Rattle.packet_text.specs.Lines.{BeginsWithLetter}
 use Rattle.packet_text.specs.Forms.{text_reading}
 use Rattle.hex_text.specs.Line.{digits_of}
-use Rattle.line_loop.specs.Lines.{lines_of, bare, said}
+use Rattle.text_lines.specs.Lines.{lines_of, bare, said, is_skipped}
+use Rattle.text_lines.specs.LineFacts.{ends-feed, bare-feed}
 use Rattle.line_loop.specs.Run.{Answer, Run, answer_to, after_line, with_answer, new_run}
-use Rattle.packet_engine.specs.Lines.{State, told, bytes_text, decode_line, decode_bytes, decode_reading, decode_responses, out_decode, encode_line, encode_reading, encode_responses, out_encode}
+use Rattle.packet_engine.specs.Lines.{State, told, nothing, bytes_text, decode_line, decode_bytes, decode_reading, decode_responses, out_decode, encode_line, encode_reading, encode_responses, out_encode}
 use Rattle.packet_engine.specs.Runs.{of_reading, of_bytes, of_said, of_line, packets_in, words_lines, bytes_lines}
 
 -- what is known of the texts of packets
@@ -55,13 +56,12 @@ of-bytes T text (Err x) e fine = absurd (cc fine)
 of-bytes T text (Ok bytes) e fine = of-reading T bytes (reading bytes) refl (let ok = decode_of-ok text bytes e in ok.3) fine
 
 of-said : (T : Texts) (s : State) (line : List ℕ) → Outcome (decode_line s line) (of_said line)
-of-said T s [] fine = record { words = refl; are = All-nil IsPacket }
-of-said T s (first ∷ rest) fine = by (first == 35) fine
+of-said T s line fine = by (is_skipped line) fine
   where
-    by : (skip : Bool) → (if skip then record { state = tt; text = []; is_fault = false } else decode_bytes (decode_of (digits_of (first ∷ rest)))).is_fault ≡ false
-        → Decoded (if skip then record { state = tt; text = []; is_fault = false } else decode_bytes (decode_of (digits_of (first ∷ rest)))) (if skip then [] else of_bytes (decode_of (digits_of (first ∷ rest))))
+    by : (skip : Bool) → (if skip then nothing s else decode_bytes (decode_of (digits_of line))).is_fault ≡ false
+        → Decoded (if skip then nothing s else decode_bytes (decode_of (digits_of line))) (if skip then [] else of_bytes (decode_of (digits_of line)))
     by true fine = record { words = refl; are = All-nil IsPacket }
-    by false fine = of-bytes T (digits_of (first ∷ rest)) (decode_of (digits_of (first ∷ rest))) refl fine
+    by false fine = of-bytes T (digits_of line) (decode_of (digits_of line)) refl fine
 
 of-line : (T : Texts) (s : State) (line : List ℕ) → Outcome (answer_to decode_responses s line) (of_line line)
 of-line T s line fine = elim (cases_Bool (nat_lt 512 (length (bare line)))) [
@@ -132,12 +132,6 @@ lines_of-feed (x ∷ xs) more h =
     let test : (x == 10) ≡ false = other x 10 (not-feed x (All-head IsPrintedChar x xs h)) in
     let rest : IsPrinted xs = All-drop IsPrintedChar 1 (x ∷ xs) h in
     rw (test, lines_of-feed xs more rest) refl
-
-ends-feed : (xs : List ℕ) → ends_with_byte 10 (xs ++ 10 ∷ []) ≡ true
-ends-feed xs = grind (arith, common_steps, nat_tests)
-
-bare-feed : (xs : List ℕ) → bare (xs ++ 10 ∷ []) ≡ xs
-bare-feed xs = rw (ends-feed xs) (grind (arith, common_steps))
 
 no-return : (xs : List ℕ) → IsPrinted xs → strip_last 13 xs ≡ xs
 no-return [] h = refl

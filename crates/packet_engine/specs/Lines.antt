@@ -1,5 +1,5 @@
 -- What `decode` and `encode` answer to a line of their input.
-use Rattle.std.specs.Prelude.{ℕ, List, [], ◌∷◌, ◌++◌, ◌==◌, if◌then◌else◌, true, false, codes, Result, Ok, Err}
+use Rattle.std.specs.Prelude.{ℕ, List, [], ◌∷◌, ◌++◌, if◌then◌else◌, true, false, codes, Result, Ok, Err}
 use Rattle.hex.specs.Hex.{decode_of, encode_upper}
 use Rattle.hex.specs.declared.error.FromHexError.{FromHexError}
 use Rattle.packet_text.specs.declared.packet.Packet.{Packet}
@@ -9,6 +9,7 @@ use Rattle.packet_text.specs.Packets.{reading, canonical}
 use Rattle.packet_text.specs.Texts.{packet_text, bytes_fault_text, text_fault_text}
 use Rattle.packet_text.specs.Forms.{text_reading}
 use Rattle.hex_text.specs.Line.{digits_of, spaced}
+use Rattle.text_lines.specs.Lines.{is_skipped}
 use Rattle.line_loop.specs.Run.{Answer, Responses, Run, run_of}
 
 -- nothing is remembered from line to line
@@ -39,10 +40,8 @@ abbrev pub decode_bytes : Result (List ℕ) FromHexError → Answer State
 decode_bytes (Err e) = fault (codes "fault hex")
 decode_bytes (Ok bytes) = decode_reading (reading bytes)
 
--- an empty line, and one that begins with `#`, is skipped
 abbrev pub decode_line : State → List ℕ → Answer State
-decode_line s [] = nothing s
-decode_line s (first ∷ rest) = if first == 35 then nothing s else decode_bytes (decode_of (digits_of (first ∷ rest)))
+decode_line s line = if is_skipped line then nothing s else decode_bytes (decode_of (digits_of line))
 
 abbrev pub decode_responses : Responses State
 decode_responses = record { on_line = decode_line; on_long_line = long_line; on_end = nothing }
@@ -61,10 +60,8 @@ abbrev pub encode_reading : Result Packet TextFault → Answer State
 encode_reading (Err f) = fault (text_fault_text f)
 encode_reading (Ok p) = told (bytes_text p)
 
--- the same lines are skipped
 abbrev pub encode_line : State → List ℕ → Answer State
-encode_line s [] = nothing s
-encode_line s (first ∷ rest) = if first == 35 then nothing s else encode_reading (text_reading (first ∷ rest))
+encode_line s line = if is_skipped line then nothing s else encode_reading (text_reading line)
 
 abbrev pub encode_responses : Responses State
 encode_responses = record { on_line = encode_line; on_long_line = long_line; on_end = nothing }

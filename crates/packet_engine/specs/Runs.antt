@@ -1,5 +1,5 @@
 -- A run of `encode` on what `decode` wrote.
-use Rattle.std.specs.Prelude.{ℕ, ◌≡◌, List, [], ◌∷◌, ◌++◌, ◌==◌, nat_lt, if◌then◌else◌, length, flat_map, Result, Ok, Err}
+use Rattle.std.specs.Prelude.{ℕ, ◌≡◌, List, [], ◌∷◌, ◌++◌, nat_lt, if◌then◌else◌, length, flat_map, Result, Ok, Err}
 use Rattle.hex.specs.Hex.{decode_of}
 use Rattle.hex.specs.declared.error.FromHexError.{FromHexError}
 use Rattle.packet_text.specs.declared.packet.Packet.{Packet}
@@ -7,7 +7,7 @@ use Rattle.packet_text.specs.declared.fault.BytesFault.{BytesFault}
 use Rattle.packet_text.specs.Packets.{reading}
 use Rattle.packet_text.specs.Texts.{packet_text}
 use Rattle.hex_text.specs.Line.{digits_of}
-use Rattle.line_loop.specs.Lines.{lines_of, bare, said}
+use Rattle.text_lines.specs.Lines.{lines_of, bare, said, is_skipped}
 use Rattle.packet_engine.specs.Lines.{bytes_text, out_decode}
 
 -- the packet of a line of hexadecimal digits, where it has one
@@ -20,8 +20,7 @@ of_bytes (Err e) = []
 of_bytes (Ok bytes) = of_reading (reading bytes)
 
 abbrev pub of_said : List ℕ → List Packet
-of_said [] = []
-of_said (first ∷ rest) = if first == 35 then [] else of_bytes (decode_of (digits_of (first ∷ rest)))
+of_said line = if is_skipped line then [] else of_bytes (decode_of (digits_of line))
 
 abbrev pub of_line : List ℕ → List Packet
 of_line line = if nat_lt 512 (length (bare line)) then [] else of_said (said line)

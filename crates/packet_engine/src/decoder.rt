@@ -6,11 +6,12 @@ ghost use Rattle.packet_engine.specs.Lines.{out_decode, decode_reading, decode_r
 
 use crate::telling::{tell, tell_bytes_fault, tell_words};
 use hex_text::HexLine;
-use line_loop::{EngineFault, Responder, run};
+use line_loop::{EngineFault, Responder, Verdict, run};
 use packet_text::decode;
 use std::alloc::{AllocError, Global};
 use std::io::{Read, Write};
 use std::marker::Model;
+use text_lines::is_skipped;
 
 /// Room for the bytes of a line, used again and again.
 #[derive(Drop)]
@@ -27,8 +28,8 @@ impl Model for Decoder {
 }
 
 /// Answers the bytes of a line.
-fn answer(bytes: &[u8], out: &mut Vec<u8>) -> Result<bool, AllocError>
-    ensures ok { IfOk result (λ told. IsAnswer tt out.old.items out.new.items told (decode_reading (reading bytes.now))) }
+fn answer(bytes: &[u8], out: &mut Vec<u8>) -> Result<Verdict, AllocError>
+    ensures ok { IfOk result (λ verdict. IsAnswer tt out.old.items out.new.items verdict (decode_reading (reading bytes.now))) }
     ensures err { OnErr result (out.new.items ≡ out.old.items) }
 {
     match decode(bytes) {
@@ -42,9 +43,9 @@ impl Responder for Decoder {
 
     ghost responses = { decode_responses };
 
-    fn on_line(&mut self, line: &[u8], out: &mut Vec<u8>) -> Result<bool, AllocError> {
-        if line.is_empty() || line[0] == b'#' {
-            return Ok(false);
+    fn on_line(&mut self, line: &[u8], out: &mut Vec<u8>) -> Result<Verdict, AllocError> {
+        if is_skipped(line) {
+            return Ok(Verdict::Fine);
         }
         if !self.line.read(line) {
             return tell(b"fault hex\n", out);
@@ -52,12 +53,12 @@ impl Responder for Decoder {
         answer(self.line.bytes(), out)
     }
 
-    fn on_long_line(&mut self, out: &mut Vec<u8>) -> Result<bool, AllocError> {
+    fn on_long_line(&mut self, out: &mut Vec<u8>) -> Result<Verdict, AllocError> {
         tell(b"fault line\n", out)
     }
 
-    fn on_end(&mut self, _out: &mut Vec<u8>) -> Result<bool, AllocError> {
-        Ok(false)
+    fn on_end(&mut self, _out: &mut Vec<u8>) -> Result<Verdict, AllocError> {
+        Ok(Verdict::Fine)
     }
 }
 

@@ -6,11 +6,12 @@ ghost use Rattle.packet_engine.specs.Lines.{out_encode, encode_reading, encode_r
 
 use crate::reasoned::Reasoned;
 use crate::telling::{tell, tell_bytes, tell_text_fault};
-use line_loop::{EngineFault, Responder, run};
+use line_loop::{EngineFault, Responder, Verdict, run};
 use packet_text::read_packet;
 use std::alloc::{AllocError, Global};
 use std::io::{Read, Write, sink};
 use std::marker::Model;
+use text_lines::is_skipped;
 
 /// Nothing is remembered from line to line.
 #[derive(Drop)]
@@ -25,8 +26,8 @@ impl Model for Encoder {
 }
 
 /// Answers the words of a line.
-fn answer(line: &[u8], out: &mut Vec<u8>) -> Result<bool, AllocError>
-    ensures ok { IfOk result (λ told. IsAnswer tt out.old.items out.new.items told (encode_reading (text_reading line.now))) }
+fn answer(line: &[u8], out: &mut Vec<u8>) -> Result<Verdict, AllocError>
+    ensures ok { IfOk result (λ verdict. IsAnswer tt out.old.items out.new.items verdict (encode_reading (text_reading line.now))) }
     ensures err { OnErr result (out.new.items ≡ out.old.items) }
 {
     match read_packet(line) {
@@ -40,19 +41,19 @@ impl Responder for Encoder {
 
     ghost responses = { encode_responses };
 
-    fn on_line(&mut self, line: &[u8], out: &mut Vec<u8>) -> Result<bool, AllocError> {
-        if line.is_empty() || line[0] == b'#' {
-            return Ok(false);
+    fn on_line(&mut self, line: &[u8], out: &mut Vec<u8>) -> Result<Verdict, AllocError> {
+        if is_skipped(line) {
+            return Ok(Verdict::Fine);
         }
         answer(line, out)
     }
 
-    fn on_long_line(&mut self, out: &mut Vec<u8>) -> Result<bool, AllocError> {
+    fn on_long_line(&mut self, out: &mut Vec<u8>) -> Result<Verdict, AllocError> {
         tell(b"fault line\n", out)
     }
 
-    fn on_end(&mut self, _out: &mut Vec<u8>) -> Result<bool, AllocError> {
-        Ok(false)
+    fn on_end(&mut self, _out: &mut Vec<u8>) -> Result<Verdict, AllocError> {
+        Ok(Verdict::Fine)
     }
 }
 

@@ -3,7 +3,7 @@ ghost use Rattle.std.specs.Prelude.{◌≡◌, IfErr, OnOk, OnErr};
 ghost use Rattle.diagnostics.specs.Told.{IsReasonTold, IsReasonBegun};
 
 use diagnostics::{tell_long_line, tell_misfit, tell_refusal};
-use line_loop::{EngineFault, Responder};
+use line_loop::{EngineFault, Responder, Verdict};
 use packet_text::{Unread, read_words};
 use std::alloc::AllocError;
 use std::io::Write;
@@ -58,21 +58,25 @@ impl<P, E> Reasoned<P, E> {
 impl<P: Responder, E: Write + Drop> Responder for Reasoned<P, E> {
     ghost responses = { P.responses };
 
-    fn on_line(&mut self, line: &[u8], out: &mut Vec<u8>) -> Result<bool, AllocError> {
+    fn on_line(&mut self, line: &[u8], out: &mut Vec<u8>) -> Result<Verdict, AllocError> {
         self.lines = self.lines.saturating_add(1);
-        let told = self.responder.on_line(line, out)?;
-        let _ = explain(line, told.then_some(self.lines), &mut self.errors);
-        Ok(told)
+        let verdict = self.responder.on_line(line, out)?;
+        let _ = explain(
+            line,
+            verdict.is_fault().then_some(self.lines),
+            &mut self.errors,
+        );
+        Ok(verdict)
     }
 
-    fn on_long_line(&mut self, out: &mut Vec<u8>) -> Result<bool, AllocError> {
+    fn on_long_line(&mut self, out: &mut Vec<u8>) -> Result<Verdict, AllocError> {
         self.lines = self.lines.saturating_add(1);
-        let told = self.responder.on_long_line(out)?;
-        let _ = tell_long_line(told.then_some(self.lines), &mut self.errors);
-        Ok(told)
+        let verdict = self.responder.on_long_line(out)?;
+        let _ = tell_long_line(verdict.is_fault().then_some(self.lines), &mut self.errors);
+        Ok(verdict)
     }
 
-    fn on_end(&mut self, out: &mut Vec<u8>) -> Result<bool, AllocError> {
+    fn on_end(&mut self, out: &mut Vec<u8>) -> Result<Verdict, AllocError> {
         self.responder.on_end(out)
     }
 }

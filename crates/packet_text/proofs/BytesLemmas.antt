@@ -23,7 +23,7 @@ use Rattle.packet_text.proofs.NumberLemmas.{bytes-drop}
 
 -- what is known of the bytes of TLPs and DLLPs
 pub record Spellings : Type 0 where
-  pub of_tlps : (b : List ℕ) (t : tlp.Packet) → IsBytes b → tlp_faults.reading b ≡ Ok t → tlp_layout.Spells b t
+  pub of_tlps : (b : List ℕ) (t : tlp.TlpView) → IsBytes b → tlp_faults.reading b ≡ Ok t → tlp_layout.Spells b t
   pub of_dllps : (b : List ℕ) (d : Dllp) → dllp_faults.reading b ≡ Ok d → dllp_layout.Spells b d
 
 address-range : (b : List ℕ) → IsBytes b → tlp_layout.address_of b < 2 ^ 64
@@ -43,7 +43,7 @@ body-range kinds.Cas b are = address-range b are
 body-range kinds.Completion b are = big_from-lt 0 2 (drop 4 b) (bytes-drop 4 b are)
 body-range kinds.CompletionData b are = big_from-lt 0 2 (drop 4 b) (bytes-drop 4 b are)
 
-tlp-is : (b : List ℕ) (t : tlp.Packet) → IsBytes b → tlp_layout.Spells b t → IsTlp t
+tlp-is : (b : List ℕ) (t : tlp.TlpView) → IsBytes b → tlp_layout.Spells b t → IsTlp t
 tlp-is b t are h =
     let place = tlp_layout.requester_place t.kind in
     record {
@@ -65,7 +65,7 @@ dllp-is b (dllps.Update c header units) are h = (
   subst (λ (n : ℕ). n < 4096) (sym h.has_units) (low_twelve-range b are),
 )
 
-same-tlp : (r : Result tlp.Packet TlpFault) (p : Packet) → of_tlp r ≡ Ok p → (t : tlp.Packet) × (r ≡ Ok t) × (p ≡ packets.Tlp t)
+same-tlp : (r : Result tlp.TlpView TlpFault) (p : Packet) → of_tlp r ≡ Ok p → (t : tlp.TlpView) × (r ≡ Ok t) × (p ≡ packets.Tlp t)
 same-tlp (Ok t) p e = (t, refl, sym (of-ok (packets.Tlp t) p e))
   where
     of-ok : (p q : Packet) → ◌≡◌ {A = Result Packet BytesFault} (Ok p) (Ok q) → p ≡ q

@@ -123,11 +123,11 @@ class R tc attr ht ha =
     joined 5 7 (named (codes " tc ") tc) (named (codes " attr ") attr)
     (name-number R 4 tc (codes " tc ") ht (literal (codes " tc ") refl)) (name-number R 6 attr (codes " attr ") ha (literal (codes " attr ") refl))
 
-origin : (t : tlp.Packet) → t.requester < 65536 → t.tag < 256 → Sized 11 (origin_text t)
+origin : (t : tlp.TlpView) → t.requester < 65536 → t.tag < 256 → Sized 11 (origin_text t)
 unfolding is_printed
 origin t hr ht = joined 4 7 (id_text t.requester) (codes " tag " ++ octet_text t.tag) (id t.requester hr) (joined 5 2 (codes " tag ") (octet_text t.tag) (literal (codes " tag ") refl) (octet t.tag ht))
 
-request : (R : Printing) (t : tlp.Packet) (op : Op) → op_spelled (op_words op) ≡ Some op → t.requester < 65536 → t.tag < 256 → t.tc < 8 → t.attr < 8 → Sized 349 (request_text t op)
+request : (R : Printing) (t : tlp.TlpView) (op : Op) → op_spelled (op_words op) ≡ Some op → t.requester < 65536 → t.tag < 256 → t.tc < 8 → t.attr < 8 → Sized 349 (request_text t op)
 unfolding is_printed
 request R t op reads hr ht h k =
     joined 320 29 (op_text op) (codes " from " ++ (origin_text t ++ class_text t.tc t.attr)) (record { printed = R.of_op (op_words op) op reads; short = R.op_short (op_words op) op reads })
@@ -157,7 +157,7 @@ completer R c n l hc hn hl =
     wider : (m n : ℕ) (xs : List ℕ) → m ≤ n → Sized m xs → Sized n xs
     wider m n xs le h = record { printed = h.printed; short = omega (arith, h.short) }
 
-completion : (R : Printing) (t : tlp.Packet) (c n l : ℕ) (s : Status) → Sized 257 (data_text t.kind t.payload) → c < 65536 → n ≤ 4096 → l < 128
+completion : (R : Printing) (t : tlp.TlpView) (c n l : ℕ) (s : Status) → Sized 257 (data_text t.kind t.payload) → c < 65536 → n ≤ 4096 → l < 128
     → t.requester < 65536 → t.tag < 256 → t.tc < 8 → t.attr < 8 → Sized 327 (completion_text t (bodies.Completion c s n l))
 unfolding is_printed
 completion R t c n l s d hc hn hl hr ht h k =
@@ -183,7 +183,7 @@ op-letter (ops.FetchAdd a w x) rest = (omega arith, omega arith)
 op-letter (ops.Swap a w x) rest = (omega arith, omega arith)
 op-letter (ops.Cas a w x y) rest = (omega arith, omega arith)
 
-request-line : (R : Printing) (t : tlp.Packet) → Asked t.kind t.body t.length t.payload → IsTlp t → Line (tlp_text t)
+request-line : (R : Printing) (t : tlp.TlpView) → Asked t.kind t.body t.length t.payload → IsTlp t → Line (tlp_text t)
 request-line R t A h =
     let text : tlp_text t ≡ request_text t A.op = ap (λ (op : Option Op). tlp_text_by op t) A.is in
     subst Line (sym text) (record {
@@ -192,7 +192,7 @@ request-line R t A h =
     })
 
 -- a TLP by its parts
-abbrev tlp_with : Kind → ℕ → ℕ → ℕ → ℕ → ℕ → Body → List ℕ → tlp.Packet
+abbrev tlp_with : Kind → ℕ → ℕ → ℕ → ℕ → ℕ → Body → List ℕ → tlp.TlpView
 tlp_with k tc attr dw requester tag body bytes = record { kind = k; tc = tc; attr = attr; length = dw; requester = requester; tag = tag; body = body; payload = bytes }
 
 tlp-line : (L : Laws) (R : Printing) (k : Kind) (tc attr dw requester tag : ℕ) (body : Body) (bytes : List ℕ) → IsTlp (tlp_with k tc attr dw requester tag body bytes) → Line (tlp_text (tlp_with k tc attr dw requester tag body bytes))

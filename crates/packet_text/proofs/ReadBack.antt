@@ -175,7 +175,7 @@ origin-reads L requester tag tc attr hr ht h k =
     by ws rest e f = rw e f
 
 -- a TLP by its parts
-abbrev tlp_with : Kind → ℕ → ℕ → ℕ → ℕ → ℕ → Body → List ℕ → tlp.Packet
+abbrev tlp_with : Kind → ℕ → ℕ → ℕ → ℕ → ℕ → Body → List ℕ → tlp.TlpView
 tlp_with k tc attr dw requester tag body bytes = record { kind = k; tc = tc; attr = attr; length = dw; requester = requester; tag = tag; body = body; payload = bytes }
 
 request-back : (L : Laws) (k : Kind) (tc attr dw requester tag : ℕ) (body : Body) (bytes : List ℕ) → Asked k body dw bytes
@@ -193,7 +193,7 @@ request-back L k tc attr dw requester tag body bytes A hr ht h j =
     ap₂ request_by (L.op_back (op_words A.op) A.op A.reads) (ap forms.origin (from-words L requester tag tc attr hr ht) ∙ origin-reads L requester tag tc attr hr ht h j) in
     let sound : request_by (Some A.op) (Some o) ≡ Some (Ok (requests.request A.op o)) = ap (λ (f : Option TlpFault). Some (requests.unless f (requests.request A.op o))) A.sound in
     let same : requests.request A.op o ≡ t = rw (A.kind, A.dws, A.same, A.bytes) refl in
-    ap text_reading text ∙ A.begins (codes " from " ++ tail) ∙ ap tlp_read (cut ∙ parts ∙ sound) ∙ ap (λ (p : tlp.Packet). Ok (packets.Tlp p)) same
+    ap text_reading text ∙ A.begins (codes " from " ++ tail) ∙ ap tlp_read (cut ∙ parts ∙ sound) ∙ ap (λ (p : tlp.TlpView). Ok (packets.Tlp p)) same
 
 -- ---- completions
 
@@ -286,7 +286,7 @@ completion-of : (w : List ℕ) (s : Status) (ws rest : List (List ℕ)) (given :
 completion-of w s ws rest given r e f g = rw (e, f) g
 
 -- the line of a completion whose words are these
-line-back : (line : List ℕ) (ws : List (List ℕ)) (t : tlp.Packet) → words line ≡ codes "completion" ∷ ws → forms.completion_of ws ≡ Some (Ok t) → text_reading line ≡ Ok (packets.Tlp t)
+line-back : (line : List ℕ) (ws : List (List ℕ)) (t : tlp.TlpView) → words line ≡ codes "completion" ∷ ws → forms.completion_of ws ≡ Some (Ok t) → text_reading line ≡ Ok (packets.Tlp t)
 line-back line ws t e f = ap (forms.read_first line) e ∙ ap tlp_read f
 
 plain-back : (L : Laws) (s : Status) (requester tag completer count lower tc attr : ℕ)

@@ -89,10 +89,10 @@ cut_from (c ∷ cs) = cut_by (cut_from cs) c cs
 abbrev pub origin : List (List ℕ) → Option Origin
 origin ws = then_with (id_and_tag ws) (λ s. origin_with s.0.0 s.0.1 s.1)
 
-abbrev pub request_by : Option Op → Option Origin → Option (Result tlp.Packet TlpFault)
+abbrev pub request_by : Option Op → Option Origin → Option (Result tlp.TlpView TlpFault)
 request_by op o = then_with op (λ op. then_with o (λ o. Some (unless (op_fault op) (request op o))))
 
-abbrev pub request_of : List ℕ → Option (Result tlp.Packet TlpFault)
+abbrev pub request_of : List ℕ → Option (Result tlp.TlpView TlpFault)
 request_of line = then_with (cut_from line) (λ p. request_by (operations.op_spelled (words p.0)) (origin (words p.1)))
 
 -- ---- completions
@@ -129,7 +129,7 @@ data_fault None = None
 data_fault (Some bytes) = if (length bytes == 0) || not (length bytes % 4 == 0) then Some tlp_faults.LengthMismatch else None
 
 -- the completion with that status and that data
-abbrev pub completion : Status → Option (List ℕ) → Completer → Origin → tlp.Packet
+abbrev pub completion : Status → Option (List ℕ) → Completer → Origin → tlp.TlpView
 completion s None c o = record {
   kind = kinds.Completion;
   tc = o.tc;
@@ -151,12 +151,12 @@ completion s (Some bytes) c o = record {
   payload = bytes;
 }
 
-abbrev pub completion_to : Status → Option (List ℕ) → List (List ℕ) → Option (Result tlp.Packet TlpFault)
+abbrev pub completion_to : Status → Option (List ℕ) → List (List ℕ) → Option (Result tlp.TlpView TlpFault)
 completion_to s bytes ws =
     then_with (id_and_tag ws) (λ w. then_with (completer w.1) (λ c. then_with (origin_with w.0.0 w.0.1 c.1) (λ o.
     Some (unless (data_fault bytes) (completion s bytes c.0 o)))))
 
-abbrev pub completion_of : List (List ℕ) → Option (Result tlp.Packet TlpFault)
+abbrev pub completion_of : List (List ℕ) → Option (Result tlp.TlpView TlpFault)
 completion_of ws = field status (λ s rest. then_with (data_to rest) (λ d. completion_to s d.0 d.1)) ws
 
 -- ---- DLLPs
@@ -182,7 +182,7 @@ abbrev pub dllp_read : Option Dllp → Result Packet TextFault
 dllp_read None = Err faults.Words
 dllp_read (Some d) = Ok (packets.Dllp d)
 
-abbrev pub tlp_read : Option (Result tlp.Packet TlpFault) → Result Packet TextFault
+abbrev pub tlp_read : Option (Result tlp.TlpView TlpFault) → Result Packet TextFault
 tlp_read None = Err faults.Words
 tlp_read (Some (Err f)) = Err (faults.Packet f)
 tlp_read (Some (Ok t)) = Ok (packets.Tlp t)

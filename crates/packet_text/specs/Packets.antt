@@ -17,7 +17,7 @@ use Rattle.packet_text.specs.declared.fault.BytesFault.TheVariants as faults
 -- ---- which packets there are
 
 -- a TLP of the grammar, each number in its field
-pub record IsTlp (t : tlp.Packet) : Type 0 where
+pub record IsTlp (t : tlp.TlpView) : Type 0 where
   pub grammar : tlp.IsPacket t
   pub requester : t.requester < 2 ^ 16
   pub tag : t.tag < 2 ^ 8
@@ -35,7 +35,7 @@ FitsDataFC (packets.Dllp d) = dllp_layout.FitsDataFC d
 
 -- ---- bytes
 
-abbrev pub of_tlp : Result tlp.Packet TlpFault → Result Packet BytesFault
+abbrev pub of_tlp : Result tlp.TlpView TlpFault → Result Packet BytesFault
 of_tlp (Ok t) = Ok (packets.Tlp t)
 of_tlp (Err f) = Err (faults.Tlp f)
 

@@ -44,10 +44,10 @@ abbrev pub class_text : ℕ → ℕ → List ℕ
 class_text tc attr = named (codes " tc ") tc ++ named (codes " attr ") attr
 
 -- whose request it is
-abbrev pub origin_text : tlp.Packet → List ℕ
+abbrev pub origin_text : tlp.TlpView → List ℕ
 origin_text t = id_text t.requester ++ (codes " tag " ++ octet_text t.tag)
 
-abbrev pub request_text : tlp.Packet → Op → List ℕ
+abbrev pub request_text : tlp.TlpView → Op → List ℕ
 request_text t op = op_text op ++ (codes " from " ++ (origin_text t ++ class_text t.tc t.attr))
 
 abbrev pub status_text : Status → List ℕ
@@ -64,17 +64,17 @@ data_text _ bytes = []
 abbrev pub completer_text : ℕ → ℕ → ℕ → List ℕ
 completer_text completer count lower = codes " by " ++ (id_text completer ++ (codes " count " ++ (decimal count ++ (codes " lower " ++ octet_text lower))))
 
-abbrev pub completion_text : tlp.Packet → Body → List ℕ
+abbrev pub completion_text : tlp.TlpView → Body → List ℕ
 completion_text t (bodies.Completion completer status count lower) =
     codes "completion " ++ (status_text status ++ (data_text t.kind t.payload ++ (codes " to " ++ (origin_text t
     ++ (completer_text completer count lower ++ class_text t.tc t.attr)))))
 completion_text t (bodies.Request a f l) = []
 
-abbrev pub tlp_text_by : Option Op → tlp.Packet → List ℕ
+abbrev pub tlp_text_by : Option Op → tlp.TlpView → List ℕ
 tlp_text_by (Some op) t = request_text t op
 tlp_text_by None t = completion_text t t.body
 
-abbrev pub tlp_text : tlp.Packet → List ℕ
+abbrev pub tlp_text : tlp.TlpView → List ℕ
 tlp_text t = tlp_text_by (op_of t) t
 
 -- ---- DLLPs

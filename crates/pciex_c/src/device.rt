@@ -1,9 +1,12 @@
 //! The device with a history.
-ghost use Rattle.std.specs.Prelude.{◌≡◌, ◌≤◌, ◌⊎◌, Some, [], length};
-ghost use Rattle.seq_memory.specs.History.{MemoryView};
-ghost use Rattle.c_buffer.specs.declared.TheConstants.{NO_MEMORY};
-ghost use Rattle.c_device.specs.Calls.{wrong_limits, service, IsRequestCall, entry_told, bytes_told};
+ghost use Rattle.std.specs.Prelude.{◌≡◌, ◌≤◌, ◌⊎◌, Some, Ok, [], length};
+ghost use Rattle.seq_memory.specs.History.{MemoryView, bytes_of};
+ghost use Rattle.pciex_c.specs.declared.codes.TheConstants.{NO_MEMORY};
+ghost use Rattle.c_buffer.specs.Buffer.{copied};
+ghost use Rattle.c_device.specs.Calls.{limits, service, IsRequestCall, entry_told};
+ghost use Rattle.pciex_c.specs.Codes.{code_of, status_of};
 
+use crate::codes::{code, status};
 use c_device::Slot;
 use std::alloc::Global;
 
@@ -16,11 +19,11 @@ pub extern "C" fn pciex_raw_device_new(
     block: u16,
     device: &mut Slot,
 ) -> u32
-    ensures code { (result ≡ wrong_limits base size block) ⊎ ((wrong_limits base size block ≡ 0) × (result ≡ NO_MEMORY)) }
+    ensures code { (result ≡ status_of (limits base size block)) ⊎ ((limits base size block ≡ Ok tt) × (result ≡ NO_MEMORY)) }
     ensures made { result ≡ 0 → device.new.memory ≡ Some (record { base = base; size = size; block = block; entries = [] }) }
     ensures unchanged { 1 ≤ result → device.new ≡ device.old }
 {
-    c_device::new_device(alloc, base, size, block, device)
+    status(c_device::new_device(alloc, base, size, block, device))
 }
 
 /// One packet at the device of the slot, which goes to `back`.
@@ -29,18 +32,18 @@ pub extern "C" fn pciex_raw_device_serve(
     device: Slot,
     number: u32,
     packet: &[u8],
-    room: &mut [u8],
+    buffer: &mut [u8],
     back: &mut Slot,
 ) -> u32
     ghost memory: { MemoryView }
     requires { device.memory ≡ Some memory }
-    ensures code { ¬ (result ≡ NO_MEMORY) → result ≡ (service memory number packet.now room.old).code }
-    ensures memory { ¬ (result ≡ NO_MEMORY) → back.new.memory ≡ Some (service memory number packet.now room.old).memory }
-    ensures room { ¬ (result ≡ NO_MEMORY) → room.new ≡ (service memory number packet.now room.old).room }
-    ensures no_memory { result ≡ NO_MEMORY → IsRequestCall packet.now room.old }
-    ensures unchanged { 1000 ≤ result → (back.new.memory ≡ Some memory) × (room.new ≡ room.old) }
+    ensures code { ¬ (result ≡ NO_MEMORY) → result ≡ code_of (service memory number packet.now buffer.old).outcome }
+    ensures memory { ¬ (result ≡ NO_MEMORY) → back.new.memory ≡ Some (service memory number packet.now buffer.old).memory }
+    ensures buffer { ¬ (result ≡ NO_MEMORY) → buffer.new ≡ (service memory number packet.now buffer.old).buffer }
+    ensures no_memory { result ≡ NO_MEMORY → IsRequestCall packet.now buffer.old }
+    ensures unchanged { 1000 ≤ result → (back.new.memory ≡ Some memory) × (buffer.new ≡ buffer.old) }
 {
-    c_device::serve_packet(device, number, packet, room, back)
+    code(c_device::serve_packet(device, number, packet, buffer, back))
 }
 
 /// How many requests have acted on the device of the slot, which goes to `back`.
@@ -54,33 +57,33 @@ pub extern "C" fn pciex_raw_device_history_length(device: Slot, back: &mut Slot)
     c_device::history_length(device, back)
 }
 
-/// The entry at a place of the history of the device of the slot, which goes to `back`.
+/// The entry of that index in the history of the device of the slot, which goes to `back`.
 #[unsafe(no_mangle)]
 pub extern "C" fn pciex_raw_device_entry(
     device: Slot,
-    place: usize,
-    room: &mut [u8],
+    index: usize,
+    buffer: &mut [u8],
     back: &mut Slot,
 ) -> u32
     ghost memory: { MemoryView }
     requires { device.memory ≡ Some memory }
-    ensures code { result ≡ (entry_told memory.entries place room.old).code }
-    ensures room { room.new ≡ (entry_told memory.entries place room.old).room }
+    ensures code { result ≡ code_of (entry_told memory.entries index buffer.old).outcome }
+    ensures buffer { buffer.new ≡ (entry_told memory.entries index buffer.old).buffer }
     ensures unchanged { back.new.memory ≡ Some memory }
 {
-    c_device::tell_entry(device, place, room, back)
+    code(c_device::tell_entry(device, index, buffer, back))
 }
 
 /// The bytes of the device of the slot, which goes to `back`.
 #[unsafe(no_mangle)]
-pub extern "C" fn pciex_raw_device_bytes(device: Slot, room: &mut [u8], back: &mut Slot) -> u32
+pub extern "C" fn pciex_raw_device_bytes(device: Slot, buffer: &mut [u8], back: &mut Slot) -> u32
     ghost memory: { MemoryView }
     requires { device.memory ≡ Some memory }
-    ensures code { result ≡ (bytes_told memory room.old).code }
-    ensures room { room.new ≡ (bytes_told memory room.old).room }
+    ensures code { result ≡ status_of (copied buffer.old (bytes_of memory)).outcome }
+    ensures buffer { buffer.new ≡ (copied buffer.old (bytes_of memory)).buffer }
     ensures unchanged { back.new.memory ≡ Some memory }
 {
-    c_device::copy_bytes(device, room, back)
+    status(c_device::copy_bytes(device, buffer, back))
 }
 
 /// Frees the device of the slot.

@@ -6,9 +6,13 @@ ghost use Rattle.trace_text.specs.Texts.{trace_text};
 ghost use Rattle.fabric_laws.specs.Trace.{submitted_by};
 ghost use Rattle.fabric_core.specs.declared.config.Config.{Config};
 ghost use Rattle.fabric_core.specs.Quiet.{IsQuiet};
-ghost use Rattle.c_buffer.specs.declared.TheConstants.{NO_MEMORY};
-ghost use Rattle.c_fabric.specs.Session.{Session, new_session, making, AsksFor, IsFabricCall, event_call, IsEventCall, claim, whole_told};
+ghost use Rattle.pciex_c.specs.declared.codes.TheConstants.{NO_MEMORY};
+ghost use Rattle.c_buffer.specs.Buffer.{copied};
+ghost use Rattle.c_fabric.specs.SessionView.{SessionView, new_session, claim};
+ghost use Rattle.c_fabric.specs.Calls.{making, AsksFor, IsFabricCall, event_call, IsEventCall};
+ghost use Rattle.pciex_c.specs.Codes.{code_of, status_of};
 
+use crate::codes::{code, status};
 use c_fabric::Slot;
 use std::alloc::Global;
 
@@ -18,17 +22,17 @@ pub extern "C" fn pciex_raw_fabric_new(
     alloc: Global,
     line: &[u8],
     is_traced: bool,
-    room: &mut [u8],
+    buffer: &mut [u8],
     fabric: &mut Slot,
 ) -> u32
-    ensures code { ¬ (result ≡ NO_MEMORY) → result ≡ (making line.now room.old).code }
-    ensures room { ¬ (result ≡ NO_MEMORY) → room.new ≡ (making line.now room.old).room }
-    ensures no_memory { result ≡ NO_MEMORY → IsFabricCall line.now room.old }
+    ensures code { ¬ (result ≡ NO_MEMORY) → result ≡ status_of (making line.now buffer.old).outcome }
+    ensures buffer { ¬ (result ≡ NO_MEMORY) → buffer.new ≡ (making line.now buffer.old).buffer }
+    ensures no_memory { result ≡ NO_MEMORY → IsFabricCall line.now buffer.old }
     ensures made { result ≡ 0 → (c : Config) × AsksFor line.now c × (fabric.new.session ≡ Some (new_session c is_traced)) }
     ensures unchanged { 1 ≤ result → fabric.new ≡ fabric.old }
-    ensures unchanged_room { 2000 ≤ result → room.new ≡ room.old }
+    ensures unchanged_buffer { 2000 ≤ result → buffer.new ≡ buffer.old }
 {
-    c_fabric::new_fabric(alloc, line, is_traced, room, fabric)
+    status(c_fabric::new_fabric(alloc, line, is_traced, buffer, fabric))
 }
 
 /// The event of the line happens to the fabric of the slot, which goes to `back`.
@@ -36,19 +40,19 @@ pub extern "C" fn pciex_raw_fabric_new(
 pub extern "C" fn pciex_raw_fabric_event(
     fabric: Slot,
     line: &[u8],
-    room: &mut [u8],
+    buffer: &mut [u8],
     back: &mut Slot,
 ) -> u32
-    ghost session: { Session }
+    ghost session: { SessionView }
     requires { fabric.session ≡ Some session }
-    ensures code { ¬ (result ≡ NO_MEMORY) → result ≡ (event_call session line.now room.old).code }
-    ensures session { ¬ (result ≡ NO_MEMORY) → back.new.session ≡ Some (event_call session line.now room.old).session }
-    ensures room { ¬ (result ≡ NO_MEMORY) → room.new ≡ (event_call session line.now room.old).room }
-    ensures no_memory { result ≡ NO_MEMORY → IsEventCall line.now room.old }
+    ensures code { ¬ (result ≡ NO_MEMORY) → result ≡ code_of (event_call session line.now buffer.old).outcome }
+    ensures session { ¬ (result ≡ NO_MEMORY) → back.new.session ≡ Some (event_call session line.now buffer.old).session }
+    ensures buffer { ¬ (result ≡ NO_MEMORY) → buffer.new ≡ (event_call session line.now buffer.old).buffer }
+    ensures no_memory { result ≡ NO_MEMORY → IsEventCall line.now buffer.old }
     ensures unchanged { 1000 ≤ result → back.new.session ≡ Some session }
-    ensures unchanged_room { 2000 ≤ result → room.new ≡ room.old }
+    ensures unchanged_buffer { 2000 ≤ result → buffer.new ≡ buffer.old }
 {
-    c_fabric::tell_event(fabric, line, room, back)
+    code(c_fabric::tell_event(fabric, line, buffer, back))
 }
 
 /// The text of the trace and the history of the fabric of the slot, which goes to `back`.
@@ -56,27 +60,27 @@ pub extern "C" fn pciex_raw_fabric_event(
 pub extern "C" fn pciex_raw_fabric_trace(
     alloc: Global,
     fabric: Slot,
-    room: &mut [u8],
+    buffer: &mut [u8],
     size: &mut usize,
     back: &mut Slot,
 ) -> u32
-    ghost session: { Session }
+    ghost session: { SessionView }
     requires { fabric.session ≡ Some session }
-    ensures code { ¬ (result ≡ NO_MEMORY) → result ≡ (whole_told (trace_text (claim session)) room.old).code }
-    ensures room { ¬ (result ≡ NO_MEMORY) → room.new ≡ (whole_told (trace_text (claim session)) room.old).room }
+    ensures code { ¬ (result ≡ NO_MEMORY) → result ≡ status_of (copied buffer.old (trace_text (claim session))).outcome }
+    ensures buffer { ¬ (result ≡ NO_MEMORY) → buffer.new ≡ (copied buffer.old (trace_text (claim session))).buffer }
     ensures size { ¬ (result ≡ NO_MEMORY) → size.new ≡ length (trace_text (claim session)) }
     ensures unchanged_size { result ≡ NO_MEMORY → size.new ≡ size.old }
     ensures unchanged { back.new.session ≡ Some session }
-    ensures unchanged_room { 1 ≤ result → room.new ≡ room.old }
+    ensures unchanged_buffer { 1 ≤ result → buffer.new ≡ buffer.old }
     ensures explained { session.is_traced ≡ true → Explains (claim session) }
 {
-    c_fabric::tell_trace(alloc, fabric, room, size, back)
+    status(c_fabric::tell_trace(alloc, fabric, buffer, size, back))
 }
 
 /// Whether the fabric of the slot is quiet; it goes to `back`.
 #[unsafe(no_mangle)]
 pub extern "C" fn pciex_raw_fabric_quiet(fabric: Slot, back: &mut Slot) -> bool
-    ghost session: { Session }
+    ghost session: { SessionView }
     requires { fabric.session ≡ Some session }
     ensures quiet { IsTrue result ↔ IsQuiet session.fabric }
     ensures all { IsTrue result → length session.fabric.memory.entries ≡ submitted_by session.fabric.requesters }
@@ -88,7 +92,7 @@ pub extern "C" fn pciex_raw_fabric_quiet(fabric: Slot, back: &mut Slot) -> bool
 /// How many requests have acted on the memory of the fabric of the slot, which goes to `back`.
 #[unsafe(no_mangle)]
 pub extern "C" fn pciex_raw_fabric_history_length(fabric: Slot, back: &mut Slot) -> usize
-    ghost session: { Session }
+    ghost session: { SessionView }
     requires { fabric.session ≡ Some session }
     ensures value { result ≡ length session.fabric.memory.entries }
     ensures unchanged { back.new.session ≡ Some session }
@@ -98,20 +102,20 @@ pub extern "C" fn pciex_raw_fabric_history_length(fabric: Slot, back: &mut Slot)
 
 /// The bytes of the memory of the fabric of the slot, which goes to `back`.
 #[unsafe(no_mangle)]
-pub extern "C" fn pciex_raw_fabric_bytes(fabric: Slot, room: &mut [u8], back: &mut Slot) -> u32
-    ghost session: { Session }
+pub extern "C" fn pciex_raw_fabric_bytes(fabric: Slot, buffer: &mut [u8], back: &mut Slot) -> u32
+    ghost session: { SessionView }
     requires { fabric.session ≡ Some session }
-    ensures code { result ≡ (whole_told (bytes_of session.fabric.memory) room.old).code }
-    ensures room { room.new ≡ (whole_told (bytes_of session.fabric.memory) room.old).room }
+    ensures code { result ≡ status_of (copied buffer.old (bytes_of session.fabric.memory)).outcome }
+    ensures buffer { buffer.new ≡ (copied buffer.old (bytes_of session.fabric.memory)).buffer }
     ensures unchanged { back.new.session ≡ Some session }
 {
-    c_fabric::copy_bytes(fabric, room, back)
+    status(c_fabric::copy_bytes(fabric, buffer, back))
 }
 
 /// Frees the fabric of the slot.
 #[unsafe(no_mangle)]
 pub extern "C" fn pciex_raw_fabric_free(fabric: Slot)
-    ghost session: { Session }
+    ghost session: { SessionView }
     requires { fabric.session ≡ Some session }
 {
     c_fabric::free_fabric(fabric);

@@ -1,8 +1,9 @@
 //! The library for C: what `c/pciex.h` declares under `pciex_raw_`. Each function says what the crate
-//! below it says of the same call, and asks of its caller what the header asks.
+//! below it says of the same call, in the header's codes, and asks of its caller what the header asks.
 #![tactic(auto)]
 
 mod answers;
+mod codes;
 mod device;
 mod fabric;
 mod monitor;

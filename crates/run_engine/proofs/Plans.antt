@@ -10,7 +10,7 @@ use Rattle.worker_report.specs.declared.plan.RunPlan.{RunPlan}
 use Rattle.worker_report.specs.declared.report.Report.{Report}
 use Rattle.worker_report.specs.Halts.{IsPlan, IsOfMemory, IsEndBy, IsCause}
 use Rattle.workers.specs.Running.{AreDone}
-use Rattle.counting.specs.declared.Counting.{Counting}
+use Rattle.parameters.specs.declared.counting.Counting.{Counting}
 use Rattle.run_engine.specs.Counting.{script_of, scripts_of, config_of, IsPlanOf}
 
 abbrev pub items_of : Vec Op Global → List Op

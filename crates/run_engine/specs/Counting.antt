@@ -5,7 +5,7 @@ use Rattle.tlp_core.specs.declared.operation.Op.TheVariants.{FetchAdd}
 use Rattle.tlp_core.specs.declared.operation.Width.TheVariants.{Four}
 use Rattle.fabric_core.specs.declared.config.Config.{Config}
 use Rattle.worker_report.specs.declared.plan.RunPlan.{RunPlan}
-use Rattle.counting.specs.declared.Counting.{Counting}
+use Rattle.parameters.specs.declared.counting.Counting.{Counting}
 
 -- 1 is added to the first word
 abbrev pub addition : Op

@@ -15,7 +15,7 @@ use Rattle.worker_report.specs.declared.halt.RunHalt.{RunHalt}
 use Rattle.worker_report.specs.declared.halt.RunHalt.TheVariants as halts
 use Rattle.worker_report.specs.Halts.{halt_name, IsOfMemory, IsEndBy}
 use Rattle.workers.specs.Running.{AreDone}
-use Rattle.counting.specs.declared.Counting.{Counting}
+use Rattle.parameters.specs.declared.counting.Counting.{Counting}
 use Rattle.run_engine.specs.Counting.{scripts_of, config_of}
 
 -- a line with a name and a number

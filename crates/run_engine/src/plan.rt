@@ -1,13 +1,13 @@
 //! The plan of a counting.
 ghost use Rattle.std.specs.Prelude.{◌≡◌, IfOk, map};
-ghost use Rattle.counting.specs.Ranges.{IsCounting};
+ghost use Rattle.parameters.specs.Ranges.{IsCounting};
 ghost use Rattle.tlp_core.specs.declared.operation.Op.{Op};
 ghost use Rattle.run_engine.specs.Counting.{addition, script_of, scripts_of, config_of, IsPlanOf};
 
-use counting::Counting;
 use fabric_core::Config;
 use fault_plan::Plan;
 use fc_credit::LaneCredits;
+use parameters::Counting;
 use std::alloc::{AllocError, Global};
 use tlp_core::{Op, Width};
 use workers::RunPlan;

@@ -1,10 +1,10 @@
 //! How far a run is, told while it goes on.
-ghost use Rattle.counting.specs.Ranges.{IsCounting};
+ghost use Rattle.parameters.specs.Ranges.{IsCounting};
 ghost use Rattle.run_engine.specs.Text.{IsOutput};
 
 use crate::text::output;
 use arrayvec::ArrayString;
-use counting::Counting;
+use parameters::Counting;
 use std::alloc::Global;
 use std::io::Write;
 use std::sync::Wait;

@@ -1,5 +1,5 @@
 //! What a run writes.
-use counting::Counting;
+use parameters::Counting;
 use run_engine::run_counting;
 use std::alloc::Global;
 use std::sync::Wait;

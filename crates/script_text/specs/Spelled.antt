@@ -9,7 +9,8 @@ use Rattle.fabric_core.specs.declared.event.LaneName.{LaneName}
 use Rattle.fabric_core.specs.declared.event.LaneName.TheVariants as lanes
 use Rattle.fabric_core.specs.declared.event.Event.{Event}
 use Rattle.fabric_core.specs.declared.event.Event.TheVariants as events
-use Rattle.operation_text.specs.Words.{words, is_skipped}
+use Rattle.text_lines.specs.Lines.{is_skipped}
+use Rattle.operation_text.specs.Words.{words}
 use Rattle.operation_text.specs.Texts.{IsPrinted}
 use Rattle.operation_text.specs.Operations.{IsSpelledOp}
 use Rattle.script_text.specs.declared.line.Line.{Line}

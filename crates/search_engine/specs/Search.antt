@@ -9,7 +9,7 @@ use Rattle.history_check.specs.Claim.{claim_of}
 use Rattle.history_check.specs.Trace.{Explains}
 use Rattle.trace_text.specs.declared.fault.ReadFault.{ReadFault}
 use Rattle.trace_text.specs.Texts.{trace_text}
-use Rattle.trace_engine.specs.Check.{fault_line}
+use Rattle.trace_text.specs.Names.{fault_line}
 use Rattle.log_runs.specs.Explainable.{SeenAlike, IsExplainable, IsClocked, prefix}
 use Rattle.log_text.specs.LogReaderView.{seen_of}
 

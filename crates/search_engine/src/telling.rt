@@ -6,12 +6,12 @@ use arrayvec::ArrayString;
 use diagnostics::{Reason, tell_long_line};
 use history_check::{Record, Trace};
 use history_search::contradiction;
-use line_loop::{MAX_LINE, without_return};
 use log_events::form_of;
 use memchr::memchr;
 use operation_text::write_reply;
 use std::alloc::{AllocError, Global};
 use std::io::Write;
+use text_lines::{is_skipped, is_too_long, without_return};
 use trace_diagnostics::{DueLine, TraceLines};
 use trace_text::ReadFault;
 
@@ -24,10 +24,6 @@ fn first_line(text: &[u8]) -> (&[u8], &[u8]) {
         Some(end) => (without_return(&text[..end]), &text[end + 1..]),
         None => (text, &text[text.len()..]),
     }
-}
-
-fn is_skipped(line: &[u8]) -> bool {
-    line.is_empty() || line[0] == b'#'
 }
 
 /// The lines of the text, by their numbers.
@@ -129,7 +125,7 @@ fn tell_fault<E: Write>(text: &[u8], fault: ReadFault, errors: &mut E) {
     let (line, _) = first_line(rest);
     let _ = if rest.is_empty() {
         due.end_reason().tell_at(fault.line, errors)
-    } else if line.len() > MAX_LINE {
+    } else if is_too_long(line) {
         tell_long_line(Some(fault.line), errors)
     } else {
         due.refusal_reason(line).tell_at(fault.line, errors)

@@ -3,3 +3,5 @@ pub mod LostLemmas
 pub mod LastLemmas
 pub mod PairLemmas
 pub mod FirstLemmas
+pub mod JunkLemmas
+pub mod MissLemmas

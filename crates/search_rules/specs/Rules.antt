@@ -1,5 +1,5 @@
 -- When a state is lost, and when a request may act at once.
-use Rattle.std.specs.Prelude.{ℕ, ◌≡◌, ◌<◌, ◌≤◌, ◌⊎◌, List, slice_get, Option, Some, None, true, false}
+use Rattle.std.specs.Prelude.{ℕ, ◌≡◌, ◌<◌, ◌≤◌, ◌⊎◌, List, length, slice_get, Option, Some, None, true, false}
 use Rattle.tlp_core.specs.declared.operation.Op.{Op}
 use Rattle.seq_memory.specs.declared.Reply.{Reply}
 use Rattle.seq_memory.specs.Limits.{Extent}
@@ -8,7 +8,9 @@ use Rattle.byte_effects.specs.Effects.{AreApart, AreSameAt}
 use Rattle.log_runs.specs.declared.Event.{Event}
 use Rattle.log_runs.specs.declared.Event.TheVariants as events
 use Rattle.log_runs.specs.LogView.{LogView}
-use Rattle.log_runs.specs.Runs.{State, MayAct, reply_of, acted_on}
+use Rattle.log_runs.specs.declared.Step.TheVariants as steps
+use Rattle.log_runs.specs.Runs.{State, MayAct, next, reply_of, acted_on}
+use Rattle.search_rules.specs.Junk.{IsJunk}
 
 -- the memory answers what was answered, if anything was
 abbrev pub Answers : Extent → List ℕ → Op → Option Reply → Type 0
@@ -90,3 +92,21 @@ pub record IsFirst (log : LogView) (s : State) (q r a : ℕ) : Type 0 where
   pub left : slice_get s.acted r ≡ Some false
   pub may : MayAct log s q
   pub others : AllOthers s q a (λ b. LetsFirst log s.bytes b q)
+
+-- both what stands at the addresses of request q in m and what q leaves there are nothing to request b
+abbrev pub IsJunkTo : LogView → List ℕ → ℕ → ℕ → Type 0
+IsJunkTo log m b q =
+    (i j : ℕ) (one other : Op) (told asked : Option Reply) → slice_get log.events b ≡ Some (events.Sub i one told) → slice_get log.events q ≡ Some (events.Sub j other asked)
+    → IsJunk log.extent m one told other asked
+
+-- wherever the memory suits the request, it changes nothing
+abbrev pub ChangesNothing : LogView → ℕ → Type 0
+ChangesNothing log b = (m : List ℕ) → Suits log.extent m (slice_get log.events b) → acted_on log.extent m (slice_get log.events b) ≡ m
+
+-- request q may act, and what stands at its addresses and what it leaves there is nothing to any other that hasn't acted, but
+-- to those that may act right after it and change nothing
+pub record IsOverJunk (log : LogView) (s : State) (q : ℕ) : Type 0 where
+  pub size : length s.bytes ≡ log.extent.size
+  pub may : MayAct log s q
+  pub others : (b : ℕ) → (q ≡ b → ⊥) → slice_get s.acted b ≡ Some false
+      → IsJunkTo log s.bytes b q ⊎ (MayAct log (next log s (steps.Act q)) b × ChangesNothing log b)

@@ -21,13 +21,13 @@ use Rattle.fabric_core.specs.Runs.{Runs}
 use Rattle.fabric_core.specs.Answers.{answer}
 use Rattle.fabric_answers.specs.Told.{IsTold}
 use Rattle.fabric_answers.specs.New.{new_fabric, config_fault}
-use Rattle.operation_text.specs.Words.{words, is_skipped}
+use Rattle.operation_text.specs.Words.{words}
 use Rattle.trace_text.specs.Texts.{trace_text}
 use Rattle.script_text.specs.declared.line.Line.{Line}
 use Rattle.script_text.specs.declared.line.Line.TheVariants as lines
 use Rattle.script_text.specs.Forms.{line_of}
 use Rattle.script_text.specs.Names.{refusal_text}
-use Rattle.line_loop.specs.Lines.{lines_of, bare, said}
+use Rattle.text_lines.specs.Lines.{lines_of, bare, said, is_skipped}
 use Rattle.line_loop.specs.Run.{Answer, Run as Output, with_answer, after_line, after_end, new_run}
 use Rattle.step_engine.specs.Script.{script_of, event_line, IsScript, Progress, progress, LineDoes, LinesDo, RunsThrough}
 use Rattle.step_engine.specs.Options.{traced}

@@ -9,13 +9,13 @@ use Rattle.fabric_core.specs.Config.{IsNewWith}
 use Rattle.fabric_core.specs.Steps.{Refused}
 use Rattle.fabric_core.specs.Runs.{Recorded}
 use Rattle.fabric_answers.specs.Told.{IsTold}
-use Rattle.operation_text.specs.Words.{words, is_skipped}
+use Rattle.operation_text.specs.Words.{words}
 use Rattle.script_text.specs.declared.line.Line.{Line}
 use Rattle.script_text.specs.declared.line.Line.TheVariants as lines
 use Rattle.script_text.specs.Forms.{line_of}
 use Rattle.fabric_settle.specs.Reached.{Reached}
 use Rattle.fabric_settle.specs.Rounds.{settlement}
-use Rattle.line_loop.specs.Lines.{lines_of, bare, said}
+use Rattle.text_lines.specs.Lines.{lines_of, bare, said, is_skipped}
 
 -- what a line says, before what the others say: nothing where it is skipped, and none of a script where it is too long
 abbrev pub put_before : List ℕ → List (Option Line) → List (Option Line)

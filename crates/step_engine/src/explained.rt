@@ -8,7 +8,7 @@ use crate::options::StepOptions;
 use crate::step::Stepper;
 use arrayvec::ArrayString;
 use diagnostics::{tell_long_line, tell_misfit, tell_refusal};
-use line_loop::{EngineFault, Responder, run};
+use line_loop::{EngineFault, Responder, Verdict, run};
 use script_text::{script_misfit, write_refusal};
 use std::alloc::{AllocError, Global};
 use std::io::{Read, Write};
@@ -52,22 +52,22 @@ impl<E: Write + Drop> Responder for Explained<E> {
 
     ghost responses = { step_responses };
 
-    fn on_line(&mut self, line: &[u8], out: &mut Vec<u8>) -> Result<bool, AllocError> {
-        let told = self.stepper.on_line(line, out)?;
-        if told {
+    fn on_line(&mut self, line: &[u8], out: &mut Vec<u8>) -> Result<Verdict, AllocError> {
+        let verdict = self.stepper.on_line(line, out)?;
+        if verdict.is_fault() {
             let _ = explain(&mut self.stepper, line, &mut self.errors);
         }
-        Ok(told)
+        Ok(verdict)
     }
 
-    fn on_long_line(&mut self, out: &mut Vec<u8>) -> Result<bool, AllocError> {
-        let told = self.stepper.on_long_line(out)?;
-        let fault = told.then_some(self.stepper.lines());
+    fn on_long_line(&mut self, out: &mut Vec<u8>) -> Result<Verdict, AllocError> {
+        let verdict = self.stepper.on_long_line(out)?;
+        let fault = verdict.is_fault().then_some(self.stepper.lines());
         let _ = tell_long_line(fault, &mut self.errors);
-        Ok(told)
+        Ok(verdict)
     }
 
-    fn on_end(&mut self, out: &mut Vec<u8>) -> Result<bool, AllocError> {
+    fn on_end(&mut self, out: &mut Vec<u8>) -> Result<Verdict, AllocError> {
         self.stepper.on_end(out)
     }
 }

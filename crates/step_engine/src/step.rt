@@ -1,5 +1,5 @@
 //! The subcommand `step`: scripts of events for a fabric.
-ghost use Rattle.std.specs.Prelude.{◌≡◌, ◌≤◌, ◌+◌, ◌++◌, ◌∷◌, [], true, false, length, option_to_list, is_some, Some, None, Ok, Err, IfOk, IfErr, OnOk, OnErr};
+ghost use Rattle.std.specs.Prelude.{◌≡◌, ◌≤◌, ◌+◌, ◌++◌, ◌∷◌, [], length, option_to_list, is_some, Some, None, Ok, Err, IfOk, IfErr, OnOk, OnErr};
 ghost use Rattle.arrayvec.specs.ArrayString.{array_string_len};
 ghost use Rattle.fabric_core.specs.Answers.{answer};
 ghost use Rattle.fabric_answers.specs.Told.{IsTold};
@@ -20,7 +20,7 @@ use fabric_answers::laws::{a_configuration_has_one_answer, each_event_has_one_an
 use fabric_core::{Config, ConfigFault, Event, Fabric, Refusal, Seen};
 use fabric_settle::settle;
 use history_check::Record;
-use line_loop::{EngineFault, Responder};
+use line_loop::{EngineFault, Responder, Verdict};
 use script_text::{
     Line, read_line, write_config_fault, write_refusal, write_seen, write_settled, write_told,
 };
@@ -28,6 +28,7 @@ use std::alloc::{AllocError, Global};
 use std::io::{Read, Write, sink};
 use std::marker::Model;
 use std::mem;
+use text_lines::is_skipped;
 use trace_engine::tell_trace;
 
 /// A new fabric.
@@ -141,20 +142,20 @@ impl Stepper {
     }
 
     /// Ends the run with this line.
-    fn end(&mut self, mut line: ArrayString<512>, out: &mut Vec<u8>) -> Result<bool, AllocError>
+    fn end(&mut self, mut line: ArrayString<512>, out: &mut Vec<u8>) -> Result<Verdict, AllocError>
         requires { array_string_len line ≤ 64 }
-        ensures ok { IfOk result (λ told. IsAnswer self.new out.old.items out.new.items told (spec.ends self.old (line.bytes ++ 10 ∷ []))) }
+        ensures ok { IfOk result (λ verdict. IsAnswer self.new out.old.items out.new.items verdict (spec.ends self.old (line.bytes ++ 10 ∷ []))) }
         ensures err { OnErr result (out.new.items ≡ out.old.items) }
     {
         line.push_str("\n");
         out.extend_from_slice(line.as_bytes())?;
         self.finish();
-        Ok(true)
+        Ok(Verdict::Fault)
     }
 
     /// The line is none of a script.
-    fn no_line(&mut self, out: &mut Vec<u8>) -> Result<bool, AllocError>
-        ensures ok { IfOk result (λ told. IsAnswer self.new out.old.items out.new.items told (spec.no_line self.old)) }
+    fn no_line(&mut self, out: &mut Vec<u8>) -> Result<Verdict, AllocError>
+        ensures ok { IfOk result (λ verdict. IsAnswer self.new out.old.items out.new.items verdict (spec.no_line self.old)) }
         ensures err { OnErr result (out.new.items ≡ out.old.items) }
     {
         let mut line = ending("fault ", self.next_line());
@@ -163,8 +164,8 @@ impl Stepper {
     }
 
     /// There is no fabric of the configuration.
-    fn not_made(&mut self, fault: ConfigFault, out: &mut Vec<u8>) -> Result<bool, AllocError>
-        ensures ok { IfOk result (λ told. IsAnswer self.new out.old.items out.new.items told (spec.fault self.old (fault_name fault))) }
+    fn not_made(&mut self, fault: ConfigFault, out: &mut Vec<u8>) -> Result<Verdict, AllocError>
+        ensures ok { IfOk result (λ verdict. IsAnswer self.new out.old.items out.new.items verdict (spec.fault self.old (fault_name fault))) }
         ensures err { OnErr result (out.new.items ≡ out.old.items) }
     {
         let mut line = ending("fault ", self.next_line());
@@ -194,16 +195,16 @@ impl Stepper {
         line: &[u8],
         text: &mut ArrayString<512>,
         out: &mut Vec<u8>,
-    ) -> Result<bool, AllocError>
+    ) -> Result<Verdict, AllocError>
         requires { array_string_len text.old ≤ 320 }
-        ensures ok { IfOk result (λ told. IsAnswer self.new out.old.items out.new.items told (spec.passes self.old (spec.shown self.old line.now text.old.bytes))) }
+        ensures ok { IfOk result (λ verdict. IsAnswer self.new out.old.items out.new.items verdict (spec.passes self.old (spec.shown self.old line.now text.old.bytes))) }
         ensures err { OnErr result (out.new.items ≡ out.old.items) }
     {
         if !self.options.is_traced {
             self.put(line, text, out)?;
         }
         self.count();
-        Ok(true)
+        Ok(Verdict::Fault)
     }
 
     /// Ends the run with a refusal.
@@ -212,14 +213,14 @@ impl Stepper {
         line: &[u8],
         text: &mut ArrayString<512>,
         out: &mut Vec<u8>,
-    ) -> Result<bool, AllocError>
+    ) -> Result<Verdict, AllocError>
         requires { array_string_len text.old ≤ 320 }
-        ensures ok { IfOk result (λ told. IsAnswer self.new out.old.items out.new.items told (spec.ends self.old (spec.shown self.old line.now text.old.bytes))) }
+        ensures ok { IfOk result (λ verdict. IsAnswer self.new out.old.items out.new.items verdict (spec.ends self.old (spec.shown self.old line.now text.old.bytes))) }
         ensures err { OnErr result (out.new.items ≡ out.old.items) }
     {
         self.put(line, text, out)?;
         self.finish();
-        Ok(true)
+        Ok(Verdict::Fault)
     }
 
     /// An event was refused; out of memory is no answer.
@@ -228,8 +229,8 @@ impl Stepper {
         line: &[u8],
         refusal: Refusal,
         out: &mut Vec<u8>,
-    ) -> Result<bool, AllocError>
-        ensures ok { IfOk result (λ told. IsTold refusal × IsAnswer self.new out.old.items out.new.items told (spec.refused self.old line.now (refusal_text refusal))) }
+    ) -> Result<Verdict, AllocError>
+        ensures ok { IfOk result (λ verdict. IsTold refusal × IsAnswer self.new out.old.items out.new.items verdict (spec.refused self.old line.now (refusal_text refusal))) }
         ensures err { OnErr result (out.new.items ≡ out.old.items) }
     {
         if refusal.is_memory() {
@@ -247,8 +248,8 @@ impl Stepper {
 
 impl Stepper {
     /// The fabric of the script is made.
-    fn make(&mut self, config: Config, out: &mut Vec<u8>) -> Result<bool, AllocError>
-        ensures ok { IfOk result (λ told. IsAnswer self.new out.old.items out.new.items told (spec.made_once self.old self.old.fabric config)) }
+    fn make(&mut self, config: Config, out: &mut Vec<u8>) -> Result<Verdict, AllocError>
+        ensures ok { IfOk result (λ verdict. IsAnswer self.new out.old.items out.new.items verdict (spec.made_once self.old self.old.fabric config)) }
         ensures err { OnErr result (out.new.items ≡ out.old.items) }
     {
         if self.fabric.is_some() {
@@ -258,7 +259,7 @@ impl Stepper {
             Ok(fabric) => {
                 self.fabric = Some(fabric);
                 self.count();
-                Ok(false)
+                Ok(Verdict::Fine)
             }
             Err(ConfigFault::Memory) => Err(AllocError),
             Err(fault) => self.not_made(fault, out),
@@ -272,41 +273,46 @@ impl Stepper {
         event: &Event,
         seen: &Seen,
         out: &mut Vec<u8>,
-    ) -> Result<bool, AllocError>
+    ) -> Result<Verdict, AllocError>
         ensures state { OnOk result (self.new ≡ spec.counted self.old) }
         ensures text { OnOk result (out.new.items ≡ out.old.items ++ spec.shown self.old line.now (seen_text event.now seen.now)) }
-        ensures told { IfOk result (λ told. told ≡ false) }
+        ensures verdict { IfOk result (λ verdict. verdict ≡ Verdict.Fine) }
         ensures err { OnErr result (out.new.items ≡ out.old.items) }
     {
         self.text.clear();
         write_seen(event, seen, &mut self.text);
         put_shown(self.options.echoes, line, &mut self.text, out)?;
         self.count();
-        Ok(false)
+        Ok(Verdict::Fine)
     }
 
     /// The event has no record.
-    fn go_on(&mut self) -> Result<bool, AllocError>
+    fn go_on(&mut self) -> Result<Verdict, AllocError>
         ensures state { OnOk result (self.new ≡ spec.kept self.old []) }
-        ensures told { IfOk result (λ is_fault. is_fault ≡ false) }
+        ensures verdict { IfOk result (λ verdict. verdict ≡ Verdict.Fine) }
     {
         self.count();
-        Ok(false)
+        Ok(Verdict::Fine)
     }
 
     /// The trace grows by the record of the event.
-    fn keep(&mut self, last: Record) -> Result<bool, AllocError>
+    fn keep(&mut self, last: Record) -> Result<Verdict, AllocError>
         ensures state { OnOk result (self.new ≡ spec.kept self.old (last ∷ [])) }
-        ensures told { IfOk result (λ is_fault. is_fault ≡ false) }
+        ensures verdict { IfOk result (λ verdict. verdict ≡ Verdict.Fine) }
     {
         self.records.push(last)?;
         self.count();
-        Ok(false)
+        Ok(Verdict::Fine)
     }
 
     /// An event happens.
-    fn happen(&mut self, line: &[u8], event: &Event, out: &mut Vec<u8>) -> Result<bool, AllocError>
-        ensures ok { IfOk result (λ told. IsAnswer self.new out.old.items out.new.items told (spec.happened self.old line.now self.old.fabric event.now)) }
+    fn happen(
+        &mut self,
+        line: &[u8],
+        event: &Event,
+        out: &mut Vec<u8>,
+    ) -> Result<Verdict, AllocError>
+        ensures ok { IfOk result (λ verdict. IsAnswer self.new out.old.items out.new.items verdict (spec.happened self.old line.now self.old.fabric event.now)) }
         ensures err { OnErr result (out.new.items ≡ out.old.items) }
     {
         let Some(fabric) = &mut self.fabric else {
@@ -353,10 +359,10 @@ impl Stepper {
         answers: &[Record],
         is_quiet: bool,
         out: &mut Vec<u8>,
-    ) -> Result<bool, AllocError>
+    ) -> Result<Verdict, AllocError>
         ensures state { OnOk result (self.new ≡ spec.counted self.old) }
         ensures text { OnOk result (out.new.items ≡ out.old.items ++ (spec.told_lines self.old line.now answers.now ++ spec.shown self.old line.now (settled_text is_quiet))) }
-        ensures told { IfOk result (λ told. told ≡ false) }
+        ensures verdict { IfOk result (λ verdict. verdict ≡ Verdict.Fine) }
         ensures err { OnErr result (out.new.items ≡ out.old.items) }
     {
         let mut lines = Vec::new(self.alloc);
@@ -366,12 +372,12 @@ impl Stepper {
         self.put(line, &mut text, &mut lines)?;
         out.extend_from_slice(lines.as_slice())?;
         self.count();
-        Ok(false)
+        Ok(Verdict::Fine)
     }
 
     /// The fabric is run until nothing moves.
-    fn settle(&mut self, line: &[u8], out: &mut Vec<u8>) -> Result<bool, AllocError>
-        ensures ok { IfOk result (λ told. IsAnswer self.new out.old.items out.new.items told (spec.settled self.old line.now self.old.fabric)) }
+    fn settle(&mut self, line: &[u8], out: &mut Vec<u8>) -> Result<Verdict, AllocError>
+        ensures ok { IfOk result (λ verdict. IsAnswer self.new out.old.items out.new.items verdict (spec.settled self.old line.now self.old.fabric)) }
         ensures err { OnErr result (out.new.items ≡ out.old.items) }
     {
         let Some(fabric) = &mut self.fabric else {
@@ -380,7 +386,7 @@ impl Stepper {
         if self.options.is_traced {
             settle(fabric, &mut self.records)?;
             self.count();
-            return Ok(false);
+            return Ok(Verdict::Fine);
         }
         let mut answers = Vec::new(self.alloc);
         let is_quiet = settle(fabric, &mut answers)?;
@@ -393,13 +399,13 @@ impl Responder for Stepper {
 
     ghost responses = { step_responses };
 
-    fn on_line(&mut self, line: &[u8], out: &mut Vec<u8>) -> Result<bool, AllocError> {
+    fn on_line(&mut self, line: &[u8], out: &mut Vec<u8>) -> Result<Verdict, AllocError> {
         if self.has_ended {
-            return Ok(false);
+            return Ok(Verdict::Fine);
         }
-        if line.is_empty() || line[0] == b'#' {
+        if is_skipped(line) {
             self.count();
-            return Ok(false);
+            return Ok(Verdict::Fine);
         }
         let asked = read_line(line);
         match &asked {
@@ -410,20 +416,20 @@ impl Responder for Stepper {
         }
     }
 
-    fn on_long_line(&mut self, out: &mut Vec<u8>) -> Result<bool, AllocError> {
+    fn on_long_line(&mut self, out: &mut Vec<u8>) -> Result<Verdict, AllocError> {
         if self.has_ended {
-            return Ok(false);
+            return Ok(Verdict::Fine);
         }
         self.no_line(out)
     }
 
-    fn on_end(&mut self, out: &mut Vec<u8>) -> Result<bool, AllocError> {
+    fn on_end(&mut self, out: &mut Vec<u8>) -> Result<Verdict, AllocError> {
         let records = mem::replace(&mut self.records, Vec::new(self.alloc));
         if self.has_ended || !self.options.is_traced {
-            return Ok(false);
+            return Ok(Verdict::Fine);
         }
         let Some(fabric) = &self.fabric else {
-            return Ok(false);
+            return Ok(Verdict::Fine);
         };
         let trace = fabric.trace_of(records);
         tell_trace(self.alloc, &trace, fabric.history(), out)

@@ -7,7 +7,7 @@ use Rattle.fabric_core.specs.declared.event.Event.{Event}
 use Rattle.fabric_core.specs.declared.event.Seen.{Seen}
 use Rattle.fabric_core.specs.Steps.{Happens}
 use Rattle.script_text.specs.Spelled.{IsSpelledEvent}
-use Rattle.storm.specs.declared.Storm.{Storm}
+use Rattle.parameters.specs.declared.storm.Storm.{Storm}
 use Rattle.storm_events.specs.Arrivals.{ArrivalsView, nothing_arrived}
 
 -- a chooser: the generator that it draws from, the plan and the counts

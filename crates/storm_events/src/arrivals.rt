@@ -1,6 +1,6 @@
 //! What becomes of the packets and DLLPs that reach the ends of wires.
 ghost use Rattle.std.specs.Prelude.{◌≡◌};
-ghost use Rattle.storm.specs.Ranges.{IsStorm};
+ghost use Rattle.parameters.specs.Ranges.{IsStorm};
 ghost use Rattle.script_text.specs.Spelled.{IsSpelledLane, IsSpelledEvent};
 ghost use Rattle.fault_plan.specs.Fates.{fate_of};
 ghost use Rattle.storm_events.specs.Arrivals.{nothing_arrived, next_on, with_event};
@@ -9,8 +9,8 @@ use crate::counts::Counts;
 use fabric_core::{Event, LaneName};
 use fault_plan::Plan;
 use lane_core::Fate;
+use parameters::Storm;
 use std::marker::Model;
-use storm::Storm;
 
 /// A plan of faults, and the counts that it goes by.
 #[derive(Drop)]

@@ -1,6 +1,6 @@
 //! The choice of the next event.
 ghost use Rattle.std.specs.Prelude.{◌≡◌, ◌≤◌, true, false, IfOk, OnErr};
-ghost use Rattle.storm.specs.Ranges.{IsStorm};
+ghost use Rattle.parameters.specs.Ranges.{IsStorm};
 ghost use Rattle.script_text.specs.Spelled.{IsSpelledEvent};
 ghost use Rattle.storm_events.specs.Arrivals.{HasFate, IsCounted, IsCountedIfAny};
 ghost use Rattle.storm_events.specs.Choice.{IsChosen, IsTried, IsDrawn, new_choosing};
@@ -10,9 +10,9 @@ use crate::candidates::{lane, plain};
 use crate::draws::Draws;
 use fabric_core::{Event, Fabric, LaneName};
 use lane_core::DllpKind;
+use parameters::Storm;
 use std::alloc::AllocError;
 use std::marker::Model;
-use storm::Storm;
 
 /// How many candidates are tried before an event comes that can always happen.
 const TRIES: u32 = 256;

@@ -1,7 +1,7 @@
 //! A small responder over worked inputs, and over streams that fail.
 use crate::rows::{Row, all_right};
 use arrayvec::ArrayVec;
-use line_loop::{EngineFault, Responder, run, write_out};
+use line_loop::{EngineFault, Responder, Verdict, run, write_out};
 use std::alloc::{AllocError, Global};
 use std::cell::Cell;
 use std::io;
@@ -27,7 +27,7 @@ impl Responder for Marker {
       on_end = λ s. record { state = s; text = codes "end\n"; is_fault = false };
     } };
 
-    fn on_line(&mut self, line: &[u8], out: &mut Vec<u8>) -> Result<bool, AllocError> {
+    fn on_line(&mut self, line: &[u8], out: &mut Vec<u8>) -> Result<Verdict, AllocError> {
         if line == b"none".as_slice() {
             return Err(AllocError);
         }
@@ -37,17 +37,17 @@ impl Responder for Marker {
         text.push(b'\n');
         out.extend_from_slice(text.as_slice())?;
         self.is_second = !self.is_second;
-        Ok(false)
+        Ok(Verdict::Fine)
     }
 
-    fn on_long_line(&mut self, out: &mut Vec<u8>) -> Result<bool, AllocError> {
+    fn on_long_line(&mut self, out: &mut Vec<u8>) -> Result<Verdict, AllocError> {
         out.extend_from_slice(b"long\n")?;
-        Ok(true)
+        Ok(Verdict::Fault)
     }
 
-    fn on_end(&mut self, out: &mut Vec<u8>) -> Result<bool, AllocError> {
+    fn on_end(&mut self, out: &mut Vec<u8>) -> Result<Verdict, AllocError> {
         out.extend_from_slice(b"end\n")?;
-        Ok(false)
+        Ok(Verdict::Fine)
     }
 }
 
@@ -188,7 +188,7 @@ fn output_of(alloc: Global, line: &[u8], is_long: bool) -> Result<Vec<u8>, Alloc
 
 impl Long {
     /// Whether a first line and this one are answered so.
-    fn is_answered(&self, alloc: Global, line: &[u8]) -> Result<bool, AllocError> {
+    fn is_answered(&self, alloc: Global, line: &[u8]) -> Result<Verdict, AllocError> {
         let input = framed(alloc, b"one\n", line, self.1)?;
         let output = output_of(alloc, line, self.2)?;
         let want = Ok(u8::from(self.2));
@@ -199,7 +199,7 @@ impl Long {
 impl Row for Long {
     fn is_right(&self, alloc: Global) -> bool {
         match vec![in alloc; b'x'; self.0] {
-            Ok(line) => self.is_answered(alloc, line.as_slice()) == Ok(true),
+            Ok(line) => self.is_answered(alloc, line.as_slice()) == Ok(Verdict::Fault),
             Err(_) => false,
         }
     }

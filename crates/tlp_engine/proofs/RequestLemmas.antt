@@ -20,6 +20,7 @@ use Rattle.completer_core.specs.Serving.{after_serving, with_entry, request_entr
 use Rattle.hex.specs.Hex.{decode_of}
 use Rattle.hex.specs.declared.error.FromHexError.{FromHexError}
 use Rattle.hex_text.specs.Line.{digits_of}
+use Rattle.text_lines.specs.Lines.{is_skipped}
 use Rattle.tlp_engine.specs.Tlp.{Device, requests_of, answer_request, answer_line, answer_bytes, answer_reading, fault}
 
 -- the operation of a request
@@ -76,26 +77,20 @@ pub numbers-used : {S : Type 0} (d : Device S) (s : S) (t : TlpView) (number : �
 numbers-used d s t number e = rw e refl
 
 -- a line that isn't skipped
-line-bytes : {S : Type 0} (d : Device S) (s : S) (line : List ℕ) → (length line == 0) ≡ false → slice_index line 0 ≢ 35 → answer_line d s line ≡ answer_bytes d s (decode_of (digits_of line))
-line-bytes d s [] some not = cc
-line-bytes d s (x ∷ xs) some not =
-    let test : (x == 35) ≡ false = refuted x 35 not in
-    rw test refl
-  where
-    refuted : (a b : ℕ) → a ≢ b → (a == b) ≡ false
-    refuted a b not = grind (arith, nat_tests)
+line-bytes : {S : Type 0} (d : Device S) (s : S) (line : List ℕ) → is_skipped line ≡ false → answer_line d s line ≡ answer_bytes d s (decode_of (digits_of line))
+line-bytes d s line kept = rw kept refl
 
 -- one whose digits are read
-pub line-read : {S : Type 0} (d : Device S) (s : S) (line digits bytes : List ℕ) → (length line == 0) ≡ false → slice_index line 0 ≢ 35 → digits ≡ digits_of line
+pub line-read : {S : Type 0} (d : Device S) (s : S) (line digits bytes : List ℕ) → is_skipped line ≡ false → digits ≡ digits_of line
     → decode_of digits ≡ Ok bytes → answer_line d s line ≡ answer_reading d s (reading bytes)
-line-read d s line digits bytes some not e h =
-    line-bytes d s line some not ∙ ap (λ (x : List ℕ). answer_bytes d s (decode_of x)) (sym e) ∙ ap (answer_bytes d s) h
+line-read d s line digits bytes kept e h =
+    line-bytes d s line kept ∙ ap (λ (x : List ℕ). answer_bytes d s (decode_of x)) (sym e) ∙ ap (answer_bytes d s) h
 
 -- and one whose digits are not
-pub line-not-read : {S : Type 0} (d : Device S) (s : S) (line digits : List ℕ) → (length line == 0) ≡ false → slice_index line 0 ≢ 35 → digits ≡ digits_of line
+pub line-not-read : {S : Type 0} (d : Device S) (s : S) (line digits : List ℕ) → is_skipped line ≡ false → digits ≡ digits_of line
     → IsErr (decode_of digits) → answer_line d s line ≡ fault s (codes "fault hex")
-line-not-read d s line digits some not e h =
-    line-bytes d s line some not ∙ ap (λ (x : List ℕ). answer_bytes d s (decode_of x)) (sym e) ∙ go (decode_of digits) h
+line-not-read d s line digits kept e h =
+    line-bytes d s line kept ∙ ap (λ (x : List ℕ). answer_bytes d s (decode_of x)) (sym e) ∙ go (decode_of digits) h
   where
     go : (r : Result (List ℕ) FromHexError) → IsErr r → answer_bytes d s r ≡ fault s (codes "fault hex")
     go (Ok bytes) h = cc

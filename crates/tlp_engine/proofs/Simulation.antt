@@ -23,7 +23,7 @@ use Rattle.completer_core.specs.Serving.{after_serving, with_entry, request_entr
 use Rattle.hex.specs.Hex.{decode_of}
 use Rattle.hex.specs.declared.error.FromHexError.{FromHexError}
 use Rattle.hex_text.specs.Line.{digits_of}
-use Rattle.line_loop.specs.Lines.{lines_of, ended_lines, bare, said}
+use Rattle.text_lines.specs.Lines.{lines_of, ended_lines, bare, said, is_skipped}
 use Rattle.line_loop.specs.Run.{Answer, Responses, Run, answer_to, with_answer, after_line, new_run, run_of, IsBeginning, IsWhole, IsPart, IsCaughtUp}
 use Rattle.tlp_engine.specs.Tlp.{answer_request, answer_packet, answer_reading, answer_bytes, answer_line, with_history, tlp_responses, new_state, out_tlp, requests_of, fault, fault_text, nothing, completion_text}
 use Rattle.tlp_engine.specs.CompleterView.{CompleterView, new_kept, after_request, without_history, kept_responses}
@@ -178,14 +178,13 @@ bytes-alike spelled grows k s digits (Err e) decoded at = fault-alike k s (codes
 bytes-alike spelled grows k s digits (Ok b) decoded at = reading-alike grows k s (reading b) at (λ t read. is-read spelled digits b t decoded read)
 
 text-alike : Spelled → Grows → (k : CompleterView) (s : MemoryView) (line : List ℕ) → StandsFor k s → AlikeAnswer StandsFor (answer_line without_history k line) (answer_line with_history s line)
-text-alike spelled grows k s [] at = nothing-alike k s at
-text-alike spelled grows k s (first ∷ rest) at = go (first == 35)
+text-alike spelled grows k s line at = go (is_skipped line)
   where
-    go : (comment : Bool) → AlikeAnswer StandsFor
-        (if comment then nothing k else answer_bytes without_history k (decode_of (digits_of (first ∷ rest))))
-        (if comment then nothing s else answer_bytes with_history s (decode_of (digits_of (first ∷ rest))))
+    go : (skip : Bool) → AlikeAnswer StandsFor
+        (if skip then nothing k else answer_bytes without_history k (decode_of (digits_of line)))
+        (if skip then nothing s else answer_bytes with_history s (decode_of (digits_of line)))
     go true = nothing-alike k s at
-    go false = bytes-alike spelled grows k s (digits_of (first ∷ rest)) (decode_of (digits_of (first ∷ rest))) refl at
+    go false = bytes-alike spelled grows k s (digits_of line) (decode_of (digits_of line)) refl at
 
 pub simulates : Spelled → Grows → Simulates StandsFor kept_responses tlp_responses
 simulates spelled grows = record {

@@ -14,6 +14,7 @@ use Rattle.seq_memory.specs.Limits.{Extent}
 use Rattle.seq_memory.specs.History.{MemoryView}
 use Rattle.completer_core.specs.Serving.{after_serving, completion_to}
 use Rattle.hex_text.specs.Line.{digits_of, spaced}
+use Rattle.text_lines.specs.Lines.{is_skipped}
 use Rattle.line_loop.specs.Run.{Answer, Responses, Run, run_of}
 
 -- ---- texts
@@ -62,10 +63,8 @@ abbrev pub answer_bytes : {S : Type 0} → Device S → S → Result (List ℕ) 
 answer_bytes d s (Err e) = fault s (codes "fault hex")
 answer_bytes d s (Ok bytes) = answer_reading d s (reading bytes)
 
--- an empty line, and one that begins with `#`, is skipped
 abbrev pub answer_line : {S : Type 0} → Device S → S → List ℕ → Answer S
-answer_line d s [] = nothing s
-answer_line d s (first ∷ rest) = if first == 35 then nothing s else answer_bytes d s (decode_of (digits_of (first ∷ rest)))
+answer_line d s line = if is_skipped line then nothing s else answer_bytes d s (decode_of (digits_of line))
 
 abbrev pub responses : {S : Type 0} → Device S → Responses S
 responses d = record { on_line = answer_line d; on_long_line = λ s. fault s (codes "fault line"); on_end = nothing }

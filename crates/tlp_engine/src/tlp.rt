@@ -1,5 +1,5 @@
 //! The subcommand `tlp`: requests in, completions out, over one memory.
-ghost use Rattle.std.specs.Prelude.{◌≡◌, ◌/◌, ◌<◌, ◌++◌, ◌∷◌, [], ℕ, true, false, IfOk, IfErr, OnErr, length, replicate, slice_index};
+ghost use Rattle.std.specs.Prelude.{◌≡◌, ◌/◌, ◌<◌, ◌++◌, ◌∷◌, [], ℕ, IfOk, IfErr, OnErr, length, replicate, slice_index};
 ghost use Rattle.tlp_core.specs.Faults.{reading};
 ghost use Rattle.tlp_core.specs.Operation.{is_completion};
 ghost use Rattle.line_loop.specs.Run.{IsAnswer, IsCaughtUp, IsWhole, IsPart};
@@ -10,12 +10,13 @@ use crate::text::{put_fault, put_packet};
 use arrayvec::ArrayVec;
 use completer_core::answer;
 use hex_text::HexLine;
-use line_loop::{EngineFault, Responder, run};
+use line_loop::{EngineFault, Responder, Verdict, run};
 use seq_memory::Extent;
 use seq_memory::laws::history_grows_by_steps;
 use std::alloc::{AllocError, Global};
 use std::io::{Read, Write};
 use std::marker::Model;
+use text_lines::is_skipped;
 use tlp_core::laws::reading_is_spelling;
 use tlp_core::{Kind, Tlp, TlpFault, decode};
 
@@ -74,17 +75,17 @@ fn zeros(alloc: Global, size: usize) -> Result<Vec<u8>, AllocError>
 }
 
 /// Adds a line that tells a fault.
-fn tell(text: &[u8], out: &mut Vec<u8>) -> Result<bool, AllocError>
-    ensures ok { IfOk result (λ told. (told ≡ true) × (out.new.items ≡ out.old.items ++ text.now)) }
+fn tell(text: &[u8], out: &mut Vec<u8>) -> Result<Verdict, AllocError>
+    ensures ok { IfOk result (λ verdict. (verdict ≡ Verdict.Fault) × (out.new.items ≡ out.old.items ++ text.now)) }
     ensures err { OnErr result (out.new.items ≡ out.old.items) }
 {
     out.extend_from_slice(text)?;
-    Ok(true)
+    Ok(Verdict::Fault)
 }
 
 /// Adds the line of a packet's fault.
-fn tell_fault(fault: TlpFault, out: &mut Vec<u8>) -> Result<bool, AllocError>
-    ensures ok { IfOk result (λ told. (told ≡ true) × (out.new.items ≡ out.old.items ++ (fault_text fault ++ 10 ∷ []))) }
+fn tell_fault(fault: TlpFault, out: &mut Vec<u8>) -> Result<Verdict, AllocError>
+    ensures ok { IfOk result (λ verdict. (verdict ≡ Verdict.Fault) × (out.new.items ≡ out.old.items ++ (fault_text fault ++ 10 ∷ []))) }
     ensures err { OnErr result (out.new.items ≡ out.old.items) }
 {
     let mut text = ArrayVec::new();
@@ -98,19 +99,19 @@ fn tell_completion(
     completion: &Option<Tlp>,
     room: &mut Room,
     out: &mut Vec<u8>,
-) -> Result<bool, AllocError>
-    ensures ok { IfOk result (λ told. (told ≡ false) × (out.new.items ≡ out.old.items ++ (completion_text completion.now ++ 10 ∷ []))) }
+) -> Result<Verdict, AllocError>
+    ensures ok { IfOk result (λ verdict. (verdict ≡ Verdict.Fine) × (out.new.items ≡ out.old.items ++ (completion_text completion.now ++ 10 ∷ []))) }
     ensures err { OnErr result (out.new.items ≡ out.old.items) }
 {
     let Some(completion) = completion else {
         out.extend_from_slice(b"-\n")?;
-        return Ok(false);
+        return Ok(Verdict::Fine);
     };
     room.text.clear();
     put_packet(completion, &mut room.bytes, &mut room.text);
     room.text.push(b'\n');
     out.extend_from_slice(room.text.as_slice())?;
-    Ok(false)
+    Ok(Verdict::Fine)
 }
 
 impl Device {
@@ -139,8 +140,8 @@ impl Device {
         request: &Tlp,
         room: &mut Room,
         out: &mut Vec<u8>,
-    ) -> Result<bool, AllocError>
-        ensures ok { IfOk result (λ told. IsAnswer self.new out.old.items out.new.items told (answer_request without_history self.old request.now (slice_index self.old.counts (request.now.requester / 256)))) }
+    ) -> Result<Verdict, AllocError>
+        ensures ok { IfOk result (λ verdict. IsAnswer self.new out.old.items out.new.items verdict (answer_request without_history self.old request.now (slice_index self.old.counts (request.now.requester / 256)))) }
         ensures err { OnErr result (out.new.items ≡ out.old.items) }
     {
         let number = self.count(request);
@@ -159,8 +160,8 @@ impl Device {
         packet: &Tlp,
         room: &mut Room,
         out: &mut Vec<u8>,
-    ) -> Result<bool, AllocError>
-        ensures ok { IfOk result (λ told. IsAnswer self.new out.old.items out.new.items told (answer_packet without_history self.old packet.now)) }
+    ) -> Result<Verdict, AllocError>
+        ensures ok { IfOk result (λ verdict. IsAnswer self.new out.old.items out.new.items verdict (answer_packet without_history self.old packet.now)) }
         ensures err { OnErr result (out.new.items ≡ out.old.items) }
     {
         match packet.kind {
@@ -175,8 +176,8 @@ impl Device {
         bytes: &[u8],
         room: &mut Room,
         out: &mut Vec<u8>,
-    ) -> Result<bool, AllocError>
-        ensures ok { IfOk result (λ told. IsAnswer self.new out.old.items out.new.items told (answer_reading without_history self.old (reading bytes.now))) }
+    ) -> Result<Verdict, AllocError>
+        ensures ok { IfOk result (λ verdict. IsAnswer self.new out.old.items out.new.items verdict (answer_reading without_history self.old (reading bytes.now))) }
         ensures err { OnErr result (out.new.items ≡ out.old.items) }
     {
         match decode(bytes) {
@@ -205,9 +206,9 @@ impl Responder for Completer {
 
     ghost responses = { kept_responses };
 
-    fn on_line(&mut self, line: &[u8], out: &mut Vec<u8>) -> Result<bool, AllocError> {
-        if line.is_empty() || line[0] == b'#' {
-            return Ok(false);
+    fn on_line(&mut self, line: &[u8], out: &mut Vec<u8>) -> Result<Verdict, AllocError> {
+        if is_skipped(line) {
+            return Ok(Verdict::Fine);
         }
         if !self.line.read(line) {
             return tell(b"fault hex\n", out);
@@ -216,12 +217,12 @@ impl Responder for Completer {
             .answer_bytes(self.line.bytes(), &mut self.room, out)
     }
 
-    fn on_long_line(&mut self, out: &mut Vec<u8>) -> Result<bool, AllocError> {
+    fn on_long_line(&mut self, out: &mut Vec<u8>) -> Result<Verdict, AllocError> {
         tell(b"fault line\n", out)
     }
 
-    fn on_end(&mut self, _out: &mut Vec<u8>) -> Result<bool, AllocError> {
-        Ok(false)
+    fn on_end(&mut self, _out: &mut Vec<u8>) -> Result<Verdict, AllocError> {
+        Ok(Verdict::Fine)
     }
 }
 

@@ -1,5 +1,6 @@
 -- Of which line of a trace's text a reason is told, and when.
-use Rattle.std.specs.Prelude.{ℕ, ◌≡◌, ◌+◌, ◌-◌, ◌^◌, ◌<◌, ◌==◌, nat_le, min, Bool, true, if◌then◌else◌, List, [], ◌∷◌, ◌++◌, length, Option, Some, None, slice_get}
+use Rattle.std.specs.Prelude.{ℕ, ◌≡◌, ◌+◌, ◌-◌, ◌^◌, ◌<◌, nat_le, min, if◌then◌else◌, List, [], ◌∷◌, ◌++◌, length, Option, Some, None, slice_get}
+use Rattle.text_lines.specs.Lines.{is_skipped}
 use Rattle.history_check.specs.declared.flaws.FlawKind.{FlawKind}
 use Rattle.flaw_places.specs.Places.{is_of_entry}
 
@@ -20,11 +21,6 @@ pub record TraceLinesView : Type 0 where
 
 abbrev pub nothing_numbered : TraceLinesView
 nothing_numbered = record { lines = 0; skipped = [] }
-
--- an empty line and one that begins with `#` are skipped
-abbrev pub is_skipped : List ℕ → Bool
-is_skipped [] = true
-is_skipped (first ∷ rest) = first == 35
 
 -- the number of the line that comes next, a number of 64 bits
 abbrev pub next_line : TraceLinesView → ℕ

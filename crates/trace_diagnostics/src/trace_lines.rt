@@ -5,6 +5,7 @@ ghost use Rattle.trace_diagnostics.specs.Told.{number_at, record_line, entry_lin
 
 use std::alloc::{AllocError, Global};
 use std::marker::Model;
+use text_lines::is_skipped;
 
 /// On which lines of its text the records and entries of a trace stand.
 #[derive(Drop)]
@@ -53,7 +54,7 @@ impl TraceLines {
         ensures err { OnErr result (self.new ≡ self.old) }
     {
         let number = self.lines.saturating_add(1);
-        if line.is_empty() || line[0] == b'#' {
+        if is_skipped(line) {
             self.skipped.push(number)?;
         }
         self.lines = number;

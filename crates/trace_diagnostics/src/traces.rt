@@ -14,6 +14,7 @@ use seq_memory::Entry;
 use std::alloc::Global;
 use std::io::Write;
 use std::marker::Model;
+use text_lines::is_skipped;
 
 /// Tells why the text of a trace can't be read, or the trace isn't explained: one line at most. The
 /// calls tell the number of the first line that can't be read, once one was found. After an `Err` a
@@ -82,7 +83,7 @@ impl<E: Write + Drop> TraceReasons<E> {
         if let Some(number) = self.news(fault) {
             return self.refuse(line, number);
         }
-        if !line.is_empty() && line[0] != b'#' {
+        if !is_skipped(line) {
             self.due = self.due.after(line);
         }
         Ok(())

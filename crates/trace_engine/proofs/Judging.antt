@@ -5,7 +5,7 @@ use Rattle.history_check.specs.declared.flaws.FlawKind.{FlawKind}
 use Rattle.history_check.specs.Claim.{Claim}
 use Rattle.history_check.specs.Flaws.{first_flaw}
 use Rattle.history_check.specs.Trace.{Explains}
-use Rattle.line_loop.specs.Lines.{lines_of, bare, said}
+use Rattle.text_lines.specs.Lines.{lines_of, bare, said}
 use Rattle.line_loop.specs.Run.{Run, with_answer, after_line as run_on, after_end, new_run}
 use Rattle.trace_text.specs.declared.fault.ReadFault.{ReadFault}
 use Rattle.trace_text.specs.TraceReaderView.{TraceReaderView, nothing_read, after_line, after_long_line, take_line, read_of}

@@ -1,12 +1,11 @@
 -- What `check` answers to the text of a trace.
 use Rattle.std.specs.Prelude.{ℕ, List, [], ◌∷◌, ◌++◌, Bool, true, false, codes, Option, Some, None, Result, Ok, Err}
-use Rattle.std.specs.Fmt.{decimal}
 use Rattle.history_check.specs.declared.flaws.FlawKind.{FlawKind}
-pub use Rattle.flaw_places.specs.Places.{flaw_line}
+use Rattle.flaw_places.specs.Places.{flaw_line}
 use Rattle.history_check.specs.Claim.{Claim}
 use Rattle.history_check.specs.Flaws.{first_flaw}
 use Rattle.trace_text.specs.declared.fault.ReadFault.{ReadFault}
-use Rattle.trace_text.specs.Names.{name_of as fault_name}
+use Rattle.trace_text.specs.Names.{fault_line}
 use Rattle.trace_text.specs.TraceReaderView.{TraceReaderView, nothing_read, after_line, after_long_line, at_end}
 use Rattle.line_loop.specs.Run.{Answer, Responses, Run, run_of}
 
@@ -17,9 +16,6 @@ is_read s = record { state = s; text = []; is_fault = false }
 -- the text has ended: one line is written, and nothing is left of what was read
 abbrev pub concludes : List ℕ → Bool → Answer TraceReaderView
 concludes line is_fault = record { state = nothing_read; text = line ++ 10 ∷ []; is_fault = is_fault }
-
-abbrev pub fault_line : ReadFault → List ℕ
-fault_line f = codes "fault " ++ decimal f.line ++ 32 ∷ fault_name f.kind
 
 abbrev pub judged : Option (FlawKind × ℕ) → Answer TraceReaderView
 judged None = concludes (codes "ok") false

@@ -5,7 +5,8 @@ use Rattle.trace_text.specs.declared.fault.ReadFault.{ReadFault}
 use Rattle.trace_text.specs.TraceReaderView.{TraceReaderView, nothing_read, after_line, after_long_line, at_end}
 use Rattle.trace_text.specs.Texts.{trace_text}
 use Rattle.line_loop.specs.Run.{Answer, Responses, Run, run_of}
-use Rattle.trace_engine.specs.Check.{is_read, concludes, fault_line}
+use Rattle.trace_text.specs.Names.{fault_line}
+use Rattle.trace_engine.specs.Check.{is_read, concludes}
 
 -- the text in the second version, whether or not the history explains the trace
 abbrev pub upgraded : Result Claim ReadFault → Answer TraceReaderView

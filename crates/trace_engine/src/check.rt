@@ -1,18 +1,19 @@
 //! The subcommand `check`: whether a history explains what requesters were told.
-ghost use Rattle.std.specs.Prelude.{◌≡◌, ◌++◌, ◌∷◌, [], true, false, IfOk, IfErr, OnOk, OnErr};
+ghost use Rattle.std.specs.Prelude.{◌≡◌, ◌++◌, ◌∷◌, [], IfOk, IfErr, OnOk, OnErr};
 ghost use Rattle.history_check.specs.Claim.{claim_of};
 ghost use Rattle.history_check.specs.Flaws.{first_flaw};
 ghost use Rattle.trace_text.specs.TraceReaderView.{nothing_read};
 ghost use Rattle.line_loop.specs.Run.{IsAnswer, IsWhole, IsPart};
 ghost use Rattle.diagnostics.specs.Told.{IsReasonTold, IsReasonBegun};
-ghost use Rattle.trace_engine.specs.Check.{flaw_line, judged, out_check};
+ghost use Rattle.flaw_places.specs.Places.{flaw_line};
+ghost use Rattle.trace_engine.specs.Check.{judged, out_check};
 ghost use Rattle.trace_engine.specs.Reasons.{flawed_line};
 
 use crate::traces::{TraceInput, tell_fault};
 use arrayvec::ArrayString;
 use flaw_places::write_flaw;
 use history_check::{Flaw, FlawKind, Trace, check};
-use line_loop::{EngineFault, Responder, run};
+use line_loop::{EngineFault, Responder, Verdict, run};
 use seq_memory::Entry;
 use std::alloc::{AllocError, Global};
 use std::io::{Read, Write, sink};
@@ -20,19 +21,19 @@ use std::marker::Model;
 use trace_diagnostics::{TraceLines, TraceReasons};
 
 /// Adds the line of a flaw.
-fn tell_flaw(flaw: Flaw, out: &mut Vec<u8>) -> Result<bool, AllocError>
-    ensures ok { IfOk result (λ told. (told ≡ true) × (out.new.items ≡ out.old.items ++ (flaw_line flaw.kind flaw.place ++ 10 ∷ []))) }
+fn tell_flaw(flaw: Flaw, out: &mut Vec<u8>) -> Result<Verdict, AllocError>
+    ensures ok { IfOk result (λ verdict. (verdict ≡ Verdict.Fault) × (out.new.items ≡ out.old.items ++ (flaw_line flaw.kind flaw.place ++ 10 ∷ []))) }
     ensures err { OnErr result (out.new.items ≡ out.old.items) }
 {
     let mut text = ArrayString::new();
     write_flaw(flaw, &mut text);
     text.push_str("\n");
     out.extend_from_slice(text.as_bytes())?;
-    Ok(true)
+    Ok(Verdict::Fault)
 }
 
-/// Adds the line that tells whether the history explains the trace, and tells the reason of a flaw: whether
-/// there is one, and whether the stream took its reason.
+/// Adds the line that tells whether the history explains the trace, and tells the reason of a flaw. Returns
+/// the verdict, and whether the stream took the reason.
 fn judge<E: Write + Drop>(
     alloc: Global,
     trace: &Trace,
@@ -40,24 +41,24 @@ fn judge<E: Write + Drop>(
     lines: &TraceLines,
     reasons: &mut TraceReasons<E>,
     out: &mut Vec<u8>,
-) -> Result<(bool, Result<(), EngineFault>), AllocError>
-    ensures ok { IfOk result (λ told. IsAnswer nothing_read out.old.items out.new.items told.0 (judged (first_flaw (claim_of trace.now history.now)))) }
+) -> Result<(Verdict, Result<(), EngineFault>), AllocError>
+    ensures ok { IfOk result (λ answered. IsAnswer nothing_read out.old.items out.new.items answered.0 (judged (first_flaw (claim_of trace.now history.now)))) }
     ensures err { OnErr result (out.new.items ≡ out.old.items) }
-    ensures reason { IfOk result (λ told. OnOk told.1 (IsReasonTold (flawed_line lines.now (claim_of trace.now history.now)) reasons.old.errors reasons.new.errors)) }
-    ensures fault { IfOk result (λ told. IfErr told.1 (λ f. f ≡ EngineFault.Write)) }
-    ensures part { IfOk result (λ told. OnErr told.1 (IsReasonBegun (flawed_line lines.now (claim_of trace.now history.now)) reasons.old.errors reasons.new.errors)) }
+    ensures reason { IfOk result (λ answered. OnOk answered.1 (IsReasonTold (flawed_line lines.now (claim_of trace.now history.now)) reasons.old.errors reasons.new.errors)) }
+    ensures fault { IfOk result (λ answered. IfErr answered.1 (λ f. f ≡ EngineFault.Write)) }
+    ensures part { IfOk result (λ answered. OnErr answered.1 (IsReasonBegun (flawed_line lines.now (claim_of trace.now history.now)) reasons.old.errors reasons.new.errors)) }
     ensures told { reasons.new.told ≡ reasons.old.told }
 {
     match check(alloc, trace, history) {
         Ok(()) => {
             out.extend_from_slice(b"ok\n")?;
-            Ok((false, Ok(())))
+            Ok((Verdict::Fine, Ok(())))
         }
         Err(flaw) if flaw.kind == FlawKind::Memory => Err(AllocError),
         Err(flaw) => {
             let reason = reasons.tell_flaw(alloc, trace, history, flaw, lines);
-            let told = tell_flaw(flaw, out)?;
-            Ok((told, reason))
+            let verdict = tell_flaw(flaw, out)?;
+            Ok((verdict, reason))
         }
     }
 }
@@ -82,21 +83,21 @@ impl<E: Write + Drop> Responder for Checker<E> {
 
     ghost responses = { check_responses };
 
-    fn on_line(&mut self, line: &[u8], _out: &mut Vec<u8>) -> Result<bool, AllocError> {
+    fn on_line(&mut self, line: &[u8], _out: &mut Vec<u8>) -> Result<Verdict, AllocError> {
         self.lines.note(line)?;
         self.input.line(line)?;
-        Ok(false)
+        Ok(Verdict::Fine)
     }
 
-    fn on_long_line(&mut self, _out: &mut Vec<u8>) -> Result<bool, AllocError> {
+    fn on_long_line(&mut self, _out: &mut Vec<u8>) -> Result<Verdict, AllocError> {
         self.input.long_line();
-        Ok(false)
+        Ok(Verdict::Fine)
     }
 
-    fn on_end(&mut self, out: &mut Vec<u8>) -> Result<bool, AllocError> {
+    fn on_end(&mut self, out: &mut Vec<u8>) -> Result<Verdict, AllocError> {
         match self.input.end() {
             Ok((trace, history)) => {
-                let (told, _) = judge(
+                let (verdict, _) = judge(
                     self.input.alloc(),
                     &trace,
                     history.as_slice(),
@@ -104,7 +105,7 @@ impl<E: Write + Drop> Responder for Checker<E> {
                     &mut self.input.reasons,
                     out,
                 )?;
-                Ok(told)
+                Ok(verdict)
             }
             Err(fault) => tell_fault(fault, out),
         }

@@ -9,12 +9,9 @@
 
 mod check;
 pub mod laws;
-mod lines;
 mod traces;
 mod upgrade;
 
 pub use check::{run_check, run_check_with_reasons};
-pub use flaw_places::write_flaw;
-pub use lines::write_fault;
 pub use traces::tell_trace;
 pub use upgrade::{run_upgrade, run_upgrade_with_reasons};

@@ -1,21 +1,21 @@
 //! What the subcommands that read a trace share.
-ghost use Rattle.std.specs.Prelude.{◌≡◌, ◌++◌, ◌∷◌, [], true, false, IfOk, IfErr, OnErr, OnOk, Ok, Err};
+ghost use Rattle.std.specs.Prelude.{◌≡◌, ◌++◌, ◌∷◌, [], IfOk, IfErr, OnErr, OnOk, Ok, Err};
 ghost use Rattle.history_check.specs.Claim.{claim_of};
 ghost use Rattle.trace_text.specs.Texts.{trace_text};
 ghost use Rattle.trace_text.specs.TraceReaderView.{nothing_read, after_line, after_long_line, at_end};
-ghost use Rattle.trace_engine.specs.Check.{fault_line};
+ghost use Rattle.trace_text.specs.Names.{fault_line};
 ghost use Rattle.trace_engine.specs.Reasons.{line_of_fault};
 
-use crate::lines::write_fault;
 use arrayvec::ArrayString;
 use history_check::Trace;
+use line_loop::Verdict;
 use seq_memory::Entry;
 use std::alloc::{AllocError, Global};
 use std::io::Write;
 use std::marker::Model;
 use std::mem;
 use trace_diagnostics::TraceReasons;
-use trace_text::{ReadFault, TraceReader, write_trace};
+use trace_text::{ReadFault, TraceReader, write_fault, write_trace};
 
 /// The number of the line that can't be read, if there is one.
 pub(crate) fn line_of_fault(fault: Option<ReadFault>) -> Option<u64>
@@ -103,15 +103,15 @@ impl<E: Write + Drop> TraceInput<E> {
 }
 
 /// Adds the line of a text that can't be read.
-pub fn tell_fault(fault: ReadFault, out: &mut Vec<u8>) -> Result<bool, AllocError>
-    ensures ok { IfOk result (λ told. (told ≡ true) × (out.new.items ≡ out.old.items ++ (fault_line fault ++ 10 ∷ []))) }
+pub fn tell_fault(fault: ReadFault, out: &mut Vec<u8>) -> Result<Verdict, AllocError>
+    ensures ok { IfOk result (λ verdict. (verdict ≡ Verdict.Fault) × (out.new.items ≡ out.old.items ++ (fault_line fault ++ 10 ∷ []))) }
     ensures err { OnErr result (out.new.items ≡ out.old.items) }
 {
     let mut text = ArrayString::new();
     write_fault(fault, &mut text);
     text.push_str("\n");
     out.extend_from_slice(text.as_bytes())?;
-    Ok(true)
+    Ok(Verdict::Fault)
 }
 
 /// Adds the text, which takes the place of nothing where nothing is there.
@@ -132,11 +132,11 @@ pub fn tell_trace(
     trace: &Trace,
     history: &[Entry],
     out: &mut Vec<u8>,
-) -> Result<bool, AllocError>
-    ensures ok { IfOk result (λ told. (told ≡ false) × (out.new.items ≡ out.old.items ++ trace_text (claim_of trace.now history.now))) }
+) -> Result<Verdict, AllocError>
+    ensures ok { IfOk result (λ verdict. (verdict ≡ Verdict.Fine) × (out.new.items ≡ out.old.items ++ trace_text (claim_of trace.now history.now))) }
     ensures err { OnErr result (out.new.items ≡ out.old.items) }
 {
     let text = write_trace(alloc, trace, history)?;
     hand_over(text.into_bytes(), out)?;
-    Ok(false)
+    Ok(Verdict::Fine)
 }

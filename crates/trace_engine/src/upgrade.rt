@@ -5,7 +5,7 @@ ghost use Rattle.line_loop.specs.Run.{IsWhole, IsPart};
 ghost use Rattle.trace_engine.specs.Upgrade.{out_upgrade};
 
 use crate::traces::{hand_over, line_of_fault, tell_fault};
-use line_loop::{EngineFault, Responder, run};
+use line_loop::{EngineFault, Responder, Verdict, run};
 use std::alloc::{AllocError, Global};
 use std::io::{Read, Write, sink};
 use std::marker::Model;
@@ -67,27 +67,27 @@ impl<E: Write + Drop> Responder for Upgrader<E> {
 
     ghost responses = { rewriter_responses };
 
-    fn on_line(&mut self, line: &[u8], _out: &mut Vec<u8>) -> Result<bool, AllocError> {
+    fn on_line(&mut self, line: &[u8], _out: &mut Vec<u8>) -> Result<Verdict, AllocError> {
         self.rewriter.line(line)?;
         let _ = self
             .reasons
             .take_line(line, line_of_fault(self.rewriter.fault()));
-        Ok(false)
+        Ok(Verdict::Fine)
     }
 
-    fn on_long_line(&mut self, _out: &mut Vec<u8>) -> Result<bool, AllocError> {
+    fn on_long_line(&mut self, _out: &mut Vec<u8>) -> Result<Verdict, AllocError> {
         self.rewriter.long_line();
         let _ = self
             .reasons
             .take_long_line(line_of_fault(self.rewriter.fault()));
-        Ok(false)
+        Ok(Verdict::Fine)
     }
 
-    fn on_end(&mut self, out: &mut Vec<u8>) -> Result<bool, AllocError> {
+    fn on_end(&mut self, out: &mut Vec<u8>) -> Result<Verdict, AllocError> {
         match self.end() {
             Ok(text) => {
                 hand_over(text, out)?;
-                Ok(false)
+                Ok(Verdict::Fine)
             }
             Err(fault) => tell_fault(fault, out),
         }

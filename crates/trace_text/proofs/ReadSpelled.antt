@@ -1,13 +1,13 @@
 -- What is read of a trace is spelled.
 use Rattle.std.proofs.Common.{◌≡◌, ℕ, Bool, true, false, List, [], ◌∷◌, ◌++◌, length, refl, subst, fold, Option, Some, None, inl, Ok}
 use Rattle.std.specs.Prelude.{nat_lt, cond, codes, is_some}
-use Rattle.line_loop.specs.Lines.{bare, said}
+use Rattle.text_lines.specs.Lines.{bare, said, is_skipped}
 use Rattle.seq_memory.specs.declared.Entry.{Entry}
 use Rattle.seq_memory.specs.Limits.{IsBlock, Extent, is_within_limits}
 use Rattle.seq_memory.specs.History.{extent_of}
 use Rattle.history_check.specs.declared.Record.{Record}
 use Rattle.history_check.specs.Claim.{Claim}
-use Rattle.operation_text.specs.Words.{words, is_skipped}
+use Rattle.operation_text.specs.Words.{words}
 use Rattle.operation_text.specs.Operations.{address}
 use Rattle.trace_text.specs.declared.fault.ReadFault.{ReadFault}
 use Rattle.trace_text.specs.declared.line.Version.{Version}

@@ -6,8 +6,8 @@ use Rattle.seq_memory.specs.Limits.{Extent}
 use Rattle.seq_memory.specs.declared.Entry.{Entry}
 use Rattle.history_check.specs.declared.Record.{Record}
 use Rattle.history_check.specs.Claim.{Claim}
-use Rattle.line_loop.specs.Lines.{bare, said}
-use Rattle.operation_text.specs.Words.{words, is_skipped}
+use Rattle.text_lines.specs.Lines.{bare, said, is_skipped}
+use Rattle.operation_text.specs.Words.{words}
 use Rattle.trace_text.specs.declared.fault.ReadFault.{ReadFault}
 use Rattle.trace_text.specs.declared.line.Line.{Line}
 use Rattle.trace_text.specs.declared.line.Line.TheVariants as lines

@@ -1,5 +1,7 @@
--- The numbers and names under which faults are told.
-use Rattle.std.specs.Prelude.{ℕ, List, codes}
+-- The numbers and names under which faults are told, and the line that tells one.
+use Rattle.std.specs.Prelude.{ℕ, ◌∷◌, ◌++◌, List, codes}
+use Rattle.std.specs.Fmt.{decimal}
+use Rattle.trace_text.specs.declared.fault.ReadFault.{ReadFault}
 use Rattle.trace_text.specs.declared.fault.ReadFaultKind.{ReadFaultKind}
 use Rattle.trace_text.specs.declared.fault.ReadFaultKind.TheVariants as faults
 
@@ -14,3 +16,6 @@ name_of faults.Head = codes "Head"
 name_of faults.Line = codes "Line"
 name_of faults.Section = codes "Section"
 name_of faults.Memory = codes "Memory"
+
+abbrev pub fault_line : ReadFault → List ℕ
+fault_line f = codes "fault " ++ decimal f.line ++ 32 ∷ name_of f.kind

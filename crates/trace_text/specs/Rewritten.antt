@@ -1,7 +1,7 @@
 -- What is written of a text line by line, and what is read of it.
 use Rattle.std.specs.Prelude.{ℕ, ◌≡◌, List, nat_lt, if◌then◌else◌, length, fold, Result, Ok, Err}
 use Rattle.history_check.specs.Claim.{Claim}
-use Rattle.line_loop.specs.Lines.{bare, said}
+use Rattle.text_lines.specs.Lines.{bare, said}
 use Rattle.trace_text.specs.declared.fault.ReadFault.{ReadFault}
 use Rattle.trace_text.specs.TraceReaderView.{nothing_read, take_line, at_end}
 use Rattle.trace_text.specs.Texts.{trace_text}

@@ -1,11 +1,11 @@
 -- What a text of a trace is read as, line by line.
 use Rattle.std.specs.Prelude.{ℕ, ◌≡◌, ◌+◌, ◌-◌, ◌^◌, ◌⊎◌, ◌&&◌, Bool, true, false, not, min, nat_lt, if◌then◌else◌, List, [], ◌∷◌, ◌++◌, length, fold, Option, Some, None, is_some, Result, Ok, Err}
-use Rattle.line_loop.specs.Lines.{lines_of, bare, said}
+use Rattle.text_lines.specs.Lines.{lines_of, bare, said, is_skipped}
 use Rattle.seq_memory.specs.Limits.{Extent}
 use Rattle.seq_memory.specs.declared.Entry.{Entry}
 use Rattle.history_check.specs.declared.Record.{Record}
 use Rattle.history_check.specs.Claim.{Claim}
-use Rattle.operation_text.specs.Words.{words, is_skipped}
+use Rattle.operation_text.specs.Words.{words}
 use Rattle.trace_text.specs.declared.fault.ReadFault.{ReadFault}
 use Rattle.trace_text.specs.declared.fault.ReadFaultKind.{ReadFaultKind}
 use Rattle.trace_text.specs.declared.fault.ReadFaultKind.TheVariants as faults

@@ -1,7 +1,8 @@
 -- A text of a trace that is written in the second version while it is read.
 use Rattle.std.specs.Prelude.{ℕ, List, [], ◌∷◌, ◌++◌, codes, if◌then◌else◌, is_some, Option, Some, None, Result, Ok, Err}
 use Rattle.history_check.specs.Claim.{Claim}
-use Rattle.operation_text.specs.Words.{words, is_skipped}
+use Rattle.text_lines.specs.Lines.{is_skipped}
+use Rattle.operation_text.specs.Words.{words}
 use Rattle.trace_text.specs.declared.fault.ReadFault.{ReadFault}
 use Rattle.trace_text.specs.declared.line.Line.{Line}
 use Rattle.trace_text.specs.declared.line.Line.TheVariants as lines

@@ -4,14 +4,10 @@ ghost use Rattle.std.specs.Result.{result_ok};
 ghost use Rattle.operation_text.specs.Words.{words, words_behind, first_field};
 ghost use Rattle.trace_text.specs.Forms as forms;
 
+use crate::fields::{block, count, request, requester};
 use history_check::Record;
-use operation_text::{
-    BASE, BLOCK, Expected, Misfit, SIZE, alone, cut, number, op_behind, reply_behind,
-};
+use operation_text::{BASE, Expected, Misfit, SIZE, alone, cut, number, op_behind, reply_behind};
 use seq_memory::{Entry, Extent, is_size};
-
-/// The greatest number of a request.
-const MAX_NUMBER: u64 = 4_294_967_294;
 
 /// A line, by its first word.
 const LINE: Expected = Expected::Of(
@@ -20,10 +16,6 @@ const LINE: Expected = Expected::Of(
 );
 
 const VERSION: Expected = Expected::Of("a version", "1, 2");
-
-const REQUESTER: Expected = Expected::Between("a requester", 1, 7);
-
-const NUMBER: Expected = Expected::Between("a request's number", 0, MAX_NUMBER);
 
 const LENGTH: Expected = Expected::Of("n", "a number of 64 bits");
 
@@ -47,40 +39,6 @@ pub(crate) enum Line {
     End,
 }
 
-fn requester(rest: Option<&[u8]>) -> Result<(u8, Option<&[u8]>), Misfit>
-    ensures { first_field forms.requester (words_behind rest.entry) ≡ option_map (λ s. (s.0, words_behind s.1)) (result_ok result) }
-{
-    let (requester, behind) = number(rest, 10, 7, REQUESTER)?;
-    if requester == 0 {
-        return Err(REQUESTER.at(rest));
-    }
-    Ok((requester as u8, behind))
-}
-
-/// The number of a request.
-fn request(rest: Option<&[u8]>) -> Result<(u32, Option<&[u8]>), Misfit>
-    ensures { first_field forms.number (words_behind rest.entry) ≡ option_map (λ s. (s.0, words_behind s.1)) (result_ok result) }
-{
-    let (request, rest) = number(rest, 10, MAX_NUMBER, NUMBER)?;
-    Ok((request as u32, rest))
-}
-
-fn count(rest: Option<&[u8]>, expected: Expected) -> Result<(u64, Option<&[u8]>), Misfit>
-    ensures { first_field forms.count (words_behind rest.entry) ≡ option_map (λ s. (s.0, words_behind s.1)) (result_ok result) }
-{
-    number(rest, 10, u64::MAX, expected)
-}
-
-fn block(rest: Option<&[u8]>) -> Result<(u16, Option<&[u8]>), Misfit>
-    ensures { first_field forms.block (words_behind rest.entry) ≡ option_map (λ s. (s.0, words_behind s.1)) (result_ok result) }
-{
-    let (block, behind) = number(rest, 10, 128, BLOCK)?;
-    if block == 64 || block == 128 {
-        return Ok((block as u16, behind));
-    }
-    Err(BLOCK.at(rest))
-}
-
 fn next_version(rest: Option<&[u8]>) -> Result<(Version, Option<&[u8]>), Misfit>
     ensures { first_field forms.version (words_behind rest.entry) ≡ option_map (λ s. (s.0, words_behind s.1)) (result_ok result) }
 {
@@ -99,8 +57,8 @@ fn head(rest: Option<&[u8]>) -> Result<Line, Misfit>
     alone(Line::Head(version), rest)
 }
 
-/// That there can be no memory of the base and the size that come next.
-fn no_memory(size: usize, rest: Option<&[u8]>) -> Misfit {
+/// That there can be no memory of the base and the size that come next, of which this is the size.
+pub fn no_memory(size: usize, rest: Option<&[u8]>) -> Misfit {
     if is_size(size) {
         return BASE.at(rest);
     }

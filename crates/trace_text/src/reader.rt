@@ -9,6 +9,7 @@ use history_check::{Record, Trace};
 use seq_memory::{Entry, Extent, MIN_SIZE};
 use std::alloc::{AllocError, Global};
 use std::marker::Model;
+use text_lines::is_skipped;
 
 /// The part of the text that goes on.
 #[derive(Clone, Copy, Debug, PartialEq, Eq)]
@@ -232,7 +233,7 @@ impl TraceReader {
         if self.fault.is_some() {
             return Ok(());
         }
-        if line.is_empty() || line[0] == b'#' {
+        if is_skipped(line) {
             self.count();
             return Ok(());
         }

@@ -7,10 +7,10 @@ ghost use Rattle.trace_text.specs.Endings.{on_said, on_ended_line, on_last_line,
 use crate::fault::ReadFault;
 use crate::reader::TraceReader;
 use history_check::Trace;
-use line_loop::{MAX_LINE, without_return};
 use memchr::memchr;
 use seq_memory::Entry;
 use std::alloc::{AllocError, Global};
+use text_lines::{is_too_long, without_return};
 
 /// Takes a line, of which this is said if it isn't too long.
 fn take(reader: &mut TraceReader, line: &[u8], said: &[u8]) -> Result<(), AllocError>
@@ -18,7 +18,7 @@ fn take(reader: &mut TraceReader, line: &[u8], said: &[u8]) -> Result<(), AllocE
     ensures err { OnErr result (reader.new ≡ reader.old) }
     ensures adds { OnErr result (adds_said reader.old line.now said.now ≡ true) }
 {
-    if line.len() > MAX_LINE {
+    if is_too_long(line) {
         reader.long_line();
         return Ok(());
     }

@@ -12,6 +12,7 @@ use history_check::Record;
 use seq_memory::Entry;
 use std::alloc::{AllocError, Global};
 use std::marker::Model;
+use text_lines::is_skipped;
 
 /// A trace and a history that are written in the second version while their text is read: the text
 /// alone is kept.
@@ -142,7 +143,7 @@ impl TraceRewriter {
         if self.reader.fault().is_some() {
             return Ok(());
         }
-        if line.is_empty() || line[0] == b'#' {
+        if is_skipped(line) {
             self.reader.count();
             return Ok(());
         }

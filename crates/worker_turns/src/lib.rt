@@ -2,9 +2,11 @@
 #![tactic(auto)]
 
 mod gate;
+mod numbers;
 mod stop;
 mod turns;
 
 pub use gate::{Gate, OpenGate};
+pub use numbers::{COMPLETER, DOWN_LANES, INWARD_LANE, OUTWARD_LANE, RECEIVERS, SWITCH, UP_LANES};
 pub use stop::Stop;
 pub use turns::{Shared, Turns};

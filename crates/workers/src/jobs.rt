@@ -9,7 +9,10 @@ use fault_plan::Plan;
 use hall_core::{Hall, HallRefusal, WorkEvent, WorkSeat};
 use lane_core::DllpKind;
 use std::thread;
-use worker_turns::{Gate, Stop, Turns};
+use worker_turns::{
+    COMPLETER, DOWN_LANES, Gate, INWARD_LANE, OUTWARD_LANE, RECEIVERS, SWITCH, Stop, Turns,
+    UP_LANES,
+};
 
 /// What a worker does in each round, call by call.
 #[derive(Clone, Copy, Debug, PartialEq, Eq)]
@@ -24,6 +27,30 @@ pub enum Job {
     Switch,
     /// `Serve` at place 0 and, if the fabric refused that, at place 1.
     Completer,
+}
+
+/// The number of a lane's sender.
+fn number_of(lane: LaneName) -> u32
+    ensures { result < 1000 }
+{
+    match lane {
+        LaneName::Up(port) => UP_LANES + u32::from(port),
+        LaneName::Down(port) => DOWN_LANES + u32::from(port),
+        LaneName::Inward => INWARD_LANE,
+        LaneName::Outward => OUTWARD_LANE,
+    }
+}
+
+impl Job {
+    /// The number of the worker at this job, by which the gate knows it.
+    pub(crate) fn number(self) -> u32 {
+        match self {
+            Job::Sender(lane) => number_of(lane),
+            Job::Receiver(lane) => number_of(lane) + RECEIVERS,
+            Job::Switch => SWITCH,
+            Job::Completer => COMPLETER,
+        }
+    }
 }
 
 /// What became of a call.

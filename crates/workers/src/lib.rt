@@ -6,6 +6,7 @@
 //! none. No worker but the checker can wait: its loop takes no `Wait`.
 #![tactic(auto)]
 
+mod context;
 mod jobs;
 mod running;
 mod threads;

@@ -3,66 +3,42 @@ ghost use Rattle.std.specs.Prelude.{◌≡◌, ◌+◌, ◌<◌, [], IfOk, IfErr
 ghost use Rattle.history_check.specs.Claim.{claim_of};
 ghost use Rattle.history_check.specs.Trace.{Explains};
 ghost use Rattle.hall_laws.specs.Rule.{HasConfig};
-ghost use Rattle.recorder.specs.Rule.{unbegun};
 ghost use Rattle.worker_report.specs.Halts.{IsPlan, IsOfMemory, IsCause};
-ghost use Rattle.workers.specs.Running.{AreUnusedSeats, AreSeats, AreWorkSeats, AreDone};
+ghost use Rattle.workers.specs.Running.{AreSeats, AreDone};
+ghost use Rattle.workers.specs.Crews.{IsCrewOf};
 
-use crate::threads::{Gathered, Run, drive};
-use fault_plan::Plan;
-use hall_core::{Hall, ReqSeat, WorkSeat};
-use recorder::{Recorder, Taker};
+use crate::context::{Crew, RunContext};
+use crate::threads::{Gathered, drive};
+use hall_core::Hall;
+use recorder::Recorder;
 use std::alloc::{AllocError, Global};
 use std::sync::Wait;
 use std::sync::atomic::AtomicU64;
 use std::thread;
 use std::thread::Threads;
-use tlp_core::Op;
 use worker_report::{Report, RunHalt, RunPlan, fabric_of, report_of};
 use worker_turns::{Gate, Shared};
 
 /// Runs all threads, each joined at the return.
 fn run_threads<R: Threads + Wait + Sync, G: Gate + Sync>(
     rt: &R,
-    alloc: Global,
-    hall: &Hall,
-    recorder: &Recorder,
-    shared: &Shared,
-    answered: &AtomicU64,
-    limit: u64,
-    requesters: u8,
+    run: &RunContext,
     gate: &G,
-    seats: Vec<ReqSeat>,
-    workers: Vec<WorkSeat>,
-    plan: Plan,
-    taker: Taker,
-    scripts: &[Vec<Op>],
+    answered: &AtomicU64,
+    crew: Crew,
 ) -> Result<Gathered, AllocError>
-    requires seats { (vec_len seats ≡ length scripts.now) × (length scripts.now < 8) × AreUnusedSeats hall.now 1 seats.items }
-    requires count { requesters < 8 }
-    requires workers { AreWorkSeats hall.now workers.items }
-    requires taker { (taker.queue ≡ recorder.now) × (taker.taken.known ≡ unbegun 7 1) × (taker.taken.records ≡ []) }
-    ensures seats { IfOk result (λ g. (vec_len g.seats ≡ length scripts.now) × AreSeats hall.now g.seats.items) }
-    ensures done { IfOk result (λ g. IsTrue g.whole → AreDone g.records.items 1 (map (λ s. s.items) scripts.now)) }
+    requires crew { IsCrewOf run.now crew }
+    ensures seats { IfOk result (λ g. (vec_len g.seats ≡ length run.now.plan.scripts.items) × AreSeats run.now.hall g.seats.items) }
+    ensures done { IfOk result (λ g. IsTrue g.whole → AreDone g.records.items 1 (map (λ s. s.items) run.now.plan.scripts.items)) }
 {
     thread::scope(
         thread::scope_env(),
         rt,
         |scope| -> Result<Gathered, AllocError>
-            requires { ((vec_len seats ≡ length scripts.now) × (length scripts.now < 8) × AreUnusedSeats hall.now 1 seats.items) × (requesters < 8) × AreWorkSeats hall.now workers.items × ((taker.queue ≡ recorder.now) × (taker.taken.known ≡ unbegun 7 1) × (taker.taken.records ≡ [])) }
-            ensures seats { IfOk result (λ g. (vec_len g.seats ≡ length scripts.entry.now) × AreSeats hall.entry.now g.seats.items) }
-            ensures done { IfOk result (λ g. IsTrue g.whole → AreDone g.records.items 1 (map (λ s. s.items) scripts.entry.now)) }
-        {
-            let run = Run {
-                hall,
-                recorder,
-                shared,
-                answered,
-                plan,
-                limit,
-                requesters,
-            };
-            drive(scope, rt, alloc, run, gate, seats, workers, taker, scripts)
-        },
+            requires { IsCrewOf run.now crew }
+            ensures seats { IfOk result (λ g. (vec_len g.seats ≡ length run.entry.now.plan.scripts.items) × AreSeats run.entry.now.hall g.seats.items) }
+            ensures done { IfOk result (λ g. IsTrue g.whole → AreDone g.records.items 1 (map (λ s. s.items) run.entry.now.plan.scripts.items)) }
+        { drive(scope, rt, run, gate, answered, crew) },
     )
 }
 
@@ -86,36 +62,27 @@ pub fn run_workers_counting<R: Threads + Wait + Sync, G: Gate + Sync>(
     ensures halt { IfErr result (λ h. IsCause plan h) }
 {
     let fabric = fabric_of(alloc, &plan)?;
-    let RunPlan {
-        config,
-        scripts,
-        plan: faults,
-        turns,
-    } = plan;
+    let config = plan.config;
     let Ok((hall, seats, workers)) = Hall::new(fabric, workers_of(config.requesters), alloc) else {
         return Err(RunHalt::Memory);
     };
     let Ok((recorder, taker)) = Recorder::new(alloc) else {
         return Err(RunHalt::Memory);
     };
-    let shared = Shared::new();
-    let gathered = run_threads(
-        rt,
+    let run = RunContext {
         alloc,
-        &hall,
-        &recorder,
-        &shared,
-        answered,
-        turns,
-        config.requesters,
-        gate,
+        plan,
+        hall,
+        recorder,
+        shared: Shared::new(),
+    };
+    let crew = Crew {
         seats,
         workers,
-        faults,
         taker,
-        scripts.as_slice(),
-    );
-    if let Some(stop) = shared.stopped() {
+    };
+    let gathered = run_threads(rt, &run, gate, answered, crew);
+    if let Some(stop) = run.shared.stopped() {
         return Err(RunHalt::of(stop));
     }
     let Ok(
@@ -128,7 +95,7 @@ pub fn run_workers_counting<R: Threads + Wait + Sync, G: Gate + Sync>(
     else {
         return Err(RunHalt::Memory);
     };
-    report_of(alloc, config, hall, seats.remove(0), records, whole)
+    report_of(alloc, config, run.hall, seats.remove(0), records, whole)
 }
 
 /// Runs the plan. A report's history explains its trace, the submissions of each requester in the trace

@@ -1,4 +1,5 @@
-use Rattle.std.proofs.Common.{◌∙◌, sym}
+use Rattle.std.proofs.Common.{◌∙◌, sym, refl}
+use Rattle.seq_memory.specs.Step.{after}
 use Rattle.byte_effects.proofs.Yielding.{brings_broken, kept_by_read}
 use Rattle.byte_effects.proofs.pairs.never_brings.Goals as goal
 
@@ -12,4 +13,4 @@ returns-then-is_read c = λ yes base m agrees e.
 pub returns : goal.returns
 returns c = λ yes base m agrees e.
     brings_broken c.refused_and_read_change_nothing.ensures.refused base c.args.block m c.args.one.now c.args.other.now c.args.reply.now
-    (λ served. c.breaks.ensures yes base m served agrees) e
+    (λ served. c.breaks.ensures yes base m (after base c.args.block m c.args.one.now) served agrees (λ k front back. refl)) e

@@ -1,4 +1,5 @@
-use Rattle.std.proofs.Common.{◌∙◌, sym}
+use Rattle.std.proofs.Common.{◌∙◌, sym, refl}
+use Rattle.seq_memory.specs.Step.{after}
 use Rattle.byte_effects.proofs.Yielding.{brings_broken, kept_by_read, ends_apart, ends_read, ends_broken}
 use Rattle.byte_effects.proofs.pairs.yields.Goals as goal
 
@@ -22,9 +23,9 @@ returns-then-is_read-clause-order c = λ yes base m agrees e.
 pub returns-clause-brings : goal.returns-clause-brings
 returns-clause-brings c = λ yes base m agrees e.
     brings_broken c.refused_and_read_change_nothing.ensures.refused base c.args.block m c.args.one.now c.args.other.now c.args.reply.now
-    (λ served. c.breaks.ensures yes base m served agrees) e
+    (λ served. c.breaks.ensures yes base m (after base c.args.block m c.args.one.now) served agrees (λ k front back. refl)) e
 
 pub returns-clause-order : goal.returns-clause-order
 returns-clause-order c = λ yes base m agrees e.
     ends_broken c.only_the_place_changes.ensures.size c.refused_and_read_change_nothing.ensures.refused base c.args.block m c.args.one.now c.args.other.now c.args.told.now c.args.reply.now
-    (λ served. c.breaks.ensures yes base m served agrees) agrees e
+    (λ served. c.breaks.ensures yes base m (after base c.args.block m c.args.one.now) served agrees (λ k front back. refl)) agrees e

@@ -1,10 +1,10 @@
 use Rattle.std.proofs.Common.{◌≡◌, true, subst}
 use Rattle.history_check.specs.Trace.{Explains}
 use Rattle.fabric_laws.specs.Fabric.{whole_of}
-use Rattle.c_fabric.specs.Session.{Session, claim}
+use Rattle.c_fabric.specs.SessionView.{SessionView, claim}
 use Rattle.c_fabric.proofs.held.explain.Goals as goal
 
 pub returns : goal.returns
 returns c =
-    subst (λ (s : Session). s.is_traced ≡ true → Explains (claim s)) c.session.view_is
+    subst (λ (s : SessionView). s.is_traced ≡ true → Explains (claim s)) c.session.view_is
     (λ traced. c.the_trace_belongs.ensures.explained (whole_of c.session.inside.fabric) c.session.inside.records.items c.sound.ensures.sound (c.session.invariant traced))

@@ -1,6 +1,6 @@
 use Rattle.std.proofs.Common.{◌≡◌, ◌∙◌, List, ℕ, Option, Result, Ok, Err, IfOk, OnOk, OnErr, sym, subst, inl, inr, refl}
 use Rattle.line_loop.specs.declared.fault.EngineFault.{EngineFault}
-use Rattle.storm.specs.declared.Storm.{Storm}
+use Rattle.parameters.specs.declared.storm.Storm.{Storm}
 use Rattle.generate_engine.specs.Script.{IsWhole as IsWholeScript, IsPart as IsPartOfScript}
 use Rattle.line_loop.specs.Run.{Run, IsRun, IsWhole, IsPart as IsPartOf}
 use Rattle.search_engine.specs.Search.{IsWhole as IsWholeSearch, IsPart as IsPartOfSearch, IsSearched}

@@ -11,7 +11,7 @@ use Rattle.cli_words.specs.declared.words.RequestFault.TheVariants as faults
 use Rattle.cli_words.specs.Faults.{WordsFault, RangeFault, IsMemoryFault}
 use Rattle.cli_words.specs.Options.{the_app, Asks}
 use Rattle.line_loop.specs.Run.{Run, IsBeginning, IsPart as IsPartOf}
-use Rattle.counting.specs.declared.Counting.{Counting}
+use Rattle.parameters.specs.declared.counting.Counting.{Counting}
 use Rattle.worker_report.specs.declared.halt.RunHalt.TheVariants as halts
 use Rattle.run_engine.specs.Text.{IsPart, halt_text}
 use Rattle.search_engine.specs.Search.{IsPart as IsPartOfSearch}

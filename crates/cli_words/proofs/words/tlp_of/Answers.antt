@@ -1,23 +1,40 @@
-use Rattle.std.proofs.Common.{◌≡◌, ◌∙◌, arith, refl, codes, inl, inr}
+use Rattle.std.proofs.Common.{◌≡◌, ◌∙◌, ◌≤◌, ◌%◌, arith, refl, sym, ap, codes, inl, inr, ℕ, is_some}
+use Rattle.std.specs.Prelude.{◌==◌}
+use Rattle.std.proofs.lemmas.Bool.{cases_Bool}
+use Rattle.std.proofs.lemmas.Bool.Decides.{nat_tests}
 use Rattle.clap.specs.Words.{found_of}
 use Rattle.clap.proofs.WalkLemmas.{first_value-rows}
-use Rattle.seq_memory.specs.Limits.{IsBase}
+use Rattle.seq_memory.specs.Limits.{IsBase, IsBlock}
+use Rattle.cli_options.specs.Values.{IsAmong, multiples}
 use Rattle.cli_words.proofs.RequestsAsked.{same_base, same_number}
 use Rattle.cli_words.proofs.words.tlp_of.Goals as goal
 
-pub returns-then-not-is_base-clause-err : goal.returns-then-not-is_base-clause-err
-returns-then-not-is_base-clause-err c =
+-- a multiple of 64 from 64 to 128
+block_among : (n : ℕ) → IsAmong (multiples 64 64 128) n → IsBlock n
+block_among n a =
+    let least : 64 ≤ n = a.least in
+    let most : n ≤ 128 = a.most in
+    let multiple : n % 64 ≡ 0 = a.multiple in
+    elim (cases_Bool (n == 64)) [
+      | inl is ↦ inl (grind (arith, nat_tests))
+      | inr is ↦ inr (grind (arith, nat_tests))
+    ]
+
+pub returns-in-None-clause-err : goal.returns-in-None-clause-err
+returns-in-None-clause-err c =
     let base = c.in_ok-base.base in
     let size = c.in_ok-size.size in
     let given = c.get_str.ensures ∙ first_value-rows (found_of c.args.tlp.now) (codes "base") in
-    let never : IsBase base size → ⊥ = λ m. let yes = c.is_base.ensures.limits.1 m in cc in (
+    let s = c.in_ok-size.ensures.ok.1 in
+    let in_block = block_among _ c.in_ok-block.ensures.ok.1 in
+    let never : IsBase base size → ⊥ = λ m. cc (sym (c.new.ensures.limits.1 (record { in_size = (s.least, s.most, s.multiple); in_base = m; in_block = in_block })) ∙ ap is_some c.in-None.is) in (
       given,
       inl (
         refl,
         inr (inr (
           refl,
           (base, c.in_ok-base.ensures.ok),
-          ((size, c.in_ok-size.ensures.ok), ((c.in_ok-block.field-0, c.in_ok-block.ensures.ok), tt)),
+          ((size, c.in_ok-size.ensures.ok), ((_, c.in_ok-block.ensures.ok), tt)),
           λ b s gives_b gives_s ends.
               let same_b : b ≡ base = same_base _ b base gives_b.0 c.in_ok-base.ensures.ok.0 in
               let same_s : s ≡ size = same_number 4096 _ s size gives_s.0 c.in_ok-size.ensures.ok.0 in

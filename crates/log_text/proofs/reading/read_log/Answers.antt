@@ -2,8 +2,8 @@ use Rattle.std.proofs.Common.{true, false, ◌≡◌, ◌∙◌, ◌++◌, ◌+�
 use Rattle.std.specs.Prelude.{◌==◌, IfOk, IfErr}
 use Rattle.std.proofs.lemmas.Bool.{eqb-true}
 use Rattle.std.proofs.lemmas.Grind.{common_steps}
-use Rattle.line_loop.specs.Lines.{lines_of}
-use Rattle.line_loop.specs.LineFacts.{none-before, none-at-all}
+use Rattle.text_lines.specs.Lines.{lines_of}
+use Rattle.text_lines.specs.LineFacts.{none-before, none-at-all}
 use Rattle.trace_text.specs.declared.fault.ReadFault.{ReadFault}
 use Rattle.log_text.specs.LogReaderView.{LogReaderView, reading_of, Tells, at_end}
 use Rattle.log_text.proofs.LineLemmas.{reading_on, on-last, on-none, cut-at, Stands, stands-new, fed, whole, refused, stopped, adds-feed, adds-last, lines-feed, lines-last}

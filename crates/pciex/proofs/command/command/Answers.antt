@@ -1,5 +1,5 @@
 use Rattle.std.proofs.Common.{◌≡◌, ℕ, List, Option, Result, Ok, Err, IfOk, OnErr, sym, subst, inl, inr}
-use Rattle.counting.specs.declared.Counting.{Counting}
+use Rattle.parameters.specs.declared.counting.Counting.{Counting}
 use Rattle.line_loop.specs.declared.fault.EngineFault.{EngineFault}
 use Rattle.cli_words.specs.declared.words.Request.{Request}
 use Rattle.run_engine.specs.Text.{IsWhole, IsPart, IsRan}

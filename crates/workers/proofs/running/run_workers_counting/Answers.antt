@@ -1,26 +1,28 @@
-use Rattle.std.proofs.Common.{ap, sym, subst, length, arith}
+use Rattle.std.proofs.Common.{sym, subst, rules, arith}
 use Rattle.worker_report.specs.Halts.{IsCause}
 use Rattle.workers.proofs.Beginning.{first_seats, work_seats, stopped}
 use Rattle.workers.proofs.running.run_workers_counting.Goals as goal
 
-pub run_threads-gathered-requires-clause-seats : goal.run_threads-gathered-requires-clause-seats
-run_threads-gathered-requires-clause-seats g c κs within =
+pub run_threads-gathered-requires-clause-crew : goal.run_threads-gathered-requires-clause-crew
+run_threads-gathered-requires-clause-crew g c κs within =
     let plan = c.in_ok-fabric.ensures.ok.0 in
     let new = c.in_ok-fabric.ensures.ok.1 in
     let has = c.in-Ok.ensures.config in
     let number = c.in-Ok.ensures.requesters.number in
     let count = has.requesters in
     let made = new.requesters.number in
-    let scripts = c.as_slice.ensures.value in
     let same = plan.1 in
-    let few = plan.0.requesters.1 in (
-      omega (arith, c.in-Ok.seats.ok.0, ap length scripts),
-      omega (arith, ap length scripts),
-      first_seats c.in-Ok.hall c.in-Ok.seats.items c.in-Ok.ensures.requesters,
-    )
-
-pub run_threads-gathered-requires-clause-workers : goal.run_threads-gathered-requires-clause-workers
-run_threads-gathered-requires-clause-workers g c κs within = work_seats c.in-Ok.hall _ _ c.in-Ok.workers.items c.in-Ok.ensures.work
+    let few = plan.0.requesters.1 in
+    record {
+      count = omega (arith, c.in-Ok.seats.ok.0);
+      few = omega arith;
+      seats = first_seats c.in-Ok.hall c.in-Ok.seats.items c.in-Ok.ensures.requesters;
+      requesters = omega arith;
+      workers = work_seats c.in-Ok.hall _ _ c.in-Ok.workers.items c.in-Ok.ensures.work;
+      queue = search rules;
+      known = search rules;
+      records = search rules;
+    }
 
 pub returns-in-Some-clause-halt : goal.returns-in-Some-clause-halt
 returns-in-Some-clause-halt g c = subst (λ h. IsCause c.args.plan h) (sym c.of.ensures) (stopped c.args.plan c.in-Some.stop c.in_ok-fabric.ensures.ok.0)

@@ -9,15 +9,15 @@ use Rattle.workers.proofs.threads.join_all.Goals as goal
 
 pub loop-script-init : goal.loop-script-init
 loop-script-init g c =
-    let same = handles_length c.args.hall.now c.args.recorder.now 1 (map items_of c.args.scripts.now) c.args.handles.items c.requires.handles in
-    let count = length-map c.args.scripts.now items_of in (
+    let same = handles_length c.args.run.now.hall c.args.run.now.recorder 1 (map items_of c.args.run.now.plan.scripts.items) c.args.handles.items c.requires.handles in
+    let count = length-map c.args.run.now.plan.scripts.items items_of in (
       search rules,
       refl,
       refl,
       omega (arith, c.args.handles.ok.0),
       c.requires.handles,
       search rules,
-      subst (AreSeats c.args.hall.now) (sym c.in_ok-seats.ensures.items) tt,
+      subst (AreSeats c.args.run.now.hall) (sym c.in_ok-seats.ensures.items) tt,
       λ w. ([], sym (append-nil c.args.taker.now.taken.known), tt),
     )
 
@@ -28,21 +28,21 @@ loop-script-preserved g c =
     let v = c._script-item.result in
     let kept = c.join-seat.ensures in
     let p = c.join-seat.result.pusher.pushed in
-    let first = split_at c.args.hall.now c.args.recorder.now c.args.scripts.now i v c.loop-script.handles.items c.remove-handle.result was.4 c.loop-script-test.true c._script-item.is c.remove-handle.ensures.value in
-    let here : IsSeatOf c.args.hall.now c.join-seat.result.seat = (kept.0.0 ∙ ap (λ h. h.table_id) first.hall_is, kept.0.1 ∙ ap (λ h. h.config) first.hall_is) in (
+    let first = split_at c.args.run.now.hall c.args.run.now.recorder c.args.run.now.plan.scripts.items i v c.loop-script.handles.items c.remove-handle.result was.4 c.loop-script-test.true c._script-item.is c.remove-handle.ensures.value in
+    let here : IsSeatOf c.args.run.now.hall c.join-seat.result.seat = (kept.0.0 ∙ ap (λ h. h.table_id) first.hall_is, kept.0.1 ∙ ap (λ h. h.config) first.hall_is) in (
       search rules,
       search rules,
       search rules,
       search rules,
-      subst (AreHandles c.args.hall.now c.args.recorder.now (i + 1 + 1) (map (λ s. s.items) (drop (i + 1) c.args.scripts.now))) (sym c.remove-handle.ensures.items) first.others,
+      subst (AreHandles c.args.run.now.hall c.args.run.now.recorder (i + 1 + 1) (map (λ s. s.items) (drop (i + 1) c.args.run.now.plan.scripts.items))) (sym c.remove-handle.ensures.items) first.others,
       search rules,
-      subst (AreSeats c.args.hall.now) (sym c.in_ok-push.ensures.items) (seats_more c.args.hall.now c.loop-script.seats.items c.join-seat.result.seat was.6 here),
+      subst (AreSeats c.args.run.now.hall) (sym c.in_ok-push.ensures.items) (seats_more c.args.run.now.hall c.loop-script.seats.items c.join-seat.result.seat was.6 here),
       λ w. elim c.if-whole.branch [
         | then-whole b ↦
             let pushed = was.7 b.if-whole.true in (
               pushed.0 ++ p ∷ [],
               ap (λ t. t.known) c.end.ensures.known ∙ ap (λ l. l ++ p ∷ []) pushed.1 ∙ append_assoc c.args.taker.now.taken.known pushed.0 (p ∷ []),
-              finished_step c.args.scripts.now i v pushed.0 p pushed.2 c.loop-script-test.true c._script-item.is (kept.2 ∙ first.requester_is)
+              finished_step c.args.run.now.plan.scripts.items i v pushed.0 p pushed.2 c.loop-script-test.true c._script-item.is (kept.2 ∙ first.requester_is)
                   (subst (λ s. Finishes s p) first.script_is (kept.3 (sym b.whole-is ∙ w))),
             )
         | else-whole b ↦ absurd (true≢false (sym w ∙ b.whole-is ∙ b.if-whole.false))

@@ -8,14 +8,14 @@ loop-script-preserved g c =
     let i = c.loop-script.script-index in
     let was = c.loop-script.invariant in
     let h = c.in_ok-handle.ensures in
-    let seats = seats_next c.args.run.hall.now (i + 1) c.loop-script.seats.items was.2 (omega (arith, c.loop-script.seats.ok.0)) in
-    let more = handles_step c.args.run.hall.now c.args.run.recorder.now c.args.scripts.now i c.loop-script.handles.items c.script-item.result c.in_ok-handle.handle was.6
+    let seats = seats_next c.args.run.now.hall (i + 1) c.loop-script.seats.items was.2 (omega (arith, c.loop-script.seats.ok.0)) in
+    let more = handles_step c.args.run.now.hall c.args.run.now.recorder c.args.run.now.plan.scripts.items i c.loop-script.handles.items c.script-item.result c.in_ok-handle.handle was.6
     c.loop-script-test.true c.script-item.is h.0 h.1 (h.2 ∙ c.as_slice.ensures.value) (h.3 ∙ omega arith) in (
       search rules,
       search rules,
-      subst (AreUnusedSeats c.args.run.hall.now (i + 1 + 1)) (sym c.remove-seat.ensures.items) seats,
+      subst (AreUnusedSeats c.args.run.now.hall (i + 1 + 1)) (sym c.remove-seat.ensures.items) seats,
       search rules,
       search rules,
       search rules,
-      subst (AreHandles c.args.run.hall.now c.args.run.recorder.now 1 (map (λ s. s.items) (take (i + 1) c.args.scripts.now))) (sym c.in_ok-push.ensures.items) more,
+      subst (AreHandles c.args.run.now.hall c.args.run.now.recorder 1 (map (λ s. s.items) (take (i + 1) c.args.run.now.plan.scripts.items))) (sym c.in_ok-push.ensures.items) more,
     )

@@ -12,9 +12,9 @@ returns-clause-ok c = elim c.match-end.branch [
       rw (w.out-is, w.result-is)
       (picture-shown w.show.result c.args.self.now c.end.new.self c.self.inside.window (claim_of w.in-Ok.trace w.in-Ok.history.items) (claim_of w.in-Ok.trace w.as_slice.result.now)
       c.args.out.now.items w.show.new.out.items c.end.ensures.gone (ap (λ (d : DrawerView). d.window) c.self.view_is ∙ ap (λ (d : DrawerView). d.window) c.end.ensures.gone)
-      (ap (λ (h : List Entry). claim_of w.in-Ok.trace h) w.as_slice.ensures.value) w.in-Ok.ensures.ok w.show.ensures.text w.show.ensures.told)
+      (ap (λ (h : List Entry). claim_of w.in-Ok.trace h) w.as_slice.ensures.value) w.in-Ok.ensures.ok w.show.ensures.text w.show.ensures.verdict)
   | in-Err w ↦
       rw (w.out-is, w.result-is)
       (fault-shown w.show_fault.result c.args.self.now c.end.new.self w.in-Err.fault
-      c.args.out.now.items w.show_fault.new.out.items c.end.ensures.gone w.in-Err.ensures.err w.show_fault.ensures.text w.show_fault.ensures.told)
+      c.args.out.now.items w.show_fault.new.out.items c.end.ensures.gone w.in-Err.ensures.err w.show_fault.ensures.text w.show_fault.ensures.verdict)
 ]

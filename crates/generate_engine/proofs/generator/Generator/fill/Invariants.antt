@@ -1,5 +1,5 @@
 use Rattle.std.proofs.Common.{ℕ, List, ◌+◌, ◌++◌}
-use Rattle.storm.specs.declared.Storm.{Storm}
+use Rattle.parameters.specs.declared.storm.Storm.{Storm}
 use Rattle.generate_engine.specs.Script.{IsUnderWay}
 use Rattle.generate_engine.proofs.generator.Generator.fill.Given as goal
 

@@ -1,6 +1,6 @@
 use Rattle.std.proofs.Common.{ℕ, List, ◌+◌, ◌*◌, ◌++◌}
 use Rattle.std.specs.Io.KnownBytes.{Appends}
-use Rattle.storm.specs.declared.Storm.{Storm}
+use Rattle.parameters.specs.declared.storm.Storm.{Storm}
 use Rattle.generate_engine.specs.Script.{IsUnderWay}
 use Rattle.generate_engine.proofs.generator.Generator.put_blocks.Given as goal
 

@@ -22,7 +22,7 @@ returns-then-is_empty-clause-ok g c = λ start written read s.
 
 pub returns-clause-ok : goal.returns-clause-ok
 returns-clause-ok g c = λ start written read s.
-    let a = c.in_ok-told.ensures.ok in
+    let a = c.in_ok-verdict.ensures.ok in
     let same = ap (on_last_line g.P.Responder.responses c.args.self.now.responder) c.as_slice.ensures.value in
     stands-last g.P.Responder.responses start c.args.self.now.responder c.note.new.self.responder c.args.self.now.line.items
     c.args.self.now.pending.items c.note.new.self.pending.items c.args.self.now.status c.note.new.self.status written read s

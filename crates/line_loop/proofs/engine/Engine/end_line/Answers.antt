@@ -14,17 +14,17 @@ same g c =
 
 pub returns-clause-responder : goal.returns-clause-responder
 returns-clause-responder g c =
-    let a = c.in_ok-told-2.ensures.ok in
+    let a = c.in_ok-verdict-2.ensures.ok in
     c.note-2.ensures.responder ∙ a.state ∙ ap (λ (x : Answer g.row.P.Denot). x.state) (same g c)
 
 pub returns-clause-text : goal.returns-clause-text
 returns-clause-text g c =
-    let a = c.in_ok-told-2.ensures.ok in
+    let a = c.in_ok-verdict-2.ensures.ok in
     c.note-2.ensures.pending ∙ a.text
     ∙ ap₂ (λ (p t : List ℕ). p ++ t) c.keep.ensures.pending (ap (λ (x : Answer g.row.P.Denot). x.text) (same g c))
 
 pub returns-clause-status : goal.returns-clause-status
 returns-clause-status g c =
-    let a = c.in_ok-told-2.ensures.ok in
+    let a = c.in_ok-verdict-2.ensures.ok in
     c.note-2.ensures.status
     ∙ ap₂ (λ (t : Bool) (s : ℕ). if t then 1 else s) (a.is_fault ∙ ap (λ (x : Answer g.row.P.Denot). x.is_fault) (same g c)) c.keep.ensures.status

@@ -14,9 +14,9 @@ returns-clause-ok c =
     let f = c.in-Some.fabric in
     let left = c.in_ok-is_quiet.ensures in
     let empty = c.new-answers.ensures.items in
-    subst (λ (s : StepperView). IfOk c.tell_settled.result (λ told. IsAnswer c.tell_settled.new.self c.args.out.now.items c.tell_settled.new.out.items told (settled s line s.fabric))) c.self.view_is
+    subst (λ (s : StepperView). IfOk c.tell_settled.result (λ verdict. IsAnswer c.tell_settled.new.self c.args.out.now.items c.tell_settled.new.out.items verdict (settled s line s.fabric))) c.self.view_is
     (told_settled c.tell_settled.result start line f c.settle-2.new.fabric c.as_slice.result.now c.in_ok-is_quiet.is_quiet
     c.tell_settled.new.self c.args.out.now.items c.tell_settled.new.out.items
     c.in-Some.is c.if-self.false
     (left.fabric ∙ ap (λ (rs : List Record). (settlement f rs).fabric) empty) (c.as_slice.ensures.value ∙ left.records ∙ ap (λ (rs : List Record). (settlement f rs).records) empty) left.told
-    c.tell_settled.ensures.state c.tell_settled.ensures.text c.tell_settled.ensures.told)
+    c.tell_settled.ensures.state c.tell_settled.ensures.text c.tell_settled.ensures.verdict)

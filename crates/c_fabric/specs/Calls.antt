@@ -1,0 +1,90 @@
+-- The calls of a fabric: what it and the caller's buffer hold after them, and what they return.
+use Rattle.std.specs.Prelude.{ℕ, ⊤, ◌≡◌, ◌≤◌, nat_lt, if◌then◌else◌, List, ◌++◌, length, Option, Some, None, Result, Ok, Err}
+use Rattle.fabric_laws.specs.Fabric.{Fabric}
+use Rattle.fabric_core.specs.declared.config.Config.{Config}
+use Rattle.fabric_core.specs.declared.config.ConfigFault.{ConfigFault}
+use Rattle.fabric_core.specs.Config.{IsConfig, fault_name}
+use Rattle.fabric_core.specs.declared.event.Event.{Event}
+use Rattle.fabric_core.specs.declared.event.Seen.{Seen}
+use Rattle.fabric_core.specs.declared.fault.Refusal.{Refusal}
+use Rattle.fabric_core.specs.Kept.{records_of}
+use Rattle.fabric_core.specs.Answers.{answer}
+use Rattle.fabric_answers.specs.New.{config_fault}
+use Rattle.operation_text.specs.Words.{words}
+use Rattle.script_text.specs.declared.line.Line.{Line}
+use Rattle.script_text.specs.declared.line.Line.TheVariants as lines
+use Rattle.script_text.specs.Forms.{line_of}
+use Rattle.script_text.specs.Names.{refusal_text}
+use Rattle.script_text.specs.Texts.{seen_text}
+use Rattle.c_buffer.specs.declared.outcome.Failure.{Failure}
+use Rattle.c_buffer.specs.declared.outcome.Failure.TheVariants.{Text, SmallBuffer, NoLine}
+use Rattle.c_buffer.specs.Buffer.{filled, Told, untold, told_fault}
+use Rattle.c_fabric.specs.SessionView.{SessionView}
+
+-- ---- making
+
+abbrev pub made : List ℕ → Option ConfigFault → Told ⊤
+made buffer None = untold buffer (Ok tt)
+made buffer (Some f) = told_fault buffer (fault_name f)
+
+abbrev pub made_by : List ℕ → Option Line → Told ⊤
+made_by buffer (Some (lines.Fabric c)) = made buffer (config_fault c)
+made_by buffer _ = untold buffer (Err NoLine)
+
+-- the buffer is tested first, then the line, then its configuration
+abbrev pub making : List ℕ → List ℕ → Told ⊤
+making line buffer = if nat_lt (length buffer) 512 then untold buffer (Err SmallBuffer) else made_by buffer (line_of (words line))
+
+-- the line asks for a fabric of this configuration
+abbrev pub AsksFor : List ℕ → Config → Type 0
+AsksFor line c = line_of (words line) ≡ Some (lines.Fabric c)
+
+-- there is nothing to refuse but memory: the buffer is large enough, and the line asks for a fabric that can be
+abbrev pub IsFabricCall : List ℕ → List ℕ → Type 0
+IsFabricCall line buffer = (512 ≤ length buffer) × (c : Config) × AsksFor line c × IsConfig c
+
+-- ---- events
+
+pub record EventCall : Type 0 where
+  pub outcome : Result ℕ Failure
+  pub session : SessionView
+  pub buffer : List ℕ
+
+abbrev pub unmoved : SessionView → List ℕ → Failure → EventCall
+unmoved s buffer failure = record { outcome = Err failure; session = s; buffer = buffer }
+
+-- n is the length of the history before the event
+abbrev pub kept : SessionView → Event → Seen → Fabric → ℕ → SessionView
+kept s event what f' n = record {
+  fabric = f';
+  is_traced = s.is_traced;
+  records = if s.is_traced then s.records ++ records_of event what n else s.records;
+}
+
+-- what is seen of the event, or why it is refused, stands in the buffer
+abbrev pub answered : SessionView → List ℕ → Event → ℕ → Result (Seen × Fabric) Refusal → EventCall
+answered s buffer event n (Ok p) = record {
+  outcome = Ok (length (seen_text event p.0));
+  session = kept s event p.0 p.1 n;
+  buffer = filled buffer (seen_text event p.0);
+}
+answered s buffer event n (Err r) = record {
+  outcome = Err (Text (length (refusal_text r)));
+  session = s;
+  buffer = filled buffer (refusal_text r);
+}
+
+abbrev pub happened : SessionView → List ℕ → Event → EventCall
+happened s buffer event = answered s buffer event (length s.fabric.memory.entries) (answer s.fabric event)
+
+abbrev pub happened_by : SessionView → List ℕ → Option Line → EventCall
+happened_by s buffer (Some (lines.Event event)) = happened s buffer event
+happened_by s buffer _ = unmoved s buffer NoLine
+
+-- the buffer is large enough, and the line spells an event
+abbrev pub IsEventCall : List ℕ → List ℕ → Type 0
+IsEventCall line buffer = (512 ≤ length buffer) × (event : Event) × (line_of (words line) ≡ Some (lines.Event event))
+
+-- the buffer is tested first, then the line
+abbrev pub event_call : SessionView → List ℕ → List ℕ → EventCall
+event_call s line buffer = if nat_lt (length buffer) 512 then unmoved s buffer SmallBuffer else happened_by s buffer (line_of (words line))

@@ -1,0 +1,25 @@
+-- A fabric that scripts' lines drive one by one.
+use Rattle.std.specs.Prelude.{◌≡◌, Bool, true, List, []}
+use Rattle.history_check.specs.declared.Record.{Record}
+use Rattle.history_check.specs.Claim.{Claim}
+use Rattle.fabric_laws.specs.Fabric.{Fabric, whole_of}
+use Rattle.fabric_laws.specs.Trace.{Belongs}
+use Rattle.fabric_core.specs.declared.config.Config.{Config}
+use Rattle.fabric_answers.specs.New.{new_fabric}
+
+-- the fabric, and if a trace is kept its records so far
+pub record SessionView : Type 0 where
+  pub fabric : Fabric
+  pub is_traced : Bool
+  pub records : List Record
+
+-- a kept trace belongs to the fabric
+abbrev pub IsSession : SessionView → Type 0
+IsSession s = s.is_traced ≡ true → Belongs (whole_of s.fabric) s.records
+
+abbrev pub new_session : Config → Bool → SessionView
+new_session c traced = record { fabric = new_fabric c; is_traced = traced; records = [] }
+
+-- the trace and the history
+abbrev pub claim : SessionView → Claim
+claim s = record { memory = s.fabric.memory; records = s.records }

@@ -1,8 +1,0 @@
-use Rattle.hall_events.proofs.Holding.{took_also, known_now}
-use Rattle.hall_events.proofs.requests.take_to_submit.Goals as goal
-
-pub returns-in-Ok-take_sender-clause-taken : goal.returns-in-Ok-take_sender-clause-taken
-returns-in-Ok-take_sender-clause-taken c = took_also _ _ _ _ _ _ c.in-Ok.ensures.taken c.in-Ok-take_sender.ensures.taken
-
-pub returns-in-Ok-take_sender-clause-known : goal.returns-in-Ok-take_sender-clause-known
-returns-in-Ok-take_sender-clause-known c = known_now _ _ _ c.in-Ok-take_sender.ensures.taken.0 c.in-Ok-take_sender.ensures.taken.1

@@ -1,0 +1,23 @@
+-- The ranges of what `run` and `generate` are asked for.
+use Rattle.std.specs.Prelude.{◌≤◌}
+use Rattle.seq_memory.specs.Limits.{IsBlock}
+use Rattle.switch_core.specs.declared.routing.TheConstants.{REQUESTERS}
+use Rattle.fault_plan.specs.declared.TheConstants.{MOST}
+use Rattle.parameters.specs.declared.counting.TheConstants.{MOST_ADDITIONS, MOST_TURNS}
+use Rattle.parameters.specs.declared.counting.Counting.{Counting}
+use Rattle.parameters.specs.declared.storm.TheConstants.{MOST_EVENTS}
+use Rattle.parameters.specs.declared.storm.Storm.{Storm}
+
+pub record IsCounting (c : Counting) : Type 0 where
+  pub requesters : (1 ≤ c.requesters) × (c.requesters ≤ REQUESTERS)
+  pub each : c.each ≤ MOST_ADDITIONS
+  pub lose : c.lose ≤ MOST
+  pub corrupt : c.corrupt ≤ MOST
+  pub turns : (1 ≤ c.turns) × (c.turns ≤ MOST_TURNS)
+
+pub record IsStorm (s : Storm) : Type 0 where
+  pub events : s.events ≤ MOST_EVENTS
+  pub requesters : (1 ≤ s.requesters) × (s.requesters ≤ REQUESTERS)
+  pub lose : s.lose ≤ MOST
+  pub corrupt : s.corrupt ≤ MOST
+  pub block : IsBlock s.block

@@ -1,0 +1,51 @@
+//! The fields of lines, which a log's lines have too.
+ghost use Rattle.std.specs.Prelude.{◌≡◌, option_map};
+ghost use Rattle.std.specs.Result.{result_ok};
+ghost use Rattle.operation_text.specs.Words.{words_behind, first_field};
+ghost use Rattle.trace_text.specs.Forms as forms;
+
+use operation_text::{BLOCK, Expected, Misfit, number};
+
+/// The greatest number of a request.
+const MAX_NUMBER: u64 = 4_294_967_294;
+
+const REQUESTER: Expected = Expected::Between("a requester", 1, 7);
+
+const NUMBER: Expected = Expected::Between("a request's number", 0, MAX_NUMBER);
+
+/// The requester that comes first, 1 to 7, and what is behind it.
+pub fn requester(rest: Option<&[u8]>) -> Result<(u8, Option<&[u8]>), Misfit>
+    ensures { first_field forms.requester (words_behind rest.entry) ≡ option_map (λ s. (s.0, words_behind s.1)) (result_ok result) }
+{
+    let (requester, behind) = number(rest, 10, 7, REQUESTER)?;
+    if requester == 0 {
+        return Err(REQUESTER.at(rest));
+    }
+    Ok((requester as u8, behind))
+}
+
+/// The number of a request that comes first, below 2^32 - 1, and what is behind it.
+pub fn request(rest: Option<&[u8]>) -> Result<(u32, Option<&[u8]>), Misfit>
+    ensures { first_field forms.number (words_behind rest.entry) ≡ option_map (λ s. (s.0, words_behind s.1)) (result_ok result) }
+{
+    let (request, rest) = number(rest, 10, MAX_NUMBER, NUMBER)?;
+    Ok((request as u32, rest))
+}
+
+/// The number of 64 bits that comes first, and what is behind it.
+pub fn count(rest: Option<&[u8]>, expected: Expected) -> Result<(u64, Option<&[u8]>), Misfit>
+    ensures { first_field forms.count (words_behind rest.entry) ≡ option_map (λ s. (s.0, words_behind s.1)) (result_ok result) }
+{
+    number(rest, 10, u64::MAX, expected)
+}
+
+/// The block that comes first, 64 or 128, and what is behind it.
+pub fn block(rest: Option<&[u8]>) -> Result<(u16, Option<&[u8]>), Misfit>
+    ensures { first_field forms.block (words_behind rest.entry) ≡ option_map (λ s. (s.0, words_behind s.1)) (result_ok result) }
+{
+    let (block, behind) = number(rest, 10, 128, BLOCK)?;
+    if block == 64 || block == 128 {
+        return Ok((block as u16, behind));
+    }
+    Err(BLOCK.at(rest))
+}

@@ -1,5 +1,0 @@
-use Rattle.workers.specs.Running.{AreWorkSeats}
-use Rattle.workers.proofs.threads.start_jobs.Given as goal
-
-abbrev pub invariant-loop-job : goal.invariant-loop-job
-invariant-loop-job g l = AreWorkSeats l.run.hall.now l.seats.items

@@ -1,0 +1,25 @@
+//! What a run has before its threads begin.
+
+use hall_core::{Hall, ReqSeat, WorkSeat};
+use recorder::{Recorder, Taker};
+use std::alloc::Global;
+use worker_report::RunPlan;
+use worker_turns::Shared;
+
+/// What all threads of a run share.
+#[derive(Drop)]
+pub struct RunContext {
+    pub alloc: Global,
+    pub plan: RunPlan,
+    pub hall: Hall,
+    pub recorder: Recorder,
+    pub shared: Shared,
+}
+
+/// The seats of a run's hall, and the pass of its checker: each is given away once.
+#[derive(Drop)]
+pub struct Crew {
+    pub seats: Vec<ReqSeat>,
+    pub workers: Vec<WorkSeat>,
+    pub taker: Taker,
+}
