@@ -8,3 +8,4 @@ pub mod FrameLemmas
 pub mod Readiness
 pub mod OthersOf
 pub mod SketchLemmas
+pub mod ValueLemmas

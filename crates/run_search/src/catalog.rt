@@ -4,6 +4,7 @@ ghost use Rattle.run_search.specs.Catalogs.{IsCatalog};
 
 use crate::due::places;
 use crate::sketches::{Sketch, sketches_of};
+use crate::values::{Values, values_of};
 use log_runs::Log;
 use std::alloc::{AllocError, Global};
 
@@ -13,6 +14,7 @@ pub(crate) struct Catalog {
     /// The place of each request's answer.
     pub(crate) due: Vec<usize>,
     pub(crate) sketches: Vec<Sketch>,
+    pub(crate) values: Values,
 }
 
 pub(crate) fn catalog_of(alloc: Global, log: &Log) -> Result<Catalog, AllocError>
@@ -21,5 +23,6 @@ pub(crate) fn catalog_of(alloc: Global, log: &Log) -> Result<Catalog, AllocError
     Ok(Catalog {
         due: places(alloc, log)?,
         sketches: sketches_of(alloc, log)?,
+        values: values_of(alloc, log)?,
     })
 }

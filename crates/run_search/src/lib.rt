@@ -22,6 +22,7 @@ mod place;
 mod rules;
 mod sketches;
 mod steps;
+mod values;
 mod walk;
 
 pub use exploring::{Outcome, explore};

@@ -11,6 +11,7 @@ use crate::hints::Look;
 use crate::lost::is_left;
 use crate::others::{Asked, others_spare};
 use crate::place::Place;
+use crate::values::is_alone;
 use log_runs::{Log, Step};
 use search_rules::laws::{
     the_first_acts_at_once, the_last_acts_at_once, what_changes_nothing_acts_at_once,
@@ -62,6 +63,9 @@ fn is_first(place: &Place, log: &Log, catalog: &Catalog, q: usize) -> bool
     }
     if !is_left(place, r) {
         return false;
+    }
+    if is_alone(&catalog.values, log, q) {
+        return true;
     }
     others_spare(place, log, catalog, q, a, Asked::First)
 }
