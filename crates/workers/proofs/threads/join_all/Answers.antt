@@ -1,4 +1,4 @@
-use Rattle.std.proofs.Common.{◌+◌, ◌++◌, ◌∷◌, [], ◌∙◌, true≢false, map, drop, sym, subst, ap, refl, append-nil, append_assoc, rules, arith}
+use Rattle.std.proofs.Common.{◌≡◌, ◌+◌, ◌<◌, List, length, get_or, ◌++◌, ◌∷◌, [], ◌∙◌, true≢false, map, drop, sym, subst, ap, refl, append-nil, append_assoc, rules, arith}
 use Rattle.std.proofs.lemmas.List.{length-map}
 use Rattle.hall_core.specs.Views.{IsSeatOf}
 use Rattle.worker_requester.specs.Following.{Finishes}
@@ -26,9 +26,12 @@ loop-script-preserved g c =
     let i = c.loop-script._script-index in
     let was = c.loop-script.invariant in
     let v = c._script-item.result in
+    let whole = c.deref-script-items.ensures.value in
+    let within : i < length c.args.run.now.plan.scripts.items = subst (λ (xs : List _). i < length xs) whole c.loop-script-test.true in
+    let found : v ≡ get_or c.args.run.now.plan.scripts.items i v = subst (λ (xs : List _). v ≡ get_or xs i v) whole c._script-item.is in
     let kept = c.join-seat.ensures in
     let p = c.join-seat.result.pusher.pushed in
-    let first = split_at c.args.run.now.hall c.args.run.now.recorder c.args.run.now.plan.scripts.items i v c.loop-script.handles.items c.remove-handle.result was.4 c.loop-script-test.true c._script-item.is c.remove-handle.ensures.value in
+    let first = split_at c.args.run.now.hall c.args.run.now.recorder c.args.run.now.plan.scripts.items i v c.loop-script.handles.items c.remove-handle.result was.4 within found c.remove-handle.ensures.value in
     let here : IsSeatOf c.args.run.now.hall c.join-seat.result.seat = (kept.0.0 ∙ ap (λ h. h.table_id) first.hall_is, kept.0.1 ∙ ap (λ h. h.config) first.hall_is) in (
       search rules,
       search rules,
@@ -42,7 +45,7 @@ loop-script-preserved g c =
             let pushed = was.7 b.if-whole.true in (
               pushed.0 ++ p ∷ [],
               ap (λ t. t.known) c.end.ensures.known ∙ ap (λ l. l ++ p ∷ []) pushed.1 ∙ append_assoc c.args.taker.now.taken.known pushed.0 (p ∷ []),
-              finished_step c.args.run.now.plan.scripts.items i v pushed.0 p pushed.2 c.loop-script-test.true c._script-item.is (kept.2 ∙ first.requester_is)
+              finished_step c.args.run.now.plan.scripts.items i v pushed.0 p pushed.2 within found (kept.2 ∙ first.requester_is)
                   (subst (λ s. Finishes s p) first.script_is (kept.3 (sym b.whole-is ∙ w))),
             )
         | else-whole b ↦ absurd (true≢false (sym w ∙ b.whole-is ∙ b.if-whole.false))
