@@ -1,8 +1,10 @@
 //! Where a rule is worth its test. Nothing rests on what these functions say.
 
-use crate::sketches::Sketch;
+use crate::place::Place;
+use crate::sketches::{Sketch, are_far};
 use crate::steps::Done;
-use log_runs::Step;
+use log_runs::{Log, Step};
+use search_rules::{changes_nothing, is_junk_to};
 use std::alloc::{AllocError, Global};
 
 /// The four bytes from that place on.
@@ -128,4 +130,30 @@ pub(crate) fn may_need(losses: &[Loss], sketches: &[Sketch], q: usize) -> bool {
         }
     }
     false
+}
+
+/// What stands where request `q` writes and what it leaves there are nothing to request `b`.
+fn overlooks(place: &Place, log: &Log, sketches: &[Sketch], b: usize, q: usize) -> bool {
+    are_far(sketches, b, q) || is_junk_to(log, &place.key.bytes, b, q)
+}
+
+/// What stands where request `q` writes and what it leaves there may be nothing to all others.
+pub(crate) fn may_be_over_junk(place: &Place, log: &Log, sketches: &[Sketch], q: usize) -> bool {
+    match sketches.get(q) {
+        Some(sketch) => if !sketch.changes {
+            return false;
+        },
+        None => return false,
+    }
+    for b in &place.key.pending {
+        if *b != q && !overlooks(place, log, sketches, *b, q) && !changes_nothing(log, *b) {
+            return false;
+        }
+    }
+    for b in place.key.event..log.events.len() {
+        if !overlooks(place, log, sketches, b, q) {
+            return false;
+        }
+    }
+    true
 }

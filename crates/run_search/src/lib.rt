@@ -14,6 +14,7 @@ mod choices;
 mod due;
 mod exploring;
 mod hints;
+mod junk;
 mod lost;
 mod memo;
 mod others;

@@ -1,6 +1,6 @@
 //! The search's stack.
-ghost use Rattle.std.specs.Prelude.{◌≡◌, ◌++◌, ◌∷◌, [], ℕ, List, true, false, length, IsTrue, IfOk, OnOk};
-ghost use Rattle.log_runs.specs.Runs.{Dead, start};
+ghost use Rattle.std.specs.Prelude.{◌≡◌, ◌++◌, ◌∷◌, [], ℕ, List, true, false, length, IsTrue, IfOk, OnOk, IfSome};
+ghost use Rattle.log_runs.specs.Runs.{Dead, IsForced, start};
 ghost use Rattle.run_search.specs.Places.{state_of, IsPlace};
 ghost use Rattle.run_search.specs.Catalogs.{IsCatalog};
 ghost use Rattle.run_search.specs.Frames as frames;
@@ -8,6 +8,7 @@ ghost use Rattle.run_search.specs.Frames as frames;
 use crate::catalog::Catalog;
 use crate::choices::choices;
 use crate::hints::{Look, Loss, losses_of, may_need};
+use crate::junk::over_junk;
 use crate::lost::is_lost;
 use crate::memo::{Memo, empty, is_known, note};
 use crate::place::{Place, first};
@@ -49,6 +50,26 @@ pub(crate) fn begin(alloc: Global, log: &Log) -> Result<Walk, AllocError>
     })
 }
 
+/// A step that may be taken at once, a request over junk only where there is no other.
+fn at_once(
+    place: &mut Place,
+    alloc: Global,
+    log: &Log,
+    catalog: &Catalog,
+    look: Look,
+) -> Result<Option<Step>, AllocError>
+    requires place { IsPlace log.now place.old }
+    requires catalog { IsCatalog log.now catalog.now }
+    ensures state { OnOk result (state_of place.new ≡ state_of place.old) }
+    ensures place { OnOk result (IsPlace log.now place.new) }
+    ensures forced { IfOk result (λ o. IfSome o (IsForced log.now (state_of place.new))) }
+{
+    if let Some(step) = forced(place, log, catalog, look) {
+        return Ok(Some(step));
+    }
+    over_junk(place, alloc, log, &catalog.sketches)
+}
+
 /// Takes the steps that may be taken at once.
 pub(crate) fn settle(
     walk: &mut Walk,
@@ -62,7 +83,7 @@ pub(crate) fn settle(
 {
     let mut look = Look::all();
     for _step in 0..u64::MAX {
-        let Some(step) = forced(&walk.here, log, catalog, look) else {
+        let Some(step) = at_once(&mut walk.here, alloc, log, catalog, look)? else {
             return Ok(());
         };
         look = look.after(&catalog.sketches, walk.here.key.pending.len(), step);

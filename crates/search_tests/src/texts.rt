@@ -17,7 +17,7 @@ struct Row {
 const HARD: &str =
     "pciex-log 1\nmemory 0 4096 64\nsub 1 0 add 40 01000000\nsub 2 0 add 40 02000000\nsub 3 0 swap 44 01000000\nsub 4 0 swap 44 02000000\nsub 5 0 read 40 2 F F\nans 5 0 data 0200000002000000\nsub 5 1 read 40 2 F F\nans 5 1 data 0300000001000000\nend\n";
 
-static ROWS: [Row; 33] = [
+static ROWS: [Row; 34] = [
     Row {
         name: "nothing",
         text: "",
@@ -199,6 +199,13 @@ static ROWS: [Row; 33] = [
         limit: 1000,
         output: "none 1\n",
         status: 1,
+    },
+    Row {
+        name: "writes of which one is read later, with no choice",
+        text: "pciex-log 1\nmemory 0 4096 64\nsub 1 0 write 40 F 0 05000000\nsub 2 0 write 40 F 0 06000000\nsub 3 0 read 40 1 F 0\nans 3 0 data 06000000\nsub 3 1 read 40 1 F 0\nans 3 1 data 05000000\nend\n",
+        limit: 1,
+        output: "found",
+        status: 0,
     },
     Row {
         name: "hard, at one choice",

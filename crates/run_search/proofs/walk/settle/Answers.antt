@@ -1,5 +1,7 @@
-use Rattle.std.proofs.Common.{List, sym, subst}
-use Rattle.log_runs.specs.Runs.{IsForced}
+use Rattle.std.proofs.Common.{List, Option, sym, subst}
+use Rattle.std.specs.Prelude.{IfSome}
+use Rattle.log_runs.specs.declared.Step.{Step}
+use Rattle.log_runs.specs.Runs.{State, IsForced}
 use Rattle.run_search.specs.declared.steps.Done.{Done}
 use Rattle.run_search.specs.Places.{state_of}
 use Rattle.run_search.specs.Frames.{PathFrom, Here}
@@ -10,10 +12,13 @@ pub loop-step-preserved : goal.loop-step-preserved
 loop-step-preserved c =
     let log = c.args.log.now in
     let walk = c.loop-step.walk in
+    let s = state_of c.at_once.new.place in
     let u = state_of c.take.new.place in
     let d = c.in_ok-done.done in
-    let forced = subst (IsForced log (state_of walk.here)) (sym c.in_ok-done.ensures.step) c.in-Some.ensures in
-    let path = moved log walk.frames.items walk.done.items (state_of walk.here) u d c.loop-step.invariant.path forced c.in_ok-done.ensures.came in
+    let path_here = subst (λ (t : State). PathFrom log walk.frames.items (Here log walk.done.items t)) (sym c.in_ok-step.ensures.state) c.loop-step.invariant.path in
+    let there : IsForced log s c.in-Some.step = subst (λ (o : Option Step). IfSome o (IsForced log s)) c.in-Some.is c.in_ok-step.ensures.forced in
+    let forced = subst (IsForced log s) (sym c.in_ok-done.ensures.step) there in
+    let path = moved log walk.frames.items walk.done.items s u d path_here forced c.in_ok-done.ensures.came in
     record {
       path = subst (λ (ds : List Done). PathFrom log walk.frames.items (Here log ds u)) (sym c.in_ok-push.ensures.items) path;
       place = c.in_ok-done.ensures.place;

@@ -1,0 +1,41 @@
+use Rattle.std.proofs.Common.{◌≡◌, ◌∙◌, ◌⊎◌, ℕ, ◌<◌, Some, Bool, false, length, inl, inr, sym, ap, subst, arith}
+use Rattle.std.specs.Prelude.{slice_get}
+use Rattle.std.proofs.lemmas.Bool.{cases_eq}
+use Rattle.std.proofs.lemmas.Option.{slice_get_within}
+use Rattle.log_runs.specs.declared.Step.TheVariants as kinds
+use Rattle.log_runs.specs.LogView.{LogView}
+use Rattle.log_runs.specs.Runs.{State, MayAct, IsForced, next}
+use Rattle.search_rules.specs.Rules.{IsJunkTo, ChangesNothing, IsOverJunk}
+use Rattle.run_search.specs.Places.{state_of}
+use Rattle.run_search.proofs.junk.is_over_junk.Goals as goal
+
+abbrev Content : LogView → State → ℕ → ℕ → Type 0
+Content log s q k = (q ≡ k → ⊥) → slice_get s.acted k ≡ Some false → IsJunkTo log s.bytes k q ⊎ (MayAct log (next log s (kinds.Act q)) k × ChangesNothing log k)
+
+pub loop-b-preserved : goal.loop-b-preserved
+loop-b-preserved c =
+    let log = c.args.log.now in
+    let q = c.args.q in
+    let s = state_of c.args.place.now in
+    let one : Content log s q c.loop-b.b = subst (λ (u : State). Content log u q c.loop-b.b) c.loop-b.invariant.state (c.in_ok-is_content.ensures.content c.if-not-branch.false) in
+    record {
+      state = c.in_ok-is_content.ensures.state ∙ c.loop-b.invariant.state;
+      place = c.in_ok-is_content.ensures.place;
+      content = λ k l other left. elim (cases_eq k c.loop-b.b) [
+        | inl same ↦ subst (λ (x : ℕ). Content log s q x) (sym same) one other left
+        | inr apart ↦ c.loop-b.invariant.content k (omega (arith, l, apart)) other left
+      ];
+    }
+
+pub returns-clause-forced : goal.returns-clause-forced
+returns-clause-forced c = λ so.
+    let log = c.args.log.now in
+    let s = state_of c.args.place.now in
+    let bytes = c.args.place.now.key.bytes in
+    let whole : c.len-b-end.result ≡ length log.events = c.len-b-end.ensures ∙ c.log.inside.events.ok.0 ∙ ap (λ (t : LogView). length t.events) c.log.view_is in
+    let over : IsOverJunk log s c.args.q = record {
+      size = sym bytes.ok.0 ∙ sym c.len.ensures ∙ c.if-len-size.false ∙ c.size.ensures.value ∙ ap (λ (t : LogView). t.extent.size) c.log.view_is;
+      may = c.requires.may;
+      others = λ b other left. c.loop-b.invariant.content b (omega (arith, slice_get_within s.acted b false left, c.requires.place.len, whole, c.loop-b-test.false)) other left;
+    } in
+    subst (λ (u : State). IsForced log u (kinds.Act c.args.q)) (sym c.loop-b.invariant.state) (c.what_is_over_junk_acts_at_once.ensures log s c.args.q over)
