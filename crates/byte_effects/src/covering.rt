@@ -30,7 +30,7 @@ fn puts_all(op: &Op) -> bool
 }
 
 /// The first has all addresses of the second.
-fn spans(one: &Op, other: &Op) -> bool
+pub fn spans(one: &Op, other: &Op) -> bool
     ensures low { IsTrue result → address_of one.now ≤ address_of other.now }
     ensures high { IsTrue result → address_of other.now + count_of other.now ≤ address_of one.now + count_of one.now }
 {

@@ -7,7 +7,8 @@
 //! Of two requests [`never_brings`] says that the first doesn't bring about the second's reply, and
 //! [`yields`] that it ends it, or that their order makes no difference. [`waits`] says that a request
 //! can't be answered as it was before another has changed the bytes, [`breaks`] that it can't be while
-//! the bytes are as another left them, and [`covers`] that a write puts all bytes of another.
+//! the bytes are as another left them, and [`covers`] that a write puts all bytes of another. [`spans`]
+//! says that it has all addresses of another.
 #![tactic(auto)]
 
 mod covering;
@@ -17,7 +18,7 @@ mod puts;
 mod ranges;
 mod waiting;
 
-pub use covering::covers;
+pub use covering::{covers, spans};
 pub use pairs::{breaks, clashes, never_brings, yields};
 pub use puts::{is_quiet, left};
 pub use ranges::{are_apart, is_needed, is_put};

@@ -15,8 +15,8 @@ use Rattle.log_runs.specs.declared.Step.{Step}
 use Rattle.log_runs.specs.declared.Step.TheVariants as steps
 use Rattle.log_runs.specs.LogView.{LogView}
 use Rattle.log_runs.specs.Runs.{State, has_acted, MayPass, MayAct, Leads, Live, IsForced, next, acted_on, reply_of, bytes_after}
-use Rattle.search_rules.specs.Junk.{Overlooks, Misses, IsJunk}
-use Rattle.search_rules.specs.Rules.{Suits, IsJunkTo, ChangesNothing, IsOverJunk}
+use Rattle.search_rules.specs.Junk.{IsJunk, LeavesJunk}
+use Rattle.search_rules.specs.Rules.{Suits, IsJunkTo, LeavesNothing, AllLeft, acts, IsOverJunk}
 use Rattle.search_rules.proofs.FirstLemmas.{Others}
 use Rattle.search_rules.proofs.RuleLemmas.{clash, set_here, set_there, acted_kept, gone_by, suits, run, before}
 
@@ -52,10 +52,23 @@ module _ (answered : Answered) (bytes_of : Bytes) (others : Others) (sizes : Siz
   agrees_there : (x : Extent) (m n : List ℕ) (op other : Op) (told : Option Reply) → AreApart op other → AreSameBut x.base other m n → Agrees x.base x.block m op told → Agrees x.base x.block n op told
   agrees_there x m n op other told apart same agrees r e = answered x.base x.block m n op same.size (same_there x.base m n op other apart same) ∙ agrees r e
 
-  -- nobody needs what stands at the other's addresses in m
-  module _ (x : Extent) (m0 : List ℕ) (other : Op) (asked : Option Reply) where
+  among : (base k : ℕ) (third other : Op) → address_of other ≤ address_of third → address_of third + count_of third ≤ address_of other + count_of other
+      → (base + k < address_of other) ⊎ (address_of other + count_of other ≤ base + k) → (base + k < address_of third) ⊎ (address_of third + count_of third ≤ base + k)
+  among base k third other front back (inl low) = inl (omega (arith, front, low))
+  among base k third other front back (inr high) = inr (omega (arith, back, high))
+
+  -- one whose addresses are among the other's changes nothing but there
+  changed_there : (x : Extent) (m : List ℕ) (third other : Op) → (address_of other ≤ address_of third) × (address_of third + count_of third ≤ address_of other + count_of other)
+      → AreSameBut x.base other m (after x.base x.block m third)
+  changed_there x m third other within = record {
+    size = sizes x.base x.block m third;
+    others = λ k out. others x.base x.block k m third (among x.base k third other within.0 within.1 out);
+  }
+
+  -- what stands at the other's addresses in m is nothing to those that are left
+  module _ (x : Extent) (other : Op) (Left : Op → Option Reply → Type 0) where
     Junk : List ℕ → Type 0
-    Junk m = (one : Op) (told : Option Reply) → Misses x m0 one told other asked → (n : List ℕ) → AreSameAt x.base other m n → Agrees x.base x.block n one told → ⊥
+    Junk m = (one : Op) (told : Option Reply) → Left one told → IsJunk x m one told other
 
     -- the same, but for junk in m
     Alike : List ℕ → List ℕ → Type 0
@@ -63,32 +76,37 @@ module _ (answered : Answered) (bytes_of : Bytes) (others : Others) (sizes : Siz
 
     junk_after : (m : List ℕ) (op : Op) → AreApart op other → Junk m → Junk (after x.base x.block m op)
     unfolding Junk
-    junk_after m op apart junk one told misses n same agrees =
-        junk one told misses n
-        (λ k front back. same k front back ∙ others x.base x.block k m op (out_of x.base k op other apart front back)) agrees
+    junk_after m op apart junk one told left = elim (junk one told left) [
+      | inl away ↦ inl away
+      | inr (inl overlooks) ↦ inr (inl overlooks)
+      | inr (inr misses) ↦ inr (inr (λ n same. misses n (λ k front back. same k front back ∙ others x.base x.block k m op (out_of x.base k op other apart front back))))
+    ]
 
     -- one that is left acts on both
-    both : (m n : List ℕ) (op : Op) (told : Option Reply) → length m ≡ x.size → Alike m n → Agrees x.base x.block m op told → IsJunk x m0 op told other asked
+    both : (m n : List ℕ) (op : Op) (told : Option Reply) → length m ≡ x.size → Alike m n → Agrees x.base x.block m op told → Left op told
         → Agrees x.base x.block n op told × Alike (after x.base x.block m op) (after x.base x.block n op)
     unfolding Alike Junk
-    both m n op told size (inl same) agrees junk =
+    both m n op told size (inl same) agrees left =
         (subst (λ k. Agrees x.base x.block k op told) (sym same) agrees, inl (ap (λ k. after x.base x.block k op) same))
-    both m n op told size (inr (same, junk)) agrees (inl apart) =
-        (agrees_there x m n op other told apart same agrees, inr (but_after x.base x.block m n op other apart same, junk_after m op apart junk))
-    both m n op told size (inr (same, junk)) agrees (inr (inl overlooks)) =
-        let (suited, leaves) = overlooks m n size same in (
-          suited,
-          elim leaves [
-            | inl alike ↦ inl alike
-            | inr still ↦ inr (subst (λ k. AreSameBut x.base other k (after x.base x.block n op)) (sym still.0) (subst (AreSameBut x.base other m) (sym still.1) same), subst Junk (sym still.0) junk)
-          ],
-        )
-    both m n op told size (inr (same, junk)) agrees (inr (inr misses)) = absurd (junk op told misses m (λ k front back. refl) agrees)
+    both m n op told size (inr (same, junk)) agrees left = elim (junk op told left) [
+      | inl apart ↦ (agrees_there x m n op other told apart same agrees, inr (but_after x.base x.block m n op other apart same, junk_after m op apart junk))
+      | inr (inl overlooks) ↦
+          let (suited, leaves) = overlooks m n size same in (
+            suited,
+            elim leaves [
+              | inl alike ↦ inl alike
+              | inr still ↦ inr (subst (λ k. AreSameBut x.base other k (after x.base x.block n op)) (sym still.0) (subst (AreSameBut x.base other m) (sym still.1) same), subst Junk (sym still.0) junk)
+            ],
+          )
+      | inr (inr misses) ↦ absurd (misses m (λ k front back. refl) agrees)
+    ]
 
-    -- the other acts on the one alone
-    own : (m n : List ℕ) → length m ≡ x.size → Alike m n → Agrees x.base x.block m other asked → Alike (after x.base x.block m other) n
+    -- one of the group acts on the one alone
+    own : (m n : List ℕ) (third : Op) (had : Option Reply) → (address_of other ≤ address_of third) × (address_of third + count_of third ≤ address_of other + count_of other)
+        → ((one : Op) (told : Option Reply) → Left one told → LeavesJunk x one told other third had)
+        → length m ≡ x.size → Alike m n → Agrees x.base x.block m third had → Alike (after x.base x.block m third) n
     unfolding Alike Junk
-    own m n size alike agrees =
+    own m n third had within leaves size alike agrees =
         let long : length n ≡ length m = elim alike [
           | inl same ↦ ap length same
           | inr (same, junk) ↦ same.size
@@ -97,29 +115,47 @@ module _ (answered : Answered) (bytes_of : Bytes) (others : Others) (sizes : Siz
           | inl same ↦ ap (λ ys. slice_index ys k) same
           | inr (same, junk) ↦ same.others k out
         ] in
+        let there = changed_there x m third other within in
         inr (
           record {
-            size = long ∙ sym (sizes x.base x.block m other);
-            others = λ k out. byte k out ∙ sym (others x.base x.block k m other out);
+            size = long ∙ sym there.size;
+            others = λ k out. byte k out ∙ sym (there.others k out);
           },
-          λ one told misses n same. misses.new m n size agrees same,
+          λ one told left. elim (leaves one told left) [
+            | inl away ↦ inl away
+            | inr (inl overlooks) ↦ inr (inl overlooks)
+            | inr (inr misses) ↦ inr (inr (λ n same. misses m n size agrees (λ k front back. same k (omega (arith, within.0, front)) (omega (arith, within.1, back)))))
+          ],
         )
 
   -- ---- runs
 
-  module _ (log : LogView) (q : ℕ) (m0 : List ℕ) (j : ℕ) (other : Op) (asked : Option Reply) (there : slice_get log.events q ≡ Some (events.Sub j other asked)) where
-    With : List ℕ → List ℕ → Type 0
-    With m n = Alike log.extent m0 other asked m n
+  -- steps that may be taken in turn
+  back : (log : LogView) (xs : List Step) (s t : State) → Leads log s xs t → Live log t → Live log s
+  back log [] s t leads live = subst (Live log) (sym leads) live
+  back log (x ∷ xs) s t leads live = before log s x leads.0 (back log xs (next log s x) t leads.1 live)
 
-    -- in t q has acted, and some that change nothing, which are still to act in s; else they are the same, but for junk
+  module _ (log : LogView) (q : ℕ) (end : State) (j : ℕ) (other : Op) (asked : Option Reply) (there : slice_get log.events q ≡ Some (events.Sub j other asked)) where
+    Left : Op → Option Reply → Type 0
+    Left one told = (b : ℕ) × (i : ℕ) × (slice_get end.acted b ≡ Some false) × (slice_get log.events b ≡ Some (events.Sub i one told))
+
+    With : List ℕ → List ℕ → Type 0
+    With m n = Alike log.extent other Left m n
+
+    -- those that have acted in t alone leave nothing
+    Acted : State → State → Type 0
+    Acted s t = (b : ℕ) → (slice_get t.acted b ≡ slice_get s.acted b) ⊎ ((slice_get s.acted b ≡ Some false) × (slice_get t.acted b ≡ Some true) × LeavesNothing log end q b)
+
+    -- in t some of the group have acted, which are still to act in s; else they are the same, but for junk
     record Beside (s t : State) : Type 0 where
       pub event : t.event ≡ s.event
       pub size : length s.bytes ≡ log.extent.size
-      pub table : (b : ℕ) → (slice_get t.acted b ≡ slice_get s.acted b) ⊎ ((slice_get s.acted b ≡ Some false) × (slice_get t.acted b ≡ Some true) × ((q ≡ b) ⊎ ChangesNothing log b))
-      pub left : (b : ℕ) → slice_get t.acted b ≡ Some false → IsJunkTo log m0 b q
+      pub table : Acted s t
+      pub left : (b : ℕ) → slice_get t.acted b ≡ Some false → slice_get end.acted b ≡ Some false
       pub bytes : With s.bytes t.bytes
 
     ahead : (s t : State) → Beside s t → (b : ℕ) → has_acted s b → has_acted t b
+    unfolding Acted
     ahead s t h b e = elim (h.table b) [
       | inl same ↦ same ∙ e
       | inr g ↦ absurd (clash refl (same_Some true false (sym e ∙ g.0)))
@@ -149,6 +185,7 @@ module _ (answered : Answered) (bytes_of : Bytes) (others : Others) (sizes : Siz
     -- it acts in both
     both_act : (s t : State) → Beside s t → (c : ℕ) (m : MayAct log s c) → slice_get t.acted c ≡ Some false → With (next log s (steps.Act c)).bytes (next log t (steps.Act c)).bytes
         → Beside (next log s (steps.Act c)) (next log t (steps.Act c))
+    unfolding Acted
     both_act s t h c m fresh alike = record {
       event = h.event;
       size = length_acted s.bytes c m.requester m.op m.told m.submitted ∙ h.size;
@@ -167,6 +204,7 @@ module _ (answered : Answered) (bytes_of : Bytes) (others : Others) (sizes : Siz
 
     -- one that has acted in t acts in s
     one_acts : (s t : State) → Beside s t → (c : ℕ) (m : MayAct log s c) → slice_get t.acted c ≡ Some true → With (next log s (steps.Act c)).bytes t.bytes → Beside (next log s (steps.Act c)) t
+    unfolding Acted
     one_acts s t h c m done alike = record {
       event = h.event;
       size = length_acted s.bytes c m.requester m.op m.told m.submitted ∙ h.size;
@@ -184,32 +222,31 @@ module _ (answered : Answered) (bytes_of : Bytes) (others : Others) (sizes : Siz
     }
 
     -- what both do
-    both_with : (s : State) (n : List ℕ) (c : ℕ) → length s.bytes ≡ log.extent.size → With s.bytes n → (m : MayAct log s c) → IsJunkTo log m0 c q
+    both_with : (s : State) (n : List ℕ) (c : ℕ) → length s.bytes ≡ log.extent.size → With s.bytes n → (m : MayAct log s c) → slice_get end.acted c ≡ Some false
         → Suits log.extent n (slice_get log.events c) × With (acted_on log.extent s.bytes (slice_get log.events c)) (acted_on log.extent n (slice_get log.events c))
-    unfolding With reply_of
-    both_with s n c size alike m junk =
+    unfolding With Left reply_of
+    both_with s n c size alike m left =
         let x = log.extent in
         let o = slice_get log.events c in
-        let (suited, left) = both x m0 other asked s.bytes n m.op m.told size alike m.replied (junk m.requester j m.op other m.told asked m.submitted there) in
+        let (suited, still) = both x other Left s.bytes n m.op m.told size alike m.replied (c, m.requester, left, m.submitted) in
         let in_s : acted_on x s.bytes o ≡ after x.base x.block s.bytes m.op = acted_is x s.bytes o m.requester m.op m.told m.submitted in
         let in_n : acted_on x n o ≡ after x.base x.block n m.op = acted_is x n o m.requester m.op m.told m.submitted in (
           subst (Suits x n) (sym m.submitted) suited,
-          subst (λ k. Alike x m0 other asked k (acted_on x n o)) (sym in_s) (subst (Alike x m0 other asked (after x.base x.block s.bytes m.op)) (sym in_n) left),
+          subst (λ k. Alike x other Left k (acted_on x n o)) (sym in_s) (subst (Alike x other Left (after x.base x.block s.bytes m.op)) (sym in_n) still),
         )
 
-    own_with : (s : State) (n : List ℕ) → length s.bytes ≡ log.extent.size → With s.bytes n → MayAct log s q → With (acted_on log.extent s.bytes (slice_get log.events q)) n
-    unfolding With reply_of
-    own_with s n size alike m =
+    -- what one of the group does alone
+    alone : (s : State) (n : List ℕ) (c : ℕ) → length s.bytes ≡ log.extent.size → With s.bytes n → MayAct log s c → LeavesNothing log end q c → With (acted_on log.extent s.bytes (slice_get log.events c)) n
+    unfolding With Left reply_of
+    alone s n c size alike m (inl quiet) = subst (λ k. Alike log.extent other Left k n) (sym (quiet s.bytes (suits log s c m))) alike
+    alone s n c size alike m (inr (within, leaves)) =
         let x = log.extent in
-        let agrees : Suits x s.bytes (Some (events.Sub j other asked)) = subst (Suits x s.bytes) there (suits log s q m) in
-        subst (λ k. Alike x m0 other asked k n) (sym (acted_is x s.bytes (slice_get log.events q) j other asked there)) (own x m0 other asked s.bytes n size alike agrees)
-
-    alone : (s : State) (n : List ℕ) (c : ℕ) → length s.bytes ≡ log.extent.size → With s.bytes n → MayAct log s c → (q ≡ c) ⊎ ChangesNothing log c → With (acted_on log.extent s.bytes (slice_get log.events c)) n
-    alone s n c size alike m (inl same) =
-        subst (λ d. With (acted_on log.extent s.bytes (slice_get log.events d)) n) same (own_with s n size alike (subst (MayAct log s) (sym same) m))
-    alone s n c size alike m (inr quiet) = subst (λ k. With k n) (sym (quiet s.bytes (suits log s c m))) alike
+        subst (λ k. Alike x other Left k n) (sym (acted_is x s.bytes (slice_get log.events c) m.requester m.op m.told m.submitted))
+        (own x other Left s.bytes n m.op m.told (within m.requester j m.op other m.told asked m.submitted there)
+        (λ one told (b, i, left, at). leaves b left i j m.requester one other m.op told asked m.told at there m.submitted) size alike m.replied)
 
     beside_live : (xs : List Step) (s t u : State) → Leads log s xs u → u.event ≡ length log.events → Beside s t → Live log t
+    unfolding Acted
     beside_live [] s t u leads over h = run log t t [] refl (h.event ∙ ap (λ (w : State). w.event) leads ∙ over)
     beside_live (steps.Pass ∷ xs) s t u leads over h =
         before log t steps.Pass (subst (λ e. MayPass t (slice_get log.events e)) (sym h.event) (pass s t h (slice_get log.events s.event) leads.0))
@@ -227,135 +264,68 @@ module _ (answered : Answered) (bytes_of : Bytes) (others : Others) (sizes : Siz
           beside_live xs (next log s (steps.Act c)) t u leads.1 over (one_acts s t h c m g.1 (alone s t.bytes c h.size h.bytes m g.2))
     ]
 
-    -- ---- those that need what q puts act right after it
+    -- ---- the group acts
 
-    module _ (s : State) (h : IsOverJunk log s q) (first : m0 ≡ s.bytes) where
-      abbrev begun : State
-      begun = next log s (steps.Act q)
+    -- in t the group has acted
+    record Gathered (s t : State) : Type 0 where
+      pub event : t.event ≡ s.event
+      pub table : Acted s t
+      pub bytes : AreSameBut log.extent.base other s.bytes t.bytes
 
-      -- of those below n that were left all have acted that have to
-      record Gathered (n : ℕ) (t : State) : Type 0 where
-        pub back : Live log t → Live log begun
-        pub event : t.event ≡ begun.event
-        pub bytes : t.bytes ≡ begun.bytes
-        pub len : length t.acted ≡ length begun.acted
-        pub table : (b : ℕ) → (slice_get t.acted b ≡ slice_get begun.acted b) ⊎ ((slice_get begun.acted b ≡ Some false) × (slice_get t.acted b ≡ Some true) × ChangesNothing log b)
-        pub done : (b : ℕ) → b < n → slice_get t.acted b ≡ Some false → IsJunkTo log m0 b q
-        pub rest : (b : ℕ) → n ≤ b → slice_get t.acted b ≡ slice_get begun.acted b
+    changed : (s : State) (c : ℕ) → MayAct log s c → LeavesNothing log end q c → AreSameBut log.extent.base other s.bytes (acted_on log.extent s.bytes (slice_get log.events c))
+    changed s c m (inl quiet) = subst (AreSameBut log.extent.base other s.bytes) (sym (quiet s.bytes (suits log s c m))) (record { size = refl; others = λ k out. refl })
+    changed s c m (inr (within, leaves)) =
+        let x = log.extent in
+        subst (AreSameBut x.base other s.bytes) (sym (acted_is x s.bytes (slice_get log.events c) m.requester m.op m.told m.submitted))
+        (changed_there x s.bytes m.op other (within m.requester j m.op other m.told asked m.submitted there))
 
-      -- n has acted, or needs nothing
-      settled : (n : ℕ) (t : State) → Gathered n t → (slice_get t.acted n ≡ Some false → IsJunkTo log m0 n q) → Gathered (suc n) t
-      settled n t g here = record {
-        back = g.back;
-        event = g.event;
-        bytes = g.bytes;
-        len = g.len;
-        table = g.table;
-        done = λ b l e. elim (cases_eq n b) [
-          | inl same ↦ subst (λ d. IsJunkTo log m0 d q) same (here (ap (slice_get t.acted) same ∙ e))
-          | inr distinct ↦ g.done b (omega (arith, l, distinct)) e
-        ];
-        rest = λ b l. g.rest b (omega (arith, l));
+    gather : (cs : List ℕ) (s t : State) → Leads log s (acts cs) t → ((i c : ℕ) → slice_get cs i ≡ Some c → LeavesNothing log end q c) → Gathered s t
+    unfolding Acted
+    gather [] s t leads nothing = record {
+      event = ap (λ (w : State). w.event) (sym leads);
+      table = λ b. inl (ap (λ (w : State). slice_get w.acted b) (sym leads));
+      bytes = record { size = ap (λ (w : State). length w.bytes) (sym leads); others = λ k out. ap (λ (w : State). slice_index w.bytes k) (sym leads) };
+    }
+    gather (c ∷ cs) s t leads nothing =
+        let m : MayAct log s c = leads.0 in
+        let g = gather cs (next log s (steps.Act c)) t leads.1 (λ i d e. nothing (suc i) d e) in
+        let here = nothing 0 c refl in
+        let one = changed s c m here in
+        record {
+          event = g.event;
+          table = λ b. elim (cases_eq c b) [
+            | inl same ↦ inr (
+              subst (λ d. slice_get s.acted d ≡ Some false) same m.once,
+              subst (λ d. slice_get t.acted d ≡ Some true) same (elim (g.table c) [
+                | inl e ↦ e ∙ set_here s.acted c true false m.once
+                | inr e ↦ e.1
+              ]),
+              subst (LeavesNothing log end q) same here,
+            )
+            | inr distinct ↦ elim (g.table b) [
+              | inl e ↦ inl (e ∙ set_there s.acted c b true distinct)
+              | inr e ↦ inr (sym (set_there s.acted c b true distinct) ∙ e.0, e.1, e.2)
+            ]
+          ];
+          bytes = record { size = g.bytes.size ∙ one.size; others = λ k out. g.bytes.others k out ∙ one.others k out };
+        }
+
+    start : (s : State) → length s.bytes ≡ log.extent.size → AllLeft end (λ b. IsJunkTo log s.bytes b q) → Gathered s end → Beside s end
+    unfolding With Alike Junk Left
+    start s size junk g = record {
+      event = g.event;
+      size = size;
+      table = g.table;
+      left = λ b e. e;
+      bytes = inr (g.bytes, λ one told (b, i, left, at). junk b left i j one other told asked at there);
+    }
+
+  pub over_junk_is_forced : (log : LogView) (s : State) (q : ℕ) (group : List ℕ) → IsOverJunk log s q group → IsForced log s (steps.Act q)
+  over_junk_is_forced log s q group h =
+      let m : MayAct log s q = h.leads.0 in
+      let beside = start log q h.last m.requester m.op m.told m.submitted s h.size h.old (gather log q h.last m.requester m.op m.told m.submitted (q ∷ group) s h.last h.leads h.new) in
+      record {
+        allowed = m;
+        live = λ l. back log (acts group) (next log s (steps.Act q)) h.last h.leads.1
+            (beside_live log q h.last m.requester m.op m.told m.submitted l.steps s h.last l.last l.leads l.over beside);
       }
-
-      -- n acts
-      joined : (n : ℕ) (t : State) → Gathered n t → slice_get begun.acted n ≡ Some false → MayAct log begun n → ChangesNothing log n → Gathered (suc n) (next log t (steps.Act n))
-      joined n t g was m quiet =
-          let fresh : slice_get t.acted n ≡ Some false = g.rest n (omega arith) ∙ was in
-          let allowed : MayAct log t n = record {
-            requester = m.requester;
-            op = m.op;
-            told = m.told;
-            submitted = m.submitted;
-            since = omega (arith, m.since, g.event);
-            once = fresh;
-            ordered = λ d w r l at posted. elim (g.table d) [
-              | inl e ↦ e ∙ m.ordered d w r l at posted
-              | inr e ↦ e.1
-            ];
-            replied = λ r e. ap (λ k. reply_of log.extent k m.op) g.bytes ∙ m.replied r e;
-          } in
-          record {
-            back = λ l. g.back (before log t (steps.Act n) allowed l);
-            event = g.event;
-            bytes = quiet t.bytes (suits log t n allowed) ∙ g.bytes;
-            len = length-set t.acted n true ∙ g.len;
-            table = λ b. elim (cases_eq n b) [
-              | inl same ↦
-                  inr (
-                    subst (λ d. slice_get begun.acted d ≡ Some false) same was,
-                    subst (λ d. slice_get (slice_set t.acted n true) d ≡ Some true) same (set_here t.acted n true false fresh),
-                    subst (ChangesNothing log) same quiet,
-                  )
-              | inr distinct ↦ elim (g.table b) [
-                | inl e ↦ inl (set_there t.acted n b true distinct ∙ e)
-                | inr e ↦ inr (e.0, set_there t.acted n b true distinct ∙ e.1, e.2)
-              ]
-            ];
-            done = λ b l e.
-                let (distinct, left) = gone_by t.acted n b fresh e in
-                g.done b (omega (arith, l, distinct)) left;
-            rest = λ b l. set_there t.acted n b true (λ e. omega (arith, l, e)) ∙ g.rest b (omega (arith, l));
-          }
-
-      look : (n : ℕ) (t : State) → Gathered n t → (was : Option Bool) → slice_get begun.acted n ≡ was → (u : State) × Gathered (suc n) u
-      look n t g None e = (t, settled n t g (λ f. let none : None ≡ Some false = sym e ∙ sym (g.rest n (omega arith)) ∙ f in cc))
-      look n t g (Some true) e = (t, settled n t g (λ f. absurd (clash refl (same_Some true false (sym e ∙ sym (g.rest n (omega arith)) ∙ f)))))
-      look n t g (Some false) e =
-          let (distinct, left) = gone_by s.acted q n h.may.once e in
-          elim (h.others n distinct left) [
-            | inl junk ↦ (t, settled n t g (λ f. subst (λ m. IsJunkTo log m n q) (sym first) junk))
-            | inr (m, quiet) ↦ (next log t (steps.Act n), joined n t g e m quiet)
-          ]
-
-      gather : (n : ℕ) → (t : State) × Gathered n t
-      gather zero = (begun, record { back = λ l. l; event = refl; bytes = refl; len = refl; table = λ b. inl refl; done = λ b l e. absurd (omega (arith, l)); rest = λ b l. refl })
-      gather (suc n) =
-          let (t, g) = gather n in
-          look n t g (slice_get begun.acted n) refl
-
-      start_with : (n : List ℕ) → n ≡ begun.bytes → With s.bytes n
-      unfolding With Alike Junk
-      start_with n same =
-          let x = log.extent in
-          let is : n ≡ after x.base x.block s.bytes other = same ∙ acted_is x s.bytes (slice_get log.events q) j other asked there in
-          subst (λ k. Alike x m0 other asked s.bytes k) (sym is) (inr (
-            record { size = sizes x.base x.block s.bytes other; others = λ k out. others x.base x.block k s.bytes other out },
-            λ one told misses n same. misses.old n (λ k front back. same k front back ∙ ap (λ ys. slice_index ys k) (sym first)),
-          ))
-
-      after_all : (t : State) → Gathered (length begun.acted) t → Beside s t
-      after_all t g = record {
-        event = g.event;
-        size = h.size;
-        table = λ b. elim (cases_eq q b) [
-          | inl same ↦ inr (
-            subst (λ d. slice_get s.acted d ≡ Some false) same h.may.once,
-            subst (λ d. slice_get t.acted d ≡ Some true) same (elim (g.table q) [
-              | inl e ↦ e ∙ set_here s.acted q true false h.may.once
-              | inr e ↦ e.1
-            ]),
-            inl same,
-          )
-          | inr distinct ↦ elim (g.table b) [
-            | inl e ↦ inl (e ∙ set_there s.acted q b true distinct)
-            | inr e ↦ inr (sym (set_there s.acted q b true distinct) ∙ e.0, e.1, inr e.2)
-          ]
-        ];
-        left = λ b e. elim (cases_lt b (length begun.acted)) [
-          | inl l ↦ g.done b l e
-          | inr past ↦ let none : None ≡ Some false = sym (slice_get_past t.acted b (omega (arith, past, g.len))) ∙ e in cc
-        ];
-        bytes = start_with t.bytes g.bytes;
-      }
-
-      over_live : Live log s → Live log begun
-      over_live l =
-          let (t, g) = gather (length begun.acted) in
-          g.back (beside_live l.steps s t l.last l.leads l.over (after_all t g))
-
-  pub over_junk_is_forced : (log : LogView) (s : State) (q : ℕ) → IsOverJunk log s q → IsForced log s (steps.Act q)
-  over_junk_is_forced log s q h = record {
-    allowed = h.may;
-    live = over_live log q s.bytes h.may.requester h.may.op h.may.told h.may.submitted s h refl;
-  }

@@ -13,10 +13,19 @@ Overlooks x one told other =
     → Agrees x.base x.block n one told
     × ((after x.base x.block n one ≡ after x.base x.block m one) ⊎ ((after x.base x.block m one ≡ m) × (after x.base x.block n one ≡ n)))
 
--- the memory doesn't agree while the bytes at the other's addresses are as in m, nor while they are as the other left them
-pub record Misses (x : Extent) (m : List ℕ) (one : Op) (told : Option Reply) (other : Op) (asked : Option Reply) : Type 0 where
-  pub old : (n : List ℕ) → AreSameAt x.base other m n → Agrees x.base x.block n one told → ⊥
-  pub new : (k n : List ℕ) → length k ≡ x.size → Agrees x.base x.block k other asked → AreSameAt x.base other (after x.base x.block k other) n → Agrees x.base x.block n one told → ⊥
+-- while the bytes at the other's addresses are as in m, the memory doesn't agree
+abbrev pub MissesThere : Extent → List ℕ → Op → Option Reply → Op → Type 0
+MissesThere x m one told other = (n : List ℕ) → AreSameAt x.base other m n → Agrees x.base x.block n one told → ⊥
 
-abbrev pub IsJunk : Extent → List ℕ → Op → Option Reply → Op → Option Reply → Type 0
-IsJunk x m one told other asked = AreApart one other ⊎ Overlooks x one told other ⊎ Misses x m one told other asked
+-- while the bytes at the third's addresses are as the third left them, the memory doesn't agree
+abbrev pub MissesLeft : Extent → Op → Option Reply → Op → Option Reply → Type 0
+MissesLeft x one told third had =
+    (k n : List ℕ) → length k ≡ x.size → Agrees x.base x.block k third had → AreSameAt x.base third (after x.base x.block k third) n → Agrees x.base x.block n one told → ⊥
+
+-- what stands at the other's addresses in m is nothing to the operation
+abbrev pub IsJunk : Extent → List ℕ → Op → Option Reply → Op → Type 0
+IsJunk x m one told other = AreApart one other ⊎ Overlooks x one told other ⊎ MissesThere x m one told other
+
+-- what the third leaves, among the other's addresses, is nothing to the operation
+abbrev pub LeavesJunk : Extent → Op → Option Reply → Op → Op → Option Reply → Type 0
+LeavesJunk x one told other third had = AreApart one other ⊎ Overlooks x one told other ⊎ MissesLeft x one told third had

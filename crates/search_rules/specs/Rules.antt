@@ -1,16 +1,17 @@
 -- When a state is lost, and when a request may act at once.
-use Rattle.std.specs.Prelude.{ℕ, ◌≡◌, ◌<◌, ◌≤◌, ◌⊎◌, List, length, slice_get, Option, Some, None, true, false}
+use Rattle.std.specs.Prelude.{ℕ, ◌≡◌, ◌+◌, ◌<◌, ◌≤◌, ◌⊎◌, List, [], ◌∷◌, length, slice_get, Option, Some, None, true, false}
 use Rattle.tlp_core.specs.declared.operation.Op.{Op}
 use Rattle.seq_memory.specs.declared.Reply.{Reply}
 use Rattle.seq_memory.specs.Limits.{Extent}
-use Rattle.tlp_core.specs.Operation.{is_posted}
+use Rattle.tlp_core.specs.Operation.{is_posted, address_of, count_of}
 use Rattle.byte_effects.specs.Effects.{AreApart, AreSameAt}
 use Rattle.log_runs.specs.declared.Event.{Event}
 use Rattle.log_runs.specs.declared.Event.TheVariants as events
 use Rattle.log_runs.specs.LogView.{LogView}
+use Rattle.log_runs.specs.declared.Step.{Step}
 use Rattle.log_runs.specs.declared.Step.TheVariants as steps
-use Rattle.log_runs.specs.Runs.{State, MayAct, next, reply_of, acted_on}
-use Rattle.search_rules.specs.Junk.{IsJunk}
+use Rattle.log_runs.specs.Runs.{State, MayAct, Leads, reply_of, acted_on}
+use Rattle.search_rules.specs.Junk.{IsJunk, LeavesJunk}
 
 -- the memory answers what was answered, if anything was
 abbrev pub Answers : Extent → List ℕ → Op → Option Reply → Type 0
@@ -93,20 +94,47 @@ pub record IsFirst (log : LogView) (s : State) (q r a : ℕ) : Type 0 where
   pub may : MayAct log s q
   pub others : AllOthers s q a (λ b. LetsFirst log s.bytes b q)
 
--- both what stands at the addresses of request q in m and what q leaves there are nothing to request b
-abbrev pub IsJunkTo : LogView → List ℕ → ℕ → ℕ → Type 0
-IsJunkTo log m b q =
-    (i j : ℕ) (one other : Op) (told asked : Option Reply) → slice_get log.events b ≡ Some (events.Sub i one told) → slice_get log.events q ≡ Some (events.Sub j other asked)
-    → IsJunk log.extent m one told other asked
-
 -- wherever the memory suits the request, it changes nothing
 abbrev pub ChangesNothing : LogView → ℕ → Type 0
 ChangesNothing log b = (m : List ℕ) → Suits log.extent m (slice_get log.events b) → acted_on log.extent m (slice_get log.events b) ≡ m
 
--- request q may act, and what stands at its addresses and what it leaves there is nothing to any other that hasn't acted, but
--- to those that may act right after it and change nothing
-pub record IsOverJunk (log : LogView) (s : State) (q : ℕ) : Type 0 where
+-- the addresses of request g are among those of request q
+abbrev pub IsWithin : LogView → ℕ → ℕ → Type 0
+IsWithin log g q =
+    (i j : ℕ) (third other : Op) (had asked : Option Reply) → slice_get log.events g ≡ Some (events.Sub i third had) → slice_get log.events q ≡ Some (events.Sub j other asked)
+    → (address_of other ≤ address_of third) × (address_of third + count_of third ≤ address_of other + count_of other)
+
+-- what stands at the addresses of request q in m is nothing to request b
+abbrev pub IsJunkTo : LogView → List ℕ → ℕ → ℕ → Type 0
+IsJunkTo log m b q =
+    (i j : ℕ) (one other : Op) (told asked : Option Reply) → slice_get log.events b ≡ Some (events.Sub i one told) → slice_get log.events q ≡ Some (events.Sub j other asked)
+    → IsJunk log.extent m one told other
+
+-- what request g leaves, among the addresses of request q, is nothing to request b
+abbrev pub LeavesJunkTo : LogView → ℕ → ℕ → ℕ → Type 0
+LeavesJunkTo log b q g =
+    (i j l : ℕ) (one other third : Op) (told asked had : Option Reply) → slice_get log.events b ≡ Some (events.Sub i one told) → slice_get log.events q ≡ Some (events.Sub j other asked)
+    → slice_get log.events g ≡ Some (events.Sub l third had)
+    → LeavesJunk log.extent one told other third had
+
+-- the requests act in turn
+abbrev pub acts : List ℕ → List Step
+acts [] = []
+acts (b ∷ bs) = steps.Act b ∷ acts bs
+
+-- P holds of each request that is left
+abbrev pub AllLeft : State → (ℕ → Type 0) → Type 0
+AllLeft s P = (b : ℕ) → slice_get s.acted b ≡ Some false → P b
+
+-- request g changes nothing; or its addresses are among those of request q, and what it leaves there is nothing to any that is left in s
+abbrev pub LeavesNothing : LogView → State → ℕ → ℕ → Type 0
+LeavesNothing log s q g = ChangesNothing log g ⊎ (IsWithin log g q × AllLeft s (λ b. LeavesJunkTo log b q g))
+
+-- request q and then the group may act in turn; to any that is left then it is nothing what stands at the addresses of q, and
+-- what each of them leaves there
+pub record IsOverJunk (log : LogView) (s : State) (q : ℕ) (group : List ℕ) : Type 0 where
+  pub last : State
   pub size : length s.bytes ≡ log.extent.size
-  pub may : MayAct log s q
-  pub others : (b : ℕ) → (q ≡ b → ⊥) → slice_get s.acted b ≡ Some false
-      → IsJunkTo log s.bytes b q ⊎ (MayAct log (next log s (steps.Act q)) b × ChangesNothing log b)
+  pub leads : Leads log s (acts (q ∷ group)) last
+  pub old : AllLeft last (λ b. IsJunkTo log s.bytes b q)
+  pub new : (i g : ℕ) → slice_get (q ∷ group) i ≡ Some g → LeavesNothing log last q g

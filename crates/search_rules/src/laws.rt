@@ -6,7 +6,7 @@ ghost use Rattle.log_runs.specs.declared.Event.TheVariants as events;
 ghost use Rattle.log_runs.specs.declared.Step.TheVariants as steps;
 ghost use Rattle.log_runs.specs.LogView.{LogView};
 ghost use Rattle.log_runs.specs.Runs.{State, MayAct, Dead, IsForced, acted_on};
-ghost use Rattle.search_rules.specs.Rules.{Suits, NeverBrings, Yields, LetsFirst, IsLost, IsLast, IsFirst, IsJunkTo, IsOverJunk};
+ghost use Rattle.search_rules.specs.Rules.{Suits, NeverBrings, Yields, LetsFirst, IsLost, IsLast, IsFirst, IsOverJunk};
 
 use byte_effects::laws::{a_request_sees_its_addresses, apart_requests_commute};
 use seq_memory::laws::only_the_place_changes;
@@ -37,10 +37,10 @@ pub fn the_first_acts_at_once()
     only_the_place_changes();
 }
 
-/// A request that may act acts at once, if nobody else that is left needs what it overwrites or what
-/// it puts there, but such that may act right after it and change nothing.
+/// A request that may act acts at once, if others may act in turn after it, and nobody who is left
+/// then needs what it overwrites, or what any of them puts there.
 pub fn what_is_over_junk_acts_at_once()
-    ensures { (log : LogView) (s : State) (q : ℕ) → IsOverJunk log s q → IsForced log s (steps.Act q) }
+    ensures { (log : LogView) (s : State) (q : ℕ) (group : List ℕ) → IsOverJunk log s q group → IsForced log s (steps.Act q) }
 {
     a_request_sees_its_addresses();
     only_the_place_changes();
