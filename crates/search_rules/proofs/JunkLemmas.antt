@@ -9,8 +9,8 @@ use Rattle.seq_memory.specs.declared.Reply.{Reply}
 use Rattle.seq_memory.specs.Limits.{Extent}
 use Rattle.seq_memory.specs.Step.{after, answer}
 use Rattle.byte_effects.specs.Effects.{Agrees, AreApart, AreSameAt, AreSameBut}
-use Rattle.log_runs.specs.declared.Event.{Event}
-use Rattle.log_runs.specs.declared.Event.TheVariants as events
+use Rattle.log_runs.specs.EventView.{EventView}
+use Rattle.log_runs.specs.EventView as events
 use Rattle.log_runs.specs.declared.Step.{Step}
 use Rattle.log_runs.specs.declared.Step.TheVariants as steps
 use Rattle.log_runs.specs.LogView.{LogView}
@@ -29,7 +29,7 @@ Bytes = (base block k : ℕ) (m n : List ℕ) (op : Op) → length n ≡ length 
 abbrev pub Sizes : Type 0
 Sizes = (base block : ℕ) (m : List ℕ) (op : Op) → length (after base block m op) ≡ length m
 
-acted_is : (x : Extent) (m : List ℕ) (o : Option Event) (i : ℕ) (op : Op) (told : Option Reply) → o ≡ Some (events.Sub i op told) → acted_on x m o ≡ after x.base x.block m op
+acted_is : (x : Extent) (m : List ℕ) (o : Option EventView) (i : ℕ) (op : Op) (told : Option Reply) → o ≡ Some (events.Sub i op told) → acted_on x m o ≡ after x.base x.block m op
 unfolding acted_on bytes_after
 acted_is x m o i op told at = ap (acted_on x m) at
 
@@ -125,7 +125,7 @@ module _ (answered : Answered) (bytes_of : Bytes) (others : Others) (sizes : Siz
       | inr g ↦ absurd (clash refl (same_Some true false (sym e ∙ g.0)))
     ]
 
-    pass : (s t : State) → Beside s t → (o : Option Event) → MayPass s o → MayPass t o
+    pass : (s t : State) → Beside s t → (o : Option EventView) → MayPass s o → MayPass t o
     pass s t h (Some (events.Sub i op told)) a = tt
     pass s t h (Some (events.Due b)) a = ahead s t h b a
     pass s t h (Some events.Free) a = tt

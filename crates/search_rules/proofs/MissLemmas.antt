@@ -6,8 +6,8 @@ use Rattle.seq_memory.specs.declared.Reply.{Reply}
 use Rattle.seq_memory.specs.Limits.{Extent}
 use Rattle.seq_memory.specs.Step.{refusal, after, answer}
 use Rattle.byte_effects.specs.Effects.{Agrees, AreSameAt}
-use Rattle.log_runs.specs.declared.Event.{Event}
-use Rattle.log_runs.specs.declared.Event.TheVariants as events
+use Rattle.log_runs.specs.EventView.{EventView}
+use Rattle.log_runs.specs.EventView as events
 use Rattle.log_runs.specs.LogView.{LogView}
 use Rattle.search_rules.specs.Junk.{Misses, IsJunk}
 use Rattle.search_rules.specs.Rules.{IsJunkTo}

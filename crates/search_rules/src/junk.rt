@@ -3,7 +3,7 @@ ghost use Rattle.std.specs.Prelude.{ℕ, ◌≡◌, ◌⊎◌, List, Option, Som
 ghost use Rattle.tlp_core.specs.declared.operation.Op.{Op};
 ghost use Rattle.seq_memory.specs.declared.Reply.{Reply};
 ghost use Rattle.seq_memory.specs.Step as step;
-ghost use Rattle.log_runs.specs.declared.Event.TheVariants as events;
+ghost use Rattle.log_runs.specs.EventView as events;
 ghost use Rattle.search_rules.specs.Rules.{IsJunkTo};
 ghost use Rattle.search_rules.specs.Junk as specs;
 

@@ -4,7 +4,7 @@ ghost use Rattle.tlp_core.specs.Operation.{is_posted};
 ghost use Rattle.seq_memory.specs.Limits.{IsBlock};
 ghost use Rattle.seq_memory.specs.Step.{after};
 ghost use Rattle.byte_effects.specs.Effects.{Agrees, AreApart, AreSameAt};
-ghost use Rattle.log_runs.specs.declared.Event.TheVariants as events;
+ghost use Rattle.log_runs.specs.EventView as events;
 ghost use Rattle.log_runs.specs.Runs.{bytes_after, acted_on};
 ghost use Rattle.search_rules.specs.Rules.{Answers, Suits, Ends, NeverBrings, Yields, LetsFirst, Follows};
 

@@ -1,6 +1,6 @@
 use Rattle.std.proofs.Common.{◌≡◌, ◌∙◌, Some, ap}
 use Rattle.std.specs.Prelude.{slice_get}
-use Rattle.log_runs.specs.declared.Event.TheVariants as events
+use Rattle.log_runs.specs.EventView as events
 use Rattle.log_runs.specs.LogView.{LogView}
 use Rattle.search_rules.proofs.PairLemmas.{event_at}
 use Rattle.search_rules.proofs.FirstLemmas.{first_by}
