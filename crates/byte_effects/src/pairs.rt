@@ -4,7 +4,7 @@ ghost use Rattle.tlp_core.specs.Operation.{address_of, count_of};
 ghost use Rattle.seq_memory.specs.Limits.{IsBlock};
 ghost use Rattle.seq_memory.specs.Step.{refusal, after, answer};
 ghost use Rattle.byte_effects.specs.Effects as effects;
-ghost use Rattle.byte_effects.specs.Effects.{Agrees, AreSameAt};
+ghost use Rattle.byte_effects.specs.Effects.{Agrees, AreSameAt, told_of};
 
 use crate::laws::{apart_requests_commute, what_is_needed_is_there};
 use crate::puts::{is_read, left};
@@ -42,9 +42,9 @@ fn some_put_other(one: &Op, new: &[u8], other: &Op, need: &[u8]) -> bool
 
 /// After `one`, which is served and was answered `told` or not at all, the memory doesn't answer
 /// `reply` to `other` while the bytes in the range of `one` are as it left them.
-pub fn breaks(block: u16, one: &Op, told: &Option<Reply>, other: &Op, reply: &Reply) -> bool
+pub fn breaks(block: u16, one: &Op, told: Option<&Reply>, other: &Op, reply: &Reply) -> bool
     requires { IsBlock block }
-    ensures { IsTrue result → (base : ℕ) (m n : List ℕ) → refusal base (length m) block one.now ≡ None → Agrees base block m one.now told.now → AreSameAt base one.now (after base block m one.now) n → answer base block n other.now ≡ reply.now → ⊥ }
+    ensures { IsTrue result → (base : ℕ) (m n : List ℕ) → refusal base (length m) block one.now ≡ None → Agrees base block m one.now (told_of told.entry) → AreSameAt base one.now (after base block m one.now) n → answer base block n other.now ≡ reply.now → ⊥ }
 {
     what_is_needed_is_there();
     let Reply::Data(need) = reply else {
@@ -96,9 +96,9 @@ pub fn clashes(one: &Op, told: &Reply, other: &Op, reply: &Reply) -> bool
 
 /// Right after `one`, which was answered `told` or not at all, the memory answers `reply` to `other`
 /// only if it did before.
-pub fn never_brings(block: u16, one: &Op, told: &Option<Reply>, other: &Op, reply: &Reply) -> bool
+pub fn never_brings(block: u16, one: &Op, told: Option<&Reply>, other: &Op, reply: &Reply) -> bool
     requires { IsBlock block }
-    ensures { IsTrue result → (base : ℕ) (m : List ℕ) → Agrees base block m one.now told.now → answer base block (after base block m one.now) other.now ≡ reply.now → answer base block m other.now ≡ reply.now }
+    ensures { IsTrue result → (base : ℕ) (m : List ℕ) → Agrees base block m one.now (told_of told.entry) → answer base block (after base block m one.now) other.now ≡ reply.now → answer base block m other.now ≡ reply.now }
 {
     apart_requests_commute();
     refused_and_read_change_nothing();
@@ -112,8 +112,8 @@ pub fn never_brings(block: u16, one: &Op, told: &Option<Reply>, other: &Op, repl
 }
 
 /// The read wasn't answered, or no bytes give both replies.
-fn read_yields(one: &Op, told: &Option<Reply>, other: &Op, reply: &Reply) -> bool
-    ensures { IsTrue result → (told.now ≡ None) ⊎ ((base block : ℕ) (m : List ℕ) → Agrees base block m one.now told.now → answer base block m other.now ≡ reply.now → ⊥) }
+fn read_yields(one: &Op, told: Option<&Reply>, other: &Op, reply: &Reply) -> bool
+    ensures { IsTrue result → (told_of told.entry ≡ None) ⊎ ((base block : ℕ) (m : List ℕ) → Agrees base block m one.now (told_of told.entry) → answer base block m other.now ≡ reply.now → ⊥) }
 {
     match told {
         None => true,
@@ -123,10 +123,10 @@ fn read_yields(one: &Op, told: &Option<Reply>, other: &Op, reply: &Reply) -> boo
 
 /// [`never_brings`]; and where the memory answers both so, it doesn't answer `reply` to `other` right
 /// after `one`, or their order makes no difference.
-pub fn yields(block: u16, one: &Op, told: &Option<Reply>, other: &Op, reply: &Reply) -> bool
+pub fn yields(block: u16, one: &Op, told: Option<&Reply>, other: &Op, reply: &Reply) -> bool
     requires { IsBlock block }
-    ensures brings { IsTrue result → (base : ℕ) (m : List ℕ) → Agrees base block m one.now told.now → answer base block (after base block m one.now) other.now ≡ reply.now → answer base block m other.now ≡ reply.now }
-    ensures order { IsTrue result → (base : ℕ) (m : List ℕ) → Agrees base block m one.now told.now → answer base block m other.now ≡ reply.now → (answer base block (after base block m one.now) other.now ≡ reply.now → ⊥) ⊎ ((answer base block (after base block m one.now) other.now ≡ reply.now) × Agrees base block (after base block m other.now) one.now told.now × (after base block (after base block m one.now) other.now ≡ after base block (after base block m other.now) one.now)) }
+    ensures brings { IsTrue result → (base : ℕ) (m : List ℕ) → Agrees base block m one.now (told_of told.entry) → answer base block (after base block m one.now) other.now ≡ reply.now → answer base block m other.now ≡ reply.now }
+    ensures order { IsTrue result → (base : ℕ) (m : List ℕ) → Agrees base block m one.now (told_of told.entry) → answer base block m other.now ≡ reply.now → (answer base block (after base block m one.now) other.now ≡ reply.now → ⊥) ⊎ ((answer base block (after base block m one.now) other.now ≡ reply.now) × Agrees base block (after base block m other.now) one.now (told_of told.entry) × (after base block (after base block m one.now) other.now ≡ after base block (after base block m other.now) one.now)) }
 {
     apart_requests_commute();
     only_the_place_changes();

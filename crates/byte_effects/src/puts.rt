@@ -7,7 +7,7 @@ ghost use Rattle.seq_memory.specs.declared.Reply.TheVariants as replies;
 ghost use Rattle.tlp_core.specs.declared.operation.Op.TheVariants as ops;
 ghost use Rattle.seq_memory.specs.Step.{refusal, after, answer};
 ghost use Rattle.byte_effects.specs.Effects as effects;
-ghost use Rattle.byte_effects.specs.Effects.{Agrees};
+ghost use Rattle.byte_effects.specs.Effects.{Agrees, told_of};
 
 use arrayvec::ArrayVec;
 use seq_memory::laws::{only_the_place_changes, refused_and_read_change_nothing};
@@ -80,9 +80,9 @@ fn left_by_reply(block: u16, op: &Op, reply: &Reply) -> ArrayVec<u8, MAX_PAYLOAD
 
 /// The bytes in the request's range right after it acted, where it writes them, if that is known by
 /// what it was answered; else nothing.
-pub fn left(block: u16, op: &Op, told: &Option<Reply>) -> ArrayVec<u8, MAX_PAYLOAD>
+pub fn left(block: u16, op: &Op, told: Option<&Reply>) -> ArrayVec<u8, MAX_PAYLOAD>
     requires { IsBlock block }
-    ensures { (base at : ℕ) (m : List ℕ) → at < length result.items → effects.is_put op.now at ≡ true → refusal base (length m) block op.now ≡ None → Agrees base block m op.now told.now → slice_index (after base block m op.now) (address_of op.now - base + at) ≡ slice_index result.items at }
+    ensures { (base at : ℕ) (m : List ℕ) → at < length result.items → effects.is_put op.now at ≡ true → refusal base (length m) block op.now ≡ None → Agrees base block m op.now (told_of told.entry) → slice_index (after base block m op.now) (address_of op.now - base + at) ≡ slice_index result.items at }
 {
     match told {
         Some(reply) => left_by_reply(block, op, reply),
@@ -121,9 +121,9 @@ fn is_kept_by(block: u16, op: &Op, reply: &Reply) -> bool
 
 /// Wherever the request may act, it changes nothing: a read, or an AtomicOp that leaves what it was
 /// answered.
-pub fn is_quiet(block: u16, op: &Op, told: &Option<Reply>) -> bool
+pub fn is_quiet(block: u16, op: &Op, told: Option<&Reply>) -> bool
     requires { IsBlock block }
-    ensures { IsTrue result → (base : ℕ) (m : List ℕ) → Agrees base block m op.now told.now → after base block m op.now ≡ m }
+    ensures { IsTrue result → (base : ℕ) (m : List ℕ) → Agrees base block m op.now (told_of told.entry) → after base block m op.now ≡ m }
 {
     refused_and_read_change_nothing();
     if is_read(op) {

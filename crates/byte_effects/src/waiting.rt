@@ -3,7 +3,7 @@ ghost use Rattle.std.specs.Prelude.{◌≡◌, ◌+◌, ◌-◌, ◌<◌, ◌≤
 ghost use Rattle.tlp_core.specs.Operation.{address_of, count_of};
 ghost use Rattle.seq_memory.specs.Step.{answer};
 ghost use Rattle.byte_effects.specs.Effects as effects;
-ghost use Rattle.byte_effects.specs.Effects.{Agrees, AreSameAt};
+ghost use Rattle.byte_effects.specs.Effects.{Agrees, AreSameAt, told_of};
 
 use crate::laws::what_is_needed_is_there;
 use crate::ranges::{index_of, is_needed, place_in};
@@ -53,8 +53,8 @@ fn waits_for(base: u64, bytes: &[u8], one: &Op, reply: &Reply, other: &Op) -> bo
 
 /// The memory doesn't answer the first request what it was answered while the bytes in the second's
 /// range are these.
-pub fn waits(base: u64, bytes: &[u8], one: &Op, told: &Option<Reply>, other: &Op) -> bool
-    ensures { IsTrue result → (block : ℕ) (n : List ℕ) → AreSameAt base other.now bytes.now n → Agrees base block n one.now told.now → ⊥ }
+pub fn waits(base: u64, bytes: &[u8], one: &Op, told: Option<&Reply>, other: &Op) -> bool
+    ensures { IsTrue result → (block : ℕ) (n : List ℕ) → AreSameAt base other.now bytes.now n → Agrees base block n one.now (told_of told.entry) → ⊥ }
 {
     match told {
         Some(reply) => waits_for(base, bytes, one, reply, other),

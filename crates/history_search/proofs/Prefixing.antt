@@ -6,7 +6,7 @@ use Rattle.std.proofs.lemmas.Option.{slice_get_within}
 use Rattle.seq_memory.specs.Limits.{Extent}
 use Rattle.history_check.specs.declared.Record.{Record}
 use Rattle.history_check.specs.TraceView.{TraceView, observed}
-use Rattle.log_runs.specs.declared.Event.{Event}
+use Rattle.log_runs.specs.EventView.{EventView}
 use Rattle.log_runs.specs.LogView.{LogView}
 use Rattle.log_runs.specs.Tasks.{AreEvents, IsMisformed}
 use Rattle.log_runs.specs.Runs.{Live, Dead, start}
@@ -14,7 +14,7 @@ use Rattle.log_runs.specs.Explainable.{IsExplainable, prefix}
 use Rattle.log_events.specs.Formed.{MisformedAt}
 use Rattle.history_search.specs.Prefixes.{IsUnexplained}
 
-abbrev pub of : Extent → List Event → LogView
+abbrev pub of : Extent → List EventView → LogView
 of x es = record { extent = x; events = es }
 
 -- the copy of a prefix and the element after it
@@ -25,7 +25,7 @@ copied_more xs ys zs i x y l is old same grown =
 
 -- some run leads through the events of an explainable log
 abbrev pub HaveRuns : Type 0
-HaveRuns = (t : TraceView) (es : List Event) → AreEvents t.records es → IsExplainable t → Live (record { extent = observed t; events = es }) (start (record { extent = observed t; events = es }))
+HaveRuns = (t : TraceView) (es : List EventView) → AreEvents t.records es → IsExplainable t → Live (record { extent = observed t; events = es }) (start (record { extent = observed t; events = es }))
 
 pub none_from_dead : (t : TraceView) (count : ℕ) (log : LogView) → HaveRuns → AreEvents (take count t.records) log.events
     → log.extent ≡ observed t → Dead log (start log) → IsExplainable (prefix count t) → ⊥

@@ -6,8 +6,8 @@ use Rattle.std.proofs.lemmas.Option.{slice_get_within, same_Some}
 use Rattle.std.proofs.lemmas.List.{length-replicate}
 use Rattle.tlp_core.specs.declared.operation.Op.{Op}
 use Rattle.seq_memory.specs.declared.Reply.{Reply}
-use Rattle.log_runs.specs.declared.Event.{Event}
-use Rattle.log_runs.specs.declared.Event.TheVariants as events
+use Rattle.log_runs.specs.EventView.{EventView}
+use Rattle.log_runs.specs.EventView as events
 use Rattle.log_runs.specs.declared.Step.{Step}
 use Rattle.log_runs.specs.declared.Step.TheVariants as steps
 use Rattle.log_runs.specs.LogView.{LogView}
@@ -60,22 +60,22 @@ find (x ∷ xs) b = elim (cases_eq x b) [
     here_or_later other never (suc j) e = never j e
 
 -- a submission that is kept
-record KeptSub (i : ℕ) (op : Op) (told : Option Reply) (f : Event) : Type 0 where
+record KeptSub (i : ℕ) (op : Op) (told : Option Reply) (f : EventView) : Type 0 where
   heard : Option Reply
   is : f ≡ events.Sub i op heard
   less : (r : Reply) → heard ≡ Some r → told ≡ Some r
 
-kept_sub : (names : List ℕ) (i : ℕ) (op : Op) (told : Option Reply) (f : Event) → IsKept names (events.Sub i op told) f → KeptSub i op told f
+kept_sub : (names : List ℕ) (i : ℕ) (op : Op) (told : Option Reply) (f : EventView) → IsKept names (events.Sub i op told) f → KeptSub i op told f
 kept_sub names i op told (events.Sub j w heard) k = record { heard = heard; is = rw (k.0, k.1) refl; less = k.2 }
 kept_sub names i op told (events.Due c) k = absurd k
 kept_sub names i op told events.Free k = absurd k
 
 -- a submission of the part is one of the log
-record WasSub (i : ℕ) (op : Op) (e : Event) : Type 0 where
+record WasSub (i : ℕ) (op : Op) (e : EventView) : Type 0 where
   told : Option Reply
   is : e ≡ events.Sub i op told
 
-was_sub : (names : List ℕ) (i : ℕ) (op : Op) (heard : Option Reply) (e : Event) → IsKept names e (events.Sub i op heard) → WasSub i op e
+was_sub : (names : List ℕ) (i : ℕ) (op : Op) (heard : Option Reply) (e : EventView) → IsKept names e (events.Sub i op heard) → WasSub i op e
 was_sub names i op heard (events.Sub j w told) k = record { told = told; is = rw (k.0, k.1) refl }
 was_sub names i op heard (events.Due c) k = absurd k
 was_sub names i op heard events.Free k = absurd k
@@ -92,7 +92,7 @@ module _ (laws : Laws) (log part : LogView) (low high : ℕ) (names : List ℕ) 
   name_at : (j : ℕ) → j < length part.events → (a : ℕ) × (slice_get names j ≡ Some a)
   name_at j l = some_at names j (subst (λ n. j < n) (sym p.len) l)
 
-  event_at : (j a : ℕ) → slice_get names j ≡ Some a → (f : Event) × (slice_get part.events j ≡ Some f)
+  event_at : (j a : ℕ) → slice_get names j ≡ Some a → (f : EventView) × (slice_get part.events j ≡ Some f)
   event_at j a n = some_at part.events j (subst (λ k. j < k) p.len (slice_get_within names j a n))
 
   begins : Beside (start log) (start part)
@@ -125,7 +125,7 @@ module _ (laws : Laws) (log part : LogView) (low high : ℕ) (names : List ℕ) 
   -- ---- a record is passed
 
   -- the part passes its event, too
-  passes : (s t : State) (e f : Event) → Beside s t → IsKept names e f → MayPass s (Some e) → MayPass t (Some f)
+  passes : (s t : State) (e f : EventView) → Beside s t → IsKept names e f → MayPass s (Some e) → MayPass t (Some f)
   passes s t (events.Sub i op told) (events.Sub j w heard) h k m = tt
   passes s t (events.Sub i op told) (events.Due c) h k m = absurd k
   passes s t (events.Sub i op told) events.Free h k m = absurd k
@@ -182,7 +182,7 @@ module _ (laws : Laws) (log part : LogView) (low high : ℕ) (names : List ℕ) 
           (agree_outside log.extent part.extent low high p.of_log p.of_part laws log.extent.block s.bytes t.bytes m.op o h.bytes);
     }
 
-    module _ (j : ℕ) (n : slice_get names j ≡ Some b) (f : Event) (at : slice_get part.events j ≡ Some f) (k : KeptSub m.requester m.op m.told f) where
+    module _ (j : ℕ) (n : slice_get names j ≡ Some b) (f : EventView) (at : slice_get part.events j ≡ Some f) (k : KeptSub m.requester m.op m.told f) where
       submitted : slice_get part.events j ≡ Some (events.Sub m.requester m.op k.heard)
       submitted = at ∙ ap Some k.is
 

@@ -6,8 +6,8 @@ use Rattle.std.proofs.lemmas.Bool.{cases_eq}
 use Rattle.std.proofs.lemmas.Option.{same_Some, slice_get_within}
 use Rattle.tlp_core.specs.declared.operation.Op.{Op}
 use Rattle.seq_memory.specs.declared.Reply.{Reply}
-use Rattle.log_runs.specs.declared.Event.{Event}
-use Rattle.log_runs.specs.declared.Event.TheVariants as events
+use Rattle.log_runs.specs.EventView.{EventView}
+use Rattle.log_runs.specs.EventView as events
 use Rattle.log_runs.specs.LogView.{LogView}
 use Rattle.log_cells.specs.declared.places.Place.{Place}
 use Rattle.log_cells.specs.Places.{IsPlaceOf, ArePlaces, IsApart, AreNames}
@@ -43,7 +43,7 @@ some_at (x ∷ xs) (suc i) l = some_at xs i (omega arith)
 pub no_places : ArePlaces [] []
 no_places = record { len = refl; at = λ a e p at there. cc }
 
-pub places_more : (es : List Event) (ps : List Place) (i : ℕ) (e : Event) (p : Place) → i < length es → e ≡ get_or es i e → ArePlaces (take i es) ps → IsPlaceOf e p → ArePlaces (take (i + 1) es) (ps ++ p ∷ [])
+pub places_more : (es : List EventView) (ps : List Place) (i : ℕ) (e : EventView) (p : Place) → i < length es → e ≡ get_or es i e → ArePlaces (take i es) ps → IsPlaceOf e p → ArePlaces (take (i + 1) es) (ps ++ p ∷ [])
 places_more es ps i e p l is old new =
     let grown : take (i + 1) es ≡ take i es ++ e ∷ [] = ap (λ k. take k es) (add-one i) ∙ take-suc es i e l ∙ ap (λ y. take i es ++ y ∷ []) (sym is) in
     subst (λ z. ArePlaces z (ps ++ p ∷ [])) (sym grown) (record {
@@ -51,7 +51,7 @@ places_more es ps i e p l is old new =
       at = at;
     })
   where
-    at : (a : ℕ) (f : Event) (q : Place) → slice_get (take i es ++ e ∷ []) a ≡ Some f → slice_get (ps ++ p ∷ []) a ≡ Some q → IsPlaceOf f q
+    at : (a : ℕ) (f : EventView) (q : Place) → slice_get (take i es ++ e ∷ []) a ≡ Some f → slice_get (ps ++ p ∷ []) a ≡ Some q → IsPlaceOf f q
     at a f q x y = elim (more (take i es) e f a x) [
       | inl there ↦ elim (more ps p q a y) [
         | inl here ↦ old.at a f q there.0 here.0
@@ -115,10 +115,10 @@ names_more names ps low high n old = record {
 
 -- ---- events
 
-pub no_events : (es : List Event) (names : List ℕ) (low high : ℕ) → AreKept es names low high [] 0
+pub no_events : (es : List EventView) (names : List ℕ) (low high : ℕ) → AreKept es names low high [] 0
 no_events es names low high = record { len = refl; at = λ j f at. cc }
 
-inside_kept : (names : List ℕ) (low high : ℕ) (e f : Event) → IsKept names e f → NamesInside low high e → NamesInside low high f
+inside_kept : (names : List ℕ) (low high : ℕ) (e f : EventView) → IsKept names e f → NamesInside low high e → NamesInside low high f
 inside_kept names low high (events.Sub i op told) (events.Sub j w heard) k h = subst (IsInside low high) k.1 h
 inside_kept names low high (events.Sub i op told) (events.Due c) k h = absurd k
 inside_kept names low high (events.Sub i op told) events.Free k h = absurd k
@@ -129,7 +129,7 @@ inside_kept names low high events.Free (events.Sub j w heard) k h = absurd k
 inside_kept names low high events.Free (events.Due c) k h = absurd k
 inside_kept names low high events.Free events.Free k h = tt
 
-pub kept_more : (es : List Event) (names : List ℕ) (low high : ℕ) (fs : List Event) (n a : ℕ) (e f : Event) → slice_get names n ≡ Some a → slice_get es a ≡ Some e → IsKept names e f → NamesInside low high e
+pub kept_more : (es : List EventView) (names : List ℕ) (low high : ℕ) (fs : List EventView) (n a : ℕ) (e f : EventView) → slice_get names n ≡ Some a → slice_get es a ≡ Some e → IsKept names e f → NamesInside low high e
     → AreKept es names low high fs n → AreKept es names low high (fs ++ f ∷ []) (n + 1)
 kept_more es names low high fs n a e f name at k h old = record {
   len = length-append fs (f ∷ []) ∙ ap (λ m. m + 1) old.len;
@@ -143,7 +143,7 @@ kept_more es names low high fs n a e f name at k h old = record {
 
 -- ---- a part
 
-inside_sub : (low high i : ℕ) (op : Op) (told : Option Reply) (f : Event) → f ≡ events.Sub i op told → NamesInside low high f → IsInside low high op
+inside_sub : (low high i : ℕ) (op : Op) (told : Option Reply) (f : EventView) → f ≡ events.Sub i op told → NamesInside low high f → IsInside low high op
 inside_sub low high i op told f is h = subst (NamesInside low high) is h
 
 outside : (low high i : ℕ) (op : Op) (told : Option Reply) (p : Place) → IsPlaceOf (events.Sub i op told) p → IsApart low high p → IsOutside low high op

@@ -11,7 +11,7 @@ use Rattle.seq_memory.specs.declared.Reply.{Reply}
 use Rattle.history_check.specs.declared.Record.{Record}
 use Rattle.history_check.specs.declared.Record.TheVariants as records
 use Rattle.history_check.specs.Trace.{submissions, IsNumbered, answers_to}
-use Rattle.log_runs.specs.declared.Event.{Event}
+use Rattle.log_runs.specs.EventView.{EventView}
 use Rattle.log_runs.specs.Tasks.{IsMisformed, Says}
 use Rattle.log_events.specs.Counts.{AreCounts, IsCounted}
 
@@ -117,9 +117,9 @@ any_before t (x ∷ xs) (suc end) (suc p) r at l e = or_right (t x) (list_any t 
 
 -- ---- events, one after another
 
-pub record EventsTo (rs : List Record) (es : List Event) (n : ℕ) : Type 0 where
+pub record EventsTo (rs : List Record) (es : List EventView) (n : ℕ) : Type 0 where
   pub len : length es ≡ n
-  pub at : (a : ℕ) (r : Record) (e : Event) → slice_get rs a ≡ Some r → slice_get es a ≡ Some e → Says rs r e
+  pub at : (a : ℕ) (r : Record) (e : EventView) → slice_get rs a ≡ Some r → slice_get es a ≡ Some e → Says rs r e
 
 get_front : {X : Type 0} → (xs : List X) (y : X) (p : ℕ) → p < length xs → slice_get (xs ++ y ∷ []) p ≡ slice_get xs p
 get_front [] y p l = absurd (omega arith)
@@ -130,16 +130,16 @@ get_end : {X : Type 0} → (xs : List X) (y : X) → slice_get (xs ++ y ∷ []) 
 get_end [] y = refl
 get_end (x ∷ xs) y = get_end xs y
 
-pub events_more : (rs : List Record) (es fs : List Event) (e : Event) (n : ℕ) → fs ≡ es ++ e ∷ [] → EventsTo rs es n → ((r : Record) → slice_get rs n ≡ Some r → Says rs r e) → EventsTo rs fs (n + 1)
+pub events_more : (rs : List Record) (es fs : List EventView) (e : EventView) (n : ℕ) → fs ≡ es ++ e ∷ [] → EventsTo rs es n → ((r : Record) → slice_get rs n ≡ Some r → Says rs r e) → EventsTo rs fs (n + 1)
 events_more rs es fs e n is before last = record {
   len = ap length is ∙ length-append es (e ∷ []) ∙ ap (λ k. k + 1) before.len;
   at = λ a r x at there. elim (cases_lt a n) [
-    | inl low ↦ before.at a r x at (sym (get_front es e a (omega (arith, before.len))) ∙ ap (λ (ys : List Event). slice_get ys a) (sym is) ∙ there)
+    | inl low ↦ before.at a r x at (sym (get_front es e a (omega (arith, before.len))) ∙ ap (λ (ys : List EventView). slice_get ys a) (sym is) ∙ there)
     | inr high ↦
         let inside : a < length fs = slice_get_within fs a x there in
         let count : length fs ≡ n + 1 = ap length is ∙ length-append es (e ∷ []) ∙ ap (λ k. k + 1) before.len in
         let same : n ≡ a = omega arith in
-        let eq : e ≡ x = same_Some e x (sym (get_end es e) ∙ ap (slice_get (es ++ e ∷ [])) (before.len ∙ same) ∙ ap (λ (ys : List Event). slice_get ys a) (sym is) ∙ there) in
+        let eq : e ≡ x = same_Some e x (sym (get_end es e) ∙ ap (slice_get (es ++ e ∷ [])) (before.len ∙ same) ∙ ap (λ (ys : List EventView). slice_get ys a) (sym is) ∙ there) in
         subst (Says rs r) eq (last r (ap (slice_get rs) same ∙ at))
   ];
 }

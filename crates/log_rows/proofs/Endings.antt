@@ -7,8 +7,8 @@ use Rattle.std.proofs.lemmas.Option.{slice_get_within}
 use Rattle.seq_memory.specs.declared.Reply.{Reply}
 use Rattle.seq_memory.specs.declared.Reply.TheVariants as replies
 use Rattle.history_check.specs.Flaws.{same_reply}
-use Rattle.log_runs.specs.declared.Event.{Event}
-use Rattle.log_runs.specs.declared.Event.TheVariants as events
+use Rattle.log_runs.specs.EventView.{EventView}
+use Rattle.log_runs.specs.EventView as events
 use Rattle.log_runs.specs.declared.Step.{Step}
 use Rattle.log_runs.specs.declared.Step.TheVariants as steps
 use Rattle.log_runs.specs.LogView.{LogView}
@@ -18,7 +18,7 @@ abbrev is_set : Option Bool → Bool
 is_set (Some x) = x
 is_set None = false
 
-abbrev may_pass : State → Option Event → Bool
+abbrev may_pass : State → Option EventView → Bool
 may_pass s (Some (events.Sub i op told)) = true
 may_pass s (Some (events.Due b)) = is_set (slice_get s.acted b)
 may_pass s (Some events.Free) = true
@@ -29,7 +29,7 @@ is_told None made = true
 is_told (Some reply) made = same_reply reply made
 
 -- the order of posted writes is left out
-abbrev may_act : LogView → State → ℕ → Option Event → Bool
+abbrev may_act : LogView → State → ℕ → Option EventView → Bool
 may_act log s b (Some (events.Sub i op told)) = nat_lt b s.event && (not (is_set (slice_get s.acted b)) && is_told told (reply_of log.extent s.bytes op))
 may_act log s b (Some (events.Due c)) = false
 may_act log s b (Some events.Free) = false
@@ -61,7 +61,7 @@ then : (a b : Bool) → (not a || b) ≡ true → a ≡ true → b ≡ true
 then true b h e = h
 then false b h e = cc
 
-passes : (s : State) (o : Option Event) → MayPass s o → may_pass s o ≡ true
+passes : (s : State) (o : Option EventView) → MayPass s o → may_pass s o ≡ true
 passes s (Some (events.Sub i op told)) a = refl
 passes s (Some (events.Due b)) a = ap is_set a
 passes s (Some events.Free) a = refl

@@ -1,5 +1,5 @@
 -- An explainable log without one of its answers is explainable.
-use Rattle.std.proofs.Common.{◌≡◌, ◌∙◌, ℕ, zero, suc, ◌<◌, ◌≤◌, Bool, true, false, List, [], ◌∷◌, ◌++◌, Some, None, take, drop, length, map, filter_map, remove, Option, refl, sym, ap, subst, arith}
+use Rattle.std.proofs.Common.{◌≡◌, ◌∙◌, ℕ, zero, suc, ◌<◌, Bool, true, false, List, [], ◌∷◌, Some, None, take, length, map, remove, Option, refl, sym, ap, subst, arith}
 use Rattle.std.specs.Prelude.{slice_get, ◌||◌}
 use Rattle.std.specs.List.{list_any, cons_option}
 use Rattle.std.proofs.lemmas.Option.{same_Some}
@@ -11,7 +11,7 @@ use Rattle.history_check.specs.declared.Record.TheVariants as records
 use Rattle.history_check.specs.TraceView.{TraceView}
 use Rattle.history_check.specs.Claim.{claim_of}
 use Rattle.history_check.specs.Trace.{submission, submissions, answers_to, Explains, IsNumbered, IsLegal, IsExplained}
-use Rattle.log_runs.specs.Explainable.{without_n, SeenAlike, IsClocked, IsExplainable, without}
+use Rattle.log_runs.specs.Explainable.{without_n, IsClocked, IsExplainable, without}
 use Rattle.log_runs.proofs.Lists.{from_take, to_take}
 use Rattle.log_runs.proofs.Alike.{ans_alike}
 

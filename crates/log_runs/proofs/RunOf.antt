@@ -15,8 +15,8 @@ use Rattle.history_check.specs.TraceView.{TraceView, observed}
 use Rattle.history_check.specs.Claim.{claim_of}
 use Rattle.history_check.specs.Flaws.{moment}
 use Rattle.history_check.specs.Trace.{stands, Explains}
-use Rattle.log_runs.specs.declared.Event.{Event}
-use Rattle.log_runs.specs.declared.Event.TheVariants as events
+use Rattle.log_runs.specs.EventView.{EventView}
+use Rattle.log_runs.specs.EventView as events
 use Rattle.log_runs.specs.declared.Step.{Step}
 use Rattle.log_runs.specs.declared.Step.TheVariants as steps
 use Rattle.log_runs.specs.LogView.{LogView}
@@ -36,12 +36,12 @@ pub before : (log : LogView) (s : State) (x : Step) → Allowed log s x → Live
 before log s x a l = record { steps = x ∷ l.steps; last = l.last; leads = (a, l.leads); over = l.over }
 
 -- the events of a submission and of an answer
-record SubEvent (rs : List Record) (es : List Event) (b i k : ℕ) (op : Op) : Type 0 where
+record SubEvent (rs : List Record) (es : List EventView) (b i k : ℕ) (op : Op) : Type 0 where
   told : Option Reply
   at : slice_get es b ≡ Some (events.Sub i op told)
   because : (r : Reply) → told ≡ Some r → (a : ℕ) × (m : ℕ) × (slice_get rs a ≡ Some (records.Ans i k r m))
 
-sub_event : (rs : List Record) (es : List Event) (b i k n : ℕ) (op : Op) (e : Event) → slice_get es b ≡ Some e → Says rs (records.Sub i k op n) e → SubEvent rs es b i k op
+sub_event : (rs : List Record) (es : List EventView) (b i k n : ℕ) (op : Op) (e : EventView) → slice_get es b ≡ Some e → Says rs (records.Sub i k op n) e → SubEvent rs es b i k op
 sub_event rs es b i k n op (events.Sub j w told) at says =
     record { told = told; at = rw (says.0, says.1) at; because = says.2 }
 sub_event rs es b i k n op (events.Due c) at says = absurd says
@@ -52,15 +52,15 @@ record Named (rs : List Record) (b i : ℕ) (op : Op) : Type 0 where
   n : ℕ
   at : slice_get rs b ≡ Some (records.Sub i number op n)
 
-named : (rs : List Record) (es : List Event) (b i : ℕ) (op : Op) (told : Option Reply) (r : Record) → slice_get rs b ≡ Some r → Says rs r (events.Sub i op told) → Named rs b i op
+named : (rs : List Record) (es : List EventView) (b i : ℕ) (op : Op) (told : Option Reply) (r : Record) → slice_get rs b ≡ Some r → Says rs r (events.Sub i op told) → Named rs b i op
 named rs es b i op told (records.Sub j k w n) at says = record { number = k; n = n; at = rw (← says.0, ← says.1) at }
 named rs es b i op told (records.Ans j k reply n) at says = absurd says
 
-module _ (u : TraceView) (h : List Entry) (x : Explains (claim_of u h)) (c : IsClocked (claim_of u h)) (es : List Event) (ev : AreEvents u.records es) where
+module _ (u : TraceView) (h : List Entry) (x : Explains (claim_of u h)) (c : IsClocked (claim_of u h)) (es : List EventView) (ev : AreEvents u.records es) where
   abbrev log : LogView
   log = record { extent = observed u; events = es }
 
-  inside : (b : ℕ) (r : Record) → slice_get u.records b ≡ Some r → (e : Event) × (slice_get es b ≡ Some e)
+  inside : (b : ℕ) (r : Record) → slice_get u.records b ≡ Some r → (e : EventView) × (slice_get es b ≡ Some e)
   inside b r at = some_at es b (subst (λ l. b < l) (sym ev.len) (slice_get_within u.records b r at))
 
   record_of : (b : ℕ) → b < length es → (r : Record) × (slice_get u.records b ≡ Some r)
@@ -88,7 +88,7 @@ module _ (u : TraceView) (h : List Entry) (x : Explains (claim_of u h)) (c : IsC
 
   -- ---- a record is passed
 
-  passes : (s : State) (p : ℕ) (r : Record) (e : Event) → Matches u.records log s (take p h) → slice_get u.records s.event ≡ Some r → slice_get es s.event ≡ Some e → Says u.records r e → moment r ≤ p → MayPass s (Some e)
+  passes : (s : State) (p : ℕ) (r : Record) (e : EventView) → Matches u.records log s (take p h) → slice_get u.records s.event ≡ Some r → slice_get es s.event ≡ Some e → Says u.records r e → moment r ≤ p → MayPass s (Some e)
   passes s p (records.Sub i k op n) (events.Sub j w told) m at there says due = tt
   passes s p (records.Sub i k op n) (events.Due b) m at there says due = absurd says
   passes s p (records.Sub i k op n) events.Free m at there says due = absurd says
@@ -185,7 +185,7 @@ module _ (u : TraceView) (h : List Entry) (x : Explains (claim_of u h)) (c : IsC
 
 -- ---- n's of some choice
 
-says_alike : (rs us : List Record) → map without_n rs ≡ map without_n us → (es : List Event) (r s : Record) (e : Event) → without_n r ≡ without_n s → Says rs r e → Says us s e
+says_alike : (rs us : List Record) → map without_n rs ≡ map without_n us → (es : List EventView) (r s : Record) (e : EventView) → without_n r ≡ without_n s → Says rs r e → Says us s e
 says_alike rs us same es (records.Sub i k op n) (records.Sub j l w m) (events.Sub v y told) eq says =
     let one : i ≡ j = cc in
     let two : k ≡ l = cc in
@@ -210,7 +210,7 @@ says_alike rs us same es (records.Ans i k r n) (records.Ans j l w m) events.Free
 says_alike rs us same es (records.Sub i k op n) (records.Ans j l w m) e eq says = cc
 says_alike rs us same es (records.Ans i k r n) (records.Sub j l w m) e eq says = cc
 
-pub events_alike : (rs us : List Record) → map without_n rs ≡ map without_n us → (es : List Event) → AreEvents rs es → AreEvents us es
+pub events_alike : (rs us : List Record) → map without_n rs ≡ map without_n us → (es : List EventView) → AreEvents rs es → AreEvents us es
 events_alike rs us same es ev = record {
   len = ev.len ∙ same_length rs us same;
   at = λ a s e at there.
@@ -218,7 +218,7 @@ events_alike rs us same es ev = record {
       says_alike rs us same es r s e (sym eq) (ev.at a r e back there);
 }
 
-pub has_a_run : (t : TraceView) (es : List Event) → AreEvents t.records es → IsExplainable t → Live (record { extent = observed t; events = es }) (start (record { extent = observed t; events = es }))
+pub has_a_run : (t : TraceView) (es : List EventView) → AreEvents t.records es → IsExplainable t → Live (record { extent = observed t; events = es }) (start (record { extent = observed t; events = es }))
 has_a_run t es ev (u, h, alike, explains, clocked) =
     let same : observed u ≡ observed t = rw (alike.base, alike.size, alike.block) refl in
     subst (λ (y : Extent). Live (record { extent = y; events = es }) (start (record { extent = y; events = es }))) same

@@ -1,3 +1,4 @@
+pub mod EventView
 pub mod Explainable
 pub mod LogView
 pub mod Runs

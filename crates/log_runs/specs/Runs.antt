@@ -6,8 +6,8 @@ use Rattle.tlp_core.specs.Operation.{is_posted}
 use Rattle.seq_memory.specs.declared.Reply.{Reply}
 use Rattle.seq_memory.specs.Limits.{Extent}
 use Rattle.seq_memory.specs.Step.{after, answer}
-use Rattle.log_runs.specs.declared.Event.{Event}
-use Rattle.log_runs.specs.declared.Event.TheVariants as events
+use Rattle.log_runs.specs.EventView.{EventView}
+use Rattle.log_runs.specs.EventView as events
 use Rattle.log_runs.specs.declared.Step.{Step}
 use Rattle.log_runs.specs.declared.Step.TheVariants as steps
 use Rattle.log_runs.specs.LogView.{LogView}
@@ -20,7 +20,7 @@ unfoldable pub bytes_after : Extent → List ℕ → Op → List ℕ
 bytes_after x m op = after x.base x.block m op
 
 -- the bytes after the request at the event acted
-unfoldable pub acted_on : Extent → List ℕ → Option Event → List ℕ
+unfoldable pub acted_on : Extent → List ℕ → Option EventView → List ℕ
 acted_on x m (Some (events.Sub i op told)) = bytes_after x m op
 acted_on x m (Some (events.Due b)) = m
 acted_on x m (Some events.Free) = m
@@ -39,7 +39,7 @@ abbrev pub has_acted : State → ℕ → Type 0
 has_acted s b = slice_get s.acted b ≡ Some true
 
 -- an answer is passed only after its request has acted
-abbrev pub MayPass : State → Option Event → Type 0
+abbrev pub MayPass : State → Option EventView → Type 0
 MayPass s (Some (events.Sub i op told)) = Unit {0}
 MayPass s (Some (events.Due b)) = has_acted s b
 MayPass s (Some events.Free) = Unit {0}

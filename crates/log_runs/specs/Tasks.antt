@@ -7,12 +7,12 @@ use Rattle.seq_memory.specs.declared.Reply.{Reply}
 use Rattle.history_check.specs.declared.Record.{Record}
 use Rattle.history_check.specs.declared.Record.TheVariants as records
 use Rattle.history_check.specs.Trace.{submissions, answers_to}
-use Rattle.log_runs.specs.declared.Event.{Event}
-use Rattle.log_runs.specs.declared.Event.TheVariants as events
+use Rattle.log_runs.specs.EventView.{EventView}
+use Rattle.log_runs.specs.EventView as events
 
 -- the event at a place says no more than the record there: a submission with a reply that the log has for it, or what an
 -- answer answers, or nothing of an answer
-abbrev pub Says : List Record → Record → Event → Type 0
+abbrev pub Says : List Record → Record → EventView → Type 0
 Says rs (records.Sub i k op n) (events.Sub j w told) =
     (i ≡ j) × (op ≡ w) × ((r : Reply) → told ≡ Some r → (a : ℕ) × (m : ℕ) × (slice_get rs a ≡ Some (records.Ans i k r m)))
 Says rs (records.Ans i k r n) (events.Due b) = (op : Op) × (m : ℕ) × (slice_get rs b ≡ Some (records.Sub i k op m))
@@ -21,9 +21,9 @@ Says rs (records.Ans i k r n) (events.Sub j w told) = ⊥
 Says rs (records.Sub i k op n) events.Free = ⊥
 Says rs (records.Ans i k r n) events.Free = Unit {0}
 
-pub record AreEvents (rs : List Record) (es : List Event) : Type 0 where
+pub record AreEvents (rs : List Record) (es : List EventView) : Type 0 where
   pub len : length es ≡ length rs
-  pub at : (a : ℕ) (r : Record) (e : Event) → slice_get rs a ≡ Some r → slice_get es a ≡ Some e → Says rs r e
+  pub at : (a : ℕ) (r : Record) (e : EventView) → slice_get rs a ≡ Some r → slice_get es a ≡ Some e → Says rs r e
 
 -- what is wrong with the form of the record after those
 abbrev pub IsMisformed : List Record → Record → Type 0

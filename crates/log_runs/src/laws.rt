@@ -6,7 +6,7 @@ ghost use Rattle.history_check.specs.declared.Record.{Record};
 ghost use Rattle.history_check.specs.declared.Record.TheVariants as records;
 ghost use Rattle.history_check.specs.Trace.{IsNumbered, submissions};
 ghost use Rattle.history_check.specs.TraceView.{TraceView, observed};
-ghost use Rattle.log_runs.specs.declared.Event.{Event};
+ghost use Rattle.log_runs.specs.EventView.{EventView};
 ghost use Rattle.log_runs.specs.Explainable.{IsExplainable, prefix, without};
 ghost use Rattle.log_runs.specs.Runs.{Live, start};
 ghost use Rattle.log_runs.specs.Tasks.{AreEvents, IsMisformed};
@@ -28,7 +28,7 @@ pub fn explainable_is_well_formed()
 
 /// Some run leads through the events of an explainable log to the end.
 pub fn explainable_has_a_run()
-    ensures { (t : TraceView) (es : List Event) → AreEvents t.records es → IsExplainable t → Live (record { extent = observed t; events = es }) (start (record { extent = observed t; events = es })) }
+    ensures { (t : TraceView) (es : List EventView) → AreEvents t.records es → IsExplainable t → Live (record { extent = observed t; events = es }) (start (record { extent = observed t; events = es })) }
 {}
 
 /// Where the numbers of submissions are right, a number names one submission, and is below the

@@ -7,7 +7,7 @@ use Rattle.std.proofs.lemmas.List.{take_all}
 use Rattle.std.proofs.lemmas.List.Folds.{list_any-append}
 use Rattle.tlp_core.specs.declared.operation.Op.{Op}
 use Rattle.seq_memory.specs.declared.Reply.{Reply}
-use Rattle.log_runs.specs.declared.Event.TheVariants as events
+use Rattle.log_runs.specs.EventView as events
 use Rattle.log_runs.specs.LogView.{LogView}
 use Rattle.log_runs.specs.Runs.{State}
 use Rattle.search_rules.specs.Rules.{NeverBrings, Yields, LetsFirst, AllOthers}

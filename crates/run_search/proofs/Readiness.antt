@@ -10,8 +10,8 @@ use Rattle.seq_memory.specs.declared.Reply.{Reply}
 use Rattle.seq_memory.specs.declared.Reply.TheVariants as replies
 use Rattle.history_check.specs.Flaws.{same_reply}
 use Rattle.search_rules.specs.Rules.{Suits}
-use Rattle.log_runs.specs.declared.Event.{Event}
-use Rattle.log_runs.specs.declared.Event.TheVariants as events
+use Rattle.log_runs.specs.EventView.{EventView}
+use Rattle.log_runs.specs.EventView as events
 use Rattle.log_runs.specs.LogView.{LogView}
 use Rattle.log_runs.specs.Runs.{State, has_acted, MayAct, reply_of}
 use Rattle.run_search.specs.Pending.{has, submits, is_done, IsTable, is_write, blocks}
@@ -71,7 +71,7 @@ has_any test (x ∷ xs) h = elim (or_cases (test x) (list_any test xs) h) [
   | inr there ↦ let (c, member, t) = has_any test xs there in (c, or_right (x == c) (has xs c) member, t)
 ]
 
-write_is : (i : ℕ) (o : Option Event) → is_write i o ≡ true → (w : Op) × (r : Option Reply) × (o ≡ Some (events.Sub i w r)) × (is_posted w ≡ true)
+write_is : (i : ℕ) (o : Option EventView) → is_write i o ≡ true → (w : Op) × (r : Option Reply) × (o ≡ Some (events.Sub i w r)) × (is_posted w ≡ true)
 write_is i (Some (events.Sub j op told)) h =
     let (same, posted) = and_parts (i == j) (is_posted op) h in
     (op, told, ap (λ (k : ℕ). Some (events.Sub k op told)) (sym (eqb-true i j same)), posted)
@@ -79,7 +79,7 @@ write_is i (Some (events.Due b)) h = cc
 write_is i (Some events.Free) h = cc
 write_is i None h = cc
 
-write_from : (i : ℕ) (o : Option Event) (w : Op) (r : Option Reply) → o ≡ Some (events.Sub i w r) → is_posted w ≡ true → is_write i o ≡ true
+write_from : (i : ℕ) (o : Option EventView) (w : Op) (r : Option Reply) → o ≡ Some (events.Sub i w r) → is_posted w ≡ true → is_write i o ≡ true
 write_from i o w r e p = subst (λ x. is_write i x ≡ true) (sym e) (and_from (i == i) (is_posted w) (eq-eqb i i refl) p)
 
 unset : (xs : List Bool) (b : ℕ) (y : Bool) → slice_get xs b ≡ Some y → is_set (slice_get xs b) ≡ false → slice_get xs b ≡ Some false
@@ -110,7 +110,7 @@ module _ (log : LogView) (s : State) (p : List ℕ) (t : IsTable log s.event p s
     | inr free ↦ free
   ]
 
-  ready_is : (b : ℕ) (o : Option Event) → slice_get log.events b ≡ o → is_ready log s p b o ≡ true → MayAct log s b
+  ready_is : (b : ℕ) (o : Option EventView) → slice_get log.events b ≡ o → is_ready log s p b o ≡ true → MayAct log s b
   ready_is b (Some (events.Sub i op told)) at h =
       let (h2, free) = and_parts (nat_lt b s.event && not (is_set (slice_get s.acted b)) && is_told told (reply_of log.extent s.bytes op)) (not (list_any (blocks log i b) p)) h in
       let (h3, agreed) = and_parts (nat_lt b s.event && not (is_set (slice_get s.acted b))) (is_told told (reply_of log.extent s.bytes op)) h2 in
@@ -146,7 +146,7 @@ module _ (log : LogView) (s : State) (p : List ℕ) (t : IsTable log s.event p s
   )
 
 -- what the memory suits is found so
-pub suits_is : (log : LogView) (m : List ℕ) (o : Option Event) → Suits log.extent m o → suits log m o ≡ true
+pub suits_is : (log : LogView) (m : List ℕ) (o : Option EventView) → Suits log.extent m o → suits log m o ≡ true
 suits_is log m (Some (events.Sub i op told)) h = told_from told (reply_of log.extent m op) h
 suits_is log m (Some (events.Due c)) h = refl
 suits_is log m (Some events.Free) h = refl

@@ -3,8 +3,8 @@ use Rattle.std.proofs.Common.{◌≡◌, ◌∙◌, ℕ, Bool, true, List, [], �
 use Rattle.std.specs.Prelude.{slice_get, slice_set}
 use Rattle.std.proofs.lemmas.Bool.{cases_eq}
 use Rattle.std.proofs.lemmas.Option.{slice_get_past}
-use Rattle.log_runs.specs.declared.Event.{Event}
-use Rattle.log_runs.specs.declared.Event.TheVariants as events
+use Rattle.log_runs.specs.EventView.{EventView}
+use Rattle.log_runs.specs.EventView as events
 use Rattle.log_runs.specs.declared.Step.{Step}
 use Rattle.log_runs.specs.declared.Step.TheVariants as steps
 use Rattle.log_runs.specs.LogView.{LogView}
@@ -18,7 +18,7 @@ acted_kept xs b c e = elim (cases_eq b c) [
   | inr other ↦ set_there xs b c true other ∙ e
 ]
 
-pub pass_kept : (s : State) (q : ℕ) (m : List ℕ) (o : Option Event) → MayPass s o → MayPass (record { event = s.event; acted = slice_set s.acted q true; bytes = m }) o
+pub pass_kept : (s : State) (q : ℕ) (m : List ℕ) (o : Option EventView) → MayPass s o → MayPass (record { event = s.event; acted = slice_set s.acted q true; bytes = m }) o
 pass_kept s q m (Some (events.Sub i op told)) a = tt
 pass_kept s q m (Some (events.Due b)) a = acted_kept s.acted q b a
 pass_kept s q m (Some events.Free) a = tt

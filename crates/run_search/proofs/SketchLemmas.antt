@@ -7,8 +7,8 @@ use Rattle.tlp_core.specs.declared.operation.Op.{Op}
 use Rattle.seq_memory.specs.declared.Reply.{Reply}
 use Rattle.seq_memory.specs.Step.{after, answer}
 use Rattle.byte_effects.specs.Effects.{AreApart}
-use Rattle.log_runs.specs.declared.Event.{Event}
-use Rattle.log_runs.specs.declared.Event.TheVariants as events
+use Rattle.log_runs.specs.EventView.{EventView}
+use Rattle.log_runs.specs.EventView as events
 use Rattle.log_runs.specs.LogView.{LogView}
 use Rattle.log_runs.specs.Runs.{reply_of, bytes_after, acted_on}
 use Rattle.search_rules.specs.Rules.{Answers, Suits, Ends, NeverBrings, Yields, LetsFirst, AreApartThere}
@@ -33,7 +33,7 @@ more (z ∷ zs) v x (suc i) at = elim (more zs v x i at) [
 pub no_sketches : AreSketches [] []
 no_sketches = record { len = refl; at = λ a e p at there. cc }
 
-pub sketches_more : (es : List Event) (ps : List Sketch) (i : ℕ) (e : Event) (p : Sketch) → i < length es → e ≡ get_or es i e → AreSketches (take i es) ps → IsSketchOf e p → AreSketches (take (i + 1) es) (ps ++ p ∷ [])
+pub sketches_more : (es : List EventView) (ps : List Sketch) (i : ℕ) (e : EventView) (p : Sketch) → i < length es → e ≡ get_or es i e → AreSketches (take i es) ps → IsSketchOf e p → AreSketches (take (i + 1) es) (ps ++ p ∷ [])
 sketches_more es ps i e p l is old new =
     let grown : take (i + 1) es ≡ take i es ++ e ∷ [] = take_more es i e l is in
     subst (λ z. AreSketches z (ps ++ p ∷ [])) (sym grown) (record {
@@ -41,7 +41,7 @@ sketches_more es ps i e p l is old new =
       at = at;
     })
   where
-    at : (a : ℕ) (f : Event) (q : Sketch) → slice_get (take i es ++ e ∷ []) a ≡ Some f → slice_get (ps ++ p ∷ []) a ≡ Some q → IsSketchOf f q
+    at : (a : ℕ) (f : EventView) (q : Sketch) → slice_get (take i es ++ e ∷ []) a ≡ Some f → slice_get (ps ++ p ∷ []) a ≡ Some q → IsSketchOf f q
     at a f q x y = elim (more (take i es) e f a x) [
       | inl there ↦ elim (more ps p q a y) [
         | inl here ↦ old.at a f q there.0 here.0
@@ -70,7 +70,7 @@ far_apart log ks b q k l are at there apart i j one other told asked here too =
 module _ (answers : (base block : ℕ) (m : List ℕ) (one other : Op) → AreApart one other → answer base block (after base block m one) other ≡ answer base block m other)
     (commute : (base block : ℕ) (m : List ℕ) (one other : Op) → AreApart one other → after base block (after base block m one) other ≡ after base block (after base block m other) one)
     (log : LogView) (b q : ℕ) (apart : AreApartThere log b q) where
-  keeps : (m : List ℕ) (o p : Option Event) → slice_get log.events b ≡ o → slice_get log.events q ≡ p → Suits log.extent (acted_on log.extent m o) p → Suits log.extent m p
+  keeps : (m : List ℕ) (o p : Option EventView) → slice_get log.events b ≡ o → slice_get log.events q ≡ p → Suits log.extent (acted_on log.extent m o) p → Suits log.extent m p
   unfolding reply_of bytes_after acted_on
   keeps m (Some (events.Sub i one told)) (Some (events.Sub j other asked)) at there suits =
       λ r e. sym (answers log.extent.base log.extent.block m one other (apart i j one other told asked at there)) ∙ suits r e
@@ -84,7 +84,7 @@ module _ (answers : (base block : ℕ) (m : List ℕ) (one other : Op) → AreAp
   pub apart_brings : NeverBrings log b q
   apart_brings m here suits = keeps m (slice_get log.events b) (slice_get log.events q) refl refl suits
 
-  ends : (m : List ℕ) (o p : Option Event) → slice_get log.events b ≡ o → slice_get log.events q ≡ p → Suits log.extent m o → Suits log.extent m p
+  ends : (m : List ℕ) (o p : Option EventView) → slice_get log.events b ≡ o → slice_get log.events q ≡ p → Suits log.extent m o → Suits log.extent m p
       → Ends log.extent m (acted_on log.extent m o) o p
   unfolding reply_of bytes_after acted_on
   ends m (Some (events.Sub i one told)) (Some (events.Sub j other asked)) at there here too =

@@ -11,8 +11,8 @@ use Rattle.seq_memory.specs.declared.Reply.TheVariants as replies
 use Rattle.seq_memory.specs.Step.{answer}
 use Rattle.byte_effects.specs.Effects as effects
 use Rattle.byte_effects.specs.Effects.{AreApart}
-use Rattle.log_runs.specs.declared.Event.{Event}
-use Rattle.log_runs.specs.declared.Event.TheVariants as events
+use Rattle.log_runs.specs.EventView.{EventView}
+use Rattle.log_runs.specs.EventView as events
 use Rattle.log_runs.specs.LogView.{LogView}
 use Rattle.log_runs.specs.Runs.{State, MayAct, reply_of}
 use Rattle.search_rules.specs.Rules.{Answers, Suits, LetsFirst, AreApartThere, AreSameFor, Waits}
@@ -23,7 +23,7 @@ use Rattle.run_search.specs.Values.{word_value, KeyFor, HasKey, Touches, IsMixed
 use Rattle.run_search.proofs.Lists.{clash}
 
 -- an event that was read
-pub event_at : (es ds items : List Event) (b : ℕ) (r e : Event) → ds ≡ items → items ≡ es → b < length ds → r ≡ get_or ds b r → r ≡ e → slice_get es b ≡ Some e
+pub event_at : (es ds items : List EventView) (b : ℕ) (r e : EventView) → ds ≡ items → items ≡ es → b < length ds → r ≡ get_or ds b r → r ≡ e → slice_get es b ≡ Some e
 event_at es ds items b r e one two within read is =
     ap (λ xs. slice_get xs b) (sym (one ∙ two)) ∙ slice_get_read ds (length ds) b r refl within read ∙ ap (λ x. Some x) is
 
@@ -37,13 +37,13 @@ suits_there log s q m = subst (Suits log.extent s.bytes) (sym m.submitted) m.rep
 pub touched_within : (base a n w : ℕ) → base + 4 * w < a + n → a < base + 4 * w + 4 → ((a - base) / 4 ≤ w) × (w < (a - base) / 4 + ((a - base) % 4 + n + 3) / 4)
 touched_within base a n w low high = (omega (arith, low, high), omega (arith, low, high))
 
-abbrev pub address_at : Option Event → ℕ
+abbrev pub address_at : Option EventView → ℕ
 address_at (Some (events.Sub i op told)) = address_of op
 address_at (Some (events.Due b)) = 0
 address_at (Some events.Free) = 0
 address_at None = 0
 
-abbrev pub count_at : Option Event → ℕ
+abbrev pub count_at : Option EventView → ℕ
 count_at (Some (events.Sub i op told)) = count_of op
 count_at (Some (events.Due b)) = 0
 count_at (Some events.Free) = 0
@@ -164,7 +164,7 @@ module _ (log : LogView) where
 
   -- ---- gathering
 
-  one_key : (base : ℕ) (o : Option Event) (k l : ℕ) → HasKey base o k → HasKey base o l → k ≡ l
+  one_key : (base : ℕ) (o : Option EventView) (k l : ℕ) → HasKey base o k → HasKey base o l → k ≡ l
   one_key base o k l x y =
       let same : Some (events.Sub x.requester x.op (Some (replies.Data x.bytes))) ≡ Some (events.Sub y.requester y.op (Some (replies.Data y.bytes))) = sym x.is ∙ y.is in
       let place : address_of x.op ≡ address_of y.op = ap address_at same in
@@ -172,7 +172,7 @@ module _ (log : LogView) where
       let word : x.key.word ≡ y.key.word = omega (arith, x.key.place, y.key.place, place) in
       x.key.key ∙ ap (λ w. w * 4294967296 + word_value x.bytes.items) word ∙ ap (λ d. y.key.word * 4294967296 + word_value d) bytes ∙ sym y.key.key
     where
-      data_at : Option Event → List ℕ
+      data_at : Option EventView → List ℕ
       data_at (Some (events.Sub i op (Some (replies.Data d)))) = d.items
       data_at (Some (events.Sub i op (Some replies.Done))) = []
       data_at (Some (events.Sub i op (Some replies.Unsupported))) = []
@@ -182,7 +182,7 @@ module _ (log : LogView) where
       data_at (Some events.Free) = []
       data_at None = []
 
-  stays : (base : ℕ) (o : Option Event) (xs ys : List Bool) → length ys ≡ length xs → ((w : ℕ) → slice_get xs w ≡ Some true → slice_get ys w ≡ Some true) → IsMixed base o xs → IsMixed base o ys
+  stays : (base : ℕ) (o : Option EventView) (xs ys : List Bool) → length ys ≡ length xs → ((w : ℕ) → slice_get xs w ≡ Some true → slice_get ys w ≡ Some true) → IsMixed base o xs → IsMixed base o ys
   stays base o xs ys len kept marks i w op told at touches low = kept w (marks i w op told at touches (omega (arith, len, low)))
 
   pub gathered_none : (g : Gathering) → AreGathered log g 0
@@ -191,7 +191,7 @@ module _ (log : LogView) where
     seen = λ b l. absurd (omega (arith, l));
   }
 
-  pub gathered_more : (g h : Gathering) (n : ℕ) (o : Option Event) → slice_get log.events n ≡ o → Adds log.extent.base o g h → AreGathered log g n → AreGathered log h (n + 1)
+  pub gathered_more : (g h : Gathering) (n : ℕ) (o : Option EventView) → slice_get log.events n ≡ o → Adds log.extent.base o g h → AreGathered log g n → AreGathered log h (n + 1)
   gathered_more g h n o at more old = record { values = record { each = each; shared = shared }; seen = seen }
     where
       base : ℕ

@@ -2,15 +2,15 @@
 use Rattle.std.specs.Prelude.{ℕ, ◌≡◌, ◌<◌, ◌==◌, ◌&&◌, nat_lt, not, List, length, slice_get, Option, Some, None, Bool, true, false}
 use Rattle.std.specs.List.{list_any}
 use Rattle.tlp_core.specs.Operation.{is_posted}
-use Rattle.log_runs.specs.declared.Event.{Event}
-use Rattle.log_runs.specs.declared.Event.TheVariants as events
+use Rattle.log_runs.specs.EventView.{EventView}
+use Rattle.log_runs.specs.EventView as events
 use Rattle.log_runs.specs.LogView.{LogView}
 
 -- the list has the number
 abbrev pub has : List ℕ → ℕ → Bool
 has xs c = list_any (λ x. x == c) xs
 
-abbrev pub submits : Option Event → Bool
+abbrev pub submits : Option EventView → Bool
 submits (Some (events.Sub i op told)) = true
 submits (Some (events.Due b)) = false
 submits (Some events.Free) = false
@@ -26,7 +26,7 @@ pub record IsTable (log : LogView) (event : ℕ) (pending : List ℕ) (acted : L
   pub at : (b : ℕ) → b < length log.events → slice_get acted b ≡ Some (is_done log event pending b)
 
 -- the event is a posted write of the requester
-abbrev pub is_write : ℕ → Option Event → Bool
+abbrev pub is_write : ℕ → Option EventView → Bool
 is_write i (Some (events.Sub j op told)) = (i == j) && is_posted op
 is_write i (Some (events.Due b)) = false
 is_write i (Some events.Free) = false

@@ -2,8 +2,8 @@
 use Rattle.std.specs.Prelude.{ℕ, ◌≡◌, ◌≤◌, List, [], Option, Some, None, slice_get}
 use Rattle.seq_memory.specs.Limits.{Extent}
 use Rattle.memory_undo.specs.Saved.{saved_at}
-use Rattle.log_runs.specs.declared.Event.{Event}
-use Rattle.log_runs.specs.declared.Event.TheVariants as events
+use Rattle.log_runs.specs.EventView.{EventView}
+use Rattle.log_runs.specs.EventView as events
 use Rattle.log_runs.specs.declared.Step.{Step}
 use Rattle.log_runs.specs.declared.Step.TheVariants as steps
 use Rattle.log_runs.specs.LogView.{LogView}
@@ -11,7 +11,7 @@ use Rattle.log_runs.specs.Runs.{State, Allowed, has_acted, next}
 use Rattle.run_search.specs.declared.steps.Done.{Done}
 
 -- the bytes at the request's place
-abbrev pub old_at : Extent → List ℕ → Option Event → List ℕ
+abbrev pub old_at : Extent → List ℕ → Option EventView → List ℕ
 old_at x m (Some (events.Sub i op told)) = saved_at x.base x.block m op
 old_at x m (Some (events.Due b)) = []
 old_at x m (Some events.Free) = []

@@ -6,8 +6,8 @@ use Rattle.tlp_core.specs.Operation.{address_of, count_of}
 use Rattle.seq_memory.specs.declared.Reply.{Reply}
 use Rattle.seq_memory.specs.declared.Reply.TheVariants as replies
 use Rattle.byte_effects.specs.Effects as effects
-use Rattle.log_runs.specs.declared.Event.{Event}
-use Rattle.log_runs.specs.declared.Event.TheVariants as events
+use Rattle.log_runs.specs.EventView.{EventView}
+use Rattle.log_runs.specs.EventView as events
 use Rattle.log_runs.specs.LogView.{LogView}
 use Rattle.search_rules.specs.Rules.{Suits, LetsFirst}
 use Rattle.run_search.specs.declared.values.Gathering.{Gathering}
@@ -28,7 +28,7 @@ pub record KeyFor (base : ℕ) (op : Op) (bytes : List ℕ) (k : ℕ) : Type 0 w
   pub key : k ≡ word * 4294967296 + word_value bytes
 
 -- the event is a request with the key k
-pub record HasKey (base : ℕ) (o : Option Event) (k : ℕ) : Type 0 where
+pub record HasKey (base : ℕ) (o : Option EventView) (k : ℕ) : Type 0 where
   pub requester : ℕ
   pub op : Op
   pub bytes : ArrayVec ℕ
@@ -40,7 +40,7 @@ abbrev pub Touches : ℕ → Op → ℕ → Type 0
 Touches base op w = (base + 4 * w < address_of op + count_of op) × (address_of op < base + 4 * w + 4)
 
 -- if the event is a request, the words that it names are marked
-abbrev pub IsMixed : ℕ → Option Event → List Bool → Type 0
+abbrev pub IsMixed : ℕ → Option EventView → List Bool → Type 0
 IsMixed base o mixed =
     (i w : ℕ) (op : Op) (told : Option Reply) → o ≡ Some (events.Sub i op told) → Touches base op w → w < length mixed → slice_get mixed w ≡ Some true
 
@@ -57,7 +57,7 @@ pub record AreGathered (log : LogView) (g : Gathering) (n : ℕ) : Type 0 where
       ⊎ IsMixed log.extent.base (slice_get log.events b) g.values.mixed.items
 
 -- the event is added to what was gathered
-pub record Adds (base : ℕ) (o : Option Event) (old new : Gathering) : Type 0 where
+pub record Adds (base : ℕ) (o : Option EventView) (old new : Gathering) : Type 0 where
   pub seen : (k : ℕ) → has old.seen.keys k ≡ true → has new.seen.keys k ≡ true
   pub shared : (k : ℕ) → has old.values.shared.keys k ≡ true → has new.values.shared.keys k ≡ true
   pub len : length new.values.mixed.items ≡ length old.values.mixed.items

@@ -1,6 +1,6 @@
 //! Till when requests must act.
 ghost use Rattle.std.specs.Prelude.{◌≡◌, Some, IfSome, slice_get};
-ghost use Rattle.log_runs.specs.declared.Event.TheVariants as events;
+ghost use Rattle.log_runs.specs.EventView as events;
 
 use log_runs::{Event, Log};
 use std::alloc::{AllocError, Global};

@@ -9,8 +9,8 @@ use Rattle.seq_memory.specs.declared.Reply.{Reply}
 use Rattle.seq_memory.specs.Limits.{Extent}
 use Rattle.seq_memory.specs.Step.{after, answer}
 use Rattle.byte_effects.specs.Effects.{Agrees, AreApart, AreSameAt}
-use Rattle.log_runs.specs.declared.Event.{Event}
-use Rattle.log_runs.specs.declared.Event.TheVariants as events
+use Rattle.log_runs.specs.EventView.{EventView}
+use Rattle.log_runs.specs.EventView as events
 use Rattle.log_runs.specs.declared.Step.{Step}
 use Rattle.log_runs.specs.declared.Step.TheVariants as steps
 use Rattle.log_runs.specs.LogView.{LogView}
@@ -22,7 +22,7 @@ use Rattle.search_rules.proofs.RuleLemmas.{clash, set_there, set_swap, gone_by, 
 pub idle_first : (log : LogView) (m : List ℕ) (b q : ℕ) → ((i : ℕ) (op : Op) (told : Option Reply) → slice_get log.events b ≡ Some (events.Sub i op told) → ⊥) → LetsFirst log m b q
 idle_first log m b q none = inl (λ i j one other told asked at there. absurd (none i one told at))
 
-pub first_by : (x : Extent) (o : Option Event) (i base : ℕ) (one op : Op) (told reply : Option Reply) (m : List ℕ) → base ≡ x.base → o ≡ Some (events.Sub i op reply)
+pub first_by : (x : Extent) (o : Option EventView) (i base : ℕ) (one op : Op) (told reply : Option Reply) (m : List ℕ) → base ≡ x.base → o ≡ Some (events.Sub i op reply)
     → AreApart one op ⊎ ((block : ℕ) (n : List ℕ) → AreSameAt base op m n → Agrees base block n one told → ⊥)
     → (j : ℕ) (other : Op) (asked : Option Reply) → o ≡ Some (events.Sub j other asked) → AreApart one other ⊎ ((n : List ℕ) → AreSameAt x.base other m n → Answers x n one told → ⊥)
 unfolding reply_of
@@ -37,7 +37,7 @@ first_by x o i base one op told reply m eb at behind j other asked there =
     ])
 
 -- what is known of the second's event decides which it is
-first_on : (log : LogView) (m : List ℕ) (b q i : ℕ) (one : Op) (told : Option Reply) (o : Option Event) → slice_get log.events b ≡ Some (events.Sub i one told) → slice_get log.events q ≡ o
+first_on : (log : LogView) (m : List ℕ) (b q i : ℕ) (one : Op) (told : Option Reply) (o : Option EventView) → slice_get log.events b ≡ Some (events.Sub i one told) → slice_get log.events q ≡ o
     → ((j : ℕ) (other : Op) (asked : Option Reply) → slice_get log.events q ≡ Some (events.Sub j other asked) → AreApart one other ⊎ ((n : List ℕ) → AreSameAt log.extent.base other m n → Answers log.extent n one told → ⊥))
     → LetsFirst log m b q
 first_on log m b q i one told (Some (events.Sub j other asked)) seen e behind = elim (behind j other asked e) [
@@ -74,7 +74,7 @@ flipped one other (inr high) = inl high
 -- ---- two submissions that are apart
 
 module _ (kept : Kept) (swaps : Swaps) (others : Others) where
-  suits_after : (x : Extent) (m : List ℕ) (o p : Option Event) (i j : ℕ) (one other : Op) (told asked : Option Reply) → o ≡ Some (events.Sub i one told) → p ≡ Some (events.Sub j other asked) → AreApart one other
+  suits_after : (x : Extent) (m : List ℕ) (o p : Option EventView) (i j : ℕ) (one other : Op) (told asked : Option Reply) → o ≡ Some (events.Sub i one told) → p ≡ Some (events.Sub j other asked) → AreApart one other
       → Suits x m p → Suits x (acted_on x m o) p
   unfolding acted_on bytes_after reply_of
   suits_after x m o p i j one other told asked at there apart suited =
@@ -82,7 +82,7 @@ module _ (kept : Kept) (swaps : Swaps) (others : Others) where
       let later : (r : Reply) → asked ≡ Some r → reply_of x (after x.base x.block m one) other ≡ r = λ r e. kept x.base x.block m one other apart ∙ before r e in
       subst (λ k. Suits x k p) (sym (ap (acted_on x m) at)) (subst (Suits x (after x.base x.block m one)) (sym there) later)
 
-  swapped : (x : Extent) (m : List ℕ) (o p : Option Event) (i j : ℕ) (one other : Op) (told asked : Option Reply) → o ≡ Some (events.Sub i one told) → p ≡ Some (events.Sub j other asked) → AreApart one other
+  swapped : (x : Extent) (m : List ℕ) (o p : Option EventView) (i j : ℕ) (one other : Op) (told asked : Option Reply) → o ≡ Some (events.Sub i one told) → p ≡ Some (events.Sub j other asked) → AreApart one other
       → acted_on x (acted_on x m o) p ≡ acted_on x (acted_on x m p) o
   unfolding acted_on bytes_after
   swapped x m o p i j one other told asked at there apart =
@@ -91,7 +91,7 @@ module _ (kept : Kept) (swaps : Swaps) (others : Others) where
       of_p (acted_on x m o) ∙ ap (λ k. after x.base x.block k other) (of_o m) ∙ swaps x.base x.block m one other apart
       ∙ sym (of_o (acted_on x m p) ∙ ap (λ k. after x.base x.block k one) (of_p m))
 
-  same_after : (x : Extent) (m n : List ℕ) (o : Option Event) (i : ℕ) (one other : Op) (told : Option Reply) → o ≡ Some (events.Sub i one told) → AreApart one other
+  same_after : (x : Extent) (m n : List ℕ) (o : Option EventView) (i : ℕ) (one other : Op) (told : Option Reply) → o ≡ Some (events.Sub i one told) → AreApart one other
       → AreSameAt x.base other m n → AreSameAt x.base other m (acted_on x n o)
   unfolding acted_on bytes_after
   same_after x m n o i one other told at (inl low) same k front back =

@@ -1,24 +1,24 @@
 -- A request over bytes that nobody needs acts at once, with those that need what it puts.
-use Rattle.std.proofs.Common.{◌≡◌, ◌∙◌, ◌⊎◌, inl, inr, ℕ, zero, suc, ◌+◌, ◌≤◌, ◌<◌, Bool, true, false, List, [], ◌∷◌, Some, None, Option, length, length-set, refl, sym, ap, subst, arith}
+use Rattle.std.proofs.Common.{◌≡◌, ◌∙◌, ◌⊎◌, inl, inr, ℕ, suc, ◌+◌, ◌≤◌, ◌<◌, true, false, List, [], ◌∷◌, Some, None, Option, length, refl, sym, ap, subst, arith}
 use Rattle.std.specs.Prelude.{slice_get, slice_set, slice_index}
-use Rattle.std.proofs.lemmas.Bool.{cases_eq, cases_lt}
-use Rattle.std.proofs.lemmas.Option.{same_Some, slice_get_past}
+use Rattle.std.proofs.lemmas.Bool.{cases_eq}
+use Rattle.std.proofs.lemmas.Option.{same_Some}
 use Rattle.tlp_core.specs.declared.operation.Op.{Op}
 use Rattle.tlp_core.specs.Operation.{address_of, count_of}
 use Rattle.seq_memory.specs.declared.Reply.{Reply}
 use Rattle.seq_memory.specs.Limits.{Extent}
 use Rattle.seq_memory.specs.Step.{after, answer}
 use Rattle.byte_effects.specs.Effects.{Agrees, AreApart, AreSameAt, AreSameBut}
-use Rattle.log_runs.specs.declared.Event.{Event}
-use Rattle.log_runs.specs.declared.Event.TheVariants as events
+use Rattle.log_runs.specs.EventView.{EventView}
+use Rattle.log_runs.specs.EventView as events
 use Rattle.log_runs.specs.declared.Step.{Step}
 use Rattle.log_runs.specs.declared.Step.TheVariants as steps
 use Rattle.log_runs.specs.LogView.{LogView}
 use Rattle.log_runs.specs.Runs.{State, has_acted, MayPass, MayAct, Leads, Live, IsForced, next, acted_on, reply_of, bytes_after}
-use Rattle.search_rules.specs.Junk.{IsJunk, LeavesJunk}
+use Rattle.search_rules.specs.Junk.{HasAddresses, IsJunk, LeavesJunk}
 use Rattle.search_rules.specs.Rules.{Suits, IsJunkTo, LeavesNothing, AllLeft, acts, IsOverJunk}
 use Rattle.search_rules.proofs.FirstLemmas.{Others}
-use Rattle.search_rules.proofs.RuleLemmas.{clash, set_here, set_there, acted_kept, gone_by, suits, run, before}
+use Rattle.search_rules.proofs.RuleLemmas.{clash, set_here, set_there, gone_by, suits, run, before}
 
 abbrev pub Answered : Type 0
 Answered = (base block : ℕ) (m n : List ℕ) (op : Op) → length n ≡ length m → AreSameAt base op m n → answer base block n op ≡ answer base block m op
@@ -29,7 +29,7 @@ Bytes = (base block k : ℕ) (m n : List ℕ) (op : Op) → length n ≡ length 
 abbrev pub Sizes : Type 0
 Sizes = (base block : ℕ) (m : List ℕ) (op : Op) → length (after base block m op) ≡ length m
 
-acted_is : (x : Extent) (m : List ℕ) (o : Option Event) (i : ℕ) (op : Op) (told : Option Reply) → o ≡ Some (events.Sub i op told) → acted_on x m o ≡ after x.base x.block m op
+acted_is : (x : Extent) (m : List ℕ) (o : Option EventView) (i : ℕ) (op : Op) (told : Option Reply) → o ≡ Some (events.Sub i op told) → acted_on x m o ≡ after x.base x.block m op
 unfolding acted_on bytes_after
 acted_is x m o i op told at = ap (acted_on x m) at
 
@@ -52,17 +52,16 @@ module _ (answered : Answered) (bytes_of : Bytes) (others : Others) (sizes : Siz
   agrees_there : (x : Extent) (m n : List ℕ) (op other : Op) (told : Option Reply) → AreApart op other → AreSameBut x.base other m n → Agrees x.base x.block m op told → Agrees x.base x.block n op told
   agrees_there x m n op other told apart same agrees r e = answered x.base x.block m n op same.size (same_there x.base m n op other apart same) ∙ agrees r e
 
-  among : (base k : ℕ) (third other : Op) → address_of other ≤ address_of third → address_of third + count_of third ≤ address_of other + count_of other
-      → (base + k < address_of other) ⊎ (address_of other + count_of other ≤ base + k) → (base + k < address_of third) ⊎ (address_of third + count_of third ≤ base + k)
-  among base k third other front back (inl low) = inl (omega (arith, front, low))
-  among base k third other front back (inr high) = inr (omega (arith, back, high))
+  among : (base k : ℕ) (third other : Op) → HasAddresses other third → (base + k < address_of other) ⊎ (address_of other + count_of other ≤ base + k) → (base + k < address_of third) ⊎ (address_of third + count_of third ≤ base + k)
+  among base k third other within (inl low) = inl (omega (arith, within.0, low))
+  among base k third other within (inr high) = inr (omega (arith, within.1, high))
 
   -- one whose addresses are among the other's changes nothing but there
-  changed_there : (x : Extent) (m : List ℕ) (third other : Op) → (address_of other ≤ address_of third) × (address_of third + count_of third ≤ address_of other + count_of other)
+  changed_there : (x : Extent) (m : List ℕ) (third other : Op) → HasAddresses other third
       → AreSameBut x.base other m (after x.base x.block m third)
   changed_there x m third other within = record {
     size = sizes x.base x.block m third;
-    others = λ k out. others x.base x.block k m third (among x.base k third other within.0 within.1 out);
+    others = λ k out. others x.base x.block k m third (among x.base k third other within out);
   }
 
   -- what stands at the other's addresses in m is nothing to those that are left
@@ -102,7 +101,7 @@ module _ (answered : Answered) (bytes_of : Bytes) (others : Others) (sizes : Siz
     ]
 
     -- one of the group acts on the one alone
-    own : (m n : List ℕ) (third : Op) (had : Option Reply) → (address_of other ≤ address_of third) × (address_of third + count_of third ≤ address_of other + count_of other)
+    own : (m n : List ℕ) (third : Op) (had : Option Reply) → HasAddresses other third
         → ((one : Op) (told : Option Reply) → Left one told → LeavesJunk x one told other third had)
         → length m ≡ x.size → Alike m n → Agrees x.base x.block m third had → Alike (after x.base x.block m third) n
     unfolding Alike Junk
@@ -161,7 +160,7 @@ module _ (answered : Answered) (bytes_of : Bytes) (others : Others) (sizes : Siz
       | inr g ↦ absurd (clash refl (same_Some true false (sym e ∙ g.0)))
     ]
 
-    pass : (s t : State) → Beside s t → (o : Option Event) → MayPass s o → MayPass t o
+    pass : (s t : State) → Beside s t → (o : Option EventView) → MayPass s o → MayPass t o
     pass s t h (Some (events.Sub i op told)) a = tt
     pass s t h (Some (events.Due b)) a = ahead s t h b a
     pass s t h (Some events.Free) a = tt

@@ -6,36 +6,59 @@ use Rattle.seq_memory.specs.declared.Reply.{Reply}
 use Rattle.seq_memory.specs.Limits.{Extent}
 use Rattle.seq_memory.specs.Step.{refusal, after, answer}
 use Rattle.byte_effects.specs.Effects.{Agrees, AreSameAt}
-use Rattle.log_runs.specs.declared.Event.{Event}
-use Rattle.log_runs.specs.declared.Event.TheVariants as events
+use Rattle.log_runs.specs.EventView.{EventView}
+use Rattle.log_runs.specs.EventView as events
 use Rattle.log_runs.specs.LogView.{LogView}
-use Rattle.search_rules.specs.Junk.{Misses, IsJunk}
-use Rattle.search_rules.specs.Rules.{IsJunkTo}
+use Rattle.search_rules.specs.Junk.{HasAddresses, MissesThere, MissesLeft, IsJunk, LeavesJunk}
+use Rattle.search_rules.specs.Rules.{IsJunkTo, LeavesJunkTo, IsWithin}
 
-pub misses_by : (x : Extent) (base block : ℕ) (m : List ℕ) (one other : Op) (told asked : Option Reply) (reply : Reply) → block ≡ x.block → base ≡ x.base → told ≡ Some reply
-    → refusal x.base x.size x.block other ≡ None
-    → ((block : ℕ) (n : List ℕ) → AreSameAt base other m n → Agrees base block n one told → ⊥)
-    → ((base : ℕ) (k n : List ℕ) → refusal base (length k) block other ≡ None → Agrees base block k other asked → AreSameAt base other (after base block k other) n → answer base block n one ≡ reply → ⊥)
-    → Misses x m one told other asked
-misses_by x base block m one other told asked reply eb ea is served old new =
-    let old_here : (c : ℕ) (n : List ℕ) → AreSameAt x.base other m n → Agrees x.base c n one told → ⊥ =
-    subst (λ z. (c : ℕ) (n : List ℕ) → AreSameAt z other m n → Agrees z c n one told → ⊥) ea old in
-    let new_here : (d : ℕ) (k n : List ℕ) → refusal d (length k) x.block other ≡ None → Agrees d x.block k other asked → AreSameAt d other (after d x.block k other) n → answer d x.block n one ≡ reply → ⊥ =
-    subst (λ z. (d : ℕ) (k n : List ℕ) → refusal d (length k) z other ≡ None → Agrees d z k other asked → AreSameAt d other (after d z k other) n → answer d z n one ≡ reply → ⊥) eb new in
-    record {
-      old = old_here x.block;
-      new = λ k n size agrees same suited. new_here x.base k n (ap (λ z. refusal x.base z x.block other) size ∙ served) agrees same (suited reply is);
-    }
+pub there_by : (x : Extent) (base : ℕ) (m : List ℕ) (one other : Op) (told : Option Reply) → base ≡ x.base
+    → ((block : ℕ) (n : List ℕ) → AreSameAt base other m n → Agrees base block n one told → ⊥) → MissesThere x m one told other
+there_by x base m one other told ea misses =
+    let here : (c : ℕ) (n : List ℕ) → AreSameAt x.base other m n → Agrees x.base c n one told → ⊥ =
+    subst (λ z. (c : ℕ) (n : List ℕ) → AreSameAt z other m n → Agrees z c n one told → ⊥) ea misses in
+    here x.block
+
+pub left_by : (x : Extent) (block : ℕ) (one third : Op) (told had : Option Reply) (reply : Reply) → block ≡ x.block → told ≡ Some reply → refusal x.base x.size x.block third ≡ None
+    → ((base : ℕ) (k n : List ℕ) → refusal base (length k) block third ≡ None → Agrees base block k third had → AreSameAt base third (after base block k third) n → answer base block n one ≡ reply → ⊥)
+    → MissesLeft x one told third had
+left_by x block one third told had reply eb is served misses k n size agrees same suited =
+    let here : (d : ℕ) (k n : List ℕ) → refusal d (length k) x.block third ≡ None → Agrees d x.block k third had → AreSameAt d third (after d x.block k third) n → answer d x.block n one ≡ reply → ⊥ =
+    subst (λ z. (d : ℕ) (k n : List ℕ) → refusal d (length k) z third ≡ None → Agrees d z k third had → AreSameAt d third (after d z k third) n → answer d z n one ≡ reply → ⊥) eb misses in
+    here x.base k n (ap (λ z. refusal x.base z x.block third) size ∙ served) agrees same (suited reply is)
+
+-- ---- a place has one submission
+
+one_op : (o : Option EventView) (i j : ℕ) (op w : Op) (told asked : Option Reply) → o ≡ Some (events.Sub i op told) → o ≡ Some (events.Sub j w asked) → op ≡ w
+one_op o i j op w told asked at there = let e : Some (events.Sub i op told) ≡ Some (events.Sub j w asked) = sym at ∙ there in cc
+
+one_reply : (o : Option EventView) (i j : ℕ) (op w : Op) (told asked : Option Reply) → o ≡ Some (events.Sub i op told) → o ≡ Some (events.Sub j w asked) → told ≡ asked
+one_reply o i j op w told asked at there = let e : Some (events.Sub i op told) ≡ Some (events.Sub j w asked) = sym at ∙ there in cc
 
 pub junk_at : (log : LogView) (m : List ℕ) (b q i : ℕ) (one : Op) (told : Option Reply) → slice_get log.events b ≡ Some (events.Sub i one told)
-    → ((j : ℕ) × (other : Op) × (asked : Option Reply) × (slice_get log.events q ≡ Some (events.Sub j other asked)) × IsJunk log.extent m one told other asked)
+    → ((j : ℕ) × (other : Op) × (asked : Option Reply) × (slice_get log.events q ≡ Some (events.Sub j other asked)) × IsJunk log.extent m one told other)
     → IsJunkTo log m b q
 junk_at log m b q i one told seen (j, other, asked, there, junk) i2 j2 one2 other2 told2 asked2 at at2 =
-    let e : Some (events.Sub i one told) ≡ Some (events.Sub i2 one2 told2) = sym seen ∙ at in
-    let f : Some (events.Sub j other asked) ≡ Some (events.Sub j2 other2 asked2) = sym there ∙ at2 in
-    let e_op : one ≡ one2 = cc in
-    let e_told : told ≡ told2 = cc in
-    let f_op : other ≡ other2 = cc in
-    let f_told : asked ≡ asked2 = cc in
-    subst (λ z. IsJunk log.extent m one2 told2 other2 z) f_told (subst (λ z. IsJunk log.extent m one2 told2 z asked) f_op
-    (subst (λ z. IsJunk log.extent m one2 z other asked) e_told (subst (λ z. IsJunk log.extent m z told other asked) e_op junk)))
+    let x = log.extent in
+    subst (λ z. IsJunk x m one2 told2 z) (one_op (slice_get log.events q) j j2 other other2 asked asked2 there at2)
+    (subst (λ z. IsJunk x m one2 z other) (one_reply (slice_get log.events b) i i2 one one2 told told2 seen at)
+    (subst (λ z. IsJunk x m z told other) (one_op (slice_get log.events b) i i2 one one2 told told2 seen at) junk))
+
+pub leaves_at : (log : LogView) (b q g i : ℕ) (one : Op) (told : Option Reply) → slice_get log.events b ≡ Some (events.Sub i one told)
+    → ((j : ℕ) × (other : Op) × (asked : Option Reply) × (slice_get log.events q ≡ Some (events.Sub j other asked))
+    × ((l : ℕ) × (third : Op) × (had : Option Reply) × (slice_get log.events g ≡ Some (events.Sub l third had)) × LeavesJunk log.extent one told other third had))
+    → LeavesJunkTo log b q g
+leaves_at log b q g i one told seen (j, other, asked, there, (l, third, had, behind, junk)) i2 j2 l2 one2 other2 third2 told2 asked2 had2 at at2 at3 =
+    let x = log.extent in
+    subst (λ z. LeavesJunk x one2 told2 other2 third2 z) (one_reply (slice_get log.events g) l l2 third third2 had had2 behind at3)
+    (subst (λ z. LeavesJunk x one2 told2 other2 z had) (one_op (slice_get log.events g) l l2 third third2 had had2 behind at3)
+    (subst (λ z. LeavesJunk x one2 told2 z third had) (one_op (slice_get log.events q) j j2 other other2 asked asked2 there at2)
+    (subst (λ z. LeavesJunk x one2 z other third had) (one_reply (slice_get log.events b) i i2 one one2 told told2 seen at)
+    (subst (λ z. LeavesJunk x z told other third had) (one_op (slice_get log.events b) i i2 one one2 told told2 seen at) junk))))
+
+pub within_at : (log : LogView) (g q l : ℕ) (third : Op) (had : Option Reply) → slice_get log.events g ≡ Some (events.Sub l third had)
+    → ((j : ℕ) × (other : Op) × (asked : Option Reply) × (slice_get log.events q ≡ Some (events.Sub j other asked)) × HasAddresses other third)
+    → IsWithin log g q
+within_at log g q l third had seen (j, other, asked, there, within) i2 j2 third2 other2 had2 asked2 at at2 =
+    subst (λ z. HasAddresses z third2) (one_op (slice_get log.events q) j j2 other other2 asked asked2 there at2)
+    (subst (λ z. HasAddresses other z) (one_op (slice_get log.events g) l i2 third third2 had had2 seen at) within)

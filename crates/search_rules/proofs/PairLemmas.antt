@@ -1,22 +1,43 @@
 -- Two requests of a log, by what their operations do.
-use Rattle.std.proofs.Common.{◌≡◌, ◌∙◌, ◌⊎◌, inl, inr, ℕ, ◌<◌, List, length, get_or, Some, None, Option, refl, sym, ap, subst}
+use Rattle.std.proofs.Common.{◌≡◌, ◌∙◌, ◌⊎◌, inl, inr, ℕ, List, Some, None, Option, refl, sym, ap, subst}
 use Rattle.std.specs.Prelude.{slice_get}
-use Rattle.std.proofs.lemmas.Option.{slice_get_read, same_Some}
+use Rattle.std.specs.Borrow.{Bor}
+use Rattle.std.proofs.lemmas.Option.{same_Some}
 use Rattle.tlp_core.specs.declared.operation.Op.{Op}
 use Rattle.seq_memory.specs.declared.Reply.{Reply}
 use Rattle.seq_memory.specs.Limits.{Extent}
 use Rattle.seq_memory.specs.Step.{after, answer}
-use Rattle.byte_effects.specs.Effects.{Agrees}
+use Rattle.byte_effects.specs.Effects.{Agrees, told_of}
 use Rattle.log_runs.specs.declared.Event.{Event}
-use Rattle.log_runs.specs.declared.Event.TheVariants as events
+use Rattle.log_runs.specs.declared.Event.TheVariants as lent
+use Rattle.log_runs.specs.EventView.{EventView, event_of}
+use Rattle.log_runs.specs.EventView as events
 use Rattle.log_runs.specs.LogView.{LogView}
 use Rattle.log_runs.specs.Runs.{reply_of, bytes_after, acted_on}
 use Rattle.search_rules.specs.Rules.{Answers, Suits, Ends, NeverBrings, Yields}
 
--- an event that was read
-pub event_at : (es ds items : List Event) (b : ℕ) (r e : Event) → ds ≡ items → items ≡ es → b < length ds → r ≡ get_or ds b r → r ≡ e → slice_get es b ≡ Some e
-event_at es ds items b r e one two within read is =
-    ap (λ xs. slice_get xs b) (sym (one ∙ two)) ∙ slice_get_read ds (length ds) b r refl within read ∙ ap Some is
+pub not_due : (o : Option EventView) (c i : ℕ) (op : Op) (told : Option Reply) → o ≡ Some (events.Due c) → o ≡ Some (events.Sub i op told) → ⊥
+not_due o c i op told e f = cc
+
+pub not_free : (o : Option EventView) (i : ℕ) (op : Op) (told : Option Reply) → o ≡ Some events.Free → o ≡ Some (events.Sub i op told) → ⊥
+not_free o i op told e f = cc
+
+pub not_none : (o : Option EventView) (i : ℕ) (op : Op) (told : Option Reply) → o ≡ None → o ≡ Some (events.Sub i op told) → ⊥
+not_none o i op told e f = cc
+
+-- ---- an event that a log lends
+
+pub sub_at : (es : List EventView) (b : ℕ) (r : Event) (i : ℕ) (op : Bor Op) (told : Option (Bor Reply)) → r ≡ lent.Sub i op told → Some (event_of r) ≡ slice_get es b
+    → slice_get es b ≡ Some (events.Sub i op.now (told_of told))
+sub_at es b r i op told is read = sym read ∙ ap (λ e. Some (event_of e)) is
+
+pub due_is_idle : (es : List EventView) (b : ℕ) (r : Event) (c : ℕ) → r ≡ lent.Due c → Some (event_of r) ≡ slice_get es b
+    → (i : ℕ) (op : Op) (told : Option Reply) → slice_get es b ≡ Some (events.Sub i op told) → ⊥
+due_is_idle es b r c is read i op told = not_due (slice_get es b) c i op told (sym read ∙ ap (λ e. Some (event_of e)) is)
+
+pub free_is_idle : (es : List EventView) (b : ℕ) (r : Event) → r ≡ lent.Free → Some (event_of r) ≡ slice_get es b
+    → (i : ℕ) (op : Op) (told : Option Reply) → slice_get es b ≡ Some (events.Sub i op told) → ⊥
+free_is_idle es b r is read i op told = not_free (slice_get es b) i op told (sym read ∙ ap (λ e. Some (event_of e)) is)
 
 -- ---- by their operations
 
@@ -31,7 +52,7 @@ GivesWay block one op told reply =
     ⊎ (Agrees base block (after base block m one) op reply × Agrees base block (after base block m op) one told
     × (after base block (after base block m one) op ≡ after base block (after base block m op) one))
 
-pub brings_by : (x : Extent) (o : Option Event) (i block : ℕ) (one op : Op) (told reply : Option Reply) → block ≡ x.block → o ≡ Some (events.Sub i op reply)
+pub brings_by : (x : Extent) (o : Option EventView) (i block : ℕ) (one op : Op) (told reply : Option Reply) → block ≡ x.block → o ≡ Some (events.Sub i op reply)
     → KeepsOut block one op told reply → (m : List ℕ) → Answers x m one told → Suits x (bytes_after x m one) o → Suits x m o
 unfolding reply_of bytes_after
 brings_by x o i block one op told reply eb at never m agrees there =
@@ -39,7 +60,7 @@ brings_by x o i block one op told reply eb at never m agrees there =
     let before : Suits x m (Some (events.Sub i op reply)) = never_here x.base m agrees (subst (Suits x (after x.base x.block m one)) at there) in
     subst (Suits x m) (sym at) before
 
-pub yields_by : (x : Extent) (o : Option Event) (i block : ℕ) (one op : Op) (told reply : Option Reply) → block ≡ x.block → o ≡ Some (events.Sub i op reply)
+pub yields_by : (x : Extent) (o : Option EventView) (i block : ℕ) (one op : Op) (told reply : Option Reply) → block ≡ x.block → o ≡ Some (events.Sub i op reply)
     → GivesWay block one op told reply → (m : List ℕ) → Answers x m one told → Suits x m o → (j : ℕ) → Ends x m (bytes_after x m one) (Some (events.Sub j one told)) o
 unfolding reply_of bytes_after acted_on
 yields_by x o i block one op told reply eb at yields m agrees there j =
@@ -63,7 +84,7 @@ unfolding acted_on
 yields_at log b q i one told at yields m agrees there =
     subst (λ o. Ends log.extent m (acted_on log.extent m o) o (slice_get log.events q)) (sym at) (yields m (subst (Suits log.extent m) at agrees) there i)
 
-pub quiet_at : (x : Extent) (o : Option Event) (i block : ℕ) (op : Op) (told : Option Reply) → block ≡ x.block → o ≡ Some (events.Sub i op told)
+pub quiet_at : (x : Extent) (o : Option EventView) (i block : ℕ) (op : Op) (told : Option Reply) → block ≡ x.block → o ≡ Some (events.Sub i op told)
     → ((base : ℕ) (m : List ℕ) → Agrees base block m op told → after base block m op ≡ m) → (m : List ℕ) → Suits x m o → acted_on x m o ≡ m
 unfolding acted_on bytes_after reply_of
 quiet_at x o i block op told eb at quiet m there =
@@ -73,7 +94,7 @@ quiet_at x o i block op told eb at quiet m there =
 
 -- ---- what is no submission
 
-idle : (x : Extent) (o : Option Event) → ((i : ℕ) (op : Op) (told : Option Reply) → o ≡ Some (events.Sub i op told) → ⊥) → (m : List ℕ) → acted_on x m o ≡ m
+idle : (x : Extent) (o : Option EventView) → ((i : ℕ) (op : Op) (told : Option Reply) → o ≡ Some (events.Sub i op told) → ⊥) → (m : List ℕ) → acted_on x m o ≡ m
 unfolding acted_on
 idle x (Some (events.Sub i op told)) none m = absurd (none i op told refl)
 idle x (Some (events.Due b)) none m = refl
@@ -83,7 +104,7 @@ idle x None none m = refl
 pub idle_brings : (log : LogView) (b q : ℕ) → ((i : ℕ) (op : Op) (told : Option Reply) → slice_get log.events b ≡ Some (events.Sub i op told) → ⊥) → NeverBrings log b q
 idle_brings log b q none m agrees there = subst (λ k. Suits log.extent k (slice_get log.events q)) (idle log.extent (slice_get log.events b) none m) there
 
-suits_idle : (x : Extent) (o : Option Event) → ((i : ℕ) (op : Op) (told : Option Reply) → o ≡ Some (events.Sub i op told) → ⊥) → (m : List ℕ) → Suits x m o
+suits_idle : (x : Extent) (o : Option EventView) → ((i : ℕ) (op : Op) (told : Option Reply) → o ≡ Some (events.Sub i op told) → ⊥) → (m : List ℕ) → Suits x m o
 suits_idle x (Some (events.Sub i op told)) none m = absurd (none i op told refl)
 suits_idle x (Some (events.Due b)) none m = tt
 suits_idle x (Some events.Free) none m = tt
@@ -100,12 +121,6 @@ idle_yields log b q none m agrees there =
       ap (λ k. acted_on x k other) (idle x one none m) ∙ sym (idle x one none (acted_on x m other)),
     )
 
-pub not_due : (o : Option Event) (c i : ℕ) (op : Op) (told : Option Reply) → o ≡ Some (events.Due c) → o ≡ Some (events.Sub i op told) → ⊥
-not_due o c i op told e f = cc
-
-pub not_free : (o : Option Event) (i : ℕ) (op : Op) (told : Option Reply) → o ≡ Some events.Free → o ≡ Some (events.Sub i op told) → ⊥
-not_free o i op told e f = cc
-
 -- one reply is all that was answered
 pub way_of : (base block : ℕ) (m : List ℕ) (one op : Op) (told asked : Option Reply) (reply : Reply) → asked ≡ Some reply
     → ((answer base block (after base block m one) op ≡ reply → ⊥)
@@ -117,6 +132,3 @@ pub way_of : (base block : ℕ) (m : List ℕ) (one op : Op) (told asked : Optio
 way_of base block m one op told asked reply is (inl broken) = inl (λ there. broken (there reply is))
 way_of base block m one op told asked reply is (inr (still, agrees, swap)) =
     inr ((λ r told_it. still ∙ same_Some reply r (sym is ∙ told_it)), agrees, swap)
-
-pub not_none : (o : Option Event) (i : ℕ) (op : Op) (told : Option Reply) → o ≡ None → o ≡ Some (events.Sub i op told) → ⊥
-not_none o i op told e f = cc

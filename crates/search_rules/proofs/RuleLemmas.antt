@@ -3,8 +3,8 @@ use Rattle.std.proofs.Common.{◌≡◌, ◌∙◌, ℕ, zero, suc, ◌+◌, Boo
 use Rattle.std.specs.Prelude.{slice_get, slice_set}
 use Rattle.std.proofs.lemmas.Bool.{cases_eq}
 use Rattle.std.proofs.lemmas.Option.{same_Some}
-use Rattle.log_runs.specs.declared.Event.{Event}
-use Rattle.log_runs.specs.declared.Event.TheVariants as events
+use Rattle.log_runs.specs.EventView.{EventView}
+use Rattle.log_runs.specs.EventView as events
 use Rattle.log_runs.specs.declared.Step.{Step}
 use Rattle.log_runs.specs.declared.Step.TheVariants as steps
 use Rattle.log_runs.specs.LogView.{LogView}
@@ -83,7 +83,7 @@ module _ (log : LogView) where
     replied = subst (Suits log.extent t.bytes) m.submitted there;
   }
 
-  pub pass_later : (q : ℕ) (s t : State) → t.acted ≡ slice_set s.acted q true → (o : Option Event) → MayPass s o → MayPass t o
+  pub pass_later : (q : ℕ) (s t : State) → t.acted ≡ slice_set s.acted q true → (o : Option EventView) → MayPass s o → MayPass t o
   pass_later q s t acted (Some (events.Sub i op told)) a = tt
   pass_later q s t acted (Some (events.Due b)) a = ap (λ xs. slice_get xs b) acted ∙ acted_kept s.acted q b a
   pass_later q s t acted (Some events.Free) a = tt

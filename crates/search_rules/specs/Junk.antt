@@ -1,6 +1,7 @@
 -- Bytes that are nothing to an operation.
-use Rattle.std.specs.Prelude.{ℕ, ◌≡◌, ◌⊎◌, List, length, Option}
+use Rattle.std.specs.Prelude.{ℕ, ◌≡◌, ◌+◌, ◌≤◌, ◌⊎◌, List, length, Option}
 use Rattle.tlp_core.specs.declared.operation.Op.{Op}
+use Rattle.tlp_core.specs.Operation.{address_of, count_of}
 use Rattle.seq_memory.specs.declared.Reply.{Reply}
 use Rattle.seq_memory.specs.Limits.{Extent}
 use Rattle.seq_memory.specs.Step.{after}
@@ -21,6 +22,10 @@ MissesThere x m one told other = (n : List ℕ) → AreSameAt x.base other m n �
 abbrev pub MissesLeft : Extent → Op → Option Reply → Op → Option Reply → Type 0
 MissesLeft x one told third had =
     (k n : List ℕ) → length k ≡ x.size → Agrees x.base x.block k third had → AreSameAt x.base third (after x.base x.block k third) n → Agrees x.base x.block n one told → ⊥
+
+-- the first has all addresses of the second
+abbrev pub HasAddresses : Op → Op → Type 0
+HasAddresses one other = (address_of one ≤ address_of other) × (address_of other + count_of other ≤ address_of one + count_of one)
 
 -- what stands at the other's addresses in m is nothing to the operation
 abbrev pub IsJunk : Extent → List ℕ → Op → Option Reply → Op → Type 0

@@ -1,24 +1,24 @@
 -- When a state is lost, and when a request may act at once.
-use Rattle.std.specs.Prelude.{ℕ, ◌≡◌, ◌+◌, ◌<◌, ◌≤◌, ◌⊎◌, List, [], ◌∷◌, length, slice_get, Option, Some, None, true, false}
+use Rattle.std.specs.Prelude.{ℕ, ◌≡◌, ◌<◌, ◌≤◌, ◌⊎◌, List, [], ◌∷◌, length, slice_get, Option, Some, None, true, false}
 use Rattle.tlp_core.specs.declared.operation.Op.{Op}
 use Rattle.seq_memory.specs.declared.Reply.{Reply}
 use Rattle.seq_memory.specs.Limits.{Extent}
-use Rattle.tlp_core.specs.Operation.{is_posted, address_of, count_of}
+use Rattle.tlp_core.specs.Operation.{is_posted}
 use Rattle.byte_effects.specs.Effects.{AreApart, AreSameAt}
-use Rattle.log_runs.specs.declared.Event.{Event}
-use Rattle.log_runs.specs.declared.Event.TheVariants as events
+use Rattle.log_runs.specs.EventView.{EventView}
+use Rattle.log_runs.specs.EventView as events
 use Rattle.log_runs.specs.LogView.{LogView}
 use Rattle.log_runs.specs.declared.Step.{Step}
 use Rattle.log_runs.specs.declared.Step.TheVariants as steps
 use Rattle.log_runs.specs.Runs.{State, MayAct, Leads, reply_of, acted_on}
-use Rattle.search_rules.specs.Junk.{IsJunk, LeavesJunk}
+use Rattle.search_rules.specs.Junk.{HasAddresses, IsJunk, LeavesJunk}
 
 -- the memory answers what was answered, if anything was
 abbrev pub Answers : Extent → List ℕ → Op → Option Reply → Type 0
 Answers x m op told = (r : Reply) → told ≡ Some r → reply_of x m op ≡ r
 
 -- the memory answers what the request at the event was answered, if it was
-abbrev pub Suits : Extent → List ℕ → Option Event → Type 0
+abbrev pub Suits : Extent → List ℕ → Option EventView → Type 0
 Suits x m (Some (events.Sub i op told)) = Answers x m op told
 Suits x m (Some (events.Due b)) = Unit {0}
 Suits x m (Some events.Free) = Unit {0}
@@ -31,7 +31,7 @@ NeverBrings log b q =
     → Suits log.extent m (slice_get log.events q)
 
 -- from m the second isn't suited after the first, n being the bytes that this leaves, or their order makes no difference
-abbrev pub Ends : Extent → List ℕ → List ℕ → Option Event → Option Event → Type 0
+abbrev pub Ends : Extent → List ℕ → List ℕ → Option EventView → Option EventView → Type 0
 Ends x m n one other =
     (Suits x n other → ⊥) ⊎ (Suits x n other × Suits x (acted_on x m other) one × (acted_on x n other ≡ acted_on x (acted_on x m other) one))
 
@@ -102,7 +102,7 @@ ChangesNothing log b = (m : List ℕ) → Suits log.extent m (slice_get log.even
 abbrev pub IsWithin : LogView → ℕ → ℕ → Type 0
 IsWithin log g q =
     (i j : ℕ) (third other : Op) (had asked : Option Reply) → slice_get log.events g ≡ Some (events.Sub i third had) → slice_get log.events q ≡ Some (events.Sub j other asked)
-    → (address_of other ≤ address_of third) × (address_of third + count_of third ≤ address_of other + count_of other)
+    → HasAddresses other third
 
 -- what stands at the addresses of request q in m is nothing to request b
 abbrev pub IsJunkTo : LogView → List ℕ → ℕ → ℕ → Type 0

@@ -3,11 +3,12 @@ ghost use Rattle.std.specs.Prelude.{ℕ, ◌≡◌, ◌⊎◌, List, Option, Som
 ghost use Rattle.tlp_core.specs.declared.operation.Op.{Op};
 ghost use Rattle.seq_memory.specs.declared.Reply.{Reply};
 ghost use Rattle.seq_memory.specs.Step as step;
-ghost use Rattle.log_runs.specs.declared.Event.TheVariants as events;
-ghost use Rattle.search_rules.specs.Rules.{IsJunkTo};
+ghost use Rattle.byte_effects.specs.Effects.{AreApart, told_of};
+ghost use Rattle.log_runs.specs.EventView as events;
+ghost use Rattle.search_rules.specs.Rules.{IsJunkTo, LeavesJunkTo, IsWithin};
 ghost use Rattle.search_rules.specs.Junk as specs;
 
-use byte_effects::{are_apart, breaks, covers, waits};
+use byte_effects::{are_apart, breaks, covers, spans, waits};
 use log_runs::{Event, Log};
 use memory_undo::refusal;
 use seq_memory::Reply;
@@ -17,17 +18,18 @@ use tlp_core::Op;
 fn is_served(log: &Log, op: &Op) -> bool
     ensures { IsTrue result → step.refusal log.now.extent.base log.now.extent.size log.now.extent.block op.now ≡ None }
 {
-    refusal(log.extent.base(), log.extent.block(), log.extent.size(), op).is_none()
+    let extent = log.extent();
+    refusal(extent.base(), extent.block(), extent.size(), op).is_none()
 }
 
 /// The operation, which wasn't answered, is a read, or writes all bytes of the other.
-fn overlooks(log: &Log, one: &Op, told: &Option<Reply>, other: &Op) -> bool
-    ensures { IsTrue result → specs.Overlooks log.now.extent one.now told.now other.now }
+fn overlooks(log: &Log, one: &Op, told: Option<&Reply>, other: &Op) -> bool
+    ensures { IsTrue result → specs.Overlooks log.now.extent one.now (told_of told.entry) other.now }
 {
     if told.is_some() {
         return false;
     }
-    if byte_effects::is_quiet(log.extent.block(), one, told) {
+    if byte_effects::is_quiet(log.extent().block(), one, told) {
         return true;
     }
     if !is_served(log, one) {
@@ -36,69 +38,127 @@ fn overlooks(log: &Log, one: &Op, told: &Option<Reply>, other: &Op) -> bool
     covers(one, other)
 }
 
-/// The operation was answered otherwise than by these bytes, and than by what the other leaves.
-fn misses(
-    log: &Log,
-    bytes: &[u8],
-    one: &Op,
-    told: &Option<Reply>,
-    other: &Op,
-    asked: &Option<Reply>,
-) -> bool
-    ensures { IsTrue result → specs.Misses log.now.extent bytes.now one.now told.now other.now asked.now }
-{
-    let Some(reply) = told else {
-        return false;
-    };
-    if !is_served(log, other) {
-        return false;
-    }
-    if !waits(log.extent.base(), bytes, one, told, other) {
-        return false;
-    }
-    breaks(log.extent.block(), other, asked, one, reply)
-}
-
-/// Both these bytes at the addresses of the other and what it leaves there are nothing to the
-/// operation.
-fn is_junk(
-    log: &Log,
-    bytes: &[u8],
-    one: &Op,
-    told: &Option<Reply>,
-    other: &Op,
-    asked: &Option<Reply>,
-) -> bool
-    ensures { IsTrue result → specs.IsJunk log.now.extent bytes.now one.now told.now other.now asked.now }
+/// The operations have no byte in common, or it makes no difference to the first what stands at the
+/// addresses of the second.
+fn ignores(log: &Log, one: &Op, told: Option<&Reply>, other: &Op) -> bool
+    ensures { IsTrue result → AreApart one.now other.now ⊎ specs.Overlooks log.now.extent one.now (told_of told.entry) other.now }
 {
     if are_apart(one, other) {
         return true;
     }
-    if overlooks(log, one, told, other) {
+    overlooks(log, one, told, other)
+}
+
+/// These bytes at the addresses of the other are nothing to the operation.
+fn is_junk(log: &Log, bytes: &[u8], one: &Op, told: Option<&Reply>, other: &Op) -> bool
+    ensures { IsTrue result → specs.IsJunk log.now.extent bytes.now one.now (told_of told.entry) other.now }
+{
+    if ignores(log, one, told, other) {
         return true;
     }
-    misses(log, bytes, one, told, other, asked)
+    waits(log.extent().base(), bytes, one, told, other)
 }
 
 /// [`is_junk`], the other being request `q`.
-fn is_junk_by(log: &Log, bytes: &[u8], one: &Op, told: &Option<Reply>, q: usize) -> bool
-    ensures { IsTrue result → (j : ℕ) × (other : Op) × (asked : Option Reply) × (slice_get log.now.events q ≡ Some (events.Sub j other asked)) × specs.IsJunk log.now.extent bytes.now one.now told.now other asked }
+fn is_junk_by(log: &Log, bytes: &[u8], one: &Op, told: Option<&Reply>, q: usize) -> bool
+    ensures { IsTrue result → (j : ℕ) × (other : Op) × (asked : Option Reply) × (slice_get log.now.events q ≡ Some (events.Sub j other asked)) × specs.IsJunk log.now.extent bytes.now one.now (told_of told.entry) other }
 {
-    match log.events.get(q) {
-        Some(Event::Sub { op, reply, .. }) => is_junk(log, bytes, one, told, op, reply),
+    match log.event(q) {
+        Some(Event::Sub { op, .. }) => is_junk(log, bytes, one, told, op),
         _ => false,
     }
 }
 
-/// Both these bytes at the addresses of request `q` and what it leaves there are nothing to request
-/// `b`.
+/// These bytes at the addresses of request `q` are nothing to request `b`.
 pub fn is_junk_to(log: &Log, bytes: &[u8], b: usize, q: usize) -> bool
     ensures { IsTrue result → IsJunkTo log.now bytes.now b q }
 {
-    match log.events.get(b) {
+    match log.event(b) {
         Some(Event::Sub { op, reply, .. }) => is_junk_by(log, bytes, op, reply, q),
         Some(Event::Due { .. }) => true,
         Some(Event::Free) => true,
         None => false,
+    }
+}
+
+/// The operation was answered otherwise than by what the third leaves.
+fn misses_left(log: &Log, one: &Op, told: Option<&Reply>, third: &Op, had: Option<&Reply>) -> bool
+    ensures { IsTrue result → specs.MissesLeft log.now.extent one.now (told_of told.entry) third.now (told_of had.entry) }
+{
+    let Some(reply) = told else {
+        return false;
+    };
+    if !is_served(log, third) {
+        return false;
+    }
+    breaks(log.extent().block(), third, had, one, reply)
+}
+
+/// What the third leaves, among the addresses of the other, is nothing to the operation.
+fn leaves_junk(
+    log: &Log,
+    one: &Op,
+    told: Option<&Reply>,
+    other: &Op,
+    third: &Op,
+    had: Option<&Reply>,
+) -> bool
+    ensures { IsTrue result → specs.LeavesJunk log.now.extent one.now (told_of told.entry) other.now third.now (told_of had.entry) }
+{
+    if ignores(log, one, told, other) {
+        return true;
+    }
+    misses_left(log, one, told, third, had)
+}
+
+/// [`leaves_junk`], the third being request `g`.
+fn leaves_junk_behind(log: &Log, one: &Op, told: Option<&Reply>, other: &Op, g: usize) -> bool
+    ensures { IsTrue result → (l : ℕ) × (third : Op) × (had : Option Reply) × (slice_get log.now.events g ≡ Some (events.Sub l third had)) × specs.LeavesJunk log.now.extent one.now (told_of told.entry) other.now third had }
+{
+    match log.event(g) {
+        Some(Event::Sub { op, reply, .. }) => leaves_junk(log, one, told, other, op, reply),
+        _ => false,
+    }
+}
+
+/// [`leaves_junk_behind`], the other being request `q`.
+fn leaves_junk_by(log: &Log, one: &Op, told: Option<&Reply>, q: usize, g: usize) -> bool
+    ensures { IsTrue result → (j : ℕ) × (other : Op) × (asked : Option Reply) × (slice_get log.now.events q ≡ Some (events.Sub j other asked)) × ((l : ℕ) × (third : Op) × (had : Option Reply) × (slice_get log.now.events g ≡ Some (events.Sub l third had)) × specs.LeavesJunk log.now.extent one.now (told_of told.entry) other third had) }
+{
+    match log.event(q) {
+        Some(Event::Sub { op, .. }) => leaves_junk_behind(log, one, told, op, g),
+        _ => false,
+    }
+}
+
+/// What request `g` leaves, among the addresses of request `q`, is nothing to request `b`.
+pub fn leaves_junk_to(log: &Log, b: usize, q: usize, g: usize) -> bool
+    ensures { IsTrue result → LeavesJunkTo log.now b q g }
+{
+    match log.event(b) {
+        Some(Event::Sub { op, reply, .. }) => leaves_junk_by(log, op, reply, q, g),
+        Some(Event::Due { .. }) => true,
+        Some(Event::Free) => true,
+        None => false,
+    }
+}
+
+/// The addresses of the operation are among those of request `q`.
+fn is_within_by(log: &Log, third: &Op, q: usize) -> bool
+    ensures { IsTrue result → (j : ℕ) × (other : Op) × (asked : Option Reply) × (slice_get log.now.events q ≡ Some (events.Sub j other asked)) × specs.HasAddresses other third.now }
+{
+    match log.event(q) {
+        Some(Event::Sub { op, .. }) => spans(op, third),
+        _ => false,
+    }
+}
+
+/// The addresses of request `g` are among those of request `q`.
+pub fn is_within(log: &Log, g: usize, q: usize) -> bool
+    ensures { IsTrue result → IsWithin log.now g q }
+{
+    match log.event(g) {
+        Some(Event::Sub { op, .. }) => is_within_by(log, op, q),
+        _ => false,
     }
 }

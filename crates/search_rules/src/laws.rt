@@ -2,7 +2,7 @@
 ghost use Rattle.std.specs.Prelude.{ℕ, ◌≡◌, List, slice_get, Option, Some};
 ghost use Rattle.tlp_core.specs.declared.operation.Op.{Op};
 ghost use Rattle.seq_memory.specs.declared.Reply.{Reply};
-ghost use Rattle.log_runs.specs.declared.Event.TheVariants as events;
+ghost use Rattle.log_runs.specs.EventView as events;
 ghost use Rattle.log_runs.specs.declared.Step.TheVariants as steps;
 ghost use Rattle.log_runs.specs.LogView.{LogView};
 ghost use Rattle.log_runs.specs.Runs.{State, MayAct, Dead, IsForced, acted_on};

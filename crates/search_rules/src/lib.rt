@@ -3,8 +3,8 @@
 //! A run is dead once a request doesn't find what it needs and no other brings it before its answer is
 //! due. A request that may act acts at once, if each other that could act before it takes away for
 //! good what it needs, or makes no difference to it; and if none that has one of its bytes can act
-//! before it. It acts at once, too, if what it overwrites and what it leaves there is junk: nobody who
-//! is left needs it, but such that may act right after it and change nothing. [`laws`] says this of all
+//! before it. It acts at once, too, if others may act in turn after it and leave only junk: nobody who
+//! is left then needs what it overwrote, or what any of them put there. [`laws`] says this of all
 //! runs, whatever the operations do. What two requests of a log do to each other is told by their
 //! bytes.
 #![tactic(auto)]
@@ -13,5 +13,5 @@ mod junk;
 pub mod laws;
 mod pairs;
 
-pub use junk::is_junk_to;
+pub use junk::{is_junk_to, is_within, leaves_junk_to};
 pub use pairs::{changes_nothing, follows, lets_first, never_brings, yields};

@@ -1,6 +1,4 @@
-use Rattle.std.proofs.Common.{◌≡◌, ℕ, ◌<◌, true, arith, ◌∙◌, ap, subst}
-use Rattle.std.proofs.lemmas.Bool.{cases_eq}
-use Rattle.byte_effects.specs.Effects.{is_put}
+use Rattle.std.proofs.Common.{arith}
 use Rattle.byte_effects.proofs.covering.puts_all.Goals as goal
 
 pub returns : goal.returns

@@ -1,5 +1,6 @@
 use Rattle.std.proofs.Common.{◌∙◌, sym, refl}
 use Rattle.seq_memory.specs.Step.{after}
+use Rattle.byte_effects.specs.Effects.{told_of}
 use Rattle.byte_effects.proofs.Yielding.{brings_broken, kept_by_read, ends_apart, ends_read, ends_broken}
 use Rattle.byte_effects.proofs.pairs.yields.Goals as goal
 
@@ -8,7 +9,7 @@ returns-then-are_apart-clause-brings c = λ yes base m agrees e. sym (c.apart_re
 
 pub returns-then-are_apart-clause-order : goal.returns-then-are_apart-clause-order
 returns-then-are_apart-clause-order c = λ yes base m agrees e.
-    ends_apart base c.args.block m c.args.one.now c.args.other.now c.args.told.now c.args.reply.now
+    ends_apart base c.args.block m c.args.one.now c.args.other.now (told_of c.args.told) c.args.reply.now
     (c.apart_requests_commute.ensures.answer base c.args.block) (c.apart_requests_commute.ensures.after base c.args.block) (c.are_apart.ensures c.if-are_apart.true) agrees e
 
 pub returns-then-is_read-clause-brings : goal.returns-then-is_read-clause-brings
@@ -17,7 +18,7 @@ returns-then-is_read-clause-brings c = λ yes base m agrees e.
 
 pub returns-then-is_read-clause-order : goal.returns-then-is_read-clause-order
 returns-then-is_read-clause-order c = λ yes base m agrees e.
-    ends_read base c.args.block m c.args.one.now c.args.other.now c.args.told.now c.args.reply.now
+    ends_read base c.args.block m c.args.one.now c.args.other.now (told_of c.args.told) c.args.reply.now
     (c.refused_and_read_change_nothing.ensures.reads base c.args.block) (c.is_read.ensures c.if-is_read.true) (c.read_yields.ensures yes) agrees e
 
 pub returns-clause-brings : goal.returns-clause-brings
@@ -27,5 +28,5 @@ returns-clause-brings c = λ yes base m agrees e.
 
 pub returns-clause-order : goal.returns-clause-order
 returns-clause-order c = λ yes base m agrees e.
-    ends_broken c.only_the_place_changes.ensures.size c.refused_and_read_change_nothing.ensures.refused base c.args.block m c.args.one.now c.args.other.now c.args.told.now c.args.reply.now
+    ends_broken c.only_the_place_changes.ensures.size c.refused_and_read_change_nothing.ensures.refused base c.args.block m c.args.one.now c.args.other.now (told_of c.args.told) c.args.reply.now
     (λ served. c.breaks.ensures yes base m (after base c.args.block m c.args.one.now) served agrees (λ k front back. refl)) agrees e

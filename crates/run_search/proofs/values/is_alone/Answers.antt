@@ -1,7 +1,7 @@
 use Rattle.std.proofs.Common.{◌≡◌, ◌∙◌, Some, List, ℕ, ap, subst}
 use Rattle.std.specs.Prelude.{slice_get}
 use Rattle.seq_memory.specs.declared.Reply.TheVariants as replies
-use Rattle.log_runs.specs.declared.Event.TheVariants as events
+use Rattle.log_runs.specs.EventView as events
 use Rattle.log_runs.specs.LogView.{LogView}
 use Rattle.run_search.specs.Values.{IsAloneFor}
 use Rattle.run_search.proofs.ValueLemmas.{event_at, alone}

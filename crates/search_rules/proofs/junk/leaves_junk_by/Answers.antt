@@ -1,0 +1,7 @@
+use Rattle.byte_effects.specs.Effects.{told_of}
+use Rattle.search_rules.proofs.PairLemmas.{sub_at}
+use Rattle.search_rules.proofs.junk.leaves_junk_by.Goals as goal
+
+pub returns-in-Some-Sub : goal.returns-in-Some-Sub
+returns-in-Some-Sub c = λ yes.
+    (c.in-Some-Sub.field-0-0, c.in-Some-Sub.op.now, told_of c.in-Some-Sub.field-0-2, sub_at c.args.log.now.events c.args.q c.in-Some-Sub.field-0 c.in-Some-Sub.field-0-0 c.in-Some-Sub.op c.in-Some-Sub.field-0-2 c.in-Some-Sub.field-0-is c.in-Some-Sub.ensures, c.leaves_junk_behind.ensures yes)
