@@ -8,4 +8,3 @@ pub mod FrameLemmas
 pub mod Readiness
 pub mod OthersOf
 pub mod SketchLemmas
-pub mod ValueLemmas

@@ -8,5 +8,4 @@ pub mod Offered
 pub mod Frames
 pub mod Outcomes
 pub mod Sketches
-pub mod Values
 pub mod Catalogs

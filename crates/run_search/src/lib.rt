@@ -23,7 +23,6 @@ mod place;
 mod rules;
 mod sketches;
 mod steps;
-mod values;
 mod walk;
 
 pub use exploring::{Outcome, explore};

@@ -11,12 +11,11 @@ use crate::hints::Look;
 use crate::lost::is_left;
 use crate::others::{Asked, others_spare};
 use crate::place::Place;
-use crate::values::is_alone;
 use log_runs::{Log, Step};
 use search_rules::laws::{
     the_first_acts_at_once, the_last_acts_at_once, what_changes_nothing_acts_at_once,
 };
-use search_rules::{changes_nothing, follows};
+use search_rules::{changes_nothing, follows, is_alone};
 
 /// The request, which may act, changes nothing.
 fn is_quiet(place: &Place, log: &Log, q: usize) -> bool

@@ -1,7 +1,14 @@
-use Rattle.std.proofs.Common.{arith}
+use Rattle.std.proofs.Common.{ℕ, sym, subst, arith}
+use Rattle.std.specs.Prelude.{slice_get}
+use Rattle.log_runs.specs.LogView.{LogView}
+use Rattle.log_runs.specs.Runs.{State, MayAct}
+use Rattle.search_rules.specs.Rules.{Suits}
 use Rattle.run_search.specs.Places.{state_of}
-use Rattle.run_search.proofs.ValueLemmas.{suits_there}
 use Rattle.run_search.proofs.rules.is_first.Goals as goal
+
+-- the memory suits a request that may act
+suits_there : (log : LogView) (s : State) (q : ℕ) → MayAct log s q → Suits log.extent s.bytes (slice_get log.events q)
+suits_there log s q m = subst (Suits log.extent s.bytes) (sym m.submitted) m.replied
 
 pub returns : goal.returns
 returns c = λ so.

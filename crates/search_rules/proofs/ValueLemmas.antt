@@ -1,8 +1,9 @@
 -- Requests with different keys, and requests that name other words.
-use Rattle.std.proofs.Common.{◌≡◌, ◌∙◌, ◌⊎◌, inl, inr, ℕ, ◌+◌, ◌*◌, ◌-◌, ◌/◌, ◌%◌, ◌<◌, ◌≤◌, true, false, Bool, List, [], Some, None, Option, length, get_or, refl, sym, ap, subst, arith}
-use Rattle.std.specs.Prelude.{slice_get, slice_index, ◌==◌}
-use Rattle.std.proofs.lemmas.Bool.{cases_eq, cases_lt, cases_order, cases_Bool}
-use Rattle.std.proofs.lemmas.Option.{same_Some, slice_get_within, slice_get_past, slice_get_read}
+use Rattle.std.proofs.Common.{◌≡◌, ◌∙◌, ◌⊎◌, inl, inr, ℕ, ◌+◌, ◌*◌, ◌-◌, ◌/◌, ◌%◌, ◌<◌, ◌≤◌, true, false, Bool, List, [], Some, None, Option, length, refl, sym, ap, subst, arith}
+use Rattle.std.specs.Prelude.{slice_get, slice_index}
+use Rattle.std.proofs.lemmas.Bool.{cases_eq, cases_lt, cases_order}
+use Rattle.std.proofs.lemmas.Option.{same_Some, slice_get_within, slice_get_past}
+use Rattle.std.specs.Borrow.{Bor}
 use Rattle.arrayvec.specs.ArrayVec.{ArrayVec}
 use Rattle.tlp_core.specs.declared.operation.Op.{Op}
 use Rattle.tlp_core.specs.Operation.{address_of, count_of}
@@ -10,26 +11,26 @@ use Rattle.seq_memory.specs.declared.Reply.{Reply}
 use Rattle.seq_memory.specs.declared.Reply.TheVariants as replies
 use Rattle.seq_memory.specs.Step.{answer}
 use Rattle.byte_effects.specs.Effects as effects
-use Rattle.byte_effects.specs.Effects.{AreApart}
-use Rattle.log_runs.specs.EventView.{EventView}
+use Rattle.byte_effects.specs.Effects.{AreApart, told_of}
+use Rattle.log_runs.specs.declared.Event.{Event}
+use Rattle.log_runs.specs.declared.Event.TheVariants as lent
+use Rattle.log_runs.specs.EventView.{EventView, event_of}
 use Rattle.log_runs.specs.EventView as events
 use Rattle.log_runs.specs.LogView.{LogView}
-use Rattle.log_runs.specs.Runs.{State, MayAct, reply_of}
-use Rattle.search_rules.specs.Rules.{Answers, Suits, LetsFirst, AreApartThere, AreSameFor, Waits}
-use Rattle.run_search.specs.declared.values.Gathering.{Gathering}
-use Rattle.run_search.specs.declared.values.Values.{Values}
-use Rattle.run_search.specs.Pending.{has}
-use Rattle.run_search.specs.Values.{word_value, KeyFor, HasKey, Touches, IsMixed, AreValues, AreGathered, Adds, IsAloneFor, IsAlone}
-use Rattle.run_search.proofs.Lists.{clash}
+use Rattle.log_runs.specs.Runs.{reply_of}
+use Rattle.search_rules.specs.Rules.{Answers, Suits, LetsFirst, AreApartThere, AreSameFor}
+use Rattle.search_rules.specs.declared.values.Gathering.{Gathering}
+use Rattle.search_rules.specs.declared.values.Values.{Values}
+use Rattle.search_rules.specs.Values.{has_key, word_value, KeyFor, HasKey, Touches, IsMixed, AreValues, AreGathered, Adds, IsAloneFor, IsAlone}
+use Rattle.search_rules.proofs.RuleLemmas.{clash}
+use Rattle.search_rules.proofs.PairLemmas.{sub_at}
 
--- an event that was read
-pub event_at : (es ds items : List EventView) (b : ℕ) (r e : EventView) → ds ≡ items → items ≡ es → b < length ds → r ≡ get_or ds b r → r ≡ e → slice_get es b ≡ Some e
-event_at es ds items b r e one two within read is =
-    ap (λ xs. slice_get xs b) (sym (one ∙ two)) ∙ slice_get_read ds (length ds) b r refl within read ∙ ap (λ x. Some x) is
-
--- the memory suits a request that may act
-pub suits_there : (log : LogView) (s : State) (q : ℕ) → MayAct log s q → Suits log.extent s.bytes (slice_get log.events q)
-suits_there log s q m = subst (Suits log.extent s.bytes) (sym m.submitted) m.replied
+-- a request of the log that was answered with those bytes
+pub answered_at : (es : List EventView) (b : ℕ) (r : Event) (i : ℕ) (op : Bor Op) (told : Option (Bor Reply)) (reply : Bor Reply) (d : ArrayVec ℕ)
+    → r ≡ lent.Sub i op told → told ≡ Some reply → reply.now ≡ replies.Data d → Some (event_of r) ≡ slice_get es b
+    → slice_get es b ≡ Some (events.Sub i op.now (Some (replies.Data d)))
+answered_at es b r i op told reply d is told_is reply_is read =
+    sub_at es b r i op told is read ∙ ap (λ t. Some (events.Sub i op.now t)) (ap told_of told_is ∙ ap (λ y. Some y) reply_is)
 
 -- ---- places
 
@@ -136,7 +137,7 @@ module _ (log : LogView) where
         let touches : Touches base op one.word = (omega (arith, one.place, one.key.whole), omega (arith, one.place)) in
         let never : IsMixed base (slice_get log.events q) mixed → ⊥ = λ marks.
         clash refl (same_Some true false (sym (marks i one.word op (Some (replies.Data d)) at touches (slice_get_within mixed one.word false one.pure)) ∙ one.pure)) in
-        let shared : ((has v.shared.keys one.number ≡ true) ⊎ IsMixed base (slice_get log.events b) mixed ⊎ IsMixed base (slice_get log.events q) mixed) → LetsFirst log m b q = λ s. elim s [
+        let shared : ((has_key v.shared one.number ≡ true) ⊎ IsMixed base (slice_get log.events b) mixed ⊎ IsMixed base (slice_get log.events q) mixed) → LetsFirst log m b q = λ s. elim s [
           | inl twice ↦ absurd (clash twice one.unshared)
           | inr (inl marks) ↦ far marks
           | inr (inr marks) ↦ absurd (never marks)
@@ -200,7 +201,7 @@ module _ (log : LogView) where
       keep : (b : ℕ) → IsMixed base (slice_get log.events b) g.values.mixed.items → IsMixed base (slice_get log.events b) h.values.mixed.items
       keep b = stays base (slice_get log.events b) g.values.mixed.items h.values.mixed.items more.len more.mixed
 
-      seen : (b : ℕ) → b < n + 1 → ((k : ℕ) × HasKey base (slice_get log.events b) k × (has h.seen.keys k ≡ true)) ⊎ IsMixed base (slice_get log.events b) h.values.mixed.items
+      seen : (b : ℕ) → b < n + 1 → ((k : ℕ) × HasKey base (slice_get log.events b) k × (has_key h.seen k ≡ true)) ⊎ IsMixed base (slice_get log.events b) h.values.mixed.items
       seen b l = elim (cases_eq b n) [
         | inl same ↦
             let here : slice_get log.events b ≡ o = ap (slice_get log.events) same ∙ at in
@@ -221,7 +222,7 @@ module _ (log : LogView) where
       ]
 
       shared : (b c k : ℕ) → b < c → c < n + 1 → HasKey base (slice_get log.events b) k → HasKey base (slice_get log.events c) k
-          → (has h.values.shared.keys k ≡ true) ⊎ IsMixed base (slice_get log.events b) h.values.mixed.items ⊎ IsMixed base (slice_get log.events c) h.values.mixed.items
+          → (has_key h.values.shared k ≡ true) ⊎ IsMixed base (slice_get log.events b) h.values.mixed.items ⊎ IsMixed base (slice_get log.events c) h.values.mixed.items
       shared b c k l low kb kc = elim (cases_eq c n) [
         | inr other ↦ elim (old.values.shared b c k l (omega (arith, low, other)) kb kc) [
           | inl twice ↦ inl (more.shared k twice)
@@ -237,8 +238,8 @@ module _ (log : LogView) where
                 | inl before ↦
                     let own : key.0 ≡ k = one_key base o key.0 k key.1 (subst (λ x. HasKey base x k) here kc) in
                     let theirs : before.0 ≡ k = one_key base (slice_get log.events b) before.0 k before.1 kb in
-                    let known : has g.seen.keys key.0 ≡ true = subst (λ x. has g.seen.keys x ≡ true) (theirs ∙ sym own) before.2 in
-                    inl (subst (λ x. has h.values.shared.keys x ≡ true) own (key.3 known))
+                    let known : has_key g.seen key.0 ≡ true = subst (λ x. has_key g.seen x ≡ true) (theirs ∙ sym own) before.2 in
+                    inl (subst (λ x. has_key h.values.shared x ≡ true) own (key.3 known))
               ]
             ]
       ]

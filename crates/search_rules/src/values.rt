@@ -1,9 +1,13 @@
-//! Requests before which no other can act, as long as they may: no other needs the same bytes there.
-ghost use Rattle.std.specs.Prelude.{◌≡◌, ◌+◌, ◌*◌, ◌<◌, ◌≤◌, ℕ, true, Some, IfOk, IfSome, OnOk, IsTrue, length, slice_get, replicate, false};
+//! Requests before which no other can act, as long as they may act.
+//!
+//! A request is alone if it needs a value of a whole word that no other request needs there, and if all
+//! others that name bytes of that word need values of the whole word, too. While the memory has its
+//! value, none of them can act before it.
+ghost use Rattle.std.specs.Prelude.{◌≡◌, ◌+◌, ◌*◌, ◌<◌, ◌≤◌, ℕ, true, Some, option_map, IfOk, IfSome, OnOk, IsTrue, length, slice_get, replicate, false};
 ghost use Rattle.tlp_core.specs.Operation.{address_of, count_of};
 ghost use Rattle.byte_effects.specs.Effects as effects;
-ghost use Rattle.run_search.specs.Pending.{has};
-ghost use Rattle.run_search.specs.Values.{word_value, KeyFor, HasKey, Touches, IsMixed, Adds, AreValues, AreGathered, IsAloneFor, IsAlone};
+ghost use Rattle.log_runs.specs.EventView.{event_of};
+ghost use Rattle.search_rules.specs.Values.{has_key, word_value, KeyFor, HasKey, Touches, IsMixed, Adds, AreValues, AreGathered, IsAloneFor, IsAlone};
 
 use byte_effects::is_needed;
 use byte_effects::laws::what_is_needed_is_there;
@@ -13,12 +17,16 @@ use std::alloc::{AllocError, Global};
 use std::collections::HashSet;
 use tlp_core::Op;
 
-/// The requests that need a whole word have a key, which says where the word is and what it has to be.
+/// Which values the requests of a log need in the words of its memory.
+///
+/// [`values_of`] gathers them from the whole log, once. [`is_alone`] then answers for one request
+/// without a look at the others.
 #[derive(Drop)]
-pub(crate) struct Values {
-    /// The keys that several requests have.
+pub struct Values {
+    /// The keys that several requests have. A request that needs a whole word has a key, which says
+    /// where the word is and what it has to be.
     shared: HashSet<u64>,
-    /// Which words requests name that have no key.
+    /// Which words are named by requests that have no key.
     mixed: Vec<bool>,
 }
 
@@ -80,15 +88,17 @@ fn key_for(base: u64, op: &Op, bytes: &[u8]) -> Option<u64>
 }
 
 /// The key of the request, if it has one.
-fn key_of(base: u64, event: &Event) -> Option<u64>
-    ensures { IfSome result (HasKey base (Some event.now)) }
+fn key_of(base: u64, event: Option<Event>) -> Option<u64>
+    ensures { IfSome result (HasKey base (option_map event_of event.entry)) }
 {
     match event {
-        Event::Sub {
-            op,
-            reply: Some(Reply::Data(bytes)),
-            ..
-        } => key_for(base, op, bytes.as_slice()),
+        Some(
+            Event::Sub {
+                op,
+                reply: Some(Reply::Data(bytes)),
+                ..
+            },
+        ) => key_for(base, op, bytes.as_slice()),
         _ => None,
     }
 }
@@ -119,12 +129,12 @@ fn mark(mixed: &mut Vec<bool>, base: u64, op: &Op)
 }
 
 /// Marks the words that the request names.
-fn mark_of(mixed: &mut Vec<bool>, base: u64, event: &Event)
+fn mark_of(mixed: &mut Vec<bool>, base: u64, event: Option<Event>)
     ensures len { length mixed.new.items ≡ length mixed.old.items }
     ensures kept { (w : ℕ) → slice_get mixed.old.items w ≡ Some true → slice_get mixed.new.items w ≡ Some true }
-    ensures set { IsMixed base (Some event.now) mixed.new.items }
+    ensures set { IsMixed base (option_map event_of event.entry) mixed.new.items }
 {
-    if let Event::Sub { op, .. } = event {
+    if let Some(Event::Sub { op, .. }) = event {
         mark(mixed, base, op);
     }
 }
@@ -133,10 +143,10 @@ impl Gathering {
     /// One request more has the key.
     fn take_key(&mut self, key: u64) -> Result<(), AllocError>
         ensures mixed { OnOk result (self.new.values.mixed.items ≡ self.old.values.mixed.items) }
-        ensures seen { OnOk result ((k : ℕ) → has self.old.seen.keys k ≡ true → has self.new.seen.keys k ≡ true) }
-        ensures shared { OnOk result ((k : ℕ) → has self.old.values.shared.keys k ≡ true → has self.new.values.shared.keys k ≡ true) }
-        ensures own { OnOk result (has self.new.seen.keys key ≡ true) }
-        ensures again { OnOk result (has self.old.seen.keys key ≡ true → has self.new.values.shared.keys key ≡ true) }
+        ensures seen { OnOk result ((k : ℕ) → has_key self.old.seen k ≡ true → has_key self.new.seen k ≡ true) }
+        ensures shared { OnOk result ((k : ℕ) → has_key self.old.values.shared k ≡ true → has_key self.new.values.shared k ≡ true) }
+        ensures own { OnOk result (has_key self.new.seen key ≡ true) }
+        ensures again { OnOk result (has_key self.old.seen key ≡ true → has_key self.new.values.shared key ≡ true) }
     {
         if self.seen.contains(&key) {
             insert(&mut self.values.shared, key)?;
@@ -147,8 +157,8 @@ impl Gathering {
     }
 
     /// Takes an event.
-    fn take_event(&mut self, base: u64, event: &Event) -> Result<(), AllocError>
-        ensures { OnOk result (Adds base (Some event.now) self.old self.new) }
+    fn take_event(&mut self, base: u64, event: Option<Event>) -> Result<(), AllocError>
+        ensures { OnOk result (Adds base (option_map event_of event.entry) self.old self.new) }
     {
         match key_of(base, event) {
             Some(key) => self.take_key(key)?,
@@ -157,37 +167,39 @@ impl Gathering {
         Ok(())
     }
 
-    /// Takes the next event of the log.
+    /// Takes the event of the log at that place, the next one.
     fn add(&mut self, log: &Log, at: usize) -> Result<(), AllocError>
-        requires { at < length log.now.events }
         ensures { OnOk result (AreGathered log.now self.old at → AreGathered log.now self.new (at + 1)) }
     {
-        self.take_event(log.extent.base(), &log.events[at])?;
+        self.take_event(log.extent().base(), log.event(at))?;
         Ok(())
     }
 }
 
 /// Adds the key.
 fn insert(keys: &mut HashSet<u64>, key: u64) -> Result<(), AllocError>
-    ensures kept { OnOk result ((k : ℕ) → has keys.old.keys k ≡ true → has keys.new.keys k ≡ true) }
-    ensures own { OnOk result (has keys.new.keys key ≡ true) }
+    ensures kept { OnOk result ((k : ℕ) → has_key keys.old k ≡ true → has_key keys.new k ≡ true) }
+    ensures own { OnOk result (has_key keys.new key ≡ true) }
 {
     keys.insert(key)?;
     Ok(())
 }
 
-/// Looks at all requests of the log.
-pub(crate) fn values_of(alloc: Global, log: &Log) -> Result<Values, AllocError>
+/// The values that the requests of the log need. It looks at each event once.
+///
+/// Its memory grows with the requests, and has a flag for each word of the log's memory. It returns
+/// `Err` only if it runs out of memory.
+pub fn values_of(alloc: Global, log: &Log) -> Result<Values, AllocError>
     ensures { IfOk result (λ v. AreValues log.now v (length log.now.events)) }
 {
     let mut gathering = Gathering {
         seen: HashSet::new(alloc),
         values: Values {
             shared: HashSet::new(alloc),
-            mixed: vec![in alloc; false; log.extent.size() / 4]?,
+            mixed: vec![in alloc; false; log.extent().size() / 4]?,
         },
     };
-    for at in 0..log.events.len() {
+    for at in 0..log.len() {
         gathering.add(log, at)?;
     }
     Ok(gathering.values)
@@ -216,20 +228,24 @@ fn is_alone_for(values: &Values, base: u64, op: &Op, bytes: &[u8]) -> bool
     !values.shared.contains(&key) && is_pure(values, word)
 }
 
-/// While request `q` may act, no other can act before it that has one of its bytes.
-pub(crate) fn is_alone(values: &Values, log: &Log, q: usize) -> bool
+/// While the memory suits request `q`, no other can act before it that has one of its bytes.
+///
+/// `values` are those of the same log. The test is careful: it returns false, too, for a request that
+/// wasn't answered with data, or needs less than a whole word. Where two requests need the same value
+/// of a word, it returns false for both.
+pub fn is_alone(values: &Values, log: &Log, q: usize) -> bool
     requires { AreValues log.now values.now (length log.now.events) }
     ensures { IsTrue result → IsAlone log.now q }
 {
     what_is_needed_is_there();
-    match log.events.get(q) {
+    match log.event(q) {
         Some(
             Event::Sub {
                 op,
                 reply: Some(Reply::Data(bytes)),
                 ..
             },
-        ) => is_alone_for(values, log.extent.base(), op, bytes.as_slice()),
+        ) => is_alone_for(values, log.extent().base(), op, bytes.as_slice()),
         _ => false,
     }
 }

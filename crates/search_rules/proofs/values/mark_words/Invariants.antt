@@ -1,6 +1,6 @@
 use Rattle.std.proofs.Common.{◌≡◌, ℕ, ◌<◌, ◌≤◌, true, length, Some}
 use Rattle.std.specs.Prelude.{slice_get}
-use Rattle.run_search.proofs.values.mark_words.Given as goal
+use Rattle.search_rules.proofs.values.mark_words.Given as goal
 
 abbrev pub invariant-loop-w : goal.invariant-loop-w
 invariant-loop-w l = record {

@@ -1,5 +1,6 @@
 -- Requests that need a whole word, and what other requests name words.
-use Rattle.std.specs.Prelude.{ℕ, ◌≡◌, ◌+◌, ◌*◌, ◌<◌, ◌⊎◌, List, Bool, length, slice_get, slice_index, Option, Some, true, false}
+use Rattle.std.specs.Prelude.{ℕ, ◌≡◌, ◌+◌, ◌*◌, ◌<◌, ◌⊎◌, nat_eq, List, Bool, length, slice_get, slice_index, Option, Some, true, false}
+use Rattle.std.specs.HashSet.{HashSet, contains}
 use Rattle.arrayvec.specs.ArrayVec.{ArrayVec}
 use Rattle.tlp_core.specs.declared.operation.Op.{Op}
 use Rattle.tlp_core.specs.Operation.{address_of, count_of}
@@ -10,9 +11,12 @@ use Rattle.log_runs.specs.EventView.{EventView}
 use Rattle.log_runs.specs.EventView as events
 use Rattle.log_runs.specs.LogView.{LogView}
 use Rattle.search_rules.specs.Rules.{Suits, LetsFirst}
-use Rattle.run_search.specs.declared.values.Gathering.{Gathering}
-use Rattle.run_search.specs.declared.values.Values.{Values}
-use Rattle.run_search.specs.Pending.{has}
+use Rattle.search_rules.specs.declared.values.Gathering.{Gathering}
+use Rattle.search_rules.specs.declared.values.Values.{Values}
+
+-- the set has the key
+abbrev pub has_key : {S : Type 0} → HashSet ℕ S → ℕ → Bool
+has_key keys k = contains nat_eq keys k
 
 -- four bytes as a number
 abbrev pub word_value : List ℕ → ℕ
@@ -48,28 +52,28 @@ IsMixed base o mixed =
 pub record AreValues (log : LogView) (v : Values) (n : ℕ) : Type 0 where
   pub each : (b : ℕ) → b < n → ((k : ℕ) × HasKey log.extent.base (slice_get log.events b) k) ⊎ IsMixed log.extent.base (slice_get log.events b) v.mixed.items
   pub shared : (b c k : ℕ) → b < c → c < n → HasKey log.extent.base (slice_get log.events b) k → HasKey log.extent.base (slice_get log.events c) k
-      → (has v.shared.keys k ≡ true) ⊎ IsMixed log.extent.base (slice_get log.events b) v.mixed.items ⊎ IsMixed log.extent.base (slice_get log.events c) v.mixed.items
+      → (has_key v.shared k ≡ true) ⊎ IsMixed log.extent.base (slice_get log.events b) v.mixed.items ⊎ IsMixed log.extent.base (slice_get log.events c) v.mixed.items
 
 -- and all keys were seen
 pub record AreGathered (log : LogView) (g : Gathering) (n : ℕ) : Type 0 where
   pub values : AreValues log g.values n
-  pub seen : (b : ℕ) → b < n → ((k : ℕ) × HasKey log.extent.base (slice_get log.events b) k × (has g.seen.keys k ≡ true))
+  pub seen : (b : ℕ) → b < n → ((k : ℕ) × HasKey log.extent.base (slice_get log.events b) k × (has_key g.seen k ≡ true))
       ⊎ IsMixed log.extent.base (slice_get log.events b) g.values.mixed.items
 
 -- the event is added to what was gathered
 pub record Adds (base : ℕ) (o : Option EventView) (old new : Gathering) : Type 0 where
-  pub seen : (k : ℕ) → has old.seen.keys k ≡ true → has new.seen.keys k ≡ true
-  pub shared : (k : ℕ) → has old.values.shared.keys k ≡ true → has new.values.shared.keys k ≡ true
+  pub seen : (k : ℕ) → has_key old.seen k ≡ true → has_key new.seen k ≡ true
+  pub shared : (k : ℕ) → has_key old.values.shared k ≡ true → has_key new.values.shared k ≡ true
   pub len : length new.values.mixed.items ≡ length old.values.mixed.items
   pub mixed : (w : ℕ) → slice_get old.values.mixed.items w ≡ Some true → slice_get new.values.mixed.items w ≡ Some true
-  pub here : ((k : ℕ) × HasKey base o k × (has new.seen.keys k ≡ true) × (has old.seen.keys k ≡ true → has new.values.shared.keys k ≡ true))
+  pub here : ((k : ℕ) × HasKey base o k × (has_key new.seen k ≡ true) × (has_key old.seen k ≡ true → has_key new.values.shared k ≡ true))
       ⊎ IsMixed base o new.values.mixed.items
 
 -- no other request has the operation's key, and its word isn't marked
 pub record IsAloneFor (base : ℕ) (op : Op) (bytes : List ℕ) (v : Values) : Type 0 where
   pub number : ℕ
   pub key : KeyFor base op bytes number
-  pub unshared : has v.shared.keys number ≡ false
+  pub unshared : has_key v.shared number ≡ false
   pub word : ℕ
   pub place : address_of op ≡ base + 4 * word
   pub pure : slice_get v.mixed.items word ≡ Some false
