@@ -1,10 +1,10 @@
 //! Places from which no run leads to the end.
-ghost use Rattle.std.specs.Prelude.{◌≡◌, IsTrue, IfOk};
+ghost use Rattle.std.specs.Prelude.{◌≡◌, ◌≤◌, ◌-◌, ℕ, IsTrue, IfOk, length, take, drop, replicate};
 ghost use Rattle.std.specs.List.{All};
 ghost use Rattle.log_runs.specs.LogView.{LogView};
 ghost use Rattle.log_runs.specs.Runs.{Dead};
 ghost use Rattle.search_places.specs.Places.{IsPlace};
-ghost use Rattle.search_places.specs.Known.{IsDeadKey, AreDead};
+ghost use Rattle.search_places.specs.Known.{whole, IsDeadKey, AreDead};
 
 use crate::place::Place;
 use std::alloc::{AllocError, Global};
@@ -13,12 +13,21 @@ use std::collections::HashSet;
 /// How many bytes may be remembered.
 const ROOM: usize = 268_435_456;
 
+/// How many bytes a key takes beside its requests and the memory's bytes: in both tables, with the
+/// places there that are free, and for the two blocks that hold them.
+const OVERHEAD: usize = 160;
+
 /// A place, but for who has acted: of the requests that were passed, those that aren't pending.
 #[derive(PartialEq, Eq, Hash, Drop)]
 pub(crate) struct Key {
     event: usize,
     pending: Vec<usize>,
+    /// How many zeros the memory begins with.
+    before: usize,
+    /// Its bytes between the first and the last that isn't zero.
     bytes: Vec<u8>,
+    /// How many zeros follow.
+    after: usize,
 }
 
 /// Places from which no run leads to the end, as far as there is room for them: 256 MiB.
@@ -40,15 +49,47 @@ fn mark(place: &Place) -> u64 {
     mark
 }
 
+/// How many zeros the bytes begin with.
+fn zeros_before(bytes: &[u8]) -> usize
+    ensures len { result ≤ length bytes.now }
+    ensures zeros { take result bytes.now ≡ replicate result 0 }
+{
+    for at in 0..bytes.len() {
+        if bytes[at] != 0 {
+            return at;
+        }
+    }
+    bytes.len()
+}
+
+/// How many zeros the bytes end with.
+fn zeros_after(bytes: &[u8]) -> usize
+    ensures len { result ≤ length bytes.now }
+    ensures zeros { drop (length bytes.now - result) bytes.now ≡ replicate result 0 }
+{
+    let count = bytes.len();
+    for at in 0..count {
+        if bytes[count - 1 - at] != 0 {
+            return at;
+        }
+    }
+    count
+}
+
 fn key_of(alloc: Global, place: &Place) -> Result<Key, AllocError>
     ensures event { IfOk result (λ k. k.event ≡ place.now.state.event) }
     ensures pending { IfOk result (λ k. k.pending.items ≡ place.now.pending) }
-    ensures bytes { IfOk result (λ k. k.bytes.items ≡ place.now.state.bytes) }
+    ensures bytes { IfOk result (λ k. whole k ≡ place.now.state.bytes) }
 {
+    let before = zeros_before(place.bytes.as_slice());
+    let rest = &place.bytes.as_slice()[before..];
+    let after = zeros_after(rest);
     Ok(Key {
         event: place.event,
         pending: Vec::from_slice(alloc, place.pending.as_slice())?,
-        bytes: Vec::from_slice(alloc, place.bytes.as_slice())?,
+        before,
+        bytes: Vec::from_slice(alloc, &rest[..rest.len() - after])?,
+        after,
     })
 }
 
@@ -58,7 +99,7 @@ fn cost(key: &Key) -> usize {
         .len()
         .saturating_mul(8)
         .saturating_add(key.bytes.len())
-        .saturating_add(96)
+        .saturating_add(OVERHEAD)
 }
 
 /// Keeps a key.
