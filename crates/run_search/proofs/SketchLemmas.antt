@@ -53,6 +53,17 @@ sketches_more es ps i e p l is old new =
       ]
     ]
 
+get_is : {X : Type 0} → (xs : List X) (i : ℕ) (x : X) → slice_get xs i ≡ Some x → x ≡ get_or xs i x
+get_is [] i x at = cc
+get_is (y ∷ ys) zero x at = sym (same_Some y x at)
+get_is (y ∷ ys) (suc i) x at = get_is ys i x at
+
+pub sketch_next : (es : List EventView) (ps : List Sketch) (i : ℕ) (p : Sketch) → i < length es → AreSketches (take i es) ps
+    → ((e : EventView) → slice_get es i ≡ Some e → IsSketchOf e p) → AreSketches (take (i + 1) es) (ps ++ p ∷ [])
+sketch_next es ps i p l old new =
+    let (e, at) = some_at es i l in
+    sketches_more es ps i e p l (get_is es i e at) old (new e at)
+
 -- ---- by their sketches
 
 pub far_apart : (log : LogView) (ks : List Sketch) (b q : ℕ) (k l : Sketch) → AreSketches log.events ks → slice_get ks b ≡ Some k → slice_get ks q ≡ Some l

@@ -6,12 +6,15 @@
 //! before it. It acts at once, too, if others may act in turn after it and leave only junk: nobody who
 //! is left then needs what it overwrote, or what any of them put there. [`laws`] says this of all
 //! runs, whatever the operations do. What two requests of a log do to each other is told by their
-//! bytes.
+//! bytes. Before which requests no other can act is told by the values that all need of whole words:
+//! [`Values`].
 #![tactic(auto)]
 
 mod junk;
 pub mod laws;
 mod pairs;
+mod values;
 
 pub use junk::{is_junk_to, is_within, leaves_junk_to};
 pub use pairs::{changes_nothing, follows, lets_first, never_brings, yields};
+pub use values::{Values, is_alone, values_of};

@@ -6,7 +6,6 @@ use Rattle.log_runs.specs.declared.Step.TheVariants as kinds
 use Rattle.log_runs.specs.LogView.{LogView}
 use Rattle.log_runs.specs.Runs.{State, MayAct, IsForced, next}
 use Rattle.search_rules.specs.Rules.{IsJunkTo, ChangesNothing, IsOverJunk}
-use Rattle.run_search.specs.Places.{state_of}
 use Rattle.run_search.proofs.junk.is_over_junk.Goals as goal
 
 abbrev Content : LogView → State → ℕ → ℕ → Type 0
@@ -16,7 +15,7 @@ pub loop-b-preserved : goal.loop-b-preserved
 loop-b-preserved c =
     let log = c.args.log.now in
     let q = c.args.q in
-    let s = state_of c.args.place.now in
+    let s = c.args.place.now.state in
     let one : Content log s q c.loop-b.b = subst (λ (u : State). Content log u q c.loop-b.b) c.loop-b.invariant.state (c.in_ok-is_content.ensures.content c.if-not-branch.false) in
     record {
       state = c.in_ok-is_content.ensures.state ∙ c.loop-b.invariant.state;
@@ -30,7 +29,7 @@ loop-b-preserved c =
 pub returns-clause-forced : goal.returns-clause-forced
 returns-clause-forced c = λ so.
     let log = c.args.log.now in
-    let s = state_of c.args.place.now in
+    let s = c.args.place.now.state in
     let bytes = c.args.place.now.key.bytes in
     let whole : c.len-b-end.result ≡ length log.events = c.len-b-end.ensures ∙ c.log.inside.events.ok.0 ∙ ap (λ (t : LogView). length t.events) c.log.view_is in
     let over : IsOverJunk log s c.args.q = record {
