@@ -1,6 +1,7 @@
 pub mod Spared
 pub mod Offered
 pub mod Frames
+pub mod Groups
 pub mod Outcomes
 pub mod Sketches
 pub mod Catalogs

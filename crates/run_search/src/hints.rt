@@ -3,7 +3,7 @@
 use crate::sketches::{Sketch, are_far};
 use log_runs::{Log, Step};
 use search_places::{Done, Place};
-use search_rules::{changes_nothing, is_junk_to};
+use search_rules::{changes_nothing, is_junk_to, is_within, leaves_junk_to};
 use std::alloc::{AllocError, Global};
 
 /// The four bytes from that place on.
@@ -133,10 +133,17 @@ pub(crate) fn may_need(losses: &[Loss], sketches: &[Sketch], q: usize) -> bool {
 
 /// What stands where request `q` writes and what it leaves there are nothing to request `b`.
 fn overlooks(place: &Place, log: &Log, sketches: &[Sketch], b: usize, q: usize) -> bool {
-    are_far(sketches, b, q) || is_junk_to(log, place.bytes(), b, q)
+    are_far(sketches, b, q)
+        || is_junk_to(log, place.bytes(), b, q) && leaves_junk_to(log, b, q, q)
 }
 
-/// What stands where request `q` writes and what it leaves there may be nothing to all others.
+/// Request `b`, which is pending, may act in turn after request `q`, or [`overlooks`] it.
+fn may_join(place: &Place, log: &Log, sketches: &[Sketch], b: usize, q: usize) -> bool {
+    overlooks(place, log, sketches, b, q) || changes_nothing(log, b) || is_within(log, b, q)
+}
+
+/// What stands where request `q` writes and what it leaves there may be nothing to all that are left
+/// after it and others.
 pub(crate) fn may_be_over_junk(place: &Place, log: &Log, sketches: &[Sketch], q: usize) -> bool {
     match sketches.get(q) {
         Some(sketch) => if !sketch.changes {
@@ -145,7 +152,7 @@ pub(crate) fn may_be_over_junk(place: &Place, log: &Log, sketches: &[Sketch], q:
         None => return false,
     }
     for b in place.pending() {
-        if *b != q && !overlooks(place, log, sketches, *b, q) && !changes_nothing(log, *b) {
+        if *b != q && !may_join(place, log, sketches, *b, q) {
             return false;
         }
     }

@@ -1,69 +1,92 @@
 //! Requests over bytes that nobody needs.
-ghost use Rattle.std.specs.Prelude.{◌≡◌, ◌⊎◌, Some, false, IsTrue, IfOk, OnOk, IfSome, slice_get};
-ghost use Rattle.log_runs.specs.Runs.{MayAct, IsForced, next};
-ghost use Rattle.search_rules.specs.Rules.{IsJunkTo, ChangesNothing};
+ghost use Rattle.std.specs.Prelude.{◌≡◌, ◌∷◌, Some, false, ℕ, IsTrue, IfOk, OnOk, IfSome, slice_get};
+ghost use Rattle.log_runs.specs.Runs.{MayAct, IsForced};
+ghost use Rattle.search_rules.specs.Rules.{IsJunkTo, LeavesJunkTo, LeavesNothing, AllLeft};
 ghost use Rattle.search_places.specs.Places.{IsPlace};
 
+use crate::groups::{Group, gather, take_back};
 use crate::hints::may_be_over_junk;
 use crate::sketches::Sketch;
 use log_runs::{Log, Step};
 use search_places::Place;
 use search_rules::laws::what_is_over_junk_acts_at_once;
-use search_rules::{changes_nothing, is_junk_to};
+use search_rules::{changes_nothing, is_junk_to, is_within, leaves_junk_to};
 use std::alloc::{AllocError, Global};
 
 /// The most events of a log in which such requests are looked for.
 const MOST_EVENTS: usize = 4_096;
 
-/// Request `b` may act right after request `q`.
-fn acts_after(
-    place: &mut Place,
-    alloc: Global,
-    log: &Log,
-    q: usize,
-    b: usize,
-) -> Result<bool, AllocError>
-    requires place { IsPlace log.now place.old }
-    requires may { MayAct log.now place.old.state q }
-    ensures state { OnOk result (place.new.state ≡ place.old.state) }
-    ensures place { OnOk result (IsPlace log.now place.new) }
-    ensures after { IfOk result (λ so. IsTrue so → MayAct log.now (next log.now place.old.state (Step.Act q)) b) }
+/// What request `g` leaves, among the addresses of request `q`, is nothing to those that are left.
+fn leaves_junk(place: &Place, log: &Log, q: usize, g: usize) -> bool
+    requires { IsPlace log.now place.now }
+    ensures { IsTrue result → AllLeft place.now.state (λ b. LeavesJunkTo log.now b q g) }
 {
-    let done = place.take(alloc, log, Step::Act(q))?;
-    let may = place.may_act(log, b);
-    place.take_back(log, &done)?;
-    Ok(may)
+    for b in 0..log.len() {
+        if !place.has_acted(b) && !leaves_junk_to(log, b, q, g) {
+            return false;
+        }
+    }
+    true
 }
 
-/// Request `b` is `q` or has acted, or the bytes at the addresses of `q` are nothing to it, or it may
-/// act right after `q` and changes nothing.
-fn is_content(
-    place: &mut Place,
-    alloc: Global,
-    log: &Log,
-    q: usize,
-    b: usize,
-) -> Result<bool, AllocError>
-    requires place { IsPlace log.now place.old }
-    requires may { MayAct log.now place.old.state q }
-    ensures state { OnOk result (place.new.state ≡ place.old.state) }
-    ensures place { OnOk result (IsPlace log.now place.new) }
-    ensures content { IfOk result (λ so. IsTrue so → (q ≡ b → ⊥) → slice_get place.old.state.acted b ≡ Some false → IsJunkTo log.now place.old.state.bytes b q ⊎ (MayAct log.now (next log.now place.old.state (Step.Act q)) b × ChangesNothing log.now b)) }
+/// Request `g` changes nothing; or it leaves bytes, among the addresses of request `q`, that are
+/// nothing to those that are left.
+fn leaves_nothing(place: &Place, log: &Log, q: usize, g: usize) -> bool
+    requires { IsPlace log.now place.now }
+    ensures { IsTrue result → LeavesNothing log.now place.now.state q g }
 {
-    if b == q || place.has_acted(b) {
-        return Ok(true);
+    if changes_nothing(log, g) {
+        return true;
     }
-    if is_junk_to(log, place.bytes(), b, q) {
-        return Ok(true);
+    if !is_within(log, g, q) {
+        return false;
     }
-    if !changes_nothing(log, b) {
-        return Ok(false);
-    }
-    acts_after(place, alloc, log, q, b)
+    leaves_junk(place, log, q, g)
 }
 
-/// Nobody who is left needs what stands where request `q` writes or what it leaves there, but such
-/// that may act right after it and change nothing.
+/// [`leaves_nothing`], each of the requests.
+fn leave_nothing(place: &Place, log: &Log, q: usize, group: &[usize]) -> bool
+    requires { IsPlace log.now place.now }
+    ensures { IsTrue result → (i g : ℕ) → slice_get group.now i ≡ Some g → LeavesNothing log.now place.now.state q g }
+{
+    for g in group {
+        if !leaves_nothing(place, log, q, *g) {
+            return false;
+        }
+    }
+    true
+}
+
+/// [`leaves_nothing`], request `q` and each of the others.
+fn all_leave_nothing(place: &Place, log: &Log, q: usize, others: &[usize]) -> bool
+    requires { IsPlace log.now place.now }
+    ensures { IsTrue result → (i g : ℕ) → slice_get (q ∷ others.now) i ≡ Some g → LeavesNothing log.now place.now.state q g }
+{
+    if !leaves_nothing(place, log, q, q) {
+        return false;
+    }
+    leave_nothing(place, log, q, others)
+}
+
+/// To those that are left but `q` and the group it is nothing what stands at the addresses of `q`.
+fn overwrites_junk(place: &Place, log: &Log, q: usize, group: &[usize]) -> bool
+    requires { IsPlace log.now place.now }
+    ensures { IsTrue result → (b : ℕ) → (q ≡ b → ⊥) → ((i : ℕ) → slice_get group.now i ≡ Some b → ⊥) → slice_get place.now.state.acted b ≡ Some false → IsJunkTo log.now place.now.state.bytes b q }
+{
+    for b in 0..log.len() {
+        if b != q
+            && !place.has_acted(b)
+            && !group.contains(&b)
+            && !is_junk_to(log, place.bytes(), b, q)
+        {
+            return false;
+        }
+    }
+    true
+}
+
+/// Others may act in turn after request `q`, and to those that are left then it is nothing what they
+/// all overwrite and leave.
 fn is_over_junk(place: &mut Place, alloc: Global, log: &Log, q: usize) -> Result<bool, AllocError>
     requires place { IsPlace log.now place.old }
     requires may { MayAct log.now place.old.state q }
@@ -72,15 +95,13 @@ fn is_over_junk(place: &mut Place, alloc: Global, log: &Log, q: usize) -> Result
     ensures forced { IfOk result (λ so. IsTrue so → IsForced log.now place.new.state (Step.Act q)) }
 {
     what_is_over_junk_acts_at_once();
-    if place.bytes().len() != log.extent().size() {
+    let Group { done, others } = gather(place, alloc, log, q)?;
+    let spent = all_leave_nothing(place, log, q, &others);
+    take_back(place, log, done)?;
+    if !spent || place.bytes().len() != log.extent().size() {
         return Ok(false);
     }
-    for b in 0..log.len() {
-        if !is_content(place, alloc, log, q, b)? {
-            return Ok(false);
-        }
-    }
-    Ok(true)
+    Ok(overwrites_junk(place, log, q, &others))
 }
 
 /// Request `q` may act, and does so over junk.

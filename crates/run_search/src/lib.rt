@@ -11,6 +11,7 @@ mod catalog;
 mod choices;
 mod due;
 mod exploring;
+mod groups;
 mod hints;
 mod junk;
 mod lost;

@@ -1,0 +1,134 @@
+//! Requests that act in turn, as a try.
+ghost use Rattle.std.specs.Prelude.{◌≡◌, ◌×◌, IfOk, OnOk, IfSome, IsTrue};
+ghost use Rattle.log_runs.specs.Runs.{State, MayAct};
+ghost use Rattle.search_places.specs.Places.{IsPlace};
+ghost use Rattle.run_search.specs.Frames.{LeadsBy};
+ghost use Rattle.run_search.specs.Groups.{IsGroup};
+
+use log_runs::{Log, Step};
+use search_places::{Done, Place};
+use search_rules::{changes_nothing, is_junk_to, is_within};
+use std::alloc::{AllocError, Global};
+
+/// The most requests that act after the first one.
+const MOST: usize = 64;
+
+/// A request and others that acted after it.
+#[derive(Drop)]
+pub(crate) struct Group {
+    /// The steps, the request's own first.
+    pub(crate) done: Vec<Done>,
+    /// The others in their order.
+    pub(crate) others: Vec<usize>,
+}
+
+/// Request `b` may act, to which the bytes at the addresses of request `q` are something, and changes
+/// no others.
+fn joins(place: &Place, log: &Log, q: usize, b: usize) -> bool
+    requires { IsPlace log.now place.now }
+    ensures { IsTrue result → MayAct log.now place.now.state b }
+{
+    if !place.may_act(log, b) {
+        return false;
+    }
+    !is_junk_to(log, place.bytes(), b, q) && (changes_nothing(log, b) || is_within(log, b, q))
+}
+
+/// The next request that joins the group of request `q`, if there is one such that changes nothing.
+fn next_quiet(place: &Place, log: &Log, q: usize) -> Option<usize>
+    requires { IsPlace log.now place.now }
+    ensures { IfSome result (MayAct log.now place.now.state) }
+{
+    for b in place.pending() {
+        if changes_nothing(log, *b) && joins(place, log, q, *b) {
+            return Some(*b);
+        }
+    }
+    None
+}
+
+/// The next request that joins the group of request `q`.
+fn next_other(place: &Place, log: &Log, q: usize) -> Option<usize>
+    requires { IsPlace log.now place.now }
+    ensures { IfSome result (MayAct log.now place.now.state) }
+{
+    if let Some(b) = next_quiet(place, log, q) {
+        return Some(b);
+    }
+    for b in place.pending() {
+        if joins(place, log, q, *b) {
+            return Some(*b);
+        }
+    }
+    None
+}
+
+/// Request `q` acts.
+fn begin(place: &mut Place, alloc: Global, log: &Log, q: usize) -> Result<Group, AllocError>
+    requires place { IsPlace log.now place.old }
+    requires may { MayAct log.now place.old.state q }
+    ensures { IfOk result (λ g. IsGroup log.now place.old.state q g place.new) }
+{
+    let first = place.take(alloc, log, Step::Act(q))?;
+    let mut done = Vec::new(alloc);
+    done.push(first)?;
+    Ok(Group {
+        done,
+        others: Vec::new(alloc),
+    })
+}
+
+/// Request `b` acts.
+fn join(
+    place: &mut Place,
+    alloc: Global,
+    log: &Log,
+    group: &mut Group,
+    b: usize,
+) -> Result<(), AllocError>
+    requires place { IsPlace log.now place.old }
+    requires may { MayAct log.now place.old.state b }
+    ensures { OnOk result ((s : State) (q : ℕ) → IsGroup log.now s q group.old place.old → IsGroup log.now s q group.new place.new) }
+{
+    let one = place.take(alloc, log, Step::Act(b))?;
+    group.done.push(one)?;
+    group.others.push(b)
+}
+
+/// Request `q` acts, and then those that join its group.
+pub(crate) fn gather(
+    place: &mut Place,
+    alloc: Global,
+    log: &Log,
+    q: usize,
+) -> Result<Group, AllocError>
+    requires place { IsPlace log.now place.old }
+    requires may { MayAct log.now place.old.state q }
+    ensures { IfOk result (λ g. IsGroup log.now place.old.state q g place.new) }
+{
+    let mut group = begin(place, alloc, log, q)?;
+    for _turn in 0..MOST {
+        let Some(b) = next_other(place, log, q) else {
+            return Ok(group);
+        };
+        join(place, alloc, log, &mut group, b)?;
+    }
+    Ok(group)
+}
+
+/// Takes back the steps.
+pub(crate) fn take_back(
+    place: &mut Place,
+    log: &Log,
+    mut steps: Vec<Done>,
+) -> Result<(), AllocError>
+    requires place { IsPlace log.now place.old }
+    requires back { (s : State) × LeadsBy log.now s steps.old.items place.old.state }
+    ensures state { OnOk result ((s : State) → LeadsBy log.now s steps.old.items place.old.state → place.new.state ≡ s) }
+    ensures place { OnOk result (IsPlace log.now place.new) }
+{
+    while let Some(done) = steps.pop() {
+        place.take_back(log, &done)?;
+    }
+    Ok(())
+}
