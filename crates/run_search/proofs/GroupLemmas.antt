@@ -1,8 +1,8 @@
 -- Groups of requests that act in turn.
-use Rattle.std.proofs.Common.{◌≡◌, ◌∙◌, ℕ, zero, suc, Bool, true, false, List, [], ◌∷◌, ◌++◌, Some, None, length, refl, sym, ap, subst, inl, inr}
+use Rattle.std.proofs.Common.{◌≡◌, ◌∙◌, ℕ, zero, suc, ◌+◌, ◌<◌, Bool, true, false, List, [], ◌∷◌, ◌++◌, Some, None, length, get_or, refl, sym, ap, subst, inl, inr, arith}
 use Rattle.std.specs.Prelude.{slice_get, slice_set}
 use Rattle.std.proofs.lemmas.Bool.{cases_eq}
-use Rattle.std.proofs.lemmas.Option.{same_Some}
+use Rattle.std.proofs.lemmas.Option.{same_Some, get_or_from_slice_get}
 use Rattle.log_runs.specs.declared.Step.TheVariants as steps
 use Rattle.log_runs.specs.LogView.{LogView}
 use Rattle.log_runs.specs.Runs.{State, MayAct, Leads, next}
@@ -21,6 +21,13 @@ use Rattle.run_search.proofs.Lists.{clash, set_here, set_there}
 pub all_with : (P : ℕ → Type 0) (q : ℕ) (qs : List ℕ) → P q → ((i g : ℕ) → slice_get qs i ≡ Some g → P g) → (i g : ℕ) → slice_get (q ∷ qs) i ≡ Some g → P g
 all_with P q qs first others zero g at = subst P (same_Some q g at) first
 all_with P q qs first others (suc i) g at = others i g at
+
+-- P holds of one more
+pub each_next : (P : ℕ → Type 0) (gs : List ℕ) (n : ℕ) → P (get_or gs n 0) → ((i g : ℕ) → i < n → slice_get gs i ≡ Some g → P g) → (i g : ℕ) → i < n + 1 → slice_get gs i ≡ Some g → P g
+each_next P gs n here before i g l at = elim (cases_eq n i) [
+  | inl same ↦ subst P (ap (λ k. get_or gs k 0) same ∙ get_or_from_slice_get gs i g 0 at) here
+  | inr distinct ↦ before i g (omega (arith, l, distinct)) at
+]
 
 not_in : (c b : ℕ) (cs : List ℕ) → (c ≡ b → ⊥) → ((i : ℕ) → slice_get cs i ≡ Some b → ⊥) → (i : ℕ) → slice_get (c ∷ cs) i ≡ Some b → ⊥
 not_in c b cs distinct out zero at = distinct (same_Some c b at)

@@ -1,5 +1,5 @@
 //! Requests that act in turn, as a try.
-ghost use Rattle.std.specs.Prelude.{◌≡◌, ◌×◌, IfOk, OnOk, IfSome, IsTrue};
+ghost use Rattle.std.specs.Prelude.{◌≡◌, ℕ, IfOk, OnOk, IfSome, IsTrue};
 ghost use Rattle.log_runs.specs.Runs.{State, MayAct};
 ghost use Rattle.search_places.specs.Places.{IsPlace};
 ghost use Rattle.run_search.specs.Frames.{LeadsBy};
@@ -92,7 +92,8 @@ fn join(
 {
     let one = place.take(alloc, log, Step::Act(b))?;
     group.done.push(one)?;
-    group.others.push(b)
+    group.others.push(b)?;
+    Ok(())
 }
 
 /// Request `q` acts, and then those that join its group.
@@ -123,8 +124,8 @@ pub(crate) fn take_back(
     mut steps: Vec<Done>,
 ) -> Result<(), AllocError>
     requires place { IsPlace log.now place.old }
-    requires back { (s : State) × LeadsBy log.now s steps.old.items place.old.state }
-    ensures state { OnOk result ((s : State) → LeadsBy log.now s steps.old.items place.old.state → place.new.state ≡ s) }
+    requires back { (s : State) × LeadsBy log.now s steps.items place.old.state }
+    ensures state { OnOk result ((s : State) → LeadsBy log.now s steps.items place.old.state → place.new.state ≡ s) }
     ensures place { OnOk result (IsPlace log.now place.new) }
 {
     while let Some(done) = steps.pop() {

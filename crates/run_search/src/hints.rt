@@ -133,8 +133,7 @@ pub(crate) fn may_need(losses: &[Loss], sketches: &[Sketch], q: usize) -> bool {
 
 /// What stands where request `q` writes and what it leaves there are nothing to request `b`.
 fn overlooks(place: &Place, log: &Log, sketches: &[Sketch], b: usize, q: usize) -> bool {
-    are_far(sketches, b, q)
-        || is_junk_to(log, place.bytes(), b, q) && leaves_junk_to(log, b, q, q)
+    are_far(sketches, b, q) || is_junk_to(log, place.bytes(), b, q) && leaves_junk_to(log, b, q, q)
 }
 
 /// Request `b`, which is pending, may act in turn after request `q`, or [`overlooks`] it.

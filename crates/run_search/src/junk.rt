@@ -16,13 +16,24 @@ use std::alloc::{AllocError, Global};
 /// The most events of a log in which such requests are looked for.
 const MOST_EVENTS: usize = 4_096;
 
+/// Request `b` has acted, or what request `g` leaves, among the addresses of request `q`, is nothing to
+/// it.
+fn leaves_it_junk(place: &Place, log: &Log, q: usize, g: usize, b: usize) -> bool
+    ensures { IsTrue result → slice_get place.now.state.acted b ≡ Some false → LeavesJunkTo log.now b q g }
+{
+    if place.has_acted(b) {
+        return true;
+    }
+    leaves_junk_to(log, b, q, g)
+}
+
 /// What request `g` leaves, among the addresses of request `q`, is nothing to those that are left.
 fn leaves_junk(place: &Place, log: &Log, q: usize, g: usize) -> bool
     requires { IsPlace log.now place.now }
     ensures { IsTrue result → AllLeft place.now.state (λ b. LeavesJunkTo log.now b q g) }
 {
     for b in 0..log.len() {
-        if !place.has_acted(b) && !leaves_junk_to(log, b, q, g) {
+        if !leaves_it_junk(place, log, q, g, b) {
             return false;
         }
     }
@@ -68,17 +79,34 @@ fn all_leave_nothing(place: &Place, log: &Log, q: usize, others: &[usize]) -> bo
     leave_nothing(place, log, q, others)
 }
 
+/// The group has the request.
+fn is_in(group: &[usize], b: usize) -> bool
+    ensures { IsTrue result → (i : ℕ) × (slice_get group.now i ≡ Some b) }
+{
+    group.contains(&b)
+}
+
+/// Request `b` is `q`, or of the group, or has acted, or it is nothing to it what stands at the
+/// addresses of `q`.
+fn overwrites_its_junk(place: &Place, log: &Log, q: usize, group: &[usize], b: usize) -> bool
+    ensures { IsTrue result → (q ≡ b → ⊥) → ((i : ℕ) → slice_get group.now i ≡ Some b → ⊥) → slice_get place.now.state.acted b ≡ Some false → IsJunkTo log.now place.now.state.bytes b q }
+{
+    if b == q || place.has_acted(b) {
+        return true;
+    }
+    if is_in(group, b) {
+        return true;
+    }
+    is_junk_to(log, place.bytes(), b, q)
+}
+
 /// To those that are left but `q` and the group it is nothing what stands at the addresses of `q`.
 fn overwrites_junk(place: &Place, log: &Log, q: usize, group: &[usize]) -> bool
     requires { IsPlace log.now place.now }
     ensures { IsTrue result → (b : ℕ) → (q ≡ b → ⊥) → ((i : ℕ) → slice_get group.now i ≡ Some b → ⊥) → slice_get place.now.state.acted b ≡ Some false → IsJunkTo log.now place.now.state.bytes b q }
 {
     for b in 0..log.len() {
-        if b != q
-            && !place.has_acted(b)
-            && !group.contains(&b)
-            && !is_junk_to(log, place.bytes(), b, q)
-        {
+        if !overwrites_its_junk(place, log, q, group, b) {
             return false;
         }
     }

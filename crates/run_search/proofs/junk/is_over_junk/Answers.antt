@@ -1,40 +1,32 @@
-use Rattle.std.proofs.Common.{◌≡◌, ◌∙◌, ◌⊎◌, ℕ, ◌<◌, Some, Bool, false, length, inl, inr, sym, ap, subst, arith}
+use Rattle.std.proofs.Common.{◌≡◌, ◌∙◌, ℕ, List, ◌∷◌, Some, false, length, sym, ap, subst}
 use Rattle.std.specs.Prelude.{slice_get}
-use Rattle.std.proofs.lemmas.Bool.{cases_eq}
-use Rattle.std.proofs.lemmas.Option.{slice_get_within}
-use Rattle.log_runs.specs.declared.Step.TheVariants as kinds
+use Rattle.seq_memory.specs.Limits.{Extent}
+use Rattle.log_runs.specs.declared.Step.TheVariants as steps
 use Rattle.log_runs.specs.LogView.{LogView}
-use Rattle.log_runs.specs.Runs.{State, MayAct, IsForced, next}
-use Rattle.search_rules.specs.Rules.{IsJunkTo, ChangesNothing, IsOverJunk}
+use Rattle.log_runs.specs.Runs.{State, IsForced}
+use Rattle.search_places.specs.declared.steps.Done.{Done}
+use Rattle.search_rules.specs.Rules.{IsJunkTo, LeavesNothing}
+use Rattle.run_search.specs.Frames.{LeadsBy}
+use Rattle.run_search.proofs.GroupLemmas.{over}
 use Rattle.run_search.proofs.junk.is_over_junk.Goals as goal
 
-abbrev Content : LogView → State → ℕ → ℕ → Type 0
-Content log s q k = (q ≡ k → ⊥) → slice_get s.acted k ≡ Some false → IsJunkTo log s.bytes k q ⊎ (MayAct log (next log s (kinds.Act q)) k × ChangesNothing log k)
+abbrev Old : LogView → ℕ → List ℕ → State → Type 0
+Old log q group s = (b : ℕ) → (q ≡ b → ⊥) → ((i : ℕ) → slice_get group i ≡ Some b → ⊥) → slice_get s.acted b ≡ Some false → IsJunkTo log s.bytes b q
 
-pub loop-b-preserved : goal.loop-b-preserved
-loop-b-preserved c =
-    let log = c.args.log.now in
-    let q = c.args.q in
-    let s = c.args.place.now.state in
-    let one : Content log s q c.loop-b.b = subst (λ (u : State). Content log u q c.loop-b.b) c.loop-b.invariant.state (c.in_ok-is_content.ensures.content c.if-not-branch.false) in
-    record {
-      state = c.in_ok-is_content.ensures.state ∙ c.loop-b.invariant.state;
-      place = c.in_ok-is_content.ensures.place;
-      content = λ k l other left. elim (cases_eq k c.loop-b.b) [
-        | inl same ↦ subst (λ (x : ℕ). Content log s q x) (sym same) one other left
-        | inr apart ↦ c.loop-b.invariant.content k (omega (arith, l, apart)) other left
-      ];
-    }
+abbrev New : LogView → ℕ → State → List ℕ → Type 0
+New log q last group = (i g : ℕ) → slice_get (q ∷ group) i ≡ Some g → LeavesNothing log last q g
 
 pub returns-clause-forced : goal.returns-clause-forced
 returns-clause-forced c = λ so.
     let log = c.args.log.now in
+    let q = c.args.q in
     let s = c.args.place.now.state in
-    let bytes = c.args.place.now.key.bytes in
-    let whole : c.len-b-end.result ≡ length log.events = c.len-b-end.ensures ∙ c.log.inside.events.ok.0 ∙ ap (λ (t : LogView). length t.events) c.log.view_is in
-    let over : IsOverJunk log s c.args.q = record {
-      size = sym bytes.ok.0 ∙ sym c.len.ensures ∙ c.if-len-size.false ∙ c.size.ensures.value ∙ ap (λ (t : LogView). t.extent.size) c.log.view_is;
-      may = c.requires.may;
-      others = λ b other left. c.loop-b.invariant.content b (omega (arith, slice_get_within s.acted b false left, c.requires.place.len, whole, c.loop-b-test.false)) other left;
-    } in
-    subst (λ (u : State). IsForced log u (kinds.Act c.args.q)) (sym c.loop-b.invariant.state) (c.what_is_over_junk_acts_at_once.ensures log s c.args.q over)
+    let group = c.in_ok-done.ensures in
+    let here : c.take_back.new.place.state ≡ s = c.in_ok-take_back.ensures.state s group.back in
+    let old : Old log q c.in_ok-done.field-0.others.items s =
+    subst (λ (xs : List ℕ). Old log q xs s) c.deref-2.ensures.value (subst (Old log q c.deref-2.result.now) here (c.overwrites_junk.ensures so)) in
+    let new : New log q c.gather.new.place.state c.in_ok-done.field-0.others.items = subst (New log q c.gather.new.place.state) c.deref.ensures.value (c.all_leave_nothing-spent.ensures c.if-not-spent.false) in
+    let size : length s.bytes ≡ log.extent.size =
+    ap (λ (u : State). length u.bytes) (sym here) ∙ ap length (sym c.bytes.ensures) ∙ c.if-bytes-size.false ∙ c.size.ensures.value ∙ ap (λ (e : Extent). e.size) c.extent.ensures in
+    subst (λ (u : State). IsForced log u (steps.Act q)) (sym here)
+    (c.what_is_over_junk_acts_at_once.ensures log s q c.in_ok-done.field-0.others.items (over log s q c.in_ok-done.field-0 c.gather.new.place group size old new))

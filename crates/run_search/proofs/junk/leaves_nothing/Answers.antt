@@ -1,0 +1,5 @@
+use Rattle.std.proofs.Common.{inl, inr}
+use Rattle.run_search.proofs.junk.leaves_nothing.Goals as goal
+
+pub returns : goal.returns
+returns c = λ so. inr (c.is_within.ensures c.if-not-is_within.false, c.leaves_junk.ensures so)
