@@ -1,8 +1,3 @@
-pub mod Pending
-pub mod Places
-pub mod Ready
-pub mod Undo
-pub mod Known
 pub mod Spared
 pub mod Offered
 pub mod Frames
