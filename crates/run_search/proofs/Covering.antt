@@ -3,21 +3,19 @@ use Rattle.std.proofs.Common.{◌≡◌, ◌∙◌, ℕ, ◌+◌, ◌<◌, ◌�
 use Rattle.std.specs.Prelude.{slice_get, ◌==◌}
 use Rattle.std.specs.List.{Contains, All}
 use Rattle.std.specs.List.Sorted.{IsPermutation}
-use Rattle.std.proofs.lemmas.Bool.{cases_Bool, or_cases, eqb-true}
-use Rattle.std.proofs.lemmas.Option.{same_Some, slice_get_within}
+use Rattle.std.proofs.lemmas.Bool.{or_cases, eqb-true}
 use Rattle.std.proofs.lemmas.List.{take_all}
 use Rattle.std.proofs.lemmas.List.Folds.{list_any-append}
 use Rattle.std.proofs.lemmas.List.Elements.{All-contains, All-cons, All-nil, All-same, Contains-append_right}
 use Rattle.std.proofs.lemmas.List.Sorted.{All-permutation, Contains-permutation, IsPermutation-middle, IsPermutation-sym, IsPermutation-to_front}
 use Rattle.log_runs.specs.LogView.{LogView}
-use Rattle.log_runs.specs.EventView as events
 use Rattle.log_runs.specs.declared.Step.{Step}
 use Rattle.log_runs.specs.declared.Step.TheVariants as steps
 use Rattle.log_runs.specs.Runs.{State, Allowed, MayAct, Leads, Dead, Covers, next}
 use Rattle.run_search.specs.declared.choices.Offer.{Offer}
 use Rattle.search_places.specs.Pending.{has, submits}
 use Rattle.run_search.specs.Offered.{all_of, Puts, Offers}
-use Rattle.run_search.proofs.Lists.{clash, take_one}
+use Rattle.run_search.proofs.Lists.{take_one}
 use Rattle.search_places.specs.PlaceView.{PlaceView}
 use Rattle.search_places.specs.Places.{IsPlace}
 use Rattle.run_search.proofs.RuleLemmas.{run}

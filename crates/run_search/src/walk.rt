@@ -211,7 +211,8 @@ fn is_dead(walk: &Walk, alloc: Global, log: &Log, catalog: &Catalog) -> Result<b
     if later_is_lost(walk, log, catalog, &losses) {
         return Ok(true);
     }
-    walk.memo.is_known(alloc, &walk.here)
+    let known = walk.memo.is_known(alloc, &walk.here)?;
+    Ok(known)
 }
 
 /// Goes on from here; false if no run leads to the end.

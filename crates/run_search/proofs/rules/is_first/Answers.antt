@@ -6,7 +6,7 @@ pub returns : goal.returns
 returns c = λ so.
     c.the_first_acts_at_once.ensures c.args.log.now c.args.place.now.state c.args.q c.in-Some.r c.in-Some.a (record {
       due = c.in-Some.ensures;
-      since = omega (arith, c.if-a-place.false);
+      since = omega (arith, c.if-a-event.false, c.event.ensures);
       follows = c.follows.ensures c.if-not-follows.false;
       left = c.is_left.ensures c.if-not-is_left.false;
       may = c.requires.may;
@@ -19,7 +19,7 @@ returns-then-is_alone c = λ so.
     let s = c.args.place.now.state in
     c.the_first_acts_at_once.ensures log s c.args.q c.in-Some.r c.in-Some.a (record {
       due = c.in-Some.ensures;
-      since = omega (arith, c.if-a-place.false);
+      since = omega (arith, c.if-a-event.false, c.event.ensures);
       follows = c.follows.ensures c.if-not-follows.false;
       left = c.is_left.ensures c.if-not-is_left.false;
       may = c.requires.may;

@@ -9,7 +9,7 @@ pub returns : goal.returns
 returns c =
     let log = c.args.log.now in
     let walk = c.args.walk.now in
-    let u = c.take.new.place.state in
+    let u = c.take.new.self.state in
     let d = c.in_ok-done.done in
     let path = taken log walk.frames.items c.args.frame c.args.step walk.here.state u d c.requires.path c.in_ok-done.ensures.came c.in_ok-done.ensures.step in
     record {

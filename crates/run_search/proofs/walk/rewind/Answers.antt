@@ -18,7 +18,7 @@ loop-done-preserved c =
     let walk = c.loop-done.walk in
     record {
       back = record {
-        path = rewound log walk.frames.items c.pop.new.self.items c.in-Some.done walk.here.state c.take_back.new.place.state
+        path = rewound log walk.frames.items c.pop.new.self.items c.in-Some.done walk.here.state c.take_back.new.self.state
             (subst (λ (ds : List Done). PathFrom log walk.frames.items (Back log ds walk.here.state)) c.in-Some.ensures.items c.loop-done.invariant.back.path)
             c.in_ok-take_back.ensures.state;
         place = c.in_ok-take_back.ensures.place;
