@@ -1,5 +1,5 @@
 -- Groups of requests that act in turn.
-use Rattle.std.proofs.Common.{◌≡◌, ◌∙◌, ℕ, zero, suc, ◌+◌, ◌<◌, Bool, true, false, List, [], ◌∷◌, ◌++◌, Some, None, length, get_or, refl, sym, ap, subst, inl, inr, arith}
+use Rattle.std.proofs.Common.{◌≡◌, ◌∙◌, ℕ, zero, suc, ◌+◌, ◌<◌, Bool, true, false, List, [], ◌∷◌, ◌++◌, Some, length, get_or, refl, sym, ap, subst, inl, inr, arith}
 use Rattle.std.specs.Prelude.{slice_get, slice_set}
 use Rattle.std.proofs.lemmas.Bool.{cases_eq}
 use Rattle.std.proofs.lemmas.Option.{same_Some, get_or_from_slice_get}
@@ -8,9 +8,9 @@ use Rattle.log_runs.specs.LogView.{LogView}
 use Rattle.log_runs.specs.Runs.{State, MayAct, Leads, next}
 use Rattle.search_places.specs.PlaceView.{PlaceView}
 use Rattle.search_places.specs.Places.{IsPlace}
-use Rattle.search_places.specs.Undo.{MayCome, CameBy}
+use Rattle.search_places.specs.Undo.{CameBy}
 use Rattle.search_places.specs.declared.steps.Done.{Done}
-use Rattle.search_rules.specs.Rules.{IsJunkTo, LeavesNothing, AllLeft, acts, IsOverJunk}
+use Rattle.search_rules.specs.Rules.{IsJunkTo, LeavesNothing, acts, IsOverJunk}
 use Rattle.run_search.specs.Frames.{LeadsBy}
 use Rattle.run_search.specs.Groups.{IsGroup}
 use Rattle.run_search.specs.declared.groups.Group.{Group}

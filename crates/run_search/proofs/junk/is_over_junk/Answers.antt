@@ -4,9 +4,7 @@ use Rattle.seq_memory.specs.Limits.{Extent}
 use Rattle.log_runs.specs.declared.Step.TheVariants as steps
 use Rattle.log_runs.specs.LogView.{LogView}
 use Rattle.log_runs.specs.Runs.{State, IsForced}
-use Rattle.search_places.specs.declared.steps.Done.{Done}
 use Rattle.search_rules.specs.Rules.{IsJunkTo, LeavesNothing}
-use Rattle.run_search.specs.Frames.{LeadsBy}
 use Rattle.run_search.proofs.GroupLemmas.{over}
 use Rattle.run_search.proofs.junk.is_over_junk.Goals as goal
 

@@ -1,4 +1,4 @@
-use Rattle.std.proofs.Common.{inl, inr}
+use Rattle.std.proofs.Common.{inr}
 use Rattle.run_search.proofs.junk.leaves_nothing.Goals as goal
 
 pub returns : goal.returns
