@@ -17,7 +17,12 @@ struct Row {
 const HARD: &str =
     "pciex-log 1\nmemory 0 4096 64\nsub 1 0 add 40 01000000\nsub 2 0 add 40 02000000\nsub 3 0 swap 44 01000000\nsub 4 0 swap 44 02000000\nsub 5 0 read 40 2 F F\nans 5 0 data 0200000002000000\nsub 5 1 read 40 2 F F\nans 5 1 data 0300000001000000\nend\n";
 
-static ROWS: [Row; 34] = [
+/// A log of two writes: of one the value is added to, then compared and swapped, then swapped, and that
+/// of the other is read at the end.
+const GROUP: &str =
+    "pciex-log 1\nmemory 0 4096 64\nsub 1 0 write 40 F 0 06000000\nsub 2 0 write 40 F 0 05000000\nsub 3 0 add 40 01000000\nsub 4 0 cas 40 07000000 08000000\nsub 5 0 swap 40 09000000\nans 5 0 data 08000000\nans 4 0 data 07000000\nans 3 0 data 06000000\nsub 3 1 read 40 1 F 0\nans 3 1 data 05000000\nend\n";
+
+static ROWS: [Row; 35] = [
     Row {
         name: "nothing",
         text: "",
@@ -203,6 +208,13 @@ static ROWS: [Row; 34] = [
     Row {
         name: "writes of which one is read later, with no choice",
         text: "pciex-log 1\nmemory 0 4096 64\nsub 1 0 write 40 F 0 05000000\nsub 2 0 write 40 F 0 06000000\nsub 3 0 read 40 1 F 0\nans 3 0 data 06000000\nsub 3 1 read 40 1 F 0\nans 3 1 data 05000000\nend\n",
+        limit: 1,
+        output: "found",
+        status: 0,
+    },
+    Row {
+        name: "writes of which one is added to, compared and swapped, with no choice",
+        text: GROUP,
         limit: 1,
         output: "found",
         status: 0,
