@@ -1,24 +1,23 @@
 -- Which steps are enough.
-use Rattle.std.proofs.Common.{◌≡◌, ◌∙◌, ℕ, ◌+◌, ◌<◌, ◌≤◌, true, false, List, [], ◌∷◌, ◌++◌, take, length, get_or, refl, sym, ap, subst, inl, inr, arith, append_assoc, ◌⊎◌}
+use Rattle.std.proofs.Common.{◌≡◌, ◌∙◌, ℕ, ◌+◌, ◌<◌, ◌≤◌, true, false, List, Some, [], ◌∷◌, ◌++◌, take, length, get_or, refl, sym, ap, subst, inl, inr, arith, append_assoc, ◌⊎◌}
 use Rattle.std.specs.Prelude.{slice_get, ◌==◌}
 use Rattle.std.specs.List.{Contains, All}
 use Rattle.std.specs.List.Sorted.{IsPermutation}
-use Rattle.std.proofs.lemmas.Bool.{cases_Bool, or_cases, eqb-true}
-use Rattle.std.proofs.lemmas.Option.{same_Some, slice_get_within}
+use Rattle.std.proofs.lemmas.Bool.{or_cases, eqb-true}
 use Rattle.std.proofs.lemmas.List.{take_all}
 use Rattle.std.proofs.lemmas.List.Folds.{list_any-append}
 use Rattle.std.proofs.lemmas.List.Elements.{All-contains, All-cons, All-nil, All-same, Contains-append_right}
 use Rattle.std.proofs.lemmas.List.Sorted.{All-permutation, Contains-permutation, IsPermutation-middle, IsPermutation-sym, IsPermutation-to_front}
 use Rattle.log_runs.specs.LogView.{LogView}
-use Rattle.log_runs.specs.EventView as events
 use Rattle.log_runs.specs.declared.Step.{Step}
 use Rattle.log_runs.specs.declared.Step.TheVariants as steps
 use Rattle.log_runs.specs.Runs.{State, Allowed, MayAct, Leads, Dead, Covers, next}
 use Rattle.run_search.specs.declared.choices.Offer.{Offer}
-use Rattle.run_search.specs.Pending.{has, submits, is_done, IsTable}
+use Rattle.search_places.specs.Pending.{has, submits}
 use Rattle.run_search.specs.Offered.{all_of, Puts, Offers}
-use Rattle.run_search.proofs.Lists.{clash, take_one}
-use Rattle.run_search.proofs.Tables.{done_from}
+use Rattle.run_search.proofs.Lists.{take_one}
+use Rattle.search_places.specs.PlaceView.{PlaceView}
+use Rattle.search_places.specs.Places.{IsPlace}
 use Rattle.run_search.proofs.RuleLemmas.{run}
 
 -- the list has each step that may be taken
@@ -28,16 +27,6 @@ covers_all log s xs more has_all dead live = first live.steps live.leads
     first : (ys : List Step) → Leads log s ys live.last → ⊥
     first [] e = more (ap (λ (u : State). u.event) e ∙ live.over)
     first (y ∷ ys) e = All-contains (λ x. Allowed log s x → Dead log (next log s x)) xs y dead (has_all y e.0) e.0 (run log (next log s y) live.last ys e.1 live.over)
-
--- who may act is pending
-pub acts_pending : (log : LogView) (s : State) (p : List ℕ) (b : ℕ) → IsTable log s.event p s.acted → MayAct log s b → has p b ≡ true
-acts_pending log s p b t m =
-    let inside = slice_get_within log.events b (events.Sub m.requester m.op m.told) m.submitted in
-    let sub : submits (slice_get log.events b) ≡ true = ap submits m.submitted in
-    elim (cases_Bool (has p b)) as (λ w. has p b ≡ true) [
-      | inl there ↦ there
-      | inr gone ↦ absurd (clash (done_from log s.event p b m.since sub gone) (same_Some (is_done log s.event p b) false (sym (t.at b inside) ∙ m.once)))
-    ]
 
 -- ---- a step more
 
@@ -121,13 +110,6 @@ module _ (log : LogView) (s : State) where
     ];
   }
 
-  pub offers_all : (xs : List Step) (p : List ℕ) → Offers log s xs p → IsTable log s.event p s.acted → (s.event ≡ length log.events → ⊥) → Covers log s xs
-  offers_all xs p h t more = covers_all log s xs more has_all
-    where
-      has_all : (x : Step) → Allowed log s x → Contains xs x
-      has_all steps.Pass a = h.pass a
-      has_all (steps.Act b) a = h.each b (acts_pending log s p b t a) a
-
   pub offers_next : (xs : List Step) (p q : List ℕ) (i : ℕ) → q ≡ p → i < length q → Offers log s xs (take i p ++ get_or q i 0 ∷ []) → Offers log s xs (take (i + 1) p)
   offers_next xs p q i e l h =
       let at : take (i + 1) q ≡ take i q ++ get_or q i 0 ∷ [] = take_one q i 0 l in
@@ -136,3 +118,15 @@ module _ (log : LogView) (s : State) where
 
   pub offers_end : (xs : List Step) (p q : List ℕ) (i : ℕ) → q ≡ p → length q ≤ i → Offers log s xs (take i p) → Offers log s xs p
   offers_end xs p q i e l h = subst (Offers log s xs) (take_all i p (subst (λ (r : List ℕ). length r ≤ i) e l)) h
+
+module _ (who_is_left : (log : LogView) (p : PlaceView) (b : ℕ) → IsPlace log p → b < p.state.event → submits (slice_get log.events b) ≡ true → slice_get p.state.acted b ≡ Some false → has p.pending b ≡ true) where
+  -- who may act is pending
+  acts_pending : (log : LogView) (p : PlaceView) (b : ℕ) → IsPlace log p → MayAct log p.state b → has p.pending b ≡ true
+  acts_pending log p b place m = who_is_left log p b place m.since (ap submits m.submitted) m.once
+
+  pub offers_all : (log : LogView) (p : PlaceView) (xs : List Step) → Offers log p.state xs p.pending → IsPlace log p → (p.state.event ≡ length log.events → ⊥) → Covers log p.state xs
+  offers_all log p xs h place more = covers_all log p.state xs more has_all
+    where
+      has_all : (x : Step) → Allowed log p.state x → Contains xs x
+      has_all steps.Pass a = h.pass a
+      has_all (steps.Act b) a = h.each b (acts_pending log p b place a) a

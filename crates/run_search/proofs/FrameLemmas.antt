@@ -6,13 +6,26 @@ use Rattle.std.proofs.lemmas.List.Elements.{All-push, All-nil, All-pop}
 use Rattle.log_runs.specs.LogView.{LogView}
 use Rattle.log_runs.specs.declared.Step.{Step}
 use Rattle.log_runs.specs.Runs.{State, Allowed, Leads, Live, Dead, AllDead, Covers, IsForced, next, start}
-use Rattle.run_search.specs.declared.steps.Done.{Done}
+use Rattle.search_places.specs.declared.steps.Done.{Done}
 use Rattle.run_search.specs.declared.walk.Frame.{Frame}
-use Rattle.run_search.specs.Undo.{CameBy}
+use Rattle.search_places.specs.Undo.{MayCome, CameBy}
 use Rattle.run_search.specs.Outcomes.{IsRun}
 use Rattle.run_search.specs.Frames.{LeadsBy, Path, PathFrom, Here, Back, steps_by, steps_of}
 use Rattle.run_search.proofs.Lists.{take_more}
-use Rattle.run_search.proofs.UndoLemmas.{one_more, one_less}
+
+-- ---- steps, one after another
+
+pub one_more : (log : LogView) (s m t : State) (ds : List Done) (d : Done) → LeadsBy log s ds m → CameBy log m t d → LeadsBy log s (ds ++ d ∷ []) t
+one_more log s m t [] d leads c =
+    let e : s ≡ m = leads in
+    subst (λ u. MayCome log u d × (next log u d.step ≡ t)) (sym e) (c.may, sym c.led)
+one_more log s m t (x ∷ ds) d leads c = (leads.0, one_more log (next log s x.step) m t ds d leads.1 c)
+
+pub one_less : (log : LogView) (s t : State) (ds : List Done) (d : Done) → LeadsBy log s (ds ++ d ∷ []) t → (m : State) × LeadsBy log s ds m × CameBy log m t d
+one_less log s t [] d leads = (s, refl, record { may = leads.0; led = sym leads.1 })
+one_less log s t (x ∷ ds) d leads =
+    let (m, before, last) = one_less log (next log s x.step) t ds d leads.1 in
+    (m, (leads.0, before), last)
 
 module _ (log : LogView) where
   -- ---- a frame more, a frame less, and what follows at the end

@@ -1,11 +1,7 @@
 pub mod Lists
-pub mod Tables
-pub mod UndoLemmas
 pub mod RuleLemmas
 pub mod Covering
-pub mod Knowing
 pub mod FrameLemmas
-pub mod Readiness
 pub mod OthersOf
 pub mod SketchLemmas
-pub mod ValueLemmas
+pub mod Suiting

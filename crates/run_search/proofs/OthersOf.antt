@@ -2,21 +2,20 @@
 use Rattle.std.proofs.Common.{◌≡◌, ◌∙◌, ◌⊎◌, inl, inr, ℕ, ◌+◌, ◌<◌, ◌≤◌, true, false, List, [], ◌∷◌, ◌++◌, Some, Option, length, take, get_or, sym, ap, subst, arith}
 use Rattle.std.specs.Prelude.{slice_get, ◌==◌}
 use Rattle.std.proofs.lemmas.Bool.{cases_Bool, cases_eq, cases_lt, or_cases, eqb-true}
-use Rattle.std.proofs.lemmas.Option.{same_Some, slice_get_within}
 use Rattle.std.proofs.lemmas.List.{take_all}
 use Rattle.std.proofs.lemmas.List.Folds.{list_any-append}
 use Rattle.tlp_core.specs.declared.operation.Op.{Op}
 use Rattle.seq_memory.specs.declared.Reply.{Reply}
 use Rattle.log_runs.specs.EventView as events
 use Rattle.log_runs.specs.LogView.{LogView}
-use Rattle.log_runs.specs.Runs.{State}
 use Rattle.search_rules.specs.Rules.{NeverBrings, Yields, LetsFirst, AllOthers}
 use Rattle.run_search.specs.declared.others.Asked.{Asked}
 use Rattle.run_search.specs.declared.others.Asked.TheVariants as asked
-use Rattle.run_search.specs.Pending.{has, submits, is_done, IsTable}
+use Rattle.search_places.specs.Pending.{has, submits}
+use Rattle.search_places.specs.PlaceView.{PlaceView}
+use Rattle.search_places.specs.Places.{IsPlace}
 use Rattle.run_search.specs.Spared.{Spares}
 use Rattle.run_search.proofs.Lists.{clash, take_one}
-use Rattle.run_search.proofs.Tables.{done_from}
 
 -- the numbers of a list, one after the other
 one_more : (p : List ℕ) (c b : ℕ) → has (p ++ c ∷ []) b ≡ true → (has p b ≡ true) ⊎ (c ≡ b)
@@ -42,28 +41,24 @@ each_end P xs i l all b h = all b (subst (λ ys. has ys b ≡ true) (sym (take_a
 abbrev pub Idle : LogView → ℕ → Type 0
 Idle log b = (i : ℕ) (op : Op) (told : Option Reply) → slice_get log.events b ≡ Some (events.Sub i op told) → ⊥
 
-module _ (brings : (log : LogView) (b q : ℕ) → Idle log b → NeverBrings log b q) (yields : (log : LogView) (b q : ℕ) → Idle log b → Yields log b q)
+module _ (who_is_left : (log : LogView) (p : PlaceView) (b : ℕ) → IsPlace log p → b < p.state.event → submits (slice_get log.events b) ≡ true → slice_get p.state.acted b ≡ Some false → has p.pending b ≡ true)
+    (brings : (log : LogView) (b q : ℕ) → Idle log b → NeverBrings log b q) (yields : (log : LogView) (b q : ℕ) → Idle log b → Yields log b q)
     (first : (log : LogView) (m : List ℕ) (b q : ℕ) → Idle log b → LetsFirst log m b q) where
   idle_spares : (log : LogView) (m : List ℕ) (q : ℕ) (what : Asked) (b : ℕ) → Idle log b → Spares log m q what b
   idle_spares log m q asked.Lost b none = brings log b q none
   idle_spares log m q asked.Last b none = (brings log b q none, yields log b q none)
   idle_spares log m q asked.First b none = first log m b q none
 
-  pub all_others : (log : LogView) (s : State) (p : List ℕ) (m : List ℕ) (q a : ℕ) (what : Asked)
-      → IsTable log s.event p s.acted
-      → ((b : ℕ) → has p b ≡ true → (q ≡ b → ⊥) → Spares log m q what b)
-      → ((b : ℕ) → s.event ≤ b → b < a → (q ≡ b → ⊥) → Spares log m q what b)
-      → AllOthers s q a (Spares log m q what)
-  all_others log s p m q a what t pending later b l other left = elim (cases_lt b s.event) [
+  pub all_others : (log : LogView) (p : PlaceView) (m : List ℕ) (q a : ℕ) (what : Asked)
+      → IsPlace log p
+      → ((b : ℕ) → has p.pending b ≡ true → (q ≡ b → ⊥) → Spares log m q what b)
+      → ((b : ℕ) → p.state.event ≤ b → b < a → (q ≡ b → ⊥) → Spares log m q what b)
+      → AllOthers p.state q a (Spares log m q what)
+  all_others log p m q a what place pending later b l other left = elim (cases_lt b p.state.event) [
     | inr late ↦ later b late l other
     | inl early ↦ elim (cases_Bool (submits (slice_get log.events b))) [
       | inr lacks ↦ idle_spares log m q what b (λ i op told at. clash (ap submits at) lacks)
-      | inl is ↦ elim (cases_Bool (has p b)) [
-        | inl there ↦ pending b there other
-        | inr gone ↦
-            let inside : b < length log.events = omega (arith, slice_get_within s.acted b false left, t.len) in
-            absurd (clash (done_from log s.event p b early is gone) (same_Some (is_done log s.event p b) false (sym (t.at b inside) ∙ left)))
-      ]
+      | inl is ↦ pending b (who_is_left log p b place early is left) other
     ]
   ]
 

@@ -1,17 +1,15 @@
 -- Sketches of requests, and requests that have no byte in common.
-use Rattle.std.proofs.Common.{◌≡◌, ◌∙◌, ◌⊎◌, inl, inr, ℕ, zero, suc, ◌+◌, ◌<◌, ◌≤◌, List, [], ◌∷◌, ◌++◌, take, get_or, Some, None, Option, length, refl, sym, ap, subst, arith, add-one, length-append}
+use Rattle.std.proofs.Common.{◌≡◌, ◌∙◌, ◌⊎◌, inl, inr, ℕ, zero, suc, ◌+◌, ◌<◌, ◌≤◌, List, [], ◌∷◌, ◌++◌, take, get_or, Some, None, Option, length, refl, sym, ap, subst, arith, length-append}
 use Rattle.std.specs.Prelude.{slice_get}
-use Rattle.std.proofs.Math.Seq.{take-suc}
-use Rattle.std.proofs.lemmas.Option.{same_Some, slice_get_within}
+use Rattle.std.proofs.lemmas.Option.{same_Some}
 use Rattle.tlp_core.specs.declared.operation.Op.{Op}
-use Rattle.seq_memory.specs.declared.Reply.{Reply}
 use Rattle.seq_memory.specs.Step.{after, answer}
 use Rattle.byte_effects.specs.Effects.{AreApart}
 use Rattle.log_runs.specs.EventView.{EventView}
 use Rattle.log_runs.specs.EventView as events
 use Rattle.log_runs.specs.LogView.{LogView}
 use Rattle.log_runs.specs.Runs.{reply_of, bytes_after, acted_on}
-use Rattle.search_rules.specs.Rules.{Answers, Suits, Ends, NeverBrings, Yields, LetsFirst, AreApartThere}
+use Rattle.search_rules.specs.Rules.{Suits, Ends, NeverBrings, Yields, AreApartThere}
 use Rattle.run_search.specs.declared.others.Asked.{Asked}
 use Rattle.run_search.specs.declared.others.Asked.TheVariants as asked
 use Rattle.run_search.specs.declared.sketches.Sketch.{Sketch}
@@ -52,6 +50,17 @@ sketches_more es ps i e p l is old new =
         | inr same ↦ subst (λ z. IsSketchOf z q) last.1 (subst (IsSketchOf e) same.1 new)
       ]
     ]
+
+get_is : {X : Type 0} → (xs : List X) (i : ℕ) (x : X) → slice_get xs i ≡ Some x → x ≡ get_or xs i x
+get_is [] i x at = cc
+get_is (y ∷ ys) zero x at = sym (same_Some y x at)
+get_is (y ∷ ys) (suc i) x at = get_is ys i x at
+
+pub sketch_next : (es : List EventView) (ps : List Sketch) (i : ℕ) (p : Sketch) → i < length es → AreSketches (take i es) ps
+    → ((e : EventView) → slice_get es i ≡ Some e → IsSketchOf e p) → AreSketches (take (i + 1) es) (ps ++ p ∷ [])
+sketch_next es ps i p l old new =
+    let (e, at) = some_at es i l in
+    sketches_more es ps i e p l (get_is es i e at) old (new e at)
 
 -- ---- by their sketches
 

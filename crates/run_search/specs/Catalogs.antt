@@ -3,7 +3,7 @@ use Rattle.std.specs.Prelude.{length}
 use Rattle.log_runs.specs.LogView.{LogView}
 use Rattle.run_search.specs.declared.catalog.Catalog.{Catalog}
 use Rattle.run_search.specs.Sketches.{AreSketches}
-use Rattle.run_search.specs.Values.{AreValues}
+use Rattle.search_rules.specs.Values.{AreValues}
 
 pub record IsCatalog (log : LogView) (c : Catalog) : Type 0 where
   pub sketches : AreSketches log.events c.sketches.items

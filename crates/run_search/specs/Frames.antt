@@ -4,12 +4,12 @@ use Rattle.std.specs.List.{All}
 use Rattle.log_runs.specs.declared.Step.{Step}
 use Rattle.log_runs.specs.LogView.{LogView}
 use Rattle.log_runs.specs.Runs.{State, Allowed, Dead, AllDead, next, start}
-use Rattle.run_search.specs.declared.steps.Done.{Done}
+use Rattle.search_places.specs.declared.steps.Done.{Done}
 use Rattle.run_search.specs.declared.walk.Frame.{Frame}
 use Rattle.run_search.specs.declared.walk.Walk.{Walk}
-use Rattle.run_search.specs.Places.{state_of, IsPlace}
-use Rattle.run_search.specs.Undo.{MayCome}
-use Rattle.run_search.specs.Known.{AreDead}
+use Rattle.search_places.specs.Places.{IsPlace}
+use Rattle.search_places.specs.Undo.{MayCome}
+use Rattle.search_places.specs.Known.{AreDead}
 
 -- the steps lead from s to t, each with what it overwrote
 abbrev pub LeadsBy : LogView → State → List Done → State → Type 0
@@ -37,28 +37,28 @@ Back log ds t m P = LeadsBy log m ds t × P
 
 -- the search stands at its place
 pub record IsAt (log : LogView) (w : Walk) : Type 0 where
-  pub path : PathFrom log w.frames.items (Here log w.done.items (state_of w.here))
+  pub path : PathFrom log w.frames.items (Here log w.done.items w.here.state)
   pub place : IsPlace log w.here
   pub known : AreDead log w.memo
 
 -- its place is done with
 pub record IsBack (log : LogView) (w : Walk) : Type 0 where
-  pub path : PathFrom log w.frames.items (Back log w.done.items (state_of w.here))
+  pub path : PathFrom log w.frames.items (Back log w.done.items w.here.state)
   pub place : IsPlace log w.here
   pub known : AreDead log w.memo
 
 -- it stands at the last frame, to go on with what is left there
 pub record IsReady (log : LogView) (w : Walk) : Type 0 where
-  pub path : PathFrom log w.frames.items (λ m P. (m ≡ state_of w.here) × P)
+  pub path : PathFrom log w.frames.items (λ m P. (m ≡ w.here.state) × P)
   pub place : IsPlace log w.here
   pub known : AreDead log w.memo
 
 -- step x was taken from the last frame's list
 pub record MayTake (log : LogView) (w : Walk) (f : Frame) (x : Step) : Type 0 where
-  pub allowed : Allowed log (state_of w.here) x
+  pub allowed : Allowed log w.here.state x
   pub path : PathFrom log w.frames.items (λ m P.
-      LeadsBy log m f.done.items (state_of w.here) × All (Allowed log (state_of w.here)) f.rest.items × (Dead log (state_of w.here) → P)
-      × (Dead log (next log (state_of w.here) x) → AllDead log (state_of w.here) f.rest.items → Dead log (state_of w.here)))
+      LeadsBy log m f.done.items w.here.state × All (Allowed log w.here.state) f.rest.items × (Dead log w.here.state → P)
+      × (Dead log (next log w.here.state x) → AllDead log w.here.state f.rest.items → Dead log w.here.state))
   pub place : IsPlace log w.here
   pub known : AreDead log w.memo
 

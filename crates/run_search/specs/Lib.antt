@@ -1,12 +1,6 @@
-pub mod Pending
-pub mod Places
-pub mod Ready
-pub mod Undo
-pub mod Known
 pub mod Spared
 pub mod Offered
 pub mod Frames
 pub mod Outcomes
 pub mod Sketches
-pub mod Values
 pub mod Catalogs

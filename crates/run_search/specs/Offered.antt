@@ -7,7 +7,7 @@ use Rattle.log_runs.specs.Runs.{State, Allowed, MayAct}
 use Rattle.log_runs.specs.declared.Step.{Step}
 use Rattle.log_runs.specs.declared.Step.TheVariants as steps
 use Rattle.run_search.specs.declared.choices.Offer.{Offer}
-use Rattle.run_search.specs.Pending.{has}
+use Rattle.search_places.specs.Pending.{has}
 
 abbrev pub all_of : Offer → List Step
 all_of c = c.far.items ++ c.near.items ++ c.due.items

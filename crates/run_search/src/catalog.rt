@@ -4,8 +4,8 @@ ghost use Rattle.run_search.specs.Catalogs.{IsCatalog};
 
 use crate::due::places;
 use crate::sketches::{Sketch, sketches_of};
-use crate::values::{Values, values_of};
 use log_runs::Log;
+use search_rules::{Values, values_of};
 use std::alloc::{AllocError, Global};
 
 /// What is known of a log's requests.

@@ -2,12 +2,12 @@
 ghost use Rattle.std.specs.Prelude.{◌≡◌, ◌++◌, ◌∷◌, [], ℕ, List, IfOk, OnOk, length};
 ghost use Rattle.std.specs.List.{All};
 ghost use Rattle.log_runs.specs.Runs.{Allowed, Covers};
-ghost use Rattle.run_search.specs.Places.{state_of, IsPlace};
+ghost use Rattle.search_places.specs.Places.{IsPlace};
 ghost use Rattle.run_search.specs.Offered.{all_of, Puts, Offers};
 
-use crate::allowed::{may_act, may_pass};
-use crate::place::Place;
 use log_runs::{Event, Log, Step};
+use search_places::Place;
+use search_places::laws::who_is_left_is_pending;
 use std::alloc::{AllocError, Global};
 use tlp_core::Op;
 
@@ -47,8 +47,8 @@ fn meet(one: &Op, other: &Op) -> bool {
     }
 }
 
-fn op_at(log: &Log, b: usize) -> Option<&Op> {
-    match log.events.get(b) {
+fn op_at<'a>(log: &Log<'a>, b: usize) -> Option<&'a Op> {
+    match log.event(b) {
         Some(Event::Sub { op, .. }) => Some(op),
         _ => None,
     }
@@ -56,8 +56,8 @@ fn op_at(log: &Log, b: usize) -> Option<&Op> {
 
 /// The request whose answer is due.
 fn due(place: &Place, log: &Log) -> Option<usize> {
-    match log.events.get(place.key.event) {
-        Some(Event::Due { request }) => Some(*request),
+    match log.event(place.event()) {
+        Some(Event::Due { request }) => Some(request),
         _ => None,
     }
 }
@@ -119,9 +119,9 @@ impl Offer {
         b: usize,
     ) -> Result<(), AllocError>
         requires { IsPlace log.now place.now }
-        ensures { OnOk result ((p : List ℕ) → Offers log.now (state_of place.now) (all_of self.old) p → Offers log.now (state_of place.now) (all_of self.new) (p ++ b ∷ [])) }
+        ensures { OnOk result ((p : List ℕ) → Offers log.now place.now.state (all_of self.old) p → Offers log.now place.now.state (all_of self.new) (p ++ b ∷ [])) }
     {
-        if !may_act(place, log, b) {
+        if !place.may_act(log, b) {
             return Ok(());
         }
         self.put(Step::Act(b), rank_of(log, due, b))?;
@@ -140,10 +140,10 @@ impl Offer {
 
 /// The next event, if it may be passed.
 fn passing(alloc: Global, log: &Log, place: &Place) -> Result<Offer, AllocError>
-    ensures { IfOk result (λ a. Offers log.now (state_of place.now) (all_of a) []) }
+    ensures { IfOk result (λ a. Offers log.now place.now.state (all_of a) []) }
 {
     let mut found = empty(alloc);
-    if !may_pass(place, log) {
+    if !place.may_pass(log) {
         return Ok(found);
     }
     found.put(Step::Pass, Rank::Due)?;
@@ -153,13 +153,14 @@ fn passing(alloc: Global, log: &Log, place: &Place) -> Result<Offer, AllocError>
 /// The steps that may be taken.
 pub(crate) fn choices(alloc: Global, log: &Log, place: &Place) -> Result<Vec<Step>, AllocError>
     requires place { IsPlace log.now place.now }
-    requires more { place.now.key.event ≡ length log.now.events → ⊥ }
-    ensures allowed { IfOk result (λ v. All (Allowed log.now (state_of place.now)) v.items) }
-    ensures covers { IfOk result (λ v. Covers log.now (state_of place.now) v.items) }
+    requires more { place.now.state.event ≡ length log.now.events → ⊥ }
+    ensures allowed { IfOk result (λ v. All (Allowed log.now place.now.state) v.items) }
+    ensures covers { IfOk result (λ v. Covers log.now place.now.state v.items) }
 {
+    who_is_left_is_pending();
     let due = due(place, log);
     let mut found = passing(alloc, log, place)?;
-    for b in &place.key.pending {
+    for b in place.pending() {
         found.look(log, place, due, *b)?;
     }
     let steps = found.into_steps()?;

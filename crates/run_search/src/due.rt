@@ -14,25 +14,23 @@ fn nowhere(alloc: Global, count: usize) -> Result<Vec<usize>, AllocError> {
 
 /// The place of each request's answer, by the place of its submission.
 fn answers(alloc: Global, log: &Log) -> Result<Vec<usize>, AllocError> {
-    let mut due = nowhere(alloc, log.events.len())?;
-    let mut at = 0usize;
-    for event in &log.events {
-        if let Event::Due { request } = event
-            && *request < due.len()
+    let mut due = nowhere(alloc, log.len())?;
+    for at in 0..log.len() {
+        if let Some(Event::Due { request }) = log.event(at)
+            && request < due.len()
         {
-            due[*request] = at;
+            due[request] = at;
         }
-        at = at.saturating_add(1);
     }
     Ok(due)
 }
 
 /// Of the requester's later answered requests the least place where one is due, and that of a request.
 fn lower(log: &Log, due: &mut [usize], least: &mut [usize], b: usize) {
-    let Some(Event::Sub { requester, op, .. }) = log.events.get(b) else {
+    let Some(Event::Sub { requester, op, .. }) = log.event(b) else {
         return;
     };
-    let who = usize::from(*requester);
+    let who = usize::from(requester);
     if who >= least.len() || b >= due.len() {
         return;
     }
@@ -62,8 +60,8 @@ pub(crate) fn held_until(due: &[usize], log: &Log, q: usize) -> Option<(usize, u
     let Some(a) = due.get(q) else {
         return None;
     };
-    match log.events.get(*a) {
-        Some(Event::Due { request }) => Some((*a, *request)),
+    match log.event(*a) {
+        Some(Event::Due { request }) => Some((*a, request)),
         _ => None,
     }
 }

@@ -31,10 +31,10 @@ fn finished(
     requires catalog { IsCatalog log.now catalog.now }
     ensures at { OnOk result (IsAt log.now walk.new) }
     ensures run { IfOk result (λ o. IfSome o (λ v. IsRun log.now v.items)) }
-    ensures more { IfOk result (λ o. IfNone o (walk.new.here.key.event ≡ length log.now.events → ⊥)) }
+    ensures more { IfOk result (λ o. IfNone o (walk.new.here.state.event ≡ length log.now.events → ⊥)) }
 {
     settle(walk, alloc, log, catalog)?;
-    if walk.here.key.event == log.events.len() {
+    if walk.here.event() == log.len() {
         let steps = steps_of(walk, alloc)?;
         return Ok(Some(steps));
     }

@@ -1,9 +1,8 @@
 //! Where a rule is worth its test. Nothing rests on what these functions say.
 
-use crate::place::Place;
 use crate::sketches::{Sketch, are_far};
-use crate::steps::Done;
 use log_runs::{Log, Step};
+use search_places::{Done, Place};
 use search_rules::{changes_nothing, is_junk_to};
 use std::alloc::{AllocError, Global};
 
@@ -134,7 +133,7 @@ pub(crate) fn may_need(losses: &[Loss], sketches: &[Sketch], q: usize) -> bool {
 
 /// What stands where request `q` writes and what it leaves there are nothing to request `b`.
 fn overlooks(place: &Place, log: &Log, sketches: &[Sketch], b: usize, q: usize) -> bool {
-    are_far(sketches, b, q) || is_junk_to(log, &place.key.bytes, b, q)
+    are_far(sketches, b, q) || is_junk_to(log, place.bytes(), b, q)
 }
 
 /// What stands where request `q` writes and what it leaves there may be nothing to all others.
@@ -145,12 +144,12 @@ pub(crate) fn may_be_over_junk(place: &Place, log: &Log, sketches: &[Sketch], q:
         },
         None => return false,
     }
-    for b in &place.key.pending {
+    for b in place.pending() {
         if *b != q && !overlooks(place, log, sketches, *b, q) && !changes_nothing(log, *b) {
             return false;
         }
     }
-    for b in place.key.event..log.events.len() {
+    for b in place.event()..log.len() {
         if !overlooks(place, log, sketches, b, q) {
             return false;
         }

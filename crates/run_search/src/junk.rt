@@ -2,14 +2,12 @@
 ghost use Rattle.std.specs.Prelude.{◌≡◌, ◌⊎◌, Some, false, IsTrue, IfOk, OnOk, IfSome, slice_get};
 ghost use Rattle.log_runs.specs.Runs.{MayAct, IsForced, next};
 ghost use Rattle.search_rules.specs.Rules.{IsJunkTo, ChangesNothing};
-ghost use Rattle.run_search.specs.Places.{state_of, IsPlace};
+ghost use Rattle.search_places.specs.Places.{IsPlace};
 
-use crate::allowed::may_act;
 use crate::hints::may_be_over_junk;
-use crate::place::{Place, has_acted};
 use crate::sketches::Sketch;
-use crate::steps::{take, take_back};
 use log_runs::{Log, Step};
+use search_places::Place;
 use search_rules::laws::what_is_over_junk_acts_at_once;
 use search_rules::{changes_nothing, is_junk_to};
 use std::alloc::{AllocError, Global};
@@ -26,14 +24,14 @@ fn acts_after(
     b: usize,
 ) -> Result<bool, AllocError>
     requires place { IsPlace log.now place.old }
-    requires may { MayAct log.now (state_of place.old) q }
-    ensures state { OnOk result (state_of place.new ≡ state_of place.old) }
+    requires may { MayAct log.now place.old.state q }
+    ensures state { OnOk result (place.new.state ≡ place.old.state) }
     ensures place { OnOk result (IsPlace log.now place.new) }
-    ensures after { IfOk result (λ so. IsTrue so → MayAct log.now (next log.now (state_of place.old) (Step.Act q)) b) }
+    ensures after { IfOk result (λ so. IsTrue so → MayAct log.now (next log.now place.old.state (Step.Act q)) b) }
 {
-    let done = take(place, alloc, log, Step::Act(q))?;
-    let may = may_act(place, log, b);
-    take_back(place, log, &done)?;
+    let done = place.take(alloc, log, Step::Act(q))?;
+    let may = place.may_act(log, b);
+    place.take_back(log, &done)?;
     Ok(may)
 }
 
@@ -47,15 +45,15 @@ fn is_content(
     b: usize,
 ) -> Result<bool, AllocError>
     requires place { IsPlace log.now place.old }
-    requires may { MayAct log.now (state_of place.old) q }
-    ensures state { OnOk result (state_of place.new ≡ state_of place.old) }
+    requires may { MayAct log.now place.old.state q }
+    ensures state { OnOk result (place.new.state ≡ place.old.state) }
     ensures place { OnOk result (IsPlace log.now place.new) }
-    ensures content { IfOk result (λ so. IsTrue so → (q ≡ b → ⊥) → slice_get (state_of place.old).acted b ≡ Some false → IsJunkTo log.now (state_of place.old).bytes b q ⊎ (MayAct log.now (next log.now (state_of place.old) (Step.Act q)) b × ChangesNothing log.now b)) }
+    ensures content { IfOk result (λ so. IsTrue so → (q ≡ b → ⊥) → slice_get place.old.state.acted b ≡ Some false → IsJunkTo log.now place.old.state.bytes b q ⊎ (MayAct log.now (next log.now place.old.state (Step.Act q)) b × ChangesNothing log.now b)) }
 {
-    if b == q || has_acted(place, b) {
+    if b == q || place.has_acted(b) {
         return Ok(true);
     }
-    if is_junk_to(log, place.key.bytes.as_slice(), b, q) {
+    if is_junk_to(log, place.bytes(), b, q) {
         return Ok(true);
     }
     if !changes_nothing(log, b) {
@@ -68,16 +66,16 @@ fn is_content(
 /// that may act right after it and change nothing.
 fn is_over_junk(place: &mut Place, alloc: Global, log: &Log, q: usize) -> Result<bool, AllocError>
     requires place { IsPlace log.now place.old }
-    requires may { MayAct log.now (state_of place.old) q }
-    ensures state { OnOk result (state_of place.new ≡ state_of place.old) }
+    requires may { MayAct log.now place.old.state q }
+    ensures state { OnOk result (place.new.state ≡ place.old.state) }
     ensures place { OnOk result (IsPlace log.now place.new) }
-    ensures forced { IfOk result (λ so. IsTrue so → IsForced log.now (state_of place.new) (Step.Act q)) }
+    ensures forced { IfOk result (λ so. IsTrue so → IsForced log.now place.new.state (Step.Act q)) }
 {
     what_is_over_junk_acts_at_once();
-    if place.key.bytes.len() != log.extent.size() {
+    if place.bytes().len() != log.extent().size() {
         return Ok(false);
     }
-    for b in 0..log.events.len() {
+    for b in 0..log.len() {
         if !is_content(place, alloc, log, q, b)? {
             return Ok(false);
         }
@@ -94,11 +92,11 @@ fn acts_at_once(
     q: usize,
 ) -> Result<bool, AllocError>
     requires place { IsPlace log.now place.old }
-    ensures state { OnOk result (state_of place.new ≡ state_of place.old) }
+    ensures state { OnOk result (place.new.state ≡ place.old.state) }
     ensures place { OnOk result (IsPlace log.now place.new) }
-    ensures forced { IfOk result (λ so. IsTrue so → IsForced log.now (state_of place.new) (Step.Act q)) }
+    ensures forced { IfOk result (λ so. IsTrue so → IsForced log.now place.new.state (Step.Act q)) }
 {
-    if !may_act(place, log, q) {
+    if !place.may_act(log, q) {
         return Ok(false);
     }
     if !may_be_over_junk(place, log, sketches, q) {
@@ -116,16 +114,16 @@ pub(crate) fn over_junk(
     sketches: &[Sketch],
 ) -> Result<Option<Step>, AllocError>
     requires { IsPlace log.now place.old }
-    ensures state { OnOk result (state_of place.new ≡ state_of place.old) }
+    ensures state { OnOk result (place.new.state ≡ place.old.state) }
     ensures place { OnOk result (IsPlace log.now place.new) }
-    ensures forced { IfOk result (λ o. IfSome o (IsForced log.now (state_of place.new))) }
+    ensures forced { IfOk result (λ o. IfSome o (IsForced log.now place.new.state)) }
 {
-    let count = log.events.len();
-    if place.key.event >= count || count > MOST_EVENTS {
+    let count = log.len();
+    if place.event() >= count || count > MOST_EVENTS {
         return Ok(None);
     }
-    for i in 0..place.key.pending.len() {
-        let Some(q) = place.key.pending.get(i).copied() else {
+    for i in 0..place.pending().len() {
+        let Some(q) = place.pending().get(i).copied() else {
             return Ok(None);
         };
         if acts_at_once(place, alloc, log, sketches, q)? {

@@ -7,8 +7,6 @@
 //! remembered, while there is room for them.
 #![tactic(auto)]
 
-mod allowed;
-mod bytes;
 mod catalog;
 mod choices;
 mod due;
@@ -16,14 +14,9 @@ mod exploring;
 mod hints;
 mod junk;
 mod lost;
-mod memo;
 mod others;
-mod pending;
-mod place;
 mod rules;
 mod sketches;
-mod steps;
-mod values;
 mod walk;
 
 pub use exploring::{Outcome, explore};

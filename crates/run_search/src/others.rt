@@ -1,17 +1,18 @@
 //! What the others that could act before a request do to it.
 ghost use Rattle.std.specs.Prelude.{ℕ, ◌≡◌, ◌<◌, ◌≤◌, true, IsTrue};
 ghost use Rattle.search_rules.specs.Rules.{AllOthers};
-ghost use Rattle.run_search.specs.Pending.{has};
+ghost use Rattle.search_places.specs.Pending.{has};
 ghost use Rattle.run_search.specs.Catalogs.{IsCatalog};
-ghost use Rattle.run_search.specs.Places.{state_of, IsPlace};
+ghost use Rattle.search_places.specs.Places.{IsPlace};
 ghost use Rattle.run_search.specs.Sketches.{AreSketches};
 ghost use Rattle.run_search.specs.Spared.{Spares};
 
 use crate::catalog::Catalog;
-use crate::place::Place;
 use crate::sketches::{Sketch, are_far};
 use byte_effects::laws::apart_requests_commute;
 use log_runs::Log;
+use search_places::Place;
+use search_places::laws::who_is_left_is_pending;
 use search_rules::laws::answers_yield;
 use search_rules::{lets_first, never_brings, yields};
 
@@ -104,13 +105,14 @@ pub(crate) fn others_spare(
 ) -> bool
     requires place { IsPlace log.now place.now }
     requires catalog { IsCatalog log.now catalog.now }
-    ensures { IsTrue result → AllOthers (state_of place.now) q a (Spares log.now (state_of place.now).bytes q asked) }
+    ensures { IsTrue result → AllOthers place.now.state q a (Spares log.now place.now.state.bytes q asked) }
 {
     answers_yield();
-    let bytes = place.key.bytes.as_slice();
+    who_is_left_is_pending();
+    let bytes = place.bytes();
     let sketches = catalog.sketches.as_slice();
-    if !all_spare(place.key.pending.as_slice(), log, sketches, bytes, q, asked) {
+    if !all_spare(place.pending(), log, sketches, bytes, q, asked) {
         return false;
     }
-    later_spare(log, sketches, bytes, place.key.event, a, q, asked)
+    later_spare(log, sketches, bytes, place.event(), a, q, asked)
 }

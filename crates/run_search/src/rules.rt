@@ -2,26 +2,23 @@
 ghost use Rattle.std.specs.Prelude.{IfSome, IsTrue};
 ghost use Rattle.log_runs.specs.Runs.{MayAct, IsForced};
 ghost use Rattle.run_search.specs.Catalogs.{IsCatalog};
-ghost use Rattle.run_search.specs.Places.{state_of, IsPlace};
+ghost use Rattle.search_places.specs.Places.{IsPlace};
 
-use crate::allowed::{may_act, may_pass};
 use crate::catalog::Catalog;
 use crate::due::{held_until, place_of};
 use crate::hints::Look;
-use crate::lost::is_left;
 use crate::others::{Asked, others_spare};
-use crate::place::Place;
-use crate::values::is_alone;
 use log_runs::{Log, Step};
+use search_places::Place;
 use search_rules::laws::{
     the_first_acts_at_once, the_last_acts_at_once, what_changes_nothing_acts_at_once,
 };
-use search_rules::{changes_nothing, follows};
+use search_rules::{changes_nothing, follows, is_alone};
 
 /// The request, which may act, changes nothing.
 fn is_quiet(place: &Place, log: &Log, q: usize) -> bool
-    requires { MayAct log.now (state_of place.now) q }
-    ensures { IsTrue result → IsForced log.now (state_of place.now) (Step.Act q) }
+    requires { MayAct log.now place.now.state q }
+    ensures { IsTrue result → IsForced log.now place.now.state (Step.Act q) }
 {
     what_changes_nothing_acts_at_once();
     changes_nothing(log, q)
@@ -31,14 +28,14 @@ fn is_quiet(place: &Place, log: &Log, q: usize) -> bool
 fn is_last(place: &Place, log: &Log, catalog: &Catalog, q: usize) -> bool
     requires place { IsPlace log.now place.now }
     requires catalog { IsCatalog log.now catalog.now }
-    requires may { MayAct log.now (state_of place.now) q }
-    ensures { IsTrue result → IsForced log.now (state_of place.now) (Step.Act q) }
+    requires may { MayAct log.now place.now.state q }
+    ensures { IsTrue result → IsForced log.now place.now.state (Step.Act q) }
 {
     the_last_acts_at_once();
     let Some(a) = place_of(&catalog.due, log, q) else {
         return false;
     };
-    if a < place.key.event {
+    if a < place.event() {
         return false;
     }
     others_spare(place, log, catalog, q, a, Asked::Last)
@@ -48,20 +45,20 @@ fn is_last(place: &Place, log: &Log, catalog: &Catalog, q: usize) -> bool
 fn is_first(place: &Place, log: &Log, catalog: &Catalog, q: usize) -> bool
     requires place { IsPlace log.now place.now }
     requires catalog { IsCatalog log.now catalog.now }
-    requires may { MayAct log.now (state_of place.now) q }
-    ensures { IsTrue result → IsForced log.now (state_of place.now) (Step.Act q) }
+    requires may { MayAct log.now place.now.state q }
+    ensures { IsTrue result → IsForced log.now place.now.state (Step.Act q) }
 {
     the_first_acts_at_once();
     let Some((a, r)) = held_until(&catalog.due, log, q) else {
         return false;
     };
-    if a < place.key.event {
+    if a < place.event() {
         return false;
     }
     if !follows(log, q, r) {
         return false;
     }
-    if !is_left(place, r) {
+    if !place.is_left(r) {
         return false;
     }
     if is_alone(&catalog.values, log, q) {
@@ -74,9 +71,9 @@ fn is_first(place: &Place, log: &Log, catalog: &Catalog, q: usize) -> bool
 fn acts_at_once(place: &Place, log: &Log, catalog: &Catalog, q: usize) -> bool
     requires place { IsPlace log.now place.now }
     requires catalog { IsCatalog log.now catalog.now }
-    ensures { IsTrue result → IsForced log.now (state_of place.now) (Step.Act q) }
+    ensures { IsTrue result → IsForced log.now place.now.state (Step.Act q) }
 {
-    if !may_act(place, log, q) {
+    if !place.may_act(log, q) {
         return false;
     }
     if is_quiet(place, log, q) {
@@ -92,9 +89,9 @@ fn acts_at_once(place: &Place, log: &Log, catalog: &Catalog, q: usize) -> bool
 fn acts_as_seen(place: &Place, log: &Log, catalog: &Catalog, look: Look, q: usize) -> bool
     requires place { IsPlace log.now place.now }
     requires catalog { IsCatalog log.now catalog.now }
-    ensures { IsTrue result → IsForced log.now (state_of place.now) (Step.Act q) }
+    ensures { IsTrue result → IsForced log.now place.now.state (Step.Act q) }
 {
-    if !look.is_at(&catalog.sketches, log.extent.base(), &place.key.bytes, q) {
+    if !look.is_at(&catalog.sketches, log.extent().base(), place.bytes(), q) {
         return false;
     }
     acts_at_once(place, log, catalog, q)
@@ -105,16 +102,17 @@ fn acts_as_seen(place: &Place, log: &Log, catalog: &Catalog, look: Look, q: usiz
 pub(crate) fn forced(place: &Place, log: &Log, catalog: &Catalog, look: Look) -> Option<Step>
     requires place { IsPlace log.now place.now }
     requires catalog { IsCatalog log.now catalog.now }
-    ensures { IfSome result (IsForced log.now (state_of place.now)) }
+    ensures { IfSome result (IsForced log.now place.now.state) }
 {
-    if look.from < place.key.pending.len() {
-        for q in &place.key.pending[look.from..] {
+    let pending = place.pending();
+    if look.from < pending.len() {
+        for q in &pending[look.from..] {
             if acts_as_seen(place, log, catalog, look, *q) {
                 return Some(Step::Act(*q));
             }
         }
     }
-    if may_pass(place, log) {
+    if place.may_pass(log) {
         return Some(Step::Pass);
     }
     None

@@ -1,5 +1,6 @@
 //! What is looked at often of a request, in a table.
 ghost use Rattle.std.specs.Prelude.{◌≡◌, ◌+◌, ◌≤◌, ◌⊎◌, IfOk, IfSome, IsTrue, Some, slice_get};
+ghost use Rattle.log_runs.specs.EventView.{EventView};
 ghost use Rattle.log_runs.specs.LogView.{LogView};
 ghost use Rattle.search_rules.specs.Rules.{AreApartThere};
 ghost use Rattle.run_search.specs.Sketches.{IsSketchOf, AreSketches};
@@ -99,27 +100,30 @@ fn need_of(op: &Op, data: &[u8]) -> (u32, u32) {
 }
 
 /// What the request needs, if it was answered so.
-fn needed(op: &Op, reply: &Option<Reply>) -> (u32, u32) {
+fn needed(op: &Op, reply: Option<&Reply>) -> (u32, u32) {
     match reply {
         Some(Reply::Data(data)) => need_of(op, data.as_slice()),
         _ => (0, 0),
     }
 }
 
-fn sketch_of(event: &Event) -> Sketch
-    ensures { IsSketchOf event.now result }
+/// The sketch of the event at that place.
+fn sketch_of(log: &Log, at: usize) -> Sketch
+    ensures { (e : EventView) → slice_get log.now.events at ≡ Some e → IsSketchOf e result }
 {
-    let Event::Sub {
-        requester,
-        op,
-        reply,
-    } = event
+    let Some(
+        Event::Sub {
+            requester,
+            op,
+            reply,
+        },
+    ) = log.event(at)
     else {
         return NOTHING;
     };
     let (need, mask) = needed(op, reply);
     let words = words_of(op);
-    let who = bit_for(*requester);
+    let who = bit_for(requester);
     Sketch {
         from: op.address(),
         count: op.size(),
@@ -135,9 +139,9 @@ fn sketch_of(event: &Event) -> Sketch
 pub(crate) fn sketches_of(alloc: Global, log: &Log) -> Result<Vec<Sketch>, AllocError>
     ensures { IfOk result (λ v. AreSketches log.now.events v.items) }
 {
-    let mut sketches = Vec::with_capacity(alloc, log.events.len())?;
-    for event in &log.events {
-        sketches.push(sketch_of(event))?;
+    let mut sketches = Vec::with_capacity(alloc, log.len())?;
+    for at in 0..log.len() {
+        sketches.push(sketch_of(log, at))?;
     }
     Ok(sketches)
 }

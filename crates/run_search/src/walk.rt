@@ -1,7 +1,7 @@
 //! The search's stack.
 ghost use Rattle.std.specs.Prelude.{◌≡◌, ◌++◌, ◌∷◌, [], ℕ, List, true, false, length, IsTrue, IfOk, OnOk, IfSome};
 ghost use Rattle.log_runs.specs.Runs.{Dead, IsForced, start};
-ghost use Rattle.run_search.specs.Places.{state_of, IsPlace};
+ghost use Rattle.search_places.specs.Places.{IsPlace};
 ghost use Rattle.run_search.specs.Catalogs.{IsCatalog};
 ghost use Rattle.run_search.specs.Frames as frames;
 
@@ -10,11 +10,9 @@ use crate::choices::choices;
 use crate::hints::{Look, Loss, losses_of, may_need};
 use crate::junk::over_junk;
 use crate::lost::is_lost;
-use crate::memo::{Memo, empty, is_known, note};
-use crate::place::{Place, first};
 use crate::rules::forced;
-use crate::steps::{Done, take, take_back};
 use log_runs::{Log, Step};
+use search_places::{Done, Memo, Place};
 use std::alloc::{AllocError, Global};
 use std::mem::replace;
 
@@ -45,8 +43,8 @@ pub(crate) fn begin(alloc: Global, log: &Log) -> Result<Walk, AllocError>
     Ok(Walk {
         frames: Vec::new(alloc),
         done: Vec::new(alloc),
-        here: first(alloc, log)?,
-        memo: empty(alloc),
+        here: Place::first(alloc, log)?,
+        memo: Memo::new(alloc),
     })
 }
 
@@ -60,9 +58,9 @@ fn at_once(
 ) -> Result<Option<Step>, AllocError>
     requires place { IsPlace log.now place.old }
     requires catalog { IsCatalog log.now catalog.now }
-    ensures state { OnOk result (state_of place.new ≡ state_of place.old) }
+    ensures state { OnOk result (place.new.state ≡ place.old.state) }
     ensures place { OnOk result (IsPlace log.now place.new) }
-    ensures forced { IfOk result (λ o. IfSome o (IsForced log.now (state_of place.new))) }
+    ensures forced { IfOk result (λ o. IfSome o (IsForced log.now place.new.state)) }
 {
     if let Some(step) = forced(place, log, catalog, look) {
         return Ok(Some(step));
@@ -86,8 +84,8 @@ pub(crate) fn settle(
         let Some(step) = at_once(&mut walk.here, alloc, log, catalog, look)? else {
             return Ok(());
         };
-        look = look.after(&catalog.sketches, walk.here.key.pending.len(), step);
-        let done = take(&mut walk.here, alloc, log, step)?;
+        look = look.after(&catalog.sketches, walk.here.pending().len(), step);
+        let done = walk.here.take(alloc, log, step)?;
         walk.done.push(done)?;
     }
     Ok(())
@@ -96,7 +94,7 @@ pub(crate) fn settle(
 /// Keeps the steps that may be taken here.
 fn keep(walk: &mut Walk, alloc: Global, log: &Log) -> Result<(), AllocError>
     requires at { frames.IsAt log.now walk.old }
-    requires more { walk.old.here.key.event ≡ length log.now.events → ⊥ }
+    requires more { walk.old.here.state.event ≡ length log.now.events → ⊥ }
     ensures { OnOk result (frames.IsReady log.now walk.new) }
 {
     let rest = choices(alloc, log, &walk.here)?;
@@ -112,7 +110,7 @@ fn rewind(walk: &mut Walk, log: &Log) -> Result<(), AllocError>
     ensures frames { walk.new.frames ≡ walk.old.frames }
 {
     while let Some(done) = walk.done.pop() {
-        take_back(&mut walk.here, log, &done)?;
+        walk.here.take_back(log, &done)?;
     }
     Ok(())
 }
@@ -128,7 +126,7 @@ fn go_on(
     requires { frames.MayTake log.now walk.old frame step }
     ensures { OnOk result (frames.IsAt log.now walk.new) }
 {
-    let done = take(&mut walk.here, alloc, log, step)?;
+    let done = walk.here.take(alloc, log, step)?;
     walk.done = Vec::new(alloc);
     walk.done.push(done)?;
     walk.frames.push(frame)?;
@@ -146,7 +144,7 @@ fn back(walk: &mut Walk, alloc: Global, log: &Log) -> Result<bool, AllocError>
             go_on(walk, alloc, log, frame, step)?;
             return Ok(true);
         }
-        note(&mut walk.memo, alloc, &walk.here);
+        walk.memo.note(alloc, &walk.here);
         let Frame { done, rest: _ } = frame;
         walk.done = done;
         rewind(walk, log)?;
@@ -156,14 +154,14 @@ fn back(walk: &mut Walk, alloc: Global, log: &Log) -> Result<bool, AllocError>
 
 /// The request is due now, or may need what the steps since the last frame overwrote.
 fn may_be_lost(walk: &Walk, catalog: &Catalog, losses: &[Loss], q: usize) -> bool {
-    catalog.due.get(q) == Some(&walk.here.key.event) || may_need(losses, &catalog.sketches, q)
+    catalog.due.get(q) == Some(&walk.here.event()) || may_need(losses, &catalog.sketches, q)
 }
 
 /// The request is lost here, as far as the steps since the last frame show.
 fn is_lost_now(walk: &Walk, log: &Log, catalog: &Catalog, losses: &[Loss], q: usize) -> bool
     requires place { IsPlace log.now walk.now.here }
     requires catalog { IsCatalog log.now catalog.now }
-    ensures { IsTrue result → Dead log.now (state_of walk.now.here) }
+    ensures { IsTrue result → Dead log.now walk.now.here.state }
 {
     if !may_be_lost(walk, catalog, losses, q) {
         return false;
@@ -175,9 +173,9 @@ fn is_lost_now(walk: &Walk, log: &Log, catalog: &Catalog, losses: &[Loss], q: us
 fn some_is_lost(walk: &Walk, log: &Log, catalog: &Catalog, losses: &[Loss]) -> bool
     requires place { IsPlace log.now walk.now.here }
     requires catalog { IsCatalog log.now catalog.now }
-    ensures { IsTrue result → Dead log.now (state_of walk.now.here) }
+    ensures { IsTrue result → Dead log.now walk.now.here.state }
 {
-    for q in &walk.here.key.pending {
+    for q in walk.here.pending() {
         if is_lost_now(walk, log, catalog, losses, *q) {
             return true;
         }
@@ -189,9 +187,9 @@ fn some_is_lost(walk: &Walk, log: &Log, catalog: &Catalog, losses: &[Loss]) -> b
 fn later_is_lost(walk: &Walk, log: &Log, catalog: &Catalog, losses: &[Loss]) -> bool
     requires place { IsPlace log.now walk.now.here }
     requires catalog { IsCatalog log.now catalog.now }
-    ensures { IsTrue result → Dead log.now (state_of walk.now.here) }
+    ensures { IsTrue result → Dead log.now walk.now.here.state }
 {
-    let event = walk.here.key.event;
+    let event = walk.here.event();
     for q in event..event.saturating_add(SOON) {
         if is_lost_now(walk, log, catalog, losses, q) {
             return true;
@@ -204,7 +202,7 @@ fn later_is_lost(walk: &Walk, log: &Log, catalog: &Catalog, losses: &[Loss]) -> 
 fn is_dead(walk: &Walk, alloc: Global, log: &Log, catalog: &Catalog) -> Result<bool, AllocError>
     requires at { frames.IsAt log.now walk.now }
     requires catalog { IsCatalog log.now catalog.now }
-    ensures { IfOk result (λ dead. IsTrue dead → Dead log.now (state_of walk.now.here)) }
+    ensures { IfOk result (λ dead. IsTrue dead → Dead log.now walk.now.here.state) }
 {
     let losses = losses_of(alloc, &catalog.sketches, &walk.done)?;
     if some_is_lost(walk, log, catalog, &losses) {
@@ -213,7 +211,8 @@ fn is_dead(walk: &Walk, alloc: Global, log: &Log, catalog: &Catalog) -> Result<b
     if later_is_lost(walk, log, catalog, &losses) {
         return Ok(true);
     }
-    Ok(is_known(&walk.memo, &walk.here))
+    let known = walk.memo.is_known(alloc, &walk.here)?;
+    Ok(known)
 }
 
 /// Goes on from here; false if no run leads to the end.
@@ -225,7 +224,7 @@ pub(crate) fn advance(
 ) -> Result<bool, AllocError>
     requires at { frames.IsAt log.now walk.old }
     requires catalog { IsCatalog log.now catalog.now }
-    requires more { walk.old.here.key.event ≡ length log.now.events → ⊥ }
+    requires more { walk.old.here.state.event ≡ length log.now.events → ⊥ }
     ensures at { IfOk result (λ more. IsTrue more → frames.IsAt log.now walk.new) }
     ensures none { IfOk result (λ more. more ≡ false → Dead log.now (start log.now)) }
 {

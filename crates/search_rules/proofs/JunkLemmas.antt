@@ -15,10 +15,10 @@ use Rattle.log_runs.specs.declared.Step.{Step}
 use Rattle.log_runs.specs.declared.Step.TheVariants as steps
 use Rattle.log_runs.specs.LogView.{LogView}
 use Rattle.log_runs.specs.Runs.{State, has_acted, MayPass, MayAct, Leads, Live, IsForced, next, acted_on, reply_of, bytes_after}
-use Rattle.search_rules.specs.Junk.{Overlooks, Misses, IsJunk}
+use Rattle.search_rules.specs.Junk.{Misses, IsJunk}
 use Rattle.search_rules.specs.Rules.{Suits, IsJunkTo, ChangesNothing, IsOverJunk}
 use Rattle.search_rules.proofs.FirstLemmas.{Others}
-use Rattle.search_rules.proofs.RuleLemmas.{clash, set_here, set_there, acted_kept, gone_by, suits, run, before}
+use Rattle.search_rules.proofs.RuleLemmas.{clash, set_here, set_there, gone_by, suits, run, before}
 
 abbrev pub Answered : Type 0
 Answered = (base block : ℕ) (m n : List ℕ) (op : Op) → length n ≡ length m → AreSameAt base op m n → answer base block n op ≡ answer base block m op

@@ -5,3 +5,4 @@ pub mod PairLemmas
 pub mod FirstLemmas
 pub mod JunkLemmas
 pub mod MissLemmas
+pub mod ValueLemmas

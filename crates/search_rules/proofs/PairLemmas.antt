@@ -1,22 +1,43 @@
 -- Two requests of a log, by what their operations do.
-use Rattle.std.proofs.Common.{◌≡◌, ◌∙◌, ◌⊎◌, inl, inr, ℕ, ◌<◌, List, length, get_or, Some, None, Option, refl, sym, ap, subst}
+use Rattle.std.proofs.Common.{◌≡◌, ◌∙◌, ◌⊎◌, inl, inr, ℕ, List, Some, None, Option, refl, sym, ap, subst}
 use Rattle.std.specs.Prelude.{slice_get}
-use Rattle.std.proofs.lemmas.Option.{slice_get_read, same_Some}
+use Rattle.std.specs.Borrow.{Bor}
+use Rattle.std.proofs.lemmas.Option.{same_Some}
 use Rattle.tlp_core.specs.declared.operation.Op.{Op}
 use Rattle.seq_memory.specs.declared.Reply.{Reply}
 use Rattle.seq_memory.specs.Limits.{Extent}
 use Rattle.seq_memory.specs.Step.{after, answer}
-use Rattle.byte_effects.specs.Effects.{Agrees}
-use Rattle.log_runs.specs.EventView.{EventView}
+use Rattle.byte_effects.specs.Effects.{Agrees, told_of}
+use Rattle.log_runs.specs.declared.Event.{Event}
+use Rattle.log_runs.specs.declared.Event.TheVariants as lent
+use Rattle.log_runs.specs.EventView.{EventView, event_of}
 use Rattle.log_runs.specs.EventView as events
 use Rattle.log_runs.specs.LogView.{LogView}
 use Rattle.log_runs.specs.Runs.{reply_of, bytes_after, acted_on}
 use Rattle.search_rules.specs.Rules.{Answers, Suits, Ends, NeverBrings, Yields}
 
--- an event that was read
-pub event_at : (es ds items : List EventView) (b : ℕ) (r e : EventView) → ds ≡ items → items ≡ es → b < length ds → r ≡ get_or ds b r → r ≡ e → slice_get es b ≡ Some e
-event_at es ds items b r e one two within read is =
-    ap (λ xs. slice_get xs b) (sym (one ∙ two)) ∙ slice_get_read ds (length ds) b r refl within read ∙ ap Some is
+pub not_due : (o : Option EventView) (c i : ℕ) (op : Op) (told : Option Reply) → o ≡ Some (events.Due c) → o ≡ Some (events.Sub i op told) → ⊥
+not_due o c i op told e f = cc
+
+pub not_free : (o : Option EventView) (i : ℕ) (op : Op) (told : Option Reply) → o ≡ Some events.Free → o ≡ Some (events.Sub i op told) → ⊥
+not_free o i op told e f = cc
+
+pub not_none : (o : Option EventView) (i : ℕ) (op : Op) (told : Option Reply) → o ≡ None → o ≡ Some (events.Sub i op told) → ⊥
+not_none o i op told e f = cc
+
+-- ---- an event that a log lends
+
+pub sub_at : (es : List EventView) (b : ℕ) (r : Event) (i : ℕ) (op : Bor Op) (told : Option (Bor Reply)) → r ≡ lent.Sub i op told → Some (event_of r) ≡ slice_get es b
+    → slice_get es b ≡ Some (events.Sub i op.now (told_of told))
+sub_at es b r i op told is read = sym read ∙ ap (λ e. Some (event_of e)) is
+
+pub due_is_idle : (es : List EventView) (b : ℕ) (r : Event) (c : ℕ) → r ≡ lent.Due c → Some (event_of r) ≡ slice_get es b
+    → (i : ℕ) (op : Op) (told : Option Reply) → slice_get es b ≡ Some (events.Sub i op told) → ⊥
+due_is_idle es b r c is read i op told = not_due (slice_get es b) c i op told (sym read ∙ ap (λ e. Some (event_of e)) is)
+
+pub free_is_idle : (es : List EventView) (b : ℕ) (r : Event) → r ≡ lent.Free → Some (event_of r) ≡ slice_get es b
+    → (i : ℕ) (op : Op) (told : Option Reply) → slice_get es b ≡ Some (events.Sub i op told) → ⊥
+free_is_idle es b r is read i op told = not_free (slice_get es b) i op told (sym read ∙ ap (λ e. Some (event_of e)) is)
 
 -- ---- by their operations
 
@@ -100,12 +121,6 @@ idle_yields log b q none m agrees there =
       ap (λ k. acted_on x k other) (idle x one none m) ∙ sym (idle x one none (acted_on x m other)),
     )
 
-pub not_due : (o : Option EventView) (c i : ℕ) (op : Op) (told : Option Reply) → o ≡ Some (events.Due c) → o ≡ Some (events.Sub i op told) → ⊥
-not_due o c i op told e f = cc
-
-pub not_free : (o : Option EventView) (i : ℕ) (op : Op) (told : Option Reply) → o ≡ Some events.Free → o ≡ Some (events.Sub i op told) → ⊥
-not_free o i op told e f = cc
-
 -- one reply is all that was answered
 pub way_of : (base block : ℕ) (m : List ℕ) (one op : Op) (told asked : Option Reply) (reply : Reply) → asked ≡ Some reply
     → ((answer base block (after base block m one) op ≡ reply → ⊥)
@@ -117,6 +132,3 @@ pub way_of : (base block : ℕ) (m : List ℕ) (one op : Op) (told asked : Optio
 way_of base block m one op told asked reply is (inl broken) = inl (λ there. broken (there reply is))
 way_of base block m one op told asked reply is (inr (still, agrees, swap)) =
     inr ((λ r told_it. still ∙ same_Some reply r (sym is ∙ told_it)), agrees, swap)
-
-pub not_none : (o : Option EventView) (i : ℕ) (op : Op) (told : Option Reply) → o ≡ None → o ≡ Some (events.Sub i op told) → ⊥
-not_none o i op told e f = cc

@@ -6,12 +6,15 @@
 //! before it. It acts at once, too, if what it overwrites and what it leaves there is junk: nobody who
 //! is left needs it, but such that may act right after it and change nothing. [`laws`] says this of all
 //! runs, whatever the operations do. What two requests of a log do to each other is told by their
-//! bytes.
+//! bytes. Before which requests no other can act is told by the values that all need of whole words:
+//! [`Values`].
 #![tactic(auto)]
 
 mod junk;
 pub mod laws;
 mod pairs;
+mod values;
 
 pub use junk::is_junk_to;
 pub use pairs::{changes_nothing, follows, lets_first, never_brings, yields};
+pub use values::{Values, is_alone, values_of};

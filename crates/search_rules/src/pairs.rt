@@ -3,7 +3,7 @@ ghost use Rattle.std.specs.Prelude.{ℕ, ◌≡◌, ◌⊎◌, List, Option, Som
 ghost use Rattle.tlp_core.specs.Operation.{is_posted};
 ghost use Rattle.seq_memory.specs.Limits.{IsBlock};
 ghost use Rattle.seq_memory.specs.Step.{after};
-ghost use Rattle.byte_effects.specs.Effects.{Agrees, AreApart, AreSameAt};
+ghost use Rattle.byte_effects.specs.Effects.{Agrees, AreApart, AreSameAt, told_of};
 ghost use Rattle.log_runs.specs.EventView as events;
 ghost use Rattle.log_runs.specs.Runs.{bytes_after, acted_on};
 ghost use Rattle.search_rules.specs.Rules.{Answers, Suits, Ends, NeverBrings, Yields, LetsFirst, Follows};
@@ -14,9 +14,9 @@ use seq_memory::Reply;
 use tlp_core::Op;
 
 /// Right after the first operation the memory suits the second only if it did before.
-fn keeps_out(block: u16, one: &Op, told: &Option<Reply>, other: &Op, asked: &Option<Reply>) -> bool
+fn keeps_out(block: u16, one: &Op, told: Option<&Reply>, other: &Op, asked: Option<&Reply>) -> bool
     requires { IsBlock block }
-    ensures { IsTrue result → (base : ℕ) (m : List ℕ) → Agrees base block m one.now told.now → Agrees base block (after base block m one.now) other.now asked.now → Agrees base block m other.now asked.now }
+    ensures { IsTrue result → (base : ℕ) (m : List ℕ) → Agrees base block m one.now (told_of told.entry) → Agrees base block (after base block m one.now) other.now (told_of asked.entry) → Agrees base block m other.now (told_of asked.entry) }
 {
     match asked {
         Some(reply) => byte_effects::never_brings(block, one, told, other, reply),
@@ -25,12 +25,12 @@ fn keeps_out(block: u16, one: &Op, told: &Option<Reply>, other: &Op, asked: &Opt
 }
 
 /// Right after the operation the memory suits request `q` only if it did before.
-fn never_brings_by(log: &Log, one: &Op, told: &Option<Reply>, q: usize) -> bool
-    ensures { IsTrue result → (m : List ℕ) → Answers log.now.extent m one.now told.now → Suits log.now.extent (bytes_after log.now.extent m one.now) (slice_get log.now.events q) → Suits log.now.extent m (slice_get log.now.events q) }
+fn never_brings_by(log: &Log, one: &Op, told: Option<&Reply>, q: usize) -> bool
+    ensures { IsTrue result → (m : List ℕ) → Answers log.now.extent m one.now (told_of told.entry) → Suits log.now.extent (bytes_after log.now.extent m one.now) (slice_get log.now.events q) → Suits log.now.extent m (slice_get log.now.events q) }
 {
-    match log.events.get(q) {
+    match log.event(q) {
         Some(Event::Sub { op, reply, .. }) => {
-            keeps_out(log.extent.block(), one, told, op, reply)
+            keeps_out(log.extent().block(), one, told, op, reply)
         }
         _ => false,
     }
@@ -40,7 +40,7 @@ fn never_brings_by(log: &Log, one: &Op, told: &Option<Reply>, q: usize) -> bool
 pub fn never_brings(log: &Log, b: usize, q: usize) -> bool
     ensures { IsTrue result → NeverBrings log.now b q }
 {
-    match log.events.get(b) {
+    match log.event(b) {
         Some(Event::Sub { op, reply, .. }) => never_brings_by(log, op, reply, q),
         Some(Event::Due { .. }) => true,
         Some(Event::Free) => true,
@@ -50,10 +50,10 @@ pub fn never_brings(log: &Log, b: usize, q: usize) -> bool
 
 /// [`keeps_out`]; and where the memory suits both, it doesn't suit the second right after the first,
 /// or their order makes no difference.
-fn gives_way(block: u16, one: &Op, told: &Option<Reply>, other: &Op, asked: &Option<Reply>) -> bool
+fn gives_way(block: u16, one: &Op, told: Option<&Reply>, other: &Op, asked: Option<&Reply>) -> bool
     requires { IsBlock block }
-    ensures brings { IsTrue result → (base : ℕ) (m : List ℕ) → Agrees base block m one.now told.now → Agrees base block (after base block m one.now) other.now asked.now → Agrees base block m other.now asked.now }
-    ensures order { IsTrue result → (base : ℕ) (m : List ℕ) → Agrees base block m one.now told.now → Agrees base block m other.now asked.now → (Agrees base block (after base block m one.now) other.now asked.now → ⊥) ⊎ (Agrees base block (after base block m one.now) other.now asked.now × Agrees base block (after base block m other.now) one.now told.now × (after base block (after base block m one.now) other.now ≡ after base block (after base block m other.now) one.now)) }
+    ensures brings { IsTrue result → (base : ℕ) (m : List ℕ) → Agrees base block m one.now (told_of told.entry) → Agrees base block (after base block m one.now) other.now (told_of asked.entry) → Agrees base block m other.now (told_of asked.entry) }
+    ensures order { IsTrue result → (base : ℕ) (m : List ℕ) → Agrees base block m one.now (told_of told.entry) → Agrees base block m other.now (told_of asked.entry) → (Agrees base block (after base block m one.now) other.now (told_of asked.entry) → ⊥) ⊎ (Agrees base block (after base block m one.now) other.now (told_of asked.entry) × Agrees base block (after base block m other.now) one.now (told_of told.entry) × (after base block (after base block m one.now) other.now ≡ after base block (after base block m other.now) one.now)) }
 {
     match asked {
         Some(reply) => byte_effects::yields(block, one, told, other, reply),
@@ -63,13 +63,13 @@ fn gives_way(block: u16, one: &Op, told: &Option<Reply>, other: &Op, asked: &Opt
 
 /// [`never_brings_by`]; and where the memory suits both, it doesn't suit request `q` right after the
 /// operation, or their order makes no difference.
-fn yields_by(log: &Log, one: &Op, told: &Option<Reply>, q: usize) -> bool
-    ensures brings { IsTrue result → (m : List ℕ) → Answers log.now.extent m one.now told.now → Suits log.now.extent (bytes_after log.now.extent m one.now) (slice_get log.now.events q) → Suits log.now.extent m (slice_get log.now.events q) }
-    ensures order { IsTrue result → (m : List ℕ) → Answers log.now.extent m one.now told.now → Suits log.now.extent m (slice_get log.now.events q) → (i : ℕ) → Ends log.now.extent m (bytes_after log.now.extent m one.now) (Some (events.Sub i one.now told.now)) (slice_get log.now.events q) }
+fn yields_by(log: &Log, one: &Op, told: Option<&Reply>, q: usize) -> bool
+    ensures brings { IsTrue result → (m : List ℕ) → Answers log.now.extent m one.now (told_of told.entry) → Suits log.now.extent (bytes_after log.now.extent m one.now) (slice_get log.now.events q) → Suits log.now.extent m (slice_get log.now.events q) }
+    ensures order { IsTrue result → (m : List ℕ) → Answers log.now.extent m one.now (told_of told.entry) → Suits log.now.extent m (slice_get log.now.events q) → (i : ℕ) → Ends log.now.extent m (bytes_after log.now.extent m one.now) (Some (events.Sub i one.now (told_of told.entry))) (slice_get log.now.events q) }
 {
-    match log.events.get(q) {
+    match log.event(q) {
         Some(Event::Sub { op, reply, .. }) => {
-            gives_way(log.extent.block(), one, told, op, reply)
+            gives_way(log.extent().block(), one, told, op, reply)
         }
         _ => false,
     }
@@ -81,7 +81,7 @@ pub fn yields(log: &Log, b: usize, q: usize) -> bool
     ensures brings { IsTrue result → NeverBrings log.now b q }
     ensures order { IsTrue result → Yields log.now b q }
 {
-    match log.events.get(b) {
+    match log.event(b) {
         Some(Event::Sub { op, reply, .. }) => yields_by(log, op, reply, q),
         Some(Event::Due { .. }) => true,
         Some(Event::Free) => true,
@@ -93,17 +93,17 @@ pub fn yields(log: &Log, b: usize, q: usize) -> bool
 pub fn changes_nothing(log: &Log, q: usize) -> bool
     ensures { IsTrue result → (m : List ℕ) → Suits log.now.extent m (slice_get log.now.events q) → acted_on log.now.extent m (slice_get log.now.events q) ≡ m }
 {
-    match log.events.get(q) {
+    match log.event(q) {
         Some(Event::Sub { op, reply, .. }) => {
-            byte_effects::is_quiet(log.extent.block(), op, reply)
+            byte_effects::is_quiet(log.extent().block(), op, reply)
         }
         _ => false,
     }
 }
 
 /// The operations have no byte in common, or the first waits till the bytes of the second aren't these.
-fn goes_behind(base: u64, bytes: &[u8], one: &Op, told: &Option<Reply>, other: &Op) -> bool
-    ensures { IsTrue result → AreApart one.now other.now ⊎ ((block : ℕ) (n : List ℕ) → AreSameAt base other.now bytes.now n → Agrees base block n one.now told.now → ⊥) }
+fn goes_behind(base: u64, bytes: &[u8], one: &Op, told: Option<&Reply>, other: &Op) -> bool
+    ensures { IsTrue result → AreApart one.now other.now ⊎ ((block : ℕ) (n : List ℕ) → AreSameAt base other.now bytes.now n → Agrees base block n one.now (told_of told.entry) → ⊥) }
 {
     if are_apart(one, other) {
         return true;
@@ -112,11 +112,11 @@ fn goes_behind(base: u64, bytes: &[u8], one: &Op, told: &Option<Reply>, other: &
 }
 
 /// The operation has no byte of request `q`, or waits till those bytes aren't these.
-fn lets_first_by(log: &Log, bytes: &[u8], one: &Op, told: &Option<Reply>, q: usize) -> bool
-    ensures { IsTrue result → (j : ℕ) (other : Op) (asked : Option Reply) → slice_get log.now.events q ≡ Some (events.Sub j other asked) → AreApart one.now other ⊎ ((n : List ℕ) → AreSameAt log.now.extent.base other bytes.now n → Answers log.now.extent n one.now told.now → ⊥) }
+fn lets_first_by(log: &Log, bytes: &[u8], one: &Op, told: Option<&Reply>, q: usize) -> bool
+    ensures { IsTrue result → (j : ℕ) (other : Op) (asked : Option Reply) → slice_get log.now.events q ≡ Some (events.Sub j other asked) → AreApart one.now other ⊎ ((n : List ℕ) → AreSameAt log.now.extent.base other bytes.now n → Answers log.now.extent n one.now (told_of told.entry) → ⊥) }
 {
-    match log.events.get(q) {
-        Some(Event::Sub { op, .. }) => goes_behind(log.extent.base(), bytes, one, told, op),
+    match log.event(q) {
+        Some(Event::Sub { op, .. }) => goes_behind(log.extent().base(), bytes, one, told, op),
         _ => false,
     }
 }
@@ -125,7 +125,7 @@ fn lets_first_by(log: &Log, bytes: &[u8], one: &Op, told: &Option<Reply>, q: usi
 pub fn lets_first(log: &Log, bytes: &[u8], b: usize, q: usize) -> bool
     ensures { IsTrue result → LetsFirst log.now bytes.now b q }
 {
-    match log.events.get(b) {
+    match log.event(b) {
         Some(Event::Sub { op, reply, .. }) => lets_first_by(log, bytes, op, reply, q),
         Some(Event::Due { .. }) => true,
         Some(Event::Free) => true,
@@ -137,8 +137,8 @@ pub fn lets_first(log: &Log, bytes: &[u8], b: usize, q: usize) -> bool
 fn is_of(log: &Log, r: usize, requester: u8) -> bool
     ensures { IsTrue result → (op : Op) × (told : Option Reply) × (slice_get log.now.events r ≡ Some (events.Sub requester op told)) }
 {
-    match log.events.get(r) {
-        Some(Event::Sub { requester: who, .. }) => *who == requester,
+    match log.event(r) {
+        Some(Event::Sub { requester: who, .. }) => who == requester,
         _ => false,
     }
 }
@@ -147,9 +147,9 @@ fn is_of(log: &Log, r: usize, requester: u8) -> bool
 fn writer(log: &Log, q: usize) -> Option<u8>
     ensures { IfSome result (λ i. (w : Op) × (asked : Option Reply) × (is_posted w ≡ true) × (slice_get log.now.events q ≡ Some (events.Sub i w asked))) }
 {
-    match log.events.get(q) {
+    match log.event(q) {
         Some(Event::Sub { requester, op, .. }) => if op.is_posted() {
-            Some(*requester)
+            Some(requester)
         } else {
             None
         },

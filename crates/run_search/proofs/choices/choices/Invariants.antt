@@ -1,7 +1,6 @@
 use Rattle.std.proofs.Common.{take}
-use Rattle.run_search.specs.Places.{state_of}
 use Rattle.run_search.specs.Offered.{all_of, Offers}
 use Rattle.run_search.proofs.choices.choices.Given as goal
 
 abbrev pub invariant-loop-b : goal.invariant-loop-b
-invariant-loop-b l = Offers l.log (state_of l.place) (all_of l.found) (take l.b-index l.place.key.pending.items)
+invariant-loop-b l = Offers l.log l.place.state (all_of l.found) (take l.b-index l.place.pending)

@@ -4,4 +4,4 @@ use Rattle.run_search.proofs.junk.is_content.Goals as goal
 
 pub returns-then-is_junk_to-clause-content : goal.returns-then-is_junk_to-clause-content
 returns-then-is_junk_to-clause-content c = λ so other left.
-    inl (subst (λ (m : List ℕ). IsJunkTo c.args.log.now m c.args.b c.args.q) c.as_slice.ensures.value (c.is_junk_to.ensures c.if-is_junk_to.true))
+    inl (subst (λ (m : List ℕ). IsJunkTo c.args.log.now m c.args.b c.args.q) c.bytes.ensures (c.is_junk_to.ensures c.if-is_junk_to.true))

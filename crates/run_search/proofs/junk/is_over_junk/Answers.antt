@@ -1,12 +1,12 @@
-use Rattle.std.proofs.Common.{◌≡◌, ◌∙◌, ◌⊎◌, ℕ, ◌<◌, Some, Bool, false, length, inl, inr, sym, ap, subst, arith}
+use Rattle.std.proofs.Common.{◌≡◌, ◌∙◌, ◌⊎◌, ℕ, Some, List, false, length, inl, inr, sym, ap, subst, arith}
 use Rattle.std.specs.Prelude.{slice_get}
 use Rattle.std.proofs.lemmas.Bool.{cases_eq}
 use Rattle.std.proofs.lemmas.Option.{slice_get_within}
+use Rattle.seq_memory.specs.Limits.{Extent}
 use Rattle.log_runs.specs.declared.Step.TheVariants as kinds
 use Rattle.log_runs.specs.LogView.{LogView}
 use Rattle.log_runs.specs.Runs.{State, MayAct, IsForced, next}
 use Rattle.search_rules.specs.Rules.{IsJunkTo, ChangesNothing, IsOverJunk}
-use Rattle.run_search.specs.Places.{state_of}
 use Rattle.run_search.proofs.junk.is_over_junk.Goals as goal
 
 abbrev Content : LogView → State → ℕ → ℕ → Type 0
@@ -16,7 +16,7 @@ pub loop-b-preserved : goal.loop-b-preserved
 loop-b-preserved c =
     let log = c.args.log.now in
     let q = c.args.q in
-    let s = state_of c.args.place.now in
+    let s = c.args.place.now.state in
     let one : Content log s q c.loop-b.b = subst (λ (u : State). Content log u q c.loop-b.b) c.loop-b.invariant.state (c.in_ok-is_content.ensures.content c.if-not-branch.false) in
     record {
       state = c.in_ok-is_content.ensures.state ∙ c.loop-b.invariant.state;
@@ -30,11 +30,10 @@ loop-b-preserved c =
 pub returns-clause-forced : goal.returns-clause-forced
 returns-clause-forced c = λ so.
     let log = c.args.log.now in
-    let s = state_of c.args.place.now in
-    let bytes = c.args.place.now.key.bytes in
-    let whole : c.len-b-end.result ≡ length log.events = c.len-b-end.ensures ∙ c.log.inside.events.ok.0 ∙ ap (λ (t : LogView). length t.events) c.log.view_is in
+    let s = c.args.place.now.state in
+    let whole : c.len-b-end.result ≡ length log.events = c.len-b-end.ensures in
     let over : IsOverJunk log s c.args.q = record {
-      size = sym bytes.ok.0 ∙ sym c.len.ensures ∙ c.if-len-size.false ∙ c.size.ensures.value ∙ ap (λ (t : LogView). t.extent.size) c.log.view_is;
+      size = ap (λ (m : List ℕ). length m) (sym c.bytes.ensures) ∙ c.if-bytes-size.false ∙ c.size.ensures.value ∙ ap (λ (x : Extent). x.size) c.extent.ensures;
       may = c.requires.may;
       others = λ b other left. c.loop-b.invariant.content b (omega (arith, slice_get_within s.acted b false left, c.requires.place.len, whole, c.loop-b-test.false)) other left;
     } in

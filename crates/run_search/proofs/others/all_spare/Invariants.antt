@@ -1,5 +1,5 @@
 use Rattle.std.proofs.Common.{◌≡◌, ℕ, true, take}
-use Rattle.run_search.specs.Pending.{has}
+use Rattle.search_places.specs.Pending.{has}
 use Rattle.run_search.specs.Spared.{Spares}
 use Rattle.run_search.proofs.others.all_spare.Given as goal
 

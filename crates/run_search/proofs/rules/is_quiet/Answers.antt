@@ -1,6 +1,5 @@
-use Rattle.run_search.specs.Places.{state_of}
 use Rattle.run_search.proofs.rules.is_quiet.Goals as goal
 
 pub returns : goal.returns
 returns c = λ yes.
-    c.what_changes_nothing_acts_at_once.ensures c.args.log.now (state_of c.args.place.now) c.args.q (c.changes_nothing.ensures yes) c.requires
+    c.what_changes_nothing_acts_at_once.ensures c.args.log.now c.args.place.now.state c.args.q (c.changes_nothing.ensures yes) c.requires

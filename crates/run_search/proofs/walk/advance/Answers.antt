@@ -1,4 +1,3 @@
-use Rattle.run_search.specs.Places.{state_of}
 use Rattle.run_search.proofs.FrameLemmas.{turned}
 use Rattle.run_search.proofs.walk.advance.Goals as goal
 
@@ -7,7 +6,7 @@ rewind-requires c =
     let log = c.args.log.now in
     let walk = c.args.walk.now in
     record {
-      path = turned log walk.frames.items walk.done.items (state_of walk.here) c.requires.at.path (c.in_ok-dead.ensures c.if-dead.true);
+      path = turned log walk.frames.items walk.done.items walk.here.state c.requires.at.path (c.in_ok-dead.ensures c.if-dead.true);
       place = c.requires.at.place;
       known = c.requires.at.known;
     }

@@ -1,8 +1,7 @@
 use Rattle.std.proofs.Common.{◌≡◌, Vec, Global, List, ap, sym, subst}
 use Rattle.log_runs.specs.Runs.{State}
-use Rattle.run_search.specs.declared.steps.Done.{Done}
+use Rattle.search_places.specs.declared.steps.Done.{Done}
 use Rattle.run_search.specs.declared.walk.Frame.{Frame}
-use Rattle.run_search.specs.Places.{state_of}
 use Rattle.run_search.specs.Frames.{PathFrom}
 use Rattle.run_search.proofs.FrameLemmas.{kept}
 use Rattle.run_search.proofs.walk.keep.Goals as goal
@@ -11,10 +10,10 @@ pub returns : goal.returns
 returns c =
     let log = c.args.log.now in
     let walk = c.args.walk.now in
-    let path = kept log walk.frames.items walk.done.items (state_of walk.here) (record { done = c.replace-done.result; rest = c.in_ok-rest.rest })
+    let path = kept log walk.frames.items walk.done.items walk.here.state (record { done = c.replace-done.result; rest = c.in_ok-rest.rest })
     c.requires.at.path (ap (λ (v : Vec Done Global). v.items) c.replace-done.ensures.value) c.in_ok-rest.ensures.allowed c.in_ok-rest.ensures.covers in
     record {
-      path = subst (λ (fs : List Frame). PathFrom log fs (λ (m : State) (P : Type 0). (m ≡ state_of walk.here) × P)) (sym c.in_ok-push.ensures.items) path;
+      path = subst (λ (fs : List Frame). PathFrom log fs (λ (m : State) (P : Type 0). (m ≡ walk.here.state) × P)) (sym c.in_ok-push.ensures.items) path;
       place = c.requires.at.place;
       known = c.requires.at.known;
     }

@@ -1,7 +1,6 @@
 use Rattle.std.proofs.Common.{◌∙◌, List, sym, subst}
 use Rattle.std.proofs.lemmas.List.{nil_from_length}
-use Rattle.run_search.specs.declared.steps.Done.{Done}
-use Rattle.run_search.specs.Places.{state_of}
+use Rattle.search_places.specs.declared.steps.Done.{Done}
 use Rattle.run_search.specs.Frames.{PathFrom, Back}
 use Rattle.run_search.proofs.FrameLemmas.{came, rewound}
 use Rattle.run_search.proofs.walk.rewind.Goals as goal
@@ -10,8 +9,8 @@ pub take_back-requires-clause-came : goal.take_back-requires-clause-came
 take_back-requires-clause-came c =
     let log = c.args.log.now in
     let walk = c.loop-done.walk in
-    came log walk.frames.items c.pop.new.self.items c.in-Some.done (state_of walk.here)
-    (subst (λ (ds : List Done). PathFrom log walk.frames.items (Back log ds (state_of walk.here))) c.in-Some.ensures.items c.loop-done.invariant.back.path)
+    came log walk.frames.items c.pop.new.self.items c.in-Some.done walk.here.state
+    (subst (λ (ds : List Done). PathFrom log walk.frames.items (Back log ds walk.here.state)) c.in-Some.ensures.items c.loop-done.invariant.back.path)
 
 pub loop-done-preserved : goal.loop-done-preserved
 loop-done-preserved c =
@@ -19,8 +18,8 @@ loop-done-preserved c =
     let walk = c.loop-done.walk in
     record {
       back = record {
-        path = rewound log walk.frames.items c.pop.new.self.items c.in-Some.done (state_of walk.here) (state_of c.take_back.new.place)
-            (subst (λ (ds : List Done). PathFrom log walk.frames.items (Back log ds (state_of walk.here))) c.in-Some.ensures.items c.loop-done.invariant.back.path)
+        path = rewound log walk.frames.items c.pop.new.self.items c.in-Some.done walk.here.state c.take_back.new.self.state
+            (subst (λ (ds : List Done). PathFrom log walk.frames.items (Back log ds walk.here.state)) c.in-Some.ensures.items c.loop-done.invariant.back.path)
             c.in_ok-take_back.ensures.state;
         place = c.in_ok-take_back.ensures.place;
         known = c.loop-done.invariant.back.known;
@@ -33,7 +32,7 @@ returns-clause-ready c =
     let log = c.args.log.now in
     let walk = c.loop-done.walk in
     record {
-      path = subst (λ (ds : List Done). PathFrom log walk.frames.items (Back log ds (state_of walk.here)))
+      path = subst (λ (ds : List Done). PathFrom log walk.frames.items (Back log ds walk.here.state))
           (nil_from_length walk.done.items (sym walk.done.ok.0 ∙ c.in_default.ensures.cases.0)) c.loop-done.invariant.back.path;
       place = c.loop-done.invariant.back.place;
       known = c.loop-done.invariant.back.known;

@@ -2,8 +2,7 @@ use Rattle.std.proofs.Common.{List, Option, sym, subst}
 use Rattle.std.specs.Prelude.{IfSome}
 use Rattle.log_runs.specs.declared.Step.{Step}
 use Rattle.log_runs.specs.Runs.{State, IsForced}
-use Rattle.run_search.specs.declared.steps.Done.{Done}
-use Rattle.run_search.specs.Places.{state_of}
+use Rattle.search_places.specs.declared.steps.Done.{Done}
 use Rattle.run_search.specs.Frames.{PathFrom, Here}
 use Rattle.run_search.proofs.FrameLemmas.{moved}
 use Rattle.run_search.proofs.walk.settle.Goals as goal
@@ -12,8 +11,8 @@ pub loop-step-preserved : goal.loop-step-preserved
 loop-step-preserved c =
     let log = c.args.log.now in
     let walk = c.loop-step.walk in
-    let s = state_of c.at_once.new.place in
-    let u = state_of c.take.new.place in
+    let s = c.at_once.new.place.state in
+    let u = c.take.new.self.state in
     let d = c.in_ok-done.done in
     let path_here = subst (λ (t : State). PathFrom log walk.frames.items (Here log walk.done.items t)) (sym c.in_ok-step.ensures.state) c.loop-step.invariant.path in
     let there : IsForced log s c.in-Some.step = subst (λ (o : Option Step). IfSome o (IsForced log s)) c.in-Some.is c.in_ok-step.ensures.forced in

@@ -1,12 +1,11 @@
-use Rattle.std.proofs.Common.{◌≡◌, ◌∙◌, Some, ap}
+use Rattle.std.proofs.Common.{◌∙◌, ap}
 use Rattle.std.specs.Prelude.{slice_get}
-use Rattle.log_runs.specs.EventView as events
-use Rattle.log_runs.specs.LogView.{LogView}
-use Rattle.search_rules.proofs.PairLemmas.{event_at, brings_by}
+use Rattle.seq_memory.specs.Limits.{Extent}
+use Rattle.byte_effects.specs.Effects.{told_of}
+use Rattle.search_rules.proofs.PairLemmas.{sub_at, brings_by}
 use Rattle.search_rules.proofs.pairs.never_brings_by.Goals as goal
 
 pub returns-in-Some-Sub : goal.returns-in-Some-Sub
 returns-in-Some-Sub c = λ yes.
-    let seen : slice_get c.args.log.now.events c.args.q ≡ Some (events.Sub c.in-Some-Sub.field-0-0 c.in-Some-Sub.op c.in-Some-Sub.reply) = event_at c.args.log.now.events c.deref.result.now c.log.inside.events.items c.args.q c.in-Some-Sub.field-0.now (events.Sub c.in-Some-Sub.field-0-0 c.in-Some-Sub.op c.in-Some-Sub.reply)
-    c.deref.ensures.value (ap (λ (t : LogView). t.events) c.log.view_is) c.in-Some-Sub.ensures.lookup.3.0 c.in-Some-Sub.ensures.lookup.1 c.in-Some-Sub.field-0-is in
-    brings_by c.args.log.now.extent (slice_get c.args.log.now.events c.args.q) c.in-Some-Sub.field-0-0 c.block.result c.args.one.now c.in-Some-Sub.op c.args.told.now c.in-Some-Sub.reply (c.block.ensures.value ∙ ap (λ (t : LogView). t.extent.block) c.log.view_is) seen (c.keeps_out.ensures yes)
+    brings_by c.args.log.now.extent (slice_get c.args.log.now.events c.args.q) c.in-Some-Sub.field-0-0 c.block.result c.args.one.now c.in-Some-Sub.op.now (told_of c.args.told) (told_of c.in-Some-Sub.reply) (c.block.ensures.value ∙ ap (λ (e : Extent). e.block) c.extent.ensures)
+    (sub_at c.args.log.now.events c.args.q c.in-Some-Sub.field-0 c.in-Some-Sub.field-0-0 c.in-Some-Sub.op c.in-Some-Sub.reply c.in-Some-Sub.field-0-is c.in-Some-Sub.ensures) (c.keeps_out.ensures yes)

@@ -1,12 +1,11 @@
-use Rattle.run_search.specs.Places.{state_of}
 use Rattle.run_search.proofs.Lists.{clash}
 use Rattle.run_search.proofs.Covering.{offers_act, offers_none}
 use Rattle.run_search.proofs.choices.Offer.look.Goals as goal
 
 pub returns-then-not-may_act : goal.returns-then-not-may_act
 returns-then-not-may_act c = λ p h.
-    offers_none c.args.log.now (state_of c.args.place.now) c.args.self.now p c.args.b (λ m. clash (c.may_act.ensures.1 m) c.if-not-may_act.true) h
+    offers_none c.args.log.now c.args.place.now.state c.args.self.now p c.args.b (λ m. clash (c.may_act.ensures.1 m) c.if-not-may_act.true) h
 
 pub returns : goal.returns
 returns c = λ p h.
-    offers_act c.args.log.now (state_of c.args.place.now) c.args.self.now c.put.new.self p c.args.b (c.may_act.ensures.0 c.if-not-may_act.false) c.in_ok-put.ensures h
+    offers_act c.args.log.now c.args.place.now.state c.args.self.now c.put.new.self p c.args.b (c.may_act.ensures.0 c.if-not-may_act.false) c.in_ok-put.ensures h

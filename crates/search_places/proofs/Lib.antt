@@ -1,0 +1,5 @@
+pub mod Lists
+pub mod Tables
+pub mod UndoLemmas
+pub mod Knowing
+pub mod Readiness

@@ -1,0 +1,12 @@
+use Rattle.search_places.proofs.Tables.{table_fresh}
+use Rattle.search_places.proofs.place.Place.take.Goals as goal
+
+pub returns-clause-came : goal.returns-clause-came
+returns-clause-came c = record {
+  may = record {
+    allowed = c.requires.allowed;
+    old = c.in_ok-old.ensures;
+    fresh = table_fresh c.args.log.now c.args.self.now.state.event c.args.self.now.pending c.args.self.now.state.acted c.requires.place;
+  };
+  led = c.in_ok-go.ensures.state;
+}

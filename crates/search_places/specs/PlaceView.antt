@@ -1,0 +1,8 @@
+-- A place of the search.
+use Rattle.std.specs.Prelude.{ℕ, List}
+use Rattle.log_runs.specs.Runs.{State}
+
+-- a state, and the requests that were passed and haven't acted
+pub record PlaceView : Type 0 where
+  pub state : State
+  pub pending : List ℕ

@@ -1,0 +1,117 @@
+//! Which steps may be taken.
+ghost use Rattle.std.specs.Prelude.{◌≡◌, ◌<◌, ◌≤◌, ◌↔◌, ℕ, IsTrue, slice_get, option_map, not};
+ghost use Rattle.std.specs.List.{list_any};
+ghost use Rattle.log_runs.specs.Runs.{MayPass, MayAct, reply_of};
+ghost use Rattle.search_places.specs.Pending.{blocks};
+ghost use Rattle.search_places.specs.Pending as pending;
+ghost use Rattle.search_places.specs.Places.{IsPlace};
+ghost use Rattle.search_places.specs.Ready.{is_told};
+ghost use Rattle.search_places.specs.Ready as ready;
+
+use crate::bytes::reply_to;
+use crate::place::Place;
+use log_runs::{Event, Log};
+use seq_memory::Reply;
+use tlp_core::Op;
+
+/// The event is a posted write of the requester.
+fn is_write(log: &Log, requester: u8, c: usize) -> bool
+    ensures { result ≡ pending.is_write requester (slice_get log.now.events c) }
+{
+    match log.event(c) {
+        Some(
+            Event::Sub {
+                requester: who,
+                op,
+                ..
+            },
+        ) => requester == who && op.is_posted(),
+        _ => false,
+    }
+}
+
+/// Request `c` is a posted write that the requester submitted before request `b`.
+fn does_block(log: &Log, requester: u8, b: usize, c: usize) -> bool
+    ensures { result ≡ blocks log.now requester b c }
+{
+    c < b && is_write(log, requester, c)
+}
+
+/// No posted write is pending that the requester submitted before request `b`.
+fn is_free(pending: &[usize], log: &Log, requester: u8, b: usize) -> bool
+    ensures { result ≡ not (list_any (blocks log.now requester b) pending.now) }
+{
+    for c in pending {
+        if does_block(log, requester, b, *c) {
+            return false;
+        }
+    }
+    true
+}
+
+/// The memory answers the operation so, or the request wasn't answered.
+fn agrees(log: &Log, bytes: &[u8], op: &Op, told: Option<&Reply>) -> bool
+    ensures { result ≡ is_told (option_map (λ reply. reply.now) told.entry) (reply_of log.now.extent bytes.now op.now) }
+{
+    match told {
+        Some(reply) => *reply == reply_to(log, bytes, op),
+        None => true,
+    }
+}
+
+impl Place {
+    /// Request `b` is the requester's, which was answered so or not at all: it may act.
+    fn fits(&self, log: &Log, b: usize, requester: u8, op: &Op, told: Option<&Reply>) -> bool
+        ensures { result ≡ ready.fits log.now self.now.state self.now.pending b requester op.now (option_map (λ reply. reply.now) told.entry) }
+    {
+        b < self.event
+            && !self.has_acted(b)
+            && agrees(log, self.bytes.as_slice(), op, told)
+            && is_free(self.pending.as_slice(), log, requester, b)
+    }
+
+    /// The event at that place submits a request that may act.
+    fn is_ready(&self, log: &Log, b: usize) -> bool
+        ensures { result ≡ ready.is_ready log.now self.now.state self.now.pending b (slice_get log.now.events b) }
+    {
+        match log.event(b) {
+            Some(
+                Event::Sub {
+                    requester,
+                    op,
+                    reply,
+                },
+            ) => self.fits(log, b, requester, op, reply),
+            _ => false,
+        }
+    }
+
+    /// The next event may be passed.
+    pub fn may_pass(&self, log: &Log) -> bool
+        ensures { IsTrue result ↔ MayPass self.now.state (slice_get log.now.events self.now.state.event) }
+    {
+        match log.event(self.event) {
+            Some(Event::Sub { .. } | Event::Free) => true,
+            Some(Event::Due { request }) => self.has_acted(request),
+            None => false,
+        }
+    }
+
+    /// The request may act.
+    pub fn may_act(&self, log: &Log, b: usize) -> bool
+        requires { IsPlace log.now self.now }
+        ensures { IsTrue result ↔ MayAct log.now self.now.state b }
+    {
+        self.is_ready(log, b)
+    }
+
+    /// The memory answers what the request was answered, if it was.
+    pub fn suits(&self, log: &Log, q: usize) -> bool
+        ensures { result ≡ ready.suits log.now self.now.state.bytes (slice_get log.now.events q) }
+    {
+        match log.event(q) {
+            Some(Event::Sub { op, reply, .. }) => agrees(log, self.bytes.as_slice(), op, reply),
+            _ => true,
+        }
+    }
+}

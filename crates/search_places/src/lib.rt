@@ -1,0 +1,20 @@
+//! Places of a search for a run through the events of a log.
+//!
+//! A [`Place`] is where the search stands: how many events were passed, which requests have acted,
+//! and the bytes of the memory. Each search begins at [`Place::first`]. [`Place::may_pass`] and
+//! [`Place::may_act`] say which steps may be taken. [`Place::take`] takes one, [`Place::take_back`]
+//! takes it back. A [`Memo`] remembers places from which no run leads to the end, while there is room
+//! for them.
+#![tactic(auto)]
+
+mod allowed;
+mod bytes;
+pub mod laws;
+mod memo;
+mod pending;
+mod place;
+mod steps;
+
+pub use memo::Memo;
+pub use place::Place;
+pub use steps::Done;

@@ -1,0 +1,141 @@
+//! A step, and a step taken back.
+ghost use Rattle.std.specs.Prelude.{◌≡◌, ◌+◌, ◌-◌, ◌≤◌, ℕ, List, Some, true, false, IfOk, OnOk, slice_get, slice_set};
+ghost use Rattle.log_runs.specs.declared.Step.TheVariants as kinds;
+ghost use Rattle.log_runs.specs.Runs.{State, Allowed, next, acted_on};
+ghost use Rattle.search_places.specs.Pending as pending;
+ghost use Rattle.search_places.specs.Places.{IsPlace};
+ghost use Rattle.search_places.specs.Undo.{old_at, old_of, CameBy};
+
+use crate::bytes::{act_on, bytes_of, restore};
+use crate::pending::{add, remove};
+use crate::place::Place;
+use log_runs::{Event, Log, Step};
+use std::alloc::{AllocError, Global};
+
+/// A step that was taken, and the bytes that it overwrote.
+#[derive(Drop)]
+pub struct Done {
+    pub step: Step,
+    pub old: Vec<u8>,
+}
+
+/// The event at that place is a submission.
+fn submits(log: &Log, b: usize) -> bool
+    ensures { result ≡ pending.submits (slice_get log.now.events b) }
+{
+    match log.event(b) {
+        Some(Event::Sub { .. }) => true,
+        _ => false,
+    }
+}
+
+impl Place {
+    /// The bytes that the step overwrites.
+    fn overwritten(&self, alloc: Global, log: &Log, step: Step) -> Result<Vec<u8>, AllocError>
+        ensures { IfOk result (λ v. v.items ≡ old_of log.now self.now.state step) }
+    {
+        match step {
+            Step::Pass => Ok(Vec::new(alloc)),
+            Step::Act(b) => bytes_of(alloc, log, self.bytes.as_slice(), b),
+        }
+    }
+
+    /// Passes the next event.
+    fn pass(&mut self, log: &Log) -> Result<(), AllocError>
+        requires place { IsPlace log.now self.old }
+        requires allowed { Allowed log.now self.old.state kinds.Pass }
+        ensures state { OnOk result (self.new.state ≡ next log.now self.old.state kinds.Pass) }
+        ensures place { OnOk result (IsPlace log.now self.new) }
+    {
+        let event = self.event;
+        if !submits(log, event) {
+            self.event = event + 1;
+            return Ok(());
+        }
+        add(&mut self.pending, event)?;
+        self.event = event + 1;
+        Ok(())
+    }
+
+    /// The request acts.
+    fn act(&mut self, log: &Log, b: usize)
+        requires place { IsPlace log.now self.old }
+        requires allowed { Allowed log.now self.old.state (kinds.Act b) }
+        ensures state { self.new.state ≡ next log.now self.old.state (kinds.Act b) }
+        ensures place { IsPlace log.now self.new }
+    {
+        self.mark(b, true);
+        remove(&mut self.pending, b);
+        act_on(log, self.bytes.as_mut_slice(), b);
+    }
+
+    /// One step.
+    fn go(&mut self, log: &Log, step: Step) -> Result<(), AllocError>
+        requires place { IsPlace log.now self.old }
+        requires allowed { Allowed log.now self.old.state step }
+        ensures state { OnOk result (self.new.state ≡ next log.now self.old.state step) }
+        ensures place { OnOk result (IsPlace log.now self.new) }
+    {
+        match step {
+            Step::Pass => self.pass(log)?,
+            Step::Act(b) => self.act(log, b),
+        }
+        Ok(())
+    }
+
+    /// Takes a step that may be taken here. The result serves to take it back. Err only where there
+    /// is no memory; the place is of no more use then.
+    pub fn take(&mut self, alloc: Global, log: &Log, step: Step) -> Result<Done, AllocError>
+        requires place { IsPlace log.now self.old }
+        requires allowed { Allowed log.now self.old.state step }
+        ensures came { IfOk result (CameBy log.now self.old.state self.new.state) }
+        ensures step { IfOk result (λ d. d.step ≡ step) }
+        ensures place { OnOk result (IsPlace log.now self.new) }
+    {
+        let old = self.overwritten(alloc, log, step)?;
+        self.go(log, step)?;
+        Ok(Done { step, old })
+    }
+
+    /// The last event that was passed is to be passed.
+    fn pass_back(&mut self, log: &Log)
+        requires place { IsPlace log.now self.old }
+        requires some { 1 ≤ self.old.state.event }
+        requires fresh { slice_get self.old.state.acted (self.old.state.event - 1) ≡ Some true → ⊥ }
+        ensures event { self.new.state.event + 1 ≡ self.old.state.event }
+        ensures acted { self.new.state.acted ≡ self.old.state.acted }
+        ensures bytes { self.new.state.bytes ≡ self.old.state.bytes }
+        ensures place { IsPlace log.now self.new }
+    {
+        self.event -= 1;
+        remove(&mut self.pending, self.event);
+    }
+
+    /// The request hasn't acted.
+    fn act_back(&mut self, log: &Log, b: usize, old: &[u8]) -> Result<(), AllocError>
+        requires place { IsPlace log.now self.old }
+        ensures event { OnOk result (self.new.state.event ≡ self.old.state.event) }
+        ensures acted { OnOk result (self.new.state.acted ≡ slice_set self.old.state.acted b false) }
+        ensures bytes { OnOk result ((m : List ℕ) → self.old.state.bytes ≡ acted_on log.now.extent m (slice_get log.now.events b) → old.now ≡ old_at log.now.extent m (slice_get log.now.events b) → self.new.state.bytes ≡ m) }
+        ensures place { OnOk result (IsPlace log.now self.new) }
+    {
+        self.mark(b, false);
+        restore(log, self.bytes.as_mut_slice(), b, old);
+        add(&mut self.pending, b)
+    }
+
+    /// Takes back the step that led here. Err only where there is no memory; the place is of no more
+    /// use then.
+    pub fn take_back(&mut self, log: &Log, done: &Done) -> Result<(), AllocError>
+        requires place { IsPlace log.now self.old }
+        requires came { (m : State) × CameBy log.now m self.old.state done.now }
+        ensures state { OnOk result ((m : State) → CameBy log.now m self.old.state done.now → self.new.state ≡ m) }
+        ensures place { OnOk result (IsPlace log.now self.new) }
+    {
+        match done.step {
+            Step::Pass => self.pass_back(log),
+            Step::Act(b) => self.act_back(log, b, done.old.as_slice())?,
+        }
+        Ok(())
+    }
+}
