@@ -12,7 +12,7 @@ use std::alloc::{AllocError, Global};
 /// `limit` choices; the second number is how many there were.
 pub(crate) fn explored_on(
     alloc: Global,
-    log: &Log,
+    log: &Log<'_>,
     cells: &Cells,
     low: u64,
     high: u64,
@@ -37,7 +37,7 @@ pub(crate) fn explored_on(
 /// range at no more than a quarter of what is left of them; the second number is how many there were.
 pub(crate) fn dead_range(
     alloc: Global,
-    log: &Log,
+    log: &Log<'_>,
     limit: u64,
 ) -> Result<(Option<(u64, u64)>, u64), AllocError>
     ensures dead { IfOk result (λ r. IsSome r.0 → Dead log.now (start log.now)) }

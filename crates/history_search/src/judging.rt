@@ -1,8 +1,6 @@
 //! Whether a run leads through the first records.
-ghost use Rattle.std.specs.Prelude.{◌≡◌, ◌≤◌, true, IfOk, length, take};
-ghost use Rattle.history_check.specs.TraceView.{observed};
+ghost use Rattle.std.specs.Prelude.{◌≡◌, ◌≤◌, true, IfOk, length};
 ghost use Rattle.log_runs.specs.Runs.{Dead, start};
-ghost use Rattle.log_runs.specs.Tasks.{AreEvents};
 ghost use Rattle.log_runs.specs.Explainable.{IsExplainable, prefix};
 
 use crate::alone::{dead_range, explored_on};
@@ -10,28 +8,11 @@ use crate::copies;
 use crate::moments::confirmed;
 use history_check::Trace;
 use log_cells::Cells;
-use log_events::{events_of, form_of};
+use log_events::{Partners, form_of, log_of};
 use log_runs::laws::{explainable_has_a_run, explainable_is_well_formed, prefix_is_explainable};
 use log_runs::{Log, Step};
 use run_search::{Outcome, explore};
 use std::alloc::{AllocError, Global};
-
-/// The first `count` records as a search sees them. `partners` says which records may belong together.
-pub(crate) fn log_of(
-    alloc: Global,
-    trace: &Trace,
-    partners: &[Option<usize>],
-    count: usize,
-) -> Result<Log, AllocError>
-    requires { count ≤ length trace.now.records }
-    ensures events { IfOk result (λ l. AreEvents (take count trace.now.records) l.events) }
-    ensures extent { IfOk result (λ l. l.extent ≡ observed trace.now) }
-{
-    Ok(Log {
-        extent: trace.extent,
-        events: events_of(alloc, &trace.records[..count], partners)?,
-    })
-}
 
 /// What was found out of records.
 #[derive(Drop)]
@@ -45,7 +26,7 @@ pub(crate) struct Judgment {
 
 /// Looks for a run through the log, first through its part on each cell of the memory, with a tenth of
 /// the choices.
-fn explored(alloc: Global, log: &Log, limit: u64) -> Result<Judgment, AllocError>
+fn explored(alloc: Global, log: &Log<'_>, limit: u64) -> Result<Judgment, AllocError>
     ensures dead { IfOk result (λ r. r.outcome ≡ Outcome.Dead → Dead log.now (start log.now)) }
     ensures states { IfOk result (λ r. r.states ≤ limit) }
     ensures limit { IfOk result (λ r. r.outcome ≡ Outcome.Limit → r.states ≡ limit) }
@@ -71,7 +52,7 @@ fn explored(alloc: Global, log: &Log, limit: u64) -> Result<Judgment, AllocError
 pub(crate) fn judged(
     alloc: Global,
     trace: &Trace,
-    partners: &[Option<usize>],
+    partners: &Partners,
     count: usize,
     limit: u64,
 ) -> Result<Judgment, AllocError>
@@ -91,7 +72,7 @@ pub(crate) fn judged(
 pub(crate) fn judged_on(
     alloc: Global,
     trace: &Trace,
-    partners: &[Option<usize>],
+    partners: &Partners,
     count: usize,
     range: (u64, u64),
     limit: u64,
@@ -107,7 +88,7 @@ pub(crate) fn judged_on(
 }
 
 /// The steps make a history that explains the trace with other n's; false where that isn't so.
-fn is_confirmed(alloc: Global, trace: &mut Trace, steps: &[Step]) -> Result<bool, AllocError>
+fn is_confirmed(alloc: Global, trace: &mut Trace, steps: Vec<Step>) -> Result<bool, AllocError>
     ensures { IfOk result (λ yes. yes ≡ true → IsExplainable trace.old) }
 {
     match confirmed(alloc, trace, steps)? {
@@ -120,19 +101,19 @@ fn is_confirmed(alloc: Global, trace: &mut Trace, steps: &[Step]) -> Result<bool
 pub(crate) fn is_explainable(
     alloc: Global,
     trace: &Trace,
-    partners: &[Option<usize>],
+    partners: &Partners,
     count: usize,
     limit: u64,
 ) -> Result<bool, AllocError>
     requires { count ≤ length trace.now.records }
     ensures { IfOk result (λ yes. yes ≡ true → IsExplainable (prefix count trace.now)) }
 {
-    let mut part = copies::prefix(alloc, trace, count)?;
     let judgment = judged(alloc, trace, partners, count, limit)?;
     let Outcome::Run(steps) = judgment.outcome else {
         return Ok(false);
     };
-    let yes = is_confirmed(alloc, &mut part, &steps)?;
+    let mut part = copies::prefix(alloc, trace, count)?;
+    let yes = is_confirmed(alloc, &mut part, steps)?;
     Ok(yes)
 }
 

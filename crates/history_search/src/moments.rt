@@ -11,9 +11,20 @@ use seq_memory::Entry;
 use std::alloc::{AllocError, Global};
 use tlp_core::copy_of;
 
+/// How many requests act.
+fn act_count(steps: &[Step]) -> usize {
+    let mut count = 0usize;
+    for step in steps {
+        if let Step::Act(_) = step {
+            count = count.saturating_add(1);
+        }
+    }
+    count
+}
+
 /// The requests that act, each by the place of its submission.
 fn acts_of(alloc: Global, steps: &[Step]) -> Result<Vec<usize>, AllocError> {
-    let mut acts = Vec::new(alloc);
+    let mut acts = Vec::with_capacity(alloc, act_count(steps))?;
     for step in steps {
         if let Step::Act(b) = step {
             acts.push(*b)?;
@@ -88,6 +99,18 @@ fn set_moments(records: &mut Vec<Record>, steps: &[Step])
     }
 }
 
+/// Sets the n's as the steps say. Returns the requests that act; the steps are dropped.
+fn acts_at(
+    alloc: Global,
+    records: &mut Vec<Record>,
+    steps: Vec<Step>,
+) -> Result<Vec<usize>, AllocError>
+    ensures { map without_n records.new.items ≡ map without_n records.old.items }
+{
+    set_moments(records, &steps);
+    acts_of(alloc, &steps)
+}
+
 /// The history explains the trace, or that isn't known.
 fn is_explained(
     alloc: Global,
@@ -109,14 +132,13 @@ fn is_explained(
 pub(crate) fn confirmed(
     alloc: Global,
     trace: &mut Trace,
-    steps: &[Step],
+    steps: Vec<Step>,
 ) -> Result<Option<Vec<Entry>>, AllocError>
     ensures alike { SeenAlike trace.old trace.new }
     ensures explained { IfOk result (λ o. IfSome o (λ h. Explains (claim_of trace.new h.items) × IsClocked (claim_of trace.new h.items))) }
 {
-    let acts = acts_of(alloc, steps)?;
+    let acts = acts_at(alloc, &mut trace.records, steps)?;
     let history = history_of(alloc, &trace.records, &acts)?;
-    set_moments(&mut trace.records, steps);
     if is_explained(alloc, trace, &history, &acts)? {
         Ok(Some(history))
     } else {

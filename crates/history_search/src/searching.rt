@@ -9,7 +9,8 @@ use crate::judging::{Judgment, judged};
 use crate::moments::confirmed;
 use crate::shortest::{Shortest, shortened};
 use history_check::Trace;
-use log_events::form_of;
+use log_events::{Partners, form_of};
+use log_runs::Step;
 use log_runs::laws::explainable_is_well_formed;
 use run_search::Outcome;
 use seq_memory::Entry;
@@ -46,7 +47,7 @@ fn up_to(trace: &Trace, place: usize) -> usize
 fn misformed(
     alloc: Global,
     trace: &Trace,
-    partners: &[Option<usize>],
+    partners: &Partners,
     flaw: usize,
 ) -> Result<Shortest, AllocError>
     requires { MisformedAt trace.now.records flaw }
@@ -67,17 +68,25 @@ fn none_of(shortest: Shortest) -> Sought
     }
 }
 
-/// Searches a log.
-fn searched(
+/// What is found before a run is checked.
+#[derive(Drop)]
+enum Unchecked {
+    /// These steps may be a history that explains the log.
+    Run(Vec<Step>),
+    /// No history does.
+    None(Shortest),
+    /// It wasn't found out.
+    Limit,
+}
+
+/// Looks for a run through a log whose form is right.
+fn well_formed(
     alloc: Global,
-    trace: &mut Trace,
-    partners: &[Option<usize>],
+    trace: &Trace,
+    partners: &Partners,
     limit: u64,
-) -> Result<(Sought, u64), AllocError>
-    ensures alike { SeenAlike trace.old trace.new }
-    ensures found { IfOk result (λ r. IsFound trace.new r.0) }
-    ensures none { IfOk result (λ r. IsNone trace.old r.0) }
-    ensures limit { IfOk result (λ r. r.0 ≡ Sought.Limit → r.1 ≡ limit) }
+) -> Result<(Unchecked, u64), AllocError>
+    ensures none { IfOk result (λ r. (s : Shortest) → r.0 ≡ Unchecked.None s → IsShortest trace.now s) }
     ensures states { IfOk result (λ r. r.1 ≤ limit) }
 {
     let count = trace.records.len();
@@ -87,15 +96,27 @@ fn searched(
         range,
     } = judged(alloc, trace, partners, count, limit)?;
     match outcome {
-        Outcome::Run(steps) => match confirmed(alloc, trace, &steps)? {
-            Some(history) => Ok((Sought::Found(history), states)),
-            None => Ok((Sought::Limit, limit)),
-        },
+        Outcome::Run(steps) => Ok((Unchecked::Run(steps), states)),
         Outcome::Dead => {
             let shortest = shortened(alloc, trace, partners, count, range)?;
-            Ok((none_of(shortest), states))
+            Ok((Unchecked::None(shortest), states))
         }
-        Outcome::Limit => Ok((Sought::Limit, limit)),
+        Outcome::Limit => Ok((Unchecked::Limit, limit)),
+    }
+}
+
+/// Looks for a run through a log. What it needed of memory is free again, but for the steps.
+fn searched(alloc: Global, trace: &Trace, limit: u64) -> Result<(Unchecked, u64), AllocError>
+    ensures none { IfOk result (λ r. (s : Shortest) → r.0 ≡ Unchecked.None s → IsShortest trace.now s) }
+    ensures states { IfOk result (λ r. r.1 ≤ limit) }
+{
+    let form = form_of(alloc, &trace.records)?;
+    match form.flaw {
+        Some(flaw) => {
+            let shortest = misformed(alloc, trace, &form.partners, flaw)?;
+            Ok((Unchecked::None(shortest), 0))
+        }
+        None => well_formed(alloc, trace, &form.partners, limit),
     }
 }
 
@@ -112,12 +133,13 @@ pub fn search(alloc: Global, trace: &mut Trace, limit: u64) -> Result<(Sought, u
     ensures limit { IfOk result (λ r. r.0 ≡ Sought.Limit → r.1 ≡ limit) }
     ensures states { IfOk result (λ r. r.1 ≤ limit) }
 {
-    let form = form_of(alloc, &trace.records)?;
-    match form.flaw {
-        Some(flaw) => {
-            let shortest = misformed(alloc, trace, &form.partners, flaw)?;
-            Ok((none_of(shortest), 0))
-        }
-        None => searched(alloc, trace, &form.partners, limit),
+    let (found, states) = searched(alloc, trace, limit)?;
+    match found {
+        Unchecked::Run(steps) => match confirmed(alloc, trace, steps)? {
+            Some(history) => Ok((Sought::Found(history), states)),
+            None => Ok((Sought::Limit, limit)),
+        },
+        Unchecked::None(shortest) => Ok((none_of(shortest), states)),
+        Unchecked::Limit => Ok((Sought::Limit, limit)),
     }
 }

@@ -4,6 +4,7 @@ ghost use Rattle.history_search.specs.Prefixes.{IsUnexplained, IsExplainedBefore
 
 use crate::judging::{is_explainable, judged, judged_on};
 use history_check::Trace;
+use log_events::Partners;
 use log_runs::laws::prefix_is_explainable;
 use run_search::Outcome;
 use std::alloc::{AllocError, Global};
@@ -27,7 +28,7 @@ pub(crate) struct Shortest {
 fn halved_on(
     alloc: Global,
     trace: &Trace,
-    partners: &[Option<usize>],
+    partners: &Partners,
     prefix: usize,
     range: (u64, u64),
 ) -> Result<usize, AllocError>
@@ -67,7 +68,7 @@ fn between(low: usize, high: usize, is_first: bool) -> usize
 fn halved(
     alloc: Global,
     trace: &Trace,
-    partners: &[Option<usize>],
+    partners: &Partners,
     prefix: usize,
     near: bool,
 ) -> Result<(usize, usize), AllocError>
@@ -100,7 +101,7 @@ fn halved(
 fn shortened_on(
     alloc: Global,
     trace: &Trace,
-    partners: &[Option<usize>],
+    partners: &Partners,
     prefix: usize,
     range: Option<(u64, u64)>,
 ) -> Result<usize, AllocError>
@@ -117,7 +118,7 @@ fn shortened_on(
 fn explained_before(
     alloc: Global,
     trace: &Trace,
-    partners: &[Option<usize>],
+    partners: &Partners,
     prefix: usize,
     sure: usize,
 ) -> Result<Option<usize>, AllocError>
@@ -137,7 +138,7 @@ fn explained_before(
 pub(crate) fn shortened(
     alloc: Global,
     trace: &Trace,
-    partners: &[Option<usize>],
+    partners: &Partners,
     prefix: usize,
     range: Option<(u64, u64)>,
 ) -> Result<Shortest, AllocError>

@@ -8,10 +8,10 @@ ghost use Rattle.std.specs.Prelude.{◌≤◌, IfOk, length};
 ghost use Rattle.history_search.specs.Contradictions.{Contradict};
 
 use crate::copies::keeping;
-use crate::judging::{is_unexplained, judged, log_of};
+use crate::judging::{is_unexplained, judged};
 use history_check::{Record, Trace};
 use log_cells::Cells;
-use log_events::form_of;
+use log_events::{Partners, form_of, log_of};
 use log_runs::{Event, Log};
 use run_search::Outcome;
 use std::alloc::{AllocError, Global};
@@ -62,38 +62,12 @@ fn places_without(
     Ok(others)
 }
 
-/// Sets the element at the place, if there is one.
-fn set(table: &mut Vec<Option<usize>>, at: usize, value: usize) {
-    if let Some(element) = table.get_mut(at) {
-        *element = Some(value);
-    }
-}
-
-/// The partners of these answers alone, and of their submissions.
-fn partners_of(
-    alloc: Global,
-    partners: &[Option<usize>],
-    kept: &[usize],
-) -> Result<Vec<Option<usize>>, AllocError> {
-    let mut few = Vec::with_capacity(alloc, partners.len())?;
-    for _ in 0..partners.len() {
-        few.push(None)?;
-    }
-    for answer in kept {
-        if let Some(Some(submission)) = partners.get(*answer) {
-            set(&mut few, *answer, *submission);
-            set(&mut few, *submission, *answer);
-        }
-    }
-    Ok(few)
-}
-
 /// The address that the request at this answer names.
-fn address_at(log: &Log, answer: usize) -> Option<u64> {
-    let Some(Event::Due { request }) = log.events.get(answer) else {
+fn address_at(log: &Log<'_>, answer: usize) -> Option<u64> {
+    let Some(Event::Due { request }) = log.event(answer) else {
         return None;
     };
-    match log.events.get(*request) {
+    match log.event(request) {
         Some(Event::Sub { op, .. }) => Some(op.address()),
         _ => None,
     }
@@ -102,7 +76,7 @@ fn address_at(log: &Log, answer: usize) -> Option<u64> {
 /// The answers whose requests name addresses from `low` up to `high`.
 fn answers_between(
     alloc: Global,
-    log: &Log,
+    log: &Log<'_>,
     answers: &[usize],
     low: u64,
     high: u64,
@@ -119,7 +93,11 @@ fn answers_between(
 }
 
 /// The answers whose requests are in the cell of the last one.
-fn answers_beside(alloc: Global, log: &Log, answers: &[usize]) -> Result<Vec<usize>, AllocError> {
+fn answers_beside(
+    alloc: Global,
+    log: &Log<'_>,
+    answers: &[usize],
+) -> Result<Vec<usize>, AllocError> {
     let Some(address) = address_at(log, answers.last().copied().unwrap_or(usize::MAX)) else {
         return Ok(Vec::new(alloc));
     };
@@ -135,7 +113,7 @@ fn answers_beside(alloc: Global, log: &Log, answers: &[usize]) -> Result<Vec<usi
 struct Thinning<'a> {
     trace: &'a Trace,
     prefix: usize,
-    partners: Vec<Option<usize>>,
+    partners: Partners,
     kept: Vec<usize>,
     from: usize,
     size: usize,
@@ -149,7 +127,7 @@ impl Thinning<'_> {
         if self.prefix > trace.records.len() {
             return Ok(false);
         }
-        let partners = partners_of(alloc, &self.partners, kept)?;
+        let partners = self.partners.keeping(alloc, kept)?;
         let limit = self.left.min(EACH);
         let judgment = judged(alloc, trace, &partners, self.prefix, limit)?;
         self.left -= judgment.states;

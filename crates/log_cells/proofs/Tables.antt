@@ -3,7 +3,7 @@ use Rattle.std.proofs.Common.{◌≡◌, ◌∙◌, ℕ, zero, suc, ◌+◌, ◌
 use Rattle.std.specs.Prelude.{slice_get}
 use Rattle.std.proofs.Math.Seq.{take-suc}
 use Rattle.std.proofs.lemmas.Bool.{cases_eq}
-use Rattle.std.proofs.lemmas.Option.{same_Some, slice_get_within}
+use Rattle.std.proofs.lemmas.Option.{same_Some, slice_get_within, get_or_from_slice_get}
 use Rattle.tlp_core.specs.declared.operation.Op.{Op}
 use Rattle.seq_memory.specs.declared.Reply.{Reply}
 use Rattle.log_runs.specs.EventView.{EventView}
@@ -43,8 +43,8 @@ some_at (x ∷ xs) (suc i) l = some_at xs i (omega arith)
 pub no_places : ArePlaces [] []
 no_places = record { len = refl; at = λ a e p at there. cc }
 
-pub places_more : (es : List EventView) (ps : List Place) (i : ℕ) (e : EventView) (p : Place) → i < length es → e ≡ get_or es i e → ArePlaces (take i es) ps → IsPlaceOf e p → ArePlaces (take (i + 1) es) (ps ++ p ∷ [])
-places_more es ps i e p l is old new =
+places_by : (es : List EventView) (ps : List Place) (i : ℕ) (e : EventView) (p : Place) → i < length es → e ≡ get_or es i e → ArePlaces (take i es) ps → IsPlaceOf e p → ArePlaces (take (i + 1) es) (ps ++ p ∷ [])
+places_by es ps i e p l is old new =
     let grown : take (i + 1) es ≡ take i es ++ e ∷ [] = ap (λ k. take k es) (add-one i) ∙ take-suc es i e l ∙ ap (λ y. take i es ++ y ∷ []) (sym is) in
     subst (λ z. ArePlaces z (ps ++ p ∷ [])) (sym grown) (record {
       len = length-append ps (p ∷ []) ∙ ap (λ k. k + 1) old.len ∙ sym (length-append (take i es) (e ∷ []));
@@ -62,6 +62,11 @@ places_more es ps i e p l is old new =
         | inr here ↦ subst (λ z. IsPlaceOf z q) last.1 (subst (λ z. IsPlaceOf e z) here.1 new)
       ]
     ]
+
+pub places_more : (es : List EventView) (ps : List Place) (i : ℕ) (p : Place) → i < length es → ArePlaces (take i es) ps → ((e : EventView) → slice_get es i ≡ Some e → IsPlaceOf e p) → ArePlaces (take (i + 1) es) (ps ++ p ∷ [])
+places_more es ps i p l old new =
+    let (e, here) = some_at es i l in
+    places_by es ps i e p l (sym (get_or_from_slice_get es i e e here)) old (new e here)
 
 -- ---- names
 

@@ -129,12 +129,12 @@ fn bounds_of(
 
 impl Cells {
     /// The cells of a log's memory.
-    pub fn of(alloc: Global, log: &Log) -> Result<Self, AllocError>
+    pub fn of(alloc: Global, log: &Log<'_>) -> Result<Self, AllocError>
         ensures { IfOk result (λ c. ArePlaces log.now.events c) }
     {
         let places = places_of(alloc, log)?;
-        let base = log.extent.base();
-        let size = log.extent.size() as u64;
+        let base = log.extent().base();
+        let size = log.extent().size() as u64;
         let words = joined(alloc, &places, base, size)?;
         let beginnings = beginnings(alloc, &words)?;
         let most = WORK / places.len().saturating_add(1);

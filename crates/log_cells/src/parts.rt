@@ -1,5 +1,6 @@
 //! The part of a log on some bytes of the memory.
-ghost use Rattle.std.specs.Prelude.{◌≡◌, ◌≤◌, ℕ, IfOk, IfSome, IsTrue, Some, slice_get, length};
+ghost use Rattle.std.specs.Prelude.{◌≡◌, ◌≤◌, ℕ, IfOk, IfSome, IsTrue, Some, slice_get, length, map};
+ghost use Rattle.log_runs.specs.EventView.{event_of};
 ghost use Rattle.log_runs.specs.Runs.{Live, start};
 ghost use Rattle.log_cells.specs.Parts.{IsKept, NamesInside, AreKept, Holds};
 ghost use Rattle.log_cells.specs.Places.{ArePlaces};
@@ -8,46 +9,26 @@ use crate::cells::Cells;
 use crate::laws::a_part_has_a_run;
 use crate::names::{name_of, names_in};
 use crate::places::place_of;
-use log_events::copy_of_reply;
 use log_runs::{Event, Log};
-use seq_memory::{ALIGNMENT, Extent, MAX_SIZE, Reply};
+use seq_memory::{ALIGNMENT, Extent, MAX_SIZE};
 use std::alloc::{AllocError, Global};
-use tlp_core::copy_of;
-
-fn copy_of_told(reply: &Option<Reply>) -> Option<Reply>
-    ensures { result ≡ reply.now }
-{
-    match reply {
-        Some(reply) => Some(copy_of_reply(reply)),
-        None => None,
-    }
-}
 
 /// The event as the part has it.
-fn kept(event: &Event, names: &[usize]) -> Event
-    ensures { IsKept names.now event.now result }
+fn kept<'a>(event: Event<'a>, names: &[usize]) -> Event<'a>
+    ensures { IsKept names.now (event_of event.entry) (event_of result) }
 {
     match event {
-        Event::Sub {
-            requester,
-            op,
-            reply,
-        } => Event::Sub {
-            requester: *requester,
-            op: copy_of(op),
-            reply: copy_of_told(reply),
-        },
-        Event::Due { request } => match name_of(names, *request) {
+        Event::Due { request } => match name_of(names, request) {
             Some(request) => Event::Due { request },
             None => Event::Free,
         },
-        Event::Free => Event::Free,
+        other => other,
     }
 }
 
 /// If it is a submission, all its bytes lie from `low` up to `high`.
-fn is_inside(event: &Event, low: u64, high: u64) -> bool
-    ensures { IsTrue result → NamesInside low high event.now }
+fn is_inside(event: Event<'_>, low: u64, high: u64) -> bool
+    ensures { IsTrue result → NamesInside low high (event_of event.entry) }
 {
     match event {
         Event::Sub { op, .. } => place_of(op).is_inside(low, high),
@@ -56,21 +37,21 @@ fn is_inside(event: &Event, low: u64, high: u64) -> bool
 }
 
 /// The event with the name at that place.
-fn event_at<'a>(log: &'a Log, names: &[usize], at: usize) -> Option<&'a Event>
-    ensures { IfSome result (λ e. (a : ℕ) × (slice_get names.now at ≡ Some a) × (slice_get log.now.events a ≡ Some e.now)) }
+fn event_at<'a>(log: &Log<'a>, names: &[usize], at: usize) -> Option<Event<'a>>
+    ensures { IfSome result (λ e. (a : ℕ) × (slice_get names.now at ≡ Some a) × (slice_get log.now.events a ≡ Some (event_of e))) }
 {
-    log.events.get(*names.get(at)?)
+    log.event(*names.get(at)?)
 }
 
 /// The events with these names; none if a request isn't inside.
-fn events_in(
+fn events_in<'a>(
     alloc: Global,
-    log: &Log,
+    log: &Log<'a>,
     names: &[usize],
     low: u64,
     high: u64,
-) -> Result<Option<Vec<Event>>, AllocError>
-    ensures { IfOk result (λ o. IfSome o (λ v. AreKept log.now.events names.now low high v.items (length names.now))) }
+) -> Result<Option<Vec<Event<'a>>>, AllocError>
+    ensures { IfOk result (λ o. IfSome o (λ v. AreKept log.now.events names.now low high (map event_of v.items) (length names.now))) }
 {
     let mut events = Vec::with_capacity(alloc, names.len())?;
     for at in 0..names.len() {
@@ -94,33 +75,34 @@ fn in_blocks(count: usize) -> usize
 }
 
 /// Whole blocks with the bytes from `low` up to `high`, if a memory can have them.
-fn extent_for(log: &Log, low: u64, high: u64) -> Option<Extent>
+fn extent_for(log: &Log<'_>, low: u64, high: u64) -> Option<Extent>
     ensures { IfSome result (λ x. (x.block ≡ log.now.extent.block) × Holds x low high) }
 {
     let base = low - low % ALIGNMENT as u64;
     if high <= base || high - base > MAX_SIZE as u64 {
         return None;
     }
-    Extent::new(base, in_blocks((high - base) as usize), log.extent.block())
+    let block = log.extent().block();
+    Extent::new(base, in_blocks((high - base) as usize), block)
 }
 
 /// The log's memory has the bytes from `low` up to `high`.
-fn holds(log: &Log, low: u64, high: u64) -> bool
+fn holds(log: &Log<'_>, low: u64, high: u64) -> bool
     ensures { IsTrue result → Holds log.now.extent low high }
 {
-    let base = log.extent.base();
-    base <= low && low <= high && high - base <= log.extent.size() as u64
+    let base = log.extent().base();
+    base <= low && low <= high && high - base <= log.extent().size() as u64
 }
 
 /// The part of the log on the bytes from `low` up to `high`; none if a request crosses an end of them.
-/// If no run leads through it, none leads through the log.
-pub fn part(
+/// It lends the log's operations and replies. If no run leads through it, none leads through the log.
+pub fn part<'a>(
     alloc: Global,
-    log: &Log,
+    log: &Log<'a>,
     cells: &Cells,
     low: u64,
     high: u64,
-) -> Result<Option<Log>, AllocError>
+) -> Result<Option<Log<'a>>, AllocError>
     requires places { ArePlaces log.now.events cells.now }
     ensures { IfOk result (λ o. IfSome o (λ p. Live log.now (start log.now) → Live p (start p))) }
 {
@@ -135,5 +117,5 @@ pub fn part(
     let Some(events) = events_in(alloc, log, &names, low, high)? else {
         return Ok(None);
     };
-    Ok(Some(Log { extent, events }))
+    Ok(Some(Log::new(extent, events)))
 }

@@ -1,6 +1,7 @@
 //! Which bytes the events of a log name.
-ghost use Rattle.std.specs.Prelude.{◌≡◌, ◌+◌, ◌≤◌, ◌⊎◌, ℕ, IfOk, IsTrue};
+ghost use Rattle.std.specs.Prelude.{◌≡◌, ◌+◌, ◌≤◌, ◌⊎◌, ℕ, IfOk, IsTrue, Some, slice_get};
 ghost use Rattle.tlp_core.specs.Operation.{address_of, count_of};
+ghost use Rattle.log_runs.specs.EventView.{EventView, event_of};
 ghost use Rattle.log_cells.specs.Places.{ArePlaces, IsPlaceOf};
 
 use log_runs::{Event, Log};
@@ -52,23 +53,33 @@ fn known(places: &[Place], request: usize) -> Place {
 }
 
 /// The place of a request, or of the request that an answer answers.
-fn place_at(event: &Event, places: &[Place]) -> Place
-    ensures { IsPlaceOf event.now result }
+fn place_of_event(event: Event<'_>, places: &[Place]) -> Place
+    ensures { IsPlaceOf (event_of event.entry) result }
 {
     match event {
         Event::Sub { op, .. } => place_of(op),
-        Event::Due { request } => known(places, *request),
+        Event::Due { request } => known(places, request),
         Event::Free => NOWHERE,
     }
 }
 
+/// The place of the event there.
+fn place_at(log: &Log<'_>, at: usize, places: &[Place]) -> Place
+    ensures { (e : EventView) → slice_get log.now.events at ≡ Some e → IsPlaceOf e result }
+{
+    match log.event(at) {
+        Some(event) => place_of_event(event, places),
+        None => NOWHERE,
+    }
+}
+
 /// The places of a log's events.
-pub(crate) fn places_of(alloc: Global, log: &Log) -> Result<Vec<Place>, AllocError>
+pub(crate) fn places_of(alloc: Global, log: &Log<'_>) -> Result<Vec<Place>, AllocError>
     ensures { IfOk result (λ v. ArePlaces log.now.events v.items) }
 {
-    let mut places = Vec::with_capacity(alloc, log.events.len())?;
-    for event in &log.events {
-        let place = place_at(event, &places);
+    let mut places = Vec::with_capacity(alloc, log.len())?;
+    for at in 0..log.len() {
+        let place = place_at(log, at, &places);
         places.push(place)?;
     }
     Ok(places)

@@ -1,5 +1,5 @@
 -- Whether the form of the records is right.
-use Rattle.std.specs.Prelude.{ℕ, ◌≡◌, ◌<◌, List, length, take, slice_get, Some, Option, None}
+use Rattle.std.specs.Prelude.{ℕ, ◌≡◌, List, take, slice_get, Some}
 use Rattle.history_check.specs.declared.Record.{Record}
 use Rattle.log_runs.specs.Tasks.{IsMisformed}
 

@@ -1,40 +1,21 @@
 //! The events of records.
-ghost use Rattle.std.specs.Prelude.{◌≡◌, ◌<◌, ℕ, IfOk, IfSome, IsTrue, length, slice_get, Some};
+ghost use Rattle.std.specs.Prelude.{◌≡◌, ◌≤◌, ℕ, IfOk, IfSome, IsTrue, length, map, slice_get, take, Some};
 ghost use Rattle.tlp_core.specs.declared.operation.Op.{Op};
 ghost use Rattle.history_check.specs.declared.Record.{Record};
 ghost use Rattle.history_check.specs.declared.Record.TheVariants as kinds;
+ghost use Rattle.history_check.specs.TraceView.{observed};
+ghost use Rattle.log_runs.specs.EventView.{event_of};
 ghost use Rattle.log_runs.specs.Tasks.{Says, AreEvents};
 
-use arrayvec::ArrayVec;
-use history_check::Record;
-use log_runs::Event;
+use crate::partners::Partners;
+use history_check::{Record, Trace};
+use log_runs::{Event, Log};
 use seq_memory::Reply;
 use std::alloc::{AllocError, Global};
-use tlp_core::{MAX_PAYLOAD, Op, copy_of};
-
-fn copy_of_data(bytes: &ArrayVec<u8, MAX_PAYLOAD>) -> ArrayVec<u8, MAX_PAYLOAD>
-    ensures { result ≡ bytes.now }
-{
-    let mut copy = ArrayVec::new();
-    let _ = copy.try_extend_from_slice(bytes.as_slice());
-    copy
-}
-
-/// The same reply.
-pub fn copy_of_reply(reply: &Reply) -> Reply
-    ensures { result ≡ reply.now }
-{
-    match reply {
-        Reply::Done => Reply::Done,
-        Reply::Data(data) => Reply::Data(copy_of_data(data)),
-        Reply::Unsupported => Reply::Unsupported,
-        Reply::Aborted => Reply::Aborted,
-    }
-}
 
 /// The reply, if the record answers the request.
-fn reply_of(item: &Record, requester: u8, number: u32) -> Option<Reply>
-    ensures { IfSome result (λ r. (n : ℕ) × (item.now ≡ kinds.Ans requester number r n)) }
+fn reply_of<'a>(item: &'a Record, requester: u8, number: u32) -> Option<&'a Reply>
+    ensures { IfSome result (λ r. (n : ℕ) × (item.now ≡ kinds.Ans requester number r.now n)) }
 {
     match item {
         Record::Ans {
@@ -42,14 +23,19 @@ fn reply_of(item: &Record, requester: u8, number: u32) -> Option<Reply>
             number: own,
             reply,
             ..
-        } if *who == requester && *own == number => Some(copy_of_reply(reply)),
+        } if *who == requester && *own == number => Some(reply),
         _ => None,
     }
 }
 
 /// The reply to the request, if it is answered at that place.
-fn reply_at(records: &[Record], at: Option<usize>, requester: u8, number: u32) -> Option<Reply>
-    ensures { IfSome result (λ r. (a : ℕ) × (n : ℕ) × (slice_get records.now a ≡ Some (kinds.Ans requester number r n))) }
+fn reply_at<'a>(
+    records: &'a [Record],
+    at: Option<usize>,
+    requester: u8,
+    number: u32,
+) -> Option<&'a Reply>
+    ensures { IfSome result (λ r. (a : ℕ) × (n : ℕ) × (slice_get records.now a ≡ Some (kinds.Ans requester number r.now n))) }
 {
     match records.get(at?) {
         Some(record) => reply_of(record, requester, number),
@@ -87,8 +73,8 @@ fn submission_at(records: &[Record], at: Option<usize>, requester: u8, number: u
 }
 
 /// The event of a record.
-fn event_of(records: &[Record], item: &Record, partner: Option<usize>) -> Event
-    ensures { Says records.now item.now result }
+fn event_for<'a>(records: &'a [Record], item: &'a Record, partner: Option<usize>) -> Event<'a>
+    ensures { Says records.now item.now (event_of result) }
 {
     match item {
         Record::Sub {
@@ -98,7 +84,7 @@ fn event_of(records: &[Record], item: &Record, partner: Option<usize>) -> Event
             ..
         } => Event::Sub {
             requester: *requester,
-            op: copy_of(op),
+            op,
             reply: reply_at(records, partner, *requester, *number),
         },
         Record::Ans {
@@ -113,31 +99,41 @@ fn event_of(records: &[Record], item: &Record, partner: Option<usize>) -> Event
 }
 
 /// The event at a place, whose record belongs together with another as the table has it.
-fn event_at(records: &[Record], partners: &[Option<usize>], at: usize) -> Event
-    ensures { (r : Record) → slice_get records.now at ≡ Some r → Says records.now r result }
+fn event_at<'a>(records: &'a [Record], partners: &Partners, at: usize) -> Event<'a>
+    ensures { (r : Record) → slice_get records.now at ≡ Some r → Says records.now r (event_of result) }
 {
-    let partner = match partners.get(at) {
-        Some(partner) => *partner,
-        None => None,
-    };
     match records.get(at) {
-        Some(item) => event_of(records, item, partner),
+        Some(item) => event_for(records, item, partners.of(at)),
         None => Event::Free,
     }
 }
 
 /// The events of the records, each with its partner where the guess of that is right.
-pub fn events_of(
+fn events_of<'a>(
     alloc: Global,
-    records: &[Record],
-    partners: &[Option<usize>],
-) -> Result<Vec<Event>, AllocError>
-    ensures { IfOk result (λ v. AreEvents records.now v.items) }
+    records: &'a [Record],
+    partners: &Partners,
+) -> Result<Vec<Event<'a>>, AllocError>
+    ensures { IfOk result (λ v. AreEvents records.now (map event_of v.items)) }
 {
     let mut events = Vec::with_capacity(alloc, records.len())?;
     for at in 0..records.len() {
-        let event = event_at(records, partners, at);
-        events.push(event)?;
+        events.push(event_at(records, partners, at))?;
     }
     Ok(events)
+}
+
+/// The first `count` records as a search sees them. `partners` says which records may belong together.
+pub fn log_of<'a>(
+    alloc: Global,
+    trace: &'a Trace,
+    partners: &Partners,
+    count: usize,
+) -> Result<Log<'a>, AllocError>
+    requires { count ≤ length trace.now.records }
+    ensures events { IfOk result (λ l. AreEvents (take count trace.now.records) l.events) }
+    ensures extent { IfOk result (λ l. l.extent ≡ observed trace.now) }
+{
+    let events = events_of(alloc, &trace.records[..count], partners)?;
+    Ok(Log::new(trace.extent, events))
 }

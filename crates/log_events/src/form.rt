@@ -11,6 +11,7 @@ ghost use Rattle.log_events.specs.Counts.{AreCounts, IsCounted};
 ghost use Rattle.log_events.specs.Formed.{MisformedAt};
 
 use crate::counts::Counts;
+use crate::partners::Partners;
 use history_check::Record;
 use log_runs::laws::{numbers_name_submissions, submissions_grow_by_records};
 use std::alloc::{AllocError, Global};
@@ -19,9 +20,7 @@ use tlp_core::Op;
 /// Which records belong together, as far as the form is right.
 #[derive(Drop)]
 pub struct Form {
-    /// For each record the place of the answer to its submission, or of the submission that it
-    /// answers. These are guesses.
-    pub partners: Vec<Option<usize>>,
+    pub partners: Partners,
     /// The first record whose form is wrong.
     pub flaw: Option<usize>,
 }
@@ -32,7 +31,7 @@ struct Tables {
     counts: Counts,
     /// By requester, the places of its submissions.
     rows: Vec<Vec<usize>>,
-    partners: Vec<Option<usize>>,
+    partners: Partners,
 }
 
 fn rows(alloc: Global) -> Result<Vec<Vec<usize>>, AllocError> {
@@ -99,14 +98,6 @@ fn is_answer(records: &[Record], end: usize, at: usize, requester: u8, number: u
     }
 }
 
-fn no_partners(alloc: Global, count: usize) -> Result<Vec<Option<usize>>, AllocError> {
-    let mut partners = Vec::with_capacity(alloc, count)?;
-    for _ in 0..count {
-        partners.push(None)?;
-    }
-    Ok(partners)
-}
-
 impl Tables {
     fn new(alloc: Global, count: usize) -> Result<Self, AllocError>
         ensures { IfOk result (λ t. t.counts ≡ replicate 256 0) }
@@ -114,7 +105,7 @@ impl Tables {
         Ok(Tables {
             counts: Counts::new(alloc)?,
             rows: rows(alloc)?,
-            partners: no_partners(alloc, count)?,
+            partners: Partners::none(alloc, count)?,
         })
     }
 
@@ -130,24 +121,12 @@ impl Tables {
         Ok(())
     }
 
-    /// The records at the two places belong together.
-    fn join(&mut self, submission: usize, answer: usize)
-        ensures { self.new.counts ≡ self.old.counts }
-    {
-        if let Some(partner) = self.partners.get_mut(submission) {
-            *partner = Some(answer);
-        }
-        if let Some(partner) = self.partners.get_mut(answer) {
-            *partner = Some(submission);
-        }
-    }
-
     /// The answer at that place joins its submission.
     fn answer(&mut self, requester: u8, number: u32, at: usize)
         ensures { self.new.counts ≡ self.old.counts }
     {
         if let Some(submission) = place(&self.rows, requester, number) {
-            self.join(submission, at);
+            self.partners.join(submission, at);
         }
     }
 
@@ -167,9 +146,9 @@ impl Tables {
         if is_write(records, end, at, requester, number) {
             return true;
         }
-        match self.partners.get(at) {
-            Some(Some(answer)) => is_answer(records, end, *answer, requester, number),
-            _ => false,
+        match self.partners.of(at) {
+            Some(answer) => is_answer(records, end, answer, requester, number),
+            None => false,
         }
     }
 

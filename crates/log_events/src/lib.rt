@@ -8,6 +8,8 @@
 mod counts;
 mod events;
 mod form;
+mod partners;
 
-pub use events::{copy_of_reply, events_of};
+pub use events::log_of;
 pub use form::{Form, form_of};
+pub use partners::Partners;

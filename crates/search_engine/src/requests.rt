@@ -72,7 +72,7 @@ pub(crate) fn requests_of(alloc: Global, records: &[Record]) -> Result<Vec<Reque
         answers: [None; 256],
     };
     for place in (0..records.len()).rev() {
-        let answer = form.partners.get(place).copied().flatten();
+        let answer = form.partners.of(place);
         if let Some(request) = request_of(&records[place], place, answer, &mut firsts) {
             requests.push(request)?;
         }
