@@ -128,10 +128,13 @@ impl Offer {
         Ok(())
     }
 
-    fn into_steps(self) -> Result<Vec<Step>, AllocError>
-        ensures { IfOk result (λ v. v.items ≡ all_of self) }
+    /// The steps, in no more room than they need: most are kept to the end.
+    fn steps(&self, alloc: Global) -> Result<Vec<Step>, AllocError>
+        ensures { IfOk result (λ v. v.items ≡ all_of self.now) }
     {
-        let mut steps = self.far;
+        let count = self.far.len().saturating_add(self.near.len());
+        let mut steps = Vec::with_capacity(alloc, count.saturating_add(self.due.len()))?;
+        steps.extend_from_slice(self.far.as_slice())?;
         steps.extend_from_slice(self.near.as_slice())?;
         steps.extend_from_slice(self.due.as_slice())?;
         Ok(steps)
@@ -163,6 +166,6 @@ pub(crate) fn choices(alloc: Global, log: &Log, place: &Place) -> Result<Vec<Ste
     for b in place.pending() {
         found.look(log, place, due, *b)?;
     }
-    let steps = found.into_steps()?;
+    let steps = found.steps(alloc)?;
     Ok(steps)
 }

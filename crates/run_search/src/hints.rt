@@ -100,35 +100,58 @@ fn loss_of(sketches: &[Sketch], done: &Done) -> Option<Loss> {
     Some(Loss { sketch, old })
 }
 
+/// What steps overwrote.
+#[derive(Drop)]
+pub(crate) struct Losses {
+    list: Vec<Loss>,
+    /// Bits for the words that they named.
+    words: u32,
+}
+
+impl Losses {
+    /// They overwrote nothing.
+    pub(crate) fn is_empty(&self) -> bool {
+        self.list.is_empty()
+    }
+
+    /// A request may need one of them.
+    fn may_be_needed_by(&self, sketch: &Sketch) -> bool {
+        for loss in &self.list {
+            if sketch.may_need(loss.sketch, loss.old) {
+                return true;
+            }
+        }
+        false
+    }
+
+    /// Request `q` may need one of them.
+    pub(crate) fn may_be_needed(&self, sketches: &[Sketch], q: usize) -> bool {
+        match sketches.get(q) {
+            Some(sketch) => {
+                sketch.mask != 0
+                    && sketch.words() & self.words != 0
+                    && self.may_be_needed_by(sketch)
+            }
+            None => false,
+        }
+    }
+}
+
 /// What the steps overwrote.
 pub(crate) fn losses_of(
     alloc: Global,
     sketches: &[Sketch],
     done: &[Done],
-) -> Result<Vec<Loss>, AllocError> {
-    let mut losses = Vec::new(alloc);
+) -> Result<Losses, AllocError> {
+    let mut list = Vec::new(alloc);
+    let mut words = 0;
     for one in done {
         if let Some(loss) = loss_of(sketches, one) {
-            losses.push(loss)?;
+            words |= loss.sketch.words();
+            list.push(loss)?;
         }
     }
-    Ok(losses)
-}
-
-/// Request `q` may need what is lost.
-pub(crate) fn may_need(losses: &[Loss], sketches: &[Sketch], q: usize) -> bool {
-    let Some(sketch) = sketches.get(q) else {
-        return false;
-    };
-    if sketch.mask == 0 {
-        return false;
-    }
-    for loss in losses {
-        if sketch.may_need(loss.sketch, loss.old) {
-            return true;
-        }
-    }
-    false
+    Ok(Losses { list, words })
 }
 
 /// What stands where request `q` writes and what it leaves there are nothing to request `b`.

@@ -51,6 +51,11 @@ impl Sketch {
         }
     }
 
+    /// Bits for the words that it names.
+    pub(crate) fn words(self) -> u32 {
+        self.marks & WORDS
+    }
+
     /// Where its bytes begin in a memory that begins at `base`.
     pub(crate) fn place(self, base: u64) -> Option<usize> {
         let at = self.from.checked_sub(base)?;
@@ -65,6 +70,9 @@ impl Sketch {
         self.from != other.from || (old ^ self.need) & self.mask == 0
     }
 }
+
+/// The bits for words.
+const WORDS: u32 = (1 << 24) - 1;
 
 /// The bit for a word, one of 24.
 fn bit(word: u64) -> u32 {

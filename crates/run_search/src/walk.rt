@@ -7,7 +7,7 @@ ghost use Rattle.run_search.specs.Frames as frames;
 
 use crate::catalog::Catalog;
 use crate::choices::choices;
-use crate::hints::{Look, Loss, losses_of, may_need};
+use crate::hints::{Look, Losses, losses_of};
 use crate::junk::over_junk;
 use crate::lost::is_lost;
 use crate::rules::forced;
@@ -152,25 +152,22 @@ fn back(walk: &mut Walk, alloc: Global, log: &Log) -> Result<bool, AllocError>
     Ok(false)
 }
 
-/// The request is due now, or may need what the steps since the last frame overwrote.
-fn may_be_lost(walk: &Walk, catalog: &Catalog, losses: &[Loss], q: usize) -> bool {
-    catalog.due.get(q) == Some(&walk.here.event()) || may_need(losses, &catalog.sketches, q)
-}
-
-/// The request is lost here, as far as the steps since the last frame show.
-fn is_lost_now(walk: &Walk, log: &Log, catalog: &Catalog, losses: &[Loss], q: usize) -> bool
+/// The request, which is due now or may need what the steps since the last frame overwrote, is lost
+/// here.
+fn is_lost_now(walk: &Walk, log: &Log, catalog: &Catalog, losses: &Losses, q: usize) -> bool
     requires place { IsPlace log.now walk.now.here }
     requires catalog { IsCatalog log.now catalog.now }
     ensures { IsTrue result → Dead log.now walk.now.here.state }
 {
-    if !may_be_lost(walk, catalog, losses, q) {
+    let is_due = catalog.due.get(q) == Some(&walk.here.event());
+    if !is_due && !losses.may_be_needed(&catalog.sketches, q) {
         return false;
     }
     is_lost(&walk.here, log, catalog, q)
 }
 
 /// A request that was submitted is lost here.
-fn some_is_lost(walk: &Walk, log: &Log, catalog: &Catalog, losses: &[Loss]) -> bool
+fn some_is_lost(walk: &Walk, log: &Log, catalog: &Catalog, losses: &Losses) -> bool
     requires place { IsPlace log.now walk.now.here }
     requires catalog { IsCatalog log.now catalog.now }
     ensures { IsTrue result → Dead log.now walk.now.here.state }
@@ -184,11 +181,14 @@ fn some_is_lost(walk: &Walk, log: &Log, catalog: &Catalog, losses: &[Loss]) -> b
 }
 
 /// A request that is submitted soon is lost here.
-fn later_is_lost(walk: &Walk, log: &Log, catalog: &Catalog, losses: &[Loss]) -> bool
+fn later_is_lost(walk: &Walk, log: &Log, catalog: &Catalog, losses: &Losses) -> bool
     requires place { IsPlace log.now walk.now.here }
     requires catalog { IsCatalog log.now catalog.now }
     ensures { IsTrue result → Dead log.now walk.now.here.state }
 {
+    if losses.is_empty() {
+        return false;
+    }
     let event = walk.here.event();
     for q in event..event.saturating_add(SOON) {
         if is_lost_now(walk, log, catalog, losses, q) {

@@ -8,6 +8,8 @@ use Rattle.tlp_core.specs.declared.operation.Op.{Op}
 use Rattle.tlp_core.specs.Operation.{is_posted}
 use Rattle.seq_memory.specs.declared.Reply.{Reply}
 use Rattle.seq_memory.specs.declared.Reply.TheVariants as replies
+use Rattle.seq_memory.specs.Limits.{Extent}
+use Rattle.byte_effects.specs.Effects.{Agrees, AreSameAt}
 use Rattle.history_check.specs.Flaws.{same_reply}
 use Rattle.log_runs.specs.EventView.{EventView}
 use Rattle.log_runs.specs.EventView as events
@@ -46,6 +48,17 @@ reply_same (replies.Data xs) (replies.Data ys) h = ap (λ (items : List ℕ). re
 reply_same replies.Unsupported replies.Unsupported h = refl
 reply_same replies.Aborted replies.Aborted h = refl
 reply_same _ _ h = cc
+
+differs : (r made : Reply) → (made ≡ r → ⊥) → false ≡ same_reply r made
+differs r made h = elim (cases_Bool (same_reply r made)) as (λ z. false ≡ same_reply r made) [
+  | inl same ↦ absurd (h (sym (reply_same r made same)))
+  | inr other ↦ sym other
+]
+
+pub missed : (x : Extent) (base : ℕ) (m : List ℕ) (op : Op) (r : Reply) → base ≡ x.base → ((block : ℕ) (n : List ℕ) → AreSameAt base op m n → Agrees base block n op (Some r) → ⊥) → false ≡ same_reply r (reply_of x m op)
+unfolding reply_of
+missed x base m op r eb waits = differs r (reply_of x m op) (λ e.
+    subst (λ b. (block : ℕ) (n : List ℕ) → AreSameAt b op m n → Agrees b block n op (Some r) → ⊥) eb waits x.block m (λ k front back. refl) (λ s told. e ∙ same_Some r s told))
 
 told_is : (told : Option Reply) (made r : Reply) → is_told told made ≡ true → told ≡ Some r → made ≡ r
 told_is told made r h e = sym (reply_same r made (subst (λ o. is_told o made ≡ true) e h))

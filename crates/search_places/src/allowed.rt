@@ -1,6 +1,8 @@
 //! Which steps may be taken.
-ghost use Rattle.std.specs.Prelude.{◌≡◌, ◌<◌, ◌≤◌, ◌↔◌, ℕ, IsTrue, slice_get, option_map, not};
+ghost use Rattle.std.specs.Prelude.{◌≡◌, ◌<◌, ◌≤◌, ◌↔◌, ℕ, IsTrue, slice_get, not};
 ghost use Rattle.std.specs.List.{list_any};
+ghost use Rattle.byte_effects.specs.Effects.{told_of};
+ghost use Rattle.history_check.specs.Flaws.{same_reply};
 ghost use Rattle.log_runs.specs.Runs.{MayPass, MayAct, reply_of};
 ghost use Rattle.search_places.specs.Pending.{blocks};
 ghost use Rattle.search_places.specs.Pending as pending;
@@ -10,6 +12,7 @@ ghost use Rattle.search_places.specs.Ready as ready;
 
 use crate::bytes::reply_to;
 use crate::place::Place;
+use byte_effects::waits;
 use log_runs::{Event, Log};
 use seq_memory::Reply;
 use tlp_core::Op;
@@ -49,12 +52,22 @@ fn is_free(pending: &[usize], log: &Log, requester: u8, b: usize) -> bool
     true
 }
 
+/// The memory answers the operation so. The first byte that it needs and doesn't find decides.
+fn answers(log: &Log, bytes: &[u8], op: &Op, reply: &Reply) -> bool
+    ensures { result ≡ same_reply reply.now (reply_of log.now.extent bytes.now op.now) }
+{
+    if waits(log.extent().base(), bytes, op, Some(reply), op) {
+        return false;
+    }
+    *reply == reply_to(log, bytes, op)
+}
+
 /// The memory answers the operation so, or the request wasn't answered.
 fn agrees(log: &Log, bytes: &[u8], op: &Op, told: Option<&Reply>) -> bool
-    ensures { result ≡ is_told (option_map (λ reply. reply.now) told.entry) (reply_of log.now.extent bytes.now op.now) }
+    ensures { result ≡ is_told (told_of told.entry) (reply_of log.now.extent bytes.now op.now) }
 {
     match told {
-        Some(reply) => *reply == reply_to(log, bytes, op),
+        Some(reply) => answers(log, bytes, op, reply),
         None => true,
     }
 }
@@ -62,7 +75,7 @@ fn agrees(log: &Log, bytes: &[u8], op: &Op, told: Option<&Reply>) -> bool
 impl Place {
     /// Request `b` is the requester's, which was answered so or not at all: it may act.
     fn fits(&self, log: &Log, b: usize, requester: u8, op: &Op, told: Option<&Reply>) -> bool
-        ensures { result ≡ ready.fits log.now self.now.state self.now.pending b requester op.now (option_map (λ reply. reply.now) told.entry) }
+        ensures { result ≡ ready.fits log.now self.now.state self.now.pending b requester op.now (told_of told.entry) }
     {
         b < self.event
             && !self.has_acted(b)
