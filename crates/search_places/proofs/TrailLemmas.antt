@@ -53,8 +53,7 @@ put ms bs old ns cs new m one bytes t en ec eo acts size few =
     let more = acts_more ms m in
     let longer = bytes_more ms m in
     let count : length cs ≡ acts_of ns = ap length ec ∙ length-append bs one ∙ omega (arith, t.acts, acts, more) ∙ ap acts_of (sym en) in
-    let room : length new ≡ bytes_in ns = ap length eo ∙ length-append old bytes ∙ omega (arith, t.bytes, size, longer) ∙ ap bytes_in (sym en) in
-    (
+    let room : length new ≡ bytes_in ns = ap length eo ∙ length-append old bytes ∙ omega (arith, t.bytes, size, longer) ∙ ap bytes_in (sym en) in (
       record {
         acts = count;
         bytes = room;
@@ -71,8 +70,7 @@ off ms bs old ns cs new m one bytes t en ec eo acts size =
     let count : length cs + length one ≡ acts_of ns + acts_by (is_pass m) = sym (length-append cs one) ∙ ap length (sym ec) ∙ t.acts ∙ ap acts_of en ∙ acts_more ns m in
     let room : length new + length bytes ≡ bytes_in ns + size_by (is_pass m) m = sym (length-append new bytes) ∙ ap length (sym eo) ∙ t.bytes ∙ ap bytes_in en ∙ bytes_more ns m in
     let fewer : length cs ≡ acts_of ns = omega (arith, count, acts) in
-    let shorter : length new ≡ bytes_in ns = omega (arith, room, size) in
-    (
+    let shorter : length new ≡ bytes_in ns = omega (arith, room, size) in (
       record { acts = fewer; bytes = shorter; few = (All-pop (λ k. size_by (is_pass k) k ≤ 128) ms ns (Some m) en t.few).0 },
       rw (en, ec, eo) (one_more ns cs new m one bytes fewer shorter size),
     )

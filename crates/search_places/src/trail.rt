@@ -119,6 +119,7 @@ impl Trail {
 }
 
 /// The steps of a trail from some place on, in their order.
+#[derive(Drop)]
 pub struct Rest<'a> {
     marks: &'a [u8],
     requests: &'a [usize],
