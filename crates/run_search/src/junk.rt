@@ -10,26 +10,20 @@ use log_runs::{Log, Step};
 use search_places::Place;
 use search_rules::laws::what_is_over_junk_acts_at_once;
 use search_rules::{changes_nothing, is_junk_to};
-use std::alloc::{AllocError, Global};
+use std::alloc::AllocError;
 
 /// The most events of a log in which such requests are looked for.
 const MOST_EVENTS: usize = 4_096;
 
 /// Request `b` may act right after request `q`.
-fn acts_after(
-    place: &mut Place,
-    alloc: Global,
-    log: &Log,
-    q: usize,
-    b: usize,
-) -> Result<bool, AllocError>
+fn acts_after(place: &mut Place, log: &Log, q: usize, b: usize) -> Result<bool, AllocError>
     requires place { IsPlace log.now place.old }
     requires may { MayAct log.now place.old.state q }
     ensures state { OnOk result (place.new.state ≡ place.old.state) }
     ensures place { OnOk result (IsPlace log.now place.new) }
     ensures after { IfOk result (λ so. IsTrue so → MayAct log.now (next log.now place.old.state (Step.Act q)) b) }
 {
-    let done = place.take(alloc, log, Step::Act(q))?;
+    let done = place.take(log, Step::Act(q))?;
     let may = place.may_act(log, b);
     place.take_back(log, &done)?;
     Ok(may)
@@ -37,13 +31,7 @@ fn acts_after(
 
 /// Request `b` is `q` or has acted, or the bytes at the addresses of `q` are nothing to it, or it may
 /// act right after `q` and changes nothing.
-fn is_content(
-    place: &mut Place,
-    alloc: Global,
-    log: &Log,
-    q: usize,
-    b: usize,
-) -> Result<bool, AllocError>
+fn is_content(place: &mut Place, log: &Log, q: usize, b: usize) -> Result<bool, AllocError>
     requires place { IsPlace log.now place.old }
     requires may { MayAct log.now place.old.state q }
     ensures state { OnOk result (place.new.state ≡ place.old.state) }
@@ -59,12 +47,12 @@ fn is_content(
     if !changes_nothing(log, b) {
         return Ok(false);
     }
-    acts_after(place, alloc, log, q, b)
+    acts_after(place, log, q, b)
 }
 
 /// Nobody who is left needs what stands where request `q` writes or what it leaves there, but such
 /// that may act right after it and change nothing.
-fn is_over_junk(place: &mut Place, alloc: Global, log: &Log, q: usize) -> Result<bool, AllocError>
+fn is_over_junk(place: &mut Place, log: &Log, q: usize) -> Result<bool, AllocError>
     requires place { IsPlace log.now place.old }
     requires may { MayAct log.now place.old.state q }
     ensures state { OnOk result (place.new.state ≡ place.old.state) }
@@ -76,7 +64,7 @@ fn is_over_junk(place: &mut Place, alloc: Global, log: &Log, q: usize) -> Result
         return Ok(false);
     }
     for b in 0..log.len() {
-        if !is_content(place, alloc, log, q, b)? {
+        if !is_content(place, log, q, b)? {
             return Ok(false);
         }
     }
@@ -86,7 +74,6 @@ fn is_over_junk(place: &mut Place, alloc: Global, log: &Log, q: usize) -> Result
 /// Request `q` may act, and does so over junk.
 fn acts_at_once(
     place: &mut Place,
-    alloc: Global,
     log: &Log,
     sketches: &[Sketch],
     q: usize,
@@ -102,14 +89,13 @@ fn acts_at_once(
     if !may_be_over_junk(place, log, sketches, q) {
         return Ok(false);
     }
-    is_over_junk(place, alloc, log, q)
+    is_over_junk(place, log, q)
 }
 
 /// A pending request that acts at once over junk, if events are left. Not looked for in a long log,
 /// where each look goes over all that is to come.
 pub(crate) fn over_junk(
     place: &mut Place,
-    alloc: Global,
     log: &Log,
     sketches: &[Sketch],
 ) -> Result<Option<Step>, AllocError>
@@ -126,7 +112,7 @@ pub(crate) fn over_junk(
         let Some(q) = place.pending().get(i).copied() else {
             return Ok(None);
         };
-        if acts_at_once(place, alloc, log, sketches, q)? {
+        if acts_at_once(place, log, sketches, q)? {
             return Ok(Some(Step::Act(q)));
         }
     }
