@@ -1,5 +1,4 @@
-use Rattle.std.proofs.Common.{◌∙◌, List, sym, subst}
-use Rattle.std.proofs.lemmas.List.{nil_from_length}
+use Rattle.std.proofs.Common.{List, subst}
 use Rattle.search_places.specs.declared.steps.Done.{Done}
 use Rattle.run_search.specs.Frames.{PathFrom, Back}
 use Rattle.run_search.proofs.FrameLemmas.{came, rewound}
