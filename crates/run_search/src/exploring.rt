@@ -33,7 +33,7 @@ fn finished(
     ensures run { IfOk result (λ o. IfSome o (λ v. IsRun log.now v.items)) }
     ensures more { IfOk result (λ o. IfNone o (walk.new.here.state.event ≡ length log.now.events → ⊥)) }
 {
-    settle(walk, log, catalog)?;
+    settle(walk, alloc, log, catalog)?;
     if walk.here.event() == log.len() {
         let steps = steps_of(walk, alloc)?;
         return Ok(Some(steps));

@@ -135,6 +135,7 @@ fn is_over_junk(place: &mut Place, alloc: Global, log: &Log, q: usize) -> Result
 /// Request `q` may act, and does so over junk.
 fn acts_at_once(
     place: &mut Place,
+    alloc: Global,
     log: &Log,
     sketches: &[Sketch],
     q: usize,
@@ -150,13 +151,14 @@ fn acts_at_once(
     if !may_be_over_junk(place, log, sketches, q) {
         return Ok(false);
     }
-    is_over_junk(place, log, q)
+    is_over_junk(place, alloc, log, q)
 }
 
 /// A pending request that acts at once over junk, if events are left. Not looked for in a long log,
 /// where each look goes over all that is to come.
 pub(crate) fn over_junk(
     place: &mut Place,
+    alloc: Global,
     log: &Log,
     sketches: &[Sketch],
 ) -> Result<Option<Step>, AllocError>
@@ -173,7 +175,7 @@ pub(crate) fn over_junk(
         let Some(q) = place.pending().get(i).copied() else {
             return Ok(None);
         };
-        if acts_at_once(place, log, sketches, q)? {
+        if acts_at_once(place, alloc, log, sketches, q)? {
             return Ok(Some(Step::Act(q)));
         }
     }

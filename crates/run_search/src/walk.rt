@@ -52,6 +52,7 @@ pub(crate) fn begin(alloc: Global, log: &Log) -> Result<Walk, AllocError>
 /// A step that may be taken at once, a request over junk only where there is no other.
 fn at_once(
     place: &mut Place,
+    alloc: Global,
     log: &Log,
     catalog: &Catalog,
     look: Look,
@@ -65,18 +66,23 @@ fn at_once(
     if let Some(step) = forced(place, log, catalog, look) {
         return Ok(Some(step));
     }
-    over_junk(place, log, &catalog.sketches)
+    over_junk(place, alloc, log, &catalog.sketches)
 }
 
 /// Takes the steps that may be taken at once.
-pub(crate) fn settle(walk: &mut Walk, log: &Log, catalog: &Catalog) -> Result<(), AllocError>
+pub(crate) fn settle(
+    walk: &mut Walk,
+    alloc: Global,
+    log: &Log,
+    catalog: &Catalog,
+) -> Result<(), AllocError>
     requires at { frames.IsAt log.now walk.old }
     requires catalog { IsCatalog log.now catalog.now }
     ensures { OnOk result (frames.IsAt log.now walk.new) }
 {
     let mut look = Look::all();
     for _step in 0..u64::MAX {
-        let Some(step) = at_once(&mut walk.here, log, catalog, look)? else {
+        let Some(step) = at_once(&mut walk.here, alloc, log, catalog, look)? else {
             return Ok(());
         };
         look = look.after(&catalog.sketches, walk.here.pending().len(), step);
