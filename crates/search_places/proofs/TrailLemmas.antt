@@ -1,5 +1,5 @@
 -- A step more on a trail, and one less.
-use Rattle.std.proofs.Common.{◌≡◌, ◌∙◌, ℕ, ◌+◌, ◌-◌, ◌≤◌, Bool, true, false, List, [], ◌∷◌, ◌++◌, Some, length, take, drop, refl, sym, ap, subst, arith, length-append}
+use Rattle.std.proofs.Common.{◌≡◌, ◌∙◌, ℕ, suc, ◌+◌, ◌-◌, ◌≤◌, Bool, true, false, List, [], ◌∷◌, ◌++◌, Some, length, take, drop, refl, sym, ap, subst, arith, length-append}
 use Rattle.std.specs.Prelude.{slice_index, ◌==◌}
 use Rattle.std.specs.List.{All}
 use Rattle.std.proofs.lemmas.List.{take_all, take-append-le, drop-append-le, length-drop, append-nil}
@@ -16,6 +16,11 @@ acts_more (k ∷ ms) m = let e = acts_more ms m in omega (arith, e)
 bytes_more : (ms : List ℕ) (m : ℕ) → bytes_in (ms ++ m ∷ []) ≡ bytes_in ms + size_by (is_pass m) m
 bytes_more [] m = omega arith
 bytes_more (k ∷ ms) m = let e = bytes_more ms m in omega (arith, e)
+
+-- a mark for each step
+pub one_each : (ms bs old : List ℕ) → length (trail_of ms bs old) ≡ length ms
+one_each [] bs old = refl
+one_each (m ∷ ms) bs old = ap suc (one_each ms (drop (acts_by (is_pass m)) bs) (drop (size_by (is_pass m) m) old))
 
 -- the first request is the same one
 same_first : (p : Bool) (bs cs : List ℕ) (bytes : List ℕ) → acts_by p ≤ length bs → done_by p (slice_index (bs ++ cs) 0) bytes ≡ done_by p (slice_index bs 0) bytes

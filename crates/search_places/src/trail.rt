@@ -1,5 +1,5 @@
 //! Steps that were taken, in little room.
-ghost use Rattle.std.specs.Prelude.{◌≡◌, ◌∷◌, ◌++◌, [], ◌≤◌, OnOk, IfSome, IfNone, length, option_to_list};
+ghost use Rattle.std.specs.Prelude.{◌≡◌, ◌∷◌, ◌++◌, [], ◌≤◌, OnOk, OnErr, IfSome, IfNone, length, option_to_list};
 ghost use Rattle.log_runs.specs.declared.Step.TheVariants as kinds;
 
 use crate::steps::Done;
@@ -62,8 +62,16 @@ impl Trail {
         }
     }
 
+    /// How many steps there are.
+    pub fn len(&self) -> usize
+        ensures { result ≡ length self.now }
+    {
+        self.marks.len()
+    }
+
     fn push_pass(&mut self) -> Result<(), AllocError>
-        ensures { OnOk result (self.new ≡ self.old ++ record { step = kinds.Pass; old = record { items = [] } } ∷ []) }
+        ensures more { OnOk result (self.new ≡ self.old ++ record { step = kinds.Pass; old = record { items = [] } } ∷ []) }
+        ensures same { OnErr result (self.new ≡ self.old) }
     {
         self.marks.push(PASSED)?;
         Ok(())
@@ -71,7 +79,8 @@ impl Trail {
 
     fn push_act(&mut self, b: usize, old: &[u8]) -> Result<(), AllocError>
         requires { length old.now ≤ 128 }
-        ensures { OnOk result (self.new ≡ self.old ++ record { step = kinds.Act b; old = record { items = old.now } } ∷ []) }
+        ensures more { OnOk result (self.new ≡ self.old ++ record { step = kinds.Act b; old = record { items = old.now } } ∷ []) }
+        ensures same { OnErr result (self.new ≡ self.old) }
     {
         self.requests.reserve(1)?;
         self.bytes.reserve(old.len())?;
@@ -84,7 +93,8 @@ impl Trail {
     /// One step more. A pass overwrote nothing.
     pub fn push(&mut self, done: &Done) -> Result<(), AllocError>
         requires { done.now.step ≡ kinds.Pass → done.now.old.items ≡ [] }
-        ensures { OnOk result (self.new ≡ self.old ++ done.now ∷ []) }
+        ensures more { OnOk result (self.new ≡ self.old ++ done.now ∷ []) }
+        ensures same { OnErr result (self.new ≡ self.old) }
     {
         match done.step {
             Step::Pass => self.push_pass()?,

@@ -13,8 +13,8 @@ invariant_of-self-2 c =
     (c.in_ok-extend_from_slice.ensures.items ∙ ap (λ (bs : List ℕ). bs ++ c.args.old.now) c.in_ok-reserve-2.ensures.items)
     refl c.requires).0
 
-pub returns : goal.returns
-returns c =
+pub returns-clause-more : goal.returns-clause-more
+returns-clause-more c =
     let t = c.self.inside in
     (act_put t.marks.items t.requests.items t.bytes.items c.push.new.self.items c.push-2.new.self.items c.extend_from_slice.new.self.items
     (length c.args.old.now) c.args.b c.args.old.now c.self.invariant c.in_ok-push.ensures.items

@@ -8,7 +8,7 @@ pub invariant_of-self-2 : goal.invariant_of-self-2
 invariant_of-self-2 c =
     (pass_put c.self.inside.marks.items c.self.inside.requests.items c.self.inside.bytes.items c.push.new.self.items c.self.invariant c.in_ok-push.ensures.items).0
 
-pub returns : goal.returns
-returns c =
+pub returns-clause-more : goal.returns-clause-more
+returns-clause-more c =
     (pass_put c.self.inside.marks.items c.self.inside.requests.items c.self.inside.bytes.items c.push.new.self.items c.self.invariant c.in_ok-push.ensures.items).1
     ∙ ap (λ (ds : List Done). ds ++ record { step = kinds.Pass; old = record { items = [] } } ∷ []) c.self.view_is
