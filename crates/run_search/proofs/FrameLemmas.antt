@@ -7,10 +7,11 @@ use Rattle.log_runs.specs.LogView.{LogView}
 use Rattle.log_runs.specs.declared.Step.{Step}
 use Rattle.log_runs.specs.Runs.{State, Allowed, Leads, Live, Dead, AllDead, Covers, IsForced, next, start}
 use Rattle.search_places.specs.declared.steps.Done.{Done}
-use Rattle.run_search.specs.declared.walk.Frame.{Frame}
+use Rattle.run_search.specs.StackView.{FrameView}
 use Rattle.search_places.specs.Undo.{MayCome, CameBy}
 use Rattle.run_search.specs.Outcomes.{IsRun}
-use Rattle.run_search.specs.Frames.{LeadsBy, Path, PathFrom, Here, Back, steps_of}
+use Rattle.run_search.specs.Frames.{LeadsBy, Path, PathFrom, Here, Back}
+use Rattle.run_search.specs.Stacked.{steps_of}
 use Rattle.search_places.specs.Trails.{steps_by}
 use Rattle.run_search.proofs.Lists.{take_more}
 
@@ -32,99 +33,101 @@ module _ (log : LogView) where
   -- ---- a frame more, a frame less, and what follows at the end
 
   -- how the way goes on at a frame
-  abbrev pub At : Frame → (State → Type 0 → Type 0) → State → Type 0 → Type 0
+  abbrev pub At : FrameView → (State → Type 0 → Type 0) → State → Type 0 → Type 0
   At f K s P =
-      (m : State) × LeadsBy log s f.done m × All (Allowed log m) f.rest.items × (Dead log m → P) × K m (AllDead log m f.rest.items → Dead log m)
+      (m : State) × LeadsBy log s f.done m × All (Allowed log m) f.rest × (Dead log m → P) × K m (AllDead log m f.rest → Dead log m)
 
-  path_pop : (P : Type 0) (s : State) (fs : List Frame) (f : Frame) (K : State → Type 0 → Type 0) → Path log P s (fs ++ f ∷ []) K → Path log P s fs (At f K)
+  path_pop : (P : Type 0) (s : State) (fs : List FrameView) (f : FrameView) (K : State → Type 0 → Type 0) → Path log P s (fs ++ f ∷ []) K → Path log P s fs (At f K)
   path_pop P s [] f K h = h
   path_pop P s (g ∷ gs) f K h =
-      (h.0, h.1, h.2, h.3, path_pop (AllDead log h.0 g.rest.items → Dead log h.0) h.0 gs f K h.4)
+      (h.0, h.1, h.2, h.3, path_pop (AllDead log h.0 g.rest → Dead log h.0) h.0 gs f K h.4)
 
-  path_push : (P : Type 0) (s : State) (fs : List Frame) (f : Frame) (K : State → Type 0 → Type 0) → Path log P s fs (At f K) → Path log P s (fs ++ f ∷ []) K
+  path_push : (P : Type 0) (s : State) (fs : List FrameView) (f : FrameView) (K : State → Type 0 → Type 0) → Path log P s fs (At f K) → Path log P s (fs ++ f ∷ []) K
   path_push P s [] f K h = h
   path_push P s (g ∷ gs) f K h =
-      (h.0, h.1, h.2, h.3, path_push (AllDead log h.0 g.rest.items → Dead log h.0) h.0 gs f K h.4)
+      (h.0, h.1, h.2, h.3, path_push (AllDead log h.0 g.rest → Dead log h.0) h.0 gs f K h.4)
 
-  path_map : (P : Type 0) (s : State) (fs : List Frame) (K L : State → Type 0 → Type 0) → ((m : State) (Q : Type 0) → K m Q → L m Q) → Path log P s fs K → Path log P s fs L
+  path_map : (P : Type 0) (s : State) (fs : List FrameView) (K L : State → Type 0 → Type 0) → ((m : State) (Q : Type 0) → K m Q → L m Q) → Path log P s fs K → Path log P s fs L
   path_map P s [] K L f h = f s P h
   path_map P s (g ∷ gs) K L f h =
-      (h.0, h.1, h.2, h.3, path_map (AllDead log h.0 g.rest.items → Dead log h.0) h.0 gs K L f h.4)
+      (h.0, h.1, h.2, h.3, path_map (AllDead log h.0 g.rest → Dead log h.0) h.0 gs K L f h.4)
 
   -- what holds wherever the way ends
-  path_end : (P : Type 0) (s : State) (fs : List Frame) (K : State → Type 0 → Type 0) (R : Type 0) → ((m : State) (Q : Type 0) → K m Q → R) → Path log P s fs K → R
+  path_end : (P : Type 0) (s : State) (fs : List FrameView) (K : State → Type 0 → Type 0) (R : Type 0) → ((m : State) (Q : Type 0) → K m Q → R) → Path log P s fs K → R
   path_end P s [] K R f h = f s P h
-  path_end P s (g ∷ gs) K R f h = path_end (AllDead log h.0 g.rest.items → Dead log h.0) h.0 gs K R f h.4
+  path_end P s (g ∷ gs) K R f h = path_end (AllDead log h.0 g.rest → Dead log h.0) h.0 gs K R f h.4
 
   -- ---- the moves of the search
 
-  pub begun : (fs : List Frame) (ds : List Done) (t : State) → fs ≡ [] → ds ≡ [] → t ≡ start log → PathFrom log fs (Here log ds t)
+  pub begun : (fs : List FrameView) (ds : List Done) (t : State) → fs ≡ [] → ds ≡ [] → t ≡ start log → PathFrom log fs (Here log ds t)
   begun fs ds t ef ed et =
       subst (λ gs. PathFrom log gs (Here log ds t)) (sym ef)
       (subst (λ es. LeadsBy log (start log) es t × (Dead log t → Dead log (start log))) (sym ed) (sym et, λ dead. subst (Dead log) et dead))
 
-  pub moved : (fs : List Frame) (ds : List Done) (t u : State) (d : Done) → PathFrom log fs (Here log ds t) → IsForced log t d.step → CameBy log t u d → PathFrom log fs (Here log (ds ++ d ∷ []) u)
+  pub moved : (fs : List FrameView) (ds : List Done) (t u : State) (d : Done) → PathFrom log fs (Here log ds t) → IsForced log t d.step → CameBy log t u d → PathFrom log fs (Here log (ds ++ d ∷ []) u)
   moved fs ds t u d h f c =
       path_map (Dead log (start log)) (start log) fs (Here log ds t) (Here log (ds ++ d ∷ []) u)
       (λ m Q e. (one_more log m t u ds d e.0 c, λ dead. e.1 (λ live. dead (subst (Live log) (sym c.led) (f.live live))))) h
 
   -- the place becomes a frame
-  pub kept : (fs : List Frame) (ds : List Done) (t : State) (f : Frame) → PathFrom log fs (Here log ds t) → f.done ≡ ds
-      → All (Allowed log t) f.rest.items → Covers log t f.rest.items → PathFrom log (fs ++ f ∷ []) (λ m P. (m ≡ t) × P)
+  pub kept : (fs : List FrameView) (ds : List Done) (t : State) (f : FrameView) → PathFrom log fs (Here log ds t) → f.done ≡ ds
+      → All (Allowed log t) f.rest → Covers log t f.rest → PathFrom log (fs ++ f ∷ []) (λ m P. (m ≡ t) × P)
   kept fs ds t f h ed all covers =
       path_push (Dead log (start log)) (start log) fs f (λ m P. (m ≡ t) × P)
       (path_map (Dead log (start log)) (start log) fs (Here log ds t) (At f (λ m P. (m ≡ t) × P))
       (λ m Q e. (t, subst (λ xs. LeadsBy log m xs t) (sym ed) e.0, all, e.1, (refl, covers))) h)
 
   -- the place is dead
-  pub turned : (fs : List Frame) (ds : List Done) (t : State) → PathFrom log fs (Here log ds t) → Dead log t → PathFrom log fs (Back log ds t)
+  pub turned : (fs : List FrameView) (ds : List Done) (t : State) → PathFrom log fs (Here log ds t) → Dead log t → PathFrom log fs (Back log ds t)
   turned fs ds t h dead = path_map (Dead log (start log)) (start log) fs (Here log ds t) (Back log ds t) (λ m Q e. (e.0, e.1 dead)) h
 
   -- a step is taken back
-  pub came : (fs : List Frame) (ds : List Done) (d : Done) (t : State) → PathFrom log fs (Back log (ds ++ d ∷ []) t) → (m : State) × CameBy log m t d
+  pub came : (fs : List FrameView) (ds : List Done) (d : Done) (t : State) → PathFrom log fs (Back log (ds ++ d ∷ []) t) → (m : State) × CameBy log m t d
   came fs ds d t h =
       path_end (Dead log (start log)) (start log) fs (Back log (ds ++ d ∷ []) t) ((m : State) × CameBy log m t d)
       (λ m Q e. let (n, before, last) = one_less log m t ds d e.0 in (n, last)) h
 
-  pub rewound : (fs : List Frame) (ds : List Done) (d : Done) (t u : State) → PathFrom log fs (Back log (ds ++ d ∷ []) t) → ((m : State) → CameBy log m t d → u ≡ m) → PathFrom log fs (Back log ds u)
+  pub rewound : (fs : List FrameView) (ds : List Done) (d : Done) (t u : State) → PathFrom log fs (Back log (ds ++ d ∷ []) t) → ((m : State) → CameBy log m t d → u ≡ m) → PathFrom log fs (Back log ds u)
   rewound fs ds d t u h back =
       path_map (Dead log (start log)) (start log) fs (Back log (ds ++ d ∷ []) t) (Back log ds u)
       (λ m Q e. let (n, before, last) = one_less log m t ds d e.0 in (subst (LeadsBy log m ds) (sym (back n last)) before, e.1)) h
 
   -- a step is taken from the last frame's list
-  module _ (fs : List Frame) (f : Frame) (t : State) (h : PathFrom log (fs ++ f ∷ []) (λ m P. (m ≡ t) × P)) where
+  module _ (fs : List FrameView) (f : FrameView) (t : State) (h : PathFrom log (fs ++ f ∷ []) (λ m P. (m ≡ t) × P)) where
     last : PathFrom log fs (At f (λ m P. (m ≡ t) × P))
     last = path_pop (Dead log (start log)) (start log) fs f (λ m P. (m ≡ t) × P) h
 
-    pub allowed_there : All (Allowed log t) f.rest.items
+    pub allowed_there : All (Allowed log t) f.rest
     allowed_there =
-        path_end (Dead log (start log)) (start log) fs (At f (λ m P. (m ≡ t) × P)) (All (Allowed log t) f.rest.items)
-        (λ m Q e. subst (λ n. All (Allowed log n) f.rest.items) e.4.0 e.2) last
+        path_end (Dead log (start log)) (start log) fs (At f (λ m P. (m ≡ t) × P)) (All (Allowed log t) f.rest)
+        (λ m Q e. subst (λ n. All (Allowed log n) f.rest) e.4.0 e.2) last
 
-    pub covers_there : Covers log t f.rest.items
+    pub covers_there : Covers log t f.rest
     covers_there =
-        path_end (Dead log (start log)) (start log) fs (At f (λ m P. (m ≡ t) × P)) (Covers log t f.rest.items)
-        (λ m Q e. subst (λ n. Covers log n f.rest.items) e.4.0 e.4.1) last
+        path_end (Dead log (start log)) (start log) fs (At f (λ m P. (m ≡ t) × P)) (Covers log t f.rest)
+        (λ m Q e. subst (λ n. Covers log n f.rest) e.4.0 e.4.1) last
 
-    pub popped : (r : Vec Step Global) (x : Step) → f.rest.items ≡ r.items ++ x ∷ []
-        → Allowed log t x × PathFrom log fs (λ m P. LeadsBy log m f.done t × All (Allowed log t) r.items × (Dead log t → P)
-        × (Dead log (next log t x) → AllDead log t r.items → Dead log t))
+    pub popped : (r : List Step) (x : Step) → f.rest ≡ r ++ x ∷ []
+        → Allowed log t x × PathFrom log (fs ++ record { done = f.done; rest = r } ∷ []) (λ m P. (m ≡ t) × (Dead log (next log t x) → P))
     popped r x er =
-        let (others, this) = All-pop (Allowed log t) f.rest.items r.items (Some x) er allowed_there in
-        let DeadBy : Step → Type 0 = λ y. Allowed log t y → Dead log (next log t y) in (
+        let (others, this) = All-pop (Allowed log t) f.rest r (Some x) er allowed_there in
+        let DeadBy : Step → Type 0 = λ y. Allowed log t y → Dead log (next log t y) in
+        let g : FrameView = record { done = f.done; rest = r } in
+        let Then : State → Type 0 → Type 0 = λ m P. (m ≡ t) × (Dead log (next log t x) → P) in (
           this,
-          path_map (Dead log (start log)) (start log) fs (At f (λ m P. (m ≡ t) × P))
-              (λ m P. LeadsBy log m f.done t × All (Allowed log t) r.items × (Dead log t → P) × (Dead log (next log t x) → AllDead log t r.items → Dead log t))
+          path_push (Dead log (start log)) (start log) fs g Then
+              (path_map (Dead log (start log)) (start log) fs (At f (λ m P. (m ≡ t) × P)) (At g Then)
               (λ m Q e. (
+                t,
                 subst (LeadsBy log m f.done) e.4.0 e.1,
                 others,
                 λ dead. e.3 (subst (Dead log) (sym e.4.0) dead),
-                λ dead left. covers_there (subst (All DeadBy) (sym er) (All-push DeadBy r.items x left (λ a. dead))),
-              )) last,
+                (refl, λ dead left. covers_there (subst (All DeadBy) (sym er) (All-push DeadBy r x left (λ a. dead)))),
+              )) last),
         )
 
     -- nothing is left there
-    pub drained : f.rest.items ≡ [] → Dead log t
+    pub drained : f.rest ≡ [] → Dead log t
     drained er =
         let DeadBy : Step → Type 0 = λ y. Allowed log t y → Dead log (next log t y) in
         covers_there (subst (All DeadBy) (sym er) (All-nil DeadBy))
@@ -134,16 +137,12 @@ module _ (log : LogView) where
         path_map (Dead log (start log)) (start log) fs (At f (λ m P. (m ≡ t) × P)) (Back log f.done t)
         (λ m Q e. (subst (LeadsBy log m f.done) e.4.0 e.1, e.3 (subst (Dead log) (sym e.4.0) dead))) last
 
-  pub taken : (fs : List Frame) (g : Frame) (x : Step) (t u : State) (d : Done)
-      → PathFrom log fs (λ m P. LeadsBy log m g.done t × All (Allowed log t) g.rest.items × (Dead log t → P) × (Dead log (next log t x) → AllDead log t g.rest.items → Dead log t))
-      → CameBy log t u d → d.step ≡ x → PathFrom log (fs ++ g ∷ []) (Here log (d ∷ []) u)
-  taken fs g x t u d h c ex =
+  pub taken : (fs : List FrameView) (x : Step) (t u : State) (d : Done) → PathFrom log fs (λ m P. (m ≡ t) × (Dead log (next log t x) → P))
+      → CameBy log t u d → d.step ≡ x → PathFrom log fs (Here log (d ∷ []) u)
+  taken fs x t u d h c ex =
       let led : next log t x ≡ u = sym (c.led ∙ ap (next log t) ex) in
-      path_push (Dead log (start log)) (start log) fs g (Here log (d ∷ []) u)
-      (path_map (Dead log (start log)) (start log) fs
-      (λ m P. LeadsBy log m g.done t × All (Allowed log t) g.rest.items × (Dead log t → P) × (Dead log (next log t x) → AllDead log t g.rest.items → Dead log t))
-      (At g (Here log (d ∷ []) u))
-      (λ m Q e. (t, e.0, e.1, e.2, (one_more log t t u [] d refl c, λ dead. e.3 (subst (Dead log) (sym led) dead)))) h)
+      path_map (Dead log (start log)) (start log) fs (λ m P. (m ≡ t) × (Dead log (next log t x) → P)) (Here log (d ∷ []) u)
+      (λ m Q e. (one_more log m t u [] d e.0 c, λ dead. e.1 (subst (Dead log) (sym led) dead))) h
 
   -- ---- the end
 
@@ -155,30 +154,14 @@ module _ (log : LogView) where
   told [] s t h = h
   told (d ∷ ds) s t h = (h.0.allowed, told ds (next log s d.step) t h.1)
 
-  whole : (P : Type 0) (s : State) (fs : List Frame) (ds : List Done) (t : State) → Path log P s fs (Here log ds t) → Leads log s (steps_of fs ++ steps_by ds) t
+  whole : (P : Type 0) (s : State) (fs : List FrameView) (ds : List Done) (t : State) → Path log P s fs (Here log ds t) → Leads log s (steps_of fs ++ steps_by ds) t
   whole P s [] ds t h = told ds s t h.0
   whole P s (g ∷ gs) ds t h =
       subst (λ xs. Leads log s xs t) (sym (append_assoc (steps_by g.done) (steps_of gs) (steps_by ds)))
       (leads_on (steps_by g.done) s h.0 t (steps_of gs ++ steps_by ds) (told g.done s h.0 h.1)
-      (whole (AllDead log h.0 g.rest.items → Dead log h.0) h.0 gs ds t h.4))
+      (whole (AllDead log h.0 g.rest → Dead log h.0) h.0 gs ds t h.4))
 
-  pub found : (fs : List Frame) (ds : List Done) (t : State) (xs : List Step) → PathFrom log fs (Here log ds t) → t.event ≡ length log.events
+  pub found : (fs : List FrameView) (ds : List Done) (t : State) (xs : List Step) → PathFrom log fs (Here log ds t) → t.event ≡ length log.events
       → xs ≡ steps_of fs ++ steps_by ds → IsRun log xs
   found fs ds t xs h over e =
       record { last = t; leads = subst (λ ys. Leads log (start log) ys t) (sym e) (whole (Dead log (start log)) (start log) fs ds t h); over = over }
-
--- ---- the steps, as they are copied
-
-of_more : (fs : List Frame) (f : Frame) → steps_of (fs ++ f ∷ []) ≡ steps_of fs ++ steps_by f.done
-of_more [] f = append-nil (steps_by f.done)
-of_more (g ∷ fs) f = ap (λ ys. steps_by g.done ++ ys) (of_more fs f) ∙ sym (append_assoc (steps_by g.done) (steps_of fs) (steps_by f.done))
-
--- one step more is copied
-pub by_next : (xs ys : List Step) (d : Done) (ds es : List Done) (whole : List Step) → es ≡ d ∷ ds → ys ≡ xs ++ d.step ∷ [] → xs ++ steps_by es ≡ whole → ys ++ steps_by ds ≡ whole
-by_next xs ys d ds es whole at more is = ap (λ v. v ++ steps_by ds) more ∙ append_assoc xs (d.step ∷ []) (steps_by ds) ∙ sym (ap (λ v. xs ++ steps_by v) at) ∙ is
-
-pub of_next : (fs gs : List Frame) (i : ℕ) (f : Frame) (ys zs : List Step) → gs ≡ fs → i < length gs → f ≡ get_or gs i f
-    → ys ≡ steps_of (take i fs) → zs ≡ ys ++ steps_by f.done → zs ≡ steps_of (take (i + 1) fs)
-of_next fs gs i f ys zs e l is before more =
-    let at : take (i + 1) fs ≡ take i fs ++ f ∷ [] = subst (λ hs. take (i + 1) hs ≡ take i hs ++ f ∷ []) e (take_more gs i f l is) in
-    more ∙ ap (λ v. v ++ steps_by f.done) before ∙ sym (ap steps_of at ∙ of_more (take i fs) f)

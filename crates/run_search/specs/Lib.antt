@@ -1,5 +1,8 @@
 pub mod Spared
 pub mod Offered
+pub mod StackView
+pub mod Marks
+pub mod Stacked
 pub mod Frames
 pub mod Groups
 pub mod Outcomes

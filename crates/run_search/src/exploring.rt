@@ -5,7 +5,7 @@ ghost use Rattle.run_search.specs.Frames.{IsAt};
 ghost use Rattle.run_search.specs.Outcomes.{IsRun, IsRight};
 
 use crate::catalog::{Catalog, catalog_of};
-use crate::walk::{Walk, advance, begin, settle, steps_of};
+use crate::walk::{Walk, advance, begin, settle};
 use log_runs::{Log, Step};
 use std::alloc::{AllocError, Global};
 
@@ -35,7 +35,7 @@ fn finished(
 {
     settle(walk, alloc, log, catalog)?;
     if walk.here.event() == log.len() {
-        let steps = steps_of(walk, alloc)?;
+        let steps = walk.stack.steps(alloc)?;
         return Ok(Some(steps));
     }
     Ok(None)

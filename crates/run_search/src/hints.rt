@@ -2,7 +2,7 @@
 
 use crate::sketches::{Sketch, are_far};
 use log_runs::{Log, Step};
-use search_places::{Place, Trail};
+use search_places::{Done, Place};
 use search_rules::{changes_nothing, is_junk_to, is_within, leaves_junk_to};
 use std::alloc::{AllocError, Global};
 
@@ -109,6 +109,29 @@ pub(crate) struct Losses {
 }
 
 impl Losses {
+    /// No step overwrote anything.
+    pub(crate) fn new(alloc: Global) -> Losses {
+        Losses {
+            list: Vec::new(alloc),
+            words: 0,
+        }
+    }
+
+    /// What one step more overwrote.
+    pub(crate) fn push(&mut self, sketches: &[Sketch], done: &Done) -> Result<(), AllocError> {
+        if let Some(loss) = loss_of(sketches, done.step, done.old.as_slice()) {
+            self.words |= loss.sketch.words();
+            self.list.push(loss)?;
+        }
+        Ok(())
+    }
+
+    /// Begins anew.
+    pub(crate) fn clear(&mut self) {
+        self.list.clear();
+        self.words = 0;
+    }
+
     /// They overwrote nothing.
     pub(crate) fn is_empty(&self) -> bool {
         self.list.is_empty()
@@ -135,24 +158,6 @@ impl Losses {
             None => false,
         }
     }
-}
-
-/// What the steps overwrote.
-pub(crate) fn losses_of(
-    alloc: Global,
-    sketches: &[Sketch],
-    done: &Trail,
-) -> Result<Losses, AllocError> {
-    let mut list = Vec::new(alloc);
-    let mut words = 0;
-    let mut rest = done.steps();
-    while let Some((step, old)) = rest.next() {
-        if let Some(loss) = loss_of(sketches, step, old) {
-            words |= loss.sketch.words();
-            list.push(loss)?;
-        }
-    }
-    Ok(Losses { list, words })
 }
 
 /// What stands where request `q` writes and what it leaves there are nothing to request `b`.

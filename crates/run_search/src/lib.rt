@@ -18,6 +18,7 @@ mod lost;
 mod others;
 mod rules;
 mod sketches;
+mod stack;
 mod walk;
 
 pub use exploring::{Outcome, explore};

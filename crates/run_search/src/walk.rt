@@ -3,49 +3,40 @@ ghost use Rattle.std.specs.Prelude.{◌≡◌, ◌++◌, ◌∷◌, [], ℕ, Lis
 ghost use Rattle.log_runs.specs.Runs.{Dead, IsForced, start};
 ghost use Rattle.search_places.specs.Places.{IsPlace};
 ghost use Rattle.run_search.specs.Catalogs.{IsCatalog};
-ghost use Rattle.search_places.specs.Trails.{steps_by};
 ghost use Rattle.run_search.specs.Frames as frames;
 
 use crate::catalog::Catalog;
 use crate::choices::choices;
-use crate::hints::{Look, Losses, losses_of};
+use crate::hints::{Look, Losses};
 use crate::junk::over_junk;
 use crate::lost::is_lost;
 use crate::rules::forced;
+use crate::sketches::Sketch;
+use crate::stack::Stack;
 use log_runs::{Log, Step};
-use search_places::{Memo, Place, Trail};
+use search_places::{Memo, Place};
 use std::alloc::{AllocError, Global};
-use std::mem::replace;
 
 /// Of so many events to come it is looked whether their requests are lost.
 const SOON: usize = 256;
 
-/// A place from which several steps may be taken.
-#[derive(Drop)]
-pub(crate) struct Frame {
-    /// The steps that lead there from the frame before.
-    pub(crate) done: Trail,
-    /// The steps that weren't tried yet.
-    pub(crate) rest: Vec<Step>,
-}
-
 #[derive(Drop)]
 pub(crate) struct Walk {
-    pub(crate) frames: Vec<Frame>,
-    /// The steps since the last frame.
-    pub(crate) done: Trail,
+    pub(crate) stack: Stack,
     pub(crate) here: Place,
     pub(crate) memo: Memo,
+    /// What the steps since the last frame overwrote.
+    losses: Losses,
 }
 
 pub(crate) fn begin(alloc: Global, log: &Log) -> Result<Walk, AllocError>
     ensures { IfOk result (frames.IsAt log.now) }
 {
     Ok(Walk {
-        frames: Vec::new(alloc),
-        done: Trail::new(alloc),
+        stack: Stack::new(alloc),
         here: Place::first(alloc, log)?,
         memo: Memo::new(alloc),
+        losses: Losses::new(alloc),
     })
 }
 
@@ -87,7 +78,8 @@ pub(crate) fn settle(
         };
         look = look.after(&catalog.sketches, walk.here.pending().len(), step);
         let done = walk.here.take(log, step)?;
-        walk.done.push(&done)?;
+        walk.losses.push(&catalog.sketches, &done)?;
+        walk.stack.push(&done)?;
     }
     Ok(())
 }
@@ -99,8 +91,7 @@ fn keep(walk: &mut Walk, alloc: Global, log: &Log) -> Result<(), AllocError>
     ensures { OnOk result (frames.IsReady log.now walk.new) }
 {
     let rest = choices(alloc, log, &walk.here)?;
-    let done = replace(&mut walk.done, Trail::new(alloc));
-    walk.frames.push(Frame { done, rest })?;
+    walk.stack.close(rest.as_slice())?;
     Ok(())
 }
 
@@ -108,73 +99,67 @@ fn keep(walk: &mut Walk, alloc: Global, log: &Log) -> Result<(), AllocError>
 fn rewind(walk: &mut Walk, log: &Log) -> Result<(), AllocError>
     requires { frames.IsBack log.now walk.old }
     ensures ready { OnOk result (frames.IsReady log.now walk.new) }
-    ensures frames { walk.new.frames ≡ walk.old.frames }
+    ensures frames { walk.new.stack.frames ≡ walk.old.stack.frames }
 {
-    while let Some(done) = walk.done.pop() {
+    while let Some(done) = walk.stack.pop() {
         walk.here.take_back(log, &done)?;
     }
     Ok(())
 }
 
-/// Takes a step from the frame, which goes back onto the stack.
-fn go_on(
-    walk: &mut Walk,
-    alloc: Global,
-    log: &Log,
-    frame: Frame,
-    step: Step,
-) -> Result<(), AllocError>
-    requires { frames.MayTake log.now walk.old frame step }
+/// Takes a step of the last frame, which isn't among those that are left there any more.
+fn go_on(walk: &mut Walk, log: &Log, sketches: &[Sketch], step: Step) -> Result<(), AllocError>
+    requires { frames.MayTake log.now walk.old step }
     ensures { OnOk result (frames.IsAt log.now walk.new) }
 {
     let done = walk.here.take(log, step)?;
-    walk.done = Trail::new(alloc);
-    walk.done.push(&done)?;
-    walk.frames.push(frame)?;
+    walk.losses.clear();
+    walk.losses.push(sketches, &done)?;
+    walk.stack.push(&done)?;
     Ok(())
 }
 
 /// Goes on with what is left; false if nothing is.
-fn back(walk: &mut Walk, alloc: Global, log: &Log) -> Result<bool, AllocError>
+fn back(walk: &mut Walk, alloc: Global, log: &Log, sketches: &[Sketch]) -> Result<bool, AllocError>
     requires { frames.IsReady log.now walk.old }
     ensures at { IfOk result (λ more. IsTrue more → frames.IsAt log.now walk.new) }
     ensures none { IfOk result (λ more. more ≡ false → Dead log.now (start log.now)) }
 {
-    while let Some(mut frame) = walk.frames.pop() {
-        if let Some(step) = frame.rest.pop() {
-            go_on(walk, alloc, log, frame, step)?;
+    loop {
+        if let Some(step) = walk.stack.next() {
+            go_on(walk, log, sketches, step)?;
             return Ok(true);
         }
+        if !walk.stack.reopen() {
+            return Ok(false);
+        }
         walk.memo.note(alloc, &walk.here);
-        let Frame { done, rest: _ } = frame;
-        walk.done = done;
         rewind(walk, log)?;
     }
-    Ok(false)
 }
 
 /// The request, which is due now or may need what the steps since the last frame overwrote, is lost
 /// here.
-fn is_lost_now(walk: &Walk, log: &Log, catalog: &Catalog, losses: &Losses, q: usize) -> bool
+fn is_lost_now(walk: &Walk, log: &Log, catalog: &Catalog, q: usize) -> bool
     requires place { IsPlace log.now walk.now.here }
     requires catalog { IsCatalog log.now catalog.now }
     ensures { IsTrue result → Dead log.now walk.now.here.state }
 {
     let is_due = catalog.due.get(q) == Some(&walk.here.event());
-    if !is_due && !losses.may_be_needed(&catalog.sketches, q) {
+    if !is_due && !walk.losses.may_be_needed(&catalog.sketches, q) {
         return false;
     }
     is_lost(&walk.here, log, catalog, q)
 }
 
 /// A request that was submitted is lost here.
-fn some_is_lost(walk: &Walk, log: &Log, catalog: &Catalog, losses: &Losses) -> bool
+fn some_is_lost(walk: &Walk, log: &Log, catalog: &Catalog) -> bool
     requires place { IsPlace log.now walk.now.here }
     requires catalog { IsCatalog log.now catalog.now }
     ensures { IsTrue result → Dead log.now walk.now.here.state }
 {
     for q in walk.here.pending() {
-        if is_lost_now(walk, log, catalog, losses, *q) {
+        if is_lost_now(walk, log, catalog, *q) {
             return true;
         }
     }
@@ -182,17 +167,17 @@ fn some_is_lost(walk: &Walk, log: &Log, catalog: &Catalog, losses: &Losses) -> b
 }
 
 /// A request that is submitted soon is lost here.
-fn later_is_lost(walk: &Walk, log: &Log, catalog: &Catalog, losses: &Losses) -> bool
+fn later_is_lost(walk: &Walk, log: &Log, catalog: &Catalog) -> bool
     requires place { IsPlace log.now walk.now.here }
     requires catalog { IsCatalog log.now catalog.now }
     ensures { IsTrue result → Dead log.now walk.now.here.state }
 {
-    if losses.is_empty() {
+    if walk.losses.is_empty() {
         return false;
     }
     let event = walk.here.event();
     for q in event..event.saturating_add(SOON) {
-        if is_lost_now(walk, log, catalog, losses, q) {
+        if is_lost_now(walk, log, catalog, q) {
             return true;
         }
     }
@@ -200,19 +185,14 @@ fn later_is_lost(walk: &Walk, log: &Log, catalog: &Catalog, losses: &Losses) -> 
 }
 
 /// No run leads from here to the end, as is seen or known.
-fn is_dead(walk: &Walk, alloc: Global, log: &Log, catalog: &Catalog) -> Result<bool, AllocError>
+fn is_dead(walk: &Walk, alloc: Global, log: &Log, catalog: &Catalog) -> bool
     requires at { frames.IsAt log.now walk.now }
     requires catalog { IsCatalog log.now catalog.now }
-    ensures { IfOk result (λ dead. IsTrue dead → Dead log.now walk.now.here.state) }
+    ensures { IsTrue result → Dead log.now walk.now.here.state }
 {
-    let losses = losses_of(alloc, &catalog.sketches, &walk.done)?;
-    if some_is_lost(walk, log, catalog, &losses) {
-        return Ok(true);
-    }
-    if later_is_lost(walk, log, catalog, &losses) {
-        return Ok(true);
-    }
-    Ok(walk.memo.is_known(alloc, &walk.here))
+    some_is_lost(walk, log, catalog)
+        || later_is_lost(walk, log, catalog)
+        || walk.memo.is_known(alloc, &walk.here)
 }
 
 /// Goes on from here; false if no run leads to the end.
@@ -228,34 +208,10 @@ pub(crate) fn advance(
     ensures at { IfOk result (λ more. IsTrue more → frames.IsAt log.now walk.new) }
     ensures none { IfOk result (λ more. more ≡ false → Dead log.now (start log.now)) }
 {
-    let dead = is_dead(walk, alloc, log, catalog)?;
-    if dead {
+    if is_dead(walk, alloc, log, catalog) {
         rewind(walk, log)?;
     } else {
         keep(walk, alloc, log)?;
     }
-    back(walk, alloc, log)
-}
-
-/// Adds the steps.
-fn add_steps(steps: &mut Vec<Step>, done: &Trail) -> Result<(), AllocError>
-    ensures { OnOk result (steps.new.items ≡ steps.old.items ++ steps_by done.now) }
-{
-    let mut rest = done.steps();
-    while let Some((step, _)) = rest.next() {
-        steps.push(step)?;
-    }
-    Ok(())
-}
-
-/// The steps that were taken, in their order.
-pub(crate) fn steps_of(walk: &Walk, alloc: Global) -> Result<Vec<Step>, AllocError>
-    ensures { IfOk result (λ v. v.items ≡ frames.steps_of walk.now.frames.items ++ steps_by walk.now.done) }
-{
-    let mut steps = Vec::new(alloc);
-    for frame in &walk.frames {
-        add_steps(&mut steps, &frame.done)?;
-    }
-    add_steps(&mut steps, &walk.done)?;
-    Ok(steps)
+    back(walk, alloc, log, &catalog.sketches)
 }

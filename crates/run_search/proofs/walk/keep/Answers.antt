@@ -1,6 +1,7 @@
-use Rattle.std.proofs.Common.{◌≡◌, List, sym, subst}
+use Rattle.std.proofs.Common.{◌≡◌, ◌∙◌, ap, sym, refl, subst}
 use Rattle.log_runs.specs.Runs.{State}
-use Rattle.run_search.specs.declared.walk.Frame.{Frame}
+use Rattle.run_search.specs.StackView.{StackView}
+use Rattle.run_search.specs.Stacked.{close}
 use Rattle.run_search.specs.Frames.{PathFrom}
 use Rattle.run_search.proofs.FrameLemmas.{kept}
 use Rattle.run_search.proofs.walk.keep.Goals as goal
@@ -9,10 +10,13 @@ pub returns : goal.returns
 returns c =
     let log = c.args.log.now in
     let walk = c.args.walk.now in
-    let path = kept log walk.frames.items walk.done walk.here.state (record { done = c.replace-done.result; rest = c.in_ok-rest.rest })
-    c.requires.at.path c.replace-done.ensures.value c.in_ok-rest.ensures.allowed c.in_ok-rest.ensures.covers in
+    let rest = c.in_ok-rest.rest.items in
+    let is : c.close.new.self ≡ close walk.stack rest = c.in_ok-close.ensures ∙ ap (close walk.stack) c.as_slice.ensures.value in
+    let path = kept log walk.stack.frames walk.stack.done walk.here.state (record { done = walk.stack.done; rest = rest })
+    c.requires.at.path refl c.in_ok-rest.ensures.allowed c.in_ok-rest.ensures.covers in
     record {
-      path = subst (λ (fs : List Frame). PathFrom log fs (λ (m : State) (P : Type 0). (m ≡ walk.here.state) × P)) (sym c.in_ok-push.ensures.items) path;
+      path = subst (λ (s : StackView). PathFrom log s.frames (λ (m : State) (P : Type 0). (m ≡ walk.here.state) × P)) (sym is) path;
+      none = ap (λ (s : StackView). s.done) is;
       place = c.requires.at.place;
       known = c.requires.at.known;
     }

@@ -5,8 +5,8 @@ use Rattle.run_search.proofs.walk.rewind.Given as goal
 abbrev pub invariant-loop-done : goal.invariant-loop-done
 invariant-loop-done l = record {
   back : IsBack l.log l.walk;
-  same : l.walk.frames ≡ l.fn.walk.frames;
+  same : l.walk.stack.frames ≡ l.fn.walk.stack.frames;
 }
 
 abbrev pub decreases-loop-done : goal.decreases-loop-done
-decreases-loop-done l = length l.walk.done
+decreases-loop-done l = length l.walk.stack.done
