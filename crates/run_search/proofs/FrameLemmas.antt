@@ -1,6 +1,5 @@
 -- The way through the frames.
-use Rattle.std.proofs.Common.{◌≡◌, ◌∙◌, ℕ, ◌+◌, ◌<◌, List, [], ◌∷◌, ◌++◌, Some, Vec, Global, length, take, get_or, refl, sym, ap, subst, append_assoc}
-use Rattle.std.proofs.lemmas.List.{append-nil}
+use Rattle.std.proofs.Common.{◌≡◌, ◌∙◌, List, [], ◌∷◌, ◌++◌, Some, length, refl, sym, ap, subst, append_assoc}
 use Rattle.std.specs.List.{All}
 use Rattle.std.proofs.lemmas.List.Elements.{All-push, All-nil, All-pop}
 use Rattle.log_runs.specs.LogView.{LogView}
@@ -13,7 +12,6 @@ use Rattle.run_search.specs.Outcomes.{IsRun}
 use Rattle.run_search.specs.Frames.{LeadsBy, Path, PathFrom, Here, Back}
 use Rattle.run_search.specs.Stacked.{steps_of}
 use Rattle.search_places.specs.Trails.{steps_by}
-use Rattle.run_search.proofs.Lists.{take_more}
 
 -- ---- steps, one after another
 

@@ -1,13 +1,13 @@
 -- Frames, cut from the lists of a stack.
 use Rattle.std.proofs.Common.{◌≡◌, ◌∙◌, ℕ, zero, suc, ◌+◌, ◌-◌, ◌<◌, ◌≤◌, List, [], ◌∷◌, ◌++◌, Option, Some, None, length, take, drop, refl, sym, ap, arith, append_assoc, length-append}
 use Rattle.std.specs.Prelude.{IsSome, IfNone, option_to_list, get_or, set}
-use Rattle.std.proofs.lemmas.List.{take_all, drop_all, drop_at, take-append-le, drop-append-le, take-append-drop, drop-drop, length-take, length-drop, append-nil}
+use Rattle.std.proofs.lemmas.List.{take_all, drop_all, drop_at, take-append-le, drop-append-le, take-append-drop, drop-drop, length-take, length-drop}
 use Rattle.std.proofs.lemmas.Bool.{false≢true}
 use Rattle.log_runs.specs.declared.Step.{Step}
 use Rattle.search_places.specs.declared.steps.Done.{Done}
 use Rattle.search_places.specs.Trails.{steps_by}
 use Rattle.run_search.specs.declared.stack.Mark.{Mark}
-use Rattle.run_search.specs.StackView.{FrameView, StackView}
+use Rattle.run_search.specs.StackView.{FrameView}
 use Rattle.run_search.specs.Marks.{taken_by, left_by, frames_in, IsCut, Lowers, IsLowest}
 use Rattle.run_search.specs.Stacked.{close, Takes, IsDrained, Reopens, steps_of}
 use Rattle.run_search.proofs.Lists.{take_more}

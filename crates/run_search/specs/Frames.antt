@@ -1,5 +1,5 @@
 -- What the search keeps between its steps.
-use Rattle.std.specs.Prelude.{◌≡◌, List, [], ◌∷◌, ◌++◌}
+use Rattle.std.specs.Prelude.{◌≡◌, List, [], ◌∷◌}
 use Rattle.std.specs.List.{All}
 use Rattle.log_runs.specs.declared.Step.{Step}
 use Rattle.log_runs.specs.LogView.{LogView}

@@ -1,7 +1,6 @@
 -- What the calls of a stack do to its frames.
 use Rattle.std.specs.Prelude.{◌≡◌, List, [], ◌∷◌, ◌++◌}
 use Rattle.log_runs.specs.declared.Step.{Step}
-use Rattle.search_places.specs.declared.steps.Done.{Done}
 use Rattle.search_places.specs.Trails.{steps_by}
 use Rattle.run_search.specs.StackView.{FrameView, StackView}
 

@@ -1,4 +1,4 @@
-use Rattle.std.proofs.Common.{◌≡◌, ◌∙◌, ◌+◌, ◌-◌, ℕ, take, drop, ap, sym, subst, arith}
+use Rattle.std.proofs.Common.{◌∙◌, ◌-◌, ℕ, take, drop, ap, subst, arith}
 use Rattle.run_search.specs.StackView.{StackView}
 use Rattle.run_search.specs.Marks.{frames_in}
 use Rattle.run_search.specs.Stacked.{Reopens}
