@@ -1,7 +1,8 @@
 #!/bin/sh
 # Tries the wrong bodies that stand outside the gate: wrong_bodies.sh [CRATE..], all without a name. Each edit of
-# wrong-bodies/CRATE must be refused by the prover. They are tried on a copy of the tree, over what earlier checks kept;
-# the edits of crates/CRATE/must-fail are tried by `rt ci` and by `rt must-fail`. The last line counts the edits.
+# wrong-bodies/CRATE must be refused by the prover. They are tried on a copy of the tree by `rt ci CRATE..`, which proves
+# only what no earlier run on this machine proved; the edits of crates/CRATE/must-fail are tried by the gate. The last
+# line counts the edits.
 set -eu
 cd "$(dirname "$0")/.."
 [ $# -gt 0 ] || set -- $(cd wrong-bodies && ls)
@@ -9,7 +10,8 @@ for crate in "$@"; do
     [ -d "wrong-bodies/$crate" ] || { echo "wrong_bodies.sh: no folder wrong-bodies/$crate" >&2; exit 2; }
 done
 copy=$(mktemp -d)
-trap 'rm -rf "$copy"' EXIT
+log=$(mktemp)
+trap 'rm -rf "$copy" "$log"' EXIT
 trap 'exit 1' HUP INT TERM
 git ls-files -z --cached --others --exclude-standard -- crates crates.txt HANDLES | xargs -0 cp --parents -t "$copy"
 rm -rf "$copy"/crates/*/must-fail
@@ -20,5 +22,8 @@ for crate in "$@"; do
     edits=$((edits + $(ls "wrong-bodies/$crate" | wc -l)))
 done
 git -C "$copy" init -q
-(cd "$copy" && rt must-fail "$@")
+(cd "$copy" && rt ci "$@") > "$log" || { cat "$log"; exit 1; }
+# An edit that can't be applied, compiled or read fails no `rt ci`.
+if grep 'BAD EDIT' "$log"; then exit 1; fi
+grep 'must-fail .*\.edit' "$log"
 echo "wrong bodies: $edits, each refused"

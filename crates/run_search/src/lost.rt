@@ -14,6 +14,7 @@ use search_places::laws::what_was_told_is_told;
 use search_rules::laws::lost_is_dead;
 
 /// The request doesn't find what it needs, and nobody brings it before it is due.
+#[inline(never)]
 pub(crate) fn is_lost(place: &Place, log: &Log, catalog: &Catalog, q: usize) -> bool
     requires place { IsPlace log.now place.now }
     requires catalog { IsCatalog log.now catalog.now }

@@ -28,6 +28,7 @@ pub(crate) enum Asked {
 }
 
 /// Request `b` does to request `q` as is asked.
+#[inline(never)]
 fn spares(log: &Log, bytes: &[u8], b: usize, q: usize, asked: Asked) -> bool
     ensures { IsTrue result → Spares log.now bytes.now q asked b }
 {
@@ -39,6 +40,7 @@ fn spares(log: &Log, bytes: &[u8], b: usize, q: usize, asked: Asked) -> bool
 }
 
 /// It is `q` itself, or spares it.
+#[inline(always)]
 fn allows(log: &Log, sketches: &[Sketch], bytes: &[u8], b: usize, q: usize, asked: Asked) -> bool
     requires { AreSketches log.now.events sketches.now }
     ensures { IsTrue result → (q ≡ b → ⊥) → Spares log.now bytes.now q asked b }

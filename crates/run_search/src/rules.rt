@@ -68,6 +68,7 @@ fn is_first(place: &Place, log: &Log, catalog: &Catalog, q: usize) -> bool
 }
 
 /// The request may act, and acts at once.
+#[inline(never)]
 fn acts_at_once(place: &Place, log: &Log, catalog: &Catalog, q: usize) -> bool
     requires place { IsPlace log.now place.now }
     requires catalog { IsCatalog log.now catalog.now }
@@ -86,6 +87,7 @@ fn acts_at_once(place: &Place, log: &Log, catalog: &Catalog, q: usize) -> bool
 }
 
 /// The request is worth a look, may act, and acts at once.
+#[inline(always)]
 fn acts_as_seen(place: &Place, log: &Log, catalog: &Catalog, look: Look, q: usize) -> bool
     requires place { IsPlace log.now place.now }
     requires catalog { IsCatalog log.now catalog.now }
