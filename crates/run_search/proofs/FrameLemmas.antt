@@ -6,11 +6,11 @@ use Rattle.log_runs.specs.LogView.{LogView}
 use Rattle.log_runs.specs.declared.Step.{Step}
 use Rattle.log_runs.specs.Runs.{State, Allowed, Leads, Live, Dead, AllDead, Covers, IsForced, next, start}
 use Rattle.search_places.specs.declared.steps.Done.{Done}
-use Rattle.run_search.specs.StackView.{FrameView}
+use Rattle.search_places.specs.StackView.{FrameView}
 use Rattle.search_places.specs.Undo.{MayCome, CameBy}
 use Rattle.run_search.specs.Outcomes.{IsRun}
 use Rattle.run_search.specs.Frames.{LeadsBy, Path, PathFrom, Here, Back}
-use Rattle.run_search.specs.Stacked.{steps_of}
+use Rattle.search_places.specs.Stacked.{steps_of}
 use Rattle.search_places.specs.Trails.{steps_by}
 
 -- ---- steps, one after another

@@ -1,7 +1,6 @@
 pub mod Lists
 pub mod RuleLemmas
 pub mod Covering
-pub mod StackLemmas
 pub mod FrameLemmas
 pub mod GroupLemmas
 pub mod OthersOf

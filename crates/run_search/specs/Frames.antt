@@ -6,7 +6,7 @@ use Rattle.log_runs.specs.LogView.{LogView}
 use Rattle.log_runs.specs.Runs.{State, Allowed, Dead, AllDead, next, start}
 use Rattle.search_places.specs.declared.steps.Done.{Done}
 use Rattle.run_search.specs.declared.walk.Walk.{Walk}
-use Rattle.run_search.specs.StackView.{FrameView}
+use Rattle.search_places.specs.StackView.{FrameView}
 use Rattle.search_places.specs.Places.{IsPlace}
 use Rattle.search_places.specs.Undo.{MayCome}
 use Rattle.search_places.specs.Known.{AreDead}

@@ -1,8 +1,5 @@
 pub mod Spared
 pub mod Offered
-pub mod StackView
-pub mod Marks
-pub mod Stacked
 pub mod Frames
 pub mod Groups
 pub mod Outcomes

@@ -138,6 +138,7 @@ impl Losses {
     }
 
     /// A request may need one of them.
+    #[inline(never)]
     fn may_be_needed_by(&self, sketch: &Sketch) -> bool {
         for loss in &self.list {
             if sketch.may_need(loss.sketch, loss.old) {
@@ -148,6 +149,7 @@ impl Losses {
     }
 
     /// Request `q` may need one of them.
+    #[inline(always)]
     pub(crate) fn may_be_needed(&self, sketches: &[Sketch], q: usize) -> bool {
         match sketches.get(q) {
             Some(sketch) => {

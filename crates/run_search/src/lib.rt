@@ -18,7 +18,6 @@ mod lost;
 mod others;
 mod rules;
 mod sketches;
-mod stack;
 mod walk;
 
 pub use exploring::{Outcome, explore};

@@ -12,9 +12,8 @@ use crate::junk::over_junk;
 use crate::lost::is_lost;
 use crate::rules::forced;
 use crate::sketches::Sketch;
-use crate::stack::Stack;
 use log_runs::{Log, Step};
-use search_places::{Memo, Place};
+use search_places::{Memo, Place, Stack};
 use std::alloc::{AllocError, Global};
 
 /// Of so many events to come it is looked whether their requests are lost.
@@ -140,6 +139,7 @@ fn back(walk: &mut Walk, alloc: Global, log: &Log, sketches: &[Sketch]) -> Resul
 
 /// The request, which is due now or may need what the steps since the last frame overwrote, is lost
 /// here.
+#[inline(always)]
 fn is_lost_now(walk: &Walk, log: &Log, catalog: &Catalog, q: usize) -> bool
     requires place { IsPlace log.now walk.now.here }
     requires catalog { IsCatalog log.now catalog.now }

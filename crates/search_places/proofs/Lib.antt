@@ -4,3 +4,4 @@ pub mod UndoLemmas
 pub mod Knowing
 pub mod Readiness
 pub mod TrailLemmas
+pub mod StackLemmas

@@ -1,5 +1,6 @@
 -- Lists: an element at a place, after a write.
-use Rattle.std.proofs.Common.{◌≡◌, ◌∙◌, ℕ, zero, suc, ◌<◌, Bool, true, false, List, [], ◌∷◌, length, Some, refl, sym, ap, arith}
+use Rattle.std.proofs.Common.{◌≡◌, ◌∙◌, ℕ, zero, suc, ◌+◌, ◌<◌, Bool, true, false, List, [], ◌∷◌, ◌++◌, length, take, get_or, Some, refl, sym, ap, arith, add-one}
+use Rattle.std.proofs.Math.Seq.{take-suc}
 use Rattle.std.specs.Prelude.{slice_get, slice_set, replicate}
 use Rattle.std.proofs.lemmas.Option.{same_Some}
 
@@ -53,3 +54,10 @@ same_list (x ∷ xs) (y ∷ ys) n h =
     let first : x ≡ y = same_Some x y (h 0 (omega arith)) in
     let rest : xs ≡ ys = same_list xs ys (omega (arith, n)) (λ i l. h (suc i) (omega arith)) in
     rw (first, rest) refl
+
+-- a prefix and the element after it
+pub take_one : {X : Type 0} → (xs : List X) (i : ℕ) (d : X) → i < length xs → take (i + 1) xs ≡ take i xs ++ get_or xs i d ∷ []
+take_one xs i d l = ap (λ k. take k xs) (add-one i) ∙ take-suc xs i d l
+
+pub take_more : {X : Type 0} → (xs : List X) (i : ℕ) (x : X) → i < length xs → x ≡ get_or xs i x → take (i + 1) xs ≡ take i xs ++ x ∷ []
+take_more xs i x l is = take_one xs i x l ∙ ap (λ y. take i xs ++ y ∷ []) (sym is)

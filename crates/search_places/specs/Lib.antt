@@ -5,3 +5,6 @@ pub mod Ready
 pub mod Undo
 pub mod Known
 pub mod Trails
+pub mod StackView
+pub mod Marks
+pub mod Stacked

@@ -3,8 +3,9 @@
 //! A [`Place`] is where the search stands: how many events were passed, which requests have acted,
 //! and the bytes of the memory. Each search begins at [`Place::first`]. [`Place::may_pass`] and
 //! [`Place::may_act`] say which steps may be taken. [`Place::take`] takes one, [`Place::take_back`]
-//! takes it back. A [`Memo`] remembers places from which no run leads to the end, while there is room
-//! for them.
+//! takes it back. A [`Stack`] has the steps that were taken, and the places from which others may be
+//! taken. A [`Memo`] remembers places from which no run leads to the end, while there is room for
+//! them.
 #![tactic(auto)]
 
 mod allowed;
@@ -13,10 +14,11 @@ pub mod laws;
 mod memo;
 mod pending;
 mod place;
+mod stack;
 mod steps;
 mod trail;
 
 pub use memo::Memo;
 pub use place::Place;
+pub use stack::Stack;
 pub use steps::Done;
-pub use trail::Trail;

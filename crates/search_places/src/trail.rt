@@ -15,7 +15,7 @@ const PASSED: u8 = 255;
 /// Steps that were taken, one after the other, and the bytes that each overwrote. A pass takes a
 /// byte, an act nine and the bytes that it overwrote.
 #[derive(Drop)]
-pub struct Trail {
+pub(crate) struct Trail {
     /// For each step [`PASSED`], or how many bytes the act overwrote.
     marks: Vec<u8>,
     /// The requests that acted.
@@ -52,7 +52,7 @@ fn taken_off(bytes: &mut Vec<u8>, size: u8) -> ArrayVec<u8, MAX_PAYLOAD>
 
 impl Trail {
     /// No steps.
-    pub fn new(alloc: Global) -> Trail
+    pub(crate) fn new(alloc: Global) -> Trail
         ensures { result ≡ [] }
     {
         Trail {
@@ -63,7 +63,7 @@ impl Trail {
     }
 
     /// How many steps there are.
-    pub fn len(&self) -> usize
+    pub(crate) fn len(&self) -> usize
         ensures { result ≡ length self.now }
     {
         self.marks.len()
@@ -91,7 +91,7 @@ impl Trail {
     }
 
     /// One step more. A pass overwrote nothing.
-    pub fn push(&mut self, done: &Done) -> Result<(), AllocError>
+    pub(crate) fn push(&mut self, done: &Done) -> Result<(), AllocError>
         requires { done.now.step ≡ kinds.Pass → done.now.old.items ≡ [] }
         ensures more { OnOk result (self.new ≡ self.old ++ done.now ∷ []) }
         ensures same { OnErr result (self.new ≡ self.old) }
@@ -104,7 +104,7 @@ impl Trail {
     }
 
     /// Takes the last step off, if there is one.
-    pub fn pop(&mut self) -> Option<Done>
+    pub(crate) fn pop(&mut self) -> Option<Done>
         ensures items { self.old ≡ self.new ++ option_to_list result }
         ensures none { IfNone result (self.old ≡ []) }
     {
@@ -130,7 +130,7 @@ impl Trail {
 
 /// The steps of a trail from some place on, in their order.
 #[derive(Drop)]
-pub struct Rest<'a> {
+pub(crate) struct Rest<'a> {
     marks: &'a [u8],
     requests: &'a [usize],
     bytes: &'a [u8],
@@ -150,7 +150,7 @@ impl<'a> Model for Rest<'a> {
 
 impl<'a> Rest<'a> {
     /// The next step, and the bytes that it overwrote.
-    pub fn next(&mut self) -> Option<(Step, &'a [u8])>
+    pub(crate) fn next(&mut self) -> Option<(Step, &'a [u8])>
         ensures none { IfNone result (self.old ≡ []) }
         ensures some { IfSome result (λ r. self.old ≡ record { step = r.0; old = record { items = r.1.now } } ∷ self.new) }
     {
@@ -173,7 +173,7 @@ impl<'a> Rest<'a> {
 
 impl Trail {
     /// All steps, in their order.
-    pub fn steps(&self) -> Rest<'_>
+    pub(crate) fn steps(&self) -> Rest<'_>
         ensures { result ≡ self.now }
     {
         Rest {

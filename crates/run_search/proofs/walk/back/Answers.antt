@@ -2,7 +2,7 @@ use Rattle.std.proofs.Common.{◌≡◌, ◌∙◌, List, [], ◌∷◌, ◌++�
 use Rattle.std.proofs.lemmas.List.{append-nil}
 use Rattle.log_runs.specs.Runs.{State, Dead, next}
 use Rattle.search_places.specs.declared.steps.Done.{Done}
-use Rattle.run_search.specs.StackView.{FrameView, StackView}
+use Rattle.search_places.specs.StackView.{FrameView, StackView}
 use Rattle.run_search.specs.Frames.{PathFrom, Back}
 use Rattle.run_search.proofs.FrameLemmas.{popped, drained, dropped}
 use Rattle.run_search.proofs.walk.back.Goals as goal

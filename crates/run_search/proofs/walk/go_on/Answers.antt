@@ -1,6 +1,6 @@
 use Rattle.std.proofs.Common.{◌∙◌, List, [], ◌∷◌, ◌++◌, ap, sym, subst}
 use Rattle.search_places.specs.declared.steps.Done.{Done}
-use Rattle.run_search.specs.StackView.{FrameView}
+use Rattle.search_places.specs.StackView.{FrameView}
 use Rattle.run_search.specs.Frames.{PathFrom, Here}
 use Rattle.run_search.proofs.FrameLemmas.{taken}
 use Rattle.run_search.proofs.walk.go_on.Goals as goal

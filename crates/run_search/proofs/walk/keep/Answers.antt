@@ -1,7 +1,7 @@
 use Rattle.std.proofs.Common.{◌≡◌, ◌∙◌, ap, sym, refl, subst}
 use Rattle.log_runs.specs.Runs.{State}
-use Rattle.run_search.specs.StackView.{StackView}
-use Rattle.run_search.specs.Stacked.{close}
+use Rattle.search_places.specs.StackView.{StackView}
+use Rattle.search_places.specs.Stacked.{close}
 use Rattle.run_search.specs.Frames.{PathFrom}
 use Rattle.run_search.proofs.FrameLemmas.{kept}
 use Rattle.run_search.proofs.walk.keep.Goals as goal

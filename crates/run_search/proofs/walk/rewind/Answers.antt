@@ -1,7 +1,7 @@
 use Rattle.std.proofs.Common.{List, [], ◌∙◌, sym, subst}
 use Rattle.std.proofs.lemmas.List.{append-nil}
 use Rattle.search_places.specs.declared.steps.Done.{Done}
-use Rattle.run_search.specs.StackView.{FrameView}
+use Rattle.search_places.specs.StackView.{FrameView}
 use Rattle.run_search.specs.Frames.{PathFrom, Back}
 use Rattle.run_search.proofs.FrameLemmas.{came, rewound}
 use Rattle.run_search.proofs.walk.rewind.Goals as goal

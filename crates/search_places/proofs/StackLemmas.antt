@@ -6,11 +6,11 @@ use Rattle.std.proofs.lemmas.Bool.{false≢true}
 use Rattle.log_runs.specs.declared.Step.{Step}
 use Rattle.search_places.specs.declared.steps.Done.{Done}
 use Rattle.search_places.specs.Trails.{steps_by}
-use Rattle.run_search.specs.declared.stack.Mark.{Mark}
-use Rattle.run_search.specs.StackView.{FrameView}
-use Rattle.run_search.specs.Marks.{taken_by, left_by, frames_in, IsCut, Lowers, IsLowest}
-use Rattle.run_search.specs.Stacked.{close, Takes, IsDrained, Reopens, steps_of}
-use Rattle.run_search.proofs.Lists.{take_more}
+use Rattle.search_places.specs.declared.stack.Mark.{Mark}
+use Rattle.search_places.specs.StackView.{FrameView}
+use Rattle.search_places.specs.Marks.{taken_by, left_by, frames_in, IsCut, Lowers, IsLowest}
+use Rattle.search_places.specs.Stacked.{close, Takes, IsDrained, Reopens, steps_of}
+use Rattle.search_places.proofs.Lists.{take_more}
 
 -- ---- one mark more
 

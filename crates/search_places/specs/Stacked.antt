@@ -2,7 +2,7 @@
 use Rattle.std.specs.Prelude.{◌≡◌, List, [], ◌∷◌, ◌++◌}
 use Rattle.log_runs.specs.declared.Step.{Step}
 use Rattle.search_places.specs.Trails.{steps_by}
-use Rattle.run_search.specs.StackView.{FrameView, StackView}
+use Rattle.search_places.specs.StackView.{FrameView, StackView}
 
 -- the steps since the last frame became a frame, and these are left there
 abbrev pub close : StackView → List Step → StackView

@@ -1,9 +1,9 @@
 use Rattle.std.proofs.Common.{◌∙◌, ◌-◌, ℕ, take, drop, ap, subst, arith}
-use Rattle.run_search.specs.StackView.{StackView}
-use Rattle.run_search.specs.Marks.{frames_in}
-use Rattle.run_search.specs.Stacked.{Reopens}
-use Rattle.run_search.proofs.StackLemmas.{reopened, is_within}
-use Rattle.run_search.proofs.stack.Stack.reopen.Goals as goal
+use Rattle.search_places.specs.StackView.{StackView}
+use Rattle.search_places.specs.Marks.{frames_in}
+use Rattle.search_places.specs.Stacked.{Reopens}
+use Rattle.search_places.proofs.StackLemmas.{reopened, is_within}
+use Rattle.search_places.proofs.stack.Stack.reopen.Goals as goal
 
 pub overflow_sub-self : goal.overflow_sub-self
 overflow_sub-self c =

@@ -1,9 +1,9 @@
 use Rattle.std.proofs.Common.{◌∙◌, ◌++◌, ◌-◌, length, List, [], ◌∷◌, ap}
-use Rattle.run_search.specs.declared.stack.Mark.{Mark}
-use Rattle.run_search.specs.StackView.{StackView}
-use Rattle.run_search.specs.Stacked.{close}
-use Rattle.run_search.proofs.StackLemmas.{closed_by}
-use Rattle.run_search.proofs.stack.Stack.close.Goals as goal
+use Rattle.search_places.specs.declared.stack.Mark.{Mark}
+use Rattle.search_places.specs.StackView.{StackView}
+use Rattle.search_places.specs.Stacked.{close}
+use Rattle.search_places.proofs.StackLemmas.{closed_by}
+use Rattle.search_places.proofs.stack.Stack.close.Goals as goal
 
 pub invariant_of-self-2 : goal.invariant_of-self-2
 invariant_of-self-2 c =

@@ -1,7 +1,7 @@
 use Rattle.std.proofs.Common.{◌∙◌, ◌-◌, vec_len, refl, sym, arith}
 use Rattle.std.proofs.lemmas.Bool.{eqb-false}
-use Rattle.run_search.proofs.StackLemmas.{lowers}
-use Rattle.run_search.proofs.stack.lower.Goals as goal
+use Rattle.search_places.proofs.StackLemmas.{lowers}
+use Rattle.search_places.proofs.stack.lower.Goals as goal
 
 pub returns-clause-some : goal.returns-clause-some
 returns-clause-some c =

@@ -1,7 +1,7 @@
 use Rattle.std.proofs.Common.{◌∙◌, ap}
-use Rattle.run_search.specs.StackView.{StackView}
-use Rattle.run_search.proofs.StackLemmas.{put}
-use Rattle.run_search.proofs.stack.Stack.push.Goals as goal
+use Rattle.search_places.specs.StackView.{StackView}
+use Rattle.search_places.proofs.StackLemmas.{put}
+use Rattle.search_places.proofs.stack.Stack.push.Goals as goal
 
 pub returns-clause-frames : goal.returns-clause-frames
 returns-clause-frames c =

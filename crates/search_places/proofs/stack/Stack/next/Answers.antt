@@ -1,11 +1,11 @@
 use Rattle.std.proofs.Common.{Option, drop, sym, subst, arith}
 use Rattle.std.specs.Prelude.{IfSome}
 use Rattle.log_runs.specs.declared.Step.{Step}
-use Rattle.run_search.specs.StackView.{StackView}
-use Rattle.run_search.specs.Marks.{frames_in}
-use Rattle.run_search.specs.Stacked.{Takes, IsDrained}
-use Rattle.run_search.proofs.StackLemmas.{drained, next_step, not_none}
-use Rattle.run_search.proofs.stack.Stack.next.Goals as goal
+use Rattle.search_places.specs.StackView.{StackView}
+use Rattle.search_places.specs.Marks.{frames_in}
+use Rattle.search_places.specs.Stacked.{Takes, IsDrained}
+use Rattle.search_places.proofs.StackLemmas.{drained, next_step, not_none}
+use Rattle.search_places.proofs.stack.Stack.next.Goals as goal
 
 pub returns-then-not-lower-clause-drained : goal.returns-then-not-lower-clause-drained
 returns-then-not-lower-clause-drained c =

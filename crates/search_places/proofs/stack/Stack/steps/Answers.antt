@@ -1,10 +1,10 @@
 use Rattle.std.proofs.Common.{◌∙◌, ◌++◌, List, ap}
 use Rattle.log_runs.specs.declared.Step.{Step}
 use Rattle.search_places.specs.Trails.{steps_by}
-use Rattle.run_search.specs.StackView.{StackView}
-use Rattle.run_search.specs.Stacked.{steps_of}
-use Rattle.run_search.proofs.StackLemmas.{all_steps}
-use Rattle.run_search.proofs.stack.Stack.steps.Goals as goal
+use Rattle.search_places.specs.StackView.{StackView}
+use Rattle.search_places.specs.Stacked.{steps_of}
+use Rattle.search_places.proofs.StackLemmas.{all_steps}
+use Rattle.search_places.proofs.stack.Stack.steps.Goals as goal
 
 pub returns : goal.returns
 returns c =

@@ -2,8 +2,8 @@
 use Rattle.std.specs.Prelude.{ℕ, ◌≡◌, ◌+◌, ◌≤◌, List, [], ◌∷◌, ◌++◌, length, take, drop}
 use Rattle.log_runs.specs.declared.Step.{Step}
 use Rattle.search_places.specs.declared.steps.Done.{Done}
-use Rattle.run_search.specs.declared.stack.Mark.{Mark}
-use Rattle.run_search.specs.StackView.{FrameView}
+use Rattle.search_places.specs.declared.stack.Mark.{Mark}
+use Rattle.search_places.specs.StackView.{FrameView}
 
 -- how many steps of all frames were taken, and how many are left
 abbrev pub taken_by : List Mark → ℕ

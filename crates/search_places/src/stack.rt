@@ -2,11 +2,12 @@
 ghost use Rattle.std.specs.Prelude.{◌≡◌, ◌++◌, ◌∷◌, [], false, length, IfOk, OnOk, IfNone, IfSome, IsTrue, option_to_list};
 ghost use Rattle.log_runs.specs.declared.Step.TheVariants as kinds;
 ghost use Rattle.search_places.specs.Trails.{steps_by};
-ghost use Rattle.run_search.specs.Marks as marks;
-ghost use Rattle.run_search.specs.Stacked as stacked;
+ghost use Rattle.search_places.specs.Marks as marks;
+ghost use Rattle.search_places.specs.Stacked as stacked;
 
+use crate::steps::Done;
+use crate::trail::Trail;
 use log_runs::Step;
-use search_places::{Done, Trail};
 use std::alloc::{AllocError, Global};
 use std::marker::Model;
 
@@ -22,7 +23,7 @@ pub(crate) struct Mark {
 /// Frames, and the steps since the last one. All steps stand in one list, and all that are left at
 /// frames in another, so that a frame takes 16 bytes.
 #[derive(Drop)]
-pub(crate) struct Stack {
+pub struct Stack {
     /// All steps that were taken.
     trail: Trail,
     /// The steps that are left at the frames.
@@ -34,8 +35,8 @@ pub(crate) struct Stack {
 
 impl Model for Stack {
     ghost use Rattle.std.specs.Prelude.{drop};
-    ghost use Rattle.run_search.specs.StackView.{StackView};
-    ghost use Rattle.run_search.specs.Marks.{frames_in, IsCut};
+    ghost use Rattle.search_places.specs.StackView.{StackView};
+    ghost use Rattle.search_places.specs.Marks.{frames_in, IsCut};
 
     ghost Value = { StackView };
 
@@ -78,7 +79,7 @@ fn add_steps(steps: &mut Vec<Step>, trail: &Trail) -> Result<(), AllocError>
 
 impl Stack {
     /// No frames, and no steps.
-    pub(crate) fn new(alloc: Global) -> Stack
+    pub fn new(alloc: Global) -> Stack
         ensures frames { result.frames ≡ [] }
         ensures done { result.done ≡ [] }
     {
@@ -91,7 +92,7 @@ impl Stack {
     }
 
     /// One step more. A pass overwrote nothing.
-    pub(crate) fn push(&mut self, done: &Done) -> Result<(), AllocError>
+    pub fn push(&mut self, done: &Done) -> Result<(), AllocError>
         requires { done.now.step ≡ kinds.Pass → done.now.old.items ≡ [] }
         ensures frames { OnOk result (self.new.frames ≡ self.old.frames) }
         ensures done { OnOk result (self.new.done ≡ self.old.done ++ done.now ∷ []) }
@@ -101,7 +102,7 @@ impl Stack {
     }
 
     /// Takes off the last step since the last frame, if there is one.
-    pub(crate) fn pop(&mut self) -> Option<Done>
+    pub fn pop(&mut self) -> Option<Done>
         ensures frames { self.new.frames ≡ self.old.frames }
         ensures done { self.old.done ≡ self.new.done ++ option_to_list result }
         ensures none { IfNone result (self.old.done ≡ []) }
@@ -113,7 +114,7 @@ impl Stack {
     }
 
     /// Makes the steps since the last frame a frame, where these steps are left.
-    pub(crate) fn close(&mut self, rest: &[Step]) -> Result<(), AllocError>
+    pub fn close(&mut self, rest: &[Step]) -> Result<(), AllocError>
         ensures { OnOk result (self.new ≡ stacked.close self.old rest.now) }
     {
         let len = self.trail.len();
@@ -129,7 +130,7 @@ impl Stack {
     }
 
     /// Takes the last step that is left at the last frame.
-    pub(crate) fn next(&mut self) -> Option<Step>
+    pub fn next(&mut self) -> Option<Step>
         ensures some { IfSome result (stacked.Takes self.old self.new) }
         ensures none { IfNone result (self.new ≡ self.old) }
         ensures drained { IfNone result (stacked.IsDrained self.old) }
@@ -141,7 +142,7 @@ impl Stack {
     }
 
     /// Drops the last frame: its steps are among those since the frame before. False if there is none.
-    pub(crate) fn reopen(&mut self) -> bool
+    pub fn reopen(&mut self) -> bool
         ensures some { IsTrue result → stacked.Reopens self.old self.new }
         ensures none { result ≡ false → self.old.frames ≡ [] }
         ensures same { result ≡ false → self.new ≡ self.old }
@@ -155,7 +156,7 @@ impl Stack {
     }
 
     /// All steps that were taken, in their order.
-    pub(crate) fn steps(&self, alloc: Global) -> Result<Vec<Step>, AllocError>
+    pub fn steps(&self, alloc: Global) -> Result<Vec<Step>, AllocError>
         ensures { IfOk result (λ v. v.items ≡ stacked.steps_of self.now.frames ++ steps_by self.now.done) }
     {
         let mut steps = Vec::with_capacity(alloc, self.trail.len())?;
