@@ -10,7 +10,8 @@ use Rattle.search_places.specs.declared.steps.Done.{Done}
 use Rattle.run_search.specs.declared.walk.Frame.{Frame}
 use Rattle.search_places.specs.Undo.{MayCome, CameBy}
 use Rattle.run_search.specs.Outcomes.{IsRun}
-use Rattle.run_search.specs.Frames.{LeadsBy, Path, PathFrom, Here, Back, steps_by, steps_of}
+use Rattle.run_search.specs.Frames.{LeadsBy, Path, PathFrom, Here, Back, steps_of}
+use Rattle.search_places.specs.Trails.{steps_by}
 use Rattle.run_search.proofs.Lists.{take_more}
 
 -- ---- steps, one after another
@@ -33,7 +34,7 @@ module _ (log : LogView) where
   -- how the way goes on at a frame
   abbrev pub At : Frame → (State → Type 0 → Type 0) → State → Type 0 → Type 0
   At f K s P =
-      (m : State) × LeadsBy log s f.done.items m × All (Allowed log m) f.rest.items × (Dead log m → P) × K m (AllDead log m f.rest.items → Dead log m)
+      (m : State) × LeadsBy log s f.done m × All (Allowed log m) f.rest.items × (Dead log m → P) × K m (AllDead log m f.rest.items → Dead log m)
 
   path_pop : (P : Type 0) (s : State) (fs : List Frame) (f : Frame) (K : State → Type 0 → Type 0) → Path log P s (fs ++ f ∷ []) K → Path log P s fs (At f K)
   path_pop P s [] f K h = h
@@ -68,7 +69,7 @@ module _ (log : LogView) where
       (λ m Q e. (one_more log m t u ds d e.0 c, λ dead. e.1 (λ live. dead (subst (Live log) (sym c.led) (f.live live))))) h
 
   -- the place becomes a frame
-  pub kept : (fs : List Frame) (ds : List Done) (t : State) (f : Frame) → PathFrom log fs (Here log ds t) → f.done.items ≡ ds
+  pub kept : (fs : List Frame) (ds : List Done) (t : State) (f : Frame) → PathFrom log fs (Here log ds t) → f.done ≡ ds
       → All (Allowed log t) f.rest.items → Covers log t f.rest.items → PathFrom log (fs ++ f ∷ []) (λ m P. (m ≡ t) × P)
   kept fs ds t f h ed all covers =
       path_push (Dead log (start log)) (start log) fs f (λ m P. (m ≡ t) × P)
@@ -106,16 +107,16 @@ module _ (log : LogView) where
         (λ m Q e. subst (λ n. Covers log n f.rest.items) e.4.0 e.4.1) last
 
     pub popped : (r : Vec Step Global) (x : Step) → f.rest.items ≡ r.items ++ x ∷ []
-        → Allowed log t x × PathFrom log fs (λ m P. LeadsBy log m f.done.items t × All (Allowed log t) r.items × (Dead log t → P)
+        → Allowed log t x × PathFrom log fs (λ m P. LeadsBy log m f.done t × All (Allowed log t) r.items × (Dead log t → P)
         × (Dead log (next log t x) → AllDead log t r.items → Dead log t))
     popped r x er =
         let (others, this) = All-pop (Allowed log t) f.rest.items r.items (Some x) er allowed_there in
         let DeadBy : Step → Type 0 = λ y. Allowed log t y → Dead log (next log t y) in (
           this,
           path_map (Dead log (start log)) (start log) fs (At f (λ m P. (m ≡ t) × P))
-              (λ m P. LeadsBy log m f.done.items t × All (Allowed log t) r.items × (Dead log t → P) × (Dead log (next log t x) → AllDead log t r.items → Dead log t))
+              (λ m P. LeadsBy log m f.done t × All (Allowed log t) r.items × (Dead log t → P) × (Dead log (next log t x) → AllDead log t r.items → Dead log t))
               (λ m Q e. (
-                subst (LeadsBy log m f.done.items) e.4.0 e.1,
+                subst (LeadsBy log m f.done) e.4.0 e.1,
                 others,
                 λ dead. e.3 (subst (Dead log) (sym e.4.0) dead),
                 λ dead left. covers_there (subst (All DeadBy) (sym er) (All-push DeadBy r.items x left (λ a. dead))),
@@ -128,19 +129,19 @@ module _ (log : LogView) where
         let DeadBy : Step → Type 0 = λ y. Allowed log t y → Dead log (next log t y) in
         covers_there (subst (All DeadBy) (sym er) (All-nil DeadBy))
 
-    pub dropped : Dead log t → PathFrom log fs (Back log f.done.items t)
+    pub dropped : Dead log t → PathFrom log fs (Back log f.done t)
     dropped dead =
-        path_map (Dead log (start log)) (start log) fs (At f (λ m P. (m ≡ t) × P)) (Back log f.done.items t)
-        (λ m Q e. (subst (LeadsBy log m f.done.items) e.4.0 e.1, e.3 (subst (Dead log) (sym e.4.0) dead))) last
+        path_map (Dead log (start log)) (start log) fs (At f (λ m P. (m ≡ t) × P)) (Back log f.done t)
+        (λ m Q e. (subst (LeadsBy log m f.done) e.4.0 e.1, e.3 (subst (Dead log) (sym e.4.0) dead))) last
 
   pub taken : (fs : List Frame) (g : Frame) (x : Step) (t u : State) (d : Done)
-      → PathFrom log fs (λ m P. LeadsBy log m g.done.items t × All (Allowed log t) g.rest.items × (Dead log t → P) × (Dead log (next log t x) → AllDead log t g.rest.items → Dead log t))
+      → PathFrom log fs (λ m P. LeadsBy log m g.done t × All (Allowed log t) g.rest.items × (Dead log t → P) × (Dead log (next log t x) → AllDead log t g.rest.items → Dead log t))
       → CameBy log t u d → d.step ≡ x → PathFrom log (fs ++ g ∷ []) (Here log (d ∷ []) u)
   taken fs g x t u d h c ex =
       let led : next log t x ≡ u = sym (c.led ∙ ap (next log t) ex) in
       path_push (Dead log (start log)) (start log) fs g (Here log (d ∷ []) u)
       (path_map (Dead log (start log)) (start log) fs
-      (λ m P. LeadsBy log m g.done.items t × All (Allowed log t) g.rest.items × (Dead log t → P) × (Dead log (next log t x) → AllDead log t g.rest.items → Dead log t))
+      (λ m P. LeadsBy log m g.done t × All (Allowed log t) g.rest.items × (Dead log t → P) × (Dead log (next log t x) → AllDead log t g.rest.items → Dead log t))
       (At g (Here log (d ∷ []) u))
       (λ m Q e. (t, e.0, e.1, e.2, (one_more log t t u [] d refl c, λ dead. e.3 (subst (Dead log) (sym led) dead)))) h)
 
@@ -157,8 +158,8 @@ module _ (log : LogView) where
   whole : (P : Type 0) (s : State) (fs : List Frame) (ds : List Done) (t : State) → Path log P s fs (Here log ds t) → Leads log s (steps_of fs ++ steps_by ds) t
   whole P s [] ds t h = told ds s t h.0
   whole P s (g ∷ gs) ds t h =
-      subst (λ xs. Leads log s xs t) (sym (append_assoc (steps_by g.done.items) (steps_of gs) (steps_by ds)))
-      (leads_on (steps_by g.done.items) s h.0 t (steps_of gs ++ steps_by ds) (told g.done.items s h.0 h.1)
+      subst (λ xs. Leads log s xs t) (sym (append_assoc (steps_by g.done) (steps_of gs) (steps_by ds)))
+      (leads_on (steps_by g.done) s h.0 t (steps_of gs ++ steps_by ds) (told g.done s h.0 h.1)
       (whole (AllDead log h.0 g.rest.items → Dead log h.0) h.0 gs ds t h.4))
 
   pub found : (fs : List Frame) (ds : List Done) (t : State) (xs : List Step) → PathFrom log fs (Here log ds t) → t.event ≡ length log.events
@@ -168,22 +169,16 @@ module _ (log : LogView) where
 
 -- ---- the steps, as they are copied
 
-by_more : (ds : List Done) (d : Done) → steps_by (ds ++ d ∷ []) ≡ steps_by ds ++ d.step ∷ []
-by_more [] d = refl
-by_more (x ∷ ds) d = ap (λ ys. x.step ∷ ys) (by_more ds d)
+of_more : (fs : List Frame) (f : Frame) → steps_of (fs ++ f ∷ []) ≡ steps_of fs ++ steps_by f.done
+of_more [] f = append-nil (steps_by f.done)
+of_more (g ∷ fs) f = ap (λ ys. steps_by g.done ++ ys) (of_more fs f) ∙ sym (append_assoc (steps_by g.done) (steps_of fs) (steps_by f.done))
 
-of_more : (fs : List Frame) (f : Frame) → steps_of (fs ++ f ∷ []) ≡ steps_of fs ++ steps_by f.done.items
-of_more [] f = append-nil (steps_by f.done.items)
-of_more (g ∷ fs) f = ap (λ ys. steps_by g.done.items ++ ys) (of_more fs f) ∙ sym (append_assoc (steps_by g.done.items) (steps_of fs) (steps_by f.done.items))
-
-pub by_next : (ds : List Done) (i : ℕ) (d : Done) (xs ys zs : List Step) → i < length ds → d ≡ get_or ds i d
-    → ys ≡ xs ++ steps_by (take i ds) → zs ≡ ys ++ d.step ∷ [] → zs ≡ xs ++ steps_by (take (i + 1) ds)
-by_next ds i d xs ys zs l is before more =
-    more ∙ ap (λ v. v ++ d.step ∷ []) before ∙ append_assoc xs (steps_by (take i ds)) (d.step ∷ [])
-    ∙ ap (λ v. xs ++ v) (sym (ap steps_by (take_more ds i d l is) ∙ by_more (take i ds) d))
+-- one step more is copied
+pub by_next : (xs ys : List Step) (d : Done) (ds es : List Done) (whole : List Step) → es ≡ d ∷ ds → ys ≡ xs ++ d.step ∷ [] → xs ++ steps_by es ≡ whole → ys ++ steps_by ds ≡ whole
+by_next xs ys d ds es whole at more is = ap (λ v. v ++ steps_by ds) more ∙ append_assoc xs (d.step ∷ []) (steps_by ds) ∙ sym (ap (λ v. xs ++ steps_by v) at) ∙ is
 
 pub of_next : (fs gs : List Frame) (i : ℕ) (f : Frame) (ys zs : List Step) → gs ≡ fs → i < length gs → f ≡ get_or gs i f
-    → ys ≡ steps_of (take i fs) → zs ≡ ys ++ steps_by f.done.items → zs ≡ steps_of (take (i + 1) fs)
+    → ys ≡ steps_of (take i fs) → zs ≡ ys ++ steps_by f.done → zs ≡ steps_of (take (i + 1) fs)
 of_next fs gs i f ys zs e l is before more =
     let at : take (i + 1) fs ≡ take i fs ++ f ∷ [] = subst (λ hs. take (i + 1) hs ≡ take i hs ++ f ∷ []) e (take_more gs i f l is) in
-    more ∙ ap (λ v. v ++ steps_by f.done.items) before ∙ sym (ap steps_of at ∙ of_more (take i fs) f)
+    more ∙ ap (λ v. v ++ steps_by f.done) before ∙ sym (ap steps_of at ∙ of_more (take i fs) f)

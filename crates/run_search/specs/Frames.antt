@@ -10,6 +10,7 @@ use Rattle.run_search.specs.declared.walk.Walk.{Walk}
 use Rattle.search_places.specs.Places.{IsPlace}
 use Rattle.search_places.specs.Undo.{MayCome}
 use Rattle.search_places.specs.Known.{AreDead}
+use Rattle.search_places.specs.Trails.{steps_by}
 
 -- the steps lead from s to t, each with what it overwrote
 abbrev pub LeadsBy : LogView → State → List Done → State → Type 0
@@ -21,7 +22,7 @@ LeadsBy log s (d ∷ ds) t = MayCome log s d × LeadsBy log (next log s d.step) 
 abbrev pub Path : LogView → Type 0 → State → List Frame → (State → Type 0 → Type 0) → Type 0
 Path log P s [] K = K s P
 Path log P s (f ∷ fs) K =
-    (m : State) × LeadsBy log s f.done.items m × All (Allowed log m) f.rest.items × (Dead log m → P)
+    (m : State) × LeadsBy log s f.done m × All (Allowed log m) f.rest.items × (Dead log m → P)
     × Path log (AllDead log m f.rest.items → Dead log m) m fs K
 
 abbrev pub PathFrom : LogView → List Frame → (State → Type 0 → Type 0) → Type 0
@@ -37,13 +38,13 @@ Back log ds t m P = LeadsBy log m ds t × P
 
 -- the search stands at its place
 pub record IsAt (log : LogView) (w : Walk) : Type 0 where
-  pub path : PathFrom log w.frames.items (Here log w.done.items w.here.state)
+  pub path : PathFrom log w.frames.items (Here log w.done w.here.state)
   pub place : IsPlace log w.here
   pub known : AreDead log w.memo
 
 -- its place is done with
 pub record IsBack (log : LogView) (w : Walk) : Type 0 where
-  pub path : PathFrom log w.frames.items (Back log w.done.items w.here.state)
+  pub path : PathFrom log w.frames.items (Back log w.done w.here.state)
   pub place : IsPlace log w.here
   pub known : AreDead log w.memo
 
@@ -57,16 +58,12 @@ pub record IsReady (log : LogView) (w : Walk) : Type 0 where
 pub record MayTake (log : LogView) (w : Walk) (f : Frame) (x : Step) : Type 0 where
   pub allowed : Allowed log w.here.state x
   pub path : PathFrom log w.frames.items (λ m P.
-      LeadsBy log m f.done.items w.here.state × All (Allowed log w.here.state) f.rest.items × (Dead log w.here.state → P)
+      LeadsBy log m f.done w.here.state × All (Allowed log w.here.state) f.rest.items × (Dead log w.here.state → P)
       × (Dead log (next log w.here.state x) → AllDead log w.here.state f.rest.items → Dead log w.here.state))
   pub place : IsPlace log w.here
   pub known : AreDead log w.memo
 
 -- the steps that were taken
-abbrev pub steps_by : List Done → List Step
-steps_by [] = []
-steps_by (d ∷ ds) = d.step ∷ steps_by ds
-
 abbrev pub steps_of : List Frame → List Step
 steps_of [] = []
-steps_of (f ∷ fs) = steps_by f.done.items ++ steps_of fs
+steps_of (f ∷ fs) = steps_by f.done ++ steps_of fs

@@ -69,7 +69,7 @@ fn begin(place: &mut Place, alloc: Global, log: &Log, q: usize) -> Result<Group,
     requires may { MayAct log.now place.old.state q }
     ensures { IfOk result (λ g. IsGroup log.now place.old.state q g place.new) }
 {
-    let first = place.take(alloc, log, Step::Act(q))?;
+    let first = place.take(log, Step::Act(q))?;
     let mut done = Vec::new(alloc);
     done.push(first)?;
     Ok(Group {
@@ -79,18 +79,12 @@ fn begin(place: &mut Place, alloc: Global, log: &Log, q: usize) -> Result<Group,
 }
 
 /// Request `b` acts.
-fn join(
-    place: &mut Place,
-    alloc: Global,
-    log: &Log,
-    group: &mut Group,
-    b: usize,
-) -> Result<(), AllocError>
+fn join(place: &mut Place, log: &Log, group: &mut Group, b: usize) -> Result<(), AllocError>
     requires place { IsPlace log.now place.old }
     requires may { MayAct log.now place.old.state b }
     ensures { OnOk result ((s : State) (q : ℕ) → IsGroup log.now s q group.old place.old → IsGroup log.now s q group.new place.new) }
 {
-    let one = place.take(alloc, log, Step::Act(b))?;
+    let one = place.take(log, Step::Act(b))?;
     group.done.push(one)?;
     group.others.push(b)?;
     Ok(())
@@ -112,7 +106,7 @@ pub(crate) fn gather(
         let Some(b) = next_other(place, log, q) else {
             return Ok(group);
         };
-        join(place, alloc, log, &mut group, b)?;
+        join(place, log, &mut group, b)?;
     }
     Ok(group)
 }

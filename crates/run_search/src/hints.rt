@@ -2,7 +2,7 @@
 
 use crate::sketches::{Sketch, are_far};
 use log_runs::{Log, Step};
-use search_places::{Done, Place};
+use search_places::{Place, Trail};
 use search_rules::{changes_nothing, is_junk_to, is_within, leaves_junk_to};
 use std::alloc::{AllocError, Global};
 
@@ -88,15 +88,15 @@ pub(crate) struct Loss {
 }
 
 /// What the step overwrote.
-fn loss_of(sketches: &[Sketch], done: &Done) -> Option<Loss> {
-    let Step::Act(b) = done.step else {
+fn loss_of(sketches: &[Sketch], step: Step, old: &[u8]) -> Option<Loss> {
+    let Step::Act(b) = step else {
         return None;
     };
     let sketch = *sketches.get(b)?;
     if !sketch.changes {
         return None;
     }
-    let old = four(done.old.as_slice(), 0)?;
+    let old = four(old, 0)?;
     Some(Loss { sketch, old })
 }
 
@@ -104,11 +104,12 @@ fn loss_of(sketches: &[Sketch], done: &Done) -> Option<Loss> {
 pub(crate) fn losses_of(
     alloc: Global,
     sketches: &[Sketch],
-    done: &[Done],
+    done: &Trail,
 ) -> Result<Vec<Loss>, AllocError> {
     let mut losses = Vec::new(alloc);
-    for one in done {
-        if let Some(loss) = loss_of(sketches, one) {
+    let mut rest = done.steps();
+    while let Some((step, old)) = rest.next() {
+        if let Some(loss) = loss_of(sketches, step, old) {
             losses.push(loss)?;
         }
     }

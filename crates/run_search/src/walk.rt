@@ -3,6 +3,7 @@ ghost use Rattle.std.specs.Prelude.{◌≡◌, ◌++◌, ◌∷◌, [], ℕ, Lis
 ghost use Rattle.log_runs.specs.Runs.{Dead, IsForced, start};
 ghost use Rattle.search_places.specs.Places.{IsPlace};
 ghost use Rattle.run_search.specs.Catalogs.{IsCatalog};
+ghost use Rattle.search_places.specs.Trails.{steps_by};
 ghost use Rattle.run_search.specs.Frames as frames;
 
 use crate::catalog::Catalog;
@@ -12,7 +13,7 @@ use crate::junk::over_junk;
 use crate::lost::is_lost;
 use crate::rules::forced;
 use log_runs::{Log, Step};
-use search_places::{Done, Memo, Place};
+use search_places::{Memo, Place, Trail};
 use std::alloc::{AllocError, Global};
 use std::mem::replace;
 
@@ -23,7 +24,7 @@ const SOON: usize = 256;
 #[derive(Drop)]
 pub(crate) struct Frame {
     /// The steps that lead there from the frame before.
-    pub(crate) done: Vec<Done>,
+    pub(crate) done: Trail,
     /// The steps that weren't tried yet.
     pub(crate) rest: Vec<Step>,
 }
@@ -32,7 +33,7 @@ pub(crate) struct Frame {
 pub(crate) struct Walk {
     pub(crate) frames: Vec<Frame>,
     /// The steps since the last frame.
-    pub(crate) done: Vec<Done>,
+    pub(crate) done: Trail,
     pub(crate) here: Place,
     pub(crate) memo: Memo,
 }
@@ -42,7 +43,7 @@ pub(crate) fn begin(alloc: Global, log: &Log) -> Result<Walk, AllocError>
 {
     Ok(Walk {
         frames: Vec::new(alloc),
-        done: Vec::new(alloc),
+        done: Trail::new(alloc),
         here: Place::first(alloc, log)?,
         memo: Memo::new(alloc),
     })
@@ -85,8 +86,8 @@ pub(crate) fn settle(
             return Ok(());
         };
         look = look.after(&catalog.sketches, walk.here.pending().len(), step);
-        let done = walk.here.take(alloc, log, step)?;
-        walk.done.push(done)?;
+        let done = walk.here.take(log, step)?;
+        walk.done.push(&done)?;
     }
     Ok(())
 }
@@ -98,7 +99,7 @@ fn keep(walk: &mut Walk, alloc: Global, log: &Log) -> Result<(), AllocError>
     ensures { OnOk result (frames.IsReady log.now walk.new) }
 {
     let rest = choices(alloc, log, &walk.here)?;
-    let done = replace(&mut walk.done, Vec::new(alloc));
+    let done = replace(&mut walk.done, Trail::new(alloc));
     walk.frames.push(Frame { done, rest })?;
     Ok(())
 }
@@ -126,9 +127,9 @@ fn go_on(
     requires { frames.MayTake log.now walk.old frame step }
     ensures { OnOk result (frames.IsAt log.now walk.new) }
 {
-    let done = walk.here.take(alloc, log, step)?;
-    walk.done = Vec::new(alloc);
-    walk.done.push(done)?;
+    let done = walk.here.take(log, step)?;
+    walk.done = Trail::new(alloc);
+    walk.done.push(&done)?;
     walk.frames.push(frame)?;
     Ok(())
 }
@@ -211,8 +212,7 @@ fn is_dead(walk: &Walk, alloc: Global, log: &Log, catalog: &Catalog) -> Result<b
     if later_is_lost(walk, log, catalog, &losses) {
         return Ok(true);
     }
-    let known = walk.memo.is_known(alloc, &walk.here)?;
-    Ok(known)
+    Ok(walk.memo.is_known(alloc, &walk.here))
 }
 
 /// Goes on from here; false if no run leads to the end.
@@ -238,18 +238,19 @@ pub(crate) fn advance(
 }
 
 /// Adds the steps.
-fn add_steps(steps: &mut Vec<Step>, done: &[Done]) -> Result<(), AllocError>
-    ensures { OnOk result (steps.new.items ≡ steps.old.items ++ frames.steps_by done.now) }
+fn add_steps(steps: &mut Vec<Step>, done: &Trail) -> Result<(), AllocError>
+    ensures { OnOk result (steps.new.items ≡ steps.old.items ++ steps_by done.now) }
 {
-    for one in done {
-        steps.push(one.step)?;
+    let mut rest = done.steps();
+    while let Some((step, _)) = rest.next() {
+        steps.push(step)?;
     }
     Ok(())
 }
 
 /// The steps that were taken, in their order.
 pub(crate) fn steps_of(walk: &Walk, alloc: Global) -> Result<Vec<Step>, AllocError>
-    ensures { IfOk result (λ v. v.items ≡ frames.steps_of walk.now.frames.items ++ frames.steps_by walk.now.done.items) }
+    ensures { IfOk result (λ v. v.items ≡ frames.steps_of walk.now.frames.items ++ steps_by walk.now.done) }
 {
     let mut steps = Vec::new(alloc);
     for frame in &walk.frames {

@@ -3,3 +3,4 @@ pub mod Tables
 pub mod UndoLemmas
 pub mod Knowing
 pub mod Readiness
+pub mod TrailLemmas

@@ -4,3 +4,4 @@ pub mod Places
 pub mod Ready
 pub mod Undo
 pub mod Known
+pub mod Trails

@@ -3,11 +3,12 @@ ghost use Rattle.std.specs.Prelude.{◌≡◌, ℕ, List, [], IfOk, Some, slice_
 ghost use Rattle.log_runs.specs.Runs.{reply_of, bytes_after, acted_on};
 ghost use Rattle.search_places.specs.Undo.{old_at};
 
+use arrayvec::ArrayVec;
 use log_runs::{Event, Log};
 use memory_undo::{put_back, reply, saved};
 use seq_memory::{Reply, perform};
 use std::alloc::{AllocError, Global};
-use tlp_core::Op;
+use tlp_core::{MAX_PAYLOAD, Op};
 
 pub(crate) fn zeros(alloc: Global, size: usize) -> Result<Vec<u8>, AllocError>
     ensures { IfOk result (λ v. v.items ≡ replicate size 0) }
@@ -25,21 +26,15 @@ pub(crate) fn reply_to(log: &Log, bytes: &[u8], op: &Op) -> Reply
 }
 
 /// The bytes at the request's place.
-pub(crate) fn bytes_of(
-    alloc: Global,
-    log: &Log,
-    bytes: &[u8],
-    b: usize,
-) -> Result<Vec<u8>, AllocError>
-    ensures { IfOk result (λ v. v.items ≡ old_at log.now.extent bytes.now (slice_get log.now.events b)) }
+pub(crate) fn bytes_of(log: &Log, bytes: &[u8], b: usize) -> ArrayVec<u8, MAX_PAYLOAD>
+    ensures { result.items ≡ old_at log.now.extent bytes.now (slice_get log.now.events b) }
 {
     match log.event(b) {
         Some(Event::Sub { op, .. }) => {
             let extent = log.extent();
-            let old = saved(extent.base(), extent.block(), bytes, op);
-            Vec::from_slice(alloc, old.as_slice())
+            saved(extent.base(), extent.block(), bytes, op)
         }
-        _ => Ok(Vec::new(alloc)),
+        _ => ArrayVec::new(),
     }
 }
 

@@ -14,7 +14,9 @@ mod memo;
 mod pending;
 mod place;
 mod steps;
+mod trail;
 
 pub use memo::Memo;
 pub use place::Place;
 pub use steps::Done;
+pub use trail::Trail;

@@ -122,15 +122,18 @@ impl Memo {
         }
     }
 
-    /// No run leads from the place to the end, as is known. Err only where there is no memory.
-    pub fn is_known(&self, alloc: Global, place: &Place) -> Result<bool, AllocError>
-        ensures { IfOk result (λ known. (log : LogView) → AreDead log self.now → IsPlace log place.now → IsTrue known → Dead log place.now.state) }
+    /// No run leads from the place to the end, as is known. False also where there is no memory for
+    /// the look.
+    pub fn is_known(&self, alloc: Global, place: &Place) -> bool
+        ensures { (log : LogView) → AreDead log self.now → IsPlace log place.now → IsTrue result → Dead log place.now.state }
     {
         if !self.marks.contains(&mark(place)) {
-            return Ok(false);
+            return false;
         }
-        let key = key_of(alloc, place)?;
-        Ok(self.keys.contains(&key))
+        let Ok(key) = key_of(alloc, place) else {
+            return false;
+        };
+        self.keys.contains(&key)
     }
 
     /// Remembers a place from which no run leads to the end, if there is room and memory for it.

@@ -1,5 +1,5 @@
 //! A step, and a step taken back.
-ghost use Rattle.std.specs.Prelude.{◌≡◌, ◌+◌, ◌-◌, ◌≤◌, ℕ, List, Some, true, false, IfOk, OnOk, slice_get, slice_set};
+ghost use Rattle.std.specs.Prelude.{◌≡◌, ◌+◌, ◌-◌, ◌≤◌, ℕ, List, [], Some, true, false, IfOk, OnOk, slice_get, slice_set};
 ghost use Rattle.log_runs.specs.declared.Step.TheVariants as kinds;
 ghost use Rattle.log_runs.specs.Runs.{State, Allowed, next, acted_on};
 ghost use Rattle.search_places.specs.Pending as pending;
@@ -9,14 +9,16 @@ ghost use Rattle.search_places.specs.Undo.{old_at, old_of, CameBy};
 use crate::bytes::{act_on, bytes_of, restore};
 use crate::pending::{add, remove};
 use crate::place::Place;
+use arrayvec::ArrayVec;
 use log_runs::{Event, Log, Step};
-use std::alloc::{AllocError, Global};
+use std::alloc::AllocError;
+use tlp_core::MAX_PAYLOAD;
 
 /// A step that was taken, and the bytes that it overwrote.
 #[derive(Drop)]
 pub struct Done {
     pub step: Step,
-    pub old: Vec<u8>,
+    pub old: ArrayVec<u8, MAX_PAYLOAD>,
 }
 
 /// The event at that place is a submission.
@@ -31,12 +33,12 @@ fn submits(log: &Log, b: usize) -> bool
 
 impl Place {
     /// The bytes that the step overwrites.
-    fn overwritten(&self, alloc: Global, log: &Log, step: Step) -> Result<Vec<u8>, AllocError>
-        ensures { IfOk result (λ v. v.items ≡ old_of log.now self.now.state step) }
+    fn overwritten(&self, log: &Log, step: Step) -> ArrayVec<u8, MAX_PAYLOAD>
+        ensures { result.items ≡ old_of log.now self.now.state step }
     {
         match step {
-            Step::Pass => Ok(Vec::new(alloc)),
-            Step::Act(b) => bytes_of(alloc, log, self.bytes.as_slice(), b),
+            Step::Pass => ArrayVec::new(),
+            Step::Act(b) => bytes_of(log, self.bytes.as_slice(), b),
         }
     }
 
@@ -85,14 +87,15 @@ impl Place {
 
     /// Takes a step that may be taken here. The result serves to take it back. Err only where there
     /// is no memory; the place is of no more use then.
-    pub fn take(&mut self, alloc: Global, log: &Log, step: Step) -> Result<Done, AllocError>
+    pub fn take(&mut self, log: &Log, step: Step) -> Result<Done, AllocError>
         requires place { IsPlace log.now self.old }
         requires allowed { Allowed log.now self.old.state step }
         ensures came { IfOk result (CameBy log.now self.old.state self.new.state) }
         ensures step { IfOk result (λ d. d.step ≡ step) }
+        ensures pass { IfOk result (λ d. d.step ≡ kinds.Pass → d.old.items ≡ []) }
         ensures place { OnOk result (IsPlace log.now self.new) }
     {
-        let old = self.overwritten(alloc, log, step)?;
+        let old = self.overwritten(log, step);
         self.go(log, step)?;
         Ok(Done { step, old })
     }

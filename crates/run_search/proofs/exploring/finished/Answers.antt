@@ -5,5 +5,5 @@ use Rattle.run_search.proofs.exploring.finished.Goals as goal
 pub returns-then-event-len-clause-run : goal.returns-then-event-len-clause-run
 returns-then-event-len-clause-run c =
     let walk = c.settle.new.walk in
-    found c.args.log.now walk.frames.items walk.done.items walk.here.state c.in_ok-steps.steps.items c.in_ok-settle.ensures.path
+    found c.args.log.now walk.frames.items walk.done walk.here.state c.in_ok-steps.steps.items c.in_ok-settle.ensures.path
     (sym c.event.ensures ∙ c.if-event-len.true ∙ c.len.ensures) c.in_ok-steps.ensures

@@ -1,6 +1,9 @@
-use Rattle.std.proofs.Common.{◌≡◌, ◌++◌, take}
-use Rattle.run_search.specs.Frames.{steps_by}
+use Rattle.std.proofs.Common.{◌≡◌, ◌++◌, length}
+use Rattle.search_places.specs.Trails.{steps_by}
 use Rattle.run_search.proofs.walk.add_steps.Given as goal
 
-abbrev pub invariant-loop-one : goal.invariant-loop-one
-invariant-loop-one l = l.steps.items ≡ l.fn.steps.items ++ steps_by (take l.one-index l.done)
+abbrev pub invariant-loop-step : goal.invariant-loop-step
+invariant-loop-step l = l.steps.items ++ steps_by l.rest ≡ l.fn.steps.items ++ steps_by l.done
+
+abbrev pub decreases-loop-step : goal.decreases-loop-step
+decreases-loop-step l = length l.rest

@@ -6,7 +6,7 @@ rewind-requires c =
     let log = c.args.log.now in
     let walk = c.args.walk.now in
     record {
-      path = turned log walk.frames.items walk.done.items walk.here.state c.requires.at.path (c.in_ok-dead.ensures c.if-dead.true);
+      path = turned log walk.frames.items walk.done walk.here.state c.requires.at.path (c.in_ok-dead.ensures c.if-dead.true);
       place = c.requires.at.place;
       known = c.requires.at.known;
     }

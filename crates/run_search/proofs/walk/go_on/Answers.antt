@@ -13,9 +13,9 @@ returns c =
     let d = c.in_ok-done.done in
     let path = taken log walk.frames.items c.args.frame c.args.step walk.here.state u d c.requires.path c.in_ok-done.ensures.came c.in_ok-done.ensures.step in
     record {
-      path = subst (λ (fs : List Frame). PathFrom log fs (Here log c.push.new.self.items u)) (sym c.in_ok-push-2.ensures.items)
+      path = subst (λ (fs : List Frame). PathFrom log fs (Here log c.push.new.self u)) (sym c.in_ok-push-2.ensures.items)
           (subst (λ (ds : List Done). PathFrom log (walk.frames.items ++ c.args.frame ∷ []) (Here log ds u))
-          (sym (c.in_ok-push.ensures.items ∙ ap (λ (ds : List Done). ds ++ d ∷ []) c.new.ensures.items)) path);
+          (sym (c.in_ok-push.ensures ∙ ap (λ (ds : List Done). ds ++ d ∷ []) c.new.ensures)) path);
       place = c.in_ok-done.ensures.place;
       known = c.requires.known;
     }

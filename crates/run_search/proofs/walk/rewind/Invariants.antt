@@ -1,4 +1,4 @@
-use Rattle.std.proofs.Common.{◌≡◌, vec_len}
+use Rattle.std.proofs.Common.{◌≡◌, length}
 use Rattle.run_search.specs.Frames.{IsBack}
 use Rattle.run_search.proofs.walk.rewind.Given as goal
 
@@ -9,4 +9,4 @@ invariant-loop-done l = record {
 }
 
 abbrev pub decreases-loop-done : goal.decreases-loop-done
-decreases-loop-done l = vec_len l.walk.done
+decreases-loop-done l = length l.walk.done

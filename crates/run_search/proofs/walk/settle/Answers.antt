@@ -14,12 +14,12 @@ loop-step-preserved c =
     let s = c.at_once.new.place.state in
     let u = c.take.new.self.state in
     let d = c.in_ok-done.done in
-    let path_here = subst (λ (t : State). PathFrom log walk.frames.items (Here log walk.done.items t)) (sym c.in_ok-step.ensures.state) c.loop-step.invariant.path in
+    let path_here = subst (λ (t : State). PathFrom log walk.frames.items (Here log walk.done t)) (sym c.in_ok-step.ensures.state) c.loop-step.invariant.path in
     let there : IsForced log s c.in-Some.step = subst (λ (o : Option Step). IfSome o (IsForced log s)) c.in-Some.is c.in_ok-step.ensures.forced in
     let forced = subst (IsForced log s) (sym c.in_ok-done.ensures.step) there in
-    let path = moved log walk.frames.items walk.done.items s u d path_here forced c.in_ok-done.ensures.came in
+    let path = moved log walk.frames.items walk.done s u d path_here forced c.in_ok-done.ensures.came in
     record {
-      path = subst (λ (ds : List Done). PathFrom log walk.frames.items (Here log ds u)) (sym c.in_ok-push.ensures.items) path;
+      path = subst (λ (ds : List Done). PathFrom log walk.frames.items (Here log ds u)) (sym c.in_ok-push.ensures) path;
       place = c.in_ok-done.ensures.place;
       known = c.loop-step.invariant.known;
     }

@@ -5,7 +5,7 @@ pub returns-clause-came : goal.returns-clause-came
 returns-clause-came c = record {
   may = record {
     allowed = c.requires.allowed;
-    old = c.in_ok-old.ensures;
+    old = c.overwritten-old.ensures;
     fresh = table_fresh c.args.log.now c.args.self.now.state.event c.args.self.now.pending c.args.self.now.state.acted c.requires.place;
   };
   led = c.in_ok-go.ensures.state;
