@@ -1,8 +1,10 @@
 //! The subcommand `search`.
 ghost use Rattle.std.specs.Prelude.{IfOk, OnErr};
+ghost use Rattle.log_text.specs.LogReaderView.{seen_of};
+ghost use Rattle.search_engine.specs.Findings.{IsFinding};
 ghost use Rattle.search_engine.specs.Search.{IsWhole, IsPart, OutSearch};
 
-use crate::answering::{Outcome, find, outcome_of};
+use crate::answering::{Finding, Outcome, find, outcome_of};
 use crate::input::read_rest;
 use crate::stages::Stages;
 use crate::telling::tell;
@@ -10,18 +12,32 @@ use line_loop::{EngineFault, write_out};
 use std::alloc::{AllocError, Global};
 use std::io::{Read, Write, sink};
 
+/// What comes of the text, which isn't needed any more once the reason is told.
+fn told<E: Write>(
+    alloc: Global,
+    text: Vec<u8>,
+    limit: u64,
+    stages: Stages,
+    errors: &mut E,
+) -> Result<Finding, AllocError>
+    ensures { IfOk result (IsFinding (seen_of text.items)) }
+{
+    let finding = find(alloc, &text, limit, stages, errors)?;
+    tell(alloc, &text, &finding, errors);
+    Ok(finding)
+}
+
 /// The answer to the text; its reason is told.
 fn answer<E: Write>(
     alloc: Global,
-    text: &[u8],
+    text: Vec<u8>,
     limit: u64,
     stages: Stages,
     errors: &mut E,
 ) -> Result<Outcome, AllocError>
-    ensures { IfOk result (λ o. OutSearch limit text.now o.text.items o.status) }
+    ensures { IfOk result (λ o. OutSearch limit text.items o.text.items o.status) }
 {
-    let finding = find(alloc, text, limit, stages, errors)?;
-    tell(alloc, text, &finding, errors);
+    let finding = told(alloc, text, limit, stages, errors)?;
     outcome_of(alloc, finding, limit)
 }
 
@@ -39,7 +55,7 @@ pub fn run_search_with_reasons<R: Read, W: Write, E: Write>(
     ensures err { OnErr result (IsPart limit (R.remaining reader.old) (R.remaining reader.new) (W.contents writer.old) (W.contents writer.new)) }
 {
     let text = read_rest(alloc, reader)?;
-    let outcome = answer(alloc, &text, limit, stages, errors)?;
+    let outcome = answer(alloc, text, limit, stages, errors)?;
     write_out(writer, &outcome.text)?;
     Ok(outcome.status)
 }
