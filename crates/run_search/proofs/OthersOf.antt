@@ -67,3 +67,15 @@ range_next P from i before now b low high = elim (cases_eq b i) [
   | inl same ↦ subst P (sym same) now
   | inr other ↦ before b low (omega (arith, high, other))
 ]
+
+-- what holds of the pending, of those to come, and of what is no request
+pub left_by_parts : ((log : LogView) (p : PlaceView) (b : ℕ) → IsPlace log p → b < p.state.event → submits (slice_get log.events b) ≡ true → slice_get p.state.acted b ≡ Some false → has p.pending b ≡ true)
+    → (log : LogView) (p : PlaceView) (P : ℕ → Type 0) → IsPlace log p → ((b : ℕ) → Idle log b → P b) → ((b : ℕ) → has p.pending b ≡ true → P b) → ((b : ℕ) → p.state.event ≤ b → P b)
+    → (b : ℕ) → slice_get p.state.acted b ≡ Some false → P b
+left_by_parts who log p P place idle pending later b left = elim (cases_lt b p.state.event) [
+  | inr late ↦ later b late
+  | inl early ↦ elim (cases_Bool (submits (slice_get log.events b))) [
+    | inr lacks ↦ idle b (λ i op told at. clash (ap submits at) lacks)
+    | inl is ↦ pending b (who log p b place early is left)
+  ]
+]

@@ -5,7 +5,7 @@ ghost use Rattle.run_search.specs.Catalogs.{IsCatalog};
 use crate::due::places;
 use crate::sketches::{Sketch, sketches_of};
 use log_runs::Log;
-use search_rules::{Values, values_of};
+use search_rules::{Later, Values, later_of, values_of};
 use std::alloc::{AllocError, Global};
 
 /// What is known of a log's requests.
@@ -15,6 +15,7 @@ pub(crate) struct Catalog {
     pub(crate) due: Vec<usize>,
     pub(crate) sketches: Vec<Sketch>,
     pub(crate) values: Values,
+    pub(crate) later: Later,
 }
 
 pub(crate) fn catalog_of(alloc: Global, log: &Log) -> Result<Catalog, AllocError>
@@ -24,5 +25,6 @@ pub(crate) fn catalog_of(alloc: Global, log: &Log) -> Result<Catalog, AllocError
         due: places(alloc, log)?,
         sketches: sketches_of(alloc, log)?,
         values: values_of(alloc, log)?,
+        later: later_of(alloc, log)?,
     })
 }

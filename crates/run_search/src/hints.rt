@@ -1,9 +1,15 @@
 //! Where a rule is worth its test. Nothing rests on what these functions say.
 
+ghost use Rattle.run_search.specs.Catalogs.{IsCatalog};
+
+use crate::catalog::Catalog;
+use crate::junk::MOST_EVENTS;
 use crate::sketches::{Sketch, are_far};
 use log_runs::{Log, Step};
 use search_places::{Done, Place};
-use search_rules::{changes_nothing, is_junk_to, is_within, leaves_junk_to};
+use search_rules::{
+    changes_nothing, is_junk_later, is_junk_to, is_within, leaves_junk_later, leaves_junk_to,
+};
 use std::alloc::{AllocError, Global};
 
 /// The four bytes from that place on.
@@ -172,24 +178,42 @@ fn may_join(place: &Place, log: &Log, sketches: &[Sketch], b: usize, q: usize) -
     overlooks(place, log, sketches, b, q) || changes_nothing(log, b) || is_within(log, b, q)
 }
 
+/// What stands where request `q` writes and what it leaves there is nothing to all that are to come.
+fn is_nothing_later(place: &Place, log: &Log, catalog: &Catalog, q: usize) -> bool
+    requires { IsCatalog log.now catalog.now }
+{
+    let event = place.event();
+    if is_junk_later(&catalog.later, log, place.bytes(), event, q)
+        && leaves_junk_later(&catalog.later, log, event, q, q)
+    {
+        return true;
+    }
+    if log.len() > MOST_EVENTS {
+        return false;
+    }
+    for b in event..log.len() {
+        if !overlooks(place, log, &catalog.sketches, b, q) {
+            return false;
+        }
+    }
+    true
+}
+
 /// What stands where request `q` writes and what it leaves there may be nothing to all that are left
 /// after it and others.
-pub(crate) fn may_be_over_junk(place: &Place, log: &Log, sketches: &[Sketch], q: usize) -> bool {
-    match sketches.get(q) {
+pub(crate) fn may_be_over_junk(place: &Place, log: &Log, catalog: &Catalog, q: usize) -> bool
+    requires { IsCatalog log.now catalog.now }
+{
+    match catalog.sketches.get(q) {
         Some(sketch) => if !sketch.changes {
             return false;
         },
         None => return false,
     }
     for b in place.pending() {
-        if *b != q && !may_join(place, log, sketches, *b, q) {
+        if *b != q && !may_join(place, log, &catalog.sketches, *b, q) {
             return false;
         }
     }
-    for b in place.event()..log.len() {
-        if !overlooks(place, log, sketches, b, q) {
-            return false;
-        }
-    }
-    true
+    is_nothing_later(place, log, catalog, q)
 }

@@ -1,20 +1,26 @@
 //! Requests over bytes that nobody needs.
-ghost use Rattle.std.specs.Prelude.{◌≡◌, ◌∷◌, Some, false, ℕ, IsTrue, IfOk, OnOk, IfSome, slice_get};
+ghost use Rattle.std.specs.Prelude.{◌≡◌, ◌∷◌, Some, true, false, ℕ, IsTrue, IfOk, OnOk, IfSome, length, slice_get};
 ghost use Rattle.log_runs.specs.Runs.{MayAct, IsForced};
 ghost use Rattle.search_rules.specs.Rules.{IsJunkTo, LeavesJunkTo, LeavesNothing, AllLeft};
+ghost use Rattle.search_rules.specs.Later.{IsLater};
+ghost use Rattle.search_places.specs.Pending.{has};
 ghost use Rattle.search_places.specs.Places.{IsPlace};
+ghost use Rattle.run_search.specs.Catalogs.{IsCatalog};
 
+use crate::catalog::Catalog;
 use crate::groups::{Group, gather, take_back};
 use crate::hints::may_be_over_junk;
-use crate::sketches::Sketch;
 use log_runs::{Log, Step};
 use search_places::Place;
+use search_places::laws::who_is_left_is_pending;
 use search_rules::laws::what_is_over_junk_acts_at_once;
-use search_rules::{changes_nothing, is_junk_to, is_within, leaves_junk_to};
+use search_rules::{
+    Later, changes_nothing, is_junk_later, is_junk_to, is_within, leaves_junk_later, leaves_junk_to,
+};
 use std::alloc::{AllocError, Global};
 
-/// The most events of a log in which such requests are looked for.
-const MOST_EVENTS: usize = 4_096;
+/// The most events of a log that are looked at one by one.
+pub(crate) const MOST_EVENTS: usize = 4_096;
 
 /// Request `b` has acted, or what request `g` leaves, among the addresses of request `q`, is nothing to
 /// it.
@@ -27,8 +33,20 @@ fn leaves_it_junk(place: &Place, log: &Log, q: usize, g: usize, b: usize) -> boo
     leaves_junk_to(log, b, q, g)
 }
 
-/// What request `g` leaves, among the addresses of request `q`, is nothing to those that are left.
-fn leaves_junk(place: &Place, log: &Log, q: usize, g: usize) -> bool
+/// [`leaves_it_junk`], each of the list.
+fn leaves_them_junk(place: &Place, pending: &[usize], log: &Log, q: usize, g: usize) -> bool
+    ensures { IsTrue result → (b : ℕ) → has pending.now b ≡ true → slice_get place.now.state.acted b ≡ Some false → LeavesJunkTo log.now b q g }
+{
+    for b in pending {
+        if !leaves_it_junk(place, log, q, g, *b) {
+            return false;
+        }
+    }
+    true
+}
+
+/// [`leaves_it_junk`], each of the log.
+fn leaves_all_junk(place: &Place, log: &Log, q: usize, g: usize) -> bool
     requires { IsPlace log.now place.now }
     ensures { IsTrue result → AllLeft place.now.state (λ b. LeavesJunkTo log.now b q g) }
 {
@@ -40,10 +58,27 @@ fn leaves_junk(place: &Place, log: &Log, q: usize, g: usize) -> bool
     true
 }
 
+/// What request `g` leaves, among the addresses of request `q`, is nothing to those that are left.
+fn leaves_junk(place: &Place, log: &Log, later: &Later, q: usize, g: usize) -> bool
+    requires place { IsPlace log.now place.now }
+    requires later { IsLater log.now later.now (length log.now.events) }
+    ensures { IsTrue result → AllLeft place.now.state (λ b. LeavesJunkTo log.now b q g) }
+{
+    who_is_left_is_pending();
+    if leaves_junk_later(later, log, place.event(), q, g) {
+        return leaves_them_junk(place, place.pending(), log, q, g);
+    }
+    if log.len() > MOST_EVENTS {
+        return false;
+    }
+    leaves_all_junk(place, log, q, g)
+}
+
 /// Request `g` changes nothing; or it leaves bytes, among the addresses of request `q`, that are
 /// nothing to those that are left.
-fn leaves_nothing(place: &Place, log: &Log, q: usize, g: usize) -> bool
-    requires { IsPlace log.now place.now }
+fn leaves_nothing(place: &Place, log: &Log, later: &Later, q: usize, g: usize) -> bool
+    requires place { IsPlace log.now place.now }
+    requires later { IsLater log.now later.now (length log.now.events) }
     ensures { IsTrue result → LeavesNothing log.now place.now.state q g }
 {
     if changes_nothing(log, g) {
@@ -52,16 +87,17 @@ fn leaves_nothing(place: &Place, log: &Log, q: usize, g: usize) -> bool
     if !is_within(log, g, q) {
         return false;
     }
-    leaves_junk(place, log, q, g)
+    leaves_junk(place, log, later, q, g)
 }
 
 /// [`leaves_nothing`], each of the requests.
-fn leave_nothing(place: &Place, log: &Log, q: usize, group: &[usize]) -> bool
-    requires { IsPlace log.now place.now }
+fn leave_nothing(place: &Place, log: &Log, later: &Later, q: usize, group: &[usize]) -> bool
+    requires place { IsPlace log.now place.now }
+    requires later { IsLater log.now later.now (length log.now.events) }
     ensures { IsTrue result → (i g : ℕ) → slice_get group.now i ≡ Some g → LeavesNothing log.now place.now.state q g }
 {
     for g in group {
-        if !leaves_nothing(place, log, q, *g) {
+        if !leaves_nothing(place, log, later, q, *g) {
             return false;
         }
     }
@@ -69,14 +105,15 @@ fn leave_nothing(place: &Place, log: &Log, q: usize, group: &[usize]) -> bool
 }
 
 /// [`leaves_nothing`], request `q` and each of the others.
-fn all_leave_nothing(place: &Place, log: &Log, q: usize, others: &[usize]) -> bool
-    requires { IsPlace log.now place.now }
+fn all_leave_nothing(place: &Place, log: &Log, later: &Later, q: usize, others: &[usize]) -> bool
+    requires place { IsPlace log.now place.now }
+    requires later { IsLater log.now later.now (length log.now.events) }
     ensures { IsTrue result → (i g : ℕ) → slice_get (q ∷ others.now) i ≡ Some g → LeavesNothing log.now place.now.state q g }
 {
-    if !leaves_nothing(place, log, q, q) {
+    if !leaves_nothing(place, log, later, q, q) {
         return false;
     }
-    leave_nothing(place, log, q, others)
+    leave_nothing(place, log, later, q, others)
 }
 
 /// The group has the request.
@@ -100,8 +137,26 @@ fn overwrites_its_junk(place: &Place, log: &Log, q: usize, group: &[usize], b: u
     is_junk_to(log, place.bytes(), b, q)
 }
 
-/// To those that are left but `q` and the group it is nothing what stands at the addresses of `q`.
-fn overwrites_junk(place: &Place, log: &Log, q: usize, group: &[usize]) -> bool
+/// [`overwrites_its_junk`], each of the list.
+fn overwrites_their_junk(
+    place: &Place,
+    pending: &[usize],
+    log: &Log,
+    q: usize,
+    group: &[usize],
+) -> bool
+    ensures { IsTrue result → (b : ℕ) → has pending.now b ≡ true → (q ≡ b → ⊥) → ((i : ℕ) → slice_get group.now i ≡ Some b → ⊥) → slice_get place.now.state.acted b ≡ Some false → IsJunkTo log.now place.now.state.bytes b q }
+{
+    for b in pending {
+        if !overwrites_its_junk(place, log, q, group, *b) {
+            return false;
+        }
+    }
+    true
+}
+
+/// [`overwrites_its_junk`], each of the log.
+fn overwrites_all_junk(place: &Place, log: &Log, q: usize, group: &[usize]) -> bool
     requires { IsPlace log.now place.now }
     ensures { IsTrue result → (b : ℕ) → (q ≡ b → ⊥) → ((i : ℕ) → slice_get group.now i ≡ Some b → ⊥) → slice_get place.now.state.acted b ≡ Some false → IsJunkTo log.now place.now.state.bytes b q }
 {
@@ -113,10 +168,33 @@ fn overwrites_junk(place: &Place, log: &Log, q: usize, group: &[usize]) -> bool
     true
 }
 
+/// To those that are left but `q` and the group it is nothing what stands at the addresses of `q`.
+fn overwrites_junk(place: &Place, log: &Log, later: &Later, q: usize, group: &[usize]) -> bool
+    requires place { IsPlace log.now place.now }
+    requires later { IsLater log.now later.now (length log.now.events) }
+    ensures { IsTrue result → (b : ℕ) → (q ≡ b → ⊥) → ((i : ℕ) → slice_get group.now i ≡ Some b → ⊥) → slice_get place.now.state.acted b ≡ Some false → IsJunkTo log.now place.now.state.bytes b q }
+{
+    who_is_left_is_pending();
+    if is_junk_later(later, log, place.bytes(), place.event(), q) {
+        return overwrites_their_junk(place, place.pending(), log, q, group);
+    }
+    if log.len() > MOST_EVENTS {
+        return false;
+    }
+    overwrites_all_junk(place, log, q, group)
+}
+
 /// Others may act in turn after request `q`, and to those that are left then it is nothing what they
 /// all overwrite and leave.
-fn is_over_junk(place: &mut Place, alloc: Global, log: &Log, q: usize) -> Result<bool, AllocError>
+fn is_over_junk(
+    place: &mut Place,
+    alloc: Global,
+    log: &Log,
+    later: &Later,
+    q: usize,
+) -> Result<bool, AllocError>
     requires place { IsPlace log.now place.old }
+    requires later { IsLater log.now later.now (length log.now.events) }
     requires may { MayAct log.now place.old.state q }
     ensures state { OnOk result (place.new.state ≡ place.old.state) }
     ensures place { OnOk result (IsPlace log.now place.new) }
@@ -124,12 +202,12 @@ fn is_over_junk(place: &mut Place, alloc: Global, log: &Log, q: usize) -> Result
 {
     what_is_over_junk_acts_at_once();
     let Group { done, others } = gather(place, alloc, log, q)?;
-    let spent = all_leave_nothing(place, log, q, &others);
+    let spent = all_leave_nothing(place, log, later, q, &others);
     take_back(place, log, done)?;
     if !spent || place.bytes().len() != log.extent().size() {
         return Ok(false);
     }
-    Ok(overwrites_junk(place, log, q, &others))
+    Ok(overwrites_junk(place, log, later, q, &others))
 }
 
 /// Request `q` may act, and does so over junk.
@@ -137,10 +215,11 @@ fn acts_at_once(
     place: &mut Place,
     alloc: Global,
     log: &Log,
-    sketches: &[Sketch],
+    catalog: &Catalog,
     q: usize,
 ) -> Result<bool, AllocError>
     requires place { IsPlace log.now place.old }
+    requires catalog { IsCatalog log.now catalog.now }
     ensures state { OnOk result (place.new.state ≡ place.old.state) }
     ensures place { OnOk result (IsPlace log.now place.new) }
     ensures forced { IfOk result (λ so. IsTrue so → IsForced log.now place.new.state (Step.Act q)) }
@@ -148,34 +227,33 @@ fn acts_at_once(
     if !place.may_act(log, q) {
         return Ok(false);
     }
-    if !may_be_over_junk(place, log, sketches, q) {
+    if !may_be_over_junk(place, log, catalog, q) {
         return Ok(false);
     }
-    is_over_junk(place, alloc, log, q)
+    is_over_junk(place, alloc, log, &catalog.later, q)
 }
 
-/// A pending request that acts at once over junk, if events are left. Not looked for in a long log,
-/// where each look goes over all that is to come.
+/// A pending request that acts at once over junk, if events are left.
 pub(crate) fn over_junk(
     place: &mut Place,
     alloc: Global,
     log: &Log,
-    sketches: &[Sketch],
+    catalog: &Catalog,
 ) -> Result<Option<Step>, AllocError>
-    requires { IsPlace log.now place.old }
+    requires place { IsPlace log.now place.old }
+    requires catalog { IsCatalog log.now catalog.now }
     ensures state { OnOk result (place.new.state ≡ place.old.state) }
     ensures place { OnOk result (IsPlace log.now place.new) }
     ensures forced { IfOk result (λ o. IfSome o (IsForced log.now place.new.state)) }
 {
-    let count = log.len();
-    if place.event() >= count || count > MOST_EVENTS {
+    if place.event() >= log.len() {
         return Ok(None);
     }
     for i in 0..place.pending().len() {
         let Some(q) = place.pending().get(i).copied() else {
             return Ok(None);
         };
-        if acts_at_once(place, alloc, log, sketches, q)? {
+        if acts_at_once(place, alloc, log, catalog, q)? {
             return Ok(Some(Step::Act(q)));
         }
     }

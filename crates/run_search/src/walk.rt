@@ -56,7 +56,7 @@ fn at_once(
     if let Some(step) = forced(place, log, catalog, look) {
         return Ok(Some(step));
     }
-    over_junk(place, alloc, log, &catalog.sketches)
+    over_junk(place, alloc, log, catalog)
 }
 
 /// Takes the steps that may be taken at once.

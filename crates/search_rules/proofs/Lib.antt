@@ -6,3 +6,4 @@ pub mod FirstLemmas
 pub mod JunkLemmas
 pub mod MissLemmas
 pub mod ValueLemmas
+pub mod LaterLemmas

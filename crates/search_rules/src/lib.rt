@@ -7,14 +7,16 @@
 //! is left then needs what it overwrote, or what any of them put there. [`laws`] says this of all
 //! runs, whatever the operations do. What two requests of a log do to each other is told by their
 //! bytes. Before which requests no other can act is told by the values that all need of whole words:
-//! [`Values`].
+//! [`Values`]. To which bytes no later request comes that needs them is told by [`Later`].
 #![tactic(auto)]
 
 mod junk;
+mod later;
 pub mod laws;
 mod pairs;
 mod values;
 
 pub use junk::{is_junk_to, is_within, leaves_junk_to};
+pub use later::{Later, is_junk_later, later_of, leaves_junk_later};
 pub use pairs::{changes_nothing, follows, lets_first, never_brings, yields};
 pub use values::{Values, is_alone, values_of};

@@ -46,7 +46,7 @@ fn is_whole(op: &Op) -> bool
 }
 
 /// Which word of the memory begins where the operation's range does.
-fn word_of(base: u64, op: &Op) -> Option<u64>
+pub(crate) fn word_of(base: u64, op: &Op) -> Option<u64>
     ensures place { IfSome result (λ w. address_of op.now ≡ base + 4 * w) }
     ensures few { IfSome result (λ w. w < 2147483648) }
 {
@@ -59,7 +59,7 @@ fn word_of(base: u64, op: &Op) -> Option<u64>
 }
 
 /// What the word has to be.
-fn value_of(bytes: &[u8]) -> Option<u64>
+pub(crate) fn value_of(bytes: &[u8]) -> Option<u64>
     ensures len { IfSome result (λ v. length bytes.now ≡ 4) }
     ensures value { IfSome result (λ v. v ≡ word_value bytes.now) }
     ensures few { IfSome result (λ v. v < 4294967296) }
@@ -88,7 +88,7 @@ fn key_for(base: u64, op: &Op, bytes: &[u8]) -> Option<u64>
 }
 
 /// The key of the request, if it has one.
-fn key_of(base: u64, event: Option<Event>) -> Option<u64>
+pub(crate) fn key_of(base: u64, event: Option<Event>) -> Option<u64>
     ensures { IfSome result (HasKey base (option_map event_of event.entry)) }
 {
     match event {

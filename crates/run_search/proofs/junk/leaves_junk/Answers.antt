@@ -1,17 +1,16 @@
-use Rattle.std.proofs.Common.{◌≡◌, ℕ, inl, inr, Some, false, sym, subst, arith}
+use Rattle.std.proofs.Common.{◌≡◌, List, ℕ, Some, true, false, sym, subst, arith}
 use Rattle.std.specs.Prelude.{slice_get}
-use Rattle.std.proofs.lemmas.Bool.{cases_eq}
-use Rattle.std.proofs.lemmas.Option.{slice_get_within}
+use Rattle.search_places.specs.Pending.{has}
 use Rattle.search_rules.specs.Rules.{LeavesJunkTo}
+use Rattle.run_search.proofs.OthersOf.{left_by_parts}
 use Rattle.run_search.proofs.junk.leaves_junk.Goals as goal
 
-pub loop-b-preserved : goal.loop-b-preserved
-loop-b-preserved c = λ k l left. elim (cases_eq c.loop-b.b k) [
-  | inl same ↦
-      subst (λ (x : ℕ). LeavesJunkTo c.args.log.now x c.args.q c.args.g) same (c.leaves_it_junk.ensures c.if-not-leaves_it_junk.false (subst (λ (x : ℕ). slice_get c.args.place.now.state.acted x ≡ Some false) (sym same) left))
-  | inr distinct ↦ c.loop-b.invariant k (omega (arith, l, distinct)) left
-]
-
-pub returns : goal.returns
-returns c = λ so b left.
-    c.loop-b.invariant b (omega (arith, slice_get_within c.args.place.now.state.acted b false left, c.requires.len, c.len-b-end.ensures, c.loop-b-test.false)) left
+pub returns-then-leaves_junk_later : goal.returns-then-leaves_junk_later
+returns-then-leaves_junk_later c = λ so b left.
+    let log = c.args.log.now in
+    let p = c.args.place.now in
+    left_by_parts c.who_is_left_is_pending.ensures log p (λ (k : ℕ). slice_get p.state.acted k ≡ Some false → LeavesJunkTo log k c.args.q c.args.g) c.requires.place
+    (λ k idle none i j l one other third told asked had at there behind. absurd (idle i one told at))
+    (λ k h. c.leaves_them_junk.ensures so k (subst (λ (ys : List ℕ). has ys k ≡ true) (sym c.pending.ensures) h))
+    (λ k late none. c.leaves_junk_later.ensures c.if-leaves_junk_later.true k (omega (arith, late, c.event.ensures)))
+    b left left

@@ -1,18 +1,17 @@
-use Rattle.std.proofs.Common.{◌≡◌, ℕ, inl, inr, Some, false, subst, arith}
+use Rattle.std.proofs.Common.{◌≡◌, List, ℕ, Some, true, false, sym, subst, arith}
 use Rattle.std.specs.Prelude.{slice_get}
-use Rattle.std.proofs.lemmas.Bool.{cases_eq}
-use Rattle.std.proofs.lemmas.Option.{slice_get_within}
+use Rattle.search_places.specs.Pending.{has}
 use Rattle.search_rules.specs.Rules.{IsJunkTo}
+use Rattle.run_search.proofs.OthersOf.{left_by_parts}
 use Rattle.run_search.proofs.junk.overwrites_junk.Goals as goal
 
-pub loop-b-preserved : goal.loop-b-preserved
-loop-b-preserved c = λ k l. elim (cases_eq c.loop-b.b k) [
-  | inl same ↦
-      subst (λ (x : ℕ). (c.args.q ≡ x → ⊥) → ((i : ℕ) → slice_get c.args.group.now i ≡ Some x → ⊥) → slice_get c.args.place.now.state.acted x ≡ Some false
-      → IsJunkTo c.args.log.now c.args.place.now.state.bytes x c.args.q) same (c.overwrites_its_junk.ensures c.if-not-overwrites_its_junk.false)
-  | inr distinct ↦ c.loop-b.invariant k (omega (arith, l, distinct))
-]
-
-pub returns : goal.returns
-returns c = λ so b distinct out left.
-    c.loop-b.invariant b (omega (arith, slice_get_within c.args.place.now.state.acted b false left, c.requires.len, c.len-b-end.ensures, c.loop-b-test.false)) distinct out left
+pub returns-then-is_junk_later : goal.returns-then-is_junk_later
+returns-then-is_junk_later c = λ so b distinct out left.
+    let log = c.args.log.now in
+    let p = c.args.place.now in
+    left_by_parts c.who_is_left_is_pending.ensures log p
+    (λ (k : ℕ). (c.args.q ≡ k → ⊥) → ((i : ℕ) → slice_get c.args.group.now i ≡ Some k → ⊥) → slice_get p.state.acted k ≡ Some false → IsJunkTo log p.state.bytes k c.args.q) c.requires.place
+    (λ k idle d o n i j one other told asked at there. absurd (idle i one told at))
+    (λ k h. c.overwrites_their_junk.ensures so k (subst (λ (ys : List ℕ). has ys k ≡ true) (sym c.pending.ensures) h))
+    (λ k late d o n. subst (λ (m : List ℕ). IsJunkTo log m k c.args.q) c.bytes.ensures (c.is_junk_later.ensures c.if-is_junk_later.true k (omega (arith, late, c.event.ensures))))
+    b left distinct out left
