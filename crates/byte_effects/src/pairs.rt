@@ -7,7 +7,7 @@ ghost use Rattle.byte_effects.specs.Effects as effects;
 ghost use Rattle.byte_effects.specs.Effects.{Agrees, AreSameAt, told_of};
 
 use crate::laws::{apart_requests_commute, what_is_needed_is_there};
-use crate::puts::{is_read, left};
+use crate::puts::{is_quiet, is_read, left};
 use crate::ranges::{are_apart, is_needed, is_put, place_in};
 use seq_memory::Reply;
 use seq_memory::laws::{only_the_place_changes, refused_and_read_change_nothing};
@@ -105,7 +105,7 @@ pub fn never_brings(block: u16, one: &Op, told: Option<&Reply>, other: &Op, repl
     if are_apart(one, other) {
         return true;
     }
-    if is_read(one) {
+    if is_quiet(block, one, told) {
         return true;
     }
     breaks(block, one, told, other, reply)

@@ -3,7 +3,7 @@ ghost use Rattle.std.specs.Prelude.{◌≡◌, ◌≤◌, true, IfOk, length};
 ghost use Rattle.log_runs.specs.Runs.{Dead, start};
 ghost use Rattle.log_runs.specs.Explainable.{IsExplainable, prefix};
 
-use crate::alone::{dead_range, explored_on};
+use crate::alone::{explored_on, parts_of};
 use crate::copies;
 use crate::moments::confirmed;
 use history_check::Trace;
@@ -25,24 +25,24 @@ pub(crate) struct Judgment {
 }
 
 /// Looks for a run through the log, first through its part on each cell of the memory, with a tenth of
-/// the choices.
+/// the choices. Those runs are a guide to the whole one.
 fn explored(alloc: Global, log: &Log<'_>, limit: u64) -> Result<Judgment, AllocError>
     ensures dead { IfOk result (λ r. r.outcome ≡ Outcome.Dead → Dead log.now (start log.now)) }
     ensures states { IfOk result (λ r. r.states ≤ limit) }
     ensures limit { IfOk result (λ r. r.outcome ≡ Outcome.Limit → r.states ≡ limit) }
 {
-    let (range, spent) = dead_range(alloc, log, limit / 10)?;
-    if range.is_some() {
+    let parts = parts_of(alloc, log, limit / 10)?;
+    if parts.dead.is_some() {
         return Ok(Judgment {
             outcome: Outcome::Dead,
-            states: spent,
-            range,
+            states: parts.states,
+            range: parts.dead,
         });
     }
-    let (outcome, states) = explore(alloc, log, limit - spent)?;
+    let (outcome, states) = explore(alloc, log, &parts.turns, limit - parts.states)?;
     Ok(Judgment {
         outcome,
-        states: spent + states,
+        states: parts.states + states,
         range: None,
     })
 }

@@ -13,4 +13,4 @@ mod parts;
 mod places;
 
 pub use cells::Cells;
-pub use parts::part;
+pub use parts::{LogPart, part};

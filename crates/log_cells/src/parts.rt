@@ -94,6 +94,14 @@ fn holds(log: &Log<'_>, low: u64, high: u64) -> bool
     base <= low && low <= high && high - base <= log.extent().size() as u64
 }
 
+/// A part of a log.
+#[derive(Drop)]
+pub struct LogPart<'a> {
+    pub log: Log<'a>,
+    /// The place in the whole log of each event of the part.
+    pub names: Vec<usize>,
+}
+
 /// The part of the log on the bytes from `low` up to `high`; none if a request crosses an end of them.
 /// It lends the log's operations and replies. If no run leads through it, none leads through the log.
 pub fn part<'a>(
@@ -102,9 +110,10 @@ pub fn part<'a>(
     cells: &Cells,
     low: u64,
     high: u64,
-) -> Result<Option<Log<'a>>, AllocError>
+) -> Result<Option<LogPart<'a>>, AllocError>
     requires places { ArePlaces log.now.events cells.now }
-    ensures { IfOk result (λ o. IfSome o (λ p. Live log.now (start log.now) → Live p (start p))) }
+    ensures live { IfOk result (λ o. IfSome o (λ p. Live log.now (start log.now) → Live p.log (start p.log))) }
+    ensures names { IfOk result (λ o. IfSome o (λ p. AreKept log.now.events p.names.items low high p.log.events (length p.names.items))) }
 {
     a_part_has_a_run();
     if !holds(log, low, high) {
@@ -117,5 +126,8 @@ pub fn part<'a>(
     let Some(events) = events_in(alloc, log, &names, low, high)? else {
         return Ok(None);
     };
-    Ok(Some(Log::new(extent, events)))
+    Ok(Some(LogPart {
+        log: Log::new(extent, events),
+        names,
+    }))
 }

@@ -34,23 +34,35 @@ covers_all log s xs more has_all dead live = first live.steps live.leads
 between : (xs ys : List Step) (x : Step) → IsPermutation (x ∷ (xs ++ ys)) (xs ++ x ∷ ys)
 between xs ys x = IsPermutation-sym (xs ++ x ∷ ys) (x ∷ (xs ++ ys)) (IsPermutation-middle xs x ys)
 
-pub puts_far : (a b : Offer) (x : Step) → b.far.items ≡ a.far.items ++ x ∷ [] → b.near.items ≡ a.near.items → b.due.items ≡ a.due.items → Puts a b x
-puts_far a b x f n d =
-    let rest = a.near.items ++ a.due.items in
-    let made : all_of b ≡ a.far.items ++ x ∷ rest = rw (f, n, d) (append_assoc (a.far.items ++ x ∷ []) a.near.items a.due.items ∙ append_assoc a.far.items (x ∷ []) rest) in
-    let were : a.far.items ++ rest ≡ all_of a = sym (append_assoc a.far.items a.near.items a.due.items) in
-    subst (IsPermutation (x ∷ all_of a)) (sym made) (subst (λ ys. IsPermutation (x ∷ ys) (a.far.items ++ x ∷ rest)) were (between a.far.items rest x))
+-- a list gets it at its end, with others before it and behind it
+inside : (front items back : List Step) (x : Step) → IsPermutation (x ∷ (front ++ items ++ back)) (front ++ (items ++ x ∷ []) ++ back)
+inside front items back x =
+    let made : front ++ (items ++ x ∷ []) ++ back ≡ (front ++ items) ++ x ∷ back = ap (λ ys. ys ++ back) (sym (append_assoc front items (x ∷ []))) ∙ append_assoc (front ++ items) (x ∷ []) back in
+    subst (IsPermutation (x ∷ (front ++ items ++ back))) (sym made) (between (front ++ items) back x)
 
-pub puts_near : (a b : Offer) (x : Step) → b.far.items ≡ a.far.items → b.near.items ≡ a.near.items ++ x ∷ [] → b.due.items ≡ a.due.items → Puts a b x
-puts_near a b x f n d =
-    let front = a.far.items ++ a.near.items in
-    let made : all_of b ≡ front ++ x ∷ a.due.items =
-    rw (f, n, d) (ap (λ ys. ys ++ a.due.items) (sym (append_assoc a.far.items a.near.items (x ∷ []))) ∙ append_assoc front (x ∷ []) a.due.items) in
-    subst (IsPermutation (x ∷ all_of a)) (sym made) (between front a.due.items x)
+pub puts_guess : (a b : Offer) (x : Step) → b.guess.items ≡ a.guess.items ++ x ∷ [] → b.due.items ≡ a.due.items → b.near.items ≡ a.near.items → b.far.items ≡ a.far.items → Puts a b x
+puts_guess a b x g d n f =
+    let rest = a.due.items ++ a.near.items ++ a.far.items in
+    let tail : (ys : List Step) → ys ++ a.due.items ++ a.near.items ++ a.far.items ≡ ys ++ rest = λ ys.
+    ap (λ zs. zs ++ a.far.items) (append_assoc ys a.due.items a.near.items) ∙ append_assoc ys (a.due.items ++ a.near.items) a.far.items in
+    let made : all_of b ≡ a.guess.items ++ x ∷ rest = rw (g, d, n, f) (tail (a.guess.items ++ x ∷ []) ∙ append_assoc a.guess.items (x ∷ []) rest) in
+    subst (IsPermutation (x ∷ all_of a)) (sym made) (subst (λ ys. IsPermutation (x ∷ ys) (a.guess.items ++ x ∷ rest)) (sym (tail a.guess.items)) (between a.guess.items rest x))
 
-pub puts_due : (a b : Offer) (x : Step) → b.far.items ≡ a.far.items → b.near.items ≡ a.near.items → b.due.items ≡ a.due.items ++ x ∷ [] → Puts a b x
-puts_due a b x f n d =
-    let made : all_of b ≡ all_of a ++ x ∷ [] = rw (f, n, d) (sym (append_assoc (a.far.items ++ a.near.items) a.due.items (x ∷ []))) in
+pub puts_due : (a b : Offer) (x : Step) → b.guess.items ≡ a.guess.items → b.due.items ≡ a.due.items ++ x ∷ [] → b.near.items ≡ a.near.items → b.far.items ≡ a.far.items → Puts a b x
+puts_due a b x g d n f =
+    let back = a.near.items ++ a.far.items in
+    let made : all_of b ≡ a.guess.items ++ (a.due.items ++ x ∷ []) ++ back = rw (g, d, n, f) (append_assoc (a.guess.items ++ (a.due.items ++ x ∷ [])) a.near.items a.far.items) in
+    let were : a.guess.items ++ a.due.items ++ back ≡ all_of a = sym (append_assoc (a.guess.items ++ a.due.items) a.near.items a.far.items) in
+    subst (IsPermutation (x ∷ all_of a)) (sym made) (subst (λ ys. IsPermutation (x ∷ ys) (a.guess.items ++ (a.due.items ++ x ∷ []) ++ back)) were (inside a.guess.items a.due.items back x))
+
+pub puts_near : (a b : Offer) (x : Step) → b.guess.items ≡ a.guess.items → b.due.items ≡ a.due.items → b.near.items ≡ a.near.items ++ x ∷ [] → b.far.items ≡ a.far.items → Puts a b x
+puts_near a b x g d n f =
+    let made : all_of b ≡ (a.guess.items ++ a.due.items) ++ (a.near.items ++ x ∷ []) ++ a.far.items = rw (g, d, n, f) refl in
+    subst (IsPermutation (x ∷ all_of a)) (sym made) (inside (a.guess.items ++ a.due.items) a.near.items a.far.items x)
+
+pub puts_far : (a b : Offer) (x : Step) → b.guess.items ≡ a.guess.items → b.due.items ≡ a.due.items → b.near.items ≡ a.near.items → b.far.items ≡ a.far.items ++ x ∷ [] → Puts a b x
+puts_far a b x g d n f =
+    let made : all_of b ≡ all_of a ++ x ∷ [] = rw (g, d, n, f) (sym (append_assoc (a.guess.items ++ a.due.items ++ a.near.items) a.far.items (x ∷ []))) in
     subst (IsPermutation (x ∷ all_of a)) (sym made) (IsPermutation-sym (all_of a ++ x ∷ []) (x ∷ all_of a) (IsPermutation-to_front (all_of a) x))
 
 -- ---- all of them
@@ -115,6 +127,14 @@ module _ (log : LogView) (s : State) where
       let at : take (i + 1) q ≡ take i q ++ get_or q i 0 ∷ [] = take_one q i 0 l in
       subst (λ r. Offers log s xs (take (i + 1) r)) e
       (subst (Offers log s xs) (sym at) (subst (λ r. Offers log s xs (take i r ++ get_or q i 0 ∷ [])) (sym e) h))
+
+  -- in another order
+  pub offers_permuted : (xs ys : List Step) (p : List ℕ) → IsPermutation xs ys → Offers log s xs p → Offers log s ys p
+  offers_permuted xs ys p moved h = record {
+    allowed = All-permutation (Allowed log s) xs ys moved h.allowed;
+    pass = λ a. Contains-permutation xs ys steps.Pass moved (h.pass a);
+    each = λ b look m. Contains-permutation xs ys (steps.Act b) moved (h.each b look m);
+  }
 
   pub offers_end : (xs : List Step) (p q : List ℕ) (i : ℕ) → q ≡ p → length q ≤ i → Offers log s xs (take i p) → Offers log s xs p
   offers_end xs p q i e l h = subst (Offers log s xs) (take_all i p (subst (λ (r : List ℕ). length r ≤ i) e l)) h

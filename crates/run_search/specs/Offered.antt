@@ -10,7 +10,7 @@ use Rattle.run_search.specs.declared.choices.Offer.{Offer}
 use Rattle.search_places.specs.Pending.{has}
 
 abbrev pub all_of : Offer → List Step
-all_of c = c.far.items ++ c.near.items ++ c.due.items
+all_of c = c.guess.items ++ c.due.items ++ c.near.items ++ c.far.items
 
 -- the step is put among the others
 abbrev pub Puts : Offer → Offer → Step → Type 0

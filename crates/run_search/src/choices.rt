@@ -1,33 +1,41 @@
 //! The steps that may be taken from a place, the most promising one last.
+//!
+//! The search goes for the request whose answer is due, or for the first posted write that has to act
+//! before it.
 ghost use Rattle.std.specs.Prelude.{◌≡◌, ◌++◌, ◌∷◌, [], ℕ, List, IfOk, OnOk, length};
 ghost use Rattle.std.specs.List.{All};
+ghost use Rattle.std.specs.List.Sorted.{IsPermutation};
 ghost use Rattle.log_runs.specs.Runs.{Allowed, Covers};
 ghost use Rattle.search_places.specs.Places.{IsPlace};
 ghost use Rattle.run_search.specs.Offered.{all_of, Puts, Offers};
 
+use crate::guesses::{Turn, guess, write_before};
 use log_runs::{Event, Log, Step};
 use search_places::Place;
 use search_places::laws::who_is_left_is_pending;
 use std::alloc::{AllocError, Global};
 use tlp_core::Op;
 
-/// Steps in the order in which they are tried last to first.
+/// Steps in the order in which they are tried.
 #[derive(Drop)]
 pub(crate) struct Offer {
-    /// They have nothing to do with the answer that is due.
-    pub(crate) far: Vec<Step>,
-    /// They are at the place of the request whose answer is due.
-    pub(crate) near: Vec<Step>,
-    /// That request itself.
+    /// The request that is guessed at.
+    pub(crate) guess: Vec<Step>,
+    /// The request that the search goes for.
     pub(crate) due: Vec<Step>,
+    /// They are at the place of that request.
+    pub(crate) near: Vec<Step>,
+    /// They have nothing to do with it.
+    pub(crate) far: Vec<Step>,
 }
 
-/// How much a request has to do with the answer that is due.
+/// How much a request has to do with the one that the search goes for.
 #[derive(Clone, Copy)]
 enum Rank {
-    Far,
-    Near,
+    Guess,
     Due,
+    Near,
+    Far,
 }
 
 fn is_read(op: &Op) -> bool {
@@ -54,22 +62,37 @@ fn op_at<'a>(log: &Log<'a>, b: usize) -> Option<&'a Op> {
     }
 }
 
-/// The request whose answer is due.
-fn due(place: &Place, log: &Log) -> Option<usize> {
+/// The request whose answer is due, or the first posted write that has to act before it.
+fn target(place: &Place, log: &Log) -> Option<usize> {
     match log.event(place.event()) {
-        Some(Event::Due { request }) => Some(request),
+        Some(Event::Due { request }) => match write_before(place, log, request) {
+            Some(write) => Some(write),
+            None => Some(request),
+        },
         _ => None,
     }
 }
 
-fn rank_of(log: &Log, due: Option<usize>, b: usize) -> Rank {
-    let Some(due) = due else {
+/// What the search goes for.
+#[derive(Clone, Copy)]
+struct Aim {
+    /// The request that it goes for.
+    target: Option<usize>,
+    /// The request that is tried first.
+    guess: Option<usize>,
+}
+
+fn rank_of(log: &Log, aim: Aim, b: usize) -> Rank {
+    if aim.guess == Some(b) {
+        return Rank::Guess;
+    }
+    let Some(target) = aim.target else {
         return Rank::Far;
     };
-    if b == due {
+    if b == target {
         return Rank::Due;
     }
-    match (op_at(log, due), op_at(log, b)) {
+    match (op_at(log, target), op_at(log, b)) {
         (Some(one), Some(other)) => if meet(one, other) {
             Rank::Near
         } else {
@@ -83,9 +106,10 @@ fn empty(alloc: Global) -> Offer
     ensures { all_of result ≡ [] }
 {
     Offer {
-        far: Vec::new(alloc),
-        near: Vec::new(alloc),
+        guess: Vec::new(alloc),
         due: Vec::new(alloc),
+        near: Vec::new(alloc),
+        far: Vec::new(alloc),
     }
 }
 
@@ -95,16 +119,20 @@ impl Offer {
         ensures { OnOk result (Puts self.old self.new step) }
     {
         match rank {
-            Rank::Far => {
-                self.far.push(step)?;
+            Rank::Guess => {
+                self.guess.push(step)?;
+                Ok(())
+            }
+            Rank::Due => {
+                self.due.push(step)?;
                 Ok(())
             }
             Rank::Near => {
                 self.near.push(step)?;
                 Ok(())
             }
-            Rank::Due => {
-                self.due.push(step)?;
+            Rank::Far => {
+                self.far.push(step)?;
                 Ok(())
             }
         }
@@ -115,7 +143,7 @@ impl Offer {
         &mut self,
         log: &Log,
         place: &Place,
-        due: Option<usize>,
+        aim: Aim,
         b: usize,
     ) -> Result<(), AllocError>
         requires { IsPlace log.now place.now }
@@ -124,19 +152,22 @@ impl Offer {
         if !place.may_act(log, b) {
             return Ok(());
         }
-        self.put(Step::Act(b), rank_of(log, due, b))?;
+        self.put(Step::Act(b), rank_of(log, aim, b))?;
         Ok(())
     }
 
-    /// The steps, in no more room than they need: most are kept to the end.
+    /// The steps, those to be tried first last, in no more room than they need: most are kept to the end.
     fn steps(&self, alloc: Global) -> Result<Vec<Step>, AllocError>
-        ensures { IfOk result (λ v. v.items ≡ all_of self.now) }
+        ensures { IfOk result (λ v. IsPermutation (all_of self.now) v.items) }
     {
-        let count = self.far.len().saturating_add(self.near.len());
-        let mut steps = Vec::with_capacity(alloc, count.saturating_add(self.due.len()))?;
-        steps.extend_from_slice(self.far.as_slice())?;
-        steps.extend_from_slice(self.near.as_slice())?;
+        let best = self.guess.len().saturating_add(self.due.len());
+        let others = self.near.len().saturating_add(self.far.len());
+        let mut steps = Vec::with_capacity(alloc, best.saturating_add(others))?;
+        steps.extend_from_slice(self.guess.as_slice())?;
         steps.extend_from_slice(self.due.as_slice())?;
+        steps.extend_from_slice(self.near.as_slice())?;
+        steps.extend_from_slice(self.far.as_slice())?;
+        steps.reverse();
         Ok(steps)
     }
 }
@@ -154,17 +185,24 @@ fn passing(alloc: Global, log: &Log, place: &Place) -> Result<Offer, AllocError>
 }
 
 /// The steps that may be taken.
-pub(crate) fn choices(alloc: Global, log: &Log, place: &Place) -> Result<Vec<Step>, AllocError>
+pub(crate) fn choices(
+    alloc: Global,
+    log: &Log,
+    turns: &[Turn],
+    place: &Place,
+) -> Result<Vec<Step>, AllocError>
     requires place { IsPlace log.now place.now }
     requires more { place.now.state.event ≡ length log.now.events → ⊥ }
     ensures allowed { IfOk result (λ v. All (Allowed log.now place.now.state) v.items) }
     ensures covers { IfOk result (λ v. Covers log.now place.now.state v.items) }
 {
     who_is_left_is_pending();
-    let due = due(place, log);
+    let target = target(place, log);
+    let guess = guess(place, log, turns, target);
+    let aim = Aim { target, guess };
     let mut found = passing(alloc, log, place)?;
     for b in place.pending() {
-        found.look(log, place, due, *b)?;
+        found.look(log, place, aim, *b)?;
     }
     let steps = found.steps(alloc)?;
     Ok(steps)

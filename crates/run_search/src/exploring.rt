@@ -5,6 +5,7 @@ ghost use Rattle.run_search.specs.Frames.{IsAt};
 ghost use Rattle.run_search.specs.Outcomes.{IsRun, IsRight};
 
 use crate::catalog::{Catalog, catalog_of};
+use crate::guesses::Turn;
 use crate::walk::{Walk, advance, begin, settle};
 use log_runs::{Log, Step};
 use std::alloc::{AllocError, Global};
@@ -43,7 +44,12 @@ fn finished(
 
 /// Looks for steps that lead from the start of the log to its end, at no more than `limit` choices.
 /// The second number is how many there were.
-pub fn explore(alloc: Global, log: &Log, limit: u64) -> Result<(Outcome, u64), AllocError>
+pub fn explore(
+    alloc: Global,
+    log: &Log,
+    turns: &[Turn],
+    limit: u64,
+) -> Result<(Outcome, u64), AllocError>
     ensures right { IfOk result (λ r. IsRight log.now r.0) }
     ensures states { IfOk result (λ r. r.1 ≤ limit) }
     ensures limit { IfOk result (λ r. r.0 ≡ Outcome.Limit → r.1 ≡ limit) }
@@ -54,7 +60,7 @@ pub fn explore(alloc: Global, log: &Log, limit: u64) -> Result<(Outcome, u64), A
         if let Some(steps) = finished(&mut walk, alloc, log, &catalog)? {
             return Ok((Outcome::Run(steps), states));
         }
-        if !advance(&mut walk, alloc, log, &catalog)? {
+        if !advance(&mut walk, alloc, log, &catalog, turns)? {
             return Ok((Outcome::Dead, states + 1));
         }
     }

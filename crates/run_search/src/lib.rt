@@ -12,6 +12,7 @@ mod choices;
 mod due;
 mod exploring;
 mod groups;
+mod guesses;
 mod hints;
 mod junk;
 mod lost;
@@ -21,3 +22,4 @@ mod sketches;
 mod walk;
 
 pub use exploring::{Outcome, explore};
+pub use guesses::{NO_PART, Turn};

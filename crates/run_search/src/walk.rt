@@ -7,6 +7,7 @@ ghost use Rattle.run_search.specs.Frames as frames;
 
 use crate::catalog::Catalog;
 use crate::choices::choices;
+use crate::guesses::Turn;
 use crate::hints::{Look, Losses};
 use crate::junk::over_junk;
 use crate::lost::is_lost;
@@ -84,12 +85,12 @@ pub(crate) fn settle(
 }
 
 /// Keeps the steps that may be taken here.
-fn keep(walk: &mut Walk, alloc: Global, log: &Log) -> Result<(), AllocError>
+fn keep(walk: &mut Walk, alloc: Global, log: &Log, turns: &[Turn]) -> Result<(), AllocError>
     requires at { frames.IsAt log.now walk.old }
     requires more { walk.old.here.state.event ≡ length log.now.events → ⊥ }
     ensures { OnOk result (frames.IsReady log.now walk.new) }
 {
-    let rest = choices(alloc, log, &walk.here)?;
+    let rest = choices(alloc, log, turns, &walk.here)?;
     walk.stack.close(rest.as_slice())?;
     Ok(())
 }
@@ -201,6 +202,7 @@ pub(crate) fn advance(
     alloc: Global,
     log: &Log,
     catalog: &Catalog,
+    turns: &[Turn],
 ) -> Result<bool, AllocError>
     requires at { frames.IsAt log.now walk.old }
     requires catalog { IsCatalog log.now catalog.now }
@@ -211,7 +213,7 @@ pub(crate) fn advance(
     if is_dead(walk, alloc, log, catalog) {
         rewind(walk, log)?;
     } else {
-        keep(walk, alloc, log)?;
+        keep(walk, alloc, log, turns)?;
     }
     back(walk, alloc, log, &catalog.sketches)
 }

@@ -1,0 +1,110 @@
+//! Which request is tried first. Nothing rests on what these functions say.
+ghost use Rattle.search_places.specs.Places.{IsPlace};
+
+use log_runs::{Event, Log};
+use search_places::Place;
+
+/// When a request acts in a run through a part of the log.
+#[derive(Clone, Copy, Debug, PartialEq, Eq)]
+pub struct Turn {
+    /// A number of the part; [`NO_PART`] if it isn't in one.
+    pub part: u32,
+    /// How many act before it there.
+    pub place: u32,
+}
+
+/// The request is in no part.
+pub const NO_PART: u32 = u32::MAX;
+
+/// How many requests a guess goes over.
+const MOST: usize = 64;
+
+/// When request `q` acts in the run through the part, if it is in it.
+fn place_in(turns: &[Turn], part: u32, q: usize) -> Option<u32> {
+    match turns.get(q) {
+        Some(turn) => if turn.part == part {
+            Some(turn.place)
+        } else {
+            None
+        },
+        None => None,
+    }
+}
+
+/// Of the pending requests the first that acts in the run through the part, if one does.
+fn first_in(place: &Place, turns: &[Turn], part: u32) -> Option<usize> {
+    let mut least = u32::MAX;
+    let mut first = None;
+    for q in place.pending() {
+        if let Some(at) = place_in(turns, part, *q)
+            && at < least
+        {
+            least = at;
+            first = Some(*q);
+        }
+    }
+    first
+}
+
+/// Of the pending requests the first that acts in the run of the request's part, if one does; else that
+/// request.
+fn instead_of(place: &Place, turns: &[Turn], q: usize) -> usize {
+    let Some(turn) = turns.get(q) else {
+        return q;
+    };
+    if turn.part == NO_PART {
+        return q;
+    }
+    match first_in(place, turns, turn.part) {
+        Some(first) => first,
+        None => q,
+    }
+}
+
+/// The event submits a posted write of the requester.
+fn is_write(log: &Log, requester: u8, b: usize) -> bool {
+    match log.event(b) {
+        Some(
+            Event::Sub {
+                requester: who,
+                op,
+                ..
+            },
+        ) => who == requester && op.is_posted(),
+        _ => false,
+    }
+}
+
+/// The first posted write that is pending of the requester of request `q`, before it.
+pub(crate) fn write_before(place: &Place, log: &Log, q: usize) -> Option<usize> {
+    let Some(Event::Sub { requester, .. }) = log.event(q) else {
+        return None;
+    };
+    for b in place.pending() {
+        if *b < q && is_write(log, requester, *b) {
+            return Some(*b);
+        }
+    }
+    None
+}
+
+/// The request that acts next in the run through the target's part of the log; or if it waits for a posted
+/// write, that one, or the next in that one's part; and so on.
+pub(crate) fn guess(
+    place: &Place,
+    log: &Log,
+    turns: &[Turn],
+    target: Option<usize>,
+) -> Option<usize>
+    requires { IsPlace log.now place.now }
+{
+    let mut q = target?;
+    for _turn in 0..MOST {
+        q = instead_of(place, turns, q);
+        if place.may_act(log, q) {
+            return Some(q);
+        }
+        q = write_before(place, log, q)?;
+    }
+    None
+}
