@@ -113,9 +113,8 @@ pub(crate) fn parts_of(alloc: Global, log: &Log<'_>, limit: u64) -> Result<Parts
         let Some(range) = cells.range(number) else {
             break;
         };
-        let most = left / 4;
-        let (dead, states) =
-            is_dead_on(alloc, log, &cells, range, number as u32, &mut turns, most)?;
+        let part = u32::try_from(number).unwrap_or(NO_PART);
+        let (dead, states) = is_dead_on(alloc, log, &cells, range, part, &mut turns, left / 4)?;
         left -= states;
         if dead {
             return Ok(Parts {
