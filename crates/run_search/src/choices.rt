@@ -139,13 +139,7 @@ impl Offer {
     }
 
     /// The request, if it may act.
-    fn look(
-        &mut self,
-        log: &Log,
-        place: &Place,
-        aim: Aim,
-        b: usize,
-    ) -> Result<(), AllocError>
+    fn look(&mut self, log: &Log, place: &Place, aim: Aim, b: usize) -> Result<(), AllocError>
         requires { IsPlace log.now place.now }
         ensures { OnOk result ((p : List ℕ) → Offers log.now place.now.state (all_of self.old) p → Offers log.now place.now.state (all_of self.new) (p ++ b ∷ [])) }
     {

@@ -1,5 +1,5 @@
 -- Requests from a place on that don't see what stands at a word.
-use Rattle.std.proofs.Common.{◌≡◌, ◌∙◌, ◌⊎◌, inl, inr, ℕ, ◌+◌, ◌*◌, ◌-◌, ◌/◌, ◌%◌, ◌<◌, ◌≤◌, true, List, Some, None, Option, length, refl, sym, ap, subst, arith}
+use Rattle.std.proofs.Common.{◌≡◌, ◌∙◌, ◌⊎◌, inl, inr, ℕ, ◌+◌, ◌*◌, ◌-◌, ◌<◌, ◌≤◌, true, List, Some, None, Option, length, refl, sym, ap, subst, arith}
 use Rattle.std.specs.Prelude.{slice_get, slice_index}
 use Rattle.std.proofs.lemmas.Bool.{cases_eq, cases_lt, cases_order}
 use Rattle.std.proofs.lemmas.Option.{same_Some, slice_get_within}
@@ -105,7 +105,7 @@ pub left_value : (x : Extent) (block word : ℕ) (op : Op) (told : Option Reply)
     → effects.is_put op 0 ≡ true → effects.is_put op 1 ≡ true → effects.is_put op 2 ≡ true → effects.is_put op 3 ≡ true
     → refusal x.base x.size x.block op ≡ None
     → ((base at : ℕ) (m : List ℕ) → at < length d → effects.is_put op at ≡ true → refusal base (length m) block op ≡ None → Agrees base block m op told
-        → slice_index (after base block m op) (address_of op - base + at) ≡ slice_index d at)
+    → slice_index (after base block m op) (address_of op - base + at) ≡ slice_index d at)
     → (m : List ℕ) → length m ≡ x.size → Agrees x.base x.block m op told → value_in (after x.base x.block m op) (4 * word) ≡ word_value d
 left_value x block word op told d eb place four_long p0 p1 p2 p3 served leaves m size agrees =
     value_is (after x.base x.block m op) d (4 * word) (λ i l. there i l (puts i l))
@@ -133,7 +133,7 @@ left_value x block word op told d eb place four_long p0 p1 p2 p3 served leaves m
         ∙ by_block x.base i m (omega (arith, four_long, l)) put (ap (λ z. refusal x.base z x.block op) size ∙ served) agrees
 
 module _ (log : LogView) (needs : (base block at : ℕ) (m : List ℕ) (op : Op) (d : ArrayVec ℕ) → effects.is_needed op at ≡ true → answer base block m op ≡ replies.Data d → at < length d.items
-      → slice_index m (address_of op - base + at) ≡ slice_index d.items at) where
+    → slice_index m (address_of op - base + at) ≡ slice_index d.items at) where
   base : ℕ
   base = log.extent.base
 
@@ -198,13 +198,19 @@ module _ (log : LogView) (needs : (base block at : ℕ) (m : List ℕ) (op : Op)
         → address_of other ≡ log.extent.base + 4 * word → count_of other ≡ 4 → IsUnneeded v word (value_in m (4 * word)) event
         → (b : ℕ) → event ≤ b → IsJunkTo log m b q
     junk_later m q j word event other asked there place whole free b late i j2 one other2 told asked2 at there2 =
-        junk_at log m b q i one told at (j, other, asked, there, elim (nothing v word (value_in m (4 * word)) event b (known b i one told at) free late i one told at)
-          as (λ z. IsJunk log.extent m one told other) [
-          | inl (inl low) ↦ inl (inl (omega (arith, low, place)))
-          | inl (inr high) ↦ inl (inr (omega (arith, high, place, whole)))
-          | inr (inl (over, low, high)) ↦ inr (inl (overlooks_part log.extent one other told over (omega (arith, low, place)) (omega (arith, high, place, whole))))
-          | inr (inr never) ↦ inr (inr (λ n same. never n (value_alike m n (4 * word) (λ k l. same (4 * word + k) (omega (arith, place)) (omega (arith, place, whole, l))))))
-        ]) i j2 one other2 told asked2 at there2
+        junk_at log m b q i one told at (
+          j,
+          other,
+          asked,
+          there,
+          elim (nothing v word (value_in m (4 * word)) event b (known b i one told at) free late i one told at)
+              as (λ z. IsJunk log.extent m one told other) [
+                | inl (inl low) ↦ inl (inl (omega (arith, low, place)))
+                | inl (inr high) ↦ inl (inr (omega (arith, high, place, whole)))
+                | inr (inl (over, low, high)) ↦ inr (inl (overlooks_part log.extent one other told over (omega (arith, low, place)) (omega (arith, high, place, whole))))
+                | inr (inr never) ↦ inr (inr (λ n same. never n (value_alike m n (4 * word) (λ k l. same (4 * word + k) (omega (arith, place)) (omega (arith, place, whole, l))))))
+              ],
+        ) i j2 one other2 told asked2 at there2
 
     pub left_later : (q g j l event : ℕ) (other third : Op) (asked had : Option Reply) → slice_get log.events q ≡ Some (events.Sub j other asked) → slice_get log.events g ≡ Some (events.Sub l third had)
         → address_of third ≡ address_of other → count_of third ≡ count_of other → LeavesUnneeded log.extent v third had event
@@ -212,12 +218,24 @@ module _ (log : LogView) (needs : (base block at : ℕ) (m : List ℕ) (op : Op)
     left_later q g j l event other third asked had there behind address count left b late i j2 l2 one other2 third2 told asked2 had2 at there2 behind2 =
         let place : address_of other ≡ log.extent.base + 4 * left.word = sym address ∙ left.place in
         let whole : count_of other ≡ 4 = sym count ∙ left.whole in
-        leaves_at log b q g i one told at (j, other, asked, there, (l, third, had, behind, elim (nothing v left.word left.value event b (known b i one told at) left.unneeded late i one told at)
-          as (λ z. LeavesJunk log.extent one told other third had) [
-          | inl (inl low) ↦ inl (inl (omega (arith, low, place)))
-          | inl (inr high) ↦ inl (inr (omega (arith, high, place, whole)))
-          | inr (inl (over, low, high)) ↦ inr (inl (overlooks_part log.extent one other told over (omega (arith, low, place)) (omega (arith, high, place, whole))))
-          | inr (inr never) ↦ inr (inr (λ k n size agrees same. never n
-              (value_alike (after log.extent.base log.extent.block k third) n (4 * left.word) (λ d low. same (4 * left.word + d) (omega (arith, left.place)) (omega (arith, left.place, left.whole, low)))
-              ∙ left.leaves k size agrees)))
-        ])) i j2 l2 one other2 third2 told asked2 had2 at there2 behind2
+        leaves_at log b q g i one told at (
+          j,
+          other,
+          asked,
+          there,
+          (
+            l,
+            third,
+            had,
+            behind,
+            elim (nothing v left.word left.value event b (known b i one told at) left.unneeded late i one told at)
+                as (λ z. LeavesJunk log.extent one told other third had) [
+                  | inl (inl low) ↦ inl (inl (omega (arith, low, place)))
+                  | inl (inr high) ↦ inl (inr (omega (arith, high, place, whole)))
+                  | inr (inl (over, low, high)) ↦ inr (inl (overlooks_part log.extent one other told over (omega (arith, low, place)) (omega (arith, high, place, whole))))
+                  | inr (inr never) ↦ inr (inr (λ k n size agrees same. never n
+                      (value_alike (after log.extent.base log.extent.block k third) n (4 * left.word) (λ d low. same (4 * left.word + d) (omega (arith, left.place)) (omega (arith, left.place, left.whole, low)))
+                      ∙ left.leaves k size agrees)))
+                ],
+          ),
+        ) i j2 l2 one other2 third2 told asked2 had2 at there2 behind2

@@ -16,8 +16,8 @@ ghost use Rattle.search_rules.specs.Later.{value_in, last_of, IsCareless, Grows,
 
 use crate::junk::{is_served, overlooks};
 use crate::values::{key_of, value_of, word_of};
-use byte_effects::{is_put, left};
 use byte_effects::laws::what_is_needed_is_there;
+use byte_effects::{is_put, left};
 use log_runs::{Event, Log};
 use seq_memory::Reply;
 use std::alloc::{AllocError, Global};
@@ -159,8 +159,7 @@ fn is_unneeded(later: &Later, word: u64, value: u64, event: usize) -> bool
     requires value { value < 4294967296 }
     ensures { IsTrue result → IsUnneeded later.now word value event }
 {
-    is_even(&later.odd, word, event)
-        && is_before(&later.lasts, word * 4_294_967_296 + value, event)
+    is_even(&later.odd, word, event) && is_before(&later.lasts, word * 4_294_967_296 + value, event)
 }
 
 /// What stands at the word.

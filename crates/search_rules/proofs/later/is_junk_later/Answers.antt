@@ -1,4 +1,4 @@
-use Rattle.std.proofs.Common.{◌≡◌, ◌∙◌, ◌+◌, ◌*◌, ap, subst}
+use Rattle.std.proofs.Common.{◌≡◌, ◌∙◌, ◌+◌, ◌*◌, ap}
 use Rattle.seq_memory.specs.Limits.{Extent}
 use Rattle.byte_effects.specs.Effects.{told_of}
 use Rattle.search_rules.proofs.PairLemmas.{sub_at}

@@ -1,4 +1,4 @@
-use Rattle.std.proofs.Common.{◌≡◌, ◌∙◌, ◌+◌, ◌*◌, List, ℕ, length, sym, ap, subst}
+use Rattle.std.proofs.Common.{◌≡◌, ◌∙◌, ◌+◌, ◌*◌, length, sym, ap}
 use Rattle.seq_memory.specs.Limits.{Extent}
 use Rattle.byte_effects.specs.Effects.{told_of}
 use Rattle.search_rules.specs.Values.{word_value}
@@ -22,6 +22,6 @@ returns-in-Some-value_of c = λ so.
       whole = puts.0;
       value = c.in-Some-value_of.value;
       leaves = λ m size agrees. left_value x c.block.result word c.args.op.now (told_of c.args.told) d block place len puts.1 puts.2 puts.3 puts.4
-      (c.is_served.ensures c.if-not-is_served.false) c.left-new.ensures m size agrees ∙ value;
+          (c.is_served.ensures c.if-not-is_served.false) c.left-new.ensures m size agrees ∙ value;
       unneeded = c.is_unneeded.ensures so;
     }

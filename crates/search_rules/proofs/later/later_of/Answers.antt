@@ -1,4 +1,4 @@
-use Rattle.std.proofs.Common.{◌≡◌, ℕ, length, subst, arith}
+use Rattle.std.proofs.Common.{◌≡◌, length, subst, arith}
 use Rattle.search_rules.specs.Later.{IsLater}
 use Rattle.search_rules.proofs.LaterLemmas.{later_more}
 use Rattle.search_rules.proofs.later.later_of.Goals as goal

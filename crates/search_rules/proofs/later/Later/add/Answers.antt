@@ -1,6 +1,4 @@
-use Rattle.std.proofs.Common.{◌≡◌, ◌∙◌, ◌⊎◌, ◌<◌, ℕ, Some, length, ap, subst}
 use Rattle.std.specs.Prelude.{slice_get}
-use Rattle.seq_memory.specs.Limits.{Extent}
 use Rattle.byte_effects.specs.Effects.{told_of}
 use Rattle.search_rules.proofs.PairLemmas.{sub_at}
 use Rattle.search_rules.proofs.LaterLemmas.{grows_other}
