@@ -1,7 +1,7 @@
 #!/bin/sh
 # Runs the built program on inputs that are too large for a test's table: a memory of 1 MiB with a trace of 200,001
-# records, a lane with 2047 packets that no Ack has told of, and a requester with 256 open tags. It tells each run that
-# ends otherwise than it should. `rt ci` has to have built the program. With a folder the inputs are written there and
+# records, a lane with 2047 packets that no Ack has told of, a requester with 256 open tags, and a log of 100,000
+# records. It tells each run that ends otherwise than it should. `rt ci` has to have built the program. With a folder the inputs are written there and
 # nothing is run.
 cd "$(dirname "$0")/.." || exit 1
 pciex=crates/pciex/out/pciex
@@ -80,12 +80,20 @@ tags() {
         }'
 }
 
+# All operations on 16 words, 100,000 records: a log that needs more than 20,000 choices, if what later requests need is
+# not looked up.
+log() {
+    awk -v plan=mixed -v requests=50000 -f bench/log.awk
+}
+
 trace 0 > "$room/explained_trace"
 trace 1 > "$room/flawed_trace"
 window > "$room/window_script"
 tags > "$room/tags_script"
+log > "$room/mixed_log"
 if [ $# -gt 0 ]; then
-    cp "$room/explained_trace" "$room/flawed_trace" "$room/window_script" "$room/tags_script" "$1"
+    cp "$room/explained_trace" "$room/flawed_trace" "$room/window_script" "$room/tags_script" \
+        "$room/mixed_log" "$1"
     exit
 fi
 if [ ! -x $pciex ]; then
@@ -129,5 +137,7 @@ ans 1 0 data 00000000
 sub 1 257
 end
 ends "step with 256 open tags" 1 "$room/tags_script" step --keep-going
+echo end > "$room/told"
+ends "search on 100,000 records" 0 "$room/mixed_log" search --limit 10000
 echo "large inputs: $runs runs, $([ $failed -eq 0 ] && echo "all as they should be" || echo "not all as they should be")"
 exit $failed
