@@ -28,10 +28,9 @@ fn joins(place: &Place, log: &Log, q: usize, b: usize) -> bool
     requires { IsPlace log.now place.now }
     ensures { IsTrue result → MayAct log.now place.now.state b }
 {
-    if !place.may_act(log, b) {
-        return false;
-    }
-    !is_junk_to(log, place.bytes(), b, q) && (changes_nothing(log, b) || is_within(log, b, q))
+    !is_junk_to(log, place.bytes(), b, q)
+        && (changes_nothing(log, b) || is_within(log, b, q))
+        && place.may_act(log, b)
 }
 
 /// The next request that joins the group of request `q`, if there is one such that changes nothing.
@@ -40,7 +39,7 @@ fn next_quiet(place: &Place, log: &Log, q: usize) -> Option<usize>
     ensures { IfSome result (MayAct log.now place.now.state) }
 {
     for b in place.pending() {
-        if changes_nothing(log, *b) && joins(place, log, q, *b) {
+        if joins(place, log, q, *b) && changes_nothing(log, *b) {
             return Some(*b);
         }
     }

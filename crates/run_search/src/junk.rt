@@ -249,13 +249,21 @@ pub(crate) fn over_junk(
     if place.event() >= log.len() {
         return Ok(None);
     }
+    let mut writers = 0u32;
     for i in 0..place.pending().len() {
         let Some(q) = place.pending().get(i).copied() else {
             return Ok(None);
         };
+        let Some(sketch) = catalog.sketches.get(q).copied() else {
+            return Ok(None);
+        };
+        if sketch.requester() & writers != 0 {
+            continue;
+        }
         if acts_at_once(place, alloc, log, catalog, q)? {
             return Ok(Some(Step::Act(q)));
         }
+        writers |= sketch.writer();
     }
     Ok(None)
 }

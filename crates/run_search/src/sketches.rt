@@ -56,6 +56,16 @@ impl Sketch {
         self.marks & WORDS
     }
 
+    /// The bit for its requester.
+    pub(crate) fn requester(self) -> u32 {
+        self.marks & !WORDS
+    }
+
+    /// The bit for its requester, if it is a posted write, which the requester's later requests wait for.
+    pub(crate) fn writer(self) -> u32 {
+        self.frees & !WORDS
+    }
+
     /// Where its bytes begin in a memory that begins at `base`.
     pub(crate) fn place(self, base: u64) -> Option<usize> {
         let at = self.from.checked_sub(base)?;
