@@ -5,6 +5,7 @@ ghost use Rattle.search_places.specs.Places.{IsPlace};
 ghost use Rattle.run_search.specs.Frames.{LeadsBy};
 ghost use Rattle.run_search.specs.Groups.{IsGroup};
 
+use crate::sketches::{Sketch, are_far};
 use log_runs::{Log, Step};
 use search_places::{Done, Place};
 use search_rules::{changes_nothing, is_junk_to, is_within};
@@ -24,22 +25,23 @@ pub(crate) struct Group {
 
 /// Request `b` may act, to which the bytes at the addresses of request `q` are something, and changes
 /// no others.
-fn joins(place: &Place, log: &Log, q: usize, b: usize) -> bool
+fn joins(place: &Place, log: &Log, sketches: &[Sketch], q: usize, b: usize) -> bool
     requires { IsPlace log.now place.now }
     ensures { IsTrue result → MayAct log.now place.now.state b }
 {
-    !is_junk_to(log, place.bytes(), b, q)
+    !are_far(sketches, b, q)
+        && !is_junk_to(log, place.bytes(), b, q)
         && (changes_nothing(log, b) || is_within(log, b, q))
         && place.may_act(log, b)
 }
 
 /// The next request that joins the group of request `q`, if there is one such that changes nothing.
-fn next_quiet(place: &Place, log: &Log, q: usize) -> Option<usize>
+fn next_quiet(place: &Place, log: &Log, sketches: &[Sketch], q: usize) -> Option<usize>
     requires { IsPlace log.now place.now }
     ensures { IfSome result (MayAct log.now place.now.state) }
 {
     for b in place.pending() {
-        if joins(place, log, q, *b) && changes_nothing(log, *b) {
+        if joins(place, log, sketches, q, *b) && changes_nothing(log, *b) {
             return Some(*b);
         }
     }
@@ -47,15 +49,15 @@ fn next_quiet(place: &Place, log: &Log, q: usize) -> Option<usize>
 }
 
 /// The next request that joins the group of request `q`.
-fn next_other(place: &Place, log: &Log, q: usize) -> Option<usize>
+fn next_other(place: &Place, log: &Log, sketches: &[Sketch], q: usize) -> Option<usize>
     requires { IsPlace log.now place.now }
     ensures { IfSome result (MayAct log.now place.now.state) }
 {
-    if let Some(b) = next_quiet(place, log, q) {
+    if let Some(b) = next_quiet(place, log, sketches, q) {
         return Some(b);
     }
     for b in place.pending() {
-        if joins(place, log, q, *b) {
+        if joins(place, log, sketches, q, *b) {
             return Some(*b);
         }
     }
@@ -94,6 +96,7 @@ pub(crate) fn gather(
     place: &mut Place,
     alloc: Global,
     log: &Log,
+    sketches: &[Sketch],
     q: usize,
 ) -> Result<Group, AllocError>
     requires place { IsPlace log.now place.old }
@@ -102,7 +105,7 @@ pub(crate) fn gather(
 {
     let mut group = begin(place, alloc, log, q)?;
     for _turn in 0..MOST {
-        let Some(b) = next_other(place, log, q) else {
+        let Some(b) = next_other(place, log, sketches, q) else {
             return Ok(group);
         };
         join(place, log, &mut group, b)?;

@@ -2,20 +2,21 @@
 ghost use Rattle.std.specs.Prelude.{◌≡◌, ◌∷◌, Some, true, false, ℕ, IsTrue, IfOk, OnOk, IfSome, length, slice_get};
 ghost use Rattle.log_runs.specs.Runs.{MayAct, IsForced};
 ghost use Rattle.search_rules.specs.Rules.{IsJunkTo, LeavesJunkTo, LeavesNothing, AllLeft};
-ghost use Rattle.search_rules.specs.Later.{IsLater};
 ghost use Rattle.search_places.specs.Pending.{has};
 ghost use Rattle.search_places.specs.Places.{IsPlace};
 ghost use Rattle.run_search.specs.Catalogs.{IsCatalog};
+ghost use Rattle.run_search.specs.Sketches.{AreSketches};
 
 use crate::catalog::Catalog;
 use crate::groups::{Group, gather, take_back};
 use crate::hints::may_be_over_junk;
+use crate::sketches::{Sketch, are_far};
 use log_runs::{Log, Step};
 use search_places::Place;
 use search_places::laws::who_is_left_is_pending;
 use search_rules::laws::what_is_over_junk_acts_at_once;
 use search_rules::{
-    Later, changes_nothing, is_junk_later, is_junk_to, is_within, leaves_junk_later, leaves_junk_to,
+    changes_nothing, is_junk_later, is_junk_to, is_within, leaves_junk_later, leaves_junk_to,
 };
 use std::alloc::{AllocError, Global};
 
@@ -24,21 +25,40 @@ pub(crate) const MOST_EVENTS: usize = 4_096;
 
 /// Request `b` has acted, or what request `g` leaves, among the addresses of request `q`, is nothing to
 /// it.
-fn leaves_it_junk(place: &Place, log: &Log, q: usize, g: usize, b: usize) -> bool
+fn leaves_it_junk(
+    place: &Place,
+    log: &Log,
+    sketches: &[Sketch],
+    q: usize,
+    g: usize,
+    b: usize,
+) -> bool
+    requires { AreSketches log.now.events sketches.now }
     ensures { IsTrue result → slice_get place.now.state.acted b ≡ Some false → LeavesJunkTo log.now b q g }
 {
     if place.has_acted(b) {
+        return true;
+    }
+    if are_far(sketches, b, q) {
         return true;
     }
     leaves_junk_to(log, b, q, g)
 }
 
 /// [`leaves_it_junk`], each of the list.
-fn leaves_them_junk(place: &Place, pending: &[usize], log: &Log, q: usize, g: usize) -> bool
+fn leaves_them_junk(
+    place: &Place,
+    pending: &[usize],
+    log: &Log,
+    sketches: &[Sketch],
+    q: usize,
+    g: usize,
+) -> bool
+    requires { AreSketches log.now.events sketches.now }
     ensures { IsTrue result → (b : ℕ) → has pending.now b ≡ true → slice_get place.now.state.acted b ≡ Some false → LeavesJunkTo log.now b q g }
 {
     for b in pending {
-        if !leaves_it_junk(place, log, q, g, *b) {
+        if !leaves_it_junk(place, log, sketches, q, g, *b) {
             return false;
         }
     }
@@ -46,12 +66,13 @@ fn leaves_them_junk(place: &Place, pending: &[usize], log: &Log, q: usize, g: us
 }
 
 /// [`leaves_it_junk`], each of the log.
-fn leaves_all_junk(place: &Place, log: &Log, q: usize, g: usize) -> bool
-    requires { IsPlace log.now place.now }
+fn leaves_all_junk(place: &Place, log: &Log, sketches: &[Sketch], q: usize, g: usize) -> bool
+    requires place { IsPlace log.now place.now }
+    requires sketches { AreSketches log.now.events sketches.now }
     ensures { IsTrue result → AllLeft place.now.state (λ b. LeavesJunkTo log.now b q g) }
 {
     for b in 0..log.len() {
-        if !leaves_it_junk(place, log, q, g, b) {
+        if !leaves_it_junk(place, log, sketches, q, g, b) {
             return false;
         }
     }
@@ -59,26 +80,26 @@ fn leaves_all_junk(place: &Place, log: &Log, q: usize, g: usize) -> bool
 }
 
 /// What request `g` leaves, among the addresses of request `q`, is nothing to those that are left.
-fn leaves_junk(place: &Place, log: &Log, later: &Later, q: usize, g: usize) -> bool
+fn leaves_junk(place: &Place, log: &Log, catalog: &Catalog, q: usize, g: usize) -> bool
     requires place { IsPlace log.now place.now }
-    requires later { IsLater log.now later.now (length log.now.events) }
+    requires catalog { IsCatalog log.now catalog.now }
     ensures { IsTrue result → AllLeft place.now.state (λ b. LeavesJunkTo log.now b q g) }
 {
     who_is_left_is_pending();
-    if leaves_junk_later(later, log, place.event(), q, g) {
-        return leaves_them_junk(place, place.pending(), log, q, g);
+    if leaves_junk_later(&catalog.later, log, place.event(), q, g) {
+        return leaves_them_junk(place, place.pending(), log, &catalog.sketches, q, g);
     }
     if log.len() > MOST_EVENTS {
         return false;
     }
-    leaves_all_junk(place, log, q, g)
+    leaves_all_junk(place, log, &catalog.sketches, q, g)
 }
 
 /// Request `g` changes nothing; or it leaves bytes, among the addresses of request `q`, that are
 /// nothing to those that are left.
-fn leaves_nothing(place: &Place, log: &Log, later: &Later, q: usize, g: usize) -> bool
+fn leaves_nothing(place: &Place, log: &Log, catalog: &Catalog, q: usize, g: usize) -> bool
     requires place { IsPlace log.now place.now }
-    requires later { IsLater log.now later.now (length log.now.events) }
+    requires catalog { IsCatalog log.now catalog.now }
     ensures { IsTrue result → LeavesNothing log.now place.now.state q g }
 {
     if changes_nothing(log, g) {
@@ -87,17 +108,17 @@ fn leaves_nothing(place: &Place, log: &Log, later: &Later, q: usize, g: usize) -
     if !is_within(log, g, q) {
         return false;
     }
-    leaves_junk(place, log, later, q, g)
+    leaves_junk(place, log, catalog, q, g)
 }
 
 /// [`leaves_nothing`], each of the requests.
-fn leave_nothing(place: &Place, log: &Log, later: &Later, q: usize, group: &[usize]) -> bool
+fn leave_nothing(place: &Place, log: &Log, catalog: &Catalog, q: usize, group: &[usize]) -> bool
     requires place { IsPlace log.now place.now }
-    requires later { IsLater log.now later.now (length log.now.events) }
+    requires catalog { IsCatalog log.now catalog.now }
     ensures { IsTrue result → (i g : ℕ) → slice_get group.now i ≡ Some g → LeavesNothing log.now place.now.state q g }
 {
     for g in group {
-        if !leaves_nothing(place, log, later, q, *g) {
+        if !leaves_nothing(place, log, catalog, q, *g) {
             return false;
         }
     }
@@ -105,15 +126,21 @@ fn leave_nothing(place: &Place, log: &Log, later: &Later, q: usize, group: &[usi
 }
 
 /// [`leaves_nothing`], request `q` and each of the others.
-fn all_leave_nothing(place: &Place, log: &Log, later: &Later, q: usize, others: &[usize]) -> bool
+fn all_leave_nothing(
+    place: &Place,
+    log: &Log,
+    catalog: &Catalog,
+    q: usize,
+    others: &[usize],
+) -> bool
     requires place { IsPlace log.now place.now }
-    requires later { IsLater log.now later.now (length log.now.events) }
+    requires catalog { IsCatalog log.now catalog.now }
     ensures { IsTrue result → (i g : ℕ) → slice_get (q ∷ others.now) i ≡ Some g → LeavesNothing log.now place.now.state q g }
 {
-    if !leaves_nothing(place, log, later, q, q) {
+    if !leaves_nothing(place, log, catalog, q, q) {
         return false;
     }
-    leave_nothing(place, log, later, q, others)
+    leave_nothing(place, log, catalog, q, others)
 }
 
 /// The group has the request.
@@ -125,13 +152,24 @@ fn is_in(group: &[usize], b: usize) -> bool
 
 /// Request `b` is `q`, or of the group, or has acted, or it is nothing to it what stands at the
 /// addresses of `q`.
-fn overwrites_its_junk(place: &Place, log: &Log, q: usize, group: &[usize], b: usize) -> bool
+fn overwrites_its_junk(
+    place: &Place,
+    log: &Log,
+    sketches: &[Sketch],
+    q: usize,
+    group: &[usize],
+    b: usize,
+) -> bool
+    requires { AreSketches log.now.events sketches.now }
     ensures { IsTrue result → (q ≡ b → ⊥) → ((i : ℕ) → slice_get group.now i ≡ Some b → ⊥) → slice_get place.now.state.acted b ≡ Some false → IsJunkTo log.now place.now.state.bytes b q }
 {
     if b == q || place.has_acted(b) {
         return true;
     }
     if is_in(group, b) {
+        return true;
+    }
+    if are_far(sketches, b, q) {
         return true;
     }
     is_junk_to(log, place.bytes(), b, q)
@@ -142,13 +180,15 @@ fn overwrites_their_junk(
     place: &Place,
     pending: &[usize],
     log: &Log,
+    sketches: &[Sketch],
     q: usize,
     group: &[usize],
 ) -> bool
+    requires { AreSketches log.now.events sketches.now }
     ensures { IsTrue result → (b : ℕ) → has pending.now b ≡ true → (q ≡ b → ⊥) → ((i : ℕ) → slice_get group.now i ≡ Some b → ⊥) → slice_get place.now.state.acted b ≡ Some false → IsJunkTo log.now place.now.state.bytes b q }
 {
     for b in pending {
-        if !overwrites_its_junk(place, log, q, group, *b) {
+        if !overwrites_its_junk(place, log, sketches, q, group, *b) {
             return false;
         }
     }
@@ -156,12 +196,19 @@ fn overwrites_their_junk(
 }
 
 /// [`overwrites_its_junk`], each of the log.
-fn overwrites_all_junk(place: &Place, log: &Log, q: usize, group: &[usize]) -> bool
-    requires { IsPlace log.now place.now }
+fn overwrites_all_junk(
+    place: &Place,
+    log: &Log,
+    sketches: &[Sketch],
+    q: usize,
+    group: &[usize],
+) -> bool
+    requires place { IsPlace log.now place.now }
+    requires sketches { AreSketches log.now.events sketches.now }
     ensures { IsTrue result → (b : ℕ) → (q ≡ b → ⊥) → ((i : ℕ) → slice_get group.now i ≡ Some b → ⊥) → slice_get place.now.state.acted b ≡ Some false → IsJunkTo log.now place.now.state.bytes b q }
 {
     for b in 0..log.len() {
-        if !overwrites_its_junk(place, log, q, group, b) {
+        if !overwrites_its_junk(place, log, sketches, q, group, b) {
             return false;
         }
     }
@@ -169,19 +216,19 @@ fn overwrites_all_junk(place: &Place, log: &Log, q: usize, group: &[usize]) -> b
 }
 
 /// To those that are left but `q` and the group it is nothing what stands at the addresses of `q`.
-fn overwrites_junk(place: &Place, log: &Log, later: &Later, q: usize, group: &[usize]) -> bool
+fn overwrites_junk(place: &Place, log: &Log, catalog: &Catalog, q: usize, group: &[usize]) -> bool
     requires place { IsPlace log.now place.now }
-    requires later { IsLater log.now later.now (length log.now.events) }
+    requires catalog { IsCatalog log.now catalog.now }
     ensures { IsTrue result → (b : ℕ) → (q ≡ b → ⊥) → ((i : ℕ) → slice_get group.now i ≡ Some b → ⊥) → slice_get place.now.state.acted b ≡ Some false → IsJunkTo log.now place.now.state.bytes b q }
 {
     who_is_left_is_pending();
-    if is_junk_later(later, log, place.bytes(), place.event(), q) {
-        return overwrites_their_junk(place, place.pending(), log, q, group);
+    if is_junk_later(&catalog.later, log, place.bytes(), place.event(), q) {
+        return overwrites_their_junk(place, place.pending(), log, &catalog.sketches, q, group);
     }
     if log.len() > MOST_EVENTS {
         return false;
     }
-    overwrites_all_junk(place, log, q, group)
+    overwrites_all_junk(place, log, &catalog.sketches, q, group)
 }
 
 /// Others may act in turn after request `q`, and to those that are left then it is nothing what they
@@ -190,24 +237,24 @@ fn is_over_junk(
     place: &mut Place,
     alloc: Global,
     log: &Log,
-    later: &Later,
+    catalog: &Catalog,
     q: usize,
 ) -> Result<bool, AllocError>
     requires place { IsPlace log.now place.old }
-    requires later { IsLater log.now later.now (length log.now.events) }
+    requires catalog { IsCatalog log.now catalog.now }
     requires may { MayAct log.now place.old.state q }
     ensures state { OnOk result (place.new.state ≡ place.old.state) }
     ensures place { OnOk result (IsPlace log.now place.new) }
     ensures forced { IfOk result (λ so. IsTrue so → IsForced log.now place.new.state (Step.Act q)) }
 {
     what_is_over_junk_acts_at_once();
-    let Group { done, others } = gather(place, alloc, log, q)?;
-    let spent = all_leave_nothing(place, log, later, q, &others);
+    let Group { done, others } = gather(place, alloc, log, &catalog.sketches, q)?;
+    let spent = all_leave_nothing(place, log, catalog, q, &others);
     take_back(place, log, done)?;
     if !spent || place.bytes().len() != log.extent().size() {
         return Ok(false);
     }
-    Ok(overwrites_junk(place, log, later, q, &others))
+    Ok(overwrites_junk(place, log, catalog, q, &others))
 }
 
 /// Request `q` may act, and does so over junk.
@@ -230,7 +277,7 @@ fn acts_at_once(
     if !may_be_over_junk(place, log, catalog, q) {
         return Ok(false);
     }
-    is_over_junk(place, alloc, log, &catalog.later, q)
+    is_over_junk(place, alloc, log, catalog, q)
 }
 
 /// A pending request that acts at once over junk, if events are left.

@@ -15,4 +15,4 @@ loop-b-preserved c = λ k l. elim (cases_eq c.loop-b.b k) [
 
 pub returns : goal.returns
 returns c = λ so b distinct out left.
-    c.loop-b.invariant b (omega (arith, slice_get_within c.args.place.now.state.acted b false left, c.requires.len, c.len-b-end.ensures, c.loop-b-test.false)) distinct out left
+    c.loop-b.invariant b (omega (arith, slice_get_within c.args.place.now.state.acted b false left, c.requires.place.len, c.len-b-end.ensures, c.loop-b-test.false)) distinct out left
