@@ -84,6 +84,29 @@ brings_broken refused base block m one other reply breaks e =
     (λ served. absurd (breaks served e))
     (λ r not_served. ap (λ k. answer base block k other) (sym (refused base block m one r not_served)) ∙ e)
 
+-- a served request is answered with data, or it is done
+pub never_unsupported : (op : Op) (xs : List ℕ) → read_back op xs ≡ replies.Unsupported → ⊥
+never_unsupported (ops.Read a dw f l) xs e = cc
+never_unsupported (ops.Write a f l bytes) xs e = cc
+never_unsupported (ops.FetchAdd a w x) xs e = cc
+never_unsupported (ops.Swap a w x) xs e = cc
+never_unsupported (ops.Cas a w x y) xs e = cc
+
+pub never_aborted : (op : Op) (xs : List ℕ) → read_back op xs ≡ replies.Aborted → ⊥
+never_aborted (ops.Read a dw f l) xs e = cc
+never_aborted (ops.Write a f l bytes) xs e = cc
+never_aborted (ops.FetchAdd a w x) xs e = cc
+never_aborted (ops.Swap a w x) xs e = cc
+never_aborted (ops.Cas a w x y) xs e = cc
+
+-- so one that was answered otherwise changed nothing
+pub refused_kept : Refused → (base block : ℕ) (m : List ℕ) (one : Op) (reply : Reply) → ((xs : List ℕ) → read_back one xs ≡ reply → ⊥) → answer base block m one ≡ reply → after base block m one ≡ m
+refused_kept refused base block m one reply never e =
+    let place = bytes_at m (address_of one - base) (count_of one) in
+    served_or_not (after base block m one ≡ m) (refusal base (length m) block one)
+    (λ served. absurd (never place (sym (ap (λ o. answer_by o (read_back one place)) served) ∙ e)))
+    (λ r not_served. refused base block m one r not_served)
+
 either : (r : Refusal) (x y : Reply) → answer_by (Some r) x ≡ answer_by (Some r) y
 either refusals.Aborted x y = refl
 either refusals.Unsupported x y = refl
@@ -112,6 +135,29 @@ ends_broken sizes refused base block m one other told reply breaks agrees e =
       λ s told_is. same_refused base block m n one r size not_served ∙ agrees s told_is,
       ap (λ k. after base block k other) still ∙ sym (refused base block n one r in_n),
     ))
+
+-- ---- a request that wasn't served
+
+abbrev WasRefused : Option Reply → Type 0
+WasRefused told = (told ≡ Some replies.Unsupported) ⊎ (told ≡ Some replies.Aborted)
+
+never_served : (base block : ℕ) (m : List ℕ) (one : Op) (told : Option Reply) → WasRefused told → Agrees base block m one told → refusal base (length m) block one ≡ None → ⊥
+never_served base block m one told (inl is) agrees served =
+    let place = bytes_at m (address_of one - base) (count_of one) in
+    never_unsupported one place (sym (ap (λ o. answer_by o (read_back one place)) served) ∙ agrees replies.Unsupported is)
+never_served base block m one told (inr is) agrees served =
+    let place = bytes_at m (address_of one - base) (count_of one) in
+    never_aborted one place (sym (ap (λ o. answer_by o (read_back one place)) served) ∙ agrees replies.Aborted is)
+
+pub brings_refused : Refused → (base block : ℕ) (m : List ℕ) (one other : Op) (told : Option Reply) (reply : Reply) → WasRefused told → Agrees base block m one told
+    → answer base block (after base block m one) other ≡ reply → answer base block m other ≡ reply
+brings_refused refused base block m one other told reply was agrees e =
+    brings_broken refused base block m one other reply (λ served there. absurd (never_served base block m one told was agrees served)) e
+
+pub ends_refused : Sizes → Refused → (base block : ℕ) (m : List ℕ) (one other : Op) (told : Option Reply) (reply : Reply) → WasRefused told
+    → Agrees base block m one told → answer base block m other ≡ reply → EndsReply base block m one other told reply
+ends_refused sizes refused base block m one other told reply was agrees e =
+    ends_broken sizes refused base block m one other told reply (λ served there. absurd (never_served base block m one told was agrees served)) agrees e
 
 flipped : (one other : Op) → AreApart one other → AreApart other one
 flipped one other (inl before) = inr before

@@ -1,7 +1,8 @@
 //! Two requests.
-ghost use Rattle.std.specs.Prelude.{◌≡◌, ◌+◌, ◌<◌, ◌≢◌, ◌⊎◌, ℕ, true, None, List, length, IsTrue, slice_index};
+ghost use Rattle.std.specs.Prelude.{◌≡◌, ◌+◌, ◌<◌, ◌≢◌, ◌⊎◌, ℕ, true, None, Some, List, length, IsTrue, slice_index};
 ghost use Rattle.tlp_core.specs.Operation.{address_of, count_of};
 ghost use Rattle.seq_memory.specs.Limits.{IsBlock};
+ghost use Rattle.seq_memory.specs.declared.Reply.TheVariants as replies;
 ghost use Rattle.seq_memory.specs.Step.{refusal, after, answer};
 ghost use Rattle.byte_effects.specs.Effects as effects;
 ghost use Rattle.byte_effects.specs.Effects.{Agrees, AreSameAt, told_of};
@@ -121,6 +122,27 @@ fn read_yields(one: &Op, told: Option<&Reply>, other: &Op, reply: &Reply) -> boo
     }
 }
 
+/// A request that isn't served is answered so.
+fn is_refusal(reply: &Reply) -> bool
+    ensures { IsTrue result → (reply.now ≡ replies.Unsupported) ⊎ (reply.now ≡ replies.Aborted) }
+{
+    match reply {
+        Reply::Unsupported => true,
+        Reply::Aborted => true,
+        _ => false,
+    }
+}
+
+/// The request wasn't served, as its reply tells.
+fn was_refused(told: Option<&Reply>) -> bool
+    ensures { IsTrue result → (told_of told.entry ≡ Some replies.Unsupported) ⊎ (told_of told.entry ≡ Some replies.Aborted) }
+{
+    match told {
+        Some(reply) => is_refusal(reply),
+        None => false,
+    }
+}
+
 /// [`never_brings`]; and where the memory answers both so, it doesn't answer `reply` to `other` right
 /// after `one`, or their order makes no difference.
 pub fn yields(block: u16, one: &Op, told: Option<&Reply>, other: &Op, reply: &Reply) -> bool
@@ -132,6 +154,9 @@ pub fn yields(block: u16, one: &Op, told: Option<&Reply>, other: &Op, reply: &Re
     only_the_place_changes();
     refused_and_read_change_nothing();
     if are_apart(one, other) {
+        return true;
+    }
+    if was_refused(told) {
         return true;
     }
     if is_read(one) {

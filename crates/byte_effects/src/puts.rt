@@ -108,19 +108,22 @@ pub(crate) fn is_read(op: &Op) -> bool
     matches!(op, Op::Read { .. })
 }
 
-/// The AtomicOp, which was answered so, leaves what it was answered.
+/// The AtomicOp, which was answered so, leaves what it was answered, or wasn't served.
 fn is_kept_by(block: u16, op: &Op, reply: &Reply) -> bool
     requires { IsBlock block }
     ensures { IsTrue result → (base : ℕ) (m : List ℕ) → answer base block m op.now ≡ reply.now → after base block m op.now ≡ m }
 {
+    refused_and_read_change_nothing();
     match reply {
         Reply::Data(old) => is_kept(block, op, old),
-        _ => false,
+        Reply::Done => false,
+        Reply::Unsupported => true,
+        Reply::Aborted => true,
     }
 }
 
-/// Wherever the request may act, it changes nothing: a read, or an AtomicOp that leaves what it was
-/// answered.
+/// Wherever the request may act, it changes nothing: a read, an AtomicOp that leaves what it was
+/// answered, or a request that wasn't served.
 pub fn is_quiet(block: u16, op: &Op, told: Option<&Reply>) -> bool
     requires { IsBlock block }
     ensures { IsTrue result → (base : ℕ) (m : List ℕ) → Agrees base block m op.now (told_of told.entry) → after base block m op.now ≡ m }

@@ -1,7 +1,7 @@
 use Rattle.std.proofs.Common.{◌∙◌, sym, refl}
 use Rattle.seq_memory.specs.Step.{after}
 use Rattle.byte_effects.specs.Effects.{told_of}
-use Rattle.byte_effects.proofs.Yielding.{brings_broken, kept_by_read, ends_apart, ends_read, ends_broken}
+use Rattle.byte_effects.proofs.Yielding.{brings_broken, brings_refused, kept_by_read, ends_apart, ends_read, ends_refused, ends_broken}
 use Rattle.byte_effects.proofs.pairs.yields.Goals as goal
 
 pub returns-then-are_apart-clause-brings : goal.returns-then-are_apart-clause-brings
@@ -11,6 +11,15 @@ pub returns-then-are_apart-clause-order : goal.returns-then-are_apart-clause-ord
 returns-then-are_apart-clause-order c = λ yes base m agrees e.
     ends_apart base c.args.block m c.args.one.now c.args.other.now (told_of c.args.told) c.args.reply.now
     (c.apart_requests_commute.ensures.answer base c.args.block) (c.apart_requests_commute.ensures.after base c.args.block) (c.are_apart.ensures c.if-are_apart.true) agrees e
+
+pub returns-then-was_refused-clause-brings : goal.returns-then-was_refused-clause-brings
+returns-then-was_refused-clause-brings c = λ yes base m agrees e.
+    brings_refused c.refused_and_read_change_nothing.ensures.refused base c.args.block m c.args.one.now c.args.other.now (told_of c.args.told) c.args.reply.now (c.was_refused.ensures c.if-was_refused.true) agrees e
+
+pub returns-then-was_refused-clause-order : goal.returns-then-was_refused-clause-order
+returns-then-was_refused-clause-order c = λ yes base m agrees e.
+    ends_refused c.only_the_place_changes.ensures.size c.refused_and_read_change_nothing.ensures.refused base c.args.block m c.args.one.now c.args.other.now (told_of c.args.told) c.args.reply.now
+    (c.was_refused.ensures c.if-was_refused.true) agrees e
 
 pub returns-then-is_read-clause-brings : goal.returns-then-is_read-clause-brings
 returns-then-is_read-clause-brings c = λ yes base m agrees e.
