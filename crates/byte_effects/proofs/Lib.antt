@@ -6,3 +6,4 @@ pub mod Yielding
 pub mod Enabling
 pub mod WaitingOf
 pub mod Written
+pub mod Staying

@@ -1,5 +1,5 @@
 //! Laws of what requests need and put.
-ghost use Rattle.std.specs.Prelude.{ℕ, ◌≡◌, ◌+◌, ◌-◌, ◌<◌, true, None, List, length, slice_index};
+ghost use Rattle.std.specs.Prelude.{ℕ, ◌≡◌, ◌+◌, ◌-◌, ◌<◌, true, false, None, List, length, slice_index};
 ghost use Rattle.arrayvec.specs.ArrayVec.{ArrayVec};
 ghost use Rattle.tlp_core.specs.declared.operation.Op.{Op};
 ghost use Rattle.tlp_core.specs.Operation.{address_of};
@@ -32,6 +32,15 @@ pub fn apart_requests_commute()
 pub fn a_request_sees_its_addresses()
     ensures answer { (base block : ℕ) (m n : List ℕ) (op : Op) → length n ≡ length m → effects.AreSameAt base op m n → answer base block n op ≡ answer base block m op }
     ensures after { (base block k : ℕ) (m n : List ℕ) (op : Op) → length n ≡ length m → effects.AreSameAt base op m n → slice_index n k ≡ slice_index m k → slice_index (after base block n op) k ≡ slice_index (after base block m op) k }
+{
+    only_the_place_changes();
+    refused_and_read_change_nothing();
+}
+
+/// A byte in an operation's range that it doesn't write stays what it is.
+#[tactic(auto, using(crate::proofs::Staying::unput))]
+pub fn what_is_not_put_stays()
+    ensures { (base block at : ℕ) (m : List ℕ) (op : Op) → effects.is_put op at ≡ false → slice_index (after base block m op) (address_of op - base + at) ≡ slice_index m (address_of op - base + at) }
 {
     only_the_place_changes();
     refused_and_read_change_nothing();

@@ -1,5 +1,5 @@
 //! What a request leaves.
-ghost use Rattle.std.specs.Prelude.{◌≡◌, ◌+◌, ◌-◌, ◌<◌, ◌≤◌, ℕ, true, None, List, length, IsTrue, slice_index};
+ghost use Rattle.std.specs.Prelude.{◌≡◌, ◌≢◌, ◌+◌, ◌-◌, ◌<◌, ◌≤◌, ◌⊎◌, ℕ, true, None, IfNone, IfSome, List, length, IsTrue, slice_index};
 ghost use Rattle.arrayvec.specs.ArrayVec.{array_vec_len};
 ghost use Rattle.tlp_core.specs.Operation.{address_of, count_of};
 ghost use Rattle.seq_memory.specs.Limits.{IsBlock};
@@ -9,6 +9,8 @@ ghost use Rattle.seq_memory.specs.Step.{refusal, after, answer};
 ghost use Rattle.byte_effects.specs.Effects as effects;
 ghost use Rattle.byte_effects.specs.Effects.{Agrees, told_of};
 
+use crate::laws::what_is_not_put_stays;
+use crate::ranges::is_put;
 use arrayvec::ArrayVec;
 use seq_memory::laws::{only_the_place_changes, refused_and_read_change_nothing};
 use seq_memory::{Reply, perform};
@@ -136,4 +138,50 @@ pub fn is_quiet(block: u16, op: &Op, told: Option<&Reply>) -> bool
         Some(reply) => is_kept_by(block, op, reply),
         None => false,
     }
+}
+
+/// The place of the address in the operation's range.
+fn place_of(op: &Op, address: u64) -> Option<usize>
+    ensures some { IfSome result (λ i. address_of op.now + i ≡ address) }
+    ensures none { IfNone result ((address < address_of op.now) ⊎ (address_of op.now + count_of op.now ≤ address)) }
+{
+    let first = op.address();
+    if address < first {
+        return None;
+    }
+    let at = address - first;
+    if at >= u64::from(op.size()) {
+        return None;
+    }
+    Some(at as usize)
+}
+
+/// Where the request has acted, which is served, another byte than `value` is at that place of its range.
+fn leaves_other(block: u16, op: &Op, told: Option<&Reply>, at: usize, value: u8) -> bool
+    requires { IsBlock block }
+    ensures { IsTrue result → effects.is_put op.now at ≡ true → (base : ℕ) (m : List ℕ) → refusal base (length m) block op.now ≡ None → Agrees base block m op.now (told_of told.entry) → slice_index (after base block m op.now) (address_of op.now - base + at) ≢ value }
+{
+    let new = left(block, op, told);
+    at < new.len() && new[at] != value
+}
+
+/// Right after the request, which was answered `told` or not at all, the byte at the address is `value`
+/// only if it was before.
+pub fn never_puts(block: u16, op: &Op, told: Option<&Reply>, address: u64, value: u8) -> bool
+    requires { IsBlock block }
+    ensures { IsTrue result → (base k : ℕ) (m : List ℕ) → base + k ≡ address → Agrees base block m op.now (told_of told.entry) → slice_index (after base block m op.now) k ≡ value → slice_index m k ≡ value }
+{
+    only_the_place_changes();
+    refused_and_read_change_nothing();
+    what_is_not_put_stays();
+    let Some(at) = place_of(op, address) else {
+        return true;
+    };
+    if is_quiet(block, op, told) {
+        return true;
+    }
+    if !is_put(op, at) {
+        return true;
+    }
+    leaves_other(block, op, told, at, value)
 }

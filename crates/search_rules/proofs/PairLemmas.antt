@@ -94,7 +94,7 @@ quiet_at x o i block op told eb at quiet m there =
 
 -- ---- what is no submission
 
-idle : (x : Extent) (o : Option EventView) → ((i : ℕ) (op : Op) (told : Option Reply) → o ≡ Some (events.Sub i op told) → ⊥) → (m : List ℕ) → acted_on x m o ≡ m
+pub idle : (x : Extent) (o : Option EventView) → ((i : ℕ) (op : Op) (told : Option Reply) → o ≡ Some (events.Sub i op told) → ⊥) → (m : List ℕ) → acted_on x m o ≡ m
 unfolding acted_on
 idle x (Some (events.Sub i op told)) none m = absurd (none i op told refl)
 idle x (Some (events.Due b)) none m = refl

@@ -1,9 +1,9 @@
 -- When a state is lost, and when a request may act at once.
-use Rattle.std.specs.Prelude.{ℕ, ◌≡◌, ◌<◌, ◌≤◌, ◌⊎◌, List, [], ◌∷◌, length, slice_get, Option, Some, None, true, false}
+use Rattle.std.specs.Prelude.{ℕ, ◌≡◌, ◌+◌, ◌<◌, ◌≤◌, ◌⊎◌, List, [], ◌∷◌, length, slice_get, slice_index, Option, Some, None, true, false}
 use Rattle.tlp_core.specs.declared.operation.Op.{Op}
 use Rattle.seq_memory.specs.declared.Reply.{Reply}
 use Rattle.seq_memory.specs.Limits.{Extent}
-use Rattle.tlp_core.specs.Operation.{is_posted}
+use Rattle.tlp_core.specs.Operation.{address_of, count_of, is_posted}
 use Rattle.byte_effects.specs.Effects.{AreApart, AreSameAt}
 use Rattle.log_runs.specs.EventView.{EventView}
 use Rattle.log_runs.specs.EventView as events
@@ -52,6 +52,28 @@ pub record IsLost (log : LogView) (s : State) (q a : ℕ) : Type 0 where
   pub left : slice_get s.acted q ≡ Some false
   pub gone : Suits log.extent s.bytes (slice_get log.events q) → ⊥
   pub nobody : AllOthers s q a (λ b. NeverBrings log b q)
+
+-- right after request b acted byte k is v only if it was before
+abbrev pub NeverPuts : LogView → ℕ → ℕ → ℕ → Type 0
+NeverPuts log b k v =
+    (m : List ℕ) → Suits log.extent m (slice_get log.events b) → slice_index (acted_on log.extent m (slice_get log.events b)) k ≡ v → slice_index m k ≡ v
+
+-- where the memory suits request q, byte k is v
+abbrev pub NeedsByte : LogView → ℕ → ℕ → ℕ → Type 0
+NeedsByte log q k v = (m : List ℕ) → Suits log.extent m (slice_get log.events q) → slice_index m k ≡ v
+
+-- byte k isn't in the operation's range
+abbrev pub IsOutside : Extent → Op → ℕ → Type 0
+IsOutside x op k = (x.base + k < address_of op) ⊎ (address_of op + count_of op ≤ x.base + k)
+
+-- request q, which is due at place a, needs byte k to be v, which it isn't, and nobody puts it before
+pub record LacksByte (log : LogView) (s : State) (q a k v : ℕ) : Type 0 where
+  pub due : slice_get log.events a ≡ Some (events.Due q)
+  pub since : s.event ≤ a
+  pub left : slice_get s.acted q ≡ Some false
+  pub needs : NeedsByte log q k v
+  pub gone : slice_index s.bytes k ≡ v → ⊥
+  pub nobody : AllOthers s q a (λ b. NeverPuts log b k v)
 
 -- request q, which is due at place a, may act, and nobody who acts before it can bring what it needs once more, nor needs it
 pub record IsLast (log : LogView) (s : State) (q a : ℕ) : Type 0 where

@@ -6,7 +6,7 @@ ghost use Rattle.log_runs.specs.EventView as events;
 ghost use Rattle.log_runs.specs.declared.Step.TheVariants as steps;
 ghost use Rattle.log_runs.specs.LogView.{LogView};
 ghost use Rattle.log_runs.specs.Runs.{State, MayAct, Dead, IsForced, acted_on};
-ghost use Rattle.search_rules.specs.Rules.{Suits, NeverBrings, Yields, LetsFirst, IsLost, IsLast, IsFirst, IsOverJunk};
+ghost use Rattle.search_rules.specs.Rules.{Suits, NeverBrings, NeverPuts, Yields, LetsFirst, IsOutside, IsLost, LacksByte, IsLast, IsFirst, IsOverJunk};
 
 use byte_effects::laws::{a_request_sees_its_addresses, apart_requests_commute};
 use seq_memory::laws::only_the_place_changes;
@@ -16,6 +16,19 @@ use seq_memory::laws::only_the_place_changes;
 pub fn lost_is_dead()
     ensures { (log : LogView) (s : State) (q a : ℕ) → IsLost log s q a → Dead log s }
 {}
+
+/// Where a request lacks a byte that doesn't come, no run leads to the end.
+pub fn what_lacks_a_byte_is_dead()
+    ensures { (log : LogView) (s : State) (q a k v : ℕ) → LacksByte log s q a k v → Dead log s }
+{}
+
+/// A request puts no byte that isn't in its range.
+#[tactic(auto, using(crate::proofs::ByteLemmas::outside_stays))]
+pub fn nothing_is_put_outside()
+    ensures { (log : LogView) (b k v : ℕ) → ((i : ℕ) (op : Op) (told : Option Reply) → slice_get log.events b ≡ Some (events.Sub i op told) → IsOutside log.extent op k) → NeverPuts log b k v }
+{
+    only_the_place_changes();
+}
 
 /// The last that can have what it needs may act at once.
 #[tactic(auto, using(crate::proofs::LastLemmas::last_is_forced))]

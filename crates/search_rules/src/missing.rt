@@ -1,0 +1,81 @@
+//! Bytes that a request needs.
+ghost use Rattle.std.specs.Prelude.{ℕ, ◌≡◌, List, IfSome, IsTrue, slice_index};
+ghost use Rattle.seq_memory.specs.Step.{answer};
+ghost use Rattle.byte_effects.specs.Effects.{Agrees, told_of};
+ghost use Rattle.log_runs.specs.Runs.{bytes_after};
+ghost use Rattle.search_rules.specs.Rules.{Answers, NeedsByte, NeverPuts};
+
+use byte_effects::is_needed;
+use byte_effects::laws::what_is_needed_is_there;
+use log_runs::{Event, Log};
+use seq_memory::Reply;
+use tlp_core::Op;
+
+/// What the byte at a place of the memory has to be.
+#[derive(Clone, Copy, Debug, PartialEq, Eq)]
+pub struct Need {
+    pub place: usize,
+    pub value: u8,
+}
+
+/// What the byte at place `at` of the operation's range has to be for that reply.
+fn need_for(base: u64, op: &Op, reply: &Reply, at: usize) -> Option<Need>
+    ensures { IfSome result (λ n. (block : ℕ) (m : List ℕ) → answer base block m op.now ≡ reply.now → slice_index m n.place ≡ n.value) }
+{
+    what_is_needed_is_there();
+    let Reply::Data(data) = reply else {
+        return None;
+    };
+    let address = op.address();
+    if address < base || at >= data.len() || !is_needed(op, at) {
+        return None;
+    }
+    let place = at.checked_add((address - base) as usize)?;
+    Some(Need {
+        place,
+        value: data[at],
+    })
+}
+
+/// [`need_for`], if the operation was answered.
+fn need_of(base: u64, op: &Op, told: Option<&Reply>, at: usize) -> Option<Need>
+    ensures { IfSome result (λ n. (block : ℕ) (m : List ℕ) → Agrees base block m op.now (told_of told.entry) → slice_index m n.place ≡ n.value) }
+{
+    match told {
+        Some(reply) => need_for(base, op, reply, at),
+        None => None,
+    }
+}
+
+/// What the byte at place `at` of request `q`'s range has to be when it acts, if that is known.
+pub fn need_at(log: &Log, q: usize, at: usize) -> Option<Need>
+    ensures { IfSome result (λ n. NeedsByte log.now q n.place n.value) }
+{
+    match log.event(q) {
+        Some(Event::Sub { op, reply, .. }) => need_of(log.extent().base(), op, reply, at),
+        _ => None,
+    }
+}
+
+/// Right after the operation the byte is as it has to be only if it was before.
+fn keeps_byte(log: &Log, op: &Op, told: Option<&Reply>, need: Need) -> bool
+    ensures { IsTrue result → (m : List ℕ) → Answers log.now.extent m op.now (told_of told.entry) → slice_index (bytes_after log.now.extent m op.now) need.place ≡ need.value → slice_index m need.place ≡ need.value }
+{
+    let extent = log.extent();
+    let Some(address) = extent.base().checked_add(need.place as u64) else {
+        return false;
+    };
+    byte_effects::never_puts(extent.block(), op, told, address, need.value)
+}
+
+/// Right after request `b` acted the byte is as it has to be only if it was before.
+pub fn never_puts(log: &Log, b: usize, need: Need) -> bool
+    ensures { IsTrue result → NeverPuts log.now b need.place need.value }
+{
+    match log.event(b) {
+        Some(Event::Sub { op, reply, .. }) => keeps_byte(log, op, reply, need),
+        Some(Event::Due { .. }) => true,
+        Some(Event::Free) => true,
+        None => false,
+    }
+}
