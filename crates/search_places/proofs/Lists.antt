@@ -1,7 +1,8 @@
 -- Lists: an element at a place, after a write.
-use Rattle.std.proofs.Common.{◌≡◌, ◌∙◌, ℕ, zero, suc, ◌+◌, ◌<◌, Bool, true, false, List, [], ◌∷◌, ◌++◌, length, take, get_or, Some, refl, sym, ap, arith, add-one}
+use Rattle.std.proofs.Common.{◌≡◌, ◌∙◌, ℕ, zero, suc, ◌+◌, ◌-◌, ◌<◌, ◌≤◌, Bool, true, false, List, [], ◌∷◌, ◌++◌, length, take, drop, get_or, Some, refl, sym, ap, arith, add-one}
 use Rattle.std.proofs.Math.Seq.{take-suc}
 use Rattle.std.specs.Prelude.{slice_get, slice_set, replicate}
+use Rattle.std.proofs.lemmas.List.{take-append-drop, drop-drop, replicate-append-replicate}
 use Rattle.std.proofs.lemmas.Option.{same_Some}
 
 pub clash : {b : Bool} → b ≡ true → b ≡ false → ⊥
@@ -61,3 +62,11 @@ take_one xs i d l = ap (λ k. take k xs) (add-one i) ∙ take-suc xs i d l
 
 pub take_more : {X : Type 0} → (xs : List X) (i : ℕ) (x : X) → i < length xs → x ≡ get_or xs i x → take (i + 1) xs ≡ take i xs ++ x ∷ []
 take_more xs i x l is = take_one xs i x l ∙ ap (λ y. take i xs ++ y ∷ []) (sym is)
+
+-- a block of zeros before others
+pub more_zeros : (xs : List ℕ) (end n r : ℕ) → n ≤ end → take (end - (end - n)) (drop (end - n) xs) ≡ replicate n 0 → drop end xs ≡ replicate r 0 → drop (end - n) xs ≡ replicate (n + r) 0
+more_zeros xs end n r few block rest =
+    let k = end - n in
+    let there : k + (end - k) ≡ end = omega (arith, few) in
+    sym (take-append-drop (end - k) (drop k xs)) ∙ ap (λ ys. ys ++ drop (end - k) (drop k xs)) block
+    ∙ ap (λ ys. replicate n 0 ++ ys) (drop-drop (end - k) k xs ∙ ap (λ i. drop i xs) there ∙ rest) ∙ replicate-append-replicate n r 0

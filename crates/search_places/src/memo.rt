@@ -62,13 +62,39 @@ fn zeros_before(bytes: &[u8]) -> usize
     bytes.len()
 }
 
+/// How many bytes are compared at once.
+const BLOCK: usize = 256;
+
+/// They are so many zeros.
+fn is_zero_block(bytes: &[u8]) -> bool
+    ensures { IsTrue result → bytes.now ≡ replicate 256 0 }
+{
+    bytes == [0u8; BLOCK].as_slice()
+}
+
+/// How many zeros the bytes end with, in whole blocks.
+fn zero_blocks_after(bytes: &[u8]) -> usize
+    ensures len { result ≤ length bytes.now }
+    ensures zeros { drop (length bytes.now - result) bytes.now ≡ replicate result 0 }
+{
+    let count = bytes.len();
+    let blocks = count / BLOCK;
+    for block in 0..blocks {
+        let end = count - BLOCK * block;
+        if !is_zero_block(&bytes[end - BLOCK..end]) {
+            return BLOCK * block;
+        }
+    }
+    BLOCK * blocks
+}
+
 /// How many zeros the bytes end with.
 fn zeros_after(bytes: &[u8]) -> usize
     ensures len { result ≤ length bytes.now }
     ensures zeros { drop (length bytes.now - result) bytes.now ≡ replicate result 0 }
 {
     let count = bytes.len();
-    for at in 0..count {
+    for at in zero_blocks_after(bytes)..count {
         if bytes[count - 1 - at] != 0 {
             return at;
         }
