@@ -18,17 +18,17 @@ use Rattle.log_runs.specs.LogView.{LogView}
 use Rattle.search_rules.specs.Junk.{Overlooks, IsJunk, LeavesJunk}
 use Rattle.search_rules.specs.Rules.{IsJunkTo, LeavesJunkTo}
 use Rattle.search_rules.specs.Values.{word_value, KeyFor, Touches}
+use Rattle.search_rules.specs.LaterView.{LaterView}
 use Rattle.search_rules.specs.Later.{value_in, last_of, IsCareless, IsKnown, IsLater, Grows, IsUnneeded, LeavesUnneeded}
-use Rattle.search_rules.specs.declared.later.Later.{Later}
 use Rattle.search_rules.proofs.MissLemmas.{junk_at, leaves_at}
 use Rattle.search_rules.proofs.ValueLemmas.{address_at, count_at}
 
 -- ---- gathering
 
-pub later_none : (log : LogView) (v : Later) → IsLater log v 0
+pub later_none : (log : LogView) (v : LaterView) → IsLater log v 0
 later_none log v b l = absurd (omega (arith, l))
 
-stays : (x : Extent) (o p : Option EventView) (b n : ℕ) (v u : Later) → Grows x p n v u → b < n → IsKnown x o b v → IsKnown x o b u
+stays : (x : Extent) (o p : Option EventView) (b n : ℕ) (v u : LaterView) → Grows x p n v u → b < n → IsKnown x o b v → IsKnown x o b u
 stays x o p b n v u more low known = elim known [
   | inl key ↦ elim (more.lasts key.0 key.1 key.3) [
     | inl same ↦ inl (key.0, key.1, key.2, same, key.4)
@@ -43,7 +43,7 @@ stays x o p b n v u more low known = elim known [
       ]))
 ]
 
-pub later_more : (log : LogView) (v u : Later) (n : ℕ) → Grows log.extent (slice_get log.events n) n v u → IsLater log v n → IsLater log u (n + 1)
+pub later_more : (log : LogView) (v u : LaterView) (n : ℕ) → Grows log.extent (slice_get log.events n) n v u → IsLater log v n → IsLater log u (n + 1)
 later_more log v u n more old b l = elim (cases_eq b n) [
   | inl same ↦ subst (λ c. IsKnown log.extent (slice_get log.events c) c u) (sym same) more.here
   | inr other ↦
@@ -51,10 +51,10 @@ later_more log v u n more old b l = elim (cases_eq b n) [
       stays log.extent (slice_get log.events b) (slice_get log.events n) b n v u more low (old b low)
 ]
 
-pub grows_other : (x : Extent) (o : Option EventView) (n end i : ℕ) (one : Op) (told : Option Reply) (v u : Later) → o ≡ Some (events.Sub i one told) → end ≡ n + 1 → u.lasts ≡ v.lasts
-    → length u.odd.items ≡ length v.odd.items
-    → ((w l : ℕ) → slice_get v.odd.items w ≡ Some l → (slice_get u.odd.items w ≡ Some l) ⊎ (slice_get u.odd.items w ≡ Some end))
-    → (IsCareless x one told ⊎ ((w : ℕ) → Touches x.base one w → w < length v.odd.items → slice_get u.odd.items w ≡ Some end))
+pub grows_other : (x : Extent) (o : Option EventView) (n end i : ℕ) (one : Op) (told : Option Reply) (v u : LaterView) → o ≡ Some (events.Sub i one told) → end ≡ n + 1 → u.lasts ≡ v.lasts
+    → length u.odd ≡ length v.odd
+    → ((w l : ℕ) → slice_get v.odd w ≡ Some l → (slice_get u.odd w ≡ Some l) ⊎ (slice_get u.odd w ≡ Some end))
+    → (IsCareless x one told ⊎ ((w : ℕ) → Touches x.base one w → w < length v.odd → slice_get u.odd w ≡ Some end))
     → Grows x o n v u
 grows_other x o n end i one told v u is next lasts len odd here = record {
   lasts = λ k l before. inl (subst (λ z. last_of z k ≡ Some l) (sym lasts) before);
@@ -157,7 +157,7 @@ module _ (log : LogView) (needs : (base block at : ℕ) (m : List ℕ) (op : Op)
   IsNothingAt word value (Some events.Free) = Unit {0}
   IsNothingAt word value None = Unit {0}
 
-  nothing : (v : Later) (word value event b : ℕ) → IsKnown log.extent (slice_get log.events b) b v → IsUnneeded v word value event → event ≤ b
+  nothing : (v : LaterView) (word value event b : ℕ) → IsKnown log.extent (slice_get log.events b) b v → IsUnneeded v word value event → event ≤ b
       → (i : ℕ) (one : Op) (told : Option Reply) → slice_get log.events b ≡ Some (events.Sub i one told) → IsNothing word value one told
   nothing v word value event b known free late i one told at = elim known [
     | inl (k, l, has, last, behind) ↦
@@ -183,14 +183,14 @@ module _ (log : LogView) (needs : (base block at : ℕ) (m : List ℕ) (op : Op)
       | inl reaches ↦ elim (cases_lt (address_of one) (log.extent.base + 4 * word + 4)) [
         | inr behind ↦ inl (inr behind)
         | inl begins ↦
-            let mark = odd i word one told at (reaches, begins) (slice_get_within v.odd.items word free.bound free.odd) in
+            let mark = odd i word one told at (reaches, begins) (slice_get_within v.odd word free.bound free.odd) in
             let same : mark.0 ≡ free.bound = same_Some mark.0 free.bound (sym mark.1 ∙ free.odd) in
             absurd (omega (arith, mark.2, same, free.passed, late))
       ]
     ]
   ]
 
-  module _ (v : Later) (later : IsLater log v (length log.events)) where
+  module _ (v : LaterView) (later : IsLater log v (length log.events)) where
     known : (b i : ℕ) (one : Op) (told : Option Reply) → slice_get log.events b ≡ Some (events.Sub i one told) → IsKnown log.extent (slice_get log.events b) b v
     known b i one told at = later b (slice_get_within log.events b (events.Sub i one told) at)
 

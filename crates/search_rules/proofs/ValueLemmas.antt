@@ -20,7 +20,7 @@ use Rattle.log_runs.specs.LogView.{LogView}
 use Rattle.log_runs.specs.Runs.{reply_of}
 use Rattle.search_rules.specs.Rules.{Answers, Suits, LetsFirst, AreApartThere, AreSameFor}
 use Rattle.search_rules.specs.declared.values.Gathering.{Gathering}
-use Rattle.search_rules.specs.declared.values.Values.{Values}
+use Rattle.search_rules.specs.ValuesView.{ValuesView}
 use Rattle.search_rules.specs.Values.{has_key, word_value, KeyFor, HasKey, Touches, IsMixed, AreValues, AreGathered, Adds, IsAloneFor, IsAlone}
 use Rattle.search_rules.proofs.RuleLemmas.{clash}
 use Rattle.search_rules.proofs.PairLemmas.{sub_at}
@@ -124,11 +124,11 @@ module _ (log : LogView) where
 
     -- ---- a request that is alone
 
-    pub alone : (v : Values) (q i : ℕ) (op : Op) (d : ArrayVec ℕ) → AreValues log v (length log.events) → IsAloneFor log.extent.base op d.items v
+    pub alone : (v : ValuesView) (q i : ℕ) (op : Op) (d : ArrayVec ℕ) → AreValues log v (length log.events) → IsAloneFor log.extent.base op d.items v
         → slice_get log.events q ≡ Some (events.Sub i op (Some (replies.Data d))) → IsAlone log q
     alone v q i op d values one at b m other suits =
         let base = log.extent.base in
-        let mixed = v.mixed.items in
+        let mixed = v.mixed in
         let mine : HasKey base (slice_get log.events q) one.number = record { requester = i; op = op; bytes = d; is = at; key = one.key } in
         let inside : q < length log.events = slice_get_within log.events q (events.Sub i op (Some (replies.Data d))) at in
         let place : address_at (slice_get log.events q) ≡ base + 4 * one.word = ap address_at at ∙ one.place in
@@ -198,16 +198,16 @@ module _ (log : LogView) where
       base : ℕ
       base = log.extent.base
 
-      keep : (b : ℕ) → IsMixed base (slice_get log.events b) g.values.mixed.items → IsMixed base (slice_get log.events b) h.values.mixed.items
-      keep b = stays base (slice_get log.events b) g.values.mixed.items h.values.mixed.items more.len more.mixed
+      keep : (b : ℕ) → IsMixed base (slice_get log.events b) g.values.mixed → IsMixed base (slice_get log.events b) h.values.mixed
+      keep b = stays base (slice_get log.events b) g.values.mixed h.values.mixed more.len more.mixed
 
-      seen : (b : ℕ) → b < n + 1 → ((k : ℕ) × HasKey base (slice_get log.events b) k × (has_key h.seen k ≡ true)) ⊎ IsMixed base (slice_get log.events b) h.values.mixed.items
+      seen : (b : ℕ) → b < n + 1 → ((k : ℕ) × HasKey base (slice_get log.events b) k × (has_key h.seen.keys k ≡ true)) ⊎ IsMixed base (slice_get log.events b) h.values.mixed
       seen b l = elim (cases_eq b n) [
         | inl same ↦
             let here : slice_get log.events b ≡ o = ap (slice_get log.events) same ∙ at in
             elim more.here [
               | inl key ↦ inl (key.0, subst (λ x. HasKey base x key.0) (sym here) key.1, key.2)
-              | inr marks ↦ inr (subst (λ x. IsMixed base x h.values.mixed.items) (sym here) marks)
+              | inr marks ↦ inr (subst (λ x. IsMixed base x h.values.mixed) (sym here) marks)
             ]
         | inr other ↦ elim (old.seen b (omega (arith, l, other))) [
           | inl key ↦ inl (key.0, key.1, more.seen key.0 key.2)
@@ -215,14 +215,14 @@ module _ (log : LogView) where
         ]
       ]
 
-      each : (b : ℕ) → b < n + 1 → ((k : ℕ) × HasKey base (slice_get log.events b) k) ⊎ IsMixed base (slice_get log.events b) h.values.mixed.items
+      each : (b : ℕ) → b < n + 1 → ((k : ℕ) × HasKey base (slice_get log.events b) k) ⊎ IsMixed base (slice_get log.events b) h.values.mixed
       each b l = elim (seen b l) [
         | inl key ↦ inl (key.0, key.1)
         | inr marks ↦ inr marks
       ]
 
       shared : (b c k : ℕ) → b < c → c < n + 1 → HasKey base (slice_get log.events b) k → HasKey base (slice_get log.events c) k
-          → (has_key h.values.shared k ≡ true) ⊎ IsMixed base (slice_get log.events b) h.values.mixed.items ⊎ IsMixed base (slice_get log.events c) h.values.mixed.items
+          → (has_key h.values.shared k ≡ true) ⊎ IsMixed base (slice_get log.events b) h.values.mixed ⊎ IsMixed base (slice_get log.events c) h.values.mixed
       shared b c k l low kb kc = elim (cases_eq c n) [
         | inr other ↦ elim (old.values.shared b c k l (omega (arith, low, other)) kb kc) [
           | inl twice ↦ inl (more.shared k twice)
@@ -232,13 +232,13 @@ module _ (log : LogView) where
         | inl same ↦
             let here : slice_get log.events c ≡ o = ap (slice_get log.events) same ∙ at in
             elim more.here [
-              | inr marks ↦ inr (inr (subst (λ x. IsMixed base x h.values.mixed.items) (sym here) marks))
+              | inr marks ↦ inr (inr (subst (λ x. IsMixed base x h.values.mixed) (sym here) marks))
               | inl key ↦ elim (old.seen b (omega (arith, l, same))) [
                 | inr marks ↦ inr (inl (keep b marks))
                 | inl before ↦
                     let own : key.0 ≡ k = one_key base o key.0 k key.1 (subst (λ x. HasKey base x k) here kc) in
                     let theirs : before.0 ≡ k = one_key base (slice_get log.events b) before.0 k before.1 kb in
-                    let known : has_key g.seen key.0 ≡ true = subst (λ x. has_key g.seen x ≡ true) (theirs ∙ sym own) before.2 in
+                    let known : has_key g.seen.keys key.0 ≡ true = subst (λ x. has_key g.seen.keys x ≡ true) (theirs ∙ sym own) before.2 in
                     inl (subst (λ x. has_key h.values.shared x ≡ true) own (key.3 known))
               ]
             ]

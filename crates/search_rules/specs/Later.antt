@@ -1,6 +1,6 @@
 -- What requests need of a word that are submitted from some place of a log on.
 use Rattle.std.specs.Prelude.{ℕ, ◌≡◌, ◌+◌, ◌*◌, ◌<◌, ◌≤◌, ◌⊎◌, nat_eq, List, length, slice_get, slice_index, Option, Some}
-use Rattle.std.specs.HashMap.{HashMap, get}
+use Rattle.std.specs.Map.{lookup}
 use Rattle.tlp_core.specs.declared.operation.Op.{Op}
 use Rattle.tlp_core.specs.Operation.{address_of, count_of}
 use Rattle.seq_memory.specs.declared.Reply.{Reply}
@@ -12,15 +12,15 @@ use Rattle.log_runs.specs.EventView as events
 use Rattle.log_runs.specs.LogView.{LogView}
 use Rattle.search_rules.specs.Junk.{Overlooks}
 use Rattle.search_rules.specs.Values.{HasKey, Touches}
-use Rattle.search_rules.specs.declared.later.Later.{Later}
+use Rattle.search_rules.specs.LaterView.{LaterView}
 
 -- the four bytes from that place on, as a number
 abbrev pub value_in : List ℕ → ℕ → ℕ
 value_in m at = slice_index m at + 256 * slice_index m (at + 1) + 65536 * slice_index m (at + 2) + 16777216 * slice_index m (at + 3)
 
 -- the last request that has the key
-abbrev pub last_of : {S : Type 0} → HashMap ℕ ℕ S → ℕ → Option ℕ
-last_of lasts k = get nat_eq lasts k
+abbrev pub last_of : List (ℕ × ℕ) → ℕ → Option ℕ
+last_of lasts k = lookup (nat_eq k) lasts
 
 -- the operation's range is whole words, and it makes no difference to it what stands there
 pub record IsCareless (x : Extent) (op : Op) (told : Option Reply) : Type 0 where
@@ -41,30 +41,30 @@ abbrev pub IsCarelessAt : Extent → Option EventView → Type 0
 IsCarelessAt x o = (i : ℕ) × (op : Op) × (told : Option Reply) × (o ≡ Some (events.Sub i op told)) × IsCareless x op told
 
 -- the event at place b has a key whose last request isn't before it, or is careless, or makes its words odd
-abbrev pub IsKnown : Extent → Option EventView → ℕ → Later → Type 0
+abbrev pub IsKnown : Extent → Option EventView → ℕ → LaterView → Type 0
 IsKnown x o b v =
-    ((k : ℕ) × (l : ℕ) × HasKey x.base o k × (last_of v.lasts k ≡ Some l) × (b ≤ l)) ⊎ IsCarelessAt x o ⊎ IsOdd x.base o b v.odd.items
+    ((k : ℕ) × (l : ℕ) × HasKey x.base o k × (last_of v.lasts k ≡ Some l) × (b ≤ l)) ⊎ IsCarelessAt x o ⊎ IsOdd x.base o b v.odd
 
 -- so each of the first n events
-abbrev pub IsLater : LogView → Later → ℕ → Type 0
+abbrev pub IsLater : LogView → LaterView → ℕ → Type 0
 IsLater log v n = (b : ℕ) → b < n → IsKnown log.extent (slice_get log.events b) b v
 
 -- the event at place n, the next one, is added
-pub record Grows (x : Extent) (o : Option EventView) (n : ℕ) (old new : Later) : Type 0 where
+pub record Grows (x : Extent) (o : Option EventView) (n : ℕ) (old new : LaterView) : Type 0 where
   pub lasts : (k l : ℕ) → last_of old.lasts k ≡ Some l → (last_of new.lasts k ≡ Some l) ⊎ (last_of new.lasts k ≡ Some n)
-  pub len : length new.odd.items ≡ length old.odd.items
-  pub odd : (w l : ℕ) → slice_get old.odd.items w ≡ Some l → (slice_get new.odd.items w ≡ Some l) ⊎ (slice_get new.odd.items w ≡ Some (n + 1))
+  pub len : length new.odd ≡ length old.odd
+  pub odd : (w l : ℕ) → slice_get old.odd w ≡ Some l → (slice_get new.odd w ≡ Some l) ⊎ (slice_get new.odd w ≡ Some (n + 1))
   pub here : IsKnown x o n new
 
 -- no request from the place on needs the value of the word, nor makes the word odd
-pub record IsUnneeded (v : Later) (word value event : ℕ) : Type 0 where
+pub record IsUnneeded (v : LaterView) (word value event : ℕ) : Type 0 where
   pub bound : ℕ
-  pub odd : slice_get v.odd.items word ≡ Some bound
+  pub odd : slice_get v.odd word ≡ Some bound
   pub passed : bound ≤ event
   pub lasts : (l : ℕ) → last_of v.lasts (word * 4294967296 + value) ≡ Some l → l < event
 
 -- the operation's range is one word; what it leaves there, wherever it acts as it was answered, no request from the place on needs
-pub record LeavesUnneeded (x : Extent) (v : Later) (op : Op) (told : Option Reply) (event : ℕ) : Type 0 where
+pub record LeavesUnneeded (x : Extent) (v : LaterView) (op : Op) (told : Option Reply) (event : ℕ) : Type 0 where
   pub word : ℕ
   pub place : address_of op ≡ x.base + 4 * word
   pub whole : count_of op ≡ 4

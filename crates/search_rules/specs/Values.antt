@@ -1,6 +1,6 @@
 -- Requests that need a whole word, and what other requests name words.
 use Rattle.std.specs.Prelude.{ℕ, ◌≡◌, ◌+◌, ◌*◌, ◌<◌, ◌⊎◌, nat_eq, List, Bool, length, slice_get, slice_index, Option, Some, true, false}
-use Rattle.std.specs.HashSet.{HashSet, contains}
+use Rattle.std.specs.List.{list_any}
 use Rattle.arrayvec.specs.ArrayVec.{ArrayVec}
 use Rattle.tlp_core.specs.declared.operation.Op.{Op}
 use Rattle.tlp_core.specs.Operation.{address_of, count_of}
@@ -12,11 +12,11 @@ use Rattle.log_runs.specs.EventView as events
 use Rattle.log_runs.specs.LogView.{LogView}
 use Rattle.search_rules.specs.Rules.{Suits, LetsFirst}
 use Rattle.search_rules.specs.declared.values.Gathering.{Gathering}
-use Rattle.search_rules.specs.declared.values.Values.{Values}
+use Rattle.search_rules.specs.ValuesView.{ValuesView}
 
--- the set has the key
-abbrev pub has_key : {S : Type 0} → HashSet ℕ S → ℕ → Bool
-has_key keys k = contains nat_eq keys k
+-- the list has the key
+abbrev pub has_key : List ℕ → ℕ → Bool
+has_key keys k = list_any (nat_eq k) keys
 
 -- four bytes as a number
 abbrev pub word_value : List ℕ → ℕ
@@ -49,34 +49,34 @@ IsMixed base o mixed =
     (i w : ℕ) (op : Op) (told : Option Reply) → o ≡ Some (events.Sub i op told) → Touches base op w → w < length mixed → slice_get mixed w ≡ Some true
 
 -- each of the first n events has a key or marks its words; a key that two have is shared
-pub record AreValues (log : LogView) (v : Values) (n : ℕ) : Type 0 where
-  pub each : (b : ℕ) → b < n → ((k : ℕ) × HasKey log.extent.base (slice_get log.events b) k) ⊎ IsMixed log.extent.base (slice_get log.events b) v.mixed.items
+pub record AreValues (log : LogView) (v : ValuesView) (n : ℕ) : Type 0 where
+  pub each : (b : ℕ) → b < n → ((k : ℕ) × HasKey log.extent.base (slice_get log.events b) k) ⊎ IsMixed log.extent.base (slice_get log.events b) v.mixed
   pub shared : (b c k : ℕ) → b < c → c < n → HasKey log.extent.base (slice_get log.events b) k → HasKey log.extent.base (slice_get log.events c) k
-      → (has_key v.shared k ≡ true) ⊎ IsMixed log.extent.base (slice_get log.events b) v.mixed.items ⊎ IsMixed log.extent.base (slice_get log.events c) v.mixed.items
+      → (has_key v.shared k ≡ true) ⊎ IsMixed log.extent.base (slice_get log.events b) v.mixed ⊎ IsMixed log.extent.base (slice_get log.events c) v.mixed
 
 -- and all keys were seen
 pub record AreGathered (log : LogView) (g : Gathering) (n : ℕ) : Type 0 where
   pub values : AreValues log g.values n
-  pub seen : (b : ℕ) → b < n → ((k : ℕ) × HasKey log.extent.base (slice_get log.events b) k × (has_key g.seen k ≡ true))
-      ⊎ IsMixed log.extent.base (slice_get log.events b) g.values.mixed.items
+  pub seen : (b : ℕ) → b < n → ((k : ℕ) × HasKey log.extent.base (slice_get log.events b) k × (has_key g.seen.keys k ≡ true))
+      ⊎ IsMixed log.extent.base (slice_get log.events b) g.values.mixed
 
 -- the event is added to what was gathered
 pub record Adds (base : ℕ) (o : Option EventView) (old new : Gathering) : Type 0 where
-  pub seen : (k : ℕ) → has_key old.seen k ≡ true → has_key new.seen k ≡ true
+  pub seen : (k : ℕ) → has_key old.seen.keys k ≡ true → has_key new.seen.keys k ≡ true
   pub shared : (k : ℕ) → has_key old.values.shared k ≡ true → has_key new.values.shared k ≡ true
-  pub len : length new.values.mixed.items ≡ length old.values.mixed.items
-  pub mixed : (w : ℕ) → slice_get old.values.mixed.items w ≡ Some true → slice_get new.values.mixed.items w ≡ Some true
-  pub here : ((k : ℕ) × HasKey base o k × (has_key new.seen k ≡ true) × (has_key old.seen k ≡ true → has_key new.values.shared k ≡ true))
-      ⊎ IsMixed base o new.values.mixed.items
+  pub len : length new.values.mixed ≡ length old.values.mixed
+  pub mixed : (w : ℕ) → slice_get old.values.mixed w ≡ Some true → slice_get new.values.mixed w ≡ Some true
+  pub here : ((k : ℕ) × HasKey base o k × (has_key new.seen.keys k ≡ true) × (has_key old.seen.keys k ≡ true → has_key new.values.shared k ≡ true))
+      ⊎ IsMixed base o new.values.mixed
 
 -- no other request has the operation's key, and its word isn't marked
-pub record IsAloneFor (base : ℕ) (op : Op) (bytes : List ℕ) (v : Values) : Type 0 where
+pub record IsAloneFor (base : ℕ) (op : Op) (bytes : List ℕ) (v : ValuesView) : Type 0 where
   pub number : ℕ
   pub key : KeyFor base op bytes number
   pub unshared : has_key v.shared number ≡ false
   pub word : ℕ
   pub place : address_of op ≡ base + 4 * word
-  pub pure : slice_get v.mixed.items word ≡ Some false
+  pub pure : slice_get v.mixed word ≡ Some false
 
 -- wherever the memory suits request q, none of the others can act before q that has one of its bytes
 abbrev pub IsAlone : LogView → ℕ → Type 0

@@ -22,6 +22,7 @@ use log_runs::{Event, Log};
 use seq_memory::Reply;
 use std::alloc::{AllocError, Global};
 use std::collections::HashMap;
+use std::marker::Model;
 use tlp_core::Op;
 
 /// Which requests of a log are the last that need a value of a word.
@@ -36,6 +37,14 @@ pub struct Later {
     /// By word, the place behind the last request that names bytes of it, has no key, and may see what
     /// stands there.
     odd: Vec<usize>,
+}
+
+impl Model for Later {
+    ghost use Rattle.search_rules.specs.LaterView.{LaterView};
+
+    ghost Value = { LaterView };
+
+    ghost view = { λ l. record { lasts = l.lasts.entries; odd = l.odd.items } };
 }
 
 /// The request, whose range is whole words, doesn't see what stands there.
@@ -90,9 +99,9 @@ impl Later {
     /// One request more has no key: the one before place `end`.
     fn take_other(&mut self, log: &Log, op: &Op, told: Option<&Reply>, end: usize)
         ensures lasts { self.new.lasts ≡ self.old.lasts }
-        ensures len { length self.new.odd.items ≡ length self.old.odd.items }
-        ensures odd { (w l : ℕ) → slice_get self.old.odd.items w ≡ Some l → (slice_get self.new.odd.items w ≡ Some l) ⊎ (slice_get self.new.odd.items w ≡ Some end) }
-        ensures here { IsCareless log.now.extent op.now (told_of told.entry) ⊎ ((w : ℕ) → Touches log.now.extent.base op.now w → w < length self.old.odd.items → slice_get self.new.odd.items w ≡ Some end) }
+        ensures len { length self.new.odd ≡ length self.old.odd }
+        ensures odd { (w l : ℕ) → slice_get self.old.odd w ≡ Some l → (slice_get self.new.odd w ≡ Some l) ⊎ (slice_get self.new.odd w ≡ Some end) }
+        ensures here { IsCareless log.now.extent op.now (told_of told.entry) ⊎ ((w : ℕ) → Touches log.now.extent.base op.now w → w < length self.old.odd → slice_get self.new.odd w ≡ Some end) }
     {
         if is_careless(log, op, told) {
             return;
@@ -135,7 +144,7 @@ pub fn later_of(alloc: Global, log: &Log) -> Result<Later, AllocError>
 
 /// The last request that has the key is before the place.
 fn is_before(lasts: &HashMap<u64, usize>, key: u64, event: usize) -> bool
-    ensures { IsTrue result → (l : ℕ) → last_of lasts.now key ≡ Some l → l < event }
+    ensures { IsTrue result → (l : ℕ) → last_of lasts.now.entries key ≡ Some l → l < event }
 {
     match lasts.get(&key) {
         Some(last) => *last < event,

@@ -15,6 +15,7 @@ use log_runs::{Event, Log};
 use seq_memory::Reply;
 use std::alloc::{AllocError, Global};
 use std::collections::HashSet;
+use std::marker::Model;
 use tlp_core::Op;
 
 /// Which values the requests of a log need in the words of its memory.
@@ -28,6 +29,14 @@ pub struct Values {
     shared: HashSet<u64>,
     /// Which words are named by requests that have no key.
     mixed: Vec<bool>,
+}
+
+impl Model for Values {
+    ghost use Rattle.search_rules.specs.ValuesView.{ValuesView};
+
+    ghost Value = { ValuesView };
+
+    ghost view = { λ v. record { shared = v.shared.keys; mixed = v.mixed.items } };
 }
 
 /// What was gathered so far.
@@ -142,11 +151,11 @@ fn mark_of(mixed: &mut Vec<bool>, base: u64, event: Option<Event>)
 impl Gathering {
     /// One request more has the key.
     fn take_key(&mut self, key: u64) -> Result<(), AllocError>
-        ensures mixed { OnOk result (self.new.values.mixed.items ≡ self.old.values.mixed.items) }
-        ensures seen { OnOk result ((k : ℕ) → has_key self.old.seen k ≡ true → has_key self.new.seen k ≡ true) }
+        ensures mixed { OnOk result (self.new.values.mixed ≡ self.old.values.mixed) }
+        ensures seen { OnOk result ((k : ℕ) → has_key self.old.seen.keys k ≡ true → has_key self.new.seen.keys k ≡ true) }
         ensures shared { OnOk result ((k : ℕ) → has_key self.old.values.shared k ≡ true → has_key self.new.values.shared k ≡ true) }
-        ensures own { OnOk result (has_key self.new.seen key ≡ true) }
-        ensures again { OnOk result (has_key self.old.seen key ≡ true → has_key self.new.values.shared key ≡ true) }
+        ensures own { OnOk result (has_key self.new.seen.keys key ≡ true) }
+        ensures again { OnOk result (has_key self.old.seen.keys key ≡ true → has_key self.new.values.shared key ≡ true) }
     {
         if self.seen.contains(&key) {
             insert(&mut self.values.shared, key)?;
@@ -178,8 +187,8 @@ impl Gathering {
 
 /// Adds the key.
 fn insert(keys: &mut HashSet<u64>, key: u64) -> Result<(), AllocError>
-    ensures kept { OnOk result ((k : ℕ) → has_key keys.old k ≡ true → has_key keys.new k ≡ true) }
-    ensures own { OnOk result (has_key keys.new key ≡ true) }
+    ensures kept { OnOk result ((k : ℕ) → has_key keys.old.keys k ≡ true → has_key keys.new.keys k ≡ true) }
+    ensures own { OnOk result (has_key keys.new.keys key ≡ true) }
 {
     keys.insert(key)?;
     Ok(())
@@ -207,7 +216,7 @@ pub fn values_of(alloc: Global, log: &Log) -> Result<Values, AllocError>
 
 /// The word isn't mixed.
 fn is_pure(values: &Values, word: u64) -> bool
-    ensures { IsTrue result → slice_get values.now.mixed.items word ≡ Some false }
+    ensures { IsTrue result → slice_get values.now.mixed word ≡ Some false }
 {
     match values.mixed.get(word as usize) {
         Some(mixed) => !*mixed,
