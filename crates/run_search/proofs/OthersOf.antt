@@ -8,7 +8,7 @@ use Rattle.tlp_core.specs.declared.operation.Op.{Op}
 use Rattle.seq_memory.specs.declared.Reply.{Reply}
 use Rattle.log_runs.specs.EventView as events
 use Rattle.log_runs.specs.LogView.{LogView}
-use Rattle.search_rules.specs.Rules.{NeverBrings, Yields, LetsFirst, AllOthers}
+use Rattle.search_rules.specs.Rules.{NeverBrings, NeverPuts, Yields, LetsFirst, IsOutside, AllOthers}
 use Rattle.run_search.specs.declared.others.Asked.{Asked}
 use Rattle.run_search.specs.declared.others.Asked.TheVariants as asked
 use Rattle.search_places.specs.Pending.{has, submits}
@@ -43,11 +43,13 @@ Idle log b = (i : ℕ) (op : Op) (told : Option Reply) → slice_get log.events 
 
 module _ (who_is_left : (log : LogView) (p : PlaceView) (b : ℕ) → IsPlace log p → b < p.state.event → submits (slice_get log.events b) ≡ true → slice_get p.state.acted b ≡ Some false → has p.pending b ≡ true)
     (brings : (log : LogView) (b q : ℕ) → Idle log b → NeverBrings log b q) (yields : (log : LogView) (b q : ℕ) → Idle log b → Yields log b q)
-    (first : (log : LogView) (m : List ℕ) (b q : ℕ) → Idle log b → LetsFirst log m b q) where
+    (first : (log : LogView) (m : List ℕ) (b q : ℕ) → Idle log b → LetsFirst log m b q)
+    (outside : (log : LogView) (b k v : ℕ) → ((i : ℕ) (op : Op) (told : Option Reply) → slice_get log.events b ≡ Some (events.Sub i op told) → IsOutside log.extent op k) → NeverPuts log b k v) where
   idle_spares : (log : LogView) (m : List ℕ) (q : ℕ) (what : Asked) (b : ℕ) → Idle log b → Spares log m q what b
   idle_spares log m q asked.Lost b none = brings log b q none
   idle_spares log m q asked.Last b none = (brings log b q none, yields log b q none)
   idle_spares log m q asked.First b none = first log m b q none
+  idle_spares log m q (asked.Byte need) b none = outside log b need.place need.value (λ i op told at. absurd (none i op told at))
 
   pub all_others : (log : LogView) (p : PlaceView) (m : List ℕ) (q a : ℕ) (what : Asked)
       → IsPlace log p

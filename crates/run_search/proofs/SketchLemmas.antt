@@ -3,13 +3,15 @@ use Rattle.std.proofs.Common.{◌≡◌, ◌∙◌, ◌⊎◌, inl, inr, ℕ, ze
 use Rattle.std.specs.Prelude.{slice_get}
 use Rattle.std.proofs.lemmas.Option.{same_Some}
 use Rattle.tlp_core.specs.declared.operation.Op.{Op}
+use Rattle.seq_memory.specs.declared.Reply.{Reply}
 use Rattle.seq_memory.specs.Step.{after, answer}
 use Rattle.byte_effects.specs.Effects.{AreApart}
 use Rattle.log_runs.specs.EventView.{EventView}
 use Rattle.log_runs.specs.EventView as events
 use Rattle.log_runs.specs.LogView.{LogView}
 use Rattle.log_runs.specs.Runs.{reply_of, bytes_after, acted_on}
-use Rattle.search_rules.specs.Rules.{Suits, Ends, NeverBrings, Yields, AreApartThere}
+use Rattle.search_rules.specs.Rules.{Suits, Ends, NeverBrings, NeverPuts, Yields, AreApartThere, IsOutside}
+use Rattle.search_rules.specs.declared.missing.Need.{Need}
 use Rattle.run_search.specs.declared.others.Asked.{Asked}
 use Rattle.run_search.specs.declared.others.Asked.TheVariants as asked
 use Rattle.run_search.specs.declared.sketches.Sketch.{Sketch}
@@ -74,6 +76,16 @@ far_apart log ks b q k l are at there apart i j one other told asked here too =
       | inr behind ↦ inr (omega (arith, behind, from, start, size))
     ]
 
+pub beside : (log : LogView) (ks : List Sketch) (b base place : ℕ) (k : Sketch) → AreSketches log.events ks → log.extent.base ≡ base → slice_get ks b ≡ Some k
+    → (base + place < k.from) ⊎ (k.from + k.count ≤ base + place)
+    → (i : ℕ) (op : Op) (told : Option Reply) → slice_get log.events b ≡ Some (events.Sub i op told) → IsOutside log.extent op place
+beside log ks b base place k are is at out i op told here =
+    let (from, count) = are.at b (events.Sub i op told) k here at in
+    elim out [
+      | inl before ↦ inl (omega (arith, before, from, is))
+      | inr behind ↦ inr (omega (arith, behind, from, count, is))
+    ]
+
 -- ---- without a common byte
 
 module _ (answers : (base block : ℕ) (m : List ℕ) (one other : Op) → AreApart one other → answer base block (after base block m one) other ≡ answer base block m other)
@@ -117,7 +129,8 @@ module _ (answers : (base block : ℕ) (m : List ℕ) (one other : Op) → AreAp
   pub apart_yields : Yields log b q
   apart_yields m here too = ends m (slice_get log.events b) (slice_get log.events q) refl refl here too
 
-  pub apart_spares : (m : List ℕ) (what : Asked) → Spares log m q what b
-  apart_spares m asked.Lost = apart_brings
-  apart_spares m asked.Last = (apart_brings, apart_yields)
-  apart_spares m asked.First = inl apart
+  pub apart_spares : (m : List ℕ) (what : Asked) → ((need : Need) → what ≡ asked.Byte need → ⊥) → Spares log m q what b
+  apart_spares m asked.Lost whole = apart_brings
+  apart_spares m asked.Last whole = (apart_brings, apart_yields)
+  apart_spares m asked.First whole = inl apart
+  apart_spares m (asked.Byte need) whole = absurd (whole need refl)

@@ -1,7 +1,7 @@
 -- What another request does to a request.
 use Rattle.std.specs.Prelude.{ℕ, List}
 use Rattle.log_runs.specs.LogView.{LogView}
-use Rattle.search_rules.specs.Rules.{NeverBrings, Yields, LetsFirst}
+use Rattle.search_rules.specs.Rules.{NeverBrings, NeverPuts, Yields, LetsFirst}
 use Rattle.run_search.specs.declared.others.Asked.{Asked}
 use Rattle.run_search.specs.declared.others.Asked.TheVariants as asked
 
@@ -10,3 +10,4 @@ abbrev pub Spares : LogView → List ℕ → ℕ → Asked → ℕ → Type 0
 Spares log m q asked.Lost b = NeverBrings log b q
 Spares log m q asked.Last b = NeverBrings log b q × Yields log b q
 Spares log m q asked.First b = LetsFirst log m b q
+Spares log m q (asked.Byte need) b = NeverPuts log b need.place need.value

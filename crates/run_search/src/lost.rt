@@ -1,6 +1,8 @@
-//! Requests that can't have what they need.
-ghost use Rattle.std.specs.Prelude.{◌≡◌, Some, false, IsTrue, slice_get};
+//! Requests that can't have what they need, all of it or one byte.
+ghost use Rattle.std.specs.Prelude.{◌≡◌, ◌≤◌, Some, false, IsTrue, slice_get, slice_index};
+ghost use Rattle.log_runs.specs.EventView as events;
 ghost use Rattle.log_runs.specs.Runs.{Dead};
+ghost use Rattle.search_rules.specs.Rules.{AllOthers, NeverPuts};
 ghost use Rattle.run_search.specs.Catalogs.{IsCatalog};
 ghost use Rattle.search_places.specs.Places.{IsPlace};
 ghost use Rattle.search_places.specs.Ready as ready;
@@ -8,10 +10,71 @@ ghost use Rattle.search_places.specs.Ready as ready;
 use crate::catalog::Catalog;
 use crate::due::place_of;
 use crate::others::{Asked, others_spare};
-use log_runs::Log;
+use log_runs::{Event, Log};
 use search_places::Place;
 use search_places::laws::what_was_told_is_told;
-use search_rules::laws::lost_is_dead;
+use search_rules::laws::{lost_is_dead, what_lacks_a_byte_is_dead};
+use search_rules::{Need, need_at};
+
+/// The byte isn't what request `q` needs, and nobody makes it so before place `a`.
+fn lacks(place: &Place, log: &Log, catalog: &Catalog, q: usize, a: usize, need: Need) -> bool
+    requires place { IsPlace log.now place.now }
+    requires catalog { IsCatalog log.now catalog.now }
+    ensures gone { IsTrue result → slice_index place.now.state.bytes need.place ≡ need.value → ⊥ }
+    ensures nobody { IsTrue result → AllOthers place.now.state q a (λ b. NeverPuts log.now b need.place need.value) }
+{
+    let bytes = place.bytes();
+    if need.place >= bytes.len() || bytes[need.place] == need.value {
+        return false;
+    }
+    others_spare(place, log, catalog, q, a, Asked::Byte(need))
+}
+
+/// Request `q`, which is due at place `a`, lacks the byte at place `at` of its range.
+fn lacks_byte(place: &Place, log: &Log, catalog: &Catalog, q: usize, a: usize, at: usize) -> bool
+    requires place { IsPlace log.now place.now }
+    requires catalog { IsCatalog log.now catalog.now }
+    requires due { slice_get log.now.events a ≡ Some (events.Due q) }
+    requires since { place.now.state.event ≤ a }
+    requires left { slice_get place.now.state.acted q ≡ Some false }
+    ensures { IsTrue result → Dead log.now place.now.state }
+{
+    what_lacks_a_byte_is_dead();
+    match need_at(log, q, at) {
+        Some(need) => lacks(place, log, catalog, q, a, need),
+        None => false,
+    }
+}
+
+/// How many bytes the request has.
+fn size_of(log: &Log, q: usize) -> usize {
+    match log.event(q) {
+        Some(Event::Sub { op, .. }) => op.size() as usize,
+        _ => 0,
+    }
+}
+
+/// Request `q`, which is due at place `a`, lacks some byte. With no more than a word it needs that at
+/// once, so there it isn't asked for each byte.
+fn lacks_some_byte(place: &Place, log: &Log, catalog: &Catalog, q: usize, a: usize) -> bool
+    requires place { IsPlace log.now place.now }
+    requires catalog { IsCatalog log.now catalog.now }
+    requires due { slice_get log.now.events a ≡ Some (events.Due q) }
+    requires since { place.now.state.event ≤ a }
+    requires left { slice_get place.now.state.acted q ≡ Some false }
+    ensures { IsTrue result → Dead log.now place.now.state }
+{
+    let size = size_of(log, q);
+    if size <= 4 {
+        return false;
+    }
+    for at in 0..size {
+        if lacks_byte(place, log, catalog, q, a, at) {
+            return true;
+        }
+    }
+    false
+}
 
 /// The request doesn't find what it needs, and nobody brings it before it is due.
 #[inline(never)]
@@ -34,5 +97,8 @@ pub(crate) fn is_lost(place: &Place, log: &Log, catalog: &Catalog, q: usize) -> 
     if place.suits(log, q) {
         return false;
     }
-    others_spare(place, log, catalog, q, a, Asked::Lost)
+    if others_spare(place, log, catalog, q, a, Asked::Lost) {
+        return true;
+    }
+    lacks_some_byte(place, log, catalog, q, a)
 }

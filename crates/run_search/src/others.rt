@@ -1,5 +1,5 @@
 //! What the others that could act before a request do to it.
-ghost use Rattle.std.specs.Prelude.{ℕ, ◌≡◌, ◌<◌, ◌≤◌, true, IsTrue};
+ghost use Rattle.std.specs.Prelude.{ℕ, List, ◌≡◌, ◌<◌, ◌≤◌, true, IsTrue};
 ghost use Rattle.search_rules.specs.Rules.{AllOthers};
 ghost use Rattle.search_places.specs.Pending.{has};
 ghost use Rattle.run_search.specs.Catalogs.{IsCatalog};
@@ -8,13 +8,13 @@ ghost use Rattle.run_search.specs.Sketches.{AreSketches};
 ghost use Rattle.run_search.specs.Spared.{Spares};
 
 use crate::catalog::Catalog;
-use crate::sketches::{Sketch, are_far};
+use crate::sketches::{Sketch, are_far, lies_beside};
 use byte_effects::laws::apart_requests_commute;
 use log_runs::Log;
 use search_places::Place;
 use search_places::laws::who_is_left_is_pending;
-use search_rules::laws::answers_yield;
-use search_rules::{lets_first, never_brings, yields};
+use search_rules::laws::{answers_yield, nothing_is_put_outside};
+use search_rules::{Need, lets_first, never_brings, never_puts, yields};
 
 /// What is asked of the others.
 #[derive(Clone, Copy)]
@@ -25,6 +25,8 @@ pub(crate) enum Asked {
     Last,
     /// They have none of its bytes, or can't act before it.
     First,
+    /// They don't make this byte what the request needs.
+    Byte(Need),
 }
 
 /// Request `b` does to request `q` as is asked.
@@ -36,6 +38,21 @@ fn spares(log: &Log, bytes: &[u8], b: usize, q: usize, asked: Asked) -> bool
         Asked::Lost => never_brings(log, b, q),
         Asked::Last => yields(log, b, q),
         Asked::First => lets_first(log, bytes, b, q),
+        Asked::Byte(need) => never_puts(log, b, need),
+    }
+}
+
+/// Request `b` has none of the bytes that are asked for, as far as there are sketches.
+#[inline(always)]
+fn is_beside(log: &Log, sketches: &[Sketch], b: usize, q: usize, asked: Asked) -> bool
+    requires { AreSketches log.now.events sketches.now }
+    ensures { IsTrue result → (m : List ℕ) → Spares log.now m q asked b }
+{
+    apart_requests_commute();
+    nothing_is_put_outside();
+    match asked {
+        Asked::Byte(need) => lies_beside(sketches, log.extent().base(), b, need.place),
+        _ => are_far(sketches, b, q),
     }
 }
 
@@ -45,11 +62,10 @@ fn allows(log: &Log, sketches: &[Sketch], bytes: &[u8], b: usize, q: usize, aske
     requires { AreSketches log.now.events sketches.now }
     ensures { IsTrue result → (q ≡ b → ⊥) → Spares log.now bytes.now q asked b }
 {
-    apart_requests_commute();
     if b == q {
         return true;
     }
-    if are_far(sketches, b, q) {
+    if is_beside(log, sketches, b, q, asked) {
         return true;
     }
     spares(log, bytes, b, q, asked)
@@ -110,6 +126,7 @@ pub(crate) fn others_spare(
     ensures { IsTrue result → AllOthers place.now.state q a (Spares log.now place.now.state.bytes q asked) }
 {
     answers_yield();
+    nothing_is_put_outside();
     who_is_left_is_pending();
     let bytes = place.bytes();
     let sketches = catalog.sketches.as_slice();

@@ -1,8 +1,11 @@
 //! What is looked at often of a request, in a table.
-ghost use Rattle.std.specs.Prelude.{◌≡◌, ◌+◌, ◌≤◌, ◌⊎◌, IfOk, IfSome, IsTrue, Some, slice_get};
+ghost use Rattle.std.specs.Prelude.{ℕ, ◌≡◌, ◌+◌, ◌<◌, ◌≤◌, ◌⊎◌, IfOk, IfSome, IsTrue, Option, Some, slice_get};
+ghost use Rattle.tlp_core.specs.declared.operation.Op.{Op};
+ghost use Rattle.seq_memory.specs.declared.Reply.{Reply};
 ghost use Rattle.log_runs.specs.EventView.{EventView};
+ghost use Rattle.log_runs.specs.EventView as events;
 ghost use Rattle.log_runs.specs.LogView.{LogView};
-ghost use Rattle.search_rules.specs.Rules.{AreApartThere};
+ghost use Rattle.search_rules.specs.Rules.{AreApartThere, IsOutside};
 ghost use Rattle.run_search.specs.Sketches.{IsSketchOf, AreSketches};
 
 use byte_effects::is_needed;
@@ -48,6 +51,18 @@ impl Sketch {
             u64::from(self.count) <= other.from - self.from
         } else {
             u64::from(other.count) <= self.from - other.from
+        }
+    }
+
+    /// The byte at that place of a memory that begins at `base` isn't one of its bytes.
+    fn is_beside(self, base: u64, place: usize) -> bool
+        ensures { IsTrue result → (base + place < self.from) ⊎ (self.from + self.count ≤ base + place) }
+    {
+        match base.checked_add(place as u64) {
+            Some(address) => {
+                address < self.from || address - self.from >= u64::from(self.count)
+            }
+            None => false,
         }
     }
 
@@ -185,4 +200,14 @@ pub(crate) fn are_far(sketches: &[Sketch], b: usize, q: usize) -> bool
         return false;
     };
     one.is_apart(other)
+}
+
+/// The byte at that place of the memory isn't one of the request's, as far as there is a sketch of it.
+pub(crate) fn lies_beside(sketches: &[Sketch], base: u64, b: usize, place: usize) -> bool
+    ensures { IsTrue result → (log : LogView) → AreSketches log.events sketches.now → log.extent.base ≡ base → (i : ℕ) (op : Op) (told : Option Reply) → slice_get log.events b ≡ Some (events.Sub i op told) → IsOutside log.extent op place }
+{
+    let Some(sketch) = sketch_at(sketches, b) else {
+        return false;
+    };
+    sketch.is_beside(base, place)
 }

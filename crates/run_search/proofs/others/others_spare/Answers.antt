@@ -8,7 +8,7 @@ pub returns : goal.returns
 returns c = λ so.
     let log = c.args.log.now in
     let s = c.args.place.now.state in
-    all_others c.who_is_left_is_pending.ensures c.answers_yield.ensures.brings c.answers_yield.ensures.yields c.answers_yield.ensures.first
+    all_others c.who_is_left_is_pending.ensures c.answers_yield.ensures.brings c.answers_yield.ensures.yields c.answers_yield.ensures.first c.nothing_is_put_outside.ensures
     log c.args.place.now s.bytes c.args.q c.args.a c.args.asked c.requires.place
     (λ b h other. subst (λ (m : List ℕ). Spares log m c.args.q c.args.asked b) c.bytes-bytes.ensures
     (c.all_spare.ensures c.if-not-all_spare.false b (subst (λ (ys : List ℕ). has ys b ≡ true) (sym c.pending.ensures) h) other))
