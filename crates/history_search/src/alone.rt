@@ -5,7 +5,8 @@ ghost use Rattle.log_cells.specs.Places.{ArePlaces};
 
 use log_cells::{Cells, part};
 use log_runs::{Log, Step};
-use run_search::{NO_PART, Outcome, Turn, explore};
+use run_search::{Outcome, explore};
+use search_choices::{NO_PART, Turn};
 use std::alloc::{AllocError, Global};
 
 /// Looks for a run through the part of the log on the bytes from `low` up to `high`, at no more than
@@ -46,19 +47,19 @@ pub(crate) struct Parts {
 /// The request isn't in a run.
 const NO_TURN: Turn = Turn {
     part: NO_PART,
-    place: 0,
+    before: 0,
 };
 
 /// Notes when the requests act in a run through a part, whose events have these names.
 fn note(turns: &mut Vec<Turn>, part: u32, names: &[usize], steps: &[Step]) {
-    let mut place = 0u32;
+    let mut before = 0u32;
     for step in steps {
         if let Step::Act(b) = step
             && let Some(name) = names.get(*b)
             && *name < turns.len()
         {
-            turns[*name] = Turn { part, place };
-            place = place.saturating_add(1);
+            turns[*name] = Turn { part, before };
+            before = before.saturating_add(1);
         }
     }
 }

@@ -1,6 +1,5 @@
 pub mod Lists
 pub mod RuleLemmas
-pub mod Covering
 pub mod FrameLemmas
 pub mod GroupLemmas
 pub mod OthersOf

@@ -1,5 +1,4 @@
 pub mod Spared
-pub mod Offered
 pub mod Frames
 pub mod Groups
 pub mod Outcomes

@@ -5,9 +5,9 @@ ghost use Rattle.run_search.specs.Frames.{IsAt};
 ghost use Rattle.run_search.specs.Outcomes.{IsRun, IsRight};
 
 use crate::catalog::{Catalog, catalog_of};
-use crate::guesses::Turn;
 use crate::walk::{Walk, advance, begin, settle};
 use log_runs::{Log, Step};
+use search_choices::Turn;
 use std::alloc::{AllocError, Global};
 
 /// What a search for a run says.

@@ -8,11 +8,9 @@
 #![tactic(auto)]
 
 mod catalog;
-mod choices;
 mod due;
 mod exploring;
 mod groups;
-mod guesses;
 mod hints;
 mod junk;
 mod lost;
@@ -22,4 +20,3 @@ mod sketches;
 mod walk;
 
 pub use exploring::{Outcome, explore};
-pub use guesses::{NO_PART, Turn};

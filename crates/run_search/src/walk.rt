@@ -6,14 +6,13 @@ ghost use Rattle.run_search.specs.Catalogs.{IsCatalog};
 ghost use Rattle.run_search.specs.Frames as frames;
 
 use crate::catalog::Catalog;
-use crate::choices::choices;
-use crate::guesses::Turn;
 use crate::hints::{Look, Losses};
 use crate::junk::over_junk;
 use crate::lost::is_lost;
 use crate::rules::forced;
 use crate::sketches::Sketch;
 use log_runs::{Log, Step};
+use search_choices::{Turn, choices};
 use search_places::{Memo, Place, Stack};
 use std::alloc::{AllocError, Global};
 

@@ -9,8 +9,8 @@ use search_places::Place;
 pub struct Turn {
     /// A number of the part; [`NO_PART`] if it isn't in one.
     pub part: u32,
-    /// How many act before it there.
-    pub place: u32,
+    /// How many act before it in the run through the part.
+    pub before: u32,
 }
 
 /// The request is in no part.
@@ -20,10 +20,10 @@ pub const NO_PART: u32 = u32::MAX;
 const MOST: usize = 64;
 
 /// When request `q` acts in the run through the part, if it is in it.
-fn place_in(turns: &[Turn], part: u32, q: usize) -> Option<u32> {
+fn before_in(turns: &[Turn], part: u32, q: usize) -> Option<u32> {
     match turns.get(q) {
         Some(turn) => if turn.part == part {
-            Some(turn.place)
+            Some(turn.before)
         } else {
             None
         },
@@ -36,7 +36,7 @@ fn first_in(place: &Place, turns: &[Turn], part: u32) -> Option<usize> {
     let mut least = u32::MAX;
     let mut first = None;
     for q in place.pending() {
-        if let Some(at) = place_in(turns, part, *q)
+        if let Some(at) = before_in(turns, part, *q)
             && at < least
         {
             least = at;

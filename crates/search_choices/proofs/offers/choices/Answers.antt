@@ -1,9 +1,9 @@
 use Rattle.std.proofs.Common.{take}
 use Rattle.std.proofs.lemmas.List.Sorted.{All-permutation}
 use Rattle.log_runs.specs.Runs.{Allowed}
-use Rattle.run_search.specs.Offered.{all_of}
-use Rattle.run_search.proofs.Covering.{offers_next, offers_end, offers_permuted, offers_all}
-use Rattle.run_search.proofs.choices.choices.Goals as goal
+use Rattle.search_choices.specs.Offered.{all_of}
+use Rattle.search_choices.proofs.Covering.{offers_next, offers_end, offers_permuted, offers_all}
+use Rattle.search_choices.proofs.offers.choices.Goals as goal
 
 pub loop-b-preserved : goal.loop-b-preserved
 loop-b-preserved c =

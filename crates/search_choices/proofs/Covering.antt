@@ -1,8 +1,9 @@
 -- Which steps are enough.
-use Rattle.std.proofs.Common.{◌≡◌, ◌∙◌, ℕ, ◌+◌, ◌<◌, ◌≤◌, true, false, List, Some, [], ◌∷◌, ◌++◌, take, length, get_or, refl, sym, ap, subst, inl, inr, arith, append_assoc, ◌⊎◌}
+use Rattle.std.proofs.Common.{◌≡◌, ◌∙◌, ℕ, ◌+◌, ◌<◌, ◌≤◌, true, false, List, Some, [], ◌∷◌, ◌++◌, take, length, get_or, refl, sym, ap, subst, inl, inr, arith, add-one, append_assoc, ◌⊎◌, Bool}
 use Rattle.std.specs.Prelude.{slice_get, ◌==◌}
 use Rattle.std.specs.List.{Contains, All}
 use Rattle.std.specs.List.Sorted.{IsPermutation}
+use Rattle.std.proofs.Math.Seq.{take-suc}
 use Rattle.std.proofs.lemmas.Bool.{or_cases, eqb-true}
 use Rattle.std.proofs.lemmas.List.{take_all}
 use Rattle.std.proofs.lemmas.List.Folds.{list_any-append}
@@ -12,13 +13,14 @@ use Rattle.log_runs.specs.LogView.{LogView}
 use Rattle.log_runs.specs.declared.Step.{Step}
 use Rattle.log_runs.specs.declared.Step.TheVariants as steps
 use Rattle.log_runs.specs.Runs.{State, Allowed, MayAct, Leads, Dead, Covers, next}
-use Rattle.run_search.specs.declared.choices.Offer.{Offer}
+use Rattle.search_choices.specs.declared.offers.Offer.{Offer}
 use Rattle.search_places.specs.Pending.{has, submits}
-use Rattle.run_search.specs.Offered.{all_of, Puts, Offers}
-use Rattle.run_search.proofs.Lists.{take_one}
+use Rattle.search_choices.specs.Offered.{all_of, Puts, Offers}
 use Rattle.search_places.specs.PlaceView.{PlaceView}
 use Rattle.search_places.specs.Places.{IsPlace}
-use Rattle.run_search.proofs.RuleLemmas.{run}
+
+pub clash : {b : Bool} → b ≡ true → b ≡ false → ⊥
+clash t f = let e : true ≡ false = sym t ∙ f in cc
 
 -- the list has each step that may be taken
 pub covers_all : (log : LogView) (s : State) (xs : List Step) → (s.event ≡ length log.events → ⊥) → ((x : Step) → Allowed log s x → Contains xs x) → Covers log s xs
@@ -26,7 +28,7 @@ covers_all log s xs more has_all dead live = first live.steps live.leads
   where
     first : (ys : List Step) → Leads log s ys live.last → ⊥
     first [] e = more (ap (λ (u : State). u.event) e ∙ live.over)
-    first (y ∷ ys) e = All-contains (λ x. Allowed log s x → Dead log (next log s x)) xs y dead (has_all y e.0) e.0 (run log (next log s y) live.last ys e.1 live.over)
+    first (y ∷ ys) e = All-contains (λ x. Allowed log s x → Dead log (next log s x)) xs y dead (has_all y e.0) e.0 (record { steps = ys; last = live.last; leads = e.1; over = live.over })
 
 -- ---- a step more
 
@@ -124,7 +126,7 @@ module _ (log : LogView) (s : State) where
 
   pub offers_next : (xs : List Step) (p q : List ℕ) (i : ℕ) → q ≡ p → i < length q → Offers log s xs (take i p ++ get_or q i 0 ∷ []) → Offers log s xs (take (i + 1) p)
   offers_next xs p q i e l h =
-      let at : take (i + 1) q ≡ take i q ++ get_or q i 0 ∷ [] = take_one q i 0 l in
+      let at : take (i + 1) q ≡ take i q ++ get_or q i 0 ∷ [] = ap (λ k. take k q) (add-one i) ∙ take-suc q i 0 l in
       subst (λ r. Offers log s xs (take (i + 1) r)) e
       (subst (Offers log s xs) (sym at) (subst (λ r. Offers log s xs (take i r ++ get_or q i 0 ∷ [])) (sym e) h))
 

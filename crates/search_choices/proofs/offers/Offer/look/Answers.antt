@@ -1,6 +1,5 @@
-use Rattle.run_search.proofs.Lists.{clash}
-use Rattle.run_search.proofs.Covering.{offers_act, offers_none}
-use Rattle.run_search.proofs.choices.Offer.look.Goals as goal
+use Rattle.search_choices.proofs.Covering.{clash, offers_act, offers_none}
+use Rattle.search_choices.proofs.offers.Offer.look.Goals as goal
 
 pub returns-then-not-may_act : goal.returns-then-not-may_act
 returns-then-not-may_act c = λ p h.

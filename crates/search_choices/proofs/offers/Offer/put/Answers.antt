@@ -1,6 +1,6 @@
 use Rattle.std.proofs.Common.{refl}
-use Rattle.run_search.proofs.Covering.{puts_guess, puts_due, puts_near, puts_far}
-use Rattle.run_search.proofs.choices.Offer.put.Goals as goal
+use Rattle.search_choices.proofs.Covering.{puts_guess, puts_due, puts_near, puts_far}
+use Rattle.search_choices.proofs.offers.Offer.put.Goals as goal
 
 pub returns-in_ok-push-in-Guess : goal.returns-in_ok-push-in-Guess
 returns-in_ok-push-in-Guess c =

@@ -7,7 +7,7 @@ ghost use Rattle.std.specs.List.{All};
 ghost use Rattle.std.specs.List.Sorted.{IsPermutation};
 ghost use Rattle.log_runs.specs.Runs.{Allowed, Covers};
 ghost use Rattle.search_places.specs.Places.{IsPlace};
-ghost use Rattle.run_search.specs.Offered.{all_of, Puts, Offers};
+ghost use Rattle.search_choices.specs.Offered.{all_of, Puts, Offers};
 
 use crate::guesses::{Turn, guess, write_before};
 use log_runs::{Event, Log, Step};
@@ -179,7 +179,7 @@ fn passing(alloc: Global, log: &Log, place: &Place) -> Result<Offer, AllocError>
 }
 
 /// The steps that may be taken.
-pub(crate) fn choices(
+pub fn choices(
     alloc: Global,
     log: &Log,
     turns: &[Turn],

@@ -1,6 +1,5 @@
-use Rattle.run_search.proofs.Lists.{clash}
-use Rattle.run_search.proofs.Covering.{offers_pass, offers_nothing}
-use Rattle.run_search.proofs.choices.passing.Goals as goal
+use Rattle.search_choices.proofs.Covering.{clash, offers_pass, offers_nothing}
+use Rattle.search_choices.proofs.offers.passing.Goals as goal
 
 pub returns-then-not-may_pass : goal.returns-then-not-may_pass
 returns-then-not-may_pass c =

@@ -6,7 +6,7 @@ use Rattle.log_runs.specs.LogView.{LogView}
 use Rattle.log_runs.specs.Runs.{State, Allowed, MayAct}
 use Rattle.log_runs.specs.declared.Step.{Step}
 use Rattle.log_runs.specs.declared.Step.TheVariants as steps
-use Rattle.run_search.specs.declared.choices.Offer.{Offer}
+use Rattle.search_choices.specs.declared.offers.Offer.{Offer}
 use Rattle.search_places.specs.Pending.{has}
 
 abbrev pub all_of : Offer → List Step
