@@ -1,5 +1,5 @@
 -- The way through the frames.
-use Rattle.std.proofs.Common.{◌≡◌, ◌∙◌, List, [], ◌∷◌, ◌++◌, Some, length, refl, sym, ap, subst, append_assoc}
+use Rattle.std.proofs.Common.{◌≡◌, ◌∙◌, ℕ, suc, ◌+◌, ◌<◌, List, [], ◌∷◌, ◌++◌, Some, length, refl, sym, ap, subst, append_assoc, arith, length-append}
 use Rattle.std.specs.List.{All}
 use Rattle.std.proofs.lemmas.List.Elements.{All-push, All-nil, All-pop}
 use Rattle.log_runs.specs.LogView.{LogView}
@@ -26,6 +26,23 @@ one_less log s t [] d leads = (s, refl, record { may = leads.0; led = sym leads.
 one_less log s t (x ∷ ds) d leads =
     let (m, before, last) = one_less log (next log s x.step) t ds d leads.1 in
     (m, (leads.0, before), last)
+
+-- ---- frames, and steps that are left there
+
+abbrev pub left_in : List FrameView → ℕ
+left_in [] = 0
+left_in (f ∷ fs) = suc (length f.rest + left_in fs)
+
+left_more : (fs : List FrameView) (f : FrameView) → left_in (fs ++ f ∷ []) ≡ suc (length f.rest + left_in fs)
+left_more [] f = refl
+left_more (g ∷ fs) f = let e = left_more fs f in omega (arith, e)
+
+pub fewer_steps : (fs : List FrameView) (f : FrameView) (r : List Step) (x : Step) → f.rest ≡ r ++ x ∷ [] → left_in (fs ++ record { done = f.done; rest = r } ∷ []) < left_in (fs ++ f ∷ [])
+fewer_steps fs f r x e =
+    omega (arith, left_more fs f, left_more fs (record { done = f.done; rest = r }), ap length e, length-append r (x ∷ []))
+
+pub fewer_frames : (fs : List FrameView) (f : FrameView) → left_in fs < left_in (fs ++ f ∷ [])
+fewer_frames fs f = omega (arith, left_more fs f)
 
 module _ (log : LogView) where
   -- ---- a frame more, a frame less, and what follows at the end

@@ -10,7 +10,7 @@ use Rattle.log_runs.specs.EventView.{EventView}
 use Rattle.log_runs.specs.EventView as events
 use Rattle.log_runs.specs.LogView.{LogView}
 use Rattle.log_runs.specs.Runs.{reply_of, bytes_after, acted_on}
-use Rattle.search_rules.specs.Rules.{Suits, Ends, NeverBrings, NeverPuts, Yields, AreApartThere, IsOutside}
+use Rattle.search_rules.specs.Rules.{Suits, Ends, NeverBrings, Yields, AreApartThere, IsOutside}
 use Rattle.search_rules.specs.declared.missing.Need.{Need}
 use Rattle.run_search.specs.declared.others.Asked.{Asked}
 use Rattle.run_search.specs.declared.others.Asked.TheVariants as asked

@@ -1,5 +1,5 @@
 //! What is known of a log before the search begins.
-ghost use Rattle.std.specs.Prelude.{IfOk};
+ghost use Rattle.std.specs.Prelude.{IfOk, OnOk};
 ghost use Rattle.run_search.specs.Catalogs.{IsCatalog};
 
 use crate::due::places;
@@ -18,6 +18,7 @@ pub(crate) struct Catalog {
     pub(crate) later: Later,
 }
 
+/// What is known of the log, but for what its requests need later.
 pub(crate) fn catalog_of(alloc: Global, log: &Log) -> Result<Catalog, AllocError>
     ensures { IfOk result (IsCatalog log.now) }
 {
@@ -25,6 +26,17 @@ pub(crate) fn catalog_of(alloc: Global, log: &Log) -> Result<Catalog, AllocError
         due: places(alloc, log)?,
         sketches: sketches_of(alloc, log)?,
         values: values_of(alloc, log)?,
-        later: later_of(alloc, log)?,
+        later: Later::unknown(alloc),
     })
+}
+
+impl Catalog {
+    /// Finds out what the log's requests need later, which a search without choices needn't know.
+    pub(crate) fn look_ahead(&mut self, alloc: Global, log: &Log) -> Result<(), AllocError>
+        requires { IsCatalog log.now self.old }
+        ensures { OnOk result (IsCatalog log.now self.new) }
+    {
+        self.later = later_of(alloc, log)?;
+        Ok(())
+    }
 }

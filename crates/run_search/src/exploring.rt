@@ -54,8 +54,12 @@ pub fn explore(
     ensures states { IfOk result (λ r. r.1 ≤ limit) }
     ensures limit { IfOk result (λ r. r.0 ≡ Outcome.Limit → r.1 ≡ limit) }
 {
-    let catalog = catalog_of(alloc, log)?;
+    let mut catalog = catalog_of(alloc, log)?;
     let mut walk = begin(alloc, log)?;
+    if let Some(steps) = finished(&mut walk, alloc, log, &catalog)? {
+        return Ok((Outcome::Run(steps), 0));
+    }
+    catalog.look_ahead(alloc, log)?;
     for states in 0..limit {
         if let Some(steps) = finished(&mut walk, alloc, log, &catalog)? {
             return Ok((Outcome::Run(steps), states));

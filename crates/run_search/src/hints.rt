@@ -5,7 +5,7 @@ ghost use Rattle.run_search.specs.Catalogs.{IsCatalog};
 use crate::catalog::Catalog;
 use crate::junk::MOST_EVENTS;
 use crate::sketches::{Sketch, are_far};
-use log_runs::{Log, Step};
+use log_runs::{Event, Log, Step};
 use search_places::{Done, Place};
 use search_rules::{
     changes_nothing, is_junk_later, is_junk_to, is_within, leaves_junk_later, leaves_junk_to,
@@ -51,6 +51,11 @@ impl Look {
             from: 0,
             marks: u32::MAX,
         }
+    }
+
+    /// At none.
+    pub(crate) fn none() -> Look {
+        Look { from: 0, marks: 0 }
     }
 
     /// Which are looked at once the step was taken, where so many were pending before it: one that was
@@ -173,9 +178,50 @@ fn overlooks(place: &Place, log: &Log, sketches: &[Sketch], b: usize, q: usize) 
     are_far(sketches, b, q) || is_junk_to(log, place.bytes(), b, q) && leaves_junk_to(log, b, q, q)
 }
 
-/// Request `b`, which is pending, may act in turn after request `q`, or [`overlooks`] it.
-fn may_join(place: &Place, log: &Log, sketches: &[Sketch], b: usize, q: usize) -> bool {
-    overlooks(place, log, sketches, b, q) || changes_nothing(log, b) || is_within(log, b, q)
+/// The request was answered.
+fn was_answered(log: &Log, b: usize) -> bool {
+    match log.event(b) {
+        Some(Event::Sub { reply, .. }) => reply.is_some(),
+        _ => false,
+    }
+}
+
+/// Request `b`, which is pending and has bytes of request `q`, may act in turn after it, or needs none
+/// of what is there before or after. The requesters of `writers` wait for posted writes that are
+/// somewhere else.
+fn may_join(
+    place: &Place,
+    log: &Log,
+    writers: u32,
+    sketch: Sketch,
+    b: usize,
+    q: usize,
+) -> bool {
+    let is_junk = is_junk_to(log, place.bytes(), b, q);
+    if is_junk && leaves_junk_to(log, b, q, q) {
+        return true;
+    }
+    if !is_junk && was_answered(log, b) {
+        return false;
+    }
+    sketch.requester() & writers == 0 && (changes_nothing(log, b) || is_within(log, b, q))
+}
+
+/// All pending requests that have bytes of request `q` may act in turn after it, or need none of what
+/// is there before or after.
+fn may_all_join(place: &Place, log: &Log, sketches: &[Sketch], own: Sketch, q: usize) -> bool {
+    let mut writers = 0u32;
+    for b in place.pending() {
+        let Some(sketch) = sketches.get(*b).copied() else {
+            return false;
+        };
+        if sketch.is_apart(own) {
+            writers |= sketch.writer();
+        } else if *b != q && !may_join(place, log, writers, sketch, *b, q) {
+            return false;
+        }
+    }
+    true
 }
 
 /// What stands where request `q` writes and what it leaves there is nothing to all that are to come.
@@ -204,16 +250,11 @@ fn is_nothing_later(place: &Place, log: &Log, catalog: &Catalog, q: usize) -> bo
 pub(crate) fn may_be_over_junk(place: &Place, log: &Log, catalog: &Catalog, q: usize) -> bool
     requires { IsCatalog log.now catalog.now }
 {
-    match catalog.sketches.get(q) {
-        Some(sketch) => if !sketch.changes {
-            return false;
-        },
-        None => return false,
-    }
-    for b in place.pending() {
-        if *b != q && !may_join(place, log, &catalog.sketches, *b, q) {
-            return false;
-        }
-    }
-    is_nothing_later(place, log, catalog, q)
+    let sketches = catalog.sketches.as_slice();
+    let Some(own) = sketches.get(q).copied() else {
+        return false;
+    };
+    own.changes
+        && may_all_join(place, log, sketches, own, q)
+        && is_nothing_later(place, log, catalog, q)
 }

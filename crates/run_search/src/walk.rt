@@ -17,7 +17,7 @@ use search_places::{Memo, Place, Stack};
 use std::alloc::{AllocError, Global};
 
 /// Of so many events to come it is looked whether their requests are lost.
-const SOON: usize = 256;
+const SOON: usize = 128;
 
 #[derive(Drop)]
 pub(crate) struct Walk {
@@ -26,6 +26,8 @@ pub(crate) struct Walk {
     pub(crate) memo: Memo,
     /// What the steps since the last frame overwrote.
     losses: Losses,
+    /// Which requests may act at once, and couldn't at the last frame.
+    look: Look,
 }
 
 pub(crate) fn begin(alloc: Global, log: &Log) -> Result<Walk, AllocError>
@@ -36,6 +38,7 @@ pub(crate) fn begin(alloc: Global, log: &Log) -> Result<Walk, AllocError>
         here: Place::first(alloc, log)?,
         memo: Memo::new(alloc),
         losses: Losses::new(alloc),
+        look: Look::all(),
     })
 }
 
@@ -70,7 +73,7 @@ pub(crate) fn settle(
     requires catalog { IsCatalog log.now catalog.now }
     ensures { OnOk result (frames.IsAt log.now walk.new) }
 {
-    let mut look = Look::all();
+    let mut look = walk.look;
     for _step in 0..u64::MAX {
         let Some(step) = at_once(&mut walk.here, alloc, log, catalog, look)? else {
             return Ok(());
@@ -109,32 +112,15 @@ fn rewind(walk: &mut Walk, log: &Log) -> Result<(), AllocError>
 /// Takes a step of the last frame, which isn't among those that are left there any more.
 fn go_on(walk: &mut Walk, log: &Log, sketches: &[Sketch], step: Step) -> Result<(), AllocError>
     requires { frames.MayTake log.now walk.old step }
-    ensures { OnOk result (frames.IsAt log.now walk.new) }
+    ensures at { OnOk result (frames.IsAt log.now walk.new) }
+    ensures frames { OnOk result (walk.new.stack.frames ≡ walk.old.stack.frames) }
 {
+    walk.look = Look::none().after(sketches, walk.here.pending().len(), step);
     let done = walk.here.take(log, step)?;
     walk.losses.clear();
     walk.losses.push(sketches, &done)?;
     walk.stack.push(&done)?;
     Ok(())
-}
-
-/// Goes on with what is left; false if nothing is.
-fn back(walk: &mut Walk, alloc: Global, log: &Log, sketches: &[Sketch]) -> Result<bool, AllocError>
-    requires { frames.IsReady log.now walk.old }
-    ensures at { IfOk result (λ more. IsTrue more → frames.IsAt log.now walk.new) }
-    ensures none { IfOk result (λ more. more ≡ false → Dead log.now (start log.now)) }
-{
-    loop {
-        if let Some(step) = walk.stack.next() {
-            go_on(walk, log, sketches, step)?;
-            return Ok(true);
-        }
-        if !walk.stack.reopen() {
-            return Ok(false);
-        }
-        walk.memo.note(alloc, &walk.here);
-        rewind(walk, log)?;
-    }
 }
 
 /// The request, which is due now or may need what the steps since the last frame overwrote, is lost
@@ -164,6 +150,30 @@ fn some_is_lost(walk: &Walk, log: &Log, catalog: &Catalog) -> bool
         }
     }
     false
+}
+
+/// Goes on with what is left and isn't lost at once; false if nothing is.
+fn back(walk: &mut Walk, alloc: Global, log: &Log, catalog: &Catalog) -> Result<bool, AllocError>
+    requires ready { frames.IsReady log.now walk.old }
+    requires catalog { IsCatalog log.now catalog.now }
+    ensures at { IfOk result (λ more. IsTrue more → frames.IsAt log.now walk.new) }
+    ensures none { IfOk result (λ more. more ≡ false → Dead log.now (start log.now)) }
+{
+    loop {
+        if let Some(step) = walk.stack.next() {
+            go_on(walk, log, &catalog.sketches, step)?;
+            if !some_is_lost(walk, log, catalog) {
+                return Ok(true);
+            }
+            rewind(walk, log)?;
+        } else {
+            if !walk.stack.reopen() {
+                return Ok(false);
+            }
+            walk.memo.note(alloc, &walk.here);
+            rewind(walk, log)?;
+        }
+    }
 }
 
 /// A request that is submitted soon is lost here.
@@ -214,5 +224,5 @@ pub(crate) fn advance(
     } else {
         keep(walk, alloc, log, turns)?;
     }
-    back(walk, alloc, log, &catalog.sketches)
+    back(walk, alloc, log, catalog)
 }

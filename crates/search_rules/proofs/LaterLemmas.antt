@@ -1,5 +1,5 @@
 -- Requests from a place on that don't see what stands at a word.
-use Rattle.std.proofs.Common.{◌≡◌, ◌∙◌, ◌⊎◌, inl, inr, ℕ, ◌+◌, ◌*◌, ◌-◌, ◌<◌, ◌≤◌, true, List, Some, None, Option, length, refl, sym, ap, subst, arith}
+use Rattle.std.proofs.Common.{◌≡◌, ◌∙◌, [], ◌⊎◌, inl, inr, ℕ, ◌+◌, ◌*◌, ◌-◌, ◌<◌, ◌≤◌, true, List, Some, None, Option, length, refl, sym, ap, subst, arith}
 use Rattle.std.specs.Prelude.{slice_get, slice_index}
 use Rattle.std.proofs.lemmas.Bool.{cases_eq, cases_lt, cases_order}
 use Rattle.std.proofs.lemmas.Option.{same_Some, slice_get_within}
@@ -27,6 +27,10 @@ use Rattle.search_rules.proofs.ValueLemmas.{address_at, count_at}
 
 pub later_none : (log : LogView) (v : LaterView) → IsLater log v 0
 later_none log v b l = absurd (omega (arith, l))
+
+-- without a word none is odd
+pub later_unknown : (log : LogView) (v : LaterView) → v.odd ≡ [] → IsLater log v (length log.events)
+later_unknown log v none b l = inr (inr (λ i w op told at touches inside. absurd (omega (arith, inside, ap length none))))
 
 stays : (x : Extent) (o p : Option EventView) (b n : ℕ) (v u : LaterView) → Grows x p n v u → b < n → IsKnown x o b v → IsKnown x o b u
 stays x o p b n v u more low known = elim known [

@@ -10,6 +10,7 @@ ghost use Rattle.tlp_core.specs.Operation.{address_of, count_of};
 ghost use Rattle.byte_effects.specs.Effects as effects;
 ghost use Rattle.byte_effects.specs.Effects.{told_of};
 ghost use Rattle.log_runs.specs.EventView as events;
+ghost use Rattle.log_runs.specs.LogView.{LogView};
 ghost use Rattle.search_rules.specs.Values.{Touches};
 ghost use Rattle.search_rules.specs.Rules.{IsJunkTo, LeavesJunkTo};
 ghost use Rattle.search_rules.specs.Later.{value_in, last_of, IsCareless, Grows, IsLater, IsUnneeded, LeavesUnneeded};
@@ -86,6 +87,16 @@ fn mark(odd: &mut Vec<usize>, base: u64, op: &Op, end: usize)
 }
 
 impl Later {
+    /// Nothing is known of the log, so [`is_junk_later`] and [`leaves_junk_later`] return false.
+    pub fn unknown(alloc: Global) -> Later
+        ensures { (log : LogView) → IsLater log result (length log.events) }
+    {
+        Later {
+            lasts: HashMap::new(alloc),
+            odd: Vec::new(alloc),
+        }
+    }
+
     /// One request more has the key: the one at that place.
     fn take_key(&mut self, key: u64, at: usize) -> Result<(), AllocError>
         ensures odd { OnOk result (self.new.odd ≡ self.old.odd) }

@@ -4,13 +4,13 @@ use Rattle.run_search.proofs.Lists.{clash}
 use Rattle.run_search.proofs.Suiting.{suits_is}
 use Rattle.run_search.proofs.lost.is_lost.Goals as goal
 
-pub returns : goal.returns
-returns c = λ so.
+pub returns-then-others_spare : goal.returns-then-others_spare
+returns-then-others_spare c = λ so.
     let s = c.args.place.now.state in
     c.lost_is_dead.ensures c.args.log.now s c.args.q c.in-Some.a (record {
       due = c.in-Some.ensures;
       since = omega (arith, c.if-a-event.false, c.event.ensures);
       left = c.is_left.ensures c.if-not-is_left.false;
       gone = λ there. clash (c.suits.ensures ∙ suits_is c.what_was_told_is_told.ensures c.args.log.now s.bytes (slice_get c.args.log.now.events c.args.q) there) c.if-suits.false;
-      nobody = c.others_spare.ensures so;
+      nobody = c.others_spare.ensures c.if-others_spare.true;
     })

@@ -1,10 +1,10 @@
-use Rattle.std.proofs.Common.{◌≡◌, ◌∙◌, List, [], ◌∷◌, ◌++◌, ap, sym, subst}
+use Rattle.std.proofs.Common.{◌≡◌, ◌∙◌, ◌<◌, List, [], ◌∷◌, ◌++◌, ap, sym, subst}
 use Rattle.std.proofs.lemmas.List.{append-nil}
 use Rattle.log_runs.specs.Runs.{State, Dead, next}
 use Rattle.search_places.specs.declared.steps.Done.{Done}
 use Rattle.search_places.specs.StackView.{FrameView, StackView}
 use Rattle.run_search.specs.Frames.{PathFrom, Back}
-use Rattle.run_search.proofs.FrameLemmas.{popped, drained, dropped}
+use Rattle.run_search.proofs.FrameLemmas.{left_in, fewer_steps, fewer_frames, popped, drained, dropped, turned}
 use Rattle.run_search.proofs.walk.back.Goals as goal
 
 pub go_on-requires : goal.go_on-requires
@@ -23,8 +23,8 @@ go_on-requires c =
       known = c.loop-step.invariant.known;
     }
 
-pub rewind-requires : goal.rewind-requires
-rewind-requires c =
+pub rewind-requires-in_default : goal.rewind-requires-in_default
+rewind-requires-in_default c =
     let log = c.args.log.now in
     let walk = c.loop-step.walk in
     let t = walk.here.state in
@@ -42,3 +42,33 @@ rewind-requires c =
       place = c.loop-step.invariant.place;
       known = c.note.ensures log c.loop-step.invariant.known c.loop-step.invariant.place dead;
     }
+
+pub rewind-requires : goal.rewind-requires
+rewind-requires c =
+    let log = c.args.log.now in
+    let walk = c.go_on.new.walk in
+    let at = c.in_ok-go_on.ensures.at in
+    record {
+      path = turned log walk.stack.frames walk.stack.done walk.here.state at.path (c.some_is_lost.ensures c.if-not-some_is_lost.false);
+      place = at.place;
+      known = at.known;
+    }
+
+pub loop-step-smaller-in-Continue-branch-2 : goal.loop-step-smaller-in-Continue-branch-2
+loop-step-smaller-in-Continue-branch-2 c =
+    let takes = c.in-Some.ensures.some in
+    let rest : FrameView = record { done = takes.frame.done; rest = takes.rest } in
+    let old = c.loop-step.walk.stack.frames in
+    let new : c.rewind.new.walk.stack.frames ≡ takes.before ++ rest ∷ [] = c.in_ok-rewind.ensures.frames ∙ c.in_ok-go_on.ensures.frames ∙ takes.new in
+    subst (λ (fs : List FrameView). left_in fs < left_in old) (sym new)
+    (subst (λ (fs : List FrameView). left_in (takes.before ++ rest ∷ []) < left_in fs) (sym takes.old) (fewer_steps takes.before takes.frame takes.rest c.in-Some.step takes.at))
+
+pub loop-step-smaller : goal.loop-step-smaller
+loop-step-smaller c =
+    let walk = c.loop-step.walk in
+    let fs = c.reopen.new.self.frames in
+    let same : c.next.new.self ≡ walk.stack = c.in_default.ensures.none in
+    let reopens = c.reopen.ensures.some c.if-not-reopen.false in
+    let old : walk.stack.frames ≡ fs ++ reopens.frame ∷ [] = sym (ap (λ (s : StackView). s.frames) same) ∙ reopens.old in
+    subst (λ (gs : List FrameView). left_in gs < left_in walk.stack.frames) (sym c.in_ok-rewind-2.ensures.frames)
+    (subst (λ (gs : List FrameView). left_in fs < left_in gs) (sym old) (fewer_frames fs reopens.frame))

@@ -5,8 +5,8 @@ use Rattle.run_search.specs.Frames.{PathFrom, Here}
 use Rattle.run_search.proofs.FrameLemmas.{taken}
 use Rattle.run_search.proofs.walk.go_on.Goals as goal
 
-pub returns : goal.returns
-returns c =
+pub returns-clause-at : goal.returns-clause-at
+returns-clause-at c =
     let log = c.args.log.now in
     let walk = c.args.walk.now in
     let stack = c.push-2.new.self in
