@@ -1,5 +1,5 @@
 //! Each cell of the memory alone.
-ghost use Rattle.std.specs.Prelude.{◌≡◌, ◌≤◌, IfOk, IsSome, IsTrue};
+ghost use Rattle.std.specs.Prelude.{◌≡◌, ◌≤◌, IfOk, IsSome};
 ghost use Rattle.log_runs.specs.Runs.{Dead, start};
 ghost use Rattle.log_cells.specs.Places.{ArePlaces};
 
@@ -9,28 +9,42 @@ use run_search::{Outcome, explore};
 use search_choices::{NO_PART, Turn};
 use std::alloc::{AllocError, Global};
 
-/// Looks for a run through the part of the log on the bytes from `low` up to `high`, at no more than
-/// `limit` choices; the second number is how many there were.
+/// What was found out of the part of a log on a range of bytes.
+#[derive(Drop)]
+pub(crate) struct Explored {
+    pub(crate) outcome: Outcome,
+    /// The places in the log of the part's events.
+    pub(crate) names: Vec<usize>,
+    /// How many choices were looked at.
+    pub(crate) states: u64,
+}
+
+/// Looks for a run through the part of the log on the bytes from `range.0` up to `range.1`, at no more
+/// than `limit` choices.
 pub(crate) fn explored_on(
     alloc: Global,
     log: &Log<'_>,
     cells: &Cells,
-    low: u64,
-    high: u64,
+    range: (u64, u64),
     limit: u64,
-) -> Result<(Outcome, u64), AllocError>
+) -> Result<Explored, AllocError>
     requires places { ArePlaces log.now.events cells.now }
-    ensures dead { IfOk result (λ r. r.0 ≡ Outcome.Dead → Dead log.now (start log.now)) }
-    ensures states { IfOk result (λ r. r.1 ≤ limit) }
+    ensures dead { IfOk result (λ r. r.outcome ≡ Outcome.Dead → Dead log.now (start log.now)) }
+    ensures states { IfOk result (λ r. r.states ≤ limit) }
 {
-    let Some(part) = part(alloc, log, cells, low, high)? else {
-        return Ok((Outcome::Limit, 0));
+    let Some(part) = part(alloc, log, cells, range.0, range.1)? else {
+        return Ok(Explored {
+            outcome: Outcome::Limit,
+            names: Vec::new(alloc),
+            states: 0,
+        });
     };
     let (outcome, states) = explore(alloc, &part.log, &[], limit)?;
-    match outcome {
-        Outcome::Dead => Ok((Outcome::Dead, states)),
-        other => Ok((other, states)),
-    }
+    Ok(Explored {
+        outcome,
+        names: part.names,
+        states,
+    })
 }
 
 /// What was found out of the parts of a log.
@@ -64,35 +78,6 @@ fn note(turns: &mut Vec<Turn>, part: u32, names: &[usize], steps: &[Step]) {
     }
 }
 
-/// Looks for a run through the part of the log on the bytes from `low` up to `high`, and notes when
-/// the requests act there; true if there is none. The second number is how many choices there were.
-fn is_dead_on(
-    alloc: Global,
-    log: &Log<'_>,
-    cells: &Cells,
-    range: (u64, u64),
-    number: u32,
-    turns: &mut Vec<Turn>,
-    limit: u64,
-) -> Result<(bool, u64), AllocError>
-    requires places { ArePlaces log.now.events cells.now }
-    ensures dead { IfOk result (λ r. IsTrue r.0 → Dead log.now (start log.now)) }
-    ensures states { IfOk result (λ r. r.1 ≤ limit) }
-{
-    let Some(part) = part(alloc, log, cells, range.0, range.1)? else {
-        return Ok((false, 0));
-    };
-    let (outcome, states) = explore(alloc, &part.log, &[], limit)?;
-    match outcome {
-        Outcome::Dead => Ok((true, states)),
-        Outcome::Run(steps) => {
-            note(turns, number, &part.names, &steps);
-            Ok((false, states))
-        }
-        Outcome::Limit => Ok((false, states)),
-    }
-}
-
 /// Looks for a range of cells on which the log's part has no run, so that the log has none, and
 /// returns the addresses where it begins and ends. Looks at no more than `limit` choices, and for each
 /// range at no more than a quarter of what is left of them.
@@ -115,14 +100,22 @@ pub(crate) fn parts_of(alloc: Global, log: &Log<'_>, limit: u64) -> Result<Parts
             break;
         };
         let part = u32::try_from(number).unwrap_or(NO_PART);
-        let (dead, states) = is_dead_on(alloc, log, &cells, range, part, &mut turns, left / 4)?;
+        let Explored {
+            outcome,
+            names,
+            states,
+        } = explored_on(alloc, log, &cells, range, left / 4)?;
         left -= states;
-        if dead {
-            return Ok(Parts {
-                dead: Some(range),
-                turns,
-                states: limit - left,
-            });
+        match outcome {
+            Outcome::Run(steps) => note(&mut turns, part, &names, &steps),
+            Outcome::Dead => {
+                return Ok(Parts {
+                    dead: Some(range),
+                    turns,
+                    states: limit - left,
+                });
+            }
+            Outcome::Limit => {}
         }
     }
     Ok(Parts {

@@ -83,8 +83,8 @@ pub(crate) fn judged_on(
     explainable_has_a_run();
     let log = log_of(alloc, trace, partners, count)?;
     let cells = Cells::of(alloc, &log)?;
-    let found = explored_on(alloc, &log, &cells, range.0, range.1, limit)?;
-    Ok(found.0)
+    let found = explored_on(alloc, &log, &cells, range, limit)?;
+    Ok(found.outcome)
 }
 
 /// The steps make a history that explains the trace with other n's; false where that isn't so.
