@@ -189,14 +189,7 @@ fn was_answered(log: &Log, b: usize) -> bool {
 /// Request `b`, which is pending and has bytes of request `q`, may act in turn after it, or needs none
 /// of what is there before or after. The requesters of `writers` wait for posted writes that are
 /// somewhere else.
-fn may_join(
-    place: &Place,
-    log: &Log,
-    writers: u32,
-    sketch: Sketch,
-    b: usize,
-    q: usize,
-) -> bool {
+fn may_join(place: &Place, log: &Log, writers: u32, sketch: Sketch, b: usize, q: usize) -> bool {
     let is_junk = is_junk_to(log, place.bytes(), b, q);
     if is_junk && leaves_junk_to(log, b, q, q) {
         return true;

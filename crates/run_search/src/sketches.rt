@@ -59,9 +59,7 @@ impl Sketch {
         ensures { IsTrue result → (base + place < self.from) ⊎ (self.from + self.count ≤ base + place) }
     {
         match base.checked_add(place as u64) {
-            Some(address) => {
-                address < self.from || address - self.from >= u64::from(self.count)
-            }
+            Some(address) => { address < self.from || address - self.from >= u64::from(self.count) }
             None => false,
         }
     }
