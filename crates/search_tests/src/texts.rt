@@ -220,6 +220,13 @@ static ROWS: [Row; 35] = [
         status: 0,
     },
     Row {
+        name: "reads of two words, of which one would be lost, with one choice",
+        text: "pciex-log 1\nmemory 0 4096 64\nsub 1 0 write 40 F 0 33333333\nsub 2 0 write 44 F 0 44444444\nsub 3 0 write 44 F 0 55555555\nsub 4 0 read 40 2 F F\nsub 5 0 read 40 2 F F\nans 4 0 data 0000000055555555\nans 5 0 data 3333333355555555\nend\n",
+        limit: 1,
+        output: "found",
+        status: 0,
+    },
+    Row {
         name: "hard, at one choice",
         text: HARD,
         limit: 1,
