@@ -2,6 +2,7 @@
 ghost use Rattle.std.specs.Prelude.{IfOk, OnOk};
 ghost use Rattle.run_search.specs.Catalogs.{IsCatalog};
 
+use crate::askers::Askers;
 use crate::due::places;
 use crate::sketches::{Sketch, sketches_of};
 use log_runs::Log;
@@ -14,19 +15,26 @@ pub(crate) struct Catalog {
     /// The place of each request's answer.
     pub(crate) due: Vec<usize>,
     pub(crate) sketches: Vec<Sketch>,
+    pub(crate) askers: Askers,
     pub(crate) values: Values,
     pub(crate) later: Later,
+    /// It was found out what its requests need later.
+    pub(crate) looks_ahead: bool,
 }
 
 /// What is known of the log, but for what its requests need later.
 pub(crate) fn catalog_of(alloc: Global, log: &Log) -> Result<Catalog, AllocError>
     ensures { IfOk result (IsCatalog log.now) }
 {
+    let sketches = sketches_of(alloc, log)?;
+    let askers = Askers::of(alloc, sketches.as_slice())?;
     Ok(Catalog {
         due: places(alloc, log)?,
-        sketches: sketches_of(alloc, log)?,
+        sketches,
+        askers,
         values: values_of(alloc, log)?,
         later: Later::unknown(alloc),
+        looks_ahead: false,
     })
 }
 
@@ -37,6 +45,7 @@ impl Catalog {
         ensures { OnOk result (IsCatalog log.now self.new) }
     {
         self.later = later_of(alloc, log)?;
+        self.looks_ahead = true;
         Ok(())
     }
 }

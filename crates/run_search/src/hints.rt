@@ -2,6 +2,7 @@
 
 ghost use Rattle.run_search.specs.Catalogs.{IsCatalog};
 
+use crate::askers::Asker;
 use crate::catalog::Catalog;
 use crate::junk::MOST_EVENTS;
 use crate::sketches::{Sketch, are_far};
@@ -37,17 +38,32 @@ fn may_fit(sketch: Sketch, base: u64, bytes: &[u8]) -> bool {
 
 /// Which of the pending requests are looked at.
 #[derive(Clone, Copy)]
-pub(crate) struct Look {
-    /// The place of the first one in their list.
-    pub(crate) from: usize,
-    /// They have one of these marks.
-    marks: u32,
+pub(crate) enum Look {
+    /// Those from that place of their list on that have one of the marks.
+    Marked { from: usize, marks: u32 },
+    /// This one, if it is pending.
+    Only(usize),
+}
+
+/// The request that may act at once after one that acted, if that is known: the only one that needs
+/// what stands there now.
+fn next_at(log: &Log, catalog: &Catalog, place: &Place, sketch: Sketch) -> Option<Look> {
+    if sketch.writer() != 0 {
+        return None;
+    }
+    let at = sketch.place(log.extent().base())?;
+    let value = four(place.bytes(), at)?;
+    match catalog.askers.at(sketch, value) {
+        Asker::Nobody => Some(Look::none()),
+        Asker::Only(q) => Some(Look::Only(q)),
+        Asker::Unknown => None,
+    }
 }
 
 impl Look {
     /// At all.
     pub(crate) fn all() -> Look {
-        Look {
+        Look::Marked {
             from: 0,
             marks: u32::MAX,
         }
@@ -55,38 +71,54 @@ impl Look {
 
     /// At none.
     pub(crate) fn none() -> Look {
-        Look { from: 0, marks: 0 }
+        Look::Marked { from: 0, marks: 0 }
     }
 
-    /// Which are looked at once the step was taken, where so many were pending before it: one that was
-    /// passed just now, or those that the request may have been in the way of.
-    pub(crate) fn after(self, sketches: &[Sketch], pending: usize, step: Step) -> Look {
+    /// The marks of those of the whole list that weren't looked at yet.
+    fn left(self) -> u32 {
+        match self {
+            Look::Marked { from, marks } => if from == 0 { marks } else { 0 },
+            Look::Only(_) => 0,
+        }
+    }
+
+    /// Which are looked at once the step was taken that led to the place, where so many were pending
+    /// before it: one that was passed just now, or those that the request may have been in the way of.
+    pub(crate) fn after(
+        self,
+        log: &Log,
+        catalog: &Catalog,
+        place: &Place,
+        pending: usize,
+        step: Step,
+    ) -> Look {
         let Step::Act(b) = step else {
-            return Look {
+            return Look::Marked {
                 from: pending,
                 marks: u32::MAX,
             };
         };
-        let frees = match sketches.get(b) {
-            Some(sketch) => sketch.frees,
-            None => u32::MAX,
+        let Some(sketch) = catalog.sketches.get(b).copied() else {
+            return Look::all();
         };
-        Look {
+        let left = self.left();
+        if left == 0
+            && let Some(look) = next_at(log, catalog, place, sketch)
+        {
+            return look;
+        }
+        Look::Marked {
             from: 0,
-            marks: if self.from == 0 {
-                self.marks | frees
-            } else {
-                frees
-            },
+            marks: left | sketch.frees,
         }
     }
+}
 
-    /// It is worth a look whether the request may act.
-    pub(crate) fn is_at(self, sketches: &[Sketch], base: u64, bytes: &[u8], q: usize) -> bool {
-        match sketches.get(q) {
-            Some(sketch) => sketch.marks & self.marks != 0 && may_fit(*sketch, base, bytes),
-            None => false,
-        }
+/// It is worth a look whether the request, which has one of the marks, may act.
+pub(crate) fn is_worth(marks: u32, sketches: &[Sketch], base: u64, bytes: &[u8], q: usize) -> bool {
+    match sketches.get(q) {
+        Some(sketch) => sketch.marks & marks != 0 && may_fit(*sketch, base, bytes),
+        None => false,
     }
 }
 

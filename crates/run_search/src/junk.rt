@@ -280,7 +280,8 @@ fn acts_at_once(
     is_over_junk(place, alloc, log, catalog, q)
 }
 
-/// A pending request that acts at once over junk, if events are left.
+/// A pending request that acts at once over junk, if events are left. There is none before it was found
+/// out what requests need later.
 pub(crate) fn over_junk(
     place: &mut Place,
     alloc: Global,
@@ -293,7 +294,7 @@ pub(crate) fn over_junk(
     ensures place { OnOk result (IsPlace log.now place.new) }
     ensures forced { IfOk result (λ o. IfSome o (IsForced log.now place.new.state)) }
 {
-    if place.event() >= log.len() {
+    if !catalog.looks_ahead || place.event() >= log.len() {
         return Ok(None);
     }
     let mut writers = 0u32;

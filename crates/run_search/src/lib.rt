@@ -7,6 +7,7 @@
 //! remembered, while there is room for them.
 #![tactic(auto)]
 
+mod askers;
 mod catalog;
 mod due;
 mod exploring;

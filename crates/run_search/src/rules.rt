@@ -6,7 +6,7 @@ ghost use Rattle.search_places.specs.Places.{IsPlace};
 
 use crate::catalog::Catalog;
 use crate::due::{held_until, place_of};
-use crate::hints::Look;
+use crate::hints::{Look, is_worth};
 use crate::others::{Asked, others_spare};
 use log_runs::{Log, Step};
 use search_places::Place;
@@ -86,17 +86,58 @@ fn acts_at_once(place: &Place, log: &Log, catalog: &Catalog, q: usize) -> bool
     is_last(place, log, catalog, q)
 }
 
-/// The request is worth a look, may act, and acts at once.
+/// The request has one of the marks, may act, and acts at once.
 #[inline(always)]
-fn acts_as_seen(place: &Place, log: &Log, catalog: &Catalog, look: Look, q: usize) -> bool
+fn acts_as_seen(place: &Place, log: &Log, catalog: &Catalog, marks: u32, q: usize) -> bool
     requires place { IsPlace log.now place.now }
     requires catalog { IsCatalog log.now catalog.now }
     ensures { IsTrue result → IsForced log.now place.now.state (Step.Act q) }
 {
-    if !look.is_at(&catalog.sketches, log.extent().base(), place.bytes(), q) {
+    if !is_worth(
+        marks,
+        &catalog.sketches,
+        log.extent().base(),
+        place.bytes(),
+        q,
+    ) {
         return false;
     }
     acts_at_once(place, log, catalog, q)
+}
+
+/// A pending request that acts at once, of those from that place of their list on that have one of the
+/// marks.
+fn first_of(place: &Place, log: &Log, catalog: &Catalog, from: usize, marks: u32) -> Option<usize>
+    requires place { IsPlace log.now place.now }
+    requires catalog { IsCatalog log.now catalog.now }
+    ensures { IfSome result (λ q. IsForced log.now place.now.state (Step.Act q)) }
+{
+    let pending = place.pending();
+    if from >= pending.len() {
+        return None;
+    }
+    for q in &pending[from..] {
+        if acts_as_seen(place, log, catalog, marks, *q) {
+            return Some(*q);
+        }
+    }
+    None
+}
+
+/// A request that acts at once, of those that are looked at.
+fn seen(place: &Place, log: &Log, catalog: &Catalog, look: Look) -> Option<usize>
+    requires place { IsPlace log.now place.now }
+    requires catalog { IsCatalog log.now catalog.now }
+    ensures { IfSome result (λ q. IsForced log.now place.now.state (Step.Act q)) }
+{
+    match look {
+        Look::Marked { from, marks } => first_of(place, log, catalog, from, marks),
+        Look::Only(q) => if acts_at_once(place, log, catalog, q) {
+            Some(q)
+        } else {
+            None
+        },
+    }
 }
 
 /// A step that may be taken at once: a request acts, one of those that are looked at, or an event is
@@ -106,13 +147,8 @@ pub(crate) fn forced(place: &Place, log: &Log, catalog: &Catalog, look: Look) ->
     requires catalog { IsCatalog log.now catalog.now }
     ensures { IfSome result (IsForced log.now place.now.state) }
 {
-    let pending = place.pending();
-    if look.from < pending.len() {
-        for q in &pending[look.from..] {
-            if acts_as_seen(place, log, catalog, look, *q) {
-                return Some(Step::Act(*q));
-            }
-        }
+    if let Some(q) = seen(place, log, catalog, look) {
+        return Some(Step::Act(q));
     }
     if place.may_pass(log) {
         return Some(Step::Pass);

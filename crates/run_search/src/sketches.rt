@@ -79,6 +79,22 @@ impl Sketch {
         self.frees & !WORDS
     }
 
+    /// A number for its word and a value there, if its bytes are one word.
+    pub(crate) fn key(self, value: u32) -> Option<u64> {
+        if self.count != 4 || self.from % 4 != 0 {
+            return None;
+        }
+        Some((self.from / 4).wrapping_mul(4_294_967_296) ^ u64::from(value))
+    }
+
+    /// A number for its word and the value that it needs there, if it needs one whole word.
+    pub(crate) fn needed_key(self) -> Option<u64> {
+        if self.mask != u32::MAX {
+            return None;
+        }
+        self.key(self.need)
+    }
+
     /// Where its bytes begin in a memory that begins at `base`.
     pub(crate) fn place(self, base: u64) -> Option<usize> {
         let at = self.from.checked_sub(base)?;

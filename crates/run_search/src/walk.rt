@@ -10,7 +10,6 @@ use crate::hints::{Look, Losses};
 use crate::junk::over_junk;
 use crate::lost::is_lost;
 use crate::rules::forced;
-use crate::sketches::Sketch;
 use log_runs::{Log, Step};
 use search_choices::{Turn, choices};
 use search_places::{Memo, Place, Stack};
@@ -78,8 +77,9 @@ pub(crate) fn settle(
         let Some(step) = at_once(&mut walk.here, alloc, log, catalog, look)? else {
             return Ok(());
         };
-        look = look.after(&catalog.sketches, walk.here.pending().len(), step);
+        let pending = walk.here.pending().len();
         let done = walk.here.take(log, step)?;
+        look = look.after(log, catalog, &walk.here, pending, step);
         walk.losses.push(&catalog.sketches, &done)?;
         walk.stack.push(&done)?;
     }
@@ -110,15 +110,16 @@ fn rewind(walk: &mut Walk, log: &Log) -> Result<(), AllocError>
 }
 
 /// Takes a step of the last frame, which isn't among those that are left there any more.
-fn go_on(walk: &mut Walk, log: &Log, sketches: &[Sketch], step: Step) -> Result<(), AllocError>
+fn go_on(walk: &mut Walk, log: &Log, catalog: &Catalog, step: Step) -> Result<(), AllocError>
     requires { frames.MayTake log.now walk.old step }
     ensures at { OnOk result (frames.IsAt log.now walk.new) }
     ensures frames { OnOk result (walk.new.stack.frames ≡ walk.old.stack.frames) }
 {
-    walk.look = Look::none().after(sketches, walk.here.pending().len(), step);
+    let pending = walk.here.pending().len();
     let done = walk.here.take(log, step)?;
+    walk.look = Look::none().after(log, catalog, &walk.here, pending, step);
     walk.losses.clear();
-    walk.losses.push(sketches, &done)?;
+    walk.losses.push(&catalog.sketches, &done)?;
     walk.stack.push(&done)?;
     Ok(())
 }
@@ -161,7 +162,7 @@ fn back(walk: &mut Walk, alloc: Global, log: &Log, catalog: &Catalog) -> Result<
 {
     loop {
         if let Some(step) = walk.stack.next() {
-            go_on(walk, log, &catalog.sketches, step)?;
+            go_on(walk, log, catalog, step)?;
             if !some_is_lost(walk, log, catalog) {
                 return Ok(true);
             }
