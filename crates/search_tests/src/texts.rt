@@ -22,7 +22,7 @@ const HARD: &str =
 const GROUP: &str =
     "pciex-log 1\nmemory 0 4096 64\nsub 1 0 write 40 F 0 06000000\nsub 2 0 write 40 F 0 05000000\nsub 3 0 add 40 01000000\nsub 4 0 cas 40 07000000 08000000\nsub 5 0 swap 40 09000000\nans 5 0 data 08000000\nans 4 0 data 07000000\nans 3 0 data 06000000\nsub 3 1 read 40 1 F 0\nans 3 1 data 05000000\nend\n";
 
-static ROWS: [Row; 35] = [
+static ROWS: [Row; 36] = [
     Row {
         name: "nothing",
         text: "",
