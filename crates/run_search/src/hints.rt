@@ -114,12 +114,10 @@ impl Look {
     }
 }
 
-/// It is worth a look whether the request, which has one of the marks, may act.
-pub(crate) fn is_worth(marks: u32, sketches: &[Sketch], base: u64, bytes: &[u8], q: usize) -> bool {
-    match sketches.get(q) {
-        Some(sketch) => sketch.marks & marks != 0 && may_fit(*sketch, base, bytes),
-        None => false,
-    }
+/// It is worth a look whether the request may act: it has one of the marks, and the first bytes that it
+/// needs are there.
+pub(crate) fn is_worth(marks: u32, sketch: Sketch, base: u64, bytes: &[u8]) -> bool {
+    sketch.marks & marks != 0 && may_fit(sketch, base, bytes)
 }
 
 /// What a step overwrote.

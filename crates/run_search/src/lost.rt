@@ -54,8 +54,21 @@ fn size_of(log: &Log, q: usize) -> usize {
     }
 }
 
-/// Request `q`, which is due at place `a`, lacks some byte. With no more than a word it needs that at
-/// once, so there it isn't asked for each byte.
+/// The first place of the request's range, of the four from `first` on, where it needs another byte than
+/// there is.
+fn first_other(place: &Place, log: &Log, q: usize, first: usize) -> Option<usize> {
+    for at in first..first.saturating_add(4) {
+        if let Some(need) = need_at(log, q, at)
+            && place.bytes().get(need.place) != Some(&need.value)
+        {
+            return Some(at);
+        }
+    }
+    None
+}
+
+/// Request `q`, which is due at place `a`, lacks some byte: the first other one of each DW is looked at.
+/// With no more than a word it needs that at once, so there it isn't asked for each byte.
 fn lacks_some_byte(place: &Place, log: &Log, catalog: &Catalog, q: usize, a: usize) -> bool
     requires place { IsPlace log.now place.now }
     requires catalog { IsCatalog log.now catalog.now }
@@ -68,8 +81,10 @@ fn lacks_some_byte(place: &Place, log: &Log, catalog: &Catalog, q: usize, a: usi
     if size <= 4 {
         return false;
     }
-    for at in 0..size {
-        if lacks_byte(place, log, catalog, q, a, at) {
+    for word in 0..size / 4 {
+        if let Some(at) = first_other(place, log, q, word.saturating_mul(4))
+            && lacks_byte(place, log, catalog, q, a, at)
+        {
             return true;
         }
     }

@@ -86,27 +86,8 @@ fn acts_at_once(place: &Place, log: &Log, catalog: &Catalog, q: usize) -> bool
     is_last(place, log, catalog, q)
 }
 
-/// The request has one of the marks, may act, and acts at once.
-#[inline(always)]
-fn acts_as_seen(place: &Place, log: &Log, catalog: &Catalog, marks: u32, q: usize) -> bool
-    requires place { IsPlace log.now place.now }
-    requires catalog { IsCatalog log.now catalog.now }
-    ensures { IsTrue result → IsForced log.now place.now.state (Step.Act q) }
-{
-    if !is_worth(
-        marks,
-        &catalog.sketches,
-        log.extent().base(),
-        place.bytes(),
-        q,
-    ) {
-        return false;
-    }
-    acts_at_once(place, log, catalog, q)
-}
-
 /// A pending request that acts at once, of those from that place of their list on that have one of the
-/// marks.
+/// marks. One that waits for a posted write among them isn't looked at.
 fn first_of(place: &Place, log: &Log, catalog: &Catalog, from: usize, marks: u32) -> Option<usize>
     requires place { IsPlace log.now place.now }
     requires catalog { IsCatalog log.now catalog.now }
@@ -116,10 +97,19 @@ fn first_of(place: &Place, log: &Log, catalog: &Catalog, from: usize, marks: u32
     if from >= pending.len() {
         return None;
     }
+    let base = log.extent().base();
+    let mut writers = 0u32;
     for q in &pending[from..] {
-        if acts_as_seen(place, log, catalog, marks, *q) {
+        let Some(sketch) = catalog.sketches.get(*q).copied() else {
+            return None;
+        };
+        if sketch.requester() & writers == 0
+            && is_worth(marks, sketch, base, place.bytes())
+            && acts_at_once(place, log, catalog, *q)
+        {
             return Some(*q);
         }
+        writers |= sketch.writer();
     }
     None
 }
