@@ -69,3 +69,9 @@ pub need_by : (base : ℕ) (op : Op) (told : Option Reply) (reply : Reply) → t
     → IfSome o (λ n. (block : ℕ) (m : List ℕ) → Agrees base block m op told → slice_index m n.place ≡ n.value)
 need_by base op told reply is (Some n) needs = λ block m agrees. needs block m (agrees reply is)
 need_by base op told reply is None needs = tt
+
+pub placed_some : (log : LogView) (q at i base : ℕ) (op : Op) (told : Option Reply) → base ≡ log.extent.base → slice_get log.events q ≡ Some (events.Sub i op told) → (o : Option Need)
+    → IfSome o (λ n. base + n.place ≡ address_of op + at)
+    → IfSome o (λ n. (j : ℕ) × (one : Op) × (had : Option Reply) × (slice_get log.events q ≡ Some (events.Sub j one had)) × (log.extent.base + n.place ≡ address_of one + at))
+placed_some log q at i base op told eb there (Some n) place = (i, op, told, there, ap (λ z. z + n.place) (sym eb) ∙ place)
+placed_some log q at i base op told eb there None place = tt

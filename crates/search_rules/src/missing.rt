@@ -1,7 +1,11 @@
 //! Bytes that a request needs.
-ghost use Rattle.std.specs.Prelude.{ℕ, ◌≡◌, List, IfSome, IsTrue, slice_index};
+ghost use Rattle.std.specs.Prelude.{ℕ, ◌≡◌, ◌+◌, List, Option, Some, IfSome, IsTrue, slice_get, slice_index};
+ghost use Rattle.tlp_core.specs.declared.operation.Op.{Op};
+ghost use Rattle.tlp_core.specs.Operation.{address_of};
+ghost use Rattle.seq_memory.specs.declared.Reply.{Reply};
 ghost use Rattle.seq_memory.specs.Step.{answer};
 ghost use Rattle.byte_effects.specs.Effects.{Agrees, told_of};
+ghost use Rattle.log_runs.specs.EventView as events;
 ghost use Rattle.log_runs.specs.Runs.{bytes_after};
 ghost use Rattle.search_rules.specs.Rules.{Answers, NeedsByte, NeverPuts};
 
@@ -20,7 +24,8 @@ pub struct Need {
 
 /// What the byte at place `at` of the operation's range has to be for that reply.
 fn need_for(base: u64, op: &Op, reply: &Reply, at: usize) -> Option<Need>
-    ensures { IfSome result (λ n. (block : ℕ) (m : List ℕ) → answer base block m op.now ≡ reply.now → slice_index m n.place ≡ n.value) }
+    ensures place { IfSome result (λ n. base + n.place ≡ address_of op.now + at) }
+    ensures value { IfSome result (λ n. (block : ℕ) (m : List ℕ) → answer base block m op.now ≡ reply.now → slice_index m n.place ≡ n.value) }
 {
     what_is_needed_is_there();
     let Reply::Data(data) = reply else {
@@ -39,7 +44,8 @@ fn need_for(base: u64, op: &Op, reply: &Reply, at: usize) -> Option<Need>
 
 /// [`need_for`], if the operation was answered.
 fn need_of(base: u64, op: &Op, told: Option<&Reply>, at: usize) -> Option<Need>
-    ensures { IfSome result (λ n. (block : ℕ) (m : List ℕ) → Agrees base block m op.now (told_of told.entry) → slice_index m n.place ≡ n.value) }
+    ensures place { IfSome result (λ n. base + n.place ≡ address_of op.now + at) }
+    ensures value { IfSome result (λ n. (block : ℕ) (m : List ℕ) → Agrees base block m op.now (told_of told.entry) → slice_index m n.place ≡ n.value) }
 {
     match told {
         Some(reply) => need_for(base, op, reply, at),
@@ -49,7 +55,8 @@ fn need_of(base: u64, op: &Op, told: Option<&Reply>, at: usize) -> Option<Need>
 
 /// What the byte at place `at` of request `q`'s range has to be when it acts, if that is known.
 pub fn need_at(log: &Log, q: usize, at: usize) -> Option<Need>
-    ensures { IfSome result (λ n. NeedsByte log.now q n.place n.value) }
+    ensures place { IfSome result (λ n. (i : ℕ) × (op : Op) × (told : Option Reply) × (slice_get log.now.events q ≡ Some (events.Sub i op told)) × (log.now.extent.base + n.place ≡ address_of op + at)) }
+    ensures needs { IfSome result (λ n. NeedsByte log.now q n.place n.value) }
 {
     match log.event(q) {
         Some(Event::Sub { op, reply, .. }) => need_of(log.extent().base(), op, reply, at),

@@ -7,7 +7,7 @@ returns-in-Some c = λ so.
       due = c.requires.due;
       since = c.requires.since;
       left = c.requires.left;
-      needs = c.in-Some.ensures;
+      needs = c.in-Some.ensures.needs;
       gone = c.lacks.ensures.gone so;
       nobody = c.lacks.ensures.nobody so;
     })

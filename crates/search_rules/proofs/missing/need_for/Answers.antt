@@ -4,8 +4,8 @@ use Rattle.tlp_core.specs.Operation.{address_of}
 use Rattle.byte_effects.specs.Effects.{is_needed}
 use Rattle.search_rules.proofs.missing.need_for.Goals as goal
 
-pub returns : goal.returns
-returns c = λ block m answers.
+pub returns-clause-value : goal.returns-clause-value
+returns-clause-value c = λ block m answers.
     let d = c.in-Data.data in
     let there : is_needed c.args.op.now c.args.at ≡ true = sym c.is_needed.ensures ∙ c.if-not-is_needed.false in
     let place : c.in_ok-place.place ≡ address_of c.args.op.now - c.args.base + c.args.at = omega (arith, c.in_ok-place.ensures, c.address-address.ensures, c.if-address-base.false) in
