@@ -1,11 +1,13 @@
 //! Laws of what requests need and put.
-ghost use Rattle.std.specs.Prelude.{ℕ, ◌≡◌, ◌+◌, ◌-◌, ◌<◌, true, false, None, List, length, slice_index};
+ghost use Rattle.std.specs.Prelude.{ℕ, ◌≡◌, ◌+◌, ◌-◌, ◌<◌, ◌⊎◌, true, false, None, Option, List, length, slice_index};
 ghost use Rattle.arrayvec.specs.ArrayVec.{ArrayVec};
 ghost use Rattle.tlp_core.specs.declared.operation.Op.{Op};
 ghost use Rattle.tlp_core.specs.Operation.{address_of};
+ghost use Rattle.seq_memory.specs.declared.Reply.{Reply};
 ghost use Rattle.seq_memory.specs.declared.Reply.TheVariants as replies;
-ghost use Rattle.seq_memory.specs.Step.{after, answer};
+ghost use Rattle.seq_memory.specs.Step.{refusal, after, answer};
 ghost use Rattle.byte_effects.specs.Effects as effects;
+ghost use Rattle.byte_effects.specs.Effects.{Agrees};
 
 use seq_memory::laws::{only_the_place_changes, refused_and_read_change_nothing};
 
@@ -41,6 +43,16 @@ pub fn a_request_sees_its_addresses()
 #[tactic(auto, using(crate::proofs::Staying::unput))]
 pub fn what_is_not_put_stays()
     ensures { (base block at : ℕ) (m : List ℕ) (op : Op) → effects.is_put op at ≡ false → slice_index (after base block m op) (address_of op - base + at) ≡ slice_index m (address_of op - base + at) }
+{
+    only_the_place_changes();
+    refused_and_read_change_nothing();
+}
+
+/// Where an operation, wherever it is served, takes another's reply away, it doesn't bring that reply;
+/// and it ends it, or their order makes no difference.
+pub fn what_takes_a_reply_away_yields()
+    ensures brings { (base block : ℕ) (m : List ℕ) (one other : Op) (reply : Reply) → (refusal base (length m) block one ≡ None → answer base block (after base block m one) other ≡ reply → ⊥) → answer base block (after base block m one) other ≡ reply → answer base block m other ≡ reply }
+    ensures order { (base block : ℕ) (m : List ℕ) (one other : Op) (told : Option Reply) (reply : Reply) → (refusal base (length m) block one ≡ None → answer base block (after base block m one) other ≡ reply → ⊥) → Agrees base block m one told → answer base block m other ≡ reply → (answer base block (after base block m one) other ≡ reply → ⊥) ⊎ ((answer base block (after base block m one) other ≡ reply) × Agrees base block (after base block m other) one told × (after base block (after base block m one) other ≡ after base block (after base block m other) one)) }
 {
     only_the_place_changes();
     refused_and_read_change_nothing();
