@@ -16,7 +16,7 @@ use Rattle.search_places.specs.PlaceView.{PlaceView}
 use Rattle.search_places.specs.Pending.{IsTable}
 use Rattle.search_places.specs.Places.{IsPlace}
 use Rattle.search_places.specs.Known.{whole, IsDeadKey}
-use Rattle.search_places.proofs.Tables.{table_unique}
+use Rattle.search_places.proofs.Tables.{table_unique, table_of}
 
 pub put : {K S : Type 0} (P : K → Type 0) (s n : HashSet K S) (k : K) (added : Bool) → PutsKey s n k added → P k → All P s.keys → All P n.keys
 put P s n k true h p all = All-permutation P (k ∷ s.keys) n.keys h (All-cons P k s.keys p all)
@@ -47,7 +47,7 @@ pub known_dead : (log : LogView) (p : PlaceView) (one : Key) (ks : List Key) →
 known_dead log p one ks hit event pending bytes place all =
     let (i, k, l, at, e) = Any-from_list_any (same_key one) ks hit in
     let table : IsTable log one.event one.pending.items p.state.acted =
-    subst (λ n. IsTable log n one.pending.items p.state.acted) (sym event) (subst (λ ps. IsTable log p.state.event ps p.state.acted) (sym pending) place) in
+    subst (λ n. IsTable log n one.pending.items p.state.acted) (sym event) (subst (λ ps. IsTable log p.state.event ps p.state.acted) (sym pending) (table_of log p place)) in
     let dead = dead_alike log one k e (All-contains (IsDeadKey log) ks k all (i, l, at)) p.state.acted table in
     rw (← event, ← bytes) dead
 
@@ -57,5 +57,5 @@ pub key_of_dead : (log : LogView) (p : PlaceView) (k : Key) → k.event ≡ p.st
 key_of_dead log p k event pending bytes place dead acted t =
     let table : IsTable log p.state.event p.pending acted =
     subst (λ ps. IsTable log p.state.event ps acted) pending (subst (λ n. IsTable log n k.pending.items acted) event t) in
-    let same : acted ≡ p.state.acted = table_unique log p.state.event p.pending acted p.state.acted table place in
+    let same : acted ≡ p.state.acted = table_unique log p.state.event p.pending acted p.state.acted table (table_of log p place) in
     rw (event, bytes, same) dead

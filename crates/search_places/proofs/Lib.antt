@@ -1,4 +1,5 @@
 pub mod Lists
+pub mod Rising
 pub mod Tables
 pub mod UndoLemmas
 pub mod Knowing

@@ -8,28 +8,11 @@ use Rattle.std.proofs.lemmas.Option.{same_Some}
 pub clash : {b : Bool} → b ≡ true → b ≡ false → ⊥
 clash t f = let e : true ≡ false = sym t ∙ f in cc
 
-pub set_here : {X : Type 0} → (xs : List X) (i : ℕ) (v w : X) → slice_get xs i ≡ Some w → slice_get (slice_set xs i v) i ≡ Some v
-set_here [] i v w e = cc
-set_here (x ∷ xs) zero v w e = refl
-set_here (x ∷ xs) (suc i) v w e = set_here xs i v w e
-
-pub set_there : {X : Type 0} → (xs : List X) (i j : ℕ) (v : X) → (i ≡ j → ⊥) → slice_get (slice_set xs i v) j ≡ slice_get xs j
-set_there [] i j v n = refl
-set_there (x ∷ xs) zero zero v n = absurd (n refl)
-set_there (x ∷ xs) zero (suc j) v n = refl
-set_there (x ∷ xs) (suc i) zero v n = refl
-set_there (x ∷ xs) (suc i) (suc j) v n = set_there xs i j v (λ e. n (ap suc e))
-
 -- a write is written over
 pub set_back : {X : Type 0} → (xs : List X) (i : ℕ) (v w : X) → slice_get xs i ≡ Some w → slice_set (slice_set xs i v) i w ≡ xs
 set_back [] i v w e = cc
 set_back (x ∷ xs) zero v w e = ap (λ y. y ∷ xs) (sym (same_Some x w e))
 set_back (x ∷ xs) (suc i) v w e = ap (λ ys. x ∷ ys) (set_back xs i v w e)
-
-pub length_set : {X : Type 0} → (xs : List X) (i : ℕ) (v : X) → length (slice_set xs i v) ≡ length xs
-length_set [] i v = refl
-length_set (x ∷ xs) zero v = refl
-length_set (x ∷ xs) (suc i) v = ap suc (length_set xs i v)
 
 pub get_replicate : {X : Type 0} → (n i : ℕ) (v : X) → i < n → slice_get (replicate n v) i ≡ Some v
 get_replicate zero i v l = absurd (omega arith)
@@ -39,12 +22,6 @@ get_replicate (suc n) (suc i) v l = get_replicate n i v (omega arith)
 pub length_replicate : {X : Type 0} → (n : ℕ) (v : X) → length (replicate n v) ≡ n
 length_replicate zero v = refl
 length_replicate (suc n) v = ap suc (length_replicate n v)
-
--- the element at a place below the length
-pub some_at : {X : Type 0} → (xs : List X) (i : ℕ) → i < length xs → (x : X) × (slice_get xs i ≡ Some x)
-some_at [] i l = absurd (omega arith)
-some_at (x ∷ xs) zero l = (x, refl)
-some_at (x ∷ xs) (suc i) l = some_at xs i (omega arith)
 
 -- lists with the same elements
 pub same_list : {X : Type 0} → (xs ys : List X) → length xs ≡ length ys → ((i : ℕ) → i < length xs → slice_get xs i ≡ slice_get ys i) → xs ≡ ys

@@ -15,10 +15,12 @@ use Rattle.log_runs.specs.EventView.{EventView}
 use Rattle.log_runs.specs.EventView as events
 use Rattle.log_runs.specs.LogView.{LogView}
 use Rattle.log_runs.specs.Runs.{State, has_acted, MayAct, reply_of}
-use Rattle.search_places.specs.Pending.{has, submits, is_done, IsTable, is_write, blocks}
+use Rattle.search_places.specs.Pending.{has, submits, is_done, IsTable, is_post, ArePosts, is_write, blocks}
+use Rattle.search_places.specs.PlaceView.{PlaceView}
+use Rattle.search_places.specs.Places.{IsPlace}
 use Rattle.search_places.specs.Ready.{is_told, is_set, is_ready}
 use Rattle.search_places.proofs.Lists.{clash}
-use Rattle.search_places.proofs.Tables.{done_is, done_from}
+use Rattle.search_places.proofs.Tables.{done_is, done_from, table_of}
 
 -- ---- replies
 
@@ -67,7 +69,7 @@ pub told_from : (told : Option Reply) (made : Reply) → ((r : Reply) → told �
 told_from None made h = refl
 told_from (Some r) made h = subst (λ m. same_reply r m ≡ true) (sym (h r refl)) (reply_refl r)
 
--- ---- the list of pending requests
+-- ---- the lists of pending requests
 
 any_has : (test : ℕ → Bool) (xs : List ℕ) (c : ℕ) → has xs c ≡ true → test c ≡ true → list_any test xs ≡ true
 any_has test [] c h t = cc
@@ -97,34 +99,38 @@ write_from i o w r e p = subst (λ x. is_write i x ≡ true) (sym e) (and_from (
 unset : (xs : List Bool) (b : ℕ) (y : Bool) → slice_get xs b ≡ Some y → is_set (slice_get xs b) ≡ false → slice_get xs b ≡ Some false
 unset xs b y at e = at ∙ ap (λ (z : Bool). Some z) (sym (ap is_set at) ∙ e)
 
-module _ (log : LogView) (s : State) (p : List ℕ) (t : IsTable log s.event p s.acted) where
+module _ (log : LogView) (s : State) (p ps : List ℕ) (t : IsTable log s.event p s.acted) (a : ArePosts log p ps) where
   -- a posted write that was passed and isn't pending has acted
-  acted_before : (b i c : ℕ) (w : Op) (r : Option Reply) → b < s.event → list_any (blocks log i b) p ≡ false → c < b → slice_get log.events c ≡ Some (events.Sub i w r) → is_posted w ≡ true → has_acted s c
+  acted_before : (b i c : ℕ) (w : Op) (r : Option Reply) → b < s.event → list_any (blocks log i b) ps ≡ false → c < b → slice_get log.events c ≡ Some (events.Sub i w r) → is_posted w ≡ true → has_acted s c
   acted_before b i c w r late free l at posted =
       let inside = slice_get_within log.events c (events.Sub i w r) at in
       let blocked : blocks log i b c ≡ true = and_from (nat_lt c b) (is_write i (slice_get log.events c)) (lt-ltb c b l) (write_from i (slice_get log.events c) w r at posted) in
       let gone : has p c ≡ false = elim (cases_Bool (has p c)) as (λ z. has p c ≡ false) [
-        | inl there ↦ absurd (clash (any_has (blocks log i b) p c there blocked) free)
+        | inl there ↦
+            let post : is_post (slice_get log.events c) ≡ true = ap is_post at ∙ posted in
+            let member : has ps c ≡ true = a c ∙ and_from (has p c) (is_post (slice_get log.events c)) there post in
+            absurd (clash (any_has (blocks log i b) ps c member blocked) free)
         | inr away ↦ away
       ] in
       t.at c inside ∙ ap (λ (z : Bool). Some z) (done_from log s.event p c (omega (arith, l, late)) (ap submits at) gone)
 
-  free_from : (b i : ℕ) → ((c : ℕ) (w : Op) (r : Option Reply) → c < b → slice_get log.events c ≡ Some (events.Sub i w r) → is_posted w ≡ true → has_acted s c) → list_any (blocks log i b) p ≡ false
-  free_from b i ordered = elim (cases_Bool (list_any (blocks log i b) p)) as (λ z. list_any (blocks log i b) p ≡ false) [
+  free_from : (b i : ℕ) → ((c : ℕ) (w : Op) (r : Option Reply) → c < b → slice_get log.events c ≡ Some (events.Sub i w r) → is_posted w ≡ true → has_acted s c) → list_any (blocks log i b) ps ≡ false
+  free_from b i ordered = elim (cases_Bool (list_any (blocks log i b) ps)) as (λ z. list_any (blocks log i b) ps ≡ false) [
     | inl blocked ↦
-        let (c, member, test) = has_any (blocks log i b) p blocked in
+        let (c, member, test) = has_any (blocks log i b) ps blocked in
+        let (waits, post) = and_parts (has p c) (is_post (slice_get log.events c)) (sym (a c) ∙ member) in
         let (l, is) = and_parts (nat_lt c b) (is_write i (slice_get log.events c)) test in
         let (w, r, at, posted) = write_is i (slice_get log.events c) is in
         let acted = ordered c w r (ltb-true c b l) at posted in
         let inside = slice_get_within log.events c (events.Sub i w r) at in
         let done : is_done log s.event p c ≡ true = same_Some (is_done log s.event p c) true (sym (t.at c inside) ∙ acted) in
-        absurd (clash member (done_is log s.event p c done).2)
+        absurd (clash waits (done_is log s.event p c done).2)
     | inr free ↦ free
   ]
 
-  ready_is : (b : ℕ) (o : Option EventView) → slice_get log.events b ≡ o → is_ready log s p b o ≡ true → MayAct log s b
+  ready_is : (b : ℕ) (o : Option EventView) → slice_get log.events b ≡ o → is_ready log s ps b o ≡ true → MayAct log s b
   ready_is b (Some (events.Sub i op told)) at h =
-      let (h2, free) = and_parts (nat_lt b s.event && not (is_set (slice_get s.acted b)) && is_told told (reply_of log.extent s.bytes op)) (not (list_any (blocks log i b) p)) h in
+      let (h2, free) = and_parts (nat_lt b s.event && not (is_set (slice_get s.acted b)) && is_told told (reply_of log.extent s.bytes op)) (not (list_any (blocks log i b) ps)) h in
       let (h3, agreed) = and_parts (nat_lt b s.event && not (is_set (slice_get s.acted b))) (is_told told (reply_of log.extent s.bytes op)) h2 in
       let (early, fresh) = and_parts (nat_lt b s.event) (not (is_set (slice_get s.acted b))) h3 in
       let late = ltb-true b s.event early in
@@ -136,23 +142,27 @@ module _ (log : LogView) (s : State) (p : List ℕ) (t : IsTable log s.event p s
         submitted = at;
         since = late;
         once = unset s.acted b (is_done log s.event p b) (t.at b inside) (not-true (is_set (slice_get s.acted b)) fresh);
-        ordered = λ c w r l posts posted. acted_before b i c w r late (not-true (list_any (blocks log i b) p) free) l posts posted;
+        ordered = λ c w r l posts posted. acted_before b i c w r late (not-true (list_any (blocks log i b) ps) free) l posts posted;
         replied = λ r told_it. told_is told (reply_of log.extent s.bytes op) r agreed told_it;
       }
   ready_is b (Some (events.Due c)) at h = cc
   ready_is b (Some events.Free) at h = cc
   ready_is b None at h = cc
 
-  ready_from : (b : ℕ) → (m : MayAct log s b) → is_ready log s p b (Some (events.Sub m.requester m.op m.told)) ≡ true
+  ready_from : (b : ℕ) → (m : MayAct log s b) → is_ready log s ps b (Some (events.Sub m.requester m.op m.told)) ≡ true
   ready_from b m =
-      and_from (nat_lt b s.event && not (is_set (slice_get s.acted b)) && is_told m.told (reply_of log.extent s.bytes m.op)) (not (list_any (blocks log m.requester b) p))
+      and_from (nat_lt b s.event && not (is_set (slice_get s.acted b)) && is_told m.told (reply_of log.extent s.bytes m.op)) (not (list_any (blocks log m.requester b) ps))
       (and_from (nat_lt b s.event && not (is_set (slice_get s.acted b))) (is_told m.told (reply_of log.extent s.bytes m.op))
       (and_from (nat_lt b s.event) (not (is_set (slice_get s.acted b))) (lt-ltb b s.event m.since) (not_from_false (is_set (slice_get s.acted b)) (ap is_set m.once)))
       (told_from m.told (reply_of log.extent s.bytes m.op) m.replied))
-      (not_from_false (list_any (blocks log m.requester b) p) (free_from b m.requester m.ordered))
+      (not_from_false (list_any (blocks log m.requester b) ps) (free_from b m.requester m.ordered))
 
-  pub may_act_is : (b : ℕ) (r : Bool) → r ≡ is_ready log s p b (slice_get log.events b) → (r ≡ true → MayAct log s b) × (MayAct log s b → r ≡ true)
-  may_act_is b r h = (
+  ready_iff : (b : ℕ) (r : Bool) → r ≡ is_ready log s ps b (slice_get log.events b) → (r ≡ true → MayAct log s b) × (MayAct log s b → r ≡ true)
+  ready_iff b r h = (
     λ ready. ready_is b (slice_get log.events b) refl (sym h ∙ ready),
-    λ m. h ∙ ap (is_ready log s p b) m.submitted ∙ ready_from b m,
+    λ m. h ∙ ap (is_ready log s ps b) m.submitted ∙ ready_from b m,
   )
+
+pub may_act_is : (log : LogView) (p : PlaceView) → IsPlace log p → (b : ℕ) (r : Bool) → r ≡ is_ready log p.state p.posts b (slice_get log.events b)
+    → (r ≡ true → MayAct log p.state b) × (MayAct log p.state b → r ≡ true)
+may_act_is log p place = ready_iff log p.state p.pending p.posts (table_of log p place) place.posts

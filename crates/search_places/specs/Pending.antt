@@ -25,6 +25,17 @@ pub record IsTable (log : LogView) (event : ℕ) (pending : List ℕ) (acted : L
   pub len : length acted ≡ length log.events
   pub at : (b : ℕ) → b < length log.events → slice_get acted b ≡ Some (is_done log event pending b)
 
+-- the event is a posted write
+abbrev pub is_post : Option EventView → Bool
+is_post (Some (events.Sub i op told)) = is_posted op
+is_post (Some (events.Due b)) = false
+is_post (Some events.Free) = false
+is_post None = false
+
+-- posts are those of the pending requests that are posted writes
+abbrev pub ArePosts : LogView → List ℕ → List ℕ → Type 0
+ArePosts log pending posts = (c : ℕ) → has posts c ≡ (has pending c && is_post (slice_get log.events c))
+
 -- the event is a posted write of the requester
 abbrev pub is_write : ℕ → Option EventView → Bool
 is_write i (Some (events.Sub j op told)) = (i == j) && is_posted op

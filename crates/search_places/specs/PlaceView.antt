@@ -2,7 +2,8 @@
 use Rattle.std.specs.Prelude.{ℕ, List}
 use Rattle.log_runs.specs.Runs.{State}
 
--- a state, and the requests that were passed and haven't acted
+-- a state, the requests that were passed and haven't acted, and those of them that are posted writes
 pub record PlaceView : Type 0 where
   pub state : State
   pub pending : List ℕ
+  pub posts : List ℕ

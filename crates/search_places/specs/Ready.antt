@@ -19,17 +19,17 @@ abbrev pub is_set : Option Bool → Bool
 is_set None = false
 is_set (Some x) = x
 
--- the requester's request, which was answered so or not at all, may act
+-- the requester's request, which was answered so or not at all, may act where posts are the posted writes that are pending
 abbrev pub fits : LogView → State → List ℕ → ℕ → ℕ → Op → Option Reply → Bool
-fits log s pending b i op told =
-    nat_lt b s.event && not (is_set (slice_get s.acted b)) && is_told told (reply_of log.extent s.bytes op) && not (list_any (blocks log i b) pending)
+fits log s posts b i op told =
+    nat_lt b s.event && not (is_set (slice_get s.acted b)) && is_told told (reply_of log.extent s.bytes op) && not (list_any (blocks log i b) posts)
 
 -- the event is a submission of a request that may act
 abbrev pub is_ready : LogView → State → List ℕ → ℕ → Option EventView → Bool
-is_ready log s pending b (Some (events.Sub i op told)) = fits log s pending b i op told
-is_ready log s pending b (Some (events.Due c)) = false
-is_ready log s pending b (Some events.Free) = false
-is_ready log s pending b None = false
+is_ready log s posts b (Some (events.Sub i op told)) = fits log s posts b i op told
+is_ready log s posts b (Some (events.Due c)) = false
+is_ready log s posts b (Some events.Free) = false
+is_ready log s posts b None = false
 
 -- the memory answers what the request at the event was answered, if it was
 abbrev pub suits : LogView → List ℕ → Option EventView → Bool

@@ -40,11 +40,11 @@ fn does_block(log: &Log, requester: u8, b: usize, c: usize) -> bool
     c < b && is_write(log, requester, c)
 }
 
-/// No posted write is pending that the requester submitted before request `b`.
-fn is_free(pending: &[usize], log: &Log, requester: u8, b: usize) -> bool
-    ensures { result ≡ not (list_any (blocks log.now requester b) pending.now) }
+/// None of the posted writes that are pending was submitted by the requester before request `b`.
+fn is_free(posts: &[usize], log: &Log, requester: u8, b: usize) -> bool
+    ensures { result ≡ not (list_any (blocks log.now requester b) posts.now) }
 {
-    for c in pending {
+    for c in posts {
         if does_block(log, requester, b, *c) {
             return false;
         }
@@ -75,17 +75,17 @@ fn agrees(log: &Log, bytes: &[u8], op: &Op, told: Option<&Reply>) -> bool
 impl Place {
     /// Request `b` is the requester's, which was answered so or not at all: it may act.
     fn fits(&self, log: &Log, b: usize, requester: u8, op: &Op, told: Option<&Reply>) -> bool
-        ensures { result ≡ ready.fits log.now self.now.state self.now.pending b requester op.now (told_of told.entry) }
+        ensures { result ≡ ready.fits log.now self.now.state self.now.posts b requester op.now (told_of told.entry) }
     {
         b < self.event
             && !self.has_acted(b)
             && agrees(log, self.bytes.as_slice(), op, told)
-            && is_free(self.pending.as_slice(), log, requester, b)
+            && is_free(self.posts.as_slice(), log, requester, b)
     }
 
     /// The event at that place submits a request that may act.
     fn is_ready(&self, log: &Log, b: usize) -> bool
-        ensures { result ≡ ready.is_ready log.now self.now.state self.now.pending b (slice_get log.now.events b) }
+        ensures { result ≡ ready.is_ready log.now self.now.state self.now.posts b (slice_get log.now.events b) }
     {
         match log.event(b) {
             Some(

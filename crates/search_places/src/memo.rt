@@ -43,7 +43,7 @@ pub struct Memo {
 /// A number that depends on the place, but for the bytes.
 fn mark(place: &Place) -> u64 {
     let mut mark = place.event as u64;
-    for b in &place.pending {
+    for b in place.pending.as_slice() {
         mark = mark.wrapping_mul(1_000_003).wrapping_add(*b as u64);
     }
     mark

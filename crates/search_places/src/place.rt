@@ -1,21 +1,26 @@
 //! Where the search stands.
-ghost use Rattle.std.specs.Prelude.{◌≡◌, ◌↔◌, ℕ, List, Some, true, false, IsTrue, IfOk, slice_get, slice_set, replicate};
+ghost use Rattle.std.specs.Prelude.{◌≡◌, ◌≤◌, ◌↔◌, ℕ, List, Some, true, false, IsTrue, IfOk, slice_get, slice_set, replicate};
 ghost use Rattle.log_runs.specs.Runs as runs;
+ghost use Rattle.search_places.specs.Pending.{has};
 ghost use Rattle.search_places.specs.Places.{IsPlace};
 ghost use Rattle.search_places.specs.Ready.{is_set};
 
 use crate::bytes::zeros;
+use crate::pending::Requests;
 use log_runs::Log;
 use std::alloc::{AllocError, Global};
 use std::marker::Model;
 
-/// A state of a run, and the requests that were passed and haven't acted.
+/// A state of a run, the requests that were passed and haven't acted, and those of them that are
+/// posted writes.
 #[derive(Drop)]
 pub struct Place {
     /// How many events were passed.
     pub(crate) event: usize,
-    /// The requests that were passed and haven't acted, in their order.
-    pub(crate) pending: Vec<usize>,
+    /// The requests that were passed and haven't acted.
+    pub(crate) pending: Requests,
+    /// Those of them that are posted writes.
+    pub(crate) posts: Requests,
     /// The bytes of the memory.
     pub(crate) bytes: Vec<u8>,
     /// Which requests have acted, by place.
@@ -27,7 +32,7 @@ impl Model for Place {
 
     ghost Value = { PlaceView };
 
-    ghost view = { λ p. record { state = record { event = p.event; acted = p.acted.items; bytes = p.bytes.items }; pending = p.pending.items } };
+    ghost view = { λ p. record { state = record { event = p.event; acted = p.acted.items; bytes = p.bytes.items }; pending = p.pending; posts = p.posts } };
 }
 
 fn none_acted(alloc: Global, count: usize) -> Result<Vec<bool>, AllocError>
@@ -45,7 +50,8 @@ impl Place {
     {
         Ok(Place {
             event: 0,
-            pending: Vec::new(alloc),
+            pending: Requests::new(alloc),
+            posts: Requests::new(alloc),
             bytes: zeros(alloc, log.extent().size())?,
             acted: none_acted(alloc, log.len())?,
         })
@@ -63,6 +69,21 @@ impl Place {
         ensures { result.now ≡ self.now.pending }
     {
         self.pending.as_slice()
+    }
+
+    /// Those of the pending requests that are posted writes, in their order.
+    pub fn posts(&self) -> &[usize]
+        ensures { result.now ≡ self.now.posts }
+    {
+        self.posts.as_slice()
+    }
+
+    /// No request that is pending or still to be passed is before that place.
+    pub fn earliest(&self) -> usize
+        ensures pending { (b : ℕ) → has self.now.pending b ≡ true → result ≤ b }
+        ensures passed { result ≤ self.now.state.event }
+    {
+        self.pending.first(self.event)
     }
 
     /// The bytes of the memory.
@@ -99,6 +120,7 @@ impl Place {
         ensures acted { self.new.state.acted ≡ slice_set self.old.state.acted b acted }
         ensures bytes { self.new.state.bytes ≡ self.old.state.bytes }
         ensures pending { self.new.pending ≡ self.old.pending }
+        ensures posts { self.new.posts ≡ self.old.posts }
     {
         if b < self.acted.len() {
             self.acted[b] = acted;

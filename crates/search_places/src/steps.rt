@@ -1,13 +1,13 @@
 //! A step, and a step taken back.
-ghost use Rattle.std.specs.Prelude.{◌≡◌, ◌+◌, ◌-◌, ◌≤◌, ℕ, List, [], Some, true, false, IfOk, OnOk, slice_get, slice_set};
+ghost use Rattle.std.specs.Prelude.{◌≡◌, ◌+◌, ◌-◌, ◌≤◌, ◌==◌, ◌&&◌, ◌||◌, not, ℕ, List, [], Some, true, false, IfOk, OnOk, slice_get, slice_set};
 ghost use Rattle.log_runs.specs.declared.Step.TheVariants as kinds;
 ghost use Rattle.log_runs.specs.Runs.{State, Allowed, next, acted_on};
+ghost use Rattle.search_places.specs.Pending.{has, ArePosts};
 ghost use Rattle.search_places.specs.Pending as pending;
 ghost use Rattle.search_places.specs.Places.{IsPlace};
 ghost use Rattle.search_places.specs.Undo.{old_at, old_of, CameBy};
 
 use crate::bytes::{act_on, bytes_of, restore};
-use crate::pending::{add, remove};
 use crate::place::Place;
 use arrayvec::ArrayVec;
 use log_runs::{Event, Log, Step};
@@ -42,6 +42,26 @@ impl Place {
         }
     }
 
+    /// The request is pending.
+    fn enter(&mut self, log: &Log, b: usize) -> Result<(), AllocError>
+        ensures state { OnOk result (self.new.state ≡ self.old.state) }
+        ensures pending { OnOk result ((c : ℕ) → has self.new.pending c ≡ ((b == c) || has self.old.pending c)) }
+        ensures posts { OnOk result (ArePosts log.now self.old.pending self.old.posts → ArePosts log.now self.new.pending self.new.posts) }
+    {
+        self.posts.add_post(log, b)?;
+        self.pending.add(b)
+    }
+
+    /// The request isn't pending.
+    fn leave(&mut self, log: &Log, b: usize)
+        ensures state { self.new.state ≡ self.old.state }
+        ensures pending { (c : ℕ) → has self.new.pending c ≡ (not (b == c) && has self.old.pending c) }
+        ensures posts { ArePosts log.now self.old.pending self.old.posts → ArePosts log.now self.new.pending self.new.posts }
+    {
+        self.posts.remove_post(log, b);
+        self.pending.remove(b);
+    }
+
     /// Passes the next event.
     fn pass(&mut self, log: &Log) -> Result<(), AllocError>
         requires place { IsPlace log.now self.old }
@@ -54,7 +74,7 @@ impl Place {
             self.event = event + 1;
             return Ok(());
         }
-        add(&mut self.pending, event)?;
+        self.enter(log, event)?;
         self.event = event + 1;
         Ok(())
     }
@@ -67,7 +87,7 @@ impl Place {
         ensures place { IsPlace log.now self.new }
     {
         self.mark(b, true);
-        remove(&mut self.pending, b);
+        self.leave(log, b);
         act_on(log, self.bytes.as_mut_slice(), b);
     }
 
@@ -111,7 +131,7 @@ impl Place {
         ensures place { IsPlace log.now self.new }
     {
         self.event -= 1;
-        remove(&mut self.pending, self.event);
+        self.leave(log, self.event);
     }
 
     /// The request hasn't acted.
@@ -124,7 +144,7 @@ impl Place {
     {
         self.mark(b, false);
         restore(log, self.bytes.as_mut_slice(), b, old);
-        add(&mut self.pending, b)
+        self.enter(log, b)
     }
 
     /// Takes back the step that led here. Err only where there is no memory; the place is of no more
