@@ -2,6 +2,4 @@ pub mod Lists
 pub mod RuleLemmas
 pub mod FrameLemmas
 pub mod GroupLemmas
-pub mod OthersOf
-pub mod SketchLemmas
-pub mod Suiting
+pub mod LeftLemmas

@@ -42,6 +42,58 @@ fn finished(
     Ok(None)
 }
 
+/// Goes on from the start of the log, at no more than `limit` choices. The second number is how many there
+/// were.
+fn choose(
+    walk: &mut Walk,
+    alloc: Global,
+    log: &Log,
+    catalog: &Catalog,
+    turns: &[Turn],
+    limit: u64,
+) -> Result<(Outcome, u64), AllocError>
+    requires at { IsAt log.now walk.old }
+    requires catalog { IsCatalog log.now catalog.now }
+    ensures right { IfOk result (λ r. IsRight log.now r.0) }
+    ensures states { IfOk result (λ r. r.1 ≤ limit) }
+    ensures limit { IfOk result (λ r. r.0 ≡ Outcome.Limit → r.1 ≡ limit) }
+{
+    for states in 0..limit {
+        if let Some(steps) = finished(walk, alloc, log, catalog)? {
+            return Ok((Outcome::Run(steps), states));
+        }
+        if !advance(walk, alloc, log, catalog, turns)? {
+            return Ok((Outcome::Dead, states + 1));
+        }
+    }
+    match finished(walk, alloc, log, catalog)? {
+        Some(steps) => Ok((Outcome::Run(steps), limit)),
+        None => Ok((Outcome::Limit, limit)),
+    }
+}
+
+/// Looks for steps that lead from the start of the log to its end, at no more than `limit` choices. What
+/// its requests need later is found out if there is a choice.
+fn explore_by(
+    alloc: Global,
+    log: &Log,
+    catalog: &mut Catalog,
+    turns: &[Turn],
+    limit: u64,
+) -> Result<(Outcome, u64), AllocError>
+    requires { IsCatalog log.now catalog.old }
+    ensures right { IfOk result (λ r. IsRight log.now r.0) }
+    ensures states { IfOk result (λ r. r.1 ≤ limit) }
+    ensures limit { IfOk result (λ r. r.0 ≡ Outcome.Limit → r.1 ≡ limit) }
+{
+    let mut walk = begin(alloc, log)?;
+    if let Some(steps) = finished(&mut walk, alloc, log, catalog)? {
+        return Ok((Outcome::Run(steps), 0));
+    }
+    catalog.look_ahead(alloc, log)?;
+    choose(&mut walk, alloc, log, catalog, turns, limit)
+}
+
 /// Looks for steps that lead from the start of the log to its end, at no more than `limit` choices.
 /// The second number is how many there were.
 pub fn explore(
@@ -55,21 +107,5 @@ pub fn explore(
     ensures limit { IfOk result (λ r. r.0 ≡ Outcome.Limit → r.1 ≡ limit) }
 {
     let mut catalog = catalog_of(alloc, log)?;
-    let mut walk = begin(alloc, log)?;
-    if let Some(steps) = finished(&mut walk, alloc, log, &catalog)? {
-        return Ok((Outcome::Run(steps), 0));
-    }
-    catalog.look_ahead(alloc, log)?;
-    for states in 0..limit {
-        if let Some(steps) = finished(&mut walk, alloc, log, &catalog)? {
-            return Ok((Outcome::Run(steps), states));
-        }
-        if !advance(&mut walk, alloc, log, &catalog, turns)? {
-            return Ok((Outcome::Dead, states + 1));
-        }
-    }
-    match finished(&mut walk, alloc, log, &catalog)? {
-        Some(steps) => Ok((Outcome::Run(steps), limit)),
-        None => Ok((Outcome::Limit, limit)),
-    }
+    explore_by(alloc, log, &mut catalog, turns, limit)
 }

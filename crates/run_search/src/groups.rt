@@ -1,14 +1,16 @@
 //! Requests that act in turn, as a try.
-ghost use Rattle.std.specs.Prelude.{◌≡◌, ℕ, IfOk, OnOk, IfSome, IsTrue};
+ghost use Rattle.std.specs.Prelude.{◌≡◌, ◌<◌, ◌/◌, ℕ, IfOk, OnOk, IfSome, IsTrue};
 ghost use Rattle.log_runs.specs.Runs.{State, MayAct};
 ghost use Rattle.search_places.specs.Places.{IsPlace};
+ghost use Rattle.run_search.specs.Catalogs.{IsCatalog};
 ghost use Rattle.run_search.specs.Frames.{LeadsBy};
 ghost use Rattle.run_search.specs.Groups.{IsGroup};
 
-use crate::sketches::{Sketch, are_far};
+use crate::catalog::Catalog;
 use log_runs::{Log, Step};
 use search_places::{Done, Place};
 use search_rules::{changes_nothing, is_junk_to, is_within};
+use search_words::{near_there, span_of};
 use std::alloc::{AllocError, Global};
 
 /// The most requests that act after the first one.
@@ -25,40 +27,72 @@ pub(crate) struct Group {
 
 /// Request `b` may act, to which the bytes at the addresses of request `q` are something, and changes
 /// no others.
-fn joins(place: &Place, log: &Log, sketches: &[Sketch], q: usize, b: usize) -> bool
+fn joins(place: &Place, log: &Log, q: usize, b: usize) -> bool
     requires { IsPlace log.now place.now }
     ensures { IsTrue result → MayAct log.now place.now.state b }
 {
-    !are_far(sketches, b, q)
-        && !is_junk_to(log, place.bytes(), b, q)
+    !is_junk_to(log, place.bytes(), b, q)
         && (changes_nothing(log, b) || is_within(log, b, q))
         && place.may_act(log, b)
 }
 
-/// The next request that joins the group of request `q`, if there is one such that changes nothing.
-fn next_quiet(place: &Place, log: &Log, sketches: &[Sketch], q: usize) -> Option<usize>
+/// Of the list one that joins the group of request `q`, if one does: one that changes nothing, if there is
+/// such.
+fn joining(place: &Place, log: &Log, q: usize, list: &[usize]) -> Option<usize>
     requires { IsPlace log.now place.now }
     ensures { IfSome result (MayAct log.now place.now.state) }
 {
-    for b in place.pending() {
-        if joins(place, log, sketches, q, *b) && changes_nothing(log, *b) {
+    for b in list {
+        if joins(place, log, q, *b) && changes_nothing(log, *b) {
+            return Some(*b);
+        }
+    }
+    for b in list {
+        if joins(place, log, q, *b) {
             return Some(*b);
         }
     }
     None
 }
 
-/// The next request that joins the group of request `q`.
-fn next_other(place: &Place, log: &Log, sketches: &[Sketch], q: usize) -> Option<usize>
-    requires { IsPlace log.now place.now }
+/// The next request that joins the group of request `q`, of those that may need what stands at the word.
+fn next_at(place: &Place, log: &Log, catalog: &Catalog, q: usize, word: u64) -> Option<usize>
+    requires place { IsPlace log.now place.now }
+    requires catalog { IsCatalog log.now catalog.now }
+    requires word { word < log.now.extent.size / 4 }
     ensures { IfSome result (MayAct log.now place.now.state) }
 {
-    if let Some(b) = next_quiet(place, log, sketches, q) {
+    let from = place.earliest();
+    let near = near_there(
+        catalog.others.words(),
+        log,
+        place.bytes(),
+        q,
+        word,
+        from,
+        place.event(),
+    );
+    if let Some(b) = joining(place, log, q, near.known) {
         return Some(b);
     }
-    for b in place.pending() {
-        if joins(place, log, sketches, q, *b) {
-            return Some(*b);
+    if let Some(b) = joining(place, log, q, near.unknown) {
+        return Some(b);
+    }
+    joining(place, log, q, near.wide)
+}
+
+/// The next request that joins the group of request `q`.
+fn next_of(place: &Place, log: &Log, catalog: &Catalog, q: usize) -> Option<usize>
+    requires place { IsPlace log.now place.now }
+    requires catalog { IsCatalog log.now catalog.now }
+    ensures { IfSome result (MayAct log.now place.now.state) }
+{
+    let Some((first, end)) = span_of(log, q) else {
+        return None;
+    };
+    for word in first..end {
+        if let Some(b) = next_at(place, log, catalog, q, word) {
+            return Some(b);
         }
     }
     None
@@ -96,16 +130,17 @@ pub(crate) fn gather(
     place: &mut Place,
     alloc: Global,
     log: &Log,
-    sketches: &[Sketch],
+    catalog: &Catalog,
     q: usize,
 ) -> Result<Group, AllocError>
     requires place { IsPlace log.now place.old }
+    requires catalog { IsCatalog log.now catalog.now }
     requires may { MayAct log.now place.old.state q }
     ensures { IfOk result (λ g. IsGroup log.now place.old.state q g place.new) }
 {
     let mut group = begin(place, alloc, log, q)?;
     for _turn in 0..MOST {
-        let Some(b) = next_other(place, log, sketches, q) else {
+        let Some(b) = next_of(place, log, catalog, q) else {
             return Ok(group);
         };
         join(place, log, &mut group, b)?;

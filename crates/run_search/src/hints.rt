@@ -1,16 +1,15 @@
 //! Where a rule is worth its test. Nothing rests on what these functions say.
 
+ghost use Rattle.std.specs.Prelude.{◌<◌, ◌≤◌, ◌/◌};
 ghost use Rattle.run_search.specs.Catalogs.{IsCatalog};
 
-use crate::askers::Asker;
 use crate::catalog::Catalog;
 use crate::junk::MOST_EVENTS;
-use crate::sketches::{Sketch, are_far};
+use crate::sketches::Sketch;
 use log_runs::{Event, Log, Step};
 use search_places::{Done, Place};
-use search_rules::{
-    changes_nothing, is_junk_later, is_junk_to, is_within, leaves_junk_later, leaves_junk_to,
-};
+use search_rules::{changes_nothing, is_junk_to, is_within, leaves_junk_to};
+use search_words::{near_left, near_there, span_of};
 use std::alloc::{AllocError, Global};
 
 /// The four bytes from that place on.
@@ -45,18 +44,35 @@ pub(crate) enum Look {
     Only(usize),
 }
 
-/// The request that may act at once after one that acted, if that is known: the only one that needs
+/// The request that may act at once after request `b` acted, if that is known: the only one that needs
 /// what stands there now.
-fn next_at(log: &Log, catalog: &Catalog, place: &Place, sketch: Sketch) -> Option<Look> {
-    if sketch.writer() != 0 {
+fn next_at(log: &Log, catalog: &Catalog, place: &Place, b: usize) -> Option<Look>
+    requires { IsCatalog log.now catalog.now }
+{
+    let (first, end) = span_of(log, b)?;
+    if first >= end || end - first != 1 {
         return None;
     }
-    let at = sketch.place(log.extent().base())?;
-    let value = four(place.bytes(), at)?;
-    match catalog.askers.at(sketch, value) {
-        Asker::Nobody => Some(Look::none()),
-        Asker::Only(q) => Some(Look::Only(q)),
-        Asker::Unknown => None,
+    let from = place.earliest();
+    let near = near_there(
+        catalog.others.words(),
+        log,
+        place.bytes(),
+        b,
+        first,
+        from,
+        place.event(),
+    );
+    if !near.wide.is_empty() || !near.unknown.is_empty() {
+        return None;
+    }
+    match near.known.first() {
+        None => Some(Look::none()),
+        Some(q) => if near.known.len() == 1 {
+            Some(Look::Only(*q))
+        } else {
+            None
+        },
     }
 }
 
@@ -91,7 +107,9 @@ impl Look {
         place: &Place,
         pending: usize,
         step: Step,
-    ) -> Look {
+    ) -> Look
+        requires { IsCatalog log.now catalog.now }
+    {
         let Step::Act(b) = step else {
             return Look::Marked {
                 from: pending,
@@ -103,7 +121,8 @@ impl Look {
         };
         let left = self.left();
         if left == 0
-            && let Some(look) = next_at(log, catalog, place, sketch)
+            && sketch.writer() == 0
+            && let Some(look) = next_at(log, catalog, place, b)
         {
             return look;
         }
@@ -120,49 +139,105 @@ pub(crate) fn is_worth(marks: u32, sketch: Sketch, base: u64, bytes: &[u8]) -> b
     sketch.marks & marks != 0 && may_fit(sketch, base, bytes)
 }
 
-/// What a step overwrote.
+/// A word that a step changed.
 #[derive(Clone, Copy)]
 pub(crate) struct Loss {
-    sketch: Sketch,
-    /// Its first four bytes.
-    old: u32,
+    pub(crate) word: u64,
+    /// What stood there.
+    pub(crate) old: u32,
 }
 
-/// What the step overwrote.
-fn loss_of(sketches: &[Sketch], step: Step, old: &[u8]) -> Option<Loss> {
-    let Step::Act(b) = step else {
-        return None;
-    };
-    let sketch = *sketches.get(b)?;
-    if !sketch.changes {
-        return None;
+/// What stood at the word, whose bytes are now those from place `at` on, before a step overwrote the
+/// bytes from place `from` on.
+fn old_at(bytes: &[u8], at: usize, from: usize, old: &[u8]) -> Option<u32> {
+    let mut word = four(bytes, at)?.to_le_bytes();
+    for i in 0..4usize {
+        if let Some(k) = at.saturating_add(i).checked_sub(from)
+            && k < old.len()
+        {
+            word[i] = old[k];
+        }
     }
-    let old = four(old, 0)?;
-    Some(Loss { sketch, old })
+    Some(u32::from_le_bytes(word))
 }
 
-/// What steps overwrote.
+impl Loss {
+    /// It stands there again.
+    pub(crate) fn is_back(self, bytes: &[u8]) -> bool {
+        four(bytes, (self.word as usize).saturating_mul(4)) == Some(self.old)
+    }
+}
+
+/// Of the list's requests that are left and have one word, the one that is due first.
+pub(crate) fn first_due(
+    place: &Place,
+    log: &Log,
+    catalog: &Catalog,
+    list: &[usize],
+) -> Option<usize> {
+    let mut least = usize::MAX;
+    let mut first = None;
+    for q in list {
+        if let Some(due) = catalog.others.place_of(log, *q)
+            && due < least
+            && catalog.is_word(*q)
+            && place.is_left(*q)
+        {
+            least = due;
+            first = Some(*q);
+        }
+    }
+    first
+}
+
+/// Words that steps changed.
 #[derive(Drop)]
 pub(crate) struct Losses {
-    list: Vec<Loss>,
-    /// Bits for the words that they named.
-    words: u32,
+    pub(crate) list: Vec<Loss>,
 }
 
 impl Losses {
-    /// No step overwrote anything.
+    /// No step changed anything.
     pub(crate) fn new(alloc: Global) -> Losses {
         Losses {
             list: Vec::new(alloc),
-            words: 0,
         }
     }
 
-    /// What one step more overwrote.
-    pub(crate) fn push(&mut self, sketches: &[Sketch], done: &Done) -> Result<(), AllocError> {
-        if let Some(loss) = loss_of(sketches, done.step, done.old.as_slice()) {
-            self.words |= loss.sketch.words();
-            self.list.push(loss)?;
+    /// The word, if the step that overwrote these bytes changed it.
+    fn push_word(
+        &mut self,
+        bytes: &[u8],
+        word: u64,
+        from: usize,
+        old: &[u8],
+    ) -> Result<(), AllocError> {
+        if word >= bytes.len() as u64 {
+            return Ok(());
+        }
+        let at = (word as usize).saturating_mul(4);
+        if let Some(old) = old_at(bytes, at, from, old)
+            && !(Loss { word, old }).is_back(bytes)
+        {
+            self.list.push(Loss { word, old })?;
+        }
+        Ok(())
+    }
+
+    /// The words that one step more changed, which led to the place.
+    pub(crate) fn push(&mut self, log: &Log, place: &Place, done: &Done) -> Result<(), AllocError> {
+        let Step::Act(b) = done.step else {
+            return Ok(());
+        };
+        let Some((first, end)) = span_of(log, b) else {
+            return Ok(());
+        };
+        let Some(Event::Sub { op, .. }) = log.event(b) else {
+            return Ok(());
+        };
+        let from = op.address().saturating_sub(log.extent().base()) as usize;
+        for word in first..end {
+            self.push_word(place.bytes(), word, from, done.old.as_slice())?;
         }
         Ok(())
     }
@@ -170,42 +245,7 @@ impl Losses {
     /// Begins anew.
     pub(crate) fn clear(&mut self) {
         self.list.clear();
-        self.words = 0;
     }
-
-    /// They overwrote nothing.
-    pub(crate) fn is_empty(&self) -> bool {
-        self.list.is_empty()
-    }
-
-    /// A request may need one of them.
-    #[inline(never)]
-    fn may_be_needed_by(&self, sketch: &Sketch) -> bool {
-        for loss in &self.list {
-            if sketch.may_need(loss.sketch, loss.old) {
-                return true;
-            }
-        }
-        false
-    }
-
-    /// Request `q` may need one of them.
-    #[inline(always)]
-    pub(crate) fn may_be_needed(&self, sketches: &[Sketch], q: usize) -> bool {
-        match sketches.get(q) {
-            Some(sketch) => {
-                sketch.mask != 0
-                    && sketch.words() & self.words != 0
-                    && self.may_be_needed_by(sketch)
-            }
-            None => false,
-        }
-    }
-}
-
-/// What stands where request `q` writes and what it leaves there are nothing to request `b`.
-fn overlooks(place: &Place, log: &Log, sketches: &[Sketch], b: usize, q: usize) -> bool {
-    are_far(sketches, b, q) || is_junk_to(log, place.bytes(), b, q) && leaves_junk_to(log, b, q, q)
 }
 
 /// The request was answered.
@@ -230,38 +270,140 @@ fn may_join(place: &Place, log: &Log, writers: u32, sketch: Sketch, b: usize, q:
     sketch.requester() & writers == 0 && (changes_nothing(log, b) || is_within(log, b, q))
 }
 
-/// All pending requests that have bytes of request `q` may act in turn after it, or need none of what
-/// is there before or after.
-fn may_all_join(place: &Place, log: &Log, sketches: &[Sketch], own: Sketch, q: usize) -> bool {
+/// The requesters that wait for posted writes before request `b` that are somewhere else.
+fn writers_before(place: &Place, sketches: &[Sketch], own: Sketch, b: usize) -> u32 {
     let mut writers = 0u32;
-    for b in place.pending() {
+    for c in place.posts() {
+        if *c >= b {
+            return writers;
+        }
+        if let Some(sketch) = sketches.get(*c)
+            && sketch.is_apart(own)
+        {
+            writers |= sketch.writer();
+        }
+    }
+    writers
+}
+
+/// Each of the list has acted, or is `q`, or may act in turn after it, or needs none of what is there
+/// before or after.
+fn may_all_join(
+    place: &Place,
+    log: &Log,
+    sketches: &[Sketch],
+    own: Sketch,
+    q: usize,
+    list: &[usize],
+) -> bool {
+    for b in list {
         let Some(sketch) = sketches.get(*b).copied() else {
             return false;
         };
-        if sketch.is_apart(own) {
-            writers |= sketch.writer();
-        } else if *b != q && !may_join(place, log, writers, sketch, *b, q) {
+        if *b != q
+            && !place.has_acted(*b)
+            && !may_join(
+                place,
+                log,
+                writers_before(place, sketches, own, *b),
+                sketch,
+                *b,
+                q,
+            )
+        {
             return false;
         }
     }
     true
 }
 
-/// What stands where request `q` writes and what it leaves there is nothing to all that are to come.
-fn is_nothing_later(place: &Place, log: &Log, catalog: &Catalog, q: usize) -> bool
-    requires { IsCatalog log.now catalog.now }
+/// [`may_all_join`], the pending ones that may need what stands at the word now, or what request `q` leaves
+/// there.
+fn may_join_at(
+    place: &Place,
+    log: &Log,
+    catalog: &Catalog,
+    own: Sketch,
+    q: usize,
+    word: u64,
+) -> bool
+    requires catalog { IsCatalog log.now catalog.now }
+    requires word { word < log.now.extent.size / 4 }
+{
+    let from = place.earliest();
+    let event = place.event();
+    let sketches = catalog.sketches.as_slice();
+    let there = near_there(
+        catalog.others.words(),
+        log,
+        place.bytes(),
+        q,
+        word,
+        from,
+        event,
+    );
+    let left = near_left(catalog.others.words(), log, q, q, word, from, event);
+    may_all_join(place, log, sketches, own, q, there.known)
+        && may_all_join(place, log, sketches, own, q, left.known)
+        && may_all_join(place, log, sketches, own, q, there.unknown)
+}
+
+/// What stands where request `q` writes and what it leaves there is nothing to each of the list.
+fn is_nothing_to(place: &Place, log: &Log, q: usize, list: &[usize]) -> bool {
+    for b in list {
+        if !is_junk_to(log, place.bytes(), *b, q) || !leaves_junk_to(log, *b, q, q) {
+            return false;
+        }
+    }
+    true
+}
+
+/// [`is_nothing_to`], each that is to come and may need what stands at the word now, or what request `q`
+/// leaves there.
+fn is_nothing_later(place: &Place, log: &Log, catalog: &Catalog, q: usize, word: u64) -> bool
+    requires catalog { IsCatalog log.now catalog.now }
+    requires word { word < log.now.extent.size / 4 }
 {
     let event = place.event();
-    if is_junk_later(&catalog.later, log, place.bytes(), event, q)
-        && leaves_junk_later(&catalog.later, log, event, q, q)
+    let there = near_there(
+        catalog.others.words(),
+        log,
+        place.bytes(),
+        q,
+        word,
+        event,
+        log.len(),
+    );
+    let left = near_left(catalog.others.words(), log, q, q, word, event, log.len());
+    is_nothing_to(place, log, q, there.known)
+        && is_nothing_to(place, log, q, left.known)
+        && is_nothing_to(place, log, q, there.unknown)
+}
+
+/// What stands at the words and what request `q` leaves there is nothing to all that are to come. Where
+/// that isn't known at once, they are looked at one by one, if the log is short.
+fn is_nothing_at(
+    place: &Place,
+    log: &Log,
+    catalog: &Catalog,
+    q: usize,
+    first: u64,
+    end: u64,
+) -> bool
+    requires catalog { IsCatalog log.now catalog.now }
+    requires words { end ≤ log.now.extent.size / 4 }
+{
+    let event = place.event();
+    if catalog.others.is_junk_later(log, place.bytes(), event, q)
+        && catalog.others.leaves_junk_later(log, event, q, q)
     {
         return true;
     }
     if log.len() > MOST_EVENTS {
         return false;
     }
-    for b in event..log.len() {
-        if !overlooks(place, log, &catalog.sketches, b, q) {
+    for word in first..end {
+        if !is_nothing_later(place, log, catalog, q, word) {
             return false;
         }
     }
@@ -273,11 +415,19 @@ fn is_nothing_later(place: &Place, log: &Log, catalog: &Catalog, q: usize) -> bo
 pub(crate) fn may_be_over_junk(place: &Place, log: &Log, catalog: &Catalog, q: usize) -> bool
     requires { IsCatalog log.now catalog.now }
 {
-    let sketches = catalog.sketches.as_slice();
-    let Some(own) = sketches.get(q).copied() else {
+    let Some(own) = catalog.sketches.get(q).copied() else {
         return false;
     };
-    own.changes
-        && may_all_join(place, log, sketches, own, q)
-        && is_nothing_later(place, log, catalog, q)
+    let Some((first, end)) = span_of(log, q) else {
+        return false;
+    };
+    if !own.changes || !is_nothing_at(place, log, catalog, q, first, end) {
+        return false;
+    }
+    for word in first..end {
+        if !may_join_at(place, log, catalog, own, q, word) {
+            return false;
+        }
+    }
+    true
 }

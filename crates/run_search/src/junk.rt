@@ -1,82 +1,43 @@
 //! Requests over bytes that nobody needs.
-ghost use Rattle.std.specs.Prelude.{◌≡◌, ◌∷◌, Some, true, false, ℕ, IsTrue, IfOk, OnOk, IfSome, length, slice_get};
+ghost use Rattle.std.specs.Prelude.{◌≡◌, ◌∷◌, ◌⊎◌, Some, true, false, ℕ, IsTrue, IfOk, OnOk, IfSome, length, slice_get};
 ghost use Rattle.log_runs.specs.Runs.{MayAct, IsForced};
 ghost use Rattle.search_rules.specs.Rules.{IsJunkTo, LeavesJunkTo, LeavesNothing, AllLeft};
-ghost use Rattle.search_places.specs.Pending.{has};
 ghost use Rattle.search_places.specs.Places.{IsPlace};
 ghost use Rattle.run_search.specs.Catalogs.{IsCatalog};
-ghost use Rattle.run_search.specs.Sketches.{AreSketches};
 
 use crate::catalog::Catalog;
 use crate::groups::{Group, gather, take_back};
 use crate::hints::may_be_over_junk;
-use crate::sketches::{Sketch, are_far};
 use log_runs::{Log, Step};
+use search_others::{Asked, Question, all_do};
 use search_places::Place;
-use search_places::laws::who_is_left_is_pending;
 use search_rules::laws::what_is_over_junk_acts_at_once;
-use search_rules::{
-    changes_nothing, is_junk_later, is_junk_to, is_within, leaves_junk_later, leaves_junk_to,
-};
+use search_rules::{changes_nothing, is_within, leaves_junk_to};
 use std::alloc::{AllocError, Global};
 
 /// The most events of a log that are looked at one by one.
 pub(crate) const MOST_EVENTS: usize = 4_096;
 
-/// Request `b` has acted, or what request `g` leaves, among the addresses of request `q`, is nothing to
+/// Up to which place the requests are asked one by one that are left, if those behind it are known to do
+/// as is asked, or the log is short.
+fn asked_before(place: &Place, log: &Log, later_do: bool) -> Option<usize>
+    ensures { IfSome result (λ a. ((later_do ≡ true) × (a ≡ place.now.state.event)) ⊎ (a ≡ length log.now.events)) }
+{
+    if later_do {
+        return Some(place.event());
+    }
+    if log.len() > MOST_EVENTS {
+        return None;
+    }
+    Some(log.len())
+}
+
+/// Request `b` has acted, or what request `g` leaves, among the addresses of request `b`, is nothing to
 /// it.
-fn leaves_it_junk(
-    place: &Place,
-    log: &Log,
-    sketches: &[Sketch],
-    q: usize,
-    g: usize,
-    b: usize,
-) -> bool
-    requires { AreSketches log.now.events sketches.now }
-    ensures { IsTrue result → slice_get place.now.state.acted b ≡ Some false → LeavesJunkTo log.now b q g }
+fn leaves_itself_junk(place: &Place, log: &Log, g: usize, b: usize) -> bool
+    ensures { IsTrue result → slice_get place.now.state.acted b ≡ Some false → LeavesJunkTo log.now b b g }
 {
-    if place.has_acted(b) {
-        return true;
-    }
-    if are_far(sketches, b, q) {
-        return true;
-    }
-    leaves_junk_to(log, b, q, g)
-}
-
-/// [`leaves_it_junk`], each of the list.
-fn leaves_them_junk(
-    place: &Place,
-    pending: &[usize],
-    log: &Log,
-    sketches: &[Sketch],
-    q: usize,
-    g: usize,
-) -> bool
-    requires { AreSketches log.now.events sketches.now }
-    ensures { IsTrue result → (b : ℕ) → has pending.now b ≡ true → slice_get place.now.state.acted b ≡ Some false → LeavesJunkTo log.now b q g }
-{
-    for b in pending {
-        if !leaves_it_junk(place, log, sketches, q, g, *b) {
-            return false;
-        }
-    }
-    true
-}
-
-/// [`leaves_it_junk`], each of the log.
-fn leaves_all_junk(place: &Place, log: &Log, sketches: &[Sketch], q: usize, g: usize) -> bool
-    requires place { IsPlace log.now place.now }
-    requires sketches { AreSketches log.now.events sketches.now }
-    ensures { IsTrue result → AllLeft place.now.state (λ b. LeavesJunkTo log.now b q g) }
-{
-    for b in 0..log.len() {
-        if !leaves_it_junk(place, log, sketches, q, g, b) {
-            return false;
-        }
-    }
-    true
+    place.has_acted(b) || leaves_junk_to(log, b, b, g)
 }
 
 /// What request `g` leaves, among the addresses of request `q`, is nothing to those that are left.
@@ -85,14 +46,20 @@ fn leaves_junk(place: &Place, log: &Log, catalog: &Catalog, q: usize, g: usize) 
     requires catalog { IsCatalog log.now catalog.now }
     ensures { IsTrue result → AllLeft place.now.state (λ b. LeavesJunkTo log.now b q g) }
 {
-    who_is_left_is_pending();
-    if leaves_junk_later(&catalog.later, log, place.event(), q, g) {
-        return leaves_them_junk(place, place.pending(), log, &catalog.sketches, q, g);
-    }
-    if log.len() > MOST_EVENTS {
+    if !leaves_itself_junk(place, log, g, q) {
         return false;
     }
-    leaves_all_junk(place, log, &catalog.sketches, q, g)
+    let later_do = catalog.others.leaves_junk_later(log, place.event(), q, g);
+    let Some(before) = asked_before(place, log, later_do) else {
+        return false;
+    };
+    let question = Question {
+        of: q,
+        before,
+        asked: Asked::LeftBy(g),
+        but: &[],
+    };
+    all_do(place, log, &catalog.others, question)
 }
 
 /// Request `g` changes nothing; or it leaves bytes, among the addresses of request `q`, that are
@@ -143,92 +110,25 @@ fn all_leave_nothing(
     leave_nothing(place, log, catalog, q, others)
 }
 
-/// The group has the request.
-fn is_in(group: &[usize], b: usize) -> bool
-    ensures { IsTrue result → (i : ℕ) × (slice_get group.now i ≡ Some b) }
-{
-    group.contains(&b)
-}
-
-/// Request `b` is `q`, or of the group, or has acted, or it is nothing to it what stands at the
-/// addresses of `q`.
-fn overwrites_its_junk(
-    place: &Place,
-    log: &Log,
-    sketches: &[Sketch],
-    q: usize,
-    group: &[usize],
-    b: usize,
-) -> bool
-    requires { AreSketches log.now.events sketches.now }
-    ensures { IsTrue result → (q ≡ b → ⊥) → ((i : ℕ) → slice_get group.now i ≡ Some b → ⊥) → slice_get place.now.state.acted b ≡ Some false → IsJunkTo log.now place.now.state.bytes b q }
-{
-    if b == q || place.has_acted(b) {
-        return true;
-    }
-    if is_in(group, b) {
-        return true;
-    }
-    if are_far(sketches, b, q) {
-        return true;
-    }
-    is_junk_to(log, place.bytes(), b, q)
-}
-
-/// [`overwrites_its_junk`], each of the list.
-fn overwrites_their_junk(
-    place: &Place,
-    pending: &[usize],
-    log: &Log,
-    sketches: &[Sketch],
-    q: usize,
-    group: &[usize],
-) -> bool
-    requires { AreSketches log.now.events sketches.now }
-    ensures { IsTrue result → (b : ℕ) → has pending.now b ≡ true → (q ≡ b → ⊥) → ((i : ℕ) → slice_get group.now i ≡ Some b → ⊥) → slice_get place.now.state.acted b ≡ Some false → IsJunkTo log.now place.now.state.bytes b q }
-{
-    for b in pending {
-        if !overwrites_its_junk(place, log, sketches, q, group, *b) {
-            return false;
-        }
-    }
-    true
-}
-
-/// [`overwrites_its_junk`], each of the log.
-fn overwrites_all_junk(
-    place: &Place,
-    log: &Log,
-    sketches: &[Sketch],
-    q: usize,
-    group: &[usize],
-) -> bool
-    requires place { IsPlace log.now place.now }
-    requires sketches { AreSketches log.now.events sketches.now }
-    ensures { IsTrue result → (b : ℕ) → (q ≡ b → ⊥) → ((i : ℕ) → slice_get group.now i ≡ Some b → ⊥) → slice_get place.now.state.acted b ≡ Some false → IsJunkTo log.now place.now.state.bytes b q }
-{
-    for b in 0..log.len() {
-        if !overwrites_its_junk(place, log, sketches, q, group, b) {
-            return false;
-        }
-    }
-    true
-}
-
 /// To those that are left but `q` and the group it is nothing what stands at the addresses of `q`.
 fn overwrites_junk(place: &Place, log: &Log, catalog: &Catalog, q: usize, group: &[usize]) -> bool
     requires place { IsPlace log.now place.now }
     requires catalog { IsCatalog log.now catalog.now }
     ensures { IsTrue result → (b : ℕ) → (q ≡ b → ⊥) → ((i : ℕ) → slice_get group.now i ≡ Some b → ⊥) → slice_get place.now.state.acted b ≡ Some false → IsJunkTo log.now place.now.state.bytes b q }
 {
-    who_is_left_is_pending();
-    if is_junk_later(&catalog.later, log, place.bytes(), place.event(), q) {
-        return overwrites_their_junk(place, place.pending(), log, &catalog.sketches, q, group);
-    }
-    if log.len() > MOST_EVENTS {
+    let later_do = catalog
+        .others
+        .is_junk_later(log, place.bytes(), place.event(), q);
+    let Some(before) = asked_before(place, log, later_do) else {
         return false;
-    }
-    overwrites_all_junk(place, log, &catalog.sketches, q, group)
+    };
+    let question = Question {
+        of: q,
+        before,
+        asked: Asked::Junk,
+        but: group,
+    };
+    all_do(place, log, &catalog.others, question)
 }
 
 /// Others may act in turn after request `q`, and to those that are left then it is nothing what they
@@ -248,7 +148,7 @@ fn is_over_junk(
     ensures forced { IfOk result (λ so. IsTrue so → IsForced log.now place.new.state (Step.Act q)) }
 {
     what_is_over_junk_acts_at_once();
-    let Group { done, others } = gather(place, alloc, log, &catalog.sketches, q)?;
+    let Group { done, others } = gather(place, alloc, log, catalog, q)?;
     let spent = all_leave_nothing(place, log, catalog, q, &others);
     take_back(place, log, done)?;
     if !spent || place.bytes().len() != log.extent().size() {
@@ -294,7 +194,7 @@ pub(crate) fn over_junk(
     ensures place { OnOk result (IsPlace log.now place.new) }
     ensures forced { IfOk result (λ o. IfSome o (IsForced log.now place.new.state)) }
 {
-    if !catalog.looks_ahead || place.event() >= log.len() {
+    if !catalog.others.looks_ahead() || place.event() >= log.len() {
         return Ok(None);
     }
     let mut writers = 0u32;

@@ -7,15 +7,11 @@
 //! remembered, while there is room for them.
 #![tactic(auto)]
 
-mod askers;
 mod catalog;
-mod due;
 mod exploring;
 mod groups;
 mod hints;
 mod junk;
-mod lost;
-mod others;
 mod rules;
 mod sketches;
 mod walk;

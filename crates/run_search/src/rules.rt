@@ -5,15 +5,14 @@ ghost use Rattle.run_search.specs.Catalogs.{IsCatalog};
 ghost use Rattle.search_places.specs.Places.{IsPlace};
 
 use crate::catalog::Catalog;
-use crate::due::{held_until, place_of};
 use crate::hints::{Look, is_worth};
-use crate::others::{Asked, others_spare};
 use log_runs::{Log, Step};
+use search_others::{Asked, others_spare};
 use search_places::Place;
 use search_rules::laws::{
     the_first_acts_at_once, the_last_acts_at_once, what_changes_nothing_acts_at_once,
 };
-use search_rules::{changes_nothing, follows, is_alone};
+use search_rules::{changes_nothing, follows};
 
 /// The request, which may act, changes nothing.
 fn is_quiet(place: &Place, log: &Log, q: usize) -> bool
@@ -32,13 +31,13 @@ fn is_last(place: &Place, log: &Log, catalog: &Catalog, q: usize) -> bool
     ensures { IsTrue result → IsForced log.now place.now.state (Step.Act q) }
 {
     the_last_acts_at_once();
-    let Some(a) = place_of(&catalog.due, log, q) else {
+    let Some(a) = catalog.others.place_of(log, q) else {
         return false;
     };
     if a < place.event() {
         return false;
     }
-    others_spare(place, log, catalog, q, a, Asked::Last)
+    others_spare(place, log, &catalog.others, q, a, Asked::Last)
 }
 
 /// The request, which may act, is the first that can of those that have bytes of it.
@@ -49,7 +48,7 @@ fn is_first(place: &Place, log: &Log, catalog: &Catalog, q: usize) -> bool
     ensures { IsTrue result → IsForced log.now place.now.state (Step.Act q) }
 {
     the_first_acts_at_once();
-    let Some((a, r)) = held_until(&catalog.due, log, q) else {
+    let Some((a, r)) = catalog.others.held_until(log, q) else {
         return false;
     };
     if a < place.event() {
@@ -61,10 +60,7 @@ fn is_first(place: &Place, log: &Log, catalog: &Catalog, q: usize) -> bool
     if !place.is_left(r) {
         return false;
     }
-    if is_alone(&catalog.values, log, q) {
-        return true;
-    }
-    others_spare(place, log, catalog, q, a, Asked::First)
+    others_spare(place, log, &catalog.others, q, a, Asked::First)
 }
 
 /// The request may act, and acts at once.

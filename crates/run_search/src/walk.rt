@@ -6,13 +6,14 @@ ghost use Rattle.run_search.specs.Catalogs.{IsCatalog};
 ghost use Rattle.run_search.specs.Frames as frames;
 
 use crate::catalog::Catalog;
-use crate::hints::{Look, Losses};
+use crate::hints::{Look, Loss, Losses, first_due};
 use crate::junk::over_junk;
-use crate::lost::is_lost;
 use crate::rules::forced;
-use log_runs::{Log, Step};
+use log_runs::{Event, Log, Step};
 use search_choices::{Turn, choices};
+use search_others::is_lost;
 use search_places::{Memo, Place, Stack};
+use search_words::near_value;
 use std::alloc::{AllocError, Global};
 
 /// Of so many events to come it is looked whether their requests are lost.
@@ -80,7 +81,7 @@ pub(crate) fn settle(
         let pending = walk.here.pending().len();
         let done = walk.here.take(log, step)?;
         look = look.after(log, catalog, &walk.here, pending, step);
-        walk.losses.push(&catalog.sketches, &done)?;
+        walk.losses.push(log, &walk.here, &done)?;
         walk.stack.push(&done)?;
     }
     Ok(())
@@ -111,7 +112,8 @@ fn rewind(walk: &mut Walk, log: &Log) -> Result<(), AllocError>
 
 /// Takes a step of the last frame, which isn't among those that are left there any more.
 fn go_on(walk: &mut Walk, log: &Log, catalog: &Catalog, step: Step) -> Result<(), AllocError>
-    requires { frames.MayTake log.now walk.old step }
+    requires step { frames.MayTake log.now walk.old step }
+    requires catalog { IsCatalog log.now catalog.now }
     ensures at { OnOk result (frames.IsAt log.now walk.new) }
     ensures frames { OnOk result (walk.new.stack.frames ≡ walk.old.stack.frames) }
 {
@@ -119,38 +121,82 @@ fn go_on(walk: &mut Walk, log: &Log, catalog: &Catalog, step: Step) -> Result<()
     let done = walk.here.take(log, step)?;
     walk.look = Look::none().after(log, catalog, &walk.here, pending, step);
     walk.losses.clear();
-    walk.losses.push(&catalog.sketches, &done)?;
+    walk.losses.push(log, &walk.here, &done)?;
     walk.stack.push(&done)?;
     Ok(())
 }
 
-/// The request, which is due now or may need what the steps since the last frame overwrote, is lost
-/// here.
-#[inline(always)]
-fn is_lost_now(walk: &Walk, log: &Log, catalog: &Catalog, q: usize) -> bool
-    requires place { IsPlace log.now walk.now.here }
+/// A request of the list is lost here. Of those that need the same word and nothing else the one that is
+/// due first is looked at.
+fn has_lost(place: &Place, log: &Log, catalog: &Catalog, list: &[usize]) -> bool
+    requires place { IsPlace log.now place.now }
     requires catalog { IsCatalog log.now catalog.now }
-    ensures { IsTrue result → Dead log.now walk.now.here.state }
+    ensures { IsTrue result → Dead log.now place.now.state }
 {
-    let is_due = catalog.due.get(q) == Some(&walk.here.event());
-    if !is_due && !walk.losses.may_be_needed(&catalog.sketches, q) {
-        return false;
-    }
-    is_lost(&walk.here, log, catalog, q)
-}
-
-/// A request that was submitted is lost here.
-fn some_is_lost(walk: &Walk, log: &Log, catalog: &Catalog) -> bool
-    requires place { IsPlace log.now walk.now.here }
-    requires catalog { IsCatalog log.now catalog.now }
-    ensures { IsTrue result → Dead log.now walk.now.here.state }
-{
-    for q in walk.here.pending() {
-        if is_lost_now(walk, log, catalog, *q) {
+    let first = first_due(place, log, catalog, list);
+    for q in list {
+        if (first == Some(*q) || !catalog.is_word(*q)) && is_lost(place, log, &catalog.others, *q) {
             return true;
         }
     }
     false
+}
+
+/// A request from one place on and before another, which may need what stood at a word, is lost here.
+fn is_missed(
+    place: &Place,
+    log: &Log,
+    catalog: &Catalog,
+    loss: Loss,
+    from: usize,
+    to: usize,
+) -> bool
+    requires place { IsPlace log.now place.now }
+    requires catalog { IsCatalog log.now catalog.now }
+    ensures { IsTrue result → Dead log.now place.now.state }
+{
+    if loss.word >= log.extent().size() as u64 / 4 || loss.is_back(place.bytes()) {
+        return false;
+    }
+    let near = near_value(catalog.others.words(), log, loss.word, loss.old, from, to);
+    has_lost(place, log, catalog, near.known) || has_lost(place, log, catalog, near.unknown)
+}
+
+/// A request before that place, which may need what the steps since the last frame overwrote, is lost
+/// here.
+fn some_is_missed(walk: &Walk, log: &Log, catalog: &Catalog, to: usize) -> bool
+    requires place { IsPlace log.now walk.now.here }
+    requires catalog { IsCatalog log.now catalog.now }
+    ensures { IsTrue result → Dead log.now walk.now.here.state }
+{
+    let from = walk.here.earliest();
+    for loss in &walk.losses.list {
+        if is_missed(&walk.here, log, catalog, *loss, from, to) {
+            return true;
+        }
+    }
+    false
+}
+
+/// The request whose answer is due is lost here.
+fn due_is_lost(walk: &Walk, log: &Log, catalog: &Catalog) -> bool
+    requires place { IsPlace log.now walk.now.here }
+    requires catalog { IsCatalog log.now catalog.now }
+    ensures { IsTrue result → Dead log.now walk.now.here.state }
+{
+    match log.event(walk.here.event()) {
+        Some(Event::Due { request }) => is_lost(&walk.here, log, &catalog.others, request),
+        _ => false,
+    }
+}
+
+/// The request whose answer is due is lost here, or one before that place.
+fn some_is_lost(walk: &Walk, log: &Log, catalog: &Catalog, to: usize) -> bool
+    requires place { IsPlace log.now walk.now.here }
+    requires catalog { IsCatalog log.now catalog.now }
+    ensures { IsTrue result → Dead log.now walk.now.here.state }
+{
+    due_is_lost(walk, log, catalog) || some_is_missed(walk, log, catalog, to)
 }
 
 /// Goes on with what is left and isn't lost at once; false if nothing is.
@@ -163,7 +209,8 @@ fn back(walk: &mut Walk, alloc: Global, log: &Log, catalog: &Catalog) -> Result<
     loop {
         if let Some(step) = walk.stack.next() {
             go_on(walk, log, catalog, step)?;
-            if !some_is_lost(walk, log, catalog) {
+            let event = walk.here.event();
+            if !some_is_lost(walk, log, catalog, event) {
                 return Ok(true);
             }
             rewind(walk, log)?;
@@ -177,33 +224,14 @@ fn back(walk: &mut Walk, alloc: Global, log: &Log, catalog: &Catalog) -> Result<
     }
 }
 
-/// A request that is submitted soon is lost here.
-fn later_is_lost(walk: &Walk, log: &Log, catalog: &Catalog) -> bool
-    requires place { IsPlace log.now walk.now.here }
-    requires catalog { IsCatalog log.now catalog.now }
-    ensures { IsTrue result → Dead log.now walk.now.here.state }
-{
-    if walk.losses.is_empty() {
-        return false;
-    }
-    let event = walk.here.event();
-    for q in event..event.saturating_add(SOON) {
-        if is_lost_now(walk, log, catalog, q) {
-            return true;
-        }
-    }
-    false
-}
-
 /// No run leads from here to the end, as is seen or known.
 fn is_dead(walk: &Walk, alloc: Global, log: &Log, catalog: &Catalog) -> bool
     requires at { frames.IsAt log.now walk.now }
     requires catalog { IsCatalog log.now catalog.now }
     ensures { IsTrue result → Dead log.now walk.now.here.state }
 {
-    some_is_lost(walk, log, catalog)
-        || later_is_lost(walk, log, catalog)
-        || walk.memo.is_known(alloc, &walk.here)
+    let soon = walk.here.event().saturating_add(SOON);
+    some_is_lost(walk, log, catalog, soon) || walk.memo.is_known(alloc, &walk.here)
 }
 
 /// Goes on from here; false if no run leads to the end.

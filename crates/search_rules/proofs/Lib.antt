@@ -6,5 +6,3 @@ pub mod ByteLemmas
 pub mod FirstLemmas
 pub mod JunkLemmas
 pub mod MissLemmas
-pub mod ValueLemmas
-pub mod LaterLemmas

@@ -15,7 +15,7 @@ use seq_memory::Reply;
 use tlp_core::Op;
 
 /// The memory would do the operation.
-pub(crate) fn is_served(log: &Log, op: &Op) -> bool
+pub fn is_served(log: &Log, op: &Op) -> bool
     ensures { IsTrue result → step.refusal log.now.extent.base log.now.extent.size log.now.extent.block op.now ≡ None }
 {
     let extent = log.extent();
@@ -23,7 +23,7 @@ pub(crate) fn is_served(log: &Log, op: &Op) -> bool
 }
 
 /// The operation, which wasn't answered, is a read, or writes all bytes of the other.
-pub(crate) fn overlooks(log: &Log, one: &Op, told: Option<&Reply>, other: &Op) -> bool
+pub fn overlooks(log: &Log, one: &Op, told: Option<&Reply>, other: &Op) -> bool
     ensures { IsTrue result → specs.Overlooks log.now.extent one.now (told_of told.entry) other.now }
 {
     if told.is_some() {

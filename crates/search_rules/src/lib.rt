@@ -1,24 +1,19 @@
 //! Rules by which a search for a run needn't try everything.
 //!
 //! A run is dead once a request doesn't find what it needs and no other brings it before its answer is
-//! due; also where that is so of one byte: [`Need`]. A request that may act acts at once, if each other that could act before it takes away for
-//! good what it needs, or makes no difference to it; and if none that has one of its bytes can act
-//! before it. It acts at once, too, if others may act in turn after it and leave only junk: nobody who
-//! is left then needs what it overwrote, or what any of them put there. [`laws`] says this of all
-//! runs, whatever the operations do. What two requests of a log do to each other is told by their
-//! bytes. Before which requests no other can act is told by the values that all need of whole words:
-//! [`Values`]. To which bytes no later request comes that needs them is told by [`Later`].
+//! due; also where that is so of one byte: [`Need`]. A request that may act acts at once, if each other
+//! that could act before it takes away for good what it needs, or makes no difference to it; and if none
+//! that has one of its bytes can act before it. It acts at once, too, if others may act in turn after it
+//! and leave only junk: nobody who is left then needs what it overwrote, or what any of them put there.
+//! [`laws`] says this of all runs, whatever the operations do. What two requests of a log do to each
+//! other is told by their bytes.
 #![tactic(auto)]
 
 mod junk;
-mod later;
 pub mod laws;
 mod missing;
 mod pairs;
-mod values;
 
-pub use junk::{is_junk_to, is_within, leaves_junk_to};
-pub use later::{Later, is_junk_later, later_of, leaves_junk_later};
+pub use junk::{is_junk_to, is_served, is_within, leaves_junk_to, overlooks};
 pub use missing::{Need, need_at, never_puts};
 pub use pairs::{changes_nothing, follows, lets_first, never_brings, yields};
-pub use values::{Values, is_alone, values_of};

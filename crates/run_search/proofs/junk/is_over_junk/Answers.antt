@@ -22,8 +22,8 @@ returns-clause-forced c = λ so.
     let group = c.in_ok-done.ensures in
     let here : c.take_back.new.place.state ≡ s = c.in_ok-take_back.ensures.state s group.back in
     let old : Old log q c.in_ok-done.field-0.others.items s =
-    subst (λ (xs : List ℕ). Old log q xs s) c.deref-3.ensures.value (subst (Old log q c.deref-3.result.now) here (c.overwrites_junk.ensures so)) in
-    let new : New log q c.gather.new.place.state c.in_ok-done.field-0.others.items = subst (New log q c.gather.new.place.state) c.deref-2.ensures.value (c.all_leave_nothing-spent.ensures c.if-not-spent.false) in
+    subst (λ (xs : List ℕ). Old log q xs s) c.deref-2.ensures.value (subst (Old log q c.deref-2.result.now) here (c.overwrites_junk.ensures so)) in
+    let new : New log q c.gather.new.place.state c.in_ok-done.field-0.others.items = subst (New log q c.gather.new.place.state) c.deref.ensures.value (c.all_leave_nothing-spent.ensures c.if-not-spent.false) in
     let size : length s.bytes ≡ log.extent.size =
     ap (λ (u : State). length u.bytes) (sym here) ∙ ap length (sym c.bytes.ensures) ∙ c.if-bytes-size.false ∙ c.size.ensures.value ∙ ap (λ (e : Extent). e.size) c.extent.ensures in
     subst (λ (u : State). IsForced log u (steps.Act q)) (sym here)

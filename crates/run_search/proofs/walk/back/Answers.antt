@@ -7,8 +7,8 @@ use Rattle.run_search.specs.Frames.{PathFrom, Back}
 use Rattle.run_search.proofs.FrameLemmas.{left_in, fewer_steps, fewer_frames, popped, drained, dropped, turned}
 use Rattle.run_search.proofs.walk.back.Goals as goal
 
-pub go_on-requires : goal.go_on-requires
-go_on-requires c =
+pub go_on-requires-clause-step : goal.go_on-requires-clause-step
+go_on-requires-clause-step c =
     let log = c.args.log.now in
     let walk = c.loop-step.walk in
     let t = walk.here.state in

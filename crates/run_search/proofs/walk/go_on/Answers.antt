@@ -12,11 +12,11 @@ returns-clause-at c =
     let stack = c.push-2.new.self in
     let u = c.take.new.self.state in
     let d = c.in_ok-done.done in
-    let path = taken log walk.stack.frames c.args.step walk.here.state u d c.requires.path c.in_ok-done.ensures.came c.in_ok-done.ensures.step in
+    let path = taken log walk.stack.frames c.args.step walk.here.state u d c.requires.step.path c.in_ok-done.ensures.came c.in_ok-done.ensures.step in
     record {
       path = subst (λ (fs : List FrameView). PathFrom log fs (Here log stack.done u)) (sym c.in_ok-push-2.ensures.frames)
           (subst (λ (ds : List Done). PathFrom log walk.stack.frames (Here log ds u))
-          (sym (c.in_ok-push-2.ensures.done ∙ ap (λ (ds : List Done). ds ++ d ∷ []) c.requires.none)) path);
+          (sym (c.in_ok-push-2.ensures.done ∙ ap (λ (ds : List Done). ds ++ d ∷ []) c.requires.step.none)) path);
       place = c.in_ok-done.ensures.place;
-      known = c.requires.known;
+      known = c.requires.step.known;
     }

@@ -1,0 +1,3 @@
+pub mod OthersOf
+pub mod ApartLemmas
+pub mod Suiting

@@ -1,0 +1,3 @@
+pub mod OthersView
+pub mod Known
+pub mod Spared

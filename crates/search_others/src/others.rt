@@ -1,0 +1,209 @@
+//! What the others that could act before a request do to it.
+ghost use Rattle.std.specs.Prelude.{ℕ, List, ◌≡◌, ◌<◌, ◌≤◌, ◌/◌, ◌⊎◌, Some, slice_get, IfSome, IsTrue};
+ghost use Rattle.search_words.specs.Lists.{InList};
+ghost use Rattle.search_rules.specs.Rules.{AllOthers};
+ghost use Rattle.search_words.specs.Words.{IsNear, NamesWord};
+ghost use Rattle.search_others.specs.Known.{AreOthers};
+ghost use Rattle.search_places.specs.Places.{IsPlace};
+ghost use Rattle.search_others.specs.Spared.{Spares, Holds};
+
+use crate::known::Others;
+use byte_effects::laws::apart_requests_commute;
+use log_runs::Log;
+use search_places::Place;
+use search_places::laws::who_is_left_is_pending;
+use search_rules::laws::{answers_yield, nothing_is_put_outside};
+use search_rules::{
+    Need, is_junk_to, leaves_junk_to, lets_first, never_brings, never_puts, yields,
+};
+use search_words::{Near, near_left, near_named, near_needed, near_there, span_of};
+
+/// What is asked of the others.
+#[derive(Clone, Copy)]
+pub enum Asked {
+    /// They don't bring what the request needs.
+    Lost,
+    /// Nor does it make a difference to them.
+    Last,
+    /// They have none of its bytes, or can't act before it.
+    First,
+    /// What stands at its addresses is nothing to them.
+    Junk,
+    /// What this request leaves, among its addresses, is nothing to them.
+    LeftBy(usize),
+    /// They don't make this byte what the request needs.
+    Byte(Need),
+}
+
+/// A question about the requests that are submitted before a place and haven't acted.
+#[derive(Clone, Copy)]
+pub struct Question<'a> {
+    /// The request for whose sake it is asked. Of itself it isn't.
+    pub of: usize,
+    pub before: usize,
+    pub asked: Asked,
+    /// Of these it isn't asked either.
+    pub but: &'a [usize],
+}
+
+/// Request `b` does to request `q` as is asked.
+#[inline(never)]
+fn spares(log: &Log, bytes: &[u8], b: usize, q: usize, asked: Asked) -> bool
+    ensures { IsTrue result → Spares log.now bytes.now q asked b }
+{
+    match asked {
+        Asked::Lost => never_brings(log, b, q),
+        Asked::Last => yields(log, b, q),
+        Asked::First => lets_first(log, bytes, b, q),
+        Asked::Junk => is_junk_to(log, bytes, b, q),
+        Asked::LeftBy(g) => leaves_junk_to(log, b, q, g),
+        Asked::Byte(need) => never_puts(log, b, need),
+    }
+}
+
+/// The list has the request.
+fn is_in(list: &[usize], b: usize) -> bool
+    ensures { IsTrue result → (i : ℕ) × (slice_get list.now i ≡ Some b) }
+{
+    list.contains(&b)
+}
+
+/// It isn't asked of request `b`, or it has acted, or it does as is asked.
+fn holds(place: &Place, log: &Log, question: Question, b: usize) -> bool
+    ensures { IsTrue result → Holds log.now place.now.state question.entry b }
+{
+    if b == question.of || place.has_acted(b) {
+        return true;
+    }
+    if is_in(question.but, b) {
+        return true;
+    }
+    spares(log, place.bytes(), b, question.of, question.asked)
+}
+
+/// [`holds`], each of the list.
+fn all_hold(place: &Place, log: &Log, question: Question, list: &[usize]) -> bool
+    ensures { IsTrue result → (b : ℕ) → InList list.now b → Holds log.now place.now.state question.entry b }
+{
+    for b in list {
+        if !holds(place, log, question, *b) {
+            return false;
+        }
+    }
+    true
+}
+
+/// [`holds`], each of those that are near.
+fn near_hold(place: &Place, log: &Log, question: Question, near: Near) -> bool
+    ensures { IsTrue result → (b : ℕ) → IsNear near.entry b → Holds log.now place.now.state question.entry b }
+{
+    all_hold(place, log, question, near.wide)
+        && all_hold(place, log, question, near.unknown)
+        && all_hold(place, log, question, near.known)
+}
+
+/// The first word of those that are looked at, and their end: those of the request, or that of the byte.
+fn words_of(log: &Log, question: Question) -> Option<(u64, u64)>
+    ensures inside { IfSome result (λ r. r.1 ≤ log.now.extent.size / 4) }
+    ensures all { IfSome result (λ r. (b : ℕ) → ((m : List ℕ) → Spares log.now m question.entry.of question.entry.asked b) ⊎ ((w : ℕ) × (r.0 ≤ w) × (w < r.1) × NamesWord log.now b w)) }
+{
+    apart_requests_commute();
+    nothing_is_put_outside();
+    match question.asked {
+        Asked::Byte(need) => {
+            let word = need.place as u64 / 4;
+            if word >= log.extent().size() as u64 / 4 {
+                return None;
+            }
+            Some((word, word + 1))
+        }
+        _ => {
+            let words = span_of(log, question.of)?;
+            Some(words)
+        }
+    }
+}
+
+/// Those, from one place on, of whom it isn't known by the word alone that they do as is asked.
+fn near_of<'a>(
+    others: &'a Others,
+    log: &Log,
+    bytes: &[u8],
+    question: Question,
+    word: u64,
+    from: usize,
+) -> Near<'a>
+    requires others { AreOthers log.now others.now }
+    requires word { word < log.now.extent.size / 4 }
+    ensures { (b : ℕ) → from ≤ b → b < question.entry.before → NamesWord log.now b word → IsNear result b ⊎ Spares log.now bytes.now question.entry.of question.entry.asked b }
+{
+    let words = &others.words;
+    let q = question.of;
+    let to = question.before;
+    match question.asked {
+        Asked::Lost => near_needed(words, log, q, word, from, to),
+        Asked::Last => near_needed(words, log, q, word, from, to),
+        Asked::First => near_there(words, log, bytes, q, word, from, to),
+        Asked::Junk => near_there(words, log, bytes, q, word, from, to),
+        Asked::LeftBy(g) => near_left(words, log, q, g, word, from, to),
+        Asked::Byte(_) => near_named(words, log, word, from, to),
+    }
+}
+
+/// [`holds`], each from that place on that names bytes of the word.
+fn word_holds(
+    place: &Place,
+    log: &Log,
+    others: &Others,
+    question: Question,
+    word: u64,
+    from: usize,
+) -> bool
+    requires others { AreOthers log.now others.now }
+    requires word { word < log.now.extent.size / 4 }
+    ensures { IsTrue result → (b : ℕ) → from ≤ b → b < question.entry.before → NamesWord log.now b word → Holds log.now place.now.state question.entry b }
+{
+    let near = near_of(others, log, place.bytes(), question, word, from);
+    near_hold(place, log, question, near)
+}
+
+/// All of whom it is asked do so.
+pub fn all_do(place: &Place, log: &Log, others: &Others, question: Question) -> bool
+    requires place { IsPlace log.now place.now }
+    requires others { AreOthers log.now others.now }
+    ensures { IsTrue result → (b : ℕ) → b < question.entry.before → Holds log.now place.now.state question.entry b }
+{
+    who_is_left_is_pending();
+    let Some((first, end)) = words_of(log, question) else {
+        return false;
+    };
+    let from = place.earliest();
+    for word in first..end {
+        if !word_holds(place, log, others, question, word, from) {
+            return false;
+        }
+    }
+    true
+}
+
+/// All that could act before place `a` spare `q`.
+pub fn others_spare(
+    place: &Place,
+    log: &Log,
+    others: &Others,
+    q: usize,
+    a: usize,
+    asked: Asked,
+) -> bool
+    requires place { IsPlace log.now place.now }
+    requires others { AreOthers log.now others.now }
+    ensures { IsTrue result → AllOthers place.now.state q a (Spares log.now place.now.state.bytes q asked) }
+{
+    let question = Question {
+        of: q,
+        before: a,
+        asked,
+        but: &[],
+    };
+    all_do(place, log, others, question)
+}

@@ -1,0 +1,82 @@
+-- Events that a log lends, and what two requests are to each other.
+use Rattle.std.proofs.Common.{◌≡◌, ◌∙◌, ◌⊎◌, inl, inr, ℕ, ◌+◌, ◌*◌, ◌-◌, ◌/◌, ◌%◌, ◌<◌, ◌≤◌, List, Some, None, Option, sym, ap, subst, arith}
+use Rattle.std.specs.Prelude.{slice_get}
+use Rattle.std.specs.Borrow.{Bor}
+use Rattle.std.proofs.lemmas.Option.{same_Some}
+use Rattle.tlp_core.specs.declared.operation.Op.{Op}
+use Rattle.tlp_core.specs.Operation.{address_of, count_of}
+use Rattle.seq_memory.specs.declared.Reply.{Reply}
+use Rattle.seq_memory.specs.Step.{after, answer}
+use Rattle.byte_effects.specs.Effects.{Agrees, told_of}
+use Rattle.log_runs.specs.declared.Event.{Event}
+use Rattle.log_runs.specs.declared.Event.TheVariants as lent
+use Rattle.log_runs.specs.EventView.{EventView, event_of}
+use Rattle.log_runs.specs.EventView as events
+use Rattle.log_runs.specs.LogView.{LogView}
+use Rattle.search_rules.specs.Junk.{IsJunk, LeavesJunk}
+use Rattle.search_rules.specs.Rules.{IsJunkTo, LeavesJunkTo}
+
+pub sub_at : (es : List EventView) (b : ℕ) (r : Event) (i : ℕ) (op : Bor Op) (told : Option (Bor Reply)) → r ≡ lent.Sub i op told → Some (event_of r) ≡ slice_get es b
+    → slice_get es b ≡ Some (events.Sub i op.now (told_of told))
+sub_at es b r i op told is read = sym read ∙ ap (λ e. Some (event_of e)) is
+
+-- ---- places
+
+-- the words that a range touches
+pub touched_within : (base a n w : ℕ) → base + 4 * w < a + n → a < base + 4 * w + 4 → ((a - base) / 4 ≤ w) × (w < (a - base) / 4 + ((a - base) % 4 + n + 3) / 4)
+touched_within base a n w low high = (omega (arith, low, high), omega (arith, low, high))
+
+abbrev pub address_at : Option EventView → ℕ
+address_at (Some (events.Sub i op told)) = address_of op
+address_at (Some (events.Due b)) = 0
+address_at (Some events.Free) = 0
+address_at None = 0
+
+abbrev pub count_at : Option EventView → ℕ
+count_at (Some (events.Sub i op told)) = count_of op
+count_at (Some (events.Due b)) = 0
+count_at (Some events.Free) = 0
+count_at None = 0
+
+-- ---- a place has one submission
+
+pub one_op : (o : Option EventView) (i j : ℕ) (op w : Op) (told asked : Option Reply) → o ≡ Some (events.Sub i op told) → o ≡ Some (events.Sub j w asked) → op ≡ w
+one_op o i j op w told asked at there = let e : Some (events.Sub i op told) ≡ Some (events.Sub j w asked) = sym at ∙ there in cc
+
+pub one_reply : (o : Option EventView) (i j : ℕ) (op w : Op) (told asked : Option Reply) → o ≡ Some (events.Sub i op told) → o ≡ Some (events.Sub j w asked) → told ≡ asked
+one_reply o i j op w told asked at there = let e : Some (events.Sub i op told) ≡ Some (events.Sub j w asked) = sym at ∙ there in cc
+
+pub junk_at : (log : LogView) (m : List ℕ) (b q i : ℕ) (one : Op) (told : Option Reply) → slice_get log.events b ≡ Some (events.Sub i one told)
+    → ((j : ℕ) × (other : Op) × (asked : Option Reply) × (slice_get log.events q ≡ Some (events.Sub j other asked)) × IsJunk log.extent m one told other)
+    → IsJunkTo log m b q
+junk_at log m b q i one told seen (j, other, asked, there, junk) i2 j2 one2 other2 told2 asked2 at at2 =
+    let x = log.extent in
+    subst (λ z. IsJunk x m one2 told2 z) (one_op (slice_get log.events q) j j2 other other2 asked asked2 there at2)
+    (subst (λ z. IsJunk x m one2 z other) (one_reply (slice_get log.events b) i i2 one one2 told told2 seen at)
+    (subst (λ z. IsJunk x m z told other) (one_op (slice_get log.events b) i i2 one one2 told told2 seen at) junk))
+
+pub leaves_at : (log : LogView) (b q g i : ℕ) (one : Op) (told : Option Reply) → slice_get log.events b ≡ Some (events.Sub i one told)
+    → ((j : ℕ) × (other : Op) × (asked : Option Reply) × (slice_get log.events q ≡ Some (events.Sub j other asked))
+    × ((l : ℕ) × (third : Op) × (had : Option Reply) × (slice_get log.events g ≡ Some (events.Sub l third had)) × LeavesJunk log.extent one told other third had))
+    → LeavesJunkTo log b q g
+leaves_at log b q g i one told seen (j, other, asked, there, (l, third, had, behind, junk)) i2 j2 l2 one2 other2 third2 told2 asked2 had2 at at2 at3 =
+    let x = log.extent in
+    subst (λ z. LeavesJunk x one2 told2 other2 third2 z) (one_reply (slice_get log.events g) l l2 third third2 had had2 behind at3)
+    (subst (λ z. LeavesJunk x one2 told2 other2 z had) (one_op (slice_get log.events g) l l2 third third2 had had2 behind at3)
+    (subst (λ z. LeavesJunk x one2 told2 z third had) (one_op (slice_get log.events q) j j2 other other2 asked asked2 there at2)
+    (subst (λ z. LeavesJunk x one2 z other third had) (one_reply (slice_get log.events b) i i2 one one2 told told2 seen at)
+    (subst (λ z. LeavesJunk x z told other third had) (one_op (slice_get log.events b) i i2 one one2 told told2 seen at) junk))))
+
+-- ---- replies
+
+-- one reply is all that was answered
+pub way_of : (base block : ℕ) (m : List ℕ) (one op : Op) (told asked : Option Reply) (reply : Reply) → asked ≡ Some reply
+    → ((answer base block (after base block m one) op ≡ reply → ⊥)
+    ⊎ ((answer base block (after base block m one) op ≡ reply) × Agrees base block (after base block m op) one told
+    × (after base block (after base block m one) op ≡ after base block (after base block m op) one)))
+    → (Agrees base block (after base block m one) op asked → ⊥)
+    ⊎ (Agrees base block (after base block m one) op asked × Agrees base block (after base block m op) one told
+    × (after base block (after base block m one) op ≡ after base block (after base block m op) one))
+way_of base block m one op told asked reply is (inl broken) = inl (λ there. broken (there reply is))
+way_of base block m one op told asked reply is (inr (still, agrees, swap)) =
+    inr ((λ r told_it. still ∙ same_Some reply r (sym is ∙ told_it)), agrees, swap)

@@ -1,0 +1,249 @@
+//! Which requests may be something to a request at a word.
+//!
+//! Each word of a request is looked at by itself: [`span_of`] says which it has. Whoever names bytes of
+//! such a word either is in one of the lists that are returned for it, or is nothing to the request.
+ghost use Rattle.std.specs.Prelude.{◌≡◌, ◌+◌, ◌*◌, ◌<◌, ◌≤◌, ◌/◌, ◌⊎◌, ℕ, Option, Some, IfSome, IsTrue, length, slice_get};
+ghost use Rattle.tlp_core.specs.declared.operation.Op.{Op};
+ghost use Rattle.seq_memory.specs.declared.Reply.{Reply};
+ghost use Rattle.log_runs.specs.EventView as events;
+ghost use Rattle.search_words.specs.Later.{value_in};
+ghost use Rattle.search_words.specs.Lists.{Has, InList};
+ghost use Rattle.search_words.specs.Words.{AllRise, IsWords, NamesWord, IsNear, HasWord, HasWordAt, NeedsWordAt, LeavesWordAt, IsOutAt, key};
+ghost use Rattle.search_rules.specs.Rules.{NeverBrings, Yields, LetsFirst, IsJunkTo, LeavesJunkTo, AreApartThere};
+
+use crate::lists::window;
+use crate::words::{Words, left_at, needed_at, number_of, place_of, value_in};
+use byte_effects::laws::what_takes_a_reply_away_yields;
+use log_runs::{Event, Log};
+use search_rules::is_served;
+use tlp_core::Op;
+
+/// Requests in three lists. One may be in several of them.
+#[derive(Clone, Copy)]
+pub struct Near<'a> {
+    /// They name no word or many.
+    pub wide: &'a [usize],
+    /// They name bytes of the word, and it isn't known what they need or leave there.
+    pub unknown: &'a [usize],
+    /// They need the value of the word, or leave it there.
+    pub known: &'a [usize],
+}
+
+/// The first word of the memory that has bytes of the request, and the end of those that do, if all of
+/// its range is in the memory and it has some.
+pub fn span_of(log: &Log, q: usize) -> Option<(u64, u64)>
+    ensures inside { IfSome result (λ r. r.1 ≤ log.now.extent.size / 4) }
+    ensures all { IfSome result (λ r. (b : ℕ) → AreApartThere log.now b q ⊎ ((w : ℕ) × (r.0 ≤ w) × (w < r.1) × NamesWord log.now b w)) }
+{
+    let Some(Event::Sub { op, .. }) = log.event(q) else {
+        return None;
+    };
+    let extent = log.extent();
+    let offset = op.address().checked_sub(extent.base())?;
+    let end = offset.checked_add(u64::from(op.size()))?;
+    if op.size() == 0 || end > extent.size() as u64 {
+        return None;
+    }
+    Some((offset / 4, (end + 3) / 4))
+}
+
+/// Requests from one place on and before another that name bytes of the word.
+fn near_by_name(words: &Words, word: u64, from: usize, to: usize) -> Near<'_>
+    requires { (n : ℕ) × AllRise words.now n }
+    ensures { (b : ℕ) → from ≤ b → b < to → InList words.now.wide b ⊎ Has words.now.named word b → IsNear result b }
+{
+    Near {
+        wide: window(words.wide.as_slice(), from, to),
+        unknown: words.named.between(word, from, to),
+        known: &[],
+    }
+}
+
+/// Requests from one place on and before another that need the value of the word, or of which that isn't
+/// known.
+fn near_by_need(words: &Words, word: u64, value: u64, from: usize, to: usize) -> Near<'_>
+    requires rise { (n : ℕ) × AllRise words.now n }
+    requires word { word < 262144 }
+    requires value { value < 4294967296 }
+    ensures { (b : ℕ) → from ≤ b → b < to → InList words.now.wide b ⊎ Has words.now.blind word b ⊎ Has words.now.needed (key word value) b → IsNear result b }
+{
+    Near {
+        wide: window(words.wide.as_slice(), from, to),
+        unknown: words.blind.between(word, from, to),
+        known: words.needed.between(number_of(word, value), from, to),
+    }
+}
+
+/// Requests from one place on and before another that leave the value at the word, or of which that isn't
+/// known.
+fn near_by_left(words: &Words, word: u64, value: u64, from: usize, to: usize) -> Near<'_>
+    requires rise { (n : ℕ) × AllRise words.now n }
+    requires word { word < 262144 }
+    requires value { value < 4294967296 }
+    ensures { (b : ℕ) → from ≤ b → b < to → InList words.now.wide b ⊎ Has words.now.loose word b ⊎ Has words.now.left (key word value) b → IsNear result b }
+{
+    Near {
+        wide: window(words.wide.as_slice(), from, to),
+        unknown: words.loose.between(word, from, to),
+        known: words.left.between(number_of(word, value), from, to),
+    }
+}
+
+/// The operation's range has all of the word.
+fn has_word(base: u64, op: &Op, word: u64) -> bool
+    ensures { IsTrue result → HasWord base op.now word }
+{
+    place_of(base, op, word).is_some()
+}
+
+/// What stands at the word, all of which is in the range of request `q`.
+fn found_of(log: &Log, bytes: &[u8], q: usize, word: u64) -> Option<u64>
+    requires { word < log.now.extent.size / 4 }
+    ensures word { IfSome result (λ v. HasWordAt log.now q word) }
+    ensures value { IfSome result (λ v. v ≡ value_in bytes.now (4 * word)) }
+    ensures few { IfSome result (λ v. v < 4294967296) }
+    ensures words { IfSome result (λ v. word < 262144) }
+{
+    let extent = log.extent();
+    let Some(Event::Sub { op, .. }) = log.event(q) else {
+        return None;
+    };
+    if !has_word(extent.base(), op, word) {
+        return None;
+    }
+    let value = value_in(bytes, (4 * word) as usize)?;
+    Some(value)
+}
+
+/// What request `q` needs at the word, if it needs all of it.
+fn need_of(log: &Log, q: usize, word: u64) -> Option<u64>
+    requires { word < log.now.extent.size / 4 }
+    ensures needs { IfSome result (NeedsWordAt log.now q word) }
+    ensures few { IfSome result (λ v. v < 4294967296) }
+    ensures words { IfSome result (λ v. word < 262144) }
+{
+    let _extent = log.extent();
+    let Some(
+        Event::Sub {
+            op,
+            reply: Some(reply),
+            ..
+        },
+    ) = log.event(q)
+    else {
+        return None;
+    };
+    let value = needed_at(log, op, Some(reply), word)?;
+    Some(value)
+}
+
+/// What request `g`, which would be served, leaves at the word, all of which is in its range.
+fn left_of(log: &Log, g: usize, word: u64) -> Option<u64>
+    requires { word < log.now.extent.size / 4 }
+    ensures leaves { IfSome result (LeavesWordAt log.now g word) }
+    ensures few { IfSome result (λ v. v < 4294967296) }
+    ensures words { IfSome result (λ v. word < 262144) }
+{
+    let extent = log.extent();
+    let Some(Event::Sub { op, reply, .. }) = log.event(g) else {
+        return None;
+    };
+    if !is_served(log, op) || !has_word(extent.base(), op, word) {
+        return None;
+    }
+    let value = left_at(log, op, reply, word)?;
+    Some(value)
+}
+
+/// The requests, from one place on and before another, that may act while the word has the value; of
+/// those that name bytes of the word.
+pub fn near_value<'a>(
+    words: &'a Words,
+    log: &Log,
+    word: u64,
+    value: u32,
+    from: usize,
+    to: usize,
+) -> Near<'a>
+    requires words { IsWords log.now words.now }
+    requires word { word < log.now.extent.size / 4 }
+    ensures { (b : ℕ) → from ≤ b → b < to → NamesWord log.now b word → IsNear result b ⊎ IsOutAt log.now b word value }
+{
+    let _extent = log.extent();
+    near_by_need(words, word, u64::from(value), from, to)
+}
+
+/// The requests, from one place on and before another, that may act before request `q` although these
+/// bytes stand at its addresses, or to which it may be something what stands there; of those that name
+/// bytes of the word.
+pub fn near_there<'a>(
+    words: &'a Words,
+    log: &Log,
+    bytes: &[u8],
+    q: usize,
+    word: u64,
+    from: usize,
+    to: usize,
+) -> Near<'a>
+    requires words { IsWords log.now words.now }
+    requires word { word < log.now.extent.size / 4 }
+    ensures first { (b : ℕ) → from ≤ b → b < to → NamesWord log.now b word → IsNear result b ⊎ LetsFirst log.now bytes.now b q }
+    ensures junk { (b : ℕ) → from ≤ b → b < to → NamesWord log.now b word → IsNear result b ⊎ IsJunkTo log.now bytes.now b q }
+{
+    match found_of(log, bytes, q, word) {
+        Some(value) => near_by_need(words, word, value, from, to),
+        None => near_by_name(words, word, from, to),
+    }
+}
+
+/// The requests, from one place on and before another, that may bring what request `q` needs, or don't
+/// yield to it; of those that name bytes of the word.
+pub fn near_needed<'a>(
+    words: &'a Words,
+    log: &Log,
+    q: usize,
+    word: u64,
+    from: usize,
+    to: usize,
+) -> Near<'a>
+    requires words { IsWords log.now words.now }
+    requires word { word < log.now.extent.size / 4 }
+    ensures brings { (b : ℕ) → from ≤ b → b < to → NamesWord log.now b word → IsNear result b ⊎ NeverBrings log.now b q }
+    ensures yields { (b : ℕ) → from ≤ b → b < to → NamesWord log.now b word → IsNear result b ⊎ Yields log.now b q }
+{
+    what_takes_a_reply_away_yields();
+    match need_of(log, q, word) {
+        Some(value) => near_by_left(words, word, value, from, to),
+        None => near_by_name(words, word, from, to),
+    }
+}
+
+/// The requests, from one place on and before another, to which it may be something what request `g`
+/// leaves, among the addresses of request `q`; of those that name bytes of the word.
+pub fn near_left<'a>(
+    words: &'a Words,
+    log: &Log,
+    q: usize,
+    g: usize,
+    word: u64,
+    from: usize,
+    to: usize,
+) -> Near<'a>
+    requires words { IsWords log.now words.now }
+    requires word { word < log.now.extent.size / 4 }
+    ensures { (b : ℕ) → from ≤ b → b < to → NamesWord log.now b word → IsNear result b ⊎ LeavesJunkTo log.now b q g }
+{
+    match left_of(log, g, word) {
+        Some(value) => near_by_need(words, word, value, from, to),
+        None => near_by_name(words, word, from, to),
+    }
+}
+
+/// The requests, from one place on and before another, that name bytes of the word.
+pub fn near_named<'a>(words: &'a Words, log: &Log, word: u64, from: usize, to: usize) -> Near<'a>
+    requires words { IsWords log.now words.now }
+    requires word { word < log.now.extent.size / 4 }
+    ensures { (b : ℕ) → from ≤ b → b < to → NamesWord log.now b word → IsNear result b }
+{
+    near_by_name(words, word, from, to)
+}
