@@ -16,3 +16,5 @@ mod refusals;
 mod reports;
 #[cfg(test)]
 mod rounds;
+#[cfg(test)]
+mod rows;

@@ -5,13 +5,13 @@ ghost use Rattle.hall_laws.specs.Calls.{IsIdle};
 ghost use Rattle.hall_laws.specs.Standing.{token_of};
 ghost use Rattle.hall_core.specs.Views.{IsSeatOf, AreSeatsOf};
 
+use crate::rows::{ANSWER, CREDITS, Call, IN, OUT, ROWS, Row, UP, UP_TWO};
 use dllp_core::Class;
 use fabric_core::{Config, Fabric, LaneName};
 use fault_plan::Plan;
-use fc_credit::LaneCredits;
 use hall_core::laws::{Place, put_back, take};
 use hall_core::{Hall, Part, ReqSeat, WorkEvent, WorkSeat};
-use hall_driving::beside::{Act, Asked, all_go_so, made, worked};
+use hall_driving::beside::{Act, all_go_so, made, worked};
 use hall_driving::drive::{last_seat, last_worker, opened, small};
 use lane_core::{DllpKind, Fate};
 use std::alloc::Global;
@@ -19,413 +19,6 @@ use std::sync::atomic::{AtomicU64, Ordering};
 use std::test::Fail;
 use worker_turns::{Gate, Shared, Stop, Turns};
 use workers::{Job, Worker};
-
-const UP: LaneName = LaneName::Up(1);
-
-const UP_TWO: LaneName = LaneName::Up(2);
-
-const IN: LaneName = LaneName::Inward;
-
-const OUT: LaneName = LaneName::Outward;
-
-const ANSWER: DllpKind = DllpKind::Answer;
-
-/// A call of a worker.
-#[derive(Clone, Copy)]
-enum Call {
-    /// The event, whether or not it is refused.
-    Event(WorkEvent),
-    /// It finds a part taken.
-    Busy,
-}
-
-/// The first calls of a worker, in a hall of two requesters, over links that lose one of 2 and corrupt one of 3. By that
-/// plan what is counted as 1 is good, as are 9 and 14; 2, 4, 5, 7 and 10 are lost, 3, 6 and 8 fail.
-struct Row {
-    /// What the second requester does before, and what the first does then.
-    second: &'static [Act],
-    first: &'static [Act],
-    /// The part that another seat has during all the calls.
-    held: Option<Part>,
-    job: Job,
-    calls: &'static [Call],
-}
-
-/// Credits with which one read is on its way in a lane, and many writes are.
-const CREDITS: LaneCredits = LaneCredits {
-    nph: 1,
-    npd: 2,
-    cplh: 1,
-    cpld: 8,
-    ..LaneCredits::DEFAULT
-};
-
-const READ: Act = Act::Submit(Asked::Read);
-
-const WRITE: Act = Act::Submit(Asked::Write);
-
-static ROWS: [Row; 10] = [
-    // Two packets are to be sent, and four Acks have come in.
-    Row {
-        second: &[],
-        first: &[
-            WRITE,
-            Act::Work(WorkEvent::Transmit(UP)),
-            Act::Work(WorkEvent::Deliver(UP, Fate::Good)),
-            Act::Work(WorkEvent::SendDllp(UP, ANSWER)),
-            WRITE,
-            Act::Work(WorkEvent::Transmit(UP)),
-            Act::Work(WorkEvent::Deliver(UP, Fate::Good)),
-            Act::Work(WorkEvent::SendDllp(UP, ANSWER)),
-            WRITE,
-            Act::Work(WorkEvent::Transmit(UP)),
-            Act::Work(WorkEvent::Deliver(UP, Fate::Good)),
-            Act::Work(WorkEvent::SendDllp(UP, ANSWER)),
-            WRITE,
-            Act::Work(WorkEvent::Transmit(UP)),
-            Act::Work(WorkEvent::Deliver(UP, Fate::Good)),
-            Act::Work(WorkEvent::SendDllp(UP, ANSWER)),
-            WRITE,
-            WRITE,
-        ],
-        held: None,
-        job: Job::Sender(UP),
-        calls: &[
-            Call::Event(WorkEvent::Transmit(UP)),
-            Call::Event(WorkEvent::DeliverDllp(UP, Fate::Good)),
-            Call::Event(WorkEvent::Transmit(UP)),
-            Call::Event(WorkEvent::DeliverDllp(UP, Fate::Lost)),
-            Call::Event(WorkEvent::Transmit(UP)),
-            Call::Event(WorkEvent::DeliverDllp(UP, Fate::Failed)),
-            Call::Event(WorkEvent::Retrained(UP)),
-            Call::Event(WorkEvent::Transmit(UP)),
-            Call::Event(WorkEvent::DeliverDllp(UP, Fate::Lost)),
-            Call::Event(WorkEvent::Retrained(UP)),
-            Call::Event(WorkEvent::Transmit(UP)),
-            Call::Event(WorkEvent::DeliverDllp(UP, Fate::Good)),
-            Call::Event(WorkEvent::Retrained(UP)),
-        ],
-    },
-    // A packet was sent four times, and the link is to be retrained.
-    Row {
-        second: &[],
-        first: &[
-            WRITE,
-            Act::Work(WorkEvent::Transmit(UP)),
-            Act::Work(WorkEvent::Timer(UP)),
-            Act::Work(WorkEvent::Transmit(UP)),
-            Act::Work(WorkEvent::Timer(UP)),
-            Act::Work(WorkEvent::Transmit(UP)),
-            Act::Work(WorkEvent::Timer(UP)),
-            Act::Work(WorkEvent::Transmit(UP)),
-            Act::Work(WorkEvent::Timer(UP)),
-        ],
-        held: None,
-        job: Job::Sender(UP),
-        calls: &[
-            Call::Event(WorkEvent::Transmit(UP)),
-            Call::Event(WorkEvent::DeliverDllp(UP, Fate::Good)),
-            Call::Event(WorkEvent::Retrained(UP)),
-            Call::Event(WorkEvent::Transmit(UP)),
-            Call::Event(WorkEvent::DeliverDllp(UP, Fate::Good)),
-            Call::Event(WorkEvent::Transmit(UP)),
-            Call::Event(WorkEvent::DeliverDllp(UP, Fate::Good)),
-            Call::Event(WorkEvent::Retrained(UP)),
-        ],
-    },
-    // Another seat has the wire.
-    Row {
-        second: &[],
-        first: &[
-            WRITE,
-            Act::Work(WorkEvent::Transmit(UP)),
-            Act::Work(WorkEvent::Deliver(UP, Fate::Good)),
-            Act::Work(WorkEvent::SendDllp(UP, ANSWER)),
-            WRITE,
-            Act::Work(WorkEvent::Transmit(UP)),
-            Act::Work(WorkEvent::Deliver(UP, Fate::Good)),
-            Act::Work(WorkEvent::SendDllp(UP, ANSWER)),
-            WRITE,
-            Act::Work(WorkEvent::Transmit(UP)),
-            Act::Work(WorkEvent::Deliver(UP, Fate::Good)),
-            Act::Work(WorkEvent::SendDllp(UP, ANSWER)),
-            WRITE,
-            Act::Work(WorkEvent::Transmit(UP)),
-            Act::Work(WorkEvent::Deliver(UP, Fate::Good)),
-            Act::Work(WorkEvent::SendDllp(UP, ANSWER)),
-            WRITE,
-        ],
-        held: Some(Part::ForwardWire(UP)),
-        job: Job::Sender(UP),
-        calls: &[
-            Call::Busy,
-            Call::Event(WorkEvent::DeliverDllp(UP, Fate::Good)),
-            Call::Busy,
-            Call::Event(WorkEvent::DeliverDllp(UP, Fate::Lost)),
-            Call::Busy,
-            Call::Event(WorkEvent::DeliverDllp(UP, Fate::Failed)),
-            Call::Busy,
-            Call::Event(WorkEvent::DeliverDllp(UP, Fate::Lost)),
-        ],
-    },
-    // Four packets were sent. The fourth is lost as the second was, the third fails.
-    Row {
-        second: &[],
-        first: &[
-            WRITE,
-            WRITE,
-            WRITE,
-            WRITE,
-            Act::Work(WorkEvent::Transmit(UP)),
-            Act::Work(WorkEvent::Transmit(UP)),
-            Act::Work(WorkEvent::Transmit(UP)),
-            Act::Work(WorkEvent::Transmit(UP)),
-        ],
-        held: None,
-        job: Job::Receiver(UP),
-        calls: &[
-            Call::Event(WorkEvent::Deliver(UP, Fate::Good)),
-            Call::Event(WorkEvent::SendDllp(UP, ANSWER)),
-            Call::Event(WorkEvent::DeliverDllp(UP, Fate::Good)),
-            Call::Event(WorkEvent::SendDllp(UP, DllpKind::Update(Class::Posted))),
-            Call::Event(WorkEvent::DeliverDllp(UP, Fate::Lost)),
-            Call::Event(WorkEvent::Deliver(UP, Fate::Lost)),
-            Call::Event(WorkEvent::SendDllp(UP, ANSWER)),
-            Call::Event(WorkEvent::DeliverDllp(UP, Fate::Failed)),
-            Call::Event(WorkEvent::SendDllp(UP, DllpKind::Update(Class::NonPosted))),
-            Call::Event(WorkEvent::DeliverDllp(UP, Fate::Lost)),
-            Call::Event(WorkEvent::Deliver(UP, Fate::Failed)),
-            Call::Event(WorkEvent::SendDllp(UP, ANSWER)),
-            Call::Event(WorkEvent::DeliverDllp(UP, Fate::Lost)),
-            Call::Event(WorkEvent::SendDllp(UP, DllpKind::Update(Class::Completion))),
-            Call::Event(WorkEvent::DeliverDllp(UP, Fate::Failed)),
-            Call::Event(WorkEvent::Deliver(UP, Fate::Lost)),
-            Call::Event(WorkEvent::SendDllp(UP, ANSWER)),
-            Call::Event(WorkEvent::DeliverDllp(UP, Fate::Lost)),
-            Call::Event(WorkEvent::SendDllp(UP, DllpKind::Update(Class::Posted))),
-            Call::Event(WorkEvent::DeliverDllp(UP, Fate::Failed)),
-            Call::Event(WorkEvent::Deliver(UP, Fate::Lost)),
-            Call::Event(WorkEvent::SendDllp(UP, ANSWER)),
-            Call::Event(WorkEvent::DeliverDllp(UP, Fate::Good)),
-            Call::Event(WorkEvent::SendDllp(UP, DllpKind::Update(Class::NonPosted))),
-            Call::Event(WorkEvent::DeliverDllp(UP, Fate::Lost)),
-            Call::Event(WorkEvent::Timer(UP)),
-            Call::Event(WorkEvent::Deliver(UP, Fate::Lost)),
-            Call::Event(WorkEvent::SendDllp(UP, ANSWER)),
-            Call::Event(WorkEvent::DeliverDllp(UP, Fate::Failed)),
-            Call::Event(WorkEvent::SendDllp(UP, DllpKind::Update(Class::Completion))),
-            Call::Event(WorkEvent::DeliverDllp(UP, Fate::Lost)),
-            Call::Event(WorkEvent::Timer(UP)),
-        ],
-    },
-    // Another seat has the sender, which is to get the DLLPs.
-    Row {
-        second: &[],
-        first: &[
-            WRITE,
-            WRITE,
-            WRITE,
-            Act::Work(WorkEvent::Transmit(UP)),
-            Act::Work(WorkEvent::Transmit(UP)),
-            Act::Work(WorkEvent::Transmit(UP)),
-        ],
-        held: Some(Part::SenderEnd(UP)),
-        job: Job::Receiver(UP),
-        calls: &[
-            Call::Event(WorkEvent::Deliver(UP, Fate::Good)),
-            Call::Event(WorkEvent::SendDllp(UP, ANSWER)),
-            Call::Busy,
-            Call::Busy,
-            Call::Event(WorkEvent::Deliver(UP, Fate::Lost)),
-            Call::Busy,
-            Call::Busy,
-            Call::Event(WorkEvent::Deliver(UP, Fate::Failed)),
-            Call::Busy,
-            Call::Busy,
-            Call::Event(WorkEvent::Deliver(UP, Fate::Lost)),
-            Call::Busy,
-            Call::Busy,
-            Call::Busy,
-        ],
-    },
-    // Another seat has the receiver.
-    Row {
-        second: &[],
-        first: &[
-            WRITE,
-            Act::Work(WorkEvent::Transmit(UP)),
-            Act::Work(WorkEvent::Deliver(UP, Fate::Good)),
-            Act::Work(WorkEvent::SendDllp(UP, ANSWER)),
-            WRITE,
-            Act::Work(WorkEvent::Transmit(UP)),
-            Act::Work(WorkEvent::Deliver(UP, Fate::Good)),
-            Act::Work(WorkEvent::SendDllp(UP, ANSWER)),
-            WRITE,
-            Act::Work(WorkEvent::Transmit(UP)),
-            Act::Work(WorkEvent::Deliver(UP, Fate::Good)),
-            Act::Work(WorkEvent::SendDllp(UP, ANSWER)),
-            WRITE,
-            Act::Work(WorkEvent::Transmit(UP)),
-            Act::Work(WorkEvent::Deliver(UP, Fate::Good)),
-            Act::Work(WorkEvent::SendDllp(UP, ANSWER)),
-            WRITE,
-            Act::Work(WorkEvent::Transmit(UP)),
-        ],
-        held: Some(Part::ReceiverEnd(UP)),
-        job: Job::Receiver(UP),
-        calls: &[
-            Call::Busy,
-            Call::Busy,
-            Call::Event(WorkEvent::DeliverDllp(UP, Fate::Good)),
-            Call::Busy,
-            Call::Event(WorkEvent::DeliverDllp(UP, Fate::Lost)),
-            Call::Busy,
-            Call::Busy,
-            Call::Event(WorkEvent::DeliverDllp(UP, Fate::Failed)),
-            Call::Busy,
-            Call::Event(WorkEvent::DeliverDllp(UP, Fate::Lost)),
-            Call::Busy,
-            Call::Busy,
-            Call::Event(WorkEvent::DeliverDllp(UP, Fate::Lost)),
-        ],
-    },
-    // A completion is to go down; a read lacks credit, and the write behind it doesn't.
-    Row {
-        second: &[
-            READ,
-            Act::Work(WorkEvent::Transmit(UP_TWO)),
-            Act::Work(WorkEvent::Deliver(UP_TWO, Fate::Good)),
-            Act::Work(WorkEvent::Forward(UP_TWO, 0)),
-            Act::Work(WorkEvent::Transmit(IN)),
-            Act::Work(WorkEvent::Deliver(IN, Fate::Good)),
-            Act::Work(WorkEvent::Serve(0)),
-            Act::Work(WorkEvent::Transmit(OUT)),
-            Act::Work(WorkEvent::Deliver(OUT, Fate::Good)),
-            WRITE,
-            Act::Work(WorkEvent::Transmit(UP_TWO)),
-            Act::Work(WorkEvent::Deliver(UP_TWO, Fate::Good)),
-        ],
-        first: &[
-            READ,
-            WRITE,
-            Act::Work(WorkEvent::Transmit(UP)),
-            Act::Work(WorkEvent::Transmit(UP)),
-            Act::Work(WorkEvent::Deliver(UP, Fate::Good)),
-            Act::Work(WorkEvent::Deliver(UP, Fate::Good)),
-        ],
-        held: None,
-        job: Job::Switch,
-        calls: &[
-            Call::Event(WorkEvent::Forward(OUT, 0)),
-            Call::Event(WorkEvent::Forward(UP, 0)),
-            Call::Event(WorkEvent::Forward(UP, 1)),
-            Call::Event(WorkEvent::Forward(UP_TWO, 0)),
-            Call::Event(WorkEvent::Forward(OUT, 0)),
-            Call::Event(WorkEvent::Forward(OUT, 1)),
-            Call::Event(WorkEvent::Forward(UP, 0)),
-            Call::Event(WorkEvent::Forward(UP, 1)),
-            Call::Event(WorkEvent::Forward(UP_TWO, 0)),
-            Call::Event(WorkEvent::Forward(UP_TWO, 1)),
-            Call::Event(WorkEvent::Forward(OUT, 0)),
-        ],
-    },
-    // Another seat has the first requester's receiver.
-    Row {
-        second: &[
-            READ,
-            Act::Work(WorkEvent::Transmit(UP_TWO)),
-            Act::Work(WorkEvent::Deliver(UP_TWO, Fate::Good)),
-            Act::Work(WorkEvent::Forward(UP_TWO, 0)),
-            Act::Work(WorkEvent::Transmit(IN)),
-            Act::Work(WorkEvent::Deliver(IN, Fate::Good)),
-            Act::Work(WorkEvent::Serve(0)),
-            Act::Work(WorkEvent::Transmit(OUT)),
-            Act::Work(WorkEvent::Deliver(OUT, Fate::Good)),
-            WRITE,
-            Act::Work(WorkEvent::Transmit(UP_TWO)),
-            Act::Work(WorkEvent::Deliver(UP_TWO, Fate::Good)),
-        ],
-        first: &[
-            WRITE,
-            Act::Work(WorkEvent::Transmit(UP)),
-            Act::Work(WorkEvent::Deliver(UP, Fate::Good)),
-        ],
-        held: Some(Part::ReceiverEnd(UP)),
-        job: Job::Switch,
-        calls: &[
-            Call::Event(WorkEvent::Forward(OUT, 0)),
-            Call::Busy,
-            Call::Event(WorkEvent::Forward(UP_TWO, 0)),
-            Call::Event(WorkEvent::Forward(OUT, 0)),
-            Call::Event(WorkEvent::Forward(OUT, 1)),
-            Call::Busy,
-            Call::Event(WorkEvent::Forward(UP_TWO, 0)),
-            Call::Event(WorkEvent::Forward(UP_TWO, 1)),
-        ],
-    },
-    // A read lacks credit for its completion, and the write behind it needs none.
-    Row {
-        second: &[
-            READ,
-            Act::Work(WorkEvent::Transmit(UP_TWO)),
-            Act::Work(WorkEvent::Deliver(UP_TWO, Fate::Good)),
-            Act::Work(WorkEvent::Forward(UP_TWO, 0)),
-            Act::Work(WorkEvent::Transmit(IN)),
-            Act::Work(WorkEvent::Deliver(IN, Fate::Good)),
-            Act::Work(WorkEvent::Serve(0)),
-            Act::Work(WorkEvent::SendDllp(IN, DllpKind::Update(Class::NonPosted))),
-            Act::Work(WorkEvent::DeliverDllp(IN, Fate::Good)),
-        ],
-        first: &[
-            READ,
-            WRITE,
-            Act::Work(WorkEvent::Transmit(UP)),
-            Act::Work(WorkEvent::Transmit(UP)),
-            Act::Work(WorkEvent::Deliver(UP, Fate::Good)),
-            Act::Work(WorkEvent::Deliver(UP, Fate::Good)),
-            Act::Work(WorkEvent::Forward(UP, 0)),
-            Act::Work(WorkEvent::Forward(UP, 0)),
-            Act::Work(WorkEvent::Transmit(IN)),
-            Act::Work(WorkEvent::Transmit(IN)),
-            Act::Work(WorkEvent::Deliver(IN, Fate::Good)),
-            Act::Work(WorkEvent::Deliver(IN, Fate::Good)),
-        ],
-        held: None,
-        job: Job::Completer,
-        calls: &[
-            Call::Event(WorkEvent::Serve(0)),
-            Call::Event(WorkEvent::Serve(1)),
-            Call::Event(WorkEvent::Serve(0)),
-            Call::Event(WorkEvent::Serve(1)),
-        ],
-    },
-    // Two writes act one after the other.
-    Row {
-        second: &[],
-        first: &[
-            WRITE,
-            WRITE,
-            Act::Work(WorkEvent::Transmit(UP)),
-            Act::Work(WorkEvent::Transmit(UP)),
-            Act::Work(WorkEvent::Deliver(UP, Fate::Good)),
-            Act::Work(WorkEvent::Deliver(UP, Fate::Good)),
-            Act::Work(WorkEvent::Forward(UP, 0)),
-            Act::Work(WorkEvent::Forward(UP, 0)),
-            Act::Work(WorkEvent::Transmit(IN)),
-            Act::Work(WorkEvent::Transmit(IN)),
-            Act::Work(WorkEvent::Deliver(IN, Fate::Good)),
-            Act::Work(WorkEvent::Deliver(IN, Fate::Good)),
-        ],
-        held: None,
-        job: Job::Completer,
-        calls: &[
-            Call::Event(WorkEvent::Serve(0)),
-            Call::Event(WorkEvent::Serve(0)),
-            Call::Event(WorkEvent::Serve(0)),
-            Call::Event(WorkEvent::Serve(1)),
-        ],
-    },
-];
 
 /// Counts the calls of a worker. A call of another worker ends the run.
 #[derive(Drop)]
@@ -520,6 +113,25 @@ fn follow(fabric: &mut Fabric, calls: &[Call]) {
             let _ = fabric.step(&worked(*event));
         }
     }
+}
+
+/// Whether the hall tells all the calls of these lists, one after the other, as the fabric does.
+fn all_lists_go_so(
+    hall: &Hall,
+    seat: &mut ReqSeat,
+    worker: &mut WorkSeat,
+    fabric: &mut Fabric,
+    port: u8,
+    lists: &[&[Act]],
+) -> bool
+    requires { IsSeatOf hall.now seat.old × IsSeatOf hall.now worker.old }
+    ensures { IsSeatOf hall.now seat.new × IsSeatOf hall.now worker.new }
+{
+    let mut right = true;
+    for acts in lists {
+        right &= all_go_so(hall, seat, worker, fabric, port, acts);
+    }
+    right
 }
 
 /// What shows the state of a lane, and of the memory.
@@ -619,8 +231,8 @@ fn is_right_in(hall: &Hall, seats: Seats, fabric: &mut Fabric, row: &Row, count:
         holder,
         mut looker,
     } = seats;
-    let second = all_go_so(hall, &mut two, &mut looker, fabric, 2, row.second);
-    let first = all_go_so(hall, &mut one, &mut looker, fabric, 1, row.first);
+    let second = all_lists_go_so(hall, &mut two, &mut looker, fabric, 2, row.second);
+    let first = all_lists_go_so(hall, &mut one, &mut looker, fabric, 1, row.first);
     let made = works(hall, worker, holder, row, count as u64);
     follow(fabric, row.calls.get(..count).unwrap_or_default());
     second && first && made && is_the_same(hall, &mut one, &mut looker, fabric)
