@@ -5,7 +5,7 @@ ghost use Rattle.log_cells.specs.Places.{ArePlaces};
 
 use log_cells::{Cells, part};
 use log_runs::{Log, Step};
-use run_search::{Outcome, explore};
+use run_search::{Outcome, Way, explore};
 use search_choices::{NO_PART, Turn};
 use std::alloc::{AllocError, Global};
 
@@ -39,7 +39,7 @@ pub(crate) fn explored_on(
             states: 0,
         });
     };
-    let (outcome, states) = explore(alloc, &part.log, &[], limit)?;
+    let (outcome, states) = explore(alloc, &part.log, Way::Part, limit)?;
     Ok(Explored {
         outcome,
         names: part.names,
@@ -62,18 +62,25 @@ pub(crate) struct Parts {
 const NO_TURN: Turn = Turn {
     part: NO_PART,
     before: 0,
+    since: 0,
 };
 
 /// Notes when the requests act in a run through a part, whose events have these names.
 fn note(turns: &mut Vec<Turn>, part: u32, names: &[usize], steps: &[Step]) {
     let mut before = 0u32;
+    let mut since = 0usize;
     for step in steps {
         if let Step::Act(b) = step
             && let Some(name) = names.get(*b)
             && *name < turns.len()
         {
-            turns[*name] = Turn { part, before };
+            turns[*name] = Turn {
+                part,
+                before,
+                since,
+            };
             before = before.saturating_add(1);
+            since = since.max(name.saturating_add(1));
         }
     }
 }

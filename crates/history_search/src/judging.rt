@@ -11,7 +11,7 @@ use log_cells::Cells;
 use log_events::{Partners, form_of, log_of};
 use log_runs::laws::{explainable_has_a_run, explainable_is_well_formed, prefix_is_explainable};
 use log_runs::{Log, Step};
-use run_search::{Outcome, explore};
+use run_search::{Outcome, Way, explore};
 use std::alloc::{AllocError, Global};
 
 /// What was found out of records.
@@ -39,7 +39,7 @@ fn explored(alloc: Global, log: &Log<'_>, limit: u64) -> Result<Judgment, AllocE
             range: parts.dead,
         });
     }
-    let (outcome, states) = explore(alloc, log, &parts.turns, limit - parts.states)?;
+    let (outcome, states) = explore(alloc, log, Way::Whole(&parts.turns), limit - parts.states)?;
     Ok(Judgment {
         outcome,
         states: parts.states + states,

@@ -21,6 +21,16 @@ pub enum Outcome {
     Limit,
 }
 
+/// Which way a search goes.
+#[derive(Clone, Copy)]
+pub enum Way<'a> {
+    /// Through a part of a log. Posted writes over what nobody needs act as soon as they may, so that the
+    /// run is a good guide to the whole.
+    Part,
+    /// Through a whole log. These say when requests act in runs through its parts.
+    Whole(&'a [Turn]),
+}
+
 /// Takes the steps that may be taken at once. All steps that were taken, if they lead to the end.
 fn finished(
     walk: &mut Walk,
@@ -72,12 +82,13 @@ fn choose(
     }
 }
 
-/// Looks for steps that lead from the start of the log to its end, at no more than `limit` choices. What
-/// its requests need later is found out if there is a choice.
+/// Looks for steps that lead from the start of the log to its end, at no more than `limit` choices. A
+/// whole log without a choice needn't know from where on nobody needs what a request leaves.
 fn explore_by(
     alloc: Global,
     log: &Log,
     catalog: &mut Catalog,
+    early: bool,
     turns: &[Turn],
     limit: u64,
 ) -> Result<(Outcome, u64), AllocError>
@@ -86,26 +97,25 @@ fn explore_by(
     ensures states { IfOk result (λ r. r.1 ≤ limit) }
     ensures limit { IfOk result (λ r. r.0 ≡ Outcome.Limit → r.1 ≡ limit) }
 {
-    let mut walk = begin(alloc, log)?;
+    let mut walk = begin(alloc, log, early)?;
     if let Some(steps) = finished(&mut walk, alloc, log, catalog)? {
         return Ok((Outcome::Run(steps), 0));
     }
-    catalog.look_ahead(alloc, log)?;
+    catalog.note_calm(log);
     choose(&mut walk, alloc, log, catalog, turns, limit)
 }
 
 /// Looks for steps that lead from the start of the log to its end, at no more than `limit` choices.
 /// The second number is how many there were.
-pub fn explore(
-    alloc: Global,
-    log: &Log,
-    turns: &[Turn],
-    limit: u64,
-) -> Result<(Outcome, u64), AllocError>
+pub fn explore(alloc: Global, log: &Log, way: Way, limit: u64) -> Result<(Outcome, u64), AllocError>
     ensures right { IfOk result (λ r. IsRight log.now r.0) }
     ensures states { IfOk result (λ r. r.1 ≤ limit) }
     ensures limit { IfOk result (λ r. r.0 ≡ Outcome.Limit → r.1 ≡ limit) }
 {
-    let mut catalog = catalog_of(alloc, log)?;
-    explore_by(alloc, log, &mut catalog, turns, limit)
+    let (early, turns): (bool, &[Turn]) = match way {
+        Way::Part => (true, &[]),
+        Way::Whole(turns) => (false, turns),
+    };
+    let mut catalog = catalog_of(alloc, log, early)?;
+    explore_by(alloc, log, &mut catalog, early, turns, limit)
 }

@@ -10,7 +10,7 @@ use crate::catalog::Catalog;
 use log_runs::{Log, Step};
 use search_places::{Done, Place};
 use search_rules::{changes_nothing, is_junk_to, is_within};
-use search_words::{near_there, span_of};
+use search_words::{near_junk, span_of};
 use std::alloc::{AllocError, Global};
 
 /// The most requests that act after the first one.
@@ -32,7 +32,7 @@ fn joins(place: &Place, log: &Log, q: usize, b: usize) -> bool
     ensures { IsTrue result → MayAct log.now place.now.state b }
 {
     !is_junk_to(log, place.bytes(), b, q)
-        && (changes_nothing(log, b) || is_within(log, b, q))
+        && (is_within(log, b, q) || changes_nothing(log, b))
         && place.may_act(log, b)
 }
 
@@ -63,7 +63,7 @@ fn next_at(place: &Place, log: &Log, catalog: &Catalog, q: usize, word: u64) -> 
     ensures { IfSome result (MayAct log.now place.now.state) }
 {
     let from = place.earliest();
-    let near = near_there(
+    let near = near_junk(
         catalog.others.words(),
         log,
         place.bytes(),
@@ -72,13 +72,12 @@ fn next_at(place: &Place, log: &Log, catalog: &Catalog, q: usize, word: u64) -> 
         from,
         place.event(),
     );
-    if let Some(b) = joining(place, log, q, near.known) {
-        return Some(b);
+    for list in [near.known, near.unknown, near.careless, near.wide] {
+        if let Some(b) = joining(place, log, q, list) {
+            return Some(b);
+        }
     }
-    if let Some(b) = joining(place, log, q, near.unknown) {
-        return Some(b);
-    }
-    joining(place, log, q, near.wide)
+    None
 }
 
 /// The next request that joins the group of request `q`.

@@ -2,15 +2,18 @@
 
 ghost use Rattle.std.specs.Prelude.{◌<◌, ◌≤◌, ◌/◌};
 ghost use Rattle.run_search.specs.Catalogs.{IsCatalog};
+ghost use Rattle.search_words.specs.Words.{IsWords};
 
 use crate::catalog::Catalog;
-use crate::junk::MOST_EVENTS;
 use crate::sketches::Sketch;
+use byte_effects::{is_put, left};
 use log_runs::{Event, Log, Step};
+use search_others::Loss;
 use search_places::{Done, Place};
-use search_rules::{changes_nothing, is_junk_to, is_within, leaves_junk_to};
-use search_words::{near_left, near_there, span_of};
+use search_rules::{is_junk_to, is_within, leaves_junk_to};
+use search_words::{Words, near_junk, near_left, near_there, near_value, span_of};
 use std::alloc::{AllocError, Global};
+use tlp_core::Op;
 
 /// The four bytes from that place on.
 fn four(bytes: &[u8], at: usize) -> Option<u32> {
@@ -19,6 +22,11 @@ fn four(bytes: &[u8], at: usize) -> Option<u32> {
         return None;
     }
     Some(u32::from_le_bytes([bytes[at], bytes[at + 1], bytes[at + 2], bytes[at + 3]]))
+}
+
+/// The operation writes the four bytes from that place of its range on.
+fn puts_four(op: &Op, at: usize) -> bool {
+    (at..at.saturating_add(4)).all(|k| is_put(op, k))
 }
 
 /// The first bytes that the request needs are there.
@@ -34,6 +42,9 @@ fn may_fit(sketch: Sketch, base: u64, bytes: &[u8]) -> bool {
         None => true,
     }
 }
+
+/// How many requests that come later are looked at one by one.
+const MOST: usize = 64;
 
 /// Which of the pending requests are looked at.
 #[derive(Clone, Copy)]
@@ -63,7 +74,7 @@ fn next_at(log: &Log, catalog: &Catalog, place: &Place, b: usize) -> Option<Look
         from,
         place.event(),
     );
-    if !near.wide.is_empty() || !near.unknown.is_empty() {
+    if !near.wide.is_empty() || !near.unknown.is_empty() || !near.careless.is_empty() {
         return None;
     }
     match near.known.first() {
@@ -139,14 +150,6 @@ pub(crate) fn is_worth(marks: u32, sketch: Sketch, base: u64, bytes: &[u8]) -> b
     sketch.marks & marks != 0 && may_fit(sketch, base, bytes)
 }
 
-/// A word that a step changed.
-#[derive(Clone, Copy)]
-pub(crate) struct Loss {
-    pub(crate) word: u64,
-    /// What stood there.
-    pub(crate) old: u32,
-}
-
 /// What stood at the word, whose bytes are now those from place `at` on, before a step overwrote the
 /// bytes from place `from` on.
 fn old_at(bytes: &[u8], at: usize, from: usize, old: &[u8]) -> Option<u32> {
@@ -161,33 +164,9 @@ fn old_at(bytes: &[u8], at: usize, from: usize, old: &[u8]) -> Option<u32> {
     Some(u32::from_le_bytes(word))
 }
 
-impl Loss {
-    /// It stands there again.
-    pub(crate) fn is_back(self, bytes: &[u8]) -> bool {
-        four(bytes, (self.word as usize).saturating_mul(4)) == Some(self.old)
-    }
-}
-
-/// Of the list's requests that are left and have one word, the one that is due first.
-pub(crate) fn first_due(
-    place: &Place,
-    log: &Log,
-    catalog: &Catalog,
-    list: &[usize],
-) -> Option<usize> {
-    let mut least = usize::MAX;
-    let mut first = None;
-    for q in list {
-        if let Some(due) = catalog.others.place_of(log, *q)
-            && due < least
-            && catalog.is_word(*q)
-            && place.is_left(*q)
-        {
-            least = due;
-            first = Some(*q);
-        }
-    }
-    first
+/// It stands there again.
+pub(crate) fn is_back(loss: Loss, bytes: &[u8]) -> bool {
+    four(bytes, (loss.word as usize).saturating_mul(4)) == Some(loss.old)
 }
 
 /// Words that steps changed.
@@ -217,7 +196,7 @@ impl Losses {
         }
         let at = (word as usize).saturating_mul(4);
         if let Some(old) = old_at(bytes, at, from, old)
-            && !(Loss { word, old }).is_back(bytes)
+            && !is_back(Loss { word, old }, bytes)
         {
             self.list.push(Loss { word, old })?;
         }
@@ -241,18 +220,57 @@ impl Losses {
         }
         Ok(())
     }
+}
 
-    /// Begins anew.
-    pub(crate) fn clear(&mut self) {
-        self.list.clear();
+/// The place behind the last request that needs the value of the word.
+fn needed_till(log: &Log, words: &Words, word: u64, value: u32) -> u32
+    requires { IsWords log.now words.now }
+{
+    if word >= log.extent().size() as u64 / 4 {
+        return 0;
+    }
+    match near_value(words, log, word, value, 0, log.len())
+        .known
+        .last()
+    {
+        Some(b) => u32::try_from(b.saturating_add(1)).unwrap_or(0),
+        None => 0,
     }
 }
 
-/// The request was answered.
-fn was_answered(log: &Log, b: usize) -> bool {
-    match log.event(b) {
-        Some(Event::Sub { reply, .. }) => reply.is_some(),
-        _ => false,
+/// The place behind the last request that needs a word that request `q` leaves, if it writes one.
+fn calm_from(log: &Log, words: &Words, q: usize) -> Option<u32>
+    requires { IsWords log.now words.now }
+{
+    let Some(Event::Sub { op, reply, .. }) = log.event(q) else {
+        return None;
+    };
+    let (first, _) = span_of(log, q)?;
+    if op.address() % 4 != 0 {
+        return None;
+    }
+    let new = left(log.extent().block(), op, reply);
+    let mut calm = 0;
+    for k in 0..new.len() / 4 {
+        if let Some(value) = four(new.as_slice(), k.saturating_mul(4))
+            && puts_four(op, k.saturating_mul(4))
+        {
+            calm = calm.max(needed_till(log, words, first.saturating_add(k as u64), value));
+        }
+    }
+    Some(calm)
+}
+
+/// Notes of each request from where on nobody needs what it leaves.
+pub(crate) fn note_calm(sketches: &mut [Sketch], log: &Log, words: &Words)
+    requires { IsWords log.now words.now }
+{
+    for q in 0..sketches.len() {
+        if !sketches[q].is_quiet()
+            && let Some(calm) = calm_from(log, words, q)
+        {
+            sketches[q].calm = calm;
+        }
     }
 }
 
@@ -264,10 +282,10 @@ fn may_join(place: &Place, log: &Log, writers: u32, sketch: Sketch, b: usize, q:
     if is_junk && leaves_junk_to(log, b, q, q) {
         return true;
     }
-    if !is_junk && was_answered(log, b) {
+    if !is_junk && sketch.mask != 0 {
         return false;
     }
-    sketch.requester() & writers == 0 && (changes_nothing(log, b) || is_within(log, b, q))
+    sketch.requester() & writers == 0 && (sketch.is_quiet() || is_within(log, b, q))
 }
 
 /// The requesters that wait for posted writes before request `b` that are somewhere else.
@@ -300,18 +318,11 @@ fn may_all_join(
         let Some(sketch) = sketches.get(*b).copied() else {
             return false;
         };
-        if *b != q
-            && !place.has_acted(*b)
-            && !may_join(
-                place,
-                log,
-                writers_before(place, sketches, own, *b),
-                sketch,
-                *b,
-                q,
-            )
-        {
-            return false;
+        if *b != q && !place.has_acted(*b) {
+            let writers = writers_before(place, sketches, own, *b);
+            if !may_join(place, log, writers, sketch, *b, q) {
+                return false;
+            }
         }
     }
     true
@@ -332,24 +343,21 @@ fn may_join_at(
 {
     let from = place.earliest();
     let event = place.event();
+    let words = catalog.others.words();
     let sketches = catalog.sketches.as_slice();
-    let there = near_there(
-        catalog.others.words(),
-        log,
-        place.bytes(),
-        q,
-        word,
-        from,
-        event,
-    );
-    let left = near_left(catalog.others.words(), log, q, q, word, from, event);
-    may_all_join(place, log, sketches, own, q, there.known)
-        && may_all_join(place, log, sketches, own, q, left.known)
-        && may_all_join(place, log, sketches, own, q, there.unknown)
+    let there = near_junk(words, log, place.bytes(), q, word, from, event);
+    let left = near_left(words, log, q, q, word, from, event);
+    [there.known, left.known, there.unknown, there.careless]
+        .iter()
+        .all(|list| may_all_join(place, log, sketches, own, q, list))
 }
 
-/// What stands where request `q` writes and what it leaves there is nothing to each of the list.
+/// What stands where request `q` writes and what it leaves there is nothing to each of the list, which
+/// isn't long.
 fn is_nothing_to(place: &Place, log: &Log, q: usize, list: &[usize]) -> bool {
+    if list.len() > MOST {
+        return false;
+    }
     for b in list {
         if !is_junk_to(log, place.bytes(), *b, q) || !leaves_junk_to(log, *b, q, q) {
             return false;
@@ -365,49 +373,12 @@ fn is_nothing_later(place: &Place, log: &Log, catalog: &Catalog, q: usize, word:
     requires word { word < log.now.extent.size / 4 }
 {
     let event = place.event();
-    let there = near_there(
-        catalog.others.words(),
-        log,
-        place.bytes(),
-        q,
-        word,
-        event,
-        log.len(),
-    );
-    let left = near_left(catalog.others.words(), log, q, q, word, event, log.len());
-    is_nothing_to(place, log, q, there.known)
-        && is_nothing_to(place, log, q, left.known)
-        && is_nothing_to(place, log, q, there.unknown)
-}
-
-/// What stands at the words and what request `q` leaves there is nothing to all that are to come. Where
-/// that isn't known at once, they are looked at one by one, if the log is short.
-fn is_nothing_at(
-    place: &Place,
-    log: &Log,
-    catalog: &Catalog,
-    q: usize,
-    first: u64,
-    end: u64,
-) -> bool
-    requires catalog { IsCatalog log.now catalog.now }
-    requires words { end ≤ log.now.extent.size / 4 }
-{
-    let event = place.event();
-    if catalog.others.is_junk_later(log, place.bytes(), event, q)
-        && catalog.others.leaves_junk_later(log, event, q, q)
-    {
-        return true;
-    }
-    if log.len() > MOST_EVENTS {
-        return false;
-    }
-    for word in first..end {
-        if !is_nothing_later(place, log, catalog, q, word) {
-            return false;
-        }
-    }
-    true
+    let words = catalog.others.words();
+    let there = near_junk(words, log, place.bytes(), q, word, event, log.len());
+    let left = near_left(words, log, q, q, word, event, log.len());
+    [there.known, left.known, there.unknown, there.careless]
+        .iter()
+        .all(|list| is_nothing_to(place, log, q, list))
 }
 
 /// What stands where request `q` writes and what it leaves there may be nothing to all that are left
@@ -421,8 +392,10 @@ pub(crate) fn may_be_over_junk(place: &Place, log: &Log, catalog: &Catalog, q: u
     let Some((first, end)) = span_of(log, q) else {
         return false;
     };
-    if !own.changes || !is_nothing_at(place, log, catalog, q, first, end) {
-        return false;
+    for word in first..end {
+        if !is_nothing_later(place, log, catalog, q, word) {
+            return false;
+        }
     }
     for word in first..end {
         if !may_join_at(place, log, catalog, own, q, word) {

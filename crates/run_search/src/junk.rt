@@ -15,23 +15,6 @@ use search_rules::laws::what_is_over_junk_acts_at_once;
 use search_rules::{changes_nothing, is_within, leaves_junk_to};
 use std::alloc::{AllocError, Global};
 
-/// The most events of a log that are looked at one by one.
-pub(crate) const MOST_EVENTS: usize = 4_096;
-
-/// Up to which place the requests are asked one by one that are left, if those behind it are known to do
-/// as is asked, or the log is short.
-fn asked_before(place: &Place, log: &Log, later_do: bool) -> Option<usize>
-    ensures { IfSome result (λ a. ((later_do ≡ true) × (a ≡ place.now.state.event)) ⊎ (a ≡ length log.now.events)) }
-{
-    if later_do {
-        return Some(place.event());
-    }
-    if log.len() > MOST_EVENTS {
-        return None;
-    }
-    Some(log.len())
-}
-
 /// Request `b` has acted, or what request `g` leaves, among the addresses of request `b`, is nothing to
 /// it.
 fn leaves_itself_junk(place: &Place, log: &Log, g: usize, b: usize) -> bool
@@ -49,13 +32,9 @@ fn leaves_junk(place: &Place, log: &Log, catalog: &Catalog, q: usize, g: usize) 
     if !leaves_itself_junk(place, log, g, q) {
         return false;
     }
-    let later_do = catalog.others.leaves_junk_later(log, place.event(), q, g);
-    let Some(before) = asked_before(place, log, later_do) else {
-        return false;
-    };
     let question = Question {
         of: q,
-        before,
+        before: log.len(),
         asked: Asked::LeftBy(g),
         but: &[],
     };
@@ -116,15 +95,9 @@ fn overwrites_junk(place: &Place, log: &Log, catalog: &Catalog, q: usize, group:
     requires catalog { IsCatalog log.now catalog.now }
     ensures { IsTrue result → (b : ℕ) → (q ≡ b → ⊥) → ((i : ℕ) → slice_get group.now i ≡ Some b → ⊥) → slice_get place.now.state.acted b ≡ Some false → IsJunkTo log.now place.now.state.bytes b q }
 {
-    let later_do = catalog
-        .others
-        .is_junk_later(log, place.bytes(), place.event(), q);
-    let Some(before) = asked_before(place, log, later_do) else {
-        return false;
-    };
     let question = Question {
         of: q,
-        before,
+        before: log.len(),
         asked: Asked::Junk,
         but: group,
     };
@@ -180,13 +153,23 @@ fn acts_at_once(
     is_over_junk(place, alloc, log, catalog, q)
 }
 
-/// A pending request that acts at once over junk, if events are left. There is none before it was found
-/// out what requests need later.
+/// The pending request at that place of their list, or the posted write at that of theirs.
+fn pending_at(place: &Place, i: usize, writes: bool) -> Option<usize> {
+    let list = if writes {
+        place.posts()
+    } else {
+        place.pending()
+    };
+    list.get(i).copied()
+}
+
+/// A pending request that acts at once over junk, of the posted writes or of all, if events are left.
 pub(crate) fn over_junk(
     place: &mut Place,
     alloc: Global,
     log: &Log,
     catalog: &Catalog,
+    writes: bool,
 ) -> Result<Option<Step>, AllocError>
     requires place { IsPlace log.now place.old }
     requires catalog { IsCatalog log.now catalog.now }
@@ -194,12 +177,12 @@ pub(crate) fn over_junk(
     ensures place { OnOk result (IsPlace log.now place.new) }
     ensures forced { IfOk result (λ o. IfSome o (IsForced log.now place.new.state)) }
 {
-    if !catalog.others.looks_ahead() || place.event() >= log.len() {
+    if place.event() >= log.len() {
         return Ok(None);
     }
     let mut writers = 0u32;
     for i in 0..place.pending().len() {
-        let Some(q) = place.pending().get(i).copied() else {
+        let Some(q) = pending_at(place, i, writes) else {
             return Ok(None);
         };
         let Some(sketch) = catalog.sketches.get(q).copied() else {
@@ -208,7 +191,7 @@ pub(crate) fn over_junk(
         if sketch.requester() & writers != 0 {
             continue;
         }
-        if acts_at_once(place, alloc, log, catalog, q)? {
+        if sketch.may_be_calm(place.event()) && acts_at_once(place, alloc, log, catalog, q)? {
             return Ok(Some(Step::Act(q)));
         }
         writers |= sketch.writer();

@@ -16,4 +16,4 @@ mod rules;
 mod sketches;
 mod walk;
 
-pub use exploring::{Outcome, explore};
+pub use exploring::{Outcome, Way, explore};

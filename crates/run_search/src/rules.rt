@@ -73,7 +73,7 @@ fn acts_at_once(place: &Place, log: &Log, catalog: &Catalog, q: usize) -> bool
     if !place.may_act(log, q) {
         return false;
     }
-    if is_quiet(place, log, q) {
+    if catalog.is_quiet(q) && is_quiet(place, log, q) {
         return true;
     }
     if is_first(place, log, catalog, q) {

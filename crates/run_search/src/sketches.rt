@@ -2,6 +2,7 @@
 
 use byte_effects::is_needed;
 use log_runs::{Event, Log};
+use search_rules::changes_nothing;
 use seq_memory::Reply;
 use std::alloc::{AllocError, Global};
 use tlp_core::Op;
@@ -19,8 +20,9 @@ pub(crate) struct Sketch {
     pub(crate) marks: u32,
     /// Those of what is no longer in the way of other requests once it acted.
     pub(crate) frees: u32,
-    /// It may change bytes.
-    pub(crate) changes: bool,
+    /// From this place of the log on no request needs what it leaves, as far as that is known. No place if
+    /// it changes nothing.
+    pub(crate) calm: u32,
 }
 
 /// The event is no request.
@@ -31,7 +33,7 @@ const NOTHING: Sketch = Sketch {
     mask: 0,
     marks: 0,
     frees: 0,
-    changes: false,
+    calm: u32::MAX,
 };
 
 impl Sketch {
@@ -44,9 +46,14 @@ impl Sketch {
         }
     }
 
-    /// Its bytes are one word.
-    pub(crate) fn is_word(self) -> bool {
-        self.count == 4 && self.from % 4 == 0
+    /// It may change bytes, and as far as is known no request from place `event` on needs what it leaves.
+    pub(crate) fn may_be_calm(self, event: usize) -> bool {
+        self.calm as usize <= event && !self.is_quiet()
+    }
+
+    /// It changes nothing.
+    pub(crate) fn is_quiet(self) -> bool {
+        self.calm == u32::MAX
     }
 
     /// The bit for its requester.
@@ -132,7 +139,11 @@ fn sketch_of(log: &Log, at: usize) -> Sketch {
         mask,
         marks: words | who,
         frees: if op.is_posted() { words | who } else { words },
-        changes: !matches!(op, Op::Read { .. }),
+        calm: if changes_nothing(log, at) {
+            u32::MAX
+        } else {
+            0
+        },
     }
 }
 

@@ -6,14 +6,13 @@ ghost use Rattle.run_search.specs.Catalogs.{IsCatalog};
 ghost use Rattle.run_search.specs.Frames as frames;
 
 use crate::catalog::Catalog;
-use crate::hints::{Look, Loss, Losses, first_due};
+use crate::hints::{Look, Losses, is_back};
 use crate::junk::over_junk;
 use crate::rules::forced;
-use log_runs::{Event, Log, Step};
+use log_runs::{Log, Step};
 use search_choices::{Turn, choices};
-use search_others::is_lost;
+use search_others::{due_is_lost, is_missed};
 use search_places::{Memo, Place, Stack};
-use search_words::near_value;
 use std::alloc::{AllocError, Global};
 
 /// Of so many events to come it is looked whether their requests are lost.
@@ -28,9 +27,11 @@ pub(crate) struct Walk {
     losses: Losses,
     /// Which requests may act at once, and couldn't at the last frame.
     look: Look,
+    /// Posted writes over junk act before events are passed.
+    early: bool,
 }
 
-pub(crate) fn begin(alloc: Global, log: &Log) -> Result<Walk, AllocError>
+pub(crate) fn begin(alloc: Global, log: &Log, early: bool) -> Result<Walk, AllocError>
     ensures { IfOk result (frames.IsAt log.now) }
 {
     Ok(Walk {
@@ -39,16 +40,19 @@ pub(crate) fn begin(alloc: Global, log: &Log) -> Result<Walk, AllocError>
         memo: Memo::new(alloc),
         losses: Losses::new(alloc),
         look: Look::all(),
+        early,
     })
 }
 
-/// A step that may be taken at once, a request over junk only where there is no other.
+/// A step that may be taken at once. An event is passed only if no posted write over junk may act, if they
+/// act early; other requests over junk act only where there is no other step.
 fn at_once(
     place: &mut Place,
     alloc: Global,
     log: &Log,
     catalog: &Catalog,
     look: Look,
+    early: bool,
 ) -> Result<Option<Step>, AllocError>
     requires place { IsPlace log.now place.old }
     requires catalog { IsCatalog log.now catalog.now }
@@ -56,10 +60,17 @@ fn at_once(
     ensures place { OnOk result (IsPlace log.now place.new) }
     ensures forced { IfOk result (λ o. IfSome o (IsForced log.now place.new.state)) }
 {
-    if let Some(step) = forced(place, log, catalog, look) {
-        return Ok(Some(step));
+    let step = forced(place, log, catalog, look);
+    match step {
+        Some(Step::Act(_)) => Ok(step),
+        Some(Step::Pass) => {
+            if early && let Some(write) = over_junk(place, alloc, log, catalog, true)? {
+                return Ok(Some(write));
+            }
+            Ok(step)
+        }
+        None => over_junk(place, alloc, log, catalog, false),
     }
-    over_junk(place, alloc, log, catalog)
 }
 
 /// Takes the steps that may be taken at once.
@@ -73,9 +84,10 @@ pub(crate) fn settle(
     requires catalog { IsCatalog log.now catalog.now }
     ensures { OnOk result (frames.IsAt log.now walk.new) }
 {
+    let early = walk.early;
     let mut look = walk.look;
     for _step in 0..u64::MAX {
-        let Some(step) = at_once(&mut walk.here, alloc, log, catalog, look)? else {
+        let Some(step) = at_once(&mut walk.here, alloc, log, catalog, look, early)? else {
             return Ok(());
         };
         let pending = walk.here.pending().len();
@@ -88,12 +100,18 @@ pub(crate) fn settle(
 }
 
 /// Keeps the steps that may be taken here.
-fn keep(walk: &mut Walk, alloc: Global, log: &Log, turns: &[Turn]) -> Result<(), AllocError>
+fn keep(
+    walk: &mut Walk,
+    alloc: Global,
+    log: &Log,
+    catalog: &Catalog,
+    turns: &[Turn],
+) -> Result<(), AllocError>
     requires at { frames.IsAt log.now walk.old }
     requires more { walk.old.here.state.event ≡ length log.now.events → ⊥ }
     ensures { OnOk result (frames.IsReady log.now walk.new) }
 {
-    let rest = choices(alloc, log, turns, &walk.here)?;
+    let rest = choices(alloc, log, &catalog.others, turns, &walk.here)?;
     walk.stack.close(rest.as_slice())?;
     Ok(())
 }
@@ -120,46 +138,10 @@ fn go_on(walk: &mut Walk, log: &Log, catalog: &Catalog, step: Step) -> Result<()
     let pending = walk.here.pending().len();
     let done = walk.here.take(log, step)?;
     walk.look = Look::none().after(log, catalog, &walk.here, pending, step);
-    walk.losses.clear();
+    walk.losses.list.clear();
     walk.losses.push(log, &walk.here, &done)?;
     walk.stack.push(&done)?;
     Ok(())
-}
-
-/// A request of the list is lost here. Of those that need the same word and nothing else the one that is
-/// due first is looked at.
-fn has_lost(place: &Place, log: &Log, catalog: &Catalog, list: &[usize]) -> bool
-    requires place { IsPlace log.now place.now }
-    requires catalog { IsCatalog log.now catalog.now }
-    ensures { IsTrue result → Dead log.now place.now.state }
-{
-    let first = first_due(place, log, catalog, list);
-    for q in list {
-        if (first == Some(*q) || !catalog.is_word(*q)) && is_lost(place, log, &catalog.others, *q) {
-            return true;
-        }
-    }
-    false
-}
-
-/// A request from one place on and before another, which may need what stood at a word, is lost here.
-fn is_missed(
-    place: &Place,
-    log: &Log,
-    catalog: &Catalog,
-    loss: Loss,
-    from: usize,
-    to: usize,
-) -> bool
-    requires place { IsPlace log.now place.now }
-    requires catalog { IsCatalog log.now catalog.now }
-    ensures { IsTrue result → Dead log.now place.now.state }
-{
-    if loss.word >= log.extent().size() as u64 / 4 || loss.is_back(place.bytes()) {
-        return false;
-    }
-    let near = near_value(catalog.others.words(), log, loss.word, loss.old, from, to);
-    has_lost(place, log, catalog, near.known) || has_lost(place, log, catalog, near.unknown)
 }
 
 /// A request before that place, which may need what the steps since the last frame overwrote, is lost
@@ -171,23 +153,13 @@ fn some_is_missed(walk: &Walk, log: &Log, catalog: &Catalog, to: usize) -> bool
 {
     let from = walk.here.earliest();
     for loss in &walk.losses.list {
-        if is_missed(&walk.here, log, catalog, *loss, from, to) {
+        if !is_back(*loss, walk.here.bytes())
+            && is_missed(&walk.here, log, &catalog.others, *loss, from, to)
+        {
             return true;
         }
     }
     false
-}
-
-/// The request whose answer is due is lost here.
-fn due_is_lost(walk: &Walk, log: &Log, catalog: &Catalog) -> bool
-    requires place { IsPlace log.now walk.now.here }
-    requires catalog { IsCatalog log.now catalog.now }
-    ensures { IsTrue result → Dead log.now walk.now.here.state }
-{
-    match log.event(walk.here.event()) {
-        Some(Event::Due { request }) => is_lost(&walk.here, log, &catalog.others, request),
-        _ => false,
-    }
 }
 
 /// The request whose answer is due is lost here, or one before that place.
@@ -196,7 +168,7 @@ fn some_is_lost(walk: &Walk, log: &Log, catalog: &Catalog, to: usize) -> bool
     requires catalog { IsCatalog log.now catalog.now }
     ensures { IsTrue result → Dead log.now walk.now.here.state }
 {
-    due_is_lost(walk, log, catalog) || some_is_missed(walk, log, catalog, to)
+    due_is_lost(&walk.here, log, &catalog.others) || some_is_missed(walk, log, catalog, to)
 }
 
 /// Goes on with what is left and isn't lost at once; false if nothing is.
@@ -251,7 +223,7 @@ pub(crate) fn advance(
     if is_dead(walk, alloc, log, catalog) {
         rewind(walk, log)?;
     } else {
-        keep(walk, alloc, log, turns)?;
+        keep(walk, alloc, log, catalog, turns)?;
     }
     back(walk, alloc, log, catalog)
 }

@@ -1,20 +1,11 @@
 -- Steps that were found.
-use Rattle.std.specs.Prelude.{ℕ, ◌≡◌, ◌++◌, ◌∷◌, List, true}
+use Rattle.std.specs.Prelude.{ℕ, ◌≡◌, List, true}
 use Rattle.std.specs.List.{All, Contains}
-use Rattle.std.specs.List.Sorted.{IsPermutation}
 use Rattle.log_runs.specs.LogView.{LogView}
 use Rattle.log_runs.specs.Runs.{State, Allowed, MayAct}
 use Rattle.log_runs.specs.declared.Step.{Step}
 use Rattle.log_runs.specs.declared.Step.TheVariants as steps
-use Rattle.search_choices.specs.declared.offers.Offer.{Offer}
 use Rattle.search_places.specs.Pending.{has}
-
-abbrev pub all_of : Offer → List Step
-all_of c = c.guess.items ++ c.due.items ++ c.near.items ++ c.far.items
-
--- the step is put among the others
-abbrev pub Puts : Offer → Offer → Step → Type 0
-Puts old new step = IsPermutation (step ∷ all_of old) (all_of new)
 
 -- the steps may be taken, and are all that may be taken by the requests of the list
 pub record Offers (log : LogView) (s : State) (xs : List Step) (looked : List ℕ) : Type 0 where

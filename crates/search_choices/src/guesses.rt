@@ -11,6 +11,8 @@ pub struct Turn {
     pub part: u32,
     /// How many act before it in the run through the part.
     pub before: u32,
+    /// Those are submitted before this place of the log.
+    pub since: usize,
 }
 
 /// The request is in no part.
@@ -46,18 +48,23 @@ fn first_in(place: &Place, turns: &[Turn], part: u32) -> Option<usize> {
     first
 }
 
-/// Of the pending requests the first that acts in the run of the request's part, if one does; else that
-/// request.
-fn instead_of(place: &Place, turns: &[Turn], q: usize) -> usize {
+/// The request that acts next in the run of the request's part, if that one is submitted; the request
+/// itself, if it is in no part.
+fn next_with(place: &Place, turns: &[Turn], q: usize) -> Option<usize> {
     let Some(turn) = turns.get(q) else {
-        return q;
+        return Some(q);
     };
     if turn.part == NO_PART {
-        return q;
+        return Some(q);
     }
-    match first_in(place, turns, turn.part) {
-        Some(first) => first,
-        None => q,
+    let first = first_in(place, turns, turn.part)?;
+    match turns.get(first) {
+        Some(turn) => if turn.since <= place.event() {
+            Some(first)
+        } else {
+            None
+        },
+        None => None,
     }
 }
 
@@ -80,16 +87,42 @@ pub(crate) fn write_before(place: &Place, log: &Log, q: usize) -> Option<usize> 
     let Some(Event::Sub { requester, .. }) = log.event(q) else {
         return None;
     };
-    for b in place.pending() {
-        if *b < q && is_write(log, requester, *b) {
+    for b in place.posts() {
+        if *b >= q {
+            return None;
+        }
+        if is_write(log, requester, *b) {
             return Some(*b);
         }
     }
     None
 }
 
-/// The request that acts next in the run through the target's part of the log; or if it waits for a posted
-/// write, that one, or the next in that one's part; and so on.
+/// The request that acts next in the run through that one's part of the log; or if it waits for a posted
+/// write, that one, or the next in that one's part; and so on. None, too, where they wait for each other.
+fn next_from(place: &Place, log: &Log, turns: &[Turn], target: usize) -> Option<usize>
+    requires { IsPlace log.now place.now }
+{
+    let mut q = target;
+    let mut seen = target;
+    for turn in 0..MOST {
+        q = next_with(place, turns, q)?;
+        if place.may_act(log, q) {
+            return Some(q);
+        }
+        q = write_before(place, log, q)?;
+        if q == seen {
+            return None;
+        }
+        if turn & (turn + 1) == 0 {
+            seen = q;
+        }
+    }
+    None
+}
+
+/// The request that is tried first: the one that acts next in the run through the target's part, or what
+/// that waits for; or else the target.
 pub(crate) fn guess(
     place: &Place,
     log: &Log,
@@ -98,13 +131,9 @@ pub(crate) fn guess(
 ) -> Option<usize>
     requires { IsPlace log.now place.now }
 {
-    let mut q = target?;
-    for _turn in 0..MOST {
-        q = instead_of(place, turns, q);
-        if place.may_act(log, q) {
-            return Some(q);
-        }
-        q = write_before(place, log, q)?;
+    let target = target?;
+    match next_from(place, log, turns, target) {
+        Some(q) => Some(q),
+        None => Some(target),
     }
-    None
 }

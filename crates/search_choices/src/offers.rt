@@ -4,49 +4,62 @@
 //! before it.
 ghost use Rattle.std.specs.Prelude.{◌≡◌, ◌++◌, ◌∷◌, [], ℕ, List, IfOk, OnOk, length};
 ghost use Rattle.std.specs.List.{All};
-ghost use Rattle.std.specs.List.Sorted.{IsPermutation};
 ghost use Rattle.log_runs.specs.Runs.{Allowed, Covers};
 ghost use Rattle.search_places.specs.Places.{IsPlace};
-ghost use Rattle.search_choices.specs.Offered.{all_of, Puts, Offers};
+ghost use Rattle.search_choices.specs.Offered.{Offers};
 
 use crate::guesses::{Turn, guess, write_before};
 use log_runs::{Event, Log, Step};
+use search_others::Others;
 use search_places::Place;
 use search_places::laws::who_is_left_is_pending;
+use search_rules::never_brings;
 use std::alloc::{AllocError, Global};
 use tlp_core::Op;
 
-/// Steps in the order in which they are tried.
-#[derive(Drop)]
-pub(crate) struct Offer {
-    /// The request that is guessed at.
-    pub(crate) guess: Vec<Step>,
-    /// The request that the search goes for.
-    pub(crate) due: Vec<Step>,
-    /// They are at the place of that request.
-    pub(crate) near: Vec<Step>,
-    /// They have nothing to do with it.
-    pub(crate) far: Vec<Step>,
-}
-
-/// How much a request has to do with the one that the search goes for.
+/// How much a request has to do with the one that the search goes for. The first are tried first.
 #[derive(Clone, Copy)]
 enum Rank {
+    /// It is the guess.
     Guess,
-    Due,
+    /// It is the one that the search goes for.
+    Target,
+    /// It may bring what that one needs.
+    Helps,
+    /// They have bytes in common.
     Near,
+    /// So they have, and it is a posted write, which may wait.
+    Write,
     Far,
+    /// It wasn't answered and isn't posted, so it need not act at all.
+    Open,
 }
 
-fn is_read(op: &Op) -> bool {
-    matches!(op, Op::Read { .. })
-}
-
-/// The operations have a byte in common, and one of them changes it.
-fn meet(one: &Op, other: &Op) -> bool {
-    if is_read(one) && is_read(other) {
-        return false;
+impl Rank {
+    fn number(self) -> u64 {
+        match self {
+            Rank::Guess => 0,
+            Rank::Target => 1,
+            Rank::Helps => 2,
+            Rank::Near => 3,
+            Rank::Write => 4,
+            Rank::Far => 5,
+            Rank::Open => 6,
+        }
     }
+}
+
+/// What the search goes for.
+#[derive(Clone, Copy)]
+struct Aim {
+    /// The request that it goes for.
+    target: Option<usize>,
+    /// The request that is tried first.
+    guess: Option<usize>,
+}
+
+/// The operations have a byte in common.
+fn meet(one: &Op, other: &Op) -> bool {
     let (a, b) = (one.address(), other.address());
     if a <= b {
         b - a < u64::from(one.size())
@@ -55,10 +68,93 @@ fn meet(one: &Op, other: &Op) -> bool {
     }
 }
 
-fn op_at<'a>(log: &Log<'a>, b: usize) -> Option<&'a Op> {
-    match log.event(b) {
-        Some(Event::Sub { op, .. }) => Some(op),
-        _ => None,
+/// The rank of request `b`, which isn't the guess, where the search goes for `target`.
+fn rank_beside(log: &Log, target: usize, b: usize) -> Rank {
+    let (
+        Some(
+            Event::Sub {
+                op: one,
+                reply: wanted,
+                ..
+            },
+        ),
+        Some(Event::Sub { op, reply, .. }),
+    ) = (log.event(target), log.event(b))
+    else {
+        return Rank::Far;
+    };
+    if wanted.is_some() && !never_brings(log, b, target) {
+        return Rank::Helps;
+    }
+    if reply.is_none() && !op.is_posted() {
+        return Rank::Open;
+    }
+    if !meet(one, op) {
+        return Rank::Far;
+    }
+    if op.is_posted() {
+        Rank::Write
+    } else {
+        Rank::Near
+    }
+}
+
+fn rank_of(log: &Log, aim: Aim, b: usize) -> Rank {
+    if aim.guess == Some(b) {
+        return Rank::Guess;
+    }
+    match aim.target {
+        Some(target) => if b == target {
+            Rank::Target
+        } else {
+            rank_beside(log, target, b)
+        },
+        None => Rank::Far,
+    }
+}
+
+/// A number for the step: those with the least are tried first. Of one rank the request that must act
+/// first is first.
+fn number_of(log: &Log, others: &Others, aim: Aim, step: Step) -> u64 {
+    const MOST: u64 = (1 << 56) - 1;
+    let Step::Act(b) = step else {
+        return 0;
+    };
+    let due = match others.held_until(log, b) {
+        Some((at, _)) => MOST.min(at as u64),
+        None => MOST,
+    };
+    (rank_of(log, aim, b).number() << 56) + due
+}
+
+/// Of each requester the first posted write, as far as they were looked at.
+#[derive(Clone, Copy)]
+struct Writes {
+    first: [usize; 8],
+}
+
+/// No place.
+const NOWHERE: usize = usize::MAX;
+
+impl Writes {
+    /// None was looked at.
+    fn none() -> Writes {
+        Writes {
+            first: [NOWHERE; 8],
+        }
+    }
+
+    /// The first posted write before request `b`, which is looked at now, if there is one.
+    fn before(&mut self, log: &Log, b: usize) -> usize {
+        let Some(Event::Sub { requester, op, .. }) = log.event(b) else {
+            return NOWHERE;
+        };
+        let who = usize::from(requester % 8);
+        let first = self.first[who];
+        if first == NOWHERE && op.is_posted() {
+            self.first[who] = b;
+        }
+        first
     }
 }
 
@@ -73,115 +169,58 @@ fn target(place: &Place, log: &Log) -> Option<usize> {
     }
 }
 
-/// What the search goes for.
-#[derive(Clone, Copy)]
-struct Aim {
-    /// The request that it goes for.
-    target: Option<usize>,
-    /// The request that is tried first.
-    guess: Option<usize>,
-}
-
-fn rank_of(log: &Log, aim: Aim, b: usize) -> Rank {
-    if aim.guess == Some(b) {
-        return Rank::Guess;
-    }
-    let Some(target) = aim.target else {
-        return Rank::Far;
-    };
-    if b == target {
-        return Rank::Due;
-    }
-    match (op_at(log, target), op_at(log, b)) {
-        (Some(one), Some(other)) => if meet(one, other) {
-            Rank::Near
-        } else {
-            Rank::Far
-        },
-        _ => Rank::Far,
-    }
-}
-
-fn empty(alloc: Global) -> Offer
-    ensures { all_of result ≡ [] }
-{
-    Offer {
-        guess: Vec::new(alloc),
-        due: Vec::new(alloc),
-        near: Vec::new(alloc),
-        far: Vec::new(alloc),
-    }
-}
-
-impl Offer {
-    /// A step more.
-    fn put(&mut self, step: Step, rank: Rank) -> Result<(), AllocError>
-        ensures { OnOk result (Puts self.old self.new step) }
-    {
-        match rank {
-            Rank::Guess => {
-                self.guess.push(step)?;
-                Ok(())
-            }
-            Rank::Due => {
-                self.due.push(step)?;
-                Ok(())
-            }
-            Rank::Near => {
-                self.near.push(step)?;
-                Ok(())
-            }
-            Rank::Far => {
-                self.far.push(step)?;
-                Ok(())
-            }
-        }
-    }
-
-    /// The request, if it may act.
-    fn look(&mut self, log: &Log, place: &Place, aim: Aim, b: usize) -> Result<(), AllocError>
-        requires { IsPlace log.now place.now }
-        ensures { OnOk result ((p : List ℕ) → Offers log.now place.now.state (all_of self.old) p → Offers log.now place.now.state (all_of self.new) (p ++ b ∷ [])) }
-    {
-        if !place.may_act(log, b) {
-            return Ok(());
-        }
-        self.put(Step::Act(b), rank_of(log, aim, b))?;
-        Ok(())
-    }
-
-    /// The steps, those to be tried first last, in no more room than they need: most are kept to the end.
-    fn steps(&self, alloc: Global) -> Result<Vec<Step>, AllocError>
-        ensures { IfOk result (λ v. IsPermutation (all_of self.now) v.items) }
-    {
-        let best = self.guess.len().saturating_add(self.due.len());
-        let others = self.near.len().saturating_add(self.far.len());
-        let mut steps = Vec::with_capacity(alloc, best.saturating_add(others))?;
-        steps.extend_from_slice(self.guess.as_slice())?;
-        steps.extend_from_slice(self.due.as_slice())?;
-        steps.extend_from_slice(self.near.as_slice())?;
-        steps.extend_from_slice(self.far.as_slice())?;
-        steps.reverse();
-        Ok(steps)
-    }
-}
-
 /// The next event, if it may be passed.
-fn passing(alloc: Global, log: &Log, place: &Place) -> Result<Offer, AllocError>
-    ensures { IfOk result (λ a. Offers log.now place.now.state (all_of a) []) }
+fn passing(alloc: Global, log: &Log, place: &Place) -> Result<Vec<Step>, AllocError>
+    ensures { IfOk result (λ v. Offers log.now place.now.state v.items []) }
 {
-    let mut found = empty(alloc);
+    let mut steps = Vec::new(alloc);
     if !place.may_pass(log) {
-        return Ok(found);
+        return Ok(steps);
     }
-    found.put(Step::Pass, Rank::Due)?;
-    Ok(found)
+    steps.push(Step::Pass)?;
+    Ok(steps)
 }
 
-/// The steps that may be taken.
+/// Request `b`, if it may act. It may be that it waits for the posted write `c`.
+fn look(
+    steps: &mut Vec<Step>,
+    log: &Log,
+    place: &Place,
+    b: usize,
+    c: usize,
+) -> Result<(), AllocError>
+    requires { IsPlace log.now place.now }
+    ensures { OnOk result ((p : List ℕ) → Offers log.now place.now.state steps.old.items p → Offers log.now place.now.state steps.new.items (p ++ b ∷ [])) }
+{
+    if place.waits_for(log, b, c) {
+        return Ok(());
+    }
+    if !place.may_act(log, b) {
+        return Ok(());
+    }
+    steps.push(Step::Act(b))?;
+    Ok(())
+}
+
+/// The steps that may be taken, in no order.
+fn allowed(alloc: Global, log: &Log, place: &Place) -> Result<Vec<Step>, AllocError>
+    requires { IsPlace log.now place.now }
+    ensures { IfOk result (λ v. Offers log.now place.now.state v.items place.now.pending) }
+{
+    let mut steps = passing(alloc, log, place)?;
+    let mut writes = Writes::none();
+    for b in place.pending() {
+        look(&mut steps, log, place, *b, writes.before(log, *b))?;
+    }
+    Ok(steps)
+}
+
+/// The steps that may be taken. `turns` and what is known of the log's requests say which are tried
+/// first.
 pub fn choices(
     alloc: Global,
     log: &Log,
+    others: &Others,
     turns: &[Turn],
     place: &Place,
 ) -> Result<Vec<Step>, AllocError>
@@ -194,10 +233,8 @@ pub fn choices(
     let target = target(place, log);
     let guess = guess(place, log, turns, target);
     let aim = Aim { target, guess };
-    let mut found = passing(alloc, log, place)?;
-    for b in place.pending() {
-        found.look(log, place, aim, *b)?;
-    }
-    let steps = found.steps(alloc)?;
+    let mut steps = allowed(alloc, log, place)?;
+    steps.sort_by_cached_key(|step| number_of(log, others, aim, *step))?;
+    steps.reverse();
     Ok(steps)
 }

@@ -1,12 +1,11 @@
 //! What is known of a log's requests before the search begins.
-ghost use Rattle.std.specs.Prelude.{◌≡◌, ◌≤◌, ℕ, IsTrue, Some, true, false, IfOk, OnOk, IfSome, slice_get};
+ghost use Rattle.std.specs.Prelude.{◌≡◌, Some, IfOk, IfSome, slice_get};
 ghost use Rattle.log_runs.specs.EventView as events;
-ghost use Rattle.search_rules.specs.Rules.{IsJunkTo, LeavesJunkTo};
 ghost use Rattle.search_others.specs.Known.{AreOthers};
 
 use crate::due::{held_until, place_of, places};
 use log_runs::Log;
-use search_words::{Later, Words, is_junk_later, later_of, leaves_junk_later, words_of};
+use search_words::{Words, words_of};
 use std::alloc::{AllocError, Global};
 use std::marker::Model;
 
@@ -16,8 +15,6 @@ pub struct Others {
     /// The place of each request's answer.
     due: Vec<usize>,
     pub(crate) words: Words,
-    later: Later,
-    looks_ahead: bool,
 }
 
 impl Model for Others {
@@ -25,40 +22,18 @@ impl Model for Others {
 
     ghost Value = { OthersView };
 
-    ghost view = { λ o. record { words = o.words; later = o.later; looks_ahead = o.looks_ahead } };
+    ghost view = { λ o. record { words = o.words } };
 }
 
 impl Others {
-    /// What is known of the log's requests, but for what they need later.
+    /// What is known of the log's requests.
     pub fn of(alloc: Global, log: &Log) -> Result<Others, AllocError>
         ensures known { IfOk result (AreOthers log.now) }
-        ensures looks { IfOk result (λ o. o.looks_ahead ≡ false) }
     {
         Ok(Others {
             due: places(alloc, log)?,
             words: words_of(alloc, log)?,
-            later: Later::unknown(alloc),
-            looks_ahead: false,
         })
-    }
-
-    /// Finds out what the log's requests need later, which a search without choices needn't know.
-    pub fn look_ahead(&mut self, alloc: Global, log: &Log) -> Result<(), AllocError>
-        requires { AreOthers log.now self.old }
-        ensures known { OnOk result (AreOthers log.now self.new) }
-        ensures looks { OnOk result (self.new.looks_ahead ≡ true) }
-        ensures words { OnOk result (self.new.words ≡ self.old.words) }
-    {
-        self.later = later_of(alloc, log)?;
-        self.looks_ahead = true;
-        Ok(())
-    }
-
-    /// It was found out what the requests need later.
-    pub fn looks_ahead(&self) -> bool
-        ensures { result ≡ self.now.looks_ahead }
-    {
-        self.looks_ahead
     }
 
     /// What the requests need of each word, and leave there.
@@ -66,24 +41,6 @@ impl Others {
         ensures { result.now ≡ self.now.words }
     {
         &self.words
-    }
-
-    /// What stands at the addresses of request `q` is nothing to any request from place `event` on, as far
-    /// as it was found out.
-    pub fn is_junk_later(&self, log: &Log, bytes: &[u8], event: usize, q: usize) -> bool
-        requires { AreOthers log.now self.now }
-        ensures { IsTrue result → (b : ℕ) → event ≤ b → IsJunkTo log.now bytes.now b q }
-    {
-        is_junk_later(&self.later, log, bytes, event, q)
-    }
-
-    /// What request `g` leaves, among the addresses of request `q`, is nothing to any request from place
-    /// `event` on, as far as it was found out.
-    pub fn leaves_junk_later(&self, log: &Log, event: usize, q: usize, g: usize) -> bool
-        requires { AreOthers log.now self.now }
-        ensures { IsTrue result → (b : ℕ) → event ≤ b → LeavesJunkTo log.now b q g }
-    {
-        leaves_junk_later(&self.later, log, event, q, g)
     }
 
     /// The place before which the request must act, and the request whose answer stands there; None, too,

@@ -116,3 +116,15 @@ pub fn is_lost(place: &Place, log: &Log, others: &Others, q: usize) -> bool
     }
     lacks_some_byte(place, log, others, q, a)
 }
+
+/// The request whose answer is due is lost here.
+pub fn due_is_lost(place: &Place, log: &Log, others: &Others) -> bool
+    requires place { IsPlace log.now place.now }
+    requires others { AreOthers log.now others.now }
+    ensures { IsTrue result → Dead log.now place.now.state }
+{
+    match log.event(place.event()) {
+        Some(Event::Due { request }) => is_lost(place, log, others, request),
+        _ => false,
+    }
+}

@@ -16,7 +16,7 @@ use search_rules::laws::{answers_yield, nothing_is_put_outside};
 use search_rules::{
     Need, is_junk_to, leaves_junk_to, lets_first, never_brings, never_puts, yields,
 };
-use search_words::{Near, near_left, near_named, near_needed, near_there, span_of};
+use search_words::{Near, near_junk, near_left, near_named, near_needed, near_there, span_of};
 
 /// What is asked of the others.
 #[derive(Clone, Copy)]
@@ -100,6 +100,7 @@ fn near_hold(place: &Place, log: &Log, question: Question, near: Near) -> bool
     all_hold(place, log, question, near.wide)
         && all_hold(place, log, question, near.unknown)
         && all_hold(place, log, question, near.known)
+        && all_hold(place, log, question, near.careless)
 }
 
 /// The first word of those that are looked at, and their end: those of the request, or that of the byte.
@@ -144,7 +145,7 @@ fn near_of<'a>(
         Asked::Lost => near_needed(words, log, q, word, from, to),
         Asked::Last => near_needed(words, log, q, word, from, to),
         Asked::First => near_there(words, log, bytes, q, word, from, to),
-        Asked::Junk => near_there(words, log, bytes, q, word, from, to),
+        Asked::Junk => near_junk(words, log, bytes, q, word, from, to),
         Asked::LeftBy(g) => near_left(words, log, q, g, word, from, to),
         Asked::Byte(_) => near_named(words, log, word, from, to),
     }

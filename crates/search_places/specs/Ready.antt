@@ -31,6 +31,13 @@ is_ready log s posts b (Some (events.Due c)) = false
 is_ready log s posts b (Some events.Free) = false
 is_ready log s posts b None = false
 
+-- request c is a posted write that the requester of the request at the event submitted before that, b, and hasn't acted
+abbrev pub waits_for : LogView → State → ℕ → ℕ → Option EventView → Bool
+waits_for log s b c (Some (events.Sub i op told)) = blocks log i b c && not (is_set (slice_get s.acted c))
+waits_for log s b c (Some (events.Due d)) = false
+waits_for log s b c (Some events.Free) = false
+waits_for log s b c None = false
+
 -- the memory answers what the request at the event was answered, if it was
 abbrev pub suits : LogView → List ℕ → Option EventView → Bool
 suits log m (Some (events.Sub i op told)) = is_told told (reply_of log.extent m op)

@@ -118,6 +118,19 @@ impl Place {
         self.is_ready(log, b)
     }
 
+    /// Request `c` is a posted write of request `b`'s requester, was submitted before it, and hasn't acted.
+    pub fn waits_for(&self, log: &Log, b: usize, c: usize) -> bool
+        ensures value { result ≡ ready.waits_for log.now self.now.state b c (slice_get log.now.events b) }
+        ensures shut { IsTrue result → MayAct log.now self.now.state b → ⊥ }
+    {
+        match log.event(b) {
+            Some(Event::Sub { requester, .. }) => {
+                does_block(log, requester, b, c) && !self.has_acted(c)
+            }
+            _ => false,
+        }
+    }
+
     /// The memory answers what the request was answered, if it was.
     pub fn suits(&self, log: &Log, q: usize) -> bool
         ensures { result ≡ ready.suits log.now self.now.state.bytes (slice_get log.now.events q) }

@@ -1,5 +1,4 @@
 pub mod EventLemmas
 pub mod ListLemmas
-pub mod LaterLemmas
 pub mod WordLemmas
 pub mod NearLemmas

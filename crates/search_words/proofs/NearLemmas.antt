@@ -6,17 +6,17 @@ use Rattle.std.proofs.lemmas.Option.{same_Some, slice_get_within}
 use Rattle.tlp_core.specs.declared.operation.Op.{Op}
 use Rattle.tlp_core.specs.Operation.{address_of, count_of}
 use Rattle.seq_memory.specs.declared.Reply.{Reply}
+use Rattle.seq_memory.specs.Limits.{Extent}
 use Rattle.seq_memory.specs.Step.{refusal, after, answer}
 use Rattle.byte_effects.specs.Effects.{Agrees, AreSameAt}
 use Rattle.log_runs.specs.EventView.{EventView}
 use Rattle.log_runs.specs.EventView as events
 use Rattle.log_runs.specs.LogView.{LogView}
 use Rattle.log_runs.specs.Runs.{reply_of, bytes_after, acted_on}
-use Rattle.search_words.specs.Keys.{Touches}
-use Rattle.search_words.specs.Later.{value_in}
 use Rattle.search_words.specs.Lists.{Has, InList}
 use Rattle.search_words.specs.WordsView.{WordsView}
-use Rattle.search_words.specs.Words.{NeedsWord, IsKnownAt, IsWords, NamesWord, HasWord, HasWordAt, NeedsWordAt, LeavesWordAt, IsOutAt, key}
+use Rattle.search_words.specs.Words.{Touches, value_in, NeedsWord, IsCareless, IsKnownAt, IsWords, MayNeed, NamesWord, HasWord, HasWordAt, IsWordAt, NeedsWordAt, LeavesWordAt, IsOutAt, key}
+use Rattle.search_rules.specs.Junk.{Overlooks}
 use Rattle.search_rules.specs.Rules.{Suits, Ends, NeverBrings, Yields, LetsFirst, IsJunkTo, LeavesJunkTo, AreApartThere}
 use Rattle.search_words.proofs.EventLemmas.{junk_at, leaves_at}
 use Rattle.search_words.proofs.EventLemmas.{way_of}
@@ -66,13 +66,29 @@ named_by log b q j first end base op asked there eb some low ef ee = at (slice_g
     at (Some events.Free) is = inl (far (Some events.Free) is (λ k other said same. cc))
     at None is = inl (far None is (λ k other said same. cc))
 
+-- ---- who is careless overlooks a word that it names
+
+overlooks_part : (x : Extent) (one other : Op) (told : Option Reply) → Overlooks x one told one → address_of one ≤ address_of other → address_of other + count_of other ≤ address_of one + count_of one
+    → Overlooks x one told other
+overlooks_part x one other told over low high m n size same = over m n size (record {
+  size = same.size;
+  others = λ k out. same.others k (elim out [
+    | inl before ↦ inl (omega (arith, before, low))
+    | inr behind ↦ inr (omega (arith, behind, high))
+  ]);
+})
+
+overlooks_word : (x : Extent) (w : ℕ) (one other : Op) (told : Option Reply) → IsCareless x one told → Touches x.base one w → HasWord x.base other w → count_of other ≡ 4 → Overlooks x one told other
+overlooks_word x w one other told (whole, over) (front, back) (low, begins, ends) four =
+    overlooks_part x one other told over (omega (arith, whole.place, back, begins, ends, four)) (omega (arith, whole.place, whole.whole, front, begins, ends, four))
+
 module _ (log : LogView) (t : WordsView) (words : IsWords log t) where
   known_at : (b i w : ℕ) (op : Op) (told : Option Reply) → slice_get log.events b ≡ Some (events.Sub i op told) → Touches log.extent.base op w ⊎ (count_of op ≡ 0) → w < log.extent.size / 4
-      → InList t.wide b ⊎ IsKnownAt log.extent t b op told w
+      → InList t.wide b ⊎ (Touches log.extent.base op w × IsKnownAt log.extent t b op told w)
   known_at b i w op told at touches within = elim (words.each b i op told (slice_get_within log.events b (events.Sub i op told) at) at) [
     | inl many ↦ inl many
     | inr (some, known) ↦ elim touches [
-      | inl touched ↦ inr (known w touched within)
+      | inl touched ↦ inr (touched, known w touched within)
       | inr none ↦ absurd (omega (arith, some, none))
     ]
   ]
@@ -80,29 +96,32 @@ module _ (log : LogView) (t : WordsView) (words : IsWords log t) where
   pub by_name : (b w : ℕ) → NamesWord log b w → w < log.extent.size / 4 → InList t.wide b ⊎ Has t.named w b
   by_name b w (i, op, told, at, touches) within = elim (known_at b i w op told at touches within) [
     | inl many ↦ inl many
-    | inr known ↦ inr known.named
+    | inr (touched, known) ↦ inr known.named
   ]
 
-  -- the request is in a list, or its word isn't v
+  -- the request is in a list, or is careless, or its word isn't v
   by_need : (b i w v : ℕ) (op : Op) (told : Option Reply) → slice_get log.events b ≡ Some (events.Sub i op told) → Touches log.extent.base op w ⊎ (count_of op ≡ 0) → w < log.extent.size / 4
-      → (InList t.wide b ⊎ Has t.blind w b ⊎ Has t.needed (key w v) b)
+      → MayNeed t w v b
+      ⊎ (Has t.careless w b × ((other : Op) → HasWord log.extent.base other w → count_of other ≡ 4 → Overlooks log.extent op told other))
       ⊎ ((n : List ℕ) → value_in n (4 * w) ≡ v → Agrees log.extent.base log.extent.block n op told → ⊥)
   by_need b i w v op told at touches within = elim (known_at b i w op told at touches within) [
     | inl many ↦ inl (inl many)
-    | inr known ↦ elim known.need [
+    | inr (touched, known) ↦ elim known.need [
       | inl blind ↦ inl (inr (inl blind))
-      | inr (u, has, needs) ↦ elim (cases_eq u v) [
+      | inr (inl (has, careless)) ↦ inr (inl (has, λ other inside four. overlooks_word log.extent w op other told careless touched inside four))
+      | inr (inr (u, has, needs)) ↦ elim (cases_eq u v) [
         | inl same ↦ inl (inr (inr (subst (λ z. Has t.needed (key w z) b) same has)))
-        | inr other ↦ inr (λ n is agrees. other (sym (needs n agrees) ∙ is))
+        | inr other ↦ inr (inr (λ n is agrees. other (sym (needs n agrees) ∙ is)))
       ]
     ]
   ]
 
-  pub out_or : (b w v : ℕ) → NamesWord log b w → w < log.extent.size / 4 → (InList t.wide b ⊎ Has t.blind w b ⊎ Has t.needed (key w v) b) ⊎ IsOutAt log b w v
+  pub out_or : (b w v : ℕ) → NamesWord log b w → w < log.extent.size / 4 → (MayNeed t w v b ⊎ Has t.careless w b) ⊎ IsOutAt log b w v
   unfolding reply_of
   out_or b w v (i, op, told, at, touches) within = elim (by_need b i w v op told at touches within) [
-    | inl near ↦ inl near
-    | inr misses ↦ inr (λ n is suits. misses n is (subst (Suits log.extent n) at suits))
+    | inl need ↦ inl (inl need)
+    | inr (inl (has, over)) ↦ inl (inr has)
+    | inr (inr misses) ↦ inr (λ n is suits. misses n is (subst (Suits log.extent n) at suits))
   ]
 
   module _ (m : List ℕ) (b q w v : ℕ) (has : HasWordAt log q w) (is : v ≡ value_in m (4 * w)) where
@@ -110,29 +129,40 @@ module _ (log : LogView) (t : WordsView) (words : IsWords log t) where
     same_word n other inside same =
         value_alike n m (4 * w) (4 * w) (λ i l. same (4 * w + i) (omega (arith, inside.1)) (omega (arith, inside.2, l))) ∙ sym is
 
-    pub first_or : NamesWord log b w → w < log.extent.size / 4 → (InList t.wide b ⊎ Has t.blind w b ⊎ Has t.needed (key w v) b) ⊎ LetsFirst log m b q
-    unfolding reply_of
-    first_or (i, op, told, at, touches) within = elim (by_need b i w v op told at touches within) [
+    pub first_or : NamesWord log b w → w < log.extent.size / 4 → (MayNeed t w v b ⊎ Has t.careless w b) ⊎ LetsFirst log m b q
+    first_or names within = elim (out_or b w v names within) [
       | inl near ↦ inl near
-      | inr misses ↦
+      | inr out ↦
           let (j, other, asked, there, inside) = has in
-          inr (inr (λ n alike suits. misses n (same_word n other inside (alike j other asked there)) (subst (Suits log.extent n) at suits)))
+          inr (inr (λ n alike. out n (same_word n other inside (alike j other asked there))))
     ]
 
-    pub junk_or : NamesWord log b w → w < log.extent.size / 4 → (InList t.wide b ⊎ Has t.blind w b ⊎ Has t.needed (key w v) b) ⊎ IsJunkTo log m b q
+    pub junk_or : NamesWord log b w → w < log.extent.size / 4 → MayNeed t w v b ⊎ (Has t.careless w b × (IsWordAt log q w → IsJunkTo log m b q)) ⊎ IsJunkTo log m b q
     junk_or (i, op, told, at, touches) within = elim (by_need b i w v op told at touches within) [
-      | inl near ↦ inl near
-      | inr misses ↦
+      | inl need ↦ inl need
+      | inr (inl (listed, over)) ↦ inr (inl (
+        listed,
+        λ just.
+            let (j, other, asked, there, inside, four) = just in
+            junk_at log m b q i op told at (j, other, asked, there, inr (inl (over other inside four))),
+      ))
+      | inr (inr misses) ↦
           let (j, other, asked, there, inside) = has in
-          inr (junk_at log m b q i op told at (j, other, asked, there, inr (inr (λ n same. misses n (same_word n other inside same)))))
+          inr (inr (junk_at log m b q i op told at (j, other, asked, there, inr (inr (λ n same. misses n (same_word n other inside same))))))
     ]
 
   pub left_or : (b q g w v : ℕ) → LeavesWordAt log g w v → NamesWord log b w → w < log.extent.size / 4
-      → (InList t.wide b ⊎ Has t.blind w b ⊎ Has t.needed (key w v) b) ⊎ LeavesJunkTo log b q g
+      → MayNeed t w v b ⊎ (Has t.careless w b × (IsWordAt log q w → LeavesJunkTo log b q g)) ⊎ LeavesJunkTo log b q g
   left_or b q g w v (l, third, had, behind, served, inside, leaves) (i, op, told, at, touches) within =
       elim (by_need b i w v op told at touches within) [
-        | inl near ↦ inl near
-        | inr misses ↦ inr (λ i2 j l2 one other third2 told2 asked had2 at2 there behind2. leaves_at log b q g i op told at (
+        | inl need ↦ inl need
+        | inr (inl (listed, over)) ↦ inr (inl (
+          listed,
+          λ just.
+              let (j, other, asked, there, around, four) = just in
+              leaves_at log b q g i op told at (j, other, asked, there, (l, third, had, behind, inr (inl (over other around four)))),
+        ))
+        | inr (inr misses) ↦ inr (inr (λ i2 j l2 one other third2 told2 asked had2 at2 there behind2. leaves_at log b q g i op told at (
           j,
           other,
           asked,
@@ -148,7 +178,7 @@ module _ (log : LogView) (t : WordsView) (words : IsWords log t) where
                 ∙ leaves k agrees (ap (λ z. refusal log.extent.base z log.extent.block third) size ∙ served))
                 agreed)),
           ),
-        ) i2 j l2 one other third2 told2 asked had2 at2 there behind2)
+        ) i2 j l2 one other third2 told2 asked had2 at2 there behind2))
       ]
 
   module _ (brings : (base block : ℕ) (m : List ℕ) (one other : Op) (reply : Reply) → (refusal base (length m) block one ≡ None → answer base block (after base block m one) other ≡ reply → ⊥)
@@ -166,7 +196,7 @@ module _ (log : LogView) (t : WordsView) (words : IsWords log t) where
         → (other : Op) (reply : Reply) → NeedsWord log.extent other (Some reply) w v → answer log.extent.base log.extent.block (after log.extent.base log.extent.block m op) other ≡ reply → ⊥)
     by_left i op told at touches within = elim (known_at b i w op told at touches within) [
       | inl many ↦ inl (inl many)
-      | inr known ↦ elim known.left [
+      | inr (touched, known) ↦ elim known.left [
         | inl loose ↦ inl (inr (inl loose))
         | inr (u, has, leaves) ↦ elim (cases_eq u v) [
           | inl same ↦ inl (inr (inr (subst (λ z. Has t.left (key w z) b) same has)))

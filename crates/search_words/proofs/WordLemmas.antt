@@ -1,5 +1,5 @@
 -- Requests at words.
-use Rattle.std.proofs.Common.{◌≡◌, ◌∙◌, ◌⊎◌, inl, inr, ℕ, ◌+◌, ◌*◌, ◌-◌, ◌<◌, ◌≤◌, true, List, [], ◌∷◌, ◌++◌, Some, None, Option, length, sym, ap, subst, arith}
+use Rattle.std.proofs.Common.{◌≡◌, ◌∙◌, ◌⊎◌, inl, inr, ℕ, ◌+◌, ◌*◌, ◌-◌, ◌<◌, ◌≤◌, Bool, true, List, [], ◌∷◌, ◌++◌, Some, None, Option, length, sym, ap, subst, arith}
 use Rattle.std.specs.Prelude.{slice_get, slice_index}
 use Rattle.std.proofs.lemmas.Bool.{cases_eq}
 use Rattle.tlp_core.specs.declared.operation.Op.{Op}
@@ -12,15 +12,16 @@ use Rattle.byte_effects.specs.Effects.{Agrees}
 use Rattle.log_runs.specs.EventView.{EventView}
 use Rattle.log_runs.specs.EventView as events
 use Rattle.log_runs.specs.LogView.{LogView}
-use Rattle.search_words.specs.Later.{value_in}
 use Rattle.search_words.specs.ListsView.{ListsView}
 use Rattle.search_words.specs.Lists.{Has, InList, RisesTo, IsRising}
 use Rattle.search_words.specs.WordsView.{WordsView}
-use Rattle.search_words.specs.Words.{NeedsWord, LeavesWord, IsKnownAt, IsTaken, AllRise, Keeps, AreWords, key}
-use Rattle.search_words.proofs.LaterLemmas.{four}
+use Rattle.search_words.specs.Words.{value_in, NeedsWord, LeavesWord, IsCareless, IsKnownAt, IsTaken, AllRise, Keeps, AreWords, key}
 use Rattle.search_words.proofs.ListLemmas.{in_push, own_push, rises_push}
 
 -- ---- four bytes
+
+four : (a b c d e f g h : ℕ) → a ≡ e → b ≡ f → c ≡ g → d ≡ h → a + 256 * b + 65536 * c + 16777216 * d ≡ e + 256 * f + 65536 * g + 16777216 * h
+four a b c d e f g h p q r s = omega (arith, p, q, r, s)
 
 pub value_alike : (m n : List ℕ) (a b : ℕ) → ((i : ℕ) → i < 4 → slice_index m (a + i) ≡ slice_index n (b + i)) → value_in m a ≡ value_in n b
 value_alike m n a b same =
@@ -56,13 +57,14 @@ leaves_by x base block word v op told d ds eb ek es puts left m agrees served =
 -- ---- gathering
 
 pub keeps_all : (t : WordsView) → Keeps t t
-keeps_all t = record { needed = λ k b h. h; left = λ k b h. h; blind = λ k b h. h; loose = λ k b h. h; named = λ k b h. h; wide = λ b h. h }
+keeps_all t = record { needed = λ k b h. h; careless = λ k b h. h; blind = λ k b h. h; left = λ k b h. h; loose = λ k b h. h; named = λ k b h. h; wide = λ b h. h }
 
 pub keeps_then : (t u v : WordsView) → Keeps t u → Keeps u v → Keeps t v
 keeps_then t u v one other = record {
   needed = λ k b h. other.needed k b (one.needed k b h);
-  left = λ k b h. other.left k b (one.left k b h);
+  careless = λ k b h. other.careless k b (one.careless k b h);
   blind = λ k b h. other.blind k b (one.blind k b h);
+  left = λ k b h. other.left k b (one.left k b h);
   loose = λ k b h. other.loose k b (one.loose k b h);
   named = λ k b h. other.named k b (one.named k b h);
   wide = λ b h. other.wide b (one.wide b h);
@@ -73,7 +75,8 @@ still_known x t u b op told w keeps known = record {
   named = keeps.named w b known.named;
   need = elim known.need [
     | inl blind ↦ inl (keeps.blind w b blind)
-    | inr (v, has, needs) ↦ inr (v, keeps.needed (key w v) b has, needs)
+    | inr (inl (has, careless)) ↦ inr (inl (keeps.careless w b has, careless))
+    | inr (inr (v, has, needs)) ↦ inr (inr (v, keeps.needed (key w v) b has, needs))
   ];
   left = elim known.left [
     | inl loose ↦ inl (keeps.loose w b loose)
@@ -82,15 +85,16 @@ still_known x t u b op told w keeps known = record {
 }
 
 -- a request at a word, taken in three steps
-pub known_by : (x : Extent) (t u v : WordsView) (b : ℕ) (op : Op) (told : Option Reply) (w : ℕ) (need left : Option ℕ) → Keeps t u → Keeps u v → Has t.named w b
-    → (Has u.blind w b ⊎ ((n : ℕ) × (need ≡ Some n) × Has u.needed (key w n) b)) → (Has v.loose w b ⊎ ((n : ℕ) × (left ≡ Some n) × Has v.left (key w n) b))
-    → ((n : ℕ) → need ≡ Some n → NeedsWord x op told w n) → ((n : ℕ) → left ≡ Some n → LeavesWord x op told w n)
+pub known_by : (x : Extent) (t u v : WordsView) (b : ℕ) (op : Op) (told : Option Reply) (w : ℕ) (need left : Option ℕ) (blithe : Bool) → Keeps t u → Keeps u v → Has t.named w b
+    → (Has u.blind w b ⊎ ((blithe ≡ true) × Has u.careless w b) ⊎ ((n : ℕ) × (need ≡ Some n) × Has u.needed (key w n) b)) → (Has v.loose w b ⊎ ((n : ℕ) × (left ≡ Some n) × Has v.left (key w n) b))
+    → (blithe ≡ true → IsCareless x op told) → ((n : ℕ) → need ≡ Some n → NeedsWord x op told w n) → ((n : ℕ) → left ≡ Some n → LeavesWord x op told w n)
     → IsKnownAt x v b op told w
-known_by x t u v b op told w need left one other name has_need has_left needs leaves = record {
+known_by x t u v b op told w need left blithe one other name has_need has_left careless needs leaves = record {
   named = other.named w b (one.named w b name);
   need = elim has_need [
     | inl blind ↦ inl (other.blind w b blind)
-    | inr (n, is, has) ↦ inr (n, other.needed (key w n) b has, needs n is)
+    | inr (inl (is, has)) ↦ inr (inl (other.careless w b has, careless is))
+    | inr (inr (n, is, has)) ↦ inr (inr (n, other.needed (key w n) b has, needs n is))
   ];
   left = elim has_left [
     | inl loose ↦ inl loose
@@ -121,8 +125,9 @@ rises_more l n h = record {
 pub all_rise_more : (t : WordsView) (n : ℕ) → AllRise t n → AllRise t (n + 1)
 all_rise_more t n h = record {
   needed = rises_more t.needed n h.needed;
-  left = rises_more t.left n h.left;
+  careless = rises_more t.careless n h.careless;
   blind = rises_more t.blind n h.blind;
+  left = rises_more t.left n h.left;
   loose = rises_more t.loose n h.loose;
   named = rises_more t.named n h.named;
   wide = record { rises = h.wide.rises; below = λ b there. omega (arith, h.wide.below b there) };
@@ -144,24 +149,26 @@ pub words_none : (log : LogView) (t : WordsView) → AllRise t 0 → AreWords lo
 words_none log t rise = record { each = λ b i op told low there. absurd (omega (arith, low)); rise = rise }
 
 -- a request that names no word or many
-pub adds_wide : (t : WordsView) (needed left blind loose named : ListsView) (was now : List ℕ) (n : ℕ)
-    → record { needed = needed; left = left; blind = blind; loose = loose; named = named; wide = was } ≡ t → now ≡ was ++ n ∷ [] → AllRise t n
-    → Keeps t (record { needed = needed; left = left; blind = blind; loose = loose; named = named; wide = now })
-    × AllRise (record { needed = needed; left = left; blind = blind; loose = loose; named = named; wide = now }) n
+pub adds_wide : (t : WordsView) (needed careless blind left loose named : ListsView) (was now : List ℕ) (n : ℕ)
+    → record { needed = needed; careless = careless; blind = blind; left = left; loose = loose; named = named; wide = was } ≡ t → now ≡ was ++ n ∷ [] → AllRise t n
+    → Keeps t (record { needed = needed; careless = careless; blind = blind; left = left; loose = loose; named = named; wide = now })
+    × AllRise (record { needed = needed; careless = careless; blind = blind; left = left; loose = loose; named = named; wide = now }) n
     × InList now n
-adds_wide t needed left blind loose named was now n is more rise = (
+adds_wide t needed careless blind left loose named was now n is more rise = (
   subst (λ z. Keeps z new) is (record {
     needed = λ k b h. h;
-    left = λ k b h. h;
+    careless = λ k b h. h;
     blind = λ k b h. h;
+    left = λ k b h. h;
     loose = λ k b h. h;
     named = λ k b h. h;
     wide = λ b h. subst (λ xs. InList xs b) (sym more) (in_push was n b h);
   }),
   record {
     needed = old.needed;
-    left = old.left;
+    careless = old.careless;
     blind = old.blind;
+    left = old.left;
     loose = old.loose;
     named = old.named;
     wide = subst (λ xs. RisesTo xs n) (sym more) (rises_push was n old.wide);
@@ -170,7 +177,7 @@ adds_wide t needed left blind loose named was now n is more rise = (
 )
   where
     new : WordsView
-    new = record { needed = needed; left = left; blind = blind; loose = loose; named = named; wide = now }
+    new = record { needed = needed; careless = careless; blind = blind; left = left; loose = loose; named = named; wide = now }
 
-    old : AllRise (record { needed = needed; left = left; blind = blind; loose = loose; named = named; wide = was }) n
+    old : AllRise (record { needed = needed; careless = careless; blind = blind; left = left; loose = loose; named = named; wide = was }) n
     old = subst (λ z. AllRise z n) (sym is) rise

@@ -1,6 +1,3 @@
-pub mod Keys
-pub mod LaterView
-pub mod Later
 pub mod ListsView
 pub mod Lists
 pub mod WordsView

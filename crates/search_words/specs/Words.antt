@@ -1,5 +1,5 @@
 -- Which requests of a log name a word, need a value of it, and leave one there.
-use Rattle.std.specs.Prelude.{ℕ, ◌≡◌, ◌+◌, ◌*◌, ◌<◌, ◌≤◌, ◌/◌, ◌⊎◌, List, length, slice_get, Option, Some, None}
+use Rattle.std.specs.Prelude.{ℕ, ◌≡◌, ◌+◌, ◌*◌, ◌<◌, ◌≤◌, ◌/◌, ◌⊎◌, List, length, slice_get, slice_index, Option, Some, None}
 use Rattle.tlp_core.specs.declared.operation.Op.{Op}
 use Rattle.tlp_core.specs.Operation.{address_of, count_of}
 use Rattle.seq_memory.specs.declared.Reply.{Reply}
@@ -8,12 +8,19 @@ use Rattle.seq_memory.specs.Step.{after, refusal}
 use Rattle.byte_effects.specs.Effects.{Agrees}
 use Rattle.log_runs.specs.EventView as events
 use Rattle.log_runs.specs.LogView.{LogView}
-use Rattle.search_words.specs.Keys.{Touches}
-use Rattle.search_words.specs.Later.{value_in}
+use Rattle.search_rules.specs.Junk.{Overlooks}
 use Rattle.search_rules.specs.Rules.{Suits}
 use Rattle.search_words.specs.Lists.{Has, InList, RisesTo, IsRising}
 use Rattle.search_words.specs.WordsView.{WordsView}
 use Rattle.search_words.specs.declared.near.Near.{Near}
+
+-- the operation names bytes of word w
+abbrev pub Touches : ℕ → Op → ℕ → Type 0
+Touches base op w = (base + 4 * w < address_of op + count_of op) × (address_of op < base + 4 * w + 4)
+
+-- the four bytes from that place on, as a number
+abbrev pub value_in : List ℕ → ℕ → ℕ
+value_in m at = slice_index m at + 256 * slice_index m (at + 1) + 65536 * slice_index m (at + 2) + 16777216 * slice_index m (at + 3)
 
 -- where the memory agrees with the request, the word is v
 abbrev pub NeedsWord : Extent → Op → Option Reply → ℕ → ℕ → Type 0
@@ -24,15 +31,26 @@ abbrev pub LeavesWord : Extent → Op → Option Reply → ℕ → ℕ → Type 
 LeavesWord x op told w v =
     (m : List ℕ) → Agrees x.base x.block m op told → refusal x.base (length m) x.block op ≡ None → value_in (after x.base x.block m op) (4 * w) ≡ v
 
+-- the operation's range is whole words of the memory
+pub record HasWholeWords (base : ℕ) (op : Op) : Type 0 where
+  pub word : ℕ
+  pub place : address_of op ≡ base + 4 * word
+  pub count : ℕ
+  pub whole : count_of op ≡ 4 * count
+
+-- and it makes no difference to the request what stands there
+abbrev pub IsCareless : Extent → Op → Option Reply → Type 0
+IsCareless x op told = HasWholeWords x.base op × Overlooks x op told op
+
 -- a number for a word and a value of it
 abbrev pub key : ℕ → ℕ → ℕ
 key w v = w * 4294967296 + v
 
--- request b is known at word w, which its operation names: it is among those that need a value there, or whose need isn't
--- known; and among those that leave one there, or of which that isn't known
+-- request b is known at word w, which its operation names: it is among those whose need isn't known, those that are careless, or
+-- those that need a value there; and among those of which it isn't known what they leave there, or those that leave a value
 pub record IsKnownAt (x : Extent) (t : WordsView) (b : ℕ) (op : Op) (told : Option Reply) (w : ℕ) : Type 0 where
   pub named : Has t.named w b
-  pub need : Has t.blind w b ⊎ ((v : ℕ) × Has t.needed (key w v) b × NeedsWord x op told w v)
+  pub need : Has t.blind w b ⊎ (Has t.careless w b × IsCareless x op told) ⊎ ((v : ℕ) × Has t.needed (key w v) b × NeedsWord x op told w v)
   pub left : Has t.loose w b ⊎ ((v : ℕ) × Has t.left (key w v) b × LeavesWord x op told w v)
 
 -- each word of the memory that the operation names
@@ -46,8 +64,9 @@ IsTaken x t b op told = InList t.wide b ⊎ ((0 < count_of op) × AreKnown x t b
 -- places rise up to n
 pub record AllRise (t : WordsView) (n : ℕ) : Type 0 where
   pub needed : IsRising t.needed n
-  pub left : IsRising t.left n
+  pub careless : IsRising t.careless n
   pub blind : IsRising t.blind n
+  pub left : IsRising t.left n
   pub loose : IsRising t.loose n
   pub named : IsRising t.named n
   pub wide : RisesTo t.wide n
@@ -55,8 +74,9 @@ pub record AllRise (t : WordsView) (n : ℕ) : Type 0 where
 -- nothing is missing of what there was
 pub record Keeps (old new : WordsView) : Type 0 where
   pub needed : (k b : ℕ) → Has old.needed k b → Has new.needed k b
-  pub left : (k b : ℕ) → Has old.left k b → Has new.left k b
+  pub careless : (k b : ℕ) → Has old.careless k b → Has new.careless k b
   pub blind : (k b : ℕ) → Has old.blind k b → Has new.blind k b
+  pub left : (k b : ℕ) → Has old.left k b → Has new.left k b
   pub loose : (k b : ℕ) → Has old.loose k b → Has new.loose k b
   pub named : (k b : ℕ) → Has old.named k b → Has new.named k b
   pub wide : (b : ℕ) → InList old.wide b → InList new.wide b
@@ -84,6 +104,15 @@ HasWord base op w = (base ≤ address_of op) × (address_of op ≤ base + 4 * w)
 abbrev pub HasWordAt : LogView → ℕ → ℕ → Type 0
 HasWordAt log q w = (j : ℕ) × (op : Op) × (asked : Option Reply) × (slice_get log.events q ≡ Some (events.Sub j op asked)) × HasWord log.extent.base op w
 
+-- the range of request q is just the word
+abbrev pub IsWordAt : LogView → ℕ → ℕ → Type 0
+IsWordAt log q w =
+    (j : ℕ) × (op : Op) × (asked : Option Reply) × (slice_get log.events q ≡ Some (events.Sub j op asked)) × HasWord log.extent.base op w × (count_of op ≡ 4)
+
+-- request b is among those that need the word to be v, or of which it isn't known what they need there
+abbrev pub MayNeed : WordsView → ℕ → ℕ → ℕ → Type 0
+MayNeed t w v b = InList t.wide b ⊎ Has t.blind w b ⊎ Has t.needed (key w v) b
+
 -- request q, which was answered, needs the word to be v
 abbrev pub NeedsWordAt : LogView → ℕ → ℕ → ℕ → Type 0
 NeedsWordAt log q w v = (j : ℕ) × (op : Op) × (reply : Reply) × (slice_get log.events q ≡ Some (events.Sub j op (Some reply))) × NeedsWord log.extent op (Some reply) w v
@@ -98,6 +127,6 @@ LeavesWordAt log g w v =
 abbrev pub IsOutAt : LogView → ℕ → ℕ → ℕ → Type 0
 IsOutAt log b w v = (n : List ℕ) → value_in n (4 * w) ≡ v → Suits log.extent n (slice_get log.events b) → ⊥
 
--- one of three lists has the place
+-- one of the lists has the place
 abbrev pub IsNear : Near → ℕ → Type 0
-IsNear near b = InList near.wide.now b ⊎ InList near.unknown.now b ⊎ InList near.known.now b
+IsNear near b = InList near.wide.now b ⊎ InList near.unknown.now b ⊎ InList near.known.now b ⊎ InList near.careless.now b

@@ -4,8 +4,9 @@ use Rattle.search_words.specs.ListsView.{ListsView}
 
 pub record WordsView : Type 0 where
   pub needed : ListsView
-  pub left : ListsView
+  pub careless : ListsView
   pub blind : ListsView
+  pub left : ListsView
   pub loose : ListsView
   pub named : ListsView
   pub wide : List ℕ

@@ -6,9 +6,8 @@ ghost use Rattle.std.specs.Prelude.{◌≡◌, ◌+◌, ◌*◌, ◌<◌, ◌≤
 ghost use Rattle.tlp_core.specs.declared.operation.Op.{Op};
 ghost use Rattle.seq_memory.specs.declared.Reply.{Reply};
 ghost use Rattle.log_runs.specs.EventView as events;
-ghost use Rattle.search_words.specs.Later.{value_in};
 ghost use Rattle.search_words.specs.Lists.{Has, InList};
-ghost use Rattle.search_words.specs.Words.{AllRise, IsWords, NamesWord, IsNear, HasWord, HasWordAt, NeedsWordAt, LeavesWordAt, IsOutAt, key};
+ghost use Rattle.search_words.specs.Words.{value_in, AllRise, IsWords, MayNeed, NamesWord, IsNear, HasWord, HasWordAt, IsWordAt, NeedsWordAt, LeavesWordAt, IsOutAt, key};
 ghost use Rattle.search_rules.specs.Rules.{NeverBrings, Yields, LetsFirst, IsJunkTo, LeavesJunkTo, AreApartThere};
 
 use crate::lists::window;
@@ -18,7 +17,7 @@ use log_runs::{Event, Log};
 use search_rules::is_served;
 use tlp_core::Op;
 
-/// Requests in three lists. One may be in several of them.
+/// Requests in four lists. One may be in several of them.
 #[derive(Clone, Copy)]
 pub struct Near<'a> {
     /// They name no word or many.
@@ -27,6 +26,8 @@ pub struct Near<'a> {
     pub unknown: &'a [usize],
     /// They need the value of the word, or leave it there.
     pub known: &'a [usize],
+    /// They write all of the word, whatever stands there, or are reads that weren't answered.
+    pub careless: &'a [usize],
 }
 
 /// The first word of the memory that has bytes of the request, and the end of those that do, if all of
@@ -56,21 +57,31 @@ fn near_by_name(words: &Words, word: u64, from: usize, to: usize) -> Near<'_>
         wide: window(words.wide.as_slice(), from, to),
         unknown: words.named.between(word, from, to),
         known: &[],
+        careless: &[],
     }
 }
 
 /// Requests from one place on and before another that need the value of the word, or of which that isn't
-/// known.
-fn near_by_need(words: &Words, word: u64, value: u64, from: usize, to: usize) -> Near<'_>
+/// known; and those of a list.
+fn near_by_need<'a>(
+    words: &'a Words,
+    word: u64,
+    value: u64,
+    careless: &'a [usize],
+    from: usize,
+    to: usize,
+) -> Near<'a>
     requires rise { (n : ℕ) × AllRise words.now n }
     requires word { word < 262144 }
     requires value { value < 4294967296 }
-    ensures { (b : ℕ) → from ≤ b → b < to → InList words.now.wide b ⊎ Has words.now.blind word b ⊎ Has words.now.needed (key word value) b → IsNear result b }
+    ensures need { (b : ℕ) → from ≤ b → b < to → MayNeed words.now word value b → IsNear result b }
+    ensures careless { (b : ℕ) → InList careless.now b → IsNear result b }
 {
     Near {
         wide: window(words.wide.as_slice(), from, to),
         unknown: words.blind.between(word, from, to),
         known: words.needed.between(number_of(word, value), from, to),
+        careless,
     }
 }
 
@@ -86,6 +97,7 @@ fn near_by_left(words: &Words, word: u64, value: u64, from: usize, to: usize) ->
         wide: window(words.wide.as_slice(), from, to),
         unknown: words.loose.between(word, from, to),
         known: words.left.between(number_of(word, value), from, to),
+        careless: &[],
     }
 }
 
@@ -94,6 +106,42 @@ fn has_word(base: u64, op: &Op, word: u64) -> bool
     ensures { IsTrue result → HasWord base op.now word }
 {
     place_of(base, op, word).is_some()
+}
+
+/// The range of request `q` is just the word.
+fn is_word(log: &Log, q: usize, word: u64) -> bool
+    ensures { IsTrue result → IsWordAt log.now q word }
+{
+    let Some(Event::Sub { op, .. }) = log.event(q) else {
+        return false;
+    };
+    op.size() == 4 && has_word(log.extent().base(), op, word)
+}
+
+/// Requests from one place on and before another to which it makes no difference what stands at the word.
+fn careless_at(words: &Words, word: u64, from: usize, to: usize) -> &[usize]
+    requires { (n : ℕ) × AllRise words.now n }
+    ensures { (b : ℕ) → from ≤ b → b < to → Has words.now.careless word b → InList result.now b }
+{
+    words.careless.between(word, from, to)
+}
+
+/// [`careless_at`], but none if request `q` has just the word.
+fn careless_of<'a>(
+    words: &'a Words,
+    log: &Log,
+    q: usize,
+    word: u64,
+    from: usize,
+    to: usize,
+) -> &'a [usize]
+    requires { (n : ℕ) × AllRise words.now n }
+    ensures { (b : ℕ) → from ≤ b → b < to → Has words.now.careless word b → InList result.now b ⊎ IsWordAt log.now q word }
+{
+    if is_word(log, q, word) {
+        return &[];
+    }
+    careless_at(words, word, from, to)
 }
 
 /// What stands at the word, all of which is in the range of request `q`.
@@ -170,12 +218,12 @@ pub fn near_value<'a>(
     ensures { (b : ℕ) → from ≤ b → b < to → NamesWord log.now b word → IsNear result b ⊎ IsOutAt log.now b word value }
 {
     let _extent = log.extent();
-    near_by_need(words, word, u64::from(value), from, to)
+    let careless = careless_at(words, word, from, to);
+    near_by_need(words, word, u64::from(value), careless, from, to)
 }
 
 /// The requests, from one place on and before another, that may act before request `q` although these
-/// bytes stand at its addresses, or to which it may be something what stands there; of those that name
-/// bytes of the word.
+/// bytes stand at its addresses; of those that name bytes of the word.
 pub fn near_there<'a>(
     words: &'a Words,
     log: &Log,
@@ -188,10 +236,36 @@ pub fn near_there<'a>(
     requires words { IsWords log.now words.now }
     requires word { word < log.now.extent.size / 4 }
     ensures first { (b : ℕ) → from ≤ b → b < to → NamesWord log.now b word → IsNear result b ⊎ LetsFirst log.now bytes.now b q }
-    ensures junk { (b : ℕ) → from ≤ b → b < to → NamesWord log.now b word → IsNear result b ⊎ IsJunkTo log.now bytes.now b q }
 {
     match found_of(log, bytes, q, word) {
-        Some(value) => near_by_need(words, word, value, from, to),
+        Some(value) => {
+            let careless = careless_at(words, word, from, to);
+            near_by_need(words, word, value, careless, from, to)
+        }
+        None => near_by_name(words, word, from, to),
+    }
+}
+
+/// The requests, from one place on and before another, to which it may be something that these bytes
+/// stand at the addresses of request `q`; of those that name bytes of the word.
+pub fn near_junk<'a>(
+    words: &'a Words,
+    log: &Log,
+    bytes: &[u8],
+    q: usize,
+    word: u64,
+    from: usize,
+    to: usize,
+) -> Near<'a>
+    requires words { IsWords log.now words.now }
+    requires word { word < log.now.extent.size / 4 }
+    ensures { (b : ℕ) → from ≤ b → b < to → NamesWord log.now b word → IsNear result b ⊎ IsJunkTo log.now bytes.now b q }
+{
+    match found_of(log, bytes, q, word) {
+        Some(value) => {
+            let careless = careless_of(words, log, q, word, from, to);
+            near_by_need(words, word, value, careless, from, to)
+        }
         None => near_by_name(words, word, from, to),
     }
 }
@@ -234,7 +308,10 @@ pub fn near_left<'a>(
     ensures { (b : ℕ) → from ≤ b → b < to → NamesWord log.now b word → IsNear result b ⊎ LeavesJunkTo log.now b q g }
 {
     match left_of(log, g, word) {
-        Some(value) => near_by_need(words, word, value, from, to),
+        Some(value) => {
+            let careless = careless_of(words, log, q, word, from, to);
+            near_by_need(words, word, value, careless, from, to)
+        }
         None => near_by_name(words, word, from, to),
     }
 }

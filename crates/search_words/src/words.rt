@@ -2,22 +2,22 @@
 //!
 //! [`words_of`] gathers it from the whole log, once. Of a request it then says which others may be
 //! something to it at a word of the memory: those that need the value that stands there or is left
-//! there, or leave the value that it needs; and those of which that isn't known.
+//! there, or leave the value that it needs; those of which that isn't known; and those that write all of
+//! the word, whatever stands there.
 ghost use Rattle.std.specs.Prelude.{◌≡◌, ◌+◌, ◌*◌, ◌<◌, ◌≤◌, ◌/◌, ◌⊎◌, ℕ, List, Option, Some, None, true, IfOk, IfSome, OnOk, IsTrue, length, slice_get, slice_index, ◌-◌};
 ghost use Rattle.tlp_core.specs.Operation.{address_of, count_of};
 ghost use Rattle.seq_memory.specs.Step.{refusal, after};
 ghost use Rattle.byte_effects.specs.Effects as effects;
 ghost use Rattle.byte_effects.specs.Effects.{Agrees, told_of};
 ghost use Rattle.log_runs.specs.EventView as events;
-ghost use Rattle.search_words.specs.Keys.{Touches};
-ghost use Rattle.search_words.specs.Later.{value_in};
 ghost use Rattle.search_words.specs.Lists.{Has, InList};
-ghost use Rattle.search_words.specs.Words.{NeedsWord, LeavesWord, IsKnownAt, IsTaken, AllRise, Keeps, AreWords, IsWords, key};
+ghost use Rattle.search_words.specs.Words.{Touches, value_in, NeedsWord, LeavesWord, HasWholeWords, IsCareless, IsKnownAt, IsTaken, AllRise, Keeps, AreWords, IsWords, key};
 
 use crate::lists::Lists;
 use byte_effects::laws::what_is_needed_is_there;
 use byte_effects::{is_needed, is_put, left};
 use log_runs::{Event, Log};
+use search_rules::overlooks;
 use seq_memory::Reply;
 use seq_memory::laws::refused_and_read_change_nothing;
 use std::alloc::{AllocError, Global};
@@ -32,10 +32,13 @@ const MOST_BYTES: u32 = 128;
 pub struct Words {
     /// By word and value, those that need the value there.
     pub(crate) needed: Lists,
-    /// By word and value, those that leave the value there.
-    pub(crate) left: Lists,
+    /// By word, those that write all of it, whatever stands there, and reads that weren't answered; all
+    /// of these name whole words.
+    pub(crate) careless: Lists,
     /// By word, those that name bytes of it and of which it isn't known what they need of it.
     pub(crate) blind: Lists,
+    /// By word and value, those that leave the value there.
+    pub(crate) left: Lists,
     /// By word, those that name bytes of it and of which it isn't known what they leave of it.
     pub(crate) loose: Lists,
     /// By word, those that name bytes of it.
@@ -49,7 +52,7 @@ impl Model for Words {
 
     ghost Value = { WordsView };
 
-    ghost view = { λ t. record { needed = t.needed; left = t.left; blind = t.blind; loose = t.loose; named = t.named; wide = t.wide.items } };
+    ghost view = { λ t. record { needed = t.needed; careless = t.careless; blind = t.blind; left = t.left; loose = t.loose; named = t.named; wide = t.wide.items } };
 }
 
 /// Where in the operation's range the word begins, if all of it is there.
@@ -172,6 +175,23 @@ pub(crate) fn left_at(log: &Log, op: &Op, told: Option<&Reply>, word: u64) -> Op
     }
 }
 
+/// The operation's range is whole words of the memory.
+fn has_whole_words(log: &Log, op: &Op) -> bool
+    ensures { IsTrue result → HasWholeWords log.now.extent.base op.now }
+{
+    match op.address().checked_sub(log.extent().base()) {
+        Some(offset) => offset % 4 == 0 && op.size() % 4 == 0,
+        None => false,
+    }
+}
+
+/// The request names whole words, and it makes no difference to it what stands there.
+fn is_careless(log: &Log, op: &Op, told: Option<&Reply>) -> bool
+    ensures { IsTrue result → IsCareless log.now.extent op.now (told_of told.entry) }
+{
+    has_whole_words(log, op) && overlooks(log, op, told, op)
+}
+
 impl Words {
     /// No request is known.
     fn new(alloc: Global) -> Words
@@ -179,20 +199,22 @@ impl Words {
     {
         Words {
             needed: Lists::new(alloc),
-            left: Lists::new(alloc),
+            careless: Lists::new(alloc),
             blind: Lists::new(alloc),
+            left: Lists::new(alloc),
             loose: Lists::new(alloc),
             named: Lists::new(alloc),
             wide: Vec::new(alloc),
         }
     }
 
-    /// Request `b`, of which this is known, needs this at the word, if that is known.
+    /// Request `b` needs this at the word, if that is known, or is careless.
     fn add_need(
         &mut self,
         alloc: Global,
         word: u64,
         need: Option<u64>,
+        careless: bool,
         b: usize,
     ) -> Result<(), AllocError>
         requires rise { AllRise self.old b }
@@ -200,10 +222,11 @@ impl Words {
         requires few { IfSome need (λ v. v < 4294967296) }
         ensures keeps { OnOk result (Keeps self.old self.new) }
         ensures rise { OnOk result (AllRise self.new b) }
-        ensures own { OnOk result (Has self.new.blind word b ⊎ ((v : ℕ) × (need ≡ Some v) × Has self.new.needed (key word v) b)) }
+        ensures own { OnOk result (Has self.new.blind word b ⊎ (IsTrue careless × Has self.new.careless word b) ⊎ ((v : ℕ) × (need ≡ Some v) × Has self.new.needed (key word v) b)) }
     {
         match need {
             Some(value) => self.needed.add(alloc, number_of(word, value), b)?,
+            None if careless => self.careless.add(alloc, word, b)?,
             None => self.blind.add(alloc, word, b)?,
         }
         Ok(())
@@ -261,16 +284,18 @@ impl Words {
         b: usize,
         op: &Op,
         told: Option<&Reply>,
+        careless: bool,
         word: u64,
     ) -> Result<(), AllocError>
         requires rise { AllRise self.old b }
+        requires careless { IsTrue careless → IsCareless log.now.extent op.now (told_of told) }
         requires word { word < 262144 }
         ensures keeps { OnOk result (Keeps self.old self.new) }
         ensures rise { OnOk result (AllRise self.new b) }
         ensures own { OnOk result (IsKnownAt log.now.extent self.new b op.now (told_of told.entry) word) }
     {
         self.add_name(alloc, word, b)?;
-        self.add_need(alloc, word, needed_at(log, op, told, word), b)?;
+        self.add_need(alloc, word, needed_at(log, op, told, word), careless, b)?;
         self.add_left(alloc, word, left_at(log, op, told, word), b)?;
         Ok(())
     }
@@ -283,17 +308,19 @@ impl Words {
         b: usize,
         op: &Op,
         told: Option<&Reply>,
+        careless: bool,
         first: u64,
         end: u64,
     ) -> Result<(), AllocError>
         requires rise { AllRise self.old b }
+        requires careless { IsTrue careless → IsCareless log.now.extent op.now (told_of told) }
         requires few { end ≤ 262144 }
         ensures keeps { OnOk result (Keeps self.old self.new) }
         ensures rise { OnOk result (AllRise self.new b) }
         ensures own { OnOk result ((w : ℕ) → first ≤ w → w < end → IsKnownAt log.now.extent self.new b op.now (told_of told.entry) w) }
     {
         for word in first..end {
-            self.add_at(alloc, log, b, op, told, word)?;
+            self.add_at(alloc, log, b, op, told, careless, word)?;
         }
         Ok(())
     }
@@ -317,7 +344,8 @@ impl Words {
             return Ok(());
         }
         let (first, end) = words_near(log, op);
-        self.add_words(alloc, log, b, op, told, first, end)?;
+        let careless = is_careless(log, op, told);
+        self.add_words(alloc, log, b, op, told, careless, first, end)?;
         Ok(())
     }
 

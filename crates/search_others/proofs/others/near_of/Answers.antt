@@ -30,7 +30,7 @@ returns-in-First c = λ b from to names.
 
 pub returns-in-Junk : goal.returns-in-Junk
 returns-in-Junk c = λ b from to names.
-    elim (c.near_there-in-Junk.ensures.junk b from to names) as (λ z. IsNear c.near_there-in-Junk.result b ⊎ Spares c.args.log.now c.args.bytes.now c.args.question.of c.args.question.asked b) [
+    elim (c.near_junk.ensures b from to names) as (λ z. IsNear c.near_junk.result b ⊎ Spares c.args.log.now c.args.bytes.now c.args.question.of c.args.question.asked b) [
       | inl near ↦ inl near
       | inr spares ↦ inr (subst (λ (k : Asked). Spares c.args.log.now c.args.bytes.now c.args.question.of k b) (sym c.in-Junk.is) spares)
     ]

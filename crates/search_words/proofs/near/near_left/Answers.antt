@@ -7,8 +7,12 @@ use Rattle.search_words.proofs.near.near_left.Goals as goal
 pub returns-in-Some : goal.returns-in-Some
 returns-in-Some c = λ b from to names.
     elim (left_or c.args.log.now c.args.words.now c.requires.words b c.args.q c.args.g c.args.word c.in-Some.value c.in-Some.ensures.leaves names c.requires.word) as (λ z. IsNear c.near_by_need.result b ⊎ LeavesJunkTo c.args.log.now b c.args.q c.args.g) [
-      | inl near ↦ inl (c.near_by_need.ensures b from to near)
-      | inr spares ↦ inr spares
+      | inl need ↦ inl (c.near_by_need.ensures.need b from to need)
+      | inr (inl (listed, junk)) ↦ elim (c.careless_of-careless.ensures b from to listed) as (λ z. IsNear c.near_by_need.result b ⊎ LeavesJunkTo c.args.log.now b c.args.q c.args.g) [
+        | inl near ↦ inl (c.near_by_need.ensures.careless b near)
+        | inr just ↦ inr (junk just)
+      ]
+      | inr (inr spares) ↦ inr spares
     ]
 
 pub returns-in-None : goal.returns-in-None

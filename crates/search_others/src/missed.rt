@@ -1,0 +1,82 @@
+//! Requests that need what stood at a word before it was changed.
+ghost use Rattle.std.specs.Prelude.{IsTrue};
+ghost use Rattle.log_runs.specs.Runs.{Dead};
+ghost use Rattle.search_others.specs.Known.{AreOthers};
+ghost use Rattle.search_places.specs.Places.{IsPlace};
+
+use crate::known::Others;
+use crate::lost::is_lost;
+use log_runs::{Event, Log};
+use search_places::Place;
+use search_words::near_value;
+
+/// A word of the memory that was changed.
+#[derive(Clone, Copy, Debug, PartialEq, Eq)]
+pub struct Loss {
+    pub word: u64,
+    /// What stood there, its first byte the lowest.
+    pub old: u32,
+}
+
+/// The range of the request is one word.
+fn is_word(log: &Log, q: usize) -> bool {
+    match log.event(q) {
+        Some(Event::Sub { op, .. }) => op.size() == 4 && op.address() % 4 == 0,
+        _ => false,
+    }
+}
+
+/// Of the list's requests that are left and have one word, the one that is due first.
+fn first_due(place: &Place, log: &Log, others: &Others, list: &[usize]) -> Option<usize> {
+    let mut least = usize::MAX;
+    let mut first = None;
+    for q in list {
+        if let Some(due) = others.place_of(log, *q)
+            && due < least
+            && is_word(log, *q)
+            && place.is_left(*q)
+        {
+            least = due;
+            first = Some(*q);
+        }
+    }
+    first
+}
+
+/// A request of the list is lost here. Of those that need the same word and nothing else the one that is
+/// due first is looked at.
+fn has_lost(place: &Place, log: &Log, others: &Others, list: &[usize]) -> bool
+    requires place { IsPlace log.now place.now }
+    requires others { AreOthers log.now others.now }
+    ensures { IsTrue result → Dead log.now place.now.state }
+{
+    let first = first_due(place, log, others, list);
+    for q in list {
+        if (first == Some(*q) || !is_word(log, *q)) && is_lost(place, log, others, *q) {
+            return true;
+        }
+    }
+    false
+}
+
+/// A request from one place on and before another, which may need what stood at the word, is lost here.
+///
+/// The test is careful: it returns false where it isn't sure.
+pub fn is_missed(
+    place: &Place,
+    log: &Log,
+    others: &Others,
+    loss: Loss,
+    from: usize,
+    to: usize,
+) -> bool
+    requires place { IsPlace log.now place.now }
+    requires others { AreOthers log.now others.now }
+    ensures { IsTrue result → Dead log.now place.now.state }
+{
+    if loss.word >= log.extent().size() as u64 / 4 {
+        return false;
+    }
+    let near = near_value(&others.words, log, loss.word, loss.old, from, to);
+    has_lost(place, log, others, near.known) || has_lost(place, log, others, near.unknown)
+}
