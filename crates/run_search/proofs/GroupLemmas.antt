@@ -10,7 +10,7 @@ use Rattle.search_places.specs.PlaceView.{PlaceView}
 use Rattle.search_places.specs.Places.{IsPlace}
 use Rattle.search_places.specs.Undo.{CameBy}
 use Rattle.search_places.specs.declared.steps.Done.{Done}
-use Rattle.search_rules.specs.Rules.{IsJunkTo, LeavesNothing, acts, IsOverJunk}
+use Rattle.search_rules.specs.Rules.{Names, IsJunkAt, LeavesNothing, acts, IsOverJunk}
 use Rattle.run_search.specs.Frames.{LeadsBy}
 use Rattle.run_search.specs.Groups.{IsGroup}
 use Rattle.run_search.specs.declared.groups.Group.{Group}
@@ -87,16 +87,16 @@ module _ (log : LogView) where
       subst (LeadsBy log s ds) (sym (back m came)) before
 
   pub over : (s : State) (q : ℕ) (g : Group) (p : PlaceView) → IsGroup log s q g p → length s.bytes ≡ log.extent.size
-      → ((b : ℕ) → (q ≡ b → ⊥) → ((i : ℕ) → slice_get g.others.items i ≡ Some b → ⊥) → slice_get s.acted b ≡ Some false → IsJunkTo log s.bytes b q)
+      → ((w : ℕ) → Names log q w → (b : ℕ) → (q ≡ b → ⊥) → ((i : ℕ) → slice_get g.others.items i ≡ Some b → ⊥) → slice_get s.acted b ≡ Some false → IsJunkAt log s.bytes b w)
       → ((i c : ℕ) → slice_get (q ∷ g.others.items) i ≡ Some c → LeavesNothing log p.state q c)
       → IsOverJunk log s q g.others.items
   over s q g p group size old new = record {
     last = p.state;
     size = size;
     leads = (group.may, group.leads);
-    old = λ b left.
+    old = λ w names b left.
         let (still, out) = left_before g.others.items (next log s (steps.Act q)) p.state b group.leads left in
         let (distinct, was) = gone_by s.acted q b group.may.once still in
-        old b distinct out was;
+        old w names b distinct out was;
     new = new;
   }

@@ -2,4 +2,3 @@ pub mod Lists
 pub mod RuleLemmas
 pub mod FrameLemmas
 pub mod GroupLemmas
-pub mod LeftLemmas

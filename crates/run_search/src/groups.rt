@@ -9,7 +9,7 @@ ghost use Rattle.run_search.specs.Groups.{IsGroup};
 use crate::catalog::Catalog;
 use log_runs::{Log, Step};
 use search_places::{Done, Place};
-use search_rules::{changes_nothing, is_junk_to, is_within};
+use search_rules::{changes_nothing, is_junk_at, is_within};
 use search_words::{near_junk, span_of};
 use std::alloc::{AllocError, Global};
 
@@ -25,30 +25,32 @@ pub(crate) struct Group {
     pub(crate) others: Vec<usize>,
 }
 
-/// Request `b` may act, to which the bytes at the addresses of request `q` are something, and changes
-/// no others.
-fn joins(place: &Place, log: &Log, q: usize, b: usize) -> bool
-    requires { IsPlace log.now place.now }
+/// Request `b` may act, to which it is something what stands at the word, and changes nothing beside the
+/// bytes of request `q`.
+fn joins(place: &Place, log: &Log, q: usize, word: u64, b: usize) -> bool
+    requires place { IsPlace log.now place.now }
+    requires word { word < log.now.extent.size / 4 }
     ensures { IsTrue result → MayAct log.now place.now.state b }
 {
-    !is_junk_to(log, place.bytes(), b, q)
+    !is_junk_at(log, place.bytes(), b, word)
         && (is_within(log, b, q) || changes_nothing(log, b))
         && place.may_act(log, b)
 }
 
 /// Of the list one that joins the group of request `q`, if one does: one that changes nothing, if there is
 /// such.
-fn joining(place: &Place, log: &Log, q: usize, list: &[usize]) -> Option<usize>
-    requires { IsPlace log.now place.now }
+fn joining(place: &Place, log: &Log, q: usize, word: u64, list: &[usize]) -> Option<usize>
+    requires place { IsPlace log.now place.now }
+    requires word { word < log.now.extent.size / 4 }
     ensures { IfSome result (MayAct log.now place.now.state) }
 {
     for b in list {
-        if joins(place, log, q, *b) && changes_nothing(log, *b) {
+        if joins(place, log, q, word, *b) && changes_nothing(log, *b) {
             return Some(*b);
         }
     }
     for b in list {
-        if joins(place, log, q, *b) {
+        if joins(place, log, q, word, *b) {
             return Some(*b);
         }
     }
@@ -62,18 +64,10 @@ fn next_at(place: &Place, log: &Log, catalog: &Catalog, q: usize, word: u64) -> 
     requires word { word < log.now.extent.size / 4 }
     ensures { IfSome result (MayAct log.now place.now.state) }
 {
-    let from = place.earliest();
-    let near = near_junk(
-        catalog.others.words(),
-        log,
-        place.bytes(),
-        q,
-        word,
-        from,
-        place.event(),
-    );
+    let (words, from) = (catalog.others.words(), place.earliest());
+    let near = near_junk(words, log, place.bytes(), word, from, place.event());
     for list in [near.known, near.unknown, near.careless, near.wide] {
-        if let Some(b) = joining(place, log, q, list) {
+        if let Some(b) = joining(place, log, q, word, list) {
             return Some(b);
         }
     }

@@ -10,7 +10,7 @@ use byte_effects::{is_put, left};
 use log_runs::{Event, Log, Step};
 use search_others::Loss;
 use search_places::{Done, Place};
-use search_rules::{is_junk_to, is_within, leaves_junk_to};
+use search_rules::{is_junk_at, is_within, leaves_junk_at};
 use search_words::{Words, near_junk, near_left, near_there, near_value, span_of};
 use std::alloc::{AllocError, Global};
 use tlp_core::Op;
@@ -43,8 +43,8 @@ fn may_fit(sketch: Sketch, base: u64, bytes: &[u8]) -> bool {
     }
 }
 
-/// How many requests that come later are looked at one by one.
-const MOST: usize = 64;
+/// How many requests at a word are looked at one by one.
+const MOST: usize = 256;
 
 /// Which of the pending requests are looked at.
 #[derive(Clone, Copy)]
@@ -274,20 +274,6 @@ pub(crate) fn note_calm(sketches: &mut [Sketch], log: &Log, words: &Words)
     }
 }
 
-/// Request `b`, which is pending and has bytes of request `q`, may act in turn after it, or needs none
-/// of what is there before or after. The requesters of `writers` wait for posted writes that are
-/// somewhere else.
-fn may_join(place: &Place, log: &Log, writers: u32, sketch: Sketch, b: usize, q: usize) -> bool {
-    let is_junk = is_junk_to(log, place.bytes(), b, q);
-    if is_junk && leaves_junk_to(log, b, q, q) {
-        return true;
-    }
-    if !is_junk && sketch.mask != 0 {
-        return false;
-    }
-    sketch.requester() & writers == 0 && (sketch.is_quiet() || is_within(log, b, q))
-}
-
 /// The requesters that wait for posted writes before request `b` that are somewhere else.
 fn writers_before(place: &Place, sketches: &[Sketch], own: Sketch, b: usize) -> u32 {
     let mut writers = 0u32;
@@ -304,81 +290,64 @@ fn writers_before(place: &Place, sketches: &[Sketch], own: Sketch, b: usize) -> 
     writers
 }
 
-/// Each of the list has acted, or is `q`, or may act in turn after it, or needs none of what is there
-/// before or after.
-fn may_all_join(
+/// Request `b` has acted, or is `q`; or it is nothing to it what stands at the word and what `q` leaves
+/// there; or it is pending and may act in turn after `q`.
+fn lets_act(place: &Place, log: &Log, sketches: &[Sketch], q: usize, word: u64, b: usize) -> bool
+    requires { word < log.now.extent.size / 4 }
+{
+    if b == q || place.has_acted(b) {
+        return true;
+    }
+    let is_junk = is_junk_at(log, place.bytes(), b, word);
+    if is_junk && leaves_junk_at(log, b, q, word) {
+        return true;
+    }
+    let (Some(own), Some(sketch)) = (sketches.get(q).copied(), sketches.get(b).copied()) else {
+        return false;
+    };
+    if b >= place.event() || !is_junk && sketch.mask != 0 {
+        return false;
+    }
+    sketch.requester() & writers_before(place, sketches, own, b) == 0
+        && (sketch.is_quiet() || is_within(log, b, q))
+}
+
+/// [`lets_act`], each of the list, which isn't long.
+fn all_let_act(
     place: &Place,
     log: &Log,
     sketches: &[Sketch],
-    own: Sketch,
-    q: usize,
-    list: &[usize],
-) -> bool {
-    for b in list {
-        let Some(sketch) = sketches.get(*b).copied() else {
-            return false;
-        };
-        if *b != q && !place.has_acted(*b) {
-            let writers = writers_before(place, sketches, own, *b);
-            if !may_join(place, log, writers, sketch, *b, q) {
-                return false;
-            }
-        }
-    }
-    true
-}
-
-/// [`may_all_join`], the pending ones that may need what stands at the word now, or what request `q` leaves
-/// there.
-fn may_join_at(
-    place: &Place,
-    log: &Log,
-    catalog: &Catalog,
-    own: Sketch,
     q: usize,
     word: u64,
+    list: &[usize],
 ) -> bool
-    requires catalog { IsCatalog log.now catalog.now }
-    requires word { word < log.now.extent.size / 4 }
+    requires { word < log.now.extent.size / 4 }
 {
-    let from = place.earliest();
-    let event = place.event();
-    let words = catalog.others.words();
-    let sketches = catalog.sketches.as_slice();
-    let there = near_junk(words, log, place.bytes(), q, word, from, event);
-    let left = near_left(words, log, q, q, word, from, event);
-    [there.known, left.known, there.unknown, there.careless]
-        .iter()
-        .all(|list| may_all_join(place, log, sketches, own, q, list))
-}
-
-/// What stands where request `q` writes and what it leaves there is nothing to each of the list, which
-/// isn't long.
-fn is_nothing_to(place: &Place, log: &Log, q: usize, list: &[usize]) -> bool {
     if list.len() > MOST {
         return false;
     }
     for b in list {
-        if !is_junk_to(log, place.bytes(), *b, q) || !leaves_junk_to(log, *b, q, q) {
+        if !lets_act(place, log, sketches, q, word, *b) {
             return false;
         }
     }
     true
 }
 
-/// [`is_nothing_to`], each that is to come and may need what stands at the word now, or what request `q`
-/// leaves there.
-fn is_nothing_later(place: &Place, log: &Log, catalog: &Catalog, q: usize, word: u64) -> bool
+/// [`lets_act`], each that may need what stands at the word now, or what request `q` leaves there.
+fn is_junk_for(place: &Place, log: &Log, catalog: &Catalog, q: usize, word: u64) -> bool
     requires catalog { IsCatalog log.now catalog.now }
     requires word { word < log.now.extent.size / 4 }
 {
-    let event = place.event();
     let words = catalog.others.words();
-    let there = near_junk(words, log, place.bytes(), q, word, event, log.len());
-    let left = near_left(words, log, q, q, word, event, log.len());
-    [there.known, left.known, there.unknown, there.careless]
-        .iter()
-        .all(|list| is_nothing_to(place, log, q, list))
+    let sketches = catalog.sketches.as_slice();
+    let (from, to) = (place.earliest(), log.len());
+    let there = near_junk(words, log, place.bytes(), word, from, to);
+    let left = near_left(words, log, q, word, from, to);
+    all_let_act(place, log, sketches, q, word, there.known)
+        && all_let_act(place, log, sketches, q, word, left.known)
+        && all_let_act(place, log, sketches, q, word, there.unknown)
+        && all_let_act(place, log, sketches, q, word, there.wide)
 }
 
 /// What stands where request `q` writes and what it leaves there may be nothing to all that are left
@@ -386,19 +355,11 @@ fn is_nothing_later(place: &Place, log: &Log, catalog: &Catalog, q: usize, word:
 pub(crate) fn may_be_over_junk(place: &Place, log: &Log, catalog: &Catalog, q: usize) -> bool
     requires { IsCatalog log.now catalog.now }
 {
-    let Some(own) = catalog.sketches.get(q).copied() else {
-        return false;
-    };
     let Some((first, end)) = span_of(log, q) else {
         return false;
     };
     for word in first..end {
-        if !is_nothing_later(place, log, catalog, q, word) {
-            return false;
-        }
-    }
-    for word in first..end {
-        if !may_join_at(place, log, catalog, own, q, word) {
+        if !is_junk_for(place, log, catalog, q, word) {
             return false;
         }
     }

@@ -1,7 +1,7 @@
 //! Requests over bytes that nobody needs.
-ghost use Rattle.std.specs.Prelude.{◌≡◌, ◌∷◌, ◌⊎◌, Some, true, false, ℕ, IsTrue, IfOk, OnOk, IfSome, length, slice_get};
+ghost use Rattle.std.specs.Prelude.{◌≡◌, ◌∷◌, Some, ℕ, IsTrue, IfOk, OnOk, IfSome, slice_get};
 ghost use Rattle.log_runs.specs.Runs.{MayAct, IsForced};
-ghost use Rattle.search_rules.specs.Rules.{IsJunkTo, LeavesJunkTo, LeavesNothing, AllLeft};
+ghost use Rattle.search_rules.specs.Rules.{LeavesNothing};
 ghost use Rattle.search_places.specs.Places.{IsPlace};
 ghost use Rattle.run_search.specs.Catalogs.{IsCatalog};
 
@@ -9,39 +9,13 @@ use crate::catalog::Catalog;
 use crate::groups::{Group, gather, take_back};
 use crate::hints::may_be_over_junk;
 use log_runs::{Log, Step};
-use search_others::{Asked, Question, all_do};
+use search_others::{all_ignore, all_overlook};
 use search_places::Place;
 use search_rules::laws::what_is_over_junk_acts_at_once;
-use search_rules::{changes_nothing, is_within, leaves_junk_to};
+use search_rules::{changes_nothing, is_within};
 use std::alloc::{AllocError, Global};
 
-/// Request `b` has acted, or what request `g` leaves, among the addresses of request `b`, is nothing to
-/// it.
-fn leaves_itself_junk(place: &Place, log: &Log, g: usize, b: usize) -> bool
-    ensures { IsTrue result → slice_get place.now.state.acted b ≡ Some false → LeavesJunkTo log.now b b g }
-{
-    place.has_acted(b) || leaves_junk_to(log, b, b, g)
-}
-
-/// What request `g` leaves, among the addresses of request `q`, is nothing to those that are left.
-fn leaves_junk(place: &Place, log: &Log, catalog: &Catalog, q: usize, g: usize) -> bool
-    requires place { IsPlace log.now place.now }
-    requires catalog { IsCatalog log.now catalog.now }
-    ensures { IsTrue result → AllLeft place.now.state (λ b. LeavesJunkTo log.now b q g) }
-{
-    if !leaves_itself_junk(place, log, g, q) {
-        return false;
-    }
-    let question = Question {
-        of: q,
-        before: log.len(),
-        asked: Asked::LeftBy(g),
-        but: &[],
-    };
-    all_do(place, log, &catalog.others, question)
-}
-
-/// Request `g` changes nothing; or it leaves bytes, among the addresses of request `q`, that are
+/// Request `g` changes nothing; or its addresses are among those of request `q`, and what it leaves there is
 /// nothing to those that are left.
 fn leaves_nothing(place: &Place, log: &Log, catalog: &Catalog, q: usize, g: usize) -> bool
     requires place { IsPlace log.now place.now }
@@ -54,7 +28,7 @@ fn leaves_nothing(place: &Place, log: &Log, catalog: &Catalog, q: usize, g: usiz
     if !is_within(log, g, q) {
         return false;
     }
-    leaves_junk(place, log, catalog, q, g)
+    all_ignore(place, log, &catalog.others, g)
 }
 
 /// [`leaves_nothing`], each of the requests.
@@ -89,21 +63,6 @@ fn all_leave_nothing(
     leave_nothing(place, log, catalog, q, others)
 }
 
-/// To those that are left but `q` and the group it is nothing what stands at the addresses of `q`.
-fn overwrites_junk(place: &Place, log: &Log, catalog: &Catalog, q: usize, group: &[usize]) -> bool
-    requires place { IsPlace log.now place.now }
-    requires catalog { IsCatalog log.now catalog.now }
-    ensures { IsTrue result → (b : ℕ) → (q ≡ b → ⊥) → ((i : ℕ) → slice_get group.now i ≡ Some b → ⊥) → slice_get place.now.state.acted b ≡ Some false → IsJunkTo log.now place.now.state.bytes b q }
-{
-    let question = Question {
-        of: q,
-        before: log.len(),
-        asked: Asked::Junk,
-        but: group,
-    };
-    all_do(place, log, &catalog.others, question)
-}
-
 /// Others may act in turn after request `q`, and to those that are left then it is nothing what they
 /// all overwrite and leave.
 fn is_over_junk(
@@ -127,7 +86,7 @@ fn is_over_junk(
     if !spent || place.bytes().len() != log.extent().size() {
         return Ok(false);
     }
-    Ok(overwrites_junk(place, log, catalog, q, &others))
+    Ok(all_overlook(place, log, &catalog.others, q, &others))
 }
 
 /// Request `q` may act, and does so over junk.
@@ -153,14 +112,19 @@ fn acts_at_once(
     is_over_junk(place, alloc, log, catalog, q)
 }
 
-/// The pending request at that place of their list, or the posted write at that of theirs.
+/// The most posted writes that are looked at before an event is passed.
+const MOST_WRITES: usize = 64;
+
+/// The pending request at that place of their list, or the posted write at that of theirs, if it is one
+/// of the first.
 fn pending_at(place: &Place, i: usize, writes: bool) -> Option<usize> {
-    let list = if writes {
-        place.posts()
-    } else {
-        place.pending()
-    };
-    list.get(i).copied()
+    if !writes {
+        return place.pending().get(i).copied();
+    }
+    if i >= MOST_WRITES {
+        return None;
+    }
+    place.posts().get(i).copied()
 }
 
 /// A pending request that acts at once over junk, of the posted writes or of all, if events are left.

@@ -1,5 +1,5 @@
 //! Rounds of each kind of worker, call by call. A worker makes its first calls on a hall, the fabric beside it goes
-//! through the events that those calls are to be, and both are then told the same.
+//! through the events that those calls are to be, and both then answer the same.
 ghost use Rattle.std.specs.Prelude.{◌≡◌, ◌<◌, ◌^◌, IfSome};
 ghost use Rattle.hall_laws.specs.Calls.{IsIdle};
 ghost use Rattle.hall_laws.specs.Standing.{token_of};
@@ -115,7 +115,7 @@ fn follow(fabric: &mut Fabric, calls: &[Call]) {
     }
 }
 
-/// Whether the hall tells all the calls of these lists, one after the other, as the fabric does.
+/// Whether the hall answers all the calls of these lists, one after the other, as the fabric does.
 fn all_lists_go_so(
     hall: &Hall,
     seat: &mut ReqSeat,

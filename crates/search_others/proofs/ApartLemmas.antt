@@ -65,13 +65,11 @@ module _ (answers : (base block : ℕ) (m : List ℕ) (one other : Op) → AreAp
   apart_spares m asked.Lost whole = apart_brings
   apart_spares m asked.Last whole = (apart_brings, apart_yields)
   apart_spares m asked.First whole = inl apart
-  apart_spares m asked.Junk whole = λ i j one other told asked_of at there. inl (apart i j one other told asked_of at there)
-  apart_spares m (asked.LeftBy g) whole = λ i j l one other third told asked_of had at there behind. inl (apart i j one other told asked_of at there)
   apart_spares m (asked.Byte need) whole = absurd (whole need refl)
 
 -- ---- beside a byte
 
-one_sub : (o : Option EventView) (i j : ℕ) (op w : Op) (told asked_of : Option Reply) → o ≡ Some (events.Sub i op told) → o ≡ Some (events.Sub j w asked_of) → op ≡ w
+pub one_sub : (o : Option EventView) (i j : ℕ) (op w : Op) (told asked_of : Option Reply) → o ≡ Some (events.Sub i op told) → o ≡ Some (events.Sub j w asked_of) → op ≡ w
 one_sub o i j op w told asked_of at there = let e : Some (events.Sub i op told) ≡ Some (events.Sub j w asked_of) = sym at ∙ there in cc
 
 -- a request has none of the byte, or names its word

@@ -1,3 +1,4 @@
 pub mod OthersOf
 pub mod ApartLemmas
 pub mod Suiting
+pub mod NothingLemmas

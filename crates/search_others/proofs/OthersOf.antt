@@ -1,5 +1,5 @@
 -- All others that could act before a request.
-use Rattle.std.proofs.Common.{◌≡◌, ◌∙◌, ◌⊎◌, inl, inr, ℕ, ◌+◌, ◌<◌, ◌≤◌, true, false, List, [], Some, length, get_or, sym, ap, subst, arith}
+use Rattle.std.proofs.Common.{◌≡◌, ◌∙◌, ◌⊎◌, inl, inr, ℕ, ◌+◌, ◌<◌, ◌≤◌, true, false, List, Some, length, get_or, sym, ap, subst, arith}
 use Rattle.std.specs.Prelude.{slice_get}
 use Rattle.std.proofs.lemmas.Bool.{cases_eq, cases_lt}
 use Rattle.std.proofs.lemmas.Option.{slice_get_within, get_or_from_slice_get}
@@ -11,9 +11,6 @@ use Rattle.search_places.specs.PlaceView.{PlaceView}
 use Rattle.search_places.specs.Places.{IsPlace}
 use Rattle.search_others.specs.declared.others.Question.{Question}
 use Rattle.search_others.specs.Spared.{Spares, Holds}
-
-pub none_in : (b i : ℕ) → slice_get [] i ≡ Some b → ⊥
-none_in b i at = cc
 
 -- the numbers of a list, one after the other
 pub list_next : (P : ℕ → Type 0) (xs : List ℕ) (n : ℕ) → P (get_or xs n 0) → ((b i : ℕ) → i < n → slice_get xs i ≡ Some b → P b) → (b i : ℕ) → i < n + 1 → slice_get xs i ≡ Some b → P b
@@ -39,12 +36,12 @@ pub by_words : (log : LogView) (p : PlaceView) (k : Question) (first end from : 
     → ((b : ℕ) → ((m : List ℕ) → Spares log m k.of k.asked b) ⊎ ((w : ℕ) × (first ≤ w) × (w < end) × NamesWord log b w))
     → ((w : ℕ) → first ≤ w → w < end → (b : ℕ) → from ≤ b → b < k.before → NamesWord log b w → Holds log p.state k b)
     → (b : ℕ) → b < k.before → Holds log p.state k b
-by_words log p k first end from who place least start all words b early distinct out left = elim (all b) [
+by_words log p k first end from who place least start all words b early distinct left = elim (all b) [
   | inl spares ↦ spares p.state.bytes
   | inr (w, low, high, named) ↦ words w low high b (elim (cases_lt b p.state.event) as (λ z. from ≤ b) [
     | inr late ↦ omega (arith, start, late)
     | inl passed ↦
         let (i, op, told, at, touches) = named in
         least b (who b place passed (ap submits at) left)
-  ]) early named distinct out left
+  ]) early named distinct left
 ]

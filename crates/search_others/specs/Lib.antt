@@ -1,3 +1,4 @@
 pub mod OthersView
 pub mod Known
 pub mod Spared
+pub mod Nothing

@@ -1,19 +1,23 @@
 //! What the other requests of a log do to one that waits to act.
 //!
-//! [`Others`] is what is known of all of them. [`all_do`] asks of each one that could act before some
-//! place whether it spares a request, as a [`Question`] has it: that it doesn't bring what the request
-//! needs, for example. Only those are looked at that may be something to it at one of its words.
-//! [`is_lost`] says that a request can't have what it needs any more, so that no run leads to the end;
-//! [`is_missed`] says so of some request that may need what stood at a word.
+//! [`Others`] is what is known of all of them. [`others_spare`] asks of each one that could act before
+//! some place whether it spares a request, as is [`Asked`]: that it doesn't bring what the request needs,
+//! for example. Only those are looked at that may be something to it at one of its words.
+//! [`all_overlook`] says that what stands at the words of a request is nothing to those that are left,
+//! and [`all_ignore`] so of what it leaves there. [`is_lost`] says that a request can't have what it needs
+//! any more, so that no run leads to the end; [`due_is_lost`] and [`is_missed`] say so of the one whose
+//! answer is due, and of some that may need what stood at a word.
 #![tactic(auto)]
 
 mod due;
+mod junk;
 mod known;
 mod lost;
 mod missed;
 mod others;
 
+pub use junk::{all_ignore, all_overlook};
 pub use known::Others;
 pub use lost::{due_is_lost, is_lost};
 pub use missed::{Loss, is_missed};
-pub use others::{Asked, Question, all_do, others_spare};
+pub use others::{Asked, others_spare};

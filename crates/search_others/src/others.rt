@@ -13,10 +13,8 @@ use log_runs::Log;
 use search_places::Place;
 use search_places::laws::who_is_left_is_pending;
 use search_rules::laws::{answers_yield, nothing_is_put_outside};
-use search_rules::{
-    Need, is_junk_to, leaves_junk_to, lets_first, never_brings, never_puts, yields,
-};
-use search_words::{Near, near_junk, near_left, near_named, near_needed, near_there, span_of};
+use search_rules::{Need, lets_first, never_brings, never_puts, yields};
+use search_words::{Near, near_named, near_needed, near_there, span_of};
 
 /// What is asked of the others.
 #[derive(Clone, Copy)]
@@ -27,23 +25,17 @@ pub enum Asked {
     Last,
     /// They have none of its bytes, or can't act before it.
     First,
-    /// What stands at its addresses is nothing to them.
-    Junk,
-    /// What this request leaves, among its addresses, is nothing to them.
-    LeftBy(usize),
     /// They don't make this byte what the request needs.
     Byte(Need),
 }
 
 /// A question about the requests that are submitted before a place and haven't acted.
 #[derive(Clone, Copy)]
-pub struct Question<'a> {
+struct Question {
     /// The request for whose sake it is asked. Of itself it isn't.
-    pub of: usize,
-    pub before: usize,
-    pub asked: Asked,
-    /// Of these it isn't asked either.
-    pub but: &'a [usize],
+    of: usize,
+    before: usize,
+    asked: Asked,
 }
 
 /// Request `b` does to request `q` as is asked.
@@ -55,27 +47,15 @@ fn spares(log: &Log, bytes: &[u8], b: usize, q: usize, asked: Asked) -> bool
         Asked::Lost => never_brings(log, b, q),
         Asked::Last => yields(log, b, q),
         Asked::First => lets_first(log, bytes, b, q),
-        Asked::Junk => is_junk_to(log, bytes, b, q),
-        Asked::LeftBy(g) => leaves_junk_to(log, b, q, g),
         Asked::Byte(need) => never_puts(log, b, need),
     }
 }
 
-/// The list has the request.
-fn is_in(list: &[usize], b: usize) -> bool
-    ensures { IsTrue result → (i : ℕ) × (slice_get list.now i ≡ Some b) }
-{
-    list.contains(&b)
-}
-
 /// It isn't asked of request `b`, or it has acted, or it does as is asked.
 fn holds(place: &Place, log: &Log, question: Question, b: usize) -> bool
-    ensures { IsTrue result → Holds log.now place.now.state question.entry b }
+    ensures { IsTrue result → Holds log.now place.now.state question b }
 {
     if b == question.of || place.has_acted(b) {
-        return true;
-    }
-    if is_in(question.but, b) {
         return true;
     }
     spares(log, place.bytes(), b, question.of, question.asked)
@@ -83,7 +63,7 @@ fn holds(place: &Place, log: &Log, question: Question, b: usize) -> bool
 
 /// [`holds`], each of the list.
 fn all_hold(place: &Place, log: &Log, question: Question, list: &[usize]) -> bool
-    ensures { IsTrue result → (b : ℕ) → InList list.now b → Holds log.now place.now.state question.entry b }
+    ensures { IsTrue result → (b : ℕ) → InList list.now b → Holds log.now place.now.state question b }
 {
     for b in list {
         if !holds(place, log, question, *b) {
@@ -95,7 +75,7 @@ fn all_hold(place: &Place, log: &Log, question: Question, list: &[usize]) -> boo
 
 /// [`holds`], each of those that are near.
 fn near_hold(place: &Place, log: &Log, question: Question, near: Near) -> bool
-    ensures { IsTrue result → (b : ℕ) → IsNear near.entry b → Holds log.now place.now.state question.entry b }
+    ensures { IsTrue result → (b : ℕ) → IsNear near.entry b → Holds log.now place.now.state question b }
 {
     all_hold(place, log, question, near.wide)
         && all_hold(place, log, question, near.unknown)
@@ -106,7 +86,7 @@ fn near_hold(place: &Place, log: &Log, question: Question, near: Near) -> bool
 /// The first word of those that are looked at, and their end: those of the request, or that of the byte.
 fn words_of(log: &Log, question: Question) -> Option<(u64, u64)>
     ensures inside { IfSome result (λ r. r.1 ≤ log.now.extent.size / 4) }
-    ensures all { IfSome result (λ r. (b : ℕ) → ((m : List ℕ) → Spares log.now m question.entry.of question.entry.asked b) ⊎ ((w : ℕ) × (r.0 ≤ w) × (w < r.1) × NamesWord log.now b w)) }
+    ensures all { IfSome result (λ r. (b : ℕ) → ((m : List ℕ) → Spares log.now m question.of question.asked b) ⊎ ((w : ℕ) × (r.0 ≤ w) × (w < r.1) × NamesWord log.now b w)) }
 {
     apart_requests_commute();
     nothing_is_put_outside();
@@ -136,7 +116,7 @@ fn near_of<'a>(
 ) -> Near<'a>
     requires others { AreOthers log.now others.now }
     requires word { word < log.now.extent.size / 4 }
-    ensures { (b : ℕ) → from ≤ b → b < question.entry.before → NamesWord log.now b word → IsNear result b ⊎ Spares log.now bytes.now question.entry.of question.entry.asked b }
+    ensures { (b : ℕ) → from ≤ b → b < question.before → NamesWord log.now b word → IsNear result b ⊎ Spares log.now bytes.now question.of question.asked b }
 {
     let words = &others.words;
     let q = question.of;
@@ -145,8 +125,6 @@ fn near_of<'a>(
         Asked::Lost => near_needed(words, log, q, word, from, to),
         Asked::Last => near_needed(words, log, q, word, from, to),
         Asked::First => near_there(words, log, bytes, q, word, from, to),
-        Asked::Junk => near_junk(words, log, bytes, q, word, from, to),
-        Asked::LeftBy(g) => near_left(words, log, q, g, word, from, to),
         Asked::Byte(_) => near_named(words, log, word, from, to),
     }
 }
@@ -162,17 +140,17 @@ fn word_holds(
 ) -> bool
     requires others { AreOthers log.now others.now }
     requires word { word < log.now.extent.size / 4 }
-    ensures { IsTrue result → (b : ℕ) → from ≤ b → b < question.entry.before → NamesWord log.now b word → Holds log.now place.now.state question.entry b }
+    ensures { IsTrue result → (b : ℕ) → from ≤ b → b < question.before → NamesWord log.now b word → Holds log.now place.now.state question b }
 {
     let near = near_of(others, log, place.bytes(), question, word, from);
     near_hold(place, log, question, near)
 }
 
 /// All of whom it is asked do so.
-pub fn all_do(place: &Place, log: &Log, others: &Others, question: Question) -> bool
+fn all_do(place: &Place, log: &Log, others: &Others, question: Question) -> bool
     requires place { IsPlace log.now place.now }
     requires others { AreOthers log.now others.now }
-    ensures { IsTrue result → (b : ℕ) → b < question.entry.before → Holds log.now place.now.state question.entry b }
+    ensures { IsTrue result → (b : ℕ) → b < question.before → Holds log.now place.now.state question b }
 {
     who_is_left_is_pending();
     let Some((first, end)) = words_of(log, question) else {
@@ -204,7 +182,6 @@ pub fn others_spare(
         of: q,
         before: a,
         asked,
-        but: &[],
     };
     all_do(place, log, others, question)
 }

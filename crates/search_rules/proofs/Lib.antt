@@ -4,5 +4,6 @@ pub mod LastLemmas
 pub mod PairLemmas
 pub mod ByteLemmas
 pub mod FirstLemmas
+pub mod WordLemmas
 pub mod JunkLemmas
 pub mod MissLemmas

@@ -11,7 +11,7 @@ use Rattle.log_runs.specs.LogView.{LogView}
 use Rattle.log_runs.specs.declared.Step.{Step}
 use Rattle.log_runs.specs.declared.Step.TheVariants as steps
 use Rattle.log_runs.specs.Runs.{State, MayAct, Leads, reply_of, acted_on}
-use Rattle.search_rules.specs.Junk.{HasAddresses, IsJunk, LeavesJunk}
+use Rattle.search_rules.specs.Junk.{Touches, word, HasAddresses, IsJunk, LeavesJunk}
 
 -- the memory answers what was answered, if anything was
 abbrev pub Answers : Extent → List ℕ → Op → Option Reply → Type 0
@@ -126,18 +126,20 @@ IsWithin log g q =
     (i j : ℕ) (third other : Op) (had asked : Option Reply) → slice_get log.events g ≡ Some (events.Sub i third had) → slice_get log.events q ≡ Some (events.Sub j other asked)
     → HasAddresses other third
 
--- what stands at the addresses of request q in m is nothing to request b
-abbrev pub IsJunkTo : LogView → List ℕ → ℕ → ℕ → Type 0
-IsJunkTo log m b q =
-    (i j : ℕ) (one other : Op) (told asked : Option Reply) → slice_get log.events b ≡ Some (events.Sub i one told) → slice_get log.events q ≡ Some (events.Sub j other asked)
-    → IsJunk log.extent m one told other
+-- request b names bytes of word w
+abbrev pub Names : LogView → ℕ → ℕ → Type 0
+Names log b w = (i : ℕ) × (op : Op) × (told : Option Reply) × (slice_get log.events b ≡ Some (events.Sub i op told)) × Touches log.extent.base op w
 
--- what request g leaves, among the addresses of request q, is nothing to request b
-abbrev pub LeavesJunkTo : LogView → ℕ → ℕ → ℕ → Type 0
-LeavesJunkTo log b q g =
-    (i j l : ℕ) (one other third : Op) (told asked had : Option Reply) → slice_get log.events b ≡ Some (events.Sub i one told) → slice_get log.events q ≡ Some (events.Sub j other asked)
-    → slice_get log.events g ≡ Some (events.Sub l third had)
-    → LeavesJunk log.extent one told other third had
+-- what stands at word w in m is nothing to request b
+abbrev pub IsJunkAt : LogView → List ℕ → ℕ → ℕ → Type 0
+IsJunkAt log m b w =
+    (i : ℕ) (one : Op) (told : Option Reply) → slice_get log.events b ≡ Some (events.Sub i one told) → IsJunk log.extent m one told (word log.extent w)
+
+-- what request g leaves at word w is nothing to request b
+abbrev pub LeavesJunkAt : LogView → ℕ → ℕ → ℕ → Type 0
+LeavesJunkAt log b g w =
+    (i l : ℕ) (one third : Op) (told had : Option Reply) → slice_get log.events b ≡ Some (events.Sub i one told) → slice_get log.events g ≡ Some (events.Sub l third had)
+    → LeavesJunk log.extent one told (word log.extent w) third had
 
 -- the requests act in turn
 abbrev pub acts : List ℕ → List Step
@@ -148,15 +150,16 @@ acts (b ∷ bs) = steps.Act b ∷ acts bs
 abbrev pub AllLeft : State → (ℕ → Type 0) → Type 0
 AllLeft s P = (b : ℕ) → slice_get s.acted b ≡ Some false → P b
 
--- request g changes nothing; or its addresses are among those of request q, and what it leaves there is nothing to any that is left in s
+-- request g changes nothing; or its addresses are among those of request q, and what it leaves at each of its words is nothing
+-- to any that is left in s
 abbrev pub LeavesNothing : LogView → State → ℕ → ℕ → Type 0
-LeavesNothing log s q g = ChangesNothing log g ⊎ (IsWithin log g q × AllLeft s (λ b. LeavesJunkTo log b q g))
+LeavesNothing log s q g = ChangesNothing log g ⊎ (IsWithin log g q × ((w : ℕ) → Names log g w → AllLeft s (λ b. LeavesJunkAt log b g w)))
 
--- request q and then the group may act in turn; to any that is left then it is nothing what stands at the addresses of q, and
--- what each of them leaves there
+-- request q and then the group may act in turn; to any that is left then it is nothing what stands at each word of q, and what
+-- each of them leaves at its words
 pub record IsOverJunk (log : LogView) (s : State) (q : ℕ) (group : List ℕ) : Type 0 where
   pub last : State
   pub size : length s.bytes ≡ log.extent.size
   pub leads : Leads log s (acts (q ∷ group)) last
-  pub old : AllLeft last (λ b. IsJunkTo log s.bytes b q)
+  pub old : (w : ℕ) → Names log q w → AllLeft last (λ b. IsJunkAt log s.bytes b w)
   pub new : (i g : ℕ) → slice_get (q ∷ group) i ≡ Some g → LeavesNothing log last q g

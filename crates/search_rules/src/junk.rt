@@ -1,11 +1,11 @@
 //! Bytes that are nothing to a request.
-ghost use Rattle.std.specs.Prelude.{ℕ, ◌≡◌, ◌⊎◌, List, Option, Some, None, IsTrue, length, slice_get};
+ghost use Rattle.std.specs.Prelude.{ℕ, ◌≡◌, ◌<◌, ◌/◌, ◌⊎◌, List, Option, Some, None, IsTrue, length, slice_get};
 ghost use Rattle.tlp_core.specs.declared.operation.Op.{Op};
 ghost use Rattle.seq_memory.specs.declared.Reply.{Reply};
 ghost use Rattle.seq_memory.specs.Step as step;
 ghost use Rattle.byte_effects.specs.Effects.{AreApart, told_of};
 ghost use Rattle.log_runs.specs.EventView as events;
-ghost use Rattle.search_rules.specs.Rules.{IsJunkTo, LeavesJunkTo, IsWithin};
+ghost use Rattle.search_rules.specs.Rules.{IsJunkAt, LeavesJunkAt, IsWithin};
 ghost use Rattle.search_rules.specs.Junk as specs;
 
 use byte_effects::{are_apart, breaks, covers, spans, waits};
@@ -59,22 +59,37 @@ fn is_junk(log: &Log, bytes: &[u8], one: &Op, told: Option<&Reply>, other: &Op) 
     waits(log.extent().base(), bytes, one, told, other)
 }
 
-/// [`is_junk`], the other being request `q`.
-fn is_junk_by(log: &Log, bytes: &[u8], one: &Op, told: Option<&Reply>, q: usize) -> bool
-    ensures { IsTrue result → (j : ℕ) × (other : Op) × (asked : Option Reply) × (slice_get log.now.events q ≡ Some (events.Sub j other asked)) × specs.IsJunk log.now.extent bytes.now one.now (told_of told.entry) other }
+/// Word `word` of the memory, as an operation that names it alone.
+fn word_of(log: &Log, word: u64) -> Op
+    requires { word < log.now.extent.size / 4 }
+    ensures { result ≡ specs.word log.now.extent word }
 {
-    match log.event(q) {
-        Some(Event::Sub { op, .. }) => is_junk(log, bytes, one, told, op),
-        _ => false,
+    let extent = log.extent();
+    let size = extent.size();
+    Op::Read {
+        address: extent.base() + 4 * word,
+        dw: 1,
+        first: 15,
+        last: 0,
     }
 }
 
-/// These bytes at the addresses of request `q` are nothing to request `b`.
-pub fn is_junk_to(log: &Log, bytes: &[u8], b: usize, q: usize) -> bool
-    ensures { IsTrue result → IsJunkTo log.now bytes.now b q }
+/// [`is_junk`], the other being word `word`.
+fn is_junk_by(log: &Log, bytes: &[u8], one: &Op, told: Option<&Reply>, word: u64) -> bool
+    requires { word < log.now.extent.size / 4 }
+    ensures { IsTrue result → specs.IsJunk log.now.extent bytes.now one.now (told_of told.entry) (specs.word log.now.extent word) }
+{
+    let other = word_of(log, word);
+    is_junk(log, bytes, one, told, &other)
+}
+
+/// These bytes at word `word` of the memory are nothing to request `b`.
+pub fn is_junk_at(log: &Log, bytes: &[u8], b: usize, word: u64) -> bool
+    requires { word < log.now.extent.size / 4 }
+    ensures { IsTrue result → IsJunkAt log.now bytes.now b word }
 {
     match log.event(b) {
-        Some(Event::Sub { op, reply, .. }) => is_junk_by(log, bytes, op, reply, q),
+        Some(Event::Sub { op, reply, .. }) => is_junk_by(log, bytes, op, reply, word),
         Some(Event::Due { .. }) => true,
         Some(Event::Free) => true,
         None => false,
@@ -83,7 +98,7 @@ pub fn is_junk_to(log: &Log, bytes: &[u8], b: usize, q: usize) -> bool
 
 /// The operation was answered otherwise than by what the third leaves.
 fn misses_left(log: &Log, one: &Op, told: Option<&Reply>, third: &Op, had: Option<&Reply>) -> bool
-    ensures { IsTrue result → specs.MissesLeft log.now.extent one.now (told_of told.entry) third.now (told_of had.entry) }
+    ensures { IsTrue result → specs.MissesLeft log.now.extent one.now (told_of told.entry) third.now third.now (told_of had.entry) }
 {
     let Some(reply) = told else {
         return false;
@@ -94,7 +109,24 @@ fn misses_left(log: &Log, one: &Op, told: Option<&Reply>, third: &Op, had: Optio
     breaks(log.extent().block(), third, had, one, reply)
 }
 
-/// What the third leaves, among the addresses of the other, is nothing to the operation.
+/// [`misses_left`], the third having no addresses but the other's.
+fn misses_there(
+    log: &Log,
+    one: &Op,
+    told: Option<&Reply>,
+    other: &Op,
+    third: &Op,
+    had: Option<&Reply>,
+) -> bool
+    ensures { IsTrue result → specs.MissesLeft log.now.extent one.now (told_of told.entry) other.now third.now (told_of had.entry) }
+{
+    if !spans(other, third) {
+        return false;
+    }
+    misses_left(log, one, told, third, had)
+}
+
+/// What the third leaves at the addresses of the other is nothing to the operation.
 fn leaves_junk(
     log: &Log,
     one: &Op,
@@ -108,7 +140,7 @@ fn leaves_junk(
     if ignores(log, one, told, other) {
         return true;
     }
-    misses_left(log, one, told, third, had)
+    misses_there(log, one, told, other, third, had)
 }
 
 /// [`leaves_junk`], the third being request `g`.
@@ -121,22 +153,22 @@ fn leaves_junk_behind(log: &Log, one: &Op, told: Option<&Reply>, other: &Op, g: 
     }
 }
 
-/// [`leaves_junk_behind`], the other being request `q`.
-fn leaves_junk_by(log: &Log, one: &Op, told: Option<&Reply>, q: usize, g: usize) -> bool
-    ensures { IsTrue result → (j : ℕ) × (other : Op) × (asked : Option Reply) × (slice_get log.now.events q ≡ Some (events.Sub j other asked)) × ((l : ℕ) × (third : Op) × (had : Option Reply) × (slice_get log.now.events g ≡ Some (events.Sub l third had)) × specs.LeavesJunk log.now.extent one.now (told_of told.entry) other third had) }
+/// [`leaves_junk_behind`], the other being word `word`.
+fn leaves_junk_by(log: &Log, one: &Op, told: Option<&Reply>, g: usize, word: u64) -> bool
+    requires { word < log.now.extent.size / 4 }
+    ensures { IsTrue result → (l : ℕ) × (third : Op) × (had : Option Reply) × (slice_get log.now.events g ≡ Some (events.Sub l third had)) × specs.LeavesJunk log.now.extent one.now (told_of told.entry) (specs.word log.now.extent word) third had }
 {
-    match log.event(q) {
-        Some(Event::Sub { op, .. }) => leaves_junk_behind(log, one, told, op, g),
-        _ => false,
-    }
+    let other = word_of(log, word);
+    leaves_junk_behind(log, one, told, &other, g)
 }
 
-/// What request `g` leaves, among the addresses of request `q`, is nothing to request `b`.
-pub fn leaves_junk_to(log: &Log, b: usize, q: usize, g: usize) -> bool
-    ensures { IsTrue result → LeavesJunkTo log.now b q g }
+/// What request `g` leaves at word `word` of the memory is nothing to request `b`.
+pub fn leaves_junk_at(log: &Log, b: usize, g: usize, word: u64) -> bool
+    requires { word < log.now.extent.size / 4 }
+    ensures { IsTrue result → LeavesJunkAt log.now b g word }
 {
     match log.event(b) {
-        Some(Event::Sub { op, reply, .. }) => leaves_junk_by(log, op, reply, q, g),
+        Some(Event::Sub { op, reply, .. }) => leaves_junk_by(log, op, reply, g, word),
         Some(Event::Due { .. }) => true,
         Some(Event::Free) => true,
         None => false,

@@ -51,7 +51,7 @@ pub fn the_first_acts_at_once()
 }
 
 /// A request that may act acts at once, if others may act in turn after it, and nobody who is left
-/// then needs what it overwrites, or what any of them puts there.
+/// then needs what it overwrites at any of its words, or what any of them puts there.
 pub fn what_is_over_junk_acts_at_once()
     ensures { (log : LogView) (s : State) (q : ℕ) (group : List ℕ) → IsOverJunk log s q group → IsForced log s (steps.Act q) }
 {

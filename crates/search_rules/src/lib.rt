@@ -5,6 +5,7 @@
 //! that could act before it takes away for good what it needs, or makes no difference to it; and if none
 //! that has one of its bytes can act before it. It acts at once, too, if others may act in turn after it
 //! and leave only junk: nobody who is left then needs what it overwrote, or what any of them put there.
+//! What is junk is judged word by word.
 //! [`laws`] says this of all runs, whatever the operations do. What two requests of a log do to each
 //! other is told by their bytes.
 #![tactic(auto)]
@@ -14,6 +15,6 @@ pub mod laws;
 mod missing;
 mod pairs;
 
-pub use junk::{is_junk_to, is_served, is_within, leaves_junk_to, overlooks};
+pub use junk::{is_junk_at, is_served, is_within, leaves_junk_at, overlooks};
 pub use missing::{Need, need_at, never_puts};
 pub use pairs::{changes_nothing, follows, lets_first, never_brings, yields};

@@ -13,8 +13,8 @@ use Rattle.log_runs.specs.declared.Event.TheVariants as lent
 use Rattle.log_runs.specs.EventView.{EventView, event_of}
 use Rattle.log_runs.specs.EventView as events
 use Rattle.log_runs.specs.LogView.{LogView}
-use Rattle.search_rules.specs.Junk.{IsJunk, LeavesJunk}
-use Rattle.search_rules.specs.Rules.{IsJunkTo, LeavesJunkTo}
+use Rattle.search_rules.specs.Junk.{IsJunk, LeavesJunk, word}
+use Rattle.search_rules.specs.Rules.{IsJunkAt, LeavesJunkAt}
 
 pub sub_at : (es : List EventView) (b : ℕ) (r : Event) (i : ℕ) (op : Bor Op) (told : Option (Bor Reply)) → r ≡ lent.Sub i op told → Some (event_of r) ≡ slice_get es b
     → slice_get es b ≡ Some (events.Sub i op.now (told_of told))
@@ -46,26 +46,21 @@ one_op o i j op w told asked at there = let e : Some (events.Sub i op told) ≡ 
 pub one_reply : (o : Option EventView) (i j : ℕ) (op w : Op) (told asked : Option Reply) → o ≡ Some (events.Sub i op told) → o ≡ Some (events.Sub j w asked) → told ≡ asked
 one_reply o i j op w told asked at there = let e : Some (events.Sub i op told) ≡ Some (events.Sub j w asked) = sym at ∙ there in cc
 
-pub junk_at : (log : LogView) (m : List ℕ) (b q i : ℕ) (one : Op) (told : Option Reply) → slice_get log.events b ≡ Some (events.Sub i one told)
-    → ((j : ℕ) × (other : Op) × (asked : Option Reply) × (slice_get log.events q ≡ Some (events.Sub j other asked)) × IsJunk log.extent m one told other)
-    → IsJunkTo log m b q
-junk_at log m b q i one told seen (j, other, asked, there, junk) i2 j2 one2 other2 told2 asked2 at at2 =
+pub junk_at : (log : LogView) (m : List ℕ) (b w i : ℕ) (one : Op) (told : Option Reply) → slice_get log.events b ≡ Some (events.Sub i one told)
+    → IsJunk log.extent m one told (word log.extent w) → IsJunkAt log m b w
+junk_at log m b w i one told seen junk i2 one2 told2 at =
     let x = log.extent in
-    subst (λ z. IsJunk x m one2 told2 z) (one_op (slice_get log.events q) j j2 other other2 asked asked2 there at2)
-    (subst (λ z. IsJunk x m one2 z other) (one_reply (slice_get log.events b) i i2 one one2 told told2 seen at)
-    (subst (λ z. IsJunk x m z told other) (one_op (slice_get log.events b) i i2 one one2 told told2 seen at) junk))
+    subst (λ z. IsJunk x m one2 z (word x w)) (one_reply (slice_get log.events b) i i2 one one2 told told2 seen at)
+    (subst (λ z. IsJunk x m z told (word x w)) (one_op (slice_get log.events b) i i2 one one2 told told2 seen at) junk)
 
-pub leaves_at : (log : LogView) (b q g i : ℕ) (one : Op) (told : Option Reply) → slice_get log.events b ≡ Some (events.Sub i one told)
-    → ((j : ℕ) × (other : Op) × (asked : Option Reply) × (slice_get log.events q ≡ Some (events.Sub j other asked))
-    × ((l : ℕ) × (third : Op) × (had : Option Reply) × (slice_get log.events g ≡ Some (events.Sub l third had)) × LeavesJunk log.extent one told other third had))
-    → LeavesJunkTo log b q g
-leaves_at log b q g i one told seen (j, other, asked, there, (l, third, had, behind, junk)) i2 j2 l2 one2 other2 third2 told2 asked2 had2 at at2 at3 =
+pub leaves_at : (log : LogView) (b g w i l : ℕ) (one third : Op) (told had : Option Reply) → slice_get log.events b ≡ Some (events.Sub i one told) → slice_get log.events g ≡ Some (events.Sub l third had)
+    → LeavesJunk log.extent one told (word log.extent w) third had → LeavesJunkAt log b g w
+leaves_at log b g w i l one third told had seen behind junk i2 l2 one2 third2 told2 had2 at at2 =
     let x = log.extent in
-    subst (λ z. LeavesJunk x one2 told2 other2 third2 z) (one_reply (slice_get log.events g) l l2 third third2 had had2 behind at3)
-    (subst (λ z. LeavesJunk x one2 told2 other2 z had) (one_op (slice_get log.events g) l l2 third third2 had had2 behind at3)
-    (subst (λ z. LeavesJunk x one2 told2 z third had) (one_op (slice_get log.events q) j j2 other other2 asked asked2 there at2)
-    (subst (λ z. LeavesJunk x one2 z other third had) (one_reply (slice_get log.events b) i i2 one one2 told told2 seen at)
-    (subst (λ z. LeavesJunk x z told other third had) (one_op (slice_get log.events b) i i2 one one2 told told2 seen at) junk))))
+    subst (λ z. LeavesJunk x one2 told2 (word x w) third2 z) (one_reply (slice_get log.events g) l l2 third third2 had had2 behind at2)
+    (subst (λ z. LeavesJunk x one2 told2 (word x w) z had) (one_op (slice_get log.events g) l l2 third third2 had had2 behind at2)
+    (subst (λ z. LeavesJunk x one2 z (word x w) third had) (one_reply (slice_get log.events b) i i2 one one2 told told2 seen at)
+    (subst (λ z. LeavesJunk x z told (word x w) third had) (one_op (slice_get log.events b) i i2 one one2 told told2 seen at) junk)))
 
 -- ---- replies
 

@@ -15,9 +15,9 @@ use Rattle.log_runs.specs.LogView.{LogView}
 use Rattle.log_runs.specs.Runs.{reply_of, bytes_after, acted_on}
 use Rattle.search_words.specs.Lists.{Has, InList}
 use Rattle.search_words.specs.WordsView.{WordsView}
-use Rattle.search_words.specs.Words.{Touches, value_in, NeedsWord, IsCareless, IsKnownAt, IsWords, MayNeed, NamesWord, HasWord, HasWordAt, IsWordAt, NeedsWordAt, LeavesWordAt, IsOutAt, key}
-use Rattle.search_rules.specs.Junk.{Overlooks}
-use Rattle.search_rules.specs.Rules.{Suits, Ends, NeverBrings, Yields, LetsFirst, IsJunkTo, LeavesJunkTo, AreApartThere}
+use Rattle.search_words.specs.Words.{value_in, NeedsWord, IsCareless, IsKnownAt, IsWords, MayNeed, NamesWord, HasWord, HasWordAt, NeedsWordAt, LeavesWordAt, IsOutAt, key}
+use Rattle.search_rules.specs.Junk.{Overlooks, Touches, word}
+use Rattle.search_rules.specs.Rules.{Suits, Ends, NeverBrings, Yields, LetsFirst, Names, IsJunkAt, LeavesJunkAt, AreApartThere}
 use Rattle.search_words.proofs.EventLemmas.{junk_at, leaves_at}
 use Rattle.search_words.proofs.EventLemmas.{way_of}
 use Rattle.search_words.proofs.EventLemmas.{address_at, count_at}
@@ -66,6 +66,15 @@ named_by log b q j first end base op asked there eb some low ef ee = at (slice_g
     at (Some events.Free) is = inl (far (Some events.Free) is (λ k other said same. cc))
     at None is = inl (far None is (λ k other said same. cc))
 
+-- a request's words are among those from the first up to the end
+pub own_words : (log : LogView) (q j first end base : ℕ) (op : Op) (asked : Option Reply) → slice_get log.events q ≡ Some (events.Sub j op asked) → base ≡ log.extent.base
+    → base ≤ address_of op → first ≡ (address_of op - base) / 4 → end ≡ (address_of op - base + count_of op + 3) / 4
+    → (w : ℕ) → Names log q w → (first ≤ w) × (w < end)
+own_words log q j first end base op asked there eb low ef ee w (i, one, told, at, (front, back)) =
+    let address : address_of op ≡ address_of one = ap address_at (sym there ∙ at) in
+    let count : count_of op ≡ count_of one = ap count_at (sym there ∙ at) in
+    (omega (arith, ef, eb, low, address, back), omega (arith, ee, eb, low, address, count, front))
+
 -- ---- who is careless overlooks a word that it names
 
 overlooks_part : (x : Extent) (one other : Op) (told : Option Reply) → Overlooks x one told one → address_of one ≤ address_of other → address_of other + count_of other ≤ address_of one + count_of one
@@ -78,9 +87,9 @@ overlooks_part x one other told over low high m n size same = over m n size (rec
   ]);
 })
 
-overlooks_word : (x : Extent) (w : ℕ) (one other : Op) (told : Option Reply) → IsCareless x one told → Touches x.base one w → HasWord x.base other w → count_of other ≡ 4 → Overlooks x one told other
-overlooks_word x w one other told (whole, over) (front, back) (low, begins, ends) four =
-    overlooks_part x one other told over (omega (arith, whole.place, back, begins, ends, four)) (omega (arith, whole.place, whole.whole, front, begins, ends, four))
+overlooks_word : (x : Extent) (w : ℕ) (one : Op) (told : Option Reply) → IsCareless x one told → Touches x.base one w → Overlooks x one told (word x w)
+overlooks_word x w one told (whole, over) (front, back) =
+    overlooks_part x one (word x w) told over (omega (arith, whole.place, back)) (omega (arith, whole.place, whole.whole, front))
 
 module _ (log : LogView) (t : WordsView) (words : IsWords log t) where
   known_at : (b i w : ℕ) (op : Op) (told : Option Reply) → slice_get log.events b ≡ Some (events.Sub i op told) → Touches log.extent.base op w ⊎ (count_of op ≡ 0) → w < log.extent.size / 4
@@ -102,13 +111,13 @@ module _ (log : LogView) (t : WordsView) (words : IsWords log t) where
   -- the request is in a list, or is careless, or its word isn't v
   by_need : (b i w v : ℕ) (op : Op) (told : Option Reply) → slice_get log.events b ≡ Some (events.Sub i op told) → Touches log.extent.base op w ⊎ (count_of op ≡ 0) → w < log.extent.size / 4
       → MayNeed t w v b
-      ⊎ (Has t.careless w b × ((other : Op) → HasWord log.extent.base other w → count_of other ≡ 4 → Overlooks log.extent op told other))
+      ⊎ (Has t.careless w b × Overlooks log.extent op told (word log.extent w))
       ⊎ ((n : List ℕ) → value_in n (4 * w) ≡ v → Agrees log.extent.base log.extent.block n op told → ⊥)
   by_need b i w v op told at touches within = elim (known_at b i w op told at touches within) [
     | inl many ↦ inl (inl many)
     | inr (touched, known) ↦ elim known.need [
       | inl blind ↦ inl (inr (inl blind))
-      | inr (inl (has, careless)) ↦ inr (inl (has, λ other inside four. overlooks_word log.extent w op other told careless touched inside four))
+      | inr (inl (has, careless)) ↦ inr (inl (has, overlooks_word log.extent w op told careless touched))
       | inr (inr (u, has, needs)) ↦ elim (cases_eq u v) [
         | inl same ↦ inl (inr (inr (subst (λ z. Has t.needed (key w z) b) same has)))
         | inr other ↦ inr (inr (λ n is agrees. other (sym (needs n agrees) ∙ is)))
@@ -137,49 +146,28 @@ module _ (log : LogView) (t : WordsView) (words : IsWords log t) where
           inr (inr (λ n alike. out n (same_word n other inside (alike j other asked there))))
     ]
 
-    pub junk_or : NamesWord log b w → w < log.extent.size / 4 → MayNeed t w v b ⊎ (Has t.careless w b × (IsWordAt log q w → IsJunkTo log m b q)) ⊎ IsJunkTo log m b q
-    junk_or (i, op, told, at, touches) within = elim (by_need b i w v op told at touches within) [
-      | inl need ↦ inl need
-      | inr (inl (listed, over)) ↦ inr (inl (
-        listed,
-        λ just.
-            let (j, other, asked, there, inside, four) = just in
-            junk_at log m b q i op told at (j, other, asked, there, inr (inl (over other inside four))),
-      ))
-      | inr (inr misses) ↦
-          let (j, other, asked, there, inside) = has in
-          inr (inr (junk_at log m b q i op told at (j, other, asked, there, inr (inr (λ n same. misses n (same_word n other inside same))))))
-    ]
+  -- the word has the same bytes where they are the same at its addresses
+  alike_there : (m n : List ℕ) (w : ℕ) → AreSameAt log.extent.base (word log.extent w) m n → value_in n (4 * w) ≡ value_in m (4 * w)
+  alike_there m n w same = value_alike n m (4 * w) (4 * w) (λ i l. same (4 * w + i) (omega arith) (omega (arith, l)))
 
-  pub left_or : (b q g w v : ℕ) → LeavesWordAt log g w v → NamesWord log b w → w < log.extent.size / 4
-      → MayNeed t w v b ⊎ (Has t.careless w b × (IsWordAt log q w → LeavesJunkTo log b q g)) ⊎ LeavesJunkTo log b q g
-  left_or b q g w v (l, third, had, behind, served, inside, leaves) (i, op, told, at, touches) within =
-      elim (by_need b i w v op told at touches within) [
-        | inl need ↦ inl need
-        | inr (inl (listed, over)) ↦ inr (inl (
-          listed,
-          λ just.
-              let (j, other, asked, there, around, four) = just in
-              leaves_at log b q g i op told at (j, other, asked, there, (l, third, had, behind, inr (inl (over other around four)))),
-        ))
-        | inr (inr misses) ↦ inr (inr (λ i2 j l2 one other third2 told2 asked had2 at2 there behind2. leaves_at log b q g i op told at (
-          j,
-          other,
-          asked,
-          there,
-          (
-            l,
-            third,
-            had,
-            behind,
-            inr (inr (λ k n size agrees same agreed.
-                misses n
-                (value_alike n (after log.extent.base log.extent.block k third) (4 * w) (4 * w) (λ d low. same (4 * w + d) (omega (arith, inside.1)) (omega (arith, inside.2, low)))
-                ∙ leaves k agrees (ap (λ z. refusal log.extent.base z log.extent.block third) size ∙ served))
-                agreed)),
-          ),
-        ) i2 j l2 one other third2 told2 asked had2 at2 there behind2))
-      ]
+  pub junk_or : (m : List ℕ) (b w v : ℕ) → v ≡ value_in m (4 * w) → NamesWord log b w → w < log.extent.size / 4 → MayNeed t w v b ⊎ IsJunkAt log m b w
+  junk_or m b w v is (i, op, told, at, touches) within = elim (by_need b i w v op told at touches within) [
+    | inl need ↦ inl need
+    | inr (inl (listed, over)) ↦ inr (junk_at log m b w i op told at (inr (inl over)))
+    | inr (inr misses) ↦ inr (junk_at log m b w i op told at (inr (inr (λ n same. misses n (alike_there m n w same ∙ sym is)))))
+  ]
+
+  pub left_or : (b g w v : ℕ) → LeavesWordAt log g w v → NamesWord log b w → w < log.extent.size / 4 → MayNeed t w v b ⊎ LeavesJunkAt log b g w
+  left_or b g w v (l, third, had, behind, served, leaves) (i, op, told, at, touches) within = elim (by_need b i w v op told at touches within) [
+    | inl need ↦ inl need
+    | inr (inl (listed, over)) ↦ inr (leaves_at log b g w i l op third told had at behind (inr (inl over)))
+    | inr (inr misses) ↦
+        let x = log.extent in
+        inr (leaves_at log b g w i l op third told had at behind (inr (inr (λ k n size agrees same agreed.
+        misses n
+        (alike_there (after x.base x.block k third) n w same ∙ leaves k agrees (ap (λ z. refusal x.base z x.block third) size ∙ served))
+        agreed))))
+  ]
 
   module _ (brings : (base block : ℕ) (m : List ℕ) (one other : Op) (reply : Reply) → (refusal base (length m) block one ≡ None → answer base block (after base block m one) other ≡ reply → ⊥)
       → answer base block (after base block m one) other ≡ reply → answer base block m other ≡ reply)

@@ -8,15 +8,11 @@ use Rattle.seq_memory.specs.Step.{after, refusal}
 use Rattle.byte_effects.specs.Effects.{Agrees}
 use Rattle.log_runs.specs.EventView as events
 use Rattle.log_runs.specs.LogView.{LogView}
-use Rattle.search_rules.specs.Junk.{Overlooks}
+use Rattle.search_rules.specs.Junk.{Overlooks, Touches}
 use Rattle.search_rules.specs.Rules.{Suits}
 use Rattle.search_words.specs.Lists.{Has, InList, RisesTo, IsRising}
 use Rattle.search_words.specs.WordsView.{WordsView}
 use Rattle.search_words.specs.declared.near.Near.{Near}
-
--- the operation names bytes of word w
-abbrev pub Touches : ℕ → Op → ℕ → Type 0
-Touches base op w = (base + 4 * w < address_of op + count_of op) × (address_of op < base + 4 * w + 4)
 
 -- the four bytes from that place on, as a number
 abbrev pub value_in : List ℕ → ℕ → ℕ
@@ -104,11 +100,6 @@ HasWord base op w = (base ≤ address_of op) × (address_of op ≤ base + 4 * w)
 abbrev pub HasWordAt : LogView → ℕ → ℕ → Type 0
 HasWordAt log q w = (j : ℕ) × (op : Op) × (asked : Option Reply) × (slice_get log.events q ≡ Some (events.Sub j op asked)) × HasWord log.extent.base op w
 
--- the range of request q is just the word
-abbrev pub IsWordAt : LogView → ℕ → ℕ → Type 0
-IsWordAt log q w =
-    (j : ℕ) × (op : Op) × (asked : Option Reply) × (slice_get log.events q ≡ Some (events.Sub j op asked)) × HasWord log.extent.base op w × (count_of op ≡ 4)
-
 -- request b is among those that need the word to be v, or of which it isn't known what they need there
 abbrev pub MayNeed : WordsView → ℕ → ℕ → ℕ → Type 0
 MayNeed t w v b = InList t.wide b ⊎ Has t.blind w b ⊎ Has t.needed (key w v) b
@@ -117,11 +108,11 @@ MayNeed t w v b = InList t.wide b ⊎ Has t.blind w b ⊎ Has t.needed (key w v)
 abbrev pub NeedsWordAt : LogView → ℕ → ℕ → ℕ → Type 0
 NeedsWordAt log q w v = (j : ℕ) × (op : Op) × (reply : Reply) × (slice_get log.events q ≡ Some (events.Sub j op (Some reply))) × NeedsWord log.extent op (Some reply) w v
 
--- request g, which would be served, has all of the word and leaves v there
+-- request g, which would be served, leaves v at the word
 abbrev pub LeavesWordAt : LogView → ℕ → ℕ → ℕ → Type 0
 LeavesWordAt log g w v =
     (l : ℕ) × (op : Op) × (had : Option Reply) × (slice_get log.events g ≡ Some (events.Sub l op had)) × (refusal log.extent.base log.extent.size log.extent.block op ≡ None)
-    × HasWord log.extent.base op w × LeavesWord log.extent op had w v
+    × LeavesWord log.extent op had w v
 
 -- while the word is v, the memory doesn't suit request b
 abbrev pub IsOutAt : LogView → ℕ → ℕ → ℕ → Type 0

@@ -4,8 +4,8 @@
 //! and those that leave one there, by that value; and those that write all of it, whatever stands there.
 //! So whoever may be something to a request is found without a look at all others: [`near_there`],
 //! [`near_junk`], [`near_needed`], [`near_left`], [`near_value`] and [`near_named`] return lists at a
-//! word, and say of each request that isn't in them that it is nothing. [`span_of`] says which words a
-//! request has.
+//! word, and say of each request that isn't in them that it is nothing. Whoever writes all of a word
+//! needs nothing that stands or is left there. [`span_of`] says which words a request has.
 #![tactic(auto)]
 
 mod lists;

@@ -7,8 +7,8 @@ ghost use Rattle.tlp_core.specs.declared.operation.Op.{Op};
 ghost use Rattle.seq_memory.specs.declared.Reply.{Reply};
 ghost use Rattle.log_runs.specs.EventView as events;
 ghost use Rattle.search_words.specs.Lists.{Has, InList};
-ghost use Rattle.search_words.specs.Words.{value_in, AllRise, IsWords, MayNeed, NamesWord, IsNear, HasWord, HasWordAt, IsWordAt, NeedsWordAt, LeavesWordAt, IsOutAt, key};
-ghost use Rattle.search_rules.specs.Rules.{NeverBrings, Yields, LetsFirst, IsJunkTo, LeavesJunkTo, AreApartThere};
+ghost use Rattle.search_words.specs.Words.{value_in, AllRise, IsWords, MayNeed, NamesWord, IsNear, HasWord, HasWordAt, NeedsWordAt, LeavesWordAt, IsOutAt, key};
+ghost use Rattle.search_rules.specs.Rules.{NeverBrings, Yields, LetsFirst, Names, IsJunkAt, LeavesJunkAt, AreApartThere};
 
 use crate::lists::window;
 use crate::words::{Words, left_at, needed_at, number_of, place_of, value_in};
@@ -34,6 +34,7 @@ pub struct Near<'a> {
 /// its range is in the memory and it has some.
 pub fn span_of(log: &Log, q: usize) -> Option<(u64, u64)>
     ensures inside { IfSome result (λ r. r.1 ≤ log.now.extent.size / 4) }
+    ensures own { IfSome result (λ r. (w : ℕ) → Names log.now q w → (r.0 ≤ w) × (w < r.1)) }
     ensures all { IfSome result (λ r. (b : ℕ) → AreApartThere log.now b q ⊎ ((w : ℕ) × (r.0 ≤ w) × (w < r.1) × NamesWord log.now b w)) }
 {
     let Some(Event::Sub { op, .. }) = log.event(q) else {
@@ -108,40 +109,12 @@ fn has_word(base: u64, op: &Op, word: u64) -> bool
     place_of(base, op, word).is_some()
 }
 
-/// The range of request `q` is just the word.
-fn is_word(log: &Log, q: usize, word: u64) -> bool
-    ensures { IsTrue result → IsWordAt log.now q word }
-{
-    let Some(Event::Sub { op, .. }) = log.event(q) else {
-        return false;
-    };
-    op.size() == 4 && has_word(log.extent().base(), op, word)
-}
-
 /// Requests from one place on and before another to which it makes no difference what stands at the word.
 fn careless_at(words: &Words, word: u64, from: usize, to: usize) -> &[usize]
     requires { (n : ℕ) × AllRise words.now n }
     ensures { (b : ℕ) → from ≤ b → b < to → Has words.now.careless word b → InList result.now b }
 {
     words.careless.between(word, from, to)
-}
-
-/// [`careless_at`], but none if request `q` has just the word.
-fn careless_of<'a>(
-    words: &'a Words,
-    log: &Log,
-    q: usize,
-    word: u64,
-    from: usize,
-    to: usize,
-) -> &'a [usize]
-    requires { (n : ℕ) × AllRise words.now n }
-    ensures { (b : ℕ) → from ≤ b → b < to → Has words.now.careless word b → InList result.now b ⊎ IsWordAt log.now q word }
-{
-    if is_word(log, q, word) {
-        return &[];
-    }
-    careless_at(words, word, from, to)
 }
 
 /// What stands at the word, all of which is in the range of request `q`.
@@ -185,18 +158,18 @@ fn need_of(log: &Log, q: usize, word: u64) -> Option<u64>
     Some(value)
 }
 
-/// What request `g`, which would be served, leaves at the word, all of which is in its range.
+/// What request `g`, which would be served, leaves at the word, if that is known.
 fn left_of(log: &Log, g: usize, word: u64) -> Option<u64>
     requires { word < log.now.extent.size / 4 }
     ensures leaves { IfSome result (LeavesWordAt log.now g word) }
     ensures few { IfSome result (λ v. v < 4294967296) }
     ensures words { IfSome result (λ v. word < 262144) }
 {
-    let extent = log.extent();
+    let _extent = log.extent();
     let Some(Event::Sub { op, reply, .. }) = log.event(g) else {
         return None;
     };
-    if !is_served(log, op) || !has_word(extent.base(), op, word) {
+    if !is_served(log, op) {
         return None;
     }
     let value = left_at(log, op, reply, word)?;
@@ -247,25 +220,22 @@ pub fn near_there<'a>(
 }
 
 /// The requests, from one place on and before another, to which it may be something that these bytes
-/// stand at the addresses of request `q`; of those that name bytes of the word.
+/// stand at the word; of those that name bytes of it.
 pub fn near_junk<'a>(
     words: &'a Words,
     log: &Log,
     bytes: &[u8],
-    q: usize,
     word: u64,
     from: usize,
     to: usize,
 ) -> Near<'a>
     requires words { IsWords log.now words.now }
     requires word { word < log.now.extent.size / 4 }
-    ensures { (b : ℕ) → from ≤ b → b < to → NamesWord log.now b word → IsNear result b ⊎ IsJunkTo log.now bytes.now b q }
+    ensures { (b : ℕ) → from ≤ b → b < to → NamesWord log.now b word → IsNear result b ⊎ IsJunkAt log.now bytes.now b word }
 {
-    match found_of(log, bytes, q, word) {
-        Some(value) => {
-            let careless = careless_of(words, log, q, word, from, to);
-            near_by_need(words, word, value, careless, from, to)
-        }
+    let _extent = log.extent();
+    match value_in(bytes, (4 * word) as usize) {
+        Some(value) => near_by_need(words, word, value, &[], from, to),
         None => near_by_name(words, word, from, to),
     }
 }
@@ -293,11 +263,10 @@ pub fn near_needed<'a>(
 }
 
 /// The requests, from one place on and before another, to which it may be something what request `g`
-/// leaves, among the addresses of request `q`; of those that name bytes of the word.
+/// leaves at the word; of those that name bytes of it.
 pub fn near_left<'a>(
     words: &'a Words,
     log: &Log,
-    q: usize,
     g: usize,
     word: u64,
     from: usize,
@@ -305,13 +274,10 @@ pub fn near_left<'a>(
 ) -> Near<'a>
     requires words { IsWords log.now words.now }
     requires word { word < log.now.extent.size / 4 }
-    ensures { (b : ℕ) → from ≤ b → b < to → NamesWord log.now b word → IsNear result b ⊎ LeavesJunkTo log.now b q g }
+    ensures { (b : ℕ) → from ≤ b → b < to → NamesWord log.now b word → IsNear result b ⊎ LeavesJunkAt log.now b g word }
 {
     match left_of(log, g, word) {
-        Some(value) => {
-            let careless = careless_of(words, log, q, word, from, to);
-            near_by_need(words, word, value, careless, from, to)
-        }
+        Some(value) => near_by_need(words, word, value, &[], from, to),
         None => near_by_name(words, word, from, to),
     }
 }

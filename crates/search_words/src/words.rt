@@ -10,8 +10,9 @@ ghost use Rattle.seq_memory.specs.Step.{refusal, after};
 ghost use Rattle.byte_effects.specs.Effects as effects;
 ghost use Rattle.byte_effects.specs.Effects.{Agrees, told_of};
 ghost use Rattle.log_runs.specs.EventView as events;
+ghost use Rattle.search_rules.specs.Junk.{Touches};
 ghost use Rattle.search_words.specs.Lists.{Has, InList};
-ghost use Rattle.search_words.specs.Words.{Touches, value_in, NeedsWord, LeavesWord, HasWholeWords, IsCareless, IsKnownAt, IsTaken, AllRise, Keeps, AreWords, IsWords, key};
+ghost use Rattle.search_words.specs.Words.{value_in, NeedsWord, LeavesWord, HasWholeWords, IsCareless, IsKnownAt, IsTaken, AllRise, Keeps, AreWords, IsWords, key};
 
 use crate::lists::Lists;
 use byte_effects::laws::what_is_needed_is_there;

@@ -28,19 +28,5 @@ returns-in-First c = λ b from to names.
       | inr spares ↦ inr (subst (λ (k : Asked). Spares c.args.log.now c.args.bytes.now c.args.question.of k b) (sym c.in-First.is) spares)
     ]
 
-pub returns-in-Junk : goal.returns-in-Junk
-returns-in-Junk c = λ b from to names.
-    elim (c.near_junk.ensures b from to names) as (λ z. IsNear c.near_junk.result b ⊎ Spares c.args.log.now c.args.bytes.now c.args.question.of c.args.question.asked b) [
-      | inl near ↦ inl near
-      | inr spares ↦ inr (subst (λ (k : Asked). Spares c.args.log.now c.args.bytes.now c.args.question.of k b) (sym c.in-Junk.is) spares)
-    ]
-
-pub returns-in-LeftBy : goal.returns-in-LeftBy
-returns-in-LeftBy c = λ b from to names.
-    elim (c.near_left.ensures b from to names) as (λ z. IsNear c.near_left.result b ⊎ Spares c.args.log.now c.args.bytes.now c.args.question.of c.args.question.asked b) [
-      | inl near ↦ inl near
-      | inr spares ↦ inr (subst (λ (k : Asked). Spares c.args.log.now c.args.bytes.now c.args.question.of k b) (sym c.in-LeftBy.is) spares)
-    ]
-
 pub returns-in-Byte : goal.returns-in-Byte
 returns-in-Byte c = λ b from to names. inl (c.near_named.ensures b from to names)

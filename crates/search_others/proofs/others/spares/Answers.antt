@@ -12,11 +12,5 @@ returns-in-Last c = λ so. subst (λ (k : Asked). Spares c.args.log.now c.args.b
 pub returns-in-First : goal.returns-in-First
 returns-in-First c = λ so. subst (λ (k : Asked). Spares c.args.log.now c.args.bytes.now c.args.q k c.args.b) (sym c.in-First.is) (c.lets_first.ensures so)
 
-pub returns-in-Junk : goal.returns-in-Junk
-returns-in-Junk c = λ so. subst (λ (k : Asked). Spares c.args.log.now c.args.bytes.now c.args.q k c.args.b) (sym c.in-Junk.is) (c.is_junk_to.ensures so)
-
-pub returns-in-LeftBy : goal.returns-in-LeftBy
-returns-in-LeftBy c = λ so. subst (λ (k : Asked). Spares c.args.log.now c.args.bytes.now c.args.q k c.args.b) (sym c.in-LeftBy.is) (c.leaves_junk_to.ensures so)
-
 pub returns-in-Byte : goal.returns-in-Byte
 returns-in-Byte c = λ so. subst (λ (k : Asked). Spares c.args.log.now c.args.bytes.now c.args.q k c.args.b) (sym c.in-Byte.is) (c.never_puts.ensures so)

@@ -8,4 +8,4 @@ returns-then-ignores c = λ yes. elim (c.ignores.ensures c.if-ignores.true) [
 ]
 
 pub returns : goal.returns
-returns c = λ yes. inr (inr (c.misses_left.ensures yes))
+returns c = λ yes. inr (inr (c.misses_there.ensures yes))

@@ -1,7 +1,9 @@
+use Rattle.std.proofs.Common.{subst}
 use Rattle.byte_effects.specs.Effects.{told_of}
-use Rattle.search_rules.proofs.PairLemmas.{sub_at}
+use Rattle.search_rules.specs.Junk.{LeavesJunk}
 use Rattle.search_rules.proofs.junk.leaves_junk_by.Goals as goal
 
-pub returns-in-Some-Sub : goal.returns-in-Some-Sub
-returns-in-Some-Sub c = λ yes.
-    (c.in-Some-Sub.field-0-0, c.in-Some-Sub.op.now, told_of c.in-Some-Sub.field-0-2, sub_at c.args.log.now.events c.args.q c.in-Some-Sub.field-0 c.in-Some-Sub.field-0-0 c.in-Some-Sub.op c.in-Some-Sub.field-0-2 c.in-Some-Sub.field-0-is c.in-Some-Sub.ensures, c.leaves_junk_behind.ensures yes)
+pub returns : goal.returns
+returns c = λ yes.
+    let (l, third, had, at, junk) = c.leaves_junk_behind.ensures yes in
+    (l, third, had, at, subst (λ z. LeavesJunk c.args.log.now.extent c.args.one.now (told_of c.args.told) z third had) c.word_of-other.ensures junk)

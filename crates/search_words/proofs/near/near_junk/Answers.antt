@@ -1,18 +1,14 @@
 use Rattle.std.proofs.Common.{◌⊎◌, inl, inr}
-use Rattle.search_rules.specs.Rules.{IsJunkTo}
+use Rattle.search_rules.specs.Rules.{IsJunkAt}
 use Rattle.search_words.specs.Words.{IsNear}
 use Rattle.search_words.proofs.NearLemmas.{junk_or, by_name}
 use Rattle.search_words.proofs.near.near_junk.Goals as goal
 
 pub returns-in-Some : goal.returns-in-Some
 returns-in-Some c = λ b from to names.
-    elim (junk_or c.args.log.now c.args.words.now c.requires.words c.args.bytes.now b c.args.q c.args.word c.in-Some.value c.in-Some.ensures.word c.in-Some.ensures.value names c.requires.word) as (λ z. IsNear c.near_by_need.result b ⊎ IsJunkTo c.args.log.now c.args.bytes.now b c.args.q) [
+    elim (junk_or c.args.log.now c.args.words.now c.requires.words c.args.bytes.now b c.args.word c.in-Some.value c.in-Some.ensures.value names c.requires.word) as (λ z. IsNear c.near_by_need.result b ⊎ IsJunkAt c.args.log.now c.args.bytes.now b c.args.word) [
       | inl need ↦ inl (c.near_by_need.ensures.need b from to need)
-      | inr (inl (listed, junk)) ↦ elim (c.careless_of-careless.ensures b from to listed) as (λ z. IsNear c.near_by_need.result b ⊎ IsJunkTo c.args.log.now c.args.bytes.now b c.args.q) [
-        | inl near ↦ inl (c.near_by_need.ensures.careless b near)
-        | inr just ↦ inr (junk just)
-      ]
-      | inr (inr spares) ↦ inr spares
+      | inr junk ↦ inr junk
     ]
 
 pub returns-in-None : goal.returns-in-None

@@ -1,18 +1,14 @@
 use Rattle.std.proofs.Common.{◌⊎◌, inl, inr}
-use Rattle.search_rules.specs.Rules.{LeavesJunkTo}
+use Rattle.search_rules.specs.Rules.{LeavesJunkAt}
 use Rattle.search_words.specs.Words.{IsNear}
 use Rattle.search_words.proofs.NearLemmas.{left_or, by_name}
 use Rattle.search_words.proofs.near.near_left.Goals as goal
 
 pub returns-in-Some : goal.returns-in-Some
 returns-in-Some c = λ b from to names.
-    elim (left_or c.args.log.now c.args.words.now c.requires.words b c.args.q c.args.g c.args.word c.in-Some.value c.in-Some.ensures.leaves names c.requires.word) as (λ z. IsNear c.near_by_need.result b ⊎ LeavesJunkTo c.args.log.now b c.args.q c.args.g) [
+    elim (left_or c.args.log.now c.args.words.now c.requires.words b c.args.g c.args.word c.in-Some.value c.in-Some.ensures.leaves names c.requires.word) as (λ z. IsNear c.near_by_need.result b ⊎ LeavesJunkAt c.args.log.now b c.args.g c.args.word) [
       | inl need ↦ inl (c.near_by_need.ensures.need b from to need)
-      | inr (inl (listed, junk)) ↦ elim (c.careless_of-careless.ensures b from to listed) as (λ z. IsNear c.near_by_need.result b ⊎ LeavesJunkTo c.args.log.now b c.args.q c.args.g) [
-        | inl near ↦ inl (c.near_by_need.ensures.careless b near)
-        | inr just ↦ inr (junk just)
-      ]
-      | inr (inr spares) ↦ inr spares
+      | inr junk ↦ inr junk
     ]
 
 pub returns-in-None : goal.returns-in-None

@@ -1,0 +1,170 @@
+//! Requests to which it is nothing what stands at words, or what a request leaves there.
+ghost use Rattle.std.specs.Prelude.{ℕ, ◌≡◌, ◌<◌, ◌≤◌, ◌/◌, ◌⊎◌, Some, false, IsTrue, length, slice_get};
+ghost use Rattle.search_words.specs.Lists.{InList};
+ghost use Rattle.search_words.specs.Words.{IsNear, NamesWord};
+ghost use Rattle.search_rules.specs.Rules.{Names, IsJunkAt, LeavesJunkAt};
+ghost use Rattle.search_places.specs.Places.{IsPlace};
+ghost use Rattle.search_others.specs.Known.{AreOthers};
+ghost use Rattle.search_others.specs.Nothing.{IsNothing, Ignores};
+
+use crate::known::Others;
+use log_runs::Log;
+use search_places::Place;
+use search_places::laws::who_is_left_is_pending;
+use search_rules::{is_junk_at, leaves_junk_at};
+use search_words::{Near, near_junk, near_left, span_of};
+
+/// What may be something to others at a word.
+#[derive(Clone, Copy)]
+enum Junk<'a> {
+    /// What stands there. It isn't asked of this request, nor of those of the list.
+    Standing(usize, &'a [usize]),
+    /// What this request leaves there.
+    LeftBy(usize),
+}
+
+/// The list has the request.
+fn is_in(list: &[usize], b: usize) -> bool
+    ensures { IsTrue result → (i : ℕ) × (slice_get list.now i ≡ Some b) }
+{
+    list.contains(&b)
+}
+
+/// What stands at the word is nothing to request `b`, or it is `q` or of the list.
+fn overlooks(log: &Log, bytes: &[u8], word: u64, q: usize, but: &[usize], b: usize) -> bool
+    requires word { word < log.now.extent.size / 4 }
+    ensures { IsTrue result → (q ≡ b → ⊥) → ((i : ℕ) → slice_get but.now i ≡ Some b → ⊥) → IsJunkAt log.now bytes.now b word }
+{
+    if b == q {
+        return true;
+    }
+    if is_in(but, b) {
+        return true;
+    }
+    is_junk_at(log, bytes, b, word)
+}
+
+/// It is nothing to request `b`.
+fn is_nothing(log: &Log, bytes: &[u8], junk: Junk, word: u64, b: usize) -> bool
+    requires word { word < log.now.extent.size / 4 }
+    ensures { IsTrue result → IsNothing log.now bytes.now junk.entry word b }
+{
+    match junk {
+        Junk::Standing(q, but) => overlooks(log, bytes, word, q, but, b),
+        Junk::LeftBy(g) => leaves_junk_at(log, b, g, word),
+    }
+}
+
+/// [`is_nothing`], or request `b` has acted.
+fn ignores(place: &Place, log: &Log, junk: Junk, word: u64, b: usize) -> bool
+    requires word { word < log.now.extent.size / 4 }
+    ensures { IsTrue result → Ignores log.now place.now.state junk.entry word b }
+{
+    if place.has_acted(b) {
+        return true;
+    }
+    is_nothing(log, place.bytes(), junk, word, b)
+}
+
+/// [`ignores`], each of the list.
+fn list_ignores(place: &Place, log: &Log, junk: Junk, word: u64, list: &[usize]) -> bool
+    requires word { word < log.now.extent.size / 4 }
+    ensures { IsTrue result → (b : ℕ) → InList list.now b → Ignores log.now place.now.state junk.entry word b }
+{
+    for b in list {
+        if !ignores(place, log, junk, word, *b) {
+            return false;
+        }
+    }
+    true
+}
+
+/// [`ignores`], each of those that are near.
+fn near_ignore(place: &Place, log: &Log, junk: Junk, word: u64, near: Near) -> bool
+    requires word { word < log.now.extent.size / 4 }
+    ensures { IsTrue result → (b : ℕ) → IsNear near.entry b → Ignores log.now place.now.state junk.entry word b }
+{
+    list_ignores(place, log, junk, word, near.wide)
+        && list_ignores(place, log, junk, word, near.unknown)
+        && list_ignores(place, log, junk, word, near.known)
+        && list_ignores(place, log, junk, word, near.careless)
+}
+
+/// Those, from one place on, of whom it isn't known by the word alone that it is nothing to them.
+fn near_of<'a>(
+    others: &'a Others,
+    log: &Log,
+    bytes: &[u8],
+    junk: Junk,
+    word: u64,
+    from: usize,
+) -> Near<'a>
+    requires others { AreOthers log.now others.now }
+    requires word { word < log.now.extent.size / 4 }
+    ensures { (b : ℕ) → from ≤ b → b < length log.now.events → NamesWord log.now b word → IsNear result b ⊎ IsNothing log.now bytes.now junk.entry word b }
+{
+    let words = &others.words;
+    let to = log.len();
+    match junk {
+        Junk::Standing(_, _) => near_junk(words, log, bytes, word, from, to),
+        Junk::LeftBy(g) => near_left(words, log, g, word, from, to),
+    }
+}
+
+/// [`ignores`], each from that place on that names bytes of the word.
+fn word_ignored(
+    place: &Place,
+    log: &Log,
+    others: &Others,
+    junk: Junk,
+    word: u64,
+    from: usize,
+) -> bool
+    requires others { AreOthers log.now others.now }
+    requires word { word < log.now.extent.size / 4 }
+    ensures { IsTrue result → (b : ℕ) → from ≤ b → b < length log.now.events → NamesWord log.now b word → Ignores log.now place.now.state junk.entry word b }
+{
+    let near = near_of(others, log, place.bytes(), junk, word, from);
+    near_ignore(place, log, junk, word, near)
+}
+
+/// [`ignores`], each request, at each word of request `q`.
+fn words_ignored(place: &Place, log: &Log, others: &Others, junk: Junk, q: usize) -> bool
+    requires place { IsPlace log.now place.now }
+    requires others { AreOthers log.now others.now }
+    ensures { IsTrue result → (w : ℕ) → Names log.now q w → (b : ℕ) → Ignores log.now place.now.state junk.entry w b }
+{
+    who_is_left_is_pending();
+    let Some((first, end)) = span_of(log, q) else {
+        return false;
+    };
+    let from = place.earliest();
+    for word in first..end {
+        if !word_ignored(place, log, others, junk, word, from) {
+            return false;
+        }
+    }
+    true
+}
+
+/// What stands at the words of request `q` is nothing to all that are left, but `q` and those of the list.
+///
+/// The test is careful: it returns false where it isn't sure.
+pub fn all_overlook(place: &Place, log: &Log, others: &Others, q: usize, but: &[usize]) -> bool
+    requires place { IsPlace log.now place.now }
+    requires others { AreOthers log.now others.now }
+    ensures { IsTrue result → (w : ℕ) → Names log.now q w → (b : ℕ) → (q ≡ b → ⊥) → ((i : ℕ) → slice_get but.now i ≡ Some b → ⊥) → slice_get place.now.state.acted b ≡ Some false → IsJunkAt log.now place.now.state.bytes b w }
+{
+    words_ignored(place, log, others, Junk::Standing(q, but), q)
+}
+
+/// What request `g` leaves at its words is nothing to all that are left.
+///
+/// The test is careful: it returns false where it isn't sure.
+pub fn all_ignore(place: &Place, log: &Log, others: &Others, g: usize) -> bool
+    requires place { IsPlace log.now place.now }
+    requires others { AreOthers log.now others.now }
+    ensures { IsTrue result → (w : ℕ) → Names log.now g w → (b : ℕ) → slice_get place.now.state.acted b ≡ Some false → LeavesJunkAt log.now b g w }
+{
+    words_ignored(place, log, others, Junk::LeftBy(g), g)
+}
