@@ -65,16 +65,31 @@ const NO_TURN: Turn = Turn {
     since: 0,
 };
 
+/// The place in the log, if the name is one in a list of such places, or in the log itself.
+fn named(places: Option<&[usize]>, name: usize) -> Option<usize> {
+    match places {
+        Some(places) => places.get(name).copied(),
+        None => Some(name),
+    }
+}
+
 /// Notes when the requests act in a run through a part, whose events have these names.
-fn note(turns: &mut Vec<Turn>, part: u32, names: &[usize], steps: &[Step]) {
+fn note(
+    turns: &mut Vec<Turn>,
+    part: u32,
+    places: Option<&[usize]>,
+    names: &[usize],
+    steps: &[Step],
+) {
     let mut before = 0u32;
     let mut since = 0usize;
     for step in steps {
         if let Step::Act(b) = step
             && let Some(name) = names.get(*b)
-            && *name < turns.len()
+            && let Some(name) = named(places, *name)
+            && name < turns.len()
         {
-            turns[*name] = Turn {
+            turns[name] = Turn {
                 part,
                 before,
                 since,
@@ -85,9 +100,145 @@ fn note(turns: &mut Vec<Turn>, part: u32, names: &[usize], steps: &[Step]) {
     }
 }
 
-/// Looks for a range of cells on which the log's part has no run, so that the log has none, and
+/// Ranges of cells of a log, from one on and before another.
+#[derive(Clone, Copy)]
+struct Ranges<'a> {
+    cells: &'a Cells,
+    first: usize,
+    end: usize,
+}
+
+impl Ranges<'_> {
+    /// The addresses where they begin and end.
+    fn whole(self) -> Option<(u64, u64)> {
+        let last = self.end.checked_sub(1)?;
+        Some((self.cells.range(self.first)?.0, self.cells.range(last)?.1))
+    }
+}
+
+/// Looks for one of the ranges on which the log's part has no run, so that the log has none, and
 /// returns the addresses where it begins and ends. Looks at no more than `limit` choices, and for each
-/// range at no more than a quarter of what is left of them.
+/// range at no more than a quarter of what is left of them; the second number is how many there were.
+fn each_of(
+    alloc: Global,
+    log: &Log<'_>,
+    cells: &Cells,
+    ranges: Ranges<'_>,
+    places: Option<&[usize]>,
+    turns: &mut Vec<Turn>,
+    limit: u64,
+) -> Result<(Option<(u64, u64)>, u64), AllocError>
+    requires places { ArePlaces log.now.events cells.now }
+    ensures dead { IfOk result (λ r. IsSome r.0 → Dead log.now (start log.now)) }
+    ensures states { IfOk result (λ r. r.1 ≤ limit) }
+{
+    let mut left = limit;
+    for number in ranges.first..ranges.end {
+        let Some(range) = ranges.cells.range(number) else {
+            break;
+        };
+        let part = u32::try_from(number).unwrap_or(NO_PART);
+        let Explored {
+            outcome,
+            names,
+            states,
+        } = explored_on(alloc, log, cells, range, left / 4)?;
+        left -= states;
+        match outcome {
+            Outcome::Run(steps) => note(turns, part, places, &names, &steps),
+            Outcome::Dead => return Ok((Some(range), limit - left)),
+            Outcome::Limit => {}
+        }
+    }
+    Ok((None, limit - left))
+}
+
+/// [`each_of`], in the part of the log on all of the ranges.
+fn each_within(
+    alloc: Global,
+    log: &Log<'_>,
+    cells: &Cells,
+    ranges: Ranges<'_>,
+    turns: &mut Vec<Turn>,
+    limit: u64,
+) -> Result<(Option<(u64, u64)>, u64), AllocError>
+    requires places { ArePlaces log.now.events cells.now }
+    ensures dead { IfOk result (λ r. IsSome r.0 → Dead log.now (start log.now)) }
+    ensures states { IfOk result (λ r. r.1 ≤ limit) }
+{
+    let Some((low, high)) = ranges.whole() else {
+        return Ok((None, 0));
+    };
+    let Some(group) = part(alloc, log, cells, low, high)? else {
+        return Ok((None, 0));
+    };
+    let inner = Cells::of(alloc, &group.log)?;
+    each_of(
+        alloc,
+        &group.log,
+        &inner,
+        ranges,
+        Some(&group.names),
+        turns,
+        limit,
+    )
+}
+
+/// How many ranges a part of a log has at least that is found by way of a part on several.
+const MANY: usize = 16;
+
+/// How many of them such a part has: about the root of their number.
+fn group_of(count: usize) -> usize {
+    (1..MANY)
+        .find(|root| root.saturating_mul(root.saturating_mul(16)) >= count)
+        .unwrap_or(MANY)
+        .saturating_mul(4)
+}
+
+/// [`each_of`], all ranges of the log. If they are many, they are looked for by groups.
+fn each_part(
+    alloc: Global,
+    log: &Log<'_>,
+    cells: &Cells,
+    turns: &mut Vec<Turn>,
+    limit: u64,
+) -> Result<(Option<(u64, u64)>, u64), AllocError>
+    requires places { ArePlaces log.now.events cells.now }
+    ensures dead { IfOk result (λ r. IsSome r.0 → Dead log.now (start log.now)) }
+    ensures states { IfOk result (λ r. r.1 ≤ limit) }
+{
+    let count = cells.count();
+    if count < MANY {
+        let ranges = Ranges {
+            cells,
+            first: 0,
+            end: count,
+        };
+        return each_of(alloc, log, cells, ranges, None, turns, limit);
+    }
+    let size = group_of(count);
+    let mut left = limit;
+    for group in 0..count {
+        let first = group.saturating_mul(size);
+        if first >= count {
+            break;
+        }
+        let ranges = Ranges {
+            cells,
+            first,
+            end: first.saturating_add(size).min(count),
+        };
+        let (dead, states) = each_within(alloc, log, cells, ranges, turns, left)?;
+        left -= states;
+        if dead.is_some() {
+            return Ok((dead, limit - left));
+        }
+    }
+    Ok((None, limit - left))
+}
+
+/// Looks for a range of cells on which the log's part has no run, so that the log has none. Looks at no
+/// more than `limit` choices.
 pub(crate) fn parts_of(alloc: Global, log: &Log<'_>, limit: u64) -> Result<Parts, AllocError>
     ensures dead { IfOk result (λ r. IsSome r.dead → Dead log.now (start log.now)) }
     ensures states { IfOk result (λ r. r.states ≤ limit) }
@@ -101,33 +252,10 @@ pub(crate) fn parts_of(alloc: Global, log: &Log<'_>, limit: u64) -> Result<Parts
         });
     }
     let mut turns = vec![in alloc; NO_TURN; log.len()]?;
-    let mut left = limit;
-    for number in 0..cells.count() {
-        let Some(range) = cells.range(number) else {
-            break;
-        };
-        let part = u32::try_from(number).unwrap_or(NO_PART);
-        let Explored {
-            outcome,
-            names,
-            states,
-        } = explored_on(alloc, log, &cells, range, left / 4)?;
-        left -= states;
-        match outcome {
-            Outcome::Run(steps) => note(&mut turns, part, &names, &steps),
-            Outcome::Dead => {
-                return Ok(Parts {
-                    dead: Some(range),
-                    turns,
-                    states: limit - left,
-                });
-            }
-            Outcome::Limit => {}
-        }
-    }
+    let (dead, states) = each_part(alloc, log, &cells, &mut turns, limit)?;
     Ok(Parts {
-        dead: None,
+        dead,
         turns,
-        states: limit - left,
+        states,
     })
 }

@@ -1,0 +1,5 @@
+use Rattle.std.proofs.Common.{◌≤◌}
+use Rattle.history_search.proofs.alone.each_part.Given as goal
+
+abbrev pub invariant-loop-group : goal.invariant-loop-group
+invariant-loop-group l = l.left ≤ l.limit
