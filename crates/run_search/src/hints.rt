@@ -6,14 +6,12 @@ ghost use Rattle.search_words.specs.Words.{IsWords};
 
 use crate::catalog::Catalog;
 use crate::sketches::Sketch;
-use byte_effects::{is_put, left};
 use log_runs::{Event, Log, Step};
 use search_others::Loss;
 use search_places::{Done, Place};
 use search_rules::{is_junk_at, is_within, leaves_junk_at};
-use search_words::{Words, near_junk, near_left, near_there, near_value, span_of};
+use search_words::{Words, near_junk, near_left, near_there, span_of};
 use std::alloc::{AllocError, Global};
-use tlp_core::Op;
 
 /// The four bytes from that place on.
 fn four(bytes: &[u8], at: usize) -> Option<u32> {
@@ -22,11 +20,6 @@ fn four(bytes: &[u8], at: usize) -> Option<u32> {
         return None;
     }
     Some(u32::from_le_bytes([bytes[at], bytes[at + 1], bytes[at + 2], bytes[at + 3]]))
-}
-
-/// The operation writes the four bytes from that place of its range on.
-fn puts_four(op: &Op, at: usize) -> bool {
-    (at..at.saturating_add(4)).all(|k| is_put(op, k))
 }
 
 /// The first bytes that the request needs are there.
@@ -222,43 +215,21 @@ impl Losses {
     }
 }
 
-/// The place behind the last request that needs the value of the word.
-fn needed_till(log: &Log, words: &Words, word: u64, value: u32) -> u32
+/// The place behind the last request that needs what request `q` leaves at one of its words, as far as
+/// that is known.
+fn calm_from(log: &Log, words: &Words, q: usize) -> u32
     requires { IsWords log.now words.now }
 {
-    if word >= log.extent().size() as u64 / 4 {
+    let Some((first, end)) = span_of(log, q) else {
         return 0;
-    }
-    match near_value(words, log, word, value, 0, log.len())
-        .known
-        .last()
-    {
-        Some(b) => u32::try_from(b.saturating_add(1)).unwrap_or(0),
-        None => 0,
-    }
-}
-
-/// The place behind the last request that needs a word that request `q` leaves, if it writes one.
-fn calm_from(log: &Log, words: &Words, q: usize) -> Option<u32>
-    requires { IsWords log.now words.now }
-{
-    let Some(Event::Sub { op, reply, .. }) = log.event(q) else {
-        return None;
     };
-    let (first, _) = span_of(log, q)?;
-    if op.address() % 4 != 0 {
-        return None;
-    }
-    let new = left(log.extent().block(), op, reply);
     let mut calm = 0;
-    for k in 0..new.len() / 4 {
-        if let Some(value) = four(new.as_slice(), k.saturating_mul(4))
-            && puts_four(op, k.saturating_mul(4))
-        {
-            calm = calm.max(needed_till(log, words, first.saturating_add(k as u64), value));
+    for word in first..end {
+        if let Some(b) = near_left(words, log, q, word, 0, log.len()).known.last() {
+            calm = calm.max(u32::try_from(b.saturating_add(1)).unwrap_or(0));
         }
     }
-    Some(calm)
+    calm
 }
 
 /// Notes of each request from where on nobody needs what it leaves.
@@ -266,10 +237,8 @@ pub(crate) fn note_calm(sketches: &mut [Sketch], log: &Log, words: &Words)
     requires { IsWords log.now words.now }
 {
     for q in 0..sketches.len() {
-        if !sketches[q].is_quiet()
-            && let Some(calm) = calm_from(log, words, q)
-        {
-            sketches[q].calm = calm;
+        if !sketches[q].is_quiet() {
+            sketches[q].calm = calm_from(log, words, q);
         }
     }
 }
