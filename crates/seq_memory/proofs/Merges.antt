@@ -1,8 +1,8 @@
 -- Merging DW by DW.
-use Rattle.std.proofs.Common.{◌≡◌, ℕ, zero, suc, ◌+◌, ◌-◌, ◌*◌, ◌/◌, ◌%◌, ◌≤◌, Bool, true, false, cond, eqb, List, [], ◌∷◌, ◌++◌, length, take, drop, get_or, replicate, refl, sym, ap, ◌∙◌, append_assoc, arith, length-append, length-drop}
+use Rattle.std.proofs.Common.{◌≡◌, ℕ, zero, suc, ◌+◌, ◌-◌, ◌*◌, ◌/◌, ◌%◌, ◌≤◌, Bool, true, false, cond, eqb, List, [], ◌∷◌, ◌++◌, length, take, drop, get_or, replicate, refl, sym, subst, ap, ◌∙◌, append_assoc, arith, length-append, length-drop}
 use Rattle.std.proofs.lemmas.List.{append-nil, drop_all, take_all, take_at, drop_at, take-append-drop, drop-drop, length-replicate}
 use Rattle.std.proofs.lemmas.Bool.Decides.{nat_tests}
-use Rattle.std.proofs.Math.Seq.{length-take-le}
+use Rattle.std.proofs.Math.Seq.{length-take-le, take-append_seam}
 use Rattle.std.specs.Prelude.{slice_get}
 use borrow.Rule.Slice.PartMut.{put_mid}
 use Rattle.tlp_core.specs.Enables.{dw_enables, enables}
@@ -105,3 +105,6 @@ pub take_zeros : (n m : ℕ) → n ≤ m → take {A = ℕ} n (replicate m 0) �
 take_zeros zero m h = refl
 take_zeros (suc n) zero h = absurd (omega arith)
 take_zeros (suc n) (suc m) h = ap (λ (xs : List ℕ). 0 ∷ xs) (take_zeros n m (omega arith))
+
+pub take_front : (n : ℕ) (xs ys : List ℕ) → length xs ≡ n → take n (xs ++ ys) ≡ xs
+take_front n xs ys e = subst (λ n. take n (xs ++ ys) ≡ xs) e (take-append_seam xs ys)

@@ -10,15 +10,19 @@
 //! are little-endian.
 #![tactic(auto)]
 
+mod data;
 mod extent;
 pub mod laws;
+mod lent;
 mod limits;
 mod memory;
 mod place;
 mod step;
 
 use arrayvec::ArrayVec;
+pub use data::Data;
 pub use extent::Extent;
+pub use lent::{Outcome, perform_lent};
 pub use limits::{ALIGNMENT, MAX_SIZE, MIN_SIZE, is_base, is_block, is_size};
 pub use memory::Memory;
 pub use step::perform;

@@ -9,7 +9,7 @@ use tlp_core::Op;
 
 /// Whether `count` bytes from `address` on lie in one block.
 #[tactic(auto, using(crate::proofs::Places::by_offset))]
-fn lies_in_block(block: u16, address: u64, count: u32) -> bool
+pub(crate) fn lies_in_block(block: u16, address: u64, count: u32) -> bool
     requires block { IsBlock block }
     requires some { 1 ≤ count }
     ensures { result ≡ is_in_block block address count }
@@ -18,7 +18,7 @@ fn lies_in_block(block: u16, address: u64, count: u32) -> bool
 }
 
 /// Whether `count` bytes from `address` on lie in the memory.
-fn lies_inside(base: u64, size: usize, address: u64, count: u32) -> bool
+pub(crate) fn lies_inside(base: u64, size: usize, address: u64, count: u32) -> bool
     ensures { result ≡ is_inside base size address count }
 {
     if address < base {

@@ -16,7 +16,7 @@ use byteorder::{ByteOrder, LittleEndian};
 use tlp_core::{MAX_PAYLOAD, Op, Width};
 
 /// The number in the first bytes.
-fn number_at(bytes: &[u8], width: Width) -> u128
+pub(crate) fn number_at(bytes: &[u8], width: Width) -> u128
     requires { size_of width ≤ length bytes.now }
     ensures value { result ≡ little_number (size_of width) bytes.now }
     ensures range { result < 2 ^ (8 * size_of width) }
@@ -29,7 +29,7 @@ fn number_at(bytes: &[u8], width: Width) -> u128
 }
 
 /// Writes the number into the place.
-fn put_number(place: &mut [u8], width: Width, number: u128)
+pub(crate) fn put_number(place: &mut [u8], width: Width, number: u128)
     requires size { length place.old ≡ size_of width }
     requires range { number < 2 ^ (8 * size_of width) }
     ensures { place.new ≡ little_bytes (size_of width) number }
@@ -86,7 +86,7 @@ fn merge_dw(old: &mut [u8], new: &[u8], enables: u8)
 }
 
 /// Puts the enabled bytes of new DW over as many old ones.
-fn merge(old: &mut [u8], new: &[u8], first: u8, last: u8)
+pub(crate) fn merge(old: &mut [u8], new: &[u8], first: u8, last: u8)
     requires same { length old.old ≡ length new.now }
     requires some { 4 ≤ length new.now }
     requires whole { length new.now % 4 ≡ 0 }

@@ -12,11 +12,13 @@ mod encoding;
 mod fault;
 mod field;
 pub mod laws;
+mod lent;
 mod operation;
 mod packet;
 
-pub use decoding::decode;
+pub use decoding::{decode, decode_lent};
 pub use encoding::{MAX_TLP, encode};
 pub use fault::TlpFault;
+pub use lent::{Asked, OpRef, asks, op_lent, operand_of};
 pub use operation::{Op, Width, copy_of, op_fault, op_of};
-pub use packet::{Body, Kind, MAX_PAYLOAD, Status, Tlp};
+pub use packet::{Body, Header, Kind, MAX_PAYLOAD, Status, Tlp, TlpRef};
