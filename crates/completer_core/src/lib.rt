@@ -4,9 +4,7 @@
 
 mod completion;
 pub mod laws;
-mod lent;
 mod serving;
 mod span;
 
-pub use lent::answer_lent;
-pub use serving::{answer, need_for, need_to_answer, serve, serve_op};
+pub use serving::{answer, answer_lent, need_for, need_to_answer, serve, serve_op};

@@ -1,4 +1,4 @@
--- A reply of its outcome and its data.
+-- Replies whose data stands apart.
 use Rattle.std.specs.Prelude.{ℕ, List}
 use Rattle.seq_memory.specs.declared.Reply.{Reply}
 use Rattle.seq_memory.specs.declared.Reply.TheVariants as replies
@@ -6,6 +6,7 @@ use Rattle.seq_memory.specs.declared.lent.Outcome.{Outcome}
 use Rattle.seq_memory.specs.declared.lent.Outcome.TheVariants as outcomes
 use Rattle.seq_memory.specs.Step.{data_of}
 
+-- the reply with that data
 abbrev pub reply_of : Outcome → List ℕ → Reply
 reply_of outcomes.Done bytes = replies.Done
 reply_of outcomes.Data bytes = data_of bytes

@@ -1,64 +1,50 @@
-//! One operation on the bytes, its own bytes lent and its data put into the caller's room.
-ghost use Rattle.std.specs.Prelude.{◌≡◌, ◌+◌, ◌*◌, ◌^◌, ◌<◌, ◌≤◌, None, IfNone, length};
-ghost use Rattle.tlp_core.specs.Operation.{size_of, op_fault, address_of, count_of};
+//! One operation on the bytes that lends its own, and whose data is put into the caller's room.
+//!
+//! [`perform`](crate::perform) has a body of its own: an operation that isn't one of a packet may
+//! have a fault, and its operands are numbers, not bytes.
+ghost use Rattle.std.specs.Prelude.{◌≡◌, ◌≤◌, None, length};
+ghost use Rattle.tlp_core.specs.Operation.{size_of, op_fault, count_of};
 ghost use Rattle.tlp_core.specs.Lent.{owned, HasSizes};
 ghost use Rattle.atomic_op.specs.NewValue.{FitsWidth};
 ghost use Rattle.seq_memory.specs.Limits.{IsBlock};
-ghost use Rattle.seq_memory.specs.Step.{changed, place_after, read_back, refusal, after, answer, IsSizedFor};
+ghost use Rattle.seq_memory.specs.Step.{changed, place_after, read_back, after, answer, IsSizedFor};
 ghost use Rattle.seq_memory.specs.Outcome.{reply_of};
 
 use crate::Refusal;
-use crate::data::Data;
-use crate::place::{lies_in_block, lies_inside};
-use crate::step::{merge, number_at, put_number};
-use atomic_op::{AtomicOp, apply};
-use tlp_core::{Asked, OpRef, Width, operand_of};
+use crate::data::ReplyData;
+use crate::place::refusal_at;
+use crate::step::{change, merge};
+use atomic_op::AtomicOp;
+use tlp_core::{OpForm, OpRef, Width, operand_of};
 
-/// A reply but for its data.
+/// A [`Reply`](crate::Reply) without its data.
 #[derive(Clone, Copy, Debug, PartialEq, Eq)]
 pub enum Outcome {
+    /// A write was done.
     Done,
+    /// The data of a read or of an AtomicOp stands in the room.
     Data,
+    /// See [`Refusal::Unsupported`].
     Unsupported,
+    /// See [`Refusal::Aborted`].
     Aborted,
 }
 
-/// Why the operation is not served, none where it is.
-fn refusal_lent(base: u64, block: u16, size: usize, op: &Asked<'_>) -> Option<Refusal>
-    requires { IsBlock block }
-    ensures value { result ≡ refusal base size block op.now }
-    ensures few { IfNone result (count_of op.now ≤ 128) }
-    ensures low { IfNone result (base ≤ address_of op.now) }
-    ensures high { IfNone result (address_of op.now + count_of op.now ≤ base + size) }
-{
-    let _ = op.form();
-    let address = op.address();
-    let count = op.size();
-    if !lies_in_block(block, address, count) {
-        return Some(Refusal::Aborted);
-    }
-    if !lies_inside(base, size, address, count) {
-        return Some(Refusal::Unsupported);
-    }
-    None
-}
-
-/// Does an AtomicOp at its place, and keeps the bytes that were there.
+/// Does an AtomicOp at its place, and puts the bytes that were there into the room.
 #[inline(always)]
-fn change(place: &mut [u8], width: Width, op: AtomicOp, room: &mut Data)
+fn exchange(place: &mut [u8], width: Width, op: AtomicOp, room: &mut ReplyData)
     requires size { length place.old ≡ size_of width }
     requires operands { FitsWidth op width }
     ensures place { place.new ≡ changed width op place.old }
     ensures old { room.new ≡ place.old }
 {
     room.set(place);
-    let value = apply(op, number_at(place, width), width);
-    put_number(place, width, value);
+    change(place, width, op);
 }
 
 /// A served operation at its place.
 #[inline(always)]
-fn serve(place: &mut [u8], op: &OpRef<'_>, room: &mut Data) -> Outcome
+fn serve(place: &mut [u8], op: &OpForm<'_>, room: &mut ReplyData) -> Outcome
     requires sound { op_fault (owned op.now) ≡ None }
     requires sizes { HasSizes op.now }
     requires size { length place.old ≡ count_of (owned op.now) }
@@ -68,11 +54,11 @@ fn serve(place: &mut [u8], op: &OpRef<'_>, room: &mut Data) -> Outcome
     ensures size { IsSizedFor (owned op.now) (reply_of result room.new) }
 {
     match *op {
-        OpRef::Read { first, last, .. } => {
+        OpForm::Read { first, last, .. } => {
             room.set_enabled(place, first, last);
             Outcome::Data
         }
-        OpRef::Write {
+        OpForm::Write {
             first,
             last,
             bytes,
@@ -81,46 +67,49 @@ fn serve(place: &mut [u8], op: &OpRef<'_>, room: &mut Data) -> Outcome
             merge(place, bytes, first, last);
             Outcome::Done
         }
-        OpRef::FetchAdd { operand, .. } => {
+        OpForm::FetchAdd { operand, .. } => {
             let (width, number) = operand_of(operand);
-            change(place, width, AtomicOp::FetchAdd(number), room);
+            exchange(place, width, AtomicOp::FetchAdd(number), room);
             Outcome::Data
         }
-        OpRef::Swap { operand, .. } => {
+        OpForm::Swap { operand, .. } => {
             let (width, number) = operand_of(operand);
-            change(place, width, AtomicOp::Swap(number), room);
+            exchange(place, width, AtomicOp::Swap(number), room);
             Outcome::Data
         }
-        OpRef::Cas { compare, swap, .. } => {
+        OpForm::Cas { compare, swap, .. } => {
             let (width, compare) = operand_of(compare);
             let (_, swap) = operand_of(swap);
-            change(place, width, AtomicOp::Cas(compare, swap), room);
+            exchange(place, width, AtomicOp::Cas(compare, swap), room);
             Outcome::Data
         }
     }
 }
 
-/// As [`perform`](crate::perform), the data put into `room`, which is left as it is where there is none.
+/// As [`perform`](crate::perform), but the reply's data is put into `room` in place of what it held;
+/// where the reply has no data the room counts for nothing. Takes no memory.
 #[inline(always)]
 pub fn perform_lent(
     base: u64,
     block: u16,
     bytes: &mut [u8],
-    op: &Asked<'_>,
-    room: &mut Data,
+    op: &OpRef<'_>,
+    room: &mut ReplyData,
 ) -> Outcome
     requires { IsBlock block }
     ensures bytes { bytes.new ≡ after base block bytes.old op.now }
     ensures reply { reply_of result room.new ≡ answer base block bytes.old op.now }
     ensures size { IsSizedFor op.now (reply_of result room.new) }
 {
-    match refusal_lent(base, block, bytes.len(), op) {
+    let form = op.form();
+    let address = op.address();
+    let count = op.size();
+    match refusal_at(base, block, bytes.len(), address, count) {
         Some(Refusal::Aborted) => Outcome::Aborted,
         Some(Refusal::Unsupported) => Outcome::Unsupported,
         None => {
-            let from = (op.address() - base) as usize;
-            let count = op.size() as usize;
-            serve(&mut bytes[from..from + count], &op.form(), room)
+            let from = (address - base) as usize;
+            serve(&mut bytes[from..from + count as usize], &form, room)
         }
     }
 }

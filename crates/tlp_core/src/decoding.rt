@@ -149,7 +149,8 @@ fn kind_fault(kind: Kind, bytes: &[u8]) -> Option<TlpFault>
     None
 }
 
-/// The packet that the bytes spell, or the first of their faults, in the order of [`TlpFault`].
+/// The packet that the bytes spell, or the first of their faults, in the order of [`TlpFault`]. Its
+/// payload is that part of the bytes.
 ///
 /// Bits that the tables of section 2.2 leave free or that this profile ignores may have any value,
 /// and a header of 4 DW may carry an address below 2^32. Takes no memory.
@@ -178,7 +179,7 @@ pub fn decode_lent(bytes: &[u8]) -> Result<TlpRef<'_>, TlpFault>
     Ok(TlpRef { header, payload })
 }
 
-/// As [`decode_lent`], the payload copied.
+/// As [`decode_lent`], but the packet has a payload of its own.
 #[inline(always)]
 pub fn decode(bytes: &[u8]) -> Result<Tlp, TlpFault>
     ensures reading { result ≡ reading bytes.now }

@@ -1,6 +1,6 @@
-//! A packet as a value.
+//! A packet as a value, with a payload of its own or a lent one.
 //!
-//! Every [`Tlp`] is a packet of the grammar: its body fits its kind, its payload has 4 times as
+//! Every [`Tlp`] and every [`TlpRef`] is a packet of the grammar: its body fits its kind, its payload has 4 times as
 //! many bytes as its Length says, its byte enables keep section 2.2.5 and its address is aligned.
 //! A literal proves that where it is made.
 
@@ -118,7 +118,8 @@ pub struct Header {
     pub body: Body,
 }
 
-/// A packet of the grammar that lends its payload.
+/// A packet of the grammar whose payload is lent, as one that stands in the bytes it was decoded
+/// from. Small, so it goes by value where a [`Tlp`] would be copied with its room.
 #[derive(Drop)]
 pub struct TlpRef<'a> {
     pub header: Header,
@@ -137,7 +138,8 @@ impl<'a> Model for TlpRef<'a> {
 }
 
 impl Tlp {
-    /// The packet, its payload lent.
+    /// The same packet, which lends the payload.
+    #[inline(always)]
     pub fn lend(&self) -> TlpRef<'_>
         ensures { result ≡ self.now }
     {
@@ -157,7 +159,8 @@ impl Tlp {
 }
 
 impl<'a> TlpRef<'a> {
-    /// A packet with a payload of its own. Takes no memory.
+    /// The packet with a payload of its own. Takes no memory.
+    #[inline(always)]
     #[tactic(auto, using(crate::proofs::Room::fits_room))]
     pub fn to_owned(&self) -> Tlp
         ensures { result ≡ self.now }
@@ -172,16 +175,6 @@ impl<'a> TlpRef<'a> {
             tag: header.tag,
             body: header.body,
             payload: crate::field::payload_of(self.payload),
-        }
-    }
-
-    /// The same packet, lent once more.
-    pub fn again(&self) -> TlpRef<'a>
-        ensures { result ≡ self.now }
-    {
-        TlpRef {
-            header: self.header,
-            payload: self.payload,
         }
     }
 }

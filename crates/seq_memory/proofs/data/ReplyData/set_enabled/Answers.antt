@@ -1,9 +1,9 @@
-use Rattle.std.proofs.Common.{◌≡◌, ◌∙◌, ◌/◌, ap, length, ℕ, List, replicate}
+use Rattle.std.proofs.Common.{◌≡◌, ◌∙◌, ◌/◌, sym, ap, length, ℕ, List, replicate}
 use Rattle.std.proofs.lemmas.List.{length-replicate}
 use Rattle.tlp_core.specs.Enables.{enables}
 use Rattle.seq_memory.specs.Step.{merged}
-use Rattle.seq_memory.proofs.Merges.{take_zeros, take_front}
-use Rattle.seq_memory.proofs.data.Data.set_enabled.Goals as goal
+use Rattle.seq_memory.proofs.Merges.{take_zeros, take_front, all_read}
+use Rattle.seq_memory.proofs.data.ReplyData.set_enabled.Goals as goal
 
 put : (c : goal.After-self-1) → (c.copy_from_slice.new.self ≡ replicate (length c.args.place.now) 0) × (length c.merge.new.old ≡ length c.args.place.now)
 put c =
@@ -19,3 +19,6 @@ returns-clause-items c =
 
 pub returns-clause-len : goal.returns-clause-len
 returns-clause-len c = ap (length {A = ℕ}) (take_front (length c.args.place.now) c.merge.new.old _ (put c).1) ∙ (put c).1
+
+pub returns-then-are_all_enabled-clause-items : goal.returns-then-are_all_enabled-clause-items
+returns-then-are_all_enabled-clause-items c = c.set.ensures ∙ sym (all_read (enables (length c.args.place.now / 4) c.args.first c.args.last) c.args.place.now (c.are_all_enabled.ensures c.if-are_all_enabled.true))
