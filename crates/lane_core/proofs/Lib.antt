@@ -7,6 +7,7 @@ pub mod Right
 pub mod Sound
 pub mod Directions
 pub mod Kept
+pub mod Spelled
 pub mod Whole
 pub mod Sums
 pub mod Windows

@@ -1,5 +1,5 @@
 //! What holds of a lane whatever calls are made, said of the values of its four ends, wherever these are.
-ghost use Rattle.std.specs.Prelude.{◌≡◌, ◌↔◌, ℕ, ◌+◌, ◌/◌, ◌<◌, ◌≤◌, All, IsOk, IsTrue, Some, List, [], ◌++◌, length};
+ghost use Rattle.std.specs.Prelude.{◌≡◌, ◌↔◌, ℕ, ◌+◌, ◌/◌, ◌<◌, ◌≤◌, All, IsOk, IsTrue, Some, List, [], ◌++◌, length, slice_get};
 ghost use Rattle.dllp_core.specs.declared.packet.Class.{Class};
 ghost use Rattle.tlp_core.specs.TlpView.{TlpView};
 ghost use Rattle.tlp_core.specs.Layout.{Spells, canonical};
@@ -75,6 +75,13 @@ pub fn wire_bytes_tell_the_packet()
     ensures number { (p q : WirePacket) → wire_bytes p ≡ wire_bytes q → p.number ≡ q.number }
     ensures bytes { (p q : WirePacket) → wire_bytes p ≡ wire_bytes q → p.cargo.bytes ≡ q.cargo.bytes }
     ensures zero_bits { (p : WirePacket) → p.number < 4096 → p.number / 256 < 16 }
+{
+    reading_is_spelling();
+}
+
+/// The canonical bytes of each packet that a lane holds, on its way or in its queue, spell that packet.
+pub fn what_a_lane_holds_is_spelled()
+    ensures { (e : LaneEndsView) (place mark : ℕ) (t : TlpView) → IsRight e → slice_get (content e) place ≡ Some (t, mark) → Spells (canonical t) t }
 {
     reading_is_spelling();
 }

@@ -16,5 +16,6 @@ pub use lane_ends::{
 pub use laws::{
     accepted_begins_entered, credits_are_whole_numbers, each_call_keeps_it_right,
     found_within_the_window, never_a_protocol_error, only_the_first_is_accepted,
-    quiet_is_nothing_left, room_is_known_less_used, wire_bytes_tell_the_packet,
+    quiet_is_nothing_left, room_is_known_less_used, what_a_lane_holds_is_spelled,
+    wire_bytes_tell_the_packet,
 };
