@@ -267,7 +267,7 @@ shows() {
         /^```systemverilog$/ || (/^```$/ && is_printed) { inside = 1; text = ""; count++; next }
         inside { text = text $0 "\n"; next }
         /^```/ { skipped = !skipped; next }
-        { is_printed = 0 }
+        NF { is_printed = 0 }
         /:$/ && /(prints|find it)/ { is_printed = 1 }
         END { exit bad || count == 0 }'
 }

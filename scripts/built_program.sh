@@ -1,12 +1,9 @@
 #!/bin/sh
-# Runs the built program for each of its exit statuses, over the files of examples/ and over streams that fail, and tells
-# each run that prints or ends otherwise. `rt ci` has to have built it.
+# Runs the program for each of its exit statuses, over the files of examples/ and over streams that fail, and tells each
+# run that prints or ends otherwise: built_program.sh [PROGRAM], the one that `rt ci` built if none is named. A program
+# with checks at run time (scripts/unproved.sh) is slower: a run of threads has 10 minutes.
+pciex=$(sh "$(dirname "$0")/program.sh" "$@") || exit 1
 cd "$(dirname "$0")/.." || exit 1
-pciex=crates/pciex/out/pciex
-if [ ! -x $pciex ]; then
-    echo "built program: there is no $pciex: run rt ci first"
-    exit 1
-fi
 room=$(mktemp -d) || exit 1
 trap 'rm -rf "$room"' EXIT
 runs=0
@@ -27,7 +24,7 @@ wants() {
 of_file() {
     input=$1
     shift
-    timeout 10 $pciex "$@" < "$input" > "$room/output" 2> "$room/errors"
+    timeout 60 "$pciex" "$@" < "$input" > "$room/output" 2> "$room/errors"
     status=$?
 }
 
@@ -69,20 +66,20 @@ wants "upgrade on trace.txt" 0 "$room/trace" "$room/nothing"
 of_file examples/write_passes_read.txt step --trace
 wants "step --trace on write_passes_read.txt" 0 "$room/trace" "$room/nothing"
 for name in lost_ack write_passes_read credits stopped_link; do
-    $pciex step --trace < examples/$name.txt > "$room/told"
+    "$pciex" step --trace < examples/$name.txt > "$room/told"
     of_file "$room/told" check
     wants "check on what step --trace prints of $name.txt" 0 "$room/ok" "$room/nothing"
 done
 
 # A history is searched for: what is found is checked, and where there is none, or the search is given up, that is told.
 for name in lost_ack write_passes_read credits stopped_link; do
-    $pciex step --trace < examples/$name.txt | $pciex search > "$room/told" 2> /dev/null
+    "$pciex" step --trace < examples/$name.txt | "$pciex" search > "$room/told" 2> /dev/null
     of_file "$room/told" check
     wants "check on what search finds for the trace of $name.txt" 0 "$room/ok" "$room/nothing"
 done
 for words in "--seed 7 --events 300" "--seed 2 --events 400 --requesters 7 --lose 5 --corrupt 6 --block 128"; do
     # shellcheck disable=SC2086
-    $pciex generate $words | $pciex step --trace | $pciex search > "$room/told" 2> /dev/null
+    "$pciex" generate $words | "$pciex" step --trace | "$pciex" search > "$room/told" 2> /dev/null
     of_file "$room/told" check
     wants "check on what search finds for generate $words" 0 "$room/ok" "$room/nothing"
 done
@@ -147,7 +144,7 @@ for words in "--seed 1 --events 0" "--seed 7 --events 3000 --lose 8" "--seed 184
     # shellcheck disable=SC2086
     of_file /dev/null generate $words
     wants "generate $words, once more" 0 "$room/storm" "$room/nothing"
-    $pciex step --trace < "$room/storm" > "$room/told"
+    "$pciex" step --trace < "$room/storm" > "$room/told"
     of_file "$room/told" check
     wants "check on the storm of $words" 0 "$room/ok" "$room/nothing"
     of_file "$room/told" draw --to 20
@@ -217,7 +214,7 @@ done
 counts() {
     printf 'answered %s\nhistory %s\nword %s\ncheck ok\n' "$1" "$1" "$1" > "$room/counted"
     shift
-    timeout 60 $pciex run "$@" < /dev/null > "$room/output" 2> "$room/errors"
+    timeout 600 "$pciex" run "$@" < /dev/null > "$room/output" 2> "$room/errors"
     status=$?
     wants "run $*" 0 "$room/counted" "$room/nothing"
 }
@@ -233,7 +230,7 @@ done
 
 # With --progress the error stream tells how far the run is, and nothing else.
 printf 'answered %s\nhistory %s\nword %s\ncheck ok\n' 140000 140000 140000 > "$room/counted"
-timeout 60 $pciex run --requesters 7 --each 20000 --progress < /dev/null > "$room/output" 2> "$room/errors"
+timeout 600 "$pciex" run --requesters 7 --each 20000 --progress < /dev/null > "$room/output" 2> "$room/errors"
 status=$?
 grep '^[0-9]* of 140000$' "$room/errors" > "$room/told"
 [ -s "$room/told" ] || echo "a line" > "$room/told"
@@ -258,20 +255,20 @@ for words in tlp decode encode check search draw chart upgrade step "step --trac
 done
 if [ -c /dev/full ]; then
     : > "$room/output"
-    timeout 10 $pciex tlp < examples/packets.txt > /dev/full 2> "$room/errors"
+    timeout 10 "$pciex" tlp < examples/packets.txt > /dev/full 2> "$room/errors"
     status=$?
     wants "tlp, where standard output is full" 1 "$room/nothing" "$room/write"
-    timeout 10 $pciex run --requesters 1 --each 1 < /dev/null > /dev/full 2> "$room/errors"
+    timeout 10 "$pciex" run --requesters 1 --each 1 < /dev/null > /dev/full 2> "$room/errors"
     status=$?
     wants "run, where standard output is full" 1 "$room/nothing" "$room/write"
-    timeout 10 $pciex generate --seed 1 --events 9 < /dev/null > /dev/full 2> "$room/errors"
+    timeout 10 "$pciex" generate --seed 1 --events 9 < /dev/null > /dev/full 2> "$room/errors"
     status=$?
     wants "generate, where standard output is full" 1 "$room/nothing" "$room/write"
 fi
 
 # Each answer is written before more is read: this user waits for it, and the input has not ended.
 mkfifo "$room/in" "$room/out"
-timeout 10 $pciex tlp < "$room/in" > "$room/out" &
+timeout 10 "$pciex" tlp < "$room/in" > "$room/out" &
 exec 3> "$room/in" 4< "$room/out"
 for _ in 1 2 3; do
     echo 4C0000 >&3

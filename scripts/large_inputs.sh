@@ -1,10 +1,15 @@
 #!/bin/sh
-# Runs the built program on inputs that are too large for a test's table: a memory of 1 MiB with a trace of 200,001
+# Runs the program on inputs that are too large for a test's table: a memory of 1 MiB with a trace of 200,001
 # records, a lane with 2047 packets that no Ack has told of, a requester with 256 open tags, and a log of 100,000
-# records. It tells each run that ends otherwise than it should. `rt ci` has to have built the program. With a folder the inputs are written there and
-# nothing is run.
+# records. It tells each run that ends otherwise than it should: large_inputs.sh [PROGRAM], the one that `rt ci` built if
+# none is named. With a folder in its place the inputs are written there and nothing is run.
+folder=
+if [ -d "${1:-}" ]; then
+    folder=$(cd "$1" && pwd) || exit 1
+else
+    pciex=$(sh "$(dirname "$0")/program.sh" "$@") || exit 1
+fi
 cd "$(dirname "$0")/.." || exit 1
-pciex=crates/pciex/out/pciex
 room=$(mktemp -d) || exit 1
 trap 'rm -rf "$room"' EXIT
 runs=0
@@ -91,14 +96,10 @@ trace 1 > "$room/flawed_trace"
 window > "$room/window_script"
 tags > "$room/tags_script"
 log > "$room/mixed_log"
-if [ $# -gt 0 ]; then
+if [ -n "$folder" ]; then
     cp "$room/explained_trace" "$room/flawed_trace" "$room/window_script" "$room/tags_script" \
-        "$room/mixed_log" "$1"
+        "$room/mixed_log" "$folder"
     exit
-fi
-if [ ! -x $pciex ]; then
-    echo "large inputs: there is no $pciex: run rt ci first"
-    exit 1
 fi
 
 # ends WHAT STATUS INPUT WORD..: whether a run of the program on the input has this exit status and its output ends with
@@ -106,7 +107,7 @@ fi
 ends() {
     what=$1 want=$2 input=$3
     shift 3
-    timeout 600 $pciex "$@" < "$input" > "$room/output" 2> "$room/errors"
+    timeout 600 "$pciex" "$@" < "$input" > "$room/output" 2> "$room/errors"
     status=$?
     runs=$((runs + 1))
     tail -n "$(wc -l < "$room/told")" "$room/output" > "$room/end"

@@ -1,23 +1,23 @@
 #!/bin/sh
-# Runs each command that a page shows behind `$ `, from the top of the repository and with the built program on the path,
-# and compares what it prints, on either stream, with what the page shows below it. Fails where one differs.
+# Runs each command that a page shows behind `$ `, from the top of the repository and with the program on the path, and
+# compares what it prints, on either stream, with what the page shows below it. Fails where one differs: pages.sh
+# [PROGRAM], the one that `rt ci` built if none is named.
+pciex=$(sh "$(dirname "$0")/program.sh" "$@") || exit 1
 cd "$(dirname "$0")/.." || exit 1
 room=$(mktemp -d) || exit 1
-help=$(mktemp) || exit 1
-trap 'rm -rf "$room" "$help"' EXIT
-PATH=$PWD/crates/pciex/out:$PATH
+bin=$(mktemp -d) || exit 1
+trap 'rm -rf "$room" "$bin"' EXIT
+help=$bin/help
+ln -s "$pciex" "$bin/pciex"
+PATH=$bin:$PATH
 export PATH
-if [ ! -x crates/pciex/out/pciex ]; then
-    echo "commands of pages: there is no crates/pciex/out/pciex"
-    exit 1
-fi
 runs=0
 failed=0
 
 # The examples in the help of the subcommands are one page more. The pictures that two of them draw are not kept.
 {
     echo '```'
-    for name in $(pciex --help | sed -n '/^Commands:/,/^$/s/^  \([a-z]*\) .*/\1/p'); do
+    for name in $(pciex --help | sed -n '/^Commands:/,/^$/s/^  \([a-z]*\) .*/\1/p' | grep -v '^help$'); do
         pciex "$name" --help | sed -n '/^Example:/,$s/^  //p' | sed 's#> [a-z]*[.]svg$#> /dev/null#'
     done
     echo '```'

@@ -1,13 +1,9 @@
 #!/bin/sh
-# Draws and charts the examples with the built program, and reads each picture with python's parser of XML, where there is
-# python. Tells each picture that is no XML, and whether docs/overlaps.svg and examples/lost_ack.svg are the pictures of
-# their examples. `rt ci` has to have built the program.
+# Draws and charts the examples, and reads each picture with python's parser of XML, where there is python. Tells each
+# picture that is no XML, and whether docs/overlaps.svg and examples/lost_ack.svg are the pictures of their examples:
+# pictures.sh [PROGRAM], the one that `rt ci` built if none is named.
+pciex=$(sh "$(dirname "$0")/program.sh" "$@") || exit 1
 cd "$(dirname "$0")/.." || exit 1
-pciex=crates/pciex/out/pciex
-if [ ! -x $pciex ]; then
-    echo "pictures: there is no $pciex: run rt ci first"
-    exit 1
-fi
 room=$(mktemp -d) || exit 1
 trap 'rm -rf "$room"' EXIT
 failed=0
@@ -24,7 +20,7 @@ makes() {
     what=$1
     want=$2
     shift 2
-    timeout 10 $pciex "$@" < "$room/input" > "$room/picture" 2> "$room/errors"
+    timeout 10 "$pciex" "$@" < "$room/input" > "$room/picture" 2> "$room/errors"
     status=$?
     count=$((count + 1))
     if [ $status -ne "$want" ] || [ -s "$room/errors" ] || ! is_xml "$room/picture"; then
@@ -56,7 +52,7 @@ for name in trace overlaps; do
     draws "points 9 to 9 of $name.txt" 0 --from 9 --to 9
 done
 for name in lost_ack write_passes_read credits stopped_link; do
-    $pciex step --trace < examples/$name.txt > "$room/input"
+    "$pciex" step --trace < examples/$name.txt > "$room/input"
     draws "the trace of $name.txt" 0
 done
 sed 's/^ans 1 0 2 data 01020304/ans 1 0 2 data 00000000/' examples/trace.txt > "$room/input"
@@ -77,14 +73,14 @@ for text in "" "<&>\"" "fabric 9 0 4096"; do
     echo "$text" > "$room/input"
     charts "the chart of '$text'" "$([ -z "$text" ] && echo 0 || echo 1)"
 done
-$pciex generate --seed 7 --events 3000 --lose 8 --corrupt 8 > "$room/input"
+"$pciex" generate --seed 7 --events 3000 --lose 8 --corrupt 8 > "$room/input"
 charts "the chart of a storm" 0
 charts "the lane in of a storm" 0 --lane in --from 1000
-$pciex chart < examples/lost_ack.txt | cmp -s - examples/lost_ack.svg || {
+"$pciex" chart < examples/lost_ack.txt | cmp -s - examples/lost_ack.svg || {
     echo "pictures: examples/lost_ack.svg is not the chart of examples/lost_ack.txt"
     failed=1
 }
-$pciex draw < examples/overlaps.txt | cmp -s - docs/overlaps.svg || {
+"$pciex" draw < examples/overlaps.txt | cmp -s - docs/overlaps.svg || {
     echo "pictures: docs/overlaps.svg is not the picture of examples/overlaps.txt"
     failed=1
 }

@@ -1,16 +1,22 @@
 #!/bin/sh
-# Runs the built program's `search` on 500 small random logs, and tells each whose answer is not that of all histories, or
+# Runs `pciex search` on 500 small random logs, and tells each whose answer is not that of all histories, or
 # whose place is not the least; then on the logs of a device with delays, which have a history, and of the same device
-# with each of eight defects, until one of them has none. What is right is known by searches.py alone. `rt ci` has to
-# have built the program. With a folder the logs are written there and nothing is run.
+# with each of eight defects, until one of them has none. What is right is known by searches.py alone: searches.sh
+# [PROGRAM], the one that `rt ci` built if none is named. With a folder in its place the logs are written there and nothing
+# is run.
+folder=
+if [ -d "${1:-}" ]; then
+    folder=$(cd "$1" && pwd) || exit 1
+else
+    pciex=$(sh "$(dirname "$0")/program.sh" "$@") || exit 1
+fi
 cd "$(dirname "$0")/.." || exit 1
-pciex=crates/pciex/out/pciex
 if ! command -v python3 > /dev/null; then
     echo "searches: left out, there is no python3"
     exit 0
 fi
-if [ $# -eq 0 ] && [ ! -x $pciex ]; then
-    echo "searches: there is no $pciex: run rt ci first"
-    exit 1
+export PYTHONDONTWRITEBYTECODE=1
+if [ -n "$folder" ]; then
+    exec python3 scripts/searches.py - "$folder"
 fi
-PYTHONDONTWRITEBYTECODE=1 exec python3 scripts/searches.py $pciex "$@"
+exec python3 scripts/searches.py "$pciex"

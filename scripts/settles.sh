@@ -1,11 +1,16 @@
 #!/bin/sh
-# Runs the built program on 2,000 random scripts that end in `settle`, and tells each that does not end in `settled`. Their
+# Runs the program on 2,000 random scripts that end in `settle`, and tells each that does not end in `settled`. Their
 # fabrics have one to seven requesters and the least credits, all credits or those that a line without credits means; the
 # events before `settle` lose packets and DLLPs and fail checks, and right before it there is nothing more, a link that
-# stops, or a packet that fails its check. `rt ci` has to have built the program. With a folder the scripts are written
-# there and nothing is run.
+# stops, or a packet that fails its check: settles.sh [PROGRAM], the one that `rt ci` built if none is named. With a folder
+# in its place the scripts are written there and nothing is run.
+folder=
+if [ -d "${1:-}" ]; then
+    folder=$(cd "$1" && pwd) || exit 1
+else
+    pciex=$(sh "$(dirname "$0")/program.sh" "$@") || exit 1
+fi
 cd "$(dirname "$0")/.." || exit 1
-pciex=crates/pciex/out/pciex
 number=2000
 room=$(mktemp -d) || exit 1
 trap 'rm -rf "$room"' EXIT
@@ -87,18 +92,14 @@ write_scripts() {
         }'
 }
 
-if [ $# -gt 0 ]; then
-    write_scripts "$1"
+if [ -n "$folder" ]; then
+    write_scripts "$folder"
     exit
-fi
-if [ ! -x $pciex ]; then
-    echo "settles: there is no $pciex: run rt ci first"
-    exit 1
 fi
 write_scripts "$room"
 script=0
 while [ $script -lt $number ]; do
-    timeout 10 $pciex step --keep-going < "$room/$script.txt" > "$room/output" 2> "$room/errors"
+    timeout 60 "$pciex" step --keep-going < "$room/$script.txt" > "$room/output" 2> "$room/errors"
     echo "$script $? $(grep -c -e '^fault' -e '^unsettled' "$room/output") $(tail -n 1 "$room/output")"
     script=$((script + 1))
 done > "$room/ends"

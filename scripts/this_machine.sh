@@ -1,14 +1,10 @@
 #!/bin/sh
-# Threads use the memory of this machine (c/examples/this_machine.c), and the built program judges what they were told:
+# Threads use the memory of this machine (c/examples/this_machine.c), and `pciex search` judges what they were told:
 # atomic operations have a history; additions that are split into a load and a store have none; a store and then a load
-# of another word have one, unless both threads loaded 0. It tells each log that is judged otherwise. `rt ci` has to have
-# built the program.
+# of another word have one, unless both threads loaded 0. It tells each log that is judged otherwise: this_machine.sh
+# [PROGRAM], the one that `rt ci` built if none is named.
+pciex=$(sh "$(dirname "$0")/program.sh" "$@") || exit 1
 cd "$(dirname "$0")/.." || exit 1
-pciex=crates/pciex/out/pciex
-if [ ! -x $pciex ]; then
-    echo "this machine: there is no $pciex: run rt ci first"
-    exit 1
-fi
 if ! command -v cc > /dev/null; then
     echo "this machine: left out, there is no cc"
     exit 0
@@ -23,11 +19,11 @@ failed=0
 judges() {
     timeout 60 "$room/this_machine" "$@" > "$room/log"
     wanted=$?
-    timeout 60 $pciex search < "$room/log" > "$room/answer" 2> "$room/errors"
+    timeout 60 "$pciex" search < "$room/log" > "$room/answer" 2> "$room/errors"
     status=$?
     runs=$((runs + 1))
     if [ $wanted -eq 0 ]; then
-        [ $status -eq 0 ] && [ "$($pciex check < "$room/answer")" = ok ] && return
+        [ $status -eq 0 ] && [ "$("$pciex" check < "$room/answer")" = ok ] && return
     else
         [ $wanted -eq 1 ] && [ $status -eq 1 ] && grep -q '^none [0-9]*$' "$room/answer" && return
     fi
