@@ -18,7 +18,7 @@ mod operation;
 mod packet;
 
 pub use decoding::{decode, decode_lent};
-pub use encoding::{MAX_TLP, encode};
+pub use encoding::{MAX_TLP, encode, encode_lent};
 pub use fault::TlpFault;
 pub use lent::{OpForm, OpRef, op_lent, operand_of};
 pub use operation::{Op, Width, copy_of, op_fault, op_of};
