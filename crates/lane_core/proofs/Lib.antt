@@ -11,3 +11,4 @@ pub mod Spelled
 pub mod Whole
 pub mod Sums
 pub mod Windows
+pub mod Room
