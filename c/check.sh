@@ -1,7 +1,7 @@
 #!/bin/sh
 # Builds the library for C, compiles and runs the examples and compares what they print with the files of examples/; then
 # the examples under valgrind, the Rust wrapper's tests, the Python package, the SystemVerilog and SystemC testbenches,
-# and what the pages show. If PCIEX_C names a folder with libpciex_c.a, it takes that archive and builds none; KIT_C can
+# the device in QEMU with the dissector of its packets, and what the pages show. If PCIEX_C names a folder with libpciex_c.a, it takes that archive and builds none; KIT_C can
 # name the folder of the toolchain's liblibc_c.a. Its last line lists what it left out because a tool is missing. Fails
 # if one of them fails.
 cd "$(dirname "$0")/.." || exit 1
@@ -206,6 +206,10 @@ if c++ -std=c++17 -o "$room/probe" "$room/probe.cpp" -lsystemc 2> /dev/null; the
 else
     left_out="$left_out, SystemC (libsystemc-dev)"
 fi
+
+# The device in QEMU: test.sh says what it leaves out.
+passes "the device in QEMU fails" env "LINK=$folder/libpciex_c.a $kit/liblibc_c.a" sh c/qemu/test.sh "$room"
+left_out="$left_out$(sed -n 's/^left out: /, /p' "$room/log" | tr -d '\n')"
 
 # ---- what the pages show
 
