@@ -6,7 +6,7 @@
 #     lib/libpciex.a, lib/libpciex.so the library, with all that a caller needs; the shared object exports `pciex_*` alone
 #     lib/pkgconfig/pciex.pc          the flags, relative to where the file lies, so that the folders can be moved
 #     share/man/man1/pciex.1          the manual page, if help2man is on the path
-#     share/bash-completion/completions/pciex
+#     share/bash-completion/completions/pciex, share/zsh/site-functions/_pciex, share/fish/vendor_completions.d/pciex.fish
 #
 # It builds nothing of Rattle: `rt ci` or `rt run` (in crates/pciex) builds the program, c/check.sh or `rt lib` (in
 # crates/pciex_c) the library. With DESTDIR the files go below that folder. The last line says what was left out.
@@ -53,17 +53,26 @@ Cflags: -I\${includedir}
 Libs: -L\${libdir} -lpciex
 end
 
-mkdir -p "$prefix/bin" "$prefix/include" "$prefix/lib/pkgconfig" "$prefix/share/bash-completion/completions"
+mkdir -p "$prefix/bin" "$prefix/include" "$prefix/lib/pkgconfig"
 install -m 755 $program "$prefix/bin/pciex"
 install -m 644 c/pciex.h c/pciex_differ.h "$prefix/include"
 install -m 644 "$room/libpciex.a" "$prefix/lib/libpciex.a"
 install -m 755 "$room/libpciex.so" "$prefix/lib/libpciex.so"
 install -m 644 "$room/pciex.pc" "$prefix/lib/pkgconfig/pciex.pc"
-install -m 644 scripts/pciex.bash "$prefix/share/bash-completion/completions/pciex"
+install -D -m 644 scripts/completions/pciex.bash "$prefix/share/bash-completion/completions/pciex"
+install -D -m 644 scripts/completions/_pciex "$prefix/share/zsh/site-functions/_pciex"
+install -D -m 644 scripts/completions/pciex.fish "$prefix/share/fish/vendor_completions.d/pciex.fish"
 if command -v help2man > /dev/null; then
+    # The help of each subcommand is a section of the page, as it is.
+    for name in $("$prefix/bin/pciex" --help | sed -n '/^Commands:/,/^$/s/^  \([a-z]*\) .*/\1/p'); do
+        [ "$name" != help ] || continue
+        printf '[%s]\n.nf\n' "pciex $name"
+        "$prefix/bin/pciex" "$name" --help | sed 's/\\/\\e/g; s/-/\\-/g; s/^\([.'"'"'[]\)/\\\&\1/'
+        printf '.fi\n\n'
+    done > "$room/sections"
     mkdir -p "$prefix/share/man/man1"
     help2man --no-info --name "a proved PCI Express memory device, fabric and checker of histories" \
-        --output "$prefix/share/man/man1/pciex.1" "$prefix/bin/pciex"
+        --include "$room/sections" --output "$prefix/share/man/man1/pciex.1" "$prefix/bin/pciex"
 else
     left_out="the manual page, since there is no help2man"
 fi

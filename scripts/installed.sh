@@ -1,7 +1,8 @@
 #!/bin/sh
-# Tries a release: makes its tar, unpacks it in an empty folder, runs the program, compiles a C program with the flags of
-# pkg-config alone, once against the archive and once against the shared object, and completes words in bash. Program and
-# library were built before. Fails if one of them fails. The last line says what was left out for lack of a tool.
+# Tries a release: makes its archive, unpacks it in an empty folder, compares the sums, runs the program on an example,
+# compiles a C program with the flags of pkg-config alone, once against the static library and once against the shared
+# object, runs the Python package and a SystemVerilog testbench, reads the manual page, and completes words in bash. Program
+# and library were built before. Fails if one of them fails. The last line says what was left out for lack of a tool.
 cd "$(dirname "$0")/.." || exit 1
 say() { echo "installed: $*"; }
 if [ ! -e crates/pciex_c/out/libpciex_c.a ] || ! command -v cc > /dev/null; then
@@ -30,9 +31,27 @@ prints() {
 
 tar=$(sh scripts/release.sh "$room" 2> "$room/log") || { cat "$room/log"; exit 1; }
 grep -q 'left out: nothing$' "$room/log" || left_out=$(sed -n 's/^installed: .*; left out: /, /p' "$room/log")
-mkdir "$room/empty" && tar -C "$room/empty" -xzf "$tar" || exit 1
+mkdir "$room/empty" || exit 1
+tar -C "$room/empty" -xzf "$tar" || exit 1
 home=$room/empty/pciex-$version
+prints "the archive's sum" "$(basename "$tar"): OK" sh -c 'cd "$0" && sha256sum -c SHA256SUMS' "$room"
+prints "the files' sums" "" sh -c 'cd "$0" && sha256sum -c --quiet SHA256SUMS' "$home"
 prints "the program" "pciex $version" "$home/bin/pciex" --version
+prints "the first script" "$(cat examples/first_script.out)" sh -c 'cd "$0" && bin/pciex step < examples/first_script.txt' "$home"
+if [ -e "$home/share/man/man1/pciex.1" ] && command -v man > /dev/null; then
+    prints "the manual page's example" 1 sh -c 'man -l "$0" 2> /dev/null | grep -cF "| pciex decode"' "$home/share/man/man1/pciex.1"
+fi
+if command -v python3 > /dev/null; then
+    prints "the Python package" "ok" env PCIEX_SO="$home/lib/libpciex.so" PYTHONPATH="$home/c/python/src" PYTHONDONTWRITEBYTECODE=1 \
+        sh -c 'python3 "$0/c/python/examples/check.py" < "$0/examples/trace.txt"' "$home"
+else
+    left_out="$left_out, the Python package, since there is no python3"
+fi
+if command -v verilator > /dev/null; then
+    prints "the SystemVerilog testbench" "" make -s -C "$home/c/sv/test" ARCHIVES="$home/lib/libpciex.a" OUT="$room/sv"
+else
+    left_out="$left_out, the SystemVerilog testbench, since there is no verilator"
+fi
 
 cat > "$room/first.c" << 'end'
 #include <pciex.h>

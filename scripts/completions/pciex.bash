@@ -1,0 +1,39 @@
+# Completion of `pciex` for bash, made by scripts/completions.sh from the program's help.
+_pciex() {
+    local word=${COMP_WORDS[COMP_CWORD]} words
+    case "${COMP_WORDS[COMP_CWORD - 1]}" in
+        --base) words="" ;;
+        --size) words="" ;;
+        --block) words="64 128" ;;
+        --limit) words="" ;;
+        --from) words="" ;;
+        --to) words="" ;;
+        --lane) words="up1 up2 up3 up4 up5 up6 up7 down1 down2 down3 down4 down5 down6 down7 in out" ;;
+        --seed) words="" ;;
+        --events) words="" ;;
+        --requesters) words="" ;;
+        --lose) words="" ;;
+        --corrupt) words="" ;;
+        --each) words="" ;;
+        --turns) words="" ;;
+        *)
+            case "$COMP_CWORD ${COMP_WORDS[1]}" in
+                "1 "*) words="tlp decode encode check search draw upgrade step chart generate run --help --version" ;;
+                "2 help") words="tlp decode encode check search draw upgrade step chart generate run" ;;
+                *" tlp") words="--base --size --block --help" ;;
+                *" decode") words="--help" ;;
+                *" encode") words="--help" ;;
+                *" check") words="--help" ;;
+                *" search") words="--limit --progress --help" ;;
+                *" draw") words="--from --to --help" ;;
+                *" upgrade") words="--help" ;;
+                *" step") words="--trace --keep-going --echo --help" ;;
+                *" chart") words="--lane --from --to --help" ;;
+                *" generate") words="--seed --events --requesters --lose --corrupt --block --help" ;;
+                *" run") words="--requesters --each --lose --corrupt --turns --progress --help" ;;
+            esac
+            ;;
+    esac
+    mapfile -t COMPREPLY < <(compgen -W "$words" -- "$word")
+}
+complete -F _pciex pciex
