@@ -191,11 +191,21 @@ if has_tool python3 "the Python package"; then
     fi
 fi
 
+# long_testbench: judges 20,000 requests in all ways of judge-your-own-device.md: each completion, the trace, and a search
+# for a history.
+long_testbench() {
+    printf 'scoreboard: 0 of 20000 requests answered wrong\ntrace: ok\nsearch: found\n' > "$room/long"
+    now=$(date +%s%N)
+    wants "a testbench of 20,000 requests" 0 "$room/long" /dev/null sh -c "'$room/sv/scoreboard/scoreboard' \
+        +requests=20000 +search '+trace=$room/long_trace' | grep -v 'Verilog \$finish'"
+    say "a testbench of 20,000 requests in $((($(date +%s%N) - now) / 1000000)) ms"
+}
 if has_tool verilator "SystemVerilog (verilator)"; then
     passes "the SystemVerilog testbench fails" make -C c/sv/test "OUT=$room/sv"
+    long_testbench
     if command -v valgrind > /dev/null; then
-        passes "valgrind finds something in the DPI functions" valgrind -q --error-exitcode=99 --leak-check=full \
-            "$room/sv/calls/calls"
+        passes "valgrind finds something in the DPI functions" sh -c "cd '$room/sv' && valgrind -q --error-exitcode=99 \
+            --leak-check=full calls/calls"
     fi
 fi
 has_systemc=
