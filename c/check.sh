@@ -1,7 +1,7 @@
 #!/bin/sh
 # Builds the library for C, compiles and runs the examples and compares what they print with the files of examples/; then
 # the examples under valgrind, the Rust wrapper's tests, the Python package, the SystemVerilog and SystemC testbenches,
-# and what the pages show. If PCIEX_C names a folder with libpciex_c.a, it takes that archive and builds none; KIT_C can
+# the device in QEMU with the dissector of its packets, and what the pages show. If PCIEX_C names a folder with libpciex_c.a, it takes that archive and builds none; KIT_C can
 # name the folder of the toolchain's liblibc_c.a. Its last line lists what it left out because a tool is missing. Fails
 # if one of them fails.
 cd "$(dirname "$0")/.." || exit 1
@@ -191,11 +191,21 @@ if has_tool python3 "the Python package"; then
     fi
 fi
 
+# long_testbench: judges 20,000 requests in all ways of judge-your-own-device.md: each completion, the trace, and a search
+# for a history.
+long_testbench() {
+    printf 'scoreboard: 0 of 20000 requests answered wrong\ntrace: ok\nsearch: found\n' > "$room/long"
+    now=$(date +%s%N)
+    wants "a testbench of 20,000 requests" 0 "$room/long" /dev/null sh -c "'$room/sv/scoreboard/scoreboard' \
+        +requests=20000 +search '+trace=$room/long_trace' | grep -v 'Verilog \$finish'"
+    say "a testbench of 20,000 requests in $((($(date +%s%N) - now) / 1000000)) ms"
+}
 if has_tool verilator "SystemVerilog (verilator)"; then
     passes "the SystemVerilog testbench fails" make -C c/sv/test "OUT=$room/sv"
+    long_testbench
     if command -v valgrind > /dev/null; then
-        passes "valgrind finds something in the DPI functions" valgrind -q --error-exitcode=99 --leak-check=full \
-            "$room/sv/calls/calls"
+        passes "valgrind finds something in the DPI functions" sh -c "cd '$room/sv' && valgrind -q --error-exitcode=99 \
+            --leak-check=full calls/calls"
     fi
 fi
 has_systemc=
@@ -206,6 +216,10 @@ if c++ -std=c++17 -o "$room/probe" "$room/probe.cpp" -lsystemc 2> /dev/null; the
 else
     left_out="$left_out, SystemC (libsystemc-dev)"
 fi
+
+# The device in QEMU: test.sh says what it leaves out.
+passes "the device in QEMU fails" env "LINK=$folder/libpciex_c.a $kit/liblibc_c.a" sh c/qemu/test.sh "$room"
+left_out="$left_out$(sed -n 's/^left out: /, /p' "$room/log" | tr -d '\n')"
 
 # ---- what the pages show
 
@@ -267,7 +281,7 @@ shows() {
         /^```systemverilog$/ || (/^```$/ && is_printed) { inside = 1; text = ""; count++; next }
         inside { text = text $0 "\n"; next }
         /^```/ { skipped = !skipped; next }
-        { is_printed = 0 }
+        NF { is_printed = 0 }
         /:$/ && /(prints|find it)/ { is_printed = 1 }
         END { exit bad || count == 0 }'
 }

@@ -6,24 +6,26 @@
  * x86-64, and with liblibc_c.a of the toolchain, through which it calls malloc, realloc and free. A device without a
  * handle, packets and names take no memory. A history and a trace grow, until their device or fabric is freed.
  *
- * Codes. Each call answers a number of 32 bits:
+ * Codes. Each call returns a number of 32 bits:
  *
- *   below 1000     it is done: 0, or where the call says so how many bytes its answer has
- *   1000 to 1999   a fault, a refusal or a flaw: 1000 and a number, as the call says: that of the fault, or how many
- *                  bytes its text in the room has
+ *   below 1000     it succeeded: 0, or if the call says so the number of bytes of its result
+ *   1000 to 1999   a fault, a refusal or a flaw: 1000 and a number, as the call says: that of the fault, or the number
+ *                  of bytes of its text in the buffer
  *   from 2000 on   an argument that can't be right, or out of memory: one of the codes below
  *
- * From 1000 on nothing has changed, but for that text, and for the length that pciex_fabric_trace and pciex_search tell.
+ * From 1000 on nothing has changed, but for that text, and for the length that pciex_fabric_trace and pciex_search
+ * return.
  *
- * Rooms. An answer goes into a room that the caller lends: `room` points to `room_length` bytes. It stands at the
+ * Buffers. A result goes into a buffer of the caller: `room` points to its `room_length` bytes. The result is at the
  * front, is not ended by a zero, and what follows it stays as it was. PCIEX_PACKET bytes are always enough for a
- * completion, PCIEX_LINE for all else that isn't a whole memory or trace, and a call asks for that many whatever it has
- * to say.
+ * completion, PCIEX_LINE for all else that isn't a whole memory or trace, and a call requires that many whatever its
+ * result is.
  *
  * What can't be tested, and so is the caller's to keep:
  *
- *   - a pointer and its length name bytes that may be read, and for a room or a device's bytes written
- *   - the bytes, the packet or the line, the room, the handle and a number that is told, of one call, don't overlap
+ *   - a pointer and its length name bytes that may be read, and for a buffer or a device's bytes written
+ *   - the bytes, the packet or the line, the buffer, the handle and a number that is returned by pointer, of one call,
+ *     don't overlap
  *   - a handle is PCIEX_NONE before it is given to a call that makes something, only calls write into it, and it stays
  *     on its thread; it has no copies, since a call through one copy uses up the others
  *   - malloc, realloc and free are from one allocator, with blocks aligned to 16 bytes; no call comes from the handler
@@ -33,7 +35,7 @@
  * PCIEX_NULL, PCIEX_EMPTY. The functions pciex_raw_* below them are the library's own, for callers in other languages:
  * they test all but that.
  *
- * No call blocks, aborts, prints or keeps a pointer to what the caller lends. Calls on different threads, with handles
+ * No call blocks, aborts, prints or keeps a pointer of the caller's. Calls on different threads, with handles
  * of their own or without, may run at the same time.
  */
 #ifndef PCIEX_H
@@ -50,25 +52,25 @@ extern "C" {
 /* The version of this header; pciex_version has that of the library. */
 #define PCIEX_VERSION "0.2.0"
 
-/* The room has fewer bytes than the call asks for. */
+/* The buffer has fewer bytes than the call requires. */
 #define PCIEX_SMALL_ROOM 2000u
 /* A block has neither 64 nor 128 bytes. */
 #define PCIEX_WRONG_BLOCK 2001u
-/* The packet is a completion, and a request is asked for. */
+/* The packet is a completion, and a request is required. */
 #define PCIEX_NO_REQUEST 2002u
-/* Memory was refused. */
+/* An allocation failed. */
 #define PCIEX_NO_MEMORY 2003u
 /* A memory has 128 to 1,048,576 bytes, a multiple of 128. */
 #define PCIEX_WRONG_SIZE 2004u
-/* A base address is a multiple of 128, from which on so many addresses are below 2^64. */
+/* A base address is a multiple of 128, and the memory ends at 2^64 or before. */
 #define PCIEX_WRONG_BASE 2005u
-/* The history has no entry at that place. */
+/* The history has no entry at that index. */
 #define PCIEX_NO_ENTRY 2006u
 /* No fault has that number. */
 #define PCIEX_NO_FAULT 2007u
-/* The line isn't one of the form that is asked for. */
+/* The line isn't one of the form that is required. */
 #define PCIEX_NO_LINE 2008u
-/* The packet is a request, and a completion is asked for. */
+/* The packet is a request, and a completion is required. */
 #define PCIEX_NO_COMPLETION 2010u
 /* A monitor's requesters are 1 to 7. */
 #define PCIEX_NO_REQUESTER 2011u
@@ -91,7 +93,7 @@ extern "C" {
 /* All 4,294,967,295 numbers of the requester are spent. */
 #define PCIEX_NUMBERS_USED 1024u
 
-/* The bytes of room that a completion is asked for, and a line. */
+/* The bytes of buffer that a completion requires, and a line. */
 #define PCIEX_PACKET 144
 #define PCIEX_LINE 512
 
@@ -158,12 +160,12 @@ uint32_t pciex_raw_version(uint8_t *room, size_t room_length);
 /*
  * One TLP at a memory device whose memory is the caller's `length` bytes, the first of them at the address `base`, and
  * which serves accesses by naturally aligned blocks of `block` bytes, 64 or 128. The bytes change as the request says,
- * and its completion goes into the room, of PCIEX_PACKET bytes or more. There is no history, and no memory is taken.
- * Any base and any length will do.
+ * and its completion goes into the buffer, of PCIEX_PACKET bytes or more. There is no history, and nothing is
+ * allocated. Any base and any length will do.
  *
- * Below 1000: how many bytes the completion has; 0 for a posted write, which has none. A request that isn't served
- * changes no byte: its completion says Completer Abort where it crosses a block, else Unsupported Request where it
- * leaves the bytes. A posted write that isn't served is answered 0, as one that is.
+ * Below 1000: the number of bytes of the completion; 0 for a posted write, which has none. A request that isn't served
+ * changes no byte: its completion says Completer Abort if it crosses a block, else Unsupported Request if it leaves the
+ * bytes. A posted write that isn't served returns 0, as one that is.
  * 1000 to 1999: 1000 and the number of the packet's fault, 1 to 13; pciex_fault_name has its name.
  * Tested in this order: PCIEX_WRONG_BLOCK, PCIEX_SMALL_ROOM, the packet's fault, PCIEX_NO_REQUEST.
  */
@@ -179,7 +181,7 @@ static inline uint32_t pciex_answer(uint8_t *bytes, size_t length, uint64_t base
 /* ---- a device with a history */
 
 /*
- * Makes a device of `size` zeros at the address `base`, with an empty history, in a handle that holds nothing. 0 where
+ * Makes a device of `size` zeros at the address `base`, with an empty history, in a handle that holds nothing. 0 if
  * it is made; PCIEX_WRONG_SIZE, PCIEX_WRONG_BASE, PCIEX_WRONG_BLOCK, PCIEX_NO_MEMORY, tested in this order.
  */
 static inline uint32_t pciex_device_new(uint64_t base, size_t size, uint16_t block, pciex_device *device)
@@ -194,9 +196,9 @@ static inline uint32_t pciex_device_new(uint64_t base, size_t size, uint16_t blo
 }
 
 /*
- * One TLP at the device, as pciex_answer has it. The request stands in the history from then on, under the port of its
+ * One TLP at the device, as pciex_answer has it. The request is in the history from then on, under the port of its
  * Requester ID (the upper 8 bits) and the number that the caller gives it; one that is aborted or unsupported, too.
- * Below 1000: how many bytes the completion has, as there. 1000 to 1999: 1000 and the number of the packet's fault.
+ * Below 1000: the number of bytes of the completion, as there. 1000 to 1999: 1000 and the number of the packet's fault.
  * Tested in this order: PCIEX_SMALL_ROOM, the packet's fault, PCIEX_NO_REQUEST, PCIEX_NO_MEMORY.
  */
 static inline uint32_t pciex_device_serve(pciex_device *device, uint32_t number, const uint8_t *packet,
@@ -211,7 +213,7 @@ static inline uint32_t pciex_device_serve(pciex_device *device, uint32_t number,
     return pciex_raw_device_serve(*device, number, packet, packet_length, room, room_length, device);
 }
 
-/* Tells in `count` how many requests the history has. 0. */
+/* Writes into `count` the number of requests of the history, and returns 0. */
 static inline uint32_t pciex_device_history_length(pciex_device *device, size_t *count)
 {
     if (!device || !count) {
@@ -225,8 +227,8 @@ static inline uint32_t pciex_device_history_length(pciex_device *device, size_t 
 }
 
 /*
- * The request at a place of the history, from 0: its requester (0 to 255), its number and its operation, parted by
- * spaces, `1 0 add 40 07000000`. The operation is spelled as in a trace. Below 1000: how many bytes that has.
+ * The request at an index of the history, from 0: its requester (0 to 255), its number and its operation, parted by
+ * spaces, `1 0 add 40 07000000`. The operation is spelled as in a trace. Below 1000: the number of bytes of that.
  * Tested in this order: PCIEX_SMALL_ROOM for fewer than PCIEX_LINE bytes, PCIEX_NO_ENTRY.
  */
 static inline uint32_t pciex_device_entry(pciex_device *device, size_t place, uint8_t *room, size_t room_length)
@@ -264,11 +266,11 @@ static inline void pciex_device_free(pciex_device *device)
 /* ---- a fabric */
 
 /*
- * Makes the fabric that the line asks for, in a handle that holds nothing: `fabric <requesters> <base> <size>`, then
+ * Makes the fabric of the line, in a handle that holds nothing: `fabric <requesters> <base> <size>`, then
  * six credits or none, then `block <bytes>` or nothing, as docs/formats.md has it. No line feed ends the line. With
  * `is_traced` the fabric keeps a trace, which grows by a record for each submission and each answer.
- * 0 where it is made. 1000 to 1999: a fault of the configuration, whose name of so many bytes less 1000 stands in the
- * room. Tested in this order: PCIEX_SMALL_ROOM for fewer than PCIEX_LINE bytes, PCIEX_NO_LINE, the fault,
+ * 0 if it is made. 1000 to 1999: 1000 and the number of bytes of the fault's name, which is in the buffer. Tested in
+ * this order: PCIEX_SMALL_ROOM for fewer than PCIEX_LINE bytes, PCIEX_NO_LINE, the fault,
  * PCIEX_NO_MEMORY.
  */
 static inline uint32_t pciex_fabric_new(const uint8_t *line, size_t line_length, bool is_traced, uint8_t *room,
@@ -284,11 +286,11 @@ static inline uint32_t pciex_fabric_new(const uint8_t *line, size_t line_length,
 }
 
 /*
- * The event of a script's line happens to the fabric: `submit 1 add 40 07000000`, `transmit up1`. Below 1000: how many
- * bytes what is seen of it has, `sub 1 0`, as `pciex step` prints it, without a line feed. 1000 to 1999: the fabric
- * refuses it and stays as it was, and the refusal's name of so many bytes less 1000 stands in the room. Tested in this
- * order: PCIEX_SMALL_ROOM for fewer than PCIEX_LINE bytes, PCIEX_NO_LINE, the refusal or PCIEX_NO_MEMORY. One call is
- * one event: `settle`, which is many, is answered PCIEX_NO_LINE, as a comment and an empty line are, which are none.
+ * The event of a script's line happens to the fabric: `submit 1 add 40 07000000`, `transmit up1`. Below 1000: the
+ * number of bytes of its result, `sub 1 0`, as `pciex step` prints it, without a line feed. 1000 to 1999: the fabric
+ * refuses it and stays as it was; 1000 and the number of bytes of the refusal's name, which is in the buffer. Tested in
+ * this order: PCIEX_SMALL_ROOM for fewer than PCIEX_LINE bytes, PCIEX_NO_LINE, the refusal or PCIEX_NO_MEMORY. One call
+ * is one event: `settle`, which is many, returns PCIEX_NO_LINE, as a comment and an empty line do, which are none.
  */
 static inline uint32_t pciex_fabric_event(pciex_fabric *fabric, const uint8_t *line, size_t line_length, uint8_t *room,
                                           size_t room_length)
@@ -303,9 +305,9 @@ static inline uint32_t pciex_fabric_event(pciex_fabric *fabric, const uint8_t *l
 }
 
 /*
- * The text of the trace and the history, as `pciex step --trace` writes it: 0, or PCIEX_SMALL_ROOM; `length` is how
- * many bytes it has, in both cases. Or PCIEX_NO_MEMORY: `length` stays as it was. A fabric that keeps no trace has a
- * text without records. The call takes memory for the text while it runs.
+ * The text of the trace and the history, as `pciex step --trace` writes it: 0, or PCIEX_SMALL_ROOM; `length` is the
+ * number of its bytes, in both cases. Or PCIEX_NO_MEMORY: `length` stays as it was. A fabric that keeps no trace has a
+ * text without records. The call allocates memory for the text while it runs.
  */
 static inline uint32_t pciex_fabric_trace(pciex_fabric *fabric, uint8_t *room, size_t room_length, size_t *length)
 {
@@ -319,8 +321,8 @@ static inline uint32_t pciex_fabric_trace(pciex_fabric *fabric, uint8_t *room, s
 }
 
 /*
- * Tells in `quiet` whether all that was entered into the fabric's lanes was taken: then each submission stands in the
- * history once, and none waits for its completion. 0.
+ * Writes into `quiet` whether all that was entered into the fabric's lanes was taken, and returns 0. If so, each
+ * submission is in the history once, and none waits for its completion.
  */
 static inline uint32_t pciex_fabric_quiet(pciex_fabric *fabric, bool *quiet)
 {
@@ -334,7 +336,7 @@ static inline uint32_t pciex_fabric_quiet(pciex_fabric *fabric, bool *quiet)
     return 0;
 }
 
-/* Tells in `count` how many requests have acted on the fabric's memory. 0. */
+/* Writes into `count` the number of requests that have acted on the fabric's memory, and returns 0. */
 static inline uint32_t pciex_fabric_history_length(pciex_fabric *fabric, size_t *count)
 {
     if (!fabric || !count) {
@@ -349,7 +351,7 @@ static inline uint32_t pciex_fabric_history_length(pciex_fabric *fabric, size_t 
 
 /*
  * All bytes of the fabric's memory as they are now, from its base address on: 0, or PCIEX_SMALL_ROOM for fewer than it
- * has, which are as many as the line of pciex_fabric_new asked for.
+ * has, the size in the line of pciex_fabric_new.
  */
 static inline uint32_t pciex_fabric_bytes(pciex_fabric *fabric, uint8_t *room, size_t room_length)
 {
@@ -376,8 +378,8 @@ static inline void pciex_fabric_free(pciex_fabric *fabric)
 /*
  * Makes a monitor in a handle that holds nothing. It writes what the ports of a memory carry as the lines of a log or
  * of a trace. The line is `log` or `trace`, then the memory's base in hexadecimal and its size in decimal, `block`, and
- * the bytes of a block: `log 0 4096 block 64`. Below 1000: how many bytes the first two lines of the log or the trace
- * have, `pciex-log 1` and `memory 0 4096 64`, with a line feed between them. No line of a monitor ends with one.
+ * the bytes of a block: `log 0 4096 block 64`. Below 1000: the number of bytes of the first two lines of the log or the
+ * trace, `pciex-log 1` and `memory 0 4096 64`, with a line feed between them. No line of a monitor ends with one.
  * Tested in this order: PCIEX_SMALL_ROOM for fewer than PCIEX_LINE bytes, PCIEX_NO_LINE, PCIEX_WRONG_SIZE,
  * PCIEX_WRONG_BASE, PCIEX_WRONG_BLOCK, PCIEX_NO_MEMORY.
  *
@@ -400,11 +402,11 @@ static inline uint32_t pciex_monitor_new(const uint8_t *line, size_t line_length
 }
 
 /*
- * The port of a requester, 1 to 7, carried a request. Below 1000: how many bytes its line has, which is
+ * The port of a requester, 1 to 7, carried a request. Below 1000: the number of bytes of its line, which is
  * `sub 1 0 add 40 07000000`, in a trace with n behind the number. 1000 to 1013: 1000 and the number of the packet's
- * fault. Tested in this order:
- * PCIEX_SMALL_ROOM for fewer than PCIEX_LINE bytes, PCIEX_NO_REQUESTER, the packet's fault, PCIEX_NO_REQUEST,
- * PCIEX_OTHER_REQUESTER, PCIEX_TAG_IN_USE, PCIEX_NUMBERS_USED, and in a trace alone PCIEX_NO_MEMORY.
+ * fault. Tested in this order: PCIEX_SMALL_ROOM for fewer than PCIEX_LINE bytes, PCIEX_NO_REQUESTER, the packet's
+ * fault, PCIEX_NO_REQUEST, PCIEX_OTHER_REQUESTER, PCIEX_TAG_IN_USE, PCIEX_NUMBERS_USED, and in a trace alone
+ * PCIEX_NO_MEMORY.
  */
 static inline uint32_t pciex_monitor_request(pciex_monitor *monitor, uint8_t requester, const uint8_t *packet,
                                              size_t packet_length, uint8_t *room, size_t room_length)
@@ -419,11 +421,11 @@ static inline uint32_t pciex_monitor_request(pciex_monitor *monitor, uint8_t req
 }
 
 /*
- * The port of a requester, 1 to 7, carried a completion. Below 1000: how many bytes its line has, which is
+ * The port of a requester, 1 to 7, carried a completion. Below 1000: the number of bytes of its line, which is
  * `ans 1 0 data 00000000`, in a trace with n behind the number. Bytes of a read that were not enabled are 00 there.
  * 1000 to 1013: 1000 and the number of the packet's fault. Tested in this order: PCIEX_SMALL_ROOM for fewer than
- * PCIEX_LINE bytes,
- * PCIEX_NO_REQUESTER, the packet's fault, PCIEX_NO_COMPLETION, PCIEX_OTHER_REQUESTER, PCIEX_UNEXPECTED, PCIEX_MISMATCH.
+ * PCIEX_LINE bytes, PCIEX_NO_REQUESTER, the packet's fault, PCIEX_NO_COMPLETION, PCIEX_OTHER_REQUESTER,
+ * PCIEX_UNEXPECTED, PCIEX_MISMATCH.
  */
 static inline uint32_t pciex_monitor_completion(pciex_monitor *monitor, uint8_t requester, const uint8_t *packet,
                                                 size_t packet_length, uint8_t *room, size_t room_length)
@@ -438,9 +440,9 @@ static inline uint32_t pciex_monitor_completion(pciex_monitor *monitor, uint8_t 
 }
 
 /*
- * For a trace: the request of that number acted on the memory. Below 1000: how many bytes the line of the history has,
+ * For a trace: the request of that number acted on the memory. Below 1000: the number of bytes of the history's line,
  * `ent 1 0 add 40 07000000`. Tested in this order: PCIEX_SMALL_ROOM for fewer than PCIEX_LINE bytes,
- * PCIEX_NO_REQUESTER, PCIEX_UNEXPECTED where no request of that number waits to act, as always in a log,
+ * PCIEX_NO_REQUESTER, PCIEX_UNEXPECTED if no request of that number waits to act, as always in a log,
  * PCIEX_NUMBERS_USED after 2^64 - 1 requests that acted.
  */
 static inline uint32_t pciex_monitor_acted(pciex_monitor *monitor, uint8_t requester, uint32_t number, uint8_t *room,
@@ -455,7 +457,7 @@ static inline uint32_t pciex_monitor_acted(pciex_monitor *monitor, uint8_t reque
     return pciex_raw_monitor_acted(*monitor, requester, number, room, room_length, monitor);
 }
 
-/* Tells in `count` how many requests wait for their completions. 0. */
+/* Writes into `count` the number of requests that wait for their completions, and returns 0. */
 static inline uint32_t pciex_monitor_open(pciex_monitor *monitor, size_t *count)
 {
     if (!monitor || !count) {
@@ -480,10 +482,10 @@ static inline void pciex_monitor_free(pciex_monitor *monitor)
 /* ---- the checker */
 
 /*
- * Whether the history of the text of a trace explains its records: 0 if and only if it does. 1000 to 1999: the line
- * that `pciex check` prints, of so many bytes less 1000, stands in the room: `flaw 10 Reply 2`, or `fault 3 Line` where
- * the text is none of a trace. PCIEX_SMALL_ROOM for fewer than PCIEX_LINE bytes, which is tested first, or
- * PCIEX_NO_MEMORY: nothing is known then.
+ * Whether the history of the text of a trace explains its records: 0 if and only if it does. It believes the counts n.
+ * 1000 to 1999: 1000 and the number of bytes of the line that `pciex check` prints, which is in the buffer:
+ * `flaw 10 Reply 2`, or `fault 3 Line` if the text is none of a trace. PCIEX_SMALL_ROOM for fewer than PCIEX_LINE
+ * bytes, which is tested first, or PCIEX_NO_MEMORY: nothing is known then.
  */
 static inline uint32_t pciex_check(const uint8_t *text, size_t length, uint8_t *room, size_t room_length)
 {
@@ -499,11 +501,12 @@ static inline uint32_t pciex_check(const uint8_t *text, size_t length, uint8_t *
 #define PCIEX_GIVEN_UP 3u
 
 /*
- * Looks for a history that explains what requesters submitted and were answered: the text of a log, or of a trace, whose
- * history says nothing. What `pciex search --limit` prints stands in the room: a trace with such a history, and
- * PCIEX_FOUND; `none 3`, or `fault 3 Line` where the text can't be read, and PCIEX_NOT_FOUND; `limit 1000000`, and
- * PCIEX_GIVEN_UP: nothing is known then. `length` is how many bytes it has, also with PCIEX_SMALL_ROOM, for a room of
- * fewer. Or PCIEX_NO_MEMORY: nothing is known, and `length` stays as it was. No more than `limit` choices are looked at.
+ * Looks for a history that explains what requesters submitted and were answered: the text of a log, or of a trace,
+ * whose counts n and history are ignored. What `pciex search --limit` prints is in the buffer: a trace with such a
+ * history, and PCIEX_FOUND; `none 3`, or `fault 3 Line` if the text can't be read, and PCIEX_NOT_FOUND; `limit 1000000`,
+ * and PCIEX_GIVEN_UP: nothing is known then. `length` is the number of its bytes, also with PCIEX_SMALL_ROOM, for a
+ * buffer of fewer. Or PCIEX_NO_MEMORY: nothing is known, and `length` stays as it was. At most `limit` choices are
+ * looked at.
  */
 static inline uint32_t pciex_search(const uint8_t *text, size_t text_length, uint64_t limit, uint8_t *room,
                                     size_t room_length, size_t *length)
@@ -517,9 +520,9 @@ static inline uint32_t pciex_search(const uint8_t *text, size_t text_length, uin
 /* ---- packets in words, and names */
 
 /*
- * The words of a TLP, or of a DLLP where there are four bytes, as `pciex decode` writes them. Below 1000: how many
- * bytes they have. 1000 to 1999: the text of the fault, `fault 1 Short`, of so many bytes less 1000, stands in the
- * room. PCIEX_SMALL_ROOM for fewer than PCIEX_LINE bytes, which is tested first.
+ * The words of a TLP, or of a DLLP if there are four bytes, as `pciex decode` writes them. Below 1000: the number of
+ * their bytes. 1000 to 1999: 1000 and the number of bytes of the fault's text, `fault 1 Short`, which is in the buffer.
+ * PCIEX_SMALL_ROOM for fewer than PCIEX_LINE bytes, which is tested first.
  */
 static inline uint32_t pciex_decode(const uint8_t *packet, size_t length, uint8_t *room, size_t room_length)
 {
@@ -531,7 +534,7 @@ static inline uint32_t pciex_decode(const uint8_t *packet, size_t length, uint8_
 
 /*
  * The other way: the canonical bytes of the packet that a line of words spells. The codes are the same, and so is the
- * room that is asked for, since a fault is told in words.
+ * buffer that is required, since a fault is returned in words.
  */
 static inline uint32_t pciex_encode(const uint8_t *line, size_t length, uint8_t *room, size_t room_length)
 {
@@ -542,7 +545,7 @@ static inline uint32_t pciex_encode(const uint8_t *line, size_t length, uint8_t 
 }
 
 /*
- * The name of the fault of a TLP under its number, 1 to 13. Below 1000: how many bytes it has. Tested in this order:
+ * The name of the fault of a TLP under its number, 1 to 13. Below 1000: the number of its bytes. Tested in this order:
  * PCIEX_SMALL_ROOM for fewer than PCIEX_LINE bytes, PCIEX_NO_FAULT.
  */
 static inline uint32_t pciex_fault_name(uint32_t number, uint8_t *room, size_t room_length)
@@ -554,8 +557,8 @@ static inline uint32_t pciex_fault_name(uint32_t number, uint8_t *room, size_t r
 }
 
 /*
- * The version of the library, as `pciex --version` prints it, `pciex 0.2.0`: how many bytes it has, or PCIEX_SMALL_ROOM for
- * fewer than PCIEX_LINE.
+ * The version of the library, as `pciex --version` prints it, `pciex 0.2.0`: the number of its bytes, or
+ * PCIEX_SMALL_ROOM for fewer than PCIEX_LINE.
  */
 static inline uint32_t pciex_version(uint8_t *room, size_t room_length)
 {

@@ -22,7 +22,7 @@ failed=0
     done
     echo '```'
 } > "$help"
-for page in "$help" README.md docs/tutorial.md; do
+for page in "$help" README.md docs/tutorial.md docs/qemu.md; do
     rm -f "$room"/*
     awk -v room="$room" '
         /^```/ { inside = !inside; wanted = ""; next }

@@ -2,85 +2,10 @@
  * The functions of c/pciex.h for SystemVerilog, as pciex_pkg.sv imports them. For C99 and C++, with svdpi.h of the
  * simulator. They are called one at a time, so there is one text for all.
  */
-#include "../pciex.h"
 #include "../pciex_differ.h"
 
-#include "svdpi.h"
-
-#include <stdlib.h>
-#include <string.h>
-
-/* The bytes of a packet_t. */
-#define MOST 150
-
-/* The memory of pciex_memory_new. */
-typedef struct memory {
-    uint8_t *bytes;
-    size_t size;
-    uint64_t base;
-    uint16_t block;
-} memory;
-
-/* What pciex_said() returns: the text in `said`, or the trace of a fabric in `large`. */
-static char said[PCIEX_LINE + 1];
-static char *large;
-
-static void say(const uint8_t *text, size_t length)
-{
-    free(large);
-    large = NULL;
-    length = length > PCIEX_LINE ? PCIEX_LINE : length;
-    memcpy(said, text, length);
-    said[length] = 0;
-}
-
-static void say_line(const char *text)
-{
-    say((const uint8_t *)text, strlen(text));
-}
-
-/* The result of a call with a text in the buffer, which becomes the text of pciex_said(). */
-static int told(uint32_t code, const uint8_t *room)
-{
-    say(room, code < 1000 ? code : code < 2000 ? code - 1000 : 0);
-    return code < 1000 ? (int)code : -(int)code;
-}
-
-/* The result of a call with a packet in the buffer, which goes into `to`. The text is the name of a packet's fault. */
-static int packed(uint32_t code, const uint8_t *room, svBitVecVal *to)
-{
-    uint8_t name[PCIEX_LINE];
-    memset(to, 0, sizeof(svBitVecVal) * ((MOST + 3) / 4));
-    if (code < 1000) {
-        say_line("");
-        for (uint32_t i = 0; i < code && i < MOST; i++) {
-            to[i / 4] |= (svBitVecVal)room[i] << 8 * (i % 4);
-        }
-        return (int)code;
-    }
-    const uint32_t length = code < 2000 ? pciex_fault_name(code - 1000, name, sizeof name) : 0;
-    say(name, length < 1000 ? length : 0);
-    return -(int)code;
-}
-
-/* Puts the bytes of a packet_t into `bytes`. Returns whether its length is 0 to MOST. */
-static bool unpack(const svBitVecVal *from, int length, uint8_t *bytes)
-{
-    for (int i = 0; i < MOST; i++) {
-        bytes[i] = (uint8_t)(from[i / 4] >> 8 * (i % 4));
-    }
-    return length >= 0 && length <= MOST;
-}
-
-static void *made(void *handle, const char *why)
-{
-    if (handle) {
-        say_line("");
-    } else if (why) {
-        say_line(why);
-    }
-    return handle;
-}
+#include "dpi_files.h"
+#include "dpi_said.h"
 
 #ifdef __cplusplus
 extern "C" {
@@ -133,19 +58,16 @@ static uint8_t *byte_at(void *handle, uint64_t address)
 int pciex_dpi_memory_get(void *handle, uint64_t address)
 {
     const uint8_t *byte = handle ? byte_at(handle, address) : NULL;
-    say_line("");
-    return !handle ? -(int)PCIEX_NULL : byte ? *byte : -(int)PCIEX_NO_ENTRY;
+    return plain(!handle ? PCIEX_NULL : byte ? 0 : PCIEX_NO_ENTRY, byte ? *byte : 0);
 }
 
 int pciex_dpi_memory_set(void *handle, uint64_t address, unsigned char value)
 {
     uint8_t *byte = handle ? byte_at(handle, address) : NULL;
-    say_line("");
-    if (!byte) {
-        return !handle ? -(int)PCIEX_NULL : -(int)PCIEX_NO_ENTRY;
+    if (byte) {
+        *byte = value;
     }
-    *byte = value;
-    return 0;
+    return plain(!handle ? PCIEX_NULL : byte ? 0 : PCIEX_NO_ENTRY, 0);
 }
 
 int pciex_dpi_answer(void *handle, const svBitVecVal *request, int request_length, svBitVecVal *completion)
@@ -183,10 +105,8 @@ void *pciex_dpi_device_new(uint64_t base, uint32_t size, uint32_t block)
     const uint32_t code = device ? pciex_device_new(base, size, narrow, device) : PCIEX_NO_MEMORY;
     if (code != 0) {
         free(device);
-        return made(NULL, code == PCIEX_WRONG_SIZE    ? "a device has 128 to 1048576 bytes, a multiple of 128"
-                          : code == PCIEX_WRONG_BASE  ? "a base is a multiple of 128, with its bytes below 2^64"
-                          : code == PCIEX_WRONG_BLOCK ? "a block has 64 or 128 bytes"
-                                                      : "memory");
+        say_why(code);
+        return NULL;
     }
     return made(device, NULL);
 }
@@ -213,8 +133,7 @@ int pciex_dpi_device_history_length(void *handle)
 {
     size_t count = 0;
     const uint32_t code = pciex_device_history_length((pciex_device *)handle, &count);
-    say_line("");
-    return code == 0 ? (int)count : -(int)code;
+    return plain(code, (int)count);
 }
 
 int pciex_dpi_device_entry(void *handle, int place)
@@ -222,6 +141,22 @@ int pciex_dpi_device_entry(void *handle, int place)
     uint8_t room[PCIEX_LINE];
     const size_t wide = place < 0 ? SIZE_MAX : (size_t)place;
     return told(pciex_device_entry((pciex_device *)handle, wide, room, sizeof room), room);
+}
+
+/* The result of a copy into a memory. */
+static int copied(uint32_t code)
+{
+    const int result = plain(code, 0);
+    if (code == PCIEX_SMALL_ROOM) {
+        say_line("the memory has fewer bytes");
+    }
+    return result;
+}
+
+int pciex_dpi_device_bytes(void *handle, void *to)
+{
+    memory *held = (memory *)to;
+    return copied(held ? pciex_device_bytes((pciex_device *)handle, held->bytes, held->size) : PCIEX_NULL);
 }
 
 /* ---- a fabric */
@@ -238,7 +173,7 @@ void *pciex_dpi_fabric_new(const char *line, int is_traced)
     }
     free(fabric);
     told(code, room);
-    return made(NULL, code == PCIEX_NO_LINE ? "this is no line of a fabric" : code == PCIEX_NO_MEMORY ? "memory" : NULL);
+    return NULL;
 }
 
 void pciex_dpi_fabric_free(void *handle)
@@ -259,19 +194,18 @@ int pciex_dpi_fabric_trace(void *handle)
 {
     uint8_t small[1];
     size_t length = 0;
-    say_line("");
     uint32_t code = pciex_fabric_trace((pciex_fabric *)handle, small, sizeof small, &length);
     if (code != PCIEX_SMALL_ROOM) {
-        return -(int)code;
+        return plain(code, 0);
     }
     char *text = (char *)malloc(length + 1);
     code = text ? pciex_fabric_trace((pciex_fabric *)handle, (uint8_t *)text, length, &length) : PCIEX_NO_MEMORY;
     if (code != 0) {
         free(text);
-        return -(int)code;
+        return plain(code, 0);
     }
     text[length] = 0;
-    large = text;
+    say_large(text);
     return (int)length;
 }
 
@@ -279,16 +213,20 @@ int pciex_dpi_fabric_quiet(void *handle)
 {
     bool quiet = false;
     const uint32_t code = pciex_fabric_quiet((pciex_fabric *)handle, &quiet);
-    say_line("");
-    return code == 0 ? quiet : -(int)code;
+    return plain(code, quiet);
 }
 
 int pciex_dpi_fabric_history_length(void *handle)
 {
     size_t count = 0;
     const uint32_t code = pciex_fabric_history_length((pciex_fabric *)handle, &count);
-    say_line("");
-    return code == 0 ? (int)count : -(int)code;
+    return plain(code, (int)count);
+}
+
+int pciex_dpi_fabric_bytes(void *handle, void *to)
+{
+    memory *held = (memory *)to;
+    return copied(held ? pciex_fabric_bytes((pciex_fabric *)handle, held->bytes, held->size) : PCIEX_NULL);
 }
 
 /* ---- a monitor of ports */
@@ -296,26 +234,61 @@ int pciex_dpi_fabric_history_length(void *handle)
 void *pciex_dpi_monitor_new(const char *line)
 {
     uint8_t room[PCIEX_LINE];
-    pciex_monitor *monitor = (pciex_monitor *)calloc(1, sizeof *monitor);
-    const uint32_t code =
-        monitor ? pciex_monitor_new((const uint8_t *)line, strlen(line), room, sizeof room, monitor) : PCIEX_NO_MEMORY;
+    lines *made_lines = (lines *)calloc(1, sizeof *made_lines);
+    const uint32_t code = made_lines ? pciex_monitor_new((const uint8_t *)line, strlen(line), room, sizeof room,
+                                                         &made_lines->monitor)
+                                     : PCIEX_NO_MEMORY;
     if (code < 1000) {
         say(room, code);
-        return monitor;
+        memcpy(made_lines->head, said, sizeof said);
+        made_lines->is_trace = line[0] == 't';
+        return made_lines;
     }
-    free(monitor);
-    return made(NULL, code == PCIEX_WRONG_SIZE    ? "a memory has 128 to 1048576 bytes, a multiple of 128"
-                      : code == PCIEX_WRONG_BASE  ? "a base is a multiple of 128, with its bytes below 2^64"
-                      : code == PCIEX_WRONG_BLOCK ? "a block has 64 or 128 bytes"
-                      : code == PCIEX_NO_LINE     ? "this is no line of a monitor"
-                                                  : "memory");
+    free(made_lines);
+    say_why(code);
+    return NULL;
+}
+
+int pciex_dpi_monitor_to_file(void *handle, const char *name)
+{
+    lines *it = (lines *)handle;
+    if (!it || it->file) {
+        return plain(it ? PCIEX_HELD : PCIEX_NULL, 0);
+    }
+    FILE *file = fopen(name, "w"), *history = it->is_trace ? tmpfile() : NULL;
+    if (!file || (it->is_trace && !history)) {
+        const int result = no_file(file ? "a temporary file" : name);
+        if (file) {
+            fclose(file);
+        }
+        return result;
+    }
+    it->file = file;
+    it->history = history;
+    fprintf(file, "%s\n", it->head);
+    return plain(0, 0);
+}
+
+int pciex_dpi_monitor_end_file(void *handle)
+{
+    lines *it = (lines *)handle;
+    if (!it || !it->file) {
+        return plain(it ? PCIEX_EMPTY : PCIEX_NULL, 0);
+    }
+    const bool is_written = ended(it);
+    say_line(is_written ? "" : "not all lines can be written");
+    return is_written ? 0 : -PCIEX_NO_FILE;
 }
 
 void pciex_dpi_monitor_free(void *handle)
 {
-    if (handle) {
-        pciex_monitor_free((pciex_monitor *)handle);
-        free(handle);
+    lines *it = (lines *)handle;
+    if (it) {
+        if (it->file) {
+            ended(it);
+        }
+        pciex_monitor_free(&it->monitor);
+        free(it);
     }
 }
 
@@ -325,55 +298,68 @@ static uint8_t requester_of(int number)
     return number < 0 || number > 255 ? 0 : (uint8_t)number;
 }
 
-/* The code of a monitor's call, with its line in the room if it is done. Of a packet's fault the text is the name. */
-static int lined(uint32_t code, const uint8_t *room)
+/* The result of a monitor's call, with its line in the buffer if it is done, which goes to the file. */
+static int lined(uint32_t code, const uint8_t *room, FILE *file)
 {
-    uint8_t name[PCIEX_LINE];
-    if (code < 1000) {
-        return told(code, room);
+    if (code >= 1000) {
+        say_why(code);
+        return -(int)code;
     }
-    const uint32_t length = code < 2000 ? pciex_fault_name(code - 1000, name, sizeof name) : 0;
-    say(name, length < 1000 ? length : 0);
-    return -(int)code;
+    if (file) {
+        fwrite(room, 1, code, file);
+        putc('\n', file);
+    }
+    return told(code, room);
 }
 
-int pciex_dpi_monitor_request(void *handle, int requester, const svBitVecVal *request, int request_length)
+int pciex_dpi_monitor_request(void *handle, int requester, const svBitVecVal *request, int request_length,
+                              uint32_t *number)
 {
     uint8_t packet[MOST], room[PCIEX_LINE];
-    if (!handle || !unpack(request, request_length, packet)) {
-        return lined(handle ? PCIEX_SMALL_ROOM : PCIEX_NULL, room);
+    lines *it = (lines *)handle;
+    unsigned of_requester, of_request;
+    *number = 0;
+    if (!it || !unpack(request, request_length, packet)) {
+        return plain(it ? PCIEX_SMALL_ROOM : PCIEX_NULL, 0);
     }
-    const uint32_t code = pciex_monitor_request((pciex_monitor *)handle, requester_of(requester), packet,
-                                                (size_t)request_length, room, sizeof room);
-    return lined(code, room);
+    const int result = lined(pciex_monitor_request(&it->monitor, requester_of(requester), packet,
+                                                   (size_t)request_length, room, sizeof room),
+                             room, it->file);
+    if (result >= 0 && sscanf(said, "sub %u %u", &of_requester, &of_request) == 2) {
+        *number = of_request;
+    }
+    return result;
 }
 
 int pciex_dpi_monitor_completion(void *handle, int requester, const svBitVecVal *completion, int completion_length)
 {
     uint8_t packet[MOST], room[PCIEX_LINE];
-    if (!handle || !unpack(completion, completion_length, packet)) {
-        return lined(handle ? PCIEX_SMALL_ROOM : PCIEX_NULL, room);
+    lines *it = (lines *)handle;
+    if (!it || !unpack(completion, completion_length, packet)) {
+        return plain(it ? PCIEX_SMALL_ROOM : PCIEX_NULL, 0);
     }
-    const uint32_t code = pciex_monitor_completion((pciex_monitor *)handle, requester_of(requester), packet,
-                                                   (size_t)completion_length, room, sizeof room);
-    return lined(code, room);
+    return lined(pciex_monitor_completion(&it->monitor, requester_of(requester), packet, (size_t)completion_length,
+                                          room, sizeof room),
+                 room, it->file);
 }
 
 int pciex_dpi_monitor_acted(void *handle, int requester, uint32_t number)
 {
     uint8_t room[PCIEX_LINE];
-    const uint32_t code = handle ? pciex_monitor_acted((pciex_monitor *)handle, requester_of(requester), number, room,
-                                                       sizeof room)
-                                 : PCIEX_NULL;
-    return lined(code, room);
+    lines *it = (lines *)handle;
+    if (!it) {
+        return plain(PCIEX_NULL, 0);
+    }
+    return lined(pciex_monitor_acted(&it->monitor, requester_of(requester), number, room, sizeof room), room,
+                 it->history);
 }
 
 int pciex_dpi_monitor_open(void *handle)
 {
     size_t count = 0;
-    const uint32_t code = handle ? pciex_monitor_open((pciex_monitor *)handle, &count) : PCIEX_NULL;
-    say_line("");
-    return code == 0 ? (int)count : -(int)code;
+    lines *it = (lines *)handle;
+    const uint32_t code = it ? pciex_monitor_open(&it->monitor, &count) : PCIEX_NULL;
+    return plain(code, (int)count);
 }
 
 /* ---- the checker, packets in words, and names */
@@ -382,9 +368,53 @@ int pciex_dpi_check(const char *text)
 {
     uint8_t room[PCIEX_LINE];
     const int code = told(pciex_check((const uint8_t *)text, strlen(text), room, sizeof room), room);
+    note_where(text, code == 0 ? "" : said);
     if (code == 0) {
         say_line("ok");
     }
+    return code;
+}
+
+const char *pciex_dpi_where(void)
+{
+    return where;
+}
+
+int pciex_dpi_search(const char *text, uint64_t limit)
+{
+    const size_t text_length = strlen(text);
+    size_t length = 4 * text_length + PCIEX_LINE, space;
+    char *room = NULL;
+    uint32_t code;
+    do {
+        free(room);
+        space = length;
+        room = (char *)malloc(space + 1);
+        code = room ? pciex_search((const uint8_t *)text, text_length, limit, (uint8_t *)room, space, &length)
+                    : PCIEX_NO_MEMORY;
+    } while (code == PCIEX_SMALL_ROOM && length > space);
+    if (code >= 1000) {
+        free(room);
+        return plain(code, 0);
+    }
+    room[length] = 0;
+    say_large(room);
+    return (int)code;
+}
+
+int pciex_dpi_check_file(const char *name)
+{
+    char *text = text_of(name);
+    const int code = text ? pciex_dpi_check(text) : -PCIEX_NO_FILE;
+    free(text);
+    return code;
+}
+
+int pciex_dpi_search_file(const char *name, uint64_t limit)
+{
+    char *text = text_of(name);
+    const int code = text ? pciex_dpi_search(text, limit) : -PCIEX_NO_FILE;
+    free(text);
     return code;
 }
 

@@ -14,12 +14,15 @@ class Pages(unittest.TestCase):
         for page in ("python.md", "judge-your-own-device.md"):
             with self.subTest(page), open(os.path.join(DOCS, page), encoding="utf-8") as file:
                 example = r"```python\n(import pciex\n.*?)```\n\nIt prints:\n\n```\n(.*?)```"
-                shown = re.findall(example, file.read(), re.S)
-                self.assertEqual(len(shown), 1)
-                printed = io.StringIO()
-                with contextlib.redirect_stdout(printed):
-                    exec(compile(shown[0][0], page, "exec"), {})
-                self.assertEqual(printed.getvalue(), shown[0][1])
+                text = file.read()
+                shown = re.findall(example, text, re.S)
+                self.assertTrue(shown)
+                self.assertEqual(len(shown), text.count("```python\nimport pciex\n"))
+                for code, output in shown:
+                    printed = io.StringIO()
+                    with contextlib.redirect_stdout(printed):
+                        exec(compile(code, page, "exec"), {})
+                    self.assertEqual(printed.getvalue(), output)
 
 
 if __name__ == "__main__":

@@ -1,2 +1,3 @@
 pub mod Spans
 pub mod Shapes
+pub mod Spelled

@@ -55,12 +55,12 @@ length_merged (e ∷ es) (x ∷ xs) [] e1 e2 = absurd (omega (arith, e2))
 length_merged (e ∷ es) (x ∷ xs) (y ∷ ys) e1 e2 = ap suc (length_merged es xs ys (omega (arith, e1)) (omega (arith, e2)))
 
 -- a reply with so many bytes of data
-record IsData (r : Reply) (n : ℕ) : Type 0 where
+pub record IsData (r : Reply) (n : ℕ) : Type 0 where
   pub bytes : List ℕ
   pub is : r ≡ data_of bytes
   pub size : length bytes ≡ n
 
-some_dw : (dw : ℕ) (rest : Option TlpFault) → cond ((dw == 0) || nat_lt 1024 dw) (Some faults.LengthMismatch) rest ≡ None → 1 ≤ dw
+pub some_dw : (dw : ℕ) (rest : Option TlpFault) → cond ((dw == 0) || nat_lt 1024 dw) (Some faults.LengthMismatch) rest ≡ None → 1 ≤ dw
 some_dw dw rest e = grind (arith, nat_tests)
 
 -- what a served operation that is not posted answers
@@ -87,16 +87,17 @@ inside base block size op e = bounds base size (address_of op) (count_of op) (no
 need_carried : (t : TlpView) (r : Reply) (n : ℕ) → ((c : Option TlpView) → unless_posted t.kind c ≡ c) → IsData r n → option_map need_of (completion_of t r) ≡ Some (completion_need n)
 need_carried t r n same d = rw d.is (ap (option_map need_of) (same (completion_for t (data_of d.bytes))) ∙ ap (λ n. Some (completion_need n)) d.size)
 
--- what a served request that is not posted is answered
-served_data : (s : MemoryView) (op : Op) → op_fault op ≡ None → is_posted op ≡ false → refusal s.base s.size s.block op ≡ None → length (bytes_of s) ≡ s.size → IsData (answer s.base s.block (bytes_of s) op) (count_of op)
-served_data s op sound p served size =
-    let m = bytes_of s in
-    let old = bytes_at m (address_of op - s.base) (count_of op) in
-    let r' : refusal s.base (length m) s.block op ≡ None = rw size served in
-    let given : answer s.base s.block m op ≡ read_back op old = ap (λ r. answer_by r (read_back op old)) r' in
-    let fits : length old ≡ count_of op = length_at m (address_of op - s.base) (count_of op) (rw size (inside s.base s.block s.size op served)) in
+-- what a served request that is not posted is answered, over any bytes
+pub served_bytes : (base block : ℕ) (m : List ℕ) (op : Op) → op_fault op ≡ None → is_posted op ≡ false → refusal base (length m) block op ≡ None → IsData (answer base block m op) (count_of op)
+served_bytes base block m op sound p served =
+    let old = bytes_at m (address_of op - base) (count_of op) in
+    let given : answer base block m op ≡ read_back op old = ap (λ r. answer_by r (read_back op old)) served in
+    let fits : length old ≡ count_of op = length_at m (address_of op - base) (count_of op) (inside base block (length m) op served) in
     let d = data_read op old sound p fits in
     record { bytes = d.bytes; is = given ∙ d.is; size = d.size }
+
+served_data : (s : MemoryView) (op : Op) → op_fault op ≡ None → is_posted op ≡ false → refusal s.base s.size s.block op ≡ None → length (bytes_of s) ≡ s.size → IsData (answer s.base s.block (bytes_of s) op) (count_of op)
+served_data s op sound p served size = served_bytes s.base s.block (bytes_of s) op sound p (rw size served)
 
 asked : (s : MemoryView) (t : TlpView) (op : Op) → op_of t ≡ Some op → completion_to s t ≡ completion_of t (answer s.base s.block (bytes_of s) op)
 asked s t op e = ap (option_and_then (λ op. completion_of t (answer s.base s.block (bytes_of s) op))) e
@@ -111,7 +112,7 @@ whole_size widths.Four = refl
 whole_size widths.Eight = refl
 whole_size widths.Sixteen = refl
 
-quarters : (op : Op) → is_posted op ≡ false → 4 * (count_of op / 4) ≡ count_of op
+pub quarters : (op : Op) → is_posted op ≡ false → 4 * (count_of op / 4) ≡ count_of op
 quarters (ops.Read a dw f l) p = omega arith
 quarters (ops.Write a f l bytes) p = absurd cc
 quarters (ops.FetchAdd a w x) p = whole_size w

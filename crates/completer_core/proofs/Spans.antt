@@ -7,10 +7,10 @@ use Rattle.tlp_core.specs.Enables.{dw_enables, enables, are_enables}
 use Rattle.completer_core.specs.Span.{lead, is_empty, span, low_address}
 
 -- a DW with an enabled byte
-some_enabled : (f : ℕ) → f < 16 → f ≢ 0 → lead (dw_enables f) < 4
+pub some_enabled : (f : ℕ) → f < 16 → f ≢ 0 → lead (dw_enables f) < 4
 some_enabled f h n = grind (arith, nat_tests)
 
-some_enabled_behind : (f : ℕ) → f < 16 → f ≢ 0 → lead (reverse (dw_enables f)) < 4
+pub some_enabled_behind : (f : ℕ) → f < 16 → f ≢ 0 → lead (reverse (dw_enables f)) < 4
 some_enabled_behind f h n = grind (arith, nat_tests)
 
 -- the rest does not matter behind an enabled byte
@@ -32,7 +32,7 @@ unfolding enables
 more_dws dw f l h = grind (arith, nat_tests)
 
 -- the rule of byte enables, at one DW and at more
-not_one : (dw a f l : ℕ) → dw ≢ 1 → IsTrue (are_enables dw a f l) → (f ≢ 0) × (l ≢ 0)
+pub not_one : (dw a f l : ℕ) → dw ≢ 1 → IsTrue (are_enables dw a f l) → (f ≢ 0) × (l ≢ 0)
 not_one dw a f l n h = grind (arith, nat_tests)
 
 is_one : (dw a f l : ℕ) → IsTrue (are_enables dw a f l) → f ≡ 0 → dw ≡ 1

@@ -4,26 +4,26 @@ ghost use Rattle.tlp_core.specs.declared.operation.Op.{Op};
 ghost use Rattle.tlp_core.specs.TlpView.{FitsKind};
 ghost use Rattle.tlp_core.specs.Operation.{op_of};
 ghost use Rattle.seq_memory.specs.Step.{IsSizedFor};
+ghost use Rattle.seq_memory.specs.Outcome.{reply_of};
 ghost use Rattle.completer_core.specs.Completion.{byte_count, lower_address, completion, completion_of};
 
 use crate::span;
-use arrayvec::ArrayVec;
-use seq_memory::Reply;
-use tlp_core::{Body, Kind, MAX_PAYLOAD, Status, Tlp};
+use seq_memory::{Outcome, Reply};
+use tlp_core::{Body, Header, Kind, Status, Tlp, TlpRef};
 
 /// The Completer ID of port 0.
 const COMPLETER: u16 = 0;
 
 /// Byte Count and Lower Address of a request's completion.
-fn counts(request: &Tlp, address: u64, first: u8, last: u8) -> (u16, u8)
+fn counts(request: &TlpRef<'_>, address: u64, first: u8, last: u8) -> (u16, u8)
     requires body { request.now.body ≡ Body.Request address first last }
     ensures count { result.0 ≡ byte_count request.now.kind request.now.body request.now.length }
     ensures lower { result.1 ≡ lower_address request.now.kind request.now.body request.now.length }
     ensures count_range { (1 ≤ result.0) × (result.0 ≤ 4096) }
     ensures lower_range { result.1 < 128 }
 {
-    let dw = request.length;
-    match request.kind {
+    let dw = request.header.length;
+    match request.header.kind {
         Kind::MemoryRead => (
             span::byte_count(dw, address, first, last),
             span::lower_address(dw, address, first, last),
@@ -34,75 +34,106 @@ fn counts(request: &Tlp, address: u64, first: u8, last: u8) -> (u16, u8)
 }
 
 /// The completion with that payload.
-fn carry(
-    request: &Tlp,
+#[inline(always)]
+fn carry<'r>(
+    request: &TlpRef<'_>,
     counts: (u16, u8),
     kind: Kind,
     status: Status,
-    payload: ArrayVec<u8, MAX_PAYLOAD>,
-) -> Tlp
+    payload: &'r [u8],
+) -> TlpRef<'r>
     requires count { counts.0 ≡ byte_count request.now.kind request.now.body request.now.length }
     requires lower { counts.1 ≡ lower_address request.now.kind request.now.body request.now.length }
-    requires fits { FitsKind kind (Body.Completion 0 status counts.0 counts.1) (length payload.items / 4) (length payload.items) }
-    ensures { result ≡ completion request.now kind status payload.items }
+    requires fits { FitsKind kind (Body.Completion 0 status counts.0 counts.1) (length payload.now / 4) (length payload.now) }
+    ensures { result ≡ completion request.now kind status payload.now }
 {
-    Tlp {
+    let header = Header {
         kind,
-        tc: request.tc,
-        attr: request.attr,
+        tc: request.header.tc,
+        attr: request.header.attr,
         length: (payload.len() / 4) as u16,
-        requester: request.requester,
-        tag: request.tag,
+        requester: request.header.requester,
+        tag: request.header.tag,
         body: Body::Completion {
             completer: COMPLETER,
             status,
             byte_count: counts.0,
             lower: counts.1,
         },
-        payload,
-    }
+    };
+    TlpRef { header, payload }
 }
 
-/// The completion of a request with that reply, none for a posted write.
+/// The completion of a request with the reply of that outcome and those bytes, none for a posted
+/// write.
 #[inline(always)]
-pub(crate) fn completion_with(request: &Tlp, reply: Reply) -> Option<Tlp>
-    requires { (op : Op) × (op_of request.now ≡ Some op) × IsSizedFor op reply }
-    ensures { result ≡ completion_of request.now reply }
+pub(crate) fn completion_lent<'r>(
+    request: &TlpRef<'_>,
+    outcome: Outcome,
+    bytes: &'r [u8],
+) -> Option<TlpRef<'r>>
+    requires few { length bytes.now ≤ 128 }
+    requires sized { (op : Op) × (op_of request.now ≡ Some op) × IsSizedFor op (reply_of outcome bytes.now) }
+    ensures { result ≡ completion_of request.now (reply_of outcome bytes.now) }
 {
     let Body::Request {
         address,
         first,
         last,
-    } = request.body
+    } = request.header.body
     else {
         return None;
     };
-    if matches!(request.kind, Kind::MemoryWrite) {
+    if matches!(request.header.kind, Kind::MemoryWrite) {
         return None;
     }
     let counts = counts(request, address, first, last);
-    match reply {
-        Reply::Done => None,
-        Reply::Data(bytes) => Some(carry(
+    match outcome {
+        Outcome::Done => None,
+        Outcome::Data => Some(carry(
             request,
             counts,
             Kind::CompletionData,
             Status::Success,
             bytes,
         )),
-        Reply::Unsupported => Some(carry(
+        Outcome::Unsupported => Some(carry(
             request,
             counts,
             Kind::Completion,
             Status::Unsupported,
-            ArrayVec::new(),
+            &bytes[..0],
         )),
-        Reply::Aborted => Some(carry(
+        Outcome::Aborted => Some(carry(
             request,
             counts,
             Kind::Completion,
             Status::Aborted,
-            ArrayVec::new(),
+            &bytes[..0],
         )),
     }
+}
+
+/// The outcome and the data of a reply.
+fn parts_of(reply: &Reply) -> (Outcome, &[u8])
+    ensures whole { reply_of result.0 result.1.now ≡ reply.now }
+    ensures few { length result.1.now ≤ 128 }
+{
+    match reply {
+        Reply::Done => (Outcome::Done, &[]),
+        Reply::Data(bytes) => (Outcome::Data, bytes.as_slice()),
+        Reply::Unsupported => (Outcome::Unsupported, &[]),
+        Reply::Aborted => (Outcome::Aborted, &[]),
+    }
+}
+
+/// As [`completion_lent`], but the completion has a payload of its own.
+#[inline(always)]
+pub(crate) fn completion_with(request: &Tlp, reply: &Reply) -> Option<Tlp>
+    requires { (op : Op) × (op_of request.now ≡ Some op) × IsSizedFor op reply.now }
+    ensures { result ≡ completion_of request.now reply.now }
+{
+    let (outcome, bytes) = parts_of(reply);
+    let completion = completion_lent(&request.lend(), outcome, bytes)?;
+    Some(completion.to_owned())
 }

@@ -7,4 +7,4 @@ pub mod laws;
 mod serving;
 mod span;
 
-pub use serving::{answer, need_for, need_to_answer, serve, serve_op};
+pub use serving::{answer, answer_lent, need_for, need_to_answer, serve, serve_op};

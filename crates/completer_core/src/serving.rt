@@ -5,11 +5,11 @@ ghost use Rattle.seq_memory.specs.Limits.{IsBlock};
 ghost use Rattle.fc_credit.specs.Needs.{need_of};
 ghost use Rattle.completer_core.specs.Serving.{after_serving, completion_to, bytes_after, completion_over};
 
-use crate::completion::completion_with;
+use crate::completion::{completion_lent, completion_with};
 use fc_credit::Need;
-use seq_memory::{Entry, Memory, Refusal, perform};
+use seq_memory::{Entry, Memory, Refusal, ReplyData, perform_lent};
 use std::alloc::AllocError;
-use tlp_core::{Op, Tlp, op_of};
+use tlp_core::{Op, Tlp, TlpRef, op_lent, op_of};
 
 /// Lets the request act on the memory under that number, and gives its completion; none for a
 /// posted write. A request that is aborted or unsupported changes no byte, and stands in the
@@ -46,22 +46,41 @@ pub fn serve_op(
         number,
         op,
     })?;
-    Ok(completion_with(request, reply))
+    Ok(completion_with(request, &reply))
 }
 
 /// Answers a request over bytes that the caller keeps, whose first has the address `base`, by blocks
 /// of `block` bytes, 64 or 128: the bytes and the completion are those that [`serve`] would leave and
-/// give over the same bytes, and no history is kept. A completion in place of a request does
-/// nothing. Takes no memory.
+/// give over the same bytes, and no history is kept. The completion's payload is lent from `room`,
+/// and what that held counts for nothing. A completion in place of a request does nothing. Takes no
+/// memory.
+#[inline(always)]
+pub fn answer_lent<'r>(
+    base: u64,
+    block: u16,
+    bytes: &mut [u8],
+    request: &TlpRef<'_>,
+    room: &'r mut ReplyData,
+) -> Option<TlpRef<'r>>
+    requires { IsBlock block }
+    ensures bytes { bytes.new ≡ bytes_after base block bytes.old request.now }
+    ensures completion { result ≡ completion_over base block bytes.old request.now }
+{
+    let op = op_lent(request)?;
+    let outcome = perform_lent(base, block, bytes, &op, room);
+    completion_lent(request, outcome, room.as_slice())
+}
+
+/// As [`answer_lent`], but the completion has a payload of its own.
 #[inline(always)]
 pub fn answer(base: u64, block: u16, bytes: &mut [u8], request: &Tlp) -> Option<Tlp>
     requires { IsBlock block }
     ensures bytes { bytes.new ≡ bytes_after base block bytes.old request.now }
     ensures completion { result ≡ completion_over base block bytes.old request.now }
 {
-    let op = op_of(request)?;
-    let reply = perform(base, block, bytes, &op);
-    completion_with(request, reply)
+    let mut room = ReplyData::new();
+    let completion = answer_lent(base, block, bytes, &request.lend(), &mut room)?;
+    Some(completion.to_owned())
 }
 
 /// What the request's completion would take of the credits, if it acted now; none for a posted

@@ -85,6 +85,17 @@ right p first a g n queue way ups q e f s k =
       no_overflow = no_overflow p a g n queue way ups small k;
     }
 
+-- a gate whose limit is what the ledger allocated knows all that was given
+
+same_of : (p : Part) (known given : ℕ) → known ≤ given → given ≤ known + most p → known % modulus p ≡ given % modulus p → known ≡ given
+same_of Header known given low high e = omega arith
+same_of Data known given low high e = omega arith
+
+pub all_known : (p : Part) (first : ℕ) (a : Allowance) (g : Grant) (n : Account) (queue way : ℕ) (ups : List ℕ) → first ≤ most p →
+    IsCounted p a g n queue way ups → IsRight p first a g n queue way → a.limit ≡ allocated p g → n.known ≡ n.given
+all_known p first a g n queue way ups s k r e =
+    same_of p n.known n.given r.known_given (omega (arith, r.balance, r.used_known, s)) (sym k.limit ∙ e ∙ k.allocated)
+
 -- the calls
 
 pub used_more : (p : Part) (a : Allowance) (g : Grant) (n : Account) (queue way units : ℕ) (ups : List ℕ) → n.used + units ≤ n.known → IsCounted p a g n queue way ups →

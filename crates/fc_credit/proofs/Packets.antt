@@ -1,5 +1,5 @@
 -- What packets of the grammar need.
-use Rattle.std.proofs.Common.{◌≡◌, ℕ, ◌*◌, ◌≤◌, IsTrue, length, refl, inl, inr, arith}
+use Rattle.std.proofs.Common.{◌≡◌, ℕ, ◌*◌, ◌<◌, ◌≤◌, IsTrue, length, refl, inl, inr, arith}
 use Rattle.std.specs.Prelude.{◌⊎◌}
 use Rattle.dllp_core.specs.declared.packet.Class.{Class}
 use Rattle.dllp_core.specs.declared.packet.Class.TheVariants.{Posted, NonPosted, Completion}
@@ -13,7 +13,7 @@ use Rattle.fc_credit.specs.declared.counter.Part.{Part}
 use Rattle.fc_credit.specs.declared.counter.Part.TheVariants.{Header, Data}
 use Rattle.fc_credit.specs.Needs.{units_of, need_at, need_of}
 use Rattle.fc_credit.specs.Limits.{IsInfiniteOrBetween, IsInLimits, least_units}
-use Rattle.fc_credit.specs.Credits.{most, covers, gate_covers, first_gate, new_allowance}
+use Rattle.fc_credit.specs.Credits.{most, pick, first_of, covers, gate_covers, first_gate, new_allowance}
 use Rattle.fc_credit.proofs.Fits.{room_covered, infinite_counter, join}
 use Rattle.fc_credit.proofs.Runs.{zero_wraps}
 
@@ -74,3 +74,21 @@ covered credits Completion header units l e u =
 
 pub goes : (credits : LaneCredits) (t : TlpView) → IsInLimits credits → IsPacket t → IsTrue (gate_covers (first_gate credits) (need_of t))
 goes credits t l k = covered credits (need_of t).class (need_of t).header (need_of t).units l (one_header t) (units_few t k)
+
+-- a finite first value is at least what a packet needs
+
+finite : (first least most : ℕ) → IsInfiniteOrBetween least most first → 0 < first → least ≤ first
+finite first least most (inl e) h = omega (arith, e, h)
+finite first least most (inr r) h = r.0
+
+enough : (credits : LaneCredits) (c : Class) (p : Part) (header units : ℕ) → IsInLimits credits → header ≡ 1 → units ≤ least_units c → 0 < first_of c p credits → pick p header units ≤ first_of c p credits
+enough credits Posted Header header units l h u f = omega (arith, h, f)
+enough credits NonPosted Header header units l h u f = omega (arith, h, f)
+enough credits Completion Header header units l h u f = omega (arith, h, f)
+enough credits Posted Data header units l h u f = let s = finite credits.pd 8 2047 l.pd f in omega (arith, u, s)
+enough credits NonPosted Data header units l h u f = let s = finite credits.npd 2 2047 l.npd f in omega (arith, u, s)
+enough credits Completion Data header units l h u f = let s = finite credits.cpld 8 2047 l.cpld f in omega (arith, u, s)
+
+pub first_is_enough : (credits : LaneCredits) (t : TlpView) (p : Part) → IsInLimits credits → IsPacket t → 0 < first_of (need_of t).class p credits →
+    pick p (need_of t).header (need_of t).units ≤ first_of (need_of t).class p credits
+first_is_enough credits t p l k f = enough credits (need_of t).class p (need_of t).header (need_of t).units l (one_header t) (units_few t k) f

@@ -13,10 +13,10 @@ use Rattle.fc_credit.specs.declared.counter.Part.{Part}
 use Rattle.fc_credit.specs.declared.counter.Part.TheVariants.{Header, Data}
 use Rattle.fc_credit.specs.declared.ledger.CreditLedger.{CreditLedger}
 use Rattle.fc_credit.specs.Limits.{IsInfiniteOrBetween, IsInLimits}
-use Rattle.fc_credit.specs.Credits.{CreditGateView, modulus, most, pick, covers, gate_of, gate_covers, first_of, allowance, grant, first_gate, first_ledger, new_allowance, new_grant}
+use Rattle.fc_credit.specs.Credits.{CreditGateView, modulus, most, pick, covers, gate_of, gate_covers, first_of, allowance, grant, first_gate, first_ledger, new_allowance, new_grant, allocated}
 use Rattle.fc_credit.specs.Account.{Accounts, IsCredit, HasCredit, IsRight, demand, updates_in, Direction, Event, Consume, Receive, Free, Tell, Learn, Lose, is_small, may_go, consumed_if, used_if, received_from, received_by, freed_at, given_by, learned_from, known_from, lost_from, unlearned_from, after_event, numbers_after, new_direction, first_numbers, after_events, numbers_in}
 use Rattle.fc_credit.proofs.Fits.{both, small, covered_parts, parts_covered, infinite_counter}
-use Rattle.fc_credit.proofs.Counters.{right}
+use Rattle.fc_credit.proofs.Counters.{right, all_known}
 use Rattle.fc_credit.proofs.Six.{consumed_credit, received_credit, freed_credit, told_credit, lost_credit, known_credit}
 
 -- each event
@@ -165,6 +165,13 @@ pub credit_right : (credits : LaneCredits) (gate : CreditGateView) (ledger : Cre
 credit_right credits gate ledger numbers queue way wire c p k q =
     let one = k c p in
     right p (first_of c p credits) (allowance c p gate) (grant c p ledger) (numbers c p) (demand c p queue) (demand c p way) (updates_in c p wire) q one.gate_first one.ledger_first one.small (one.counted q)
+
+pub credit_known : (credits : LaneCredits) (gate : CreditGateView) (ledger : CreditLedger) (numbers : Accounts) (queue way : List Need) (wire : List Dllp) (c : Class) (p : Part) →
+    HasCredit credits gate ledger numbers queue way wire → 0 < first_of c p credits → (allowance c p gate).limit ≡ allocated p (grant c p ledger) → (numbers c p).known ≡ (numbers c p).given
+credit_known credits gate ledger numbers queue way wire c p k q e =
+    let one = k c p in
+    all_known p (first_of c p credits) (allowance c p gate) (grant c p ledger) (numbers c p) (demand c p queue) (demand c p way) (updates_in c p wire) one.small (one.counted q)
+    (credit_right credits gate ledger numbers queue way wire c p k q) e
 
 pub whole : (credits : LaneCredits) (events : List Event) (c : Class) (p : Part) → IsInLimits credits → 0 < first_of c p credits →
     IsRight p (first_of c p credits) (allowance c p (after_events (new_direction credits) events).gate) (grant c p (after_events (new_direction credits) events).ledger)

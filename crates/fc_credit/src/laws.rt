@@ -9,7 +9,7 @@ ghost use Rattle.fc_credit.specs.declared.needs.Need.{Need};
 ghost use Rattle.fc_credit.specs.declared.ledger.CreditLedger.{CreditLedger};
 ghost use Rattle.fc_credit.specs.Needs.{units_of, need_of};
 ghost use Rattle.fc_credit.specs.Limits.{IsInLimits, least_units};
-ghost use Rattle.fc_credit.specs.Credits.{CreditGateView, pick, first_of, allowance, grant, gate_covers, first_gate};
+ghost use Rattle.fc_credit.specs.Credits.{CreditGateView, allocated, pick, first_of, allowance, grant, gate_covers, first_gate};
 ghost use Rattle.fc_credit.specs.Account.{Accounts, Direction, Event, HasCredit, IsRight, demand, after_event, numbers_after, new_direction, first_numbers, after_events, numbers_in};
 
 /// The data units of a payload are the least number of units of 16 bytes that hold it.
@@ -18,11 +18,14 @@ pub fn units_are_the_least()
     ensures least { (bytes n : ℕ) → bytes ≤ 16 * n → units_of bytes ≤ n }
 {}
 
-/// No packet needs more than the least data credit of its class, so each may go on a new lane, where nothing is used.
+/// No packet needs more than the least data credit of its class, so each may go on a new lane, where nothing is used: a
+/// finite first value is at least what any packet needs of it.
 pub fn limits_let_each_packet_go()
     ensures header { (t : TlpView) → (need_of t).header ≡ 1 }
     ensures units { (t : TlpView) → IsPacket t → (need_of t).units ≤ least_units (need_of t).class }
     ensures goes { (credits : LaneCredits) (t : TlpView) → IsInLimits credits → IsPacket t → IsTrue (gate_covers (first_gate credits) (need_of t)) }
+    ensures first { (credits : LaneCredits) (t : TlpView) (p : Part) → IsInLimits credits → IsPacket t → 0 < first_of (need_of t).class p credits →
+        pick p (need_of t).header (need_of t).units ≤ first_of (need_of t).class p credits }
 {}
 
 /// The whole numbers behind the counters of one direction still stand behind them after each event, with the gate, the
@@ -37,11 +40,15 @@ pub fn each_event_keeps_the_account()
 
 /// Where whole numbers stand behind the counters: for each finite counter what was used is at most what is known, that
 /// is at most what was given, and what was given less what was used and what the queue and the packets under way hold
-/// come to the first value. The gate's test is that of the room in whole numbers, and the receiver sees no overflow.
+/// come to the first value. The gate's test is that of the room in whole numbers, and the receiver sees no overflow. A
+/// gate whose CREDIT_LIMIT is CREDITS_ALLOCATED of the ledger knows all that was given.
 pub fn an_account_is_right()
     ensures right { (credits : LaneCredits) (gate : CreditGateView) (ledger : CreditLedger) (numbers : Accounts) (queue on_the_way : List Need) (wire : List Dllp) (c : Class) (p : Part) →
         HasCredit credits gate ledger numbers queue on_the_way wire → 0 < first_of c p credits →
         IsRight p (first_of c p credits) (allowance c p gate) (grant c p ledger) (numbers c p) (demand c p queue) (demand c p on_the_way) }
+    ensures all_known { (credits : LaneCredits) (gate : CreditGateView) (ledger : CreditLedger) (numbers : Accounts) (queue on_the_way : List Need) (wire : List Dllp) (c : Class) (p : Part) →
+        HasCredit credits gate ledger numbers queue on_the_way wire → 0 < first_of c p credits → (allowance c p gate).limit ≡ allocated p (grant c p ledger) →
+        (numbers c p).known ≡ (numbers c p).given }
 {}
 
 /// After any events in a new direction, whatever updates are lost and however often the counters wrap, whole numbers

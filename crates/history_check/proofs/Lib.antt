@@ -10,3 +10,5 @@ pub mod Lists
 pub mod Same
 pub mod LegalLaw
 pub mod LinearLaw
+pub mod ClockLaw
+pub mod Moments

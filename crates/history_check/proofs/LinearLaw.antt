@@ -154,7 +154,7 @@ has_op i k (records.Sub j m op n) e = (op, refl)
 has_op i k (records.Ans j m reply n) e = cc
 
 -- the submission is the first with its number
-first_sub : (rs : List Record) (b i k n : ℕ) (op : Op) → IsNumbered rs → slice_get rs b ≡ Some (records.Sub i k op n) → sub_place rs i k ≡ Some b
+pub first_sub : (rs : List Record) (b i k n : ℕ) (op : Op) → IsNumbered rs → slice_get rs b ≡ Some (records.Sub i k op n) → sub_place rs i k ≡ Some b
 first_sub rs b i k n op numbered at =
     first_is (is_sub i k) rs b (records.Sub i k op n) at (rw (eq-eqb i i refl, eq-eqb k k refl) refl) (no_one (is_sub i k) (take b rs) (λ earlier.
     let (c, place) = first_of_any (is_sub i k) (take b rs) earlier in

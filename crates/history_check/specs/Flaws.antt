@@ -155,6 +155,21 @@ answer_flaw x a (records.Ans i k reply n) =
 unfoldable pub answer_at : Claim → ℕ → Option FlawKind
 answer_at x a = option_and_then (answer_flaw x a) (slice_get x.records a)
 
+-- ---- 13, at each record, where it is asked for: n is no length of a history that grew
+
+-- the request that the record submits stands below n
+abbrev pub acts_early : List Entry → Record → Bool
+acts_early h (records.Sub i k op n) = some_and (place_of h i k) (λ p. nat_lt p n)
+acts_early h (records.Ans i k reply n) = false
+
+-- a record before has a greater n, or n is above H's length
+abbrev pub clock_flaw : List Entry → List Record → Record → Option FlawKind
+clock_flaw h before r =
+    if list_any (λ q. nat_lt (moment r) (moment q)) before || (nat_lt (length h) (moment r) || acts_early h r) then Some flaws.Clock else None
+
+unfoldable pub clock_at : List Record → List Entry → ℕ → Option FlawKind
+clock_at rs h a = option_and_then (clock_flaw h (take a rs)) (slice_get rs a)
+
 -- ---- the first that holds
 
 abbrev pub first_flaw : Claim → Option (FlawKind × ℕ)
@@ -162,6 +177,13 @@ first_flaw x =
     option_or (first_at (numbering_at x.records) (length x.records))
     (option_or (first_at (entry_at x.records x.memory.entries) (length x.memory.entries))
     (first_at (answer_at x) (length x.records)))
+
+abbrev pub first_clock_flaw : Claim → Option (FlawKind × ℕ)
+first_clock_flaw x = first_at (clock_at x.records x.memory.entries) (length x.records)
+
+-- where the n's are asked for, too
+abbrev pub first_flaw_clocked : Claim → Option (FlawKind × ℕ)
+first_flaw_clocked x = option_or (first_flaw x) (first_clock_flaw x)
 
 -- the flaw is the first one; where a growth was refused, the place is 0
 pub record Tells (first : Option (FlawKind × ℕ)) (f : Flaw) : Type 0 where

@@ -4,3 +4,4 @@ pub mod Names
 pub mod Trace
 pub mod Flaws
 pub mod Lookup
+pub mod Clocks

@@ -16,6 +16,7 @@ number_of flaws.Late = 9
 number_of flaws.Reply = 10
 number_of flaws.Stale = 11
 number_of flaws.Memory = 12
+number_of flaws.Clock = 13
 
 abbrev pub name_of : FlawKind → List ℕ
 name_of flaws.Numbering = codes "Numbering"
@@ -30,3 +31,4 @@ name_of flaws.Late = codes "Late"
 name_of flaws.Reply = codes "Reply"
 name_of flaws.Stale = codes "Stale"
 name_of flaws.Memory = codes "Memory"
+name_of flaws.Clock = codes "Clock"

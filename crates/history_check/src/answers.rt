@@ -78,7 +78,8 @@ fn asks(item: &Record) -> bool
     }
 }
 
-fn moment(item: &Record) -> u64
+/// `n` of the record.
+pub(crate) fn moment(item: &Record) -> u64
     ensures { result ≡ flaw.moment item.now }
 {
     match item {
@@ -152,7 +153,7 @@ fn judge_point(tables: Tables<'_>, n: u64, b: usize, p: usize) -> Option<FlawKin
     None
 }
 
-fn point_at(points: &[Option<usize>], b: usize) -> Option<usize>
+pub(crate) fn point_at(points: &[Option<usize>], b: usize) -> Option<usize>
     ensures { result ≡ option_and_then (λ p. p) (slice_get points.now b) }
 {
     *points.get(b)?

@@ -1,18 +1,27 @@
 //! The check, pass by pass.
-ghost use Rattle.std.specs.Prelude.{◌≡◌, None, OnOk, IfErr};
-ghost use Rattle.history_check.specs.Flaws.{first_flaw, Tells};
+ghost use Rattle.std.specs.Prelude.{◌≡◌, None, OnOk, IfOk, IfErr, option_map};
+ghost use Rattle.history_check.specs.Flaws.{first_flaw, first_clock_flaw, first_flaw_clocked, Tells};
+ghost use Rattle.history_check.specs.Clocks.{IsClocked, KeepsRealTimeOrder};
+ghost use Rattle.history_check.specs.Lookup.{ArePoints};
 ghost use Rattle.history_check.specs.Claim.{claim_of};
 ghost use Rattle.history_check.specs.Trace.{Explains};
 
 use crate::answers::Tables;
+use crate::clocks::first_unclocked;
 use crate::flaws::{Flaw, FlawKind, NO_MEMORY};
+use crate::laws::{answered_first_acts_first, explained_is_without_flaw};
 use crate::{Trace, acting, answers, comparing, index};
 use seq_memory::Entry;
 use std::alloc::Global;
 
-/// The passes, one after the other.
-fn first_flaw_of(alloc: Global, trace: &Trace, history: &[Entry]) -> Result<(), Flaw>
+/// The passes, one after the other. Gives, by the place of each submission, the index of its request.
+fn first_flaw_of(
+    alloc: Global,
+    trace: &Trace,
+    history: &[Entry],
+) -> Result<Vec<Option<usize>>, Flaw>
     ensures ok { OnOk result (first_flaw (claim_of trace.now history.now) ≡ None) }
+    ensures points { IfOk result (λ v. ArePoints v.items trace.now.records history.now) }
     ensures err { IfErr result (Tells (first_flaw (claim_of trace.now history.now))) }
 {
     let records = trace.records.as_slice();
@@ -34,7 +43,8 @@ fn first_flaw_of(alloc: Global, trace: &Trace, history: &[Entry]) -> Result<(), 
         firsts: &firsts,
         right: &right,
     };
-    answers::answer(&index, tables)
+    answers::answer(&index, tables)?;
+    Ok(points)
 }
 
 /// Whether the history explains the trace, and else the first flaw. Where a growth was refused, a
@@ -46,5 +56,47 @@ pub fn check(alloc: Global, trace: &Trace, history: &[Entry]) -> Result<(), Flaw
     ensures ok { OnOk result (first_flaw (claim_of trace.now history.now) ≡ None) }
     ensures err { IfErr result (Tells (first_flaw (claim_of trace.now history.now))) }
 {
-    first_flaw_of(alloc, trace, history)
+    let _ = first_flaw_of(alloc, trace, history)?;
+    Ok(())
+}
+
+/// [`check`], and where the history explains the trace the place of the first record whose `n` is no
+/// length of the history as it grew, if there is one.
+pub fn check_with_clock(
+    alloc: Global,
+    trace: &Trace,
+    history: &[Entry],
+) -> Result<Option<usize>, Flaw>
+    ensures explained { OnOk result (Explains (claim_of trace.now history.now)) }
+    ensures unexplained { IfErr result (λ f. ¬ (f.kind ≡ FlawKind.Memory) → ¬ (Explains (claim_of trace.now history.now))) }
+    ensures clocked { IfOk result (λ place. place ≡ None → IsClocked (claim_of trace.now history.now)) }
+    ensures ok { OnOk result (first_flaw (claim_of trace.now history.now) ≡ None) }
+    ensures clock { IfOk result (λ place. first_clock_flaw (claim_of trace.now history.now) ≡ option_map (λ a. (FlawKind.Clock, a)) place) }
+    ensures err { IfErr result (Tells (first_flaw (claim_of trace.now history.now))) }
+{
+    explained_is_without_flaw();
+    let points = first_flaw_of(alloc, trace, history)?;
+    Ok(first_unclocked(&points, trace.records.as_slice(), history))
+}
+
+/// Whether the history explains the trace and the `n` are those of a history that grew, and else the
+/// first flaw, with `Clock` behind all others. So requests of a trace without a flaw act in real-time
+/// order: one that was answered before another was submitted acts before it.
+pub fn check_clocked(alloc: Global, trace: &Trace, history: &[Entry]) -> Result<(), Flaw>
+    ensures explained { OnOk result (Explains (claim_of trace.now history.now)) }
+    ensures clocked { OnOk result (IsClocked (claim_of trace.now history.now)) }
+    ensures ordered { OnOk result (KeepsRealTimeOrder (claim_of trace.now history.now)) }
+    ensures flawed { IfErr result (λ f. ¬ (f.kind ≡ FlawKind.Memory) → Explains (claim_of trace.now history.now) → ¬ (IsClocked (claim_of trace.now history.now))) }
+    ensures ok { OnOk result (first_flaw_clocked (claim_of trace.now history.now) ≡ None) }
+    ensures err { IfErr result (Tells (first_flaw_clocked (claim_of trace.now history.now))) }
+{
+    answered_first_acts_first();
+    explained_is_without_flaw();
+    match check_with_clock(alloc, trace, history)? {
+        None => Ok(()),
+        Some(place) => Err(Flaw {
+            kind: FlawKind::Clock,
+            place,
+        }),
+    }
 }

@@ -6,7 +6,8 @@ use thiserror::Error;
 
 /// The flaws, in the order of their numbers. `Numbering` is looked for in all submissions first,
 /// then `Stranger` to `Order` at each index of the history, then `Unasked` to `Stale` at each
-/// answer; at one place the lowest number is told.
+/// answer, and last, if it is asked for, `Clock` at each record; at one place the lowest number is
+/// told.
 #[derive(Clone, Copy, Debug, PartialEq, Eq, Error)]
 #[error("{}", self.name())]
 pub enum FlawKind {
@@ -35,10 +36,13 @@ pub enum FlawKind {
     Stale,
     /// A growth was refused: nothing is known of the trace.
     Memory,
+    /// The record's `n` is below that of a record before, above the history's length, or above the
+    /// index of the request that the record submits.
+    Clock,
 }
 
 impl FlawKind {
-    /// The number under which the flaw is told, 1 to 12.
+    /// The number under which the flaw is told, 1 to 13.
     pub fn number(self) -> u8
         ensures { result ≡ number_of self }
     {
@@ -55,6 +59,7 @@ impl FlawKind {
             FlawKind::Reply => 10,
             FlawKind::Stale => 11,
             FlawKind::Memory => 12,
+            FlawKind::Clock => 13,
         }
     }
 
@@ -75,6 +80,7 @@ impl FlawKind {
             FlawKind::Reply => "Reply",
             FlawKind::Stale => "Stale",
             FlawKind::Memory => "Memory",
+            FlawKind::Clock => "Clock",
         }
     }
 }

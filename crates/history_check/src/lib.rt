@@ -5,7 +5,8 @@
 //! did them. [`check`] says whether the history explains the trace, and else what is wrong first:
 //! each answer has to be the sequential memory's at one point of the history that lies after its
 //! submission, before the answer, and above the points of all answers that its requester had before
-//! it asked.
+//! it asked. [`check_clocked`] asks also that the `n` are those of a history that grew: then requests
+//! act in real-time order, so that the answered ones are linearizable.
 //!
 //! The check is near linear in the records and entries: one loop each over flat tables.
 #![tactic(auto)]
@@ -13,12 +14,13 @@
 mod acting;
 mod answers;
 mod checking;
+mod clocks;
 mod comparing;
 mod flaws;
 mod index;
 pub mod laws;
 
-pub use checking::check;
+pub use checking::{check, check_clocked, check_with_clock};
 pub use flaws::{Flaw, FlawKind};
 use seq_memory::{Extent, Reply};
 use std::marker::Model;

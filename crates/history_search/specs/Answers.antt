@@ -3,7 +3,8 @@ use Rattle.std.specs.Prelude.{IfSome}
 use Rattle.history_check.specs.TraceView.{TraceView}
 use Rattle.history_check.specs.Claim.{claim_of}
 use Rattle.history_check.specs.Trace.{Explains}
-use Rattle.log_runs.specs.Explainable.{IsExplainable, IsClocked}
+use Rattle.history_check.specs.Clocks.{IsClocked}
+use Rattle.log_runs.specs.Explainable.{IsExplainable}
 use Rattle.history_search.specs.Prefixes.{IsUnexplained, IsExplainedBefore}
 use Rattle.history_search.specs.declared.searching.Sought.{Sought}
 use Rattle.history_search.specs.declared.searching.Sought.TheVariants as answers

@@ -6,7 +6,7 @@ ghost use Rattle.history_check.specs.declared.Record.TheVariants as kinds;
 ghost use Rattle.history_check.specs.Flaws as flaws;
 ghost use Rattle.history_check.specs.Claim.{claim_of};
 ghost use Rattle.history_check.specs.Trace.{IsNumbered};
-ghost use Rattle.log_runs.specs.Explainable.{IsClocked};
+ghost use Rattle.history_check.specs.Clocks.{IsClocked};
 ghost use Rattle.history_search.specs.Clocks.{Rises, IsAfter};
 
 use history_check::{Record, Trace};

@@ -2,7 +2,8 @@
 ghost use Rattle.std.specs.Prelude.{◌≡◌, ◌≤◌, ℕ, IfOk, IfSome, true, map};
 ghost use Rattle.history_check.specs.Claim.{claim_of};
 ghost use Rattle.history_check.specs.Trace.{Explains};
-ghost use Rattle.log_runs.specs.Explainable.{SeenAlike, IsClocked, without_n};
+ghost use Rattle.history_check.specs.Clocks.{IsClocked};
+ghost use Rattle.log_runs.specs.Explainable.{SeenAlike, without_n};
 
 use crate::clocked::is_clocked;
 use history_check::{FlawKind, Record, Trace, check};

@@ -7,6 +7,8 @@ pub mod Right
 pub mod Sound
 pub mod Directions
 pub mod Kept
+pub mod Spelled
 pub mod Whole
 pub mod Sums
 pub mod Windows
+pub mod Room

@@ -131,7 +131,7 @@ numbers_append : (d : Direction) (numbers : Accounts) (xs ys : List Event) → n
 numbers_append d numbers [] ys = refl
 numbers_append d numbers (x ∷ xs) ys = numbers_append (after_event d x) (numbers_after d numbers x) xs ys
 
-demand_append : (c : Class) (p : _) (xs ys : List Item) → demand c p (needs_of (xs ++ ys)) ≡ demand c p (needs_of xs) + demand c p (needs_of ys)
+pub demand_append : (c : Class) (p : _) (xs ys : List Item) → demand c p (needs_of (xs ++ ys)) ≡ demand c p (needs_of xs) + demand c p (needs_of ys)
 demand_append c p xs ys =
     ap (λ (needs : List Need). demand c p needs) (map-append (λ (item : Item). need_of item.0) xs ys) ∙ sum_by-append (amount c p) (needs_of xs) (needs_of ys)
 

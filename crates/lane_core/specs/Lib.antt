@@ -1,3 +1,4 @@
 pub mod Calls
 pub mod Credit
 pub mod Windows
+pub mod Flushed

@@ -1,24 +1,26 @@
 //! What holds of a lane whatever calls are made, said of the values of its four ends, wherever these are.
-ghost use Rattle.std.specs.Prelude.{◌≡◌, ◌↔◌, ℕ, ◌+◌, ◌/◌, ◌<◌, ◌≤◌, All, IsOk, IsTrue, Some, List, [], ◌++◌, length};
+ghost use Rattle.std.specs.Prelude.{◌≡◌, ◌↔◌, ℕ, ◌+◌, ◌/◌, ◌<◌, ◌≤◌, true, All, IsOk, IsTrue, Some, List, [], ◌++◌, length, slice_get};
 ghost use Rattle.dllp_core.specs.declared.packet.Class.{Class};
-ghost use Rattle.tlp_core.specs.TlpView.{TlpView};
+ghost use Rattle.tlp_core.specs.TlpView.{TlpView, IsPacket};
 ghost use Rattle.tlp_core.specs.Layout.{Spells, canonical};
 ghost use Rattle.link_receiver.specs.declared.receiver.Reception.TheVariants.{Accept};
 ghost use Rattle.fc_credit.specs.declared.needs.Need.{Need};
 ghost use Rattle.fc_credit.specs.declared.limits.LaneCredits.{LaneCredits};
 ghost use Rattle.fc_credit.specs.Limits.{IsInLimits};
+ghost use Rattle.fc_credit.specs.Needs.{need_of};
 ghost use Rattle.fc_credit.specs.Credits.{most, allowance, grant, first_of, gate_covers};
 ghost use Rattle.fc_credit.specs.Account.{demand, IsRight as IsBalanced};
 ghost use Rattle.lane_ends.specs.declared.packet.Fate.{Fate};
 ghost use Rattle.lane_ends.specs.declared.packet.WirePacket.{WirePacket};
 ghost use Rattle.lane_ends.specs.declared.packet.Arrival.TheVariants.{Answered};
 ghost use Rattle.lane_ends.specs.Content.{cargo_of, item_spelled, IsSpelled, wire_bytes};
-ghost use Rattle.lane_ends.specs.Steps.{LaneEndsView, new_lane, transmitted, delivered, dllp_seen, IsStill};
+ghost use Rattle.lane_ends.specs.Steps.{LaneEndsView, new_lane, may_enter, transmitted, delivered, dllp_seen, IsStill};
 ghost use Rattle.lane_core.specs.Calls.{Call, Deliver, IsCall, AreCalls, after_call, entered_by, accepted_by, after_calls, entered_in, accepted_in, taken_in, IsPrefixOf, on_the_way, content, content_after, IsRightWith, IsRight, AcceptsFirst};
 ghost use Rattle.lane_core.specs.Windows.{next_entered, oldest_unacknowledged, next_accepted, deliveries};
 ghost use Rattle.lane_core.specs.Credit.{needs_of, numbers_of, HasRoom};
+ghost use Rattle.lane_core.specs.Flushed.{IsFlushed};
 
-use fc_credit::{counters_stand_for_whole_numbers, limits_let_each_packet_go};
+use fc_credit::{an_account_is_right, counters_stand_for_whole_numbers, limits_let_each_packet_go};
 use tlp_core::laws::reading_is_spelling;
 
 /// Each call keeps four ends right together, with their credits. `Enter` adds to the end of the content, `Take` removes
@@ -79,6 +81,13 @@ pub fn wire_bytes_tell_the_packet()
     reading_is_spelling();
 }
 
+/// The canonical bytes of each packet that a lane holds, on its way or in its queue, spell that packet.
+pub fn what_a_lane_holds_is_spelled()
+    ensures { (e : LaneEndsView) (place mark : ℕ) (t : TlpView) → IsRight e → slice_get (content e) place ≡ Some (t, mark) → Spells (canonical t) t }
+{
+    reading_is_spelling();
+}
+
 /// Whatever calls come and however often the counters wrap, whole numbers stand behind those of a new lane. What was
 /// used is what the entered packets need, what was given is the first value and what the taken packets need, and known
 /// is the last given value that reached the gate. For each finite counter what was used is at most what is known, and
@@ -121,4 +130,18 @@ pub fn room_is_known_less_used()
     reading_is_spelling();
     limits_let_each_packet_go();
     counters_stand_for_whole_numbers();
+}
+
+/// A flushed lane that holds nothing takes any packet: its window is empty, and all credit is known and unused. If the
+/// credits of a class are infinite, a flushed lane takes a packet of that class whatever it holds.
+pub fn an_empty_flushed_lane_takes_any_packet()
+    ensures empty { (credits : LaneCredits) (e : LaneEndsView) (t : TlpView) → IsRightWith credits e → IsFlushed e → content e ≡ [] → IsPacket t →
+        may_enter e.sender (need_of t) ≡ true }
+    ensures infinite { (credits : LaneCredits) (e : LaneEndsView) (t : TlpView) → IsRightWith credits e → IsFlushed e →
+        ((p : _) → first_of (need_of t).class p credits ≡ 0) → IsPacket t → may_enter e.sender (need_of t) ≡ true }
+{
+    reading_is_spelling();
+    limits_let_each_packet_go();
+    counters_stand_for_whole_numbers();
+    an_account_is_right();
 }

@@ -9,7 +9,7 @@ use Rattle.history_check.specs.declared.Record.{Record}
 use Rattle.history_check.specs.declared.Record.TheVariants as records
 use Rattle.history_check.specs.Claim.{Claim}
 use Rattle.history_check.specs.Flaws.{moment}
-use Rattle.log_runs.specs.Explainable.{IsClocked}
+use Rattle.history_check.specs.Clocks.{IsClocked}
 
 -- n never falls, from low up to high
 abbrev pub climbs : ℕ → ℕ → List Record → Bool

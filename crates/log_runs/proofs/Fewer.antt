@@ -11,7 +11,8 @@ use Rattle.history_check.specs.declared.Record.TheVariants as records
 use Rattle.history_check.specs.TraceView.{TraceView}
 use Rattle.history_check.specs.Claim.{claim_of}
 use Rattle.history_check.specs.Trace.{submission, submissions, answers_to, Explains, IsNumbered, IsLegal, IsExplained}
-use Rattle.log_runs.specs.Explainable.{without_n, IsClocked, IsExplainable, without}
+use Rattle.history_check.specs.Clocks.{IsClocked}
+use Rattle.log_runs.specs.Explainable.{without_n, IsExplainable, without}
 use Rattle.log_runs.proofs.Lists.{from_take, to_take}
 use Rattle.log_runs.proofs.Alike.{ans_alike}
 

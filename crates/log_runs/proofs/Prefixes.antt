@@ -16,7 +16,8 @@ use Rattle.history_check.specs.TraceView.{TraceView, observed}
 use Rattle.history_check.specs.Claim.{claim_of}
 use Rattle.history_check.specs.Flaws.{moment}
 use Rattle.history_check.specs.Trace.{submissions, stands, Explains, IsNumbered, IsLegal, IsExplained}
-use Rattle.log_runs.specs.Explainable.{IsClocked, IsExplainable, prefix}
+use Rattle.history_check.specs.Clocks.{IsClocked}
+use Rattle.log_runs.specs.Explainable.{IsExplainable, prefix}
 use Rattle.log_runs.proofs.Lists.{some_at, from_take, to_take, take_of_take}
 use Rattle.log_runs.proofs.Alike.{same_prefix}
 use Rattle.log_runs.proofs.Numbers.{listed, located}

@@ -15,12 +15,13 @@ use Rattle.history_check.specs.TraceView.{TraceView, observed}
 use Rattle.history_check.specs.Claim.{claim_of}
 use Rattle.history_check.specs.Flaws.{moment}
 use Rattle.history_check.specs.Trace.{stands, Explains}
+use Rattle.history_check.specs.Clocks.{IsClocked}
 use Rattle.log_runs.specs.EventView.{EventView}
 use Rattle.log_runs.specs.EventView as events
 use Rattle.log_runs.specs.declared.Step.{Step}
 use Rattle.log_runs.specs.declared.Step.TheVariants as steps
 use Rattle.log_runs.specs.LogView.{LogView}
-use Rattle.log_runs.specs.Explainable.{without_n, IsClocked, IsExplainable}
+use Rattle.log_runs.specs.Explainable.{without_n, IsExplainable}
 use Rattle.log_runs.specs.Runs.{State, MayPass, MayAct, Allowed, Live, start, next, reply_of}
 use Rattle.log_runs.specs.Tasks.{Says, AreEvents}
 use Rattle.log_runs.proofs.Lists.{clash, some_at, take_more_at}

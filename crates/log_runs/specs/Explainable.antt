@@ -6,7 +6,7 @@ use Rattle.history_check.specs.declared.Record.{Record}
 use Rattle.history_check.specs.declared.Record.TheVariants as records
 use Rattle.history_check.specs.TraceView.{TraceView}
 use Rattle.history_check.specs.Claim.{Claim, claim_of}
-use Rattle.history_check.specs.Flaws.{moment}
+use Rattle.history_check.specs.Clocks.{IsClocked}
 use Rattle.history_check.specs.Trace.{Explains}
 
 -- the record but for its n
@@ -20,15 +20,6 @@ pub record SeenAlike (t u : TraceView) : Type 0 where
   pub size : t.size ≡ u.size
   pub block : t.block ≡ u.block
   pub records : map without_n t.records ≡ map without_n u.records
-
--- the n's are the lengths of a history that grew while the records were seen
-pub record IsClocked (x : Claim) : Type 0 where
-  -- n never falls
-  pub rises : (a b : ℕ) (r s : Record) → a < b → slice_get x.records a ≡ Some r → slice_get x.records b ≡ Some s → moment r ≤ moment s
-  -- none is above the length of the history
-  pub bounded : (a : ℕ) (r : Record) → slice_get x.records a ≡ Some r → moment r ≤ length x.memory.entries
-  -- each request acted at or after n of its submission
-  pub after_submission : (p b n : ℕ) (e : Entry) (op : Op) → slice_get x.memory.entries p ≡ Some e → slice_get x.records b ≡ Some (records.Sub e.requester e.number op n) → n ≤ p
 
 -- with n's of some choice, some history explains what was seen
 abbrev pub IsExplainable : TraceView → Type 0

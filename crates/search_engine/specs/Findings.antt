@@ -3,10 +3,11 @@ use Rattle.std.specs.Prelude.{◌≡◌, Bool, true, false, Result, Ok, Err}
 use Rattle.history_check.specs.TraceView.{TraceView}
 use Rattle.history_check.specs.Claim.{claim_of}
 use Rattle.history_check.specs.Trace.{Explains}
+use Rattle.history_check.specs.Clocks.{IsClocked}
 use Rattle.trace_text.specs.declared.fault.ReadFault.{ReadFault}
 use Rattle.trace_text.specs.declared.fault.ReadFaultKind.{ReadFaultKind}
 use Rattle.trace_text.specs.declared.fault.ReadFaultKind.TheVariants as faults
-use Rattle.log_runs.specs.Explainable.{SeenAlike, IsClocked}
+use Rattle.log_runs.specs.Explainable.{SeenAlike}
 use Rattle.history_search.specs.Prefixes.{IsUnexplained}
 use Rattle.search_engine.specs.declared.answering.Finding.{Finding}
 use Rattle.search_engine.specs.declared.answering.Finding.TheVariants as findings

@@ -7,10 +7,11 @@ use Rattle.seq_memory.specs.declared.Entry.{Entry}
 use Rattle.history_check.specs.TraceView.{TraceView}
 use Rattle.history_check.specs.Claim.{claim_of}
 use Rattle.history_check.specs.Trace.{Explains}
+use Rattle.history_check.specs.Clocks.{IsClocked}
 use Rattle.trace_text.specs.declared.fault.ReadFault.{ReadFault}
 use Rattle.trace_text.specs.Texts.{trace_text}
 use Rattle.trace_text.specs.Names.{fault_line}
-use Rattle.log_runs.specs.Explainable.{SeenAlike, IsExplainable, IsClocked, prefix}
+use Rattle.log_runs.specs.Explainable.{SeenAlike, IsExplainable, prefix}
 use Rattle.log_text.specs.LogReaderView.{seen_of}
 
 abbrev pub none_line : ℕ → List ℕ

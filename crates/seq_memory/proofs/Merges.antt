@@ -1,8 +1,9 @@
 -- Merging DW by DW.
-use Rattle.std.proofs.Common.{◌≡◌, ℕ, zero, suc, ◌+◌, ◌-◌, ◌*◌, ◌/◌, ◌%◌, ◌≤◌, Bool, true, false, cond, eqb, List, [], ◌∷◌, ◌++◌, length, take, drop, get_or, replicate, refl, sym, ap, ◌∙◌, append_assoc, arith, length-append, length-drop}
-use Rattle.std.proofs.lemmas.List.{append-nil, drop_all, take_all, take_at, drop_at, take-append-drop, drop-drop, length-replicate}
+use Rattle.std.proofs.Common.{◌≡◌, ℕ, zero, suc, ◌+◌, ◌-◌, ◌*◌, ◌/◌, ◌%◌, ◌≤◌, Bool, true, false, cond, eqb, List, [], ◌∷◌, ◌++◌, length, take, drop, get_or, replicate, refl, sym, subst, ap, ◌∙◌, ◌⊎◌, inl, inr, append_assoc, arith, length-append, length-drop}
+use Rattle.std.proofs.lemmas.List.{append-nil, drop_all, take_all, take_at, drop_at, take-append-drop, drop-drop, length-replicate, replicate-append-replicate}
+use Rattle.std.proofs.lemmas.Bool.{cases_lt}
 use Rattle.std.proofs.lemmas.Bool.Decides.{nat_tests}
-use Rattle.std.proofs.Math.Seq.{length-take-le}
+use Rattle.std.proofs.Math.Seq.{length-take-le, take-append_seam}
 use Rattle.std.specs.Prelude.{slice_get}
 use borrow.Rule.Slice.PartMut.{put_mid}
 use Rattle.tlp_core.specs.Enables.{dw_enables, enables}
@@ -65,6 +66,29 @@ several_dw f l e n h s w =
     let long : 4 * (n / 4 - 2) ≡ e - 4 = omega arith in
     rw (several, long) refl
 
+four_and_more : (e n : ℕ) → n ≡ e + 4 → 4 ≤ e → replicate 4 true ++ replicate (e - 4) true ++ replicate 4 true ≡ replicate n true
+four_and_more e n is le =
+    ap (λ zs. replicate 4 true ++ zs) (replicate-append-replicate (e - 4) 4 true)
+    ∙ replicate-append-replicate 4 ((e - 4) + 4) true
+    ∙ ap (λ k. replicate k true) (omega arith)
+
+-- each byte of the DW is enabled
+pub all_enabled : (n f l : ℕ) → 4 ≤ n → n % 4 ≡ 0 → f ≡ 15 → (l ≡ 15) ⊎ (n ≡ 4) → enables (n / 4) f l ≡ replicate n true
+all_enabled n f l s w is_f (inr e) = one_dw f l n e ∙ ap dw_enables is_f ∙ ap (λ k. replicate k true) (sym e)
+all_enabled n f l s w is_f (inl is_l) =
+    elim (cases_lt n 8) [
+      | inl small ↦
+          let e : n ≡ 4 = omega (arith, small) in
+          one_dw f l n e ∙ ap dw_enables is_f ∙ ap (λ k. replicate k true) (sym e)
+      | inr more ↦
+          let is : n ≡ (n - 4) + 4 = omega (arith, more) in
+          let le : 4 ≤ n - 4 = omega (arith, more) in
+          several_dw f l (n - 4) n is le w
+          ∙ ap (λ b. dw_enables b ++ replicate (n - 4 - 4) true ++ dw_enables l) is_f
+          ∙ ap (λ b. replicate 4 true ++ replicate (n - 4 - 4) true ++ dw_enables b) is_l
+          ∙ four_and_more (n - 4) n is le
+    ]
+
 -- after the first DW and the bytes between, what was written so far and what is left
 so_far : (e : ℕ) (old d q s : List ℕ) → length d ≡ 4 → length q ≡ e - 4 → 4 ≤ e → s ≡ put_mid 4 (e - 4) (d ++ drop 4 old) q → s ≡ (d ++ q) ++ drop e old
 so_far e old d q s hd hq h is =
@@ -105,3 +129,11 @@ pub take_zeros : (n m : ℕ) → n ≤ m → take {A = ℕ} n (replicate m 0) �
 take_zeros zero m h = refl
 take_zeros (suc n) zero h = absurd (omega arith)
 take_zeros (suc n) (suc m) h = ap (λ (xs : List ℕ). 0 ∷ xs) (take_zeros n m (omega arith))
+
+pub take_front : (n : ℕ) (xs ys : List ℕ) → length xs ≡ n → take n (xs ++ ys) ≡ xs
+take_front n xs ys e = subst (λ n. take n (xs ++ ys) ≡ xs) e (take-append_seam xs ys)
+
+-- a read of bytes that are all enabled
+pub all_read : (es : List Bool) (xs : List ℕ) → es ≡ replicate (length xs) true → merged es xs (replicate (length xs) 0) ≡ xs
+all_read es xs e =
+    ap (λ es. merged es xs (replicate (length xs) 0)) e ∙ merged_all (length xs) xs (replicate (length xs) 0) refl (length-replicate (length xs) 0)

@@ -5,20 +5,27 @@
 //! that order is its history. What it holds is what the entries of the history make of zeros, one
 //! after the other; what it answers to an entry depends on the entries before it alone.
 //!
+//! [`perform`] is one step over bytes that the caller keeps, without a history, and [`perform_lent`]
+//! the same for an operation that lends its bytes.
+//!
 //! An access is served if its place, the bytes of all DW or of the operand that it names, lies in
 //! one naturally aligned block of 64 or 128 bytes and inside the memory. A DW is 4 bytes. Numbers
 //! are little-endian.
 #![tactic(auto)]
 
+mod data;
 mod extent;
 pub mod laws;
+mod lent;
 mod limits;
 mod memory;
 mod place;
 mod step;
 
 use arrayvec::ArrayVec;
+pub use data::ReplyData;
 pub use extent::Extent;
+pub use lent::{Outcome, perform_lent};
 pub use limits::{ALIGNMENT, MAX_SIZE, MIN_SIZE, is_base, is_block, is_size};
 pub use memory::Memory;
 pub use step::perform;

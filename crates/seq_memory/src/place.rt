@@ -1,5 +1,5 @@
 //! Which operations are served.
-ghost use Rattle.std.specs.Prelude.{◌≡◌, ◌+◌, ◌≤◌, None, IfNone};
+ghost use Rattle.std.specs.Prelude.{◌≡◌, ◌+◌, ◌%◌, ◌≤◌, if◌then◌else◌, not, Some, None, IfNone};
 ghost use Rattle.tlp_core.specs.Operation.{op_fault, address_of, count_of};
 ghost use Rattle.seq_memory.specs.Limits.{IsBlock};
 ghost use Rattle.seq_memory.specs.Step.{is_in_block, is_inside, refusal};
@@ -14,7 +14,11 @@ fn lies_in_block(block: u16, address: u64, count: u32) -> bool
     requires some { 1 ≤ count }
     ensures { result ≡ is_in_block block address count }
 {
-    address % u64::from(block) + u64::from(count) <= u64::from(block)
+    let before = match block {
+        64 => address % 64,
+        _ => address % 128,
+    };
+    before + u64::from(count) <= u64::from(block)
 }
 
 /// Whether `count` bytes from `address` on lie in the memory.
@@ -29,6 +33,31 @@ fn lies_inside(base: u64, size: usize, address: u64, count: u32) -> bool
     before <= size && u64::from(count) <= size - before
 }
 
+/// Why an operation without a fault is not served, by its place; none where it is.
+#[inline(always)]
+pub(crate) fn refusal_at(
+    base: u64,
+    block: u16,
+    size: usize,
+    address: u64,
+    count: u32,
+) -> Option<Refusal>
+    requires block { IsBlock block }
+    requires some { 1 ≤ count }
+    ensures value { result ≡ (if not (is_in_block block address count) then Some Refusal.Aborted else (if is_inside base size address count then None else Some Refusal.Unsupported)) }
+    ensures few { IfNone result (count ≤ 128) }
+    ensures low { IfNone result (base ≤ address) }
+    ensures high { IfNone result (address + count ≤ base + size) }
+{
+    if !lies_in_block(block, address, count) {
+        return Some(Refusal::Aborted);
+    }
+    if !lies_inside(base, size, address, count) {
+        return Some(Refusal::Unsupported);
+    }
+    None
+}
+
 /// Why the operation is not served, none where it is.
 pub(crate) fn refusal_of(base: u64, block: u16, size: usize, op: &Op) -> Option<Refusal>
     requires { IsBlock block }
@@ -41,13 +70,5 @@ pub(crate) fn refusal_of(base: u64, block: u16, size: usize, op: &Op) -> Option<
     if tlp_core::op_fault(op).is_some() {
         return Some(Refusal::Aborted);
     }
-    let address = op.address();
-    let count = op.size();
-    if !lies_in_block(block, address, count) {
-        return Some(Refusal::Aborted);
-    }
-    if !lies_inside(base, size, address, count) {
-        return Some(Refusal::Unsupported);
-    }
-    None
+    refusal_at(base, block, size, op.address(), op.size())
 }

@@ -1,5 +1,5 @@
 //! One operation on the bytes.
-ghost use Rattle.std.specs.Prelude.{◌≡◌, ◌*◌, ◌/◌, ◌^◌, ◌<◌, ◌≤◌, ◌%◌, None, if◌then◌else◌, length, replicate};
+ghost use Rattle.std.specs.Prelude.{◌≡◌, ◌*◌, ◌/◌, ◌^◌, ◌<◌, ◌≤◌, ◌%◌, true, None, if◌then◌else◌, length, replicate};
 ghost use Rattle.byteorder.specs.Endian.{little_number, little_bytes};
 ghost use Rattle.arrayvec.specs.ArrayVec.{array_vec_len};
 ghost use Rattle.tlp_core.specs.Operation.{size_of, count_of, op_fault};
@@ -52,9 +52,20 @@ fn copy_of(bytes: &[u8]) -> ArrayVec<u8, MAX_PAYLOAD>
     copy
 }
 
+/// Does an AtomicOp at its place.
+#[inline(always)]
+pub(crate) fn change(place: &mut [u8], width: Width, op: AtomicOp)
+    requires size { length place.old ≡ size_of width }
+    requires operands { FitsWidth op width }
+    ensures { place.new ≡ changed width op place.old }
+{
+    let value = apply(op, number_at(place, width), width);
+    put_number(place, width, value);
+}
+
 /// Does an AtomicOp at its place, and gives the bytes that were there.
 #[inline(always)]
-fn change(place: &mut [u8], width: Width, op: AtomicOp) -> ArrayVec<u8, MAX_PAYLOAD>
+fn exchange(place: &mut [u8], width: Width, op: AtomicOp) -> ArrayVec<u8, MAX_PAYLOAD>
     requires size { length place.old ≡ size_of width }
     requires operands { FitsWidth op width }
     ensures place { place.new ≡ changed width op place.old }
@@ -62,8 +73,7 @@ fn change(place: &mut [u8], width: Width, op: AtomicOp) -> ArrayVec<u8, MAX_PAYL
     ensures len { array_vec_len result ≡ size_of width }
 {
     let old = copy_of(place);
-    let value = apply(op, number_at(place, width), width);
-    put_number(place, width, value);
+    change(place, width, op);
     old
 }
 
@@ -85,13 +95,41 @@ fn merge_dw(old: &mut [u8], new: &[u8], enables: u8)
     old[3] = chosen(enables / 8 % 2 == 1, new[3], old[3]);
 }
 
+/// Puts new bytes over as many old ones. Of one DW or two that is one move of a number.
+#[inline(always)]
+pub(crate) fn replace(old: &mut [u8], new: &[u8])
+    requires { length old.old ≡ length new.now }
+    ensures { old.new ≡ new.now }
+{
+    match new.len() {
+        4 => old[..4].copy_from_slice(&new[..4]),
+        8 => old[..8].copy_from_slice(&new[..8]),
+        _ => old.copy_from_slice(new),
+    }
+}
+
+/// Whether all of so many bytes are enabled.
+#[inline(always)]
+#[tactic(auto, using(crate::proofs::Merges::all_enabled))]
+pub(crate) fn are_all_enabled(count: usize, first: u8, last: u8) -> bool
+    requires some { 4 ≤ count }
+    requires whole { count % 4 ≡ 0 }
+    ensures { result ≡ true → enables (count / 4) first last ≡ replicate count true }
+{
+    first == 15 && (last == 15 || count == 4)
+}
+
 /// Puts the enabled bytes of new DW over as many old ones.
-fn merge(old: &mut [u8], new: &[u8], first: u8, last: u8)
+pub(crate) fn merge(old: &mut [u8], new: &[u8], first: u8, last: u8)
     requires same { length old.old ≡ length new.now }
     requires some { 4 ≤ length new.now }
     requires whole { length new.now % 4 ≡ 0 }
     ensures { old.new ≡ merged (enables (length new.now / 4) first last) new.now old.old }
 {
+    if are_all_enabled(new.len(), first, last) {
+        replace(old, new);
+        return;
+    }
     let end = new.len() - 4;
     if end == 0 {
         merge_dw(old, new, first);
@@ -102,7 +140,7 @@ fn merge(old: &mut [u8], new: &[u8], first: u8, last: u8)
     merge_dw(&mut old[end..], &new[end..], last);
 }
 
-const ZEROS: [u8; MAX_PAYLOAD] = [0; MAX_PAYLOAD];
+pub(crate) const ZEROS: [u8; MAX_PAYLOAD] = [0; MAX_PAYLOAD];
 
 /// The bytes of a read.
 fn read(place: &[u8], first: u8, last: u8) -> ArrayVec<u8, MAX_PAYLOAD>
@@ -112,6 +150,9 @@ fn read(place: &[u8], first: u8, last: u8) -> ArrayVec<u8, MAX_PAYLOAD>
     ensures items { result.items ≡ merged (enables (length place.now / 4) first last) place.now (replicate (length place.now) 0) }
     ensures len { array_vec_len result ≡ length place.now }
 {
+    if are_all_enabled(place.len(), first, last) {
+        return copy_of(place);
+    }
     let mut data = copy_of(&ZEROS[..place.len()]);
     merge(data.as_mut_slice(), place, first, last);
     data
@@ -139,17 +180,17 @@ fn serve(place: &mut [u8], op: &Op) -> Reply
             Reply::Done
         }
         Op::FetchAdd { width, operand, .. } => {
-            Reply::Data(change(place, *width, AtomicOp::FetchAdd(*operand)))
+            Reply::Data(exchange(place, *width, AtomicOp::FetchAdd(*operand)))
         }
         Op::Swap { width, operand, .. } => {
-            Reply::Data(change(place, *width, AtomicOp::Swap(*operand)))
+            Reply::Data(exchange(place, *width, AtomicOp::Swap(*operand)))
         }
         Op::Cas {
             width,
             compare,
             swap,
             ..
-        } => Reply::Data(change(place, *width, AtomicOp::Cas(*compare, *swap))),
+        } => Reply::Data(exchange(place, *width, AtomicOp::Cas(*compare, *swap))),
     }
 }
 

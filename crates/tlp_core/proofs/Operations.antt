@@ -1,5 +1,8 @@
 -- The operation of a packet has no fault.
-use Rattle.std.proofs.Common.{◌≡◌, ℕ, ◌*◌, ◌%◌, ◌^◌, ◌<◌, Bool, false, None, refl, sym, subst, inl, inr, arith, ◌⊎◌}
+use Rattle.std.proofs.Common.{◌≡◌, ℕ, ◌-◌, ◌*◌, ◌/◌, ◌%◌, ◌^◌, ◌<◌, Bool, false, None, List, length, take, drop, length-take, length-drop, refl, sym, subst, ap, ◌∙◌, inl, inr, arith, ◌⊎◌}
+use Rattle.byteorder.specs.Numbers.{little_from-lt}
+use Rattle.tlp_core.specs.Bits.{IsBytes}
+use Rattle.tlp_core.specs.Lent.{number_of}
 use Rattle.std.specs.Prelude.{not, ◌||◌, ◌==◌, nat_lt}
 use Rattle.std.proofs.lemmas.Bool.Decides.{nat_tests}
 use Rattle.tlp_core.specs.declared.packet.Kind.{Kind}
@@ -53,3 +56,53 @@ pub cas_sound : (k : Kind) (body : Body) (a f l dw given half : ℕ) (w : Width)
 cas_sound k body a f l dw given half w x y fits is_cas is_request e1 e2 hx hy =
     let h : FitsKind kinds.Cas (bodies.Request a f l) dw given = subst (λ body. FitsKind kinds.Cas body dw given) is_request (subst (λ k. FitsKind k body dw given) is_cas fits) in
     rw e2 (none_found (ops.Cas a (width_of (2 * dw)) x y) (has_none a dw x y h.0.0 h.0.1 (subst (λ n. x < 256 ^ n) e1 hx) (subst (λ n. y < 256 ^ n) e1 hy)))
+
+-- ---- operands that are lent
+
+has_one : (a n x : ℕ) → ((n ≡ 4) ⊎ (n ≡ 8)) → a % n ≡ 0 → x < 256 ^ n → HasNone (ops.FetchAdd a (width_of n) x) × HasNone (ops.Swap a (width_of n) x)
+has_one a n x (inl e) h hx =
+    let at : a % 4 ≡ 0 = subst (λ n. a % n ≡ 0) e h in
+    let fx : x < 2 ^ 32 = subst (λ n. x < 256 ^ n) e hx in
+    subst (λ n. HasNone (ops.FetchAdd a (width_of n) x) × HasNone (ops.Swap a (width_of n) x)) (sym e) (record { length_right = refl; enables_right = refl; operand_right = test_below x (2 ^ 32) fx; address_right = aligned a 4 at }, record { length_right = refl; enables_right = refl; operand_right = test_below x (2 ^ 32) fx; address_right = aligned a 4 at })
+has_one a n x (inr e) h hx =
+    let at : a % 8 ≡ 0 = subst (λ n. a % n ≡ 0) e h in
+    let fx : x < 2 ^ 64 = subst (λ n. x < 256 ^ n) e hx in
+    subst (λ n. HasNone (ops.FetchAdd a (width_of n) x) × HasNone (ops.Swap a (width_of n) x)) (sym e) (record { length_right = refl; enables_right = refl; operand_right = test_below x (2 ^ 64) fx; address_right = aligned a 8 at }, record { length_right = refl; enables_right = refl; operand_right = test_below x (2 ^ 64) fx; address_right = aligned a 8 at })
+
+one_of : (a dw given : ℕ) → ((dw ≡ 1) ⊎ (dw ≡ 2)) → a % (4 * dw) ≡ 0 → given ≡ 4 * dw → ((given ≡ 4) ⊎ (given ≡ 8)) × (a % given ≡ 0)
+one_of a dw given (inl e) h g = (inl (g ∙ ap (λ d. 4 * d) e), subst (λ n. a % n ≡ 0) (sym g) h)
+one_of a dw given (inr e) h g = (inr (g ∙ ap (λ d. 4 * d) e), subst (λ n. a % n ≡ 0) (sym g) h)
+
+-- bytes spell a number that fits them
+number_fits : (b : List ℕ) → IsBytes b → number_of b < 256 ^ length b
+number_fits b bytes = little_from-lt 0 (length b) b bytes
+
+-- what an AtomicOp's packet of one operand asks for has no fault
+pub add_sound : (k : Kind) (body : Body) (a f l dw : ℕ) (b : List ℕ) → FitsKind k body dw (length b) → k ≡ kinds.FetchAdd → body ≡ bodies.Request a f l → IsBytes b → op_fault (ops.FetchAdd a (width_of (length b)) (number_of b)) ≡ None
+add_sound k body a f l dw b fits is_add is_request bytes =
+    let h : FitsKind kinds.FetchAdd (bodies.Request a f l) dw (length b) = subst (λ body. FitsKind kinds.FetchAdd body dw (length b)) is_request (subst (λ k. FitsKind k body dw (length b)) is_add fits) in
+    let o = one_of a dw (length b) h.0.0 h.0.1 h.1 in
+    none_found _ (has_one a (length b) (number_of b) o.0 o.1 (number_fits b bytes)).0
+
+pub swap_sound : (k : Kind) (body : Body) (a f l dw : ℕ) (b : List ℕ) → FitsKind k body dw (length b) → k ≡ kinds.Swap → body ≡ bodies.Request a f l → IsBytes b → op_fault (ops.Swap a (width_of (length b)) (number_of b)) ≡ None
+swap_sound k body a f l dw b fits is_swap is_request bytes =
+    let h : FitsKind kinds.Swap (bodies.Request a f l) dw (length b) = subst (λ body. FitsKind kinds.Swap body dw (length b)) is_request (subst (λ k. FitsKind k body dw (length b)) is_swap fits) in
+    let o = one_of a dw (length b) h.0.0 h.0.1 h.1 in
+    none_found _ (has_one a (length b) (number_of b) o.0 o.1 (number_fits b bytes)).1
+
+cas_length : (k : Kind) (body : Body) (a f l dw given : ℕ) → FitsKind k body dw given → k ≡ kinds.Cas → body ≡ bodies.Request a f l → given ≡ 4 * dw
+cas_length k body a f l dw given fits is_cas is_request =
+    let h : FitsKind kinds.Cas (bodies.Request a f l) dw given = subst (λ body. FitsKind kinds.Cas body dw given) is_request (subst (λ k. FitsKind k body dw given) is_cas fits) in h.1
+
+front_half : (b : List ℕ) (dw : ℕ) → length b ≡ 4 * dw → length (take (length b / 2) b) ≡ 2 * dw
+front_half b dw e = omega (arith, e, length-take (length b / 2) b)
+
+back_half : (b : List ℕ) (dw : ℕ) → length b ≡ 4 * dw → length (take (length b - length b / 2) (drop (length b / 2) b)) ≡ 2 * dw
+back_half b dw e = omega (arith, e, length-take (length b - length b / 2) (drop (length b / 2) b), length-drop (length b / 2) b)
+
+pub halves_sound : (k : Kind) (body : Body) (a f l dw : ℕ) (b : List ℕ) → FitsKind k body dw (length b) → k ≡ kinds.Cas → body ≡ bodies.Request a f l → IsBytes (take (length b / 2) b) → IsBytes (take (length b - length b / 2) (drop (length b / 2) b)) → op_fault (ops.Cas a (width_of (length (take (length b / 2) b))) (number_of (take (length b / 2) b)) (number_of (take (length b - length b / 2) (drop (length b / 2) b)))) ≡ None
+halves_sound k body a f l dw b fits is_cas is_request xs ys =
+    let e = cas_length k body a f l dw (length b) fits is_cas is_request in
+    let e1 = front_half b dw e in
+    let e2 = back_half b dw e in
+    cas_sound k body a f l dw (length b) (2 * dw) _ _ _ fits is_cas is_request refl (ap width_of e1) (subst (λ n. number_of (take (length b / 2) b) < 256 ^ n) e1 (number_fits _ xs)) (subst (λ n. number_of (take (length b - length b / 2) (drop (length b / 2) b)) < 256 ^ n) e2 (number_fits _ ys))

@@ -5,3 +5,4 @@ pub mod Layout
 pub mod Fault
 pub mod Faults
 pub mod Operation
+pub mod Lent

@@ -9,7 +9,7 @@ ghost use Rattle.tlp_core.specs.Faults.{first_of, first_fault, header_faults, ki
 
 use crate::fault::TlpFault;
 use crate::field;
-use crate::packet::{Kind, Tlp};
+use crate::packet::{Header, Kind, Tlp, TlpRef};
 use byteorder::{BigEndian, ByteOrder};
 
 /// The kind, or the first fault of any header.
@@ -149,12 +149,13 @@ fn kind_fault(kind: Kind, bytes: &[u8]) -> Option<TlpFault>
     None
 }
 
-/// The packet that the bytes spell, or the first of their faults, in the order of [`TlpFault`].
+/// The packet that the bytes spell, or the first of their faults, in the order of [`TlpFault`]. Its
+/// payload is that part of the bytes.
 ///
 /// Bits that the tables of section 2.2 leave free or that this profile ignores may have any value,
 /// and a header of 4 DW may carry an address below 2^32. Takes no memory.
 #[inline(always)]
-pub fn decode(bytes: &[u8]) -> Result<Tlp, TlpFault>
+pub fn decode_lent(bytes: &[u8]) -> Result<TlpRef<'_>, TlpFault>
     ensures reading { result ≡ reading bytes.now }
     ensures spelled { IfOk result (λ t. Spells bytes.now t) }
     ensures only { (t : TlpView) → Spells bytes.now t → result ≡ Ok t }
@@ -165,7 +166,7 @@ pub fn decode(bytes: &[u8]) -> Result<Tlp, TlpFault>
         return Err(fault);
     }
     let requester = field::requester_start(kind);
-    Ok(Tlp {
+    let header = Header {
         kind,
         tc: field::bits(bytes[1], 4, 3),
         attr: field::bits(bytes[1], 2, 1) * 4 + field::bits(bytes[2], 4, 2),
@@ -173,6 +174,21 @@ pub fn decode(bytes: &[u8]) -> Result<Tlp, TlpFault>
         requester: BigEndian::read_u16(&bytes[requester..]),
         tag: bytes[requester + 2],
         body: field::body_of(kind, bytes),
-        payload: field::payload_of(&bytes[field::header_len(bytes)..]),
-    })
+    };
+    let payload = &bytes[field::header_len(bytes)..];
+    Ok(TlpRef { header, payload })
+}
+
+/// As [`decode_lent`], but the packet has a payload of its own.
+#[inline(always)]
+pub fn decode(bytes: &[u8]) -> Result<Tlp, TlpFault>
+    ensures reading { result ≡ reading bytes.now }
+    ensures spelled { IfOk result (λ t. Spells bytes.now t) }
+    ensures only { (t : TlpView) → Spells bytes.now t → result ≡ Ok t }
+    ensures fault { IfErr result (λ f. first_fault bytes.now ≡ Some f) }
+{
+    match decode_lent(bytes) {
+        Ok(tlp) => Ok(tlp.to_owned()),
+        Err(fault) => Err(fault),
+    }
 }

@@ -1,27 +1,30 @@
 //! Packets to bytes: the one canonical spelling of each.
-ghost use Rattle.std.specs.Prelude.{◌≡◌, ◌+◌, ◌*◌, ◌/◌, ◌%◌, ◌^◌, ◌<◌, ◌≤◌, ◌++◌, length, if◌then◌else◌, nat_lt};
+ghost use Rattle.std.specs.Prelude.{◌≡◌, ◌+◌, ◌*◌, ◌/◌, ◌%◌, ◌^◌, ◌<◌, ◌≤◌, ◌++◌, length, take, if◌then◌else◌, nat_lt};
 ghost use Rattle.arrayvec.specs.ArrayVec.{array_vec_len};
 ghost use Rattle.byteorder.specs.Endian.{big_bytes};
 ghost use Rattle.tlp_core.specs.Layout.{canonical, short_code, code_of, status_code, rest_of_header, Spells};
 ghost use Rattle.tlp_core.specs.TlpView.{FitsFields, IsBodyInRange};
 
-use crate::packet::{Body, Kind, Status, Tlp};
+use crate::packet::{Body, Kind, Status, Tlp, TlpRef};
 use arrayvec::ArrayVec;
 use byteorder::{BigEndian, ByteOrder};
 
 /// The most bytes that a packet has: a header of 16 and a payload of 128.
 pub const MAX_TLP: usize = 144;
 
-fn put(out: &mut ArrayVec<u8, MAX_TLP>, bytes: &[u8])
-    requires { array_vec_len out.old + length bytes.now ≤ 144 }
+/// The most bytes that a header has.
+const MAX_HEADER: usize = 16;
+
+fn put(out: &mut ArrayVec<u8, MAX_HEADER>, bytes: &[u8])
+    requires { array_vec_len out.old + length bytes.now ≤ 16 }
     ensures items { out.new.items ≡ out.old.items ++ bytes.now }
     ensures len { array_vec_len out.new ≡ array_vec_len out.old + length bytes.now }
 {
     let _ = out.try_extend_from_slice(bytes);
 }
 
-fn put_u16(out: &mut ArrayVec<u8, MAX_TLP>, number: u16)
-    requires { array_vec_len out.old + 2 ≤ 144 }
+fn put_u16(out: &mut ArrayVec<u8, MAX_HEADER>, number: u16)
+    requires { array_vec_len out.old + 2 ≤ 16 }
     ensures items { out.new.items ≡ out.old.items ++ big_bytes 2 number }
     ensures len { array_vec_len out.new ≡ array_vec_len out.old + 2 }
 {
@@ -30,8 +33,8 @@ fn put_u16(out: &mut ArrayVec<u8, MAX_TLP>, number: u16)
     put(out, &bytes);
 }
 
-fn put_address(out: &mut ArrayVec<u8, MAX_TLP>, address: u64)
-    requires { array_vec_len out.old + 8 ≤ 144 }
+fn put_address(out: &mut ArrayVec<u8, MAX_HEADER>, address: u64)
+    requires { array_vec_len out.old + 8 ≤ 16 }
     ensures items { out.new.items ≡ out.old.items ++ (if nat_lt address (2 ^ 32) then big_bytes 4 address else big_bytes 8 address) }
     ensures len { array_vec_len out.new ≤ array_vec_len out.old + 8 }
 {
@@ -79,8 +82,8 @@ fn status_bits(status: Status) -> u8
 }
 
 #[inline(always)]
-fn put_rest(out: &mut ArrayVec<u8, MAX_TLP>, requester: u16, tag: u8, body: Body)
-    requires room { array_vec_len out.old + 12 ≤ 144 }
+fn put_rest(out: &mut ArrayVec<u8, MAX_HEADER>, requester: u16, tag: u8, body: Body)
+    requires room { array_vec_len out.old + 12 ≤ 16 }
     requires fits { FitsFields body }
     ensures items { out.new.items ≡ out.old.items ++ rest_of_header requester tag body }
     ensures len { array_vec_len out.new ≤ array_vec_len out.old + 12 }
@@ -111,22 +114,52 @@ fn put_rest(out: &mut ArrayVec<u8, MAX_TLP>, requester: u16, tag: u8, body: Body
     }
 }
 
+/// The canonical bytes of the packet's header.
+#[tactic(auto, using(crate::proofs::Canon::fields_fit))]
+#[inline(always)]
+fn header_bytes(tlp: &TlpRef<'_>) -> ArrayVec<u8, MAX_HEADER>
+    ensures bytes { canonical tlp.now ≡ result.items ++ tlp.now.payload }
+    ensures spelled { Spells (canonical tlp.now) tlp.now }
+    ensures len { array_vec_len result ≤ 16 }
+{
+    let header = tlp.header;
+    let front = [
+        first_byte(header.kind, header.body),
+        header.tc * 16 + header.attr / 4 * 4,
+        header.attr % 4 * 16 + (header.length % 1024 / 256) as u8,
+        (header.length % 256) as u8,
+    ];
+    let mut out = ArrayVec::new();
+    put(&mut out, &front);
+    put_rest(&mut out, header.requester, header.tag, header.body);
+    out
+}
+
 /// Fills the buffer with the canonical bytes of the packet, whatever it held: the header of 3 DW
 /// for an address below 2^32, and zeros in all bits that a reader ignores. Takes no memory.
-#[tactic(auto, using(crate::proofs::Canon::fields_fit))]
 #[inline(always)]
 pub fn encode(tlp: &Tlp, out: &mut ArrayVec<u8, MAX_TLP>)
     ensures bytes { out.new.items ≡ canonical tlp.now }
     ensures spelled { Spells (canonical tlp.now) tlp.now }
 {
+    let header = header_bytes(&tlp.lend());
     out.clear();
-    let front = [
-        first_byte(tlp.kind, tlp.body),
-        tlp.tc * 16 + tlp.attr / 4 * 4,
-        tlp.attr % 4 * 16 + (tlp.length % 1024 / 256) as u8,
-        (tlp.length % 256) as u8,
-    ];
-    put(out, &front);
-    put_rest(out, tlp.requester, tlp.tag, tlp.body);
-    put(out, &tlp.payload);
+    let _ = out.try_extend_from_slice(&header);
+    let _ = out.try_extend_from_slice(&tlp.payload);
+}
+
+/// As [`encode`], but puts the bytes to the front of `out`, and gives their number.
+#[tactic(auto, using(crate::proofs::Room::fits_room))]
+#[inline(always)]
+pub fn encode_lent(tlp: &TlpRef<'_>, out: &mut [u8; MAX_TLP]) -> usize
+    ensures bytes { take result out.new ≡ canonical tlp.now }
+    ensures spelled { Spells (canonical tlp.now) tlp.now }
+    ensures few { result ≤ 144 }
+{
+    let header = header_bytes(tlp);
+    let start = header.len();
+    let end = start + tlp.payload.len();
+    out[..start].copy_from_slice(&header);
+    out[start..end].copy_from_slice(tlp.payload);
+    end
 }

@@ -4,7 +4,8 @@
 //! [`decode`] reads a packet of its bytes or tells the first fault, [`encode`] writes the one
 //! canonical spelling, [`op_of`] gives the operation that a request asks of a memory,
 //! [`op_fault`] tells what keeps an operation from being a request, and [`copy_of`] copies one.
-//! A DW is 4 bytes. LCRC, ECRC and framing are not part of a packet's bytes here.
+//! [`decode_lent`] and [`op_lent`] do the same for packets and operations whose bytes stay where they
+//! were read. A DW is 4 bytes. LCRC, ECRC and framing are not part of a packet's bytes here.
 #![tactic(auto)]
 
 mod decoding;
@@ -12,11 +13,13 @@ mod encoding;
 mod fault;
 mod field;
 pub mod laws;
+mod lent;
 mod operation;
 mod packet;
 
-pub use decoding::decode;
-pub use encoding::{MAX_TLP, encode};
+pub use decoding::{decode, decode_lent};
+pub use encoding::{MAX_TLP, encode, encode_lent};
 pub use fault::TlpFault;
+pub use lent::{OpForm, OpRef, op_lent, operand_of};
 pub use operation::{Op, Width, copy_of, op_fault, op_of};
-pub use packet::{Body, Kind, MAX_PAYLOAD, Status, Tlp};
+pub use packet::{Body, Header, Kind, MAX_PAYLOAD, Status, Tlp, TlpRef};

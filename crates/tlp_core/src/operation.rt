@@ -1,14 +1,13 @@
 //! What a request asks of the memory.
 
-ghost use Rattle.std.specs.Prelude.{◌≡◌, ◌≤◌, ◌<◌, ◌*◌, ◌^◌, ◌↔◌, false, None, IsNone, IfSome, IsTrue, length};
-ghost use Rattle.byteorder.specs.Endian.{little_number};
+ghost use Rattle.std.specs.Prelude.{◌≡◌, ◌≤◌, ◌<◌, ◌^◌, ◌↔◌, false, None, IsNone, IfSome, IsTrue};
 ghost use Rattle.tlp_core.specs.Operation as spec;
 
 use crate::decoding::keeps_enables;
 use crate::fault::TlpFault;
-use crate::packet::{Body, Kind, MAX_PAYLOAD, Tlp};
+use crate::lent::op_lent;
+use crate::packet::{MAX_PAYLOAD, Tlp};
 use arrayvec::ArrayVec;
-use byteorder::{ByteOrder, LittleEndian};
 
 /// The size of an AtomicOp's operand (section 6.15).
 #[derive(Clone, Copy, Debug, PartialEq, Eq)]
@@ -110,27 +109,6 @@ impl Op {
     }
 }
 
-fn width_of(count: u16) -> Width
-    ensures { result ≡ spec.width_of count }
-{
-    match count {
-        4 => Width::Four,
-        8 => Width::Eight,
-        _ => Width::Sixteen,
-    }
-}
-
-/// The number in the first `count` bytes, little-endian.
-fn operand_at(bytes: &[u8], count: usize) -> u128
-    requires some { 1 ≤ count }
-    requires few { count ≤ 16 }
-    requires room { count ≤ length bytes.now }
-    ensures value { result ≡ little_number count bytes.now }
-    ensures range { result < 256 ^ count }
-{
-    LittleEndian::read_uint128(bytes, count)
-}
-
 /// The same operation. Takes no memory.
 pub fn copy_of(op: &Op) -> Op
     ensures { result ≡ op.now }
@@ -197,50 +175,8 @@ pub fn op_of(tlp: &Tlp) -> Option<Op>
     ensures none { IsNone result ↔ IsTrue (spec.is_completion tlp.now.kind) }
     ensures sound { IfSome result (λ op. spec.op_fault op ≡ None) }
 {
-    let Body::Request {
-        address,
-        first,
-        last,
-    } = tlp.body
-    else {
-        return None;
-    };
-    let dw = tlp.length;
-    let bytes = tlp.payload.as_slice();
-    match tlp.kind {
-        Kind::MemoryRead => Some(Op::Read {
-            address,
-            dw,
-            first,
-            last,
-        }),
-        Kind::MemoryWrite => Some(Op::Write {
-            address,
-            first,
-            last,
-            bytes: crate::field::payload_of(bytes),
-        }),
-        Kind::FetchAdd => Some(Op::FetchAdd {
-            address,
-            width: width_of(4 * dw),
-            operand: operand_at(bytes, usize::from(4 * dw)),
-        }),
-        Kind::Swap => Some(Op::Swap {
-            address,
-            width: width_of(4 * dw),
-            operand: operand_at(bytes, usize::from(4 * dw)),
-        }),
-        Kind::Cas => {
-            let half = usize::from(2 * dw);
-            Some(Op::Cas {
-                address,
-                width: width_of(2 * dw),
-                compare: operand_at(bytes, half),
-                swap: operand_at(&bytes[half..], half),
-            })
-        }
-        Kind::Completion | Kind::CompletionData => None,
-    }
+    let op = op_lent(&tlp.lend())?;
+    Some(op.to_owned())
 }
 
 fn fits(width: Width, number: u128) -> bool

@@ -1,6 +1,6 @@
-//! A packet as a value.
+//! A packet as a value, with a payload of its own or a lent one.
 //!
-//! Every [`Tlp`] is a packet of the grammar: its body fits its kind, its payload has 4 times as
+//! Every [`Tlp`] and every [`TlpRef`] is a packet of the grammar: its body fits its kind, its payload has 4 times as
 //! many bytes as its Length says, its byte enables keep section 2.2.5 and its address is aligned.
 //! A literal proves that where it is made.
 
@@ -100,4 +100,81 @@ impl Model for Tlp {
     ghost invariant = { λ t. IsPacket (record { kind = t.kind; tc = t.tc; attr = t.attr; length = t.length; requester = t.requester; tag = t.tag; body = t.body; payload = t.payload.items }) };
 
     ghost inverse = { λ p. record { kind = p.kind; tc = p.tc; attr = p.attr; length = p.length; requester = p.requester; tag = p.tag; body = p.body; payload = record { items = p.payload } } };
+}
+
+/// All of a packet but its payload.
+#[derive(Clone, Copy, Debug, PartialEq, Eq)]
+pub struct Header {
+    pub kind: Kind,
+    /// Traffic Class, 0 to 7.
+    pub tc: u8,
+    /// Attributes, 0 to 7: IDO 4, RO 2, NS 1.
+    pub attr: u8,
+    /// Length in DW, 1 to 1024; 0 in a completion without data.
+    pub length: u16,
+    /// Requester ID.
+    pub requester: u16,
+    pub tag: u8,
+    pub body: Body,
+}
+
+/// A packet of the grammar whose payload is lent, as one that stands in the bytes it was decoded
+/// from. Small, so it goes by value where a [`Tlp`] would be copied with its room.
+#[derive(Drop)]
+pub struct TlpRef<'a> {
+    pub header: Header,
+    /// In rising address order.
+    pub payload: &'a [u8],
+}
+
+impl<'a> Model for TlpRef<'a> {
+    ghost use Rattle.tlp_core.specs.TlpView.{TlpView, IsPacket};
+
+    ghost Value = { TlpView };
+
+    ghost view = { λ t. record { kind = t.header.kind; tc = t.header.tc; attr = t.header.attr; length = t.header.length; requester = t.header.requester; tag = t.header.tag; body = t.header.body; payload = t.payload.now } };
+
+    ghost invariant = { λ t. IsPacket (record { kind = t.header.kind; tc = t.header.tc; attr = t.header.attr; length = t.header.length; requester = t.header.requester; tag = t.header.tag; body = t.header.body; payload = t.payload.now }) };
+}
+
+impl Tlp {
+    /// The same packet, which lends the payload.
+    #[inline(always)]
+    pub fn lend(&self) -> TlpRef<'_>
+        ensures { result ≡ self.now }
+    {
+        TlpRef {
+            header: Header {
+                kind: self.kind,
+                tc: self.tc,
+                attr: self.attr,
+                length: self.length,
+                requester: self.requester,
+                tag: self.tag,
+                body: self.body,
+            },
+            payload: self.payload.as_slice(),
+        }
+    }
+}
+
+impl<'a> TlpRef<'a> {
+    /// The packet with a payload of its own. Takes no memory.
+    #[inline(always)]
+    #[tactic(auto, using(crate::proofs::Room::fits_room))]
+    pub fn to_owned(&self) -> Tlp
+        ensures { result ≡ self.now }
+    {
+        let header = self.header;
+        Tlp {
+            kind: header.kind,
+            tc: header.tc,
+            attr: header.attr,
+            length: header.length,
+            requester: header.requester,
+            tag: header.tag,
+            body: header.body,
+            payload: crate::field::payload_of(self.payload),
+        }
+    }
 }

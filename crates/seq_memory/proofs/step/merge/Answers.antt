@@ -1,7 +1,11 @@
 use Rattle.std.proofs.Common.{◌-◌, ◌∙◌, refl, sym, ap, length, arith}
 use Rattle.seq_memory.specs.Step.{merged}
-use Rattle.seq_memory.proofs.Merges.{one_dw, by_parts}
+use Rattle.seq_memory.proofs.Merges.{one_dw, by_parts, merged_all}
 use Rattle.seq_memory.proofs.step.merge.Goals as goal
+
+pub returns-then-are_all_enabled : goal.returns-then-are_all_enabled
+returns-then-are_all_enabled c =
+    c.replace.ensures ∙ sym (ap (λ es. merged es c.args.new.now c.args.old.now) (c.are_all_enabled.ensures c.if-are_all_enabled.true) ∙ merged_all (length c.args.new.now) c.args.new.now c.args.old.now refl c.requires.same)
 
 pub returns-then-end-eq0 : goal.returns-then-end-eq0
 returns-then-end-eq0 c =

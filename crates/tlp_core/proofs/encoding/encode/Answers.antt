@@ -1,11 +1,7 @@
 use Rattle.std.proofs.Common.{subst}
 use Rattle.tlp_core.specs.TlpView.{TlpView}
 use Rattle.tlp_core.specs.Layout.{canonical, Spells}
-use Rattle.tlp_core.proofs.Canon.{canon_spells}
 use Rattle.tlp_core.proofs.encoding.encode.Goals as goal
 
 pub returns-clause-spelled : goal.returns-clause-spelled
-returns-clause-spelled c =
-    let i = c.tlp.inside in
-    let t : TlpView = record { kind = i.kind; tc = i.tc; attr = i.attr; length = i.length; requester = i.requester; tag = i.tag; body = i.body; payload = i.payload.items } in
-    subst (λ (t : TlpView). Spells (canonical t) t) c.tlp.view_is (canon_spells t c.put_rest.ensures.ranges.0 c.put_rest.ensures.ranges.2 c.tlp.invariant)
+returns-clause-spelled c = subst (λ (t : TlpView). Spells (canonical t) t) c.lend.ensures c.header_bytes-header.ensures.spelled

@@ -1,0 +1,140 @@
+#!/bin/sh
+# Tries pciex_qemu: test.sh FOLDER
+#
+# FOLDER has the programs `check`, `search` and `device` of c/examples, and LINK names the archives to link; c/check.sh
+# calls it so. First without QEMU: wrong words, a QEMU that isn't there, dies, stays too long or sends no message, a full
+# disk. Then, if QEMU is there, the device driven by qtest.py, also under valgrind and the sanitizers, and a device that
+# loses a posted write. Then the dissector in tshark. Last a guest, if the variable PCIEX_KERNEL or /boot has a kernel of
+# Debian's linux-image-*-cloud-amd64. A line `left out: WHAT` stands for each part that is left out, as a tool is missing.
+here=$(realpath "$(dirname "$0")")
+programs=$(realpath "$1")
+room=$(mktemp -d) || exit 1
+trap 'rm -rf "$room"' EXIT
+fail() {
+    echo "qemu: $*"
+    exit 1
+}
+cd "$room" || exit 1
+began=$(date +%s)
+
+# build NAME WORD..: the program under this name, with these words for the compiler.
+build() {
+    name=$1
+    shift
+    # shellcheck disable=SC2086
+    cc -Wall -Wextra -Werror -std=gnu11 "$@" -o "$name" "$here/pciex_qemu.c" "$here/proxy.c" "$here/ports.c" \
+        "$here/records.c" $LINK || fail "$name isn't built"
+}
+build pciex_qemu -O2
+build sanitized -O1 -g -fsanitize=address,undefined -fno-sanitize-recover=all
+
+# refuses TEXT WORD..: whether it ends with status 2 and this text, and leaves no process that wrote its number to `left`.
+refuses() {
+    text=$1
+    shift
+    rm -f left
+    timeout 60 "$program" "$@" > out 2> errors < /dev/null
+    status=$?
+    [ $status -eq 2 ] || fail "status $status of $program $*: $(cat errors)"
+    grep -qF "pciex_qemu: $text" errors || fail "$program $* says: $(cat errors)"
+    [ ! -e left ] || ! kill -0 "$(cat left)" 2> /dev/null || fail "$program $* leaves a process"
+}
+
+# A process stands for QEMU: fd 4 is its end of the first function's socket.
+without_qemu() {
+    refuses "no command behind --"
+    refuses "no command behind --" --ports 1 --
+    refuses "'--port 1' is no option" --port 1 -- true
+    refuses "'--ports 1x' is no option" --ports 1x -- true
+    refuses "'--log' is no option" --log
+    refuses "--ports: 1 to 7" --ports 8 -- true
+    refuses "--size: a power of two" --size 5000 -- true
+    refuses "--block: 64 or 128" --block 32 -- true
+    refuses "--seconds: 1 to 1000000" --seconds 0 -- true
+    refuses "no_such_qemu can't be run: No such file or directory" -- no_such_qemu
+    refuses "QEMU ended with status 1" -- false
+    refuses "QEMU was ended by signal 9" -- sh -c 'kill -9 $$'
+    refuses "/no/log can't be written: No such file or directory" --log /no/log -- true
+    for option in --log --trace --pcap; do
+        refuses "/dev/full can't be written: No space left on device" $option /dev/full -- true
+    done
+    refuses "QEMU ran for more than 1 seconds" --seconds 1 -- sh -c 'echo $$ > left; exec sleep 1000'
+    refuses "QEMU sent a message of" -- sh -c 'echo $$ > left; printf 0123456789abcdef >&4; exec sleep 1000'
+    refuses "QEMU stopped in the middle of a message" -- sh -c 'printf 01234 >&4'
+    # A disk that gets full in the run: 300 reads of 4 bytes at address 0.
+    refuses "/dev/full can't be written: No space left on device" --pcap /dev/full -- sh -c 'echo $$ > left; exec >&4
+        for i in $(seq 300); do
+            printf "\5\0\0\0\0\0\0\0\30\0\0\0\0\0\0\0\0\0\0\0\0\0\0\0\0\0\0\0\0\0\0\0\4\0\0\0\1\0\0\0"
+        done
+        exec sleep 1000'
+    (sleep 1; kill "$(cat ours)") &
+    # shellcheck disable=SC2016
+    refuses "ended by signal 15" -- sh -c 'echo $PPID > ours; echo $$ > left; exec sleep 1000'
+    wait
+}
+for program in ./pciex_qemu ./sanitized; do
+    without_qemu
+done
+
+if ! command -v qemu-system-x86_64 > /dev/null || ! command -v python3 > /dev/null; then
+    echo "left out: the device in QEMU (qemu-system-x86, python3)"
+    exit 0
+fi
+if ! qemu-system-x86_64 -device help 2>&1 | grep -q x-pci-proxy-dev; then
+    echo "left out: the device in QEMU, which has no x-pci-proxy-dev"
+    exit 0
+fi
+
+# drives WORD..: whether the words before the device's own run it, driven by qtest.py, to status 0.
+drives() {
+    python3 "$here/qtest.py" seen config "$@" --ports 2 --log log --trace trace --pcap pcap > out 2> errors ||
+        fail "qtest.py $*: $(cat out errors)"
+}
+
+# explained FILE WHAT: whether `search` finds a history for the log.
+explained() {
+    "$programs/search" < "$1" > found || fail "$2: $(head -n 1 found)"
+    "$programs/check" < found > out || fail "$2: check says $(cat out) to what search found"
+}
+
+now=$(date +%s%N)
+drives ./pciex_qemu
+echo "qemu: qtest in $((($(date +%s%N) - now) / 1000000)) ms"
+diff "$here/qtest.out" out || fail "qtest.py reads other data"
+"$programs/check" < trace > out || fail "the device's trace: $(cat out)"
+explained log "the device's log"
+explained seen "what qtest.py saw"
+if command -v lspci > /dev/null; then
+    lspci -F config -vv 2> errors > out
+    grep -q "AtomicOpsCap: 32bit+ 64bit+ 128bitCAS+" out || fail "lspci says: $(cat out errors)"
+else
+    echo "left out: the configuration space in lspci (pciutils)"
+fi
+if command -v tshark > /dev/null; then
+    sh "$here/../wireshark/test.sh" "$programs/device" pcap || exit 1
+else
+    echo "left out: the dissector of TLPs (tshark)"
+fi
+drives ./sanitized
+if command -v valgrind > /dev/null; then
+    drives valgrind -q --error-exitcode=99 --leak-check=full ./pciex_qemu
+fi
+# A device that loses each third posted write: both find it.
+drives ./pciex_qemu --lose 3
+"$programs/check" < trace > out && fail "check says $(cat out) to a device that loses a write"
+grep -q "^flaw 10 Reply" out || fail "check says $(cat out) to a device that loses a write"
+"$programs/search" < seen > out && fail "search explains a device that loses a write"
+grep -q "^none" out || fail "search says $(head -n 1 out) to a device that loses a write"
+# ---- a guest
+
+kernel=${PCIEX_KERNEL:-$(find /boot -maxdepth 1 -name 'vmlinuz-*-cloud-amd64' 2> /dev/null | sort -V | tail -n 1)}
+if [ ! -r "$kernel" ] || ! command -v cpio > /dev/null; then
+    echo "left out: a guest in QEMU (cpio, and a kernel of linux-image-*-cloud-amd64 in /boot or named by PCIEX_KERNEL)"
+    exit 0
+fi
+now=$(date +%s)
+sh "$here/guest.sh" ./pciex_qemu "$kernel" 2 || exit 1
+echo "qemu: a guest in $(($(date +%s) - now)) s"
+"$programs/check" < trace > out || fail "the device's trace of a guest: $(cat out)"
+explained guest.log "what the guest's processors saw"
+echo "qemu: all in $(($(date +%s) - began)) s"
