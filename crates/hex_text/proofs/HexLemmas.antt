@@ -1,33 +1,89 @@
 -- Laws of digits, one by one.
-use Rattle.std.proofs.Common.{◌≡◌, ◌≢◌, ℕ, zero, suc, ◌+◌, ◌*◌, ◌/◌, ◌%◌, ◌<◌, ◌≤◌, ◌==◌, Bool, true, ◌&&◌, List, [], ◌∷◌, ◌++◌, slice_index, Option, Some, None, unwrap_or, Result, Ok, Err, refl, ap, arith, inl, inr}
+use Rattle.std.proofs.Common.{◌≡◌, ◌≢◌, ℕ, zero, suc, ◌+◌, ◌*◌, ◌/◌, ◌%◌, ◌<◌, ◌≤◌, ◌==◌, Bool, true, ◌&&◌, List, [], ◌∷◌, ◌++◌, length, slice_index, Option, Some, None, unwrap_or, Result, Ok, Err, refl, ap, ◌∙◌, arith, inl, inr}
 use Rattle.std.specs.Prelude.{IsErr}
 use Rattle.std.proofs.lemmas.Bool.{and_parts, cases_lt, eqb-true}
-use Rattle.hex.specs.Hex.{encode_with, hex_digit_value, digit_or_error, value_at, pair_value, ◌>>=◌}
+use Rattle.std.specs.Option.{option_map_or}
+use Rattle.std.specs.Int.{bytes_low_first}
+use Rattle.hex.specs.Hex.{encode_with, encode_upper, upper_digits, hex_digit_value, digit_or_error, value_at, pair_value, ◌>>=◌}
 use Rattle.hex.specs.declared.error.FromHexError.{FromHexError}
-use Rattle.hex_text.specs.declared.reading.TheConstants.{VALUES}
+use Rattle.hex_text.specs.declared.tables.TheConstants.{FIRST_HIGH, FIRST_LOW, SECOND_HIGH, SECOND_LOW, PAIRS}
 
--- the test that the table has the values of the first n bytes
-abbrev have_values : ℕ → Bool
-have_values zero = true
-have_values (suc n) = (slice_index VALUES n == unwrap_or (hex_digit_value n) 16) && have_values n
-
-value-below : (n k : ℕ) → have_values n ≡ true → k < n → slice_index VALUES k ≡ unwrap_or (hex_digit_value k) 16
-value-below zero k h lt = absurd (omega arith)
-value-below (suc n) k h lt =
-    let parts = and_parts (slice_index VALUES n == unwrap_or (hex_digit_value n) 16) (have_values n) h in
-    elim (cases_lt k n) [
-      | inl below ↦ value-below n k parts.1 below
-      | inr top ↦
-          let e : k ≡ n = omega arith in
-          rw e (eqb-true (slice_index VALUES n) (unwrap_or (hex_digit_value n) 16) parts.0)
-    ]
-
--- the table has the value of each byte
-pub value-at : (k : ℕ) → k < 256 → slice_index VALUES k ≡ unwrap_or (hex_digit_value k) 16
-value-at k lt = value-below 256 k refl lt
+-- ---- tables
 
 hex_digit_value-small : (c v : ℕ) → hex_digit_value c ≡ Some v → v < 16
 hex_digit_value-small c v h = grind (arith)
+
+-- what a digit adds where it counts w times its value
+abbrev weighted : ℕ → Option ℕ → ℕ
+weighted w o = option_map_or (λ v. w * v) o 65536
+
+-- the test that the table has that of the first n bytes
+abbrev has_digits : List ℕ → ℕ → ℕ → Bool
+has_digits t w zero = true
+has_digits t w (suc n) = (slice_index t n == weighted w (hex_digit_value n)) && has_digits t w n
+
+digit-below : (t : List ℕ) (w n k : ℕ) → has_digits t w n ≡ true → k < n → slice_index t k ≡ weighted w (hex_digit_value k)
+digit-below t w zero k h lt = absurd (omega arith)
+digit-below t w (suc n) k h lt =
+    let parts = and_parts (slice_index t n == weighted w (hex_digit_value n)) (has_digits t w n) h in
+    elim (cases_lt k n) [
+      | inl below ↦ digit-below t w n k parts.1 below
+      | inr top ↦
+          let e : k ≡ n = omega arith in
+          rw e (eqb-true (slice_index t n) (weighted w (hex_digit_value n)) parts.0)
+    ]
+
+most : (w : ℕ) (o : Option ℕ) → w ≤ 4096 → ((v : ℕ) → o ≡ Some v → v < 16) → weighted w o ≤ 65536
+most w (Some v) le small = let lt = small v refl in product w v le lt
+  where
+    product : (w v : ℕ) → w ≤ 4096 → v < 16 → w * v ≤ 65536
+    product w v le lt = grind (arith)
+most w None le small = omega arith
+
+table-at : (t : List ℕ) (w k : ℕ) → has_digits t w 256 ≡ true → w ≤ 4096 → k < 256
+    → (slice_index t k ≡ weighted w (hex_digit_value k)) × (slice_index t k ≤ 65536)
+table-at t w k h le lt =
+    let e = digit-below t w 256 k h lt in
+    let m = most w (hex_digit_value k) le (hex_digit_value-small k) in
+    (e, omega (arith, e, m))
+
+pub first_high-at : (k : ℕ) → k < 256 → (slice_index FIRST_HIGH k ≡ weighted 16 (hex_digit_value k)) × (slice_index FIRST_HIGH k ≤ 65536)
+first_high-at k lt = table-at FIRST_HIGH 16 k refl (omega arith) lt
+
+pub first_low-at : (k : ℕ) → k < 256 → (slice_index FIRST_LOW k ≡ weighted 1 (hex_digit_value k)) × (slice_index FIRST_LOW k ≤ 65536)
+first_low-at k lt = table-at FIRST_LOW 1 k refl (omega arith) lt
+
+pub second_high-at : (k : ℕ) → k < 256 → (slice_index SECOND_HIGH k ≡ weighted 4096 (hex_digit_value k)) × (slice_index SECOND_HIGH k ≤ 65536)
+second_high-at k lt = table-at SECOND_HIGH 4096 k refl (omega arith) lt
+
+pub second_low-at : (k : ℕ) → k < 256 → (slice_index SECOND_LOW k ≡ weighted 256 (hex_digit_value k)) × (slice_index SECOND_LOW k ≤ 65536)
+second_low-at k lt = table-at SECOND_LOW 256 k refl (omega arith) lt
+
+-- the test that the table has the digits of the bytes below n
+abbrev has_pairs : ℕ → Bool
+has_pairs zero = true
+has_pairs (suc n) = ((slice_index PAIRS n % 256 == slice_index upper_digits (n / 16)) && (slice_index PAIRS n / 256 % 256 == slice_index upper_digits (n % 16))) && has_pairs n
+
+pair-below : (n k : ℕ) → has_pairs n ≡ true → k < n → (slice_index PAIRS k % 256 ≡ slice_index upper_digits (k / 16)) × (slice_index PAIRS k / 256 % 256 ≡ slice_index upper_digits (k % 16))
+pair-below zero k h lt = absurd (omega arith)
+pair-below (suc n) k h lt =
+    let parts = and_parts ((slice_index PAIRS n % 256 == slice_index upper_digits (n / 16)) && (slice_index PAIRS n / 256 % 256 == slice_index upper_digits (n % 16))) (has_pairs n) h in
+    elim (cases_lt k n) [
+      | inl below ↦ pair-below n k parts.1 below
+      | inr top ↦
+          let e : k ≡ n = omega arith in
+          let both = and_parts (slice_index PAIRS n % 256 == slice_index upper_digits (n / 16)) (slice_index PAIRS n / 256 % 256 == slice_index upper_digits (n % 16)) parts.0 in
+          rw e (eqb-true (slice_index PAIRS n % 256) (slice_index upper_digits (n / 16)) both.0, eqb-true (slice_index PAIRS n / 256 % 256) (slice_index upper_digits (n % 16)) both.1)
+    ]
+
+-- the digits of a byte are the bytes of its entry
+pub pair-at : (k : ℕ) → k < 256 → bytes_low_first 0 2 (slice_index PAIRS k) ≡ encode_upper (k ∷ [])
+unfolding encode_with
+pair-at k lt =
+    let parts = pair-below 256 k refl lt in
+    rw (parts.0, parts.1) refl
+
+-- ---- digits
 
 some_of : (o : Option ℕ) (v : ℕ) → v ≡ unwrap_or o 16 → v < 16 → o ≡ Some v
 some_of (Some w) v e lt = rw e refl
@@ -44,6 +100,44 @@ pair_value-digits a b i high low ea eb la lb =
     let ha : value_at a i ≡ Ok high = ap (digit_or_error a i) (some_of (hex_digit_value a) high ea la) in
     let hb : value_at b (i + 1) ≡ Ok low = ap (digit_or_error b (i + 1)) (some_of (hex_digit_value b) low eb lb) in
     rw (ha, hb) refl
+
+-- a digit adds its value
+adds : (w : ℕ) (o : Option ℕ) (x : ℕ) → x ≡ weighted w o → x < 65536 → x ≡ w * unwrap_or o 16
+adds w (Some v) x e lt = e
+adds w None x e lt = absurd (omega (arith, e, lt))
+
+counts : (w : ℕ) (o : Option ℕ) (x : ℕ) → ((v : ℕ) → o ≡ Some v → v < 16) → x ≡ weighted w o → x < 65536 → unwrap_or o 16 < 16
+counts w (Some v) x small e lt = small v refl
+counts w None x small e lt = absurd (omega (arith, e, lt))
+
+-- four digits are two bytes
+pub two_bytes-first : (a b c d i w x y z : ℕ) → w ≡ weighted 16 (hex_digit_value a) → x ≡ weighted 1 (hex_digit_value b) → y ≡ weighted 4096 (hex_digit_value c) → z ≡ weighted 256 (hex_digit_value d)
+    → w + x + y + z < 65536 → pair_value a b i ≡ Ok ((w + x + y + z) % 256)
+two_bytes-first a b c d i w x y z ew ex ey ez lt =
+    let u = unwrap_or (hex_digit_value a) 16 in
+    let v = unwrap_or (hex_digit_value b) 16 in
+    let aw = adds 16 (hex_digit_value a) w ew (omega (arith, lt)) in
+    let ax = adds 1 (hex_digit_value b) x ex (omega (arith, lt)) in
+    let ay = adds 4096 (hex_digit_value c) y ey (omega (arith, lt)) in
+    let az = adds 256 (hex_digit_value d) z ez (omega (arith, lt)) in
+    let lu = counts 16 (hex_digit_value a) w (hex_digit_value-small a) ew (omega (arith, lt)) in
+    let lv = counts 1 (hex_digit_value b) x (hex_digit_value-small b) ex (omega (arith, lt)) in
+    pair_value-digits a b i u v refl refl lu lv ∙ ap Ok (omega (arith, aw, ax, ay, az, lu, lv))
+
+pub two_bytes-second : (a b c d i w x y z : ℕ) → w ≡ weighted 16 (hex_digit_value a) → x ≡ weighted 1 (hex_digit_value b) → y ≡ weighted 4096 (hex_digit_value c) → z ≡ weighted 256 (hex_digit_value d)
+    → w + x + y + z < 65536 → pair_value c d i ≡ Ok ((w + x + y + z) / 256)
+two_bytes-second a b c d i w x y z ew ex ey ez lt =
+    let u = unwrap_or (hex_digit_value c) 16 in
+    let v = unwrap_or (hex_digit_value d) 16 in
+    let aw = adds 16 (hex_digit_value a) w ew (omega (arith, lt)) in
+    let ax = adds 1 (hex_digit_value b) x ex (omega (arith, lt)) in
+    let ay = adds 4096 (hex_digit_value c) y ey (omega (arith, lt)) in
+    let az = adds 256 (hex_digit_value d) z ez (omega (arith, lt)) in
+    let la = counts 16 (hex_digit_value a) w (hex_digit_value-small a) ew (omega (arith, lt)) in
+    let lb = counts 1 (hex_digit_value b) x (hex_digit_value-small b) ex (omega (arith, lt)) in
+    let lu = counts 4096 (hex_digit_value c) y (hex_digit_value-small c) ey (omega (arith, lt)) in
+    let lv = counts 256 (hex_digit_value d) z (hex_digit_value-small d) ez (omega (arith, lt)) in
+    pair_value-digits c d i u v refl refl lu lv ∙ ap Ok (omega (arith, aw, ax, ay, az, la, lb, lu, lv))
 
 -- nothing comes of a step whose first part fails
 then_err : (r : Result ℕ FromHexError) (f : ℕ → Result ℕ FromHexError) → ((v : ℕ) → IsErr (f v)) → IsErr (r >>= f)
@@ -85,3 +179,15 @@ encode_with-append t (x ∷ xs) ys = ap (λ (r : List ℕ). slice_index t (x / 1
 pub encode_with-one : (t : List ℕ) (x : ℕ) → encode_with t (x ∷ []) ≡ slice_index t (x / 16) ∷ slice_index t (x % 16) ∷ []
 unfolding encode_with
 encode_with-one t x = refl
+
+-- the digits of four bytes are those of each
+pub four_digits : (bytes p q r s : List ℕ) (behind : ℕ) → length bytes ≡ 4
+    → p ≡ encode_upper (slice_index bytes 0 ∷ []) → q ≡ encode_upper (slice_index bytes 1 ∷ []) → r ≡ encode_upper (slice_index bytes 2 ∷ []) → s ≡ encode_upper (slice_index bytes 3 ∷ [])
+    → slice_index p 0 ∷ slice_index p 1 ∷ slice_index q 0 ∷ slice_index q 1 ∷ slice_index r 0 ∷ slice_index r 1 ∷ slice_index s 0 ∷ slice_index s 1 ∷ behind ∷ [] ≡ encode_upper bytes ++ behind ∷ []
+unfolding encode_with
+four_digits [] p q r s behind len ep eq er es = absurd (omega (arith, len))
+four_digits (a ∷ []) p q r s behind len ep eq er es = absurd (omega (arith, len))
+four_digits (a ∷ b ∷ []) p q r s behind len ep eq er es = absurd (omega (arith, len))
+four_digits (a ∷ b ∷ c ∷ []) p q r s behind len ep eq er es = absurd (omega (arith, len))
+four_digits (a ∷ b ∷ c ∷ d ∷ []) p q r s behind len ep eq er es = rw (ep, eq, er, es) refl
+four_digits (a ∷ b ∷ c ∷ d ∷ e ∷ rest) p q r s behind len ep eq er es = absurd (omega (arith, len))

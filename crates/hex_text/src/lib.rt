@@ -1,11 +1,13 @@
 //! Bytes in a line of hexadecimal digits.
 //!
 //! [`HexLine`] reads the bytes of a line: two digits a byte, of either case, and spaces are ignored.
-//! [`put_bytes`] writes bytes in capitals, in groups of four with a space between each two groups.
+//! [`write_bytes`] writes a line of bytes in capitals, in groups of four with a space between each
+//! two groups.
 #![tactic(auto)]
 
 mod reading;
+mod tables;
 mod writing;
 
 pub use reading::HexLine;
-pub use writing::put_bytes;
+pub use writing::{HexText, write_bytes};

@@ -1,8 +1,9 @@
 //! Reading the bytes of a line.
-ghost use Rattle.std.specs.Prelude.{◌≡◌, ◌≤◌, ℕ, take, ◌*◌, ◌/◌, [], true, false, Ok, IsErr, IfSome, IfNone, length, unwrap_or};
-ghost use Rattle.hex.specs.Hex.{decode_of, hex_digit_value, pair_value};
+ghost use Rattle.std.specs.Prelude.{◌≡◌, ◌≤◌, ℕ, take, ◌*◌, ◌/◌, [], true, false, Ok, IsErr, IfSome, IfNone, length};
+ghost use Rattle.hex.specs.Hex.{decode_of, pair_value};
 ghost use Rattle.hex_text.specs.Line.{digits_of};
 
+use crate::tables::{first_high, first_low, second_high, second_low};
 use std::marker::Model;
 
 /// Copies the line's digits, all of it but the spaces, to the front of `room`, and gives their
@@ -22,39 +23,17 @@ fn copy_digits(line: &[u8], room: &mut [u8; 512]) -> usize
     count
 }
 
-/// The value of each hexadecimal digit, in either case, and 16 for each byte that is no digit.
-const VALUES: [u8; 256] = [
-    16, 16, 16, 16, 16, 16, 16, 16, 16, 16, 16, 16, 16, 16, 16, 16, 16, 16, 16, 16, 16, 16, 16, 16,
-    16, 16, 16, 16, 16, 16, 16, 16, 16, 16, 16, 16, 16, 16, 16, 16, 16, 16, 16, 16, 16, 16, 16, 16,
-    0, 1, 2, 3, 4, 5, 6, 7, 8, 9, 16, 16, 16, 16, 16, 16, 16, 10, 11, 12, 13, 14, 15, 16, 16, 16,
-    16, 16, 16, 16, 16, 16, 16, 16, 16, 16, 16, 16, 16, 16, 16, 16, 16, 16, 16, 16, 16, 16, 16, 10,
-    11, 12, 13, 14, 15, 16, 16, 16, 16, 16, 16, 16, 16, 16, 16, 16, 16, 16, 16, 16, 16, 16, 16, 16,
-    16, 16, 16, 16, 16, 16, 16, 16, 16, 16, 16, 16, 16, 16, 16, 16, 16, 16, 16, 16, 16, 16, 16, 16,
-    16, 16, 16, 16, 16, 16, 16, 16, 16, 16, 16, 16, 16, 16, 16, 16, 16, 16, 16, 16, 16, 16, 16, 16,
-    16, 16, 16, 16, 16, 16, 16, 16, 16, 16, 16, 16, 16, 16, 16, 16, 16, 16, 16, 16, 16, 16, 16, 16,
-    16, 16, 16, 16, 16, 16, 16, 16, 16, 16, 16, 16, 16, 16, 16, 16, 16, 16, 16, 16, 16, 16, 16, 16,
-    16, 16, 16, 16, 16, 16, 16, 16, 16, 16, 16, 16, 16, 16, 16, 16, 16, 16, 16, 16, 16, 16, 16, 16,
-    16, 16, 16, 16, 16, 16, 16, 16, 16, 16, 16, 16, 16, 16,
-];
-
-/// The value of a digit, and 16 for a byte that is none.
-fn value_of(digit: u8) -> u8
-    ensures { result ≡ unwrap_or (hex_digit_value digit) 16 }
+/// The two bytes of four digits, none where one of them is no digit.
+#[inline(always)]
+fn two_bytes_of(a: u8, b: u8, c: u8, d: u8) -> Option<(u8, u8)>
+    ensures first { (i : ℕ) → IfSome result (λ bytes. pair_value a b i ≡ Ok bytes.0) }
+    ensures second { (i : ℕ) → IfSome result (λ bytes. pair_value c d i ≡ Ok bytes.1) }
 {
-    VALUES[usize::from(digit)]
-}
-
-/// The byte of two digits, none where one of them is no digit.
-fn byte_of(high: u8, low: u8) -> Option<u8>
-    ensures some { (i : ℕ) → IfSome result (λ byte. pair_value high low i ≡ Ok byte) }
-    ensures none { (i : ℕ) → IfNone result (IsErr (pair_value high low i)) }
-{
-    let high = value_of(high);
-    let low = value_of(low);
-    if high < 16 && low < 16 {
-        return Some(high * 16 + low);
+    let number = first_high(a) + first_low(b) + second_high(c) + second_low(d);
+    if number >= 65536 {
+        return None;
     }
-    None
+    Some(((number % 256) as u8, (number / 256) as u8))
 }
 
 /// Reads the bytes of a line whose digits stand in groups of eight, as in most lines, to the front
@@ -73,10 +52,12 @@ fn read_groups(line: &[u8], bytes: &mut [u8; 256]) -> Option<usize>
             let [a, b, c, d, e, f, g, h, after @ ..] = rest else {
                 return None;
             };
-            bytes[count] = byte_of(*a, *b)?;
-            bytes[count + 1] = byte_of(*c, *d)?;
-            bytes[count + 2] = byte_of(*e, *f)?;
-            bytes[count + 3] = byte_of(*g, *h)?;
+            let (first, second) = two_bytes_of(*a, *b, *c, *d)?;
+            let (third, fourth) = two_bytes_of(*e, *f, *g, *h)?;
+            bytes[count] = first;
+            bytes[count + 1] = second;
+            bytes[count + 2] = third;
+            bytes[count + 3] = fourth;
             count += 4;
             rest = after;
         }

@@ -1,6 +1,6 @@
 -- What `decode` writes of packets is read by `encode`, line by line.
 use Rattle.std.proofs.Common.{◌≡◌, ◌≢◌, ◌≤◌, ◌-◌, ℕ, Bool, true, false, List, [], ◌∷◌, ◌++◌, ◌∙◌, ◌==◌, if◌then◌else◌, length, take, get_or, refl, ap, sym, subst, append_assoc, arith, fold, All, nat_lt, inl, inr, Result, Ok, Err}
-use Rattle.std.specs.Prelude.{flat_map}
+use Rattle.std.specs.Prelude.{flat_map, not, is_ok}
 use Rattle.std.specs.Io.BufRead.{ends_with_byte, strip_last}
 use Rattle.std.proofs.lemmas.Bool.{cases_Bool}
 use Rattle.std.proofs.lemmas.Bool.Decides.{nat_tests}
@@ -15,7 +15,7 @@ use Rattle.operation_text.specs.Texts.{IsPrinted, IsPrintedChar}
 use Rattle.packet_text.specs.declared.packet.Packet.{Packet}
 use Rattle.packet_text.specs.declared.fault.BytesFault.{BytesFault}
 use Rattle.packet_text.specs.Packets.{IsPacket, reading}
-use Rattle.packet_text.specs.Texts.{packet_text}
+use Rattle.packet_text.specs.Texts.{packet_text, decoded_text}
 use Rattle.packet_text.specs.Lines.{BeginsWithLetter}
 use Rattle.packet_text.specs.Forms.{text_reading}
 use Rattle.hex_text.specs.Line.{digits_of}
@@ -194,3 +194,8 @@ pub encoded-words : (T : Texts) (ps : List Packet) → AllPackets ps → ((out_e
 encoded-words T ps h =
     let e = encodes T ps (new_run tt) h in
     (append-nil (fold (after_line encode_responses) (new_run tt) (lines_of (words_lines ps))).text ∙ e.bytes, e.status)
+
+-- the answer of `decode` to what bytes are read as
+pub decode_answer : (r : Result Packet BytesFault) → decode_reading r ≡ record { state = tt; text = decoded_text r ++ 10 ∷ []; is_fault = not (is_ok r) }
+decode_answer (Ok p) = refl
+decode_answer (Err f) = refl

@@ -1,15 +1,14 @@
 //! The subcommand `decode`: bytes to words.
 ghost use Rattle.std.specs.Prelude.{◌≡◌, IfOk, IfErr, OnErr};
-ghost use Rattle.packet_text.specs.Packets.{reading};
-ghost use Rattle.line_loop.specs.Run.{IsAnswer, IsCaughtUp, IsWhole, IsPart};
-ghost use Rattle.packet_engine.specs.Lines.{out_decode, decode_reading, decode_responses};
+ghost use Rattle.line_loop.specs.Run.{IsCaughtUp, IsWhole, IsPart};
+ghost use Rattle.packet_engine.specs.Lines.{out_decode, decode_responses};
 
-use crate::telling::{tell, tell_bytes_fault, tell_words};
+use crate::telling::{tell, tell_decoded};
 use hex_text::HexLine;
 use line_loop::{EngineFault, Responder, Verdict, run};
-use packet_text::decode;
+use packet_reasons::{PacketLines, Reasoned};
 use std::alloc::{AllocError, Global};
-use std::io::{Read, Write};
+use std::io::{Read, Write, sink};
 use std::marker::Model;
 use text_lines::is_skipped;
 
@@ -27,17 +26,6 @@ impl Model for Decoder {
     ghost view = { λ _. tt };
 }
 
-/// Answers the bytes of a line.
-fn answer(bytes: &[u8], out: &mut Vec<u8>) -> Result<Verdict, AllocError>
-    ensures ok { IfOk result (λ verdict. IsAnswer tt out.old.items out.new.items verdict (decode_reading (reading bytes.now))) }
-    ensures err { OnErr result (out.new.items ≡ out.old.items) }
-{
-    match decode(bytes) {
-        Ok(packet) => tell_words(&packet, out),
-        Err(fault) => tell_bytes_fault(fault, out),
-    }
-}
-
 impl Responder for Decoder {
     ghost use Rattle.packet_engine.specs.Lines.{decode_responses};
 
@@ -50,7 +38,7 @@ impl Responder for Decoder {
         if !self.line.read(line) {
             return tell(b"fault hex\n", out);
         }
-        answer(self.line.bytes(), out)
+        tell_decoded(self.line.bytes(), out)
     }
 
     fn on_long_line(&mut self, out: &mut Vec<u8>) -> Result<Verdict, AllocError> {
@@ -60,6 +48,22 @@ impl Responder for Decoder {
     fn on_end(&mut self, _out: &mut Vec<u8>) -> Result<Verdict, AllocError> {
         Ok(Verdict::Fine)
     }
+}
+
+/// Does what [`run_decode`] does, and tells on `errors` why it answers faults, a line each.
+pub fn run_decode_with_reasons<R: Read, W: Write, E: Write>(
+    alloc: Global,
+    reader: &mut R,
+    writer: &mut W,
+    errors: &mut E,
+) -> Result<u8, EngineFault>
+    ensures ok { IfOk result (IsWhole out_decode (R.remaining reader.old) (R.remaining reader.new) (W.contents writer.old) (W.contents writer.new)) }
+    ensures err { OnErr result (IsPart out_decode (R.remaining reader.old) (R.remaining reader.new) (W.contents writer.old) (W.contents writer.new)) }
+    ensures read { IfErr result (λ f. f ≡ EngineFault.Read → IsCaughtUp decode_responses tt (R.remaining reader.old) (R.remaining reader.new) (W.contents writer.old) (W.contents writer.new)) }
+{
+    let line = HexLine::new();
+    let decoder = Reasoned::new(Decoder { line }, PacketLines::Bytes, errors);
+    run(alloc, decoder, reader, writer)
 }
 
 /// Answers each line of the reader's input with a line: it holds the bytes of a DLLP, where they are
@@ -74,6 +78,5 @@ pub fn run_decode<R: Read, W: Write>(
     ensures err { OnErr result (IsPart out_decode (R.remaining reader.old) (R.remaining reader.new) (W.contents writer.old) (W.contents writer.new)) }
     ensures read { IfErr result (λ f. f ≡ EngineFault.Read → IsCaughtUp decode_responses tt (R.remaining reader.old) (R.remaining reader.new) (W.contents writer.old) (W.contents writer.new)) }
 {
-    let line = HexLine::new();
-    run(alloc, Decoder { line }, reader, writer)
+    run_decode_with_reasons(alloc, reader, writer, &mut sink())
 }

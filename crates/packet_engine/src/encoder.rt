@@ -4,9 +4,9 @@ ghost use Rattle.packet_text.specs.Forms.{text_reading};
 ghost use Rattle.line_loop.specs.Run.{IsAnswer, IsCaughtUp, IsWhole, IsPart};
 ghost use Rattle.packet_engine.specs.Lines.{out_encode, encode_reading, encode_responses};
 
-use crate::reasoned::Reasoned;
 use crate::telling::{tell, tell_bytes, tell_text_fault};
 use line_loop::{EngineFault, Responder, Verdict, run};
+use packet_reasons::{PacketLines, Reasoned};
 use packet_text::read_packet;
 use std::alloc::{AllocError, Global};
 use std::io::{Read, Write, sink};
@@ -68,7 +68,7 @@ pub fn run_encode_with_reasons<R: Read, W: Write, E: Write>(
     ensures err { OnErr result (IsPart out_encode (R.remaining reader.old) (R.remaining reader.new) (W.contents writer.old) (W.contents writer.new)) }
     ensures read { IfErr result (λ f. f ≡ EngineFault.Read → IsCaughtUp encode_responses tt (R.remaining reader.old) (R.remaining reader.new) (W.contents writer.old) (W.contents writer.new)) }
 {
-    let encoder = Reasoned::new(Encoder {}, errors);
+    let encoder = Reasoned::new(Encoder {}, PacketLines::Words, errors);
     run(alloc, encoder, reader, writer)
 }
 

@@ -1,7 +1,8 @@
-//! Answers to packets in words, with reasons beside them.
-ghost use Rattle.std.specs.Prelude.{◌≡◌, IfErr, OnOk, OnErr};
+//! Answers to lines of packets, with reasons beside them.
+ghost use Rattle.std.specs.Prelude.{◌≡◌, ◌≤◌, length, IfErr, OnOk, OnErr};
 ghost use Rattle.diagnostics.specs.Told.{IsReasonTold, IsReasonBegun};
 
+use crate::bytes::{packet_reason, request_reason};
 use diagnostics::{tell_long_line, tell_misfit, tell_refusal};
 use line_loop::{EngineFault, Responder, Verdict};
 use packet_text::{Unread, read_words};
@@ -9,16 +10,27 @@ use std::alloc::AllocError;
 use std::io::Write;
 use std::marker::Model;
 
-/// Tells why a packet's line is refused, where that is told as a fault: this is the line's number then.
-/// After an `Err` a beginning of the reason was written.
-fn explain<E: Write>(line: &[u8], fault: Option<u64>, errors: &mut E) -> Result<(), EngineFault>
+/// What an engine reads of a line.
+#[derive(Clone, Copy, Debug, PartialEq, Eq)]
+pub enum PacketLines {
+    /// A packet in words.
+    Words,
+    /// The bytes of a TLP or, where they are four, of a DLLP.
+    Bytes,
+    /// The bytes of a request.
+    Requests,
+}
+
+/// Tells why a packet's line in words is refused.
+fn explain_words<E: Write>(
+    line: &[u8],
+    fault: Option<u64>,
+    errors: &mut E,
+) -> Result<(), EngineFault>
     ensures ok { OnOk result (IsReasonTold fault (E.contents errors.old) (E.contents errors.new)) }
     ensures fault { IfErr result (λ f. f ≡ EngineFault.Write) }
     ensures part { OnErr result (IsReasonBegun fault (E.contents errors.old) (E.contents errors.new)) }
 {
-    if fault.is_none() {
-        return Ok(());
-    }
     match read_words(line) {
         Ok(_) => tell_misfit(line, None, fault, errors),
         Err(Unread::Words(misfit)) => tell_misfit(line, Some(misfit), fault, errors),
@@ -26,12 +38,38 @@ fn explain<E: Write>(line: &[u8], fault: Option<u64>, errors: &mut E) -> Result<
     }
 }
 
-/// A responder to packets in words, whose answers are told the reasons of where they tell faults: the
+/// Tells why a packet's line is refused, where that is told as a fault: this is the line's number then.
+/// After an `Err` a beginning of the reason was written.
+#[inline(never)]
+fn explain<E: Write>(
+    lines: PacketLines,
+    line: &[u8],
+    fault: Option<u64>,
+    errors: &mut E,
+) -> Result<(), EngineFault>
+    requires { length line.now ≤ 512 }
+    ensures ok { OnOk result (IsReasonTold fault (E.contents errors.old) (E.contents errors.new)) }
+    ensures fault { IfErr result (λ f. f ≡ EngineFault.Write) }
+    ensures part { OnErr result (IsReasonBegun fault (E.contents errors.old) (E.contents errors.new)) }
+{
+    let Some(number) = fault else {
+        return Ok(());
+    };
+    match lines {
+        PacketLines::Words => explain_words(line, fault, errors),
+        PacketLines::Bytes => packet_reason(line).tell_at(number, errors),
+        PacketLines::Requests => request_reason(line).tell_at(number, errors),
+    }
+}
+
+/// A responder to lines of packets, whose answers are told the reasons of where they tell faults: the
 /// answers stay as they are.
 #[derive(Drop)]
-pub(crate) struct Reasoned<P, E> {
+pub struct Reasoned<P, E> {
     responder: P,
-    lines: u64,
+    lines: PacketLines,
+    /// How many lines were answered.
+    count: u64,
     /// Where reasons are told.
     errors: E,
 }
@@ -43,13 +81,15 @@ impl<P, E> Model for Reasoned<P, E> {
 }
 
 impl<P, E> Reasoned<P, E> {
-    /// The responder, before its first line, and the stream on which its reasons are told.
-    pub(crate) fn new(responder: P, errors: E) -> Reasoned<P, E>
+    /// The responder, before its first line, what it reads of a line, and the stream on which its
+    /// reasons are told.
+    pub fn new(responder: P, lines: PacketLines, errors: E) -> Reasoned<P, E>
         ensures { result ≡ responder }
     {
         Reasoned {
             responder,
-            lines: 0,
+            lines,
+            count: 0,
             errors,
         }
     }
@@ -59,20 +99,18 @@ impl<P: Responder, E: Write + Drop> Responder for Reasoned<P, E> {
     ghost responses = { P.responses };
 
     fn on_line(&mut self, line: &[u8], out: &mut Vec<u8>) -> Result<Verdict, AllocError> {
-        self.lines = self.lines.saturating_add(1);
+        self.count = self.count.saturating_add(1);
         let verdict = self.responder.on_line(line, out)?;
-        let _ = explain(
-            line,
-            verdict.is_fault().then_some(self.lines),
-            &mut self.errors,
-        );
+        if verdict.is_fault() {
+            let _ = explain(self.lines, line, Some(self.count), &mut self.errors);
+        }
         Ok(verdict)
     }
 
     fn on_long_line(&mut self, out: &mut Vec<u8>) -> Result<Verdict, AllocError> {
-        self.lines = self.lines.saturating_add(1);
+        self.count = self.count.saturating_add(1);
         let verdict = self.responder.on_long_line(out)?;
-        let _ = tell_long_line(verdict.is_fault().then_some(self.lines), &mut self.errors);
+        let _ = tell_long_line(verdict.is_fault().then_some(self.count), &mut self.errors);
         Ok(verdict)
     }
 

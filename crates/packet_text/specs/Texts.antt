@@ -1,5 +1,5 @@
 -- The text of a packet: one line of words.
-use Rattle.std.specs.Prelude.{ℕ, ◌/◌, ◌%◌, ◌==◌, if◌then◌else◌, List, [], ◌∷◌, ◌++◌, codes, Option, Some, None}
+use Rattle.std.specs.Prelude.{ℕ, ◌/◌, ◌%◌, ◌==◌, if◌then◌else◌, List, [], ◌∷◌, ◌++◌, codes, Option, Some, None, Result, Ok, Err}
 use Rattle.std.specs.Fmt.{decimal}
 use Rattle.hex.specs.Hex.{encode_upper}
 use Rattle.tlp_core.specs.declared.operation.Op.{Op}
@@ -111,6 +111,11 @@ bytes_fault_name (bytes_faults.Dllp f) = dllp_fault.name_of f
 abbrev pub bytes_fault_text : BytesFault → List ℕ
 bytes_fault_text (bytes_faults.Tlp f) = tlp_fault_text f
 bytes_fault_text (bytes_faults.Dllp f) = dllp_fault_text f
+
+-- what bytes are read as, a packet or a fault
+abbrev pub decoded_text : Result Packet BytesFault → List ℕ
+decoded_text (Ok p) = packet_text p
+decoded_text (Err f) = bytes_fault_text f
 
 abbrev pub text_fault_name : TextFault → List ℕ
 text_fault_name text_faults.Words = codes "words"

@@ -29,4 +29,4 @@ pub use fault::{BytesFault, TextFault, Unread};
 pub use laws::own_text_spells_packet;
 pub use packet::Packet;
 pub use reading::{read_packet, read_words};
-pub use writing::{write_bytes_fault, write_packet, write_text_fault};
+pub use writing::{write_bytes_fault, write_decoded, write_packet, write_text_fault};

@@ -1,6 +1,7 @@
 //! Writing packets and faults.
-ghost use Rattle.std.specs.Prelude.{◌≡◌, ◌≤◌, ◌<◌, ◌+◌, ◌*◌, ◌++◌, length};
+ghost use Rattle.std.specs.Prelude.{◌≡◌, ◌≤◌, ◌<◌, ◌+◌, ◌*◌, ◌++◌, length, is_ok};
 ghost use Rattle.arrayvec.specs.ArrayString.{array_string_len};
+ghost use Rattle.packet_text.specs.Packets as packets;
 ghost use Rattle.packet_text.specs.Texts as texts;
 
 use crate::fault::{BytesFault, TextFault};
@@ -8,7 +9,7 @@ use crate::packet::Packet;
 use arrayvec::ArrayString;
 use dllp_core::{Class, Dllp, DllpFault};
 use operation_text::{write_bytes, write_decimal, write_octet, write_op, write_sequence};
-use tlp_core::{Body, Kind, Op, Status, Tlp, TlpFault, op_of};
+use tlp_core::{Body, Kind, Op, Status, TlpFault, TlpRef, decode_lent, op_lent};
 
 /// Adds four digits.
 fn put_id(id: u16, out: &mut ArrayString<512>)
@@ -34,27 +35,27 @@ fn put_named(name: &str, number: u8, out: &mut ArrayString<512>)
 }
 
 /// Adds Traffic Class and attributes.
-fn put_class(tlp: &Tlp, out: &mut ArrayString<512>)
+fn put_class(tlp: &TlpRef<'_>, out: &mut ArrayString<512>)
     requires { array_string_len out.old + 52 ≤ 512 }
     ensures text { out.new.bytes ≡ out.old.bytes ++ texts.class_text tlp.now.tc tlp.now.attr }
     ensures len { array_string_len out.new ≤ array_string_len out.old + 52 }
 {
-    put_named(" tc ", tlp.tc, out);
-    put_named(" attr ", tlp.attr, out);
+    put_named(" tc ", tlp.header.tc, out);
+    put_named(" attr ", tlp.header.attr, out);
 }
 
 /// Adds Requester ID and tag.
-fn put_origin(tlp: &Tlp, out: &mut ArrayString<512>)
+fn put_origin(tlp: &TlpRef<'_>, out: &mut ArrayString<512>)
     requires { array_string_len out.old + 11 ≤ 512 }
     ensures text { out.new.bytes ≡ out.old.bytes ++ texts.origin_text tlp.now }
     ensures len { array_string_len out.new ≡ array_string_len out.old + 11 }
 {
-    put_id(tlp.requester, out);
+    put_id(tlp.header.requester, out);
     out.push_str(" tag ");
-    write_octet(tlp.tag, out);
+    write_octet(tlp.header.tag, out);
 }
 
-fn put_request(tlp: &Tlp, op: &Op, out: &mut ArrayString<512>)
+fn put_request(tlp: &TlpRef<'_>, op: &Op, out: &mut ArrayString<512>)
     requires { array_string_len out.old + 400 ≤ 512 }
     ensures text { out.new.bytes ≡ out.old.bytes ++ texts.request_text tlp.now op.now }
     ensures len { array_string_len out.new ≤ array_string_len out.old + 400 }
@@ -78,14 +79,14 @@ fn put_status(status: Status, out: &mut ArrayString<512>)
 }
 
 /// Adds the data of a completion, where its kind has data.
-fn put_data(tlp: &Tlp, out: &mut ArrayString<512>)
+fn put_data(tlp: &TlpRef<'_>, out: &mut ArrayString<512>)
     requires { array_string_len out.old + 257 ≤ 512 }
     ensures text { out.new.bytes ≡ out.old.bytes ++ texts.data_text tlp.now.kind tlp.now.payload }
     ensures len { array_string_len out.new ≤ array_string_len out.old + 257 }
 {
-    if let Kind::CompletionData = tlp.kind {
+    if let Kind::CompletionData = tlp.header.kind {
         out.push_str(" ");
-        write_bytes(tlp.payload.as_slice(), out);
+        write_bytes(tlp.payload, out);
     }
 }
 
@@ -103,7 +104,7 @@ fn put_completer(completer: u16, byte_count: u16, lower: u8, out: &mut ArrayStri
     write_octet(lower, out);
 }
 
-fn put_completion(tlp: &Tlp, out: &mut ArrayString<512>)
+fn put_completion(tlp: &TlpRef<'_>, out: &mut ArrayString<512>)
     requires { array_string_len out.old + 400 ≤ 512 }
     ensures text { out.new.bytes ≡ out.old.bytes ++ texts.completion_text tlp.now tlp.now.body }
     ensures len { array_string_len out.new ≤ array_string_len out.old + 400 }
@@ -113,7 +114,7 @@ fn put_completion(tlp: &Tlp, out: &mut ArrayString<512>)
         status,
         byte_count,
         lower,
-    } = tlp.body
+    } = tlp.header.body
     else {
         return;
     };
@@ -126,13 +127,14 @@ fn put_completion(tlp: &Tlp, out: &mut ArrayString<512>)
     put_class(tlp, out);
 }
 
-fn put_tlp(tlp: &Tlp, out: &mut ArrayString<512>)
+/// Adds the text of a TLP, at most 400 bytes.
+fn put_tlp(tlp: &TlpRef<'_>, out: &mut ArrayString<512>)
     requires { array_string_len out.old + 400 ≤ 512 }
     ensures text { out.new.bytes ≡ out.old.bytes ++ texts.tlp_text tlp.now }
     ensures len { array_string_len out.new ≤ array_string_len out.old + 400 }
 {
-    match op_of(tlp) {
-        Some(op) => put_request(tlp, &op, out),
+    match op_lent(tlp) {
+        Some(op) => put_request(tlp, &op.to_owned(), out),
         None => put_completion(tlp, out),
     }
 }
@@ -186,7 +188,7 @@ pub fn write_packet(packet: &Packet, out: &mut ArrayString<512>)
     ensures len { array_string_len out.new ≤ array_string_len out.old + 400 }
 {
     match packet {
-        Packet::Tlp(tlp) => put_tlp(tlp, out),
+        Packet::Tlp(tlp) => put_tlp(&tlp.lend(), out),
         Packet::Dllp(dllp) => put_dllp(*dllp, out),
     }
 }
@@ -229,6 +231,40 @@ pub fn write_bytes_fault(fault: BytesFault, out: &mut ArrayString<512>)
     match fault {
         BytesFault::Tlp(fault) => put_tlp_fault(fault, out),
         BytesFault::Dllp(fault) => put_dllp_fault(fault, out),
+    }
+}
+
+/// Adds the text of the packet that the bytes spell, at most 400 bytes, or that of the first of their
+/// faults, and says whether they spell one. Four bytes are read as a DLLP, and any other number as a
+/// TLP, as [`decode`](crate::decode) does.
+pub fn write_decoded(bytes: &[u8], out: &mut ArrayString<512>) -> bool
+    requires { array_string_len out.old + 400 ≤ 512 }
+    ensures value { result ≡ is_ok (packets.reading bytes.now) }
+    ensures text { out.new.bytes ≡ out.old.bytes ++ texts.decoded_text (packets.reading bytes.now) }
+    ensures len { array_string_len out.new ≤ array_string_len out.old + 400 }
+{
+    if bytes.len() == 4 {
+        match dllp_core::decode(bytes) {
+            Ok(dllp) => {
+                put_dllp(dllp, out);
+                true
+            }
+            Err(fault) => {
+                put_dllp_fault(fault, out);
+                false
+            }
+        }
+    } else {
+        match decode_lent(bytes) {
+            Ok(tlp) => {
+                put_tlp(&tlp, out);
+                true
+            }
+            Err(fault) => {
+                put_tlp_fault(fault, out);
+                false
+            }
+        }
     }
 }
 

@@ -12,7 +12,7 @@ use history_check::Record;
 use seq_memory::Entry;
 use std::alloc::{AllocError, Global};
 use std::marker::Model;
-use tlp_core::{Op, Tlp, copy_of, op_of};
+use tlp_core::{OpRef, TlpRef, op_lent};
 
 /// The requesters, 1 to 7, and a place for 0.
 const PLACES: u8 = 8;
@@ -90,41 +90,46 @@ impl Monitor {
     }
 
     /// In a trace, the request waits to act.
-    fn wait(&mut self, requester: u8, number: u32, op: Op) -> Result<(), AllocError>
-        ensures ok { OnOk result (self.new ≡ spec.with_waiting self.old requester number op) }
+    fn wait(&mut self, requester: u8, number: u32, op: &OpRef<'_>) -> Result<(), AllocError>
+        ensures ok { OnOk result (self.new ≡ spec.with_waiting self.old requester number op.now) }
         ensures err { OnErr result ((self.new ≡ self.old) × (self.old.is_trace ≡ true)) }
     {
         if self.is_trace {
             self.waiting.push(Entry {
                 requester,
                 number,
-                op,
+                op: op.to_owned(),
             })?;
         }
         Ok(())
     }
 
     /// The next request of the requester asks for the operation.
-    fn ask(&mut self, requester: u8, request: &Tlp, op: Op) -> Result<Record, MonitorFault>
+    fn ask(
+        &mut self,
+        requester: u8,
+        request: &TlpRef<'_>,
+        op: &OpRef<'_>,
+    ) -> Result<Record, MonitorFault>
         requires { requester ≤ 7 }
-        ensures answer { IfOk result (λ r. (spec.opening self.old requester request.now op).answer ≡ Ok r) }
-        ensures state { OnOk result (self.new ≡ (spec.opening self.old requester request.now op).monitor) }
-        ensures fault { IfErr result (λ f. ¬ (f ≡ faults.Memory) → (spec.opening self.old requester request.now op).answer ≡ Err f) }
-        ensures no_memory { IfErr result (λ f. f ≡ faults.Memory → (self.old.is_trace ≡ true) × IsOk (spec.opening self.old requester request.now op).answer) }
+        ensures answer { IfOk result (λ r. (spec.opening self.old requester request.now op.now).answer ≡ Ok r) }
+        ensures state { OnOk result (self.new ≡ (spec.opening self.old requester request.now op.now).monitor) }
+        ensures fault { IfErr result (λ f. ¬ (f ≡ faults.Memory) → (spec.opening self.old requester request.now op.now).answer ≡ Err f) }
+        ensures no_memory { IfErr result (λ f. f ≡ faults.Memory → (self.old.is_trace ≡ true) × IsOk (spec.opening self.old requester request.now op.now).answer) }
         ensures unchanged { OnErr result (self.new ≡ self.old) }
     {
         let watched = self.requesters[usize::from(requester)];
         if let Some(fault) = watched.request_fault(request) {
             return Err(fault);
         }
-        if self.wait(requester, watched.next, copy_of(&op)).is_err() {
+        if self.wait(requester, watched.next, op).is_err() {
             return Err(MonitorFault::Memory);
         }
         self.requesters[usize::from(requester)].ask(request);
         Ok(Record::Sub {
             requester,
             number: watched.next,
-            op,
+            op: op.to_owned(),
             n: self.acted,
         })
     }
@@ -143,14 +148,14 @@ impl Monitor {
             Ok(request) => request,
             Err(fault) => return Err(fault),
         };
-        match op_of(&request) {
-            Some(op) => self.ask(requester, &request, op),
+        match op_lent(&request) {
+            Some(op) => self.ask(requester, &request, &op),
             None => Err(MonitorFault::NoRequest),
         }
     }
 
     /// The completion answers a request of the requester.
-    fn answer(&mut self, requester: u8, completion: &Tlp) -> Result<Record, MonitorFault>
+    fn answer(&mut self, requester: u8, completion: &TlpRef<'_>) -> Result<Record, MonitorFault>
         requires { requester ≤ 7 }
         ensures answer { result ≡ (spec.completing self.old requester completion.now).answer }
         ensures state { self.new ≡ (spec.completing self.old requester completion.now).monitor }
@@ -159,7 +164,7 @@ impl Monitor {
         let watched = &mut self.requesters[usize::from(requester)];
         match watched.answered(completion) {
             Ok((number, reply)) => {
-                watched.close(completion.tag);
+                watched.close(completion.header.tag);
                 Ok(Record::Ans {
                     requester,
                     number,
@@ -181,7 +186,7 @@ impl Monitor {
         ensures unchanged { OnErr result (self.new ≡ self.old) }
     {
         let completion = packet_from(requester, tlp)?;
-        if !completion.kind.is_completion() {
+        if !completion.header.kind.is_completion() {
             return Err(MonitorFault::NoCompletion);
         }
         self.answer(requester, &completion)

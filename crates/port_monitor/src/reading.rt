@@ -4,7 +4,7 @@ ghost use Rattle.port_monitor.specs.declared.fault.MonitorFault.TheVariants as f
 ghost use Rattle.port_monitor.specs.Monitoring.{is_requester, packet_from};
 
 use crate::fault::MonitorFault;
-use tlp_core::{Tlp, decode};
+use tlp_core::{TlpRef, decode_lent};
 
 /// The last requester: they are 1 to 7.
 pub(crate) const LAST: u8 = 7;
@@ -16,7 +16,7 @@ pub(crate) fn is_requester(requester: u8) -> bool
 }
 
 /// The packet of a requester, 1 to 7.
-pub(crate) fn packet_from(requester: u8, bytes: &[u8]) -> Result<Tlp, MonitorFault>
+pub(crate) fn packet_from(requester: u8, bytes: &[u8]) -> Result<TlpRef<'_>, MonitorFault>
     ensures value { result ≡ packet_from requester bytes.now }
     ensures range { OnOk result (requester ≤ 7) }
     ensures not_memory { IfErr result (λ f. ¬ (f ≡ faults.Memory)) }
@@ -24,7 +24,7 @@ pub(crate) fn packet_from(requester: u8, bytes: &[u8]) -> Result<Tlp, MonitorFau
     if !is_requester(requester) {
         return Err(MonitorFault::NoRequester);
     }
-    match decode(bytes) {
+    match decode_lent(bytes) {
         Ok(packet) => Ok(packet),
         Err(fault) => Err(MonitorFault::Packet(fault)),
     }

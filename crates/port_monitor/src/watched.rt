@@ -8,7 +8,7 @@ use crate::fault::MonitorFault;
 use arrayvec::ArrayVec;
 use requester_core::NUMBERS;
 use seq_memory::Reply;
-use tlp_core::{Body, Kind, MAX_PAYLOAD, Status, Tlp};
+use tlp_core::{Body, Kind, MAX_PAYLOAD, Status, TlpRef};
 
 /// The number of tags of 8 bits.
 const TAGS: usize = 256;
@@ -47,10 +47,10 @@ fn size_for(kind: Kind, dw: u16) -> u16
 }
 
 /// First DW BE and Last DW BE of a read.
-fn enables_of(packet: &Tlp) -> Option<(u8, u8)>
+fn enables_of(packet: &TlpRef<'_>) -> Option<(u8, u8)>
     ensures { result ≡ spec.enables_of packet.now.kind packet.now.body }
 {
-    match (packet.kind, packet.body) {
+    match (packet.header.kind, packet.header.body) {
         (Kind::MemoryRead, Body::Request { first, last, .. }) => Some((first, last)),
         _ => None,
     }
@@ -70,11 +70,11 @@ fn seen(enables: Option<(u8, u8)>, bytes: &[u8]) -> ArrayVec<u8, MAX_PAYLOAD>
 }
 
 /// The data of a completion, if it has the size that the request needs.
-fn data_for(request: &OpenRequest, completion: &Tlp) -> Option<Reply>
+fn data_for(request: &OpenRequest, completion: &TlpRef<'_>) -> Option<Reply>
     requires { completion.now.kind ≡ Kind.CompletionData }
     ensures { result ≡ spec.data_for request.now completion.now.payload }
 {
-    let bytes = completion.payload.as_slice();
+    let bytes = completion.payload;
     if bytes.len() != usize::from(request.size) {
         return None;
     }
@@ -82,13 +82,13 @@ fn data_for(request: &OpenRequest, completion: &Tlp) -> Option<Reply>
 }
 
 /// The reply that a completion carries to a request, if it fits.
-fn reply_to(request: &OpenRequest, completion: &Tlp) -> Option<Reply>
+fn reply_to(request: &OpenRequest, completion: &TlpRef<'_>) -> Option<Reply>
     ensures { result ≡ spec.reply_to request.now completion.now }
 {
-    let Body::Completion { status, .. } = completion.body else {
+    let Body::Completion { status, .. } = completion.header.body else {
         return None;
     };
-    match (completion.kind, status) {
+    match (completion.header.kind, status) {
         (Kind::CompletionData, Status::Success) => data_for(request, completion),
         (Kind::Completion, Status::Unsupported) => Some(Reply::Unsupported),
         (Kind::Completion, Status::Aborted) => Some(Reply::Aborted),
@@ -119,21 +119,21 @@ impl Watched {
     }
 
     /// Whether the request needs a tag that is open.
-    fn needs_open_tag(&self, request: &Tlp) -> bool
+    fn needs_open_tag(&self, request: &TlpRef<'_>) -> bool
         ensures { result ≡ spec.needs_open_tag self.now request.now }
     {
-        match request.kind {
+        match request.header.kind {
             Kind::MemoryWrite => false,
-            _ => self.open_tags[usize::from(request.tag)].is_some(),
+            _ => self.open_tags[usize::from(request.header.tag)].is_some(),
         }
     }
 
     /// Why the next request can't be this one.
-    pub(crate) fn request_fault(&self, request: &Tlp) -> Option<MonitorFault>
+    pub(crate) fn request_fault(&self, request: &TlpRef<'_>) -> Option<MonitorFault>
         ensures value { result ≡ spec.request_fault self.now request.now }
         ensures room { IfNone result (self.now.next < 4294967295) }
     {
-        if self.is_other(request.requester) {
+        if self.is_other(request.header.requester) {
             return Some(MonitorFault::OtherRequester);
         }
         if self.needs_open_tag(request) {
@@ -146,31 +146,31 @@ impl Watched {
     }
 
     /// The next request is this one.
-    pub(crate) fn ask(&mut self, request: &Tlp)
+    pub(crate) fn ask(&mut self, request: &TlpRef<'_>)
         requires { self.old.next < 4294967295 }
         ensures { self.new ≡ spec.after_request self.old request.now }
     {
         let opened = OpenRequest {
             number: self.next,
-            size: size_for(request.kind, request.length),
+            size: size_for(request.header.kind, request.header.length),
             enables: enables_of(request),
         };
-        self.id = Some(request.requester);
+        self.id = Some(request.header.requester);
         self.next += 1;
-        match request.kind {
+        match request.header.kind {
             Kind::MemoryWrite => {}
-            _ => self.open_tags[usize::from(request.tag)] = Some(opened),
+            _ => self.open_tags[usize::from(request.header.tag)] = Some(opened),
         }
     }
 
     /// The number of the request that the completion answers, and the reply, or why it answers none.
-    pub(crate) fn answered(&self, completion: &Tlp) -> Result<(u32, Reply), MonitorFault>
+    pub(crate) fn answered(&self, completion: &TlpRef<'_>) -> Result<(u32, Reply), MonitorFault>
         ensures { result ≡ spec.answered self.now completion.now }
     {
-        if self.is_other(completion.requester) {
+        if self.is_other(completion.header.requester) {
             return Err(MonitorFault::OtherRequester);
         }
-        let Some(asked) = self.open_tags[usize::from(completion.tag)] else {
+        let Some(asked) = self.open_tags[usize::from(completion.header.tag)] else {
             return Err(MonitorFault::Unexpected);
         };
         match reply_to(&asked, completion) {

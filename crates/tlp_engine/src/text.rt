@@ -1,5 +1,5 @@
 //! Texts of packets and of faults.
-ghost use Rattle.std.specs.Prelude.{◌≡◌, ◌≤◌, ◌<◌, ◌+◌, ◌++◌, length};
+ghost use Rattle.std.specs.Prelude.{◌≡◌, ◌≤◌, ◌<◌, ◌+◌, ◌++◌, ◌∷◌, [], length};
 ghost use Rattle.std.specs.Fmt.{decimal};
 ghost use Rattle.arrayvec.specs.ArrayVec.{array_vec_len};
 ghost use Rattle.hex.specs.Hex.{encode_upper};
@@ -8,8 +8,8 @@ ghost use Rattle.hex_text.specs.Line.{spaced};
 ghost use Rattle.tlp_engine.specs.Tlp.{fault_text};
 
 use arrayvec::ArrayVec;
-use hex_text::put_bytes;
-use tlp_core::{Tlp, TlpFault, encode};
+use hex_text::{HexText, write_bytes};
+use tlp_core::{MAX_TLP, TlpFault, TlpRef, encode_lent};
 
 /// Adds the bytes.
 fn put<const N: usize>(text: &mut ArrayVec<u8, N>, bytes: &[u8])
@@ -20,14 +20,14 @@ fn put<const N: usize>(text: &mut ArrayVec<u8, N>, bytes: &[u8])
     let _ = text.try_extend_from_slice(bytes);
 }
 
-/// Adds the bytes of the packet, in capitals in groups of four. What `room` holds does not count.
-pub fn put_packet(packet: &Tlp, room: &mut ArrayVec<u8, 144>, text: &mut ArrayVec<u8, 325>)
-    requires { array_vec_len text.old ≡ 0 }
-    ensures items { text.new.items ≡ text.old.items ++ spaced (encode_upper (canonical packet.now)) }
-    ensures len { array_vec_len text.new < 325 }
+/// Writes the line of the packet's bytes, in capitals in groups of four, in place of what the text
+/// was. What `room` holds counts for nothing.
+#[inline(always)]
+pub fn write_packet(packet: &TlpRef<'_>, room: &mut [u8; MAX_TLP], text: &mut HexText)
+    ensures { text.new ≡ spaced (encode_upper (canonical packet.now)) ++ 10 ∷ [] }
 {
-    encode(packet, room);
-    put_bytes(room.as_slice(), text);
+    let count = encode_lent(packet, room);
+    write_bytes(&room[..count], text);
 }
 
 /// Adds a number below 100 in decimal.

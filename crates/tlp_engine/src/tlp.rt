@@ -6,19 +6,20 @@ ghost use Rattle.line_loop.specs.Run.{IsAnswer, IsCaughtUp, IsWhole, IsPart};
 ghost use Rattle.tlp_engine.specs.Tlp.{new_state, out_tlp, tlp_responses, answer_request, answer_packet, answer_reading, fault_text, completion_text};
 ghost use Rattle.tlp_engine.specs.CompleterView.{new_kept, without_history, kept_responses};
 
-use crate::text::{put_fault, put_packet};
+use crate::text::{put_fault, write_packet};
 use arrayvec::ArrayVec;
-use completer_core::answer;
-use hex_text::HexLine;
+use completer_core::answer_lent;
+use hex_text::{HexLine, HexText};
 use line_loop::{EngineFault, Responder, Verdict, run};
-use seq_memory::Extent;
+use packet_reasons::{PacketLines, Reasoned};
 use seq_memory::laws::history_grows_by_steps;
+use seq_memory::{Extent, ReplyData};
 use std::alloc::{AllocError, Global};
-use std::io::{Read, Write};
+use std::io::{Read, Write, sink};
 use std::marker::Model;
 use text_lines::is_skipped;
 use tlp_core::laws::reading_is_spelling;
-use tlp_core::{Kind, Tlp, TlpFault, decode};
+use tlp_core::{Kind, MAX_TLP, TlpFault, TlpRef, decode_lent};
 
 /// The bytes of a memory, and how many requests of each port have acted on it: what `tlp` needs of
 /// a history, in memory that doesn't grow.
@@ -38,11 +39,11 @@ impl Model for Device {
     ghost view = { λ c. record { base = c.extent.base; block = c.extent.block; bytes = c.bytes.items; counts = c.counts } };
 }
 
-/// Buffers for an answer, used again and again: what they hold does not count.
+/// Buffers for the text of an answer, used again and again: what they hold does not count.
 #[derive(Drop)]
 struct Room {
-    bytes: ArrayVec<u8, 144>,
-    text: ArrayVec<u8, 325>,
+    bytes: [u8; MAX_TLP],
+    text: HexText,
 }
 
 /// A device that is asked line by line.
@@ -50,6 +51,8 @@ struct Room {
 struct Completer {
     device: Device,
     line: HexLine,
+    /// A completion's payload stands there.
+    reply: ReplyData,
     room: Room,
 }
 
@@ -96,7 +99,7 @@ fn tell_fault(fault: TlpFault, out: &mut Vec<u8>) -> Result<Verdict, AllocError>
 
 /// Adds the line of a completion, or of a posted write.
 fn tell_completion(
-    completion: &Option<Tlp>,
+    completion: &Option<TlpRef<'_>>,
     room: &mut Room,
     out: &mut Vec<u8>,
 ) -> Result<Verdict, AllocError>
@@ -107,9 +110,7 @@ fn tell_completion(
         out.extend_from_slice(b"-\n")?;
         return Ok(Verdict::Fine);
     };
-    room.text.clear();
-    put_packet(completion, &mut room.bytes, &mut room.text);
-    room.text.push(b'\n');
+    write_packet(completion, &mut room.bytes, &mut room.text);
     out.extend_from_slice(room.text.as_slice())?;
     Ok(Verdict::Fine)
 }
@@ -128,16 +129,17 @@ impl Device {
     }
 
     /// How many requests of the request's requester have acted.
-    fn count(&self, request: &Tlp) -> u32
+    fn count(&self, request: &TlpRef<'_>) -> u32
         ensures { result ≡ slice_index self.now.counts (request.now.requester / 256) }
     {
-        self.counts[usize::from(request.requester / 256)]
+        self.counts[usize::from(request.header.requester / 256)]
     }
 
     /// Answers a request.
     fn answer_request(
         &mut self,
-        request: &Tlp,
+        request: &TlpRef<'_>,
+        reply: &mut ReplyData,
         room: &mut Room,
         out: &mut Vec<u8>,
     ) -> Result<Verdict, AllocError>
@@ -149,24 +151,25 @@ impl Device {
             return tell(b"fault numbers\n", out);
         }
         let (base, block) = (self.extent.base(), self.extent.block());
-        let completion = answer(base, block, &mut self.bytes, request);
-        self.counts[usize::from(request.requester / 256)] = number + 1;
+        let completion = answer_lent(base, block, &mut self.bytes, request, reply);
+        self.counts[usize::from(request.header.requester / 256)] = number + 1;
         tell_completion(&completion, room, out)
     }
 
     /// Answers a packet.
     fn answer_packet(
         &mut self,
-        packet: &Tlp,
+        packet: &TlpRef<'_>,
+        reply: &mut ReplyData,
         room: &mut Room,
         out: &mut Vec<u8>,
     ) -> Result<Verdict, AllocError>
         ensures ok { IfOk result (λ verdict. IsAnswer self.new out.old.items out.new.items verdict (answer_packet without_history self.old packet.now)) }
         ensures err { OnErr result (out.new.items ≡ out.old.items) }
     {
-        match packet.kind {
+        match packet.header.kind {
             Kind::Completion | Kind::CompletionData => tell(b"fault completion\n", out),
-            _ => self.answer_request(packet, room, out),
+            _ => self.answer_request(packet, reply, room, out),
         }
     }
 
@@ -174,14 +177,15 @@ impl Device {
     fn answer_bytes(
         &mut self,
         bytes: &[u8],
+        reply: &mut ReplyData,
         room: &mut Room,
         out: &mut Vec<u8>,
     ) -> Result<Verdict, AllocError>
         ensures ok { IfOk result (λ verdict. IsAnswer self.new out.old.items out.new.items verdict (answer_reading without_history self.old (reading bytes.now))) }
         ensures err { OnErr result (out.new.items ≡ out.old.items) }
     {
-        match decode(bytes) {
-            Ok(packet) => self.answer_packet(&packet, room, out),
+        match decode_lent(bytes) {
+            Ok(packet) => self.answer_packet(&packet, reply, room, out),
             Err(fault) => tell_fault(fault, out),
         }
     }
@@ -193,11 +197,15 @@ impl Completer {
     {
         let device = Device::new(alloc, extent)?;
         let room = Room {
-            bytes: ArrayVec::new(),
-            text: ArrayVec::new(),
+            bytes: [0; MAX_TLP],
+            text: HexText::new(),
         };
-        let line = HexLine::new();
-        Ok(Completer { device, line, room })
+        Ok(Completer {
+            device,
+            line: HexLine::new(),
+            reply: ReplyData::new(),
+            room,
+        })
     }
 }
 
@@ -214,7 +222,7 @@ impl Responder for Completer {
             return tell(b"fault hex\n", out);
         }
         self.device
-            .answer_bytes(self.line.bytes(), &mut self.room, out)
+            .answer_bytes(self.line.bytes(), &mut self.reply, &mut self.room, out)
     }
 
     fn on_long_line(&mut self, out: &mut Vec<u8>) -> Result<Verdict, AllocError> {
@@ -224,6 +232,25 @@ impl Responder for Completer {
     fn on_end(&mut self, _out: &mut Vec<u8>) -> Result<Verdict, AllocError> {
         Ok(Verdict::Fine)
     }
+}
+
+/// Does what [`run_tlp`] does, and tells on `errors` why it answers faults, a line each.
+pub fn run_tlp_with_reasons<R: Read, W: Write, E: Write>(
+    alloc: Global,
+    extent: Extent,
+    reader: &mut R,
+    writer: &mut W,
+    errors: &mut E,
+) -> Result<u8, EngineFault>
+    ensures ok { IfOk result (IsWhole (out_tlp extent) (R.remaining reader.old) (R.remaining reader.new) (W.contents writer.old) (W.contents writer.new)) }
+    ensures err { OnErr result (IsPart (out_tlp extent) (R.remaining reader.old) (R.remaining reader.new) (W.contents writer.old) (W.contents writer.new)) }
+    ensures read { IfErr result (λ f. f ≡ EngineFault.Read → IsCaughtUp tlp_responses (new_state extent) (R.remaining reader.old) (R.remaining reader.new) (W.contents writer.old) (W.contents writer.new)) }
+{
+    reading_is_spelling();
+    history_grows_by_steps();
+    let completer = Completer::new(alloc, extent)?;
+    let reasoned = Reasoned::new(completer, PacketLines::Requests, errors);
+    run(alloc, reasoned, reader, writer)
 }
 
 /// Answers each line of the reader's input with a line: it holds the bytes of a request, which acts
@@ -241,10 +268,7 @@ pub fn run_tlp<R: Read, W: Write>(
     ensures err { OnErr result (IsPart (out_tlp extent) (R.remaining reader.old) (R.remaining reader.new) (W.contents writer.old) (W.contents writer.new)) }
     ensures read { IfErr result (λ f. f ≡ EngineFault.Read → IsCaughtUp tlp_responses (new_state extent) (R.remaining reader.old) (R.remaining reader.new) (W.contents writer.old) (W.contents writer.new)) }
 {
-    reading_is_spelling();
-    history_grows_by_steps();
-    let completer = Completer::new(alloc, extent)?;
-    run(alloc, completer, reader, writer)
+    run_tlp_with_reasons(alloc, extent, reader, writer, &mut sink())
 }
 
 /// An addition of 7 by the requester at port 1, and by that at port 2.

@@ -98,10 +98,10 @@ loop-rest-preserved c =
     let rest = c.loop-rest.rest.now in
     let count = c.loop-rest.count in
     let some = c.in-len8-up.len_at_least in
-    let pa = c.in_ok-bytes.ensures.some (2 * count) in
-    let pb = c.in_ok-bytes-2.ensures.some (2 * (count + 1)) in
-    let pc = c.in_ok-bytes-3.ensures.some (2 * (count + 2)) in
-    let pd = c.in_ok-bytes-4.ensures.some (2 * (count + 3)) in
+    let pa = c.in_ok-first.ensures.first (2 * count) in
+    let pb = c.in_ok-first.ensures.second (2 * (count + 1)) in
+    let pc = c.in_ok-third.ensures.first (2 * (count + 2)) in
+    let pd = c.in_ok-third.ensures.second (2 * (count + 3)) in
     record {
       read = read _ c.loop-rest.bytes rest count _ _ _ _ some h.room h.same pa pb pc pd h.read;
       even = even _ rest (2 * count) (2 * (count + 1)) (2 * (count + 2)) (2 * (count + 3)) _ _ _ _ some pa pb pc pd h.even;

@@ -1,4 +1,4 @@
-use Rattle.std.proofs.Common.{ℕ, List, [], Option, Some, None, Result, Ok, Err, IfSome, OnErr, sym, refl}
+use Rattle.std.proofs.Common.{ℕ, List, [], Option, Some, None, Result, Ok, Err, IfSome, OnErr, sym, refl, ◌∙◌}
 use Rattle.std.proofs.lemmas.List.{append-nil}
 use Rattle.std.proofs.lemmas.Result.{err_from_is_err_and}
 use Rattle.std.specs.Io.KnownBytes.{Appends, Consumes}
@@ -6,7 +6,7 @@ use Rattle.line_loop.specs.Run.{Run, IsBeginning, IsPart}
 use Rattle.tlp_engine.specs.Tlp.{out_tlp}
 use Rattle.std.proofs.lemmas.Result.{IfOk-weaker, IfErr-weaker}
 use Rattle.tlp_engine.proofs.Simulation.{same-runs, whole, part, caught-up}
-use Rattle.tlp_engine.proofs.tlp.run_tlp.Goals as goal
+use Rattle.tlp_engine.proofs.tlp.run_tlp_with_reasons.Goals as goal
 
 -- nothing read and nothing written
 nothing-done : {S : Type 0} (run : List ℕ → Run S) (u w : Option (List ℕ)) → IsPart run u u w w
@@ -51,14 +51,14 @@ returns-in_err-completer-clause-read g c =
 pub returns-clause-ok : goal.returns-clause-ok
 returns-clause-ok g c =
     let same = same-runs c.args.extent c.reading_is_spelling.ensures.spelled c.history_grows_by_steps.ensures.next c.history_grows_by_steps.ensures.none in
-    IfOk-weaker c.run.result _ _ (λ exit h. whole c.args.extent c.in_ok-completer.completer same c.in_ok-completer.ensures h) c.run.ensures.ok
+    IfOk-weaker c.run.result _ _ (λ exit h. whole c.args.extent c.new-reasoned.result same (c.new-reasoned.ensures ∙ c.in_ok-completer.ensures) h) c.run.ensures.ok
 
 pub returns-clause-err : goal.returns-clause-err
 returns-clause-err g c =
     let same = same-runs c.args.extent c.reading_is_spelling.ensures.spelled c.history_grows_by_steps.ensures.next c.history_grows_by_steps.ensures.none in
-    OnErr-weaker c.run.result (λ h. part c.args.extent c.in_ok-completer.completer same c.in_ok-completer.ensures h) c.run.ensures.err
+    OnErr-weaker c.run.result (λ h. part c.args.extent c.new-reasoned.result same (c.new-reasoned.ensures ∙ c.in_ok-completer.ensures) h) c.run.ensures.err
 
 pub returns-clause-read : goal.returns-clause-read
 returns-clause-read g c =
     let same = same-runs c.args.extent c.reading_is_spelling.ensures.spelled c.history_grows_by_steps.ensures.next c.history_grows_by_steps.ensures.none in
-    IfErr-weaker c.run.result _ _ (λ f h is. caught-up c.args.extent c.in_ok-completer.completer same c.in_ok-completer.ensures (h is)) c.run.ensures.read
+    IfErr-weaker c.run.result _ _ (λ f h is. caught-up c.args.extent c.new-reasoned.result same (c.new-reasoned.ensures ∙ c.in_ok-completer.ensures) (h is)) c.run.ensures.read

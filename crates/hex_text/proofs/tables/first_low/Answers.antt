@@ -1,0 +1,8 @@
+use Rattle.hex_text.proofs.HexLemmas.{first_low-at}
+use Rattle.hex_text.proofs.tables.first_low.Goals as goal
+
+pub returns-clause-value : goal.returns-clause-value
+returns-clause-value c = rw c.from.ensures (first_low-at c.args.digit c.ranges.digit.fits).0
+
+pub returns-clause-range : goal.returns-clause-range
+returns-clause-range c = rw c.from.ensures (first_low-at c.args.digit c.ranges.digit.fits).1
