@@ -18,8 +18,8 @@ _pciex() {
         --turns) words="" ;;
         *)
             case "$COMP_CWORD ${COMP_WORDS[1]}" in
-                "1 "*) words="tlp decode encode check search draw upgrade step chart generate run --help --version" ;;
-                "2 help") words="tlp decode encode check search draw upgrade step chart generate run" ;;
+                "1 "*) words="tlp decode encode check search draw upgrade step chart generate run help --help --version" ;;
+                "2 help") words="tlp decode encode check search draw upgrade step chart generate run help" ;;
                 *" tlp") words="--base --size --block --help" ;;
                 *" decode") words="--help" ;;
                 *" encode") words="--help" ;;

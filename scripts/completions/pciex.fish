@@ -11,6 +11,7 @@ complete -c pciex -n "__fish_use_subcommand; or __fish_seen_subcommand_from help
 complete -c pciex -n "__fish_use_subcommand; or __fish_seen_subcommand_from help" -a chart -d 'Draw what a script does on the links of a fabric'
 complete -c pciex -n "__fish_use_subcommand; or __fish_seen_subcommand_from help" -a generate -d 'Write a random stress script for \'step\''
 complete -c pciex -n "__fish_use_subcommand; or __fish_seen_subcommand_from help" -a run -d 'Count with worker threads over lossy links, and check the history'
+complete -c pciex -n "__fish_use_subcommand; or __fish_seen_subcommand_from help" -a help -d 'Print this message or the help of the given subcommand(s)'
 complete -c pciex -n "__fish_use_subcommand" -l help -d 'Print help'
 complete -c pciex -n "__fish_use_subcommand" -l version -d 'Print version'
 complete -c pciex -n "__fish_seen_subcommand_from tlp" -l base -x -d 'First address of the memory, 1 to 16 hexadecimal digits, a multiple of 80h'

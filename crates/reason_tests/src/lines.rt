@@ -52,7 +52,23 @@ fn is_told(alloc: Global, engine: Engine, input: &[u8], want: &str) -> bool {
 }
 
 /// What an engine reads, and what it tells.
-const ROWS: [(Engine, &str, &str); 49] = [
+const ROWS: [(Engine, &str, &str); 52] = [
+    // The byte enables of one DW, and of two.
+    (
+        Engine::Step,
+        "fabric 1 0 4096\nsubmit 1 write 40 F F 01020304\n",
+        "pciex: line 2: 'submit 1 write 40 F F 01020304' is refused: Profile ByteEnables (Last DW BE must be 0 for 1 DW)\n",
+    ),
+    (
+        Engine::Encode,
+        "read 40 1 F F from 0100 tag 05\n",
+        "pciex: line 1: 'read 40 1 F F from 0100 tag 05' is refused: ByteEnables (Last DW BE must be 0 for 1 DW)\n",
+    ),
+    (
+        Engine::Encode,
+        "write 40 F 0 0102030405060708 from 0100 tag 05\n",
+        "pciex: line 1: 'write 40 F 0 0102030405060708 from 0100 tag 05' is refused: ByteEnables (the byte enables break the rule for this number of DW at this address)\n",
+    ),
     (
         Engine::Step,
         "fabric 1 0 4096\ntransmit lanes\n",
@@ -201,7 +217,7 @@ const ROWS: [(Engine, &str, &str); 49] = [
     (
         Engine::Check,
         "",
-        "pciex: line 1: the text ends where the head is expected (pciex-trace 1, pciex-trace 2)\n",
+        "pciex: line 1: the text ends where the head is expected (pciex-trace 1, pciex-trace 2; step --trace prints one)\n",
     ),
     (
         Engine::Check,

@@ -3,7 +3,10 @@ use diagnostics::Reason;
 use operation_text::{Expected, Misfit, cut};
 use trace_text::trace_misfit;
 
-const HEAD: Expected = Expected::Of("the head", "pciex-trace 1, pciex-trace 2");
+const HEAD: Expected = Expected::Of(
+    "the head",
+    "pciex-trace 1, pciex-trace 2; step --trace prints one",
+);
 
 const MEMORY: Expected = Expected::Of("the memory's line", "memory");
 
