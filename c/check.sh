@@ -220,6 +220,7 @@ fi
 # The device in QEMU: test.sh says what it leaves out.
 passes "the device in QEMU fails" env "LINK=$folder/libpciex_c.a $kit/liblibc_c.a" sh c/qemu/test.sh "$room"
 left_out="$left_out$(sed -n 's/^left out: /, /p' "$room/log" | tr -d '\n')"
+say "the device in QEMU: $(sed -n 's/^qemu: //p' "$room/log" | tr '\n' ';')"
 
 # ---- what the pages show
 

@@ -38,6 +38,7 @@ entries() {
         END { show() }'
 }
 entries "" > "$room/table"
+# shellcheck disable=SC2013 # names of subcommands have no spaces
 for name in $(cut -f 1 "$room/table" | grep .); do
     [ "$name" = help ] || entries "$name" >> "$room/table"
 done

@@ -40,18 +40,18 @@ awk -v counted="$room/counted" '
     END { for (name in value) { print "figures: docs/figures.txt has no line " name > "/dev/stderr"; missing = 1 } exit missing }
 ' $figures > "$room/figures" || exit 1
 
-# put FILE NEW: the new text takes the place of the file, or the lines that differ are reported.
+# put FILE NEW: the new text takes the place of the file, or it is reported that it differs.
 put() {
     cmp -s "$1" "$2" && return
     if [ -z "$check" ]; then
         cat "$2" > "$1"
         echo "figures: $1 is written anew"
     else
-        echo "figures: $1 has other figures (<) than those that hold (>):"
-        diff "$1" "$2" | grep '^[<>]'
+        echo "figures: $1 has other figures than those that hold: sh scripts/figures.sh writes them"
         failed=1
     fi
 }
+[ -z "$check" ] || diff $figures "$room/figures" | sed -n 's/^</figures: the file has/p; s/^>/figures: there are/p'
 put $figures "$room/figures"
 cited=0
 for page in README.md CONTRIBUTING.md CHANGELOG.md docs/*.md; do

@@ -3,6 +3,7 @@
 # compiles a C program with the flags of pkg-config alone, once against the static library and once against the shared
 # object, runs the Python package and a SystemVerilog testbench, reads the manual page, and completes words in bash. Program
 # and library were built before. Fails if one of them fails. The last line says what was left out for lack of a tool.
+# shellcheck disable=SC2016 # words of inner shells
 cd "$(dirname "$0")/.." || exit 1
 say() { echo "installed: $*"; }
 if [ ! -e crates/pciex_c/out/libpciex_c.a ] || ! command -v cc > /dev/null; then

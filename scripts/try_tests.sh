@@ -10,6 +10,7 @@
 #     run_tests, mixed::mixed_operations_are_explained: 20 operations each in place of 200
 set -eu
 cd "$(dirname "$0")/.."
+# shellcheck disable=SC2046 # names of crates have no spaces
 [ $# -gt 0 ] || set -- $(grep -rls --include='*.rt' '#\[test\]' crates/*/src | cut -d / -f 2 | sort -u)
 begin=$(date +%s)
 copy=$(mktemp -d)

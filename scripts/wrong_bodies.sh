@@ -5,6 +5,7 @@
 # edits of crates/CRATE/must-fail are tried by the gate. The last line counts the edits.
 set -eu
 cd "$(dirname "$0")/.."
+# shellcheck disable=SC2046 # names of crates have no spaces
 [ $# -gt 0 ] || set -- $(cd wrong-bodies && ls)
 for crate in "$@"; do
     [ -d "wrong-bodies/$crate" ] || { echo "wrong_bodies.sh: no folder wrong-bodies/$crate" >&2; exit 2; }

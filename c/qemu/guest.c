@@ -205,7 +205,7 @@ static void act(struct thread *it, struct event event)
 
 /* ---- which accesses */
 
-/* Draws the operand, with the thread's number on top, and takes what was seen last as compare value in half of the draws. */
+/* Draws the operand, with the thread's number on top. What was seen last is the compare value in half of the draws. */
 static void draw_operands(struct thread *it, struct event *event)
 {
     for (uint32_t i = 0; i < event->length; i++) {
@@ -419,7 +419,8 @@ static bool find(void)
     for (int i = 0; i < count && found < functions; i++) {
         char folder[300];
         snprintf(folder, sizeof folder, "%s/%s", top, all[i]->d_name);
-        if (has_number(folder, "vendor", VENDOR_ID) && has_number(folder, "device", DEVICE_ID) && !take(folder, found++)) {
+        const bool is_ours = has_number(folder, "vendor", VENDOR_ID) && has_number(folder, "device", DEVICE_ID);
+        if (is_ours && !take(folder, found++)) {
             return false;
         }
     }

@@ -85,14 +85,19 @@ static bool set_option(struct options *options, const char *name, const char *va
     return false;
 }
 
-/* The first option whose value is out of its range, or NULL. */
+/* The first option whose value is out of its range, with the range, or NULL. */
 static const char *wrong_range(const struct options *it)
 {
-    return it->ports < 1 || it->ports > MOST_PORTS                                          ? "--ports: 1 to 7"
-           : it->size < 4096 || it->size > 1 << 20 || (it->size & (it->size - 1)) != 0      ? "--size: a power of two, 4096 to 1048576"
-           : it->block != 64 && it->block != 128                                            ? "--block: 64 or 128"
-           : it->seconds < 1 || it->seconds > 1000000                                       ? "--seconds: 1 to 1000000"
-                                                                                            : NULL;
+    if (it->ports < 1 || it->ports > MOST_PORTS) {
+        return "--ports: 1 to 7";
+    }
+    if (it->size < 4096 || it->size > 1 << 20 || (it->size & (it->size - 1)) != 0) {
+        return "--size: a power of two, 4096 to 1048576";
+    }
+    if (it->block != 64 && it->block != 128) {
+        return "--block: 64 or 128";
+    }
+    return it->seconds < 1 || it->seconds > 1000000 ? "--seconds: 1 to 1000000" : NULL;
 }
 
 /* Reads the program's words. False, with a message, if one is wrong. */
@@ -292,7 +297,8 @@ static bool connect_port(int *ours, int *theirs)
     }
     *ours = pair[0];
     *theirs = pair[1];
-    return fcntl(*ours, F_SETFD, FD_CLOEXEC) == 0 && setsockopt(*ours, SOL_SOCKET, SO_RCVTIMEO, &limit, sizeof limit) == 0 &&
+    return fcntl(*ours, F_SETFD, FD_CLOEXEC) == 0 &&
+           setsockopt(*ours, SOL_SOCKET, SO_RCVTIMEO, &limit, sizeof limit) == 0 &&
            setsockopt(*ours, SOL_SOCKET, SO_SNDTIMEO, &limit, sizeof limit) == 0;
 }
 

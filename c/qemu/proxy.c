@@ -33,7 +33,8 @@ enum { HEAD = 16 };
 static void close_descriptors(struct msghdr *part)
 {
     for (struct cmsghdr *it = CMSG_FIRSTHDR(part); it; it = CMSG_NXTHDR(part, it)) {
-        for (size_t at = CMSG_LEN(0); it->cmsg_type == SCM_RIGHTS && at + sizeof(int) <= it->cmsg_len; at += sizeof(int)) {
+        const size_t end = it->cmsg_type == SCM_RIGHTS ? it->cmsg_len : 0;
+        for (size_t at = CMSG_LEN(0); at + sizeof(int) <= end; at += sizeof(int)) {
             int descriptor;
             memcpy(&descriptor, (char *)it + at, sizeof descriptor);
             close(descriptor);

@@ -68,7 +68,7 @@ class Machine:
         self.call("writel", box, offset)
         self.call("writel", box + BOX_GO, kind | len(operand) << 8)
         status = self.call("readl", box + BOX_GO)
-        data = b"".join(self.call("readl", box + BOX_DATA + place).to_bytes(4, "little") for place in range(0, 16, 4))
+        data = b"".join(self.call("readl", box + BOX_DATA + it).to_bytes(4, "little") for it in range(0, 16, 4))
         words = [it.hex().upper() for it in (compare, operand) if it]
         reply = {0: "data " + data[: len(operand)].hex().upper(), 1: "ur", 4: "ca"}.get(status)
         if reply:
@@ -84,7 +84,8 @@ def drive(machine, config):
         machine.config(port, 0x04, 2)
     space = b"".join(machine.config(ports[0], offset).to_bytes(4, "little") for offset in range(0, 256, 4))
     with open(config, "w") as file:
-        print("00:02.0 memory", *(f"{at:02x}: {space[at : at + 16].hex(' ')}" for at in range(0, 256, 16)), sep="\n", file=file)
+        lines = [f"{at:02x}: {space[at : at + 16].hex(' ')}" for at in range(0, 256, 16)]
+        print("00:02.0 memory", *lines, sep="\n", file=file)
     seen = [len(ports), machine.access(1, 0x40, 4)]
     machine.access(1, 0x40, 4, 7)
     machine.access(1, 0x41, 1, 0xAB)
@@ -97,7 +98,7 @@ def drive(machine, config):
     print(machine.atomic(1, ADD, 0x1000, bytes([5, 0, 0, 0])))
     print(machine.atomic(1, ADD, 0x42, bytes([5, 0, 0, 0])))
     print(*map("{:X}".format, [machine.access(1, 0x4C, 4), machine.access(2, 0x40, 1)]))
-    # The words that aren't served by bytes: 8 bytes are two accesses of qtest.
+    # 8 bytes are two accesses of qtest.
     machine.call("writeq", PLACE + 0x80, 0x1122334455667788)
     machine.note(1, "write 80 F 0 88776655")
     machine.note(1, "write 84 F 0 44332211")
@@ -115,9 +116,9 @@ def main():
         listener.bind(name)
         listener.listen()
         listener.settimeout(SECONDS)
-        command += ["--", "qemu-system-x86_64", "-M", "pc,memory-backend=ram", "-m", "64M", "-nodefaults", "-display", "none",
+        command += ["--", "qemu-system-x86_64", "-M", "pc,memory-backend=ram", "-m", "64M", "-nodefaults",
                     "-object", "memory-backend-memfd,id=ram,size=64M,share=on", "-accel", "tcg", "-S", "-no-reboot",
-                    "-qtest", f"unix:{name}", "-qtest-log", "/dev/null"]
+                    "-display", "none", "-qtest", f"unix:{name}", "-qtest-log", "/dev/null"]
         device = subprocess.Popen(command)
         try:
             connection = listener.accept()[0]

@@ -26,7 +26,14 @@ build() {
         "$here/records.c" $LINK || fail "$name isn't built"
 }
 build pciex_qemu -O2
-build sanitized -O1 -g -fsanitize=address,undefined -fno-sanitize-recover=all
+programs_here=./pciex_qemu
+echo 'int main(void) { return 0; }' > probe.c
+if cc -fsanitize=address,undefined -o probe probe.c 2> errors && ./probe; then
+    build sanitized -O1 -g -fsanitize=address,undefined -fno-sanitize-recover=all
+    programs_here="./pciex_qemu ./sanitized"
+else
+    echo "left out: the device in QEMU under the sanitizers"
+fi
 
 # refuses TEXT WORD..: whether it ends with status 2 and this text, and leaves no process that wrote its number to `left`.
 refuses() {
@@ -72,7 +79,7 @@ without_qemu() {
     refuses "ended by signal 15" -- sh -c 'echo $PPID > ours; echo $$ > left; exec sleep 1000'
     wait
 }
-for program in ./pciex_qemu ./sanitized; do
+for program in $programs_here; do
     without_qemu
 done
 
@@ -115,7 +122,7 @@ if command -v tshark > /dev/null; then
 else
     echo "left out: the dissector of TLPs (tshark)"
 fi
-drives ./sanitized
+[ ! -x sanitized ] || drives ./sanitized
 if command -v valgrind > /dev/null; then
     drives valgrind -q --error-exitcode=99 --leak-check=full ./pciex_qemu
 fi

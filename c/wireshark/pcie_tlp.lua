@@ -98,13 +98,17 @@ end
 
 -- ---- faults of form, in the order of docs/formats.md
 
+-- First DW BE that enable bytes up to the top of the DW without a gap, and Last DW BE from its bottom.
+local tops = { [8] = true, [12] = true, [14] = true, [15] = true }
+local bottoms = { [1] = true, [3] = true, [7] = true, [15] = true }
+
 -- Whether First and Last DW BE keep their rule, for so many DW at an address.
 local function are_enables(first, last, dw, address_low)
     if dw == 1 then
         return last == 0
     end
-    local run = (first == 8 or first == 12 or first == 14 or first == 15) and (last == 1 or last == 3 or last == 7 or last == 15)
-    return first ~= 0 and last ~= 0 and (run or (dw == 2 and address_low % 8 == 0))
+    local is_run = tops[first] and bottoms[last]
+    return first ~= 0 and last ~= 0 and (is_run or (dw == 2 and address_low % 8 == 0))
 end
 
 -- The fault of a TLP whose header is there, or nil.
@@ -241,8 +245,8 @@ function tlp.dissector(buffer, pinfo, tree)
     show_notes(all, buffer(1, 1):uint(), buffer(2, 1):uint(), t)
     local at = t.is_completion and 8 or 4
     local id = string.format("%04X", buffer(at, 2):uint())
-    local high_tag = buffer(1, 1):uint() % 256 - buffer(1, 1):uint() % 128 + buffer(1, 1):uint() % 16 - buffer(1, 1):uint() % 8
-    local key = id .. buffer(at + 2, 1):uint() + 256 * high_tag
+    local tag, high = buffer(at + 2, 1):uint(), buffer(1, 1):uint()
+    local key = string.format("%s %d %d %d", id, high >= 128 and 1 or 0, high % 16 >= 8 and 1 or 0, tag)
     if not fault and t.is_completion then
         note_completion(pinfo, key, t.is_last)
     elseif not fault and t.kind ~= "MWr" then
@@ -251,7 +255,7 @@ function tlp.dissector(buffer, pinfo, tree)
     show_links(pinfo, all, t.is_completion)
     pinfo.cols.src = t.is_completion and "memory" or id
     pinfo.cols.dst = t.is_completion and id or "memory"
-    pinfo.cols.info = string.format("%s, tag %02X", text, buffer(at + 2, 1):uint())
+    pinfo.cols.info = string.format("%s, tag %02X", text, tag)
 end
 
 DissectorTable.get("wtap_encap"):add(wtap.USER0, tlp)

@@ -70,10 +70,9 @@ abbrev pub run_app : App
 run_app =
     with_rule (with_rule (with_links (with_rule (with_rule (new_app (codes "run")) (required (codes "requesters"))) (required (codes "each")))) (option (codes "turns"))) (flag (codes "progress"))
 
+-- the program, with `help` among its subcommands, which the parser answers
 abbrev pub top_app : App
-top_app = record (new_app (codes "pciex")) {
-  top = record ((new_app (codes "pciex")).top) { has_version = true; subcommand_required = true; disable_help_subcommand = true };
-}
+top_app = record (new_app (codes "pciex")) { top = record ((new_app (codes "pciex")).top) { has_version = true; subcommand_required = true } }
 
 -- with the subcommands for packets, and with those for traces
 abbrev pub with_packets : App → App

@@ -113,7 +113,7 @@ fn search_command<'a>(alloc: Global) -> Result<Command<'a>, AllocError>
     ensures globals { IfOk result (λ c. (out-Command c).has_globals ≡ false) }
 {
     let search = plain_command(alloc, "search", texts::SEARCH);
-    let limit = with_arg(search, option_of(alloc, "limit", "STATES", texts::LIMIT))?;
+    let limit = with_arg(search, option_of(alloc, "limit", "CHOICES", texts::LIMIT))?;
     with_arg(limit, flag_of(alloc, "progress", texts::STAGES))
 }
 
@@ -180,17 +180,17 @@ fn run_command<'a>(alloc: Global) -> Result<Command<'a>, AllocError>
     with_arg(turns, flag_of(alloc, "progress", texts::PROGRESS))
 }
 
-/// The program without subcommands.
-fn top_command<'a>(alloc: Global) -> Command<'a>
-    ensures app { app_of result ≡ top_app }
-    ensures globals { (out-Command result).has_globals ≡ false }
+/// The program without subcommands but `help`. Its name in a usage line is `pciex`, whatever its file is called.
+fn top_command<'a>(alloc: Global) -> Result<Command<'a>, AllocError>
+    ensures app { IfOk result (λ c. app_of c ≡ top_app) }
+    ensures globals { IfOk result (λ c. (out-Command c).has_globals ≡ false) }
 {
-    Command::new(alloc, "pciex")
+    let command = Command::new(alloc, "pciex")
         .about(texts::ABOUT)
         .after_help(texts::AFTER)
         .version("0.2.0")
-        .subcommand_required(true)
-        .disable_help_subcommand(true)
+        .subcommand_required(true);
+    command.bin_name("pciex")
 }
 
 /// The program with the subcommands for packets.
@@ -221,7 +221,8 @@ pub(crate) fn grammar<'a>(alloc: Global) -> Result<Command<'a>, AllocError>
     ensures app { IfOk result (λ c. app_of c ≡ the_app) }
     ensures globals { IfOk result (λ c. (out-Command c).has_globals ≡ false) }
 {
-    let packets = with_packets(alloc, top_command(alloc))?;
+    let top = top_command(alloc)?;
+    let packets = with_packets(alloc, top)?;
     let traces = with_traces(alloc, packets)?;
     let step = with_made(traces, step_command(alloc))?;
     let chart = with_made(step, chart_command(alloc))?;

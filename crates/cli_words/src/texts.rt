@@ -21,7 +21,8 @@ standard output, and the reasons of faults and refusals on standard error.
 
 Exit status:
   0  success
-  1  a fault, a flaw, a refusal or a halt was printed, or reading, writing or memory failed
+  1  a fault, a flaw, a refusal, 'none' or a halt was printed, or reading, writing or memory
+     failed
   2  wrong arguments
   3  a worker of 'run' used up its turns, or 'search' its limit";
 
@@ -65,8 +66,9 @@ packet in hexadecimal digits, or 'fault' and the reason.",
 pub(crate) static CHECK: Help = Help {
     about: "Check whether a history explains a trace",
     long: "Checks whether a history explains a trace: whether each requester received what one
-sequential memory returns, with each request at one point between its submission and its
-answer, and posted writes in order.
+sequential memory returns, with each request at one point between the n of its submission
+and that of its answer, and posted writes in order. The n of a record is the number of
+requests that had acted by then; it is taken as true.
 
 The input is one trace with its history, as 'step --trace' prints it. The result is one
 line: 'ok'; 'flaw' with the number, the name and the place of the first flaw; or 'fault'

@@ -4,7 +4,7 @@ ghost use Rattle.diagnostics.specs.Told.{IsReasonTold, IsReasonBegun};
 
 use crate::telling::{Reason, Shown};
 use line_loop::EngineFault;
-use operation_text::Misfit;
+use operation_text::{Misfit, cut, next_word};
 use std::io::Write;
 
 /// What refusals and faults mean, by their names.
@@ -60,8 +60,31 @@ const MEANINGS: [(&str, &str); 13] = [
     ),
 ];
 
-/// What the name means, nothing where it says it all.
-fn meaning_of(name: &[u8]) -> &'static str {
+/// What `ByteEnables` means of one DW.
+const LAST_OF_ONE: &str = "Last DW BE must be 0 for 1 DW";
+
+/// Whether the line is of a read or a write of one DW, none if it is of neither.
+fn is_of_one_dw(line: &[u8]) -> Option<bool> {
+    let (mut word, mut rest) = cut(line);
+    if word == b"submit".as_slice() {
+        let (_requester, operation) = next_word(rest)?;
+        (word, rest) = next_word(operation)?;
+    }
+    let (_address, rest) = next_word(rest)?;
+    let (count_or_first, rest) = next_word(rest)?;
+    if word == b"read".as_slice() {
+        return Some(count_or_first == b"1".as_slice());
+    }
+    let (_last, rest) = next_word(rest)?;
+    let (data, _end) = next_word(rest)?;
+    Some(word == b"write".as_slice() && data.len() == 8)
+}
+
+/// What the name means for the line, nothing where it says it all.
+fn meaning_of(line: &[u8], name: &[u8]) -> &'static str {
+    if name == b"ByteEnables".as_slice() && is_of_one_dw(line) == Some(true) {
+        return LAST_OF_ONE;
+    }
     for meaning in &MEANINGS {
         if name == meaning.0.as_bytes() {
             return meaning.1;
@@ -72,13 +95,13 @@ fn meaning_of(name: &[u8]) -> &'static str {
 
 /// Adds that the line is refused for what that name says.
 fn put_refused(line: &[u8], name: &[u8], reason: &mut Reason) {
-    let (line, told) = (Shown(line), Shown(name));
-    reason.put(format_args!(": '{line}' is refused"));
+    let (shown, told) = (Shown(line), Shown(name));
+    reason.put(format_args!(": '{shown}' is refused"));
     if name.is_empty() {
         return;
     }
     reason.put(format_args!(": {told}"));
-    let meaning = meaning_of(name.strip_prefix(b"Profile ").unwrap_or(name));
+    let meaning = meaning_of(line, name.strip_prefix(b"Profile ").unwrap_or(name));
     if !meaning.is_empty() {
         reason.put(format_args!(" ({meaning})"));
     }

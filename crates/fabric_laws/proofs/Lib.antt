@@ -20,3 +20,4 @@ pub mod Requests
 pub mod Events
 pub mod Sized
 pub mod Routed
+pub mod Clocked

@@ -1,14 +1,18 @@
--- The history of a whole whose lanes hold no request has as many entries as were submitted.
+-- The history of a whole whose lanes hold no request has as many entries as were submitted, and so many records that
+-- belong to it are submissions.
 use Rattle.std.proofs.Common.{◌≡◌, ◌≢◌, ℕ, zero, suc, ◌+◌, ◌<◌, ◌≤◌, ◌==◌, ◌&&◌, List, [], ◌∷◌, ◌++◌, length, map, get_or, refl, sym, ap, ◌∙◌, subst, arith, eq-eqb}
 use Rattle.std.proofs.lemmas.Bool.{ne_eqb}
 use native.Mathlib.Decide.{ℕ_discrete, dec_lt}
 use mathlib.Core.Logic.{dite}
-use Rattle.history_check.specs.Trace.{is_request}
+use Rattle.tlp_core.specs.declared.operation.Op.{Op}
+use Rattle.history_check.specs.declared.Record.{Record}
+use Rattle.history_check.specs.declared.Record.TheVariants.{Sub, Ans}
+use Rattle.history_check.specs.Trace.{is_request, submissions}
 use Rattle.fabric_laws.specs.Lists.{Each, one_if}
 use Rattle.fabric_laws.specs.ListFacts.{each_at, get_before, count_nil}
 use Rattle.fabric_laws.specs.Whole.{Entry, RequesterView, Whole, view, path, up_of, requester_of, entry_of, unused}
 use Rattle.fabric_laws.specs.Sound.{times, Sound}
-use Rattle.fabric_laws.specs.Trace.{submitted_by}
+use Rattle.fabric_laws.specs.Trace.{Belongs, submitted_by, submission_count}
 use Rattle.fabric_laws.proofs.Lists.{count_cons}
 use Rattle.fabric_laws.proofs.Numbers.{numbers_below}
 use Rattle.fabric_laws.proofs.Legal.{quiet_acted}
@@ -109,4 +113,33 @@ quiet_total p s a b =
     (known p.requesters e.requester e.number below, below)))
     ∙ (sum_same (λ i. sum_below (λ k. times i k p.history) (requester_of p i).next) (λ i. (requester_of p i).next) (length p.requesters)
     (λ i l. sum_same (λ k. times i k p.history) (λ k. 1) (requester_of p i).next (λ k m. quiet_acted i (view p i) (s i) a (b i) k m) ∙ sum_ones (requester_of p i).next)
+    ∙ total_next p.requesters)
+
+-- ---- the records
+
+own_count : (i j k n : ℕ) (op : Op) (rs : List Record) → length (submissions (Sub j k op n ∷ rs) i) ≡ one_if (i == j) + length (submissions rs i)
+own_count i j k n op rs = dite (ℕ_discrete i j)
+    (λ is. rw (eq-eqb i j is) (omega arith))
+    (λ ne. rw (ne_eqb i j ne) (omega arith))
+
+own_one : (j k n : ℕ) (op : Op) (rs : List Record) → length (submissions (Sub j k op n ∷ rs) j) ≡ 1 + length (submissions rs j)
+own_one j k n op rs = own_count j j k n op rs ∙ ap (λ (x : ℕ). x + length (submissions rs j)) (is_one j j refl)
+
+records_counted : (n : ℕ) (rs : List Record) → ((i : ℕ) → n ≤ i → length (submissions rs i) ≡ 0) → sum_below (λ i. length (submissions rs i)) n ≡ submission_count rs
+records_counted n [] none = sum_zero (λ i. 0) n (λ i. refl)
+records_counted n (Ans j k reply m ∷ rs) none = records_counted n rs none
+records_counted n (Sub j k op m ∷ rs) none =
+    let inside : j < n = dite (dec_lt j n)
+    (λ (b : j < n). b)
+    (λ no. absurd (let z : length (submissions (Sub j k op m ∷ rs) j) ≡ 0 = none j (omega arith) in let o = own_one j k m op rs in omega (arith, z, o))) in
+    let rest : (i : ℕ) → n ≤ i → length (submissions rs i) ≡ 0 = λ i l. let z : length (submissions (Sub j k op m ∷ rs) i) ≡ 0 = none i l in let o = own_count i j k m op rs in omega (arith, z, o) in
+    sum_same (λ i. length (submissions (Sub j k op m ∷ rs) i)) (λ i. one_if (i == j) + length (submissions rs i)) n (λ i l. own_count i j k m op rs)
+    ∙ (sum_add (λ i. one_if (i == j)) (λ i. length (submissions rs i)) n
+    ∙ (ap (λ (x : ℕ). x + sum_below (λ i. length (submissions rs i)) n) (sum_at j n inside)
+    ∙ ap (λ (x : ℕ). 1 + x) (records_counted n rs rest)))
+
+pub belongs_counted : (p : Whole) (rs : List Record) → Belongs p rs → submission_count rs ≡ submitted_by p.requesters
+belongs_counted p rs b =
+    sym (records_counted (length p.requesters) rs (λ i l. (b.made i).spent ∙ ap (λ (q : RequesterView). q.next) (past_end p.requesters i l)))
+    ∙ (sum_same (λ i. length (submissions rs i)) (λ i. (requester_of p i).next) (length p.requesters) (λ i l. (b.made i).spent)
     ∙ total_next p.requesters)

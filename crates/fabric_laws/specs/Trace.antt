@@ -4,7 +4,7 @@ use Rattle.std.specs.List.{list_any}
 use Rattle.tlp_core.specs.declared.operation.Op.{Op}
 use Rattle.tlp_core.specs.Operation.{is_posted}
 use Rattle.history_check.specs.declared.Record.{Record}
-use Rattle.history_check.specs.declared.Record.TheVariants.{Sub}
+use Rattle.history_check.specs.declared.Record.TheVariants.{Sub, Ans}
 pub use Rattle.history_check.specs.Flaws.{moment}
 use Rattle.history_check.specs.Trace.{submissions, IsNumbered, answers_to, stands, IsLinear}
 use Rattle.fabric_laws.specs.Lists.{Each}
@@ -20,6 +20,12 @@ pub record IsMade (i : ℕ) (v : View) (ops : List Op) : Type 0 where
 abbrev pub submitted_by : List RequesterView → ℕ
 submitted_by [] = 0
 submitted_by (q ∷ qs) = q.next + submitted_by qs
+
+-- how many of the records are submissions
+abbrev pub submission_count : List Record → ℕ
+submission_count [] = 0
+submission_count (Sub i k op n ∷ rs) = 1 + submission_count rs
+submission_count (Ans i k reply n ∷ rs) = submission_count rs
 
 abbrev pub IsRising : List Record → Type 0
 IsRising rs = (a b : ℕ) (r s : Record) → a ≤ b → slice_get rs a ≡ Some r → slice_get rs b ≡ Some s → moment r ≤ moment s

@@ -11,10 +11,11 @@ ghost use Rattle.lane_ends.specs.Steps.{LaneEndsView};
 ghost use Rattle.lane_core.specs.Calls.{content};
 ghost use Rattle.history_check.specs.declared.Record.{Record};
 ghost use Rattle.history_check.specs.declared.Record.TheVariants.{Sub, Ans};
+ghost use Rattle.history_check.specs.Clocks.{IsClocked};
 ghost use Rattle.history_check.specs.Trace.{Explains, IsLegal, answers_to, submissions};
 ghost use Rattle.fabric_laws.specs.Whole.{Whole, MarkedPacket, view, memory_of, up_of, down_of, requester_of, open_number};
 ghost use Rattle.fabric_laws.specs.Sound.{Sound, times};
-ghost use Rattle.fabric_laws.specs.Trace.{Belongs, IsMade, submitted_by};
+ghost use Rattle.fabric_laws.specs.Trace.{Belongs, IsMade, submitted_by, submission_count};
 ghost use Rattle.fabric_laws.specs.Steps.{Step, Run};
 ghost use Rattle.fabric_laws.specs.New.{IsNew, IsNewFabric};
 ghost use Rattle.fabric_laws.specs.Expected.{IsExpected};
@@ -35,13 +36,16 @@ pub fn each_step_keeps_it_sound()
 
 /// Whatever steps a sound fabric takes, its history only grows, and the records so far, with those
 /// of the steps behind them, belong to it; and the history of a sound fabric explains all records
-/// that belong to it.
+/// that belong to it, whose `n` are those of a history that grew, and of which as many are
+/// submissions as its requesters submitted operations.
 pub fn the_trace_belongs()
     ensures new { (p : Whole) → IsNew p → Belongs p [] }
     ensures run { (p p' : Whole) (rs ss : List Record) → Sound p → Belongs p rs → Run p p' ss → Belongs p' (rs ++ ss) }
     ensures sound { (p p' : Whole) (rs : List Record) → Sound p → Run p p' rs → Sound p' }
     ensures begins { (p p' : Whole) (rs : List Record) → Sound p → Run p p' rs → (new : List Entry) × (p'.history ≡ p.history ++ new) }
     ensures explained { (p : Whole) (rs : List Record) → Sound p → Belongs p rs → Explains (record { memory = memory_of p; records = rs }) }
+    ensures clocked { (p : Whole) (rs : List Record) → Belongs p rs → IsClocked (record { memory = memory_of p; records = rs }) }
+    ensures counted { (p : Whole) (rs : List Record) → Belongs p rs → submission_count rs ≡ submitted_by p.requesters }
 {}
 
 /// A new fabric by its parts is new as a whole, and its packets, of which there are none, have their

@@ -7,7 +7,7 @@ use Rattle.cli_words.proofs.subcommands.grammar.Goals as goal
 pub returns-clause-app : goal.returns-clause-app
 unfolding the_app
 returns-clause-app c =
-    let packets_added = c.in_ok-packets.ensures.app ∙ ap (λ (a : App). with_packets a) c.top_command.ensures.app in
+    let packets_added = c.in_ok-packets.ensures.app ∙ ap (λ (a : App). with_packets a) c.in_ok-top.ensures.app in
     let traces_added = c.in_ok-traces.ensures.app ∙ ap (λ (a : App). with_traces a) packets_added in
     let step_added = c.in_ok-step.ensures.app step_app c.step_command.ensures.app ∙ ap (λ (a : App). with_subcommand a step_app.top) traces_added in
     let chart_added = c.in_ok-chart.ensures.app chart_app c.chart_command.ensures.app ∙ ap (λ (a : App). with_subcommand a chart_app.top) step_added in
