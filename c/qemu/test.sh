@@ -40,7 +40,7 @@ refuses() {
     text=$1
     shift
     rm -f left
-    timeout 60 "$program" "$@" > out 2> errors < /dev/null
+    timeout 120 "$program" "$@" > out 2> errors < /dev/null
     status=$?
     [ $status -eq 2 ] || fail "status $status of $program $*: $(cat errors)"
     grep -qF "pciex_qemu: $text" errors || fail "$program $* says: $(cat errors)"
@@ -74,7 +74,8 @@ without_qemu() {
             printf "\5\0\0\0\0\0\0\0\30\0\0\0\0\0\0\0\0\0\0\0\0\0\0\0\0\0\0\0\0\0\0\0\4\0\0\0\1\0\0\0"
         done
         exec sleep 1000'
-    (sleep 1; kill "$(cat ours)") &
+    rm -f ours
+    (until [ -s ours ]; do sleep 0.1; done; kill "$(cat ours)") &
     # shellcheck disable=SC2016
     refuses "ended by signal 15" -- sh -c 'echo $PPID > ours; echo $$ > left; exec sleep 1000'
     wait
