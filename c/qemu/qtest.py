@@ -13,7 +13,7 @@ import subprocess
 import sys
 import tempfile
 
-SECONDS = 60
+SECONDS = 120  # a limit for each wait
 PLACE = 0xE0000000  # BAR 0 of the first function; its BAR 1 and the next function's BARs follow, 10000h apart
 BOX_GO, BOX_OPERAND, BOX_COMPARE, BOX_DATA = 0x08, 0x10, 0x20, 0x30  # of device.h
 ADD, SWAP, CAS = 1, 2, 3

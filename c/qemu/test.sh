@@ -15,6 +15,7 @@ fail() {
     exit 1
 }
 cd "$room" || exit 1
+exec 3>&- 4>&- 5>&- 6>&- 7>&- 8>&- 9>&-
 began=$(date +%s)
 
 # build NAME WORD..: the program under this name, with these words for the compiler.
@@ -40,15 +41,17 @@ refuses() {
     text=$1
     shift
     rm -f left
-    timeout 60 "$program" "$@" > out 2> errors < /dev/null
+    timeout 120 "$program" "$@" > out 2> errors < /dev/null
     status=$?
     [ $status -eq 2 ] || fail "status $status of $program $*: $(cat errors)"
     grep -qF "pciex_qemu: $text" errors || fail "$program $* says: $(cat errors)"
     [ ! -e left ] || ! kill -0 "$(cat left)" 2> /dev/null || fail "$program $* leaves a process"
 }
 
-# A process stands for QEMU: fd 4 is its end of the first function's socket.
+# A shell stands for QEMU: its last word ends with the number of its end of the function's socket.
+# shellcheck disable=SC2016
 without_qemu() {
+    to_socket='echo $$ > left; eval "exec >&${1##*=}";'
     refuses "no command behind --"
     refuses "no command behind --" --ports 1 --
     refuses "'--port 1' is no option" --port 1 -- true
@@ -66,16 +69,16 @@ without_qemu() {
         refuses "/dev/full can't be written: No space left on device" $option /dev/full -- true
     done
     refuses "QEMU ran for more than 1 seconds" --seconds 1 -- sh -c 'echo $$ > left; exec sleep 1000'
-    refuses "QEMU sent a message of" -- sh -c 'echo $$ > left; printf 0123456789abcdef >&4; exec sleep 1000'
-    refuses "QEMU stopped in the middle of a message" -- sh -c 'printf 01234 >&4'
+    refuses "QEMU sent a message of" -- sh -c "$to_socket"'printf 0123456789abcdef; exec sleep 1000'
+    refuses "QEMU stopped in the middle of a message" -- sh -c "$to_socket"'printf 01234'
     # A disk that gets full in the run: 300 reads of 4 bytes at address 0.
-    refuses "/dev/full can't be written: No space left on device" --pcap /dev/full -- sh -c 'echo $$ > left; exec >&4
+    refuses "/dev/full can't be written: No space left on device" --pcap /dev/full -- sh -c "$to_socket"'
         for i in $(seq 300); do
             printf "\5\0\0\0\0\0\0\0\30\0\0\0\0\0\0\0\0\0\0\0\0\0\0\0\0\0\0\0\0\0\0\0\4\0\0\0\1\0\0\0"
         done
         exec sleep 1000'
-    (sleep 1; kill "$(cat ours)") &
-    # shellcheck disable=SC2016
+    rm -f ours
+    (for _ in $(seq 600); do [ ! -s ours ] || break; sleep 0.1; done; kill "$(cat ours)") &
     refuses "ended by signal 15" -- sh -c 'echo $PPID > ours; echo $$ > left; exec sleep 1000'
     wait
 }
