@@ -1,9 +1,9 @@
 #!/bin/sh
 # Builds the library for C, compiles and runs the examples and compares what they print with the files of examples/; then
 # the examples under valgrind, the Rust wrapper's tests, the Python package, the SystemVerilog and SystemC testbenches,
-# the device in QEMU with the dissector of its packets, and what the pages show. If PCIEX_C names a folder with libpciex_c.a, it takes that archive and builds none; KIT_C can
-# name the folder of the toolchain's liblibc_c.a. Its last line lists what it left out because a tool is missing. Fails
-# if one of them fails.
+# the device in QEMU with the dissector of its packets, and what the pages show. If PCIEX_C names a folder with
+# libpciex_c.a, it takes that archive and builds none; KIT_C can name the folder of the toolchain's liblibc_c.a. Its last
+# line lists what it left out because a tool is missing. Fails if one of them fails.
 cd "$(dirname "$0")/.." || exit 1
 say() { echo "library for C: $*"; }
 if command -v rt > /dev/null; then
