@@ -202,12 +202,19 @@ refuses "invalid value 'x' for --seed: expected 0 to 18446744073709551615" gener
 refuses "invalid value '8' for --requesters: expected 1 to 7" run --requesters 8 --each 1
 of_file examples/packets.txt tlp "$(printf '\377')"
 wants "a word that is no text" 2 "$room/nothing" "$room/options"
-for words in "" "tpl" "tlp 0" "step --trace=no" "check --trace"; do
+for words in "" "tpl" "tlp 0" "step --trace=no" "check --trace" "help tpl"; do
     # shellcheck disable=SC2086
     of_file examples/packets.txt $words
     [ -s "$room/errors" ] && cp "$room/errors" "$room/told" || echo "a text" > "$room/told"
     wants "the words '$words'" 2 "$room/nothing" "$room/told"
 done
+
+# A usage line says `pciex`, whatever the file of the program is called.
+ln -s "$pciex" "$room/other_name"
+timeout 60 "$room/other_name" step -h < /dev/null 2> "$room/errors" | grep '^Usage' > "$room/output"
+status=$?
+echo "Usage: pciex step [OPTIONS]" > "$room/told"
+wants "step -h under another name" 0 "$room/told" "$room/nothing"
 
 # Runs of worker threads, with status 0 where each addition was counted once, and 3 where a worker had used up its turns.
 # counts NUMBER WORD..: whether `run` with these words tells that number of answers.
@@ -237,7 +244,7 @@ grep '^[0-9]* of 140000$' "$room/errors" > "$room/told"
 wants "run --progress" 0 "$room/counted" "$room/told"
 
 # A text that was asked for has status 0, is not on the error stream, and has lines of at most 100 characters.
-for words in --version --help -h "tlp --help" "decode --help" "encode --help" "check --help" "search --help" "draw --help" "chart --help" "upgrade --help" \
+for words in --version --help -h help "help step" "tlp --help" "decode --help" "encode --help" "check --help" "search --help" "draw --help" "chart --help" "upgrade --help" \
     "step --help" "generate --help" "run --help" "tlp -h" "step -h" "generate -h" "run -h"; do
     # shellcheck disable=SC2086
     of_file examples/packets.txt $words
