@@ -1,18 +1,26 @@
 #!/bin/sh
 # Measures the built program and the built library for C, and prints a table in Markdown: run.sh [RUNS], 5 if not given.
+# With --alone ENGINE [FOLDER] it counts one engine's instructions a unit, in the whole program and in the program that
+# scripts/engine_alone.sh made in FOLDER, where each is built.
 #
 # Seconds are processor seconds (user and system), the least of the runs. Instructions are counted by callgrind, as the
 # difference of two inputs of about 10,000 and 20,000 units, divided by the difference of the units. Peak memory is the
 # largest resident set. Growth is the factor of both when the input is doubled. `rt ci` or `rt run` has to have built
 # crates/pciex, and c/check.sh or `rt lib` crates/pciex_c. What is left out is said below the table.
 #
-# Tried, and not kept: in `tlp` a table with both digits of a byte, four bytes at a time, saves 30 of the 165 instructions
-# that write a line's digits. In `check` each form of a line in a function of its own, or placed where it is read, takes 80
-# to 180 instructions a line more than all forms in one function. In `run` workers that spin before they yield take 1.4
-# times the processor seconds.
+# Tried, and not kept: in `check` each form of a line in a function of its own, or placed where it is read, takes 80 to 180
+# instructions a line more than all forms in one function. In `run` workers that spin before they yield take 1.4 times the
+# processor seconds.
 # shellcheck disable=SC2016 # backquotes of Markdown, and words of an inner shell
 set -eu
 cd "$(dirname "$0")/.."
+alone=''
+if [ "${1:-}" = --alone ]; then
+    [ $# -ge 2 ] || { echo "run.sh: --alone ENGINE [FOLDER]" >&2; exit 2; }
+    alone=$2
+    program=${3:-/tmp/alone-$2}/crates/alone/out/alone
+    shift $#
+fi
 runs=${1:-5}
 pciex=$PWD/crates/pciex/out/pciex
 library=$PWD/crates/pciex_c/out/libpciex_c.a
@@ -66,6 +74,37 @@ counted() {
     instructions=$(sed -n 's/.*Collected : \([0-9]*\).*/\1/p' "$room/log")
 }
 
+# count KIND SMALL COMMAND..: sets $per_unit, the instructions a unit, by the scales SMALL and twice that.
+count() {
+    kind=$1 small=$2
+    shift 2
+    counted "$kind" "$small" "$@"
+    first=$instructions first_units=$units
+    counted "$kind" $((2 * small)) "$@"
+    per_unit=$(((instructions - first) / (units - first_units)))
+}
+
+if [ -n "$alone" ]; then
+    words=$alone
+    case $alone in
+        tlp | decode) kind=lines small=10000 ;;
+        check | upgrade) kind=trace small=540 ;;
+        step) kind=script small=10 ;;
+        trace) kind=script small=10 words='step --trace' ;;
+        *) echo "run.sh: ENGINE is tlp, decode, check, upgrade, step or trace" >&2; exit 2 ;;
+    esac
+    if [ -x "$pciex" ]; then
+        # shellcheck disable=SC2086 # the words of a command line
+        count "$kind" "$small" "$pciex" $words
+        echo "$alone in the whole program: $per_unit instructions a unit"
+    fi
+    if [ -x "$program" ]; then
+        count "$kind" "$small" "$program"
+        echo "$alone alone: $per_unit instructions a unit"
+    fi
+    exit 0
+fi
+
 # row TITLE UNIT KIND LARGE SMALL COMMAND..: measures at the scales LARGE and twice that, counts at SMALL and twice that (not
 # at all if SMALL is 0), and prints the row.
 row() {
@@ -73,10 +112,7 @@ row() {
     shift 5
     per_unit="-"
     if [ "$small" -gt 0 ] && command -v valgrind > /dev/null; then
-        counted "$kind" "$small" "$@"
-        first=$instructions first_units=$units
-        counted "$kind" $((2 * small)) "$@"
-        per_unit=$(((instructions - first) / (units - first_units)))
+        count "$kind" "$small" "$@"
     fi
     twice=$(measured "$kind" $((2 * large)) "$@")
     once=$(measured "$kind" "$large" "$@")

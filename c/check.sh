@@ -1,9 +1,9 @@
 #!/bin/sh
 # Builds the library for C, compiles and runs the examples and compares what they print with the files of examples/; then
 # the examples under valgrind, the Rust wrapper's tests, the Python package, the SystemVerilog and SystemC testbenches,
-# the device in QEMU with the dissector of its packets, and what the pages show. If PCIEX_C names a folder with libpciex_c.a, it takes that archive and builds none; KIT_C can
-# name the folder of the toolchain's liblibc_c.a. Its last line lists what it left out because a tool is missing. Fails
-# if one of them fails.
+# the device in QEMU with the dissector of its packets, and what the pages show. If PCIEX_C names a folder with
+# libpciex_c.a, it takes that archive and builds none; KIT_C can name the folder of the toolchain's liblibc_c.a. Its last
+# line lists what it left out because a tool is missing. Fails if one of them fails.
 cd "$(dirname "$0")/.." || exit 1
 say() { echo "library for C: $*"; }
 if command -v rt > /dev/null; then
@@ -123,11 +123,14 @@ examples() {
     wants "fabric on credits_used_up.txt" 1 examples/credits_used_up.out examples/credits_used_up.txt "$@" "$room/fabric"
     wants "check on trace.txt" 0 "$room/ok" examples/trace.txt "$@" "$room/check"
     wants "check on a trace with a wrong reply" 1 "$room/flaw" "$room/flawed" "$@" "$room/check"
+    wants "check on stale_read.txt" 0 "$room/ok" examples/stale_read.txt "$@" "$room/check"
+    wants "check on stale_read.txt, clocked" 1 "$room/clock" examples/stale_read.txt "$@" "$room/check" --clocked
     wants "search on a log" 0 "$room/found" "$room/log" "$@" "$room/search"
     wants "search on a log with a wrong reply" 1 "$room/none" "$room/lie" "$@" "$room/search"
 }
 printf '16 16 bytes, 2 entries\n1 0 add 40 07000000\n1 1 read 40 1 F 0\n7 at 40h\n' > "$room/history.out"
 echo ok > "$room/ok"
+echo 'flaw 13 Clock 2' > "$room/clock"
 printf 'pciex-log 1\nmemory 0 4096 64\nsub 1 0 add 40 07000000\nans 1 0 data 00000000\nend\n' > "$room/log"
 sed 's/data 00/data 07/' "$room/log" > "$room/lie"
 printf 'pciex-trace 2\nmemory 0 4096 64\nsub 1 0 0 add 40 07000000\nans 1 0 1 data 00000000\nhistory\nent 1 0 add 40 07000000\nend\n' > "$room/found"

@@ -148,6 +148,7 @@ uint32_t pciex_raw_monitor_acted(pciex_monitor monitor, uint8_t requester, uint3
 size_t pciex_raw_monitor_open(pciex_monitor monitor, pciex_monitor *back);
 void pciex_raw_monitor_free(pciex_monitor monitor);
 uint32_t pciex_raw_check(const uint8_t *text, size_t length, uint8_t *room, size_t room_length);
+uint32_t pciex_raw_check_clocked(const uint8_t *text, size_t length, uint8_t *room, size_t room_length);
 uint32_t pciex_raw_search(const uint8_t *text, size_t text_length, uint64_t limit, uint8_t *room, size_t room_length,
                           size_t *length);
 uint32_t pciex_raw_decode(const uint8_t *packet, size_t length, uint8_t *room, size_t room_length);
@@ -493,6 +494,19 @@ static inline uint32_t pciex_check(const uint8_t *text, size_t length, uint8_t *
         return PCIEX_NULL;
     }
     return pciex_raw_check(text, length, room, room_length);
+}
+
+/*
+ * The same as `pciex check --clocked`: 0 if and only if the history explains the records and their n are those of a
+ * history that grew. Then each request that was answered before another was submitted acted before it: the trace is
+ * linearizable. Else a flaw as above, or `flaw 13 Clock 2` where only an n is wrong.
+ */
+static inline uint32_t pciex_check_clocked(const uint8_t *text, size_t length, uint8_t *room, size_t room_length)
+{
+    if (!text || !room) {
+        return PCIEX_NULL;
+    }
+    return pciex_raw_check_clocked(text, length, room, room_length);
 }
 
 /* What pciex_search found. */

@@ -1,11 +1,12 @@
-/* The checker: the text of a trace in, the line of `pciex check` out. */
+/* The checker: the text of a trace in, the line of `pciex check` out, or with a word that of `pciex check --clocked`. */
 #include "../pciex.h"
 
 #include <stdio.h>
 #include <stdlib.h>
 
-int main(void)
+int main(int count, char **words)
 {
+    (void)words;
     size_t room_for = 1 << 16, length = 0;
     uint8_t *text = malloc(room_for);
     while (text && !feof(stdin) && !ferror(stdin)) {
@@ -24,7 +25,8 @@ int main(void)
         return 2;
     }
     uint8_t room[PCIEX_LINE];
-    uint32_t code = pciex_check(text, length, room, sizeof room);
+    uint32_t code = count > 1 ? pciex_check_clocked(text, length, room, sizeof room)
+                              : pciex_check(text, length, room, sizeof room);
     free(text);
     if (code == 0) {
         puts("ok");

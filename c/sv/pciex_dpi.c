@@ -397,6 +397,8 @@ int pciex_dpi_search(const char *text, uint64_t limit)
         free(room);
         return plain(code, 0);
     }
+    /* A trace has lines; a verdict of one line loses its line feed. */
+    length -= code != PCIEX_FOUND && length > 0 && room[length - 1] == '\n';
     room[length] = 0;
     say_large(room);
     return (int)code;

@@ -73,6 +73,10 @@ class WithoutAHandle(unittest.TestCase):
         self.assertEqual(pciex.check(trace), "ok")
         self.assertEqual(pciex.check(trace.replace("data 0", "data 1")), "flaw 10 Reply 1")
         self.assertEqual(pciex.check("no trace"), "fault 1 Head")
+        self.assertEqual(pciex.check(trace, clocked=True), "ok")
+        late = trace.replace("ans 1 0 1", "ans 1 0 2")
+        self.assertEqual(pciex.check(late), "ok")
+        self.assertEqual(pciex.check(late, clocked=True), "flaw 13 Clock 1")
 
     def test_search(self) -> None:
         log = "pciex-log 1\nmemory 0 4096 64\nsub 1 0 add 40 07000000\nans 1 0 data 00000000\nend\n"

@@ -18,7 +18,8 @@ def reply(request: bytes, data: str) -> bytes:
     """The completion of a request with this data, or with the status `ur`."""
     words = "ur" if data == "ur" else f"sc {data}"
     lower = "40" if request[0] == 0 else "00"
-    return pciex.encode(f"completion {words} to 0100 tag {request[6]:02X} by 0000 count {1 if request == BYTE else 4} lower {lower}")
+    count = 1 if request == BYTE else 4
+    return pciex.encode(f"completion {words} to 0100 tag {request[6]:02X} by 0000 count {count} lower {lower}")
 
 
 def with_byte(packet: bytes, place: int, value: int) -> bytes:
@@ -39,6 +40,9 @@ RUNS = {
     "status": [*FIRST, *served(READ, reply(READ, "ur"))],
     "status with data": [*FIRST, *served(READ, with_byte(LAST, 6, 0x20))],
     "Byte Count": [*FIRST, *served(READ, with_byte(LAST, 7, 8))],
+    "Lower Address": [*FIRST, *served(READ, with_byte(LAST, 11, 0x44))],
+    "TC": [*FIRST, *served(READ, with_byte(LAST, 1, 0x10))],
+    "Attr": [*FIRST, *served(READ, with_byte(LAST, 2, 0x20))],
     "Length": [*FIRST, *served(READ, with_byte(LAST, 3, 2))],
     "tag": [*FIRST, *served(READ, with_byte(LAST, 10, 0xEE))],
     "Requester ID": [*FIRST, *served(READ, with_byte(LAST, 9, 1))],
@@ -47,12 +51,25 @@ RUNS = {
     "a lost write": [*served(WRITE), *served(ADD, reply(ADD, "00000000"))],
     "an addition acts twice": [*FIRST, *served(READ, reply(READ, "0F000000"))],
     "a read passes a write": [
-        ("request", WRITE), ("request", READ), ("acted", READ), ("completion", reply(READ, "00000000")), ("acted", WRITE),
+        ("request", WRITE),
+        ("request", READ),
+        ("acted", READ),
+        ("completion", reply(READ, "00000000")),
+        ("acted", WRITE),
     ],
     "a write passes a read": [
-        ("request", READ), ("request", WRITE), ("acted", WRITE), ("acted", READ), ("completion", reply(READ, "01000000")),
+        ("request", READ),
+        ("request", WRITE),
+        ("acted", WRITE),
+        ("acted", READ),
+        ("completion", reply(READ, "01000000")),
     ],
-    "an answer before it acts": [*served(WRITE), ("request", READ), ("completion", reply(READ, "01000000")), ("acted", READ)],
+    "an answer before it acts": [
+        *served(WRITE),
+        ("request", READ),
+        ("completion", reply(READ, "01000000")),
+        ("acted", READ),
+    ],
     "a byte that isn't enabled": [*served(WRITE), *served(BYTE, reply(BYTE, "01AA0000"))],
 }
 
@@ -63,6 +80,9 @@ TABLE = {
     "status": ("Status", None, "flaw 10 Reply 4", "none 4"),
     "status with data": ("Status", "Mismatch", "ok", "found"),
     "Byte Count": ("Byte Count", None, "ok", "found"),
+    "Lower Address": ("Lower Address", None, "ok", "found"),
+    "TC": ("TC", None, "ok", "found"),
+    "Attr": ("Attr", None, "ok", "found"),
     "Length": ("not a completion", "fault 9 LengthMismatch", "ok", "found"),
     "tag": ("Tag", "Unexpected", "ok", "found"),
     "Requester ID": ("Requester ID", "OtherRequester", "ok", "found"),
@@ -121,9 +141,10 @@ class Faults(unittest.TestCase):
                 refused, trace = recorded(run, True)
                 also_refused, log = recorded(run, False)
                 self.assertEqual(refused, also_refused)
-                first = [*(scoreboard(run) or [None])][0], [*(refused or [None])][0]
+                first = (scoreboard(run) or [None])[0], (refused or [None])[0]
                 history = pciex.search(log)
-                self.assertEqual((*first, pciex.check(trace), history if history.startswith("none") else "found"), TABLE[fault])
+                found = history if history.startswith("none") else "found"
+                self.assertEqual((*first, pciex.check(trace), found), TABLE[fault])
 
 
 if __name__ == "__main__":

@@ -28,6 +28,16 @@ pub fn check(text: &[u8]) -> Result<(), Error> {
     line(code, &room).map(|_| ())
 }
 
+/// [`check`], and whether the `n` of the records are those of a history that grew: `Ok` if and only if both hold, but for
+/// [`Error::NoMemory`]. Then each request that was answered before another was submitted acted before it: the trace is
+/// linearizable. Else the line that `pciex check --clocked` prints.
+pub fn check_clocked(text: &[u8]) -> Result<(), Error> {
+    let mut room = Room::new();
+    // SAFETY: as in `check`.
+    let code = unsafe { raw::pciex_raw_check_clocked(text.as_ptr(), text.len(), room.pointer(), room.length()) };
+    line(code, &room).map(|_| ())
+}
+
 /// What [`search`] says of a log.
 #[derive(Clone, Debug, PartialEq, Eq)]
 pub enum Sought {

@@ -58,6 +58,7 @@ extern "C" {
     pub(crate) fn pciex_raw_monitor_open(monitor: Slot, back: *mut Slot) -> usize;
     pub(crate) fn pciex_raw_monitor_free(monitor: Slot);
     pub(crate) fn pciex_raw_check(text: *const u8, length: usize, room: *mut u8, room_length: usize) -> u32;
+    pub(crate) fn pciex_raw_check_clocked(text: *const u8, length: usize, room: *mut u8, room_length: usize) -> u32;
     pub(crate) fn pciex_raw_search(
         text: *const u8, text_length: usize, limit: u64, room: *mut u8, room_length: usize, length: *mut usize,
     ) -> u32;

@@ -1,5 +1,5 @@
 //! Each call once, and each of its refusals.
-use pciex::{answer, check, decode, differ, encode, search, version, Device, Error, Fabric, Monitor, Sought};
+use pciex::{answer, check, check_clocked, decode, differ, encode, search, version, Device, Error, Fabric, Monitor, Sought};
 
 const ADD: [u8; 16] = [0x4C, 0, 0, 1, 1, 0, 5, 0, 0, 0, 0, 0x40, 7, 0, 0, 0];
 const WRITE: [u8; 16] = [0x40, 0, 0, 1, 1, 0, 0, 0x0F, 0, 0, 0, 0x80, 1, 2, 3, 4];
@@ -108,6 +108,10 @@ fn the_checker() {
     let flawed = trace.replace("data 00000000", "data 00000001");
     assert_eq!(check(flawed.as_bytes()), Err(Error::Told("flaw 10 Reply 1".into())));
     assert_eq!(check(b""), Err(Error::Told("fault 1 Head".into())));
+    assert_eq!(check_clocked(trace.as_bytes()), Ok(()));
+    let late = trace.replace("ans 1 0 1", "ans 1 0 2");
+    assert_eq!(check(late.as_bytes()), Ok(()));
+    assert_eq!(check_clocked(late.as_bytes()), Err(Error::Told("flaw 13 Clock 1".into())));
 }
 
 #[test]

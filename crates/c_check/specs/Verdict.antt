@@ -1,8 +1,10 @@
 -- The verdict on the text of a trace: what is returned, and the line of `pciex check` in the caller's buffer.
-use Rattle.std.specs.Prelude.{ℕ, ⊤, nat_lt, if◌then◌else◌, List, length, Option, Some, None, Result, Ok, Err}
+use Rattle.std.specs.Prelude.{ℕ, ⊤, Bool, true, false, nat_lt, if◌then◌else◌, List, length, Option, Some, None, Result, Ok, Err}
 use Rattle.history_check.specs.declared.flaws.FlawKind.{FlawKind}
 use Rattle.history_check.specs.Claim.{Claim}
-use Rattle.history_check.specs.Flaws.{first_flaw}
+use Rattle.history_check.specs.Clocks.{IsClocked, KeepsRealTimeOrder}
+use Rattle.history_check.specs.Flaws.{first_flaw, first_flaw_clocked}
+use Rattle.history_check.specs.Trace.{Explains}
 use Rattle.trace_text.specs.declared.fault.ReadFault.{ReadFault}
 use Rattle.trace_text.specs.TraceReaderView.{read_of}
 use Rattle.trace_text.specs.Names.{fault_line}
@@ -15,10 +17,24 @@ abbrev pub judged : List ℕ → Option (FlawKind × ℕ) → Told ⊤
 judged buffer None = untold buffer (Ok tt)
 judged buffer (Some f) = told_fault buffer (flaw_line f.0 f.1)
 
--- by what was read
-abbrev pub checked : List ℕ → Result Claim ReadFault → Told ⊤
-checked buffer (Err f) = told_fault buffer (fault_line f)
-checked buffer (Ok c) = judged buffer (first_flaw c)
+-- the first flaw, with the n's asked for or without
+abbrev pub flaw_by : Bool → Claim → Option (FlawKind × ℕ)
+flaw_by true c = first_flaw_clocked c
+flaw_by false c = first_flaw c
 
-abbrev pub verdict : List ℕ → List ℕ → Told ⊤
-verdict text buffer = if nat_lt (length buffer) 512 then untold buffer (Err SmallBuffer) else checked buffer (read_of text)
+-- the history explains the trace, the n's are those of a history that grew, and requests act in real-time order
+abbrev pub IsOrdered : Claim → Type 0
+IsOrdered c = Explains c × IsClocked c × KeepsRealTimeOrder c
+
+-- what is asked for holds
+abbrev pub IsRight : Bool → Claim → Type 0
+IsRight true c = Explains c × IsClocked c
+IsRight false c = Explains c
+
+-- by what was read
+abbrev pub checked : Bool → List ℕ → Result Claim ReadFault → Told ⊤
+checked is_clocked buffer (Err f) = told_fault buffer (fault_line f)
+checked is_clocked buffer (Ok c) = judged buffer (flaw_by is_clocked c)
+
+abbrev pub verdict : Bool → List ℕ → List ℕ → Told ⊤
+verdict is_clocked text buffer = if nat_lt (length buffer) 512 then untold buffer (Err SmallBuffer) else checked is_clocked buffer (read_of text)

@@ -1,19 +1,19 @@
 //! The verdict on the text of a trace.
-ghost use Rattle.std.specs.Prelude.{◌≡◌, ◌≤◌, ◌⊎◌, length, true, Ok, Err, IsOk};
+ghost use Rattle.std.specs.Prelude.{◌≡◌, ◌≤◌, ◌⊎◌, length, true, None, Ok, Err, IsOk, OnOk, IfErr};
 ghost use Rattle.history_check.specs.Claim.{Claim, claim_of};
 ghost use Rattle.history_check.specs.Trace.{Explains};
-ghost use Rattle.history_check.specs.Flaws.{first_flaw};
+ghost use Rattle.history_check.specs.Flaws.{Tells};
 ghost use Rattle.trace_text.specs.TraceReaderView.{read_of};
 ghost use Rattle.trace_text.specs.Names.{fault_line};
 ghost use Rattle.flaw_places.specs.Places.{flaw_line};
 ghost use Rattle.c_buffer.specs.declared.outcome.Failure.TheVariants.{Text, SmallBuffer, NoMemory};
 ghost use Rattle.c_buffer.specs.Buffer.{filled, is_silent};
-ghost use Rattle.c_check.specs.Verdict.{judged, verdict};
+ghost use Rattle.c_check.specs.Verdict.{judged, verdict, flaw_by, IsOrdered, IsRight};
 
 use arrayvec::ArrayString;
 use c_buffer::{Failure, LINE_BUFFER, tell_fault};
 use flaw_places::write_flaw;
-use history_check::{Flaw, FlawKind, Trace, check};
+use history_check::{Flaw, FlawKind, Trace, check, check_clocked};
 use seq_memory::Entry;
 use std::alloc::Global;
 use trace_text::{ReadFault, ReadFaultKind, read_trace, write_fault};
@@ -40,39 +40,68 @@ fn put_fault(fault: ReadFault, buffer: &mut [u8]) -> Failure
     tell_fault(text.as_bytes(), buffer)
 }
 
+/// The check, with the `n` asked for or without.
+fn checked(alloc: Global, trace: &Trace, history: &[Entry], is_clocked: bool) -> Result<(), Flaw>
+    ensures ok { OnOk result (flaw_by is_clocked (claim_of trace.now history.now) ≡ None) }
+    ensures err { IfErr result (Tells (flaw_by is_clocked (claim_of trace.now history.now))) }
+    ensures explained { OnOk result (Explains (claim_of trace.now history.now)) }
+    ensures ordered { OnOk result (is_clocked ≡ true → IsOrdered (claim_of trace.now history.now)) }
+    ensures flawed { IfErr result (λ f. ¬ (f.kind ≡ FlawKind.Memory) → IsRight is_clocked (claim_of trace.now history.now) → ⊥) }
+{
+    if is_clocked {
+        check_clocked(alloc, trace, history)
+    } else {
+        check(alloc, trace, history)
+    }
+}
+
 /// Whether the history explains the trace.
-fn judge(alloc: Global, trace: &Trace, history: &[Entry], buffer: &mut [u8]) -> Result<(), Failure>
+fn judge(
+    alloc: Global,
+    trace: &Trace,
+    history: &[Entry],
+    is_clocked: bool,
+    buffer: &mut [u8],
+) -> Result<(), Failure>
     requires { 512 ≤ length buffer.old }
-    ensures outcome { ¬ (result ≡ Err NoMemory) → result ≡ (judged buffer.old (first_flaw (claim_of trace.now history.now))).outcome }
-    ensures buffer { ¬ (result ≡ Err NoMemory) → buffer.new ≡ (judged buffer.old (first_flaw (claim_of trace.now history.now))).buffer }
+    ensures outcome { ¬ (result ≡ Err NoMemory) → result ≡ (judged buffer.old (flaw_by is_clocked (claim_of trace.now history.now))).outcome }
+    ensures buffer { ¬ (result ≡ Err NoMemory) → buffer.new ≡ (judged buffer.old (flaw_by is_clocked (claim_of trace.now history.now))).buffer }
     ensures unchanged { IsOk result ⊎ (is_silent result ≡ true) → buffer.new ≡ buffer.old }
     ensures explained { IsOk result → Explains (claim_of trace.now history.now) }
-    ensures unexplained { Explains (claim_of trace.now history.now) → IsOk result ⊎ (result ≡ Err NoMemory) }
+    ensures ordered { IsOk result → is_clocked ≡ true → IsOrdered (claim_of trace.now history.now) }
+    ensures flawed { IsRight is_clocked (claim_of trace.now history.now) → IsOk result ⊎ (result ≡ Err NoMemory) }
 {
-    match check(alloc, trace, history) {
+    match checked(alloc, trace, history, is_clocked) {
         Ok(()) => Ok(()),
         Err(flaw) if flaw.kind == FlawKind::Memory => Err(Failure::NoMemory),
         Err(flaw) => Err(put_flaw(flaw, buffer)),
     }
 }
 
-/// Whether the history of the text explains its trace: Ok if it does. If it doesn't, or if the text is
-/// none of a trace, the line of `pciex check` without its line feed stands at the front of `buffer`.
-/// `SmallBuffer` for fewer than 512 bytes, which is tested first, or `NoMemory`, where nothing is
-/// known; with these, and Ok, the buffer stays as it was.
-pub fn check_text(alloc: Global, text: &[u8], buffer: &mut [u8]) -> Result<(), Failure>
-    ensures outcome { ¬ (result ≡ Err NoMemory) → result ≡ (verdict text.now buffer.old).outcome }
-    ensures buffer { ¬ (result ≡ Err NoMemory) → buffer.new ≡ (verdict text.now buffer.old).buffer }
+/// Whether the history of the text explains its trace, and, if `is_clocked` is set, its `n` are those of a
+/// history that grew: Ok if so. If not, or if the text is none of a trace, the line of `pciex check`, or of
+/// `pciex check --clocked`, without its line feed stands at the front of `buffer`. `SmallBuffer` for fewer
+/// than 512 bytes, which is tested first, or `NoMemory`, where nothing is known; with these, and Ok, the
+/// buffer stays as it was.
+pub fn check_text(
+    alloc: Global,
+    text: &[u8],
+    is_clocked: bool,
+    buffer: &mut [u8],
+) -> Result<(), Failure>
+    ensures outcome { ¬ (result ≡ Err NoMemory) → result ≡ (verdict is_clocked text.now buffer.old).outcome }
+    ensures buffer { ¬ (result ≡ Err NoMemory) → buffer.new ≡ (verdict is_clocked text.now buffer.old).buffer }
     ensures no_memory { result ≡ Err NoMemory → 512 ≤ length buffer.old }
     ensures unchanged { IsOk result ⊎ (is_silent result ≡ true) → buffer.new ≡ buffer.old }
     ensures explained { IsOk result → (c : Claim) × (read_of text.now ≡ Ok c) × Explains c }
-    ensures unexplained { (c : Claim) → read_of text.now ≡ Ok c → Explains c → IsOk result ⊎ (result ≡ Err SmallBuffer) ⊎ (result ≡ Err NoMemory) }
+    ensures ordered { IsOk result → is_clocked ≡ true → (c : Claim) × (read_of text.now ≡ Ok c) × IsOrdered c }
+    ensures unexplained { (c : Claim) → read_of text.now ≡ Ok c → IsRight is_clocked c → IsOk result ⊎ (result ≡ Err SmallBuffer) ⊎ (result ≡ Err NoMemory) }
 {
     if buffer.len() < LINE_BUFFER {
         return Err(Failure::SmallBuffer);
     }
     match read_trace(alloc, text) {
-        Ok((trace, history)) => judge(alloc, &trace, &history, buffer),
+        Ok((trace, history)) => judge(alloc, &trace, &history, is_clocked, buffer),
         Err(fault) if fault.kind == ReadFaultKind::Memory => Err(Failure::NoMemory),
         Err(fault) => Err(put_fault(fault, buffer)),
     }

@@ -15,7 +15,7 @@ use Rattle.packet_engine.specs.Lines.{out_decode, out_encode}
 use Rattle.run_engine.specs.Text.{IsRan}
 use Rattle.search_engine.specs.Search.{IsSearched}
 use Rattle.tlp_engine.specs.Tlp.{out_tlp}
-use Rattle.trace_engine.specs.Check.{out_check}
+use Rattle.trace_engine.specs.Check.{out_check_with}
 use Rattle.trace_engine.specs.Upgrade.{out_upgrade}
 use Rattle.step_engine.specs.Step.{out_step_with}
 use Rattle.parameters.specs.declared.storm.Storm.{Storm}
@@ -30,7 +30,7 @@ abbrev pub IsDone : Request → Option (List ℕ) → Option (List ℕ) → Opti
 IsDone (Tlp x) input rest out out' exit = IsRun (out_tlp x) input rest out out' exit
 IsDone Decode input rest out out' exit = IsRun out_decode input rest out out' exit
 IsDone Encode input rest out out' exit = IsRun out_encode input rest out out' exit
-IsDone Check input rest out out' exit = IsRun out_check input rest out out' exit
+IsDone (Check is_clocked) input rest out out' exit = IsRun (out_check_with is_clocked) input rest out out' exit
 IsDone (Search limit is_told) input rest out out' exit = IsSearched limit input rest out out' exit
 IsDone (Draw from to) input rest out out' exit = IsRun (out_draw (record { from = from; to = to })) input rest out out' exit
 IsDone Upgrade input rest out out' exit = IsRun out_upgrade input rest out out' exit

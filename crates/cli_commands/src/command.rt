@@ -24,7 +24,7 @@ use std::io;
 use std::io::{ErrorKind as IoErrorKind, Read, Write};
 use step_engine::{StepOptions, run_step_with_reasons};
 use tlp_engine::run_tlp;
-use trace_engine::{run_check_with_reasons, run_upgrade_with_reasons};
+use trace_engine::{run_check_with, run_upgrade_with_reasons};
 
 /// Tells what stopped an engine, and gives the exit status for that.
 fn stopped<E: Write>(fault: EngineFault, errors: &mut E) -> u8
@@ -140,8 +140,8 @@ fn begin<R: Read, W: Write, E: Write>(
             let run = run_encode_with_reasons(alloc, reader, writer, errors);
             Outcome::Ended(ended(run, errors))
         }
-        Request::Check => {
-            let run = run_check_with_reasons(alloc, reader, writer, errors);
+        Request::Check { is_clocked } => {
+            let run = run_check_with(alloc, is_clocked, reader, writer, errors);
             Outcome::Ended(ended(run, errors))
         }
         Request::Search { limit, is_told } => {

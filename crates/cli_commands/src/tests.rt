@@ -55,7 +55,7 @@ const LIE: &str =
 /// Words, what standard input has, what is written, and the exit status.
 type Run = (&'static [&'static str], &'static str, &'static str, u8);
 
-static RUNS: [Run; 18] = [
+static RUNS: [Run; 19] = [
     (&["pciex", "search"], LOG, FOUND, 0),
     (&["pciex", "search", "--limit", "1"], LIE, "none 1\n", 1),
     (&["pciex", "search"], "pciex-log 1\n", "fault 2 Line\n", 1),
@@ -86,6 +86,12 @@ static RUNS: [Run; 18] = [
     (&["pciex", "encode"], "nak FFF\n", "10000FFF\n", 0),
     (&["pciex", "check"], TRACE, "ok\n", 0),
     (&["pciex", "check"], "pciex-trace 3\n", "fault 1 Head\n", 1),
+    (
+        &["pciex", "check", "--clocked"],
+        "pciex-trace 2\nmemory 0 4096 64\nsub 1 0 1 add 40 07000000\nhistory\nend\n",
+        "flaw 13 Clock 0\n",
+        1,
+    ),
     (
         &["pciex", "upgrade"],
         "pciex-trace 1\nmemory 0 4096\nsub 1 0 0 add 40 07000000\nhistory\nend\n",

@@ -43,7 +43,7 @@ abbrev pub name_of : Request → Text
 name_of (Tlp x) = codes "tlp"
 name_of Decode = codes "decode"
 name_of Encode = codes "encode"
-name_of Check = codes "check"
+name_of (Check is_clocked) = codes "check"
 name_of (Search limit is_told) = codes "search"
 name_of (Draw from to) = codes "draw"
 name_of Upgrade = codes "upgrade"
@@ -56,7 +56,7 @@ pub asks_name : (p : Text × List Row) (r : Request) → Asks (Some p) r → p.0
 asks_name p (Tlp x) a = a.0
 asks_name p Decode a = a
 asks_name p Encode a = a
-asks_name p Check a = a
+asks_name p (Check is_clocked) a = a.0
 asks_name p (Search limit is_told) a = a.0
 asks_name p (Draw from to) a = a.0
 asks_name p Upgrade a = a
@@ -89,7 +89,7 @@ asks_one (Some p) (Tlp x) (Tlp y) a b =
     ap Tlp (same_extent x y e f g)
 asks_one (Some p) Decode Decode a b = refl
 asks_one (Some p) Encode Encode a b = refl
-asks_one (Some p) Check Check a b = refl
+asks_one (Some p) (Check t) (Check u) a b = ap Check (same_flag _ t u a.1 b.1)
 asks_one (Some p) (Search limit t) (Search limit' u) a b =
     ap (λ (n : ℕ). Search n t) (same_number 1000000 _ limit limit' a.1.limit_read b.1.limit_read) ∙ ap (Search limit') (same_flag _ t u a.2 b.2)
 asks_one (Some p) (Draw from to) (Draw from' to') a b =

@@ -41,6 +41,9 @@ tlp_app = with_rule (with_rule (with_rule (new_app (codes "tlp")) (option (codes
 abbrev pub flag : Text → Rule
 flag name = record (new_rule name) { long = Some name; action = Some SetTrue }
 
+abbrev pub check_app : App
+check_app = with_rule (new_app (codes "check")) (flag (codes "clocked"))
+
 abbrev pub search_app : App
 search_app = with_rule (with_rule (new_app (codes "search")) (option (codes "limit"))) (flag (codes "progress"))
 
@@ -80,7 +83,7 @@ with_packets app = with_subcommand (with_subcommand (with_subcommand app tlp_app
 
 abbrev pub with_traces : App → App
 with_traces app =
-    with_subcommand (with_subcommand (with_subcommand (with_subcommand app (new_app (codes "check")).top) search_app.top) draw_app.top) (new_app (codes "upgrade")).top
+    with_subcommand (with_subcommand (with_subcommand (with_subcommand app check_app.top) search_app.top) draw_app.top) (new_app (codes "upgrade")).top
 
 -- the grammar of the command line
 unfoldable pub the_app : App
@@ -147,7 +150,7 @@ Asks None request = ⊥
 Asks (Some p) (Tlp x) = (p.0 ≡ codes "tlp") × AsksTlp p.1 x
 Asks (Some p) Decode = p.0 ≡ codes "decode"
 Asks (Some p) Encode = p.0 ≡ codes "encode"
-Asks (Some p) Check = p.0 ≡ codes "check"
+Asks (Some p) (Check is_clocked) = (p.0 ≡ codes "check") × WritesFlag (first_of (codes "clocked") p.1) is_clocked
 Asks (Some p) (Search limit is_told) = (p.0 ≡ codes "search") × AsksSearch p.1 limit × WritesFlag (first_of (codes "progress") p.1) is_told
 Asks (Some p) (Draw from to) = (p.0 ≡ codes "draw") × AsksDraw p.1 from to
 Asks (Some p) Upgrade = p.0 ≡ codes "upgrade"

@@ -3,7 +3,7 @@ ghost use Rattle.std.specs.Prelude.{◌≡◌, IfOk, false};
 ghost use Rattle.clap.specs.Words.{App, app_of, new_app, with_rule, with_subcommand};
 ghost use Rattle.clap.specs.Walk.{rule_of};
 ghost use Rattle.clap.specs.declared.builder.Command.TheViews.{out-Command};
-ghost use Rattle.cli_words.specs.Options.{the_app, top_app, tlp_app, search_app, draw_app, step_app, chart_app, generate_app, run_app, with_links, with_packets, with_traces, option, required, flag};
+ghost use Rattle.cli_words.specs.Options.{the_app, top_app, tlp_app, check_app, search_app, draw_app, step_app, chart_app, generate_app, run_app, with_links, with_packets, with_traces, option, required, flag};
 
 use crate::texts;
 use crate::texts::Help;
@@ -105,6 +105,15 @@ fn step_command<'a>(alloc: Global) -> Result<Command<'a>, AllocError>
     let trace = with_arg(step, flag_of(alloc, "trace", texts::TRACE))?;
     let keep_going = with_arg(trace, flag_of(alloc, "keep-going", texts::KEEP_GOING))?;
     with_arg(keep_going, flag_of(alloc, "echo", texts::ECHO))
+}
+
+/// The subcommand `check`.
+fn check_command<'a>(alloc: Global) -> Result<Command<'a>, AllocError>
+    ensures app { IfOk result (λ c. app_of c ≡ check_app) }
+    ensures globals { IfOk result (λ c. (out-Command c).has_globals ≡ false) }
+{
+    let check = plain_command(alloc, "check", texts::CHECK);
+    with_arg(check, flag_of(alloc, "clocked", texts::CLOCKED))
 }
 
 /// The subcommand `search`.
@@ -210,7 +219,7 @@ fn with_traces<'a>(alloc: Global, top: Command<'a>) -> Result<Command<'a>, Alloc
     ensures app { IfOk result (λ c. app_of c ≡ with_traces (app_of top.entry)) }
     ensures globals { IfOk result (λ c. (out-Command c).has_globals ≡ false) }
 {
-    let with_check = with_command(top, plain_command(alloc, "check", texts::CHECK))?;
+    let with_check = with_made(top, check_command(alloc))?;
     let with_search = with_made(with_check, search_command(alloc))?;
     let with_draw = with_made(with_search, draw_command(alloc))?;
     with_command(with_draw, plain_command(alloc, "upgrade", texts::UPGRADE))

@@ -68,7 +68,7 @@ pub(crate) static CHECK: Help = Help {
     long: "Checks whether a history explains a trace: whether each requester received what one
 sequential memory returns, with each request at one point between the n of its submission
 and that of its answer, and posted writes in order. The n of a record is the number of
-requests that had acted by then; it is taken as true.
+requests that had acted by then; it is taken as true unless '--clocked' is given.
 
 The input is one trace with its history, as 'step --trace' prints it. The result is one
 line: 'ok'; 'flaw' with the number, the name and the place of the first flaw; or 'fault'
@@ -200,6 +200,9 @@ pub(crate) static FIRST_LINE: &str = "First line of the script to draw [default:
 
 pub(crate) static LAST_LINE: &str =
     "Last line of the script to draw, at least --from [default: the last one]";
+
+pub(crate) static CLOCKED: &str =
+    "Also test the n: none falls, exceeds the history's length or is above its request's index";
 
 pub(crate) static TRACE: &str = "Print the trace and its history in place of the results";
 

@@ -31,8 +31,10 @@ pub enum Request {
     Decode,
     /// The subcommand `encode`.
     Encode,
-    /// The subcommand `check`.
-    Check,
+    /// The subcommand `check`, which may ask for the `n`, too.
+    Check {
+        is_clocked: bool,
+    },
     /// The subcommand `search`, which looks at so many choices at most, and may tell how far it is.
     Search {
         limit: u64,
@@ -135,6 +137,15 @@ fn tlp_of<'a>(tlp: &ArgMatches<'a>) -> Result<Request, RefusedValue<'a>>
             option: ValueOption::Base,
             given: tlp.get_str("base"),
         }),
+    }
+}
+
+/// What the values of `check` ask for.
+fn check_of(check: &ArgMatches<'_>) -> Request
+    ensures { Asks (Some (codes "check", rows_of (found_of check.now))) result }
+{
+    Request::Check {
+        is_clocked: is_set(check.get_str("clocked")),
     }
 }
 
@@ -308,7 +319,7 @@ fn request_of<'a>(
         Subcommand::Tlp => tlp_of(values),
         Subcommand::Decode => Ok(Request::Decode),
         Subcommand::Encode => Ok(Request::Encode),
-        Subcommand::Check => Ok(Request::Check),
+        Subcommand::Check => Ok(check_of(values)),
         Subcommand::Search => search_of(values),
         Subcommand::Draw => draw_of(values),
         Subcommand::Upgrade => Ok(Request::Upgrade),

@@ -6,7 +6,7 @@ use seq_memory::Extent;
 use std::alloc::Global;
 use step_engine::{StepOptions, run_step, run_step_with};
 use tlp_engine::run_tlp;
-use trace_engine::{run_check, run_upgrade};
+use trace_engine::{run_check, run_check_clocked, run_upgrade};
 
 /// An engine, with its options.
 #[derive(Clone, Copy)]
@@ -20,6 +20,8 @@ pub(crate) enum Engine {
     Decode,
     Encode,
     Check,
+    /// `check --clocked`.
+    CheckClocked,
     Upgrade,
     /// `step`.
     Step,
@@ -47,6 +49,7 @@ fn run(
         Engine::Decode => run_decode(alloc, reader, out),
         Engine::Encode => run_encode(alloc, reader, out),
         Engine::Check => run_check(alloc, reader, out),
+        Engine::CheckClocked => run_check_clocked(alloc, reader, out),
         Engine::Upgrade => run_upgrade(alloc, reader, out),
         Engine::Step => run_step(alloc, false, reader, out),
         Engine::StepTraced => run_step(alloc, true, reader, out),

@@ -21,6 +21,37 @@ fn example(rt: HostRuntime) {
     assert!(rt; writes(Engine::Check, rt.alloc(), TRACE.as_bytes(), b"ok\n", 0));
 }
 
+/// `examples/stale_read.txt`.
+const STALE_READ: &str = "\
+# Requester 2 submits a read after requester 1 had the answer to its swap, and reads the value from before. The `n` falls
+# from 2 to 0 on line 7: `check` says `ok`, `check --clocked` `flaw 13 Clock 2`, and `search` `none 3`.
+pciex-trace 2
+memory 0 4096 64
+sub 1 0 0 swap 40 05000000
+ans 1 0 2 data 00000000
+sub 2 0 0 read 40 1 F 0
+ans 2 0 2 data 00000000
+history
+ent 2 0 read 40 1 F 0
+ent 1 0 swap 40 05000000
+end
+";
+
+#[test]
+fn a_stale_read(rt: HostRuntime) {
+    let text = STALE_READ.as_bytes();
+    assert!(rt;
+        writes(Engine::Check, rt.alloc(), text, b"ok\n", 0)
+            & writes(
+                Engine::CheckClocked,
+                rt.alloc(),
+                text,
+                b"flaw 13 Clock 2\n",
+                1
+            )
+    );
+}
+
 /// The heads of both versions, for a memory of 4096 bytes at 0 with blocks of 64.
 static HEADS: [&str; 2] = [
     "pciex-trace 1\nmemory 0 4096\n",

@@ -1,5 +1,5 @@
 -- The rule at the start, and what a closed table is.
-use Rattle.std.proofs.Common.{◌≡◌, ◌≢◌, ℕ, subst, zero, suc, ◌<◌, ◌≤◌, List, [], ◌∷◌, length, map, replicate, sym, refl, ap, ◌∙◌, ⊎_elim, arith, Option, Some, None, get_or}
+use Rattle.std.proofs.Common.{◌≡◌, ◌≢◌, ℕ, subst, zero, suc, ◌+◌, ◌<◌, ◌≤◌, List, [], ◌∷◌, length, map, replicate, sym, refl, ap, ◌∙◌, ⊎_elim, arith, Option, Some, None, get_or}
 use Rattle.std.specs.Prelude.{slice_get}
 use mathlib.Core.Option.{some, some-injective, some-ne-none}
 use mathlib.Core.Logic.{dite}
@@ -21,9 +21,11 @@ use Rattle.fabric_core.specs.Kept.{IsSoundFabric}
 use Rattle.hall_laws.specs.declared.part.PartValue.{PartValue}
 use Rattle.hall_laws.specs.declared.token.Token.{Token}
 use Rattle.hall_laws.specs.declared.token.Start.{Start}
+use Rattle.hall_laws.specs.declared.token.Knowledge.{Knowledge}
 use Rattle.hall_laws.specs.Parts.{parts_of}
 use Rattle.hall_laws.specs.Standing.{word_of, named, serving, token_of}
 use Rattle.hall_laws.specs.Standing as hall
+use Rattle.hall_laws.specs.Story.{Act, Tells, IsStoryOf}
 use Rattle.hall_laws.specs.Rule.{Traced, IsSoundTraced, Fits, Kept, HasConfig, newcomer, newcomers, parts}
 use Rattle.hall_assembly.specs.Opens.{IsUnused, Left}
 
@@ -76,46 +78,58 @@ all_zero zero j x e = absurd (some-ne-none x (sym e))
 all_zero (suc n) zero x e = sym (some-injective 0 x e)
 all_zero (suc n) (suc j) x e = all_zero n j x e
 
-numbered : (c : Config) (m count n : ℕ) → (named n (newcomers c m count) ≤ 1) × (n < m → named n (newcomers c m count) ≡ 0)
-numbered c m zero n = (omega arith, λ h. refl)
-numbered c m (suc count) n = let h = numbered c (suc m) count n in dite (ℕ_discrete n m)
+numbered : (c : Config) (f : Fabric) (seats m count n : ℕ) → (named n (newcomers c f seats m count) ≤ 1) × (n < m → named n (newcomers c f seats m count) ≡ 0)
+numbered c f seats m zero n = (omega arith, λ h. refl)
+numbered c f seats m (suc count) n = let h = numbered c f seats (suc m) count n in dite (ℕ_discrete n m)
     (λ same. let one = one_is n m same in let none = h.1 (omega arith) in (omega arith, λ big. omega arith))
     (λ ne. let zero_here = not_same n m ne in let most = h.0 in (omega arith, λ big. let none = h.1 (omega arith) in omega arith))
 
-unserved : (c : Config) (m count n : ℕ) → serving n (newcomers c m count) ≡ 0
-unserved c m zero n = refl
-unserved c m (suc count) n = let h = unserved c (suc m) count n in omega arith
+unserved : (c : Config) (f : Fabric) (seats m count n : ℕ) → serving n (newcomers c f seats m count) ≡ 0
+unserved c f seats m zero n = refl
+unserved c f seats m (suc count) n = let h = unserved c f seats (suc m) count n in omega arith
 
-new_fits : (f : Fabric) (c : Config) (n : ℕ) → HasConfig f c → Fits (record { fabric = f; records = [] }) (newcomer c n).knows
-new_fits f c n config = record {
+-- nothing has happened since a hall with so many seats was made of this fabric
+abbrev pub at_start : Fabric → ℕ → Traced
+at_start f seats = record { seats = seats; opened = f; acts = []; fabric = f; records = [] }
+
+new_fits : (f : Fabric) (c : Config) (seats n : ℕ) → n < seats → HasConfig f c → Fits (at_start f seats) (newcomer c f seats n).knows
+new_fits f c seats n small config = record {
   config = config;
+  opened = refl;
+  seats = refl;
+  seat = small;
   seen = (f.memory.entries, refl);
   made = refl;
   pending = refl;
   told = λ a r at. absurd (cc);
   served = tt;
+  did = refl;
 }
 
-all_seated : (f : Fabric) (words : List ℕ) (c : Config) (m count : ℕ) → HasConfig f c → Each (hall.Seated parts IsSoundTraced Fits (record { fabric = f; records = [] }) words) (newcomers c m count)
-all_seated f words c m zero config = tt
-all_seated f words c m (suc count) config = ((tt, new_fits f c m config), all_seated f words c (suc m) count config)
+all_seated : (f : Fabric) (words : List ℕ) (c : Config) (seats m count : ℕ) → m + count ≤ seats → HasConfig f c → Each (hall.Seated parts IsSoundTraced Fits (at_start f seats) words) (newcomers c f seats m count)
+all_seated f words c seats m zero few config = tt
+all_seated f words c seats m (suc count) few config = ((tt, new_fits f c seats m (omega arith) config), all_seated f words c seats (suc m) count (omega arith) config)
 
-pub opens : (f : Fabric) (n m : ℕ) (xs : List (Option PartValue)) (key : Start) → IsSoundFabric f → Belongs (whole_of f) [] → HasConfig f key.config → xs ≡ map Some (parts_of f) → n ≡ word_of (length xs) → Kept key (opening (replicate n 0) xs (newcomers key.config 0 m))
+pub opens : (f : Fabric) (n m : ℕ) (xs : List (Option PartValue)) (key : Start) → IsSoundFabric f → Belongs (whole_of f) [] → HasConfig f key.config → xs ≡ map Some (parts_of f) → n ≡ word_of (length xs) → Kept key (opening (replicate n 0) xs (newcomers key.config f m 0 m))
 opens f n m xs key sound belongs config is count =
     let long : length xs ≡ length (parts_of f) = ap length is ∙ length-map (parts_of f) Some in record {
-      whole = record { fabric = f; records = [] };
-      sound = record { sound = sound; belongs = belongs };
+      whole = at_start f m;
+      sound = record { sound = sound; belongs = belongs; tells = (refl, refl); by = tt };
       wide = omega (arith, length-replicate {A = ℕ} n 0);
       deep = length-map xs some ∙ long;
       at_home = λ k v free at. at_map some xs k (Some v) (ap (λ (l : List (Option PartValue)). get_elem? l k) is ∙ at_map Some (parts_of f) k v at);
       holder = λ j k e. let z = all_zero n (word_of j) (suc k) e in absurd (omega arith);
       tokens = λ j us e. ⊎_elim (λ (h : get_elem? [] j ≡ some us). absurd (some-ne-none us (sym h)))
-          (λ (h : newcomers key.config 0 m ≡ us). subst (Each (hall.Seated parts IsSoundTraced Fits (record { fabric = f; records = [] }) (replicate n 0))) h (all_seated f (replicate n 0) key.config 0 m config)) (at_snoc [] (newcomers key.config 0 m) us j e);
-      apart = λ k. let h = (numbered key.config 0 m k).0 in omega arith;
-      served = λ k. let h = unserved key.config 0 m k in omega arith;
+          (λ (h : newcomers key.config f m 0 m ≡ us). subst (Each (hall.Seated parts IsSoundTraced Fits (at_start f m) (replicate n 0))) h (all_seated f (replicate n 0) key.config m 0 m (omega arith) config)) (at_snoc [] (newcomers key.config f m 0 m) us j e);
+      apart = λ k. let h = (numbered key.config f m 0 m k).0 in omega arith;
+      served = λ k. let h = unserved key.config f m 0 m k in omega arith;
     }
 
 -- ---- a closed table
+
+each_map : {X : Type 0} {P Q : X → Type 0} → ((x : X) → P x → Q x) → (es : List X) → Each P es → Each Q es
+each_map f [] h = tt
+each_map f (e ∷ es) h = (f e h.0, each_map f es h.1)
 
 same_lists : {X : Type 0} (xs ys : List X) → length xs ≡ length ys → ((k : ℕ) (y : X) → get_elem? ys k ≡ some y → get_elem? xs k ≡ some y) → xs ≡ ys
 same_lists [] [] n h = refl
@@ -127,11 +141,16 @@ same_config : (f : Fabric) (c : Config) → HasConfig f c → config_of f ≡ c
 same_config f c h = λ i. record { requesters = h.requesters i; base = h.base i; size = h.size i; credits = h.credits i; block = h.block i }
 
 -- where each word is 0, the slots are the parts of a sound fabric that the seat leaves
-pub closes : (key : Start) (id : ℕ) (v : List Token) (ws : List ℕ) (xs : List (Option PartValue)) → 0 < length v → Final (Seen (Kept key) id v) ws xs → ((k : ℕ) → k < length xs → get_elem? ws (word_of k) ≡ some 0) → Left (token_of v).knows xs
+pub closes : (key : Start) (id : ℕ) (v : List Token) (ws : List ℕ) (xs : List (Option PartValue)) → 0 < length v → Final (Seen (Kept key) id v) ws xs → ((k : ℕ) → k < length xs → get_elem? ws (word_of k) ≡ some 0) → Left v xs
 closes key id [] ws xs some_token (s, (r, at), words, count, home) free = absurd (omega arith)
 closes key id (t ∷ ts) ws xs some_token (s, (r, at), words, count, home) free =
     let p : Traced = r.whole in
-    let mine : Fits p t.knows = (r.tokens id (t ∷ ts) at).0.1 in (
+    let mine : Fits p t.knows = (r.tokens id (t ∷ ts) at).0.1 in
+    let story : (w : Knowledge) → Fits p w → IsStoryOf p.acts p.records p.fabric w = λ w f. record {
+      tells = subst (λ (g : Fabric). Tells g p.acts p.records p.fabric) (sym f.opened) r.sound.tells;
+      own = f.did;
+      by = subst (λ (n : ℕ). Each (λ (a : Act). a.by < n) p.acts) (sym f.seats) r.sound.by;
+    } in (
       p.fabric,
       record {
         sound = r.sound.sound;
@@ -139,7 +158,9 @@ closes key id (t ∷ ts) ws xs some_token (s, (r, at), words, count, home) free 
         right_config = subst IsConfig (same_config p.fabric t.knows.config mine.config) r.sound.sound.config;
         begins = mine.seen;
         made = subst (Rattle.fabric_laws.specs.Trace.IsMade (suc t.knows.number) (Rattle.fabric_laws.specs.Whole.view (whole_of p.fabric) (suc t.knows.number))) (sym mine.made) (r.sound.belongs.made (suc t.knows.number));
+        ran = record { acts = p.acts; told = p.records; tells = (story t.knows mine).tells; own = mine.did };
       },
+      (p.acts, p.records, each_map (λ (u : Token) (h : hall.Seated parts IsSoundTraced Fits p s.words u). story u.knows h.1) (t ∷ ts) (r.tokens id (t ∷ ts) at)),
       same_lists xs (map Some (parts p)) (omega (arith, r.deep, count, length-map {A = PartValue} (parts p) Some))
           (λ k y e. let x : (v : PartValue) × (get_elem? (parts p) k ≡ some v) = there (parts p) k (omega (arith, at_length (map Some (parts p)) k y e, length-map {A = PartValue} (parts p) Some)) in
           let small : k < length (parts p) = at_length (parts p) k x.0 x.1 in

@@ -1,5 +1,7 @@
 -- What a hall is opened of, and what a closed one is.
 use Rattle.std.specs.Prelude.{◌≡◌, suc, List, [], map, Option, Some}
+use Rattle.history_check.specs.declared.Record.{Record}
+use Rattle.fabric_laws.specs.Lists.{Each}
 use Rattle.fabric_laws.specs.Fabric.{Fabric, whole_of}
 use Rattle.fabric_laws.specs.Whole.{view}
 use Rattle.fabric_laws.specs.Trace.{IsMade}
@@ -7,8 +9,11 @@ use Rattle.fabric_core.specs.Config.{IsConfig}
 use Rattle.fabric_core.specs.Kept.{IsSoundFabric}
 use Rattle.fabric_core.specs.Quiet.{IsQuiet}
 use Rattle.hall_laws.specs.declared.part.PartValue.{PartValue}
+use Rattle.hall_laws.specs.declared.token.Token.{Token}
 use Rattle.hall_laws.specs.declared.token.Knowledge.{Knowledge}
 use Rattle.hall_laws.specs.Parts.{parts_of}
+use Rattle.hall_laws.specs.Standing.{token_of}
+use Rattle.hall_laws.specs.Story.{Act, IsStoryOf, Ran}
 use Rattle.hall_laws.specs.Rule.{Begins, HasConfig}
 
 -- every lane's content is empty, and nothing has acted
@@ -25,7 +30,13 @@ pub record Leaves (w : Knowledge) (f : Fabric) : Type 0 where
   pub begins : Begins w.seen f.memory.entries
   -- what the seat submitted is what the requester has
   pub made : IsMade (suc w.number) (view (whole_of f) (suc w.number)) w.made
+  -- one list of acts leads to it from the fabric that the hall was made of, and the seat's are what it did
+  pub ran : Ran w f
+
+-- one list of acts leads to the fabric, and has what the seat of each token did
+abbrev pub AllRan : List Token → Fabric → Type 0
+AllRan ts f = (acts : List Act) × (told : List Record) × Each (λ (t : Token). IsStoryOf acts told f t.knows) ts
 
 -- the slots have the parts of a fabric that the seat leaves
-abbrev pub Left : Knowledge → List (Option PartValue) → Type 0
-Left w xs = (f : Fabric) × Leaves w f × (xs ≡ map Some (parts_of f))
+abbrev pub Left : List Token → List (Option PartValue) → Type 0
+Left ts xs = (f : Fabric) × Leaves (token_of ts).knows f × AllRan ts f × (xs ≡ map Some (parts_of f))

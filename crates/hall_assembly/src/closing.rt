@@ -7,8 +7,8 @@ ghost use Rattle.lane_ends.specs.Steps.{LaneEndsView};
 ghost use Rattle.fabric_laws.specs.Fabric.{Fabric};
 ghost use Rattle.fabric_core.specs.Steps.{HasLanes};
 ghost use Rattle.hall_laws.specs.Calls.{IsSized};
-ghost use Rattle.hall_assembly.specs.Opens.{Leaves};
-ghost use Rattle.hall_laws.specs.Parts.{parts_of, part_slot};
+ghost use Rattle.hall_assembly.specs.Opens.{Leaves, AllRan};
+ghost use Rattle.hall_laws.specs.Parts.{parts_of, part_slot, IsPartName};
 ghost use Rattle.hall_laws.specs.Standing.{token_of};
 ghost use Rattle.hall_assembly.specs.Closes.{IsEmptiedTo, PartAt, EndsAt, StationFrom, StationsAt};
 
@@ -141,7 +141,8 @@ fn discard(mut closed: Slots)
 /// The part of a slot.
 fn part_of(slot: usize) -> Part
     requires { slot < 72 }
-    ensures { part_slot result ≡ slot }
+    ensures slot { part_slot result ≡ slot }
+    ensures named { (requesters : ℕ) → slot < 9 * (1 + requesters) → IsPartName requesters result }
 {
     let port = (slot / 9) as u8;
     let (first, second) = if port == 0 {
@@ -170,7 +171,7 @@ pub struct StillHeld {
     pub word: u64,
 }
 
-/// The fabric of all parts, which the seat fits.
+/// The fabric of all parts, which the seat fits. One list of acts leads to it, and has what the seat of each token did.
 pub fn close(
     board: Board,
     shelves: Shelves,
@@ -181,7 +182,8 @@ pub fn close(
     requires empty { (vec_len shelves.requesters ≡ 0) × (vec_len shelves.up ≡ 0) × (vec_len shelves.down ≡ 0) }
     requires room { (config.now.requesters ≤ vec_capacity shelves.requesters) × (config.now.requesters ≤ vec_capacity shelves.up) × (config.now.requesters ≤ vec_capacity shelves.down) }
     ensures closed { IfOk result (λ f. Leaves (token_of place.me.0).knows f) }
-    ensures held { IfErr result (λ e. e.word ≢ 0) }
+    ensures all { IfOk result (λ f. AllRan place.me.0 f) }
+    ensures held { IfErr result (λ e. (e.word ≢ 0) × IsPartName config.now.requesters e.part) }
 {
     let count = board.slot_count();
     let closed = board.close_with(place);

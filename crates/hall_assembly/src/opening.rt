@@ -20,6 +20,7 @@ use lane_core::LaneEnds;
 use requester_core::Requester;
 use std::alloc::{AllocError, Global};
 use std::collections::LinkedList;
+use std::snapshot::Snapshot;
 
 pub type Board = Table<Option<PartValue>, LinkedList<Token>, Start, FabricRule, Global>;
 
@@ -158,11 +159,13 @@ pub fn open(fabric: Fabric, work: usize, alloc: Global) -> Result<Opened, AllocE
     requires { IsUnused fabric × (work ≤ 64) }
     ensures config { IfOk result (λ t. HasConfig fabric t.config) }
     ensures table { IfOk result (λ t. IsSized t.board.shared.table_id t.config.requesters × (t.place.table_id ≡ t.board.shared.table_id)) }
-    ensures tokens { IfOk result (λ t. t.place.me ≡ (newcomers t.config 0 (t.config.requesters + work), [])) }
+    ensures about { IfOk result (λ t. (t.board.shared.key.opened.value ≡ fabric) × (t.board.shared.key.seats ≡ t.config.requesters + work)) }
+    ensures tokens { IfOk result (λ t. t.place.me ≡ (newcomers t.config t.board.shared.key.opened.value t.board.shared.key.seats 0 (t.config.requesters + work), [])) }
     ensures shelves { IfOk result (λ t. (vec_len t.shelves.requesters ≡ 0) × (vec_len t.shelves.up ≡ 0) × (vec_len t.shelves.down ≡ 0) × (t.config.requesters ≤ vec_capacity t.shelves.requesters) × (t.config.requesters ≤ vec_capacity t.shelves.up) × (t.config.requesters ≤ vec_capacity t.shelves.down)) }
 {
     the_trace_belongs();
     quiet_is_all_acted();
+    let opened = Snapshot::of(&fabric);
     let parts = fabric.into_parts();
     let config = config_of(&parts);
     let (slots, shelves) = slots_of(parts, alloc)?;
@@ -170,6 +173,7 @@ pub fn open(fabric: Fabric, work: usize, alloc: Global) -> Result<Opened, AllocE
     let about = Start {
         config,
         seats: u64::from(config.requesters) + work as u64,
+        opened,
     };
     match Table::new(alloc, words.as_slice(), slots, &about) {
         Ok((board, place)) => Ok(Opened {

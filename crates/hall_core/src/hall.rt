@@ -2,14 +2,16 @@
 ghost use Rattle.std.specs.Prelude.{◌≡◌, ◌≢◌, ◌+◌, ◌<◌, ◌≤◌, List, length, IfOk, IfErr, MatchOption};
 ghost use Rattle.seq_memory.specs.declared.Entry.{Entry};
 ghost use Rattle.fabric_core.specs.declared.event.Event.TheVariants.{Submit, Collect};
+ghost use Rattle.hall_laws.specs.declared.part.Part.TheVariants.{Memory};
 ghost use Rattle.hall_laws.specs.Shows.{Shows};
 ghost use Rattle.hall_laws.specs.Calls.{IsSized};
+ghost use Rattle.hall_laws.specs.Parts.{IsPartName};
 ghost use Rattle.hall_laws.specs.Rule.{HasConfig};
 ghost use Rattle.hall_laws.specs.Tells.{SubmitTells, CollectTells, SeesTells, Met};
 ghost use Rattle.hall_assembly.specs.Opens.{IsUnused, Leaves};
 ghost use Rattle.hall_events.specs.Refusals.{IsRefused, IsPossibleInHall, IsBusy};
 ghost use Rattle.hall_events.specs.Works.{Pumped, event_of};
-ghost use Rattle.hall_core.specs.Faults.{HasHallFault};
+ghost use Rattle.hall_core.specs.Faults.{IsSeatCount, HasHallFault};
 ghost use Rattle.hall_core.specs.Views.{AreNewSeats, IsSeatOf};
 
 use crate::fault::HallFault;
@@ -47,7 +49,7 @@ impl Model for Hall {
 
     ghost use Rattle.hall_laws.specs.Calls.{IsSized};
 
-    ghost view = { λ h. record { table_id = h.board.shared.table_id; config = h.config } };
+    ghost view = { λ h. record { table_id = h.board.shared.table_id; config = h.config; opened = h.board.shared.key.opened.value; seats = h.board.shared.key.seats } };
 
     ghost invariant = { λ h. IsSized h.board.shared.table_id h.config.requesters × (vec_len h.shelves.requesters ≡ 0) × (vec_len h.shelves.up ≡ 0) × (vec_len h.shelves.down ≡ 0) × (h.config.requesters ≤ vec_capacity h.shelves.requesters) × (h.config.requesters ≤ vec_capacity h.shelves.up) × (h.config.requesters ≤ vec_capacity h.shelves.down) };
 }
@@ -65,8 +67,11 @@ impl Hall {
     ) -> Result<(Hall, Vec<ReqSeat>, Vec<WorkSeat>), HallFault>
         requires { IsUnused fabric }
         ensures config { IfOk result (λ t. HasConfig fabric t.0.config) }
-        ensures requesters { IfOk result (λ t. AreNewSeats t.0.table_id t.0.config 0 t.0.config.requesters t.1.items) }
-        ensures work { IfOk result (λ t. AreNewSeats t.0.table_id t.0.config t.0.config.requesters work t.2.items) }
+        ensures opened { IfOk result (λ t. t.0.opened ≡ fabric) }
+        ensures seats { IfOk result (λ t. t.0.seats ≡ t.0.config.requesters + work) }
+        ensures requesters { IfOk result (λ t. AreNewSeats t.0 0 t.0.config.requesters t.1.items) }
+        ensures work { IfOk result (λ t. AreNewSeats t.0 t.0.config.requesters work t.2.items) }
+        ensures count { IfOk result (λ _. IsSeatCount work) }
         ensures fault { IfErr result (λ fault. HasHallFault work fault) }
     {
         if work == 0 || work > 64 {
@@ -177,7 +182,7 @@ impl Hall {
         requires second { IsSeatOf self.now second }
         ensures seats { IfOk result (λ r. IsSeatOf self.now r.0 × IsSeatOf self.now r.1) }
         ensures met { IfOk result (λ r. (h : List Entry) × (r.2 ≡ length h) × Met first.knows h r.0.knows × Met second.knows h r.1.knows) }
-        ensures refused { IfErr result (λ r. IsBusy r.0 × (r.1 ≡ first) × (r.2 ≡ second)) }
+        ensures refused { IfErr result (λ r. IsBusy first.knows Memory r.0 × (r.1 ≡ first) × (r.2 ≡ second)) }
     {
         let (one, two) = (first.number, second.number);
         let steps = &self.board.shared;
@@ -220,12 +225,13 @@ impl Hall {
         desk.pump(event)
     }
 
-    /// The fabric of all parts, whose history begins with all that the seat has seen. Where a part's word isn't 0, that
-    /// part is told, and the hall and the seat are spent.
+    /// The fabric of all parts, whose history begins with all that the seat has seen. One list of events leads to it from
+    /// the fabric that the hall was made of, and what the seat did stands in it, in its order. Where a part's word isn't
+    /// 0, that part is told, and the hall and the seat are spent.
     pub fn close(self, seat: ReqSeat) -> Result<Fabric, StillHeld>
         requires { IsSeatOf self seat }
         ensures closed { IfOk result (λ f. Leaves seat.knows f) }
-        ensures held { IfErr result (λ e. e.word ≢ 0) }
+        ensures held { IfErr result (λ e. (e.word ≢ 0) × IsPartName self.config.requesters e.part) }
     {
         let Hall {
             board,

@@ -89,9 +89,9 @@ pub fn req_seats(
     alloc: Global,
 ) -> Result<Vec<ReqSeat>, AllocError>
     requires table { (place.old.table_id ≡ steps.now.table_id) × (0 < steps.now.table_id.words) × (config.now.requesters ≤ 7) }
-    requires tokens { place.old.me ≡ (newcomers config.now 0 (config.now.requesters + work), []) }
-    ensures seats { IfOk result (λ v. AreNewSeats steps.now.table_id config.now 0 config.now.requesters v.items) }
-    ensures rest { IfOk result (λ _. (place.new.table_id ≡ place.old.table_id) × (place.new.me ≡ (newcomers config.now config.now.requesters work, []))) }
+    requires tokens { place.old.me ≡ (newcomers config.now steps.now.key.opened.value steps.now.key.seats 0 (config.now.requesters + work), []) }
+    ensures seats { IfOk result (λ v. AreNewSeats (record { table_id = steps.now.table_id; config = config.now; opened = steps.now.key.opened.value; seats = steps.now.key.seats }) 0 config.now.requesters v.items) }
+    ensures rest { IfOk result (λ _. (place.new.table_id ≡ place.old.table_id) × (place.new.me ≡ (newcomers config.now steps.now.key.opened.value steps.now.key.seats config.now.requesters work, []))) }
 {
     let mut seats = Vec::with_capacity(alloc, usize::from(config.requesters))?;
     for number in 0..config.requesters {
@@ -113,8 +113,8 @@ pub fn work_seats(
     alloc: Global,
 ) -> Result<Vec<WorkSeat>, AllocError>
     requires table { (place.old.table_id ≡ steps.now.table_id) × (0 < steps.now.table_id.words) × (work ≤ 64) }
-    requires tokens { place.old.me ≡ (newcomers config.now config.now.requesters work, []) }
-    ensures seats { IfOk result (λ v. AreNewSeats steps.now.table_id config.now config.now.requesters work v.items) }
+    requires tokens { place.old.me ≡ (newcomers config.now steps.now.key.opened.value steps.now.key.seats config.now.requesters work, []) }
+    ensures seats { IfOk result (λ v. AreNewSeats (record { table_id = steps.now.table_id; config = config.now; opened = steps.now.key.opened.value; seats = steps.now.key.seats }) config.now.requesters work v.items) }
 {
     let mut seats = Vec::with_capacity(alloc, work)?;
     for index in 0..work {

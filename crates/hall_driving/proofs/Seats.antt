@@ -4,8 +4,8 @@ use Rattle.std.specs.Prelude.{slice_get, option_to_list}
 use Rattle.fabric_laws.specs.ListFacts.{get_before, get_seam}
 use Rattle.hall_core.specs.Views.{HallView, SeatView, AreNewSeats, IsSeatOf, AreSeatsOf}
 
-pub new_fit : (h : HallView) (first count : ℕ) (xs : List SeatView) → AreNewSeats h.table_id h.config first count xs → AreSeatsOf h xs
-new_fit h first count xs new i s at = let p = new.each i s at in (p.0, ap (λ k. k.config) p.1)
+pub new_fit : (h : HallView) (first count : ℕ) (xs : List SeatView) → AreNewSeats h first count xs → AreSeatsOf h xs
+new_fit h first count xs new i s at = let p = new.each i s at in (p.0, ap (λ k. k.config) p.1, ap (λ k. k.opened) p.1, ap (λ k. k.seats) p.1)
 
 some_fits : (h : HallView) (xs ys : List SeatView) (o : Option SeatView) → xs ≡ ys ++ option_to_list o → AreSeatsOf h xs → IfSome o (IsSeatOf h)
 some_fits h xs ys None e all = tt

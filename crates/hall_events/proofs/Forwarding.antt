@@ -10,7 +10,7 @@ use Rattle.hall_laws.specs.declared.token.Token.{Token}
 use Rattle.hall_laws.specs.Causes.{KnownHolding, UpHasNoWay, UpIsKept, OutHasNoWay, OutHasNoLane, OutIsKept}
 use Rattle.hall_laws.specs.Duties.{ForwardUpOwes, ForwardOutOwes}
 use Rattle.hall_laws.specs.Parts.{lane_slot, slot, IsLaneName}
-use Rattle.hall_laws.specs.Rule.{Goes}
+use Rattle.hall_laws.specs.Rule.{Goes, after_silent}
 use Rattle.hall_laws.specs.Shows.{MayRefuse}
 use Rattle.fabric_core.specs.Answers.{Refuses, lane_grows, forward_on, ForwardFits}
 use Rattle.hall_events.specs.Ways.{LeadsIn, Leads, ForwardOwes, ForwardIsRefused, PacketHasNoWay}
@@ -30,10 +30,10 @@ named_lane count (lanes.Down port) named = absurd named
 
 pub forward_owes : ForwardUpOwes → ForwardOutOwes → ForwardOwes
 forward_owes up out t (lanes.Up port) next place to r r' s s' named leads =
-    subst (λ (n : LaneName). t.held ≡ (lane_slot n, Sender s) ∷ ((slot port 1 + 3, Receiver r) ∷ []) → forward_on r place s ≡ Ok (r', s') → ForwardFits r place → Goes (events.Forward (lanes.Up port) place) (To to) t (slot port 1 + 3) (Receiver r') (record t { held = (lane_slot n, Sender s') ∷ [] })) (sym leads.1)
+    subst (λ (n : LaneName). t.held ≡ (lane_slot n, Sender s) ∷ ((slot port 1 + 3, Receiver r) ∷ []) → forward_on r place s ≡ Ok (r', s') → ForwardFits r place → Goes (events.Forward (lanes.Up port) place) (To to) t (slot port 1 + 3) (Receiver r') (after_silent (events.Forward (lanes.Up port) place) (To to) ((lane_slot n, Sender s') ∷ []) t)) (sym leads.1)
     (λ held did fits. up t port place to r r' s s' named held leads.0 did fits)
 forward_owes up out t lanes.Outward next place to r r' s s' named leads =
-    subst (λ (n : LaneName). t.held ≡ (lane_slot n, Sender s) ∷ ((8, Receiver r) ∷ []) → forward_on r place s ≡ Ok (r', s') → ForwardFits r place → Goes (events.Forward lanes.Outward place) (To to) t 8 (Receiver r') (record t { held = (lane_slot n, Sender s') ∷ [] })) (sym leads.1)
+    subst (λ (n : LaneName). t.held ≡ (lane_slot n, Sender s) ∷ ((8, Receiver r) ∷ []) → forward_on r place s ≡ Ok (r', s') → ForwardFits r place → Goes (events.Forward lanes.Outward place) (To to) t 8 (Receiver r') (after_silent (events.Forward lanes.Outward place) (To to) ((lane_slot n, Sender s') ∷ []) t)) (sym leads.1)
     (λ held did fits. out t place to r r' s s' (leads.2, leads.3) held leads.0 did fits)
 forward_owes up out t lanes.Inward next place to r r' s s' named leads = absurd named
 forward_owes up out t (lanes.Down port) next place to r r' s s' named leads = absurd named

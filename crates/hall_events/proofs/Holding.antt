@@ -9,7 +9,7 @@ use Rattle.hall_laws.specs.Standing.{Sat, Values, Outside, token_of, holding_fir
 use Rattle.fabric_core.specs.declared.event.Event.{Event}
 use Rattle.fabric_core.specs.declared.event.Seen.{Seen}
 use Rattle.hall_laws.specs.Parts.{part_slot}
-use Rattle.hall_laws.specs.Rule.{Goes}
+use Rattle.hall_laws.specs.Rule.{Goes, with_done}
 use Rattle.hall_events.specs.declared.desk.Desk.{Desk}
 use Rattle.hall_events.specs.declared.desk.Held.{Held}
 use Rattle.hall_events.specs.Desks.{Happened, entry, knows}
@@ -31,12 +31,12 @@ known_now m ts es is known = subst (λ (s : Sat). Known s.0) (sym is) known
 -- an event over two parts, by their slots
 pub happened : (d : Desk) (one two : Held) (w : Knowledge) (j k : ℕ) (v u : PartValue) (event : Event) (what : Seen) → part_slot one.part ≡ j → part_slot two.part ≡ k
     → d.place.now.me ≡ having w ((k, u) ∷ ((j, v) ∷ []))
-    → Goes event what (record { knows = w; held = (k, u) ∷ ((j, v) ∷ []) }) j one.value (record { knows = w; held = (k, two.value) ∷ [] }) → Happened d one two
+    → Goes event what (record { knows = w; held = (k, u) ∷ ((j, v) ∷ []) }) j one.value (record { knows = with_done event what w; held = (k, two.value) ∷ [] }) → Happened d one two (with_done event what (knows d))
 happened d one two w j k v u event what at_one at_two me goes =
-    let G : Knowledge → ℕ → ℕ → Type 0 = λ z a b. (d.place.now.me ≡ having z ((b, u) ∷ ((a, v) ∷ []))) × Goes event what (record { knows = z; held = (b, u) ∷ ((a, v) ∷ []) }) a one.value (record { knows = z; held = (b, two.value) ∷ [] }) in
+    let G : Knowledge → ℕ → ℕ → Type 0 = λ z a b. (d.place.now.me ≡ having z ((b, u) ∷ ((a, v) ∷ []))) × Goes event what (record { knows = z; held = (b, u) ∷ ((a, v) ∷ []) }) a one.value (record { knows = with_done event what z; held = (b, two.value) ∷ [] }) in
     let same : knows d ≡ w = ap (λ (s : Sat). (token_of s.0).knows) me in
     let r : G (knows d) (part_slot one.part) (part_slot two.part) = subst (λ (z : Knowledge). G z (part_slot one.part) (part_slot two.part)) (sym same) (over (G w) _ _ _ _ at_one at_two (me, goes)) in
-    (v, u, r.0, event, what, r.1)
+    (v, u, r.0, refl, event, what, r.1)
 
 -- the part that was taken last is back
 pub last_back : (m m' : Sat) (w : Knowledge) (x : ℕ × PartValue) (h : Values) → m ≡ having w (x ∷ h) → m' ≡ having (token_of m.0).knows (drop 1 (token_of m.0).held) → m' ≡ having w h

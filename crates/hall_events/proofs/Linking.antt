@@ -19,7 +19,7 @@ use Rattle.hall_laws.specs.declared.token.Token.{Token}
 use Rattle.hall_laws.specs.Causes.{KnownHolding, TransmitIsRefused, SenderHasNothing, DeliverIsRefused, WireHasNothing, SendDllpIsRefused, DeliverDllpIsRefused, BackHasNothing, TimerIsRefused, RetrainedIsRefused}
 use Rattle.hall_laws.specs.Duties.{KnowsLane, TransmitOwes, DeliverOwes, SendDllpOwes, DeliverDllpOwes, TimerOwes, RetrainedOwes}
 use Rattle.hall_laws.specs.Parts.{lane_slot, part_slot, IsLaneName, IsPartName, IsPartValue}
-use Rattle.hall_laws.specs.Rule.{Goes}
+use Rattle.hall_laws.specs.Rule.{Goes, after_silent}
 use Rattle.hall_laws.specs.Shows.{MayRefuse}
 use Rattle.hall_events.specs.Acts.{acts, acts_alone, AreEnds, HasNothing}
 use Rattle.hall_events.specs.Ends.{ends_of, LinkOwes, LinkIsRefused, LinkHasNothing, AloneOwes, AloneIsRefused}
@@ -56,7 +56,7 @@ ends_are name = by_ends name (λ event first second. (one two : PartValue) → I
 abbrev Owed : LaneName → LinkEvent → Part → Part → Type 0
 Owed name event first second = (t : Token) (one two one' two' : PartValue) (what : Seen) → KnowsLane t name → AreEnds event one two
     → t.held ≡ (part_slot second, two) ∷ ((part_slot first, one) ∷ []) → acts event one two ≡ Ok (what, one', two')
-    → Goes (link_event name event) what t (part_slot first) one' (record t { held = (part_slot second, two') ∷ [] })
+    → Goes (link_event name event) what t (part_slot first) one' (after_silent (link_event name event) what ((part_slot second, two') ∷ []) t)
 
 pub link_owes : TransmitOwes → DeliverOwes → SendDllpOwes → DeliverDllpOwes → LinkOwes
 link_owes transmit deliver send_dllp deliver_dllp t name event first second one two one' two' what named is ends held did =
@@ -76,7 +76,7 @@ link_owes transmit deliver send_dllp deliver_dllp t name event first second one 
     event first second is t one two one' two' what named ends held did
   where
     After : Token → LinkEvent → ℕ → ℕ → Seen × PartValue × PartValue → Type 0
-    After t event j k y = Goes (link_event name event) y.0 t j y.1 (record t { held = (k, y.2) ∷ [] })
+    After t event j k y = Goes (link_event name event) y.0 t j y.1 (after_silent (link_event name event) y.0 ((k, y.2) ∷ []) t)
 
 abbrev MayBeRefused : LaneName → LinkEvent → Part → Part → Type 0
 MayBeRefused name event first second = (t : Token) (ts : List Token) (one two : PartValue) (r : Refusal) → KnowsLane t name → AreEnds event one two
@@ -117,11 +117,11 @@ link_nothing transmit deliver deliver_dllp t ts name event first second one name
 
 pub alone_owes : TimerOwes → RetrainedOwes → AloneOwes
 alone_owes timer retrained t name links.Timer one one' what named end is =
-    subst (λ (v : PartValue). t.held ≡ (lane_slot name, v) ∷ [] → acts_alone links.Timer v ≡ Ok (what, one') → Goes (events.Timer name) what t (lane_slot name) one' (record t { held = [] })) (sym end.1)
-    (λ held did. of_ok (timer_on end.0) _ (λ (y : Seen × PartValue). Goes (events.Timer name) y.0 t (lane_slot name) y.1 (record t { held = [] })) (what, one') (λ x is. timer t name end.0 x.1 x.0 named held is) did)
+    subst (λ (v : PartValue). t.held ≡ (lane_slot name, v) ∷ [] → acts_alone links.Timer v ≡ Ok (what, one') → Goes (events.Timer name) what t (lane_slot name) one' (after_silent (events.Timer name) what [] t)) (sym end.1)
+    (λ held did. of_ok (timer_on end.0) _ (λ (y : Seen × PartValue). Goes (events.Timer name) y.0 t (lane_slot name) y.1 (after_silent (events.Timer name) y.0 [] t)) (what, one') (λ x is. timer t name end.0 x.1 x.0 named held is) did)
 alone_owes timer retrained t name links.Retrained one one' what named end is =
-    subst (λ (v : PartValue). t.held ≡ (lane_slot name, v) ∷ [] → acts_alone links.Retrained v ≡ Ok (what, one') → Goes (events.Retrained name) what t (lane_slot name) one' (record t { held = [] })) (sym end.1)
-    (λ held did. of_ok (retrained_on end.0) _ (λ (y : Seen × PartValue). Goes (events.Retrained name) y.0 t (lane_slot name) y.1 (record t { held = [] })) (what, one') (λ x is. retrained t name end.0 x named held is) did)
+    subst (λ (v : PartValue). t.held ≡ (lane_slot name, v) ∷ [] → acts_alone links.Retrained v ≡ Ok (what, one') → Goes (events.Retrained name) what t (lane_slot name) one' (after_silent (events.Retrained name) what [] t)) (sym end.1)
+    (λ held did. of_ok (retrained_on end.0) _ (λ (y : Seen × PartValue). Goes (events.Retrained name) y.0 t (lane_slot name) y.1 (after_silent (events.Retrained name) y.0 [] t)) (what, one') (λ x is. retrained t name end.0 x named held is) did)
 alone_owes timer retrained t name links.Transmit one one' what named end is = absurd (cc)
 alone_owes timer retrained t name (links.Deliver fate) one one' what named end is = absurd (cc)
 alone_owes timer retrained t name (links.SendDllp kind) one one' what named end is = absurd (cc)

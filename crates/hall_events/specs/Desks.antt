@@ -34,6 +34,10 @@ IsSame d d' =
     (d'.steps ≡ d.steps) × (d'.number ≡ d.number) × (d'.requesters ≡ d.requesters) × (d'.place.ghost_name ≡ d.place.ghost_name)
     × (d'.place.now.table_id ≡ d.place.now.table_id) × (d'.place.now.id ≡ d.place.now.id)
 
+-- the seat that knows this is still of the same hall
+abbrev pub IsOfHall : Knowledge → Knowledge → Type 0
+IsOfHall w w' = (w'.config ≡ w.config) × (w'.opened ≡ w.opened) × (w'.seats ≡ w.seats)
+
 -- a part that is held, by its slot
 abbrev pub entry : Held → ℕ × PartValue
 entry h = (part_slot h.part, h.value)
@@ -51,9 +55,10 @@ IsLast d h =
 abbrev pub AreApart : Desk → Held → Held → Type 0
 AreApart d one two = IsPartName d.requesters one.part × IsPartName d.requesters two.part × (part_slot one.part ≢ part_slot two.part)
 
--- the two parts that were taken, one and then two, had values with which some event happens, and have those after it
-abbrev pub Happened : Desk → Held → Held → Type 0
-Happened d one two =
+-- the two parts that were taken, one and then two, had values with which some event happens, and have those after it;
+-- the seat then knows this
+abbrev pub Happened : Desk → Held → Held → Knowledge → Type 0
+Happened d one two after =
     (v : PartValue) × (w : PartValue) × (d.place.now.me ≡ having (knows d) ((part_slot two.part, w) ∷ ((part_slot one.part, v) ∷ [])))
-    × (event : Event) × (what : Seen)
-    × Goes event what (record { knows = knows d; held = (part_slot two.part, w) ∷ ((part_slot one.part, v) ∷ []) }) (part_slot one.part) one.value (record { knows = knows d; held = entry two ∷ [] })
+    × (after.number ≡ (knows d).number) × (event : Event) × (what : Seen)
+    × Goes event what (record { knows = knows d; held = (part_slot two.part, w) ∷ ((part_slot one.part, v) ∷ []) }) (part_slot one.part) one.value (record { knows = after; held = entry two ∷ [] })

@@ -14,7 +14,7 @@ use Rattle.hall_laws.specs.declared.token.Token.{Token}
 use Rattle.hall_laws.specs.Causes.{KnownHolding}
 use Rattle.hall_laws.specs.Duties.{KnowsLane}
 use Rattle.hall_laws.specs.Parts.{lane_slot, part_slot, IsPartValue, IsSender}
-use Rattle.hall_laws.specs.Rule.{Goes}
+use Rattle.hall_laws.specs.Rule.{Goes, after_silent}
 use Rattle.hall_laws.specs.Shows.{MayRefuse}
 use Rattle.hall_events.specs.Acts.{acts, acts_alone, AreEnds, HasNothing}
 use Rattle.hall_events.specs.Works.{link_event}
@@ -34,7 +34,7 @@ LinkOwes = (t : Token) (name : LaneName) (event : LinkEvent) (first second : Par
     → ends_of name event ≡ Some (first, second) → AreEnds event one two
     → t.held ≡ (part_slot second, two) ∷ ((part_slot first, one) ∷ [])
     → acts event one two ≡ Ok (what, one', two')
-    → Goes (link_event name event) what t (part_slot first) one' (record t { held = (part_slot second, two') ∷ [] })
+    → Goes (link_event name event) what t (part_slot first) one' (after_silent (link_event name event) what ((part_slot second, two') ∷ []) t)
 
 -- where they refuse it, so does the fabric
 abbrev pub LinkIsRefused : Type 0
@@ -55,7 +55,7 @@ AloneOwes = (t : Token) (name : LaneName) (event : LinkEvent) (one one' : PartVa
     → IsSender one → ends_of name event ≡ None
     → t.held ≡ (lane_slot name, one) ∷ []
     → acts_alone event one ≡ Ok (what, one')
-    → Goes (link_event name event) what t (lane_slot name) one' (record t { held = [] })
+    → Goes (link_event name event) what t (lane_slot name) one' (after_silent (link_event name event) what [] t)
 
 abbrev pub AloneIsRefused : Type 0
 AloneIsRefused = (t : Token) (ts : List Token) (name : LaneName) (event : LinkEvent) (one : PartValue) (r : Refusal) → KnowsLane t name

@@ -13,7 +13,7 @@ use Rattle.hall_laws.specs.declared.part.PartValue.TheVariants.{Sender, Receiver
 use Rattle.hall_laws.specs.declared.token.Token.{Token}
 use Rattle.hall_laws.specs.Causes.{KnownHolding}
 use Rattle.hall_laws.specs.Parts.{lane_slot}
-use Rattle.hall_laws.specs.Rule.{Goes}
+use Rattle.hall_laws.specs.Rule.{Goes, after_silent}
 use Rattle.hall_laws.specs.Shows.{MayRefuse}
 
 -- a lane to the switch, of a fabric with so many requesters
@@ -41,7 +41,7 @@ ForwardOwes = (t : Token) (name next : LaneName) (place to : ℕ) (r r' : Receiv
     → Leads t.knows.config.requesters name r place to next
     → t.held ≡ (lane_slot next, Sender s) ∷ ((lane_slot name + 3, Receiver r) ∷ [])
     → forward_on r place s ≡ Ok (r', s') → ForwardFits r place
-    → Goes (Forward name place) (To to) t (lane_slot name + 3) (Receiver r') (record t { held = (lane_slot next, Sender s') ∷ [] })
+    → Goes (Forward name place) (To to) t (lane_slot name + 3) (Receiver r') (after_silent (Forward name place) (To to) ((lane_slot next, Sender s') ∷ []) t)
 
 -- where they refuse it, so does the fabric
 abbrev pub ForwardIsRefused : Type 0

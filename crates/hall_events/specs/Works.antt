@@ -11,6 +11,7 @@ use Rattle.hall_laws.specs.declared.token.Knowledge.{Knowledge}
 use Rattle.hall_events.specs.declared.work.WorkEvent.{WorkEvent}
 use Rattle.hall_events.specs.declared.work.WorkEvent.TheVariants as works
 use Rattle.hall_laws.specs.Calls.{serving_also}
+use Rattle.hall_laws.specs.Rule.{with_done}
 
 -- the fabric's event of that name
 abbrev pub event_of : WorkEvent → Event
@@ -32,8 +33,9 @@ link_event lane (links.DeliverDllp fate) = events.DeliverDllp lane fate
 link_event lane links.Timer = events.Timer lane
 link_event lane links.Retrained = events.Retrained lane
 
--- a serving adds the place that it gives to those that the seat filled; nothing else is learned
+-- the event happened, and no other. A serving adds the place that it gives to those that the seat filled; nothing else
+-- is learned
 abbrev pub Pumped : WorkEvent → Seen → Knowledge → Knowledge → Type 0
-Pumped (works.Serve place) (seen.At n) w w' = w' ≡ serving_also n w
+Pumped (works.Serve place) (seen.At n) w w' = w' ≡ with_done (events.Serve place) (seen.At n) (serving_also n w)
 Pumped (works.Serve place) _ w w' = ⊥
-Pumped _ what w w' = w' ≡ w
+Pumped event what w w' = w' ≡ with_done (event_of event) what w

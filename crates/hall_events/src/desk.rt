@@ -6,7 +6,7 @@ ghost use Rattle.fabric_core.specs.declared.event.Seen.{Seen};
 ghost use Rattle.hall_laws.specs.Calls.{knowing};
 ghost use Rattle.hall_laws.specs.Parts.{part_slot, IsPartName, IsPartValue, IsMemory};
 ghost use Rattle.hall_laws.specs.Rule.{Goes, history_in};
-ghost use Rattle.hall_laws.specs.Standing.{token_of, others_of};
+ghost use Rattle.hall_laws.specs.Standing.{token_of, others_of, Outside};
 ghost use Rattle.hall_events.specs.Desks.{knows, held_at, IsAtTable, IsDesk, IsSame, entry, Has, IsLast, AreApart, Happened};
 ghost use Rattle.hall_events.specs.Holds.{having};
 ghost use Rattle.hall_events.specs.Refusals.{IsBusy};
@@ -35,6 +35,19 @@ pub struct Desk<'a> {
     pub requesters: u8,
 }
 
+/// What a seat knows after an event over two parts. Each call picks it.
+pub(crate) trait Learns {
+    ghost use Rattle.hall_laws.specs.declared.token.Knowledge.{Knowledge};
+
+    ghost knows: { Knowledge };
+}
+
+impl Learns for Brand {
+    ghost use Rattle.hall_laws.specs.Standing.{nobody};
+
+    ghost knows = { nobody };
+}
+
 impl<'a> Desk<'a> {
     /// The desk of the seat at this place.
     pub fn new(steps: &'a Steps, place: &'a mut Place, number: usize, requesters: u8) -> Desk<'a>
@@ -53,9 +66,10 @@ impl<'a> Desk<'a> {
     pub(crate) fn take(&mut self, part: Part) -> Result<Held, HallRefusal>
         requires desk { IsDesk self.old × IsPartName self.old.requesters part }
         requires token { self.old.place.now.me ≡ having (knows self.old) (held_at self.old) }
+        requires apart { Outside (part_slot part) (held_at self.old) }
         ensures desk { IsDesk self.new × IsSame self.old self.new }
         ensures taken { IfOk result (λ h. (h.part ≡ part) × IsPartValue part h.value × Has self.new (knows self.old) ((part_slot part, h.value) ∷ held_at self.old)) }
-        ensures busy { IfErr result (λ r. IsBusy r × (self.new.place.now.me ≡ self.old.place.now.me)) }
+        ensures busy { IfErr result (λ r. IsBusy (knows self.old) part r × (self.new.place.now.me ≡ self.old.place.now.me)) }
     {
         match take_part(self.steps, self.place, self.number, self.requesters, part) {
             Ok(value) => Ok(Held { part, value }),
@@ -66,10 +80,11 @@ impl<'a> Desk<'a> {
     /// Takes a second part. `Busy` where another seat has it; the first then goes back.
     pub(crate) fn take_second(&mut self, one: Held, part: Part) -> Result<(Held, Held), HallRefusal>
         requires desk { IsDesk self.old × IsPartName self.old.requesters part × IsPartName self.old.requesters one.part }
+        requires apart { part_slot part ≢ part_slot one.part }
         requires held { self.old.place.now.me ≡ having (knows self.old) (entry one ∷ []) }
         ensures desk { IsDesk self.new × IsSame self.old self.new }
         ensures taken { IfOk result (λ t. (t.0 ≡ one) × (t.1.part ≡ part) × IsPartValue part t.1.value × Has self.new (knows self.old) ((part_slot part, t.1.value) ∷ (entry one ∷ []))) }
-        ensures busy { IfErr result (λ r. IsBusy r × (self.new.place.now.me ≡ knowing (knows self.old))) }
+        ensures busy { IfErr result (λ r. IsBusy (knows self.old) part r × (self.new.place.now.me ≡ knowing (knows self.old))) }
     {
         match self.take(part) {
             Ok(two) => Ok((one, two)),
@@ -88,10 +103,11 @@ impl<'a> Desk<'a> {
         part: Part,
     ) -> Result<(Held, Held, Held), HallRefusal>
         requires desk { IsDesk self.old × IsPartName self.old.requesters part × AreApart self.old one two }
+        requires apart { (part_slot part ≢ part_slot one.part) × (part_slot part ≢ part_slot two.part) }
         requires held { self.old.place.now.me ≡ having (knows self.old) (entry two ∷ (entry one ∷ [])) }
         ensures desk { IsDesk self.new × IsSame self.old self.new }
         ensures taken { IfOk result (λ t. (t.0 ≡ one) × (t.1 ≡ two) × (t.2.part ≡ part) × IsPartValue part t.2.value × Has self.new (knows self.old) ((part_slot part, t.2.value) ∷ (entry two ∷ (entry one ∷ [])))) }
-        ensures busy { IfErr result (λ r. IsBusy r × (self.new.place.now.me ≡ knowing (knows self.old))) }
+        ensures busy { IfErr result (λ r. IsBusy (knows self.old) part r × (self.new.place.now.me ≡ knowing (knows self.old))) }
     {
         match self.take(part) {
             Ok(three) => Ok((one, two, three)),
@@ -155,13 +171,14 @@ impl<'a> Desk<'a> {
         HallRefusal::Core(refusal)
     }
 
-    /// The event over two parts happens as they go home.
-    pub(crate) fn happen(&mut self, one: Held, two: Held)
+    /// The event over two parts happens as they go home. `told` is for the proof alone.
+    pub(crate) fn happen<C: Learns, T>(&mut self, one: Held, two: Held, told: &T)
         requires table { IsAtTable self.old × AreApart self.old one two }
-        requires event { Happened self.old one two }
+        requires event { Happened self.old one two C.knows }
         ensures same { IsSame self.old self.new }
-        ensures idle { self.new.place.now.me ≡ knowing (knows self.old) }
+        ensures idle { self.new.place.now.me ≡ knowing C.knows }
     {
+        let _ = told;
         self.place.turn();
         self.event::<Brand, _>(one, &two);
         self.put_back(two);

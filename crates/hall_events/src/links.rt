@@ -1,7 +1,8 @@
 //! The events of a link, each over the ends that it uses.
-ghost use Rattle.std.specs.Prelude.{◌≡◌, ◌↔◌, Some, None, IsTrue, IfOk, IfErr};
-ghost use Rattle.hall_laws.specs.Calls.{IsIdle};
+ghost use Rattle.std.specs.Prelude.{◌≡◌, ◌↔◌, Some, None, IsTrue, IfOk, IfErr, OnErr};
+ghost use Rattle.hall_laws.specs.Calls.{IsIdle, knowing};
 ghost use Rattle.hall_laws.specs.Parts.{IsLaneName};
+ghost use Rattle.hall_laws.specs.Rule.{with_done};
 ghost use Rattle.hall_laws.specs.Shows.{Shows};
 ghost use Rattle.hall_laws.specs.Telling.{EventShows};
 ghost use Rattle.hall_events.specs.Desks.{knows, IsDesk, IsSame};
@@ -67,7 +68,8 @@ impl<'a> Desk<'a> {
         requires idle { IsIdle self.old.place.now.me }
         requires ends { ends_of name event ≡ None }
         ensures seat { IsSame self.old self.new }
-        ensures same { self.new.place.now.me ≡ self.old.place.now.me }
+        ensures happened { IfOk result (λ what. self.new.place.now.me ≡ knowing (with_done (link_event name event) what (knows self.old))) }
+        ensures refused { OnErr result (self.new.place.now.me ≡ self.old.place.now.me) }
         ensures shows { IfOk result (λ what. Shows (knows self.old) (link_event name event) what) }
         ensures why { IfErr result (λ r. IsRefused (knows self.old) (link_event name event) r) }
     {
@@ -75,7 +77,7 @@ impl<'a> Desk<'a> {
         let mut sender = self.take(Part::SenderEnd(name))?;
         match act_alone(event, &mut sender.value) {
             Ok(what) => {
-                self.event::<Brand, _>(sender, &());
+                self.event::<Brand, _>(sender, &(name, event, &what));
                 Ok(what)
             }
             Err(refusal) => Err(self.refuse(sender, refusal)),
@@ -94,7 +96,8 @@ impl<'a> Desk<'a> {
         requires idle { IsIdle self.old.place.now.me }
         requires ends { ends_of name event ≡ Some (first, second) }
         ensures seat { IsSame self.old self.new }
-        ensures same { self.new.place.now.me ≡ self.old.place.now.me }
+        ensures happened { IfOk result (λ what. self.new.place.now.me ≡ knowing (with_done (link_event name event) what (knows self.old))) }
+        ensures refused { OnErr result (self.new.place.now.me ≡ self.old.place.now.me) }
         ensures shows { IfOk result (λ what. Shows (knows self.old) (link_event name event) what) }
         ensures why { IfErr result (λ r. IsRefused (knows self.old) (link_event name event) r) }
     {
@@ -106,7 +109,7 @@ impl<'a> Desk<'a> {
         let (mut one, mut two) = self.take_second(one, second)?;
         match act(event, &mut one.value, &mut two.value) {
             Ok(what) => {
-                self.happen(one, two);
+                self.happen::<Brand, _>(one, two, &(name, event, &what));
                 Ok(what)
             }
             Err(refusal) => Err(self.refuse_both(one, two, refusal)),
@@ -118,7 +121,8 @@ impl<'a> Desk<'a> {
         requires desk { IsDesk self.old }
         requires idle { IsIdle self.old.place.now.me }
         ensures seat { IsSame self.old self.new }
-        ensures same { self.new.place.now.me ≡ self.old.place.now.me }
+        ensures happened { IfOk result (λ what. self.new.place.now.me ≡ knowing (with_done (link_event name event) what (knows self.old))) }
+        ensures refused { OnErr result (self.new.place.now.me ≡ self.old.place.now.me) }
         ensures shows { IfOk result (λ what. Shows (knows self.old) (link_event name event) what) }
         ensures why { IfErr result (λ r. IsRefused (knows self.old) (link_event name event) r) }
     {

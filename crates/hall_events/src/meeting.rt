@@ -48,7 +48,7 @@ pub fn meet_as(
     requires idle { IsIdle first.me × IsIdle second.me }
     ensures seats { IfOk result (λ r. (r.0.table_id ≡ first.table_id) × (r.1.table_id ≡ first.table_id)) }
     ensures met { IfOk result (λ r. (h : List Entry) × (w : Knowledge) × (v : Knowledge) × (r.2 ≡ length h) × (r.0.me ≡ knowing w) × (r.1.me ≡ knowing v) × Met (token_of first.me.0).knows h w × Met (token_of second.me.0).knows h v) }
-    ensures refused { IfErr result (λ r. IsBusy r.0 × (r.1.table_id ≡ first.table_id) × (r.2.table_id ≡ first.table_id) × (r.1.me ≡ first.me) × (r.2.me ≡ second.me)) }
+    ensures refused { IfErr result (λ r. IsBusy (token_of first.me.0).knows Part.Memory r.0 × (r.1.table_id ≡ first.table_id) × (r.2.table_id ≡ first.table_id) × (r.1.me ≡ first.me) × (r.2.me ≡ second.me)) }
 {
     meeting();
     let mut both = first;

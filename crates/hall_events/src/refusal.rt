@@ -7,10 +7,12 @@ use fabric_core::laws::every_refusal_is_possible;
 use hall_laws::part::Part;
 use thiserror::Error;
 
-/// Why a call of the hall is refused. It has changed nothing then: no part is held, and the seat knows what it knew.
+/// Why a call of the hall is refused. It has changed nothing then: no event happened, no part is held, and the seat
+/// knows what it knew.
 #[derive(Clone, Copy, Debug, PartialEq, Eq, Error)]
 pub enum HallRefusal {
-    /// The part's word was found to be this, which isn't 0: the seat with the number one less had the part.
+    /// The part, which the event uses, was found to have this word, which is neither 0 nor the caller's own: the seat with
+    /// the number one less had the part.
     #[error("Busy")]
     Busy { part: Part, word: u64 },
     /// The fabric's refusal of the event.

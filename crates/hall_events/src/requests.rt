@@ -4,7 +4,7 @@ ghost use Rattle.fabric_core.specs.declared.event.Event.TheVariants.{Submit, Col
 ghost use Rattle.hall_laws.specs.declared.token.Knowledge.{Knowledge};
 ghost use Rattle.hall_laws.specs.Calls.{IsIdle, knowing};
 ghost use Rattle.hall_laws.specs.Tells.{SubmitTells, CollectTells, SeesTells};
-ghost use Rattle.hall_events.specs.Desks.{knows, IsDesk, IsSame};
+ghost use Rattle.hall_events.specs.Desks.{knows, IsDesk, IsSame, IsOfHall};
 ghost use Rattle.hall_events.specs.Refusals.{IsRefused};
 
 use crate::desk::Desk;
@@ -22,7 +22,7 @@ impl<'a> Desk<'a> {
         requires desk { IsDesk self.old × (self.old.number < self.old.requesters) }
         requires idle { IsIdle self.old.place.now.me }
         ensures seat { IsSame self.old self.new }
-        ensures config { (knows self.new).config ≡ (knows self.old).config }
+        ensures hall { IsOfHall (knows self.old) (knows self.new) }
         ensures submitted { IfOk result (λ s. (w : Knowledge) × (self.new.place.now.me ≡ knowing w) × SubmitTells (knows self.old) s.0 op.now s.1 w) }
         ensures refused { OnErr result (self.new.place.now.me ≡ self.old.place.now.me) }
         ensures why { IfErr result (λ r. IsRefused (knows self.old) (Submit (self.old.number + 1) op.now) r) }
@@ -60,7 +60,7 @@ impl<'a> Desk<'a> {
         requires desk { IsDesk self.old × (self.old.number < self.old.requesters) }
         requires idle { IsIdle self.old.place.now.me }
         ensures seat { IsSame self.old self.new }
-        ensures config { (knows self.new).config ≡ (knows self.old).config }
+        ensures hall { IsOfHall (knows self.old) (knows self.new) }
         ensures collected { IfOk result (λ o. MatchOption o ((w : Knowledge) × (self.new.place.now.me ≡ knowing w) × SeesTells (knows self.old) w) (λ a. (w : Knowledge) × (self.new.place.now.me ≡ knowing w) × CollectTells (knows self.old) a.0.number a.0.reply a.1 w)) }
         ensures refused { OnErr result (self.new.place.now.me ≡ self.old.place.now.me) }
         ensures why { IfErr result (λ r. IsRefused (knows self.old) (Collect (self.old.number + 1)) r) }

@@ -3,6 +3,7 @@ ghost use Rattle.std.specs.Prelude.{◌≡◌, ◌↔◌, ◌<◌, ◌≤◌, Is
 ghost use Rattle.fabric_core.specs.declared.event.Event.TheVariants.{Forward, Serve};
 ghost use Rattle.fabric_core.specs.declared.event.Seen.TheVariants.{At};
 ghost use Rattle.hall_laws.specs.Calls.{IsIdle, knowing, serving_also};
+ghost use Rattle.hall_laws.specs.Rule.{with_done};
 ghost use Rattle.hall_laws.specs.Shows.{Shows};
 ghost use Rattle.hall_laws.specs.Telling.{EventShows};
 ghost use Rattle.hall_events.specs.Desks.{knows, IsDesk, IsSame};
@@ -71,7 +72,8 @@ impl<'a> Desk<'a> {
         requires desk { IsDesk self.old }
         requires idle { IsIdle self.old.place.now.me }
         ensures seat { IsSame self.old self.new }
-        ensures same { self.new.place.now.me ≡ self.old.place.now.me }
+        ensures happened { IfOk result (λ what. self.new.place.now.me ≡ knowing (with_done (Forward name place) what (knows self.old))) }
+        ensures refused { OnErr result (self.new.place.now.me ≡ self.old.place.now.me) }
         ensures shows { IfOk result (λ what. Shows (knows self.old) (Forward name place) what) }
         ensures why { IfErr result (λ r. IsRefused (knows self.old) (Forward name place) r) }
     {
@@ -87,7 +89,7 @@ impl<'a> Desk<'a> {
         let (mut one, mut two) = self.take_second(one, Part::SenderEnd(next))?;
         match events::forward(one.value.receiver(), place, two.value.sender()) {
             Ok(()) => {
-                self.happen(one, two);
+                self.happen::<Brand, _>(one, two, &(name, place, to));
                 Ok(Seen::To(to))
             }
             Err(refusal) => Err(self.refuse_both(one, two, refusal)),
@@ -100,7 +102,7 @@ impl<'a> Desk<'a> {
         requires desk { IsDesk self.old }
         requires idle { IsIdle self.old.place.now.me }
         ensures seat { IsSame self.old self.new }
-        ensures served { IfOk result (λ n. self.new.place.now.me ≡ knowing (serving_also n (knows self.old))) }
+        ensures served { IfOk result (λ n. self.new.place.now.me ≡ knowing (with_done (Serve place) (At n) (serving_also n (knows self.old)))) }
         ensures refused { OnErr result (self.new.place.now.me ≡ self.old.place.now.me) }
         ensures shows { IfOk result (λ n. Shows (knows self.old) (Serve place) (At n)) }
         ensures why { IfErr result (λ r. IsRefused (knows self.old) (Serve place) r) }
@@ -125,7 +127,7 @@ impl<'a> Desk<'a> {
             Ok(n) => {
                 self.place.turn();
                 self.place.turn();
-                self.event::<Brand, _>(receiver, &(n, &memory, &sender));
+                self.event::<Brand, _>(receiver, &(place, n, &memory, &sender));
                 self.place.turn();
                 self.put_back(memory);
                 self.put_back(sender);

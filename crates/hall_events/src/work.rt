@@ -1,6 +1,6 @@
 //! All events but submissions and collections.
 ghost use Rattle.std.specs.Prelude.{◌≡◌, IfOk, IfErr, OnErr};
-ghost use Rattle.hall_events.specs.Desks.{knows, IsDesk, IsSame};
+ghost use Rattle.hall_events.specs.Desks.{knows, IsDesk, IsSame, IsOfHall};
 ghost use Rattle.hall_events.specs.Refusals.{IsRefused};
 ghost use Rattle.hall_events.specs.Works.{Pumped, event_of};
 ghost use Rattle.hall_laws.specs.declared.token.Knowledge.{Knowledge};
@@ -40,7 +40,7 @@ impl<'a> Desk<'a> {
         requires desk { IsDesk self.old }
         requires idle { IsIdle self.old.place.now.me }
         ensures seat { IsSame self.old self.new }
-        ensures config { (knows self.new).config ≡ (knows self.old).config }
+        ensures hall { IsOfHall (knows self.old) (knows self.new) }
         ensures pumped { IfOk result (λ what. (w : Knowledge) × (self.new.place.now.me ≡ knowing w) × Pumped event what (knows self.old) w) }
         ensures refused { OnErr result (self.new.place.now.me ≡ self.old.place.now.me) }
         ensures shows { IfOk result (λ what. Shows (knows self.old) (event_of event) what) }

@@ -22,11 +22,11 @@ use Rattle.hall_laws.specs.declared.part.PartValue.{PartValue}
 use Rattle.hall_laws.specs.declared.part.PartValue.TheVariants.{Memory}
 use Rattle.hall_laws.specs.declared.token.Token.{Token}
 use Rattle.hall_laws.specs.declared.token.Knowledge.{Knowledge}
-use Rattle.hall_laws.specs.Rule.{Traced, IsSoundTraced, Fits, Begins, Known, Agrees, Goes, learned, HasConfig, extent_for}
+use Rattle.hall_laws.specs.Rule.{Traced, IsSoundTraced, Fits, Begins, Known, Agrees, Goes, learned_also, HasConfig, extent_for}
 use Rattle.hall_laws.specs.Shows.{Shows}
 use Rattle.hall_laws.specs.Tells.{Has, IsLegalFor, AnsweredStand, SubmitTells, CollectTells, SeesTells, Met}
 use Rattle.hall_laws.proofs.Learning.{submit_memory, collect_memory}
-use Rattle.hall_laws.proofs.Events.{Laws, stays_sound}
+use Rattle.hall_laws.proofs.Events.{Laws, stays_sound, seat_of, seen_fits, learns_all}
 use Rattle.hall_laws.proofs.Told.{ExplainsLaw, new_request, explained, legal_for, answered_stand}
 use Rattle.hall_laws.proofs.Waits.{waits}
 
@@ -37,7 +37,7 @@ memory_held s u r x y m t held a =
     let same : Memory s.fabric.memory ≡ Memory m = some-injective (Memory s.fabric.memory) (Memory m) b.1.1.0 in cc
 
 pub submit_tells : (laws : Laws) (t t' : Token) (ts : List Token) (u r k : ℕ) (x y v : PartValue) (m : MemoryView) (op : Op) → Known (t ∷ ts) → t.held ≡ (u, x) ∷ ((r, y) ∷ ((0, Memory m) ∷ [])) → Goes (events.Submit (suc t.knows.number) op) (seen.Submitted k) t r v t'
-    → SubmitTells t.knows k op (length m.entries) (learned (events.Submit (suc t.knows.number) op) (seen.Submitted k) m.entries t.knows)
+    → SubmitTells t.knows k op (length m.entries) (learned_also (events.Submit (suc t.knows.number) op) (seen.Submitted k) m.entries t.knows)
 submit_tells laws t t' ts u r k x y v m op known held g =
     let s : Traced = known.0 in let sound : IsSoundTraced s = known.1 in let a = known.2.0.0 in let f = known.2.0.1 in
     let i : ℕ = suc t.knows.number in
@@ -46,10 +46,11 @@ submit_tells laws t t' ts u r k x y v m op known held g =
     let after : Fabric = go.after in
     let happens : Happens s.fabric (events.Submit i op) (seen.Submitted k) after = go.happens in
     let same : after.memory ≡ s.fabric.memory = submit_memory s.fabric i op (seen.Submitted k) after happens in
-    let b : Belongs (whole_of after) (s.records ++ Sub i k op (length s.fabric.memory.entries) ∷ []) = (stays_sound laws s after (events.Submit i op) (seen.Submitted k) sound happens).belongs in
+    let b : Belongs (whole_of after) (s.records ++ Sub i k op (length s.fabric.memory.entries) ∷ []) = (stays_sound laws s t.knows.number after (events.Submit i op) (seen.Submitted k) (seat_of s t.knows f) sound happens).belongs in
     let b' : Belongs (whole_of after) (s.records ++ Sub i k op (length after.memory.entries) ∷ []) = subst (λ (z : MemoryView). Belongs (whole_of after) (s.records ++ Sub i k op (length z.entries) ∷ [])) (sym same) b in
     let new = new_request (whole_of after) s.records i k op b' in
     record {
+      whole = learns_all laws s (events.Submit i op) (seen.Submitted k) t after m.entries sound f g.own happens (ap (λ (z : MemoryView). z.entries) (same ∙ is_m)) (ap (λ (z : MemoryView). z.entries) is_m);
       begins = subst (λ (z : MemoryView). Begins t.knows.seen z.entries) is_m f.seen;
       is_length = refl;
       number = new.0 ∙ ap length (sym f.made);
@@ -59,7 +60,7 @@ submit_tells laws t t' ts u r k x y v m op known held g =
 
 pub collect_tells : (laws : Laws) (explains : ExplainsLaw) (t t' : Token) (ts : List Token) (u r : ℕ) (x y v : PartValue) (m : MemoryView) (answer : Answer) → Known (t ∷ ts) → t.held ≡ (u, x) ∷ ((r, y) ∷ ((0, Memory m) ∷ []))
     → Goes (events.Collect (suc t.knows.number)) (seen.Collected answer) t r v t'
-    → CollectTells t.knows answer.number answer.reply (length m.entries) (learned (events.Collect (suc t.knows.number)) (seen.Collected answer) m.entries t.knows)
+    → CollectTells t.knows answer.number answer.reply (length m.entries) (learned_also (events.Collect (suc t.knows.number)) (seen.Collected answer) m.entries t.knows)
 collect_tells laws explains t t' ts u r x y v m answer known held g =
     let s : Traced = known.0 in let sound : IsSoundTraced s = known.1 in let a = known.2.0.0 in let f = known.2.0.1 in
     let i : ℕ = suc t.knows.number in
@@ -69,12 +70,13 @@ collect_tells laws explains t t' ts u r x y v m answer known held g =
     let after : Fabric = go.after in
     let happens : Happens s.fabric (events.Collect i) (seen.Collected answer) after = go.happens in
     let same : after.memory ≡ s.fabric.memory = collect_memory s.fabric i (seen.Collected answer) after happens in
-    let b : Belongs (whole_of after) (s.records ++ Ans i k answer.reply (length s.fabric.memory.entries) ∷ []) = (stays_sound laws s after (events.Collect i) (seen.Collected answer) sound happens).belongs in
+    let b : Belongs (whole_of after) (s.records ++ Ans i k answer.reply (length s.fabric.memory.entries) ∷ []) = (stays_sound laws s t.knows.number after (events.Collect i) (seen.Collected answer) (seat_of s t.knows f) sound happens).belongs in
     let b' : Belongs (whole_of after) (s.records ++ Ans i k answer.reply (length after.memory.entries) ∷ []) = subst (λ (z : MemoryView). Belongs (whole_of after) (s.records ++ Ans i k answer.reply (length z.entries) ∷ [])) (sym same) b in
     let e = explained (whole_of after) s.records i k answer.reply b' in
     let legal : IsLegalFor i t.knows.made m.entries = subst (λ (z : MemoryView). IsLegalFor i t.knows.made z.entries) is_m (subst (λ (l : List Op). IsLegalFor i l s.fabric.memory.entries) (sym f.made) (legal_for explains s i sound)) in
     let there : slice_get m.entries e.point ≡ Some (record { requester = i; number = k; op = e.op }) = ap (λ (z : MemoryView). slice_get z.entries e.point) (sym (same ∙ is_m)) ∙ e.acted in
     record {
+      whole = learns_all laws s (events.Collect i) (seen.Collected answer) t after m.entries sound f g.own happens (ap (λ (z : MemoryView). z.entries) (same ∙ is_m)) (ap (λ (z : MemoryView). z.entries) is_m);
       begins = subst (λ (z : MemoryView). Begins t.knows.seen z.entries) is_m f.seen;
       is_length = refl;
       since = e.since;
@@ -106,10 +108,16 @@ collect_tells laws explains t t' ts u r x y v m answer known held g =
 -- the view that holds the memory alone: each of its tokens may have seen all of the history
 pub sees_tells : (t : Token) (ts : List Token) (m : MemoryView) → Known (t ∷ ts) → t.held ≡ (0, Memory m) ∷ [] → SeesTells t.knows (record t.knows { seen = m.entries })
 sees_tells t ts m known held =
+    let s : Traced = known.0 in
     let b : Agrees known.0 ((0, Memory m) ∷ []) = subst (Agrees known.0) held known.2.0.0 in
     let same : Memory known.0.fabric.memory ≡ Memory m = some-injective (Memory known.0.fabric.memory) (Memory m) b.0 in
     let is_m : known.0.fabric.memory ≡ m = cc in
-    record { begins = subst (λ (z : MemoryView). Begins t.knows.seen z.entries) is_m known.2.0.1.seen; knows = refl }
+    let whole : s.fabric.memory.entries ≡ m.entries = ap (λ (z : MemoryView). z.entries) is_m in
+    record {
+      whole = (s, known.1, subst (λ (l : List Entry). Fits s (record t.knows { seen = l })) whole (seen_fits s t.knows known.2.0.1), whole);
+      begins = subst (λ (z : MemoryView). Begins t.knows.seen z.entries) is_m known.2.0.1.seen;
+      knows = refl;
+    }
 
 -- two tokens of which the first holds the memory
 pub both_met : (explains : ExplainsLaw) (t u : Token) (m : MemoryView) → Known (t ∷ (u ∷ [])) → t.held ≡ (0, Memory m) ∷ [] → Met t.knows m.entries (record t.knows { seen = m.entries }) × Met u.knows m.entries (record u.knows { seen = m.entries })

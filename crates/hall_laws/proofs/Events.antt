@@ -29,14 +29,17 @@ use Rattle.fabric_core.specs.Kept.{IsSoundFabric, records_of}
 use Rattle.fabric_core.specs.Answers.{Happens}
 use Rattle.hall_laws.specs.declared.part.PartValue.{PartValue}
 use Rattle.hall_laws.specs.declared.part.PartValue.TheVariants.{Memory}
+use Rattle.hall_laws.specs.declared.token.Done.{Done}
 use Rattle.hall_laws.specs.declared.token.Token.{Token}
 use Rattle.hall_laws.specs.declared.token.Knowledge.{Knowledge}
+use Rattle.hall_laws.specs.Story.{Act, done_by}
 use Rattle.hall_laws.specs.Waiting.{requester_in, without}
 use Rattle.hall_laws.specs.Parts.{parts_of}
 use Rattle.hall_laws.specs.Standing.{Values, Covers, Outside, times, one_if_same, token_of, others_of, AreAlike}
-use Rattle.hall_laws.specs.Rule.{Traced, IsSoundTraced, Begins, Fits, Goes, Releases, Agrees, Apart, write, learned, parts, dropped_first, dropped_seen, having_seen, history_in}
+use Rattle.hall_laws.specs.Rule.{Traced, IsSoundTraced, Begins, Fits, Goes, Releases, Agrees, Apart, write, learned_also, with_done, parts, dropped_first, dropped_seen, having_seen, history_in}
 use Rattle.hall_laws.proofs.Totals.{each_map, each_two, covered, covers_outside, at_length, total_append, one_is, same_alike}
 use Rattle.hall_laws.proofs.Records.{made_append_other, waiting_append_other, waiting_submitted, waiting_answered, get_append}
+use Rattle.hall_laws.proofs.Story.{one_more, by_own, by_other}
 use Rattle.hall_laws.proofs.Learning.{config_stays, Learning, silent, submits, collects, serves, learning}
 
 write_length : (l : List PartValue) (h : Values) → length (write l h) ≡ length l
@@ -62,10 +65,21 @@ begins_length xs ys a = let e = ap length a.1 ∙ length-append xs a.0 in omega 
 
 -- ---- knowledge over an event
 
-module _ (s : Traced) (f' : Fabric) (new : List Record) (grows : Begins s.fabric.memory.entries f'.memory.entries) where
-  abbrev next : Traced
-  next = record { fabric = f'; records = s.records ++ new }
+each_snoc : {X : Type 0} (P : X → Type 0) (es : List X) (e : X) → Each P es → P e → Each P (es ++ e ∷ [])
+each_snoc P [] e h p = (p, tt)
+each_snoc P (x ∷ xs) e h p = (h.0, each_snoc P xs e h.1 p)
 
+pub seat_of : (s : Traced) (w : Knowledge) → Fits s w → w.number < s.seats
+seat_of s w f = let small = f.seat in let same = f.seats in omega arith
+
+-- the seat with this number made the event happen, which led to f'
+abbrev pub act : ℕ → Event → Seen → Act
+act by event what = record { by = by; done = record { event = event; what = what } }
+
+abbrev pub after_act : Traced → ℕ → Event → Seen → Fabric → Traced
+after_act s by event what f' = record { seats = s.seats; opened = s.opened; acts = s.acts ++ act by event what ∷ []; fabric = f'; records = s.records ++ records_of event what (length s.fabric.memory.entries) }
+
+module _ (s : Traced) (f' : Fabric) (grows : Begins s.fabric.memory.entries f'.memory.entries) where
   longer : length s.fabric.memory.entries ≤ length f'.memory.entries
   longer = begins_length s.fabric.memory.entries f'.memory.entries grows
 
@@ -73,70 +87,89 @@ module _ (s : Traced) (f' : Fabric) (new : List Record) (grows : Begins s.fabric
   still_served ns e = let le = longer in each_map (λ (n : ℕ) (h : n < length s.fabric.memory.entries). let g : n < length f'.memory.entries = omega arith in g) ns e
 
   -- another seat has no part in the records
-  other_fits : (u : Knowledge) (i : ℕ) → i ≢ suc u.number → Each (λ (r : Record). requester_in r ≡ i) new → (event : Event) (what : Seen) → Happens s.fabric event what f' → Fits s u → Fits next u
-  other_fits u i ne own event what x f = record {
+  other_fits : (u : Knowledge) (by : ℕ) → u.number ≢ by → (event : Event) (what : Seen) → Each (λ (r : Record). requester_in r ≡ suc by) (records_of event what (length s.fabric.memory.entries)) → Happens s.fabric event what f' → Fits s u → Fits (after_act s by event what f') u
+  other_fits u by apart event what own x f = let i : ℕ = suc by in let new : List Record = records_of event what (length s.fabric.memory.entries) in let ne : i ≢ suc u.number = λ e. apart (omega arith) in record {
     config = config_stays s.fabric event what f' u.config x f.config;
+    opened = f.opened;
+    seats = f.seats;
+    seat = f.seat;
     seen = begins_trans u.seen s.fabric.memory.entries f'.memory.entries f.seen grows;
     made = f.made ∙ sym (made_append_other (suc u.number) i s.records new ne own);
     pending = f.pending ∙ sym (waiting_append_other (suc u.number) i s.records new ne own);
     told = λ a r at mine. ⊎_elim (λ (old : slice_get s.records a ≡ Some r). f.told a r old mine)
         (λ (y : (b : ℕ) × (slice_get new b ≡ Some r)). absurd (ne (sym (each_at (λ (z : Record). requester_in z ≡ i) new y.0 r y.1 own) ∙ mine))) (get_append s.records new a r at);
     served = still_served u.served f.served;
+    did = f.did ∙ sym (by_other s.acts u.number by (record { event = event; what = what }) (λ e. apart (sym e)));
   }
 
 -- the seat of the event, by what it learned
 own_fits : (s : Traced) (f' : Fabric) (event : Event) (what : Seen) (w : Knowledge) → IsSoundTraced s → Begins s.fabric.memory.entries f'.memory.entries → Happens s.fabric event what f' → Fits s w
     → Learning s.fabric.memory.entries event what w f'.memory.entries
-    → Fits (record { fabric = f'; records = s.records ++ records_of event what (length s.fabric.memory.entries) }) (learned event what s.fabric.memory.entries w)
+    → Fits (after_act s w.number event what f') (learned_also event what s.fabric.memory.entries w)
 own_fits s f' event what w sound grows x f l =
     let h : List Entry = s.fabric.memory.entries in
-    let F : List Record → Knowledge → Type 0 = λ rs k. Fits (record { fabric = f'; records = s.records ++ rs }) k in
+    let d : Done = record { event = event; what = what } in
+    let S : List Record → Traced = λ rs. record { seats = s.seats; opened = s.opened; acts = s.acts ++ act w.number event what ∷ []; fabric = f'; records = rs } in
+    let F : List Record → Knowledge → Type 0 = λ rs k. Fits (S (s.records ++ rs)) (with_done event what k) in
+    let did : w.did ++ d ∷ [] ≡ done_by w.number (s.acts ++ act w.number event what ∷ []) = ap (λ (z : List Done). z ++ d ∷ []) f.did ∙ sym (by_own s.acts w.number d) in
     let config = config_stays s.fabric event what f' w.config x f.config in
     let le = begins_length h f'.memory.entries grows in
-    let served : Each (λ (n : ℕ). n < length f'.memory.entries) w.served = still_served s f' [] grows w.served f.served in
+    let served : Each (λ (n : ℕ). n < length f'.memory.entries) w.served = still_served s f' grows w.served f.served in
     let nothing : (ns : List Record) → ns ≡ [] → s.records ++ ns ≡ s.records = λ ns e. ap (λ (z : List Record). s.records ++ z) e ∙ append-nil s.records in
     -- a record of the length of the history
     let heard : (one : Record) → moment one ≡ length h → (a : ℕ) (r : Record) → slice_get (s.records ++ one ∷ []) a ≡ Some r → moment r ≤ length h =
     (λ one at_end a r at. ⊎_elim (λ (old : slice_get s.records a ≡ Some r). sound.belongs.within a r old)
     (λ (y : (b : ℕ) × (slice_get (one ∷ []) b ≡ Some r)). let e = each_at (λ (z : Record). moment z ≡ length h) (one ∷ []) y.0 r y.1 (at_end, tt) in omega arith) (get_append s.records (one ∷ []) a r at)) in
     elim l [
-      | silent none same ↦ subst (F (records_of event what (length h))) (sym same) (subst (λ (rs : List Record). Fits (record { fabric = f'; records = rs }) w) (sym (nothing _ none)) (record {
+      | silent none same ↦ subst (F (records_of event what (length h))) (sym same) (subst (λ (rs : List Record). Fits (S rs) (with_done event what w)) (sym (nothing _ none)) (record {
         config = config;
+        opened = f.opened;
+        seats = f.seats;
+        seat = f.seat;
         seen = begins_trans w.seen h f'.memory.entries f.seen grows;
         made = f.made;
         pending = f.pending;
         told = f.told;
         served = served;
+        did = did;
       }))
       | submits op k is same ↦ subst (F (records_of event what (length h))) (sym same) (subst (λ (rs : List Record). F rs (record w { seen = h; made = w.made ++ op ∷ []; pending = Rattle.std.specs.Prelude.if◌then◌else◌ (is_posted op) w.pending (w.pending ++ (k, length h) ∷ []) })) (sym is) (record {
         config = config;
+        opened = f.opened;
+        seats = f.seats;
+        seat = f.seat;
         seen = grows;
         made = ap (λ (z : List Op). z ++ op ∷ []) f.made ∙ sym (made_own (suc w.number) k (length h) op s.records);
         pending = ap (λ (z : List (ℕ × ℕ)). Rattle.std.specs.Prelude.if◌then◌else◌ (is_posted op) z (z ++ (k, length h) ∷ [])) f.pending ∙ sym (waiting_submitted (suc w.number) k (length h) op s.records);
         told = λ a r at mine. heard (Sub (suc w.number) k op (length h)) refl a r at;
         served = served;
+        did = did;
       }))
       | collects x is same ↦ subst (F (records_of event what (length h))) (sym same) (subst (λ (rs : List Record). F rs (record w { seen = h; pending = without x.number w.pending })) (sym is) (record {
         config = config;
+        opened = f.opened;
+        seats = f.seats;
+        seat = f.seat;
         seen = grows;
         made = f.made ∙ sym (made_ans (suc w.number) (suc w.number) x.number x.reply (length h) s.records);
         pending = ap (without x.number) f.pending ∙ sym (waiting_answered (suc w.number) x.number (length h) x.reply s.records);
         told = λ a r at mine. heard (Ans (suc w.number) x.number x.reply (length h)) refl a r at;
         served = served;
+        did = did;
       }))
-      | serves none same more ↦ subst (F (records_of event what (length h))) (sym same) (subst (λ (rs : List Record). Fits (record { fabric = f'; records = rs }) (record w { served = w.served ++ length h ∷ [] })) (sym (nothing _ none)) (record {
+      | serves none same more ↦ subst (F (records_of event what (length h))) (sym same) (subst (λ (rs : List Record). Fits (S rs) (with_done event what (record w { served = w.served ++ length h ∷ [] }))) (sym (nothing _ none)) (record {
         config = config;
+        opened = f.opened;
+        seats = f.seats;
+        seat = f.seat;
         seen = begins_trans w.seen h f'.memory.entries f.seen grows;
         made = f.made;
         pending = f.pending;
         told = f.told;
         served = each_snoc (λ (n : ℕ). n < length f'.memory.entries) w.served (length h) served more;
+        did = did;
       }))
     ]
-  where
-    each_snoc : {X : Type 0} (P : X → Type 0) (es : List X) (e : X) → Each P es → P e → Each P (es ++ e ∷ [])
-    each_snoc P [] e h p = (p, tt)
-    each_snoc P (x ∷ xs) e h p = (h.0, each_snoc P xs e h.1 p)
 
 -- ---- kind 2
 
@@ -171,10 +204,12 @@ module _ (laws : Laws) where
   pub grows_by : (f f' : Fabric) (event : Event) (what : Seen) → IsSoundFabric f → Happens f event what f' → Begins f.memory.entries f'.memory.entries
   grows_by f f' event what s x = laws.begins (whole_of f) (whole_of f') (records_of event what (length f.memory.entries)) s.sound (one_step f f' event what s x)
 
-  pub stays_sound : (s : Traced) (f' : Fabric) (event : Event) (what : Seen) → IsSoundTraced s → Happens s.fabric event what f' → IsSoundTraced (record { fabric = f'; records = s.records ++ records_of event what (length s.fabric.memory.entries) })
-  stays_sound s f' event what sound x = record {
+  pub stays_sound : (s : Traced) (by : ℕ) (f' : Fabric) (event : Event) (what : Seen) → by < s.seats → IsSoundTraced s → Happens s.fabric event what f' → IsSoundTraced (after_act s by event what f')
+  stays_sound s by f' event what small sound x = record {
     sound = laws.sound s.fabric f' event what sound.sound x;
     belongs = laws.belongs (whole_of s.fabric) (whole_of f') s.records (records_of event what (length s.fabric.memory.entries)) sound.sound.sound sound.belongs (one_step s.fabric f' event what sound.sound x);
+    tells = one_more s.opened s.fabric f' s.acts s.records (act by event what) sound.tells x;
+    by = each_snoc (λ (a : Act). a.by < s.seats) s.acts (act by event what) sound.by small;
   }
 
   -- kind 2, for all events at once
@@ -189,8 +224,7 @@ module _ (laws : Laws) where
     becomes = λ s sound a fits apart.
         let n = g.step s sound a fits.0 in
         let x : Happens s.fabric event what n.after = n.happens in
-        let new : List Record = records_of event what (length s.fabric.memory.entries) in
-        let s' : Traced = record { fabric = n.after; records = s.records ++ new } in
+        let s' : Traced = after_act s t.knows.number event what n.after in
         let grows = grows_by s.fabric n.after event what sound.sound x in
         let news : Values = (k, v) ∷ t'.held in
         let is : parts_of n.after ≡ write (parts s) news = n.parts in
@@ -199,11 +233,11 @@ module _ (laws : Laws) where
         let inside : Each (λ (kv : ℕ × PartValue). kv.0 < length (parts s)) news = (small k g.covers, each_map (λ (kv : ℕ × PartValue) (o : (kv.0 ≢ k) × Covers t.held kv.0). small kv.0 o.1) t'.held g.others) in
         let here : Each (λ (kv : ℕ × PartValue). get_elem? (write (parts s) news) kv.0 ≡ some kv.1) news = write_here (parts s) news news_apart inside in
         let all : Each (λ (kv : ℕ × PartValue). get_elem? (parts s') kv.0 ≡ some kv.1) news = subst (λ (l : List PartValue). Each (λ (kv : ℕ × PartValue). get_elem? l kv.0 ≡ some kv.1) news) (sym is) here in
-        let other : (u : Knowledge) → u.number ≢ t.knows.number → Fits s u → Fits s' u = λ u ne f. other_fits s n.after new grows u (suc t.knows.number) (λ e. ne (omega arith)) (g.own (length s.fabric.memory.entries)) event what x f in
+        let other : (u : Knowledge) → u.number ≢ t.knows.number → Fits s u → Fits s' u = λ u ne f. other_fits s n.after grows u t.knows.number ne event what (g.own (length s.fabric.memory.entries)) x f in
         let mine : Fits s' t'.knows = subst (Fits s') (sym n.knows) (own_fits s n.after event what t.knows sound grows x fits.0 (learning laws.asks s.fabric event what n.after t.knows sound.sound.routed x g.own)) in (
           s',
           (
-            stays_sound s n.after event what sound x,
+            stays_sound s t.knows.number n.after event what (seat_of s t.knows fits.0) sound x,
             ap length is ∙ write_length (parts s) news,
             (λ j y o at. ap (λ (l : List PartValue). get_elem? l j) is ∙ (write_outside (parts s) news j (covers_outside t.held j k o g.covers, outside_all j t.held t'.held o (each_map (λ (kv : ℕ × PartValue) (q : (kv.0 ≢ k) × Covers t.held kv.0). q.1) t'.held g.others)) ∙ at)),
             all.0,
@@ -215,16 +249,25 @@ module _ (laws : Laws) where
     served = λ s sound a f n.
         let go = g.step s sound a f in
         let h : List Entry = s.fabric.memory.entries in
-        let knows : t'.knows ≡ learned event what h t.knows = go.knows in
+        let knows : t'.knows ≡ learned_also event what h t.knows = go.knows in
         let Claim : Knowledge → Type 0 = λ w. (times n w.served ≤ times n t.knows.served) ⊎ ((times n w.served ≤ 1) × ((u : Knowledge) → Fits s u → times n u.served ≡ 0)) in
         let kept : (w : Knowledge) → w.served ≡ t.knows.served → Claim w = λ w e. inl (let z = ap (times n) e in omega arith) in
         subst Claim (sym knows) (elim (learning laws.asks s.fabric event what go.after t.knows sound.sound.routed go.happens g.own) [
-          | silent none same ↦ kept (learned event what h t.knows) (ap (λ (w : Knowledge). w.served) same)
-          | submits op k' is same ↦ kept (learned event what h t.knows) (ap (λ (w : Knowledge). w.served) same)
-          | collects x is same ↦ kept (learned event what h t.knows) (ap (λ (w : Knowledge). w.served) same)
-          | serves none same more ↦ subst Claim (sym same) (served_more n (length h) t.knows.served (Fits s) (λ u e. e.served) f.served)
+          | silent none same ↦ kept (learned_also event what h t.knows) (ap (λ (w : Knowledge). w.served) same)
+          | submits op k' is same ↦ kept (learned_also event what h t.knows) (ap (λ (w : Knowledge). w.served) same)
+          | collects x is same ↦ kept (learned_also event what h t.knows) (ap (λ (w : Knowledge). w.served) same)
+          | serves none same more ↦ subst (λ (w : Knowledge). Claim (with_done event what w)) (sym same) (served_more n (length h) t.knows.served (Fits s) (λ u e. e.served) f.served)
         ]);
   }
+
+-- a seat that learns the history at its event has seen all of it, as long as the event leaves it as it was
+pub learns_all : (laws : Laws) (s : Traced) (event : Event) (what : Seen) (t : Token) (after : Fabric) (h : List Entry) → IsSoundTraced s → Fits s t.knows → ((n : ℕ) → Each (λ (r : Record). requester_in r ≡ suc t.knows.number) (records_of event what n))
+    → Happens s.fabric event what after → after.memory.entries ≡ h → s.fabric.memory.entries ≡ h
+    → (s' : Traced) × IsSoundTraced s' × Fits s' (learned_also event what h t.knows) × (s'.fabric.memory.entries ≡ h)
+learns_all laws s event what t after h sound f own x now is =
+    let s' : Traced = after_act s t.knows.number event what after in
+    let fits : Fits s' (learned_also event what s.fabric.memory.entries t.knows) = own_fits s after event what t.knows sound (grows_by laws s.fabric after event what sound.sound x) x f (learning laws.asks s.fabric event what after t.knows sound.sound.routed x own) in
+    (s', stays_sound laws s t.knows.number after event what (seat_of s t.knows f) sound x, subst (λ (l : List Entry). Fits s' (learned_also event what l t.knows)) is fits, now)
 
 -- ---- kinds 3 and 4
 
@@ -254,11 +297,15 @@ module _ (t : Token) (ts us : List Token) (k : ℕ) (v : PartValue) (h : Values)
 pub seen_fits : (s : Traced) (w : Knowledge) → Fits s w → Fits s (record w { seen = s.fabric.memory.entries })
 seen_fits s w f = record {
   config = f.config;
+  opened = f.opened;
+  seats = f.seats;
+  seat = f.seat;
   seen = ([], sym (append-nil s.fabric.memory.entries));
   made = f.made;
   pending = f.pending;
   told = λ a r at mine. let le = begins_length w.seen s.fabric.memory.entries f.seen in let m = f.told a r at mine in omega arith;
   served = f.served;
+  did = f.did;
 }
 
 pub seen_alike : (h : List Entry) (ts : List Token) → AreAlike ts (map (having_seen h) ts)

@@ -8,6 +8,7 @@ pub mod Moves
 pub mod Records
 pub mod Waits
 pub mod Learning
+pub mod Story
 pub mod Events
 pub mod Held
 pub mod Told

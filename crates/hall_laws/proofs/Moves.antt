@@ -14,7 +14,7 @@ use Rattle.hall_laws.specs.declared.token.Token.{Token}
 use Rattle.hall_laws.specs.declared.token.Knowledge.{Knowledge}
 use Rattle.hall_laws.specs.Standing as hall
 use Rattle.hall_laws.specs.Standing.{Standing, Values, Table, word_of, Sat, total, times, named, serving, one_if_same, Covers, holding, holding_first, token_of, others_of, Alike, AreAlike}
-use Rattle.hall_laws.proofs.Totals.{each_map, each_two, at_number, total_set, total_one, total_two, total_none, total_append, total_join, each_append, holds_left, holds_right, not_among, named_self, covered, there, serves_none, at_length, same_alike, alike_named, alike_serving, alike_holds}
+use Rattle.hall_laws.proofs.Totals.{each_map, each_two, at_number, total_set, total_one, total_two, total_none, total_append, total_join, each_append, holds_left, holds_right, not_among, named_self, covered, covers_outside, there, serves_none, at_length, same_alike, alike_named, alike_serving, alike_holds}
 
 module _ {P : Type 0} (parts : P → List PartValue) (Sound : P → Type 0) (Fits : P → Knowledge → Type 0) where
   abbrev Rule : Table → Type 0
@@ -56,6 +56,19 @@ module _ {P : Type 0} (parts : P → List PartValue) (Sound : P → Type 0) (Fit
   -- the tokens of one view have different numbers
   mates_apart : (s : Table) (r : Rule s) (id : ℕ) (t : Token) (ts : List Token) → get_elem? s.views id ≡ some (t ∷ ts) → Each (λ (u : Token). u.knows.number ≢ t.knows.number) ts
   mates_apart s r id t ts at = let one = total_one (named t.knows.number) s.views id (t ∷ ts) at in let most = r.apart t.knows.number in let self = named_self t ts in not_among t.knows.number ts (omega arith)
+
+  none_holds : (n j : ℕ) (us : List Token) → Each (λ (u : Token). u.knows.number ≢ n) us → hall.SomeHolds n j us → ⊥
+  none_holds n j [] e h = h
+  none_holds n j (u ∷ us) e h = ⊎_elim (λ (x : (u.knows.number ≡ n) × Covers u.held j). e.0 x.0) (λ (y : hall.SomeHolds n j us). none_holds n j us e.1 y) h
+
+  -- the word of a part that the first token of a view doesn't hold doesn't name it
+  not_named : (s : Table) (r : Rule s) (id k : ℕ) (t : Token) (ts : List Token) → get_elem? s.views id ≡ some (t ∷ ts) → hall.Outside k t.held → get_elem? s.words (word_of k) ≡ some (suc t.knows.number) → ⊥
+  not_named s r id k t ts at outside own = let f = r.holder k t.knows.number own in dite (ℕ_discrete f.0 id)
+      (λ same. let is : f.1 ≡ t ∷ ts = some-injective f.1 (t ∷ ts) (sym f.2 ∙ (ap (get_elem? s.views) same ∙ at)) in
+      ⊎_elim (λ (h : (t.knows.number ≡ t.knows.number) × Covers t.held k). covers_outside t.held k k outside h.1 refl)
+      (λ (h : hall.SomeHolds t.knows.number k ts). none_holds t.knows.number k ts (mates_apart s r id t ts at) h) (subst (hall.SomeHolds t.knows.number k) is f.3))
+      (λ other. none_holds t.knows.number k f.1
+      (let two = total_two (named t.knows.number) s.views id f.0 (t ∷ ts) f.1 (λ q. other (sym q)) at f.2 in let most = r.apart t.knows.number in let self = named_self t ts in not_among t.knows.number f.1 (omega arith)) f.3)
 
   seated_fits : (p : P) (words : List ℕ) (ts : List Token) → Each (Seated p words) ts → Each (hall.FitsToken parts Sound Fits p) ts
   seated_fits p words ts h = each_map (λ (u : Token) (e : Seated p words u). (each_map (λ (kv : ℕ × PartValue) (e : (get_elem? words (word_of kv.0) ≡ some (suc u.knows.number)) × (get_elem? (parts p) kv.0 ≡ some kv.1)). e.1) u.held e.0, e.1)) ts h
@@ -122,7 +135,7 @@ module _ {P : Type 0} (parts : P → List PartValue) (Sound : P → Type 0) (Fit
       exchanged w 0 new Next
       (λ free. let free_word : get_elem? s.words (word_of k) ≡ some 0 = word ∙ ap some free in
       let after : Sat = (holding k part.0 t ∷ ts, (k, Some part.0) ∷ c) in
-      let Taken : ℕ → Type 0 = λ n. (w ≡ 0 → (v : PartValue) × (after ≡ (holding_first n v (t ∷ ts), (n, Some v) ∷ c)) × hall.Known parts Sound Fits (holding_first n v (t ∷ ts))) × (w ≢ 0 → after ≡ (t ∷ ts, c)) in (
+      let Taken : ℕ → Type 0 = λ n. (w ≡ 0 → (v : PartValue) × (after ≡ (holding_first n v (t ∷ ts), (n, Some v) ∷ c)) × hall.Known parts Sound Fits (holding_first n v (t ∷ ts))) × (w ≢ 0 → (after ≡ (t ∷ ts, c)) × (hall.Outside n t.held → w ≢ suc t.knows.number)) in (
         holding k part.0 t ∷ ts,
         takes k (Some part.0),
         r.at_home k part.0 free_word part.1,
@@ -160,7 +173,7 @@ module _ {P : Type 0} (parts : P → List PartValue) (Sound : P → Type 0) (Fit
         keeps,
         tt,
         subst Rule (sym (unchanged s (word_of k) w id (t ∷ ts) word at)) r,
-        λ n at_word. (λ z. absurd (busy z), λ _. refl),
+        λ n at_word. (λ z. absurd (busy z), λ _. (refl, λ outside own. not_named s r id n t ts at outside (let same : n ≡ k = omega arith in ap (λ (j : ℕ). get_elem? s.words (word_of j)) same ∙ (word ∙ ap some own)))),
       ))
 
   -- kinds 2 to 4: the part that was taken last or turned to the front goes home

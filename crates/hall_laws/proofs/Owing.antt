@@ -29,7 +29,7 @@ use Rattle.hall_laws.specs.declared.token.Token.{Token}
 use Rattle.hall_laws.specs.declared.token.Knowledge.{Knowledge}
 use Rattle.hall_laws.specs.Waiting.{requester_in}
 use Rattle.hall_laws.specs.Parts.{ends, parts_of, lane_slot, slot, with_lane}
-use Rattle.hall_laws.specs.Rule.{Goes, after_event, learned}
+use Rattle.hall_laws.specs.Rule.{Goes, after_event, after_silent, learned, learned_also, with_done}
 use Rattle.hall_laws.specs.Duties.{KnowsLane, IsAtPort, TransmitOwes, DeliverOwes, SendDllpOwes, DeliverDllpOwes, TimerOwes, RetrainedOwes, ForwardUpOwes, ForwardOutOwes, ServeOwes, SubmitOwes, CollectOwes}
 use Rattle.hall_laws.proofs.Parts.{put_requester, put_end}
 use Rattle.hall_laws.proofs.Lanes.{put_two, with_lane_lanes}
@@ -56,9 +56,9 @@ module _ (event : Event) (name : LaneName) (link : LinkEvent) (what : Seen) (is 
   -- over the ends at the places c and d, of which the first is released
   link_of_two : (c d : ℕ) (v v' w w' : PartValue) → c < 4 → d < 4 → d ≢ c → t.held ≡ (lane_slot name + d, w) ∷ ((lane_slot name + c, v) ∷ [])
       → ((e : LaneEndsView) → get_elem? (ends e) c ≡ some v → get_elem? (ends e) d ≡ some w → (mid : LaneEndsView) × (e' : LaneEndsView) × (link_on e link ≡ Ok (what, e')) × (ends mid ≡ set (ends e) d w') × (ends e' ≡ set (ends mid) c v'))
-      → Goes event what t (lane_slot name + c) v' (record t { held = (lane_slot name + d, w') ∷ [] })
+      → Goes event what t (lane_slot name + c) v' (after_silent event what ((lane_slot name + d, w') ∷ []) t)
   link_of_two c d v v' w w' small_c small_d apart held does =
-      goes event what t (record t { held = (lane_slot name + d, w') ∷ [] }) (lane_slot name + c) v' ((lane_slot name + d, w) ∷ ((lane_slot name + c, v) ∷ [])) held (leave_two (lane_slot name + c) (lane_slot name + d) v w w' (λ z. apart (omega arith)))
+      goes event what t (after_silent event what ((lane_slot name + d, w') ∷ []) t) (lane_slot name + c) v' ((lane_slot name + d, w) ∷ ((lane_slot name + c, v) ∷ [])) held (leave_two (lane_slot name + c) (lane_slot name + d) v w w' (λ z. apart (omega arith)))
       (λ n. no_records event what (suc t.knows.number) n (is.silent n))
       (λ s sound a f.
       let lane = the_lane s sound t.knows f name named in
@@ -67,13 +67,13 @@ module _ (event : Event) (name : LaneName) (link : LinkEvent) (what : Seen) (is 
         after = with_lane s.fabric name x.1;
         happens = is.happens s.fabric (with_lane s.fabric name x.1) (linked s.fabric name link what e x.1 lane.1 x.2);
         parts = put_two s.fabric sound.sound.lanes name e x.0 x.1 d c (lane_slot name + d) (lane_slot name + c) w' v' lane.1 small_d small_c refl refl x.3 x.4;
-        knows = sym (is.same s.fabric.memory.entries t.knows);
+        knows = ap (with_done event what) (sym (is.same s.fabric.memory.entries t.knows));
       })
 
   -- over the sender's end
-  link_of_sender : (v v' : SenderEndView) → t.held ≡ (lane_slot name, Sender v) ∷ [] → ((e : LaneEndsView) → e.sender ≡ v → link_on e link ≡ Ok (what, record e { sender = v' })) → Goes event what t (lane_slot name) (Sender v') (record t { held = [] })
+  link_of_sender : (v v' : SenderEndView) → t.held ≡ (lane_slot name, Sender v) ∷ [] → ((e : LaneEndsView) → e.sender ≡ v → link_on e link ≡ Ok (what, record e { sender = v' })) → Goes event what t (lane_slot name) (Sender v') (after_silent event what [] t)
   link_of_sender v v' held does =
-      goes event what t (record t { held = [] }) (lane_slot name) (Sender v') ((lane_slot name, Sender v) ∷ []) held (leave_one (lane_slot name) (Sender v)) (λ n. no_records event what (suc t.knows.number) n (is.silent n))
+      goes event what t (after_silent event what [] t) (lane_slot name) (Sender v') ((lane_slot name, Sender v) ∷ []) held (leave_one (lane_slot name) (Sender v)) (λ n. no_records event what (suc t.knows.number) n (is.silent n))
       (λ s sound a f.
       let lane = the_lane s sound t.knows f name named in
       let e : LaneEndsView = lane.0 in let e' : LaneEndsView = record e { sender = v' } in
@@ -81,13 +81,13 @@ module _ (event : Event) (name : LaneName) (link : LinkEvent) (what : Seen) (is 
         after = with_lane s.fabric name e';
         happens = is.happens s.fabric (with_lane s.fabric name e') (linked s.fabric name link what e e' lane.1 (does e same));
         parts = put_end s.fabric sound.sound.lanes name e e' 0 (lane_slot name) (Sender v') lane.1 (omega arith) (omega arith) refl;
-        knows = sym (is.same s.fabric.memory.entries t.knows);
+        knows = ap (with_done event what) (sym (is.same s.fabric.memory.entries t.knows));
       })
 
 pub transmit_goes : TransmitOwes
 transmit_goes t name s s' w w' n named held did =
     let held' : t.held ≡ (lane_slot name + 1, Forward w) ∷ ((lane_slot name + 0, Sender s) ∷ []) = held ∙ ap (λ (k : ℕ). (lane_slot name + 1, Forward w) ∷ ((k, Sender s) ∷ [])) (omega arith) in
-    subst (λ (k : ℕ). Goes (events.Transmit name) (seen.Sent n) t k (Sender s') (record t { held = (lane_slot name + 1, Forward w') ∷ [] })) (omega arith)
+    subst (λ (k : ℕ). Goes (events.Transmit name) (seen.Sent n) t k (Sender s') (after_silent (events.Transmit name) (seen.Sent n) ((lane_slot name + 1, Forward w') ∷ []) t)) (omega arith)
     (link_of_two (events.Transmit name) name links.Transmit (seen.Sent n) (record { happens = λ f f' x. (x, tt); silent = λ n. refl; same = λ h w. refl }) t named 0 1 (Sender s) (Sender s') (Forward w) (Forward w') (omega arith) (omega arith) (λ z. omega arith) held'
     (λ e a b. (record e { forward = w' }, record e { sender = s'; forward = w' }, rw (is_sender e.sender s a, is_forward e.forward w b, did) refl, refl, refl)))
 
@@ -110,7 +110,7 @@ send_dllp_goes t name r r' b b' kind d named held did =
 pub deliver_dllp_goes : DeliverDllpOwes
 deliver_dllp_goes t name b b' s s' fate x named held did =
     let held' : t.held ≡ (lane_slot name + 0, Sender s) ∷ ((lane_slot name + 2, Back b) ∷ []) = held ∙ ap (λ (k : ℕ). (k, Sender s) ∷ ((lane_slot name + 2, Back b) ∷ [])) (omega arith) in
-    subst (λ (k : ℕ). Goes (events.DeliverDllp name fate) (seen.SeenDllp x) t (lane_slot name + 2) (Back b') (record t { held = (k, Sender s') ∷ [] })) (omega arith)
+    subst (λ (k : ℕ). Goes (events.DeliverDllp name fate) (seen.SeenDllp x) t (lane_slot name + 2) (Back b') (after_silent (events.DeliverDllp name fate) (seen.SeenDllp x) ((k, Sender s') ∷ []) t)) (omega arith)
     (link_of_two (events.DeliverDllp name fate) name (links.DeliverDllp fate) (seen.SeenDllp x) (record { happens = λ f f' x. (x, tt); silent = λ n. refl; same = λ h w. refl }) t named 2 0 (Back b) (Back b') (Sender s) (Sender s') (omega arith) (omega arith) (λ z. omega arith) held'
     (λ e y a. (record e { sender = s' }, record e { sender = s'; back = b' }, rw (is_back e.back b y, is_sender e.sender s a, did) refl, refl, refl)))
 
@@ -133,9 +133,9 @@ record AreTwo (name next : LaneName) : Type 0 where
 forward_goes : (t : Token) (name next : LaneName) (from place to : ℕ) (r r' : ReceiverEndView) (s s' : SenderEndView) → KnowsLane t name → KnowsLane t next → AreTwo name next → port_from name ≡ Ok from → lane_to to ≡ next
     → t.held ≡ (lane_slot next, Sender s) ∷ ((lane_slot name + 3, Receiver r) ∷ [])
     → destination_on r place from ≡ Ok to → forward_on r place s ≡ Ok (r', s') → ForwardFits r place
-    → Goes (events.Forward name place) (seen.To to) t (lane_slot name + 3) (Receiver r') (record t { held = (lane_slot next, Sender s') ∷ [] })
+    → Goes (events.Forward name place) (seen.To to) t (lane_slot name + 3) (Receiver r') (after_silent (events.Forward name place) (seen.To to) ((lane_slot next, Sender s') ∷ []) t)
 forward_goes t name next from place to r r' s s' named known two is_from is_next held routed did spelled =
-    goes (events.Forward name place) (seen.To to) t (record t { held = (lane_slot next, Sender s') ∷ [] }) (lane_slot name + 3) (Receiver r') ((lane_slot next, Sender s) ∷ ((lane_slot name + 3, Receiver r) ∷ [])) held (leave_two (lane_slot name + 3) (lane_slot next) (Receiver r) (Sender s) (Sender s') two.slots)
+    goes (events.Forward name place) (seen.To to) t (after_silent (events.Forward name place) (seen.To to) ((lane_slot next, Sender s') ∷ []) t) (lane_slot name + 3) (Receiver r') ((lane_slot next, Sender s) ∷ ((lane_slot name + 3, Receiver r) ∷ [])) held (leave_two (lane_slot name + 3) (lane_slot next) (Receiver r) (Sender s) (Sender s') two.slots)
     (λ n. tt)
     (λ w sound a f.
     let g : Fabric = w.fabric in
@@ -218,7 +218,7 @@ request_goes event what t port c u name m q q' v v' after at named small at_u so
           ∙ (put_requester mid (with_lane_lanes g name (after e) h) there.0 q q' (slot port 0) (ap (λ (l : List RequesterView). slice_get l there.0) (same_requesters g name (after e)) ∙ there.1.there) (ap (λ (n : ℕ). slot n 0) there.1.is_port)
           ∙ (ap (λ (l : List PartValue). set l (slot port 0) (Requester q')) (put_end g h name e (after e) c u v' lane.1 small at_u (is_after e))
           ∙ ap (λ (z : MemoryView). set (set (set (parts_of g) 0 (Memory z)) u v') (slot port 0) (Requester q')) is_m));
-      knows = ap (λ (z : MemoryView). learned event what z.entries t.knows) (sym is_m);
+      knows = ap (λ (z : MemoryView). learned_also event what z.entries t.knows) (sym is_m);
     })
 
 pub submit_goes : SubmitOwes

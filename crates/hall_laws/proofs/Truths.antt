@@ -11,16 +11,20 @@ use Rattle.history_check.specs.declared.Record.TheVariants.{Sub, Ans}
 use Rattle.history_check.specs.Trace.{submissions, answers_to, is_request}
 use Rattle.fabric_laws.specs.Whole.{view}
 use Rattle.fabric_laws.specs.Trace.{IsMade}
-use Rattle.fabric_laws.specs.Fabric.{whole_of}
+use Rattle.fabric_laws.specs.Fabric.{Fabric, whole_of}
+use Rattle.fabric_core.specs.Runs.{Runs}
 use Rattle.hall_laws.proofs.Lists.{answer_is}
 use Rattle.hall_laws.specs.declared.token.Knowledge.{Knowledge}
 use Rattle.hall_laws.specs.declared.token.Token.{Token}
 use Rattle.hall_laws.specs.declared.token.Start.{Start}
 use Rattle.hall_laws.specs.Standing.{Table, Seated}
+use Rattle.hall_laws.specs.Story.{Tells, Ran, events_in}
 use Rattle.hall_laws.specs.Rule.{Traced, IsSoundTraced, Fits, Kept, parts}
 use Rattle.hall_laws.specs.Tells.{Has, AnsweredStand}
 use Rattle.hall_laws.specs.Knows.{IsTrueOf, IsRuled}
 use Rattle.hall_laws.proofs.Totals.{each_map}
+use Rattle.hall_laws.proofs.Story.{tells_runs}
+use Rattle.hall_laws.proofs.Events.{seat_of}
 use Rattle.hall_laws.proofs.Told.{own_request}
 use Rattle.hall_laws.proofs.Waits.{test, waits, made_by, any_found, any_at, NoAnswer, Asked, asked_behind, more_made}
 
@@ -101,15 +105,31 @@ module _ (s : Traced) (w : Knowledge) (sound : IsSoundTraced s) (f : Fits s w) w
     served = f.served;
   }
 
+-- what threads did is a run
+pub all_ran : (s : Traced) (w : Knowledge) → IsSoundTraced s → Fits s w → Ran w s.fabric
+all_ran s w sound f = record { acts = s.acts; told = s.records; tells = subst (λ (g : Fabric). Tells g s.acts s.records s.fabric) (sym f.opened) sound.tells; own = f.did }
+
+pub run_of : (w : Knowledge) (f : Fabric) (r : Ran w f) → Runs w.opened (events_in r.acts) r.told f
+run_of w f r = tells_runs w.opened f r.acts r.told r.tells
+
 -- the whole rule
 pub ruled : (about : Start) (s : Table) → Kept about s → IsRuled s
 ruled about s r = record {
   state = r.whole.fabric;
   sound = r.sound.sound;
+  opened = r.whole.opened;
+  acts = r.whole.acts;
+  records = r.whole.records;
+  ran = r.sound.tells;
+  seats = r.whole.seats;
+  by = r.sound.by;
+  wide = r.wide;
+  deep = r.deep;
   at_home = r.at_home;
   held = r.holder;
   holds = λ j ts at. each_map (λ (t : Token) (h : Seated parts IsSoundTraced Fits r.whole s.words t). h.0) ts (r.tokens j ts at);
   one_seat = r.apart;
   one_serving = r.served;
+  did = λ j ts at. each_map (λ (t : Token) (h : Seated parts IsSoundTraced Fits r.whole s.words t). (h.1.opened, h.1.seats, seat_of r.whole t.knows h.1, h.1.did)) ts (r.tokens j ts at);
   knows = λ j ts at. each_map (λ (t : Token) (h : Seated parts IsSoundTraced Fits r.whole s.words t). is_true r.whole t.knows r.sound h.1) ts (r.tokens j ts at);
 }

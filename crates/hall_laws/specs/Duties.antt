@@ -20,7 +20,7 @@ use Rattle.fabric_core.specs.Answers.{transmit_on, deliver_on, send_dllp_on, del
 use Rattle.hall_laws.specs.declared.part.PartValue.TheVariants.{Memory, Requester, Sender, Forward, Back, Receiver}
 use Rattle.hall_laws.specs.declared.token.Token.{Token}
 use Rattle.hall_laws.specs.Parts.{slot, lane_slot, IsLaneName}
-use Rattle.hall_laws.specs.Rule.{Goes, after_event}
+use Rattle.hall_laws.specs.Rule.{Goes, after_event, after_silent}
 
 -- the token's fabric has this lane
 abbrev pub KnowsLane : Token → LaneName → Type 0
@@ -30,51 +30,51 @@ abbrev pub TransmitOwes : Type 0
 TransmitOwes = (t : Token) (name : LaneName) (s s' : SenderEndView) (w w' : List WirePacket) (n : ℕ) → KnowsLane t name
     → t.held ≡ (lane_slot name + 1, Forward w) ∷ ((lane_slot name, Sender s) ∷ [])
     → transmit_on s w ≡ Ok (n, s', w')
-    → Goes (events.Transmit name) (seen.Sent n) t (lane_slot name) (Sender s') (record t { held = (lane_slot name + 1, Forward w') ∷ [] })
+    → Goes (events.Transmit name) (seen.Sent n) t (lane_slot name) (Sender s') (after_silent (events.Transmit name) (seen.Sent n) ((lane_slot name + 1, Forward w') ∷ []) t)
 
 abbrev pub DeliverOwes : Type 0
 DeliverOwes = (t : Token) (name : LaneName) (w w' : List WirePacket) (r r' : ReceiverEndView) (fate : Fate) (x : Arrival) → KnowsLane t name
     → t.held ≡ (lane_slot name + 3, Receiver r) ∷ ((lane_slot name + 1, Forward w) ∷ [])
     → deliver_on w r fate ≡ Ok (x, w', r')
-    → Goes (events.Deliver name fate) (seen.Delivered x) t (lane_slot name + 1) (Forward w') (record t { held = (lane_slot name + 3, Receiver r') ∷ [] })
+    → Goes (events.Deliver name fate) (seen.Delivered x) t (lane_slot name + 1) (Forward w') (after_silent (events.Deliver name fate) (seen.Delivered x) ((lane_slot name + 3, Receiver r') ∷ []) t)
 
 abbrev pub SendDllpOwes : Type 0
 SendDllpOwes = (t : Token) (name : LaneName) (r r' : ReceiverEndView) (b b' : List Dllp) (kind : DllpKind) (d : Dllp) → KnowsLane t name
     → t.held ≡ (lane_slot name + 2, Back b) ∷ ((lane_slot name + 3, Receiver r) ∷ [])
     → send_dllp_on r b kind ≡ Ok (d, r', b')
-    → Goes (events.SendDllp name kind) (seen.SentDllp d) t (lane_slot name + 3) (Receiver r') (record t { held = (lane_slot name + 2, Back b') ∷ [] })
+    → Goes (events.SendDllp name kind) (seen.SentDllp d) t (lane_slot name + 3) (Receiver r') (after_silent (events.SendDllp name kind) (seen.SentDllp d) ((lane_slot name + 2, Back b') ∷ []) t)
 
 abbrev pub DeliverDllpOwes : Type 0
 DeliverDllpOwes = (t : Token) (name : LaneName) (b b' : List Dllp) (s s' : SenderEndView) (fate : Fate) (x : DllpSeen) → KnowsLane t name
     → t.held ≡ (lane_slot name, Sender s) ∷ ((lane_slot name + 2, Back b) ∷ [])
     → deliver_dllp_on b s fate ≡ Ok (x, b', s')
-    → Goes (events.DeliverDllp name fate) (seen.SeenDllp x) t (lane_slot name + 2) (Back b') (record t { held = (lane_slot name, Sender s') ∷ [] })
+    → Goes (events.DeliverDllp name fate) (seen.SeenDllp x) t (lane_slot name + 2) (Back b') (after_silent (events.DeliverDllp name fate) (seen.SeenDllp x) ((lane_slot name, Sender s') ∷ []) t)
 
 abbrev pub TimerOwes : Type 0
 TimerOwes = (t : Token) (name : LaneName) (s s' : SenderEndView) (n : ℕ) → KnowsLane t name
     → t.held ≡ (lane_slot name, Sender s) ∷ []
     → timer_on s ≡ Ok (n, s')
-    → Goes (events.Timer name) (seen.Back n) t (lane_slot name) (Sender s') (record t { held = [] })
+    → Goes (events.Timer name) (seen.Back n) t (lane_slot name) (Sender s') (after_silent (events.Timer name) (seen.Back n) [] t)
 
 abbrev pub RetrainedOwes : Type 0
 RetrainedOwes = (t : Token) (name : LaneName) (s s' : SenderEndView) → KnowsLane t name
     → t.held ≡ (lane_slot name, Sender s) ∷ []
     → retrained_on s ≡ Ok s'
-    → Goes (events.Retrained name) seen.Retrained t (lane_slot name) (Sender s') (record t { held = [] })
+    → Goes (events.Retrained name) seen.Retrained t (lane_slot name) (Sender s') (after_silent (events.Retrained name) seen.Retrained [] t)
 
 -- the packet of a place of an `up` lane goes into `in`
 abbrev pub ForwardUpOwes : Type 0
 ForwardUpOwes = (t : Token) (port place to : ℕ) (r r' : ReceiverEndView) (s s' : SenderEndView) → KnowsLane t (lanes.Up port)
     → t.held ≡ (1, Sender s) ∷ ((slot port 1 + 3, Receiver r) ∷ [])
     → destination_on r place port ≡ Ok to → forward_on r place s ≡ Ok (r', s') → ForwardFits r place
-    → Goes (events.Forward (lanes.Up port) place) (seen.To to) t (slot port 1 + 3) (Receiver r') (record t { held = (1, Sender s') ∷ [] })
+    → Goes (events.Forward (lanes.Up port) place) (seen.To to) t (slot port 1 + 3) (Receiver r') (after_silent (events.Forward (lanes.Up port) place) (seen.To to) ((1, Sender s') ∷ []) t)
 
 -- the packet of a place of `out` goes into the `down` lane of its port
 abbrev pub ForwardOutOwes : Type 0
 ForwardOutOwes = (t : Token) (place to : ℕ) (r r' : ReceiverEndView) (s s' : SenderEndView) → KnowsLane t (lanes.Down to)
     → t.held ≡ (slot to 5, Sender s) ∷ ((8, Receiver r) ∷ [])
     → destination_on r place 0 ≡ Ok to → forward_on r place s ≡ Ok (r', s') → ForwardFits r place
-    → Goes (events.Forward lanes.Outward place) (seen.To to) t 8 (Receiver r') (record t { held = (slot to 5, Sender s') ∷ [] })
+    → Goes (events.Forward lanes.Outward place) (seen.To to) t 8 (Receiver r') (after_silent (events.Forward lanes.Outward place) (seen.To to) ((slot to 5, Sender s') ∷ []) t)
 
 -- the request of a place of `in` acts on the memory, which stays held with its new value
 abbrev pub ServeOwes : Type 0

@@ -2,6 +2,7 @@
 use Rattle.std.specs.Prelude.{◌≡◌, ℕ, suc, ◌<◌, ◌≤◌, false, List, length, take, Some}
 use mathlib.Core.Option.{some}
 use lib.ListN.{get_elem?}
+use Rattle.history_check.specs.declared.Record.{Record}
 use Rattle.history_check.specs.Trace.{stands}
 use Rattle.fabric_laws.specs.Lists.{Each}
 use Rattle.fabric_laws.specs.Whole.{view}
@@ -13,6 +14,7 @@ use Rattle.hall_laws.specs.declared.part.PartValue.{PartValue}
 use Rattle.hall_laws.specs.declared.token.Token.{Token}
 use Rattle.hall_laws.specs.Parts.{parts_of}
 use Rattle.hall_laws.specs.Standing.{Table, word_of, Found, total, named, serving}
+use Rattle.hall_laws.specs.Story.{Act, Tells, done_by}
 use Rattle.hall_laws.specs.Rule.{Begins, HasConfig}
 use Rattle.hall_laws.specs.Tells.{Has, AnsweredStand}
 
@@ -37,6 +39,17 @@ pub record IsRuled (s : Table) : Type 0 where
   -- the state is a sound fabric
   pub state : Fabric
   pub sound : IsSoundFabric state
+  -- one list of acts leads to it from the fabric that the hall was made of, with these records
+  pub opened : Fabric
+  pub acts : List Act
+  pub records : List Record
+  pub ran : Tells opened acts records state
+  -- each of them is of one of the hall's seats
+  pub seats : ℕ
+  pub by : Each (λ (a : Act). a.by < seats) acts
+  -- each part has its word and its slot
+  pub wide : length s.words ≡ word_of (length (parts_of state))
+  pub deep : length s.homes ≡ length (parts_of state)
   -- a part whose word is 0 is at home in its slot
   pub at_home : (k : ℕ) (v : PartValue) → get_elem? s.words (word_of k) ≡ some 0 → get_elem? (parts_of state) k ≡ some v → get_elem? s.homes k ≡ some (some (Some v))
   -- any other is held by a token of the seat that its word names
@@ -48,5 +61,7 @@ pub record IsRuled (s : Table) : Type 0 where
   pub one_seat : (n : ℕ) → total (named n) s.views ≤ 1
   -- no place of the history stands twice in all that was served
   pub one_serving : (n : ℕ) → total (serving n) s.views ≤ 1
+  -- each seat knows that first fabric, and what it did are the acts with its number, in their order
+  pub did : (j : ℕ) (ts : List Token) → get_elem? s.views j ≡ some ts → Each (λ (t : Token). (t.knows.opened ≡ opened) × (t.knows.seats ≡ seats) × (t.knows.number < seats) × (t.knows.did ≡ done_by t.knows.number acts)) ts
   -- what each seat knows is true of the state
   pub knows : (j : ℕ) (ts : List Token) → get_elem? s.views j ≡ some ts → Each (λ (t : Token). IsTrueOf state t.knows) ts

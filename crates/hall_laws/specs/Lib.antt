@@ -2,6 +2,7 @@ pub mod Parts
 pub mod Lending
 pub mod Standing
 pub mod Waiting
+pub mod Story
 pub mod Rule
 pub mod Calls
 pub mod Tells

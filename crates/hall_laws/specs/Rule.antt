@@ -22,21 +22,28 @@ use Rattle.hall_laws.specs.declared.token.Token.{Token}
 use Rattle.hall_laws.specs.declared.token.Start.{Start}
 use Rattle.hall_laws.specs.declared.token.Knowledge.{Knowledge}
 use Rattle.hall_laws.specs.Parts.{parts_of}
+use Rattle.hall_laws.specs.Story.{Act, Tells, done_by}
 use Rattle.hall_laws.specs.Waiting.{requester_in, without, waiting}
 use Rattle.hall_laws.specs.Standing as hall
 
--- a fabric with the records of all that was submitted and collected
+-- the number of seats, the fabric that the hall was made of, all that happened since, the fabric that it led to, and the
+-- records of all that was submitted and collected
 pub record Traced : Type 0 where
+  pub seats : ℕ
+  pub opened : Fabric
+  pub acts : List Act
   pub fabric : Fabric
   pub records : List Record
 
 abbrev pub parts : Traced → List PartValue
 parts s = parts_of s.fabric
 
--- the fabric is sound, and the trace belongs to it
+-- the fabric is sound, the trace belongs to it, and the acts, each of one of the seats, lead to it with these records
 pub record IsSoundTraced (s : Traced) : Type 0 where
   pub sound : IsSoundFabric s.fabric
   pub belongs : Belongs (whole_of s.fabric) s.records
+  pub tells : Tells s.opened s.acts s.records s.fabric
+  pub by : Each (λ (a : Act). a.by < s.seats) s.acts
 
 -- xs begins ys
 abbrev pub Begins : {X : Type 0} → List X → List X → Type 0
@@ -57,6 +64,9 @@ pub record HasConfig (f : Fabric) (c : Config) : Type 0 where
 -- + 1
 pub record Fits (s : Traced) (w : Knowledge) : Type 0 where
   pub config : HasConfig s.fabric w.config
+  pub opened : w.opened ≡ s.opened
+  pub seats : w.seats ≡ s.seats
+  pub seat : w.number < w.seats
   pub seen : Begins w.seen s.fabric.memory.entries
   -- what it submitted, and what it waits for
   pub made : w.made ≡ submissions s.records (suc w.number)
@@ -64,15 +74,17 @@ pub record Fits (s : Traced) (w : Knowledge) : Type 0 where
   -- it has seen the history of all its submissions and answers
   pub told : (a : ℕ) (r : Record) → slice_get s.records a ≡ Some r → requester_in r ≡ suc w.number → moment r ≤ length w.seen
   pub served : Each (λ (n : ℕ). n < length s.fabric.memory.entries) w.served
+  -- its calls are those with its number, in their order
+  pub did : w.did ≡ done_by w.number s.acts
 
 -- a seat at the start
-abbrev pub newcomer : Config → ℕ → Token
-newcomer c n = record { knows = record { number = n; config = c; seen = []; made = []; pending = []; served = [] }; held = [] }
+abbrev pub newcomer : Config → Fabric → ℕ → ℕ → Token
+newcomer c f seats n = record { knows = record { number = n; config = c; opened = f; seats = seats; seen = []; made = []; pending = []; served = []; did = [] }; held = [] }
 
--- the tokens of so many seats, from the number n on
-abbrev pub newcomers : Config → ℕ → ℕ → List Token
-newcomers c n zero = []
-newcomers c n (suc count) = newcomer c n ∷ newcomers c (suc n) count
+-- the tokens of so many of the seats, from the number n on
+abbrev pub newcomers : Config → Fabric → ℕ → ℕ → ℕ → List Token
+newcomers c f seats n zero = []
+newcomers c f seats n (suc count) = newcomer c f seats n ∷ newcomers c f seats (suc n) count
 
 abbrev pub Kept : Start → hall.Table → Type 0
 Kept key = hall.Standing parts IsSoundTraced Fits
@@ -129,13 +141,21 @@ learned (events.Collect port) (seen.Collected a) h w = record w { seen = h; pend
 learned (events.Serve place) (seen.At at) h w = record w { served = w.served ++ at ∷ [] }
 learned _ _ h w = w
 
+-- the event happened by a call of the seat, and this was seen of it
+abbrev pub with_done : Event → Seen → Knowledge → Knowledge
+with_done event what w = record w { did = w.did ++ record { event = event; what = what } ∷ [] }
+
+-- `learned` as it is, and what was done
+abbrev pub learned_also : Event → Seen → List Entry → Knowledge → Knowledge
+learned_also event what h w = with_done event what (learned event what h w)
+
 -- the fabric goes over by the event, the released part has this value then and what is still held these, and the seat
 -- has learned this
 pub record GoesOver (f : Fabric) (event : Event) (what : Seen) (w : Knowledge) (k : ℕ) (v : PartValue) (t : Token) : Type 0 where
   pub after : Fabric
   pub happens : Happens f event what after
   pub parts : parts_of after ≡ write (parts_of f) ((k, v) ∷ t.held)
-  pub knows : t.knows ≡ learned event what f.memory.entries w
+  pub knows : t.knows ≡ learned_also event what f.memory.entries w
 
 -- Kind 2: the token that holds the footprint of the event releases its first part. What it held goes over by the event,
 -- and the token by what it learns
@@ -149,4 +169,8 @@ pub record Goes (event : Event) (what : Seen) (t : Token) (k : ℕ) (v : PartVal
 
 -- the token after an event, holding these parts still
 abbrev pub after_event : Event → Seen → List Entry → hall.Values → Token → Token
-after_event event what h held t = record { knows = learned event what h t.knows; held = held }
+after_event event what h held t = record { knows = learned_also event what h t.knows; held = held }
+
+-- the same, of an event of which its seat learns nothing else
+abbrev pub after_silent : Event → Seen → hall.Values → Token → Token
+after_silent event what held t = record { knows = with_done event what t.knows; held = held }

@@ -3,7 +3,10 @@ use Rattle.std.specs.Prelude.{◌≡◌, ◌≢◌, ◌==◌, ◌⊎◌, ℕ, su
 use mathlib.Core.Option.{some}
 use lib.ListN.{get_elem?}
 use Rattle.atomic_table.specs.Table.{State, Me, Step, rest}
+use Rattle.fabric_core.specs.declared.config.Config.{Config}
+use Rattle.lane_ends.specs.Steps.{new_lane}
 use Rattle.fabric_laws.specs.Lists.{Each}
+use Rattle.fabric_laws.specs.Fabric.{Fabric}
 use Rattle.hall_laws.specs.declared.part.PartValue.{PartValue}
 use Rattle.hall_laws.specs.declared.token.Token.{Token}
 use Rattle.hall_laws.specs.declared.token.Knowledge.{Knowledge}
@@ -41,8 +44,15 @@ Table = State (Option PartValue) (List Token)
 abbrev pub word_of : ℕ → ℕ
 word_of k = 8 * k
 
+abbrev pub no_config : Config
+no_config = record { requesters = 0; base = 0; size = 0; credits = record { ph = 0; pd = 0; nph = 0; npd = 0; cplh = 0; cpld = 0 }; block = 0 }
+
+-- a fabric of no requesters
+abbrev pub nowhere : Fabric
+nowhere = record { credits = no_config.credits; memory = record { base = 0; size = 0; block = 0; entries = [] }; requesters = []; inward = new_lane no_config.credits; outward = new_lane no_config.credits; up = []; down = [] }
+
 abbrev pub nobody : Knowledge
-nobody = record { number = 0; config = record { requesters = 0; base = 0; size = 0; credits = record { ph = 0; pd = 0; nph = 0; npd = 0; cplh = 0; cpld = 0 }; block = 0 }; seen = []; made = []; pending = []; served = [] }
+nobody = record { number = 0; config = no_config; opened = nowhere; seats = 0; seen = []; made = []; pending = []; served = []; did = [] }
 
 abbrev pub blank : Token
 blank = record { knows = nobody; held = [] }
@@ -121,11 +131,12 @@ module _ {P : Type 0} (parts : P → List PartValue) (Sound : P → Type 0) (Fit
   abbrev pub Known : List Token → Type 0
   Known ts = (p : P) × Sound p × Each (FitsToken p) ts
 
-  -- kind 1, at the word of the part k: it was free and is held by the first token; or nothing changed
+  -- kind 1, at the word of the part k: it was free and is held by the first token; or nothing changed, and it was another
+  -- seat's where the first token doesn't hold the part
   abbrev pub taken : Step (Option PartValue) → Sat → ℕ → Sat → Type 0
   taken st m found m' = (k : ℕ) → st.word ≡ word_of k
       → (found ≡ 0 → (v : PartValue) × (m' ≡ (holding_first k v m.0, (k, Some v) ∷ m.1)) × Known (holding_first k v m.0))
-      × (found ≢ 0 → m' ≡ m)
+      × (found ≢ 0 → (m' ≡ m) × (Outside k (token_of m.0).held → found ≢ suc (token_of m.0).knows.number))
 
   -- What the whole may become while a view, of whose tokens the first steps, turns into another: it stays sound, the
   -- parts that the first did not hold stay, all tokens fit, and these places have these values

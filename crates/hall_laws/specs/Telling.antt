@@ -10,19 +10,19 @@ use Rattle.fabric_core.specs.declared.event.Seen.TheVariants as seen
 use Rattle.hall_laws.specs.declared.part.PartValue.{PartValue}
 use Rattle.hall_laws.specs.declared.part.PartValue.TheVariants.{Memory}
 use Rattle.hall_laws.specs.declared.token.Token.{Token}
-use Rattle.hall_laws.specs.Rule.{Known, Goes, learned}
+use Rattle.hall_laws.specs.Rule.{Known, Goes, learned_also}
 use Rattle.hall_laws.specs.Shows.{Shows}
 use Rattle.hall_laws.specs.Tells.{SubmitTells, CollectTells, SeesTells, Met}
 
 abbrev pub SubmissionTells : Type 0
 SubmissionTells = (t t' : Token) (ts : List Token) (u r k : ℕ) (x y v : PartValue) (m : MemoryView) (op : Op) → Known (t ∷ ts) → t.held ≡ (u, x) ∷ ((r, y) ∷ ((0, Memory m) ∷ []))
     → Goes (events.Submit (suc t.knows.number) op) (seen.Submitted k) t r v t'
-    → SubmitTells t.knows k op (length m.entries) (learned (events.Submit (suc t.knows.number) op) (seen.Submitted k) m.entries t.knows)
+    → SubmitTells t.knows k op (length m.entries) (learned_also (events.Submit (suc t.knows.number) op) (seen.Submitted k) m.entries t.knows)
 
 abbrev pub CollectionTells : Type 0
 CollectionTells = (t t' : Token) (ts : List Token) (u r : ℕ) (x y v : PartValue) (m : MemoryView) (a : Answer) → Known (t ∷ ts) → t.held ≡ (u, x) ∷ ((r, y) ∷ ((0, Memory m) ∷ []))
     → Goes (events.Collect (suc t.knows.number)) (seen.Collected a) t r v t'
-    → CollectTells t.knows a.number a.reply (length m.entries) (learned (events.Collect (suc t.knows.number)) (seen.Collected a) m.entries t.knows)
+    → CollectTells t.knows a.number a.reply (length m.entries) (learned_also (events.Collect (suc t.knows.number)) (seen.Collected a) m.entries t.knows)
 
 -- what is seen of an event is what a sound fabric that fits the seat shows
 abbrev pub EventShows : Type 0

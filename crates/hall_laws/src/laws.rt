@@ -1,5 +1,5 @@
 //! The steps on the words.
-ghost use Rattle.std.specs.Prelude.{◌≡◌, ◌≢◌, ◌+◌, ◌<◌, ◌^◌, [], ◌∷◌, ◌++◌, length, drop, MatchResult, Some, None};
+ghost use Rattle.std.specs.Prelude.{◌≡◌, ◌≢◌, suc, ◌+◌, ◌<◌, ◌^◌, [], ◌∷◌, ◌++◌, length, drop, MatchResult, Some, None};
 ghost use Rattle.atomic_table.specs.Table.{rest};
 ghost use Rattle.fabric_core.specs.declared.event.Event.{Event};
 ghost use Rattle.fabric_core.specs.declared.event.Seen.{Seen};
@@ -7,7 +7,10 @@ ghost use Rattle.hall_laws.specs.declared.token.Token.{Token};
 ghost use Rattle.hall_laws.specs.Standing.{token_of, others_of, holding_first, Outside};
 ghost use Rattle.hall_laws.specs.Calls.{HasSlot};
 ghost use Rattle.hall_laws.specs.declared.token.Knowledge.{Knowledge};
+ghost use Rattle.fabric_laws.specs.Fabric.{Fabric};
+ghost use Rattle.fabric_core.specs.Runs.{Runs};
 ghost use Rattle.hall_laws.specs.Knows.{IsTrueOf, IsRuled};
+ghost use Rattle.hall_laws.specs.Story.{Ran, events_in};
 ghost use Rattle.hall_laws.specs.declared.token.Start.{Start};
 ghost use Rattle.hall_laws.specs.Standing.{Table};
 ghost use Rattle.hall_laws.specs.Rule.{Traced, IsSoundTraced, Fits, Kept, Known, Releases, Goes, dropped_first, dropped_seen};
@@ -30,7 +33,7 @@ impl TableRule<Option<PartValue>, LinkedList<Token>, Start> for FabricRule {
 
     ghost holds = { Kept };
 
-    ghost first = { λ k. newcomers k.config 0 k.seats };
+    ghost first = { λ k. newcomers k.config k.opened.value k.seats 0 k.seats };
 }
 
 pub type Place = Seat<Option<PartValue>, LinkedList<Token>>;
@@ -69,12 +72,12 @@ impl<C: After> Play<Option<PartValue>, LinkedList<Token>> for Releasing<C> {
 }
 
 /// Kind 1: the first token of the seat takes the part if its word is 0, which then names it. The error is the word that
-/// was found.
+/// was found; it isn't the token's own where the token doesn't hold the part.
 pub fn take(steps: &Steps, place: &mut Place, slot: usize, number: u64) -> Result<PartValue, u64>
     requires table { (place.old.table_id ≡ steps.now.table_id) × HasSlot steps.now.table_id slot }
     requires token { (0 < length place.old.me.0) × (number ≡ (token_of place.old.me.0).knows.number) × (number < 2 ^ 32) }
     ensures seat { (place.new.table_id ≡ place.old.table_id) × (place.new.id ≡ place.old.id) }
-    ensures taken { MatchResult result (λ v. (place.new.me ≡ (holding_first slot v place.old.me.0, (slot, None) ∷ place.old.me.1)) × Known (holding_first slot v place.old.me.0)) (λ w. (w ≢ 0) × (place.new.me ≡ place.old.me)) }
+    ensures taken { MatchResult result (λ v. (place.new.me ≡ (holding_first slot v place.old.me.0, (slot, None) ∷ place.old.me.1)) × Known (holding_first slot v place.old.me.0)) (λ w. (w ≢ 0) × (place.new.me ≡ place.old.me) × (Outside slot (token_of place.old.me.0).held → w ≢ suc (token_of place.old.me.0).knows.number)) }
 {
     let found = steps.compare_exchange::<Taking>(place, WORDS_APART * slot, 0, number + 1);
     if found != 0 {
@@ -107,7 +110,7 @@ impl AfterEvent for Brand {
     ghost token = { blank };
 }
 
-/// Kind 2: the event happens as its first part goes home. `told` is for the proof alone.
+/// Kind 2: the event happens as one of its parts goes home. `told` is for the proof alone.
 pub fn event<C: AfterEvent, T>(
     steps: &Steps,
     place: &mut Place,
@@ -195,9 +198,16 @@ pub fn what_a_seat_knows_is_true()
     ensures { (s : Traced) (w : Knowledge) → IsSoundTraced s → Fits s w → IsTrueOf s.fabric w }
 {}
 
+/// What threads did is one run of the fabric that their hall was made of, in which each seat's calls stand in its order.
+pub fn what_threads_did_is_a_run()
+    ensures run { (w : Knowledge) (f : Fabric) (r : Ran w f) → Runs w.opened (events_in r.acts) r.told f }
+    ensures any { (s : Traced) (w : Knowledge) → IsSoundTraced s → Fits s w → Ran w s.fabric }
+{}
+
 /// The rule of the hall, between any two steps on the words, line by line: the values at home and those that tokens
-/// hold are the parts of one sound fabric; no seat number stands in two tokens, and no place of the history was served
-/// twice; and what each seat knows is true of that fabric.
+/// hold are the parts of one sound fabric, each with its word and its slot; no seat number stands in two tokens, and no place of
+/// the history was served twice; one list of acts leads to that fabric from the one that the hall was made of, and each
+/// seat's calls are those with its number, in its order; and what each seat knows is true of that fabric.
 pub fn the_rule_line_by_line()
     ensures { (about : Start) (s : Table) → Kept about s → IsRuled s }
 {}

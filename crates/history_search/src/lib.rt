@@ -11,6 +11,7 @@ mod alone;
 mod clocked;
 mod copies;
 mod judging;
+pub mod laws;
 mod moments;
 mod searching;
 mod shortest;

@@ -1,15 +1,24 @@
 //! Laws of logs.
 ghost use Rattle.std.specs.Prelude.{ℕ, ◌≡◌, ◌<◌, ◌+◌, ◌++◌, ◌∷◌, [], List, length, take, slice_get, Some};
 ghost use Rattle.tlp_core.specs.declared.operation.Op.{Op};
+ghost use Rattle.seq_memory.specs.declared.Entry.{Entry};
 ghost use Rattle.seq_memory.specs.declared.Reply.{Reply};
 ghost use Rattle.history_check.specs.declared.Record.{Record};
 ghost use Rattle.history_check.specs.declared.Record.TheVariants as records;
-ghost use Rattle.history_check.specs.Trace.{IsNumbered, submissions};
+ghost use Rattle.history_check.specs.Claim.{claim_of};
+ghost use Rattle.history_check.specs.Clocks.{IsClocked};
+ghost use Rattle.history_check.specs.Trace.{Explains, IsNumbered, submissions};
 ghost use Rattle.history_check.specs.TraceView.{TraceView, observed};
 ghost use Rattle.log_runs.specs.EventView.{EventView};
 ghost use Rattle.log_runs.specs.Explainable.{IsExplainable, prefix, without};
 ghost use Rattle.log_runs.specs.Runs.{Live, start};
 ghost use Rattle.log_runs.specs.Tasks.{AreEvents, IsMisformed};
+
+/// What a history explains, with `n` that are those of a history that grew, is explainable: so it has a history whatever
+/// its `n` are.
+pub fn clocked_is_explainable()
+    ensures { (t : TraceView) (h : List Entry) → Explains (claim_of t h) → IsClocked (claim_of t h) → IsExplainable t }
+{}
 
 /// A prefix of an explainable log is explainable.
 pub fn prefix_is_explainable()

@@ -7,7 +7,7 @@ use operation_text::Expected;
 use packet_text::{BytesFault, decode};
 use tlp_core::{TlpFault, decode_lent};
 
-const DIGITS: Expected = Expected::Of("hexadecimal digits", "two a byte, no prefix");
+const DIGITS: Expected = Expected::Of("a word of hexadecimal digits", "two a byte, no prefix");
 
 /// The line from its first word on that has a byte which is no digit.
 fn wrong_word(line: &[u8]) -> Option<&[u8]> {

@@ -1,5 +1,5 @@
 //! The calls without a handle.
-ghost use Rattle.std.specs.Prelude.{◌≡◌, ◌≤◌, ◌<◌, ◌⊎◌, ℕ, Result, Ok, codes, length};
+ghost use Rattle.std.specs.Prelude.{◌≡◌, ◌≤◌, ◌<◌, ◌⊎◌, ℕ, true, false, Result, Ok, codes, length};
 ghost use Rattle.tlp_core.specs.declared.fault.TlpFault as faults;
 ghost use Rattle.tlp_core.specs.Fault.{number_of, name_of};
 ghost use Rattle.history_check.specs.Claim.{Claim};
@@ -10,7 +10,7 @@ ghost use Rattle.c_buffer.specs.declared.outcome.Failure.{Failure};
 ghost use Rattle.c_buffer.specs.Buffer.{filled};
 ghost use Rattle.c_answer.specs.Call.{call};
 ghost use Rattle.c_search.specs.Verdict.{IsSearched};
-ghost use Rattle.c_check.specs.Verdict.{verdict};
+ghost use Rattle.c_check.specs.Verdict.{verdict, IsOrdered, IsRight};
 ghost use Rattle.c_packets.specs.Words.{in_words, in_bytes};
 ghost use Rattle.pciex_c.specs.Codes.{code_of, status_of};
 
@@ -37,14 +37,27 @@ pub extern "C" fn pciex_raw_answer(
 /// Whether the history of the text explains its trace.
 #[unsafe(no_mangle)]
 pub extern "C" fn pciex_raw_check(alloc: Global, text: &[u8], buffer: &mut [u8]) -> u32
-    ensures code { ¬ (result ≡ NO_MEMORY) → result ≡ status_of (verdict text.now buffer.old).outcome }
-    ensures buffer { ¬ (result ≡ NO_MEMORY) → buffer.new ≡ (verdict text.now buffer.old).buffer }
+    ensures code { ¬ (result ≡ NO_MEMORY) → result ≡ status_of (verdict false text.now buffer.old).outcome }
+    ensures buffer { ¬ (result ≡ NO_MEMORY) → buffer.new ≡ (verdict false text.now buffer.old).buffer }
     ensures no_memory { result ≡ NO_MEMORY → 512 ≤ length buffer.old }
     ensures unchanged { (result ≡ 0) ⊎ (2000 ≤ result) → buffer.new ≡ buffer.old }
     ensures explained { result ≡ 0 → (c : Claim) × (read_of text.now ≡ Ok c) × Explains c }
     ensures unexplained { (c : Claim) → read_of text.now ≡ Ok c → Explains c → (result ≡ 0) ⊎ (result ≡ SMALL_BUFFER) ⊎ (result ≡ NO_MEMORY) }
 {
-    status(c_check::check_text(alloc, text, buffer))
+    status(c_check::check_text(alloc, text, false, buffer))
+}
+
+/// The same, and whether its `n` are those of a history that grew: then requests act in real-time order.
+#[unsafe(no_mangle)]
+pub extern "C" fn pciex_raw_check_clocked(alloc: Global, text: &[u8], buffer: &mut [u8]) -> u32
+    ensures code { ¬ (result ≡ NO_MEMORY) → result ≡ status_of (verdict true text.now buffer.old).outcome }
+    ensures buffer { ¬ (result ≡ NO_MEMORY) → buffer.new ≡ (verdict true text.now buffer.old).buffer }
+    ensures no_memory { result ≡ NO_MEMORY → 512 ≤ length buffer.old }
+    ensures unchanged { (result ≡ 0) ⊎ (2000 ≤ result) → buffer.new ≡ buffer.old }
+    ensures ordered { result ≡ 0 → (c : Claim) × (read_of text.now ≡ Ok c) × IsOrdered c }
+    ensures flawed { (c : Claim) → read_of text.now ≡ Ok c → IsRight true c → (result ≡ 0) ⊎ (result ≡ SMALL_BUFFER) ⊎ (result ≡ NO_MEMORY) }
+{
+    status(c_check::check_text(alloc, text, true, buffer))
 }
 
 /// A history that explains the log of the text, or that there is none.

@@ -272,7 +272,7 @@ fn is_ended(hall: &Hall, seat: ReqSeat, row: &Row, alloc: Global) -> Result<bool
 /// The seat of the one requester, which did nothing yet.
 #[tactic(auto, using(crate::proofs::Seats::the_one_is_unused))]
 fn the_one(hall: &Hall, mut seats: Vec<ReqSeat>) -> Option<ReqSeat>
-    requires { AreNewSeats hall.now.table_id hall.now.config 0 1 seats.items }
+    requires { AreNewSeats hall.now 0 1 seats.items }
     ensures { IfSome result (λ s. IsUnusedSeat hall.now 1 s) }
 {
     seats.pop()
@@ -281,7 +281,7 @@ fn the_one(hall: &Hall, mut seats: Vec<ReqSeat>) -> Option<ReqSeat>
 /// The one work seat.
 #[tactic(auto, using(crate::proofs::Seats::the_one_fits))]
 fn the_worker(hall: &Hall, mut seats: Vec<WorkSeat>) -> Option<WorkSeat>
-    requires { AreNewSeats hall.now.table_id hall.now.config 1 1 seats.items }
+    requires { AreNewSeats hall.now 1 1 seats.items }
     ensures { IfSome result (λ s. IsSeatOf hall.now s) }
 {
     seats.pop()
@@ -295,8 +295,8 @@ fn is_right_in(
     row: &Row,
     alloc: Global,
 ) -> Result<bool, AllocError>
-    requires seats { AreNewSeats hall.now.table_id hall.now.config 0 1 seats.items }
-    requires workers { AreNewSeats hall.now.table_id hall.now.config 1 1 workers.items }
+    requires seats { AreNewSeats hall.now 0 1 seats.items }
+    requires workers { AreNewSeats hall.now 1 1 workers.items }
     requires one { hall.now.config.requesters ≡ 1 }
 {
     match (the_one(hall, seats), the_worker(hall, workers)) {

@@ -6,6 +6,11 @@
 //! takes it back. A [`Stack`] has the steps that were taken, and the places from which others may be
 //! taken. A [`Memo`] remembers places from which no run leads to the end, while there is room for
 //! them.
+//!
+//! A place is remembered by all that decides what may follow: the events passed, who is pending, and the
+//! bytes without the zeros at both ends. So equal places are equal states. They stand in one list, and a
+//! table has the newest of each mark: a table of keys would hash hundreds of requests at each look. The
+//! steps of all frames stand in one list: with lists of its own each frame took 400 bytes.
 #![tactic(auto)]
 
 mod allowed;

@@ -8,6 +8,9 @@
 //! What is junk is judged word by word.
 //! [`laws`] says this of all runs, whatever the operations do. What two requests of a log do to each
 //! other is told by their bytes.
+//!
+//! The rules are careful: an AtomicOp that wasn't answered may leave anything. A rule that doesn't apply
+//! costs choices, never a right answer.
 #![tactic(auto)]
 
 mod junk;

@@ -6,6 +6,12 @@
 //! [`near_junk`], [`near_needed`], [`near_left`], [`near_value`] and [`near_named`] return lists at a
 //! word, and say of each request that isn't in them that it is nothing. Whoever writes all of a word
 //! needs nothing that stands or is left there. [`span_of`] says which words a request has.
+//!
+//! The lists are built once, in rising order, so pending requests are a part of one that a binary search
+//! finds. Counters would have to be kept, and taken back, at each step. A value that one request alone
+//! has at a word stands in the table itself: most are such, and a list takes three times as much. A
+//! request of more than 128 bytes, or of none, stands in a list that is always looked at: a short line
+//! can name 1,024 words, and no memory serves such a request.
 #![tactic(auto)]
 
 mod lists;

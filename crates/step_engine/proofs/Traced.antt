@@ -3,6 +3,7 @@ use Rattle.std.proofs.Common.{◌≡◌, ◌∙◌, ◌++◌, ◌+◌, inl, inr,
 use Rattle.std.specs.Prelude.{◌-◌, ◌^◌, min, fold, map, nat_lt}
 use Rattle.std.proofs.lemmas.List.{append-nil, append_assoc}
 use Rattle.history_check.specs.declared.Record.{Record}
+use Rattle.history_check.specs.Clocks.{IsClocked}
 use Rattle.history_check.specs.Trace.{Explains}
 use Rattle.fabric_laws.specs.Fabric.{Fabric, whole_of}
 use Rattle.fabric_laws.specs.Whole.{Whole, memory_of}
@@ -42,6 +43,7 @@ pub record Laws : Type 0 where
   pub keeps : (f f' : Fabric) (event : Event) (what : Seen) → IsSoundFabric f → Happens f event what f' → IsSoundFabric f'
   pub run : (p p' : Whole) (rs ss : List Record) → Sound p → Belongs p rs → Run p p' ss → Belongs p' (rs ++ ss)
   pub explained : (p : Whole) (rs : List Record) → Sound p → Belongs p rs → Explains (record { memory = memory_of p; records = rs })
+  pub clocked : (p : Whole) (rs : List Record) → Belongs p rs → IsClocked (record { memory = memory_of p; records = rs })
 
 belongs : Laws → (events : List Event) (f f' : Fabric) (before rs : List Record) → IsSoundFabric f → Belongs (whole_of f) before → Runs f events rs f'
     → IsSoundFabric f' × Belongs (whole_of f') (before ++ rs)
@@ -91,6 +93,11 @@ pub is_explained : Laws → (keeps : Bool) (input : List ℕ) (p : Progress) →
 is_explained l keeps input p h =
     let all = right_later l keeps h.after (progress h.fabric [] 0) p h.goes_on (new_right l h.config h.fabric h.is_new) in
     l.explained (whole_of p.fabric) p.records all.0.sound all.1
+
+pub is_clocked : Laws → (keeps : Bool) (input : List ℕ) (p : Progress) → RunsThrough keeps input p → IsClocked (claim_with p.fabric p.records)
+is_clocked l keeps input p h =
+    let all = right_later l keeps h.after (progress h.fabric [] 0) p h.goes_on (new_right l h.config h.fabric h.is_new) in
+    l.clocked (whole_of p.fabric) p.records all.1
 
 -- ---- the run
 

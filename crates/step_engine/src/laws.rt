@@ -1,13 +1,14 @@
 //! What holds of the traces of scripts.
 ghost use Rattle.std.specs.Prelude.{◌≡◌, Bool, true, ℕ, List, codes};
 ghost use Rattle.history_check.specs.declared.Record.{Record};
+ghost use Rattle.history_check.specs.Clocks.{IsClocked};
 ghost use Rattle.history_check.specs.Trace.{Explains};
 ghost use Rattle.fabric_laws.specs.Fabric.{Fabric};
 ghost use Rattle.fabric_core.specs.declared.config.Config.{Config};
 ghost use Rattle.fabric_core.specs.declared.event.Event.{Event};
 ghost use Rattle.fabric_core.specs.Config.{IsNewWith};
 ghost use Rattle.fabric_core.specs.Runs.{Runs};
-ghost use Rattle.trace_engine.specs.Check.{out_check};
+ghost use Rattle.trace_engine.specs.Check.{out_check, out_check_clocked};
 ghost use Rattle.trace_text.specs.Tellable.{IsTellable};
 ghost use Rattle.trace_text.specs.Texts.{trace_text};
 ghost use Rattle.step_engine.specs.Options.{traced};
@@ -17,18 +18,19 @@ ghost use Rattle.step_engine.specs.Step.{claim_with, out_step, out_step_with};
 use fabric_answers::laws::{a_configuration_has_one_answer, each_event_has_one_answer};
 use fabric_core::laws::{a_new_fabric_is_sound, each_event_keeps_it_sound};
 use fabric_laws::laws::the_trace_belongs;
-use trace_engine::laws::an_explained_trace_is_ok;
+use trace_engine::laws::{a_clocked_trace_is_ok, an_explained_trace_is_ok};
 use trace_text::told_trace_is_read_back;
 
 /// Where each line of a script is an event that happens, or `settle`, or with `--keep-going` an event that is refused,
 /// its run with `--trace` writes the trace of what happened with the fabric's history, and ends with status 1 where an
-/// event was refused, else 0; and the history explains that trace.
+/// event was refused, else 0; and the history explains that trace, whose `n` are those of a history that grew.
 pub fn what_a_script_does_is_explained()
     ensures text { (keeps_going echoes : Bool) (input : List ℕ) (p : Progress) →
         RunsThrough keeps_going input p → (out_step_with (traced keeps_going echoes) input).text ≡ trace_text (claim_with p.fabric p.records) }
     ensures status { (keeps_going echoes : Bool) (input : List ℕ) (p : Progress) →
         RunsThrough keeps_going input p → (out_step_with (traced keeps_going echoes) input).status ≡ p.status }
     ensures explained { (keeps_going : Bool) (input : List ℕ) (p : Progress) → RunsThrough keeps_going input p → Explains (claim_with p.fabric p.records) }
+    ensures clocked { (keeps_going : Bool) (input : List ℕ) (p : Progress) → RunsThrough keeps_going input p → IsClocked (claim_with p.fabric p.records) }
 {
     a_configuration_has_one_answer();
     a_new_fabric_is_sound();
@@ -37,13 +39,17 @@ pub fn what_a_script_does_is_explained()
     the_trace_belongs();
 }
 
-/// `check` says `ok`, with status 0, to the trace of what such a script does, if lines can tell that trace.
+/// `check` says `ok`, with status 0, to the trace of what such a script does, and so does `check --clocked`, if lines can
+/// tell that trace.
 pub fn what_a_script_does_is_ok()
     ensures ok { (keeps_going echoes : Bool) (input : List ℕ) (p : Progress) →
         RunsThrough keeps_going input p → IsTellable (claim_with p.fabric p.records) → (out_check (out_step_with (traced keeps_going echoes) input).text).text ≡ codes "ok\n" }
     ensures status { (keeps_going echoes : Bool) (input : List ℕ) (p : Progress) →
         RunsThrough keeps_going input p → IsTellable (claim_with p.fabric p.records) → (out_check (out_step_with (traced keeps_going echoes) input).text).status ≡ 0 }
+    ensures clocked { (keeps_going echoes : Bool) (input : List ℕ) (p : Progress) →
+        RunsThrough keeps_going input p → IsTellable (claim_with p.fabric p.records) → (out_check_clocked (out_step_with (traced keeps_going echoes) input).text).text ≡ codes "ok\n" }
 {
+    a_clocked_trace_is_ok();
     what_a_script_does_is_explained();
     told_trace_is_read_back();
     an_explained_trace_is_ok();

@@ -342,6 +342,24 @@ fn put_stale(alloc: Global, case: &Case<'_>, request: Request, reason: &mut Reas
     }
 }
 
+/// The record's n is below that of the record before it, above the length of the history, or above the
+/// index of the request that it submits.
+fn put_clock(case: &Case<'_>, place: usize, request: Request, n: u64, reason: &mut Reason) {
+    let previous = place.saturating_sub(1);
+    let last = case.records.get(previous).map_or(0, moment);
+    let length = case.history.len();
+    reason.put(format_args!(": n {n}"));
+    if n < last {
+        let line = case.lines.of_record(previous);
+        reason.put(format_args!(" after n {last} (line {line})"));
+    } else if n > length as u64 {
+        reason.put(format_args!(", and the history has {length} entries"));
+    } else {
+        case.put_point(request, reason);
+    }
+    reason.put(": the order between requesters isn't checked");
+}
+
 /// Adds what is wrong with the entry at the flaw's place.
 fn put_of_entry(case: &Case<'_>, flaw: Flaw, request: Request, reason: &mut Reason) {
     match flaw.kind {
@@ -369,6 +387,7 @@ fn put_of_record(
         FlawKind::Absent => put_absent(request, reason),
         FlawKind::Early => put_early(case, request, reason),
         FlawKind::Late => put_late(case, request, moment(record), reason),
+        FlawKind::Clock => put_clock(case, flaw.place, request, moment(record), reason),
         FlawKind::Reply => {
             if let Record::Ans { reply, .. } = record {
                 put_other_reply(alloc, case, request, reply, reason);

@@ -1,2 +1,3 @@
 mod Judging
 mod Rewritten
+pub mod Clocked

@@ -2,7 +2,7 @@
 use Rattle.std.specs.Prelude.{ℕ, ◌≡◌, length, Option, Some, None}
 use Rattle.history_check.specs.declared.flaws.FlawKind.{FlawKind}
 use Rattle.history_check.specs.Claim.{Claim}
-use Rattle.history_check.specs.Flaws.{first_flaw}
+use Rattle.history_check.specs.Flaws.{first_flaw_clocked}
 use Rattle.trace_text.specs.declared.fault.ReadFault.{ReadFault}
 use Rattle.trace_text.specs.TraceReaderView.{TraceReaderView}
 use Rattle.trace_diagnostics.specs.Told.{TraceReasonsView, TraceLinesView, line_of_flaw}
@@ -23,6 +23,7 @@ abbrev pub line_of_first : TraceLinesView → ℕ → Option (FlawKind × ℕ) �
 line_of_first lines records None = None
 line_of_first lines records (Some f) = Some (line_of_flaw lines records f.0 f.1)
 
--- the number of the line on which the trace's first flaw lies, if it has one
+-- the number of the line on which the trace's first flaw lies, or where there is none the first n that is none of a history
+-- that grew, if it has one
 abbrev pub flawed_line : TraceLinesView → Claim → Option ℕ
-flawed_line lines c = line_of_first lines (length c.records) (first_flaw c)
+flawed_line lines c = line_of_first lines (length c.records) (first_flaw_clocked c)

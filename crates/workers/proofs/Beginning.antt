@@ -19,12 +19,12 @@ use Rattle.worker_turns.specs.declared.stop.Stop.TheVariants as stops
 use Rattle.workers.specs.Running.{AreUnusedSeats, AreWorkSeats, AreDone}
 use Rattle.workers.proofs.Rows.{new_seats}
 
-pub first_seats : (hall : HallView) (ss : List SeatView) → AreNewSeats hall.table_id hall.config 0 hall.config.requesters ss → AreUnusedSeats hall 1 ss
+pub first_seats : (hall : HallView) (ss : List SeatView) → AreNewSeats hall 0 hall.config.requesters ss → AreUnusedSeats hall 1 ss
 first_seats hall ss new = new_seats hall 0 ss new.each
 
-pub work_seats : (hall : HallView) (first count : ℕ) (ss : List SeatView) → AreNewSeats hall.table_id hall.config first count ss → AreWorkSeats hall ss
+pub work_seats : (hall : HallView) (first count : ℕ) (ss : List SeatView) → AreNewSeats hall first count ss → AreWorkSeats hall ss
 work_seats hall first count ss new k d below =
-    let one = new.each k (get_or ss k d) (slice_get-get_or ss k d below) in (one.0, ap (λ w. w.config) one.1)
+    let one = new.each k (get_or ss k d) (slice_get-get_or ss k d below) in (one.0, ap (λ w. w.config) one.1, ap (λ w. w.opened) one.1, ap (λ w. w.seats) one.1)
 
 pub same_config : (c d : Config) (f g : Fabric) → IsNewWith c f → HasConfig f d → HasConfig g d → HasConfig g c
 same_config c d f g n h k = record {

@@ -35,13 +35,13 @@ seat_first hall [] s h some is = absurd (omega arith)
 seat_first hall (t ∷ ts) s h some is = subst (IsSeatOf hall) (sym is) h.0
 
 -- the seats of a new hall
-pub new_seats : (hall : HallView) (n : ℕ) (ss : List SeatView) → ((i : ℕ) (s : SeatView) → slice_get ss i ≡ Some s → (s.table_id ≡ hall.table_id) × (s.knows ≡ (newcomer hall.config (n + i)).knows)) → AreUnusedSeats hall (suc n) ss
+pub new_seats : (hall : HallView) (n : ℕ) (ss : List SeatView) → ((i : ℕ) (s : SeatView) → slice_get ss i ≡ Some s → (s.table_id ≡ hall.table_id) × (s.knows ≡ (newcomer hall.config hall.opened hall.seats (n + i)).knows)) → AreUnusedSeats hall (suc n) ss
 new_seats hall n [] each = tt
 new_seats hall n (s ∷ ss) each =
     let mine = each 0 s refl in
-    let is : s.knows ≡ (newcomer hall.config n).knows = mine.1 ∙ ap (λ m. (newcomer hall.config m).knows) (omega arith) in (
-      record { seat = (mine.0, ap (λ k. k.config) is); number = ap (λ k. suc k.number) is; made = ap (λ k. k.made) is; pending = ap (λ k. k.pending) is },
-      subst (λ m. AreUnusedSeats hall m ss) (omega arith) (new_seats hall (suc n) ss (λ i t at. let one = each (suc i) t at in (one.0, one.1 ∙ ap (λ m. (newcomer hall.config m).knows) (omega arith)))),
+    let is : s.knows ≡ (newcomer hall.config hall.opened hall.seats n).knows = mine.1 ∙ ap (λ m. (newcomer hall.config hall.opened hall.seats m).knows) (omega arith) in (
+      record { seat = (mine.0, ap (λ k. k.config) is, ap (λ k. k.opened) is, ap (λ k. k.seats) is); number = ap (λ k. suc k.number) is; made = ap (λ k. k.made) is; pending = ap (λ k. k.pending) is },
+      subst (λ m. AreUnusedSeats hall m ss) (omega arith) (new_seats hall (suc n) ss (λ i t at. let one = each (suc i) t at in (one.0, one.1 ∙ ap (λ m. (newcomer hall.config hall.opened hall.seats m).knows) (omega arith)))),
     )
 
 pub handles_more : (hall : HallView) (queue : TableId) (i : ℕ) (ss : List (List Op)) (hs : List (PromisedHandle Ended Keeps)) (s : List Op) (h : PromisedHandle Ended Keeps) → AreHandles hall queue i ss hs

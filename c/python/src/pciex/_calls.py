@@ -124,11 +124,13 @@ class Memory:
 # ---- the checker, packets in words, and names
 
 
-def check(text: str) -> str:
+def check(text: str, clocked: bool = False) -> str:
     """What `pciex check` prints of the text of a trace: `ok` if and only if its history explains its records, else the
-    first flaw, `flaw 10 Reply 2`, or `fault 3 Line` if the text is no trace."""
+    first flaw, `flaw 10 Reply 2`, or `fault 3 Line` if the text is no trace. With `clocked`, what `check --clocked` prints:
+    `ok` only if the n of the records are those of a history that grew, too, else `flaw 13 Clock 2`."""
     words = text.encode()
-    code = library.check(words, len(words), room.bytes, LINE)
+    call = library.check_clocked if clocked else library.check
+    code = call(words, len(words), room.bytes, LINE)
     if code >= 2000:
         raise wrong(code)
     return room.text(code - 1000) if code else "ok"

@@ -37,6 +37,7 @@ _CODES = {
     "monitor_completion": [Slot, ctypes.c_uint8, ctypes.c_char_p, _SIZE, _BYTES, _SIZE, _SLOT],
     "monitor_acted": [Slot, ctypes.c_uint8, ctypes.c_uint32, _BYTES, _SIZE, _SLOT],
     "check": [ctypes.c_char_p, _SIZE, _BYTES, _SIZE],
+    "check_clocked": [ctypes.c_char_p, _SIZE, _BYTES, _SIZE],
     "search": [ctypes.c_char_p, _SIZE, ctypes.c_uint64, _BYTES, _SIZE, ctypes.POINTER(_SIZE)],
     "decode": [ctypes.c_char_p, _SIZE, _BYTES, _SIZE],
     "encode": [ctypes.c_char_p, _SIZE, _BYTES, _SIZE],

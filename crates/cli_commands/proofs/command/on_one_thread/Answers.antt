@@ -70,7 +70,7 @@ undone : (r : Request) (input out : Option (List ℕ)) (exit : ℕ) → exit ≡
 undone (Tlp x) input out exit e = inr (e, nothing-done _ input out)
 undone Decode input out exit e = inr (e, nothing-done _ input out)
 undone Encode input out exit e = inr (e, nothing-done _ input out)
-undone Check input out exit e = inr (e, nothing-done _ input out)
+undone (Check is_clocked) input out exit e = inr (e, nothing-done _ input out)
 undone (Search limit is_told) input out exit e = inr (e, nothing-searched limit input out)
 undone Upgrade input out exit e = inr (e, nothing-done _ input out)
 undone (Draw from to) input out exit e = inr (e, nothing-done _ input out)

@@ -13,7 +13,7 @@ abbrev kind_of : Request → Subcommand
 kind_of (requests.Tlp x) = kinds.Tlp
 kind_of requests.Decode = kinds.Decode
 kind_of requests.Encode = kinds.Encode
-kind_of requests.Check = kinds.Check
+kind_of (requests.Check is_clocked) = kinds.Check
 kind_of (requests.Search limit is_told) = kinds.Search
 kind_of (requests.Draw from to) = kinds.Draw
 kind_of requests.Upgrade = kinds.Upgrade
@@ -26,7 +26,7 @@ named : (r : Request) → name_of r ≡ text_of (kind_of r)
 named (requests.Tlp x) = refl
 named requests.Decode = refl
 named requests.Encode = refl
-named requests.Check = refl
+named (requests.Check is_clocked) = refl
 named (requests.Search limit is_told) = refl
 named (requests.Draw from to) = refl
 named requests.Upgrade = refl

@@ -13,7 +13,7 @@ exchange-value-requires c = let took = (c.compare_exchange-found.ensures.2 c.arg
     (search rules, (Some took.0, now ∙ ap (λ (l : List (ℕ × Option PartValue)). (c.args.slot, Some took.0) ∷ l) (sym (ap rest now))))
 
 pub returns-then-found-ne0-clause-taken : goal.returns-then-found-ne0-clause-taken
-returns-then-found-ne0-clause-taken c = (c.if-found-ne0.true, (c.compare_exchange-found.ensures.2 c.args.slot refl).1 c.if-found-ne0.true)
+returns-then-found-ne0-clause-taken c = let busy = (c.compare_exchange-found.ensures.2 c.args.slot refl).1 c.if-found-ne0.true in (c.if-found-ne0.true, busy.0, busy.1)
 
 pub unwrap-requires : goal.unwrap-requires
 unwrap-requires c = let took = (c.compare_exchange-found.ensures.2 c.args.slot refl).0 c.if-found-ne0.false in let now = ap (λ m. m.1) took.1 in search rules

@@ -17,4 +17,5 @@ returns c =
     record {
       ok = λ t text status found tellable. check.ok text (claim_of found.trace found.history) (is_read c t text status found tellable) found.explained;
       status = λ t text status found tellable. check.status text (claim_of found.trace found.history) (is_read c t text status found tellable) found.explained;
+      clocked = λ t text status found tellable. c.a_clocked_trace_is_ok.ensures.ok text (claim_of found.trace found.history) (is_read c t text status found tellable) found.explained found.clocked;
     }

@@ -16,5 +16,6 @@ returns c =
         keeps = c.each_event_keeps_it_sound.ensures.sound;
         run = c.the_trace_belongs.ensures.run;
         explained = c.the_trace_belongs.ensures.explained;
+        clocked = c.the_trace_belongs.ensures.clocked;
       });
     }

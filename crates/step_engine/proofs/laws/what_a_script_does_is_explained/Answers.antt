@@ -1,7 +1,7 @@
 use Rattle.std.proofs.Common.{ap}
 use Rattle.line_loop.specs.Run.{Run}
 use Rattle.step_engine.specs.Step.{StepperView}
-use Rattle.step_engine.proofs.Traced.{Laws, Answers, is_told, is_explained}
+use Rattle.step_engine.proofs.Traced.{Laws, Answers, is_told, is_explained, is_clocked}
 use Rattle.step_engine.proofs.laws.what_a_script_does_is_explained.Goals as goal
 
 laws_of : goal.After-the_trace_belongs → Laws
@@ -12,6 +12,7 @@ laws_of c = record {
   keeps = c.each_event_keeps_it_sound.ensures.sound;
   run = c.the_trace_belongs.ensures.run;
   explained = c.the_trace_belongs.ensures.explained;
+  clocked = c.the_trace_belongs.ensures.clocked;
 }
 
 answers_of : goal.After-the_trace_belongs → Answers
@@ -25,4 +26,5 @@ returns c = record {
   text = λ keeps echoes input p h. ap (λ (x : Run StepperView). x.text) (is_told (laws_of c) (answers_of c) keeps echoes input p h).1;
   status = λ keeps echoes input p h. ap (λ (x : Run StepperView). x.status) (is_told (laws_of c) (answers_of c) keeps echoes input p h).1;
   explained = is_explained (laws_of c);
+  clocked = is_clocked (laws_of c);
 }

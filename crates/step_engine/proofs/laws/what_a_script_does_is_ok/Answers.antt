@@ -18,4 +18,5 @@ returns c =
     record {
       ok = λ keeps echoes input p h t. check.ok (out_step_with (traced keeps echoes) input).text (claim_with p.fabric p.records) (is_read c keeps echoes input p h t) (run.explained keeps input p h);
       status = λ keeps echoes input p h t. check.status (out_step_with (traced keeps echoes) input).text (claim_with p.fabric p.records) (is_read c keeps echoes input p h t) (run.explained keeps input p h);
+      clocked = λ keeps echoes input p h t. c.a_clocked_trace_is_ok.ensures.ok (out_step_with (traced keeps echoes) input).text (claim_with p.fabric p.records) (is_read c keeps echoes input p h t) (run.explained keeps input p h) (run.clocked keeps input p h);
     }

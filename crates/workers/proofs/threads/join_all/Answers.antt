@@ -1,6 +1,6 @@
 use Rattle.std.proofs.Common.{◌≡◌, ◌+◌, ◌<◌, List, length, get_or, ◌++◌, ◌∷◌, [], ◌∙◌, true≢false, map, drop, sym, subst, ap, refl, append-nil, append_assoc, rules, arith}
 use Rattle.std.proofs.lemmas.List.{length-map}
-use Rattle.hall_core.specs.Views.{IsSeatOf}
+use Rattle.hall_core.specs.Views.{HallView, IsSeatOf}
 use Rattle.worker_requester.specs.Following.{Finishes}
 use Rattle.workers.specs.Running.{AreSeats, AreHandles}
 use Rattle.workers.proofs.Rows.{seats_more, split_at, finished_step, handles_length, items_of}
@@ -32,7 +32,7 @@ loop-script-preserved g c =
     let kept = c.join-seat.ensures in
     let p = c.join-seat.result.pusher.pushed in
     let first = split_at c.args.run.now.hall c.args.run.now.recorder c.args.run.now.plan.scripts.items i v c.loop-script.handles.items c.remove-handle.result was.4 within found c.remove-handle.ensures.value in
-    let here : IsSeatOf c.args.run.now.hall c.join-seat.result.seat = (kept.0.0 ∙ ap (λ h. h.table_id) first.hall_is, kept.0.1 ∙ ap (λ h. h.config) first.hall_is) in (
+    let here : IsSeatOf c.args.run.now.hall c.join-seat.result.seat = subst (λ (h : HallView). IsSeatOf h c.join-seat.result.seat) first.hall_is kept.0 in (
       search rules,
       search rules,
       search rules,

@@ -15,8 +15,8 @@ use Rattle.hall_laws.specs.Calls.{knowing}
 use Rattle.hall_laws.specs.Duties.{IsAtPort}
 use Rattle.hall_laws.specs.Parts.{slot, part_slot}
 use Rattle.hall_laws.specs.Standing.{Sat, token_of, others_of}
-use Rattle.hall_laws.specs.Rule.{Known, Goes, after_event, learned}
-use Rattle.hall_laws.specs.Tells.{CollectTells}
+use Rattle.hall_laws.specs.Rule.{Known, Goes, after_event, learned_also}
+use Rattle.hall_laws.specs.Tells.{CollectTells, SeesTells}
 use Rattle.hall_events.specs.Desks.{knows}
 use Rattle.hall_events.specs.Holds.{having}
 use Rattle.hall_events.specs.Refusals.{IsRefused}
@@ -60,16 +60,28 @@ returns-in-Ok-clause-collected c =
     let after : Token = after_event (Collect port) (Collected x) m.entries ((slot port 5 + 3, Receiver e') ∷ ((0, Memory m) ∷ [])) t in
     let goes : Goes (Collect port) (Collected x) t (slot port 0) (Requester q') after = c.collecting.ensures.owes t port x m q q' e e' at refl c.in-Ok.ensures.answers in
     let G : ℕ → Type 0 = λ p. Goes (Collect p) (Collected x) t (slot port 0) (Requester q') after in
-    let tells : CollectTells w x.number x.reply (length m.entries) (learned (Collect port) (Collected x) m.entries w) = c.collecting.ensures.tells t after [] (slot port 5 + 3) (slot port 0) (Receiver e) (Requester q) (Requester q') m x known refl (subst G own goes) in
-    let N : List Entry → Type 0 = λ l. CollectTells w x.number x.reply (length l) (learned (Collect port) (Collected x) m.entries w) in
-    let h = c.in_ok-memory-3 in let learns : Knowledge = learned (Collect port) (Collected x) m.entries w in
+    let tells : CollectTells w x.number x.reply (length m.entries) (learned_also (Collect port) (Collected x) m.entries w) = subst (λ (p : ℕ). CollectTells w x.number x.reply (length m.entries) (learned_also (Collect p) (Collected x) m.entries w)) (sym own) (c.collecting.ensures.tells t after [] (slot port 5 + 3) (slot port 0) (Receiver e) (Requester q) (Requester q') m x known refl (subst G own goes)) in
+    let N : List Entry → Type 0 = λ l. CollectTells w x.number x.reply (length l) (learned_also (Collect port) (Collected x) m.entries w) in
+    let h = c.in_ok-memory-3 in let learns : Knowledge = learned_also (Collect port) (Collected x) m.entries w in
     let ts : c.turn.new.self.me.0 ≡ t ∷ [] = ap (λ (z : Sat). z.0) c.turn.ensures.2 ∙ ap (λ (z : Sat). z.0) me in
     let T : List Token → List Token = λ l. after_event (Collect port) (Collected x) m.entries ((part_slot h.receiver.part, Receiver e') ∷ ((part_slot h.memory.part, Memory m) ∷ [])) (token_of l) ∷ others_of l in
     let event : c.event.new.self.place.now.me.0 ≡ T c.turn.new.self.me.0 = ap (λ (z : Sat). z.0) c.event.ensures.happened in
     let turned : c.turn-in-Ok.new.self.me.0 ≡ T (t ∷ []) = ap (λ (z : Sat). z.0) c.turn-in-Ok.ensures.2 ∙ (event ∙ ap T ts) in
     let back : c.put_back.new.self.place.now.me ≡ having learns ((part_slot h.memory.part, Memory m) ∷ []) = c.put_back.ensures.back ∙ ap (λ (l : List Token). having (token_of l).knows (drop 1 (token_of l).held)) turned in
     let idle : c.put_back-in-Ok.new.self.place.now.me ≡ knowing learns = last_back _ _ learns _ [] back c.put_back-in-Ok.ensures.back in
-    (learned (Collect port) (Collected x) m.entries w, idle, subst N (sym c.entries.ensures) tells)
+    (learned_also (Collect port) (Collected x) m.entries w, idle, subst N (sym c.entries.ensures) tells)
+
+pub returns-in-Err-Idle-clause-collected : goal.returns-in-Err-Idle-clause-collected
+returns-in-Err-Idle-clause-collected c =
+    let w : Knowledge = (token_of c.args.self.now.place.now.me.0).knows in let port : ℕ = c.args.self.now.number + 1 in
+    let m : MemoryView = c.memory.result.now in let q : RequesterView = c.requester.result.now in let e : ReceiverEndView = c.receiver.result.now in
+    let t : Token = record { knows = w; held = (slot port 5 + 3, Receiver e) ∷ ((slot port 0, Requester q) ∷ ((0, Memory m) ∷ [])) } in
+    let me : c.take_third.new.self.place.now.me ≡ having w ((slot port 5 + 3, Receiver e) ∷ ((slot port 0, Requester q) ∷ ((0, Memory m) ∷ []))) = search rules in
+    let idle : c.put_back_seen.new.self.place.now.me ≡ knowing (record w { seen = m.entries }) = search rules in
+    let all : Known (t ∷ []) = subst (λ (z : Sat). Known z.0) me c.in_ok-memory-3.ensures.taken.4.1 in
+    let last : Known (record { knows = w; held = (0, Memory m) ∷ [] } ∷ []) = (all.0, all.1, ((all.2.0.0.1.1, all.2.0.1), tt)) in
+    let looked : SeesTells w (record w { seen = m.entries }) = c.collecting.ensures.looked (record { knows = w; held = (0, Memory m) ∷ [] }) [] m last refl in
+    (record w { seen = m.entries }, idle, looked)
 
 pub returns-in-Err : goal.returns-in-Err
 returns-in-Err c =
@@ -84,4 +96,4 @@ returns-in-Err c =
     let known : Known (t ∷ []) = subst (λ (z : Sat). Known z.0) me c.in_ok-memory-3.ensures.taken.4.1 in
     let same : knows c.put_back-in-Err.new.self ≡ w = ap (λ (z : Sat). (token_of z.0).knows) c.put_back-in-Err.ensures.back ∙ ap (λ (z : Sat). (token_of z.0).knows) me in
     let idle : c.refuse_both.new.self.place.now.me ≡ c.args.self.now.place.now.me = c.refuse_both.ensures.idle ∙ (ap knowing same ∙ sym (idle_has _ c.requires.idle)) in
-    record { seat = search rules; config = ap (λ (z : Sat). (token_of z.0).knows.config) idle; collected = tt; refused = idle; why = (subst (IsRefused w (Collect port)) (sym c.refuse_both.ensures.refused) (inl (c.collecting.ensures.refused t [] port m q e c.in-Err.refusal at (known, refl) c.in-Err.ensures.refuses))) }
+    record { seat = search rules; hall = (ap (λ (z : Sat). (token_of z.0).knows.config) idle, ap (λ (z : Sat). (token_of z.0).knows.opened) idle, ap (λ (z : Sat). (token_of z.0).knows.seats) idle); collected = tt; refused = idle; why = (subst (IsRefused w (Collect port)) (sym c.refuse_both.ensures.refused) (inl (c.collecting.ensures.refused t [] port m q e c.in-Err.refusal at (known, refl) c.in-Err.ensures.refuses))) }

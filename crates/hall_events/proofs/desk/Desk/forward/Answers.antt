@@ -11,7 +11,7 @@ use Rattle.hall_laws.specs.declared.token.Token.{Token}
 use Rattle.hall_laws.specs.declared.token.Knowledge.{Knowledge}
 use Rattle.hall_laws.specs.Parts.{lane_slot, part_slot, IsPartName}
 use Rattle.hall_laws.specs.Standing.{Sat, Values, token_of}
-use Rattle.hall_laws.specs.Rule.{Known, Goes}
+use Rattle.hall_laws.specs.Rule.{Known, Goes, after_silent}
 use Rattle.hall_events.specs.declared.desk.Held.{Held}
 use Rattle.hall_events.specs.Desks.{entry, knows}
 use Rattle.hall_events.specs.Holds.{having}
@@ -73,7 +73,7 @@ happen-requires-clause-event c =
     let me : c.take_second.new.self.place.now.me ≡ having w ((lane_slot next, Sender s) ∷ ((lane_slot name + 3, Receiver r2) ∷ [])) = search rules in
     let known : Known (t ∷ []) = subst (λ (m : Sat). Known m.0) me took2.3.1 in
     let r' = c.forward.new.receiver in let s' = c.forward.new.sender in
-    let goes : Goes (Forward name place) (To to) t (lane_slot name + 3) (Receiver r') (record t { held = (lane_slot next, Sender s') ∷ [] }) =
+    let goes : Goes (Forward name place) (To to) t (lane_slot name + 3) (Receiver r') (after_silent (Forward name place) (To to) ((lane_slot next, Sender s') ∷ []) t) =
     c.forwarding.ensures.owes t name next place to r2 r' s s' named leads2 refl c.in-Ok-forward.ensures.answers c.in-Ok-forward.ensures.fits in
     let first : one.part ≡ parts.ReceiverEnd name = search rules in
     let second : two.part ≡ parts.SenderEnd next = search rules in
@@ -100,9 +100,9 @@ returns-in-Ok-forward-clause-shows c =
     let me : c.take_second.new.self.place.now.me ≡ having w ((lane_slot next, Sender s) ∷ ((lane_slot name + 3, Receiver r2) ∷ [])) = search rules in
     let known : Known (t ∷ []) = subst (λ (m : Sat). Known m.0) me took2.3.1 in
     let r' = c.forward.new.receiver in let s' = c.forward.new.sender in
-    let goes : Goes (Forward name place) (To to) t (lane_slot name + 3) (Receiver r') (record t { held = (lane_slot next, Sender s') ∷ [] }) =
+    let goes : Goes (Forward name place) (To to) t (lane_slot name + 3) (Receiver r') (after_silent (Forward name place) (To to) ((lane_slot next, Sender s') ∷ []) t) =
     c.forwarding.ensures.owes t name next place to r2 r' s s' named leads2 refl c.in-Ok-forward.ensures.answers c.in-Ok-forward.ensures.fits in
-    c.forwarding.ensures.shown (Forward name place) (To to) t (record t { held = (lane_slot next, Sender s') ∷ [] }) [] (lane_slot name + 3) (Receiver r') known goes
+    c.forwarding.ensures.shown (Forward name place) (To to) t (after_silent (Forward name place) (To to) ((lane_slot next, Sender s') ∷ []) t) [] (lane_slot name + 3) (Receiver r') known goes
 
 pub returns-in-Err-forward-clause-why : goal.returns-in-Err-forward-clause-why
 returns-in-Err-forward-clause-why c =

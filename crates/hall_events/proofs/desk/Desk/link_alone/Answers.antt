@@ -5,7 +5,7 @@ use Rattle.hall_laws.specs.declared.token.Token.{Token}
 use Rattle.hall_laws.specs.declared.token.Knowledge.{Knowledge}
 use Rattle.hall_laws.specs.Parts.{lane_slot, part_slot, IsLaneName}
 use Rattle.hall_laws.specs.Standing.{Sat, Values, token_of}
-use Rattle.hall_laws.specs.Rule.{Known, Goes}
+use Rattle.hall_laws.specs.Rule.{Known, Goes, after_silent}
 use Rattle.hall_events.specs.Holds.{having}
 use Rattle.hall_events.specs.Refusals.{IsRefused}
 use Rattle.hall_events.specs.Works.{link_event}
@@ -24,7 +24,7 @@ event-requires-clause-event c =
     let t : Token = record { knows = w; held = (lane_slot name, one) ∷ [] } in
     let me : c.take.new.self.place.now.me ≡ having w ((lane_slot name, one) ∷ []) = took.2.0 ∙ ap (λ (h : Values). having w ((lane_slot name, one) ∷ h)) c.requires.idle.1 in
     let named : IsLaneName t.knows.config.requesters name = subst (λ (n : ℕ). IsLaneName n name) (sym c.requires.desk.0.1.3) c.requires.desk.1 in
-    let F : Sat → ℕ → Type 0 = λ s k. Goes (link_event name event) what (token_of s.0) k one' (record (token_of s.0) { held = [] }) in
+    let F : Sat → ℕ → Type 0 = λ s k. Goes (link_event name event) what (token_of s.0) k one' (after_silent (link_event name event) what [] (token_of s.0)) in
     let goes : F (having w ((lane_slot name, one) ∷ [])) (lane_slot name) = c.linking.ensures.owes_alone t name event one one' what named took.1 c.requires.ends refl c.in-Ok.ensures.ok in
     (link_event name event, what, subst (λ (s : Sat). F s (part_slot c.in_ok-sender.sender.part)) (sym me) (subst (λ (p : Part). F (having w ((lane_slot name, one) ∷ [])) (part_slot p)) (sym took.0) goes))
 
@@ -38,7 +38,7 @@ returns-in-Ok-clause-shows c =
     let me : c.take.new.self.place.now.me ≡ having w ((lane_slot name, one) ∷ []) = took.2.0 ∙ ap (λ (h : Values). having w ((lane_slot name, one) ∷ h)) c.requires.idle.1 in
     let known : Known (t ∷ []) = subst (λ (s : Sat). Known s.0) me took.2.1 in
     let named : IsLaneName t.knows.config.requesters name = subst (λ (n : ℕ). IsLaneName n name) (sym c.requires.desk.0.1.3) c.requires.desk.1 in
-    c.linking.ensures.shown (link_event name event) what t (record t { held = [] }) [] (lane_slot name) one' known (c.linking.ensures.owes_alone t name event one one' what named took.1 c.requires.ends refl c.in-Ok.ensures.ok)
+    c.linking.ensures.shown (link_event name event) what t (after_silent (link_event name event) what [] t) [] (lane_slot name) one' known (c.linking.ensures.owes_alone t name event one one' what named took.1 c.requires.ends refl c.in-Ok.ensures.ok)
 
 pub returns-in-Err-clause-why : goal.returns-in-Err-clause-why
 returns-in-Err-clause-why c =

@@ -6,7 +6,7 @@ use Rattle.hall_laws.specs.declared.token.Token.{Token}
 use Rattle.hall_laws.specs.declared.token.Knowledge.{Knowledge}
 use Rattle.hall_laws.specs.Parts.{part_slot, IsLaneName, IsPartName, IsPartValue}
 use Rattle.hall_laws.specs.Standing.{Sat, Values, token_of}
-use Rattle.hall_laws.specs.Rule.{Known, Goes}
+use Rattle.hall_laws.specs.Rule.{Known, Goes, after_silent}
 use Rattle.hall_events.specs.declared.desk.Held.{Held}
 use Rattle.hall_events.specs.Acts.{AreEnds}
 use Rattle.hall_events.specs.Desks.{entry, knows}
@@ -69,7 +69,7 @@ happen-requires-clause-event c =
     took2.3.0 ∙ (ap (λ (k : Knowledge). having k ((part_slot second, two.value) ∷ (entry o ∷ []))) (ap (λ (s : Sat). (token_of s.0).knows) took.2.0)
     ∙ ap (λ (x : ℕ × PartValue). having w ((part_slot second, two.value) ∷ (x ∷ []))) (ap (λ (p : Part). (part_slot p, o.value)) took.0 ∙ ap (λ (h : Held). (part_slot first, h.value)) (sym took2.0))) in
     let what = c.in-Ok.what in let one' : PartValue = c.act.new.one in let two' : PartValue = c.act.new.two in
-    let goes : Goes (link_event name event) what t (part_slot first) one' (record t { held = (part_slot second, two') ∷ [] }) =
+    let goes : Goes (link_event name event) what t (part_slot first) one' (after_silent (link_event name event) what ((part_slot second, two') ∷ []) t) =
     c.linking.ensures.owes t name event first second one.value two.value one' two' what named c.requires.ends ends refl c.in-Ok.ensures.ok in
     let at_first : part_slot one.part ≡ part_slot first = ap part_slot (ap (λ (h : Held). h.part) took2.0 ∙ took.0) in
     happened c.take_second.new.self (record one { value = one' }) (record two { value = two' }) w (part_slot first) (part_slot second) one.value two.value (link_event name event) what at_first (ap part_slot took2.1) me goes
@@ -102,9 +102,9 @@ returns-in-Ok-clause-shows c =
     ∙ ap (λ (x : ℕ × PartValue). having w ((part_slot second, two.value) ∷ (x ∷ []))) (ap (λ (p : Part). (part_slot p, o.value)) took.0 ∙ ap (λ (h : Held). (part_slot first, h.value)) (sym took2.0))) in
     let known : Known (t ∷ []) = subst (λ (s : Sat). Known s.0) me took2.3.1 in
     let what = c.in-Ok.what in let one' : PartValue = c.act.new.one in let two' : PartValue = c.act.new.two in
-    let goes : Goes (link_event name event) what t (part_slot first) one' (record t { held = (part_slot second, two') ∷ [] }) =
+    let goes : Goes (link_event name event) what t (part_slot first) one' (after_silent (link_event name event) what ((part_slot second, two') ∷ []) t) =
     c.linking.ensures.owes t name event first second one.value two.value one' two' what named c.requires.ends ends refl c.in-Ok.ensures.ok in
-    c.linking.ensures.shown (link_event name event) what t (record t { held = (part_slot second, two') ∷ [] }) [] (part_slot first) one' known goes
+    c.linking.ensures.shown (link_event name event) what t (after_silent (link_event name event) what ((part_slot second, two') ∷ []) t) [] (part_slot first) one' known goes
 
 pub returns-in-Err-clause-why : goal.returns-in-Err-clause-why
 returns-in-Err-clause-why c =

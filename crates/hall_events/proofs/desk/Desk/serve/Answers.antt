@@ -12,7 +12,7 @@ use Rattle.hall_laws.specs.declared.token.Knowledge.{Knowledge}
 use Rattle.hall_laws.specs.Calls.{serving_also}
 use Rattle.hall_laws.specs.Parts.{part_slot}
 use Rattle.hall_laws.specs.Standing.{Sat, token_of}
-use Rattle.hall_laws.specs.Rule.{Known, Goes, after_event}
+use Rattle.hall_laws.specs.Rule.{Known, Goes, after_event, with_done}
 use Rattle.hall_events.specs.Holds.{having}
 use Rattle.hall_events.specs.Refusals.{IsRefused}
 use Rattle.hall_events.proofs.Mapped.{over}
@@ -25,10 +25,10 @@ event-requires-clause-event c =
     let t : Token = record { knows = w; held = (5, Sender s) ∷ ((0, Memory m) ∷ ((4, Receiver r) ∷ [])) } in
     let me : c.take_third.new.self.place.now.me ≡ having w ((5, Sender s) ∷ ((0, Memory m) ∷ ((4, Receiver r) ∷ []))) = search rules in
     let n : ℕ = c.in-Ok.n in let r' = c.serve.new.receiver in let m' = c.serve.new.memory in let s' = c.serve.new.sender in
-    let after : Token = record { knows = serving_also n w; held = (0, Memory m') ∷ ((5, Sender s') ∷ []) } in
+    let after : Token = record { knows = with_done (Serve place) (At n) (serving_also n w); held = (0, Memory m') ∷ ((5, Sender s') ∷ []) } in
     let goes : Goes (Serve place) (At n) t 4 (Receiver r') after = c.serving.ensures.owes t place n r r' m m' s s' refl c.in-Ok.ensures.answers c.in-Ok.ensures.fits in
     let ts : c.turn-in-Ok.new.self.me.0 ≡ t ∷ [] = ap (λ (z : Sat). z.0) c.turn-in-Ok.ensures.2 ∙ (ap (λ (z : Sat). z.0) c.turn.ensures.2 ∙ ap (λ (z : Sat). z.0) me) in
-    let F : List Token → Part → Part → Part → Type 0 = λ l p q z. Goes (Serve place) (At n) (token_of l) (part_slot p) (Receiver r') (record { knows = serving_also n (token_of l).knows; held = (part_slot q, Memory m') ∷ ((part_slot z, Sender s') ∷ []) }) in
+    let F : List Token → Part → Part → Part → Type 0 = λ l p q z. Goes (Serve place) (At n) (token_of l) (part_slot p) (Receiver r') (record { knows = with_done (Serve place) (At n) (serving_also n (token_of l).knows); held = (part_slot q, Memory m') ∷ ((part_slot z, Sender s') ∷ []) }) in
     let h = c.in_ok-receiver-3 in
     let at_r : h.receiver.part ≡ parts.ReceiverEnd Inward = search rules in
     let at_m : h.memory.part ≡ parts.Memory = search rules in
@@ -43,7 +43,7 @@ returns-in-Ok-clause-shows c =
     let me : c.take_third.new.self.place.now.me ≡ having w ((5, Sender s) ∷ ((0, Memory m) ∷ ((4, Receiver r) ∷ []))) = search rules in
     let known : Known (t ∷ []) = subst (λ (z : Sat). Known z.0) me c.in_ok-receiver-3.ensures.taken.4.1 in
     let n : ℕ = c.in-Ok.n in let r' = c.serve.new.receiver in let m' = c.serve.new.memory in let s' = c.serve.new.sender in
-    let after : Token = record { knows = serving_also n w; held = (0, Memory m') ∷ ((5, Sender s') ∷ []) } in
+    let after : Token = record { knows = with_done (Serve place) (At n) (serving_also n w); held = (0, Memory m') ∷ ((5, Sender s') ∷ []) } in
     let goes : Goes (Serve place) (At n) t 4 (Receiver r') after = c.serving.ensures.owes t place n r r' m m' s s' refl c.in-Ok.ensures.answers c.in-Ok.ensures.fits in
     c.serving.ensures.shown (Serve place) (At n) t after [] 4 (Receiver r') known goes
 

@@ -15,7 +15,7 @@ use Rattle.hall_laws.specs.Calls.{knowing}
 use Rattle.hall_laws.specs.Duties.{IsAtPort}
 use Rattle.hall_laws.specs.Parts.{slot, part_slot}
 use Rattle.hall_laws.specs.Standing.{Sat, token_of, others_of}
-use Rattle.hall_laws.specs.Rule.{Known, Goes, after_event, learned}
+use Rattle.hall_laws.specs.Rule.{Known, Goes, after_event, learned_also}
 use Rattle.hall_laws.specs.Tells.{SubmitTells}
 use Rattle.hall_events.specs.Desks.{knows}
 use Rattle.hall_events.specs.Holds.{having}
@@ -62,16 +62,16 @@ returns-in-Ok-clause-submitted c =
     let after : Token = after_event (Submit port op) (Submitted k) m.entries ((slot port 1, Sender e') ∷ ((0, Memory m) ∷ [])) t in
     let goes : Goes (Submit port op) (Submitted k) t (slot port 0) (Requester q') after = c.submitting.ensures.owes t port k op m q q' e e' at refl c.in-Ok.ensures.answers c.in-Ok.ensures.fits in
     let G : ℕ → Type 0 = λ p. Goes (Submit p op) (Submitted k) t (slot port 0) (Requester q') after in
-    let tells : SubmitTells w k op (length m.entries) (learned (Submit port op) (Submitted k) m.entries w) = c.submitting.ensures.tells t after [] (slot port 1) (slot port 0) k (Sender e) (Requester q) (Requester q') m op known refl (subst G own goes) in
-    let N : List Entry → Type 0 = λ l. SubmitTells w k op (length l) (learned (Submit port op) (Submitted k) m.entries w) in
-    let h = c.in_ok-memory-3 in let learns : Knowledge = learned (Submit port op) (Submitted k) m.entries w in
+    let tells : SubmitTells w k op (length m.entries) (learned_also (Submit port op) (Submitted k) m.entries w) = subst (λ (p : ℕ). SubmitTells w k op (length m.entries) (learned_also (Submit p op) (Submitted k) m.entries w)) (sym own) (c.submitting.ensures.tells t after [] (slot port 1) (slot port 0) k (Sender e) (Requester q) (Requester q') m op known refl (subst G own goes)) in
+    let N : List Entry → Type 0 = λ l. SubmitTells w k op (length l) (learned_also (Submit port op) (Submitted k) m.entries w) in
+    let h = c.in_ok-memory-3 in let learns : Knowledge = learned_also (Submit port op) (Submitted k) m.entries w in
     let ts : c.turn.new.self.me.0 ≡ t ∷ [] = ap (λ (z : Sat). z.0) c.turn.ensures.2 ∙ ap (λ (z : Sat). z.0) me in
     let T : List Token → List Token = λ l. after_event (Submit port op) (Submitted k) m.entries ((part_slot h.sender.part, Sender e') ∷ ((part_slot h.memory.part, Memory m) ∷ [])) (token_of l) ∷ others_of l in
     let event : c.event.new.self.place.now.me.0 ≡ T c.turn.new.self.me.0 = ap (λ (z : Sat). z.0) c.event.ensures.happened in
     let turned : c.turn-in-Ok.new.self.me.0 ≡ T (t ∷ []) = ap (λ (z : Sat). z.0) c.turn-in-Ok.ensures.2 ∙ (event ∙ ap T ts) in
     let back : c.put_back.new.self.place.now.me ≡ having learns ((part_slot h.memory.part, Memory m) ∷ []) = c.put_back.ensures.back ∙ ap (λ (l : List Token). having (token_of l).knows (drop 1 (token_of l).held)) turned in
     let idle : c.put_back-in-Ok.new.self.place.now.me ≡ knowing learns = last_back _ _ learns _ [] back c.put_back-in-Ok.ensures.back in
-    (learned (Submit port op) (Submitted k) m.entries w, idle, subst N (sym c.entries.ensures) tells)
+    (learned_also (Submit port op) (Submitted k) m.entries w, idle, subst N (sym c.entries.ensures) tells)
 
 pub returns-in-Err-clause-why : goal.returns-in-Err-clause-why
 returns-in-Err-clause-why c =

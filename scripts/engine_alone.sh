@@ -1,0 +1,92 @@
+#!/bin/sh
+# Makes a folder with one engine alone, to prove, build and count a change of it quickly: engine_alone.sh ENGINE [FOLDER].
+#
+# ENGINE is a subcommand: tlp, decode, check, upgrade, step or trace (`step --trace`). FOLDER gets copies of the
+# crates that the engine stands on, with what was proved of them here, and a program `alone` of a few lines, which `rt run`
+# proves and builds; it is /tmp/alone-ENGINE if it isn't given. Run again over the same FOLDER it copies what changed.
+#
+#     sh scripts/engine_alone.sh tlp && cd /tmp/alone-tlp/crates/alone && rt run < /dev/null
+#     sh bench/run.sh --alone tlp
+#
+# The first build takes 45 seconds; after an edit of a body, all above it is proved and built in about 80.
+set -eu
+cd "$(dirname "$0")/.."
+if [ $# -lt 1 ] || [ $# -gt 2 ]; then echo "engine_alone.sh: ENGINE [FOLDER]" >&2; exit 2; fi
+engine=$1
+folder=${2:-/tmp/alone-$engine}
+uses='' before='' more=''
+case $engine in
+    tlp)
+        crate=tlp_engine function=run_tlp_with_reasons more='
+        extent,'
+        uses='use seq_memory::Extent;'
+        before='    let Some(extent) = Extent::new(0, 4096, 64) else {
+        return ExitCode::from(2);
+    };'
+        ;;
+    decode) crate=packet_engine function=run_${engine}_with_reasons ;;
+    check | upgrade) crate=trace_engine function=run_${engine}_with_reasons ;;
+    step | trace)
+        crate=step_engine function=run_step_with_reasons
+        traced=false
+        [ "$engine" = step ] || traced=true
+        more='
+        options,'
+        uses='use step_engine::StepOptions;'
+        before="    let options = StepOptions {
+        is_traced: $traced,
+        keeps_going: false,
+        echoes: false,
+    };"
+        ;;
+    *) echo "engine_alone.sh: ENGINE is tlp, decode, check, upgrade, step or trace" >&2; exit 2 ;;
+esac
+
+# The crates below the engine, itself included, as lines of crates.txt; the kit's are left out.
+mkdir -p "$folder/crates/alone/src"
+awk -v top="$crate" '
+    /^#/ || !/:/ { next }
+    { name = $1; sub(":", "", name); line[name] = $0; order[++count] = name }
+    END {
+        wanted[top] = 1
+        do {
+            more = 0
+            for (name in wanted) {
+                words = split(line[name], word, " ")
+                for (i = 2; i <= words; i++) if (word[i] in line && !(word[i] in wanted)) { wanted[word[i]] = 1; more = 1 }
+            }
+        } while (more)
+        for (i = 1; i <= count; i++) if (order[i] in wanted) print line[order[i]]
+    }' crates.txt > "$folder/crates.txt"
+below=$(sed 's/:.*//' "$folder/crates.txt")
+echo "alone: $crate seq_memory" >> "$folder/crates.txt"
+cp HANDLES "$folder/"
+for name in $below; do
+    mkdir -p "$folder/crates/$name"
+    for part in src specs proofs; do
+        rm -rf "$folder/crates/$name/$part"
+        [ ! -d "crates/$name/$part" ] || cp -a "crates/$name/$part" "$folder/crates/$name/"
+    done
+    [ -d "$folder/crates/$name/out" ] || [ ! -d "crates/$name/out" ] || cp -a "crates/$name/out" "$folder/crates/$name/"
+done
+cat > "$folder/crates/alone/src/main.rt" <<END
+//! The engine of \`pciex $engine\` alone.
+#![tactic(auto)]
+
+$uses
+use std::process::ExitCode;
+use $crate::$function;
+
+fn main(rt: HostRuntime) -> ExitCode {
+$before
+    let run = $function(
+        rt.alloc(),$more
+        &mut rt.stdin(),
+        &mut rt.stdout(),
+        &mut rt.stderr(),
+    );
+    ExitCode::from(run.unwrap_or(1))
+}
+END
+git -C "$folder" init -q
+echo "$folder"
