@@ -1,10 +1,9 @@
 #!/bin/sh
 # Tells whether the tests of the engines have the text of each file here: each stands under its name in a file of
-# crates/engine_tests. The files of docs/qemu.md are read by the commands of that page, which scripts/pages.sh runs.
+# crates/engine_tests. Those of a folder here are read elsewhere.
 cd "$(dirname "$0")" || exit 1
 differ=0
 for file in *.txt *.out; do
-    case $file in qemu_*) continue ;; esac
     name=$(echo "${file%.*}" | tr '[:lower:]' '[:upper:]')
     case $file in *.out) name=${name}_OUT ;; esac
     tests=$(grep -ls "^const $name: &str = " ../crates/engine_tests/src/*.rt)
