@@ -5,24 +5,24 @@ ghost use Rattle.c_buffer.specs.Buffer.{filled};
 ghost use Rattle.seq_memory.specs.Limits.{IsBlock};
 ghost use Rattle.c_answer.specs.Call.{served, call};
 
-use arrayvec::ArrayVec;
 use c_buffer::{Failure, Length, tell};
-use completer_core::answer;
-use tlp_core::{MAX_TLP, Tlp, decode, encode};
+use completer_core::answer_lent;
+use seq_memory::ReplyData;
+use tlp_core::{MAX_TLP, TlpRef, decode_lent, encode_lent};
 
 /// The bytes of buffer that a call asks for, whatever its completion has.
 pub const MAX_COMPLETION: usize = MAX_TLP;
 
 /// Puts the canonical bytes of the completion to the front of a buffer of at least
 /// [`MAX_COMPLETION`] bytes, and returns how many they are.
-pub fn tell_completion(completion: &Tlp, buffer: &mut [u8]) -> Length
+pub fn tell_completion(completion: &TlpRef<'_>, buffer: &mut [u8]) -> Length
     requires { 144 ≤ length buffer.old }
     ensures length { result ≡ length (canonical completion.now) }
     ensures buffer { buffer.new ≡ filled buffer.old (canonical completion.now) }
 {
-    let mut canonical = ArrayVec::new();
-    encode(completion, &mut canonical);
-    tell(&canonical, buffer)
+    let mut room = [0; MAX_TLP];
+    let count = encode_lent(completion, &mut room);
+    tell(&room[..count], buffer)
 }
 
 /// Answers a packet.
@@ -30,7 +30,7 @@ fn answer_packet(
     base: u64,
     block: u16,
     bytes: &mut [u8],
-    packet: &Tlp,
+    packet: &TlpRef<'_>,
     buffer: &mut [u8],
 ) -> Result<Length, Failure>
     requires block { IsBlock block }
@@ -40,10 +40,11 @@ fn answer_packet(
     ensures buffer { buffer.new ≡ (served base block bytes.old buffer.old packet.now).buffer }
     ensures unchanged { IsErr result → (bytes.new ≡ bytes.old) × (buffer.new ≡ buffer.old) }
 {
-    if packet.kind.is_completion() {
+    if packet.header.kind.is_completion() {
         return Err(Failure::NoRequest);
     }
-    match answer(base, block, bytes, packet) {
+    let mut room = ReplyData::new();
+    match answer_lent(base, block, bytes, packet, &mut room) {
         Some(completion) => Ok(tell_completion(&completion, buffer)),
         None => Ok(Length::new(0)),
     }
@@ -73,7 +74,7 @@ pub fn answer_bytes(
     if buffer.len() < MAX_COMPLETION {
         return Err(Failure::SmallBuffer);
     }
-    match decode(packet) {
+    match decode_lent(packet) {
         Ok(packet) => answer_packet(base, block, bytes, &packet, buffer),
         Err(fault) => Err(Failure::Fault(fault.number())),
     }

@@ -30,7 +30,7 @@ fn serve_tlp(
         return Err(Failure::NoRequest);
     }
     match serve(memory, packet, number) {
-        Ok(Some(completion)) => Ok(tell_completion(&completion, buffer)),
+        Ok(Some(completion)) => Ok(tell_completion(&completion.lend(), buffer)),
         Ok(None) => Ok(Length::new(0)),
         Err(_) => Err(Failure::NoMemory),
     }

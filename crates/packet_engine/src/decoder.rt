@@ -4,6 +4,7 @@ ghost use Rattle.line_loop.specs.Run.{IsCaughtUp, IsWhole, IsPart};
 ghost use Rattle.packet_engine.specs.Lines.{out_decode, decode_responses};
 
 use crate::telling::{tell, tell_decoded};
+use arrayvec::ArrayString;
 use hex_text::HexLine;
 use line_loop::{EngineFault, Responder, Verdict, run};
 use packet_reasons::{PacketLines, Reasoned};
@@ -12,10 +13,12 @@ use std::io::{Read, Write, sink};
 use std::marker::Model;
 use text_lines::is_skipped;
 
-/// Room for the bytes of a line, used again and again.
+/// Buffers for the bytes of a line and for its answer, used again and again: what they hold does not
+/// count.
 #[derive(Drop)]
 struct Decoder {
     line: HexLine,
+    text: ArrayString<512>,
 }
 
 impl Model for Decoder {
@@ -38,7 +41,7 @@ impl Responder for Decoder {
         if !self.line.read(line) {
             return tell(b"fault hex\n", out);
         }
-        tell_decoded(self.line.bytes(), out)
+        tell_decoded(self.line.bytes(), &mut self.text, out)
     }
 
     fn on_long_line(&mut self, out: &mut Vec<u8>) -> Result<Verdict, AllocError> {
@@ -61,8 +64,11 @@ pub fn run_decode_with_reasons<R: Read, W: Write, E: Write>(
     ensures err { OnErr result (IsPart out_decode (R.remaining reader.old) (R.remaining reader.new) (W.contents writer.old) (W.contents writer.new)) }
     ensures read { IfErr result (λ f. f ≡ EngineFault.Read → IsCaughtUp decode_responses tt (R.remaining reader.old) (R.remaining reader.new) (W.contents writer.old) (W.contents writer.new)) }
 {
-    let line = HexLine::new();
-    let decoder = Reasoned::new(Decoder { line }, PacketLines::Bytes, errors);
+    let decoder = Decoder {
+        line: HexLine::new(),
+        text: ArrayString::new(),
+    };
+    let decoder = Reasoned::new(decoder, PacketLines::Bytes, errors);
     run(alloc, decoder, reader, writer)
 }
 

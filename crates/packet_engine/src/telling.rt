@@ -31,14 +31,19 @@ pub(crate) fn tell_text_fault(fault: TextFault, out: &mut Vec<u8>) -> Result<Ver
     tell(text.as_bytes(), out)
 }
 
-/// Adds the line of what the bytes are read as: the text of a packet, or a fault.
+/// Adds the line of what the bytes are read as: the text of a packet, or a fault. What `text` holds
+/// does not count.
 #[tactic(auto, using(crate::proofs::RunLemmas::decode_answer))]
-pub(crate) fn tell_decoded(bytes: &[u8], out: &mut Vec<u8>) -> Result<Verdict, AllocError>
+pub(crate) fn tell_decoded(
+    bytes: &[u8],
+    text: &mut ArrayString<512>,
+    out: &mut Vec<u8>,
+) -> Result<Verdict, AllocError>
     ensures ok { IfOk result (λ verdict. IsAnswer tt out.old.items out.new.items verdict (decode_reading (reading bytes.now))) }
     ensures err { OnErr result (out.new.items ≡ out.old.items) }
 {
-    let mut text = ArrayString::new();
-    let is_packet = write_decoded(bytes, &mut text);
+    text.clear();
+    let is_packet = write_decoded(bytes, text);
     text.push_str("\n");
     out.extend_from_slice(text.as_bytes())?;
     Ok(if is_packet {
