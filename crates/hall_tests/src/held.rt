@@ -297,7 +297,8 @@ fn is_right_beside(
     };
     let beside = goes_beside(hall, seat, worker, fabric, step, part) && is_taken(hall, slot);
     put_back(hall.steps(), place, slot, value);
-    beside && goes_after(hall, seat, worker, fabric, step, part) && is_taken(hall, NONE)
+    let after = goes_after(hall, seat, worker, fabric, step, part) && is_taken(hall, NONE);
+    beside && after
 }
 
 /// Whether the whole script goes so beside a seat that has the part during each call.
