@@ -1,7 +1,7 @@
 #!/bin/sh
 # Runs the program on inputs that are too large for a test's table: a memory of 1 MiB with a trace of 200,001
-# records, a lane with 2047 packets that no Ack has told of, a requester with 256 open tags, and a log of 100,000
-# records. It tells each run that ends otherwise than it should: large_inputs.sh [PROGRAM], the one that `rt ci` built if
+# records, a lane with 2047 packets that no Ack has told of, a requester with 256 open tags, and logs that are long
+# or hard. It tells each run that ends otherwise than it should: large_inputs.sh [PROGRAM], the one that `rt ci` built if
 # none is named. With a folder in its place the inputs are written there and nothing is run.
 folder=
 if [ -d "${1:-}" ]; then
@@ -91,14 +91,82 @@ log() {
     awk -v plan=mixed -v requests=50000 -f bench/log.awk
 }
 
+# 1,000,000 times a write and a read of no byte that is answered behind it: no choice is needed.
+flushes() {
+    awk 'BEGIN {
+        print "pciex-log 1"
+        print "memory 0 4096 64"
+        for (k = 0; k < 1000000; k++) {
+            print "sub 1 " 2 * k " write 40 F 0 " sprintf("%08X", k)
+            print "sub 1 " 2 * k + 1 " read 40 1 0 0"
+            print "ans 1 " 2 * k + 1 " data 00000000"
+        }
+        print "end"
+    }'
+}
+
+# A counter beside 100,000 posted writes to 16 words that nobody reads.
+writes() {
+    awk 'BEGIN {
+        print "pciex-log 1"
+        print "memory 0 4096 64"
+        for (k = 0; k < 100000; k++) {
+            print "sub 1 " k " write " sprintf("%X", 64 + 4 * (k % 16)) " F 0 " sprintf("%08X", k)
+            print "sub 2 " k " add 0 01000000"
+            print "ans 2 " k " data " sprintf("%02X%02X%02X00", k % 256, int(k / 256) % 256, int(k / 65536))
+        }
+        print "end"
+    }'
+}
+
+# Swaps that weren't answered on the first and the last words of 1 MiB, and reads that no order of them gives.
+far() {
+    awk 'BEGIN {
+        print "pciex-log 1"
+        print "memory 0 1048576 64"
+        for (k = 1; k < 7; k++) {
+            print "sub " k " 0 swap 0 0" k "000000"
+            print "sub " k " 1 swap FFFFC 0" k "000000"
+        }
+        for (k = 1; k < 4; k++) {
+            print "sub 7 " 2 * k - 2 " read 0 1 F 0"
+            print "ans 7 " 2 * k - 2 " data 0" k "000000"
+            print "sub 7 " 2 * k - 1 " read FFFFC 1 F 0"
+            print "ans 7 " 2 * k - 1 " data 0" k "000000"
+        }
+        print "sub 7 6 read 0 1 F 0"
+        print "ans 7 6 data 01000000"
+        print "end"
+    }'
+}
+
+# 1,000 Swaps that weren't answered, and 10,000 times a write and an answered read behind it.
+lost_answers() {
+    awk 'BEGIN {
+        print "pciex-log 1"
+        print "memory 0 4096 64"
+        for (k = 0; k < 1000; k++) print "sub " 2 + k % 6 " " int(k / 6) " swap 40 " sprintf("%08X", k + 1)
+        for (k = 0; k < 10000; k++) {
+            print "sub 1 " 2 * k " write 40 F 0 " sprintf("FF%06X", k)
+            print "sub 1 " 2 * k + 1 " read 40 1 F 0"
+            print "ans 1 " 2 * k + 1 " data " sprintf("FF%06X", k)
+        }
+        print "end"
+    }'
+}
+
 trace 0 > "$room/explained_trace"
 trace 1 > "$room/flawed_trace"
 window > "$room/window_script"
 tags > "$room/tags_script"
 log > "$room/mixed_log"
+flushes > "$room/flushes_log"
+writes > "$room/writes_log"
+far > "$room/far_log"
+lost_answers > "$room/lost_answers_log"
 if [ -n "$folder" ]; then
     cp "$room/explained_trace" "$room/flawed_trace" "$room/window_script" "$room/tags_script" \
-        "$room/mixed_log" "$folder"
+        "$room/mixed_log" "$room/flushes_log" "$room/writes_log" "$room/far_log" "$room/lost_answers_log" "$folder"
     exit
 fi
 
@@ -140,5 +208,8 @@ end
 ends "step with 256 open tags" 1 "$room/tags_script" step --keep-going
 echo end > "$room/told"
 ends "search on 100,000 records" 0 "$room/mixed_log" search --limit 10000
+ends "search on 1,000,000 writes and flushes" 0 "$room/flushes_log" search --limit 1
+ends "search on 100,000 writes that nobody reads" 0 "$room/writes_log" search --limit 1
+ends "search beside 1,000 lost answers" 0 "$room/lost_answers_log" search --limit 10000
 echo "large inputs: $runs runs, $([ $failed -eq 0 ] && echo "all as they should be" || echo "not all as they should be")"
 exit $failed

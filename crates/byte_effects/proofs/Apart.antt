@@ -28,7 +28,7 @@ where_is a c b = elim (cases_lt b a) [
   ]
 ]
 
-answers_alike : (o : Option Refusal) (r s : Reply) → (o ≡ None → r ≡ s) → answer_by o r ≡ answer_by o s
+pub answers_alike : (o : Option Refusal) (r s : Reply) → (o ≡ None → r ≡ s) → answer_by o r ≡ answer_by o s
 answers_alike None r s h = h refl
 answers_alike (Some refusals.Aborted) r s h = refl
 answers_alike (Some refusals.Unsupported) r s h = refl

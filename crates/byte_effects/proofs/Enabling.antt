@@ -5,7 +5,7 @@ use Rattle.std.proofs.lemmas.Bool.{ne_eqb}
 use Rattle.tlp_core.specs.Enables.{dw_enables, enables}
 use Rattle.seq_memory.specs.Step.{is_enabled}
 
-several : (dw f l : ℕ) → (dw ≡ 1 → ⊥) → enables dw f l ≡ (dw_enables f ++ replicate (4 * (dw - 2)) true) ++ dw_enables l
+pub several : (dw f l : ℕ) → (dw ≡ 1 → ⊥) → enables dw f l ≡ (dw_enables f ++ replicate (4 * (dw - 2)) true) ++ dw_enables l
 unfolding enables
 several dw f l n =
     let not_one : eqb dw 1 ≡ false = ne_eqb dw 1 n in
@@ -15,7 +15,7 @@ pub of_one : (dw f l at : ℕ) → dw ≡ 1 → get_or (dw_enables f) at false �
 unfolding enables
 of_one dw f l at e = rw e refl
 
-long : (f n : ℕ) → length (dw_enables f ++ replicate n true) ≡ 4 + n
+pub long : (f n : ℕ) → length (dw_enables f ++ replicate n true) ≡ 4 + n
 long f n = length-append (dw_enables f) (replicate n true) ∙ ap (λ k. 4 + k) (length-replicate n true)
 
 all_true : (n k : ℕ) → k < n → get_or (replicate n true) k false ≡ true

@@ -5,8 +5,9 @@ use Rattle.std.proofs.Math.Seq.{take-length}
 use Rattle.arrayvec.specs.ArrayVec.{ArrayVec}
 use Rattle.tlp_core.specs.declared.operation.Op.{Op}
 use Rattle.tlp_core.specs.declared.operation.Op.TheVariants as ops
+use Rattle.tlp_core.specs.declared.operation.Width.{Width}
 use Rattle.tlp_core.specs.Enables.{enables}
-use Rattle.tlp_core.specs.Operation.{address_of, count_of}
+use Rattle.tlp_core.specs.Operation.{address_of, count_of, size_of}
 use Rattle.seq_memory.specs.declared.Reply.TheVariants as replies
 use Rattle.seq_memory.specs.Step.{bytes_at, patched, place_after, read_back, answer, after, refusal, data_of}
 use Rattle.byte_effects.specs.Effects.{is_put, is_atomic}
@@ -81,6 +82,25 @@ module _ (sizes : Sizes) (places : Places) where
       ∙ ap (λ ys. get_or ys at 0) (places base block m op served)
       ∙ merged_enabled (enables (c / 4) f l) bytes.items old at put short (omega (arith, short, long))
       ∙ ap (λ ys. get_or ys at 0) (sym made)
+
+  -- what a Swap leaves
+  pub swap_left : (block a x : ℕ) (w : Width) (zeros xs : List ℕ) → xs ≡ after a block zeros (ops.Swap a w x) → length zeros ≡ size_of w
+      → (base at : ℕ) (m : List ℕ) → at < length xs → refusal base (length m) block (ops.Swap a w x) ≡ None
+      → slice_index (after base block m (ops.Swap a w x)) (a - base + at) ≡ slice_index xs at
+  swap_left block a x w zeros xs made size base at m l served =
+      let op = ops.Swap a w x in
+      let i = a - base in
+      let c = size_of w in
+      let short : at < c = omega (arith, l, ap length made, sizes a block zeros op, size) in
+      sym (byte_there (after base block m op) i c at short)
+      ∙ ap (λ ys. get_or ys at 0) (places base block m op served ∙ sym (apart_after base block (length m) op zeros served size) ∙ sym made)
+
+  pub swap_by : (op : Op) (block : ℕ) (w : Width) (zeros xs : List ℕ) → ((a : ℕ) × (x : ℕ) × (op ≡ ops.Swap a w x)) → xs ≡ after (address_of op) block zeros op → length zeros ≡ size_of w
+      → (base at : ℕ) (m : List ℕ) → at < length xs → refusal base (length m) block op ≡ None
+      → slice_index (after base block m op) (address_of op - base + at) ≡ slice_index xs at
+  swap_by op block w zeros xs (a, x, is) made size base at m l =
+      subst (λ o. refusal base (length m) block o ≡ None → slice_index (after base block m o) (address_of o - base + at) ≡ slice_index xs at)
+      (sym is) (swap_left block a x w zeros xs (subst (λ o. xs ≡ after (address_of o) block zeros o) is made) size base at m l)
 
   -- an AtomicOp that leaves what it met changes nothing
   pub atomic_quiet : (block : ℕ) (op : Op) (d : ArrayVec ℕ) (xs : List ℕ) → is_atomic op ≡ true → xs ≡ after (address_of op) block d.items op → xs ≡ d.items

@@ -7,3 +7,4 @@ pub mod Enabling
 pub mod WaitingOf
 pub mod Written
 pub mod Staying
+pub mod Answered

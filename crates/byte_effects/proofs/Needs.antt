@@ -11,7 +11,7 @@ use Rattle.seq_memory.specs.Step.{merged, bytes_at, read_back, answer, refusal, 
 use Rattle.byte_effects.specs.Effects.{is_needed}
 use Rattle.byte_effects.proofs.Places.{data_served, byte_there, length_most, merged_enabled, merged_shorter}
 
-same_items : (xs : List ℕ) (d : ArrayVec ℕ) → data_of xs ≡ replies.Data d → xs ≡ d.items
+pub same_items : (xs : List ℕ) (d : ArrayVec ℕ) → data_of xs ≡ replies.Data d → xs ≡ d.items
 same_items xs d e =
     let same : (record { items = xs }) ≡ d = cc in
     ap (λ (v : ArrayVec ℕ). v.items) same

@@ -12,7 +12,7 @@ use Rattle.byte_effects.specs.Effects.{is_put}
 use Rattle.byte_effects.proofs.Places.{inside, byte_there, length_place}
 use Rattle.byte_effects.proofs.Apart.{Others, Sizes, Places, Refused, served_or_not}
 
-merged_disabled : (es : List Bool) (xs ys : List ℕ) (k : ℕ) → get_or es k false ≡ false → k < length (merged es xs ys) → get_or (merged es xs ys) k 0 ≡ get_or ys k 0
+pub merged_disabled : (es : List Bool) (xs ys : List ℕ) (k : ℕ) → get_or es k false ≡ false → k < length (merged es xs ys) → get_or (merged es xs ys) k 0 ≡ get_or ys k 0
 merged_disabled [] xs ys k e l = absurd (omega (arith, l))
 merged_disabled (b ∷ es) [] ys k e l = absurd (omega (arith, l))
 merged_disabled (b ∷ es) (x ∷ xs) [] k e l = absurd (omega (arith, l))

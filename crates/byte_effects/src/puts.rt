@@ -1,7 +1,7 @@
 //! What a request leaves.
 ghost use Rattle.std.specs.Prelude.{◌≡◌, ◌≢◌, ◌+◌, ◌-◌, ◌<◌, ◌≤◌, ◌⊎◌, ℕ, true, None, IfNone, IfSome, List, length, IsTrue, slice_index};
 ghost use Rattle.arrayvec.specs.ArrayVec.{array_vec_len};
-ghost use Rattle.tlp_core.specs.Operation.{address_of, count_of};
+ghost use Rattle.tlp_core.specs.Operation.{address_of, count_of, size_of};
 ghost use Rattle.seq_memory.specs.Limits.{IsBlock};
 ghost use Rattle.seq_memory.specs.declared.Reply.TheVariants as replies;
 ghost use Rattle.tlp_core.specs.declared.operation.Op.TheVariants as ops;
@@ -14,7 +14,7 @@ use crate::ranges::is_put;
 use arrayvec::ArrayVec;
 use seq_memory::laws::{only_the_place_changes, refused_and_read_change_nothing};
 use seq_memory::{Reply, perform};
-use tlp_core::{MAX_PAYLOAD, Op};
+use tlp_core::{MAX_PAYLOAD, Op, Width};
 
 /// The bytes as data.
 fn copy_of(bytes: &[u8]) -> ArrayVec<u8, MAX_PAYLOAD>
@@ -58,13 +58,34 @@ fn left_by_atomic(block: u16, op: &Op, old: &ArrayVec<u8, MAX_PAYLOAD>) -> Array
     changed(block, op, old.as_slice())
 }
 
-/// What a write leaves.
-fn left_by_write(op: &Op) -> ArrayVec<u8, MAX_PAYLOAD>
-    ensures { (base block at : ℕ) (m : List ℕ) → at < length result.items → effects.is_put op.now at ≡ true → refusal base (length m) block op.now ≡ None → slice_index (after base block m op.now) (address_of op.now - base + at) ≡ slice_index result.items at }
+/// As many zeros as an operand has bytes.
+fn zeros(width: Width) -> ArrayVec<u8, MAX_PAYLOAD>
+    ensures { length result.items ≡ size_of width }
+{
+    let zeros = [0u8; 16];
+    copy_of(&zeros[..usize::from(width.size())])
+}
+
+/// What a Swap leaves, whatever it meets.
+fn left_by_swap(block: u16, op: &Op, width: Width) -> ArrayVec<u8, MAX_PAYLOAD>
+    requires block { IsBlock block }
+    requires swap { (a : ℕ) × (x : ℕ) × (op.now ≡ ops.Swap a width x) }
+    ensures { (base at : ℕ) (m : List ℕ) → at < length result.items → refusal base (length m) block op.now ≡ None → slice_index (after base block m op.now) (address_of op.now - base + at) ≡ slice_index result.items at }
+{
+    only_the_place_changes();
+    let zeros = zeros(width);
+    changed(block, op, zeros.as_slice())
+}
+
+/// What a request leaves, if that is the same whatever it meets: a write or a Swap.
+fn left_by_write(block: u16, op: &Op) -> ArrayVec<u8, MAX_PAYLOAD>
+    requires { IsBlock block }
+    ensures { (base at : ℕ) (m : List ℕ) → at < length result.items → effects.is_put op.now at ≡ true → refusal base (length m) block op.now ≡ None → slice_index (after base block m op.now) (address_of op.now - base + at) ≡ slice_index result.items at }
 {
     only_the_place_changes();
     match op {
         Op::Write { bytes, .. } => copy_of(bytes.as_slice()),
+        Op::Swap { width, .. } => left_by_swap(block, op, *width),
         _ => ArrayVec::new(),
     }
 }
@@ -88,7 +109,7 @@ pub fn left(block: u16, op: &Op, told: Option<&Reply>) -> ArrayVec<u8, MAX_PAYLO
 {
     match told {
         Some(reply) => left_by_reply(block, op, reply),
-        None => left_by_write(op),
+        None => left_by_write(block, op),
     }
 }
 
@@ -141,7 +162,7 @@ pub fn is_quiet(block: u16, op: &Op, told: Option<&Reply>) -> bool
 }
 
 /// The place of the address in the operation's range.
-fn place_of(op: &Op, address: u64) -> Option<usize>
+pub(crate) fn place_of(op: &Op, address: u64) -> Option<usize>
     ensures some { IfSome result (λ i. address_of op.now + i ≡ address) }
     ensures none { IfNone result ((address < address_of op.now) ⊎ (address_of op.now + count_of op.now ≤ address)) }
 {

@@ -5,7 +5,7 @@ ghost use Rattle.log_cells.specs.Places.{ArePlaces};
 
 use log_cells::{Cells, part};
 use log_runs::{Log, Step};
-use run_search::{Outcome, Way, explore};
+use run_search::{Bounds, Exploration, Outcome, Way, explore};
 use search_choices::{NO_PART, Turn};
 use std::alloc::{AllocError, Global};
 
@@ -17,45 +17,69 @@ pub(crate) struct Explored {
     pub(crate) names: Vec<usize>,
     /// How many choices were looked at.
     pub(crate) states: u64,
+    /// No answer behind this place of the log was needed to see that there is no run.
+    pub(crate) reach: usize,
+    /// How much work is left.
+    pub(crate) work: u64,
 }
 
-/// Looks for a run through the part of the log on the bytes from `range.0` up to `range.1`, at no more
-/// than `limit` choices.
+/// Looks for a run through the part of the log on the bytes from `range.0` up to `range.1`, within the
+/// bounds.
 pub(crate) fn explored_on(
     alloc: Global,
     log: &Log<'_>,
     cells: &Cells,
     range: (u64, u64),
-    limit: u64,
+    bounds: Bounds,
 ) -> Result<Explored, AllocError>
     requires places { ArePlaces log.now.events cells.now }
     ensures dead { IfOk result (λ r. r.outcome ≡ Outcome.Dead → Dead log.now (start log.now)) }
-    ensures states { IfOk result (λ r. r.states ≤ limit) }
+    ensures states { IfOk result (λ r. r.states ≤ bounds.choices) }
 {
     let Some(part) = part(alloc, log, cells, range.0, range.1)? else {
         return Ok(Explored {
             outcome: Outcome::Limit,
             names: Vec::new(alloc),
             states: 0,
+            reach: 0,
+            work: bounds.work,
         });
     };
-    let (outcome, states) = explore(alloc, &part.log, Way::Part, limit)?;
+    let Exploration {
+        outcome,
+        states,
+        reach,
+        work,
+    } = explore(alloc, &part.log, Way::Part, bounds)?;
+    let reach = part.names.get(reach).copied().unwrap_or(log.len());
     Ok(Explored {
         outcome,
         names: part.names,
         states,
+        reach,
+        work,
     })
+}
+
+/// A range of cells on which there is no run.
+#[derive(Clone, Copy)]
+pub(crate) struct DeadRange {
+    /// The addresses where it begins and ends.
+    pub(crate) range: (u64, u64),
+    /// No answer behind this place of the log was needed to see that.
+    pub(crate) reach: usize,
 }
 
 /// What was found out of the parts of a log.
 #[derive(Drop)]
 pub(crate) struct Parts {
-    /// The addresses where a range of cells begins and ends on which there is no run.
-    pub(crate) dead: Option<(u64, u64)>,
+    pub(crate) dead: Option<DeadRange>,
     /// When requests act in the runs that were found, by their places in the log.
     pub(crate) turns: Vec<Turn>,
     /// How many choices were looked at.
     pub(crate) states: u64,
+    /// How much work is left.
+    pub(crate) work: u64,
 }
 
 /// The request isn't in a run.
@@ -116,9 +140,25 @@ impl Ranges<'_> {
     }
 }
 
-/// Looks for one of the ranges on which the log's part has no run, so that the log has none, and
-/// returns the addresses where it begins and ends. Looks at no more than `limit` choices, and for each
-/// range at no more than a quarter of what is left of them; the second number is how many there were.
+/// What was found out of ranges, and the choices and the work that are left.
+#[derive(Drop)]
+struct Tried {
+    dead: Option<DeadRange>,
+    left: Bounds,
+}
+
+fn so_far(dead: Option<DeadRange>, choices: u64, work: u64) -> Tried
+    ensures dead { result.dead ≡ dead }
+    ensures choices { result.left.choices ≡ choices }
+{
+    Tried {
+        dead,
+        left: Bounds { choices, work },
+    }
+}
+
+/// Looks for one of the ranges on which the log's part has no run, so that the log has none. Looks at each
+/// range within the bounds, at no more than a quarter of what is left of the choices.
 fn each_of(
     alloc: Global,
     log: &Log<'_>,
@@ -126,31 +166,42 @@ fn each_of(
     ranges: Ranges<'_>,
     places: Option<&[usize]>,
     turns: &mut Vec<Turn>,
-    limit: u64,
-) -> Result<(Option<(u64, u64)>, u64), AllocError>
+    bounds: Bounds,
+) -> Result<Tried, AllocError>
     requires places { ArePlaces log.now.events cells.now }
-    ensures dead { IfOk result (λ r. IsSome r.0 → Dead log.now (start log.now)) }
-    ensures states { IfOk result (λ r. r.1 ≤ limit) }
+    ensures dead { IfOk result (λ r. IsSome r.dead → Dead log.now (start log.now)) }
+    ensures states { IfOk result (λ r. r.left.choices ≤ bounds.choices) }
 {
-    let mut left = limit;
+    let mut left = bounds.choices;
+    let mut work = bounds.work;
     for number in ranges.first..ranges.end {
         let Some(range) = ranges.cells.range(number) else {
             break;
         };
         let part = u32::try_from(number).unwrap_or(NO_PART);
+        let each = Bounds {
+            choices: left / 4,
+            work,
+        };
         let Explored {
             outcome,
             names,
             states,
-        } = explored_on(alloc, log, cells, range, left / 4)?;
+            reach,
+            work: rest,
+        } = explored_on(alloc, log, cells, range, each)?;
         left -= states;
+        work = rest;
         match outcome {
             Outcome::Run(steps) => note(turns, part, places, &names, &steps),
-            Outcome::Dead => return Ok((Some(range), limit - left)),
+            Outcome::Dead => {
+                let reach = named(places, reach).unwrap_or(usize::MAX);
+                return Ok(so_far(Some(DeadRange { range, reach }), left, work));
+            }
             Outcome::Limit => {}
         }
     }
-    Ok((None, limit - left))
+    Ok(so_far(None, left, work))
 }
 
 /// [`each_of`], in the part of the log on all of the ranges.
@@ -160,17 +211,17 @@ fn each_within(
     cells: &Cells,
     ranges: Ranges<'_>,
     turns: &mut Vec<Turn>,
-    limit: u64,
-) -> Result<(Option<(u64, u64)>, u64), AllocError>
+    bounds: Bounds,
+) -> Result<Tried, AllocError>
     requires places { ArePlaces log.now.events cells.now }
-    ensures dead { IfOk result (λ r. IsSome r.0 → Dead log.now (start log.now)) }
-    ensures states { IfOk result (λ r. r.1 ≤ limit) }
+    ensures dead { IfOk result (λ r. IsSome r.dead → Dead log.now (start log.now)) }
+    ensures states { IfOk result (λ r. r.left.choices ≤ bounds.choices) }
 {
     let Some((low, high)) = ranges.whole() else {
-        return Ok((None, 0));
+        return Ok(so_far(None, bounds.choices, bounds.work));
     };
     let Some(group) = part(alloc, log, cells, low, high)? else {
-        return Ok((None, 0));
+        return Ok(so_far(None, bounds.choices, bounds.work));
     };
     let inner = Cells::of(alloc, &group.log)?;
     each_of(
@@ -180,7 +231,7 @@ fn each_within(
         ranges,
         Some(&group.names),
         turns,
-        limit,
+        bounds,
     )
 }
 
@@ -201,11 +252,11 @@ fn each_part(
     log: &Log<'_>,
     cells: &Cells,
     turns: &mut Vec<Turn>,
-    limit: u64,
-) -> Result<(Option<(u64, u64)>, u64), AllocError>
+    bounds: Bounds,
+) -> Result<Tried, AllocError>
     requires places { ArePlaces log.now.events cells.now }
-    ensures dead { IfOk result (λ r. IsSome r.0 → Dead log.now (start log.now)) }
-    ensures states { IfOk result (λ r. r.1 ≤ limit) }
+    ensures dead { IfOk result (λ r. IsSome r.dead → Dead log.now (start log.now)) }
+    ensures states { IfOk result (λ r. r.left.choices ≤ bounds.choices) }
 {
     let count = cells.count();
     if count < MANY {
@@ -214,10 +265,10 @@ fn each_part(
             first: 0,
             end: count,
         };
-        return each_of(alloc, log, cells, ranges, None, turns, limit);
+        return each_of(alloc, log, cells, ranges, None, turns, bounds);
     }
     let size = group_of(count);
-    let mut left = limit;
+    let mut left = bounds;
     for group in 0..count {
         let first = group.saturating_mul(size);
         if first >= count {
@@ -228,20 +279,19 @@ fn each_part(
             first,
             end: first.saturating_add(size).min(count),
         };
-        let (dead, states) = each_within(alloc, log, cells, ranges, turns, left)?;
-        left -= states;
-        if dead.is_some() {
-            return Ok((dead, limit - left));
+        let found = each_within(alloc, log, cells, ranges, turns, left)?;
+        left = found.left;
+        if found.dead.is_some() {
+            return Ok(found);
         }
     }
-    Ok((None, limit - left))
+    Ok(so_far(None, left.choices, left.work))
 }
 
-/// Looks for a range of cells on which the log's part has no run, so that the log has none. Looks at no
-/// more than `limit` choices.
-pub(crate) fn parts_of(alloc: Global, log: &Log<'_>, limit: u64) -> Result<Parts, AllocError>
+/// Looks for a range of cells on which the log's part has no run, so that the log has none, within the bounds.
+pub(crate) fn parts_of(alloc: Global, log: &Log<'_>, bounds: Bounds) -> Result<Parts, AllocError>
     ensures dead { IfOk result (λ r. IsSome r.dead → Dead log.now (start log.now)) }
-    ensures states { IfOk result (λ r. r.states ≤ limit) }
+    ensures states { IfOk result (λ r. r.states ≤ bounds.choices) }
 {
     let cells = Cells::of(alloc, log)?;
     if cells.count() <= 1 {
@@ -249,13 +299,15 @@ pub(crate) fn parts_of(alloc: Global, log: &Log<'_>, limit: u64) -> Result<Parts
             dead: None,
             turns: Vec::new(alloc),
             states: 0,
+            work: bounds.work,
         });
     }
     let mut turns = vec![in alloc; NO_TURN; log.len()]?;
-    let (dead, states) = each_part(alloc, log, &cells, &mut turns, limit)?;
+    let Tried { dead, left } = each_part(alloc, log, &cells, &mut turns, bounds)?;
     Ok(Parts {
         dead,
         turns,
-        states,
+        states: bounds.choices - left.choices,
+        work: left.work,
     })
 }

@@ -11,7 +11,9 @@ use log_cells::Cells;
 use log_events::{Partners, form_of, log_of};
 use log_runs::laws::{explainable_has_a_run, explainable_is_well_formed, prefix_is_explainable};
 use log_runs::{Log, Step};
-use run_search::{Outcome, Way, explore};
+use run_search::{Bounds, Outcome, Way, explore};
+use search_choices::Turn;
+use search_rules::first_unanswerable;
 use std::alloc::{AllocError, Global};
 
 /// What was found out of records.
@@ -20,71 +22,147 @@ pub(crate) struct Judgment {
     pub(crate) outcome: Outcome,
     /// How many choices were looked at.
     pub(crate) states: u64,
-    /// The addresses where cells begin and end on which there is no run, if that was found out.
-    pub(crate) range: Option<(u64, u64)>,
+    /// By what it was seen that there is no run, if there is none.
+    pub(crate) clue: Clue,
+    /// How much work is left.
+    pub(crate) work: u64,
 }
 
-/// Looks for a run through the log, first through its part on each cell of the memory, with a tenth of
-/// the choices. Those runs are a guide to the whole one.
-fn explored(alloc: Global, log: &Log<'_>, limit: u64) -> Result<Judgment, AllocError>
-    ensures dead { IfOk result (λ r. r.outcome ≡ Outcome.Dead → Dead log.now (start log.now)) }
-    ensures states { IfOk result (λ r. r.states ≤ limit) }
-    ensures limit { IfOk result (λ r. r.outcome ≡ Outcome.Limit → r.states ≡ limit) }
+/// By what it was seen that there is no run.
+#[derive(Clone, Copy)]
+pub(crate) struct Clue {
+    /// The addresses where cells begin and end on which there is none, if that was found out.
+    pub(crate) range: Option<(u64, u64)>,
+    /// No answer behind this place of the log was needed.
+    pub(crate) reach: usize,
+}
+
+/// There is no run, as was seen by the answer at that place, or on cells, at so many choices.
+fn dead(states: u64, range: Option<(u64, u64)>, reach: usize, work: u64) -> Judgment
+    ensures outcome { result.outcome ≡ Outcome.Dead }
+    ensures states { result.states ≡ states }
 {
-    let parts = parts_of(alloc, log, limit / 10)?;
-    if parts.dead.is_some() {
-        return Ok(Judgment {
-            outcome: Outcome::Dead,
-            states: parts.states,
-            range: parts.dead,
-        });
+    Judgment {
+        outcome: Outcome::Dead,
+        states,
+        clue: Clue { range, reach },
+        work,
     }
-    let (outcome, states) = explore(alloc, log, Way::Whole(&parts.turns), limit - parts.states)?;
+}
+
+/// Looks for a run through the whole log. The runs through its parts are a guide.
+fn explored_whole(
+    alloc: Global,
+    log: &Log<'_>,
+    turns: &[Turn],
+    bounds: Bounds,
+) -> Result<Judgment, AllocError>
+    ensures dead { IfOk result (λ r. r.outcome ≡ Outcome.Dead → Dead log.now (start log.now)) }
+    ensures states { IfOk result (λ r. r.states ≤ bounds.choices) }
+    ensures limit { IfOk result (λ r. r.outcome ≡ Outcome.Limit → r.states ≡ bounds.choices) }
+{
+    let found = explore(alloc, log, Way::Whole(turns), bounds)?;
     Ok(Judgment {
-        outcome,
-        states: parts.states + states,
-        range: None,
+        outcome: found.outcome,
+        states: found.states,
+        clue: Clue {
+            range: None,
+            reach: found.reach,
+        },
+        work: found.work,
     })
 }
 
-/// Looks for a run through the first `count` records, at no more than `limit` choices. `partners` says
-/// which records may belong together.
+/// Looks for a run through the log, first through its part on each cell of the memory, with a tenth of
+/// the choices.
+fn explored_parts(alloc: Global, log: &Log<'_>, bounds: Bounds) -> Result<Judgment, AllocError>
+    ensures dead { IfOk result (λ r. r.outcome ≡ Outcome.Dead → Dead log.now (start log.now)) }
+    ensures states { IfOk result (λ r. r.states ≤ bounds.choices) }
+    ensures limit { IfOk result (λ r. r.outcome ≡ Outcome.Limit → r.states ≡ bounds.choices) }
+{
+    let few = Bounds {
+        choices: bounds.choices / 10,
+        work: bounds.work,
+    };
+    let parts = parts_of(alloc, log, few)?;
+    if let Some(by) = parts.dead {
+        return Ok(dead(parts.states, Some(by.range), by.reach, parts.work));
+    }
+    let rest = Bounds {
+        choices: bounds.choices - parts.states,
+        work: parts.work,
+    };
+    let mut found = explored_whole(alloc, log, &parts.turns, rest)?;
+    found.states += parts.states;
+    Ok(found)
+}
+
+/// Looks for a run through the log, within the bounds. An answer that no memory gives ends it at once.
+fn explored(alloc: Global, log: &Log<'_>, bounds: Bounds) -> Result<Judgment, AllocError>
+    ensures dead { IfOk result (λ r. r.outcome ≡ Outcome.Dead → Dead log.now (start log.now)) }
+    ensures states { IfOk result (λ r. r.states ≤ bounds.choices) }
+    ensures limit { IfOk result (λ r. r.outcome ≡ Outcome.Limit → r.states ≡ bounds.choices) }
+{
+    match first_unanswerable(log) {
+        Some(at) => Ok(dead(0, None, at, bounds.work)),
+        None => explored_parts(alloc, log, bounds),
+    }
+}
+
+/// Looks for a run through the first `count` records, within the bounds. `partners` says which records may
+/// belong together.
 pub(crate) fn judged(
     alloc: Global,
     trace: &Trace,
     partners: &Partners,
     count: usize,
-    limit: u64,
+    bounds: Bounds,
 ) -> Result<Judgment, AllocError>
     requires { count ≤ length trace.now.records }
     ensures none { IfOk result (λ r. r.outcome ≡ Outcome.Dead → IsExplainable (prefix count trace.now) → ⊥) }
-    ensures states { IfOk result (λ r. r.states ≤ limit) }
-    ensures limit { IfOk result (λ r. r.outcome ≡ Outcome.Limit → r.states ≡ limit) }
+    ensures states { IfOk result (λ r. r.states ≤ bounds.choices) }
+    ensures limit { IfOk result (λ r. r.outcome ≡ Outcome.Limit → r.states ≡ bounds.choices) }
 {
     explainable_has_a_run();
     let log = log_of(alloc, trace, partners, count)?;
-    let found = explored(alloc, &log, limit)?;
+    let found = explored(alloc, &log, bounds)?;
     Ok(found)
 }
 
-/// Looks for a run through the first `count` records on the bytes of a range alone, at no more than
-/// `limit` choices.
+/// [`judged`], by what is on the bytes of a range alone, if there is one.
+fn explored_by(
+    alloc: Global,
+    log: &Log<'_>,
+    range: Option<(u64, u64)>,
+    bounds: Bounds,
+) -> Result<Outcome, AllocError>
+    ensures { IfOk result (λ o. o ≡ Outcome.Dead → Dead log.now (start log.now)) }
+{
+    let Some(range) = range else {
+        let found = explored(alloc, log, bounds)?;
+        return Ok(found.outcome);
+    };
+    let cells = Cells::of(alloc, log)?;
+    let found = explored_on(alloc, log, &cells, range, bounds)?;
+    Ok(found.outcome)
+}
+
+/// Looks for a run through the first `count` records, on the bytes of a range alone, if there is one.
 pub(crate) fn judged_on(
     alloc: Global,
     trace: &Trace,
     partners: &Partners,
     count: usize,
-    range: (u64, u64),
-    limit: u64,
+    range: Option<(u64, u64)>,
+    bounds: Bounds,
 ) -> Result<Outcome, AllocError>
     requires { count ≤ length trace.now.records }
     ensures { IfOk result (λ o. o ≡ Outcome.Dead → IsExplainable (prefix count trace.now) → ⊥) }
 {
     explainable_has_a_run();
     let log = log_of(alloc, trace, partners, count)?;
-    let cells = Cells::of(alloc, &log)?;
-    let found = explored_on(alloc, &log, &cells, range, limit)?;
-    Ok(found.outcome)
+    let found = explored_by(alloc, &log, range, bounds)?;
+    Ok(found)
 }
 
 /// The steps make a history that explains the trace with other n's; false where that isn't so.
@@ -103,12 +181,12 @@ pub(crate) fn is_explainable(
     trace: &Trace,
     partners: &Partners,
     count: usize,
-    limit: u64,
+    bounds: Bounds,
 ) -> Result<bool, AllocError>
     requires { count ≤ length trace.now.records }
     ensures { IfOk result (λ yes. yes ≡ true → IsExplainable (prefix count trace.now)) }
 {
-    let judgment = judged(alloc, trace, partners, count, limit)?;
+    let judgment = judged(alloc, trace, partners, count, bounds)?;
     let Outcome::Run(steps) = judgment.outcome else {
         return Ok(false);
     };
@@ -117,8 +195,12 @@ pub(crate) fn is_explainable(
     Ok(yes)
 }
 
-/// No history explains the records, as far as it is found out with `limit` choices.
-pub(crate) fn is_unexplained(alloc: Global, trace: &Trace, limit: u64) -> Result<bool, AllocError>
+/// No history explains the records, as far as it is found out within the bounds.
+pub(crate) fn is_unexplained(
+    alloc: Global,
+    trace: &Trace,
+    bounds: Bounds,
+) -> Result<bool, AllocError>
     ensures { IfOk result (λ yes. yes ≡ true → IsExplainable trace.now → ⊥) }
 {
     explainable_is_well_formed();
@@ -128,7 +210,7 @@ pub(crate) fn is_unexplained(alloc: Global, trace: &Trace, limit: u64) -> Result
         return Ok(true);
     }
     let count = trace.records.len();
-    let judgment = judged(alloc, trace, &form.partners, count, limit)?;
+    let judgment = judged(alloc, trace, &form.partners, count, bounds)?;
     match judgment.outcome {
         Outcome::Dead => Ok(true),
         _ => Ok(false),

@@ -4,7 +4,7 @@
 //! n's. [`search`] looks for n's and a history that make it a trace that the history explains. What
 //! it finds is checked before it is returned. Where it says that there is none, no history explains
 //! the log; it then looks for a prefix that has none either, and is as short as it can prove.
-//! [`contradiction`] looks for few answers of such a prefix that no history explains together.
+//! [`explained_before`] says that the prefix that is one shorter has one, and [`contradiction`] looks for few answers of such a prefix that no history explains together.
 #![tactic(auto)]
 
 mod alone;
@@ -18,4 +18,5 @@ mod shortest;
 mod thinning;
 
 pub use searching::{Sought, search};
+pub use shortest::explained_before;
 pub use thinning::contradiction;

@@ -1,18 +1,18 @@
 //! Whether a history explains a log.
-ghost use Rattle.std.specs.Prelude.{◌≡◌, ◌<◌, ◌≤◌, ◌+◌, IfOk, length};
+ghost use Rattle.std.specs.Prelude.{ℕ, ◌≡◌, ◌<◌, ◌≤◌, ◌+◌, IfOk, length};
 ghost use Rattle.log_events.specs.Formed.{MisformedAt};
 ghost use Rattle.log_runs.specs.Explainable.{SeenAlike};
-ghost use Rattle.history_search.specs.Prefixes.{IsShortest};
+ghost use Rattle.history_search.specs.Prefixes.{IsUnexplained};
 ghost use Rattle.history_search.specs.Answers.{IsFound, IsNone};
 
 use crate::judging::{Judgment, judged};
 use crate::moments::confirmed;
-use crate::shortest::{Shortest, shortened};
+use crate::shortest::shortened;
 use history_check::Trace;
 use log_events::{Partners, form_of};
 use log_runs::Step;
-use log_runs::laws::explainable_is_well_formed;
-use run_search::Outcome;
+use log_runs::laws::{explainable_is_well_formed, prefix_is_explainable};
+use run_search::{Bounds, Outcome};
 use seq_memory::Entry;
 use std::alloc::{AllocError, Global};
 
@@ -21,12 +21,8 @@ use std::alloc::{AllocError, Global};
 pub enum Sought {
     /// This history explains the log, with the n's that the trace has now.
     Found(Vec<Entry>),
-    /// No history explains the log, nor its first `prefix` records. Where `explained` is Some, a
-    /// history explains the first so many, which are fewer.
-    None {
-        prefix: usize,
-        explained: Option<usize>,
-    },
+    /// No history explains the log, nor its first `prefix` records.
+    None { prefix: usize },
     /// It wasn't found out.
     Limit,
 }
@@ -43,80 +39,86 @@ fn up_to(trace: &Trace, place: usize) -> usize
     count
 }
 
-/// The record at that place has a wrong form, so the records up to it have no history.
-fn misformed(
-    alloc: Global,
-    trace: &Trace,
-    partners: &Partners,
-    flaw: usize,
-) -> Result<Shortest, AllocError>
-    requires { MisformedAt trace.now.records flaw }
-    ensures { IfOk result (IsShortest trace.now) }
-{
-    explainable_is_well_formed();
-    let shortest = shortened(alloc, trace, partners, up_to(trace, flaw), None)?;
-    Ok(shortest)
-}
-
-/// What is said of a log that has no history.
-fn none_of(shortest: Shortest) -> Sought
-    ensures { result ≡ Sought.None shortest.prefix shortest.explained }
-{
-    Sought::None {
-        prefix: shortest.prefix,
-        explained: shortest.explained,
-    }
-}
-
 /// What is found before a run is checked.
 #[derive(Drop)]
 enum Unchecked {
     /// These steps may be a history that explains the log.
     Run(Vec<Step>),
-    /// No history does.
-    None(Shortest),
+    /// No history does, nor does one explain the first so many records.
+    None(usize),
     /// It wasn't found out.
     Limit,
 }
 
-/// Looks for a run through a log whose form is right.
+/// Looks for a run through the first `count` records, whose form is right.
 fn well_formed(
     alloc: Global,
     trace: &Trace,
     partners: &Partners,
+    count: usize,
     limit: u64,
 ) -> Result<(Unchecked, u64), AllocError>
-    ensures none { IfOk result (λ r. (s : Shortest) → r.0 ≡ Unchecked.None s → IsShortest trace.now s) }
+    requires { count ≤ length trace.now.records }
+    ensures none { IfOk result (λ r. (prefix : ℕ) → r.0 ≡ Unchecked.None prefix → IsUnexplained trace.now prefix) }
     ensures states { IfOk result (λ r. r.1 ≤ limit) }
 {
-    let count = trace.records.len();
+    let bounds = Bounds {
+        choices: limit,
+        work: u64::MAX,
+    };
     let Judgment {
         outcome,
         states,
-        range,
-    } = judged(alloc, trace, partners, count, limit)?;
+        clue,
+        ..
+    } = judged(alloc, trace, partners, count, bounds)?;
     match outcome {
         Outcome::Run(steps) => Ok((Unchecked::Run(steps), states)),
         Outcome::Dead => {
-            let shortest = shortened(alloc, trace, partners, count, range)?;
-            Ok((Unchecked::None(shortest), states))
+            let prefix = shortened(alloc, trace, partners, count, clue, limit)?;
+            Ok((Unchecked::None(prefix), states))
         }
         Outcome::Limit => Ok((Unchecked::Limit, limit)),
     }
 }
 
+/// The record at that place has a wrong form, so the records up to it have no history; those before it may
+/// have none either.
+fn misformed(
+    alloc: Global,
+    trace: &Trace,
+    partners: &Partners,
+    flaw: usize,
+    limit: u64,
+) -> Result<(usize, u64), AllocError>
+    requires { MisformedAt trace.now.records flaw }
+    ensures none { IfOk result (λ r. IsUnexplained trace.now r.0) }
+    ensures states { IfOk result (λ r. r.1 ≤ limit) }
+{
+    explainable_is_well_formed();
+    let (before, states) = well_formed(alloc, trace, partners, flaw, limit)?;
+    if let Unchecked::None(prefix) = before {
+        return Ok((prefix, states));
+    }
+    Ok((up_to(trace, flaw), states))
+}
+
 /// Looks for a run through a log. What it needed of memory is free again, but for the steps.
 fn searched(alloc: Global, trace: &Trace, limit: u64) -> Result<(Unchecked, u64), AllocError>
-    ensures none { IfOk result (λ r. (s : Shortest) → r.0 ≡ Unchecked.None s → IsShortest trace.now s) }
+    ensures none { IfOk result (λ r. (prefix : ℕ) → r.0 ≡ Unchecked.None prefix → IsUnexplained trace.now prefix) }
     ensures states { IfOk result (λ r. r.1 ≤ limit) }
 {
     let form = form_of(alloc, &trace.records)?;
     match form.flaw {
         Some(flaw) => {
-            let shortest = misformed(alloc, trace, &form.partners, flaw)?;
-            Ok((Unchecked::None(shortest), 0))
+            let (prefix, states) = misformed(alloc, trace, &form.partners, flaw, limit)?;
+            Ok((Unchecked::None(prefix), states))
         }
-        None => well_formed(alloc, trace, &form.partners, limit),
+        None => {
+            let count = trace.records.len();
+            let found = well_formed(alloc, trace, &form.partners, count, limit)?;
+            Ok(found)
+        }
     }
 }
 
@@ -133,13 +135,14 @@ pub fn search(alloc: Global, trace: &mut Trace, limit: u64) -> Result<(Sought, u
     ensures limit { IfOk result (λ r. r.0 ≡ Sought.Limit → r.1 ≡ limit) }
     ensures states { IfOk result (λ r. r.1 ≤ limit) }
 {
+    prefix_is_explainable();
     let (found, states) = searched(alloc, trace, limit)?;
     match found {
         Unchecked::Run(steps) => match confirmed(alloc, trace, steps)? {
             Some(history) => Ok((Sought::Found(history), states)),
             None => Ok((Sought::Limit, limit)),
         },
-        Unchecked::None(shortest) => Ok((none_of(shortest), states)),
+        Unchecked::None(prefix) => Ok((Sought::None { prefix }, states)),
         Unchecked::Limit => Ok((Sought::Limit, limit)),
     }
 }

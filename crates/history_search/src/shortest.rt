@@ -1,49 +1,81 @@
 //! The shortest prefix that has no history, as far as it is found.
 ghost use Rattle.std.specs.Prelude.{◌≤◌, ◌<◌, ◌+◌, IfOk, IfSome, length};
-ghost use Rattle.history_search.specs.Prefixes.{IsUnexplained, IsExplainedBefore, IsShortest};
+ghost use Rattle.history_search.specs.Prefixes.{IsUnexplained, IsExplainedBefore};
 
-use crate::judging::{is_explainable, judged, judged_on};
+use crate::judging::{Clue, is_explainable, judged_on};
 use history_check::Trace;
-use log_events::Partners;
+use log_events::{Partners, form_of};
 use log_runs::laws::prefix_is_explainable;
-use run_search::Outcome;
+use run_search::{Bounds, Outcome};
 use std::alloc::{AllocError, Global};
 
-/// How many choices the search for a prefix looks at.
+/// How many choices the search for a prefix looks at, at most.
 const EACH: u64 = 20_000;
 
 /// How many prefixes are searched, at most.
-const SEARCHES: usize = 20;
+const SEARCHES: u32 = 20;
 
-/// A prefix without a history, and one that may have one.
-#[derive(Drop)]
-pub(crate) struct Shortest {
-    /// So many records have no history.
-    pub(crate) prefix: usize,
-    /// So many have one.
-    pub(crate) explained: Option<usize>,
+/// So many records are no long log: all prefixes that may be shorter are searched.
+const LONG: usize = 10_000;
+
+/// How much work is done for each record of a prefix that is searched, and for all of them at least.
+const WORK: u64 = 32;
+
+const LEAST: u64 = 200_000;
+
+/// What the search of so many records may do.
+fn bounds_for(count: usize, limit: u64) -> Bounds {
+    Bounds {
+        choices: limit.min(EACH),
+        work: (count as u64).saturating_mul(WORK).max(LEAST),
+    }
 }
 
-/// Halves what lies before a prefix that has no history, by what is on the bytes of a range alone.
-fn halved_on(
+/// The prefix that is tried next, of those between the two: the first one that is to be tried; then, if it
+/// has no history, the one that is one less; else those that follow it in growing steps, or the middle.
+fn next(low: usize, high: usize, first: usize, turn: u32) -> usize
+    requires { low + 1 < high }
+    ensures low { low ≤ result }
+    ensures high { result < high }
+{
+    if turn == 0 && low <= first && first < high {
+        return first;
+    }
+    if turn == 0 || turn == 1 && high == first {
+        return high - 1;
+    }
+    let half = (high - low) / 2;
+    if low < first {
+        return low + half;
+    }
+    low + half.min(64usize << turn.min(24))
+}
+
+/// Halves what lies before a prefix that has no history, by what is on the bytes of a range alone, if there is
+/// one. Of a long log the first one that is tried is taken, if it has no history.
+fn halved(
     alloc: Global,
     trace: &Trace,
     partners: &Partners,
     prefix: usize,
-    range: (u64, u64),
+    first: usize,
+    range: Option<(u64, u64)>,
+    limit: u64,
 ) -> Result<usize, AllocError>
     requires { IsUnexplained trace.now prefix }
     ensures { IfOk result (IsUnexplained trace.now) }
 {
     let mut high = prefix;
     let mut low = 0;
-    for _turn in 0..SEARCHES {
+    for turn in 0..SEARCHES {
         if high - low <= 1 {
             return Ok(high);
         }
-        let middle = low + (high - low) / 2;
-        let outcome = judged_on(alloc, trace, partners, middle, range, EACH)?;
+        let middle = next(low, high, first, turn);
+        let bounds = bounds_for(middle, limit);
+        let outcome = judged_on(alloc, trace, partners, middle, range, bounds)?;
         match outcome {
+            Outcome::Dead if turn == 0 && middle > LONG => return Ok(middle),
             Outcome::Dead => high = middle,
             _ => low = middle,
         }
@@ -51,104 +83,52 @@ fn halved_on(
     Ok(high)
 }
 
-/// A number between the two: the last one if it is the first to be tried, else the middle.
-fn between(low: usize, high: usize, is_first: bool) -> usize
-    requires { low + 1 < high }
-    ensures low { low ≤ result }
-    ensures high { result < high }
-{
-    if is_first {
-        return high - 1;
-    }
-    low + (high - low) / 2
-}
-
-/// Halves what lies between a prefix that has a run and one that has no history. Where it is `near`,
-/// the prefix that is one shorter is tried first.
-fn halved(
-    alloc: Global,
-    trace: &Trace,
-    partners: &Partners,
-    prefix: usize,
-    near: bool,
-) -> Result<(usize, usize), AllocError>
-    requires { IsUnexplained trace.now prefix }
-    ensures { IfOk result (λ r. IsUnexplained trace.now r.0) }
-{
-    let mut high = prefix;
-    // where the search goes on, and the longest prefix that has a run
-    let mut low = 0;
-    let mut sure = 0;
-    for turn in 0..SEARCHES {
-        if high - low <= 1 {
-            return Ok((high, sure));
-        }
-        let middle = between(low, high, near && turn == 0);
-        let judgment = judged(alloc, trace, partners, middle, EACH)?;
-        match judgment.outcome {
-            Outcome::Dead => high = middle,
-            Outcome::Run(_) => {
-                low = middle;
-                sure = middle;
-            }
-            Outcome::Limit => low = middle,
-        }
-    }
-    Ok((high, sure))
-}
-
-/// A prefix without a history that is no longer, by what is on the bytes of a range alone.
-fn shortened_on(
-    alloc: Global,
-    trace: &Trace,
-    partners: &Partners,
-    prefix: usize,
-    range: Option<(u64, u64)>,
-) -> Result<usize, AllocError>
-    requires { IsUnexplained trace.now prefix }
-    ensures { IfOk result (IsUnexplained trace.now) }
-{
-    match range {
-        Some(range) => halved_on(alloc, trace, partners, prefix, range),
-        None => Ok(prefix),
-    }
-}
-
-/// So many records, if they are fewer than the prefix and a history explains them.
-fn explained_before(
-    alloc: Global,
-    trace: &Trace,
-    partners: &Partners,
-    prefix: usize,
-    sure: usize,
-) -> Result<Option<usize>, AllocError>
-    requires { prefix ≤ length trace.now.records }
-    ensures { IfOk result (λ o. IfSome o (IsExplainedBefore trace.now prefix)) }
-{
-    if sure >= prefix {
-        return Ok(None);
-    }
-    if !is_explainable(alloc, trace, partners, sure, EACH)? {
-        return Ok(None);
-    }
-    Ok(Some(sure))
-}
-
-/// Looks for a shorter prefix without a history, first by the cells of the range, if there is one.
+/// Looks for a shorter prefix without a history, first by the cells on which there is none.
 pub(crate) fn shortened(
     alloc: Global,
     trace: &Trace,
     partners: &Partners,
     prefix: usize,
-    range: Option<(u64, u64)>,
-) -> Result<Shortest, AllocError>
+    clue: Clue,
+    limit: u64,
+) -> Result<usize, AllocError>
     requires { IsUnexplained trace.now prefix }
-    ensures { IfOk result (IsShortest trace.now) }
+    ensures { IfOk result (IsUnexplained trace.now) }
 {
-    prefix_is_explainable();
-    let near = range.is_some();
-    let prefix = shortened_on(alloc, trace, partners, prefix, range)?;
-    let (prefix, sure) = halved(alloc, trace, partners, prefix, near)?;
-    let explained = explained_before(alloc, trace, partners, prefix, sure)?;
-    Ok(Shortest { prefix, explained })
+    let first = clue.reach.saturating_add(1);
+    let near = halved(alloc, trace, partners, prefix, first, clue.range, limit)?;
+    if clue.range.is_none() || near > LONG {
+        return Ok(near);
+    }
+    halved(
+        alloc,
+        trace,
+        partners,
+        near,
+        near.saturating_sub(1),
+        None,
+        limit,
+    )
+}
+
+/// How many of the first records a history explains, if `prefix` records have none and that is found: as many
+/// but one.
+pub fn explained_before(
+    alloc: Global,
+    trace: &Trace,
+    prefix: usize,
+    limit: u64,
+) -> Result<Option<usize>, AllocError>
+    requires { prefix ≤ length trace.now.records }
+    ensures { IfOk result (λ o. IfSome o (IsExplainedBefore trace.now prefix)) }
+{
+    let Some(count) = prefix.checked_sub(1) else {
+        return Ok(None);
+    };
+    let form = form_of(alloc, &trace.records)?;
+    let bounds = bounds_for(count, limit);
+    if !is_explainable(alloc, trace, &form.partners, count, bounds)? {
+        return Ok(None);
+    }
+    Ok(Some(count))
 }

@@ -18,4 +18,5 @@ mod line;
 mod reader;
 mod reading;
 
+pub use line::log_misfit;
 pub use reading::{read_log, read_seen};

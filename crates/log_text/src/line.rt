@@ -109,3 +109,8 @@ pub(crate) fn read_line(text: &[u8]) -> Result<LogLine, Misfit>
         line_in_words(text)
     }
 }
+
+/// What doesn't fit in the line of a log. None if it is read.
+pub fn log_misfit(text: &[u8]) -> Option<Misfit> {
+    read_line(text).err()
+}

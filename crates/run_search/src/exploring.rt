@@ -21,6 +21,27 @@ pub enum Outcome {
     Limit,
 }
 
+/// What a search found out.
+#[derive(Debug, Drop)]
+pub struct Exploration {
+    pub outcome: Outcome,
+    /// How many choices were looked at.
+    pub states: u64,
+    /// No answer behind this place of the log was needed to see that there is no run.
+    pub reach: usize,
+    /// How much work is left.
+    pub work: u64,
+}
+
+/// How much a search may do.
+#[derive(Clone, Copy, Debug, PartialEq, Eq)]
+pub struct Bounds {
+    /// How many choices it looks at.
+    pub choices: u64,
+    /// How much work it does: about as many steps, or requests that are looked at for one.
+    pub work: u64,
+}
+
 /// Which way a search goes.
 #[derive(Clone, Copy)]
 pub enum Way<'a> {
@@ -52,8 +73,20 @@ fn finished(
     Ok(None)
 }
 
-/// Goes on from the start of the log, at no more than `limit` choices. The second number is how many there
-/// were.
+/// What was found out at so many choices.
+fn explored(outcome: Outcome, states: u64, walk: &Walk) -> Exploration
+    ensures outcome { result.outcome ≡ outcome }
+    ensures states { result.states ≡ states }
+{
+    Exploration {
+        outcome,
+        states,
+        reach: walk.reach,
+        work: walk.work,
+    }
+}
+
+/// Goes on from the start of the log, at no more than `limit` choices.
 fn choose(
     walk: &mut Walk,
     alloc: Global,
@@ -61,61 +94,69 @@ fn choose(
     catalog: &Catalog,
     turns: &[Turn],
     limit: u64,
-) -> Result<(Outcome, u64), AllocError>
+) -> Result<Exploration, AllocError>
     requires at { IsAt log.now walk.old }
     requires catalog { IsCatalog log.now catalog.now }
-    ensures right { IfOk result (λ r. IsRight log.now r.0) }
-    ensures states { IfOk result (λ r. r.1 ≤ limit) }
-    ensures limit { IfOk result (λ r. r.0 ≡ Outcome.Limit → r.1 ≡ limit) }
+    ensures right { IfOk result (λ r. IsRight log.now r.outcome) }
+    ensures states { IfOk result (λ r. r.states ≤ limit) }
+    ensures limit { IfOk result (λ r. r.outcome ≡ Outcome.Limit → r.states ≡ limit) }
 {
     for states in 0..limit {
         if let Some(steps) = finished(walk, alloc, log, catalog)? {
-            return Ok((Outcome::Run(steps), states));
+            return Ok(explored(Outcome::Run(steps), states, walk));
+        }
+        if walk.work == 0 {
+            return Ok(explored(Outcome::Limit, limit, walk));
         }
         if !advance(walk, alloc, log, catalog, turns)? {
-            return Ok((Outcome::Dead, states + 1));
+            return Ok(explored(Outcome::Dead, states + 1, walk));
         }
     }
     match finished(walk, alloc, log, catalog)? {
-        Some(steps) => Ok((Outcome::Run(steps), limit)),
-        None => Ok((Outcome::Limit, limit)),
+        Some(steps) => Ok(explored(Outcome::Run(steps), limit, walk)),
+        None => Ok(explored(Outcome::Limit, limit, walk)),
     }
 }
 
-/// Looks for steps that lead from the start of the log to its end, at no more than `limit` choices. A
-/// whole log without a choice needn't know from where on nobody needs what a request leaves.
+/// Looks for steps that lead from the start of the log to its end. A whole log without a choice needn't know
+/// from where on nobody needs what a request leaves.
 fn explore_by(
     alloc: Global,
     log: &Log,
     catalog: &mut Catalog,
     early: bool,
     turns: &[Turn],
-    limit: u64,
-) -> Result<(Outcome, u64), AllocError>
+    bounds: Bounds,
+) -> Result<Exploration, AllocError>
     requires { IsCatalog log.now catalog.old }
-    ensures right { IfOk result (λ r. IsRight log.now r.0) }
-    ensures states { IfOk result (λ r. r.1 ≤ limit) }
-    ensures limit { IfOk result (λ r. r.0 ≡ Outcome.Limit → r.1 ≡ limit) }
+    ensures right { IfOk result (λ r. IsRight log.now r.outcome) }
+    ensures states { IfOk result (λ r. r.states ≤ bounds.choices) }
+    ensures limit { IfOk result (λ r. r.outcome ≡ Outcome.Limit → r.states ≡ bounds.choices) }
 {
-    let mut walk = begin(alloc, log, early)?;
+    let mut walk = begin(alloc, log, early, bounds.work)?;
     if let Some(steps) = finished(&mut walk, alloc, log, catalog)? {
-        return Ok((Outcome::Run(steps), 0));
+        return Ok(explored(Outcome::Run(steps), 0, &walk));
     }
     catalog.note_calm(log);
-    choose(&mut walk, alloc, log, catalog, turns, limit)
+    choose(&mut walk, alloc, log, catalog, turns, bounds.choices)
 }
 
-/// Looks for steps that lead from the start of the log to its end, at no more than `limit` choices.
-/// The second number is how many there were.
-pub fn explore(alloc: Global, log: &Log, way: Way, limit: u64) -> Result<(Outcome, u64), AllocError>
-    ensures right { IfOk result (λ r. IsRight log.now r.0) }
-    ensures states { IfOk result (λ r. r.1 ≤ limit) }
-    ensures limit { IfOk result (λ r. r.0 ≡ Outcome.Limit → r.1 ≡ limit) }
+/// Looks for steps that lead from the start of the log to its end, within the bounds. Where the work ends
+/// it, as many choices are said to have been looked at as the bounds allow.
+pub fn explore(
+    alloc: Global,
+    log: &Log,
+    way: Way,
+    bounds: Bounds,
+) -> Result<Exploration, AllocError>
+    ensures right { IfOk result (λ r. IsRight log.now r.outcome) }
+    ensures states { IfOk result (λ r. r.states ≤ bounds.choices) }
+    ensures limit { IfOk result (λ r. r.outcome ≡ Outcome.Limit → r.states ≡ bounds.choices) }
 {
     let (early, turns): (bool, &[Turn]) = match way {
         Way::Part => (true, &[]),
         Way::Whole(turns) => (false, turns),
     };
     let mut catalog = catalog_of(alloc, log, early)?;
-    explore_by(alloc, log, &mut catalog, early, turns, limit)
+    explore_by(alloc, log, &mut catalog, early, turns, bounds)
 }

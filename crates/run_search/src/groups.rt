@@ -16,6 +16,9 @@ use std::alloc::{AllocError, Global};
 /// The most requests that act after the first one.
 const MOST: usize = 64;
 
+/// The most requests at a word that are looked at for one that joins.
+const MOST_AT_WORD: usize = 256;
+
 /// A request and others that acted after it.
 #[derive(Drop)]
 pub(crate) struct Group {
@@ -44,6 +47,9 @@ fn joining(place: &Place, log: &Log, q: usize, word: u64, list: &[usize]) -> Opt
     requires word { word < log.now.extent.size / 4 }
     ensures { IfSome result (MayAct log.now place.now.state) }
 {
+    if list.len() > MOST_AT_WORD {
+        return None;
+    }
     for b in list {
         if joins(place, log, q, word, *b) && changes_nothing(log, *b) {
             return Some(*b);

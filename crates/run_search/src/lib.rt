@@ -16,4 +16,4 @@ mod rules;
 mod sketches;
 mod walk;
 
-pub use exploring::{Outcome, Way, explore};
+pub use exploring::{Bounds, Exploration, Outcome, Way, explore};

@@ -20,6 +20,9 @@ fn is_quiet(place: &Place, log: &Log, q: usize) -> bool
     ensures { IsTrue result → IsForced log.now place.now.state (Step.Act q) }
 {
     what_changes_nothing_acts_at_once();
+    if place.bytes().len() != log.extent().size() {
+        return false;
+    }
     changes_nothing(log, q)
 }
 

@@ -10,13 +10,18 @@ use crate::hints::{Look, Losses, is_back};
 use crate::junk::over_junk;
 use crate::rules::forced;
 use log_runs::{Log, Step};
-use search_choices::{Turn, choices};
-use search_others::{due_is_lost, is_missed};
+use search_choices::{Turn, choices, only_step};
+use search_others::{Loss, due_is_lost, missed_at};
 use search_places::{Memo, Place, Stack};
 use std::alloc::{AllocError, Global};
 
 /// Of so many events to come it is looked whether their requests are lost.
 const SOON: usize = 128;
+
+/// How much work a choice is, and a step that isn't seen by the rules for one request.
+const CHOICE: u64 = 256;
+
+const LAST: u64 = 64;
 
 #[derive(Drop)]
 pub(crate) struct Walk {
@@ -29,9 +34,13 @@ pub(crate) struct Walk {
     look: Look,
     /// Posted writes over junk act before events are passed.
     early: bool,
+    /// No answer behind this place of the log was needed to see that a state is dead.
+    pub(crate) reach: usize,
+    /// How much work is left.
+    pub(crate) work: u64,
 }
 
-pub(crate) fn begin(alloc: Global, log: &Log, early: bool) -> Result<Walk, AllocError>
+pub(crate) fn begin(alloc: Global, log: &Log, early: bool, work: u64) -> Result<Walk, AllocError>
     ensures { IfOk result (frames.IsAt log.now) }
 {
     Ok(Walk {
@@ -41,18 +50,37 @@ pub(crate) fn begin(alloc: Global, log: &Log, early: bool) -> Result<Walk, Alloc
         losses: Losses::new(alloc),
         look: Look::all(),
         early,
+        reach: 0,
+        work,
     })
 }
 
-/// A step that may be taken at once. An event is passed only if no posted write over junk may act, if they
-/// act early; other requests over junk act only where there is no other step.
-fn at_once(
+/// So many posted writes that are pending are many, and are looked at once for so many events.
+const MANY: usize = 64;
+
+/// Many posted writes are pending, and it is time to see whether some are over junk.
+fn are_many(place: &Place) -> bool {
+    place.posts().len() > MANY && place.event() % (MANY / 4) == 0
+}
+
+/// The only step that may be taken, if there is just one, unless the request whose answer is due is lost.
+fn single(place: &Place, log: &Log, catalog: &Catalog) -> Option<Step>
+    requires place { IsPlace log.now place.now }
+    requires catalog { IsCatalog log.now catalog.now }
+    ensures { IfSome result (IsForced log.now place.now.state) }
+{
+    if place.event() >= log.len() || due_is_lost(place, log, &catalog.others) {
+        return None;
+    }
+    only_step(log, place)
+}
+
+/// [`single`], or a request that acts over junk.
+fn at_last(
     place: &mut Place,
     alloc: Global,
     log: &Log,
     catalog: &Catalog,
-    look: Look,
-    early: bool,
 ) -> Result<Option<Step>, AllocError>
     requires place { IsPlace log.now place.old }
     requires catalog { IsCatalog log.now catalog.now }
@@ -60,20 +88,51 @@ fn at_once(
     ensures place { OnOk result (IsPlace log.now place.new) }
     ensures forced { IfOk result (λ o. IfSome o (IsForced log.now place.new.state)) }
 {
+    if let Some(step) = over_junk(place, alloc, log, catalog, false)? {
+        return Ok(Some(step));
+    }
+    Ok(single(place, log, catalog))
+}
+
+/// A step that may be taken at once. An event is passed only if no posted write over junk may act, if they
+/// act early or are many; other requests over junk act only where there is no other step, and the only one that may be
+/// taken is no choice.
+fn at_once(
+    place: &mut Place,
+    alloc: Global,
+    log: &Log,
+    catalog: &Catalog,
+    look: Look,
+    early: bool,
+    work: &mut u64,
+) -> Result<Option<Step>, AllocError>
+    requires place { IsPlace log.now place.old }
+    requires catalog { IsCatalog log.now catalog.now }
+    ensures state { OnOk result (place.new.state ≡ place.old.state) }
+    ensures place { OnOk result (IsPlace log.now place.new) }
+    ensures forced { IfOk result (λ o. IfSome o (IsForced log.now place.new.state)) }
+{
+    let pending = place.pending().len() as u64;
+    *work = work.saturating_sub(1 + pending / 64);
     let step = forced(place, log, catalog, look);
     match step {
         Some(Step::Act(_)) => Ok(step),
         Some(Step::Pass) => {
-            if early && let Some(write) = over_junk(place, alloc, log, catalog, true)? {
+            if (early || are_many(place))
+                && let Some(write) = over_junk(place, alloc, log, catalog, true)?
+            {
                 return Ok(Some(write));
             }
             Ok(step)
         }
-        None => over_junk(place, alloc, log, catalog, false),
+        None => {
+            *work = work.saturating_sub(LAST + 4 * pending);
+            at_last(place, alloc, log, catalog)
+        }
     }
 }
 
-/// Takes the steps that may be taken at once.
+/// Takes the steps that may be taken at once, as long as there is work left.
 pub(crate) fn settle(
     walk: &mut Walk,
     alloc: Global,
@@ -86,8 +145,14 @@ pub(crate) fn settle(
 {
     let early = walk.early;
     let mut look = walk.look;
+    let mut work = walk.work;
     for _step in 0..u64::MAX {
-        let Some(step) = at_once(&mut walk.here, alloc, log, catalog, look, early)? else {
+        if work == 0 {
+            return Ok(());
+        }
+        let step = at_once(&mut walk.here, alloc, log, catalog, look, early, &mut work)?;
+        walk.work = work;
+        let Some(step) = step else {
             return Ok(());
         };
         let pending = walk.here.pending().len();
@@ -144,31 +209,44 @@ fn go_on(walk: &mut Walk, log: &Log, catalog: &Catalog, step: Step) -> Result<()
     Ok(())
 }
 
-/// A request before that place, which may need what the steps since the last frame overwrote, is lost
-/// here.
-fn some_is_missed(walk: &Walk, log: &Log, catalog: &Catalog, to: usize) -> bool
+/// Where a request is due that is lost here, if one is of those before place `to` that may need what stood at
+/// the word.
+fn missed_by(walk: &Walk, log: &Log, catalog: &Catalog, loss: Loss, to: usize) -> Option<usize>
     requires place { IsPlace log.now walk.now.here }
     requires catalog { IsCatalog log.now catalog.now }
-    ensures { IsTrue result → Dead log.now walk.now.here.state }
+    ensures { IfSome result (λ at. Dead log.now walk.now.here.state) }
 {
-    let from = walk.here.earliest();
-    for loss in &walk.losses.list {
-        if !is_back(*loss, walk.here.bytes())
-            && is_missed(&walk.here, log, &catalog.others, *loss, from, to)
-        {
-            return true;
-        }
+    if is_back(loss, walk.here.bytes()) {
+        return None;
     }
-    false
+    let from = walk.here.earliest();
+    missed_at(&walk.here, log, &catalog.others, loss, from, to)
 }
 
-/// The request whose answer is due is lost here, or one before that place.
-fn some_is_lost(walk: &Walk, log: &Log, catalog: &Catalog, to: usize) -> bool
+/// [`missed_by`], one of the words that the steps since the last frame overwrote.
+fn some_missed(walk: &Walk, log: &Log, catalog: &Catalog, to: usize) -> Option<usize>
     requires place { IsPlace log.now walk.now.here }
     requires catalog { IsCatalog log.now catalog.now }
-    ensures { IsTrue result → Dead log.now walk.now.here.state }
+    ensures { IfSome result (λ at. Dead log.now walk.now.here.state) }
 {
-    due_is_lost(&walk.here, log, &catalog.others) || some_is_missed(walk, log, catalog, to)
+    for loss in &walk.losses.list {
+        if let Some(at) = missed_by(walk, log, catalog, *loss, to) {
+            return Some(at);
+        }
+    }
+    None
+}
+
+/// Where a request is due that is lost here: at once, or of those before place `to`.
+fn lost_at(walk: &Walk, log: &Log, catalog: &Catalog, to: usize) -> Option<usize>
+    requires place { IsPlace log.now walk.now.here }
+    requires catalog { IsCatalog log.now catalog.now }
+    ensures { IfSome result (λ at. Dead log.now walk.now.here.state) }
+{
+    if due_is_lost(&walk.here, log, &catalog.others) {
+        return Some(walk.here.event());
+    }
+    some_missed(walk, log, catalog, to)
 }
 
 /// Goes on with what is left and isn't lost at once; false if nothing is.
@@ -182,28 +260,37 @@ fn back(walk: &mut Walk, alloc: Global, log: &Log, catalog: &Catalog) -> Result<
         if let Some(step) = walk.stack.next() {
             go_on(walk, log, catalog, step)?;
             let event = walk.here.event();
-            if !some_is_lost(walk, log, catalog, event) {
+            let Some(at) = lost_at(walk, log, catalog, event) else {
                 return Ok(true);
-            }
+            };
+            walk.reach = walk.reach.max(at);
             rewind(walk, log)?;
         } else {
             if !walk.stack.reopen() {
                 return Ok(false);
             }
+            walk.reach = walk.reach.max(walk.here.event());
             walk.memo.note(alloc, &walk.here);
             rewind(walk, log)?;
         }
     }
 }
 
-/// No run leads from here to the end, as is seen or known.
-fn is_dead(walk: &Walk, alloc: Global, log: &Log, catalog: &Catalog) -> bool
+/// The place of an answer by which it is seen that no run leads from here to the end, or the next event's where
+/// that is known.
+fn dead_at(walk: &Walk, alloc: Global, log: &Log, catalog: &Catalog) -> Option<usize>
     requires at { frames.IsAt log.now walk.now }
     requires catalog { IsCatalog log.now catalog.now }
-    ensures { IsTrue result → Dead log.now walk.now.here.state }
+    ensures { IfSome result (λ at. Dead log.now walk.now.here.state) }
 {
-    let soon = walk.here.event().saturating_add(SOON);
-    some_is_lost(walk, log, catalog, soon) || walk.memo.is_known(alloc, &walk.here)
+    let event = walk.here.event();
+    if let Some(at) = lost_at(walk, log, catalog, event.saturating_add(SOON)) {
+        return Some(at);
+    }
+    if walk.memo.is_known(alloc, &walk.here) {
+        return Some(event);
+    }
+    None
 }
 
 /// Goes on from here; false if no run leads to the end.
@@ -220,7 +307,9 @@ pub(crate) fn advance(
     ensures at { IfOk result (λ more. IsTrue more → frames.IsAt log.now walk.new) }
     ensures none { IfOk result (λ more. more ≡ false → Dead log.now (start log.now)) }
 {
-    if is_dead(walk, alloc, log, catalog) {
+    walk.work = walk.work.saturating_sub(CHOICE);
+    if let Some(at) = dead_at(walk, alloc, log, catalog) {
+        walk.reach = walk.reach.max(at);
         rewind(walk, log)?;
     } else {
         keep(walk, alloc, log, catalog, turns)?;

@@ -1,6 +1,6 @@
 -- Which steps are enough.
-use Rattle.std.proofs.Common.{◌≡◌, ◌∙◌, ℕ, ◌+◌, ◌<◌, ◌≤◌, true, false, List, Some, [], ◌∷◌, ◌++◌, take, length, get_or, refl, sym, ap, subst, inl, inr, arith, add-one, ◌⊎◌, Bool}
-use Rattle.std.specs.Prelude.{slice_get, ◌==◌}
+use Rattle.std.proofs.Common.{◌≡◌, ◌∙◌, ℕ, ◌+◌, ◌<◌, ◌≤◌, true, false, List, Some, None, Option, [], ◌∷◌, ◌++◌, take, length, get_or, refl, sym, ap, subst, inl, inr, arith, add-one, ◌⊎◌, Bool}
+use Rattle.std.specs.Prelude.{slice_get, ◌==◌, IfSome}
 use Rattle.std.specs.List.{Contains, All}
 use Rattle.std.specs.List.Sorted.{IsPermutation}
 use Rattle.std.proofs.Math.Seq.{take-suc}
@@ -12,9 +12,9 @@ use Rattle.std.proofs.lemmas.List.Sorted.{All-permutation, Contains-permutation,
 use Rattle.log_runs.specs.LogView.{LogView}
 use Rattle.log_runs.specs.declared.Step.{Step}
 use Rattle.log_runs.specs.declared.Step.TheVariants as steps
-use Rattle.log_runs.specs.Runs.{State, Allowed, MayAct, Leads, Dead, Covers, next}
+use Rattle.log_runs.specs.Runs.{State, Allowed, MayAct, Leads, Live, Dead, Covers, IsForced, next}
 use Rattle.search_places.specs.Pending.{has, submits}
-use Rattle.search_choices.specs.Offered.{Offers}
+use Rattle.search_choices.specs.Offered.{Offers, IsOnly}
 use Rattle.search_places.specs.PlaceView.{PlaceView}
 use Rattle.search_places.specs.Places.{IsPlace}
 
@@ -103,10 +103,70 @@ module _ (log : LogView) (s : State) where
   pub offers_end : (xs : List Step) (p q : List ℕ) (i : ℕ) → q ≡ p → length q ≤ i → Offers log s xs (take i p) → Offers log s xs p
   offers_end xs p q i e l h = subst (Offers log s xs) (take_all i p (subst (λ (r : List ℕ). length r ≤ i) e l)) h
 
+  -- ---- the only one that may act
+
+  -- o is the only one of those that were looked at that may act, if it is some; else none of them may
+  abbrev pub OnlySo : Option ℕ → List ℕ → Type 0
+  OnlySo o p = ((q : ℕ) → o ≡ Some q → MayAct log s q) × ((b : ℕ) → has p b ≡ true → MayAct log s b → o ≡ Some b)
+
+  pub only_nothing : (o : Option ℕ) → o ≡ None → OnlySo o []
+  only_nothing o e = (λ q f. let g : None ≡ Some q = sym e ∙ f in cc, λ b look may. cc)
+
+  pub only_found : (o : Option ℕ) (p : List ℕ) (c : ℕ) → o ≡ None → MayAct log s c → OnlySo o p → OnlySo (Some c) (p ++ c ∷ [])
+  only_found o p c none may h = (
+    λ q e. let same : c ≡ q = cc in subst (MayAct log s) same may,
+    λ k look m. elim (more_looked p c k look) [
+      | inl before ↦ let e : None ≡ Some k = sym none ∙ h.1 k before m in absurd (cc)
+      | inr now ↦ ap Some now
+    ],
+  )
+
+  pub only_passed : (o : Option ℕ) (p : List ℕ) (c : ℕ) → (MayAct log s c → ⊥) → OnlySo o p → OnlySo o (p ++ c ∷ [])
+  only_passed o p c shut h = (
+    h.0,
+    λ k look m. elim (more_looked p c k look) [
+      | inl before ↦ h.1 k before m
+      | inr now ↦ absurd (shut (subst (MayAct log s) (sym now) m))
+    ],
+  )
+
+  pub only_next : (o : Option ℕ) (p q : List ℕ) (i : ℕ) → q ≡ p → i < length q → OnlySo o (take i p ++ get_or q i 0 ∷ []) → OnlySo o (take (i + 1) p)
+  only_next o p q i e l h =
+      let at : take (i + 1) q ≡ take i q ++ get_or q i 0 ∷ [] = ap (λ k. take k q) (add-one i) ∙ take-suc q i 0 l in
+      subst (λ r. OnlySo o (take (i + 1) r)) e
+      (subst (OnlySo o) (sym at) (subst (λ r. OnlySo o (take i r ++ get_or q i 0 ∷ [])) (sym e) h))
+
+  pub only_end : (o : Option ℕ) (p q : List ℕ) (i : ℕ) → q ≡ p → length q ≤ i → OnlySo o (take i p) → IfSome o (IsOnly log s p)
+  only_end o p q i e l h = told o (subst (OnlySo o) (take_all i p (subst (λ (r : List ℕ). length r ≤ i) e l)) h)
+    where
+      told : (o : Option ℕ) → OnlySo o p → IfSome o (IsOnly log s p)
+      told None h = tt
+      told (Some q) h = record {
+        may = h.0 q refl;
+        none = λ b look m. let f : Some q ≡ Some b = h.1 b look m in cc;
+      }
+
+-- the only step acts at once
+pub only_is_forced : (log : LogView) (s : State) (q : ℕ) → (s.event ≡ length log.events → ⊥) → MayAct log s q
+    → ((x : Step) → Allowed log s x → x ≡ steps.Act q) → IsForced log s (steps.Act q)
+only_is_forced log s q more may only = record { allowed = may; live = λ l. first l.steps l.last l.leads l.over }
+  where
+    first : (ys : List Step) (t : State) → Leads log s ys t → t.event ≡ length log.events → Live log (next log s (steps.Act q))
+    first [] t e over = absurd (more (ap (λ (u : State). u.event) e ∙ over))
+    first (y ∷ ys) t e over = subst (λ x. Live log (next log s x)) (only y e.0) (record { steps = ys; last = t; leads = e.1; over = over })
+
 module _ (who_is_left : (log : LogView) (p : PlaceView) (b : ℕ) → IsPlace log p → b < p.state.event → submits (slice_get log.events b) ≡ true → slice_get p.state.acted b ≡ Some false → has p.pending b ≡ true) where
   -- who may act is pending
   acts_pending : (log : LogView) (p : PlaceView) (b : ℕ) → IsPlace log p → MayAct log p.state b → has p.pending b ≡ true
   acts_pending log p b place m = who_is_left log p b place m.since (ap submits m.submitted) m.once
+
+  pub only_forced : (log : LogView) (p : PlaceView) (q : ℕ) → IsOnly log p.state p.pending q → IsPlace log p → (p.state.event ≡ length log.events → ⊥)
+      → (Allowed log p.state steps.Pass → ⊥) → IsForced log p.state (steps.Act q)
+  only_forced log p q only place more shut = only_is_forced log p.state q more only.may all
+    where
+      all : (x : Step) → Allowed log p.state x → x ≡ steps.Act q
+      all steps.Pass a = absurd (shut a)
+      all (steps.Act b) a = ap (λ c. steps.Act c) (sym (only.none b (acts_pending log p b place a) a))
 
   pub offers_all : (log : LogView) (p : PlaceView) (xs : List Step) → Offers log p.state xs p.pending → IsPlace log p → (p.state.event ≡ length log.events → ⊥) → Covers log p.state xs
   offers_all log p xs h place more = covers_all log p.state xs more has_all

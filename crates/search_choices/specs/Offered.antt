@@ -12,3 +12,8 @@ pub record Offers (log : LogView) (s : State) (xs : List Step) (looked : List �
   pub allowed : All (Allowed log s) xs
   pub pass : Allowed log s steps.Pass → Contains xs steps.Pass
   pub each : (b : ℕ) → has looked b ≡ true → MayAct log s b → Contains xs (steps.Act b)
+
+-- request q may act, and no other of the list
+pub record IsOnly (log : LogView) (s : State) (looked : List ℕ) (q : ℕ) : Type 0 where
+  pub may : MayAct log s q
+  pub none : (b : ℕ) → has looked b ≡ true → MayAct log s b → q ≡ b

@@ -2,11 +2,11 @@
 //!
 //! The search goes for the request whose answer is due, or for the first posted write that has to act
 //! before it.
-ghost use Rattle.std.specs.Prelude.{◌≡◌, ◌++◌, ◌∷◌, [], ℕ, List, IfOk, OnOk, length};
+ghost use Rattle.std.specs.Prelude.{◌≡◌, ◌↔◌, ◌++◌, ◌∷◌, [], ℕ, List, IfOk, OnOk, IfSome, IsTrue, length};
 ghost use Rattle.std.specs.List.{All};
-ghost use Rattle.log_runs.specs.Runs.{Allowed, Covers};
+ghost use Rattle.log_runs.specs.Runs.{Allowed, Covers, IsForced, MayAct};
 ghost use Rattle.search_places.specs.Places.{IsPlace};
-ghost use Rattle.search_choices.specs.Offered.{Offers};
+ghost use Rattle.search_choices.specs.Offered.{Offers, IsOnly};
 
 use crate::guesses::{Turn, guess, write_before};
 use log_runs::{Event, Log, Step};
@@ -213,6 +213,49 @@ fn allowed(alloc: Global, log: &Log, place: &Place) -> Result<Vec<Step>, AllocEr
         look(&mut steps, log, place, *b, writes.before(log, *b))?;
     }
     Ok(steps)
+}
+
+/// Request `b` may act. It may be that it waits for that posted write.
+fn may_act(log: &Log, place: &Place, b: usize, write: usize) -> bool
+    requires { IsPlace log.now place.now }
+    ensures { IsTrue result ↔ MayAct log.now place.now.state b }
+{
+    if place.waits_for(log, b, write) {
+        return false;
+    }
+    place.may_act(log, b)
+}
+
+/// The only pending request that may act, if there is just one.
+fn only_act(log: &Log, place: &Place) -> Option<usize>
+    requires { IsPlace log.now place.now }
+    ensures { IfSome result (IsOnly log.now place.now.state place.now.pending) }
+{
+    let mut only = None;
+    let mut writes = Writes::none();
+    for b in place.pending() {
+        if may_act(log, place, *b, writes.before(log, *b)) {
+            if only.is_some() {
+                return None;
+            }
+            only = Some(*b);
+        }
+    }
+    only
+}
+
+/// The only step that may be taken, if there is just one, and it isn't that the next event is passed.
+pub fn only_step(log: &Log, place: &Place) -> Option<Step>
+    requires place { IsPlace log.now place.now }
+    requires more { place.now.state.event ≡ length log.now.events → ⊥ }
+    ensures { IfSome result (IsForced log.now place.now.state) }
+{
+    who_is_left_is_pending();
+    if place.may_pass(log) {
+        return None;
+    }
+    let only = only_act(log, place)?;
+    Some(Step::Act(only))
 }
 
 /// The steps that may be taken. `turns` and what is known of the log's requests say which are tried

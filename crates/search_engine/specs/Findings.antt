@@ -19,7 +19,7 @@ is_memory _ = false
 -- of a log that was seen
 abbrev pub IsFindingOf : TraceView → Finding → Type 0
 IsFindingOf t (findings.Found trace history) = SeenAlike t trace × Explains (claim_of trace history.items) × IsClocked (claim_of trace history.items)
-IsFindingOf t (findings.None trace prefix explained) = IsUnexplained t prefix
+IsFindingOf t (findings.None trace prefix) = IsUnexplained t prefix
 IsFindingOf t findings.Limit = Unit {0}
 IsFindingOf t (findings.Fault f) = ⊥
 
@@ -27,6 +27,6 @@ IsFindingOf t (findings.Fault f) = ⊥
 abbrev pub IsFinding : Result TraceView ReadFault → Finding → Type 0
 IsFinding (Ok t) finding = IsFindingOf t finding
 IsFinding (Err f) (findings.Found trace history) = ⊥
-IsFinding (Err f) (findings.None trace prefix explained) = ⊥
+IsFinding (Err f) (findings.None trace prefix) = ⊥
 IsFinding (Err f) findings.Limit = ⊥
 IsFinding (Err f) (findings.Fault g) = f ≡ g

@@ -25,16 +25,9 @@ pub const LIMIT_STATUS: u8 = 3;
 #[derive(Drop)]
 pub(crate) enum Finding {
     /// A log that this history explains, with n's.
-    Found {
-        trace: Trace,
-        history: Vec<Entry>,
-    },
-    /// A log of which so many records have no history, and so many have one, if that is known.
-    None {
-        trace: Trace,
-        prefix: usize,
-        explained: Option<usize>,
-    },
+    Found { trace: Trace, history: Vec<Entry> },
+    /// A log of which so many records have no history.
+    None { trace: Trace, prefix: usize },
     /// A log of which nothing is known.
     Limit,
     /// A text that can't be read.
@@ -65,11 +58,7 @@ fn sought<E: Write>(
     tell_choices(shows, choices, limit, errors);
     match sought {
         Sought::Found(history) => Ok(Finding::Found { trace, history }),
-        Sought::None { prefix, explained } => Ok(Finding::None {
-            trace,
-            prefix,
-            explained,
-        }),
+        Sought::None { prefix } => Ok(Finding::None { trace, prefix }),
         Sought::Limit => Ok(Finding::Limit),
     }
 }
@@ -106,12 +95,16 @@ fn found_text(alloc: Global, trace: &Trace, history: &[Entry]) -> Result<Vec<u8>
 }
 
 /// What is written of what came of a text.
-pub(crate) fn outcome_of(alloc: Global, finding: Finding, limit: u64) -> Result<Outcome, AllocError>
-    ensures { (r : Result TraceView ReadFault) → IsFinding r finding → IfOk result (λ o. IsAnswerTo limit r o.text.items o.status) }
+pub(crate) fn outcome_of(
+    alloc: Global,
+    finding: &Finding,
+    limit: u64,
+) -> Result<Outcome, AllocError>
+    ensures { (r : Result TraceView ReadFault) → IsFinding r finding.now → IfOk result (λ o. IsAnswerTo limit r o.text.items o.status) }
 {
     match finding {
         Finding::Found { trace, history } => {
-            let text = found_text(alloc, &trace, &history)?;
+            let text = found_text(alloc, trace, history)?;
             Ok(Outcome { text, status: 0 })
         }
         Finding::None { prefix, .. } => {
@@ -126,7 +119,7 @@ pub(crate) fn outcome_of(alloc: Global, finding: Finding, limit: u64) -> Result<
             })
         }
         Finding::Fault(fault) => {
-            let text = fault_text(alloc, fault)?;
+            let text = fault_text(alloc, *fault)?;
             Ok(Outcome { text, status: 1 })
         }
     }
@@ -140,5 +133,5 @@ pub fn answer_of(alloc: Global, text: &[u8], limit: u64) -> Result<Outcome, Allo
     ensures { IfOk result (λ o. OutSearch limit text.now o.text.items o.status) }
 {
     let finding = find(alloc, text, limit, Stages::Hidden, &mut sink())?;
-    outcome_of(alloc, finding, limit)
+    outcome_of(alloc, &finding, limit)
 }

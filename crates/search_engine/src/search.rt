@@ -1,7 +1,5 @@
 //! The subcommand `search`.
 ghost use Rattle.std.specs.Prelude.{IfOk, OnErr};
-ghost use Rattle.log_text.specs.LogReaderView.{seen_of};
-ghost use Rattle.search_engine.specs.Findings.{IsFinding};
 ghost use Rattle.search_engine.specs.Search.{IsWhole, IsPart, OutSearch};
 
 use crate::answering::{Finding, Outcome, find, outcome_of};
@@ -12,37 +10,51 @@ use line_loop::{EngineFault, write_out};
 use std::alloc::{AllocError, Global};
 use std::io::{Read, Write, sink};
 
-/// What comes of the text, which isn't needed any more once the reason is told.
-fn told<E: Write>(
+/// The text, if it is needed to tell why there is no history, or why it can't be read.
+fn kept(text: Vec<u8>, finding: &Finding) -> Option<Vec<u8>> {
+    match finding {
+        Finding::None { .. } | Finding::Fault(_) => Some(text),
+        _ => None,
+    }
+}
+
+/// The answer to a text, and what its reason is told by.
+#[derive(Drop)]
+struct Answer {
+    outcome: Outcome,
+    finding: Finding,
+    text: Option<Vec<u8>>,
+}
+
+/// The answer to the text.
+fn answered<E: Write>(
     alloc: Global,
     text: Vec<u8>,
     limit: u64,
     stages: Stages,
     errors: &mut E,
-) -> Result<Finding, AllocError>
-    ensures { IfOk result (IsFinding (seen_of text.items)) }
+) -> Result<Answer, AllocError>
+    ensures { IfOk result (λ a. OutSearch limit text.items a.outcome.text.items a.outcome.status) }
 {
     let finding = find(alloc, &text, limit, stages, errors)?;
-    tell(alloc, &text, &finding, errors);
-    Ok(finding)
+    let outcome = outcome_of(alloc, &finding, limit)?;
+    let text = kept(text, &finding);
+    Ok(Answer {
+        outcome,
+        finding,
+        text,
+    })
 }
 
-/// The answer to the text; its reason is told.
-fn answer<E: Write>(
-    alloc: Global,
-    text: Vec<u8>,
-    limit: u64,
-    stages: Stages,
-    errors: &mut E,
-) -> Result<Outcome, AllocError>
-    ensures { IfOk result (λ o. OutSearch limit text.items o.text.items o.status) }
-{
-    let finding = told(alloc, text, limit, stages, errors)?;
-    outcome_of(alloc, finding, limit)
+/// Tells the reason of the answer.
+fn tell_reason<E: Write>(alloc: Global, answer: &Answer, limit: u64, errors: &mut E) {
+    if let Some(text) = &answer.text {
+        tell(alloc, text, &answer.finding, limit, errors);
+    }
 }
 
-/// Does what [`run_search`] does, and tells on `errors` how far it is, where that is shown, and why there is no
-/// history, or why the input can't be read.
+/// Does what [`run_search`] does, and tells on `errors` how far it is, where that is shown. Once the answer is
+/// written and flushed, it tells there why there is no history, or why the input can't be read.
 pub fn run_search_with_reasons<R: Read, W: Write, E: Write>(
     alloc: Global,
     limit: u64,
@@ -55,9 +67,10 @@ pub fn run_search_with_reasons<R: Read, W: Write, E: Write>(
     ensures err { OnErr result (IsPart limit (R.remaining reader.old) (R.remaining reader.new) (W.contents writer.old) (W.contents writer.new)) }
 {
     let text = read_rest(alloc, reader)?;
-    let outcome = answer(alloc, text, limit, stages, errors)?;
-    write_out(writer, &outcome.text)?;
-    Ok(outcome.status)
+    let answer = answered(alloc, text, limit, stages, errors)?;
+    write_out(writer, &answer.outcome.text)?;
+    tell_reason(alloc, &answer, limit, errors);
+    Ok(answer.outcome.status)
 }
 
 /// Reads a log, or a trace whose n's and history say nothing, and writes the answer: a trace with a history

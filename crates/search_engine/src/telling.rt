@@ -5,10 +5,11 @@ use crate::wording::tell_cause;
 use arrayvec::ArrayString;
 use diagnostics::{Reason, tell_long_line};
 use history_check::{Record, Trace};
-use history_search::contradiction;
+use history_search::{contradiction, explained_before};
 use log_events::form_of;
+use log_text::log_misfit;
 use memchr::memchr;
-use operation_text::write_reply;
+use operation_text::{Expected, Misfit, cut, write_reply};
 use std::alloc::{AllocError, Global};
 use std::io::Write;
 use text_lines::{is_skipped, is_too_long, without_return};
@@ -36,6 +37,17 @@ fn lines_of(alloc: Global, text: &[u8]) -> Result<TraceLines, AllocError> {
     }
     Ok(lines)
 }
+
+const HEAD: Expected = Expected::Of("the head", "pciex-log 1, pciex-trace 1, pciex-trace 2");
+
+const MEMORY: Expected = Expected::Of("the memory's line", "memory <base> <size> <block>");
+
+const RECORD: Expected = Expected::Of(
+    "a record or the end",
+    "sub <requester> <number> <operation>, ans <requester> <number> <reply>, end",
+);
+
+const NOTHING: Expected = Expected::Named("the text's end");
 
 /// What is due in a text.
 #[derive(Clone, Copy)]
@@ -65,28 +77,42 @@ impl Due {
         }
     }
 
-    /// What is due, in words.
-    fn name(self) -> &'static str {
+    /// The line of a log that is due.
+    fn expected(self) -> Expected {
         match self {
-            Due::Head => "the head is expected (pciex-log 1, pciex-trace 1, pciex-trace 2)",
-            Due::Memory => "the memory's line is expected (memory <base> <size> <block>)",
-            Due::Nothing => "the text's end is expected",
-            _ => {
-                "a record or the end is expected (sub <requester> <number> <operation>, ans <requester> <number> <reply>, end)"
-            }
+            Due::Head => HEAD,
+            Due::Memory => MEMORY,
+            Due::Nothing => NOTHING,
+            _ => RECORD,
         }
+    }
+
+    /// Whether the line of a log that is due begins with that word.
+    fn begins_with(self, word: &[u8]) -> bool {
+        match self {
+            Due::Memory => word == b"memory".as_slice(),
+            Due::Record => {
+                word == b"sub".as_slice() || word == b"ans".as_slice() || word == b"end".as_slice()
+            }
+            _ => false,
+        }
+    }
+
+    /// What doesn't fit in the line of a log.
+    fn misfit(self, line: &[u8]) -> Misfit {
+        if self.begins_with(cut(line).0)
+            && let Some(misfit) = log_misfit(line)
+        {
+            return misfit;
+        }
+        self.expected().at(Some(line))
     }
 
     /// Why the line is none that is due.
     fn refusal_reason(self, line: &[u8]) -> Reason {
         match self {
             Due::OfTrace(due) => due.refusal_reason(line),
-            _ => {
-                let mut reason = Reason::new();
-                reason.put(": ");
-                reason.put(self.name());
-                reason
-            }
+            _ => Reason::of_misfit(line, &self.misfit(line)),
         }
     }
 
@@ -96,8 +122,11 @@ impl Due {
             Due::OfTrace(due) => due.end_reason(),
             _ => {
                 let mut reason = Reason::new();
-                reason.put(": the text ends where ");
-                reason.put(self.name());
+                reason.put(": the text ends");
+                reason.put_expected(match self {
+                    Due::Nothing => RECORD,
+                    due => due.expected(),
+                });
                 reason
             }
         }
@@ -256,8 +285,13 @@ fn tell_answers<E: Write>(lines: &TraceLines, trace: &Trace, answers: &[usize], 
 
 /// The places of the answers that are told: few that contradict each other, the last one first, or else the
 /// last one alone.
-fn told_answers(alloc: Global, trace: &Trace, prefix: usize) -> Result<Vec<usize>, AllocError> {
-    let mut others = contradiction(alloc, trace, prefix)?;
+fn told_answers(
+    alloc: Global,
+    trace: &Trace,
+    prefix: usize,
+    limit: u64,
+) -> Result<Vec<usize>, AllocError> {
+    let mut others = contradiction(alloc, trace, prefix, limit)?;
     let last = others.pop().unwrap_or(prefix.saturating_sub(1));
     let mut told = Vec::new(alloc);
     told.push(last)?;
@@ -267,16 +301,28 @@ fn told_answers(alloc: Global, trace: &Trace, prefix: usize) -> Result<Vec<usize
     Ok(told)
 }
 
+/// How many records a history explains, if that is one less than the prefix and is found out.
+fn known_before(alloc: Global, trace: &Trace, prefix: usize, limit: u64) -> Option<usize> {
+    if prefix > trace.records.len() {
+        return None;
+    }
+    match explained_before(alloc, trace, prefix, limit) {
+        Ok(explained) => explained,
+        Err(_) => None,
+    }
+}
+
 /// Tells why records have no history.
 fn tell_none<E: Write>(
     alloc: Global,
     text: &[u8],
     trace: &Trace,
     prefix: usize,
-    explained: Option<usize>,
+    limit: u64,
     errors: &mut E,
 ) -> Result<(), AllocError> {
     let lines = lines_of(alloc, text)?;
+    let explained = known_before(alloc, trace, prefix, limit);
     tell_lines(&lines, prefix, explained, errors);
     let last = prefix.saturating_sub(1);
     let records = trace.records.get(..prefix).unwrap_or(&[]);
@@ -284,7 +330,7 @@ fn tell_none<E: Write>(
         tell_form(&lines, trace, last, errors);
         return Ok(());
     }
-    let told = told_answers(alloc, trace, prefix)?;
+    let told = told_answers(alloc, trace, prefix, limit)?;
     tell_answers(&lines, trace, &told, errors);
     let cause = cause_of(alloc, trace, prefix, &told)?;
     tell_cause(&lines, &cause, errors);
@@ -293,14 +339,16 @@ fn tell_none<E: Write>(
 
 /// Tells why there is no history, or why the text can't be read. Where memory for that can't be had,
 /// less is told.
-pub(crate) fn tell<E: Write>(alloc: Global, text: &[u8], finding: &Finding, errors: &mut E) {
+pub(crate) fn tell<E: Write>(
+    alloc: Global,
+    text: &[u8],
+    finding: &Finding,
+    limit: u64,
+    errors: &mut E,
+) {
     match finding {
-        Finding::None {
-            trace,
-            prefix,
-            explained,
-        } => {
-            let _ = tell_none(alloc, text, trace, *prefix, *explained, errors);
+        Finding::None { trace, prefix } => {
+            let _ = tell_none(alloc, text, trace, *prefix, limit, errors);
         }
         Finding::Fault(fault) => tell_fault(text, *fault, errors),
         _ => {}

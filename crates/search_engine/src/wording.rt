@@ -71,7 +71,7 @@ pub(crate) fn tell_cause<E: Write>(lines: &TraceLines, cause: &Cause, errors: &m
                 "pciex: byte {place} of the data isn't enabled: 00 is expected"
             );
         }
-        Cause::NothingPuts(word) => tell_of_word("no request puts ", word, "", errors),
+        Cause::NothingPuts(word) => tell_of_word("nothing put ", word, " before", errors),
         Cause::Twice(word) => tell_of_word(
             "",
             word,

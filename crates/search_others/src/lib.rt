@@ -5,8 +5,8 @@
 //! for example. Only those are looked at that may be something to it at one of its words.
 //! [`all_overlook`] says that what stands at the words of a request is nothing to those that are left,
 //! and [`all_ignore`] so of what it leaves there. [`is_lost`] says that a request can't have what it needs
-//! any more, so that no run leads to the end; [`due_is_lost`] and [`is_missed`] say so of the one whose
-//! answer is due, and of some that may need what stood at a word.
+//! any more, so that no run leads to the end; [`due_is_lost`] says so of the one whose answer is due, and
+//! [`missed_at`] finds one of those that may need what stood at a word.
 #![tactic(auto)]
 
 mod due;
@@ -19,5 +19,5 @@ mod others;
 pub use junk::{all_ignore, all_overlook};
 pub use known::Others;
 pub use lost::{due_is_lost, is_lost};
-pub use missed::{Loss, is_missed};
+pub use missed::{Loss, missed_at};
 pub use others::{Asked, others_spare};

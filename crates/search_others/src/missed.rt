@@ -1,5 +1,5 @@
 //! Requests that need what stood at a word before it was changed.
-ghost use Rattle.std.specs.Prelude.{IsTrue};
+ghost use Rattle.std.specs.Prelude.{IfSome};
 ghost use Rattle.log_runs.specs.Runs.{Dead};
 ghost use Rattle.search_others.specs.Known.{AreOthers};
 ghost use Rattle.search_places.specs.Places.{IsPlace};
@@ -43,40 +43,44 @@ fn first_due(place: &Place, log: &Log, others: &Others, list: &[usize]) -> Optio
     first
 }
 
-/// A request of the list is lost here. Of those that need the same word and nothing else the one that is
-/// due first is looked at.
-fn has_lost(place: &Place, log: &Log, others: &Others, list: &[usize]) -> bool
+/// Where a request of the list is due that is lost here, if one is. Of those that need the same word and
+/// nothing else the one that is due first is looked at.
+fn lost_of(place: &Place, log: &Log, others: &Others, list: &[usize]) -> Option<usize>
     requires place { IsPlace log.now place.now }
     requires others { AreOthers log.now others.now }
-    ensures { IsTrue result → Dead log.now place.now.state }
+    ensures { IfSome result (λ at. Dead log.now place.now.state) }
 {
     let first = first_due(place, log, others, list);
     for q in list {
         if (first == Some(*q) || !is_word(log, *q)) && is_lost(place, log, others, *q) {
-            return true;
+            return Some(others.place_of(log, *q).unwrap_or(*q));
         }
     }
-    false
+    None
 }
 
-/// A request from one place on and before another, which may need what stood at the word, is lost here.
+/// Where a request is due that is lost here, if one is from one place on and before another, which may need
+/// what stood at the word.
 ///
-/// The test is careful: it returns false where it isn't sure.
-pub fn is_missed(
+/// The test is careful: it returns None where it isn't sure.
+pub fn missed_at(
     place: &Place,
     log: &Log,
     others: &Others,
     loss: Loss,
     from: usize,
     to: usize,
-) -> bool
+) -> Option<usize>
     requires place { IsPlace log.now place.now }
     requires others { AreOthers log.now others.now }
-    ensures { IsTrue result → Dead log.now place.now.state }
+    ensures { IfSome result (λ at. Dead log.now place.now.state) }
 {
     if loss.word >= log.extent().size() as u64 / 4 {
-        return false;
+        return None;
     }
     let near = near_value(&others.words, log, loss.word, loss.old, from, to);
-    has_lost(place, log, others, near.known) || has_lost(place, log, others, near.unknown)
+    match lost_of(place, log, others, near.known) {
+        Some(at) => Some(at),
+        None => lost_of(place, log, others, near.unknown),
+    }
 }

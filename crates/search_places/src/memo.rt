@@ -52,9 +52,10 @@ pub struct Memo {
     room: usize,
 }
 
-/// A number that depends on two.
+/// A number that depends on two, on neither in proportion.
 fn mix(mark: u64, number: u64) -> u64 {
-    mark.wrapping_mul(1_000_003).wrapping_add(number)
+    let product = (mark ^ number).wrapping_mul(0x9E37_79B9_7F4A_7C15);
+    product ^ product >> 29
 }
 
 /// A number that depends on the place, but for the bytes.
@@ -198,12 +199,11 @@ fn key_of(alloc: Global, place: &Place, middle: Middle<'_>) -> Option<Key>
     })
 }
 
-/// How many bytes the key takes.
-fn cost(key: &Key) -> usize {
-    key.pending
-        .len()
+/// How many bytes the key takes of a place where so many requests are pending.
+fn cost(pending: usize, middle: Middle<'_>) -> usize {
+    pending
         .saturating_mul(4)
-        .saturating_add(key.bytes.len())
+        .saturating_add(middle.bytes.len())
         .saturating_add(OVERHEAD)
 }
 
@@ -289,14 +289,17 @@ impl Memo {
     pub fn note(&mut self, alloc: Global, place: &Place)
         ensures { (log : LogView) → AreDead log self.old → IsPlace log place.now → Dead log place.now.state → AreDead log self.new }
     {
-        let middle = middle_of(place.bytes.as_slice());
-        let Some(key) = key_of(alloc, place, middle) else {
+        if self.room < OVERHEAD {
             return;
-        };
-        let cost = cost(&key);
+        }
+        let middle = middle_of(place.bytes.as_slice());
+        let cost = cost(place.pending.as_slice().len(), middle);
         if self.room < cost {
             return;
         }
+        let Some(key) = key_of(alloc, place, middle) else {
+            return;
+        };
         let first = first_mark(place);
         if self.add(first, whole_mark(first, middle), key).is_ok() {
             self.room -= cost;

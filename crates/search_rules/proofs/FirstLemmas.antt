@@ -47,7 +47,7 @@ first_on log m b q i one told (Some (events.Sub j other asked)) seen e behind = 
       let first : one ≡ one2 = cc in
       let second : other ≡ other2 = cc in
       subst (λ w. AreApart w other2) first (subst (λ w. AreApart one w) second apart))
-  | inr waits ↦ inr (λ n same suited. waits n (same j other asked e) (subst (Suits log.extent n) seen suited))
+  | inr waits ↦ inr (inl (λ n same suited. waits n (same j other asked e) (subst (Suits log.extent n) seen suited)))
 ]
 first_on log m b q i one told (Some (events.Due c)) seen e behind = inl (λ i2 j2 one2 other2 told2 asked2 at there. absurd (not_due (slice_get log.events q) c j2 other2 asked2 e there))
 first_on log m b q i one told (Some events.Free) seen e behind = inl (λ i2 j2 one2 other2 told2 asked2 at there. absurd (not_free (slice_get log.events q) j2 other2 asked2 e there))
@@ -113,14 +113,18 @@ module _ (kept : Kept) (swaps : Swaps) (others : Others) where
       pub bytes : t.bytes ≡ acted_on log.extent s.bytes (slice_get log.events q)
       pub rest : AllOthers s q a (λ b. LetsFirst log m0 b q)
 
+    -- while q is left, none that follows it acts
+    not_behind : (s : State) (b : ℕ) → Follows log q b → slice_get s.acted q ≡ Some false → (q ≡ b → ⊥) → MayAct log s b → ⊥
+    not_behind s b (inl same) left distinct m = distinct same
+    not_behind s b (inr (i, w, op, was, told, early, posted, at, of)) left distinct m =
+        let submitted : Some (events.Sub m.requester m.op m.told) ≡ Some (events.Sub i op told) = sym m.submitted ∙ of in
+        let who : m.requester ≡ i = cc in
+        let acted : slice_get s.acted q ≡ Some true = m.ordered q w was early (subst (λ n. slice_get log.events q ≡ Some (events.Sub n w was)) (sym who) at) posted in
+        clash refl (same_Some true false (sym acted ∙ left))
+
     -- while q is left, r doesn't act
     not_before : (s : State) (b : ℕ) → Follows log q r → slice_get s.acted q ≡ Some false → (q ≡ b → ⊥) → MayAct log s b → b ≡ r → ⊥
-    not_before s b (inl same) left distinct m e = distinct (same ∙ sym e)
-    not_before s b (inr (i, w, op, was, told, early, posted, at, of)) left distinct m e =
-        let submitted : Some (events.Sub m.requester m.op m.told) ≡ Some (events.Sub i op told) = sym m.submitted ∙ ap (slice_get log.events) e ∙ of in
-        let who : m.requester ≡ i = cc in
-        let acted : slice_get s.acted q ≡ Some true = m.ordered q w was (omega (arith, early, e)) (subst (λ n. slice_get log.events q ≡ Some (events.Sub n w was)) (sym who) at) posted in
-        clash refl (same_Some true false (sym acted ∙ left))
+    not_before s b h left distinct m e = not_behind s b (subst (Follows log q) (sym e) h) left distinct m
 
     same_for : (n : List ℕ) → AreSameAt log.extent.base other m0 n → AreSameFor log q m0 n
     same_for n same i op told at =
@@ -156,7 +160,8 @@ module _ (kept : Kept) (swaps : Swaps) (others : Others) where
           let m : MayAct log s b = leads.0 in
           let s2 = next log s (steps.Act b) in
           elim (h.rest b (omega (arith, m.since, h.since)) distinct m.once) [
-            | inr waits ↦ absurd (waits s.bytes (same_for s.bytes h.same) (suits log s b m))
+            | inr (inl waits) ↦ absurd (waits s.bytes (same_for s.bytes h.same) (suits log s b m))
+            | inr (inr behind) ↦ absurd (not_behind s b behind h.left distinct m)
             | inl free ↦
                 let apart : AreApart m.op other = free m.requester j m.op other m.told asked m.submitted there in
                 let o = slice_get log.events b in

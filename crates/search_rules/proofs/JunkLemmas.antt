@@ -132,7 +132,7 @@ module _ (answered : Answered) (bytes_of : Bytes) (others : Others) (sizes : Siz
     -- what one of the group does alone
     alone : (s : State) (n : List ℕ) (c : ℕ) → length s.bytes ≡ log.extent.size → With s.bytes n → MayAct log s c → LeavesNothing log end q c → With (acted_on log.extent s.bytes (slice_get log.events c)) n
     unfolding With Left reply_of
-    alone s n c size alike m (inl quiet) = subst (λ k. Alike log.extent Left k n) (sym (quiet s.bytes (suits log s c m))) alike
+    alone s n c size alike m (inl quiet) = subst (λ k. Alike log.extent Left k n) (sym (quiet s.bytes size (suits log s c m))) alike
     alone s n c size alike m (inr (within, leaves)) =
         let x = log.extent in
         subst (λ k. Alike x Left k n) (sym (acted_is x s.bytes (slice_get log.events c) m.requester m.op m.told m.submitted))
@@ -166,25 +166,26 @@ module _ (answered : Answered) (bytes_of : Bytes) (others : Others) (sizes : Siz
       pub table : Acted s t
       pub bytes : AreSameBut log.extent.base other s.bytes t.bytes
 
-    changed : (s : State) (c : ℕ) → MayAct log s c → LeavesNothing log end q c → AreSameBut log.extent.base other s.bytes (acted_on log.extent s.bytes (slice_get log.events c))
-    changed s c m (inl quiet) = subst (AreSameBut log.extent.base other s.bytes) (sym (quiet s.bytes (suits log s c m))) (record { size = refl; others = λ k out. refl })
-    changed s c m (inr (within, leaves)) =
+    changed : (s : State) (c : ℕ) → length s.bytes ≡ log.extent.size → MayAct log s c → LeavesNothing log end q c
+        → AreSameBut log.extent.base other s.bytes (acted_on log.extent s.bytes (slice_get log.events c))
+    changed s c size m (inl quiet) = subst (AreSameBut log.extent.base other s.bytes) (sym (quiet s.bytes size (suits log s c m))) (record { size = refl; others = λ k out. refl })
+    changed s c size m (inr (within, leaves)) =
         let x = log.extent in
         subst (AreSameBut x.base other s.bytes) (sym (acted_is x s.bytes (slice_get log.events c) m.requester m.op m.told m.submitted))
         (changed_there answered bytes_of others sizes x s.bytes m.op other (within m.requester j m.op other m.told asked m.submitted there))
 
-    gather : (cs : List ℕ) (s t : State) → Leads log s (acts cs) t → ((i c : ℕ) → slice_get cs i ≡ Some c → LeavesNothing log end q c) → Gathered s t
+    gather : (cs : List ℕ) (s t : State) → length s.bytes ≡ log.extent.size → Leads log s (acts cs) t → ((i c : ℕ) → slice_get cs i ≡ Some c → LeavesNothing log end q c) → Gathered s t
     unfolding Acted
-    gather [] s t leads nothing = record {
+    gather [] s t size leads nothing = record {
       event = ap (λ (w : State). w.event) (sym leads);
       table = λ b. inl (ap (λ (w : State). slice_get w.acted b) (sym leads));
       bytes = record { size = ap (λ (w : State). length w.bytes) (sym leads); others = λ k out. ap (λ (w : State). slice_index w.bytes k) (sym leads) };
     }
-    gather (c ∷ cs) s t leads nothing =
+    gather (c ∷ cs) s t size leads nothing =
         let m : MayAct log s c = leads.0 in
-        let g = gather cs (next log s (steps.Act c)) t leads.1 (λ i d e. nothing (suc i) d e) in
+        let g = gather cs (next log s (steps.Act c)) t (length_acted s.bytes c m.requester m.op m.told m.submitted ∙ size) leads.1 (λ i d e. nothing (suc i) d e) in
         let here = nothing 0 c refl in
-        let one = changed s c m here in
+        let one = changed s c size m here in
         record {
           event = g.event;
           table = λ b. elim (cases_eq c b) [
@@ -218,7 +219,7 @@ module _ (answered : Answered) (bytes_of : Bytes) (others : Others) (sizes : Siz
   pub over_junk_is_forced : (log : LogView) (s : State) (q : ℕ) (group : List ℕ) → IsOverJunk log s q group → IsForced log s (steps.Act q)
   over_junk_is_forced log s q group h =
       let m : MayAct log s q = h.leads.0 in
-      let beside = start log q h.last m.requester m.op m.told m.submitted s h.size h.old (gather log q h.last m.requester m.op m.told m.submitted (q ∷ group) s h.last h.leads h.new) in
+      let beside = start log q h.last m.requester m.op m.told m.submitted s h.size h.old (gather log q h.last m.requester m.op m.told m.submitted (q ∷ group) s h.last h.size h.leads h.new) in
       record {
         allowed = m;
         live = λ l. back log (acts group) (next log s (steps.Act q)) h.last h.leads.1

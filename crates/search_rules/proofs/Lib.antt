@@ -7,3 +7,4 @@ pub mod FirstLemmas
 pub mod WordLemmas
 pub mod JunkLemmas
 pub mod MissLemmas
+pub mod NeverLemmas

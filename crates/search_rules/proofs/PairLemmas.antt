@@ -84,14 +84,6 @@ unfolding acted_on
 yields_at log b q i one told at yields m agrees there =
     subst (λ o. Ends log.extent m (acted_on log.extent m o) o (slice_get log.events q)) (sym at) (yields m (subst (Suits log.extent m) at agrees) there i)
 
-pub quiet_at : (x : Extent) (o : Option EventView) (i block : ℕ) (op : Op) (told : Option Reply) → block ≡ x.block → o ≡ Some (events.Sub i op told)
-    → ((base : ℕ) (m : List ℕ) → Agrees base block m op told → after base block m op ≡ m) → (m : List ℕ) → Suits x m o → acted_on x m o ≡ m
-unfolding acted_on bytes_after reply_of
-quiet_at x o i block op told eb at quiet m there =
-    let here : (base : ℕ) (m : List ℕ) → Agrees base x.block m op told → after base x.block m op ≡ m =
-    subst (λ n. (base : ℕ) (m : List ℕ) → Agrees base n m op told → after base n m op ≡ m) eb quiet in
-    ap (acted_on x m) at ∙ here x.base m (subst (Suits x m) at there)
-
 -- ---- what is no submission
 
 pub idle : (x : Extent) (o : Option EventView) → ((i : ℕ) (op : Op) (told : Option Reply) → o ≡ Some (events.Sub i op told) → ⊥) → (m : List ℕ) → acted_on x m o ≡ m

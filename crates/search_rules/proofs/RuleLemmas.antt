@@ -8,8 +8,22 @@ use Rattle.log_runs.specs.EventView as events
 use Rattle.log_runs.specs.declared.Step.{Step}
 use Rattle.log_runs.specs.declared.Step.TheVariants as steps
 use Rattle.log_runs.specs.LogView.{LogView}
-use Rattle.log_runs.specs.Runs.{State, MayPass, MayAct, Allowed, Leads, Live, IsForced, next, acted_on}
-use Rattle.search_rules.specs.Rules.{Suits}
+use Rattle.log_runs.specs.Runs.{State, MayPass, MayAct, Allowed, Leads, Live, IsForced, next, acted_on, bytes_after}
+use Rattle.tlp_core.specs.declared.operation.Op.{Op}
+use Rattle.seq_memory.specs.Step.{after}
+use Rattle.seq_memory.specs.Limits.{Extent}
+use Rattle.search_rules.specs.Rules.{Suits, ChangesNothing}
+
+abbrev pub Sizes : Type 0
+Sizes = (base block : ℕ) (m : List ℕ) (op : Op) → length (after base block m op) ≡ length m
+
+-- an event leaves as many bytes
+pub length_after : Sizes → (x : Extent) (m : List ℕ) (o : Option EventView) → length (acted_on x m o) ≡ length m
+unfolding acted_on bytes_after
+length_after sizes x m (Some (events.Sub i op told)) = sizes x.base x.block m op
+length_after sizes x m (Some (events.Due b)) = refl
+length_after sizes x m (Some events.Free) = refl
+length_after sizes x m None = refl
 
 pub clash : {b : Bool} → b ≡ true → b ≡ false → ⊥
 clash t f = let e : true ≡ false = sym t ∙ f in cc
@@ -70,6 +84,7 @@ module _ (log : LogView) where
     pub left : slice_get s.acted q ≡ Some false
     pub acted : t.acted ≡ slice_set s.acted q true
     pub bytes : t.bytes ≡ s.bytes
+    pub size : length s.bytes ≡ log.extent.size
 
   pub may_later : (q : ℕ) (s t : State) (b : ℕ) → t.event ≡ s.event → t.acted ≡ slice_set s.acted q true → (q ≡ b → ⊥) → (m : MayAct log s b) → Suits log.extent t.bytes (slice_get log.events b) → MayAct log t b
   may_later q s t b event acted other m there = record {
@@ -89,18 +104,18 @@ module _ (log : LogView) where
   pass_later q s t acted (Some events.Free) a = tt
   pass_later q s t acted None a = absurd a
 
-  module _ (q : ℕ) (quiet : (m : List ℕ) → Suits log.extent m (slice_get log.events q) → acted_on log.extent m (slice_get log.events q) ≡ m) where
+  module _ (sizes : Sizes) (q : ℕ) (quiet : ChangesNothing log q) where
     quiet_live : (xs : List Step) (s t u : State) → Leads log s xs u → u.event ≡ length log.events → Marked q s t → Live log t
     quiet_live [] s t u leads over h = run t t [] refl (h.event ∙ ap (λ (w : State). w.event) leads ∙ over)
     quiet_live (steps.Pass ∷ xs) s t u leads over h =
         before t steps.Pass (subst (λ e. MayPass t (slice_get log.events e)) (sym h.event) (pass_later q s t h.acted (slice_get log.events s.event) leads.0))
         (quiet_live xs (next log s steps.Pass) (next log t steps.Pass) u leads.1 over
-        (record { event = ap (λ e. e + 1) h.event; left = h.left; acted = h.acted; bytes = h.bytes }))
+        (record { event = ap (λ e. e + 1) h.event; left = h.left; acted = h.acted; bytes = h.bytes; size = h.size }))
     quiet_live (steps.Act b ∷ xs) s t u leads over h = elim (cases_eq q b) [
       | inl same ↦
           let m : MayAct log s q = subst (MayAct log s) (sym same) leads.0 in
           let e : next log s (steps.Act q) ≡ t =
-          same_state (next log s (steps.Act q)) t (sym h.event) (sym h.acted) (quiet s.bytes (suits log s q m) ∙ sym h.bytes) in
+          same_state (next log s (steps.Act q)) t (sym h.event) (sym h.acted) (quiet s.bytes h.size (suits log s q m) ∙ sym h.bytes) in
           subst (Live log) (ap (λ c. next log s (steps.Act c)) (sym same) ∙ e) (run (next log s (steps.Act b)) u xs leads.1 over)
       | inr other ↦
           let m : MayAct log s b = leads.0 in
@@ -110,13 +125,16 @@ module _ (log : LogView) where
             left = set_there s.acted b q true (λ e. other (sym e)) ∙ h.left;
             acted = ap (λ ys. slice_set ys b true) h.acted ∙ set_swap s.acted q b true true other;
             bytes = ap (λ k. acted_on log.extent k (slice_get log.events b)) h.bytes;
+            size = length_after sizes log.extent s.bytes (slice_get log.events b) ∙ h.size;
           }))
     ]
 
-    quiet_next : (s : State) → MayAct log s q → Marked q s (next log s (steps.Act q))
-    quiet_next s a = record { event = refl; left = a.once; acted = refl; bytes = quiet s.bytes (suits log s q a) }
+    quiet_next : (s : State) → length s.bytes ≡ log.extent.size → MayAct log s q → Marked q s (next log s (steps.Act q))
+    quiet_next s size a = record { event = refl; left = a.once; acted = refl; bytes = quiet s.bytes size (suits log s q a); size = size }
 
-pub quiet_is_forced : (log : LogView) (s : State) (q : ℕ) → ((m : List ℕ) → Suits log.extent m (slice_get log.events q) → acted_on log.extent m (slice_get log.events q) ≡ m)
-    → MayAct log s q → IsForced log s (steps.Act q)
-quiet_is_forced log s q quiet a =
-    record { allowed = a; live = λ l. quiet_live log q quiet l.steps s (next log s (steps.Act q)) l.last l.leads l.over (quiet_next log q quiet s a) }
+pub quiet_is_forced : Sizes → (log : LogView) (s : State) (q : ℕ) → length s.bytes ≡ log.extent.size → ChangesNothing log q → MayAct log s q → IsForced log s (steps.Act q)
+quiet_is_forced sizes log s q size quiet a =
+    record {
+      allowed = a;
+      live = λ l. quiet_live log sizes q quiet l.steps s (next log s (steps.Act q)) l.last l.leads l.over (quiet_next log sizes q quiet s size a);
+    }

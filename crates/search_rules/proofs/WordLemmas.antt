@@ -189,7 +189,7 @@ module _ (answered : Answered) (bytes_of : Bytes) (others : Others) (sizes : Siz
                   | inr at ↦ inr (subst (Junk x Left m2) (sym at) (junk_same m m2 j (word_stays x m one j apart) junk))
                 ]) (agrees_there x l k one told but.size (same_there x.base l k one (word x j) apart but) f.0) f
             | inr (inl overlooks) ↦
-                let (suited, leaves) = overlooks l k (long ∙ size) but in
+                let (suited, leaves) = overlooks l k (long ∙ size) but f.0 in
                 elim leaves [
                   | inl same ↦ further l k (λ w. inl (λ i front back. ap (λ ys. slice_index ys i) same)) suited f
                   | inr (first, second) ↦

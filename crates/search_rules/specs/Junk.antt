@@ -16,10 +16,11 @@ Touches base op w = (base + 4 * w < address_of op + count_of op) × (address_of 
 abbrev pub word : Extent → ℕ → Op
 word x w = ops.Read (x.base + 4 * w) 1 15 0
 
--- whatever stands at the other's addresses, the memory agrees, and the operation changes nothing or leaves the same
+-- whatever stands at the other's addresses, the memory agrees if it did before, and the operation changes nothing or leaves the
+-- same
 abbrev pub Overlooks : Extent → Op → Option Reply → Op → Type 0
 Overlooks x one told other =
-    (m n : List ℕ) → length m ≡ x.size → AreSameBut x.base other m n
+    (m n : List ℕ) → length m ≡ x.size → AreSameBut x.base other m n → Agrees x.base x.block m one told
     → Agrees x.base x.block n one told
     × ((after x.base x.block n one ≡ after x.base x.block m one) ⊎ ((after x.base x.block m one ≡ m) × (after x.base x.block n one ≡ n)))
 

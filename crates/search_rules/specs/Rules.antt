@@ -97,15 +97,16 @@ AreSameFor log q m n =
 abbrev pub Waits : LogView → List ℕ → ℕ → ℕ → Type 0
 Waits log m b q = (n : List ℕ) → AreSameFor log q m n → Suits log.extent n (slice_get log.events b) → ⊥
 
--- request b has no byte of request q, or can't act before q
-abbrev pub LetsFirst : LogView → List ℕ → ℕ → ℕ → Type 0
-LetsFirst log m b q = AreApartThere log b q ⊎ Waits log m b q
-
 -- request r is q, or its requester submitted q before it, a posted write
 abbrev pub Follows : LogView → ℕ → ℕ → Type 0
 Follows log q r =
     (q ≡ r) ⊎ ((i : ℕ) × (w : Op) × (op : Op) × (asked : Option Reply) × (told : Option Reply) × (q < r) × (is_posted w ≡ true)
     × (slice_get log.events q ≡ Some (events.Sub i w asked)) × (slice_get log.events r ≡ Some (events.Sub i op told)))
+
+-- request b has no byte of request q, or can't act before q: the bytes there aren't what it needs, or q is an earlier posted
+-- write of its requester
+abbrev pub LetsFirst : LogView → List ℕ → ℕ → ℕ → Type 0
+LetsFirst log m b q = AreApartThere log b q ⊎ Waits log m b q ⊎ Follows log q b
 
 -- request q may act, and must before place a, where r is due; till then it is the first that can of those that have bytes of it
 pub record IsFirst (log : LogView) (s : State) (q r a : ℕ) : Type 0 where
@@ -116,9 +117,14 @@ pub record IsFirst (log : LogView) (s : State) (q r a : ℕ) : Type 0 where
   pub may : MayAct log s q
   pub others : AllOthers s q a (λ b. LetsFirst log s.bytes b q)
 
--- wherever the memory suits the request, it changes nothing
+-- wherever a memory of the log's size suits the request, it changes nothing
 abbrev pub ChangesNothing : LogView → ℕ → Type 0
-ChangesNothing log b = (m : List ℕ) → Suits log.extent m (slice_get log.events b) → acted_on log.extent m (slice_get log.events b) ≡ m
+ChangesNothing log b =
+    (m : List ℕ) → length m ≡ log.extent.size → Suits log.extent m (slice_get log.events b) → acted_on log.extent m (slice_get log.events b) ≡ m
+
+-- no memory of the log's size suits the request
+abbrev pub NeverSuits : LogView → ℕ → Type 0
+NeverSuits log b = (m : List ℕ) → length m ≡ log.extent.size → Suits log.extent m (slice_get log.events b) → ⊥
 
 -- the addresses of request g are among those of request q
 abbrev pub IsWithin : LogView → ℕ → ℕ → Type 0

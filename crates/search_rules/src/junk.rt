@@ -1,6 +1,7 @@
 //! Bytes that are nothing to a request.
-ghost use Rattle.std.specs.Prelude.{ℕ, ◌≡◌, ◌<◌, ◌/◌, ◌⊎◌, List, Option, Some, None, IsTrue, length, slice_get};
+ghost use Rattle.std.specs.Prelude.{ℕ, ◌≡◌, ◌<◌, ◌/◌, ◌⊎◌, List, Option, Some, None, false, IsTrue, length, slice_get};
 ghost use Rattle.tlp_core.specs.declared.operation.Op.{Op};
+ghost use Rattle.seq_memory.specs.declared.Refusal.{Refusal};
 ghost use Rattle.seq_memory.specs.declared.Reply.{Reply};
 ghost use Rattle.seq_memory.specs.Step as step;
 ghost use Rattle.byte_effects.specs.Effects.{AreApart, told_of};
@@ -8,22 +9,28 @@ ghost use Rattle.log_runs.specs.EventView as events;
 ghost use Rattle.search_rules.specs.Rules.{IsJunkAt, LeavesJunkAt, IsWithin};
 ghost use Rattle.search_rules.specs.Junk as specs;
 
-use byte_effects::{are_apart, breaks, covers, spans, waits};
+use byte_effects::{are_apart, breaks, covers, sees_none, spans, waits};
 use log_runs::{Event, Log};
 use memory_undo::refusal;
 use seq_memory::Reply;
+use seq_memory::laws::refused_and_read_change_nothing;
 use tlp_core::Op;
 
 /// The memory would do the operation.
 pub fn is_served(log: &Log, op: &Op) -> bool
-    ensures { IsTrue result → step.refusal log.now.extent.base log.now.extent.size log.now.extent.block op.now ≡ None }
+    ensures yes { IsTrue result → step.refusal log.now.extent.base log.now.extent.size log.now.extent.block op.now ≡ None }
+    ensures no { result ≡ false → (r : Refusal) × (step.refusal log.now.extent.base log.now.extent.size log.now.extent.block op.now ≡ Some r) }
 {
     let extent = log.extent();
-    refusal(extent.base(), extent.block(), extent.size(), op).is_none()
+    match refusal(extent.base(), extent.block(), extent.size(), op) {
+        None => true,
+        Some(_) => false,
+    }
 }
 
-/// The operation, which wasn't answered, is a read, or writes all bytes of the other.
-pub fn overlooks(log: &Log, one: &Op, told: Option<&Reply>, other: &Op) -> bool
+/// The operation wasn't answered and changes nothing, or is served and writes all bytes of the other.
+fn writes_over(log: &Log, one: &Op, told: Option<&Reply>, other: &Op) -> bool
+    requires { step.refusal log.now.extent.base log.now.extent.size log.now.extent.block one.now ≡ None }
     ensures { IsTrue result → specs.Overlooks log.now.extent one.now (told_of told.entry) other.now }
 {
     if told.is_some() {
@@ -32,10 +39,22 @@ pub fn overlooks(log: &Log, one: &Op, told: Option<&Reply>, other: &Op) -> bool
     if byte_effects::is_quiet(log.extent().block(), one, told) {
         return true;
     }
-    if !is_served(log, one) {
-        return false;
-    }
     covers(one, other)
+}
+
+/// The operation isn't served, is a read that needs no byte of the other, or wasn't answered and is a read
+/// or writes all bytes of the other.
+pub fn overlooks(log: &Log, one: &Op, told: Option<&Reply>, other: &Op) -> bool
+    ensures { IsTrue result → specs.Overlooks log.now.extent one.now (told_of told.entry) other.now }
+{
+    refused_and_read_change_nothing();
+    if !is_served(log, one) {
+        return true;
+    }
+    if sees_none(one, other) {
+        return true;
+    }
+    writes_over(log, one, told, other)
 }
 
 /// The operations have no byte in common, or it makes no difference to the first what stands at the

@@ -1,12 +1,12 @@
 //! Laws of runs.
-ghost use Rattle.std.specs.Prelude.{ℕ, ◌≡◌, List, slice_get, Option, Some};
+ghost use Rattle.std.specs.Prelude.{ℕ, ◌≡◌, List, length, slice_get, Option, Some};
 ghost use Rattle.tlp_core.specs.declared.operation.Op.{Op};
 ghost use Rattle.seq_memory.specs.declared.Reply.{Reply};
 ghost use Rattle.log_runs.specs.EventView as events;
 ghost use Rattle.log_runs.specs.declared.Step.TheVariants as steps;
 ghost use Rattle.log_runs.specs.LogView.{LogView};
-ghost use Rattle.log_runs.specs.Runs.{State, MayAct, Dead, IsForced, acted_on};
-ghost use Rattle.search_rules.specs.Rules.{Suits, NeverBrings, NeverPuts, Yields, LetsFirst, IsOutside, IsLost, LacksByte, IsLast, IsFirst, IsOverJunk};
+ghost use Rattle.log_runs.specs.Runs.{State, MayAct, Dead, IsForced, start};
+ghost use Rattle.search_rules.specs.Rules.{NeverBrings, NeverPuts, Yields, LetsFirst, IsOutside, IsLost, LacksByte, IsLast, IsFirst, IsOverJunk, ChangesNothing, NeverSuits};
 
 use byte_effects::laws::{a_request_sees_its_addresses, apart_requests_commute};
 use seq_memory::laws::only_the_place_changes;
@@ -36,11 +36,19 @@ pub fn the_last_acts_at_once()
     ensures { (log : LogView) (s : State) (q a : ℕ) → IsLast log s q a → IsForced log s (steps.Act q) }
 {}
 
-/// A request that changes nothing wherever it suits may act at once.
-#[tactic(auto, using(crate::proofs::RuleLemmas::quiet_is_forced))]
+/// A request that changes nothing wherever it suits a memory of the log's size may act at once.
 pub fn what_changes_nothing_acts_at_once()
-    ensures { (log : LogView) (s : State) (q : ℕ) → ((m : List ℕ) → Suits log.extent m (slice_get log.events q) → acted_on log.extent m (slice_get log.events q) ≡ m) → MayAct log s q → IsForced log s (steps.Act q) }
-{}
+    ensures { (log : LogView) (s : State) (q : ℕ) → length s.bytes ≡ log.extent.size → ChangesNothing log q → MayAct log s q → IsForced log s (steps.Act q) }
+{
+    only_the_place_changes();
+}
+
+/// Where a request was answered what no memory of the log's size answers, no run leads to the end.
+pub fn what_is_never_answered_is_dead()
+    ensures { (log : LogView) (q a : ℕ) → slice_get log.events a ≡ Some (events.Due q) → NeverSuits log q → Dead log (start log) }
+{
+    only_the_place_changes();
+}
 
 /// A request that may act, and before which none can that has one of its bytes, may act at once.
 pub fn the_first_acts_at_once()

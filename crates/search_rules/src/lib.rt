@@ -1,7 +1,8 @@
 //! Rules by which a search for a run needn't try everything.
 //!
 //! A run is dead once a request doesn't find what it needs and no other brings it before its answer is
-//! due; also where that is so of one byte: [`Need`]. A request that may act acts at once, if each other
+//! due; also where that is so of one byte: [`Need`]; and where a request was answered what no memory
+//! answers: [`first_unanswerable`]. A request that may act acts at once, if each other
 //! that could act before it takes away for good what it needs, or makes no difference to it; and if none
 //! that has one of its bytes can act before it. It acts at once, too, if others may act in turn after it
 //! and leave only junk: nobody who is left then needs what it overwrote, or what any of them put there.
@@ -13,11 +14,13 @@
 //! costs choices, never a right answer.
 #![tactic(auto)]
 
+mod answers;
 mod junk;
 pub mod laws;
 mod missing;
 mod pairs;
 
+pub use answers::first_unanswerable;
 pub use junk::{is_junk_at, is_served, is_within, leaves_junk_at, overlooks};
 pub use missing::{Need, need_at, never_puts};
 pub use pairs::{changes_nothing, follows, lets_first, never_brings, yields};

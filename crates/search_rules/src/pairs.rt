@@ -1,16 +1,18 @@
 //! What two requests of a log do to each other.
-ghost use Rattle.std.specs.Prelude.{ℕ, ◌≡◌, ◌⊎◌, List, Option, Some, IfSome, true, IsTrue, slice_get};
+ghost use Rattle.std.specs.Prelude.{ℕ, ◌≡◌, ◌⊎◌, List, Option, Some, IfSome, true, IsTrue, length, slice_get};
 ghost use Rattle.tlp_core.specs.Operation.{is_posted};
 ghost use Rattle.seq_memory.specs.Limits.{IsBlock};
 ghost use Rattle.seq_memory.specs.Step.{after};
 ghost use Rattle.byte_effects.specs.Effects.{Agrees, AreApart, AreSameAt, told_of};
 ghost use Rattle.log_runs.specs.EventView as events;
-ghost use Rattle.log_runs.specs.Runs.{bytes_after, acted_on};
-ghost use Rattle.search_rules.specs.Rules.{Answers, Suits, Ends, NeverBrings, Yields, LetsFirst, Follows};
+ghost use Rattle.log_runs.specs.Runs.{bytes_after};
+ghost use Rattle.search_rules.specs.Rules.{Answers, Suits, Ends, NeverBrings, Yields, LetsFirst, Follows, ChangesNothing};
 
+use crate::junk::is_served;
 use byte_effects::{are_apart, waits};
 use log_runs::{Event, Log};
 use seq_memory::Reply;
+use seq_memory::laws::refused_and_read_change_nothing;
 use tlp_core::Op;
 
 /// Right after the first operation the memory suits the second only if it did before.
@@ -89,14 +91,23 @@ pub fn yields(log: &Log, b: usize, q: usize) -> bool
     }
 }
 
-/// Wherever request `q` may act, it changes nothing.
+/// The operation isn't served, or changes nothing where the memory answers it so.
+fn is_quiet(log: &Log, op: &Op, told: Option<&Reply>) -> bool
+    ensures { IsTrue result → (m : List ℕ) → length m ≡ log.now.extent.size → Answers log.now.extent m op.now (told_of told.entry) → bytes_after log.now.extent m op.now ≡ m }
+{
+    refused_and_read_change_nothing();
+    if !is_served(log, op) {
+        return true;
+    }
+    byte_effects::is_quiet(log.extent().block(), op, told)
+}
+
+/// Wherever request `q` may act, it changes nothing: also where it isn't served.
 pub fn changes_nothing(log: &Log, q: usize) -> bool
-    ensures { IsTrue result → (m : List ℕ) → Suits log.now.extent m (slice_get log.now.events q) → acted_on log.now.extent m (slice_get log.now.events q) ≡ m }
+    ensures { IsTrue result → ChangesNothing log.now q }
 {
     match log.event(q) {
-        Some(Event::Sub { op, reply, .. }) => {
-            byte_effects::is_quiet(log.extent().block(), op, reply)
-        }
+        Some(Event::Sub { op, reply, .. }) => is_quiet(log, op, reply),
         _ => false,
     }
 }
@@ -121,8 +132,8 @@ fn lets_first_by(log: &Log, bytes: &[u8], one: &Op, told: Option<&Reply>, q: usi
     }
 }
 
-/// Request `b` has no byte of request `q`, or can't act till the bytes there aren't these.
-pub fn lets_first(log: &Log, bytes: &[u8], b: usize, q: usize) -> bool
+/// [`lets_first`], of which it is known that it doesn't follow request `q`.
+fn lets_before(log: &Log, bytes: &[u8], b: usize, q: usize) -> bool
     ensures { IsTrue result → LetsFirst log.now bytes.now b q }
 {
     match log.event(b) {
@@ -131,6 +142,16 @@ pub fn lets_first(log: &Log, bytes: &[u8], b: usize, q: usize) -> bool
         Some(Event::Free) => true,
         None => false,
     }
+}
+
+/// Request `b` has no byte of request `q`, can't act till the bytes there aren't these, or follows it.
+pub fn lets_first(log: &Log, bytes: &[u8], b: usize, q: usize) -> bool
+    ensures { IsTrue result → LetsFirst log.now bytes.now b q }
+{
+    if follows(log, q, b) {
+        return true;
+    }
+    lets_before(log, bytes, b, q)
 }
 
 /// The event submits a request of the requester.

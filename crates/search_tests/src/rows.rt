@@ -1,5 +1,5 @@
 //! Worked logs.
-use history_search::{Sought, search};
+use history_search::{Sought, explained_before, search};
 use std::alloc::Global;
 use std::test::Fail;
 use trace_text::read_trace;
@@ -126,7 +126,10 @@ fn told(alloc: Global, row: &Row) -> Result<bool, Fail> {
     };
     match search(alloc, &mut trace, 1000)? {
         (Sought::Found(_), _) => Ok(row.none.is_none()),
-        (Sought::None { prefix, explained }, _) => Ok(row.none == Some((prefix, explained))),
+        (Sought::None { prefix }, _) => {
+            let explained = explained_before(alloc, &trace, prefix, 1000)?;
+            Ok(row.none == Some((prefix, explained)))
+        }
         (Sought::Limit, _) => Ok(false),
     }
 }

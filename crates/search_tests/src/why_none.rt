@@ -10,7 +10,7 @@ struct Row {
     told: &'static str,
 }
 
-static ROWS: [Row; 20] = [
+static ROWS: [Row; 23] = [
     Row {
         name: "outside, as aborted",
         records: "sub 1 0 add 1000 01000000\nans 1 0 ca\n",
@@ -39,17 +39,17 @@ static ROWS: [Row; 20] = [
     Row {
         name: "a value that nothing puts",
         records: "# a read of two DW\nsub 1 0 write 40 F 0 01020304\nsub 2 0 read 40 2 F F\nans 2 0 data 0102030405060708\n",
-        told: "pciex: lines 4 to 6 have no history, lines 4 to 5 have one\npciex: line 6: ans 2 0 data 0102030405060708\npciex: no request puts 05060708 at 44\n",
+        told: "pciex: lines 4 to 6 have no history, lines 4 to 5 have one\npciex: line 6: ans 2 0 data 0102030405060708\npciex: nothing put 05060708 at 44 before\n",
     },
     Row {
         name: "a value that only a later write puts",
         records: "sub 2 0 read 40 1 F 0\nans 2 0 data 01020304\nsub 1 0 write 40 F 0 01020304\n",
-        told: "pciex: lines 3 to 4 have no history, lines 3 to 3 have one\npciex: line 4: ans 2 0 data 01020304\npciex: no request puts 01020304 at 40\n",
+        told: "pciex: lines 3 to 4 have no history, lines 3 to 3 have one\npciex: line 4: ans 2 0 data 01020304\npciex: nothing put 01020304 at 40 before\n",
     },
     Row {
         name: "a count that no addition makes",
         records: "sub 1 0 add 40 01000000\nsub 2 0 add 40 01000000\nans 1 0 data 00000000\nans 2 0 data 03000000\n",
-        told: "pciex: lines 3 to 6 have no history, lines 3 to 5 have one\npciex: line 6: ans 2 0 data 03000000\npciex: no request puts 03000000 at 40\n",
+        told: "pciex: lines 3 to 6 have no history, lines 3 to 5 have one\npciex: line 6: ans 2 0 data 03000000\npciex: nothing put 03000000 at 40 before\n",
     },
     Row {
         name: "lost update",
@@ -90,6 +90,21 @@ static ROWS: [Row; 20] = [
         name: "some bytes of it may be put alone",
         records: "sub 1 0 write 40 1 0 01000000\nsub 2 0 read 40 1 F 0\nans 2 0 data 01020000\n",
         told: "pciex: lines 3 to 5 have no history, lines 3 to 4 have one\npciex: line 5: ans 2 0 data 01020000\npciex: no order gives these answers\n",
+    },
+    Row {
+        name: "the Swap itself puts it",
+        records: "sub 1 0 swap 40 02000000\nans 1 0 data 02000000\n",
+        told: "pciex: lines 3 to 4 have no history, lines 3 to 3 have one\npciex: line 4: ans 1 0 data 02000000\npciex: nothing put 02000000 at 40 before\n",
+    },
+    Row {
+        name: "a number that is too large",
+        records: "sub 1 4294967296 read 40 1 F 0\n",
+        told: "pciex: line 3, column 7: '4294967296' where a request's number is expected (0 to 4294967294)\n",
+    },
+    Row {
+        name: "a line of a trace",
+        records: "history\n",
+        told: "pciex: line 3, column 1: 'history' where a record or the end is expected (sub <requester> <number> <operation>, ans <requester> <number> <reply>, end)\n",
     },
     Row {
         name: "number skipped",

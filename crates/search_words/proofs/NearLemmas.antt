@@ -143,7 +143,7 @@ module _ (log : LogView) (t : WordsView) (words : IsWords log t) where
       | inl near ↦ inl near
       | inr out ↦
           let (j, other, asked, there, inside) = has in
-          inr (inr (λ n alike. out n (same_word n other inside (alike j other asked there))))
+          inr (inr (inl (λ n alike. out n (same_word n other inside (alike j other asked there)))))
     ]
 
   -- the word has the same bytes where they are the same at its addresses

@@ -33,8 +33,8 @@ const MOST_BYTES: u32 = 128;
 pub struct Words {
     /// By word and value, those that need the value there.
     pub(crate) needed: Lists,
-    /// By word, those that write all of it, whatever stands there, and reads that weren't answered; all
-    /// of these name whole words.
+    /// By word, those that write all of it, whatever stands there, reads that weren't answered or need no
+    /// byte, and those that aren't served; all of these name whole words.
     pub(crate) careless: Lists,
     /// By word, those that name bytes of it and of which it isn't known what they need of it.
     pub(crate) blind: Lists,

@@ -6,4 +6,4 @@ pub returns-in-Some : goal.returns-in-Some
 returns-in-Some c = λ base at m l put served agrees. c.left_by_reply.ensures base at m l put served (agrees c.in-Some.reply.now (ap told_of c.in-Some.is))
 
 pub returns-in-None : goal.returns-in-None
-returns-in-None c = λ base at m l put served agrees. c.left_by_write.ensures base c.args.block at m l put served
+returns-in-None c = λ base at m l put served agrees. c.left_by_write.ensures base at m l put served

@@ -1,4 +1,5 @@
-use Rattle.std.proofs.Common.{◌≡◌, ◌∙◌, ◌<◌, List, [], ◌∷◌, ◌++◌, ap, sym, subst}
+use Rattle.std.proofs.Common.{◌≡◌, ◌∙◌, ◌<◌, ℕ, Option, List, [], ◌∷◌, ◌++◌, ap, sym, subst}
+use Rattle.std.specs.Prelude.{IfSome}
 use Rattle.std.proofs.lemmas.List.{append-nil}
 use Rattle.log_runs.specs.Runs.{State, Dead, next}
 use Rattle.search_places.specs.declared.steps.Done.{Done}
@@ -48,8 +49,9 @@ rewind-requires c =
     let log = c.args.log.now in
     let walk = c.go_on.new.walk in
     let at = c.in_ok-go_on.ensures.at in
+    let dead : Dead log walk.here.state = subst (λ (o : Option ℕ). IfSome o (λ at. Dead log walk.here.state)) c.in-Some-lost_at.is c.lost_at.ensures in
     record {
-      path = turned log walk.stack.frames walk.stack.done walk.here.state at.path (c.some_is_lost.ensures c.if-not-some_is_lost.false);
+      path = turned log walk.stack.frames walk.stack.done walk.here.state at.path dead;
       place = at.place;
       known = at.known;
     }

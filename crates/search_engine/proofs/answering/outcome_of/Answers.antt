@@ -8,10 +8,10 @@ use Rattle.search_engine.specs.Search.{IsAnswerTo, none_line}
 use Rattle.search_engine.proofs.NoneLemmas.{some-records, up_to_last}
 use Rattle.search_engine.proofs.answering.outcome_of.Goals as goal
 
-pub returns-in-None : goal.returns-in-None
-returns-in-None c = by
+pub returns-in_ok-text-in-None : goal.returns-in_ok-text-in-None
+returns-in_ok-text-in-None c = by
   where
-    by : (r : Result TraceView ReadFault) → IsFinding r c.args.finding → IsAnswerTo c.args.limit r c.in_ok-text-in-None.text.items 1
+    by : (r : Result TraceView ReadFault) → IsFinding r c.args.finding.now → IsAnswerTo c.args.limit r c.in_ok-text-in-None.text.items 1
     by (Ok t) h =
         let is : IsUnexplained t c.in-None.prefix = subst (λ (f : Finding). IsFinding (Ok t) f) c.in-None.is h in
         let some = some-records t c.in-None.prefix is.unexplained in

@@ -2,9 +2,9 @@ use Rattle.std.proofs.Common.{[], refl, inl}
 use Rattle.search_engine.proofs.KnownLemmas.{appends-nothing, on_err}
 use Rattle.search_engine.proofs.search.run_search_with_reasons.Goals as goal
 
-pub returns-in_err-outcome-clause-err : goal.returns-in_err-outcome-clause-err
-returns-in_err-outcome-clause-err g c =
-    on_err c.from_residual-in_err-outcome.result (record {
+pub returns-in_err-answer-clause-err : goal.returns-in_err-answer-clause-err
+returns-in_err-answer-clause-err g c =
+    on_err c.from_residual-in_err-answer.result (record {
       read = c.in_ok-text.text.items;
       consumed = c.in_ok-text.ensures.ok;
       done = [];

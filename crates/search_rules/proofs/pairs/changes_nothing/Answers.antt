@@ -1,11 +1,10 @@
-use Rattle.std.proofs.Common.{◌∙◌, ap}
 use Rattle.std.specs.Prelude.{slice_get}
-use Rattle.seq_memory.specs.Limits.{Extent}
 use Rattle.byte_effects.specs.Effects.{told_of}
-use Rattle.search_rules.proofs.PairLemmas.{sub_at, quiet_at}
+use Rattle.search_rules.proofs.PairLemmas.{sub_at}
+use Rattle.search_rules.proofs.NeverLemmas.{quiet_at}
 use Rattle.search_rules.proofs.pairs.changes_nothing.Goals as goal
 
 pub returns-in-Some-Sub : goal.returns-in-Some-Sub
 returns-in-Some-Sub c = λ yes.
-    quiet_at c.args.log.now.extent (slice_get c.args.log.now.events c.args.q) c.in-Some-Sub.field-0-0 c.block.result c.in-Some-Sub.op.now (told_of c.in-Some-Sub.reply) (c.block.ensures.value ∙ ap (λ (e : Extent). e.block) c.extent.ensures)
+    quiet_at c.args.log.now.extent (slice_get c.args.log.now.events c.args.q) c.in-Some-Sub.field-0-0 c.in-Some-Sub.op.now (told_of c.in-Some-Sub.reply)
     (sub_at c.args.log.now.events c.args.q c.in-Some-Sub.field-0 c.in-Some-Sub.field-0-0 c.in-Some-Sub.op c.in-Some-Sub.reply c.in-Some-Sub.field-0-is c.in-Some-Sub.ensures) (c.is_quiet.ensures yes)

@@ -1,0 +1,17 @@
+use Rattle.byte_effects.specs.Effects.{told_of}
+use Rattle.search_rules.proofs.PairLemmas.{sub_at, due_is_idle, free_is_idle}
+use Rattle.search_rules.proofs.FirstLemmas.{first_at, idle_first}
+use Rattle.search_rules.proofs.pairs.lets_before.Goals as goal
+
+pub returns-in-Some-Sub : goal.returns-in-Some-Sub
+returns-in-Some-Sub c = λ yes.
+    first_at c.args.log.now c.args.bytes.now c.args.b c.args.q c.in-Some-Sub.field-0-0 c.in-Some-Sub.op.now (told_of c.in-Some-Sub.reply)
+    (sub_at c.args.log.now.events c.args.b c.in-Some-Sub.field-0 c.in-Some-Sub.field-0-0 c.in-Some-Sub.op c.in-Some-Sub.reply c.in-Some-Sub.field-0-is c.in-Some-Sub.ensures) (c.lets_first_by.ensures yes)
+
+pub returns-in-Some-Due : goal.returns-in-Some-Due
+returns-in-Some-Due c = λ yes.
+    idle_first c.args.log.now c.args.bytes.now c.args.b c.args.q (due_is_idle c.args.log.now.events c.args.b c.in-Some-Due.field-0 c.in-Some-Due.field-0-0 c.in-Some-Due.field-0-is c.in-Some-Due.ensures)
+
+pub returns-in-Some-Free : goal.returns-in-Some-Free
+returns-in-Some-Free c = λ yes.
+    idle_first c.args.log.now c.args.bytes.now c.args.b c.args.q (free_is_idle c.args.log.now.events c.args.b c.in-Some-Free.field-0 c.in-Some-Free.field-0-is c.in-Some-Free.ensures)
