@@ -30,8 +30,12 @@ of_file() {
 
 # The examples, with status 0 or 1.
 : > "$room/nothing"
+cat > "$room/faults" << 'end'
+pciex: line 18: Short (3 bytes, and a header has 12, or 16 where Fmt says so)
+pciex: line 19: LengthMismatch (4 bytes follow the header where Length 2 asks for 8)
+end
 of_file examples/packets.txt tlp
-wants "tlp on packets.txt" 1 examples/packets.out "$room/nothing"
+wants "tlp on packets.txt" 1 examples/packets.out "$room/faults"
 grep -v '^4C0000' examples/packets.txt | grep -v ' 01000500 .* 07000000$' > "$room/sound.txt"
 grep -v '^fault' examples/packets.out > "$room/faultless"
 cat > "$room/reasons" << 'end'
@@ -170,10 +174,23 @@ is_stored greatest_seed.txt --seed 18446744073709551615 --requesters 7 --lose 4 
 # Faults and flaws have status 1.
 echo 4C0000 > "$room/short"
 echo "fault 1 Short" > "$room/fault"
+echo "pciex: line 1: Short (3 bytes, and a header has 12, or 16 where Fmt says so)" > "$room/reasons"
 of_file "$room/short" tlp
-wants "tlp on three bytes" 1 "$room/fault" "$room/nothing"
+wants "tlp on three bytes" 1 "$room/fault" "$room/reasons"
 of_file "$room/short" decode
-wants "decode on three bytes" 1 "$room/fault" "$room/nothing"
+wants "decode on three bytes" 1 "$room/fault" "$room/reasons"
+echo "fault hex" > "$room/hex"
+for digits in "0x4C0000" "4C 00 0"; do
+    echo "$digits" > "$room/digits"
+    case $digits in
+    0*) echo "pciex: line 1, column 1: '0x4C0000' where a word of hexadecimal digits is expected (two a byte, no prefix)" > "$room/reasons" ;;
+    *) echo "pciex: line 1: an odd number of hexadecimal digits (two a byte)" > "$room/reasons" ;;
+    esac
+    for words in tlp decode; do
+        of_file "$room/digits" $words
+        wants "$words on '$digits'" 1 "$room/hex" "$room/reasons"
+    done
+done
 sed 's/^ans 1 0 2 data 01020304/ans 1 0 2 data 00000000/' examples/trace.txt > "$room/flawed"
 echo "flaw 10 Reply 2" > "$room/flaw"
 cat > "$room/reasons" << 'end'
@@ -264,7 +281,8 @@ if [ -c /dev/full ]; then
     : > "$room/output"
     timeout 10 "$pciex" tlp < examples/packets.txt > /dev/full 2> "$room/errors"
     status=$?
-    wants "tlp, where standard output is full" 1 "$room/nothing" "$room/write"
+    cat "$room/faults" "$room/write" > "$room/told"
+    wants "tlp, where standard output is full" 1 "$room/nothing" "$room/told"
     timeout 10 "$pciex" run --requesters 1 --each 1 < /dev/null > /dev/full 2> "$room/errors"
     status=$?
     wants "run, where standard output is full" 1 "$room/nothing" "$room/write"
@@ -275,7 +293,7 @@ fi
 
 # Each answer is written before more is read: this user waits for it, and the input has not ended.
 mkfifo "$room/in" "$room/out"
-timeout 10 "$pciex" tlp < "$room/in" > "$room/out" &
+timeout 10 "$pciex" tlp < "$room/in" > "$room/out" 2> /dev/null &
 exec 3> "$room/in" 4< "$room/out"
 for _ in 1 2 3; do
     echo 4C0000 >&3

@@ -15,7 +15,7 @@ use generate_engine::run_generate;
 use history_picture::Window;
 use line_loop::EngineFault;
 use link_chart::ChartWindow;
-use packet_engine::{run_decode, run_encode_with_reasons};
+use packet_engine::{run_decode_with_reasons, run_encode_with_reasons};
 use parameters::Counting;
 use search_engine::{Stages, run_search_with_reasons};
 use std::alloc::Global;
@@ -23,7 +23,7 @@ use std::convert::AsStr;
 use std::io;
 use std::io::{ErrorKind as IoErrorKind, Read, Write};
 use step_engine::{StepOptions, run_step_with_reasons};
-use tlp_engine::run_tlp;
+use tlp_engine::run_tlp_with_reasons;
 use trace_engine::{run_check_with, run_upgrade_with_reasons};
 
 /// Tells what stopped an engine, and gives the exit status for that.
@@ -133,9 +133,13 @@ fn begin<R: Read, W: Write, E: Write>(
 {
     match request {
         Request::Tlp(extent) => {
-            Outcome::Ended(ended(run_tlp(alloc, extent, reader, writer), errors))
+            let run = run_tlp_with_reasons(alloc, extent, reader, writer, errors);
+            Outcome::Ended(ended(run, errors))
         }
-        Request::Decode => Outcome::Ended(ended(run_decode(alloc, reader, writer), errors)),
+        Request::Decode => {
+            let run = run_decode_with_reasons(alloc, reader, writer, errors);
+            Outcome::Ended(ended(run, errors))
+        }
         Request::Encode => {
             let run = run_encode_with_reasons(alloc, reader, writer, errors);
             Outcome::Ended(ended(run, errors))

@@ -1,8 +1,10 @@
 //! Why a line is refused, by each engine that reads words.
-use packet_engine::run_encode_with_reasons;
+use packet_engine::{run_decode_with_reasons, run_encode_with_reasons};
+use seq_memory::Extent;
 use std::alloc::{AllocError, Global};
 use std::test::Fail;
 use step_engine::{StepOptions, run_step_with_reasons};
+use tlp_engine::run_tlp_with_reasons;
 use trace_engine::{run_check_with_reasons, run_upgrade_with_reasons};
 
 /// A subcommand.
@@ -16,6 +18,8 @@ enum Engine {
     Check,
     Upgrade,
     Encode,
+    Decode,
+    Tlp,
 }
 
 /// Whether the engine tells this on the error stream.
@@ -47,12 +51,17 @@ fn is_told(alloc: Global, engine: Engine, input: &[u8], want: &str) -> bool {
         Engine::Check => run_check_with_reasons(alloc, &mut reader, &mut out, &mut errors),
         Engine::Upgrade => run_upgrade_with_reasons(alloc, &mut reader, &mut out, &mut errors),
         Engine::Encode => run_encode_with_reasons(alloc, &mut reader, &mut out, &mut errors),
+        Engine::Decode => run_decode_with_reasons(alloc, &mut reader, &mut out, &mut errors),
+        Engine::Tlp => {
+            let extent = Extent::new(0, 4096, 64).unwrap();
+            run_tlp_with_reasons(alloc, extent, &mut reader, &mut out, &mut errors)
+        }
     };
     result == Ok(1) && errors.as_slice() == want.as_bytes()
 }
 
 /// What an engine reads, and what it tells.
-const ROWS: [(Engine, &str, &str); 52] = [
+const ROWS: [(Engine, &str, &str); 58] = [
     // The byte enables of one DW, and of two.
     (
         Engine::Step,
@@ -313,6 +322,36 @@ const ROWS: [(Engine, &str, &str); 52] = [
         Engine::Encode,
         "read 40 0 F 0 from 0100 tag 05\n",
         "pciex: line 1: 'read 40 0 F 0 from 0100 tag 05' is refused: LengthMismatch (a read has 1 to 1024 DW, and data are whole DW)\n",
+    ),
+    (
+        Engine::Tlp,
+        "# an addition\n4C000001 01000500 00000040 07000000\n0x4C000001 01000500 00000040 07000000\n",
+        "pciex: line 3, column 1: '0x4C000001' where a word of hexadecimal digits is expected (two a byte, no prefix)\n",
+    ),
+    (
+        Engine::Tlp,
+        "4C000001 01000500 00000040 0700000\n4C000001 01000500 00000040 07000000 # seven\n",
+        "pciex: line 1: an odd number of hexadecimal digits (two a byte)\npciex: line 2, column 37: '#' where a word of hexadecimal digits is expected (two a byte, no prefix)\n",
+    ),
+    (
+        Engine::Tlp,
+        "4C000001 01000500 00000040 07000000 00000000 00000000\n00000001 0100000F 00000040 00000000\n4A000001 00000004 01000500 07000000\n",
+        "pciex: line 1: LengthMismatch (12 bytes follow the header where Length 1 asks for 4)\npciex: line 2: LengthMismatch (4 bytes follow the header of a packet without data)\npciex: line 3: a completion where a request is expected\n",
+    ),
+    (
+        Engine::Decode,
+        "4C00\n40000021 010000FF 00000040\n4C000001 01000500 00000041 07000000\n",
+        "pciex: line 1: Short (2 bytes, and a header has 12, or 16 where Fmt says so)\npciex: line 2: LengthMismatch (0 bytes follow the header where Length 33 asks for 132)\n",
+    ),
+    (
+        Engine::Decode,
+        "4C000001 01000500 00000044 07000000\n4C000002 01000500 00000044 07000000 00000000\n",
+        "pciex: line 2: Unaligned (an operand's address is a multiple of the operand's size)\n",
+    ),
+    (
+        Engine::Decode,
+        "FF000000\n4C:00\n",
+        "pciex: line 1: Kind (four bytes are read as a DLLP)\npciex: line 2, column 1: '4C:00' where a word of hexadecimal digits is expected (two a byte, no prefix)\n",
     ),
 ];
 

@@ -29,7 +29,7 @@ searched limit (Err fault) input rest out out' exit ok err whole part = inr (err
 
 pub returns-in-Tlp : goal.returns-in-Tlp
 returns-in-Tlp g c = record {
-  begun = rw c.in-Tlp.is (run_done _ c.run_tlp.result _ _ _ _ _ c.ended.ensures.ok c.ended.ensures.err c.run_tlp.ensures.ok c.run_tlp.ensures.err);
+  begun = rw c.in-Tlp.is (run_done _ c.run_tlp_with_reasons-run.result _ _ _ _ _ c.ended.ensures.ok c.ended.ensures.err c.run_tlp_with_reasons-run.ensures.ok c.run_tlp_with_reasons-run.ensures.err);
   right = tt;
 }
 
