@@ -23,7 +23,7 @@ _pciex() {
                 *" tlp") words="--base --size --block --help" ;;
                 *" decode") words="--help" ;;
                 *" encode") words="--help" ;;
-                *" check") words="--help" ;;
+                *" check") words="--clocked --help" ;;
                 *" search") words="--limit --progress --help" ;;
                 *" draw") words="--from --to --help" ;;
                 *" upgrade") words="--help" ;;
