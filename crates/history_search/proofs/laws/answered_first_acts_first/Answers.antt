@@ -9,7 +9,7 @@ use Rattle.history_search.proofs.laws.answered_first_acts_first.Goals as goal
 
 in_order : ((x : Claim) → Explains x → IsClocked x → KeepsRealTimeOrder x) → (t : TraceView) (s : Sought) → IsFound t s → IsInOrder t s
 in_order law t (answers.Found h) found = law (claim_of t h.items) found.0 found.1
-in_order law t (answers.None prefix explained) found = tt
+in_order law t (answers.None prefix) found = tt
 in_order law t answers.Limit found = tt
 
 pub returns : goal.returns
