@@ -52,7 +52,8 @@ fn next(low: usize, high: usize, first: usize, turn: u32) -> usize
 }
 
 /// Halves what lies before a prefix that has no history, by what is on the bytes of a range alone, if there is
-/// one. Of a long log the first one that is tried is taken, if it has no history.
+/// one. Of a long log the first one that is tried is taken, if it has no history. A search that is given up
+/// ends it.
 fn halved(
     alloc: Global,
     trace: &Trace,
@@ -77,7 +78,8 @@ fn halved(
         match outcome {
             Outcome::Dead if turn == 0 && middle > LONG => return Ok(middle),
             Outcome::Dead => high = middle,
-            _ => low = middle,
+            Outcome::Run(_) => low = middle,
+            Outcome::Limit => return Ok(high),
         }
     }
     Ok(high)

@@ -11,7 +11,7 @@ struct Row {
     answer: &'static str,
 }
 
-static ROWS: [Row; 18] = [
+static ROWS: [Row; 16] = [
     Row {
         name: "eight additions answered out of order",
         lines: "sub 1 0 add 40 01000000\nsub 2 0 add 40 01000000\nsub 3 0 add 40 01000000\nsub 4 0 add 40 01000000\nsub 5 0 add 40 01000000\nsub 6 0 add 40 01000000\nsub 7 0 add 40 01000000\nsub 1 1 add 40 01000000\nans 1 0 data 05000000\nans 2 0 data 02000000\nans 3 0 data 07000000\nans 4 0 data 00000000\nans 5 0 data 01000000\nans 6 0 data 06000000\nans 7 0 data 03000000\nans 1 1 data 04000000\n",
@@ -75,7 +75,7 @@ static ROWS: [Row; 18] = [
     Row {
         name: "two views of two writes, beside additions that aren't served",
         lines: "sub 3 0 add 2000 01000000\nsub 4 0 add 2000 01000000\nsub 5 0 add 2000 01000000\nsub 6 0 add 2000 01000000\nsub 7 0 add 2000 01000000\nsub 3 1 add 2000 01000000\nsub 1 0 write 40 F 0 01000000\nsub 1 1 write 80 F 0 01000000\nsub 2 0 read 80 1 F 0\nans 2 0 data 01000000\nsub 2 1 read 40 1 F 0\nans 2 1 data 00000000\n",
-        choices: 2,
+        choices: 1,
         answer: "none 11\n",
     },
     Row {
@@ -97,22 +97,10 @@ static ROWS: [Row; 18] = [
         answer: "pciex-trace",
     },
     Row {
-        name: "swaps whose order a run through each cell guesses",
-        lines: "sub 4 0 write 40 F 0 02000000\nsub 5 0 write 40 F 0 02000000\nsub 1 0 write 40 F 0 04000000\nsub 1 1 swap 40 03000000\nsub 2 0 swap 80 03000000\nsub 2 1 write C0 F 0 04000000\nsub 1 2 read 40 1 F 0\nsub 2 2 write 80 F 0 01000000\nans 1 2 data 02000000\nans 1 1 data 02000000\nans 2 0 data 01000000\n",
-        choices: 7,
-        answer: "pciex-trace",
-    },
-    Row {
         name: "swaps of two words, read together",
         lines: "sub 1 0 swap 40 01000000\nsub 2 0 swap 44 01000000\nsub 3 0 swap 40 02000000\nsub 4 0 swap 44 02000000\nsub 5 0 read 40 2 F F\nans 5 0 data 0100000001000000\nsub 5 1 read 40 2 F F\nans 5 1 data 0300000002000000\n",
         choices: 18,
         answer: "none 7\n",
-    },
-    Row {
-        name: "an order that fails in one cell",
-        lines: "sub 1 0 write 40 F 0 01000000\nsub 2 0 write 40 F 0 02000000\nsub 3 0 write 80 F 0 01000000\nsub 4 0 write 80 F 0 02000000\nsub 5 0 read 40 1 F 0\nsub 5 1 read 80 1 F 0\nans 5 0 data 01000000\nans 5 1 data 01000000\nsub 6 0 read 40 1 F 0\nsub 6 1 read 80 1 F 0\nans 6 0 data 02000000\nans 6 1 data 02000000\nsub 7 0 read 80 1 F 0\nans 7 0 data 01000000\n",
-        choices: 40,
-        answer: "none 13\n",
     },
     Row {
         name: "sums of six additions",
