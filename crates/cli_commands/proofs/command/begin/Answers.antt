@@ -33,6 +33,12 @@ returns-in-Tlp g c = record {
   right = tt;
 }
 
+pub returns-in-Check : goal.returns-in-Check
+returns-in-Check g c = record {
+  begun = rw c.in-Check.is (run_done _ c.run_check_with-run.result _ _ _ _ _ c.ended-in-Check.ensures.ok c.ended-in-Check.ensures.err c.run_check_with-run.ensures.ok c.run_check_with-run.ensures.err);
+  right = tt;
+}
+
 pub returns-in-Search : goal.returns-in-Search
 returns-in-Search g c = record {
   begun = rw c.in-Search.is (searched c.in-Search.limit c.run_search_with_reasons-run.result _ _ _ _ _ c.ended-in-Search.ensures.ok c.ended-in-Search.ensures.err c.run_search_with_reasons-run.ensures.ok c.run_search_with_reasons-run.ensures.err);
