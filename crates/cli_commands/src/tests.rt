@@ -479,10 +479,13 @@ impl Write for FailingWriter {
     }
 }
 
+/// A request without a fault, of which no reason is told.
+static PACKET: &str = "4C000001 01000500 00000040 07000000\n";
+
 /// Each subcommand, and an input of it.
 static STREAMED: [Given; 11] = [
-    (&["pciex", "tlp"], "4C0000\n"),
-    (&["pciex", "decode"], "4C0000\n"),
+    (&["pciex", "tlp"], PACKET),
+    (&["pciex", "decode"], PACKET),
     (&["pciex", "encode"], "nak FFF\n"),
     (&["pciex", "check"], TRACE),
     (&["pciex", "search"], LOG),
