@@ -480,7 +480,7 @@ impl Write for FailingWriter {
 }
 
 /// A request without a fault, of which no reason is told.
-static PACKET: &str = "4C000001 01000500 00000040 07000000\n";
+const PACKET: &str = "4C000001 01000500 00000040 07000000\n";
 
 /// Each subcommand, and an input of it.
 static STREAMED: [Given; 11] = [
