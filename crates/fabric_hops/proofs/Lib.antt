@@ -1,0 +1,5 @@
+pub mod Contents
+pub mod Served
+pub mod Hopping
+pub mod Nothing
+pub mod Going
