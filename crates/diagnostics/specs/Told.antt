@@ -1,5 +1,6 @@
 -- What is told of a reason on the error stream.
-use Rattle.std.specs.Prelude.{ℕ, List, [], ◌∷◌, ◌++◌, codes, Option, Some, None}
+use Rattle.std.specs.Prelude.{ℕ, ◌≡◌, ◌==◌, false, List, [], ◌∷◌, ◌++◌, codes, Option, Some, None}
+use Rattle.std.specs.List.{list_any}
 use Rattle.std.specs.Fmt.{decimal}
 use Rattle.std.specs.Io.KnownBytes.{Appends, Keeps}
 use Rattle.line_loop.specs.Run.{IsBeginning}
@@ -8,9 +9,13 @@ use Rattle.line_loop.specs.Run.{IsBeginning}
 abbrev pub reason_line : ℕ → List ℕ → List ℕ
 reason_line n why = ((codes "pciex: line " ++ decimal n) ++ why) ++ 10 ∷ []
 
+-- a reason says something, in one line
+abbrev pub IsReason : List ℕ → Type 0
+IsReason why = (¬ (why ≡ [])) × (list_any (λ b. b == 10) why ≡ false)
+
 -- a reason that lies on that line was written
 abbrev pub IsReasonToldAt : ℕ → Option (List ℕ) → Option (List ℕ) → Type 0
-IsReasonToldAt n old new = (why : List ℕ) × Appends old new (reason_line n why)
+IsReasonToldAt n old new = (why : List ℕ) × IsReason why × Appends old new (reason_line n why)
 
 -- a reason was written where there is a fault, and lies on the fault's line; else nothing
 abbrev pub IsReasonTold : Option ℕ → Option (List ℕ) → Option (List ℕ) → Type 0
@@ -19,7 +24,7 @@ IsReasonTold (Some n) old new = IsReasonToldAt n old new
 
 -- where a stream failed: a beginning of a reason that lies on that line was written, all of it or nothing perhaps
 abbrev pub IsReasonBegunAt : ℕ → Option (List ℕ) → Option (List ℕ) → Type 0
-IsReasonBegunAt n old new = (why : List ℕ) × (done : List ℕ) × IsBeginning done (reason_line n why) × Appends old new done
+IsReasonBegunAt n old new = (why : List ℕ) × IsReason why × (done : List ℕ) × IsBeginning done (reason_line n why) × Appends old new done
 
 -- the same where there is a fault, of the fault's line; else nothing was written
 abbrev pub IsReasonBegun : Option ℕ → Option (List ℕ) → Option (List ℕ) → Type 0

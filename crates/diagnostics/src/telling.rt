@@ -1,11 +1,12 @@
 //! The line that tells a reason.
-ghost use Rattle.std.specs.Prelude.{◌≡◌, ◌≤◌, ◌++◌, codes, IfErr, OnOk, OnErr};
+ghost use Rattle.std.specs.Prelude.{◌≡◌, ◌≤◌, ◌==◌, ◌++◌, codes, length, IfErr, OnOk, OnErr};
+ghost use Rattle.std.specs.List.{list_any};
 ghost use Rattle.std.specs.Fmt.{decimal};
 ghost use Rattle.arrayvec.specs.ArrayString.{array_string_len};
-ghost use Rattle.diagnostics.specs.Told.{IsReasonToldAt, IsReasonBegunAt};
+ghost use Rattle.diagnostics.specs.Told.{IsReason, IsReasonToldAt, IsReasonBegunAt, reason_line};
 
 use crate::shown::shown_byte;
-use arrayvec::ArrayString;
+use arrayvec::{ArrayString, ArrayVec};
 use line_loop::{EngineFault, write_out};
 use operation_text::{Expected, Misfit, cut, write_decimal};
 use std::fmt::Write;
@@ -52,6 +53,27 @@ fn beginning(line: u64) -> ArrayString<512>
     text.push_str("pciex: line ");
     write_decimal(line, &mut text);
     text
+}
+
+/// What is told of a reason that has more than one line, or says nothing.
+const REFUSED: &[u8] = b": it is refused";
+
+fn has_line_feed(text: &[u8]) -> bool
+    ensures { result ≡ list_any (λ b. b == 10) text.now }
+{
+    text.contains(&b'\n')
+}
+
+/// The line of a reason.
+fn line_of(number: u64, why: &[u8]) -> ArrayVec<u8, 1057>
+    requires { length why.now ≤ 1024 }
+    ensures { result.items ≡ reason_line number why.now }
+{
+    let mut line = ArrayVec::new();
+    let _ = line.try_extend_from_slice(beginning(number).as_bytes());
+    let _ = line.try_extend_from_slice(why);
+    line.push(b'\n');
+    line
 }
 
 impl Reason {
@@ -112,6 +134,19 @@ impl Reason {
         let _ = write!(self.text, "{part}");
     }
 
+    /// What is told: the text, if it is one line that says something.
+    fn said(&self) -> &[u8]
+        ensures reason { IsReason result.now }
+        ensures len { length result.now ≤ 1024 }
+    {
+        let text = self.text.as_bytes();
+        if text.is_empty() || has_line_feed(text) {
+            REFUSED
+        } else {
+            text
+        }
+    }
+
     /// Writes the line of a reason that lies on the line of this number. After an `Err` a beginning of it
     /// was written.
     pub fn tell_at<E: io::Write>(&self, number: u64, errors: &mut E) -> Result<(), EngineFault>
@@ -119,10 +154,7 @@ impl Reason {
         ensures fault { IfErr result (λ f. f ≡ EngineFault.Write) }
         ensures part { OnErr result (IsReasonBegunAt number (E.contents errors.old) (E.contents errors.new)) }
     {
-        let mut line: ArrayString<1057> = ArrayString::new();
-        line.push_str(beginning(number).as_str());
-        line.push_str(self.text.as_str());
-        line.push_str("\n");
-        write_out(errors, line.as_bytes())
+        let line = line_of(number, self.said());
+        write_out(errors, line.as_slice())
     }
 }

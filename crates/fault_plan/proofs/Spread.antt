@@ -173,3 +173,38 @@ failed_in_a_row lose corrupt start g h = by_case (grind arith)
         let part = part_le lose g in
         let other = part_le corrupt h in
         omega (arith, some, part, other)
+
+-- a plan that loses nothing
+
+failed_or_least : (corrupt count : ℕ) → 0 < corrupt →
+    one_if (is_failed (fate_of 0 corrupt count)) + one_if (nat_lt (spread count) (65536 - 65536 / corrupt)) ≡ 1
+failed_or_least corrupt count h =
+    let fails : nat_lt 0 corrupt ≡ true = grind (arith, nat_tests) in
+    rw fails (by_case (nat_le (65536 - 65536 / corrupt) (spread count)) (nat_lt (spread count) (65536 - 65536 / corrupt)) refl refl)
+  where
+    by_case : (c d : Bool) → nat_le (65536 - 65536 / corrupt) (spread count) ≡ c → nat_lt (spread count) (65536 - 65536 / corrupt) ≡ d →
+        one_if (is_failed (if c then Failed else Good)) + one_if d ≡ 1
+    by_case true false f i = refl
+    by_case false true f i = refl
+    by_case true true f i = absurd (grind (arith, nat_tests))
+    by_case false false f i = absurd (grind (arith, nat_tests))
+
+pub failed_alone_in_a_row : (corrupt start : ℕ) → 0 < corrupt → how_many (λ count. is_failed (fate_of 0 corrupt count)) start 65536 ≡ 65536 / corrupt
+failed_alone_in_a_row corrupt start h =
+    let all = all_but (λ count. is_failed (fate_of 0 corrupt count)) (λ count. nat_lt (spread count) (65536 - 65536 / corrupt)) start 65536
+    (λ i. failed_or_least corrupt i h) in
+    let part = part_le corrupt h in
+    let under = below start (65536 - 65536 / corrupt) (omega arith) in
+    omega (arith, all, under, part)
+
+not_lost : (corrupt count : ℕ) → is_lost (fate_of 0 corrupt count) ≡ false
+not_lost corrupt count = by_case (nat_lt 0 corrupt && nat_le (65536 - 65536 / corrupt) (spread count))
+  where
+    by_case : (c : Bool) → is_lost (if c then Failed else Good) ≡ false
+    by_case true = refl
+    by_case false = refl
+
+pub none_lost_in_a_row : (corrupt start n : ℕ) → how_many (λ count. is_lost (fate_of 0 corrupt count)) start n ≡ 0
+unfolding how_many
+none_lost_in_a_row corrupt start zero = refl
+none_lost_in_a_row corrupt start (suc n) = rw (none_lost_in_a_row corrupt start n, not_lost corrupt (start + n)) refl

@@ -24,10 +24,10 @@ use Rattle.port_monitor.specs.declared.watched.Watched.{Watched}
 use Rattle.port_monitor.specs.declared.fault.MonitorFault.{MonitorFault}
 use Rattle.port_monitor.specs.declared.fault.MonitorFault.TheVariants as faults
 use Rattle.port_monitor.specs.Watched.{fresh, open_at, is_other, request_fault, opens, enables_of, after_request, reply_to, replied, answered_by, answered, closed}
-use Rattle.port_monitor.specs.Monitoring.{Monitor, Outcome, new, watched, refused, is_requester, packet_by, packet_from, opening_by, opening, asking, request_by, request, completing_by, completing, completion_by, completion, acting_by, acting, acted}
-use Rattle.port_monitor.specs.Runs.{Call, Requests, Completes, Acts, after_call, record_if, recorded_by, recorded, IsWellFormed}
+use Rattle.port_monitor.specs.Monitoring.{Monitor, Outcome, new, watched, refused, is_requester, packet_by, packet_from, opening_by, opening, asking, request_by, request, completing_by, completing, completion_by, completion, giving_up, given_up, acting_by, acting, acted}
+use Rattle.port_monitor.specs.Runs.{Call, Requests, Completes, GivesUp, Acts, after_call, record_if, recorded_by, recorded, IsWellFormed}
 use Rattle.port_monitor.proofs.Forms.{at_set}
-use Rattle.port_monitor.proofs.Kept.{at, Holds, Opens, sent_holds, said_holds, new_holds}
+use Rattle.port_monitor.proofs.Kept.{at, Holds, Opens, sent_holds, said_holds, given_up_holds, new_holds}
 
 in_range : (i : ℕ) → is_requester i ≡ true → i < 8
 in_range i e = grind (arith, nat_tests)
@@ -143,6 +143,16 @@ completion_keeps : (m : Monitor) (rs : List Record) (i : ℕ) (r : Result TlpVie
 completion_keeps m rs i (Err f) h range = refused_keeps m rs f h
 completion_keeps m rs i (Ok t) h range = of_kind_keeps m rs i t (is_completion t.kind) h (range t refl)
 
+-- ---- a tag is given up
+
+giving_up_keeps : (m : Monitor) (rs : List Record) (i tag : ℕ) (b : Bool) → Holds m.requesters rs → i < 8 → is_some (open_at (watched m i) tag) ≡ b → Holds (giving_up m i tag).monitor.requesters rs
+giving_up_keeps m rs i tag true h lt e = rw e (given_up_holds m.requesters rs h i tag lt)
+giving_up_keeps m rs i tag false h lt e = rw e h
+
+given_up_keeps : (m : Monitor) (rs : List Record) (i tag : ℕ) (b : Bool) → Holds m.requesters rs → is_requester i ≡ b → Holds (given_up m i tag).monitor.requesters rs
+given_up_keeps m rs i tag true h e = rw e (giving_up_keeps m rs i tag (is_some (open_at (watched m i) tag)) h (in_range i e) refl)
+given_up_keeps m rs i tag false h e = rw e h
+
 -- ---- a request acts
 
 if_same : (b : Bool) (x y : Outcome Entry) (ws : List Watched) → x.monitor.requesters ≡ ws → y.monitor.requesters ≡ ws → (if b then x else y).monitor.requesters ≡ ws
@@ -165,6 +175,7 @@ acted_same m i number = if_same (is_requester i) _ _ m.requesters (acting_same m
 call_keeps : (m : Monitor) (rs : List Record) (call : Call) → Holds m.requesters rs → Holds (after_call m call).requesters (rs ++ recorded_by m call)
 call_keeps m rs (Requests i bytes) h = request_keeps m rs i (packet_from i bytes) h (packet_range i bytes)
 call_keeps m rs (Completes i bytes) h = completion_keeps m rs i (packet_from i bytes) h (packet_range i bytes)
+call_keeps m rs (GivesUp i tag) h = subst (Holds (given_up m i tag).monitor.requesters) (sym (append-nil rs)) (given_up_keeps m rs i tag (is_requester i) h refl)
 call_keeps m rs (Acts i number) h = subst (λ ws. Holds ws (rs ++ [])) (sym (acted_same m i number)) (subst (Holds m.requesters) (sym (append-nil rs)) h)
 
 calls_keep : (calls : List Call) (m : Monitor) (rs : List Record) → Holds m.requesters rs → IsWellFormed (rs ++ recorded m calls)

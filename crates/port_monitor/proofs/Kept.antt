@@ -184,6 +184,38 @@ module _ (ws : List Watched) (rs : List Record) (h : Holds ws rs) (i t n : ℕ) 
     formed = formed_push rs said h.formed (λ j k m x e. absurd cc) asks;
   }
 
+-- ---- a tag that is given up
+
+module _ (ws : List Watched) (rs : List Record) (h : Holds ws rs) (i t : ℕ) (lt : i < 8) where
+  abbrev freed : Watched
+  freed = closed (at ws i) t
+
+  in_list'' : i < length ws
+  in_list'' = omega (arith, h.eight, lt)
+
+  open_before : (tag : ℕ) (p : OpenRequest) → open_at freed tag ≡ Some p → open_at (at ws i) tag ≡ Some p
+  open_before tag p e = elim (at_set (at ws i).open_tags t tag None p e) [
+    | inl same ↦ absurd (let no : ◌≡◌ {A = Option OpenRequest} None (Some p) = same.1 in cc)
+    | inr other ↦ other.1
+  ]
+
+  pub given_up_holds : Holds (slice_set ws i freed) rs
+  given_up_holds = record {
+    eight = length-set ws i freed ∙ h.eight;
+    counted = each (λ j v. v.next ≡ length (submissions rs j)) ws i freed in_list'' (h.counted i) (λ j ne. h.counted j);
+    asked = each (λ j v. (tag : ℕ) (p : OpenRequest) → open_at v tag ≡ Some p → IsAsked rs j p.number) ws i freed in_list''
+        (λ tag p e. h.asked i tag p (open_before tag p e))
+        (λ j ne. h.asked j);
+    given = each (λ j v. (tag : ℕ) (p : OpenRequest) → open_at v tag ≡ Some p → p.number < v.next) ws i freed in_list''
+        (λ tag p e. h.given i tag p (open_before tag p e))
+        (λ j ne. h.given j);
+    one_tag = each (λ j v. (tag other : ℕ) (p q : OpenRequest) → open_at v tag ≡ Some p → open_at v other ≡ Some q → p.number ≡ q.number → tag ≡ other) ws i freed in_list''
+        (λ tag other p q e f same. h.one_tag i tag other p q (open_before tag p e) (open_before other q f) same)
+        (λ j ne. h.one_tag j);
+    unsent = each (λ j v. (k : ℕ) → v.next ≤ k → list_any (answers_to j k) rs ≡ false) ws i freed in_list'' (h.unsent i) (λ j ne. h.unsent j);
+    formed = h.formed;
+  }
+
 -- ---- at first
 
 no_tag : (tag : ℕ) (o : OpenRequest) → (tag < 256) ⊎ (256 ≤ tag) → open_at fresh tag ≡ Some o → ⊥

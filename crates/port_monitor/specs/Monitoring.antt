@@ -1,5 +1,5 @@
 -- A monitor: what it knows, and what each call records and changes.
-use Rattle.std.specs.Prelude.{ℕ, ◌≡◌, ◌+◌, ◌==◌, ◌&&◌, nat_le, Bool, true, false, if◌then◌else◌, List, [], ◌∷◌, ◌++◌, length, replicate, slice_set, slice_get, get_or, remove, position, sum_by, Option, Some, None, Result, Ok, Err}
+use Rattle.std.specs.Prelude.{ℕ, ⊤, ◌≡◌, ◌+◌, ◌==◌, ◌&&◌, nat_le, Bool, true, false, if◌then◌else◌, List, [], ◌∷◌, ◌++◌, length, replicate, slice_set, slice_get, get_or, remove, position, sum_by, is_some, Option, Some, None, Result, Ok, Err}
 use Rattle.tlp_core.specs.declared.operation.Op.{Op}
 use Rattle.tlp_core.specs.declared.fault.TlpFault.{TlpFault}
 use Rattle.tlp_core.specs.TlpView.{TlpView}
@@ -13,7 +13,7 @@ use Rattle.history_check.specs.Trace.{is_request}
 use Rattle.port_monitor.specs.declared.watched.Watched.{Watched}
 use Rattle.port_monitor.specs.declared.fault.MonitorFault.{MonitorFault}
 use Rattle.port_monitor.specs.declared.fault.MonitorFault.TheVariants as faults
-use Rattle.port_monitor.specs.Watched.{fresh, open_count, request_fault, after_request, answered, closed}
+use Rattle.port_monitor.specs.Watched.{fresh, open_at, open_count, request_fault, after_request, answered, closed}
 
 -- a monitor as contracts see it
 pub record Monitor : Type 0 where
@@ -121,6 +121,18 @@ completion_by m i (Ok t) = if is_completion t.kind then completing m i t else re
 -- a port carried a completion
 abbrev pub completion : Monitor → ℕ → List ℕ → Outcome Record
 completion m i bytes = completion_by m i (packet_from i bytes)
+
+-- ---- tags that are given up
+
+-- the request that is open under the tag gets no answer, and the tag is free
+abbrev pub giving_up : Monitor → ℕ → ℕ → Outcome ⊤
+giving_up m i tag =
+    if is_some (open_at (watched m i) tag) then record { answer = Ok tt; monitor = with_requester m i (closed (watched m i) tag) }
+    else refused m faults.Unexpected
+
+-- a requester's completion under a tag is waited for no longer
+abbrev pub given_up : Monitor → ℕ → ℕ → Outcome ⊤
+given_up m i tag = if is_requester i then giving_up m i tag else refused m faults.NoRequester
 
 -- ---- requests that act
 

@@ -8,18 +8,20 @@ use Rattle.history_check.specs.declared.Record.{Record}
 use Rattle.history_check.specs.declared.Record.TheVariants as records
 use Rattle.history_check.specs.Trace.{IsNumbered, answers_to}
 use Rattle.port_monitor.specs.declared.fault.MonitorFault.{MonitorFault}
-use Rattle.port_monitor.specs.Monitoring.{Monitor, Outcome, request, completion, acted}
+use Rattle.port_monitor.specs.Monitoring.{Monitor, Outcome, request, completion, given_up, acted}
 
--- a port carries a request or a completion, with its bytes; or a request acts. A call that is refused for memory changes
+-- a port carries a request or a completion, with its bytes; a tag is given up; or a request acts. A call that is refused for memory changes
 -- nothing, and counts as none
 pub data Call : Type 0 where
   Requests : ℕ → List ℕ → Call
   Completes : ℕ → List ℕ → Call
+  GivesUp : ℕ → ℕ → Call
   Acts : ℕ → ℕ → Call
 
 abbrev pub after_call : Monitor → Call → Monitor
 after_call m (Requests i bytes) = (request m i bytes).monitor
 after_call m (Completes i bytes) = (completion m i bytes).monitor
+after_call m (GivesUp i tag) = (given_up m i tag).monitor
 after_call m (Acts i number) = (acted m i number).monitor
 
 -- the record of a call that isn't refused
@@ -30,6 +32,7 @@ record_if (Err f) = []
 abbrev pub recorded_by : Monitor → Call → List Record
 recorded_by m (Requests i bytes) = record_if (request m i bytes).answer
 recorded_by m (Completes i bytes) = record_if (completion m i bytes).answer
+recorded_by m (GivesUp i tag) = []
 recorded_by m (Acts i number) = []
 
 -- the records of all calls, in order

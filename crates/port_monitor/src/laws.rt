@@ -9,7 +9,7 @@ ghost use Rattle.history_check.specs.declared.Record.TheVariants as records;
 ghost use Rattle.port_monitor.specs.Monitoring.{Monitor, new, request, watched};
 ghost use Rattle.port_monitor.specs.Runs.{Call, recorded, IsWellFormed};
 
-/// Whatever the ports carry and whichever requests are said to act: the numbers of each requester's
+/// Whatever the ports carry, whichever tags are given up and whichever requests are said to act: the numbers of each requester's
 /// submissions are 0, 1, 2 and so on, and each answer is to an earlier non-posted request that wasn't
 /// answered before. That is the form of a trace that can be explained: `numbered` of `Explains`, and
 /// `asked`, `not_posted` and `unanswered` of `IsExplained`, in `history_check`.

@@ -118,17 +118,18 @@ impl Monitor {
         ensures no_memory { IfErr result (λ f. f ≡ faults.Memory → (self.old.is_trace ≡ true) × IsOk (spec.opening self.old requester request.now op.now).answer) }
         ensures unchanged { OnErr result (self.new ≡ self.old) }
     {
-        let watched = self.requesters[usize::from(requester)];
+        let watched = &self.requesters[usize::from(requester)];
         if let Some(fault) = watched.request_fault(request) {
             return Err(fault);
         }
-        if self.wait(requester, watched.next, op).is_err() {
+        let number = watched.next;
+        if self.wait(requester, number, op).is_err() {
             return Err(MonitorFault::Memory);
         }
         self.requesters[usize::from(requester)].ask(request);
         Ok(Record::Sub {
             requester,
-            number: watched.next,
+            number,
             op: op.to_owned(),
             n: self.acted,
         })
@@ -190,6 +191,26 @@ impl Monitor {
             return Err(MonitorFault::NoCompletion);
         }
         self.answer(requester, &completion)
+    }
+
+    /// No completion is waited for any longer under the tag: the tag is free, and the request that was
+    /// open under it has no answer. So after a completion that was refused with `Mismatch`, or one that
+    /// never came. The first that holds of `NoRequester` and `Unexpected` if no request is open under
+    /// the tag; then nothing has changed. Takes no memory.
+    pub fn give_up(&mut self, requester: u8, tag: u8) -> Result<(), MonitorFault>
+        ensures answer { result ≡ (spec.given_up self.old requester tag).answer }
+        ensures state { self.new ≡ (spec.given_up self.old requester tag).monitor }
+        ensures unchanged { OnErr result (self.new ≡ self.old) }
+    {
+        if !is_requester(requester) {
+            return Err(MonitorFault::NoRequester);
+        }
+        let watched = &mut self.requesters[usize::from(requester)];
+        if !watched.is_open(tag) {
+            return Err(MonitorFault::Unexpected);
+        }
+        watched.close(tag);
+        Ok(())
     }
 
     /// A request acted on the memory: its entry, the next of the history. The first that holds of

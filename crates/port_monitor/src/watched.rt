@@ -1,5 +1,5 @@
 //! What a monitor knows of one requester.
-ghost use Rattle.std.specs.Prelude.{◌≡◌, ◌≤◌, ◌<◌, ◌%◌, IfNone, length};
+ghost use Rattle.std.specs.Prelude.{◌≡◌, ◌≤◌, ◌<◌, ◌%◌, IfNone, is_some, length};
 ghost use Rattle.requester_core.specs.RequesterView as requesting;
 ghost use Rattle.port_monitor.specs.Watched as spec;
 
@@ -118,13 +118,20 @@ impl Watched {
         }
     }
 
+    /// Whether a request is open under the tag.
+    pub(crate) fn is_open(&self, tag: u8) -> bool
+        ensures { result ≡ is_some (spec.open_at self.now tag) }
+    {
+        self.open_tags[usize::from(tag)].is_some()
+    }
+
     /// Whether the request needs a tag that is open.
     fn needs_open_tag(&self, request: &TlpRef<'_>) -> bool
         ensures { result ≡ spec.needs_open_tag self.now request.now }
     {
         match request.header.kind {
             Kind::MemoryWrite => false,
-            _ => self.open_tags[usize::from(request.header.tag)].is_some(),
+            _ => self.is_open(request.header.tag),
         }
     }
 

@@ -1,4 +1,4 @@
-use Rattle.std.proofs.Common.{◌≡◌, refl, subst}
+use Rattle.std.proofs.Common.{◌≡◌, ◌∙◌, refl, subst}
 use Rattle.std.specs.Io.KnownBytes.{Appends}
 use Rattle.std.proofs.lemmas.Result.{on_ok_weaker, on_err_weaker}
 use Rattle.line_loop.specs.Run.{IsBeginning}
@@ -7,16 +7,14 @@ use Rattle.diagnostics.proofs.telling.Reason.tell_at.Goals as goal
 
 pub returns-clause-ok : goal.returns-clause-ok
 returns-clause-ok g c =
-    let whole : c.as_bytes.result.now ≡ reason_line c.args.number c.args.self.now.text.bytes =
-    rw (c.as_bytes.ensures.value, c.deref.ensures.0, c.push_str-3.ensures.bytes, c.push_str-2.ensures.bytes, c.as_str-2.ensures.value, c.push_str.ensures.bytes, c.as_str.ensures.value, c.beginning.ensures.text, c.new-line.ensures) refl in
+    let whole : c.as_slice.result.now ≡ reason_line c.args.number c.said.result.now = c.as_slice.ensures.value ∙ c.line_of-line.ensures in
     on_ok_weaker c.write_out.result
-    (λ w. (c.args.self.now.text.bytes, subst (Appends (g.E.Write.contents c.args.errors.now) (g.E.Write.contents c.write_out.new.writer)) whole w))
+    (λ w. (c.said.result.now, c.said.ensures.reason, subst (Appends (g.E.Write.contents c.args.errors.now) (g.E.Write.contents c.write_out.new.writer)) whole w))
     c.write_out.ensures.ok
 
 pub returns-clause-part : goal.returns-clause-part
 returns-clause-part g c =
-    let whole : c.as_bytes.result.now ≡ reason_line c.args.number c.args.self.now.text.bytes =
-    rw (c.as_bytes.ensures.value, c.deref.ensures.0, c.push_str-3.ensures.bytes, c.push_str-2.ensures.bytes, c.as_str-2.ensures.value, c.push_str.ensures.bytes, c.as_str.ensures.value, c.beginning.ensures.text, c.new-line.ensures) refl in
+    let whole : c.as_slice.result.now ≡ reason_line c.args.number c.said.result.now = c.as_slice.ensures.value ∙ c.line_of-line.ensures in
     on_err_weaker c.write_out.result
-    (λ w. (c.args.self.now.text.bytes, w.0, subst (IsBeginning w.0) whole w.1, w.2))
+    (λ w. (c.said.result.now, c.said.ensures.reason, w.0, subst (IsBeginning w.0) whole w.1, w.2))
     c.write_out.ensures.part
