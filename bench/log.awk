@@ -1,8 +1,11 @@
 # A log of a memory of 4096 bytes for `pciex search`: awk -v plan=PLAN -v requests=N -f log.awk. Seven requesters;
-# requests act at some moment between their submission and their answer, those of a requester in their order.
+# requests act at some moment between their submission and their answer, those of a requester in their order. With
+# -v wrong=K one answer is wrong: of the requests that act K-th or later the first read is told what its word was 12 changes
+# before; of a counter the first addition is told what the one before it was told.
 #
 #   counter   FetchAdds of 1 to one word, up to 256 open requests a requester
 #   mixed     all operations on 16 words, up to 8 open requests a requester
+#   atomic    the same without writes
 #   locks     each requester takes a lock with CAS, reads and writes behind it, and gives it back with Swap
 function random(n) {
     seed = (seed * 16807) % 2147483647
@@ -38,9 +41,9 @@ function fresh() {
 function submit(who,    kind, address) {
     if (plan == "counter") {
         ask(who, "add", 64, 1)
-    } else if (plan == "mixed") {
+    } else if (plan == "mixed" || plan == "atomic") {
         address = 64 * random(16)
-        kind = random(6)
+        kind = plan == "mixed" ? random(6) : 1 + random(5)
         if (kind == 0) ask(who, "write", address, fresh())
         else if (kind == 1) ask(who, "add", address, fresh())
         else if (kind == 2) ask(who, "swap", address, fresh())
@@ -57,15 +60,33 @@ function submit(who,    kind, address) {
         ask(who, "swap", 0, 0)
     }
 }
+# What the word is now. It is kept with its last 12 values.
+function change(address, value) {
+    memory[address] = value
+    olds[address " " changes[address]++] = value
+    delete olds[address " " changes[address] - 14]
+}
+# What the request is told that acts now, where the word was that.
+function told(asked, address, was) {
+    acts++
+    if (!wrong || acts < wrong) return was
+    if (plan == "counter") {
+        wrong = 0
+        return was - 1
+    }
+    if (kinds[asked] != "read" || changes[address] < 13) return was
+    wrong = 0
+    return olds[address " " changes[address] - 13]
+}
 # The requester's next request acts.
 function act(who,    asked, was, address) {
     asked = who " " acted[who]
     address = places[asked]
     was = memory[address] + 0
-    if (kinds[asked] == "add") memory[address] = (was + firsts[asked]) % 4294967296
-    else if (kinds[asked] == "cas") { if (was == firsts[asked]) memory[address] = seconds[asked] }
-    else if (kinds[asked] != "read") memory[address] = firsts[asked]
-    replies[asked] = was
+    replies[asked] = told(asked, address, was)
+    if (kinds[asked] == "add") change(address, (was + firsts[asked]) % 4294967296)
+    else if (kinds[asked] == "cas") { if (was == firsts[asked]) change(address, seconds[asked]) }
+    else if (kinds[asked] != "read") change(address, firsts[asked])
     acted[who]++
     if (kinds[asked] == "write") open[who]--
 }
@@ -91,7 +112,7 @@ function answer(who,    asked) {
 BEGIN {
     seed = 1
     left = requests
-    most = plan == "counter" ? 256 : plan == "mixed" ? 8 : 1
+    most = plan == "counter" ? 256 : plan == "mixed" || plan == "atomic" ? 8 : 1
     for (who = 1; who <= 7; who++) submitted[who] = acted[who] = answered[who] = open[who] = stage[who] = 0
     print "pciex-log 1"
     print "memory 0 4096 64"

@@ -12,15 +12,10 @@ use std::alloc::{AllocError, Global};
 /// What was found out of the part of a log on a range of bytes.
 #[derive(Drop)]
 pub(crate) struct Explored {
-    pub(crate) outcome: Outcome,
+    /// How far it reached is told by a place of the whole log.
+    pub(crate) found: Exploration,
     /// The places in the log of the part's events.
     pub(crate) names: Vec<usize>,
-    /// How many choices were looked at.
-    pub(crate) states: u64,
-    /// No answer behind this place of the log was needed to see that there is no run.
-    pub(crate) reach: usize,
-    /// How much work is left.
-    pub(crate) work: u64,
 }
 
 /// Looks for a run through the part of the log on the bytes from `range.0` up to `range.1`, within the
@@ -33,31 +28,26 @@ pub(crate) fn explored_on(
     bounds: Bounds,
 ) -> Result<Explored, AllocError>
     requires places { ArePlaces log.now.events cells.now }
-    ensures dead { IfOk result (λ r. r.outcome ≡ Outcome.Dead → Dead log.now (start log.now)) }
-    ensures states { IfOk result (λ r. r.states ≤ bounds.choices) }
+    ensures dead { IfOk result (λ r. r.found.outcome ≡ Outcome.Dead → Dead log.now (start log.now)) }
+    ensures states { IfOk result (λ r. r.found.states ≤ bounds.choices) }
 {
     let Some(part) = part(alloc, log, cells, range.0, range.1)? else {
-        return Ok(Explored {
+        let found = Exploration {
             outcome: Outcome::Limit,
-            names: Vec::new(alloc),
             states: 0,
             reach: 0,
             work: bounds.work,
+        };
+        return Ok(Explored {
+            found,
+            names: Vec::new(alloc),
         });
     };
-    let Exploration {
-        outcome,
-        states,
-        reach,
-        work,
-    } = explore(alloc, &part.log, Way::Part, bounds)?;
-    let reach = part.names.get(reach).copied().unwrap_or(log.len());
+    let mut found = explore(alloc, &part.log, Way::Part, bounds)?;
+    found.reach = part.names.get(found.reach).copied().unwrap_or(log.len());
     Ok(Explored {
-        outcome,
+        found,
         names: part.names,
-        states,
-        reach,
-        work,
     })
 }
 
@@ -183,19 +173,13 @@ fn each_of(
             choices: left / 4,
             work,
         };
-        let Explored {
-            outcome,
-            names,
-            states,
-            reach,
-            work: rest,
-        } = explored_on(alloc, log, cells, range, each)?;
-        left -= states;
-        work = rest;
-        match outcome {
+        let Explored { found, names } = explored_on(alloc, log, cells, range, each)?;
+        left -= found.states;
+        work = found.work;
+        match found.outcome {
             Outcome::Run(steps) => note(turns, part, places, &names, &steps),
             Outcome::Dead => {
-                let reach = named(places, reach).unwrap_or(usize::MAX);
+                let reach = named(places, found.reach).unwrap_or(usize::MAX);
                 return Ok(so_far(Some(DeadRange { range, reach }), left, work));
             }
             Outcome::Limit => {}

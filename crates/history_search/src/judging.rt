@@ -9,10 +9,9 @@ use crate::moments::confirmed;
 use history_check::Trace;
 use log_cells::Cells;
 use log_events::{Partners, form_of, log_of};
+use log_runs::Log;
 use log_runs::laws::{explainable_has_a_run, explainable_is_well_formed, prefix_is_explainable};
-use log_runs::{Log, Step};
 use run_search::{Bounds, Outcome, Way, explore};
-use search_choices::Turn;
 use search_rules::first_unanswerable;
 use std::alloc::{AllocError, Global};
 
@@ -24,8 +23,6 @@ pub(crate) struct Judgment {
     pub(crate) states: u64,
     /// By what it was seen that there is no run, if there is none.
     pub(crate) clue: Clue,
-    /// How much work is left.
-    pub(crate) work: u64,
 }
 
 /// By what it was seen that there is no run.
@@ -38,7 +35,7 @@ pub(crate) struct Clue {
 }
 
 /// There is no run, as was seen by the answer at that place, or on cells, at so many choices.
-fn dead(states: u64, range: Option<(u64, u64)>, reach: usize, work: u64) -> Judgment
+fn dead(states: u64, range: Option<(u64, u64)>, reach: usize) -> Judgment
     ensures outcome { result.outcome ≡ Outcome.Dead }
     ensures states { result.states ≡ states }
 {
@@ -46,35 +43,11 @@ fn dead(states: u64, range: Option<(u64, u64)>, reach: usize, work: u64) -> Judg
         outcome: Outcome::Dead,
         states,
         clue: Clue { range, reach },
-        work,
     }
 }
 
-/// Looks for a run through the whole log. The runs through its parts are a guide.
-fn explored_whole(
-    alloc: Global,
-    log: &Log<'_>,
-    turns: &[Turn],
-    bounds: Bounds,
-) -> Result<Judgment, AllocError>
-    ensures dead { IfOk result (λ r. r.outcome ≡ Outcome.Dead → Dead log.now (start log.now)) }
-    ensures states { IfOk result (λ r. r.states ≤ bounds.choices) }
-    ensures limit { IfOk result (λ r. r.outcome ≡ Outcome.Limit → r.states ≡ bounds.choices) }
-{
-    let found = explore(alloc, log, Way::Whole(turns), bounds)?;
-    Ok(Judgment {
-        outcome: found.outcome,
-        states: found.states,
-        clue: Clue {
-            range: None,
-            reach: found.reach,
-        },
-        work: found.work,
-    })
-}
-
 /// Looks for a run through the log, first through its part on each cell of the memory, with a tenth of
-/// the choices.
+/// the choices. The runs through its parts are a guide to the whole.
 fn explored_parts(alloc: Global, log: &Log<'_>, bounds: Bounds) -> Result<Judgment, AllocError>
     ensures dead { IfOk result (λ r. r.outcome ≡ Outcome.Dead → Dead log.now (start log.now)) }
     ensures states { IfOk result (λ r. r.states ≤ bounds.choices) }
@@ -86,15 +59,22 @@ fn explored_parts(alloc: Global, log: &Log<'_>, bounds: Bounds) -> Result<Judgme
     };
     let parts = parts_of(alloc, log, few)?;
     if let Some(by) = parts.dead {
-        return Ok(dead(parts.states, Some(by.range), by.reach, parts.work));
+        return Ok(dead(parts.states, Some(by.range), by.reach));
     }
     let rest = Bounds {
         choices: bounds.choices - parts.states,
         work: parts.work,
     };
-    let mut found = explored_whole(alloc, log, &parts.turns, rest)?;
-    found.states += parts.states;
-    Ok(found)
+    let found = explore(alloc, log, Way::Whole(&parts.turns), rest)?;
+    let clue = Clue {
+        range: None,
+        reach: found.reach,
+    };
+    Ok(Judgment {
+        outcome: found.outcome,
+        states: parts.states + found.states,
+        clue,
+    })
 }
 
 /// Looks for a run through the log, within the bounds. An answer that no memory gives ends it at once.
@@ -104,7 +84,7 @@ fn explored(alloc: Global, log: &Log<'_>, bounds: Bounds) -> Result<Judgment, Al
     ensures limit { IfOk result (λ r. r.outcome ≡ Outcome.Limit → r.states ≡ bounds.choices) }
 {
     match first_unanswerable(log) {
-        Some(at) => Ok(dead(0, None, at, bounds.work)),
+        Some(at) => Ok(dead(0, None, at)),
         None => explored_parts(alloc, log, bounds),
     }
 }
@@ -143,8 +123,8 @@ fn explored_by(
         return Ok(found.outcome);
     };
     let cells = Cells::of(alloc, log)?;
-    let found = explored_on(alloc, log, &cells, range, bounds)?;
-    Ok(found.outcome)
+    let explored = explored_on(alloc, log, &cells, range, bounds)?;
+    Ok(explored.found.outcome)
 }
 
 /// Looks for a run through the first `count` records, on the bytes of a range alone, if there is one.
@@ -165,16 +145,6 @@ pub(crate) fn judged_on(
     Ok(found)
 }
 
-/// The steps make a history that explains the trace with other n's; false where that isn't so.
-fn is_confirmed(alloc: Global, trace: &mut Trace, steps: Vec<Step>) -> Result<bool, AllocError>
-    ensures { IfOk result (λ yes. yes ≡ true → IsExplainable trace.old) }
-{
-    match confirmed(alloc, trace, steps)? {
-        Some(_) => Ok(true),
-        None => Ok(false),
-    }
-}
-
 /// A history explains the first `count` records; false where it isn't found.
 pub(crate) fn is_explainable(
     alloc: Global,
@@ -191,14 +161,16 @@ pub(crate) fn is_explainable(
         return Ok(false);
     };
     let mut part = copies::prefix(alloc, trace, count)?;
-    let yes = is_confirmed(alloc, &mut part, steps)?;
-    Ok(yes)
+    let history = confirmed(alloc, &mut part, steps)?;
+    Ok(history.is_some())
 }
 
-/// No history explains the records, as far as it is found out within the bounds.
+/// No history explains the records, as far as it is found out within the bounds on the bytes of a range alone,
+/// if there is one.
 pub(crate) fn is_unexplained(
     alloc: Global,
     trace: &Trace,
+    range: Option<(u64, u64)>,
     bounds: Bounds,
 ) -> Result<bool, AllocError>
     ensures { IfOk result (λ yes. yes ≡ true → IsExplainable trace.now → ⊥) }
@@ -210,9 +182,6 @@ pub(crate) fn is_unexplained(
         return Ok(true);
     }
     let count = trace.records.len();
-    let judgment = judged(alloc, trace, &form.partners, count, bounds)?;
-    match judgment.outcome {
-        Outcome::Dead => Ok(true),
-        _ => Ok(false),
-    }
+    let outcome = judged_on(alloc, trace, &form.partners, count, range, bounds)?;
+    Ok(matches!(outcome, Outcome::Dead))
 }

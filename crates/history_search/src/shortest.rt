@@ -3,11 +3,12 @@ ghost use Rattle.std.specs.Prelude.{◌≤◌, ◌<◌, ◌+◌, IfOk, IfSome, l
 ghost use Rattle.history_search.specs.Prefixes.{IsUnexplained, IsExplainedBefore};
 
 use crate::judging::{Clue, is_explainable, judged_on};
-use history_check::Trace;
+use history_check::{Record, Trace};
 use log_events::{Partners, form_of};
 use log_runs::laws::prefix_is_explainable;
 use run_search::{Bounds, Outcome};
 use std::alloc::{AllocError, Global};
+use tlp_core::Op;
 
 /// How many choices the search for a prefix looks at, at most.
 const EACH: u64 = 20_000;
@@ -85,6 +86,19 @@ fn halved(
     Ok(high)
 }
 
+/// Where more AtomicOps are open at the end of a prefix, they have too many orders for a search.
+const OPEN: usize = 256;
+
+/// Request `b` is an AtomicOp whose answer stands behind the first `count` records.
+fn is_open(trace: &Trace, partners: &Partners, count: usize, b: usize) -> bool {
+    match (trace.records.get(b), partners.of(b)) {
+        (Some(Record::Sub { op, .. }), Some(answer)) => {
+            !matches!(op, Op::Read { .. }) && answer >= count
+        }
+        _ => false,
+    }
+}
+
 /// Looks for a shorter prefix without a history, first by the cells on which there is none.
 pub(crate) fn shortened(
     alloc: Global,
@@ -97,7 +111,15 @@ pub(crate) fn shortened(
     requires { IsUnexplained trace.now prefix }
     ensures { IfOk result (IsUnexplained trace.now) }
 {
-    let first = clue.reach.saturating_add(1);
+    let first = clue.reach.saturating_add(1).min(prefix);
+    if clue.range.is_none()
+        && (0..first)
+            .filter(|b| is_open(trace, partners, first, *b))
+            .count()
+            > OPEN
+    {
+        return Ok(prefix);
+    }
     let near = halved(alloc, trace, partners, prefix, first, clue.range, limit)?;
     if clue.range.is_none() || near > LONG {
         return Ok(near);

@@ -10,7 +10,7 @@ ghost use Rattle.history_search.specs.Contradictions.{Contradict};
 use crate::copies::keeping;
 use crate::judging::is_unexplained;
 use history_check::{Record, Trace};
-use log_cells::{Cells, LogPart, part};
+use log_cells::{Cells, part};
 use log_events::{form_of, log_of};
 use log_runs::{Event, Log};
 use run_search::{Bounds, Outcome, Way, explore};
@@ -26,9 +26,9 @@ const ALL: u64 = 100_000;
 const SEARCHES: u32 = 64;
 
 /// How much work all of them do for each record, and at least.
-const WORK: u64 = 16;
+const WORK: u64 = 12;
 
-const LEAST: u64 = 200_000;
+const LEAST: u64 = 100_000;
 
 /// How much work it is to make a log, for each of its events.
 const EVENT: u64 = 4;
@@ -159,55 +159,62 @@ impl Thinning<'_> {
     }
 }
 
-/// Few of the answers of a log, with which it has no run either, if it has none with all.
-fn thinned(alloc: Global, log: &Log<'_>, left: Bounds) -> Result<Option<Vec<usize>>, AllocError> {
+/// Few answers, and the cell that they are of, if it is known.
+#[derive(Drop)]
+struct Few {
+    kept: Vec<usize>,
+    range: Option<(u64, u64)>,
+}
+
+/// Few of the answers of a log without a run, with which it has none either.
+fn thinned(alloc: Global, log: &Log<'_>, left: Bounds) -> Result<Vec<usize>, AllocError> {
     let kept = answers_of(alloc, log)?;
     let size = kept.len() / 2 + 1;
     let mut thinning = Thinning {
         log,
-        kept: Vec::new(alloc),
+        kept,
         from: 0,
         size,
         left,
     };
-    if !thinning.is_dead(alloc, &kept)? {
-        return Ok(None);
-    }
-    thinning.kept = kept;
-    for _search in 1..SEARCHES {
+    for _search in 0..SEARCHES {
         if thinning.thin(alloc)? {
             break;
         }
     }
-    Ok(Some(thinning.kept))
+    Ok(thinning.kept)
 }
 
-/// The part of the log on the cell of its last answer.
-fn cell_of<'a>(alloc: Global, log: &Log<'a>) -> Result<Option<LogPart<'a>>, AllocError> {
-    let Some(last) = log.len().checked_sub(1) else {
-        return Ok(None);
-    };
-    let Some(address) = address_at(log, last) else {
-        return Ok(None);
-    };
+/// The cell of the log's last answer, if it isn't the only one.
+fn last_cell(log: &Log<'_>, cells: &Cells) -> Option<(u64, u64)> {
+    let last = log.len().checked_sub(1)?;
+    if cells.count() <= 1 {
+        return None;
+    }
+    cells.around(address_at(log, last)?)
+}
+
+/// Few of the answers of the log, which has no run: those of the cell of the last one, if that has none, else
+/// of all.
+fn few_of(alloc: Global, log: &Log<'_>, mut left: Bounds) -> Result<Few, AllocError> {
     let cells = Cells::of(alloc, log)?;
-    match cells.around(address) {
-        Some((low, high)) => part(alloc, log, &cells, low, high),
-        None => Ok(None),
-    }
-}
-
-/// Few of the answers of the log: those of the cell of the last one, if that has no run, else of all.
-fn few_of(alloc: Global, log: &Log<'_>, left: Bounds) -> Result<Vec<usize>, AllocError> {
-    if let Some(cell) = cell_of(alloc, log)?
-        && let Some(kept) = thinned(alloc, &cell.log, left)?
+    if let Some(range) = last_cell(log, &cells)
+        && let Some(cell) = part(alloc, log, &cells, range.0, range.1)?
     {
-        return named(alloc, &kept, &cell.names);
+        let found = explore(alloc, &cell.log, Way::Part, left)?;
+        left.work = found.work;
+        if matches!(found.outcome, Outcome::Dead) {
+            let kept = thinned(alloc, &cell.log, left)?;
+            return Ok(Few {
+                kept: named(alloc, &kept, &cell.names)?,
+                range: Some(range),
+            });
+        }
     }
-    match thinned(alloc, log, left)? {
-        Some(kept) => Ok(kept),
-        None => answers_of(alloc, log),
-    }
+    Ok(Few {
+        kept: thinned(alloc, log, left)?,
+        range: None,
+    })
 }
 
 /// The places in the log of events of a part with these names.
@@ -221,33 +228,24 @@ fn named(alloc: Global, places: &[usize], names: &[usize]) -> Result<Vec<usize>,
     Ok(named)
 }
 
-/// The record answers the request.
-fn answers(seen: &Record, requester: u8, number: u32) -> bool {
+/// The request that the record answers.
+fn answered_by(seen: &Record) -> Option<(u8, u32)> {
     match seen {
         Record::Ans {
-            requester: who,
-            number: own,
+            requester,
+            number,
             ..
-        } => *who == requester && *own == number,
-        Record::Sub { .. } => false,
+        } => Some((*requester, *number)),
+        Record::Sub { .. } => None,
     }
 }
 
 /// The answers to the same request as the answer there.
 fn same_answers(alloc: Global, records: &[Record], place: usize) -> Result<Vec<usize>, AllocError> {
     let mut places = Vec::new(alloc);
-    let Some(
-        Record::Ans {
-            requester,
-            number,
-            ..
-        },
-    ) = records.get(place)
-    else {
-        return Ok(places);
-    };
+    let request = records.get(place).and_then(answered_by);
     for at in 0..records.len() {
-        if answers(&records[at], *requester, *number) {
+        if request.is_some() && answered_by(&records[at]) == request {
             places.push(at)?;
         }
     }
@@ -255,19 +253,16 @@ fn same_answers(alloc: Global, records: &[Record], place: usize) -> Result<Vec<u
 }
 
 /// Places of answers, as few of them as are found that no history explains.
-fn found(
-    alloc: Global,
-    trace: &Trace,
-    prefix: usize,
-    bounds: Bounds,
-) -> Result<Vec<usize>, AllocError> {
-    if prefix > trace.records.len() {
-        return Ok(Vec::new(alloc));
-    }
+fn found(alloc: Global, trace: &Trace, prefix: usize, bounds: Bounds) -> Result<Few, AllocError>
+    requires { prefix ≤ length trace.now.records }
+{
     let records = &trace.records[..prefix];
     let form = form_of(alloc, records)?;
     if let Some(flaw) = form.flaw {
-        return same_answers(alloc, records, flaw);
+        return Ok(Few {
+            kept: same_answers(alloc, records, flaw)?,
+            range: None,
+        });
     }
     let log = log_of(alloc, trace, &form.partners, prefix)?;
     few_of(alloc, &log, bounds)
@@ -292,12 +287,12 @@ pub fn contradiction(
         choices: limit.min(ALL),
         work: (prefix as u64).saturating_mul(WORK).max(LEAST),
     };
-    let kept = found(alloc, trace, prefix, bounds)?;
+    let Few { kept, range } = found(alloc, trace, prefix, bounds)?;
     if kept.len() > MAX_ANSWERS {
         return Ok(Vec::new(alloc));
     }
     let few = keeping(alloc, trace, prefix, &kept)?;
-    if is_unexplained(alloc, &few, bounds)? {
+    if is_unexplained(alloc, &few, range, bounds)? {
         return Ok(kept);
     }
     Ok(Vec::new(alloc))
