@@ -9,7 +9,7 @@ ghost use Rattle.hall_laws.specs.Parts.{IsPartName};
 ghost use Rattle.hall_laws.specs.Rule.{HasConfig};
 ghost use Rattle.hall_laws.specs.Tells.{SubmitTells, CollectTells, SeesTells, Met};
 ghost use Rattle.hall_assembly.specs.Opens.{IsUnused, Leaves};
-ghost use Rattle.hall_events.specs.Refusals.{IsRefused, IsPossibleInHall, IsBusy};
+ghost use Rattle.hall_events.specs.Refusals.{IsRefused, IsWithAnother, IsPossibleInHall, IsBusy};
 ghost use Rattle.hall_events.specs.Works.{Pumped, event_of};
 ghost use Rattle.hall_core.specs.Faults.{IsSeatCount, HasHallFault};
 ghost use Rattle.hall_core.specs.Views.{AreNewSeats, IsSeatOf};
@@ -141,13 +141,14 @@ impl Hall {
     /// length of the history, which the seat then has seen. None where no completion had arrived; the seat then has
     /// seen the history, too.
     ///
-    /// `Busy` where another seat has the memory, the requester or the receiver's end of its lane, in this order.
+    /// `Busy` where another seat has the memory, the requester or the receiver's end of its lane, in this order: the only
+    /// refusal.
     pub fn collect(&self, seat: &mut ReqSeat) -> Result<Option<Answered>, HallRefusal>
         requires { IsSeatOf self.now seat.old }
         ensures seat { IsSeatOf self.now seat.new }
         ensures collected { IfOk result (λ o. MatchOption o (SeesTells seat.old.knows seat.new.knows) (λ a. CollectTells seat.old.knows a.number a.reply a.n seat.new.knows)) }
         ensures refused { IfErr result (λ _. seat.new ≡ seat.old) }
-        ensures why { IfErr result (λ r. IsRefused seat.old.knows (Collect (seat.old.knows.number + 1)) r) }
+        ensures why { IfErr result (λ r. IsWithAnother seat.old.knows (Collect (seat.old.knows.number + 1)) r) }
         ensures possible { IfErr result (λ r. IsPossibleInHall r) }
     {
         each_refusal_is_possible();

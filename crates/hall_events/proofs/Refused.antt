@@ -1,7 +1,12 @@
 -- Refusals.
-use Rattle.std.proofs.Common.{◌≡◌, ℕ, zero, suc, ◌<◌, ◌≤◌, List, length, Err, sym, refl, ◌∙◌, subst, arith, lt_of_not-le, ⊎_elim}
+use Rattle.std.proofs.Common.{◌≡◌, ◌≢◌, ℕ, zero, suc, ◌<◌, ◌≤◌, List, length, Result, Ok, Err, Option, Some, None, inl, sym, refl, ◌∙◌, subst, arith, lt_of_not-le, ⊎_elim}
 use Rattle.std.proofs.lemmas.Option.{slice_get_past}
+use Rattle.std.specs.Prelude.{slice_get}
 use native.Mathlib.Decide.{dec_le}
+use Rattle.requester_core.specs.declared.fault.CompletionFault.{CompletionFault}
+use Rattle.requester_core.specs.declared.requester.Answer.{Answer}
+use Rattle.requester_core.specs.RequesterView.{RequesterView, finished}
+use Rattle.lane_ends.specs.Steps.{ReceiverEndView}
 use Rattle.fabric_laws.specs.Fabric.{Fabric}
 use Rattle.fabric_core.specs.declared.event.Event.{Event}
 use Rattle.fabric_core.specs.declared.event.Event.TheVariants as events
@@ -10,8 +15,8 @@ use Rattle.fabric_core.specs.declared.event.LaneName.TheVariants as lanes
 use Rattle.fabric_core.specs.declared.event.LinkEvent.{LinkEvent}
 use Rattle.fabric_core.specs.declared.event.LinkEvent.TheVariants as links
 use Rattle.fabric_core.specs.declared.fault.Refusal.{Refusal}
-use Rattle.fabric_core.specs.declared.fault.Refusal.TheVariants.{NoSuchPart}
-use Rattle.fabric_core.specs.Answers.{part_at, lane_at}
+use Rattle.fabric_core.specs.declared.fault.Refusal.TheVariants.{NoSuchPart, Idle, Strange}
+use Rattle.fabric_core.specs.Answers.{part_at, lane_at, and_then, map_ok, map_err, some_or, collect_on}
 use Rattle.fabric_core.specs.Steps.{HasLanes, Refused}
 use Rattle.hall_laws.specs.Parts.{IsLaneName}
 use Rattle.hall_events.specs.Works.{link_event}
@@ -20,7 +25,7 @@ use Rattle.hall_laws.specs.declared.token.Knowledge.{Knowledge}
 use Rattle.hall_laws.specs.Shows.{MayRefuse}
 use Rattle.hall_events.specs.declared.refusal.HallRefusal.{HallRefusal}
 use Rattle.hall_events.specs.declared.refusal.HallRefusal.TheVariants.{Busy, Core}
-use Rattle.hall_events.specs.Refusals.{HasNoPart, IsRefused, IsPossibleInHall}
+use Rattle.hall_events.specs.Refusals.{HasNoPart, IsRefused, IsPossibleInHall, RefusalsArePossible}
 
 -- a part that isn't there
 no_part : {X : Type 0} (parts : List X) (port count : ℕ) → ((0 < port) × (port ≤ count) → ⊥) → length parts ≡ count → part_at parts port ≡ Err NoSuchPart
@@ -62,3 +67,20 @@ possible law w event (Core r) why = ⊎_elim
     (λ (m : MayRefuse w event r). law m.0.fabric event r m.1.sound m.3)
     (λ (n : HasNoPart w.config.requesters event r). subst IsPossible (sym n.0) tt)
     why
+
+-- ---- why a completion isn't collected
+
+first_of : {X B : Type 0} (o : Option X) (go : X → Result B Refusal) (r : Refusal) → and_then (some_or Idle o) go ≡ Err r → r ≢ Idle → (x : X) × (go x ≡ Err r)
+first_of None go r is other = absurd (other (let e : ◌≡◌ {A = Result _ Refusal} (Err Idle) (Err r) = is in cc))
+first_of (Some x) go r is other = (x, is)
+
+stranger : {B : Type 0} (f : Result Answer CompletionFault) (g : Answer → B) (r : Refusal) → map_ok (map_err Strange f) g ≡ Err r → (fault : CompletionFault) × (r ≡ Strange fault)
+stranger (Ok a) g r is = absurd (cc)
+stranger (Err e) g r is = (e, cc)
+
+-- one that has arrived is never refused
+pub uncollected : RefusalsArePossible → (w : Knowledge) (port : ℕ) (v : ReceiverEndView) (q : RequesterView) (r : Refusal) → collect_on v q ≡ Err r → r ≢ Idle → MayRefuse w (events.Collect port) r → ⊥
+uncollected law w port v q r is other may =
+    let x = first_of (slice_get v.queue 0) _ r is other in
+    let s = stranger (finished q x.0.0) _ r x.1 in
+    subst IsPossible s.1 (law w (events.Collect port) (Core r) (inl may))

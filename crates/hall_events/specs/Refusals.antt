@@ -47,6 +47,11 @@ abbrev pub IsRefused : Knowledge → Event → HallRefusal → Type 0
 IsRefused w event (Busy part word) = (word ≢ 0) × (word ≢ suc w.number) × Uses event part
 IsRefused w event (Core r) = MayRefuse w event r ⊎ HasNoPart w.config.requesters event r
 
+-- a part that the event uses has the word of another seat
+abbrev pub IsWithAnother : Knowledge → Event → HallRefusal → Type 0
+IsWithAnother w event (Busy part word) = (word ≢ 0) × (word ≢ suc w.number) × Uses event part
+IsWithAnother w event (Core r) = ⊥
+
 -- this part has the word of another seat than the one that knows this
 abbrev pub IsBusy : Knowledge → Part → HallRefusal → Type 0
 IsBusy w wanted (Busy part word) = (part ≡ wanted) × (word ≢ 0) × (word ≢ suc w.number)

@@ -5,10 +5,10 @@ ghost use Rattle.hall_laws.specs.declared.token.Knowledge.{Knowledge};
 ghost use Rattle.hall_laws.specs.Calls.{IsIdle, knowing};
 ghost use Rattle.hall_laws.specs.Tells.{SubmitTells, CollectTells, SeesTells};
 ghost use Rattle.hall_events.specs.Desks.{knows, IsDesk, IsSame, IsOfHall};
-ghost use Rattle.hall_events.specs.Refusals.{IsRefused};
+ghost use Rattle.hall_events.specs.Refusals.{IsRefused, IsWithAnother};
 
 use crate::desk::Desk;
-use crate::refusal::HallRefusal;
+use crate::refusal::{HallRefusal, each_refusal_is_possible};
 use fabric_core::{LaneName, Refusal, events};
 use hall_laws::duties::{collecting, submitting};
 use hall_laws::part::Part;
@@ -55,7 +55,7 @@ impl<'a> Desk<'a> {
     }
 
     /// The requester of the seat takes its oldest completion. Gives its answer, and the length of the history; None
-    /// where none had arrived.
+    /// where none had arrived. The only refusal is `Busy`.
     pub fn collect(&mut self) -> Result<Option<(Answer, u64)>, HallRefusal>
         requires desk { IsDesk self.old × (self.old.number < self.old.requesters) }
         requires idle { IsIdle self.old.place.now.me }
@@ -63,9 +63,10 @@ impl<'a> Desk<'a> {
         ensures hall { IsOfHall (knows self.old) (knows self.new) }
         ensures collected { IfOk result (λ o. MatchOption o ((w : Knowledge) × (self.new.place.now.me ≡ knowing w) × SeesTells (knows self.old) w) (λ a. (w : Knowledge) × (self.new.place.now.me ≡ knowing w) × CollectTells (knows self.old) a.0.number a.0.reply a.1 w)) }
         ensures refused { OnErr result (self.new.place.now.me ≡ self.old.place.now.me) }
-        ensures why { IfErr result (λ r. IsRefused (knows self.old) (Collect (self.old.number + 1)) r) }
+        ensures why { IfErr result (λ r. IsWithAnother (knows self.old) (Collect (self.old.number + 1)) r) }
     {
         collecting();
+        each_refusal_is_possible();
         let port = self.number as u8 + 1;
         let memory = self.take(Part::Memory)?;
         let (memory, requester) = self.take_second(memory, Part::Requester(port))?;
@@ -85,16 +86,18 @@ impl<'a> Desk<'a> {
                 self.put_back(memory);
                 Ok(Some((answer, n)))
             }
-            Err(Refusal::Idle) => {
-                self.put_back(receiver);
-                self.put_back(requester);
-                self.put_back_seen(memory);
-                Ok(None)
-            }
-            Err(refusal) => {
-                self.put_back(receiver);
-                Err(self.refuse_both(memory, requester, refusal))
-            }
+            Err(refusal) => match refusal {
+                Refusal::Idle => {
+                    self.put_back(receiver);
+                    self.put_back(requester);
+                    self.put_back_seen(memory);
+                    Ok(None)
+                }
+                _ => {
+                    self.put_back(receiver);
+                    Err(self.refuse_both(memory, requester, refusal))
+                }
+            },
         }
     }
 }

@@ -1,4 +1,4 @@
-use Rattle.std.proofs.Common.{rules, ◌≡◌, ◌+◌, ℕ, suc, List, [], ◌∷◌, length, inl, refl, sym, subst, ap, ◌∙◌, arith, drop}
+use Rattle.std.proofs.Common.{rules, ◌≡◌, ◌+◌, ℕ, suc, List, [], ◌∷◌, length, refl, sym, subst, ap, ◌∙◌, arith, drop}
 use Rattle.seq_memory.specs.declared.Entry.{Entry}
 use Rattle.seq_memory.specs.History.{MemoryView}
 use Rattle.requester_core.specs.RequesterView.{RequesterView}
@@ -19,9 +19,10 @@ use Rattle.hall_laws.specs.Rule.{Known, Goes, after_event, learned_also}
 use Rattle.hall_laws.specs.Tells.{CollectTells, SeesTells}
 use Rattle.hall_events.specs.Desks.{knows}
 use Rattle.hall_events.specs.Holds.{having}
-use Rattle.hall_events.specs.Refusals.{IsRefused}
+use Rattle.hall_events.specs.Refusals.{IsWithAnother}
 use Rattle.hall_events.proofs.Holding.{idle_has, last_back}
 use Rattle.hall_events.proofs.Mapped.{over}
+use Rattle.hall_events.proofs.Refused.{uncollected}
 use Rattle.hall_events.proofs.desk.Desk.collect.Goals as goal
 
 pub event-requires-clause-event : goal.event-requires-clause-event
@@ -71,8 +72,8 @@ returns-in-Ok-clause-collected c =
     let idle : c.put_back-in-Ok.new.self.place.now.me ≡ knowing learns = last_back _ _ learns _ [] back c.put_back-in-Ok.ensures.back in
     (learned_also (Collect port) (Collected x) m.entries w, idle, subst N (sym c.entries.ensures) tells)
 
-pub returns-in-Err-Idle-clause-collected : goal.returns-in-Err-Idle-clause-collected
-returns-in-Err-Idle-clause-collected c =
+pub returns-in-Idle-clause-collected : goal.returns-in-Idle-clause-collected
+returns-in-Idle-clause-collected c =
     let w : Knowledge = (token_of c.args.self.now.place.now.me.0).knows in let port : ℕ = c.args.self.now.number + 1 in
     let m : MemoryView = c.memory.result.now in let q : RequesterView = c.requester.result.now in let e : ReceiverEndView = c.receiver.result.now in
     let t : Token = record { knows = w; held = (slot port 5 + 3, Receiver e) ∷ ((slot port 0, Requester q) ∷ ((0, Memory m) ∷ [])) } in
@@ -83,8 +84,8 @@ returns-in-Err-Idle-clause-collected c =
     let looked : SeesTells w (record w { seen = m.entries }) = c.collecting.ensures.looked (record { knows = w; held = (0, Memory m) ∷ [] }) [] m last refl in
     (record w { seen = m.entries }, idle, looked)
 
-pub returns-in-Err : goal.returns-in-Err
-returns-in-Err c =
+pub returns-in_default : goal.returns-in_default
+returns-in_default c =
     let w : Knowledge = (token_of c.args.self.now.place.now.me.0).knows in let port : ℕ = c.args.self.now.number + 1 in
     let m : MemoryView = c.memory.result.now in let q : RequesterView = c.requester.result.now in let e : ReceiverEndView = c.receiver.result.now in
     let t : Token = record { knows = w; held = (slot port 5 + 3, Receiver e) ∷ ((slot port 0, Requester q) ∷ ((0, Memory m) ∷ [])) } in
@@ -94,6 +95,6 @@ returns-in-Err c =
     let own : port ≡ suc w.number = omega (arith, number) in
     let at : IsAtPort t port = (own, omega (arith, many, c.requires.desk.1)) in
     let known : Known (t ∷ []) = subst (λ (z : Sat). Known z.0) me c.in_ok-memory-3.ensures.taken.4.1 in
-    let same : knows c.put_back-in-Err.new.self ≡ w = ap (λ (z : Sat). (token_of z.0).knows) c.put_back-in-Err.ensures.back ∙ ap (λ (z : Sat). (token_of z.0).knows) me in
+    let same : knows c.put_back-in_default.new.self ≡ w = ap (λ (z : Sat). (token_of z.0).knows) c.put_back-in_default.ensures.back ∙ ap (λ (z : Sat). (token_of z.0).knows) me in
     let idle : c.refuse_both.new.self.place.now.me ≡ c.args.self.now.place.now.me = c.refuse_both.ensures.idle ∙ (ap knowing same ∙ sym (idle_has _ c.requires.idle)) in
-    record { seat = search rules; hall = (ap (λ (z : Sat). (token_of z.0).knows.config) idle, ap (λ (z : Sat). (token_of z.0).knows.opened) idle, ap (λ (z : Sat). (token_of z.0).knows.seats) idle); collected = tt; refused = idle; why = (subst (IsRefused w (Collect port)) (sym c.refuse_both.ensures.refused) (inl (c.collecting.ensures.refused t [] port m q e c.in-Err.refusal at (known, refl) c.in-Err.ensures.refuses))) }
+    record { seat = search rules; hall = (ap (λ (z : Sat). (token_of z.0).knows.config) idle, ap (λ (z : Sat). (token_of z.0).knows.opened) idle, ap (λ (z : Sat). (token_of z.0).knows.seats) idle); collected = tt; refused = idle; why = (subst (IsWithAnother w (Collect port)) (sym c.refuse_both.ensures.refused) (uncollected c.each_refusal_is_possible.ensures w port e q c.in-Err.refusal c.in-Err.ensures.refuses c.in_default.not-Idle (c.collecting.ensures.refused t [] port m q e c.in-Err.refusal at (known, refl) c.in-Err.ensures.refuses))) }
