@@ -1,0 +1,142 @@
+-- Rows after one record more.
+use Rattle.std.proofs.Common.{◌≡◌, ◌∙◌, ℕ, zero, suc, ◌+◌, ◌<◌, ◌++◌, ◌∷◌, [], List, Some, length, take, drop, set, get_or, replicate, refl, sym, ap, subst, inl, inr, arith, Result, Ok, Err}
+use Rattle.std.specs.Prelude.{slice_get, ◌==◌, OnOk}
+use Rattle.std.proofs.lemmas.Option.{same_Some, slice_get-get_or}
+use Rattle.std.proofs.lemmas.List.Elements.{filter_map-append}
+use Rattle.std.proofs.lemmas.Bool.{cases_eq, eq-eqb, ne_eqb}
+use Rattle.std.proofs.lemmas.List.{append-nil, append_assoc, length-replicate, length-set, take_at}
+use Rattle.seq_memory.specs.declared.Reply.{Reply}
+use Rattle.tlp_core.specs.declared.operation.Op.{Op}
+use Rattle.history_check.specs.declared.Record.{Record}
+use Rattle.history_check.specs.declared.Record.TheVariants as records
+use Rattle.history_check.specs.Trace.{submissions, submission}
+use Rattle.log_pieces.specs.InPieces.{width, numbered, subs, answers_by, next_number, split, split_all}
+use Rattle.log_pieces.specs.RowView.{RowView, AreRows, row_of}
+
+pub width_more : (p : Op → List Op) (ops : List Op) (op : Op) → width p (ops ++ op ∷ []) ≡ width p ops + length (p op)
+width_more p [] op = omega arith
+width_more p (o ∷ ops) op = let e = width_more p ops op in omega (arith, e)
+
+pub numbered_more : (p : Op → List Op) (n : ℕ) (ops : List Op) (op : Op) → numbered p n (ops ++ op ∷ []) ≡ numbered p n ops ++ (n + width p ops, op) ∷ []
+numbered_more p n [] op = ap (λ k. (k, op) ∷ []) (omega arith)
+numbered_more p n (o ∷ ops) op =
+    ap (λ xs. (n, o) ∷ xs) (numbered_more p (n + length (p o)) ops op ∙ ap (λ k. numbered p (n + length (p o)) ops ++ (k, op) ∷ []) (omega arith))
+
+pub length_numbered : (p : Op → List Op) (n : ℕ) (ops : List Op) → length (numbered p n ops) ≡ length ops
+length_numbered p n [] = refl
+length_numbered p n (op ∷ ops) = ap suc (length_numbered p (n + length (p op)) ops)
+
+pub row_more : (p : Op → List Op) (ops : List Op) (op : Op) → row_of p (ops ++ op ∷ []) ≡ record { next = width p ops + length (p op); requests = numbered p 0 ops ++ (width p ops, op) ∷ [] }
+row_more p ops op =
+    let n = width_more p ops op in
+    let rs = numbered_more p 0 ops op ∙ ap (λ k. numbered p 0 ops ++ (k, op) ∷ []) (omega arith) in
+    rw (n, rs) refl
+
+-- ---- records, one after another
+
+pub split_more : (p : Op → List Op) (before rs : List Record) (r : Record) → split_all p before (rs ++ r ∷ []) ≡ split_all p before rs ++ split p (before ++ rs) r
+split_more p before [] r = append-nil (split p before r) ∙ ap (λ (b : List Record). split p b r) (sym (append-nil before))
+split_more p before (q ∷ rs) r =
+    ap (λ xs. split p before q ++ xs) (split_more p (before ++ q ∷ []) rs r ∙ ap (λ (b : List Record). split_all p (before ++ q ∷ []) rs ++ split p b r) (append_assoc before (q ∷ []) rs))
+    ∙ sym (append_assoc (split p before q) (split_all p (before ++ q ∷ []) rs) (split p (before ++ q ∷ rs) r))
+
+-- ---- rows
+
+pub rows_none : (p : Op → List Op) (rows : List RowView) → rows ≡ replicate 256 (record { next = 0; requests = [] }) → AreRows p rows []
+rows_none p rows is =
+    let row : RowView = record { next = 0; requests = [] } in
+    record {
+      len = ap length is ∙ length-replicate 256 row;
+      at = λ i l. ap (λ (xs : List RowView). slice_get xs i) is ∙ get_replicate 256 i row l;
+    }
+  where
+    get_replicate : (n i : ℕ) (v : RowView) → i < n → slice_get (replicate n v) i ≡ Some v
+    get_replicate zero i v l = absurd (omega arith)
+    get_replicate (suc n) zero v l = refl
+    get_replicate (suc n) (suc i) v l = get_replicate n i v (omega arith)
+
+set_here : {X : Type 0} → (xs : List X) (i : ℕ) (v w : X) → slice_get xs i ≡ Some w → slice_get (set xs i v) i ≡ Some v
+set_here [] i v w e = cc
+set_here (x ∷ xs) zero v w e = refl
+set_here (x ∷ xs) (suc i) v w e = set_here xs i v w e
+
+set_there : {X : Type 0} → (xs : List X) (i j : ℕ) (v : X) → (i ≡ j → ⊥) → slice_get (set xs i v) j ≡ slice_get xs j
+set_there [] i j v n = refl
+set_there (x ∷ xs) zero zero v n = absurd (n refl)
+set_there (x ∷ xs) zero (suc j) v n = refl
+set_there (x ∷ xs) (suc i) zero v n = refl
+set_there (x ∷ xs) (suc i) (suc j) v n = set_there xs i j v (λ e. n (ap suc e))
+
+more_own : (rs : List Record) (i k n : ℕ) (op : Op) → submissions (rs ++ records.Sub i k op n ∷ []) i ≡ submissions rs i ++ op ∷ []
+more_own rs i k n op = filter_map-append (submission i) rs (records.Sub i k op n ∷ []) ∙ ap (λ (xs : List Op). submissions rs i ++ xs) (rw (eq-eqb i i refl) refl)
+
+more_other : (rs : List Record) (i j k n : ℕ) (op : Op) → (j ≡ i → ⊥) → submissions (rs ++ records.Sub i k op n ∷ []) j ≡ submissions rs j
+more_other rs i j k n op d =
+    filter_map-append (submission j) rs (records.Sub i k op n ∷ []) ∙ ap (λ (xs : List Op). submissions rs j ++ xs) (rw (ne_eqb j i d) refl) ∙ append-nil (submissions rs j)
+
+pub rows_sub : (p : Op → List Op) (rows : List RowView) (rs : List Record) (i k n : ℕ) (op : Op) (row : RowView) → AreRows p rows rs → i < 256
+    → row ≡ record { next = width p (submissions rs i) + length (p op); requests = numbered p 0 (submissions rs i) ++ (width p (submissions rs i), op) ∷ [] }
+    → AreRows p (set rows i row) (rs ++ records.Sub i k op n ∷ [])
+rows_sub p rows rs i k n op row old small is = record {
+  len = length-set rows i row ∙ old.len;
+  at = λ j l. elim (cases_eq j i) [
+    | inl same ↦
+        ap (slice_get (set rows i row)) same ∙ set_here rows i row (row_of p (submissions rs i)) (old.at i small)
+        ∙ ap Some (is ∙ sym (row_more p (submissions rs i) op) ∙ ap (row_of p) (sym (more_own rs i k n op)))
+        ∙ ap (λ v. Some (row_of p (submissions (rs ++ records.Sub i k op n ∷ []) v))) (sym same)
+    | inr other ↦
+        set_there rows i j row (λ e. other (sym e)) ∙ old.at j l ∙ ap (λ (xs : List Op). Some (row_of p xs)) (sym (more_other rs i j k n op other))
+  ];
+}
+
+pub rows_answer : (p : Op → List Op) (rows : List RowView) (rs : List Record) (i k n : ℕ) (reply : Reply) → AreRows p rows rs → AreRows p rows (rs ++ records.Ans i k reply n ∷ [])
+rows_answer p rows rs i k n reply old = record {
+  len = old.len;
+  at = λ j l. old.at j l ∙ ap (λ (xs : List Op). Some (row_of p xs)) (sym (filter_map-append (submission j) rs (records.Ans i k reply n ∷ []) ∙ append-nil (submissions rs j)));
+}
+
+-- ---- what a record adds
+
+row_there : (p : Op → List Op) (rows : List RowView) (rs : List Record) (i : ℕ) (row d : RowView) → AreRows p rows rs → i < 256 → row ≡ get_or rows i d → row ≡ row_of p (submissions rs i)
+row_there p rows rs i row d known small is =
+    let inside : i < length rows = omega (arith, known.len, small) in
+    same_Some row (row_of p (submissions rs i)) (ap Some is ∙ sym (slice_get-get_or rows i d inside) ∙ known.at i small)
+
+pub sub_records : (p : Op → List Op) (rows : List RowView) (rs : List Record) (i k n : ℕ) (op : Op) (row d : RowView) (item : Record) (ops : List Op) (old new : List Record)
+    → AreRows p rows rs → i < 256 → row ≡ get_or rows i d → item ≡ records.Sub i k op n → ops ≡ p op
+    → new ≡ old ++ subs i (next_number (k == length row.requests) row.next) n ops → new ≡ old ++ split p rs item
+sub_records p rows rs i k n op row d item ops old new known small at is all grown =
+    let there = row_there p rows rs i row d known small at in
+    let long : length row.requests ≡ length (submissions rs i) = ap (λ (r : RowView). length r.requests) there ∙ length_numbered p 0 (submissions rs i) in
+    let next : row.next ≡ width p (submissions rs i) = ap (λ (r : RowView). r.next) there in
+    grown ∙ ap (λ l. old ++ subs i (next_number (k == l) row.next) n ops) long
+    ∙ ap (λ l. old ++ subs i (next_number (k == length (submissions rs i)) l) n ops) next
+    ∙ ap (λ (xs : List Op). old ++ subs i (next_number (k == length (submissions rs i)) (width p (submissions rs i))) n xs) all
+    ∙ ap (λ (r : Record). old ++ split p rs r) (sym is)
+
+pub sub_rows : (p : Op → List Op) (rows : List RowView) (rs : List Record) (i k n : ℕ) (op : Op) (row d new : RowView) (item : Record) (ops : List Op)
+    → AreRows p rows rs → i < 256 → row ≡ get_or rows i d → item ≡ records.Sub i k op n → ops ≡ p op
+    → new ≡ record { next = row.next + length ops; requests = row.requests ++ (row.next, op) ∷ [] } → AreRows p (set rows i new) (rs ++ item ∷ [])
+sub_rows p rows rs i k n op row d new item ops known small at is all grown =
+    let there = row_there p rows rs i row d known small at in
+    let made : new ≡ record { next = width p (submissions rs i) + length (p op); requests = numbered p 0 (submissions rs i) ++ (width p (submissions rs i), op) ∷ [] } =
+    grown ∙ ap (λ (r : RowView). record { next = r.next + length ops; requests = r.requests ++ (r.next, op) ∷ [] }) there
+    ∙ ap (λ (xs : List Op). record { next = width p (submissions rs i) + length xs; requests = numbered p 0 (submissions rs i) ++ (width p (submissions rs i), op) ∷ [] }) all in
+    subst (λ (r : Record). AreRows p (set rows i new) (rs ++ r ∷ [])) (sym is) (rows_sub p rows rs i k n op new known small made)
+
+pub answer_records : (p : Op → List Op) (rows : List RowView) (rs : List Record) (i k n : ℕ) (reply : Reply) (row d : RowView) (item : Record) (old new : List Record)
+    → AreRows p rows rs → i < 256 → row ≡ get_or rows i d → item ≡ records.Ans i k reply n
+    → new ≡ old ++ answers_by p (slice_get row.requests k) i row.next n reply → new ≡ old ++ split p rs item
+answer_records p rows rs i k n reply row d item old new known small at is grown =
+    let there = row_there p rows rs i row d known small at in
+    grown ∙ ap (λ (r : RowView). old ++ answers_by p (slice_get r.requests k) i r.next n reply) there ∙ ap (λ (r : Record). old ++ split p rs r) (sym is)
+
+pub answer_rows : (p : Op → List Op) (rows : List RowView) (rs : List Record) (i k n : ℕ) (reply : Reply) (item : Record) → AreRows p rows rs → item ≡ records.Ans i k reply n → AreRows p rows (rs ++ item ∷ [])
+answer_rows p rows rs i k n reply item known is = subst (λ (r : Record). AreRows p rows (rs ++ r ∷ [])) (sym is) (rows_answer p rows rs i k n reply known)
+
+pub on_ok : {P Q E : Type 0} → (r : Result (Unit {0}) E) → OnOk r P → (P → Q) → OnOk r Q
+on_ok (Ok x) h f = f h
+on_ok (Err e) h f = tt
+
+pub refit : {X : Type 0} → (new items : List X) (n : ℕ) → n ≡ length new → take n (new ++ drop (length new) items) ≡ new
+refit new items n e = ap (λ k. take k (new ++ drop (length new) items)) e ∙ take_at new (drop (length new) items) (length new) refl

@@ -1,0 +1,46 @@
+use Rattle.std.proofs.Common.{◌≡◌, ◌∙◌, ℕ, List, [], map, refl, ap}
+use Rattle.seq_memory.specs.declared.Entry.{Entry}
+use Rattle.history_check.specs.TraceView.{TraceView, observed}
+use Rattle.history_check.specs.Claim.{claim_of}
+use Rattle.history_check.specs.Trace.{submissions, Explains}
+use Rattle.log_runs.specs.Explainable.{IsExplainable, SeenAlike, without_n}
+use Rattle.log_pieces.specs.declared.Granularity.{Granularity}
+use Rattle.log_pieces.specs.declared.Granularity.TheVariants as sizes
+use Rattle.log_pieces.specs.Pieces.{pieces}
+use Rattle.log_pieces.specs.InPieces.{in_pieces, cut_log, split_all, IsExplainableIn}
+use Rattle.log_pieces.proofs.Explained.{records_in_pieces, all_entries, explained_in_pieces, clocked_in_pieces, Sized}
+use Rattle.log_pieces.proofs.Alike.{alike_in_pieces, by_number}
+use Rattle.log_pieces.proofs.PieceLemmas.{cuts, Reads}
+use Rattle.log_pieces.proofs.laws.whole_requests_are_right_in_pieces.Goals as goal
+
+in_cut : (sized : Sized) (law : Reads) (bytes : ℕ) (t : TraceView) → IsExplainable t → IsExplainable (cut_log bytes t)
+in_cut sized law bytes t (u, h, alike, explained, clocked) =
+    let x = observed u in
+    let p = pieces bytes x in
+    let rs = records_in_pieces p u.records h in
+    let all = cuts x sized law bytes in (
+      record { base = u.base; size = u.size; block = u.block; records = rs },
+      all_entries p (submissions u.records) h,
+      record { base = alike.base; size = alike.size; block = alike.block; records = same t u h alike explained bytes },
+      explained_in_pieces x p u.records h all sized explained,
+      clocked_in_pieces x p u.records h all explained clocked,
+    )
+  where
+    same : (t u : TraceView) (h : List Entry) → SeenAlike t u → Explains (claim_of u h) → (bytes : ℕ)
+        → map without_n (split_all (pieces bytes (observed t)) [] t.records) ≡ map without_n (records_in_pieces (pieces bytes (observed u)) u.records h)
+    same t u h alike explained bytes =
+        let extent : observed t ≡ observed u = rw (alike.base, alike.size, alike.block) refl in
+        ap (λ y. map without_n (split_all (pieces bytes y) [] t.records)) extent
+        ∙ alike_in_pieces (pieces bytes (observed u)) t.records u.records alike.records
+        ∙ by_number (observed u) (pieces bytes (observed u)) u.records h explained
+
+by_size : (sized : Sized) (law : Reads) (size : Granularity) (t : TraceView) → IsExplainable t → IsExplainableIn size t
+unfolding in_pieces
+by_size sized law sizes.Four t e = in_cut sized law 4 t e
+by_size sized law sizes.Eight t e = in_cut sized law 8 t e
+by_size sized law sizes.Sixteen t e = in_cut sized law 16 t e
+by_size sized law sizes.SixtyFour t e = in_cut sized law 64 t e
+by_size sized law sizes.Whole t e = e
+
+pub returns : goal.returns
+returns c = by_size c.only_the_place_changes.ensures.size c.refused_and_read_change_nothing.ensures.reads
