@@ -1,10 +1,10 @@
 -- Lemmas on lists.
-use Rattle.std.proofs.Common.{◌≡◌, ◌≢◌, ℕ, ne_eqb, eq-eqb, cond, subst, true, false, zero, suc, ◌<◌, ◌⊎◌, Bool, List, [], ◌∷◌, ◌++◌, map, length, sym, refl, ap, inl, inr, ⊎_elim, arith, Some}
+use Rattle.std.proofs.Common.{◌≡◌, ◌≢◌, ℕ, ne_eqb, eq-eqb, cond, subst, true, false, zero, suc, ◌<◌, ◌≤◌, ◌⊎◌, Bool, List, [], ◌∷◌, ◌++◌, map, length, sym, refl, ap, inl, inr, ⊎_elim, arith, Some}
 use Rattle.std.specs.Prelude.{slice_get}
 use mathlib.Core.Option.{some, some-injective, some-ne-none}
 use lib.ListN.{get_elem?}
 pub use Rattle.fabric_laws.specs.ListFacts.{count_nil}
-use Rattle.hall_laws.specs.Standing.{one_if_same}
+use Rattle.hall_laws.specs.Standing.{one_if_same, total}
 
 pub at_snoc : {A : Type 0} (l : List A) (a b : A) (j : ℕ) → get_elem? (l ++ a ∷ []) j ≡ some b → (get_elem? l j ≡ some b) ⊎ (a ≡ b)
 at_snoc [] a b zero e = inr (some-injective a b e)
@@ -51,3 +51,12 @@ one_is m n e = let P : Bool → Type 0 = λ b. ◌≡◌ {A = ℕ} (cond b 1 0) 
 
 pub not_same : (m n : ℕ) → m ≢ n → one_if_same m n ≡ 0
 not_same m n ne = let P : Bool → Type 0 = λ b. ◌≡◌ {A = ℕ} (cond b 1 0) 0 in let start : P false = refl in subst P (sym (ne_eqb m n ne)) start
+
+-- one element weighs no more than the total
+pub total_one : {X : Type 0} (f : X → ℕ) (xs : List X) (i : ℕ) (x : X) → get_elem? xs i ≡ some x → f x ≤ total f xs
+total_one f [] i x e = absurd (some-ne-none x (sym e))
+total_one f (a ∷ xs) zero x e = let s = ap f (some-injective a x e) in omega arith
+total_one f (a ∷ xs) (suc i) x e = let h = total_one f xs i x e in omega arith
+
+pub at_most_one : (m n : ℕ) → m ≤ n → n ≤ 1 → m ≤ 1
+at_most_one m n a b = omega (arith, a, b)

@@ -6,7 +6,7 @@ use mathlib.Core.Logic.{dite}
 use native.Mathlib.Decide.{ℕ_discrete, dec_lt}
 use lib.ListN.{get_elem?, length-map, length-replicate}
 use Rattle.atomic_table.specs.Table.{opening, Final, Seen}
-use Rattle.hall_assembly.proofs.Lists.{at_map, at_snoc, count_nil, there, at_length, one_is, not_same}
+use Rattle.hall_assembly.proofs.Lists.{at_map, at_snoc, count_nil, there, at_length, one_is, not_same, total_one, at_most_one}
 use Rattle.lane_ends.specs.Steps.{LaneEndsView}
 use Rattle.lane_core.specs.Calls.{content}
 use Rattle.fabric_laws.specs.Lists.{Each, count}
@@ -27,7 +27,7 @@ use Rattle.hall_laws.specs.Standing.{word_of, named, serving, token_of}
 use Rattle.hall_laws.specs.Standing as hall
 use Rattle.hall_laws.specs.Story.{Act, Tells, IsStoryOf}
 use Rattle.hall_laws.specs.Rule.{Traced, IsSoundTraced, Fits, Kept, HasConfig, newcomer, newcomers, parts}
-use Rattle.hall_assembly.specs.Opens.{IsUnused, Left}
+use Rattle.hall_assembly.specs.Opens.{IsUnused, Leaves, Left}
 
 -- ---- a fabric to which nothing has happened
 
@@ -145,22 +145,30 @@ pub closes : (key : Start) (id : ℕ) (v : List Token) (ws : List ℕ) (xs : Lis
 closes key id [] ws xs some_token (s, (r, at), words, count, home) free = absurd (omega arith)
 closes key id (t ∷ ts) ws xs some_token (s, (r, at), words, count, home) free =
     let p : Traced = r.whole in
-    let mine : Fits p t.knows = (r.tokens id (t ∷ ts) at).0.1 in
+    let each : Each (hall.Seated parts IsSoundTraced Fits p s.words) (t ∷ ts) = r.tokens id (t ∷ ts) at in
     let story : (w : Knowledge) → Fits p w → IsStoryOf p.acts p.records p.fabric w = λ w f. record {
       tells = subst (λ (g : Fabric). Tells g p.acts p.records p.fabric) (sym f.opened) r.sound.tells;
       own = f.did;
       by = subst (λ (n : ℕ). Each (λ (a : Act). a.by < n) p.acts) (sym f.seats) r.sound.by;
+    } in
+    let leaves : (w : Knowledge) → Fits p w → Leaves w p.fabric = λ w f. record {
+      sound = r.sound.sound;
+      config = f.config;
+      right_config = subst IsConfig (same_config p.fabric w.config f.config) r.sound.sound.config;
+      begins = f.seen;
+      made = subst (Rattle.fabric_laws.specs.Trace.IsMade (suc w.number) (Rattle.fabric_laws.specs.Whole.view (whole_of p.fabric) (suc w.number))) (sym f.made) (r.sound.belongs.made (suc w.number));
+      ran = record { acts = p.acts; told = p.records; tells = (story w f).tells; own = f.did };
     } in (
       p.fabric,
+      leaves t.knows each.0.1,
       record {
-        sound = r.sound.sound;
-        config = mine.config;
-        right_config = subst IsConfig (same_config p.fabric t.knows.config mine.config) r.sound.sound.config;
-        begins = mine.seen;
-        made = subst (Rattle.fabric_laws.specs.Trace.IsMade (suc t.knows.number) (Rattle.fabric_laws.specs.Whole.view (whole_of p.fabric) (suc t.knows.number))) (sym mine.made) (r.sound.belongs.made (suc t.knows.number));
-        ran = record { acts = p.acts; told = p.records; tells = (story t.knows mine).tells; own = mine.did };
+        leaves = each_map (λ (u : Token) (h : hall.Seated parts IsSoundTraced Fits p s.words u). leaves u.knows h.1) (t ∷ ts) each;
+        below = each_map (λ (u : Token) (h : hall.Seated parts IsSoundTraced Fits p s.words u). h.1.seat) (t ∷ ts) each;
+        apart = λ n. at_most_one (named n (t ∷ ts)) (hall.total (named n) s.views) (total_one (named n) s.views id (t ∷ ts) at) (r.apart n);
+        acts = p.acts;
+        told = p.records;
+        ran = each_map (λ (u : Token) (h : hall.Seated parts IsSoundTraced Fits p s.words u). story u.knows h.1) (t ∷ ts) each;
       },
-      (p.acts, p.records, each_map (λ (u : Token) (h : hall.Seated parts IsSoundTraced Fits p s.words u). story u.knows h.1) (t ∷ ts) (r.tokens id (t ∷ ts) at)),
       same_lists xs (map Some (parts p)) (omega (arith, r.deep, count, length-map {A = PartValue} (parts p) Some))
           (λ k y e. let x : (v : PartValue) × (get_elem? (parts p) k ≡ some v) = there (parts p) k (omega (arith, at_length (map Some (parts p)) k y e, length-map {A = PartValue} (parts p) Some)) in
           let small : k < length (parts p) = at_length (parts p) k x.0 x.1 in

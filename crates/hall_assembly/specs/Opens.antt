@@ -1,5 +1,5 @@
 -- What a hall is opened of, and what a closed one is.
-use Rattle.std.specs.Prelude.{◌≡◌, suc, List, [], map, Option, Some}
+use Rattle.std.specs.Prelude.{◌≡◌, ℕ, suc, ◌<◌, ◌≤◌, List, [], map, Option, Some}
 use Rattle.history_check.specs.declared.Record.{Record}
 use Rattle.fabric_laws.specs.Lists.{Each}
 use Rattle.fabric_laws.specs.Fabric.{Fabric, whole_of}
@@ -12,7 +12,7 @@ use Rattle.hall_laws.specs.declared.part.PartValue.{PartValue}
 use Rattle.hall_laws.specs.declared.token.Token.{Token}
 use Rattle.hall_laws.specs.declared.token.Knowledge.{Knowledge}
 use Rattle.hall_laws.specs.Parts.{parts_of}
-use Rattle.hall_laws.specs.Standing.{token_of}
+use Rattle.hall_laws.specs.Standing.{token_of, named}
 use Rattle.hall_laws.specs.Story.{Act, IsStoryOf, Ran}
 use Rattle.hall_laws.specs.Rule.{Begins, HasConfig}
 
@@ -33,9 +33,15 @@ pub record Leaves (w : Knowledge) (f : Fabric) : Type 0 where
   -- one list of acts leads to it from the fabric that the hall was made of, and the seat's are what it did
   pub ran : Ran w f
 
--- one list of acts leads to the fabric, and has what the seat of each token did
-abbrev pub AllRan : List Token → Fabric → Type 0
-AllRan ts f = (acts : List Act) × (told : List Record) × Each (λ (t : Token). IsStoryOf acts told f t.knows) ts
+-- what the seats of these tokens know of a fabric, no two of which have one number: one list of acts leads to it, and has
+-- what each of them did
+pub record AllRan (ts : List Token) (f : Fabric) : Type 0 where
+  pub leaves : Each (λ (t : Token). Leaves t.knows f) ts
+  pub below : Each (λ (t : Token). t.knows.number < t.knows.seats) ts
+  pub apart : (n : ℕ) → named n ts ≤ 1
+  pub acts : List Act
+  pub told : List Record
+  pub ran : Each (λ (t : Token). IsStoryOf acts told f t.knows) ts
 
 -- the slots have the parts of a fabric that the seat leaves
 abbrev pub Left : List Token → List (Option PartValue) → Type 0

@@ -1,9 +1,12 @@
 -- What contracts see of a hall and of a seat.
-use Rattle.std.specs.Prelude.{ℕ, ◌≡◌, ◌+◌, List, length, slice_get, Some}
+use Rattle.std.specs.Prelude.{ℕ, ◌≡◌, ◌⊎◌, ◌+◌, List, [], ◌∷◌, length, slice_get, Some}
 use Rattle.atomic_table.specs.Seated.{TableId}
+use Rattle.history_check.specs.declared.Record.{Record}
+use Rattle.fabric_laws.specs.Lists.{Each}
 use Rattle.fabric_laws.specs.Fabric.{Fabric}
 use Rattle.fabric_core.specs.declared.config.Config.{Config}
 use Rattle.hall_laws.specs.declared.token.Knowledge.{Knowledge}
+use Rattle.hall_laws.specs.Story.{Act, Tells, done_by}
 use Rattle.hall_laws.specs.Rule.{newcomer}
 
 pub record SeatView : Type 0 where
@@ -29,3 +32,19 @@ AreSeatsOf h seats = (i : ℕ) (s : SeatView) → slice_get seats i ≡ Some s �
 pub record AreNewSeats (h : HallView) (first count : ℕ) (seats : List SeatView) : Type 0 where
   pub number : length seats ≡ count
   pub each : (i : ℕ) (s : SeatView) → slice_get seats i ≡ Some s → (s.table_id ≡ h.table_id) × (s.knows ≡ (newcomer h.config h.opened h.seats (first + i)).knows)
+
+-- one of the seats has this number
+abbrev pub HasNumber : ℕ → List SeatView → Type 0
+HasNumber n [] = ⊥
+HasNumber n (s ∷ seats) = (s.knows.number ≡ n) ⊎ HasNumber n seats
+
+-- what these seats did, and nothing else, leads from the fabric that their hall was made of to this one
+pub record RanBy (h : HallView) (seats : List SeatView) (f : Fabric) : Type 0 where
+  -- one list of acts, with its records
+  pub acts : List Act
+  pub told : List Record
+  pub tells : Tells h.opened acts told f
+  -- each is of one of these seats
+  pub by : Each (λ (a : Act). HasNumber a.by seats) acts
+  -- and each seat's are what it did, in its order
+  pub own : Each (λ (s : SeatView). s.knows.did ≡ done_by s.knows.number acts) seats

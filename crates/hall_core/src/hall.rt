@@ -1,6 +1,7 @@
 //! The hall and its calls.
-ghost use Rattle.std.specs.Prelude.{◌≡◌, ◌≢◌, ◌+◌, ◌<◌, ◌≤◌, List, length, IfOk, IfErr, MatchOption};
+ghost use Rattle.std.specs.Prelude.{◌≡◌, ◌≢◌, ◌+◌, ◌<◌, ◌≤◌, ◌++◌, List, length, IfOk, IfErr, MatchOption};
 ghost use Rattle.seq_memory.specs.declared.Entry.{Entry};
+ghost use Rattle.fabric_laws.specs.Lists.{Each};
 ghost use Rattle.fabric_core.specs.declared.event.Event.TheVariants.{Submit, Collect};
 ghost use Rattle.hall_laws.specs.declared.part.Part.TheVariants.{Memory};
 ghost use Rattle.hall_laws.specs.Shows.{Shows};
@@ -12,10 +13,10 @@ ghost use Rattle.hall_assembly.specs.Opens.{IsUnused, Leaves};
 ghost use Rattle.hall_events.specs.Refusals.{IsRefused, IsWithAnother, IsPossibleInHall, IsBusy};
 ghost use Rattle.hall_events.specs.Works.{Pumped, event_of};
 ghost use Rattle.hall_core.specs.Faults.{IsSeatCount, HasHallFault};
-ghost use Rattle.hall_core.specs.Views.{AreNewSeats, IsSeatOf};
+ghost use Rattle.hall_core.specs.Views.{SeatView, AreNewSeats, IsSeatOf, AreSeatsOf, RanBy};
 
 use crate::fault::HallFault;
-use crate::seats::{ReqSeat, WorkSeat, req_seats, seat, work_seats};
+use crate::seats::{ReqSeat, WorkSeat, all_at_once, req_seats, seat, work_seats};
 use crate::told::{Answered, Submitted};
 use fabric_core::{Config, Fabric, Seen};
 use hall_assembly::closing::{StillHeld, close};
@@ -240,6 +241,30 @@ impl Hall {
             config,
         } = self;
         let ReqSeat { place, number: _ } = seat;
+        close(board, shelves, &config, place)
+    }
+
+    /// The same with all seats of the hall: what their calls made happen, each seat's in its order, and nothing else leads
+    /// to the fabric from that which the hall was made of, and its history begins with all that each of them has seen.
+    /// Where a part's word isn't 0, that part is told, and the hall and the seats are spent.
+    pub fn close_all(
+        self,
+        requesters: Vec<ReqSeat>,
+        work: Vec<WorkSeat>,
+    ) -> Result<Fabric, StillHeld>
+        requires some { 0 < length requesters.items }
+        requires seats { AreSeatsOf self requesters.items × AreSeatsOf self work.items }
+        requires all { length requesters.items + length work.items ≡ self.seats }
+        ensures closed { IfOk result (λ f. Each (λ (s : SeatView). Leaves s.knows f) (requesters.items ++ work.items)) }
+        ensures ran { IfOk result (λ f. RanBy self (requesters.items ++ work.items) f) }
+        ensures held { IfErr result (λ e. (e.word ≢ 0) × IsPartName self.config.requesters e.part) }
+    {
+        let Hall {
+            board,
+            shelves,
+            config,
+        } = self;
+        let place = all_at_once(&board.shared, requesters, work);
         close(board, shelves, &config, place)
     }
 }

@@ -1,12 +1,13 @@
 //! The seats of a hall.
-ghost use Rattle.std.specs.Prelude.{◌≡◌, ◌+◌, ◌-◌, ◌<◌, ◌≤◌, ◌^◌, ℕ, List, [], ◌∷◌, length, IfOk, IfErr};
+ghost use Rattle.std.specs.Prelude.{◌≡◌, ◌+◌, ◌-◌, ◌<◌, ◌≤◌, ◌^◌, ℕ, List, [], ◌∷◌, ◌++◌, length, IfOk, IfErr};
 ghost use Rattle.hall_laws.specs.Calls.{IsIdle};
 ghost use Rattle.hall_laws.specs.Rule.{newcomers};
 ghost use Rattle.hall_laws.specs.Standing.{token_of};
 ghost use Rattle.hall_core.specs.Views.{AreNewSeats};
+ghost use Rattle.hall_core.specs.Joins.{AreAt, tokens_of};
 
 use fabric_core::Config;
-use hall_laws::laws::{Place, Steps, split};
+use hall_laws::laws::{Place, Steps, join, split};
 use std::alloc::{AllocError, Global};
 use std::marker::Model;
 
@@ -51,6 +52,17 @@ impl Model for WorkSeat {
     ghost view = { λ s. record { table_id = s.place.table_id; knows = (token_of s.place.me.0).knows } };
 
     ghost invariant = { λ s. IsIdle s.place.me × ((token_of s.place.me.0).knows.number ≡ s.number) × (s.number < 2 ^ 32) };
+}
+
+impl ReqSeat {
+    ghost use Rattle.hall_laws.specs.Calls.{knowing};
+
+    /// The place of the seat at its table.
+    pub(crate) fn into_place(self) -> Place
+        ensures { (result.table_id ≡ self.table_id) × (result.me ≡ knowing self.knows) }
+    {
+        self.place
+    }
 }
 
 impl WorkSeat {
@@ -104,6 +116,20 @@ pub fn req_seats(
     Ok(seats)
 }
 
+/// The tokens of the seats go to this place, behind those that it has.
+fn join_req_seats(steps: &Steps, place: &mut Place, mut seats: Vec<ReqSeat>)
+    requires table { (place.old.table_id ≡ steps.now.table_id) × (0 < steps.now.table_id.words) }
+    requires seats { AreAt steps.now.table_id seats.items }
+    ensures table { place.new.table_id ≡ place.old.table_id }
+    ensures tokens { (place.new.me.0 ≡ place.old.me.0 ++ tokens_of seats.items) × (place.new.me.1 ≡ place.old.me.1) }
+{
+    let count = seats.len();
+    for _seat in 0..count {
+        let other = seats.remove(0);
+        join(steps, place, other.into_place());
+    }
+}
+
 /// So many work seats, with the numbers from that of the first token on.
 pub fn work_seats(
     steps: &Steps,
@@ -125,4 +151,33 @@ pub fn work_seats(
         });
     }
     Ok(seats)
+}
+
+/// The tokens of the seats go to this place, behind those that it has.
+fn join_work_seats(steps: &Steps, place: &mut Place, mut seats: Vec<WorkSeat>)
+    requires table { (place.old.table_id ≡ steps.now.table_id) × (0 < steps.now.table_id.words) }
+    requires seats { AreAt steps.now.table_id seats.items }
+    ensures table { place.new.table_id ≡ place.old.table_id }
+    ensures tokens { (place.new.me.0 ≡ place.old.me.0 ++ tokens_of seats.items) × (place.new.me.1 ≡ place.old.me.1) }
+{
+    let count = seats.len();
+    for _seat in 0..count {
+        let other = seats.remove(0);
+        join(steps, place, other.into_place());
+    }
+}
+
+/// The place that has the tokens of all these seats, in their order.
+pub fn all_at_once(steps: &Steps, mut requesters: Vec<ReqSeat>, work: Vec<WorkSeat>) -> Place
+    requires table { 0 < steps.now.table_id.words }
+    requires some { 0 < length requesters.items }
+    requires seats { AreAt steps.now.table_id requesters.items × AreAt steps.now.table_id work.items }
+    ensures table { result.table_id ≡ steps.now.table_id }
+    ensures tokens { result.me.0 ≡ tokens_of (requesters.items ++ work.items) }
+{
+    let first = requesters.remove(0);
+    let mut place = first.into_place();
+    join_req_seats(steps, &mut place, requesters);
+    join_work_seats(steps, &mut place, work);
+    place
 }
