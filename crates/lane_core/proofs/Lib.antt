@@ -12,3 +12,4 @@ pub mod Whole
 pub mod Sums
 pub mod Windows
 pub mod Room
+pub mod Numbered
