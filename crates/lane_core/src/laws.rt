@@ -1,5 +1,9 @@
 //! What holds of a lane whatever calls are made, said of the values of its four ends, wherever these are.
+<<<<<<< HEAD
 ghost use Rattle.std.specs.Prelude.{◌≡◌, ◌↔◌, ℕ, ◌+◌, ◌/◌, ◌<◌, ◌≤◌, true, false, All, IsOk, IsTrue, Some, None, Ok, List, [], ◌++◌, length, slice_get};
+=======
+ghost use Rattle.std.specs.Prelude.{◌≡◌, ◌↔◌, ℕ, ◌+◌, ◌/◌, ◌%◌, ◌<◌, ◌≤◌, true, All, IsOk, IsTrue, Some, List, [], ◌++◌, length, slice_get};
+>>>>>>> e8fccef405bda55b3d612e58213973515b010aba
 ghost use Rattle.dllp_core.specs.declared.packet.Class.{Class};
 ghost use Rattle.tlp_core.specs.TlpView.{TlpView, IsPacket};
 ghost use Rattle.tlp_core.specs.Layout.{Spells, canonical};
@@ -114,11 +118,13 @@ pub fn credits_are_whole_numbers()
 
 /// A packet is right whoever holds the ends meanwhile. Let some calls come and then others, of which at most as many
 /// deliver as packets were under way between the two: a packet that was sent there is still under way. It was one of
-/// the unacknowledged packets, A to N - 1 in true numbers, and the true number that the receiver waits for is from A to
-/// N.
+/// the unacknowledged packets, A to N - 1 in true numbers, and has its own true number, modulo 4096. The true number that
+/// the receiver waits for is from A to N.
 pub fn found_within_the_window()
     ensures sent { (credits : LaneCredits) (before : List Call) (number : ℕ) → transmitted (after_calls (new_lane credits) before).sender ≡ Some number →
         (after_calls (new_lane credits) before).sender.sending.place < length (after_calls (new_lane credits) before).sender.sending.kept }
+    ensures numbered { (credits : LaneCredits) (before : List Call) (number : ℕ) → AreCalls before → transmitted (after_calls (new_lane credits) before).sender ≡ Some number →
+        number ≡ (oldest_unacknowledged credits before + (after_calls (new_lane credits) before).sender.sending.place) % 4096 }
     ensures found { (credits : LaneCredits) (before after : List Call) → AreCalls before → deliveries after ≤ length (after_calls (new_lane credits) before).forward →
         (oldest_unacknowledged credits before ≤ next_accepted credits (before ++ after)) × (next_accepted credits (before ++ after) ≤ next_entered credits before) }
 {
