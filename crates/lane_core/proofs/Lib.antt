@@ -12,13 +12,10 @@ pub mod Whole
 pub mod Sums
 pub mod Windows
 pub mod Room
-<<<<<<< HEAD
 pub mod Idle
 pub mod Resent
 pub mod Arrived
 pub mod Acknowledged
 pub mod Learned
 pub mod Turned
-=======
 pub mod Numbered
->>>>>>> e8fccef405bda55b3d612e58213973515b010aba

@@ -1,9 +1,5 @@
 //! What holds of a lane whatever calls are made, said of the values of its four ends, wherever these are.
-<<<<<<< HEAD
-ghost use Rattle.std.specs.Prelude.{◌≡◌, ◌↔◌, ℕ, ◌+◌, ◌/◌, ◌<◌, ◌≤◌, true, false, All, IsOk, IsTrue, Some, None, Ok, List, [], ◌++◌, length, slice_get};
-=======
-ghost use Rattle.std.specs.Prelude.{◌≡◌, ◌↔◌, ℕ, ◌+◌, ◌/◌, ◌%◌, ◌<◌, ◌≤◌, true, All, IsOk, IsTrue, Some, List, [], ◌++◌, length, slice_get};
->>>>>>> e8fccef405bda55b3d612e58213973515b010aba
+ghost use Rattle.std.specs.Prelude.{◌≡◌, ◌↔◌, ℕ, ◌+◌, ◌/◌, ◌%◌, ◌<◌, ◌≤◌, true, false, All, IsOk, IsTrue, Some, None, Ok, List, [], ◌++◌, length, slice_get};
 ghost use Rattle.dllp_core.specs.declared.packet.Class.{Class};
 ghost use Rattle.tlp_core.specs.TlpView.{TlpView, IsPacket};
 ghost use Rattle.tlp_core.specs.Layout.{Spells, canonical};
