@@ -1,7 +1,6 @@
 -- All DLLPs of the wire arrive, the last Ack or Nak among them.
-use Rattle.std.proofs.Common.{◌≡◌, ℕ, zero, suc, ◌+◌, ◌≤◌, List, [], ◌∷◌, ◌++◌, length, drop, refl, ◌∙◌, ap, arith}
+use Rattle.std.proofs.Common.{◌≡◌, ℕ, zero, suc, ◌≤◌, List, [], ◌∷◌, ◌++◌, length, drop, refl, ◌∙◌, ap, arith}
 use Rattle.dllp_core.specs.declared.packet.Dllp.{Dllp}
-use Rattle.dllp_core.specs.declared.packet.Dllp.TheVariants.{Ack, Nak}
 use Rattle.seq12.specs.Numbers.{previous_of, distance_of}
 use Rattle.replay_sender.specs.SenderView.{SenderView}
 use Rattle.link_receiver.specs.declared.receiver.NakScheduled.{NakScheduled}
