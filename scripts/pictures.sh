@@ -76,6 +76,18 @@ done
 "$pciex" generate --seed 7 --events 3000 --lose 8 --corrupt 8 > "$room/input"
 charts "the chart of a storm" 0
 charts "the lane in of a storm" 0 --lane in --from 1000
+"$pciex" generate --seed 3 --requesters 3 --events 900 --lose 4 --corrupt 8 > "$room/input"
+charts "the chart of three requesters with losses" 0
+# The lines of the parts stand at 560 and each 240 pixels: no cross is on one.
+crosses=$(sed 's/<g>/\n&/g' "$room/picture" | sed -n 's/^<g><title>[^<]*, lost<\/title><line [^>]* x2="\([0-9]*\)".*/\1/p')
+if [ -z "$crosses" ] || ! echo "$crosses" | awk '($1 - 560) % 240 == 0 { exit 1 }'; then
+    echo "pictures: a cross of what was lost is on a line of three requesters"
+    failed=1
+fi
+[ "$(grep -o '>requester 2</text>' "$room/picture" | wc -l)" -gt 10 ] || {
+    echo "pictures: the names don't stand again below each 40 rows"
+    failed=1
+}
 "$pciex" chart < examples/lost_ack.txt | cmp -s - examples/lost_ack.svg || {
     echo "pictures: examples/lost_ack.svg is not the chart of examples/lost_ack.txt"
     failed=1

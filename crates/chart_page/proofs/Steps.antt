@@ -1,11 +1,13 @@
 -- Shapes that are added one after the other.
-use Rattle.std.proofs.Common.{◌≡◌, ◌∙◌, ◌+◌, ◌∷◌, ◌++◌, ◌<◌, ◌≤◌, List, ℕ, [], zero, suc, ap, sym, subst, refl, drop, length, get_or, append_assoc, drop-cons, arith}
+use Rattle.std.proofs.Common.{◌≡◌, ◌∙◌, ◌+◌, ◌*◌, ◌∷◌, ◌++◌, ◌<◌, ◌≤◌, List, ℕ, [], zero, suc, ap, sym, subst, refl, drop, length, get_or, append_assoc, drop-cons, arith}
 use Rattle.std.proofs.lemmas.Grind.{flat_map-append}
 use Rattle.std.proofs.lemmas.List.{append-nil}
 use Rattle.svg_text.specs.Shapes.{Shape, shape_text, shapes_text}
 use Rattle.chart_rows.specs.declared.row.Row.{Row}
 use Rattle.chart_rows.specs.declared.row.Open.{Open}
-use Rattle.chart_page.specs.Shapes.{each, open_stroke, open_strokes, requester_column, requester_columns}
+use Rattle.chart_rows.specs.Layout.{requester_x, top_of}
+use Rattle.chart_rows.specs.Words.{requester_words}
+use Rattle.chart_page.specs.Shapes.{each, name, names, open_stroke, open_strokes, requester_column, requester_columns, requester_names, stripes}
 
 text-append : (a b : List Shape) → shapes_text (a ++ b) ≡ shapes_text a ++ shapes_text b
 unfolding shapes_text
@@ -68,3 +70,18 @@ pub columns-next : (k bottom : ℕ) (o p q : List ℕ) → p ≡ o ++ shapes_tex
 columns-next k bottom o p q e f =
     let next : k + 1 ≡ suc k = omega arith in
     subst (λ (j : ℕ). q ≡ o ++ shapes_text (requester_columns j bottom)) (sym next) (both o p q (requester_columns k bottom) (requester_column (k + 1) bottom) e f)
+
+-- ---- names in stripes
+
+pub names-next : (k y : ℕ) (o p q : List ℕ) → p ≡ o ++ shapes_text (requester_names k y) → q ≡ p ++ shapes_text (name (requester_x (k + 1)) y (requester_words (k + 1)))
+    → q ≡ o ++ shapes_text (requester_names (k + 1) y)
+names-next k y o p q e f =
+    let next : k + 1 ≡ suc k = omega arith in
+    subst (λ (j : ℕ). q ≡ o ++ shapes_text (requester_names j y)) (sym next)
+    (both o p q (requester_names k y) (name (requester_x (k + 1)) y (requester_words (k + 1))) e f)
+
+pub stripes-next : (n k : ℕ) (o p q : List ℕ) → p ≡ o ++ shapes_text (stripes n k) → q ≡ p ++ shapes_text (names n (top_of (40 * (k + 1))))
+    → q ≡ o ++ shapes_text (stripes n (k + 1))
+stripes-next n k o p q e f =
+    let next : k + 1 ≡ suc k = omega arith in
+    subst (λ (j : ℕ). q ≡ o ++ shapes_text (stripes n j)) (sym next) (both o p q (stripes n k) (names n (top_of (40 * (k + 1)))) e f)

@@ -217,6 +217,19 @@ remark_side w fate = if is_lost fate then other w.is_right else w.is_right
 abbrev pub remark : Way → ℕ → Fate → Colour → List ℕ → List Shape
 remark w row fate colour words = if length words == 0 then [] else tag_shapes (tag w.to (remark_side w fate) row None colour) words
 
+-- whether something arrives more than twelve rows below its sending
+abbrev pub is_far : Option ℕ → ℕ → Bool
+is_far None row = false
+is_far (Some sent) row = nat_lt (sent + 12) row
+
+abbrev pub far_words : Option PacketSent → ℕ → List ℕ
+far_words None row = []
+far_words (Some p) row = if is_far p.row row then said.sent_words p.number None else []
+
+-- the number of a packet that comes from far, if nothing else is said of its arrival
+abbrev pub far_remark : Way → ℕ → Fate → Arrival → Option PacketSent → List Shape
+far_remark w row fate arrival sent = if length (said.arrival_words fate arrival) == 0 then remark w row fate colours.Black (far_words sent row) else []
+
 -- what goes well is told in black
 abbrev pub remark_colour : Fate → Colour
 remark_colour fates.Good = colours.Black
@@ -226,7 +239,8 @@ abbrev pub note : ℕ → ℕ → Deed → List Shape
 note n row deeds.Nothing = []
 note n row (deeds.Submitted port c) = mark (requester_x port) row (Some c.kind) (said.submitted_words c)
 note n row (deeds.Sent lane number c) = departing (way_of n lane false) row (kind_in c) (said.sent_words number c)
-note n row (deeds.Arrived lane fate arrival sent) = remark (way_of n lane false) row fate colours.Red (said.arrival_words fate arrival)
+note n row (deeds.Arrived lane fate arrival sent) =
+    remark (way_of n lane false) row fate colours.Red (said.arrival_words fate arrival) ++ far_remark (way_of n lane false) row fate arrival sent
 note n row (deeds.SentDllp lane dllp) = departing (way_of n lane true) row None (said.dllp_words dllp)
 note n row (deeds.ArrivedDllp lane fate sent replay) = remark (way_of n lane true) row fate (remark_colour fate) (said.dllp_arrival_words fate replay)
 note n row (deeds.Expired lane replay) = notice (way_of n lane false) row (said.expired_words replay)
@@ -253,10 +267,10 @@ abbrev pub number : ℕ → ℕ → Shape
 number row line = Shape.Written (label_at 10 (top_of row + 17) colours.Grey) (decimal line)
 
 abbrev pub event_said : ℕ → Row → Shape
-event_said row r = Shape.Written (label_at 58 (top_of row + 17) (row_colour r.deed)) (said.shortened 26 (event_line r.event))
+event_said row r = Shape.Written (label_at 70 (top_of row + 17) (row_colour r.deed)) (said.shortened 26 (event_line r.event))
 
 abbrev pub outcome_said : ℕ → Row → Shape
-outcome_said row r = Shape.Written (label_at 254 (top_of row + 17) (row_colour r.deed)) (said.shortened 20 (said.outcome_words r.event r.outcome))
+outcome_said row r = Shape.Written (label_at 266 (top_of row + 17) (row_colour r.deed)) (said.shortened 20 (said.outcome_words r.event r.outcome))
 
 -- the number of the line, the event, and what was seen of it or why it was refused
 abbrev pub band : ℕ → ℕ → Row → List Shape
@@ -340,6 +354,26 @@ memory_column n bottom = column (memory_x n) bottom (codes "memory")
 abbrev pub columns : ℕ → ℕ → List Shape
 columns n bottom = requester_columns n bottom ++ (switch_column n bottom ++ memory_column n bottom)
 
+-- a name in the stripe that ends at y, on white
+abbrev pub name : ℕ → ℕ → List ℕ → List Shape
+name x y words =
+    Shape.Filled (block_at (x - 44) (y - 22) (x + 44) (y - 4) colours.White colours.White 0) words
+    ∷ Shape.Written (record { x = x; y = y - 9; size = 12; colour = colours.Grey; is_centred = true }) words
+    ∷ []
+
+-- of so many requesters
+abbrev pub requester_names : ℕ → ℕ → List Shape
+requester_names zero y = []
+requester_names (suc k) y = requester_names k y ++ name (requester_x (k + 1)) y (said.requester_words (k + 1))
+
+abbrev pub names : ℕ → ℕ → List Shape
+names n y = requester_names n y ++ (name (switch_x n) y (codes "switch") ++ name (memory_x n) y (codes "memory"))
+
+-- the names again in so many stripes, one below each 40 rows
+abbrev pub stripes : ℕ → ℕ → List Shape
+stripes n zero = []
+stripes n (suc k) = stripes n k ++ names n (top_of (40 * (k + 1)))
+
 -- ---- what isn't shown
 
 abbrev pub cut : ℕ → ℕ → List ℕ → List Shape
@@ -365,9 +399,10 @@ abbrev pub body : PageView → List Shape
 body p =
     each (band p.requesters) 0 p.rows
     ++ (columns p.requesters (bottom_of p.rows + 6)
+    ++ (stripes p.requesters (length p.rows / 40)
     ++ (each (row_strokes p.requesters) 0 p.rows
     ++ (open_strokes p.requesters p.opens
-    ++ (each (row_note p.requesters) 0 p.rows ++ cuts p.before p.after (bottom_of p.rows + 18)))))
+    ++ (each (row_note p.requesters) 0 p.rows ++ cuts p.before p.after (bottom_of p.rows + 18))))))
 
 abbrev pub shapes : PageView → Bool → List ℕ → List Shape
 shapes p is_red title = Shape.Written (title_label is_red) title ∷ (legend ++ body p)

@@ -1,6 +1,7 @@
 //! What stands above the rows.
-ghost use Rattle.std.specs.Prelude.{◌≡◌, ◌≤◌, ◌+◌, ◌++◌, codes, OnOk};
+ghost use Rattle.std.specs.Prelude.{◌≡◌, ◌<◌, ◌≤◌, ◌+◌, ◌-◌, ◌*◌, ◌++◌, codes, OnOk};
 ghost use Rattle.svg_text.specs.Shapes.{Shape, shape_text, shapes_text};
+ghost use Rattle.svg_text.specs.declared.colour.Colour.TheVariants as colours;
 ghost use Rattle.chart_rows.specs.Layout as layout;
 ghost use Rattle.chart_rows.specs.Words as said;
 ghost use Rattle.chart_page.specs.Shapes as spec;
@@ -8,7 +9,7 @@ ghost use Rattle.chart_page.specs.Shapes as spec;
 use crate::arrows::{cross, pen};
 use crate::shapes::{label_at, put_square, rule};
 use arrayvec::ArrayString;
-use chart_rows::{Point, memory_x, requester_x, switch_x, write_requester};
+use chart_rows::{Point, memory_x, requester_x, switch_x, top_of, write_requester};
 use std::alloc::AllocError;
 use svg_text::{Block, Colour, Label, put_block, put_label, put_lines};
 
@@ -190,5 +191,108 @@ pub(crate) fn put_columns(requesters: u8, bottom: u64, out: &mut Vec<u8>) -> Res
     put_requester_columns(requesters, bottom, out)?;
     put_switch_column(requesters, bottom, out)?;
     put_memory_column(requesters, bottom, out)?;
+    Ok(())
+}
+
+/// White below a name.
+fn name_block(x: u64, y: u64) -> Block
+    requires x { x ≤ 70000 }
+    requires y { y ≤ 2000000 }
+    ensures { result ≡ spec.block_at (x - 44) (y - 22) (x + 44) (y - 4) colours.White colours.White 0 }
+{
+    Block {
+        left: x.saturating_sub(44),
+        top: y.saturating_sub(22),
+        right: x + 44,
+        bottom: y.saturating_sub(4),
+        fill: Colour::White,
+        edge: Colour::White,
+        thickness: 0,
+        is_open: false,
+    }
+}
+
+/// Adds a name in the stripe that ends at y.
+#[tactic(auto, unfolding(svg_text::specs::Shapes::shapes_text))]
+fn put_name(x: u64, y: u64, words: &[u8], out: &mut Vec<u8>) -> Result<(), AllocError>
+    requires x { x ≤ 70000 }
+    requires y { y ≤ 2000000 }
+    ensures { OnOk result (out.new.items ≡ out.old.items ++ shapes_text (spec.name x y words.now)) }
+{
+    put_block(&name_block(x, y), words, out)?;
+    let label = Label {
+        x,
+        y: y.saturating_sub(9),
+        size: 12,
+        colour: Colour::Grey,
+        is_centred: true,
+    };
+    put_label(&label, words, out)
+}
+
+/// Adds the name of the requester at a port.
+fn put_requester_name(port: u8, y: u64, out: &mut Vec<u8>) -> Result<(), AllocError>
+    requires { y ≤ 2000000 }
+    ensures { OnOk result (out.new.items ≡ out.old.items ++ shapes_text (spec.name (layout.requester_x port) y (said.requester_words port))) }
+{
+    let mut name = ArrayString::new();
+    write_requester(port, &mut name);
+    put_name(requester_x(port), y, name.as_bytes(), out)
+}
+
+/// Adds the names of the requesters.
+fn put_requester_names(requesters: u8, y: u64, out: &mut Vec<u8>) -> Result<(), AllocError>
+    requires { y ≤ 2000000 }
+    ensures { OnOk result (out.new.items ≡ out.old.items ++ shapes_text (spec.requester_names requesters y)) }
+{
+    for place in 0..requesters {
+        put_requester_name(place + 1, y, out)?;
+    }
+    Ok(())
+}
+
+/// Adds the name of the switch.
+fn put_switch_name(requesters: u8, y: u64, out: &mut Vec<u8>) -> Result<(), AllocError>
+    requires { y ≤ 2000000 }
+    ensures { OnOk result (out.new.items ≡ out.old.items ++ shapes_text (spec.name (layout.switch_x requesters) y (codes "switch"))) }
+{
+    put_name(switch_x(requesters), y, b"switch", out)
+}
+
+/// Adds the name of the memory.
+fn put_memory_name(requesters: u8, y: u64, out: &mut Vec<u8>) -> Result<(), AllocError>
+    requires { y ≤ 2000000 }
+    ensures { OnOk result (out.new.items ≡ out.old.items ++ shapes_text (spec.name (layout.memory_x requesters) y (codes "memory"))) }
+{
+    put_name(memory_x(requesters), y, b"memory", out)
+}
+
+/// Adds the names of the lines in the stripe that ends at y.
+fn put_names(requesters: u8, y: u64, out: &mut Vec<u8>) -> Result<(), AllocError>
+    requires { y ≤ 2000000 }
+    ensures { OnOk result (out.new.items ≡ out.old.items ++ shapes_text (spec.names requesters y)) }
+{
+    put_requester_names(requesters, y, out)?;
+    put_switch_name(requesters, y, out)?;
+    put_memory_name(requesters, y, out)?;
+    Ok(())
+}
+
+/// Adds the names in the stripe of this number, from 0.
+fn put_stripe(requesters: u8, stripe: u16, out: &mut Vec<u8>) -> Result<(), AllocError>
+    requires { stripe < 25 }
+    ensures { OnOk result (out.new.items ≡ out.old.items ++ shapes_text (spec.names requesters (layout.top_of (40 * (stripe + 1))))) }
+{
+    put_names(requesters, top_of(40 * (stripe + 1)), out)
+}
+
+/// Adds the names again in so many stripes, at most 25.
+pub(crate) fn put_stripes(requesters: u8, count: u16, out: &mut Vec<u8>) -> Result<(), AllocError>
+    requires { count ≤ 25 }
+    ensures { OnOk result (out.new.items ≡ out.old.items ++ shapes_text (spec.stripes requesters count)) }
+{
+    for stripe in 0..count {
+        put_stripe(requesters, stripe, out)?;
+    }
     Ok(())
 }

@@ -1,5 +1,5 @@
 //! What is said of an event at the line of a part.
-ghost use Rattle.std.specs.Prelude.{◌≡◌, ◌≤◌, ◌++◌, length, Some, None, OnOk};
+ghost use Rattle.std.specs.Prelude.{◌≡◌, ◌≤◌, ◌++◌, [], length, Some, None, OnOk};
 ghost use Rattle.svg_text.specs.Shapes.{shapes_text};
 ghost use Rattle.svg_text.specs.declared.colour.Colour.TheVariants as colours;
 ghost use Rattle.chart_rows.specs.Layout as layout;
@@ -10,8 +10,8 @@ use crate::arrows::is_lost;
 use crate::shapes::{Tag, kind_in, put_square, put_tag};
 use arrayvec::ArrayString;
 use chart_rows::{
-    Carried, Deed, Kind, Point, Replay, Way, arrival_words, memory_x, middle, other, requester_x,
-    switch_x, way_of, write_collected, write_dllp, write_dllp_arrival, write_expired,
+    Carried, Deed, Kind, PacketSent, Point, Replay, Way, arrival_words, memory_x, middle, other,
+    requester_x, switch_x, way_of, write_collected, write_dllp, write_dllp_arrival, write_expired,
     write_forwarded, write_sent, write_served, write_submitted,
 };
 use dllp_core::Dllp;
@@ -180,6 +180,67 @@ fn put_arrival_note(
     put_remark(way, row, fate, Colour::Red, words.as_bytes(), out)
 }
 
+/// Whether something arrives more than twelve rows below its sending.
+fn is_far(sent: Option<u16>, row: u16) -> bool
+    ensures { result ≡ spec.is_far sent row }
+{
+    match sent {
+        None => false,
+        Some(sent) => u32::from(sent) + 12 < u32::from(row),
+    }
+}
+
+/// Writes the number of a packet that comes from far.
+fn write_far(sent: Option<PacketSent>, row: u16, text: &mut ArrayString<512>)
+    requires { text.old.bytes ≡ [] }
+    ensures { text.new.bytes ≡ spec.far_words sent row }
+{
+    if let Some(packet) = sent {
+        if is_far(packet.row, row) {
+            write_sent(packet.number, None, text);
+        }
+    }
+}
+
+/// Adds the number of a packet that comes from far, if nothing else is said of its arrival.
+#[tactic(auto, unfolding(svg_text::specs::Shapes::shapes_text))]
+fn put_far_note(
+    way: Way,
+    row: u16,
+    fate: Fate,
+    arrival: Arrival,
+    sent: Option<PacketSent>,
+    out: &mut Vec<u8>,
+) -> Result<(), AllocError>
+    requires { way.to ≤ 70000 }
+    ensures { OnOk result (out.new.items ≡ out.old.items ++ shapes_text (spec.far_remark way row fate arrival sent)) }
+{
+    if !arrival_words(fate, arrival).is_empty() {
+        return Ok(());
+    }
+    let mut text = ArrayString::new();
+    write_far(sent, row, &mut text);
+    put_remark(way, row, fate, Colour::Black, text.as_bytes(), out)
+}
+
+/// Adds what is said of a packet's arrival.
+fn put_arrived(
+    way: Way,
+    row: u16,
+    fate: Fate,
+    arrival: Arrival,
+    sent: Option<PacketSent>,
+    out: &mut Vec<u8>,
+) -> Result<(), AllocError>
+    requires { way.to ≤ 70000 }
+    ensures { OnOk result (out.new.items ≡ out.old.items ++ shapes_text (
+        spec.remark way row fate colours.Red (said.arrival_words fate arrival) ++ spec.far_remark way row fate arrival sent)) }
+{
+    put_arrival_note(way, row, fate, arrival, out)?;
+    put_far_note(way, row, fate, arrival, sent, out)?;
+    Ok(())
+}
+
 fn put_dllp_note(way: Way, row: u16, dllp: Dllp, out: &mut Vec<u8>) -> Result<(), AllocError>
     requires { way.from ≤ 70000 }
     ensures { OnOk result (out.new.items ≡ out.old.items ++ shapes_text (spec.departing way row None (said.dllp_words dllp))) }
@@ -272,8 +333,9 @@ pub(crate) fn put_note(
         Deed::Sent(lane, number, carried) => {
             put_sent_note(way_of(requesters, lane, false), row, number, carried, out)
         }
-        Deed::Arrived(lane, fate, arrival, _) => {
-            put_arrival_note(way_of(requesters, lane, false), row, fate, arrival, out)
+        Deed::Arrived(lane, fate, arrival, sent) => {
+            let way = way_of(requesters, lane, false);
+            put_arrived(way, row, fate, arrival, sent, out)
         }
         Deed::SentDllp(lane, dllp) => {
             put_dllp_note(way_of(requesters, lane, true), row, dllp, out)

@@ -4,7 +4,7 @@ ghost use Rattle.svg_text.specs.Shapes.{shape_text, shapes_text};
 ghost use Rattle.chart_page.specs.Shapes as spec;
 
 use crate::arrows::{put_open, put_strokes};
-use crate::heading::{put_columns, put_legend, title_label};
+use crate::heading::{put_columns, put_legend, put_stripes, title_label};
 use crate::notes::put_note;
 use crate::shapes::label_at;
 use arrayvec::ArrayString;
@@ -73,7 +73,7 @@ fn put_said(alloc: Global, row: u16, of: &Row, out: &mut Vec<u8>) -> Result<(), 
 {
     let mut words = Vec::new(alloc);
     write_event_words(&of.event, &mut words)?;
-    let label = label_at(58, top_of(row) + 17, row_colour(of.deed));
+    let label = label_at(70, top_of(row) + 17, row_colour(of.deed));
     put_label(&label, words.as_slice(), out)
 }
 
@@ -83,7 +83,7 @@ fn put_seen(alloc: Global, row: u16, of: &Row, out: &mut Vec<u8>) -> Result<(), 
 {
     let mut words = Vec::new(alloc);
     write_outcome_words(&of.event, &of.outcome, &mut words)?;
-    let label = label_at(254, top_of(row) + 17, row_colour(of.deed));
+    let label = label_at(266, top_of(row) + 17, row_colour(of.deed));
     put_label(&label, words.as_slice(), out)
 }
 
@@ -221,6 +221,7 @@ fn put_body(
     let bottom = bottom_of(rows);
     put_bands(alloc, requesters, rows, out)?;
     put_columns(requesters, bottom + 6, out)?;
+    put_stripes(requesters, (rows.len() / 40) as u16, out)?;
     put_all_strokes(requesters, rows, out)?;
     put_all_open(requesters, opens, out)?;
     put_notes(requesters, rows, out)?;

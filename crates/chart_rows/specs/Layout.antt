@@ -16,11 +16,12 @@ abbrev pub memory_x : ℕ → ℕ
 memory_x requesters = switch_x requesters + 240
 
 abbrev pub width_of : ℕ → ℕ
-width_of requesters = memory_x requesters + 260
+width_of requesters = memory_x requesters + 360
 
--- a row is 26 pixels high; an arrow ends in the middle of its row, and begins below the middle
+-- a row is 26 pixels high, and so is the stripe with the names of the lines below each 40 rows; an arrow ends in the
+-- middle of its row, and begins below the middle
 abbrev pub top_of : ℕ → ℕ
-top_of row = 104 + 26 * row
+top_of row = 104 + 26 * (row + row / 40)
 
 abbrev pub departure : ℕ → ℕ
 departure row = top_of row + 19
@@ -67,6 +68,6 @@ abbrev pub start_of : Way → Option ℕ → ℕ → Point
 start_of w (Some sent) row = point w.from (departure sent)
 start_of w None row = point (thirds w 1) (middle row)
 
--- it ends at the other line, and what is lost two thirds of the way
+-- it ends at the other line, and what is lost 80 pixels before that
 abbrev pub finish_of : Way → Bool → ℕ → Point
-finish_of w is_lost row = point (if is_lost then thirds w 2 else w.to) (middle row)
+finish_of w is_lost row = point (if is_lost then behind w.is_right w.to 80 else w.to) (middle row)

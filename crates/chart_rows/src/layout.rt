@@ -47,15 +47,16 @@ pub fn memory_x(requesters: u8) -> u64
 pub fn width_of(requesters: u8) -> u64
     ensures { result ≡ layout.width_of requesters }
 {
-    memory_x(requesters) + 260
+    memory_x(requesters) + 360
 }
 
-/// Where a row begins.
+/// Where a row begins. Below each 40 rows there is a stripe with the names of the lines.
 pub fn top_of(row: u16) -> u64
     ensures value { result ≡ layout.top_of row }
     ensures range { result ≤ 2000000 }
 {
-    104 + 26 * u64::from(row)
+    let row = u64::from(row);
+    104 + 26 * (row + row / 40)
 }
 
 /// Where in its row an arrow begins.
@@ -186,7 +187,11 @@ pub fn finish_of(way: Way, is_lost: bool, row: u16) -> Point
     ensures y { result.y ≤ 2000100 }
 {
     Point {
-        x: if is_lost { thirds(way, 2) } else { way.to },
+        x: if is_lost {
+            behind(way.is_right, way.to, 80)
+        } else {
+            way.to
+        },
         y: middle(row),
     }
 }

@@ -55,6 +55,8 @@ deliver down1 good
 collect 1
 ";
 
+const LOST: &str = "fabric 3 0 4096\nsubmit 1 add 40 07000000\ntransmit up1\ndeliver up1 lost\n";
+
 const NAK: &str = "\
 fabric 1 0 4096
 submit 1 read 40 1 F 0
@@ -161,19 +163,19 @@ const INWARD: ChartWindow = ChartWindow {
 /// A script, the window, parts of its chart, and the exit status.
 type Charted = (&'static str, ChartWindow, &'static [&'static str], u8);
 
-static CHARTS: [Charted; 10] = [
+static CHARTS: [Charted; 11] = [
     // The lines of the requester, the switch and the memory stand at 560, 800 and 1040. Row n begins at 104 + 26 n.
     (
         LOST_ACK,
         WHOLE,
         &[
-            "<svg xmlns=\"http://www.w3.org/2000/svg\" width=\"1300\"",
+            "<svg xmlns=\"http://www.w3.org/2000/svg\" width=\"1400\"",
             ">the script ran to its end</text>",
             "<title>line 7: submit 1 add 40 07000000 -&gt; sub 1 0</title>",
             ">requester 1</text><g><title>requester 1</title><line x1=\"560\" y1=\"92\"",
             // The packet, sent in row 1, arrives in row 2.
             "<g><title>packet 000 on up1, add of requester 1, request 0, accepted</title><line x1=\"560\" y1=\"149\" x2=\"800\" y2=\"169\" stroke=\"#000000\" stroke-width=\"2\" stroke-dasharray=\"0\"",
-            // The Ack, sent in row 3, is lost in row 4, two thirds of its way back.
+            // The Ack, sent in row 3, is lost in row 4, 80 pixels before it would arrive.
             "<g><title>Ack 000 on up1, lost</title><line x1=\"800\" y1=\"201\" x2=\"640\" y2=\"221\" stroke=\"#767676\" stroke-width=\"1\" stroke-dasharray=\"0\"",
             "<line x1=\"634\" y1=\"215\" x2=\"646\" y2=\"227\" stroke=\"#C00000\"",
             // The duplicate, sent in row 6, arrives in row 7.
@@ -216,6 +218,15 @@ static CHARTS: [Charted; 10] = [
             "<line x1=\"560\" y1=\"149\" x2=\"800\" y2=\"169\"",
             ">events before these rows: 5</text>",
             ">events after these rows: 25</text>",
+        ],
+        0,
+    ),
+    // The line of the switch stands at 1280. The packet is lost 80 pixels before it, on no other line.
+    (
+        LOST,
+        WHOLE,
+        &[
+            "<g><title>packet 000 on up1, add of requester 1, request 0, lost</title><line x1=\"560\" y1=\"149\" x2=\"1200\" y2=\"169\" stroke=\"#000000\"",
         ],
         0,
     ),

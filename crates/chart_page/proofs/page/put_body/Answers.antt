@@ -1,6 +1,6 @@
-use Rattle.std.proofs.Common.{◌∙◌, ◌++◌, ◌+◌, ap, ℕ}
+use Rattle.std.proofs.Common.{◌∙◌, ◌++◌, ◌+◌, ◌/◌, ap, length, ℕ}
 use Rattle.svg_text.specs.Shapes.{shapes_text}
-use Rattle.chart_page.specs.Shapes.{each, band, columns, row_strokes, open_strokes, row_note, cuts, bottom_of}
+use Rattle.chart_page.specs.Shapes.{each, band, columns, stripes, row_strokes, open_strokes, row_note, cuts, bottom_of}
 use Rattle.chart_page.proofs.Steps.{both}
 use Rattle.chart_page.proofs.page.put_body.Goals as goal
 
@@ -11,14 +11,16 @@ returns c =
     let os = c.args.opens.now in
     let p1 = c.put_bands.new.out.items in
     let p2 = c.put_columns.new.out.items in
-    let p3 = c.put_all_strokes.new.out.items in
-    let p4 = c.put_all_open.new.out.items in
-    let p5 = c.put_notes.new.out.items in
+    let p3 = c.put_stripes.new.out.items in
+    let p4 = c.put_all_strokes.new.out.items in
+    let p5 = c.put_all_open.new.out.items in
+    let p6 = c.put_notes.new.out.items in
     let last = c.put_cuts.new.out.items in
     both c.args.out.now.items p1 last (each (band n) 0 rs) _ c.in_ok-put_bands.ensures
     (both p1 p2 last (columns n (bottom_of rs + 6)) _
     (c.in_ok-put_columns.ensures ∙ ap (λ (b : ℕ). p1 ++ shapes_text (columns n (b + 6))) c.bottom_of-bottom.ensures.value)
-    (both p2 p3 last (each (row_strokes n) 0 rs) _ c.in_ok-put_all_strokes.ensures
-    (both p3 p4 last (open_strokes n os) _ c.in_ok-put_all_open.ensures
-    (both p4 p5 last (each (row_note n) 0 rs) (cuts c.args.cut.0 c.args.cut.1 (bottom_of rs + 18)) c.in_ok-put_notes.ensures
-    (c.in_ok-put_cuts.ensures ∙ ap (λ (b : ℕ). p5 ++ shapes_text (cuts c.args.cut.0 c.args.cut.1 (b + 18))) c.bottom_of-bottom.ensures.value)))))
+    (both p2 p3 last (stripes n (length rs / 40)) _ c.in_ok-put_stripes.ensures
+    (both p3 p4 last (each (row_strokes n) 0 rs) _ c.in_ok-put_all_strokes.ensures
+    (both p4 p5 last (open_strokes n os) _ c.in_ok-put_all_open.ensures
+    (both p5 p6 last (each (row_note n) 0 rs) (cuts c.args.cut.0 c.args.cut.1 (bottom_of rs + 18)) c.in_ok-put_notes.ensures
+    (c.in_ok-put_cuts.ensures ∙ ap (λ (b : ℕ). p6 ++ shapes_text (cuts c.args.cut.0 c.args.cut.1 (b + 18))) c.bottom_of-bottom.ensures.value))))))
