@@ -7,6 +7,7 @@ ghost use Rattle.cli_words.specs.Options.{the_app, Asks};
 ghost use Rattle.cli_commands.specs.Command.{IsBegun, EndsWrong, IsRight, IsRightRequest, AreRefused};
 ghost use Rattle.cli_words.specs.declared.words.Request.{Request};
 
+use crate::hints::hint;
 use chart_engine::run_chart;
 use clap::error::ErrorKind;
 use cli_words::{Request, RequestFault, options};
@@ -214,6 +215,10 @@ pub fn on_one_thread<S: AsStr, R: Read, W: Write, E: Write>(
 {
     match options(alloc, words) {
         Ok(request) => begin(alloc, request, is_terminal, reader, writer, errors),
-        Err(fault) => Outcome::Ended(refused(&fault, writer, errors)),
+        Err(fault) => {
+            let status = refused(&fault, writer, errors);
+            hint(words, &fault, errors);
+            Outcome::Ended(status)
+        }
     }
 }

@@ -5,6 +5,7 @@
 #![tactic(auto)]
 
 mod command;
+mod hints;
 #[cfg(test)]
 mod tests;
 

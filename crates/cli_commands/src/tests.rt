@@ -369,6 +369,52 @@ fn wrong_words(rt: HostRuntime) {
     assert!(rt; all_are_wrong(rt.alloc(), &WRONG));
 }
 
+/// Wrong words, and how what is told of them ends: a file is given on standard input.
+static NAMED: [Given; 5] = [
+    (
+        &["pciex", "step", "script.txt"],
+        "\npciex: step reads standard input: pciex step < FILE\n",
+    ),
+    (
+        &["pciex", "check", "--clocked", "trace.txt"],
+        "\npciex: check reads standard input: pciex check < FILE\n",
+    ),
+    (
+        &["pciex", "step", "--traces"],
+        "For more information, try '--help'.\n",
+    ),
+    (
+        &["pciex", "generate", "storm.txt"],
+        "For more information, try '--help'.\n",
+    ),
+    (
+        &["pciex", "storm.txt"],
+        "For more information, try '--help'.\n",
+    ),
+];
+
+/// Whether what is told of the words ends so.
+fn is_hinted(alloc: Global, row: &Given) -> bool {
+    let (words, text) = *row;
+    let mut out = Vec::new(alloc);
+    let mut errors = Vec::new(alloc);
+    told(alloc, words, b"zz\n", &mut out, &mut errors) == 2 && errors.ends_with(text.as_bytes())
+}
+
+/// The same of each row.
+fn all_are_hinted(alloc: Global, rows: &[Given]) -> bool {
+    let mut right = true;
+    for row in rows {
+        right &= is_hinted(alloc, row);
+    }
+    right
+}
+
+#[test]
+fn a_file_is_no_argument(rt: HostRuntime) {
+    assert!(rt; all_are_hinted(rt.alloc(), &NAMED));
+}
+
 /// Words that ask for a text, and how it begins.
 static TEXTS: [Given; 16] = [
     (

@@ -146,9 +146,9 @@ returns-in-Err g c = record {
       let memory = want _ _ _ request c.in-Err.ensures.words c.in-Err.ensures.range takes asks in
       let input = g.R.Read.remaining c.args.reader.now in
       let out = g.W.Write.contents c.args.writer.now in
-      subst (λ (after : Option (List ℕ)). IsDone request input input out after c.refused.result) (sym (c.refused.ensures.same memory))
-      (undone request input out c.refused.result (c.refused.ensures.status memory));
-  nothing = λ takes empty. none _ _ _ _ _ c.in-Err.ensures.words takes c.refused.ensures.status c.refused.ensures.same c.refused.ensures.range c.refused.ensures.range_same;
-  refused = refused_words _ _ _ _ _ c.in-Err.ensures.kinds c.in-Err.ensures.range_faultless c.refused.ensures.words;
+      subst (λ (after : Option (List ℕ)). IsDone request input input out after c.refused-status.result) (sym (c.refused-status.ensures.same memory))
+      (undone request input out c.refused-status.result (c.refused-status.ensures.status memory));
+  nothing = λ takes empty. none _ _ _ _ _ c.in-Err.ensures.words takes c.refused-status.ensures.status c.refused-status.ensures.same c.refused-status.ensures.range c.refused-status.ensures.range_same;
+  refused = refused_words _ _ _ _ _ c.in-Err.ensures.kinds c.in-Err.ensures.range_faultless c.refused-status.ensures.words;
   right = tt;
 }
