@@ -6,3 +6,4 @@ pub mod Explained
 pub mod Alike
 pub mod PieceLemmas
 pub mod CutLemmas
+pub mod PrefixLemmas

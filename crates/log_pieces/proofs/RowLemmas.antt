@@ -1,10 +1,10 @@
 -- Rows after one record more.
-use Rattle.std.proofs.Common.{◌≡◌, ◌∙◌, ℕ, zero, suc, ◌+◌, ◌<◌, ◌++◌, ◌∷◌, [], List, Some, length, take, drop, set, get_or, replicate, refl, sym, ap, subst, inl, inr, arith, Result, Ok, Err}
+use Rattle.std.proofs.Common.{◌≡◌, ◌∙◌, ℕ, zero, suc, ◌+◌, ◌<◌, ◌≤◌, ◌++◌, ◌∷◌, [], List, Some, length, take, drop, set, get_or, replicate, refl, sym, ap, subst, inl, inr, arith, Result, Ok, Err}
 use Rattle.std.specs.Prelude.{slice_get, ◌==◌, OnOk}
 use Rattle.std.proofs.lemmas.Option.{same_Some, slice_get-get_or}
 use Rattle.std.proofs.lemmas.List.Elements.{filter_map-append}
 use Rattle.std.proofs.lemmas.Bool.{cases_eq, eq-eqb, ne_eqb}
-use Rattle.std.proofs.lemmas.List.{append-nil, append_assoc, length-replicate, length-set, take_at}
+use Rattle.std.proofs.lemmas.List.{append-nil, append_assoc, length-replicate, length-set, take_at, take-append-drop, take-append-le}
 use Rattle.seq_memory.specs.declared.Reply.{Reply}
 use Rattle.tlp_core.specs.declared.operation.Op.{Op}
 use Rattle.history_check.specs.declared.Record.{Record}
@@ -140,3 +140,17 @@ on_ok (Err e) h f = tt
 
 pub refit : {X : Type 0} → (new items : List X) (n : ℕ) → n ≡ length new → take n (new ++ drop (length new) items) ≡ new
 refit new items n e = ap (λ k. take k (new ++ drop (length new) items)) e ∙ take_at new (drop (length new) items) (length new) refl
+
+-- ---- prefixes
+
+split_append : (p : Op → List Op) (before rs qs : List Record) → split_all p before (rs ++ qs) ≡ split_all p before rs ++ split_all p (before ++ rs) qs
+split_append p before [] qs = ap (λ (b : List Record). split_all p b qs) (sym (append-nil before))
+split_append p before (r ∷ rs) qs =
+    ap (λ xs. split p before r ++ xs) (split_append p (before ++ r ∷ []) rs qs ∙ ap (λ (b : List Record). split_all p (before ++ r ∷ []) rs ++ split_all p b qs) (append_assoc before (r ∷ []) rs))
+    ∙ sym (append_assoc (split p before r) (split_all p (before ++ r ∷ []) rs) (split_all p (before ++ r ∷ rs) qs))
+
+-- the first pieces are those of the first records
+pub first_pieces : (p : Op → List Op) (rs : List Record) (n count : ℕ) → count ≤ length (split_all p [] (take n rs)) → take count (split_all p [] rs) ≡ take count (split_all p [] (take n rs))
+first_pieces p rs n count l =
+    ap (λ (qs : List Record). take count (split_all p [] qs)) (sym (take-append-drop n rs))
+    ∙ ap (take count) (split_append p [] (take n rs) (drop n rs)) ∙ take-append-le count (split_all p [] (take n rs)) (split_all p (take n rs) (drop n rs)) l

@@ -1,7 +1,8 @@
 //! A log in pieces.
-ghost use Rattle.std.specs.Prelude.{◌≡◌, ◌+◌, ◌≤◌, ◌++◌, ◌∷◌, ◌==◌, [], List, IfOk, IfSome, IfNone, OnOk, length, slice_get};
+ghost use Rattle.std.specs.Prelude.{◌≡◌, ◌+◌, ◌≤◌, ◌++◌, ◌∷◌, ◌==◌, [], List, IfOk, IfSome, IfNone, OnOk, length, slice_get, take};
 ghost use Rattle.history_check.specs.declared.Record.{Record};
 ghost use Rattle.history_check.specs.TraceView.{TraceView};
+ghost use Rattle.log_runs.specs.Explainable.{IsExplainable, prefix};
 ghost use Rattle.log_pieces.specs.Pieces.{pieces, parts};
 ghost use Rattle.log_pieces.specs.InPieces as spec;
 ghost use Rattle.log_pieces.specs.InPieces.{next_number};
@@ -12,6 +13,7 @@ use crate::cutting::Splitter;
 use crate::replies::{back_of, front_of};
 use crate::rows::{Row, rows};
 use history_check::{Record, Trace};
+use log_runs::laws::prefix_is_explainable;
 use seq_memory::Reply;
 use std::alloc::{AllocError, Global};
 use tlp_core::{Op, copy_of};
@@ -241,5 +243,54 @@ pub fn in_pieces(
     match bytes_of(granularity) {
         Some(bytes) => Ok(Some(cut_log(alloc, bytes, trace)?)),
         None => Ok(None),
+    }
+}
+
+/// How many records have that many pieces, or more: the least number.
+fn reach(
+    alloc: Global,
+    cut: &Splitter,
+    records: &[Record],
+    count: usize,
+) -> Result<usize, AllocError>
+    requires some { 4 ≤ cut.now.bytes }
+    requires few { cut.now.bytes ≤ 64 }
+    requires reached { count ≤ length (spec.split_all (pieces cut.now.bytes cut.now.extent) [] records.now) }
+    ensures within { IfOk result (λ n. n ≤ length records.now) }
+    ensures reaches { IfOk result (λ n. count ≤ length (spec.split_all (pieces cut.now.bytes cut.now.extent) [] (take n records.now))) }
+{
+    let mut pieces = Vec::new(alloc);
+    let mut table = rows(alloc)?;
+    for at in 0..records.len() {
+        if count <= pieces.len() {
+            return Ok(at);
+        }
+        add(alloc, &mut pieces, &mut table, cut, &records[at])?;
+    }
+    Ok(records.len())
+}
+
+/// How many of the first records have the first `count` records of the log in pieces among their own: where those have
+/// no history, these have none in pieces.
+pub fn records_of(
+    alloc: Global,
+    trace: &Trace,
+    granularity: Granularity,
+    count: usize,
+) -> Result<usize, AllocError>
+    requires { count ≤ length (spec.in_pieces granularity trace.now).records }
+    ensures within { IfOk result (λ n. n ≤ length trace.now.records) }
+    ensures unexplained { IfOk result (λ n. (IsExplainable (prefix count (spec.in_pieces granularity trace.now)) → ⊥) → spec.IsExplainableIn granularity (prefix n trace.now) → ⊥) }
+{
+    prefix_is_explainable();
+    match bytes_of(granularity) {
+        Some(bytes) => {
+            let cut = Splitter {
+                bytes,
+                extent: trace.extent,
+            };
+            reach(alloc, &cut, &trace.records, count)
+        }
+        None => Ok(count),
     }
 }
