@@ -8,7 +8,7 @@ use Rattle.port_monitor.specs.declared.head.Head.{Head}
 use Rattle.port_monitor.specs.declared.fault.MonitorFault.{MonitorFault}
 use Rattle.port_monitor.specs.Heads.{head_of, memory_of}
 use Rattle.port_monitor.specs.Texts.{head_lines, record_line}
-use Rattle.port_monitor.specs.Monitoring.{Monitor, request, completion, acted}
+use Rattle.port_monitor.specs.Monitoring.{Monitor, request, completion, given_up, acted}
 use Rattle.c_buffer.specs.declared.outcome.Failure.{Failure}
 use Rattle.c_buffer.specs.declared.outcome.Failure.TheVariants.{SmallBuffer, NoLine}
 use Rattle.c_buffer.specs.Buffer.{filled, Told, untold, told}
@@ -75,6 +75,14 @@ abbrev pub acted_call : Monitor → ℕ → ℕ → List ℕ → MonitorCall
 acted_call m i number buffer =
     if nat_lt (length buffer) 512 then unmoved m buffer SmallBuffer
     else entered m buffer (acted m i number).answer (acted m i number).monitor
+
+abbrev pub gave_up : Result ⊤ MonitorFault → Result ⊤ Failure
+gave_up (Ok _) = Ok tt
+gave_up (Err f) = Err (failure_of f)
+
+-- a tag that is given up has no line, and needs no buffer
+abbrev pub give_up_outcome : Monitor → ℕ → ℕ → Result ⊤ Failure
+give_up_outcome m i tag = gave_up (given_up m i tag).answer
 
 -- there is nothing to refuse but memory: the buffer is large enough, and a trace takes the request
 abbrev pub IsTraced : Monitor → ℕ → List ℕ → List ℕ → Type 0

@@ -5,7 +5,7 @@ ghost use Rattle.port_monitor.specs.Texts.{record_line};
 ghost use Rattle.trace_text.specs.Texts.{entry_line};
 ghost use Rattle.c_buffer.specs.declared.outcome.Failure.TheVariants.{NoMemory};
 ghost use Rattle.c_buffer.specs.Buffer.{filled};
-ghost use Rattle.c_monitor.specs.Calls.{request_call, completion_call, acted_call, IsTraced};
+ghost use Rattle.c_monitor.specs.Calls.{request_call, completion_call, acted_call, give_up_outcome, IsTraced};
 
 use crate::failures::failure;
 use crate::slot::{Slot, close, open};
@@ -147,6 +147,34 @@ pub fn tell_completion(
 {
     let mut held = open(slot);
     let outcome = completion(&mut held, requester, packet, buffer);
+    *back = close(held);
+    outcome
+}
+
+fn give_up(monitor: &mut Monitor, requester: u8, tag: u8) -> Result<(), Failure>
+    ensures outcome { result ≡ give_up_outcome monitor.old requester tag }
+    ensures monitor { monitor.new ≡ (spec.given_up monitor.old requester tag).monitor }
+    ensures unchanged { IsErr result → monitor.new ≡ monitor.old }
+{
+    match monitor.give_up(requester, tag) {
+        Ok(()) => Ok(()),
+        Err(fault) => Err(failure(fault)),
+    }
+}
+
+/// No completion is waited for any longer under the tag of the requester, 1 to 7: the tag is free, and the
+/// request that was open under it has no answer. With an error nothing has changed, and it is the first of
+/// these: `NoRequester`, fault 21 (`Unexpected`) if no request is open under the tag. The monitor goes to
+/// `back`.
+pub fn give_up_tag(slot: Slot, requester: u8, tag: u8, back: &mut Slot) -> Result<(), Failure>
+    ghost monitor: { spec.Monitor }
+    requires { slot.monitor ≡ Some monitor }
+    ensures outcome { result ≡ give_up_outcome monitor requester tag }
+    ensures monitor { back.new.monitor ≡ Some (spec.given_up monitor requester tag).monitor }
+    ensures unchanged { IsErr result → back.new.monitor ≡ Some monitor }
+{
+    let mut held = open(slot);
+    let outcome = give_up(&mut held, requester, tag);
     *back = close(held);
     outcome
 }

@@ -8,5 +8,5 @@ mod calls;
 mod failures;
 mod slot;
 
-pub use calls::{count_open, tell_acted, tell_completion, tell_request};
+pub use calls::{count_open, give_up_tag, tell_acted, tell_completion, tell_request};
 pub use slot::{Slot, free_monitor, new_monitor};
