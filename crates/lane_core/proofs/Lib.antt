@@ -12,3 +12,9 @@ pub mod Whole
 pub mod Sums
 pub mod Windows
 pub mod Room
+pub mod Idle
+pub mod Resent
+pub mod Arrived
+pub mod Acknowledged
+pub mod Learned
+pub mod Turned

@@ -165,7 +165,7 @@ first_unaccepted s p f b next r e =
     let h : ahead_of p.number next ≡ 2048 = here s p f b next r e in
     rw h at (r.packets.0.cargo (omega arith))
 
-one_received : (s : SenderView) (p : WirePacket) (f : List WirePacket) (b : List ℕ) (next : ℕ) → AreNumbered s (p ∷ f) b next →
+pub one_received : (s : SenderView) (p : WirePacket) (f : List WirePacket) (b : List ℕ) (next : ℕ) → AreNumbered s (p ∷ f) b next →
     received_of s (next_of next) ≡ received_of s next + 1
 one_received s p f b next r =
     let window : length s.kept ≤ 2047 = r.window in

@@ -1,5 +1,5 @@
 //! What holds of a lane whatever calls are made, said of the values of its four ends, wherever these are.
-ghost use Rattle.std.specs.Prelude.{◌≡◌, ◌↔◌, ℕ, ◌+◌, ◌/◌, ◌<◌, ◌≤◌, true, All, IsOk, IsTrue, Some, List, [], ◌++◌, length, slice_get};
+ghost use Rattle.std.specs.Prelude.{◌≡◌, ◌↔◌, ℕ, ◌+◌, ◌/◌, ◌<◌, ◌≤◌, true, false, All, IsOk, IsTrue, Some, None, Ok, List, [], ◌++◌, length, slice_get};
 ghost use Rattle.dllp_core.specs.declared.packet.Class.{Class};
 ghost use Rattle.tlp_core.specs.TlpView.{TlpView, IsPacket};
 ghost use Rattle.tlp_core.specs.Layout.{Spells, canonical};
@@ -15,12 +15,15 @@ ghost use Rattle.lane_ends.specs.declared.packet.WirePacket.{WirePacket};
 ghost use Rattle.lane_ends.specs.declared.packet.Arrival.TheVariants.{Answered};
 ghost use Rattle.lane_ends.specs.Content.{cargo_of, item_spelled, IsSpelled, wire_bytes};
 ghost use Rattle.lane_ends.specs.Steps.{LaneEndsView, new_lane, may_enter, transmitted, delivered, dllp_seen, IsStill};
-ghost use Rattle.lane_core.specs.Calls.{Call, Deliver, IsCall, AreCalls, after_call, entered_by, accepted_by, after_calls, entered_in, accepted_in, taken_in, IsPrefixOf, on_the_way, content, content_after, IsRightWith, IsRight, AcceptsFirst};
+ghost use Rattle.lane_core.specs.Calls.{Call, Transmit, Deliver, DeliverDllp, Timer, Retrained, IsCall, AreCalls, after_call, entered_by, accepted_by, after_calls, entered_in, accepted_in, taken_in, IsPrefixOf, on_the_way, content, content_after, IsRightWith, IsRight, AcceptsFirst};
 ghost use Rattle.lane_core.specs.Windows.{next_entered, oldest_unacknowledged, next_accepted, deliveries};
 ghost use Rattle.lane_core.specs.Credit.{needs_of, numbers_of, HasRoom};
-ghost use Rattle.lane_core.specs.Flushed.{IsFlushed};
+ghost use Rattle.lane_core.specs.Flushed.{IsFlushed, IsEnough, turned};
 
-use fc_credit::{an_account_is_right, counters_stand_for_whole_numbers, limits_let_each_packet_go};
+use fc_credit::{
+    an_account_is_right, counters_stand_for_whole_numbers, each_event_keeps_the_account,
+    limits_let_each_packet_go,
+};
 use tlp_core::laws::reading_is_spelling;
 
 /// Each call keeps four ends right together, with their credits. `Enter` adds to the end of the content, `Take` removes
@@ -144,4 +147,30 @@ pub fn an_empty_flushed_lane_takes_any_packet()
     limits_let_each_packet_go();
     counters_stand_for_whole_numbers();
     an_account_is_right();
+}
+
+/// A call that finds nothing to do leaves the lane as it is: nothing to send, an empty wire, a timer that expires with
+/// the oldest packet next, and the retraining of a link that wasn't stopped.
+pub fn an_idle_call_changes_nothing()
+    ensures transmit { (e : LaneEndsView) → transmitted e.sender ≡ None → after_call e Transmit ≡ e }
+    ensures deliver { (e : LaneEndsView) (fate : Fate) → delivered e.forward e.receiver fate ≡ None → after_call e (Deliver fate) ≡ e }
+    ensures deliver_dllp { (e : LaneEndsView) (fate : Fate) → dllp_seen e.back e.sender fate ≡ Ok None → after_call e (DeliverDllp fate) ≡ e }
+    ensures timer { (e : LaneEndsView) → e.sender.sending.place ≡ 0 → after_call e Timer ≡ e }
+    ensures retrained { (e : LaneEndsView) → e.sender.sending.stopped ≡ false → after_call e Retrained ≡ e }
+{}
+
+/// One turn flushes a lane, whatever was lost, refused or stopped before, and whatever is stale on its wires. The replay
+/// timer expires, and a link that was stopped is up again; the packets that are kept go, and all that is on the wire
+/// arrives; an Ack or Nak and an UpdateFC of each class go, and all that is on that wire arrives. All that was entered
+/// and not yet taken then stands in the queue.
+pub fn a_turn_flushes_a_lane()
+    ensures flushed { (credits : LaneCredits) (e : LaneEndsView) (n : ℕ) → IsRightWith credits e → IsEnough n e → IsFlushed (turned n e) }
+    ensures right { (credits : LaneCredits) (e : LaneEndsView) (n : ℕ) → IsRightWith credits e → IsRightWith credits (turned n e) }
+    ensures content { (e : LaneEndsView) (n : ℕ) → IsRight e → content (turned n e) ≡ content e }
+    ensures queue { (e : LaneEndsView) (n : ℕ) → IsRight e → IsEnough n e → (turned n e).receiver.queue ≡ content e }
+{
+    reading_is_spelling();
+    limits_let_each_packet_go();
+    counters_stand_for_whole_numbers();
+    each_event_keeps_the_account();
 }

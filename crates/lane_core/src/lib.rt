@@ -14,8 +14,9 @@ pub use lane_ends::{
     ReceiverEnd, SenderEnd, WirePacket,
 };
 pub use laws::{
-    accepted_begins_entered, an_empty_flushed_lane_takes_any_packet, credits_are_whole_numbers,
-    each_call_keeps_it_right, found_within_the_window, never_a_protocol_error,
-    only_the_first_is_accepted, quiet_is_nothing_left, room_is_known_less_used,
-    what_a_lane_holds_is_spelled, wire_bytes_tell_the_packet,
+    a_turn_flushes_a_lane, accepted_begins_entered, an_empty_flushed_lane_takes_any_packet,
+    an_idle_call_changes_nothing, credits_are_whole_numbers, each_call_keeps_it_right,
+    found_within_the_window, never_a_protocol_error, only_the_first_is_accepted,
+    quiet_is_nothing_left, room_is_known_less_used, what_a_lane_holds_is_spelled,
+    wire_bytes_tell_the_packet,
 };
