@@ -1,0 +1,13 @@
+pub mod Resting
+pub mod Counting
+pub mod Form
+pub mod Reaching
+pub mod Trying
+pub mod Calls
+pub mod Lanes
+pub mod Turning
+pub mod Places
+pub mod Flushing
+pub mod Wires
+pub mod Oldest
+pub mod Settling
