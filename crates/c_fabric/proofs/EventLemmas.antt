@@ -1,73 +1,59 @@
--- Events that a trace has a record of, and the others.
-use Rattle.std.proofs.Common.{◌≡◌, ◌∙◌, ℕ, Bool, true, false, if◌then◌else◌, List, [], ◌∷◌, ◌++◌, length, refl, sym, ap, subst, Result, Ok, Err}
-use Rattle.std.proofs.lemmas.List.{append-nil}
+-- What a session holds after an event.
+use Rattle.std.proofs.Common.{◌≡◌, ◌∙◌, Bool, true, if◌then◌else◌, List, ◌++◌, length, sym, ap, subst, Result, Ok, Err, IfErr, OnOk, OnErr}
 use Rattle.history_check.specs.declared.Record.{Record}
-use Rattle.history_check.specs.declared.Record.TheVariants.{Sub, Ans}
 use Rattle.fabric_laws.specs.Fabric.{Fabric, whole_of}
+use Rattle.fabric_laws.specs.Sound.{Sound}
+use Rattle.fabric_laws.specs.Steps.{Step, Run, stays, goes}
 use Rattle.fabric_laws.specs.Trace.{Belongs}
+use Rattle.fabric_laws.specs.Whole.{Whole}
 use Rattle.fabric_core.specs.declared.event.Event.{Event}
-use Rattle.fabric_core.specs.declared.event.Event.TheVariants as events
 use Rattle.fabric_core.specs.declared.event.Seen.{Seen}
-use Rattle.fabric_core.specs.Kept.{records_of}
-use Rattle.fabric_core.specs.Runs.{has_record, Recorded}
 use Rattle.fabric_core.specs.declared.fault.Refusal.{Refusal}
-use Rattle.fabric_core.specs.Answers.{Happens, answer}
-use Rattle.fabric_core.specs.ByParts.{HappensByParts}
-use Rattle.c_fabric.specs.SessionView.{SessionView}
-use Rattle.c_fabric.specs.Calls.{answered, happened}
+use Rattle.fabric_core.specs.Kept.{IsSoundFabric, records_of}
+use Rattle.fabric_core.specs.Answers.{Happens}
+use Rattle.fabric_settle.specs.Happenings.{happening}
+use Rattle.fabric_settle.specs.Keeping.{Witnessed, IsLossless, Never, with_record}
+use Rattle.c_fabric.specs.SessionView.{SessionView, KeptView, kept_of, IsSession, session_of}
+use Rattle.c_fabric.specs.Calls.{IsStep}
 
--- one without a record adds nothing
-no_record : (e : Event) (what : Seen) (n : ℕ) → has_record e ≡ false → records_of e what n ≡ []
-no_record (events.Submit port op) what n h = absurd (cc h)
-no_record (events.Collect port) what n h = absurd (cc h)
-no_record (events.Transmit lane) what n h = refl
-no_record (events.Deliver lane fate) what n h = refl
-no_record (events.SendDllp lane kind) what n h = refl
-no_record (events.DeliverDllp lane fate) what n h = refl
-no_record (events.Timer lane) what n h = refl
-no_record (events.Retrained lane) what n h = refl
-no_record (events.Forward lane place) what n h = refl
-no_record (events.Serve place) what n h = refl
+pub record Laws : Type 0 where
+  pub run : (p p' : Whole) (rs ss : List Record) → Sound p → Belongs p rs → Run p p' ss → Belongs p' (rs ++ ss)
+  pub step : (f f' : Fabric) (event : Event) (what : Seen) → IsSoundFabric f → Happens f event what f' → Step (whole_of f) (whole_of f') (records_of event what (length f.memory.entries))
 
-pub records_stay : (f : Fabric) (e : Event) (what : Seen) (n : ℕ) (rs : List Record) → has_record e ≡ false → Belongs (whole_of f) (rs ++ records_of e what n) → Belongs (whole_of f) rs
-records_stay f e what n rs h b = subst (λ (xs : List Record). Belongs (whole_of f) xs) (ap (λ (xs : List Record). rs ++ xs) (no_record e what n h) ∙ append-nil rs) b
+abbrev Is : Fabric → KeptView → SessionView
+Is f k = session_of f k.is_traced k.records
 
--- the others add one
-its_record : (f f' : Fabric) (e : Event) (what : Seen) (n : ℕ) → has_record e ≡ true → HappensByParts f e what f' → (told : Record) × (records_of e what n ≡ told ∷ [])
-its_record f f' (events.Submit port op) what n h x = (Sub port x.0 op n, ap (λ (w : Seen). records_of (events.Submit port op) w n) x.1)
-its_record f f' (events.Collect port) what n h x = (Ans port x.0.number x.0.reply n, ap (λ (w : Seen). records_of (events.Collect port) w n) x.1)
-its_record f f' (events.Transmit lane) what n h x = absurd (cc h)
-its_record f f' (events.Deliver lane fate) what n h x = absurd (cc h)
-its_record f f' (events.SendDllp lane kind) what n h x = absurd (cc h)
-its_record f f' (events.DeliverDllp lane fate) what n h x = absurd (cc h)
-its_record f f' (events.Timer lane) what n h x = absurd (cc h)
-its_record f f' (events.Retrained lane) what n h x = absurd (cc h)
-its_record f f' (events.Forward lane place) what n h x = absurd (cc h)
-its_record f f' (events.Serve place) what n h x = absurd (cc h)
+-- a kept trace grows by the records of the event, and belongs to the fabric after it
+grown : Laws → (f f' : Fabric) (k k' : KeptView) (e : Event) → IsSoundFabric f → Witnessed kept_of f k e f' k' → IsSession (Is f k) → IsSession (Is f' k')
+grown l f f' k k' e sound w before traced =
+    let told = records_of e w.what (length f.memory.entries) in
+    let was : k.is_traced ≡ true = sym (ap (λ (x : KeptView). x.is_traced) w.now) ∙ traced in
+    let now : k'.records ≡ k.records ++ told =
+    ap (λ (x : KeptView). x.records) w.now ∙ ap (λ (b : Bool). if b then with_record k.records (happening f e w.what f') else k.records) was in
+    subst (λ (rs : List Record). Belongs (whole_of f') rs) (sym now)
+    (l.run (whole_of f) (whole_of f') k.records told sound.sound (before was) (goes stays (l.step f f' e w.what sound w.happens)))
 
-pub is_there : ((f f' : Fabric) (e : Event) (what : Seen) → Happens f e what f' → HappensByParts f e what f') → (f f' : Fabric) (e : Event) → has_record e ≡ true → Recorded f e [] f' [] → ⊥
-is_there by_parts f f' e h r =
-    let found = its_record f f' e r.what (length f.memory.entries) h (by_parts f f' e r.what r.happens) in
-    let none : [] ≡ found.0 ∷ [] = r.now ∙ found.1 in
-    cc none
+same : (f f' : Fabric) (k k' : KeptView) → f' ≡ f → k' ≡ k → Is f' k' ≡ Is f k
+same f f' k k' fabric kept = ap (λ (g : Fabric). Is g k') fabric ∙ ap (λ (x : KeptView). Is f x) kept
 
--- ---- what a session holds after an event without a record
+pub stays_session : {T : Type 0} → Laws → (r : Result T Refusal) (f f' : Fabric) (k k' : KeptView) (e : Event) → IsSoundFabric f → OnOk r (Witnessed kept_of f k e f' k')
+    → OnErr r (IsLossless Never → (f' ≡ f) × (k' ≡ k)) → IsSession (Is f k) → IsSession (Is f' k')
+stays_session l (Ok x) f f' k k' e sound ok err before = grown l f f' k k' e sound ok before
+stays_session l (Err x) f f' k k' e sound ok err before =
+    let p = err (λ event lost. lost) in
+    subst IsSession (sym (same f f' k k' p.0 p.1)) before
 
-pub unrecorded : (v s : SessionView) → v ≡ s → (buffer : List ℕ) (e : Event) (what : Seen) (f' : Fabric) → (s.is_traced ≡ true → has_record e ≡ false) → answer v.fabric e ≡ Ok (what, f')
-    → record v { fabric = f' } ≡ (happened s buffer e).session
-unrecorded v s is buffer e what f' u h =
-    let n = length s.fabric.memory.entries in
-    let now : answer s.fabric e ≡ Ok (what, f') = ap (λ (x : SessionView). answer x.fabric e) (sym is) ∙ h in
-    ap (λ (x : SessionView). record x { fabric = f' }) is
-    ∙ ap (λ (rs : List Record). record s { fabric = f'; records = rs }) (same n s.is_traced u)
-    ∙ sym (ap (λ (x : Result (Seen × Fabric) Refusal). (answered s buffer e n x).session) now)
-  where
-    same : (n : ℕ) (b : Bool) → (b ≡ true → has_record e ≡ false) → s.records ≡ (if b then s.records ++ records_of e what n else s.records)
-    same n true h = sym (ap (λ (rs : List Record). s.records ++ rs) (no_record e what n (h refl)) ∙ append-nil s.records)
-    same n false h = refl
+pub unchanged : {T : Type 0} (r : Result T Refusal) (f f' : Fabric) (k k' : KeptView) → OnErr r (IsLossless Never → (f' ≡ f) × (k' ≡ k)) → OnErr r (Is f' k' ≡ Is f k)
+unchanged (Ok x) f f' k k' err = err
+unchanged (Err x) f f' k k' err =
+    let p = err (λ event lost. lost) in
+    same f f' k k' p.0 p.1
 
-pub not_moved : (v s : SessionView) → v ≡ s → (buffer : List ℕ) (e : Event) (r : Refusal) (f' : Fabric) → f' ≡ v.fabric → answer v.fabric e ≡ Err r → record v { fabric = f' } ≡ (happened s buffer e).session
-not_moved v s is buffer e r f' same h =
-    let now : answer s.fabric e ≡ Err r = ap (λ (x : SessionView). answer x.fabric e) (sym is) ∙ h in
-    ap (λ (f : Fabric). record v { fabric = f }) same ∙ is
-    ∙ sym (ap (λ (x : Result (Seen × Fabric) Refusal). (answered s buffer e (length s.fabric.memory.entries) x).session) now)
+pub is_step : {T : Type 0} (r : Result T Refusal) (f f' : Fabric) (k k' : KeptView) (e : Event) → OnOk r (Witnessed kept_of f k e f' k')
+    → OnOk r (IsStep f k.is_traced k.records e f' k'.is_traced k'.records k'.text)
+is_step (Ok x) f f' k k' e w = (w.what, w.happens.0, ap (λ (x : KeptView). x.text) w.now, ap (λ (x : KeptView). Is f' x) w.now)
+is_step (Err x) f f' k k' e w = w
+
+pub first_of : {T : Type 0} (r : Result T Refusal) (P A : Refusal → Type 0) (B C : Type 0) → IfErr r (λ x. P x → A x × B × C) → IfErr r (λ x. P x → A x)
+first_of (Ok x) P A B C h = h
+first_of (Err x) P A B C h = λ p. (h p).0

@@ -1,5 +1,6 @@
 -- The calls of a fabric: what it and the caller's buffer hold after them, and what they return.
-use Rattle.std.specs.Prelude.{ℕ, ⊤, ◌≡◌, ◌≤◌, nat_lt, if◌then◌else◌, List, ◌++◌, length, Option, Some, None, Result, Ok, Err}
+use Rattle.std.specs.Prelude.{ℕ, ⊤, ◌≡◌, ◌≤◌, nat_lt, Bool, if◌then◌else◌, List, ◌++◌, length, Option, Some, None, Result, Ok, Err}
+use Rattle.history_check.specs.declared.Record.{Record}
 use Rattle.fabric_laws.specs.Fabric.{Fabric}
 use Rattle.fabric_core.specs.declared.config.Config.{Config}
 use Rattle.fabric_core.specs.declared.config.ConfigFault.{ConfigFault}
@@ -19,7 +20,7 @@ use Rattle.script_text.specs.Texts.{seen_text}
 use Rattle.c_buffer.specs.declared.outcome.Failure.{Failure}
 use Rattle.c_buffer.specs.declared.outcome.Failure.TheVariants.{Text, SmallBuffer, NoLine}
 use Rattle.c_buffer.specs.Buffer.{filled, Told, untold, told_fault}
-use Rattle.c_fabric.specs.SessionView.{SessionView}
+use Rattle.c_fabric.specs.SessionView.{SessionView, session_of}
 
 -- ---- making
 
@@ -60,6 +61,12 @@ kept s event what f' n = record {
   is_traced = s.is_traced;
   records = if s.is_traced then s.records ++ records_of event what n else s.records;
 }
+
+-- the event happens, and leaves this fabric, these records, and the text of what is seen of it
+abbrev pub IsStep : Fabric → Bool → List Record → Event → Fabric → Bool → List Record → List ℕ → Type 0
+IsStep f traced rs event f' traced' rs' text =
+    (what : Seen) × (answer f event ≡ Ok (what, f')) × (text ≡ seen_text event what)
+    × (session_of f' traced' rs' ≡ kept (session_of f traced rs) event what f' (length f.memory.entries))
 
 -- what is seen of the event, or why it is refused, stands in the buffer
 abbrev pub answered : SessionView → List ℕ → Event → ℕ → Result (Seen × Fabric) Refusal → EventCall

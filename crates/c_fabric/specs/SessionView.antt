@@ -1,11 +1,14 @@
 -- A fabric that scripts' lines drive one by one.
-use Rattle.std.specs.Prelude.{◌≡◌, Bool, true, List, []}
+use Rattle.std.specs.Prelude.{ℕ, ◌≡◌, Bool, true, if◌then◌else◌, List, []}
 use Rattle.history_check.specs.declared.Record.{Record}
 use Rattle.history_check.specs.Claim.{Claim}
 use Rattle.fabric_laws.specs.Fabric.{Fabric, whole_of}
 use Rattle.fabric_laws.specs.Trace.{Belongs}
 use Rattle.fabric_core.specs.declared.config.Config.{Config}
 use Rattle.fabric_answers.specs.New.{new_fabric}
+use Rattle.fabric_settle.specs.Happenings.{Happening}
+use Rattle.fabric_settle.specs.Keeping.{with_record}
+use Rattle.script_text.specs.Texts.{seen_text}
 
 -- the fabric, and if a trace is kept its records so far
 pub record SessionView : Type 0 where
@@ -17,9 +20,25 @@ pub record SessionView : Type 0 where
 abbrev pub IsSession : SessionView → Type 0
 IsSession s = s.is_traced ≡ true → Belongs (whole_of s.fabric) s.records
 
+abbrev pub session_of : Fabric → Bool → List Record → SessionView
+session_of f traced rs = record { fabric = f; is_traced = traced; records = rs }
+
 abbrev pub new_session : Config → Bool → SessionView
 new_session c traced = record { fabric = new_fabric c; is_traced = traced; records = [] }
 
 -- the trace and the history
 abbrev pub claim : SessionView → Claim
 claim s = record { memory = s.fabric.memory; records = s.records }
+
+-- what a session keeps of the events: the text of what was seen last, and if a trace is kept its records
+pub record KeptView : Type 0 where
+  pub is_traced : Bool
+  pub records : List Record
+  pub text : List ℕ
+
+abbrev pub kept_of : KeptView → Happening → KeptView
+kept_of k h = record {
+  is_traced = k.is_traced;
+  records = if k.is_traced then with_record k.records h else k.records;
+  text = seen_text h.event h.what;
+}

@@ -1,81 +1,23 @@
 //! Events.
-ghost use Rattle.std.specs.Prelude.{◌≡◌, ◌≤◌, ◌<◌, ◌++◌, ◌∷◌, [], List, Some, Ok, Err, IsErr, true, false, length, vec_len, vec_capacity, if◌then◌else◌, IfOk, IfErr, OnErr};
-ghost use Rattle.history_check.specs.declared.Record.{Record};
-ghost use Rattle.fabric_laws.specs.Fabric.{whole_of};
-ghost use Rattle.fabric_laws.specs.Trace.{Belongs};
-ghost use Rattle.fabric_core.specs.Runs.{has_record};
+ghost use Rattle.std.specs.Prelude.{◌≡◌, ◌≤◌, Some, Err, IsErr, true, length, IfErr, OnOk, OnErr};
 ghost use Rattle.fabric_core.specs.Answers.{answer};
 ghost use Rattle.fabric_answers.specs.Told.{IsTold};
 ghost use Rattle.script_text.specs.Names.{refusal_text};
-ghost use Rattle.script_text.specs.Texts.{seen_text, told_text};
 ghost use Rattle.c_buffer.specs.declared.outcome.Failure.TheVariants.{Text, NoMemory};
 ghost use Rattle.c_buffer.specs.Buffer.{filled, is_silent};
-ghost use Rattle.c_fabric.specs.SessionView.{SessionView};
-ghost use Rattle.c_fabric.specs.Calls.{happened, event_call, IsEventCall};
+ghost use Rattle.c_fabric.specs.SessionView.{SessionView, IsSession, session_of};
+ghost use Rattle.c_fabric.specs.Calls.{IsStep, happened, event_call, IsEventCall};
 
 use crate::session::Session;
 use crate::slot::{Slot, close, open};
+use crate::witness::SessionWitness;
 use arrayvec::ArrayString;
 use c_buffer::{Failure, LINE_BUFFER, Length, tell, tell_fault};
-use fabric_answers::laws::each_event_has_one_answer;
-use fabric_core::laws::each_event_happens_by_its_parts;
-use fabric_core::{Event, Fabric, Refusal, Seen};
+use fabric_core::laws::each_event_keeps_it_sound;
+use fabric_core::{Event, Fabric, Refusal};
 use fabric_laws::laws::the_trace_belongs;
-use history_check::Record;
-use script_text::{Line, read_line, write_refusal, write_seen, write_told};
-
-/// An event happens to the fabric.
-fn step(fabric: &mut Fabric, event: &Event) -> Result<Seen, Refusal>
-    ensures ok { IfOk result (λ what. answer fabric.old event.now ≡ Ok (what, fabric.new)) }
-    ensures belongs { has_record event.now ≡ false → (rs : List Record) → Belongs (whole_of fabric.old) rs → Belongs (whole_of fabric.new) rs }
-    ensures refused { IfErr result (λ r. IsTold r → answer fabric.old event.now ≡ Err r) }
-    ensures err { OnErr result (fabric.new ≡ fabric.old) }
-{
-    each_event_has_one_answer();
-    the_trace_belongs();
-    fabric.sound();
-    match fabric.step(event) {
-        Ok(seen) => Ok(seen),
-        Err(refusal) => Err(refusal),
-    }
-}
-
-/// Whether a trace has a record of the event.
-fn is_recorded(event: &Event) -> bool
-    ensures { result ≡ has_record event.now }
-{
-    matches!(event, Event::Submit(_, _) | Event::Collect(_))
-}
-
-/// Keeps a record for which there is capacity.
-fn keep(records: &mut Vec<Record>, seen: Record)
-    requires { vec_len records.old < vec_capacity records.old }
-    ensures { records.new.items ≡ records.old.items ++ seen ∷ [] }
-{
-    let _ = records.push(seen);
-}
-
-/// Puts what is seen of the event to the front of the buffer.
-fn put_seen(event: &Event, seen: &Seen, buffer: &mut [u8]) -> Length
-    requires { 512 ≤ length buffer.old }
-    ensures length { result ≡ length (seen_text event.now seen.now) }
-    ensures buffer { buffer.new ≡ filled buffer.old (seen_text event.now seen.now) }
-{
-    let mut text = ArrayString::new();
-    write_seen(event, seen, &mut text);
-    tell(text.as_bytes(), buffer)
-}
-
-/// Puts what was seen of the event of a record to the front of the buffer.
-fn put_record(seen: &Record, buffer: &mut [u8]) -> Length
-    requires { 512 ≤ length buffer.old }
-    ensures length { result ≡ length (told_text seen.now) }
-    ensures buffer { buffer.new ≡ filled buffer.old (told_text seen.now) }
-{
-    let mut text = ArrayString::new();
-    write_told(seen, &mut text);
-    tell(text.as_bytes(), buffer)
-}
+use fabric_settle::happen;
+use script_text::{Line, read_line, write_refusal};
 
 /// Puts the name of a refusal other than out of memory to the front of the buffer.
 fn put_refusal(refusal: Refusal, buffer: &mut [u8]) -> Failure
@@ -94,59 +36,36 @@ fn put_refusal(refusal: Refusal, buffer: &mut [u8]) -> Failure
     tell_fault(text.as_bytes(), buffer)
 }
 
-/// An event of which no record is kept.
-fn happen_unrecorded(
-    session: &mut Session,
-    event: &Event,
-    buffer: &mut [u8],
-) -> Result<Length, Failure>
-    requires buffer { 512 ≤ length buffer.old }
-    requires unrecorded { session.old.is_traced ≡ true → has_record event.now ≡ false }
-    ensures outcome { ¬ (result ≡ Err NoMemory) → result ≡ (happened session.old buffer.old event.now).outcome }
-    ensures session { ¬ (result ≡ Err NoMemory) → session.new ≡ (happened session.old buffer.old event.now).session }
-    ensures buffer { ¬ (result ≡ Err NoMemory) → buffer.new ≡ (happened session.old buffer.old event.now).buffer }
-    ensures unchanged { IsErr result → session.new ≡ session.old }
-    ensures unchanged_buffer { is_silent result ≡ true → buffer.new ≡ buffer.old }
+/// An event happens to the fabric, of which the witness keeps the text and, where a trace is kept, the record.
+fn step(fabric: &mut Fabric, witness: &mut SessionWitness, event: &Event) -> Result<(), Refusal>
+    ensures ok { OnOk result (IsStep fabric.old witness.old.is_traced witness.old.records.items event.now fabric.new witness.new.is_traced witness.new.records.items witness.new.text.bytes) }
+    ensures session { IsSession (session_of fabric.old witness.old.is_traced witness.old.records.items) → IsSession (session_of fabric.new witness.new.is_traced witness.new.records.items) }
+    ensures refused { IfErr result (λ r. IsTold r → answer fabric.old event.now ≡ Err r) }
+    ensures err { OnErr result (session_of fabric.new witness.new.is_traced witness.new.records.items ≡ session_of fabric.old witness.old.is_traced witness.old.records.items) }
 {
-    match step(&mut session.fabric, event) {
-        Ok(seen) => Ok(put_seen(event, &seen, buffer)),
-        Err(refusal) => Err(put_refusal(refusal, buffer)),
-    }
+    the_trace_belongs();
+    each_event_keeps_it_sound();
+    fabric.sound();
+    happen(fabric, witness, 0, event)
 }
 
-/// An event that has a record, of a session that keeps its trace.
-fn happen_recorded(
-    session: &mut Session,
-    event: &Event,
-    buffer: &mut [u8],
-) -> Result<Length, Failure>
-    requires buffer { 512 ≤ length buffer.old }
-    requires traced { session.old.is_traced ≡ true }
-    requires recorded { has_record event.now ≡ true }
+/// An event happens to the session.
+fn happen_to(session: &mut Session, event: &Event, buffer: &mut [u8]) -> Result<Length, Failure>
+    requires { 512 ≤ length buffer.old }
     ensures outcome { ¬ (result ≡ Err NoMemory) → result ≡ (happened session.old buffer.old event.now).outcome }
     ensures session { ¬ (result ≡ Err NoMemory) → session.new ≡ (happened session.old buffer.old event.now).session }
     ensures buffer { ¬ (result ≡ Err NoMemory) → buffer.new ≡ (happened session.old buffer.old event.now).buffer }
     ensures unchanged { IsErr result → session.new ≡ session.old }
     ensures unchanged_buffer { is_silent result ≡ true → buffer.new ≡ buffer.old }
 {
-    each_event_has_one_answer();
-    each_event_happens_by_its_parts();
-    if session.records.try_reserve(1).is_err() {
-        return Err(Failure::NoMemory);
-    }
-    match session.fabric.step_recorded(event) {
-        Ok(Some(seen)) => {
-            let text = put_record(&seen, buffer);
-            keep(&mut session.records, seen);
-            Ok(text)
-        }
-        Ok(None) => Ok(Length::new(0)),
+    match step(&mut session.fabric, &mut session.witness, event) {
+        Ok(()) => Ok(tell(session.witness.text.as_bytes(), buffer)),
         Err(refusal) => Err(put_refusal(refusal, buffer)),
     }
 }
 
 /// A line of a script happens to the session.
-fn happen(session: &mut Session, line: &[u8], buffer: &mut [u8]) -> Result<Length, Failure>
+fn happen_by(session: &mut Session, line: &[u8], buffer: &mut [u8]) -> Result<Length, Failure>
     ensures outcome { ¬ (result ≡ Err NoMemory) → result ≡ (event_call session.old line.now buffer.old).outcome }
     ensures session { ¬ (result ≡ Err NoMemory) → session.new ≡ (event_call session.old line.now buffer.old).session }
     ensures buffer { ¬ (result ≡ Err NoMemory) → buffer.new ≡ (event_call session.old line.now buffer.old).buffer }
@@ -160,11 +79,7 @@ fn happen(session: &mut Session, line: &[u8], buffer: &mut [u8]) -> Result<Lengt
     let Ok(Line::Event(event)) = read_line(line) else {
         return Err(Failure::NoLine);
     };
-    if session.is_traced && is_recorded(&event) {
-        happen_recorded(session, &event, buffer)
-    } else {
-        happen_unrecorded(session, &event, buffer)
-    }
+    happen_to(session, &event, buffer)
 }
 
 /// The event that the line of a script spells happens to the fabric of the slot, which goes to `back`.
@@ -188,7 +103,7 @@ pub fn tell_event(
     ensures unchanged_buffer { is_silent result ≡ true → buffer.new ≡ buffer.old }
 {
     let mut held = open(slot);
-    let outcome = happen(&mut held, line, buffer);
+    let outcome = happen_by(&mut held, line, buffer);
     *back = close(held);
     outcome
 }

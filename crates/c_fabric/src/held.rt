@@ -30,10 +30,10 @@ fn text_of(alloc: Global, session: &mut Session) -> Result<String, AllocError>
     ensures text { IfOk result (λ text. string_bytes text ≡ trace_text (claim session.old)) }
     ensures unchanged { session.new ≡ session.old }
 {
-    let records = mem::replace(&mut session.records, Vec::new(alloc));
+    let records = mem::replace(&mut session.witness.records, Vec::new(alloc));
     let trace = session.fabric.trace_of(records);
     let text = write_trace(alloc, &trace, session.fabric.history());
-    session.records = trace.records;
+    session.witness.records = trace.records;
     text
 }
 

@@ -8,6 +8,7 @@ mod happening;
 mod held;
 mod session;
 mod slot;
+mod witness;
 
 pub use happening::tell_event;
 pub use held::{copy_bytes, history_length, is_quiet, tell_trace};

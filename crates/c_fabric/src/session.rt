@@ -1,14 +1,13 @@
 //! A fabric and its trace.
+use crate::witness::SessionWitness;
 use fabric_core::Fabric;
-use history_check::Record;
 use std::marker::Model;
 
 /// A fabric, and the records of its trace where it keeps one.
 #[derive(Drop)]
 pub struct Session {
     pub(crate) fabric: Fabric,
-    pub(crate) is_traced: bool,
-    pub(crate) records: Vec<Record>,
+    pub(crate) witness: SessionWitness,
 }
 
 impl Model for Session {
@@ -16,7 +15,7 @@ impl Model for Session {
 
     ghost Value = { SessionView };
 
-    ghost view = { λ s. record { fabric = s.fabric; is_traced = s.is_traced; records = s.records.items } };
+    ghost view = { λ s. record { fabric = s.fabric; is_traced = s.witness.is_traced; records = s.witness.records.items } };
 
-    ghost invariant = { λ s. IsSession (record { fabric = s.fabric; is_traced = s.is_traced; records = s.records.items }) };
+    ghost invariant = { λ s. IsSession (record { fabric = s.fabric; is_traced = s.witness.is_traced; records = s.witness.records.items }) };
 }

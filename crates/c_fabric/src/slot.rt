@@ -10,6 +10,7 @@ ghost use Rattle.c_fabric.specs.Calls.{made, making, AsksFor, IsFabricCall};
 ghost use Rattle.c_fabric.specs.Slot.{slot_owns, session_coded};
 
 use crate::session::Session;
+use crate::witness::SessionWitness;
 use arrayvec::ArrayString;
 use c_box::Parts;
 use c_buffer::{Failure, LINE_BUFFER, tell_fault};
@@ -81,8 +82,11 @@ fn make(alloc: Global, config: Config, is_traced: bool) -> Result<Session, Confi
     let fabric = Fabric::new(config, alloc)?;
     Ok(Session {
         fabric,
-        is_traced,
-        records: Vec::new(alloc),
+        witness: SessionWitness {
+            is_traced,
+            records: Vec::new(alloc),
+            text: ArrayString::new(),
+        },
     })
 }
 

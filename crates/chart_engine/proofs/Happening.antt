@@ -6,13 +6,11 @@ use Rattle.fabric_core.specs.declared.config.Config.{Config}
 use Rattle.fabric_core.specs.declared.config.ConfigFault.{ConfigFault}
 use Rattle.fabric_core.specs.declared.event.Event.{Event}
 use Rattle.fabric_core.specs.declared.event.Seen.{Seen}
-use Rattle.fabric_core.specs.declared.event.LaneName.{LaneName}
 use Rattle.fabric_core.specs.declared.fault.Refusal.{Refusal}
 use Rattle.fabric_core.specs.Answers.{answer}
 use Rattle.fabric_answers.specs.New.{new_fabric, config_fault}
-use Rattle.fabric_settle.specs.declared.attempts.Attempt.{Attempt}
-use Rattle.fabric_settle.specs.declared.attempts.Attempt.TheVariants as attempts
-use Rattle.fabric_settle.specs.Rounds.{all_lanes, lane_attempts, after_lanes}
+use Rattle.fabric_settle.specs.Happenings.{Happening, Answers, Leads}
+use Rattle.fabric_settle.specs.Rounds.{settlement}
 use Rattle.script_text.specs.declared.line.Line.{Line}
 use Rattle.script_text.specs.declared.line.Line.TheVariants as lines
 use Rattle.text_lines.specs.Lines.{lines_of, bare, said}
@@ -22,7 +20,6 @@ use Rattle.link_chart.specs.ChartView.{ChartView, new_chart, charted, refused}
 use Rattle.chart_laws.specs.Arrows.{Tale, told}
 use Rattle.chart_laws.specs.Happened.{Happened, told_all}
 use Rattle.chart_engine.specs.declared.chart.Session.{Session}
-use Rattle.chart_engine.specs.Settled.{Trail, at, answered, tried, times, attempted, lane_turn, round, rounds, if_moved}
 use Rattle.chart_engine.specs.Chart as spec
 use Rattle.chart_engine.specs.Chart.{CharterView, chart_responses, out_chart}
 use Rattle.chart_engine.specs.Events.{IsOfEvents, ShowsEvents, ShowsEventsIfAny}
@@ -57,50 +54,16 @@ one_more w f g v line event what e a =
       chart = ap (λ (x : ChartView). charted x line event what) e.chart ∙ sym (told_more e.tales t (new_chart w e.config.requesters));
     }
 
--- ---- rounds of events
+-- ---- what happens while the fabric is settled
 
-abbrev Of : ChartWindow → Trail → Type 0
-Of w t = Exact w t.fabric t.chart
+abbrev Settled : Type 0
+Settled = (f : Fabric) → Leads Answers f (settlement f).happened (settlement f).fabric
 
-of_answer : (w : ChartWindow) (line : ℕ) (t : Trail) (event : Event) (a : Result (Seen × Fabric) Refusal) → answer t.fabric event ≡ a → Of w t → Of w (answered line t event a)
-of_answer w line t event (Ok p) is e = one_more w t.fabric p.1 t.chart line event p.0 e is
-of_answer w line t event (Err r) is e = e
-
-of_tried : (w : ChartWindow) (line : ℕ) (t : Trail) (event : Event) → Of w t → Of w (tried line t event)
-unfolding tried
-of_tried w line t event e = of_answer w line t event (answer t.fabric event) refl e
-
-of_times : (w : ChartWindow) (line n : ℕ) (t : Trail) (event : Event) → Of w t → Of w (times line n t event)
-unfolding times
-of_times w line zero t event e = e
-of_times w line (suc n) t event e = of_times w line n (tried line t event) event (of_tried w line t event e)
-
-of_attempt : (w : ChartWindow) (line : ℕ) (t : Trail) (a : Attempt) → Of w t → Of w (attempted line t a)
-of_attempt w line t (attempts.Once event) e = of_tried w line t event e
-of_attempt w line t (attempts.All event) e = of_times w line 18446744073709551615 t event e
-
-of_each : {X : Type 0} (w : ChartWindow) (f : Trail → X → Trail) → ((t : Trail) (x : X) → Of w t → Of w (f t x)) → (xs : List X) (t : Trail) → Of w t → Of w (fold f t xs)
-of_each w f keeps [] t e = e
-of_each w f keeps (x ∷ xs) t e = of_each w f keeps xs (f t x) (keeps t x e)
-
-of_turn : (w : ChartWindow) (line : ℕ) (t : Trail) (lane : LaneName) → Of w t → Of w (lane_turn line t lane)
-unfolding lane_turn
-of_turn w line t lane e = of_each w (attempted line) (of_attempt w line) (lane_attempts lane) t e
-
-of_round : (w : ChartWindow) (line : ℕ) (t : Trail) → Of w t → Of w (round line t)
-unfolding round
-of_round w line t e =
-    of_each w (attempted line) (of_attempt w line) after_lanes (fold (lane_turn line) (at t.fabric t.chart false) all_lanes)
-    (of_each w (lane_turn line) (of_turn w line) all_lanes (at t.fabric t.chart false) e)
-
-of_more : (w : ChartWindow) (more : Trail → Trail) (t : Trail) (b : Bool) → ((s : Trail) → Of w s → Of w (more s)) → Of w t → Of w (if b then more t else t)
-of_more w more t true keeps e = keeps t e
-of_more w more t false keeps e = e
-
-of_rounds : (w : ChartWindow) (line n : ℕ) (t : Trail) → Of w t → Of w (rounds line n t)
-unfolding rounds
-of_rounds w line zero t e = e
-of_rounds w line (suc n) t e = of_more w (rounds line n) (round line t) (round line t).moved (λ s f. of_rounds w line n s f) (of_round w line t e)
+of_each : (w : ChartWindow) (line : ℕ) (hs : List Happening) (f g : Fabric) (v : ChartView) → Leads Answers f hs g → Exact w f v → Exact w g (fold (spec.charted_of line) v hs)
+of_each w line [] f g v r e = subst (λ (x : Fabric). Exact w x v) (sym r) e
+of_each w line (h ∷ hs) f g v r e =
+    of_each w line hs h.after g (charted v line h.event h.what) r.2
+    (one_more w f h.after v line h.event h.what e (subst (λ (x : Fabric). answer x h.event ≡ Ok (h.what, h.after)) r.0 r.1))
 
 -- ---- lines
 
@@ -154,15 +117,15 @@ of_happened : (w : ChartWindow) (s : CharterView) (o : Option Session) (event : 
 of_happened w s None event h e = ends w s s.session _ h.window h.shows
 of_happened w s (Some p) event h e = of_left w s p event (answer p.fabric event) h.window refl e
 
-of_settled : (w : ChartWindow) (s : CharterView) (o : Option Session) → Holds w s → ExactIfAny w o → Holds w (spec.settles s o).state
-of_settled w s None h e = ends w s s.session _ h.window h.shows
-of_settled w s (Some p) h e = goes_on w s _ h.window (of_rounds w (spec.next_line s) 10000 (at p.fabric p.chart false) e)
+of_settled : Settled → (w : ChartWindow) (s : CharterView) (o : Option Session) → Holds w s → ExactIfAny w o → Holds w (spec.settles s o).state
+of_settled l w s None h e = ends w s s.session _ h.window h.shows
+of_settled l w s (Some p) h e = goes_on w s _ h.window (of_each w (spec.next_line s) (settlement p.fabric).happened p.fabric (settlement p.fabric).fabric p.chart (l p.fabric) e)
 
-of_line : (w : ChartWindow) (s : CharterView) (l : Option Line) → Holds w s → ExactIfAny w s.session → Holds w (spec.by_line s l).state
-of_line w s None h e = ends w s s.session _ h.window h.shows
-of_line w s (Some (lines.Fabric c)) h e = of_made_once w s s.session c h
-of_line w s (Some (lines.Event event)) h e = of_happened w s s.session event h e
-of_line w s (Some lines.Settle) h e = of_settled w s s.session h e
+of_line : Settled → (w : ChartWindow) (s : CharterView) (o : Option Line) → Holds w s → ExactIfAny w s.session → Holds w (spec.by_line s o).state
+of_line l w s None h e = ends w s s.session _ h.window h.shows
+of_line l w s (Some (lines.Fabric c)) h e = of_made_once w s s.session c h
+of_line l w s (Some (lines.Event event)) h e = of_happened w s s.session event h e
+of_line l w s (Some lines.Settle) h e = of_settled l w s s.session h e
 
 unless : (w : ChartWindow) (s : CharterView) (ending : Option (List ℕ)) (a : Answer CharterView) → Holds w s → s.ending ≡ ending → (ExactIfAny w s.session → Holds w a.state)
     → Holds w (spec.unless_ended s ending a).state
@@ -173,25 +136,25 @@ skipped : (w : ChartWindow) (s : CharterView) (b : Bool) (a : Answer CharterView
 skipped w s true a h next = record { window = h.window; exact = h.exact; shows = h.shows }
 skipped w s false a h next = next
 
-of_chart_line : (w : ChartWindow) (s : CharterView) (line : List ℕ) → Holds w s → Holds w (spec.chart_line s line).state
-of_chart_line w s line h = unless w s s.ending _ h refl (λ e. skipped w s _ _ h (of_line w s _ h e))
+of_chart_line : Settled → (w : ChartWindow) (s : CharterView) (line : List ℕ) → Holds w s → Holds w (spec.chart_line s line).state
+of_chart_line l w s line h = unless w s s.ending _ h refl (λ e. skipped w s _ _ h (of_line l w s _ h e))
 
 of_long_line : (w : ChartWindow) (s : CharterView) → Holds w s → Holds w (spec.chart_long_line s).state
 of_long_line w s h = unless w s s.ending _ h refl (λ e. ends w s s.session _ h.window h.shows)
 
-of_either : (w : ChartWindow) (t : Bool) (s : CharterView) (line : List ℕ) → Holds w s → Holds w (cond t (chart_responses.on_long_line s) (chart_responses.on_line s (said line))).state
-of_either w true s line h = of_long_line w s h
-of_either w false s line h = of_chart_line w s (said line) h
+of_either : Settled → (w : ChartWindow) (t : Bool) (s : CharterView) (line : List ℕ) → Holds w s → Holds w (cond t (chart_responses.on_long_line s) (chart_responses.on_line s (said line))).state
+of_either l w true s line h = of_long_line w s h
+of_either l w false s line h = of_chart_line l w s (said line) h
 
-of_lines : (w : ChartWindow) (ls : List (List ℕ)) (run : Run CharterView) → Holds w run.state → Holds w (fold (after_line chart_responses) run ls).state
-of_lines w [] run h = h
-of_lines w (l ∷ ls) run h = of_lines w ls (after_line chart_responses run l) (of_either w (nat_lt 512 (length (bare l))) run.state l h)
+of_lines : Settled → (w : ChartWindow) (ls : List (List ℕ)) (run : Run CharterView) → Holds w run.state → Holds w (fold (after_line chart_responses) run ls).state
+of_lines l w [] run h = h
+of_lines l w (x ∷ ls) run h = of_lines l w ls (after_line chart_responses run x) (of_either l w (nat_lt 512 (length (bare x))) run.state x h)
 
-pub of_events : (w : ChartWindow) (input : List ℕ) → IsOfEvents w (out_chart w input).text
-of_events w input =
+pub of_events : Settled → (w : ChartWindow) (input : List ℕ) → IsOfEvents w (out_chart w input).text
+of_events l w input =
     let start : CharterView = spec.new_script w in
     let read : Run CharterView = fold (after_line chart_responses) (new_run start) (lines_of input) in
-    let holds : Holds w read.state = of_lines w (lines_of input) (new_run start) (record { window = refl; exact = λ none. tt; shows = tt }) in
+    let holds : Holds w read.state = of_lines l w (lines_of input) (new_run start) (record { window = refl; exact = λ none. tt; shows = tt }) in
     record {
       session = read.state.session;
       ending = read.state.ending;

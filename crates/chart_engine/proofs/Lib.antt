@@ -1,4 +1,3 @@
-mod RoundLemmas
 mod States
 mod Charted
 mod Happening

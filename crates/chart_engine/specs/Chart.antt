@@ -1,5 +1,5 @@
 -- What `chart` answers to the lines of a script.
-use Rattle.std.specs.Prelude.{ℕ, ◌≡◌, ◌+◌, ◌-◌, ◌^◌, min, Bool, true, false, if◌then◌else◌, List, [], ◌∷◌, ◌++◌, codes, Option, Some, None, Result, Ok, Err}
+use Rattle.std.specs.Prelude.{ℕ, ◌≡◌, ◌+◌, ◌-◌, ◌^◌, min, Bool, true, false, if◌then◌else◌, List, [], ◌∷◌, ◌++◌, fold, codes, Option, Some, None, Result, Ok, Err}
 use Rattle.std.specs.Fmt.{decimal}
 use Rattle.std.specs.Io.KnownBytes.{Appends}
 use Rattle.svg_text.specs.Xml.{IsDocument}
@@ -12,6 +12,8 @@ use Rattle.fabric_core.specs.declared.fault.Refusal.{Refusal}
 use Rattle.fabric_core.specs.Config.{fault_name}
 use Rattle.fabric_core.specs.Answers.{answer}
 use Rattle.fabric_answers.specs.New.{new_fabric, config_fault}
+use Rattle.fabric_settle.specs.Happenings.{Happening}
+use Rattle.fabric_settle.specs.Rounds.{Settling, settlement}
 use Rattle.text_lines.specs.Lines.{is_skipped}
 use Rattle.operation_text.specs.Words.{words}
 use Rattle.script_text.specs.declared.line.Line.{Line}
@@ -23,7 +25,6 @@ use Rattle.link_chart.specs.declared.window.ChartWindow.{ChartWindow}
 use Rattle.link_chart.specs.ChartView.{ChartView, new_chart, charted, refused, page_of}
 use Rattle.line_loop.specs.Run.{Answer, Responses, Run, run_of}
 use Rattle.chart_engine.specs.declared.chart.Session.{Session}
-use Rattle.chart_engine.specs.Settled.{Trail, settled}
 
 -- the fabric of a script and its chart
 abbrev pub session : Fabric → ChartView → Session
@@ -97,13 +98,17 @@ abbrev pub happened : CharterView → Option Session → Event → Answer Charte
 happened s None event = no_line s
 happened s (Some p) event = unless_refused s (left_by (next_line s) p event (answer p.fabric event)) (refusal_in (answer p.fabric event))
 
-abbrev pub after_rounds : Trail → Session
-after_rounds t = session t.fabric t.chart
+-- a chart that is told what happened, as of that line
+abbrev pub charted_of : ℕ → ChartView → Happening → ChartView
+charted_of line chart h = charted chart line h.event h.what
+
+abbrev pub after_rounds : ℕ → ChartView → Settling → Session
+after_rounds line chart t = session t.fabric (fold (charted_of line) chart t.happened)
 
 -- rounds of events until nothing moves
 abbrev pub settles : CharterView → Option Session → Answer CharterView
 settles s None = no_line s
-settles s (Some p) = goes_on s (after_rounds (settled (next_line s) p.fabric p.chart))
+settles s (Some p) = goes_on s (after_rounds (next_line s) p.chart (settlement p.fabric))
 
 abbrev pub by_line : CharterView → Option Line → Answer CharterView
 by_line s None = no_line s

@@ -12,12 +12,13 @@ ghost use Rattle.chart_engine.specs.Chart as spec;
 ghost use Rattle.chart_engine.specs.Chart.{WritesDocument, out_chart};
 ghost use Rattle.chart_engine.specs.Events.{WritesEvents};
 
-use crate::happen::{happen, is_no_memory, make};
 use crate::laws::{charts_are_well_formed, charts_show_what_happened};
-use crate::rounds::settle_charted;
+use crate::making::{is_no_memory, make};
+use crate::witness::ChartWitness;
 use arrayvec::ArrayString;
 use chart_page::put_title_chart;
 use fabric_core::{Config, ConfigFault, Event, Fabric, Refusal};
+use fabric_settle::{happen, settle};
 use line_loop::{EngineFault, Responder, Verdict, run};
 use link_chart::{Chart, ChartWindow};
 use operation_text::write_decimal;
@@ -32,7 +33,7 @@ use text_lines::is_skipped;
 #[derive(Drop)]
 pub(crate) struct Session {
     fabric: Fabric,
-    chart: Chart,
+    chart: ChartWitness,
 }
 
 /// A script that is run line by line, and then charted.
@@ -70,24 +71,24 @@ fn told(kind: &str, line: u64) -> ArrayString<512>
 
 /// Tells a chart that an event was refused; out of memory is none of a fabric's answers.
 fn tell_refused(
-    chart: &mut Chart,
+    witness: &mut ChartWitness,
     line: u64,
     event: Event,
     refusal: Refusal,
 ) -> Result<(), AllocError>
     ensures told { OnOk result (IsTold refusal) }
-    ensures chart { OnOk result (chart.new ≡ refused chart.old line event refusal) }
+    ensures chart { OnOk result (witness.new ≡ refused witness.old line event refusal) }
 {
     if refusal.is_memory() {
         return Err(AllocError);
     }
-    chart.refused(line, event, refusal)
+    witness.chart.refused(line, event, refusal)
 }
 
 /// An event happens to a fabric or is refused, and its chart is told. Gives why it was refused.
 fn happen_charted(
     fabric: &mut Fabric,
-    chart: &mut Chart,
+    chart: &mut ChartWitness,
     line: u64,
     event: Event,
 ) -> Result<Option<Refusal>, AllocError>
@@ -95,11 +96,8 @@ fn happen_charted(
     ensures chart { OnOk result (chart.new ≡ (spec.left_by line (spec.session fabric.old chart.old) event (answer fabric.old event)).chart) }
     ensures refusal { IfOk result (λ r. r ≡ spec.refusal_in (answer fabric.old event)) }
 {
-    match happen(fabric, &event) {
-        Ok(seen) => {
-            chart.event(line, event, seen)?;
-            Ok(None)
-        }
+    match happen(fabric, chart, line, &event) {
+        Ok(()) => Ok(None),
         Err(refusal) => {
             tell_refused(chart, line, event, refusal)?;
             Ok(Some(refusal))
@@ -181,7 +179,10 @@ impl Charter {
         match make(config, self.alloc) {
             Ok(fabric) => {
                 let chart = Chart::new(self.alloc, self.window, config.requesters)?;
-                self.session = Some(Session { fabric, chart });
+                self.session = Some(Session {
+                    fabric,
+                    chart: ChartWitness { chart },
+                });
                 self.count();
                 Ok(Verdict::Fine)
             }
@@ -218,7 +219,7 @@ impl Charter {
         let Some(session) = &mut self.session else {
             return Ok(self.no_line());
         };
-        settle_charted(&mut session.fabric, &mut session.chart, line)?;
+        let _ = settle(&mut session.fabric, &mut session.chart, line)?;
         self.count();
         Ok(Verdict::Fine)
     }
@@ -237,7 +238,7 @@ fn put_below(
 {
     match session {
         None => put_title_chart(alloc, is_red, title, out),
-        Some(session) => session.chart.put(is_red, title, out),
+        Some(session) => session.chart.chart.put(is_red, title, out),
     }
 }
 

@@ -5,6 +5,7 @@ ghost use Rattle.link_chart.specs.declared.window.ChartWindow.{ChartWindow};
 ghost use Rattle.chart_engine.specs.Chart.{out_chart};
 ghost use Rattle.chart_engine.specs.Events.{IsOfEvents};
 
+use fabric_settle::laws::a_settlement_is_of_answers;
 use svg_text::pages_are_well_formed;
 
 /// What `chart` writes is a well-formed document of XML, whatever the input is.
@@ -18,4 +19,6 @@ pub fn charts_are_well_formed()
 /// perhaps of one that was refused last. So the law of arrows speaks of it: `chart_laws::arrows_begin_where_packets_were_sent`.
 pub fn charts_show_what_happened()
     ensures { (window : ChartWindow) (input : List ℕ) → IsOfEvents window (out_chart window input).text }
-{}
+{
+    a_settlement_is_of_answers();
+}

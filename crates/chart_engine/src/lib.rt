@@ -6,10 +6,8 @@
 #![tactic(auto)]
 
 mod chart;
-mod copies;
-mod happen;
 pub mod laws;
-mod rounds;
-mod turns;
+mod making;
+mod witness;
 
 pub use chart::run_chart;

@@ -7,7 +7,7 @@ use Rattle.fabric_core.specs.declared.event.LaneName.{LaneName}
 use Rattle.fabric_core.specs.declared.event.Seen.{Seen}
 use Rattle.fabric_core.specs.declared.fault.Refusal.{Refusal}
 use Rattle.fabric_core.specs.Answers.{answer}
-use Rattle.fabric_settle.specs.Rounds.{Settling, at, answered, tried, times, is_move, round, attempted, with_sent, lane_attempts, after_lanes, lane_turn, all_lanes, with_lanes, with_forwards, with_answers}
+use Rattle.fabric_settle.specs.Rounds.{Settling, at, answered, tried, times, is_move, round, attempted, lane_attempts, after_lanes, lane_turn, all_lanes}
 
 -- ---- one event
 
@@ -36,13 +36,13 @@ times_next n s e = refl
 -- ---- a round
 
 pub lane_turn_is : (s : Settling) (lane : LaneName) → lane_turn s lane ≡ fold attempted s (lane_attempts lane)
-unfolding with_sent lane_turn
+unfolding lane_turn
 lane_turn_is s lane = refl
 
 -- as a round begins, it has moved nothing
 abbrev pub began : Settling → Settling
-began s = at s.fabric s.records false
+began s = at s.fabric s.happened false
 
 pub round_is : (s : Settling) → round s ≡ fold attempted (fold lane_turn (began s) all_lanes) after_lanes
-unfolding with_lanes with_forwards with_answers
+unfolding round
 round_is s = refl

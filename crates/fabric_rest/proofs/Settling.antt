@@ -1,7 +1,6 @@
 -- Each round lowers the hops that are left, until none is, and then nothing moves.
 use Rattle.std.proofs.Common.{◌≡◌, ◌∙◌, ◌⊎◌, ◌↔◌, inl, inr, ℕ, zero, suc, ◌+◌, ◌<◌, ◌≤◌, Bool, true, false, List, [], ◌∷◌, refl, sym, ap, subst, arith, Result, Ok, Err, IsOk, if◌then◌else◌}
 use Rattle.std.specs.Prelude.{fold}
-use Rattle.history_check.specs.declared.Record.{Record}
 use Rattle.fabric_laws.specs.Fabric.{Fabric}
 use Rattle.fabric_core.specs.declared.event.Event.{Event}
 use Rattle.fabric_core.specs.Answers.{answer}
@@ -174,14 +173,14 @@ rounds_reach l (suc n) s g = by_moved (round s).moved (rounds_reach l n (round s
 few : (n : ℕ) → n < 9999 → n + 1 < 10000
 few n h = omega arith
 
-good : (f : Fabric) (rs : List Record) → IsSoundFabric f → AreShort f → Good (at f rs false)
-good f rs s short = record { sound = s; short = short }
+good : (f : Fabric) → IsSoundFabric f → AreShort f → Good (at f [] false)
+good f s short = record { sound = s; short = short }
 
-pub soon : AllLaws → (f : Fabric) (rs : List Record) → IsSoundFabric f → AreShort f → hops_left f < 9999 → EndsWithin (hops_left f + 1) (at f rs false) (settlement f rs)
-soon l f rs s short room = ends l 10000 (at f rs false) (good f rs s short) (few (hops_left f) room)
+pub soon : AllLaws → (f : Fabric) → IsSoundFabric f → AreShort f → hops_left f < 9999 → EndsWithin (hops_left f + 1) (at f [] false) (settlement f)
+soon l f s short room = ends l 10000 (at f [] false) (good f s short) (few (hops_left f) room)
 
-pub quiet : AllLaws → (f : Fabric) (rs : List Record) → IsSoundFabric f → AreShort f → hops_left f < 9999 → IsQuiet (settlement f rs).fabric
-quiet l f rs s short room = is_quiet_then l (hops_left f + 1) (at f rs false) (settlement f rs) (good f rs s short) (soon l f rs s short room)
+pub quiet : AllLaws → (f : Fabric) → IsSoundFabric f → AreShort f → hops_left f < 9999 → IsQuiet (settlement f).fabric
+quiet l f s short room = is_quiet_then l (hops_left f + 1) (at f [] false) (settlement f) (good f s short) (soon l f s short room)
 
-pub reached : AllLaws → (f : Fabric) (rs : List Record) → IsSoundFabric f → AreShort f → Reaches f (settlement f rs).fabric
-reached l f rs s short = rounds_reach l 10000 (at f rs false) (good f rs s short)
+pub reached : AllLaws → (f : Fabric) → IsSoundFabric f → AreShort f → Reaches f (settlement f).fabric
+reached l f s short = rounds_reach l 10000 (at f [] false) (good f s short)

@@ -1,6 +1,5 @@
 //! What the rounds lead to.
-ghost use Rattle.std.specs.Prelude.{◌+◌, ◌<◌, List, false};
-ghost use Rattle.history_check.specs.declared.Record.{Record};
+ghost use Rattle.std.specs.Prelude.{◌+◌, ◌<◌, [], false};
 ghost use Rattle.fabric_laws.specs.Fabric.{Fabric};
 ghost use Rattle.fabric_core.specs.Kept.{IsSoundFabric};
 ghost use Rattle.fabric_core.specs.Quiet.{IsQuiet};
@@ -17,9 +16,9 @@ use lane_core::{a_turn_flushes_a_lane, each_call_keeps_it_right, never_a_protoco
 /// A sound fabric in which fewer than 9,999 hops are left comes to rest: the rounds end quiet, and before the last one,
 /// which moves nothing, there are at most as many as hops were left, and one.
 pub fn every_fabric_comes_to_rest()
-    ensures quiet { (f : Fabric) (rs : List Record) → IsSoundFabric f → AreShort f → hops_left f < 9999 → IsQuiet (settlement f rs).fabric }
-    ensures soon { (f : Fabric) (rs : List Record) → IsSoundFabric f → AreShort f → hops_left f < 9999 → EndsWithin (hops_left f + 1) (at f rs false) (settlement f rs) }
-    ensures reached { (f : Fabric) (rs : List Record) → IsSoundFabric f → AreShort f → Reaches f (settlement f rs).fabric }
+    ensures quiet { (f : Fabric) → IsSoundFabric f → AreShort f → hops_left f < 9999 → IsQuiet (settlement f).fabric }
+    ensures soon { (f : Fabric) → IsSoundFabric f → AreShort f → hops_left f < 9999 → EndsWithin (hops_left f + 1) (at f [] false) (settlement f) }
+    ensures reached { (f : Fabric) → IsSoundFabric f → AreShort f → Reaches f (settlement f).fabric }
 {
     a_flushed_fabric_is_not_stuck();
     a_turn_flushes_a_lane();

@@ -1,6 +1,5 @@
 -- The last round.
-use Rattle.std.proofs.Common.{◌≡◌, ◌∙◌, ◌⊎◌, inl, inr, ℕ, zero, suc, ◌+◌, ◌-◌, ◌<◌, Bool, true, false, if◌then◌else◌, List, refl, ap, arith}
-use Rattle.history_check.specs.declared.Record.{Record}
+use Rattle.std.proofs.Common.{◌≡◌, ◌∙◌, ◌⊎◌, inl, inr, ℕ, zero, suc, ◌+◌, ◌-◌, ◌<◌, Bool, true, false, if◌then◌else◌, [], refl, ap, arith}
 use Rattle.fabric_laws.specs.Fabric.{Fabric}
 use Rattle.fabric_settle.specs.Rounds.{Settling, at, round, rounds, after_rounds, HasEnded}
 use Rattle.fabric_settle.proofs.RoundLemmas.{rounds_stop, rounds_go}
@@ -64,16 +63,7 @@ ends (suc zero) s pos = record {
 }
 ends (suc (suc n)) s pos = ends_by (round s).moved n s refl (ends (suc n) (round s) (omega arith))
 
-pub has_ended : (f f' : Fabric) (rs rs' : List Record) (b : Bool) → at f' rs' b ≡ rounds 10000 (at f rs false) → HasEnded f rs f' rs'
-has_ended f f' rs rs' b e =
-    let all : Ends 10000 (at f rs false) (rounds 10000 (at f rs false)) = ends 10000 (at f rs false) (omega arith) in
-    record {
-      before = all.before;
-      few = all.few;
-      moved = b;
-      last = e ∙ all.last;
-      ended = elim all.ended [
-        | inl still ↦ inl (ap (λ (t : Settling). t.moved) e ∙ still)
-        | inr last ↦ inr last
-      ];
-    }
+pub has_ended : (f : Fabric) → HasEnded f
+has_ended f =
+    let all : Ends 10000 (at f [] false) (rounds 10000 (at f [] false)) = ends 10000 (at f [] false) (omega arith) in
+    record { before = all.before; few = all.few; last = all.last; ended = all.ended }

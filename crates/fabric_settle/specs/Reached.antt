@@ -1,13 +1,12 @@
 -- What a list of events leads to.
-use Rattle.std.specs.Prelude.{◌≡◌, List, ◌++◌}
-use Rattle.history_check.specs.declared.Record.{Record}
+use Rattle.std.specs.Prelude.{◌≡◌, List, fold}
 use Rattle.fabric_laws.specs.Fabric.{Fabric}
-use Rattle.fabric_core.specs.declared.event.Event.{Event}
-use Rattle.fabric_core.specs.Runs.{Runs}
+use Rattle.fabric_core.specs.Answers.{Happens}
+use Rattle.fabric_settle.specs.Happenings.{Happening, Leads}
 
--- the events happen in turn to the fabric and leave the other, and their records stand after the earlier ones
-pub record Reached (f : Fabric) (rs : List Record) (f' : Fabric) (rs' : List Record) : Type 0 where
-  pub events : List Event
-  pub told : List Record
-  pub runs : Runs f events told f'
-  pub now : rs' ≡ rs ++ told
+-- the events happen in turn to the fabric and leave the other, and a witness that loses nothing has kept what is to be
+-- kept of them
+pub record Reached {K : Type 0} (saw : K → Happening → K) (lossless : Type 0) (f : Fabric) (k : K) (f' : Fabric) (k' : K) : Type 0 where
+  pub happened : List Happening
+  pub led : Leads Happens f happened f'
+  pub now : lossless → k' ≡ fold saw k happened

@@ -1,10 +1,8 @@
 -- Running a fabric by rounds of events until one moves nothing.
-use Rattle.std.specs.Prelude.{ℕ, zero, suc, ◌≡◌, ◌<◌, ◌⊎◌, ◌+◌, ◌-◌, ◌^◌, ◌||◌, ◌&&◌, Bool, true, false, if◌then◌else◌, List, [], ◌∷◌, ◌++◌, length, fold, Result, Ok, Err, is_ok}
+use Rattle.std.specs.Prelude.{ℕ, zero, suc, ◌≡◌, ◌<◌, ◌⊎◌, ◌+◌, ◌-◌, ◌^◌, ◌||◌, ◌&&◌, Bool, true, false, if◌then◌else◌, List, [], ◌∷◌, ◌++◌, fold, Result, Ok, Err, is_ok}
 use Rattle.std.specs.List.{list_all}
-use Rattle.history_check.specs.declared.Record.{Record}
 use Rattle.dllp_core.specs.declared.packet.Class.TheVariants.{Posted, NonPosted, Completion}
 use Rattle.lane_ends.specs.declared.packet.Fate.TheVariants.{Good}
-use Rattle.lane_ends.specs.declared.packet.DllpKind.{DllpKind}
 use Rattle.lane_ends.specs.declared.packet.DllpKind.TheVariants as kinds
 use Rattle.vc_queue.specs.Queue.{Item}
 use Rattle.lane_ends.specs.Steps.{LaneEndsView}
@@ -16,19 +14,19 @@ use Rattle.fabric_core.specs.declared.event.LaneName.{LaneName}
 use Rattle.fabric_core.specs.declared.event.LaneName.TheVariants as lanes
 use Rattle.fabric_core.specs.declared.event.Seen.{Seen}
 use Rattle.fabric_core.specs.declared.fault.Refusal.{Refusal}
-use Rattle.fabric_core.specs.Kept.{records_of}
 use Rattle.fabric_core.specs.Answers.{answer}
 use Rattle.fabric_settle.specs.declared.attempts.Attempt.{Attempt}
 use Rattle.fabric_settle.specs.declared.attempts.Attempt.TheVariants as attempts
+use Rattle.fabric_settle.specs.Happenings.{Happening, happening}
 
--- a fabric that is being settled, what its requesters collected, oldest first, and whether the round moved something
+-- a fabric that is being settled, what happened to it, oldest first, and whether the round moved something
 pub record Settling : Type 0 where
   pub fabric : Fabric
-  pub records : List Record
+  pub happened : List Happening
   pub moved : Bool
 
-abbrev pub at : Fabric → List Record → Bool → Settling
-at f rs moved = record { fabric = f; records = rs; moved = moved }
+abbrev pub at : Fabric → List Happening → Bool → Settling
+at f happened moved = record { fabric = f; happened = happened; moved = moved }
 
 -- ---- events
 
@@ -41,15 +39,15 @@ is_move _ = true
 
 -- an event that happens is one step of the fabric, and one that is refused changes nothing
 abbrev pub answered : Settling → Event → Result (Seen × Fabric) Refusal → Settling
-answered s event (Ok p) = at p.1 (s.records ++ records_of event p.0 (length s.fabric.memory.entries)) (s.moved || is_move event)
+answered s event (Ok p) = at p.1 (s.happened ++ happening s.fabric event p.0 p.1 ∷ []) (s.moved || is_move event)
 answered s event (Err r) = s
 
 unfoldable pub tried : Settling → Event → Settling
 tried s event = answered s event (answer s.fabric event)
 
 -- whether the event happens
-unfoldable pub goes : Settling → Event → Bool
-goes s event = is_ok (answer s.fabric event)
+unfoldable pub goes : Fabric → Event → Bool
+goes f event = is_ok (answer f event)
 
 unfoldable pub times : ℕ → Settling → Event → Settling
 times zero s event = s
@@ -66,30 +64,18 @@ attempted s (attempts.All event) = all s event
 
 -- ---- the turn of a lane
 
--- the replay timer expires, so that all packets that are kept go again, and a link that was stopped is up again
-abbrev pub replayed : Settling → LaneName → Settling
-replayed s lane = tried (tried s (events.Timer lane)) (events.Retrained lane)
+-- what is tried of a lane: the replay timer expires, so that all packets that are kept go again, also those that a Nak
+-- left that arrived last, and a link that was stopped is up again; all packets go, and they arrive; an answer and the
+-- updates of each class go, and arrive
+abbrev pub lane_attempts : LaneName → List Attempt
+lane_attempts lane =
+    attempts.Once (events.Timer lane) ∷ attempts.Once (events.Retrained lane)
+    ∷ attempts.All (events.Transmit lane) ∷ attempts.All (events.Deliver lane Good) ∷ attempts.Once (events.SendDllp lane kinds.Answer)
+    ∷ attempts.Once (events.SendDllp lane (kinds.Update Posted)) ∷ attempts.Once (events.SendDllp lane (kinds.Update NonPosted))
+    ∷ attempts.Once (events.SendDllp lane (kinds.Update Completion)) ∷ attempts.All (events.DeliverDllp lane Good) ∷ []
 
--- all packets go, and they arrive
-abbrev pub with_packets : Settling → LaneName → Settling
-with_packets s lane = all (all s (events.Transmit lane)) (events.Deliver lane Good)
-
--- an answer and the updates of each class go, and arrive
-abbrev pub kinds_sent : List DllpKind
-kinds_sent = kinds.Answer ∷ kinds.Update Posted ∷ kinds.Update NonPosted ∷ kinds.Update Completion ∷ []
-
-abbrev pub sent_dllp : LaneName → Settling → DllpKind → Settling
-sent_dllp lane s kind = tried s (events.SendDllp lane kind)
-
-unfoldable pub with_sent : Settling → LaneName → Settling
-with_sent s lane = fold (sent_dllp lane) s kinds_sent
-
-abbrev pub with_dllps : Settling → LaneName → Settling
-with_dllps s lane = all (with_sent s lane) (events.DeliverDllp lane Good)
-
--- the turn begins with the timer, whatever goes afterwards: a Nak that arrived last leaves packets that go again
 unfoldable pub lane_turn : Settling → LaneName → Settling
-lane_turn s lane = with_dllps (with_packets (replayed s lane) lane) lane
+lane_turn s lane = fold attempted s (lane_attempts lane)
 
 -- ---- a round
 
@@ -99,46 +85,8 @@ all_lanes =
     lanes.Up 1 ∷ lanes.Up 2 ∷ lanes.Up 3 ∷ lanes.Up 4 ∷ lanes.Up 5 ∷ lanes.Up 6 ∷ lanes.Up 7 ∷ lanes.Inward ∷ lanes.Outward
     ∷ lanes.Down 1 ∷ lanes.Down 2 ∷ lanes.Down 3 ∷ lanes.Down 4 ∷ lanes.Down 5 ∷ lanes.Down 6 ∷ lanes.Down 7 ∷ []
 
-abbrev pub forwarding_lanes : List LaneName
-forwarding_lanes = lanes.Up 1 ∷ lanes.Up 2 ∷ lanes.Up 3 ∷ lanes.Up 4 ∷ lanes.Up 5 ∷ lanes.Up 6 ∷ lanes.Up 7 ∷ lanes.Outward ∷ []
-
-abbrev pub ports : List ℕ
-ports = 1 ∷ 2 ∷ 3 ∷ 4 ∷ 5 ∷ 6 ∷ 7 ∷ []
-
--- the packets at the places 0 and 1 go on to their ports
-abbrev pub forwarded : Settling → LaneName → Settling
-forwarded s lane = tried (tried s (events.Forward lane 0)) (events.Forward lane 1)
-
--- the requests at the places 0 and 1 act on the memory
-abbrev pub served : Settling → Settling
-served s = tried (tried s (events.Serve 0)) (events.Serve 1)
-
--- the completions that wait are collected
-abbrev pub collected : Settling → ℕ → Settling
-collected s port = all s (events.Collect port)
-
-unfoldable pub with_lanes : Settling → Settling
-with_lanes s = fold lane_turn s all_lanes
-
-unfoldable pub with_forwards : Settling → Settling
-with_forwards s = fold forwarded s forwarding_lanes
-
-unfoldable pub with_answers : Settling → Settling
-with_answers s = fold collected s ports
-
--- the links, the switch, the memory, the requesters
-abbrev pub round : Settling → Settling
-round s = with_answers (served (with_forwards (with_lanes (at s.fabric s.records false))))
-
--- the same as lists: what is tried of a lane
-abbrev pub lane_attempts : LaneName → List Attempt
-lane_attempts lane =
-    attempts.Once (events.Timer lane) ∷ attempts.Once (events.Retrained lane)
-    ∷ attempts.All (events.Transmit lane) ∷ attempts.All (events.Deliver lane Good) ∷ attempts.Once (events.SendDllp lane kinds.Answer)
-    ∷ attempts.Once (events.SendDllp lane (kinds.Update Posted)) ∷ attempts.Once (events.SendDllp lane (kinds.Update NonPosted))
-    ∷ attempts.Once (events.SendDllp lane (kinds.Update Completion)) ∷ attempts.All (events.DeliverDllp lane Good) ∷ []
-
--- and after the lanes
+-- the packets at the places 0 and 1 go on to their ports, the requests there act on the memory, and the completions that
+-- wait are collected
 abbrev pub after_lanes : List Attempt
 after_lanes =
     attempts.Once (events.Forward (lanes.Up 1) 0) ∷ attempts.Once (events.Forward (lanes.Up 1) 1)
@@ -152,6 +100,10 @@ after_lanes =
     ∷ attempts.Once (events.Serve 0) ∷ attempts.Once (events.Serve 1)
     ∷ attempts.All (events.Collect 1) ∷ attempts.All (events.Collect 2) ∷ attempts.All (events.Collect 3) ∷ attempts.All (events.Collect 4) ∷ attempts.All (events.Collect 5) ∷ attempts.All (events.Collect 6) ∷ attempts.All (events.Collect 7) ∷ []
 
+-- the links, the switch, the memory, the requesters
+unfoldable pub round : Settling → Settling
+round s = fold attempted (fold lane_turn (at s.fabric s.happened false) all_lanes) after_lanes
+
 -- ---- all rounds
 
 abbrev pub if_moved : (Settling → Settling) → Settling → Settling
@@ -162,22 +114,21 @@ unfoldable pub rounds : ℕ → Settling → Settling
 rounds zero s = s
 rounds (suc n) s = if_moved (rounds n) (round s)
 
--- the fabric and the records after all rounds
-abbrev pub settlement : Fabric → List Record → Settling
-settlement f rs = rounds 10000 (at f rs false)
+-- the fabric after all rounds, and what happened to it
+abbrev pub settlement : Fabric → Settling
+settlement f = rounds 10000 (at f [] false)
 
 -- so many rounds, one after the other
 unfoldable pub after_rounds : ℕ → Settling → Settling
 after_rounds zero s = s
 after_rounds (suc n) s = after_rounds n (round s)
 
--- a last round left this fabric and these records, after so many others: it moved nothing, or it is the 10,000th
-pub record HasEnded (f : Fabric) (rs : List Record) (f' : Fabric) (rs' : List Record) : Type 0 where
+-- a last round left this, after so many others: it moved nothing, or it is the 10,000th
+pub record HasEnded (f : Fabric) : Type 0 where
   pub before : ℕ
   pub few : before < 10000
-  pub moved : Bool
-  pub last : at f' rs' moved ≡ round (after_rounds before (at f rs false))
-  pub ended : (moved ≡ false) ⊎ (before + 1 ≡ 10000)
+  pub last : settlement f ≡ round (after_rounds before (at f [] false))
+  pub ended : ((settlement f).moved ≡ false) ⊎ (before + 1 ≡ 10000)
 
 -- ---- quiet
 

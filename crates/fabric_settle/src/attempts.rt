@@ -7,7 +7,7 @@ use fabric_core::{Event, LaneName};
 use lane_core::{DllpKind, Fate};
 
 /// The lanes of a fabric with seven requesters.
-pub const LANES: [LaneName; 16] = [
+pub(crate) const LANES: [LaneName; 16] = [
     LaneName::Up(1),
     LaneName::Up(2),
     LaneName::Up(3),
@@ -28,7 +28,7 @@ pub const LANES: [LaneName; 16] = [
 
 /// An event that a round tries.
 #[derive(Drop)]
-pub enum Attempt {
+pub(crate) enum Attempt {
     /// It is tried once.
     Once(Event),
     /// It is tried until it is refused.
@@ -36,7 +36,7 @@ pub enum Attempt {
 }
 
 /// After the turns of the lanes the switch forwards, the memory acts, and the requesters collect.
-pub const AFTER_LANES: [Attempt; 25] = [
+pub(crate) const AFTER_LANES: [Attempt; 25] = [
     Attempt::Once(Event::Forward(LaneName::Up(1), 0)),
     Attempt::Once(Event::Forward(LaneName::Up(1), 1)),
     Attempt::Once(Event::Forward(LaneName::Up(2), 0)),
@@ -65,7 +65,7 @@ pub const AFTER_LANES: [Attempt; 25] = [
 ];
 
 /// Whether a round in which the event happens has moved something.
-pub fn is_move(event: &Event) -> bool
+pub(crate) fn is_move(event: &Event) -> bool
     ensures { result ≡ spec.is_move event.now }
 {
     match event {
@@ -76,7 +76,7 @@ pub fn is_move(event: &Event) -> bool
 
 /// What a round tries of a lane: the replay timer expires, so that all packets that are kept go again, the link is
 /// retrained where its sender is stopped, the packets go and arrive, and then the DLLPs.
-pub fn lane_attempts(lane: LaneName) -> [Attempt; 9]
+pub(crate) fn lane_attempts(lane: LaneName) -> [Attempt; 9]
     ensures { result ≡ spec.lane_attempts lane }
 {
     [

@@ -13,13 +13,15 @@
 //! was sent, delivered, moved back, forwarded, served or collected. The rounds end after one that moved nothing, and
 //! after 10,000 at the latest.
 //!
-//! Who makes such rounds and keeps something else of them takes what a round tries from here: [`lane_attempts`] of each
-//! of [`LANES`], and then [`AFTER_LANES`].
+//! Who wants to keep something of the events is a [`Witness`]: a trace of records is one. What the rounds do to a fabric
+//! doesn't depend on it.
 #![tactic(auto)]
 
 mod attempts;
+pub mod laws;
 mod rounds;
 mod turns;
+mod witness;
 
-pub use attempts::{AFTER_LANES, Attempt, LANES, is_move, lane_attempts};
 pub use rounds::settle;
+pub use witness::{Witness, happen};

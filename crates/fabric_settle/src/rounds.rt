@@ -1,28 +1,33 @@
 //! Rounds until one moves nothing.
-ghost use Rattle.std.specs.Prelude.{◌≡◌, ◌↔◌, IsTrue, IfOk, OnOk};
+ghost use Rattle.std.specs.Prelude.{◌≡◌, ◌↔◌, fold, IsTrue, IfOk, OnOk, OnErr};
+ghost use Rattle.fabric_core.specs.declared.event.Event as events;
 ghost use Rattle.fabric_core.specs.Quiet.{IsQuiet};
+ghost use Rattle.fabric_settle.specs.Doing.{Does};
+ghost use Rattle.fabric_settle.specs.Keeping.{IsLossless, WantsMemory};
 ghost use Rattle.fabric_settle.specs.Reached.{Reached};
 ghost use Rattle.fabric_settle.specs.Rounds as spec;
 
 use crate::turns::round;
+use crate::witness::Witness;
 use fabric_core::Fabric;
-use history_check::Record;
 use std::alloc::AllocError;
 
 /// The most rounds.
 const MOST_ROUNDS: u64 = 10_000;
 
 /// Rounds until one moves nothing.
-fn all_rounds(
+fn all_rounds<W: Witness>(
     fabric: &mut Fabric,
-    records: &mut Vec<Record>,
+    witness: &mut W,
     moved: &mut bool,
+    line: u64,
 ) -> Result<(), AllocError>
-    ensures state { OnOk result (spec.at fabric.new records.new.items moved.new ≡ spec.rounds 10000 (spec.at fabric.old records.old.items moved.old)) }
-    ensures reached { Reached fabric.old records.old.items fabric.new records.new.items }
+    ensures state { OnOk result (Does (W.saw line) fabric.old (W.kept witness.old) moved.old (spec.rounds 10000) fabric.new (W.kept witness.new) moved.new) }
+    ensures err { OnErr result ((event : events.Event) × WantsMemory W.needs_room W.may_lose fabric.new event) }
+    ensures reached { Reached (W.saw line) (IsLossless W.may_lose) fabric.old (W.kept witness.old) fabric.new (W.kept witness.new) }
 {
     for _count in 0..MOST_ROUNDS {
-        round(fabric, records, moved)?;
+        round(fabric, witness, moved, line)?;
         if !*moved {
             return Ok(());
         }
@@ -31,23 +36,29 @@ fn all_rounds(
 }
 
 /// Runs the fabric by rounds until one moves nothing, at most 10,000 of them, and tells whether it is quiet then: each
-/// submission stands in the history, and no requester waits for an answer. What the requesters collect is added to the
-/// records in that order, with the length of the history before it.
+/// submission stands in the history, and no requester waits for an answer. The witness keeps what it keeps of each event,
+/// as of that line of a script.
 ///
-/// Where memory runs out, the events so far have happened, and the records are theirs.
-pub fn settle(fabric: &mut Fabric, records: &mut Vec<Record>) -> Result<bool, AllocError>
-    ensures fabric { OnOk result (fabric.new ≡ (spec.settlement fabric.old records.old.items).fabric) }
-    ensures records { OnOk result (records.new.items ≡ (spec.settlement fabric.old records.old.items).records) }
+/// The only error is want of memory, of the fabric for an event or of the witness. Then the events so far have happened,
+/// and a witness that loses nothing has kept what it keeps of them.
+pub fn settle<W: Witness>(
+    fabric: &mut Fabric,
+    witness: &mut W,
+    line: u64,
+) -> Result<bool, AllocError>
+    ensures fabric { OnOk result (fabric.new ≡ (spec.settlement fabric.old).fabric) }
+    ensures kept { OnOk result (W.kept witness.new ≡ fold (W.saw line) (W.kept witness.old) (spec.settlement fabric.old).happened) }
     ensures quiet { IfOk result (λ quiet. IsTrue quiet ↔ IsQuiet fabric.new) }
     ensures told { IfOk result (λ quiet. quiet ≡ spec.is_quiet fabric.new) }
 
     // The last round moved nothing, or it was the 10,000th.
-    ensures ended { OnOk result (spec.HasEnded fabric.old records.old.items fabric.new records.new.items) }
+    ensures ended { OnOk result (spec.HasEnded fabric.old) }
+    ensures err { OnErr result ((event : events.Event) × WantsMemory W.needs_room W.may_lose fabric.new event) }
 
-    // In any case the fabric is one that a list of events leads to, and the records are those of these events.
-    ensures reached { Reached fabric.old records.old.items fabric.new records.new.items }
+    // In any case the fabric is one that a list of events leads to, and what is kept is of these events.
+    ensures reached { Reached (W.saw line) (IsLossless W.may_lose) fabric.old (W.kept witness.old) fabric.new (W.kept witness.new) }
 {
     let mut moved = false;
-    all_rounds(fabric, records, &mut moved)?;
+    all_rounds(fabric, witness, &mut moved, line)?;
     Ok(fabric.quiet())
 }

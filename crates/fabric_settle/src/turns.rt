@@ -1,40 +1,31 @@
 //! A round of events.
-ghost use Rattle.std.specs.Prelude.{◌≡◌, ◌<◌, ◌++◌, vec_len, vec_capacity, option_to_list, fold, IfOk, OnOk};
+ghost use Rattle.std.specs.Prelude.{◌≡◌, fold, IfOk, OnOk, OnErr};
+ghost use Rattle.fabric_core.specs.declared.event.Event as events;
+ghost use Rattle.fabric_settle.specs.Doing.{Does};
+ghost use Rattle.fabric_settle.specs.Keeping.{IsLossless, WantsMemory};
 ghost use Rattle.fabric_settle.specs.Reached.{Reached};
 ghost use Rattle.fabric_settle.specs.Rounds as spec;
 
 use crate::attempts::{AFTER_LANES, Attempt, LANES, is_move, lane_attempts};
-use fabric_answers::laws::each_event_has_one_answer;
+use crate::witness::{Witness, happen};
 use fabric_core::{Event, Fabric, LaneName};
-use history_check::Record;
 use std::alloc::AllocError;
 
-/// Keeps a record for which there is room.
-fn keep(records: &mut Vec<Record>, told: Option<Record>)
-    requires { vec_len records.old < vec_capacity records.old }
-    ensures { records.new.items ≡ records.old.items ++ option_to_list told }
-{
-    if let Some(record) = told {
-        let _ = records.push(record);
-    }
-}
-
-/// Tries the event, and tells whether it happened. Room for its record is kept before it, so what has happened is told.
-fn once(
+/// Tries the event, and tells whether it happened.
+fn once<W: Witness>(
     fabric: &mut Fabric,
-    records: &mut Vec<Record>,
+    witness: &mut W,
     moved: &mut bool,
+    line: u64,
     event: &Event,
 ) -> Result<bool, AllocError>
-    ensures state { OnOk result (spec.at fabric.new records.new.items moved.new ≡ spec.tried (spec.at fabric.old records.old.items moved.old) event.now) }
-    ensures went { IfOk result (λ went. went ≡ spec.goes (spec.at fabric.old records.old.items moved.old) event.now) }
-    ensures reached { Reached fabric.old records.old.items fabric.new records.new.items }
+    ensures state { OnOk result (Does (W.saw line) fabric.old (W.kept witness.old) moved.old (λ s. spec.tried s event.now) fabric.new (W.kept witness.new) moved.new) }
+    ensures went { IfOk result (λ went. went ≡ spec.goes fabric.old event.now) }
+    ensures err { OnErr result ((event : events.Event) × WantsMemory W.needs_room W.may_lose fabric.new event) }
+    ensures reached { Reached (W.saw line) (IsLossless W.may_lose) fabric.old (W.kept witness.old) fabric.new (W.kept witness.new) }
 {
-    each_event_has_one_answer();
-    records.try_reserve(1)?;
-    match fabric.step_recorded(event) {
-        Ok(told) => {
-            keep(records, told);
+    match happen(fabric, witness, line, event) {
+        Ok(()) => {
             *moved = *moved || is_move(event);
             Ok(true)
         }
@@ -44,17 +35,19 @@ fn once(
 }
 
 /// Tries the event until it is refused.
-fn all(
+fn all<W: Witness>(
     fabric: &mut Fabric,
-    records: &mut Vec<Record>,
+    witness: &mut W,
     moved: &mut bool,
+    line: u64,
     event: &Event,
 ) -> Result<(), AllocError>
-    ensures state { OnOk result (spec.at fabric.new records.new.items moved.new ≡ spec.all (spec.at fabric.old records.old.items moved.old) event.now) }
-    ensures reached { Reached fabric.old records.old.items fabric.new records.new.items }
+    ensures state { OnOk result (Does (W.saw line) fabric.old (W.kept witness.old) moved.old (λ s. spec.all s event.now) fabric.new (W.kept witness.new) moved.new) }
+    ensures err { OnErr result ((event : events.Event) × WantsMemory W.needs_room W.may_lose fabric.new event) }
+    ensures reached { Reached (W.saw line) (IsLossless W.may_lose) fabric.old (W.kept witness.old) fabric.new (W.kept witness.new) }
 {
     for _count in 0..u64::MAX {
-        if !once(fabric, records, moved, event)? {
+        if !once(fabric, witness, moved, line, event)? {
             return Ok(());
         }
     }
@@ -62,51 +55,57 @@ fn all(
 }
 
 /// Tries events in turn.
-fn try_each(
+fn try_each<W: Witness>(
     fabric: &mut Fabric,
-    records: &mut Vec<Record>,
+    witness: &mut W,
     moved: &mut bool,
+    line: u64,
     attempts: &[Attempt],
 ) -> Result<(), AllocError>
-    ensures state { OnOk result (spec.at fabric.new records.new.items moved.new ≡ fold spec.attempted (spec.at fabric.old records.old.items moved.old) attempts.now) }
-    ensures reached { Reached fabric.old records.old.items fabric.new records.new.items }
+    ensures state { OnOk result (Does (W.saw line) fabric.old (W.kept witness.old) moved.old (λ s. fold spec.attempted s attempts.now) fabric.new (W.kept witness.new) moved.new) }
+    ensures err { OnErr result ((event : events.Event) × WantsMemory W.needs_room W.may_lose fabric.new event) }
+    ensures reached { Reached (W.saw line) (IsLossless W.may_lose) fabric.old (W.kept witness.old) fabric.new (W.kept witness.new) }
 {
     for attempt in attempts {
         match attempt {
             Attempt::Once(event) => {
-                once(fabric, records, moved, event)?;
+                once(fabric, witness, moved, line, event)?;
             }
-            Attempt::All(event) => all(fabric, records, moved, event)?,
+            Attempt::All(event) => all(fabric, witness, moved, line, event)?,
         }
     }
     Ok(())
 }
 
 /// The turn of a lane.
-fn lane_turn(
+fn lane_turn<W: Witness>(
     fabric: &mut Fabric,
-    records: &mut Vec<Record>,
+    witness: &mut W,
     moved: &mut bool,
+    line: u64,
     lane: LaneName,
 ) -> Result<(), AllocError>
-    ensures state { OnOk result (spec.at fabric.new records.new.items moved.new ≡ spec.lane_turn (spec.at fabric.old records.old.items moved.old) lane) }
-    ensures reached { Reached fabric.old records.old.items fabric.new records.new.items }
+    ensures state { OnOk result (Does (W.saw line) fabric.old (W.kept witness.old) moved.old (λ s. spec.lane_turn s lane) fabric.new (W.kept witness.new) moved.new) }
+    ensures err { OnErr result ((event : events.Event) × WantsMemory W.needs_room W.may_lose fabric.new event) }
+    ensures reached { Reached (W.saw line) (IsLossless W.may_lose) fabric.old (W.kept witness.old) fabric.new (W.kept witness.new) }
 {
-    try_each(fabric, records, moved, &lane_attempts(lane))
+    try_each(fabric, witness, moved, line, &lane_attempts(lane))
 }
 
 /// A round, of which `moved` tells whether it has moved something.
-pub(crate) fn round(
+pub(crate) fn round<W: Witness>(
     fabric: &mut Fabric,
-    records: &mut Vec<Record>,
+    witness: &mut W,
     moved: &mut bool,
+    line: u64,
 ) -> Result<(), AllocError>
-    ensures state { OnOk result (spec.at fabric.new records.new.items moved.new ≡ spec.round (spec.at fabric.old records.old.items moved.old)) }
-    ensures reached { Reached fabric.old records.old.items fabric.new records.new.items }
+    ensures state { OnOk result (Does (W.saw line) fabric.old (W.kept witness.old) moved.old spec.round fabric.new (W.kept witness.new) moved.new) }
+    ensures err { OnErr result ((event : events.Event) × WantsMemory W.needs_room W.may_lose fabric.new event) }
+    ensures reached { Reached (W.saw line) (IsLossless W.may_lose) fabric.old (W.kept witness.old) fabric.new (W.kept witness.new) }
 {
     *moved = false;
     for lane in LANES {
-        lane_turn(fabric, records, moved, lane)?;
+        lane_turn(fabric, witness, moved, line, lane)?;
     }
-    try_each(fabric, records, moved, &AFTER_LANES)
+    try_each(fabric, witness, moved, line, &AFTER_LANES)
 }

@@ -8,7 +8,7 @@ use Rattle.fabric_settle.specs.Rounds.{settlement, is_quiet}
 use Rattle.line_loop.specs.declared.verdict.Verdict.{Verdict}
 use Rattle.line_loop.specs.declared.verdict.Verdict.TheVariants as verdicts
 use Rattle.line_loop.specs.Run.{IsAnswer, is_fault}
-use Rattle.step_engine.specs.Step.{StepperView, counted, shown, told_lines, settled_lines, settles_telling, settles_traced, settled}
+use Rattle.step_engine.specs.Step.{StepperView, counted, shown, told_lines, recorded_all, settled_lines, settles_telling, settles_traced, settled}
 
 -- one line more
 pub told-next : (s : StepperView) (line : List ℕ) (rs : List Record) (i : ℕ) (r : Record) (text text' : List ℕ) → i < length rs → r ≡ get_or rs i r
@@ -39,16 +39,16 @@ told-alike s o line (r ∷ rs) = ap (λ (t : List ℕ). shown s line (told_text 
 
 -- what is told of the fabric that rounds of events leave
 telling : (s : StepperView) (line : List ℕ) (f f' : Fabric) (answers : List Record) (quiet : Bool) (new : StepperView) (before after : List ℕ) (verdict : Verdict)
-    → s.fabric ≡ Some f → s.options.is_traced ≡ false → f' ≡ (settlement f []).fabric → answers ≡ (settlement f []).records → quiet ≡ is_quiet f'
+    → s.fabric ≡ Some f → s.options.is_traced ≡ false → f' ≡ (settlement f).fabric → answers ≡ recorded_all [] (settlement f) → quiet ≡ is_quiet f'
     → new ≡ counted (record s { fabric = Some f' })
     → after ≡ before ++ (told_lines (record s { fabric = Some f' }) line answers ++ shown s line (settled_text quiet)) → verdict ≡ verdicts.Fine
     → IsAnswer new before after verdict (settled s line s.fabric)
 telling s line f f' answers quiet new before after verdict has plain fabric records is_quiet_so state text fine =
-    let t = settlement f [] in
+    let t = settlement f in
     let same : settled_lines s line t ≡ told_lines (record s { fabric = Some f' }) line answers ++ shown s line (settled_text quiet) =
     sym (ap (λ (rs : List ℕ). rs ++ shown s line (settled_text quiet)) (told-alike s (Some f') line answers)
     ∙ ap₂ (λ (rs : List Record) (q : Bool). told_lines s line rs ++ shown s line (settled_text q)) records (is_quiet_so ∙ ap is_quiet fabric)) in
-    subst (IsAnswer new before after verdict) (sym (ap (settled s line) has ∙ ap (λ (b : Bool). if b then settles_traced s (settlement f s.records) else settles_telling s line t) plain))
+    subst (IsAnswer new before after verdict) (sym (ap (settled s line) has ∙ ap (λ (b : Bool). if b then settles_traced s t else settles_telling s line t) plain))
     (record {
       state = state ∙ ap (λ (g : Fabric). counted (record s { fabric = Some g })) fabric;
       text = text ∙ ap (λ (x : List ℕ). before ++ x) (sym same);
@@ -56,7 +56,7 @@ telling s line f f' answers quiet new before after verdict has plain fabric reco
     })
 
 pub told_settled : {E : Type 0} (r : Result Verdict E) (s : StepperView) (line : List ℕ) (f f' : Fabric) (answers : List Record) (quiet : Bool) (new : StepperView) (before after : List ℕ)
-    → s.fabric ≡ Some f → s.options.is_traced ≡ false → f' ≡ (settlement f []).fabric → answers ≡ (settlement f []).records → quiet ≡ is_quiet f'
+    → s.fabric ≡ Some f → s.options.is_traced ≡ false → f' ≡ (settlement f).fabric → answers ≡ recorded_all [] (settlement f) → quiet ≡ is_quiet f'
     → OnOk r (new ≡ counted (record s { fabric = Some f' }))
     → OnOk r (after ≡ before ++ (told_lines (record s { fabric = Some f' }) line answers ++ shown s line (settled_text quiet))) → IfOk r (λ verdict. verdict ≡ verdicts.Fine)
     → IfOk r (λ verdict. IsAnswer new before after verdict (settled s line s.fabric))

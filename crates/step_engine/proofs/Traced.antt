@@ -20,6 +20,8 @@ use Rattle.fabric_core.specs.Kept.{IsSoundFabric, records_of}
 use Rattle.fabric_core.specs.Steps.{Happens, Refused}
 use Rattle.fabric_core.specs.Runs.{Runs}
 use Rattle.fabric_core.specs.Answers.{answer}
+use Rattle.fabric_settle.specs.Happenings.{Happening, Leads}
+use Rattle.fabric_settle.specs.Keeping.{with_record}
 use Rattle.fabric_answers.specs.Told.{IsTold}
 use Rattle.fabric_answers.specs.New.{new_fabric, config_fault}
 use Rattle.operation_text.specs.Words.{words}
@@ -59,6 +61,16 @@ belongs l (event ∷ events) f f' before rs s b r =
     let all = belongs l events next f' (before ++ first) later kept more r.4 in
     (all.0, subst (Belongs (whole_of f')) (append_assoc before first later ∙ ap (λ (x : List Record). before ++ x) (sym r.5)) all.1)
 
+belongs_led : Laws → (hs : List Happening) (f f' : Fabric) (rs : List Record) → IsSoundFabric f → Belongs (whole_of f) rs → Leads Happens f hs f'
+    → IsSoundFabric f' × Belongs (whole_of f') (fold with_record rs hs)
+belongs_led l [] f f' rs s b r = (subst IsSoundFabric (sym r) s, subst (λ (g : Fabric). Belongs (whole_of g) rs) (sym r) b)
+belongs_led l (h ∷ hs) f f' rs s b r =
+    let happens : Happens f h.event h.what h.after = subst (λ (g : Fabric). Happens g h.event h.what h.after) r.0 r.1 in
+    let more : Belongs (whole_of h.after) (rs ++ records_of h.event h.what (length f.memory.entries)) =
+    l.run (whole_of f) (whole_of h.after) rs (records_of h.event h.what (length f.memory.entries)) s.sound b (goes stays (l.step f h.after h.event h.what s happens)) in
+    belongs_led l hs h.after f' (with_record rs h) (l.keeps f h.after h.event h.what s happens)
+    (subst (λ (g : Fabric). Belongs (whole_of h.after) (rs ++ records_of h.event h.what (length g.memory.entries))) (sym r.0) more) r.2
+
 -- ---- what the lines do
 
 -- the fabric is sound, and the records belong to it
@@ -79,8 +91,8 @@ right_after l keeps p (Some (lines.Event event)) p' (inl h) r =
 right_after l keeps p (Some (lines.Event event)) p' (inr h) r = subst IsRight (sym h.1.now) r
 right_after l keeps p (Some lines.Settle) p' h r =
     let g = h.reached in
-    let all = belongs l g.events p.fabric p'.fabric p.records g.told r.0 r.1 g.runs in
-    (all.0, subst (Belongs (whole_of p'.fabric)) (sym g.now) all.1)
+    let all = belongs_led l g.happened p.fabric p'.fabric p.records r.0 r.1 g.led in
+    (all.0, subst (Belongs (whole_of p'.fabric)) (sym (g.now (λ event lost. lost))) all.1)
 
 right_later : Laws → (keeps : Bool) (ls : List (Option Line)) (p p' : Progress) → LinesDo keeps p ls p' → IsRight p → IsRight p'
 right_later l keeps [] p p' h r = subst IsRight (sym h) r

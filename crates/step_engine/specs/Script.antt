@@ -1,5 +1,5 @@
 -- What the lines of a script say, and what they do to its fabric.
-use Rattle.std.specs.Prelude.{ℕ, ◌≡◌, ◌⊎◌, nat_lt, if◌then◌else◌, Bool, true, List, [], ◌∷◌, length, map, Option, Some, None}
+use Rattle.std.specs.Prelude.{ℕ, ◌≡◌, ◌⊎◌, nat_lt, if◌then◌else◌, Bool, true, List, [], ◌∷◌, fold, length, map, Option, Some, None}
 use Rattle.history_check.specs.declared.Record.{Record}
 use Rattle.fabric_laws.specs.Fabric.{Fabric}
 use Rattle.fabric_core.specs.declared.config.Config.{Config}
@@ -13,6 +13,7 @@ use Rattle.operation_text.specs.Words.{words}
 use Rattle.script_text.specs.declared.line.Line.{Line}
 use Rattle.script_text.specs.declared.line.Line.TheVariants as lines
 use Rattle.script_text.specs.Forms.{line_of}
+use Rattle.fabric_settle.specs.Keeping.{IsLossless, Never, with_record}
 use Rattle.fabric_settle.specs.Reached.{Reached}
 use Rattle.fabric_settle.specs.Rounds.{settlement}
 use Rattle.text_lines.specs.Lines.{lines_of, bare, said, is_skipped}
@@ -59,9 +60,9 @@ pub record EventIsPassed (p : Progress) (event : Event) (p' : Progress) : Type 0
 
 -- rounds of events lead to a fabric in which nothing moves
 pub record Settles (p : Progress) (p' : Progress) : Type 0 where
-  pub reached : Reached p.fabric p.records p'.fabric p'.records
-  pub fabric : p'.fabric ≡ (settlement p.fabric p.records).fabric
-  pub records : p'.records ≡ (settlement p.fabric p.records).records
+  pub reached : Reached with_record (IsLossless Never) p.fabric p.records p'.fabric p'.records
+  pub fabric : p'.fabric ≡ (settlement p.fabric).fabric
+  pub records : p'.records ≡ fold with_record p.records (settlement p.fabric).happened
   pub status : p'.status ≡ p.status
 
 -- a line after the first, in a run that goes on after refusals or ends there

@@ -1,5 +1,5 @@
 -- What `step` answers to the lines of a script.
-use Rattle.std.specs.Prelude.{ℕ, ◌≡◌, ◌+◌, ◌-◌, ◌^◌, ◌&&◌, min, not, Bool, true, false, if◌then◌else◌, List, [], ◌∷◌, ◌++◌, length, codes, Option, Some, None, Result, Ok, Err}
+use Rattle.std.specs.Prelude.{ℕ, ◌≡◌, ◌+◌, ◌-◌, ◌^◌, ◌&&◌, min, not, Bool, true, false, if◌then◌else◌, List, [], ◌∷◌, ◌++◌, fold, length, codes, Option, Some, None, Result, Ok, Err}
 use Rattle.std.specs.Fmt.{decimal}
 use Rattle.history_check.specs.declared.Record.{Record}
 use Rattle.history_check.specs.Claim.{Claim}
@@ -21,6 +21,7 @@ use Rattle.script_text.specs.Forms.{line_of}
 use Rattle.fabric_core.specs.Config.{fault_name}
 use Rattle.script_text.specs.Names.{refusal_text}
 use Rattle.script_text.specs.Texts.{seen_text, told_text, settled_text}
+use Rattle.fabric_settle.specs.Keeping.{with_record}
 use Rattle.fabric_settle.specs.Rounds.{Settling, settlement, is_quiet}
 use Rattle.line_loop.specs.Run.{Answer, Responses, Run, run_of}
 use Rattle.step_engine.specs.declared.options.StepOptions.{StepOptions}
@@ -112,14 +113,6 @@ told_of s line event what n = record {
   is_fault = false;
 }
 
--- with these records more
-abbrev pub kept : StepperView → List Record → StepperView
-kept s rs = record s { lines = next_line s; records = s.records ++ rs }
-
--- the event has this answer, which leaves the fabric so, and these are its records
-abbrev pub IsRecorded : Result (Seen × Fabric) Refusal → Event → ℕ → Fabric → List Record → Type 0
-IsRecorded a event n f' rs = (what : Seen) × (a ≡ Ok (what, f')) × (rs ≡ records_of event what n)
-
 abbrev pub answered : StepperView → List ℕ → Event → ℕ → Result (Seen × Fabric) Refusal → Answer StepperView
 answered s line event n (Ok p) = told_of (record s { fabric = Some p.1 }) line event p.0 n
 answered s line event n (Err r) = refused s line (refusal_text r)
@@ -135,18 +128,22 @@ unfoldable pub told_lines : StepperView → List ℕ → List Record → List �
 told_lines s line [] = []
 told_lines s line (r ∷ rs) = shown s line (told_text r) ++ told_lines s line rs
 
+-- the records with those of what happened
+abbrev pub recorded_all : List Record → Settling → List Record
+recorded_all rs t = fold with_record rs t.happened
+
 abbrev pub settled_lines : StepperView → List ℕ → Settling → List ℕ
-settled_lines s line t = told_lines s line t.records ++ shown s line (settled_text (is_quiet t.fabric))
+settled_lines s line t = told_lines s line (recorded_all [] t) ++ shown s line (settled_text (is_quiet t.fabric))
 
 abbrev pub settles_telling : StepperView → List ℕ → Settling → Answer StepperView
 settles_telling s line t = record { state = record s { lines = next_line s; fabric = Some t.fabric }; text = settled_lines s line t; is_fault = false }
 
 abbrev pub settles_traced : StepperView → Settling → Answer StepperView
-settles_traced s t = record { state = record s { lines = next_line s; fabric = Some t.fabric; records = t.records }; text = []; is_fault = false }
+settles_traced s t = record { state = record s { lines = next_line s; fabric = Some t.fabric; records = recorded_all s.records t }; text = []; is_fault = false }
 
 abbrev pub settled : StepperView → List ℕ → Option Fabric → Answer StepperView
 settled s line None = no_line s
-settled s line (Some f) = if s.options.is_traced then settles_traced s (settlement f s.records) else settles_telling s line (settlement f [])
+settled s line (Some f) = if s.options.is_traced then settles_traced s (settlement f) else settles_telling s line (settlement f)
 
 -- ---- lines
 

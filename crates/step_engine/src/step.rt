@@ -1,5 +1,5 @@
 //! The subcommand `step`: scripts of events for a fabric.
-ghost use Rattle.std.specs.Prelude.{◌≡◌, ◌≤◌, ◌+◌, ◌++◌, ◌∷◌, [], length, option_to_list, is_some, Some, None, Ok, Err, IfOk, IfErr, OnOk, OnErr};
+ghost use Rattle.std.specs.Prelude.{◌≡◌, ◌≤◌, ◌+◌, ◌++◌, ◌∷◌, [], length, is_some, Some, None, Ok, Err, IfOk, IfErr, OnOk, OnErr};
 ghost use Rattle.arrayvec.specs.ArrayString.{array_string_len};
 ghost use Rattle.fabric_core.specs.Answers.{answer};
 ghost use Rattle.fabric_answers.specs.Told.{IsTold};
@@ -10,7 +10,6 @@ ghost use Rattle.script_text.specs.Texts.{seen_text, settled_text};
 ghost use Rattle.line_loop.specs.Run.{IsAnswer, IsCaughtUp, IsWhole, IsPart};
 ghost use Rattle.step_engine.specs.Options.{plain};
 ghost use Rattle.step_engine.specs.Step as spec;
-ghost use Rattle.step_engine.specs.Step.{IsRecorded};
 
 use crate::answering::{ending, put_shown};
 use crate::explained::run_step_with_reasons;
@@ -18,7 +17,7 @@ use crate::options::StepOptions;
 use arrayvec::ArrayString;
 use fabric_answers::laws::{a_configuration_has_one_answer, each_event_has_one_answer};
 use fabric_core::{Config, ConfigFault, Event, Fabric, Refusal, Seen};
-use fabric_settle::settle;
+use fabric_settle::{happen, settle};
 use history_check::Record;
 use line_loop::{EngineFault, Responder, Verdict};
 use script_text::{
@@ -40,24 +39,14 @@ fn make(config: Config, alloc: Global) -> Result<Fabric, ConfigFault>
     Fabric::new(config, alloc)
 }
 
-/// An event happens to the fabric.
-fn happen(fabric: &mut Fabric, event: &Event) -> Result<Seen, Refusal>
+/// What is seen of an event that happens to the fabric.
+fn see(fabric: &mut Fabric, event: &Event) -> Result<Seen, Refusal>
     ensures ok { IfOk result (λ what. answer fabric.old event.now ≡ Ok (what, fabric.new)) }
     ensures refused { IfErr result (λ r. IsTold r → answer fabric.old event.now ≡ Err r) }
     ensures err { OnErr result (fabric.new ≡ fabric.old) }
 {
     each_event_has_one_answer();
     fabric.step(event)
-}
-
-/// An event happens to the fabric, and this is what it adds to a trace.
-fn happen_recorded(fabric: &mut Fabric, event: &Event) -> Result<Option<Record>, Refusal>
-    ensures ok { IfOk result (λ told. IsRecorded (answer fabric.old event.now) event.now (length fabric.old.memory.entries) fabric.new (option_to_list told)) }
-    ensures refused { IfErr result (λ r. IsTold r → answer fabric.old event.now ≡ Err r) }
-    ensures err { OnErr result (fabric.new ≡ fabric.old) }
-{
-    each_event_has_one_answer();
-    fabric.step_recorded(event)
 }
 
 /// A script that is run line by line.
@@ -286,25 +275,6 @@ impl Stepper {
         Ok(Verdict::Fine)
     }
 
-    /// The event has no record.
-    fn go_on(&mut self) -> Result<Verdict, AllocError>
-        ensures state { OnOk result (self.new ≡ spec.kept self.old []) }
-        ensures verdict { IfOk result (λ verdict. verdict ≡ Verdict.Fine) }
-    {
-        self.count();
-        Ok(Verdict::Fine)
-    }
-
-    /// The trace grows by the record of the event.
-    fn keep(&mut self, last: Record) -> Result<Verdict, AllocError>
-        ensures state { OnOk result (self.new ≡ spec.kept self.old (last ∷ [])) }
-        ensures verdict { IfOk result (λ verdict. verdict ≡ Verdict.Fine) }
-    {
-        self.records.push(last)?;
-        self.count();
-        Ok(Verdict::Fine)
-    }
-
     /// An event happens.
     fn happen(
         &mut self,
@@ -315,17 +285,20 @@ impl Stepper {
         ensures ok { IfOk result (λ verdict. IsAnswer self.new out.old.items out.new.items verdict (spec.happened self.old line.now self.old.fabric event.now)) }
         ensures err { OnErr result (out.new.items ≡ out.old.items) }
     {
+        let number = self.next_line();
         let Some(fabric) = &mut self.fabric else {
             return self.no_line(out);
         };
         if self.options.is_traced {
-            match happen_recorded(fabric, event) {
-                Ok(None) => self.go_on(),
-                Ok(Some(record)) => self.keep(record),
+            match happen(fabric, &mut self.records, number, event) {
+                Ok(()) => {
+                    self.count();
+                    Ok(Verdict::Fine)
+                }
                 Err(refusal) => self.refused(line, refusal, out),
             }
         } else {
-            let seen = happen(fabric, event);
+            let seen = see(fabric, event);
             match &seen {
                 Ok(seen) => self.tell(line, event, seen, out),
                 Err(refusal) => self.refused(line, *refusal, out),
@@ -380,16 +353,17 @@ impl Stepper {
         ensures ok { IfOk result (λ verdict. IsAnswer self.new out.old.items out.new.items verdict (spec.settled self.old line.now self.old.fabric)) }
         ensures err { OnErr result (out.new.items ≡ out.old.items) }
     {
+        let number = self.next_line();
         let Some(fabric) = &mut self.fabric else {
             return self.no_line(out);
         };
         if self.options.is_traced {
-            settle(fabric, &mut self.records)?;
+            settle(fabric, &mut self.records, number)?;
             self.count();
             return Ok(Verdict::Fine);
         }
         let mut answers = Vec::new(self.alloc);
-        let is_quiet = settle(fabric, &mut answers)?;
+        let is_quiet = settle(fabric, &mut answers, number)?;
         self.tell_settled(line, answers.as_slice(), is_quiet, out)
     }
 }

@@ -1,14 +1,36 @@
-use Rattle.std.proofs.Common.{List, length}
-use Rattle.history_check.specs.declared.Record.{Record}
-use Rattle.fabric_laws.specs.Fabric.{whole_of}
-use Rattle.fabric_laws.specs.Steps.{stays, goes}
-use Rattle.fabric_core.specs.Kept.{records_of}
-use Rattle.c_fabric.proofs.EventLemmas.{records_stay}
+use Rattle.std.proofs.Common.{◌≡◌, Err}
+use Rattle.fabric_core.specs.declared.fault.Refusal.{Refusal}
+use Rattle.fabric_core.specs.Answers.{answer}
+use Rattle.fabric_answers.specs.Told.{IsTold}
+use Rattle.c_fabric.specs.SessionView.{KeptView}
+use Rattle.c_fabric.proofs.EventLemmas.{Laws, is_step, stays_session, unchanged, first_of}
 use Rattle.c_fabric.proofs.happening.step.Goals as goal
 
-pub returns-in-Ok-clause-belongs : goal.returns-in-Ok-clause-belongs
-returns-in-Ok-clause-belongs c = λ h rs b.
-    let n = length c.args.fabric.now.memory.entries in
-    let told : List Record = records_of c.args.event.now c.in-Ok.seen n in
-    records_stay c.step.new.self c.args.event.now c.in-Ok.seen n rs h
-    (c.the_trace_belongs.ensures.run (whole_of c.args.fabric.now) (whole_of c.step.new.self) rs told c.sound.ensures.sound b (goes stays c.in-Ok.ensures.step))
+pub returns-clause-ok : goal.returns-clause-ok
+returns-clause-ok c =
+    let w = c.args.witness.now in
+    let v = c.happen.new.witness in
+    let k : KeptView = record { is_traced = w.is_traced; records = w.records.items; text = w.text.bytes } in
+    let k' : KeptView = record { is_traced = v.is_traced; records = v.records.items; text = v.text.bytes } in
+    is_step c.happen.result c.args.fabric.now c.happen.new.fabric k k' c.args.event.now c.happen.ensures.ok
+
+pub returns-clause-session : goal.returns-clause-session
+returns-clause-session c =
+    let w = c.args.witness.now in
+    let v = c.happen.new.witness in
+    let k : KeptView = record { is_traced = w.is_traced; records = w.records.items; text = w.text.bytes } in
+    let k' : KeptView = record { is_traced = v.is_traced; records = v.records.items; text = v.text.bytes } in
+    stays_session (record { run = c.the_trace_belongs.ensures.run; step = c.each_event_keeps_it_sound.ensures.step }) c.happen.result c.args.fabric.now c.happen.new.fabric k k' c.args.event.now
+    c.sound.ensures c.happen.ensures.ok c.happen.ensures.lossless
+
+pub returns-clause-refused : goal.returns-clause-refused
+returns-clause-refused c =
+    first_of c.happen.result IsTold (λ (r : Refusal). answer c.args.fabric.now c.args.event.now ≡ Err r) _ _ c.happen.ensures.told
+
+pub returns-clause-err : goal.returns-clause-err
+returns-clause-err c =
+    let w = c.args.witness.now in
+    let v = c.happen.new.witness in
+    let k : KeptView = record { is_traced = w.is_traced; records = w.records.items; text = w.text.bytes } in
+    let k' : KeptView = record { is_traced = v.is_traced; records = v.records.items; text = v.text.bytes } in
+    unchanged c.happen.result c.args.fabric.now c.happen.new.fabric k k' c.happen.ensures.lossless

@@ -1,32 +1,38 @@
-use Rattle.std.proofs.Common.{◌≡◌, ◌∙◌, ℕ, ◌<◌, false, length, take, ap, arith}
+use Rattle.std.proofs.Common.{◌≡◌, ℕ, ◌<◌, false, length, take, refl, subst, arith}
 use Rattle.std.specs.Prelude.{fold}
 use Rattle.std.proofs.lemmas.Result.{on_ok_weaker}
 use Rattle.fabric_core.specs.declared.event.LaneName.TheVariants as lanes
-use Rattle.fabric_settle.specs.Rounds.{Settling, at, lane_turn, all_lanes, after_lanes, attempted}
-use Rattle.fabric_settle.proofs.RoundLemmas.{fold_next, round_is}
+use Rattle.fabric_settle.specs.Doing.{Does}
+use Rattle.fabric_settle.specs.Rounds.{lane_turn, all_lanes}
+use Rattle.fabric_settle.proofs.RoundLemmas.{next_item, round_done}
 use Rattle.fabric_settle.proofs.ReachedLemmas.{then}
 use Rattle.fabric_settle.proofs.turns.round.Goals as goal
 
 pub returns-in_err-lane_turn-clause-reached : goal.returns-in_err-lane_turn-clause-reached
-returns-in_err-lane_turn-clause-reached c = then c.loop-lane.invariant.reached c.lane_turn.ensures.reached
+returns-in_err-lane_turn-clause-reached g c = then c.loop-lane.invariant.reached c.lane_turn.ensures.reached
 
 pub loop-lane-preserved : goal.loop-lane-preserved
-loop-lane-preserved c =
-    let start = at c.args.fabric.now c.args.records.now.items false in
-    let here = at c.loop-lane.fabric c.loop-lane.records.items c.loop-lane.moved in
-    let next = at c.lane_turn.new.fabric c.lane_turn.new.records.items c.lane_turn.new.moved in
+loop-lane-preserved g c =
+    let w = g.W.Witness in
     let inside : c.loop-lane.lane-index < length all_lanes = omega arith in
     record {
-      state = fold_next lane_turn start here next all_lanes c.loop-lane.lane-index (lanes.Up 0) inside c.loop-lane.invariant.state c.in_ok-lane_turn.ensures.state;
+      state = next_item (w.saw c.args.line) c.args.fabric.now c.loop-lane.fabric c.lane_turn.new.fabric (w.kept c.args.witness.now) (w.kept c.loop-lane.witness) (w.kept c.lane_turn.new.witness)
+          false c.loop-lane.moved c.lane_turn.new.moved lane_turn all_lanes c.loop-lane.lane-index (lanes.Up 0) _ inside refl c.loop-lane.invariant.state c.in_ok-lane_turn.ensures.state;
       reached = then c.loop-lane.invariant.reached c.lane_turn.ensures.reached;
     }
 
 pub returns-clause-state : goal.returns-clause-state
-returns-clause-state c =
-    let start = at c.args.fabric.now c.args.records.now.items false in
-    let all_of : c.loop-lane.lane-index ≡ 16 = omega arith in
-    let after = c.loop-lane.invariant.state ∙ ap (λ (n : ℕ). fold lane_turn start (take n all_lanes)) all_of in
-    on_ok_weaker c.try_each.result (λ d. d ∙ ap (λ (s : Settling). fold attempted s after_lanes) after ∙ round_is (at c.args.fabric.now c.args.records.now.items c.args.moved.now)) c.try_each.ensures.state
+returns-clause-state g c =
+    let w = g.W.Witness in
+    let saw = w.saw c.args.line in
+    let f = c.args.fabric.now in
+    let k = w.kept c.args.witness.now in
+    let here = c.loop-lane in
+    let all_of : here.lane-index ≡ 16 = omega arith in
+    let after : Does saw f k false (λ s. fold lane_turn s all_lanes) here.fabric (w.kept here.witness) here.moved =
+    subst (λ (n : ℕ). Does saw f k false (λ s. fold lane_turn s (take n all_lanes)) here.fabric (w.kept here.witness) here.moved) all_of here.invariant.state in
+    on_ok_weaker c.try_each.result
+    (λ d. round_done saw f here.fabric c.try_each.new.fabric k (w.kept here.witness) (w.kept c.try_each.new.witness) c.args.moved.now here.moved c.try_each.new.moved after d) c.try_each.ensures.state
 
 pub returns-clause-reached : goal.returns-clause-reached
-returns-clause-reached c = then c.loop-lane.invariant.reached c.try_each.ensures.reached
+returns-clause-reached g c = then c.loop-lane.invariant.reached c.try_each.ensures.reached

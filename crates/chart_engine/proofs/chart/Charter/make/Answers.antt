@@ -16,4 +16,4 @@ pub returns-in_ok-is_no_memory-in-Err : goal.returns-in_ok-is_no_memory-in-Err
 returns-in_ok-is_no_memory-in-Err c = λ (o : List ℕ).
     not_made c.args.self.now c.not_made.new.self c.args.config c.in-Err.fault o c.not_made.result
     (sym (ap (λ (s : CharterView). s.session) c.self.view_is) ∙ none_of c.self.inside.session (sym c.is_some.ensures ∙ c.if-is_some.false))
-    (c.in-Err.ensures.fault c.in_ok-is_no_memory-in-Err.ensures) (c.not_made.ensures o)
+    (c.in-Err.ensures.fault c.in_ok-is_no_memory-in-Err.ensures.ok) (c.not_made.ensures o)

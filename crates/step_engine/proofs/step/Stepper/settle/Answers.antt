@@ -2,7 +2,7 @@ use Rattle.std.proofs.Common.{◌∙◌, IfOk, List, subst, ap}
 use Rattle.history_check.specs.declared.Record.{Record}
 use Rattle.fabric_settle.specs.Rounds.{settlement}
 use Rattle.line_loop.specs.Run.{IsAnswer}
-use Rattle.step_engine.specs.Step.{StepperView, settled}
+use Rattle.step_engine.specs.Step.{StepperView, recorded_all, settled}
 use Rattle.step_engine.proofs.ToldLines.{told_settled}
 use Rattle.step_engine.proofs.step.Stepper.settle.Goals as goal
 
@@ -18,5 +18,5 @@ returns-clause-ok c =
     (told_settled c.tell_settled.result start line f c.settle-2.new.fabric c.as_slice.result.now c.in_ok-is_quiet.is_quiet
     c.tell_settled.new.self c.args.out.now.items c.tell_settled.new.out.items
     c.in-Some.is c.if-self.false
-    (left.fabric ∙ ap (λ (rs : List Record). (settlement f rs).fabric) empty) (c.as_slice.ensures.value ∙ left.records ∙ ap (λ (rs : List Record). (settlement f rs).records) empty) left.told
+    left.fabric (c.as_slice.ensures.value ∙ left.kept ∙ ap (λ (rs : List Record). recorded_all rs (settlement f)) empty) left.told
     c.tell_settled.ensures.state c.tell_settled.ensures.text c.tell_settled.ensures.verdict)
