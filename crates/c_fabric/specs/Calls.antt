@@ -1,5 +1,5 @@
 -- The calls of a fabric: what it and the caller's buffer hold after them, and what they return.
-use Rattle.std.specs.Prelude.{ℕ, ⊤, ◌≡◌, ◌≤◌, nat_lt, if◌then◌else◌, List, ◌++◌, length, Option, Some, None, Result, Ok, Err}
+use Rattle.std.specs.Prelude.{ℕ, ⊤, ◌≡◌, ◌≤◌, Bool, false, ◌&&◌, nat_lt, if◌then◌else◌, List, ◌++◌, length, Option, Some, None, Result, Ok, Err, IsOk}
 use Rattle.fabric_laws.specs.Fabric.{Fabric}
 use Rattle.fabric_core.specs.declared.config.Config.{Config}
 use Rattle.fabric_core.specs.declared.config.ConfigFault.{ConfigFault}
@@ -8,6 +8,7 @@ use Rattle.fabric_core.specs.declared.event.Event.{Event}
 use Rattle.fabric_core.specs.declared.event.Seen.{Seen}
 use Rattle.fabric_core.specs.declared.fault.Refusal.{Refusal}
 use Rattle.fabric_core.specs.Kept.{records_of}
+use Rattle.fabric_core.specs.Runs.{has_record}
 use Rattle.fabric_core.specs.Answers.{answer}
 use Rattle.fabric_answers.specs.New.{config_fault}
 use Rattle.operation_text.specs.Words.{words}
@@ -81,9 +82,15 @@ abbrev pub happened_by : SessionView → List ℕ → Option Line → EventCall
 happened_by s buffer (Some (lines.Event event)) = happened s buffer event
 happened_by s buffer _ = unmoved s buffer NoLine
 
--- the buffer is large enough, and the line spells an event
-abbrev pub IsEventCall : List ℕ → List ℕ → Type 0
-IsEventCall line buffer = (512 ≤ length buffer) × (event : Event) × (line_of (words line) ≡ Some (lines.Event event))
+-- a kept trace gets a record of the event
+abbrev pub is_recorded : SessionView → Event → Bool
+is_recorded s event = s.is_traced && has_record event
+
+-- there is nothing to refuse but memory: the buffer is large enough, the line spells an event, and the fabric doesn't
+-- refuse it; or the event is recorded: then memory is asked for first
+abbrev pub IsEventCall : SessionView → List ℕ → List ℕ → Type 0
+IsEventCall s line buffer =
+    (512 ≤ length buffer) × (event : Event) × (line_of (words line) ≡ Some (lines.Event event)) × (is_recorded s event ≡ false → IsOk (answer s.fabric event))
 
 -- the buffer is tested first, then the line
 abbrev pub event_call : SessionView → List ℕ → List ℕ → EventCall

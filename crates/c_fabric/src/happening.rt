@@ -1,10 +1,11 @@
 //! Events.
-ghost use Rattle.std.specs.Prelude.{◌≡◌, ◌≤◌, ◌<◌, ◌++◌, ◌∷◌, [], List, Some, Ok, Err, IsErr, true, false, length, vec_len, vec_capacity, if◌then◌else◌, IfOk, IfErr, OnErr};
+ghost use Rattle.std.specs.Prelude.{◌≡◌, ◌≤◌, ◌<◌, ◌++◌, ◌∷◌, [], List, Some, Ok, Err, IsOk, IsErr, true, false, length, vec_len, vec_capacity, if◌then◌else◌, IfOk, IfErr, OnErr};
 ghost use Rattle.history_check.specs.declared.Record.{Record};
 ghost use Rattle.fabric_laws.specs.Fabric.{whole_of};
 ghost use Rattle.fabric_laws.specs.Trace.{Belongs};
 ghost use Rattle.fabric_core.specs.Runs.{has_record};
 ghost use Rattle.fabric_core.specs.Answers.{answer};
+ghost use Rattle.fabric_core.specs.Faults.{is_memory};
 ghost use Rattle.fabric_answers.specs.Told.{IsTold};
 ghost use Rattle.script_text.specs.Names.{refusal_text};
 ghost use Rattle.script_text.specs.Texts.{seen_text, told_text};
@@ -29,6 +30,7 @@ fn step(fabric: &mut Fabric, event: &Event) -> Result<Seen, Refusal>
     ensures ok { IfOk result (λ what. answer fabric.old event.now ≡ Ok (what, fabric.new)) }
     ensures belongs { has_record event.now ≡ false → (rs : List Record) → Belongs (whole_of fabric.old) rs → Belongs (whole_of fabric.new) rs }
     ensures refused { IfErr result (λ r. IsTold r → answer fabric.old event.now ≡ Err r) }
+    ensures no_memory { IfErr result (λ r. is_memory r ≡ true → IsOk (answer fabric.old event.now)) }
     ensures err { OnErr result (fabric.new ≡ fabric.old) }
 {
     each_event_has_one_answer();
@@ -81,7 +83,7 @@ fn put_record(seen: &Record, buffer: &mut [u8]) -> Length
 fn put_refusal(refusal: Refusal, buffer: &mut [u8]) -> Failure
     requires { 512 ≤ length buffer.old }
     ensures told { ¬ (result ≡ NoMemory) → IsTold refusal }
-    ensures no_memory { result ≡ NoMemory → ¬ IsTold refusal }
+    ensures no_memory { result ≡ NoMemory → is_memory refusal ≡ true }
     ensures failure { ¬ (result ≡ NoMemory) → result ≡ Text (length (refusal_text refusal)) }
     ensures buffer { ¬ (result ≡ NoMemory) → buffer.new ≡ filled buffer.old (refusal_text refusal) }
     ensures unchanged { result ≡ NoMemory → buffer.new ≡ buffer.old }
@@ -102,6 +104,7 @@ fn happen_unrecorded(
 ) -> Result<Length, Failure>
     requires buffer { 512 ≤ length buffer.old }
     requires unrecorded { session.old.is_traced ≡ true → has_record event.now ≡ false }
+    ensures no_memory { result ≡ Err NoMemory → IsOk (answer session.old.fabric event.now) }
     ensures outcome { ¬ (result ≡ Err NoMemory) → result ≡ (happened session.old buffer.old event.now).outcome }
     ensures session { ¬ (result ≡ Err NoMemory) → session.new ≡ (happened session.old buffer.old event.now).session }
     ensures buffer { ¬ (result ≡ Err NoMemory) → buffer.new ≡ (happened session.old buffer.old event.now).buffer }
@@ -150,7 +153,7 @@ fn happen(session: &mut Session, line: &[u8], buffer: &mut [u8]) -> Result<Lengt
     ensures outcome { ¬ (result ≡ Err NoMemory) → result ≡ (event_call session.old line.now buffer.old).outcome }
     ensures session { ¬ (result ≡ Err NoMemory) → session.new ≡ (event_call session.old line.now buffer.old).session }
     ensures buffer { ¬ (result ≡ Err NoMemory) → buffer.new ≡ (event_call session.old line.now buffer.old).buffer }
-    ensures no_memory { result ≡ Err NoMemory → IsEventCall line.now buffer.old }
+    ensures no_memory { result ≡ Err NoMemory → IsEventCall session.old line.now buffer.old }
     ensures unchanged { IsErr result → session.new ≡ session.old }
     ensures unchanged_buffer { is_silent result ≡ true → buffer.new ≡ buffer.old }
 {
@@ -171,7 +174,8 @@ fn happen(session: &mut Session, line: &[u8], buffer: &mut [u8]) -> Result<Lengt
 /// Ok is how many bytes what is seen of it has, as `pciex step` prints it, at the front of `buffer`.
 /// With an error the fabric stays as it was: `SmallBuffer` for fewer than 512 bytes, then `NoLine` if
 /// the line is none of an event, then the text of a refusal, its name, which stands at the front of
-/// `buffer`, or `NoMemory`. Without a text the buffer stays as it was, too.
+/// `buffer`, or `NoMemory`. That comes for an event that isn't refused, or, if a trace is kept, for a
+/// submission or a collection, before the fabric is asked. Without a text the buffer stays as it was, too.
 pub fn tell_event(
     slot: Slot,
     line: &[u8],
@@ -183,7 +187,7 @@ pub fn tell_event(
     ensures outcome { ¬ (result ≡ Err NoMemory) → result ≡ (event_call session line.now buffer.old).outcome }
     ensures session { ¬ (result ≡ Err NoMemory) → back.new.session ≡ Some (event_call session line.now buffer.old).session }
     ensures buffer { ¬ (result ≡ Err NoMemory) → buffer.new ≡ (event_call session line.now buffer.old).buffer }
-    ensures no_memory { result ≡ Err NoMemory → IsEventCall line.now buffer.old }
+    ensures no_memory { result ≡ Err NoMemory → IsEventCall session line.now buffer.old }
     ensures unchanged { IsErr result → back.new.session ≡ Some session }
     ensures unchanged_buffer { is_silent result ≡ true → buffer.new ≡ buffer.old }
 {
