@@ -143,6 +143,7 @@ uint32_t pciex_raw_monitor_request(pciex_monitor monitor, uint8_t requester, con
                                    size_t packet_length, uint8_t *room, size_t room_length, pciex_monitor *back);
 uint32_t pciex_raw_monitor_completion(pciex_monitor monitor, uint8_t requester, const uint8_t *packet,
                                       size_t packet_length, uint8_t *room, size_t room_length, pciex_monitor *back);
+uint32_t pciex_raw_monitor_give_up(pciex_monitor monitor, uint8_t requester, uint8_t tag, pciex_monitor *back);
 uint32_t pciex_raw_monitor_acted(pciex_monitor monitor, uint8_t requester, uint32_t number, uint8_t *room,
                                  size_t room_length, pciex_monitor *back);
 size_t pciex_raw_monitor_open(pciex_monitor monitor, pciex_monitor *back);
@@ -290,8 +291,9 @@ static inline uint32_t pciex_fabric_new(const uint8_t *line, size_t line_length,
  * The event of a script's line happens to the fabric: `submit 1 add 40 07000000`, `transmit up1`. Below 1000: the
  * number of bytes of its result, `sub 1 0`, as `pciex step` prints it, without a line feed. 1000 to 1999: the fabric
  * refuses it and stays as it was; 1000 and the number of bytes of the refusal's name, which is in the buffer. Tested in
- * this order: PCIEX_SMALL_ROOM for fewer than PCIEX_LINE bytes, PCIEX_NO_LINE, the refusal or PCIEX_NO_MEMORY. One call
- * is one event: `settle`, which is many, returns PCIEX_NO_LINE, as a comment and an empty line do, which are none.
+ * this order: PCIEX_SMALL_ROOM for fewer than PCIEX_LINE bytes, PCIEX_NO_LINE, the refusal, PCIEX_NO_MEMORY. A fabric
+ * that keeps a trace may return PCIEX_NO_MEMORY in place of the refusal of a submission or a collection. One call is one
+ * event: `settle`, which is many, returns PCIEX_NO_LINE, as a comment and an empty line do, which are none.
  */
 static inline uint32_t pciex_fabric_event(pciex_fabric *fabric, const uint8_t *line, size_t line_length, uint8_t *room,
                                           size_t room_length)
@@ -438,6 +440,24 @@ static inline uint32_t pciex_monitor_completion(pciex_monitor *monitor, uint8_t 
         return PCIEX_EMPTY;
     }
     return pciex_raw_monitor_completion(*monitor, requester, packet, packet_length, room, room_length, monitor);
+}
+
+/*
+ * Gives up a tag: no completion is waited for any longer under the tag of the requester, 1 to 7. The tag is free, and
+ * the request that was open under it has no answer in the log or the trace. Call it after PCIEX_MISMATCH, or for a
+ * completion that never came, if the requester uses the tag again: otherwise its next request under the tag is refused
+ * with PCIEX_TAG_IN_USE. A later completion under the tag answers the next request that has it. Returns 0. Tested in
+ * this order: PCIEX_NO_REQUESTER, PCIEX_UNEXPECTED if no request is open under the tag.
+ */
+static inline uint32_t pciex_monitor_give_up(pciex_monitor *monitor, uint8_t requester, uint8_t tag)
+{
+    if (!monitor) {
+        return PCIEX_NULL;
+    }
+    if (!monitor->at) {
+        return PCIEX_EMPTY;
+    }
+    return pciex_raw_monitor_give_up(*monitor, requester, tag, monitor);
 }
 
 /*

@@ -31,6 +31,10 @@ static int refuses(void)
            pciex_monitor_completion(&monitor, 1, ADD, sizeof ADD, room, sizeof room) == PCIEX_NO_COMPLETION &&
            pciex_monitor_completion(&monitor, 2, ADDED, sizeof ADDED, room, sizeof room) == PCIEX_UNEXPECTED &&
            pciex_monitor_completion(&monitor, 1, split, sizeof split, room, sizeof room) == PCIEX_MISMATCH &&
+           pciex_monitor_give_up(&monitor, 8, 5) == PCIEX_NO_REQUESTER &&
+           pciex_monitor_give_up(&monitor, 1, 6) == PCIEX_UNEXPECTED && pciex_monitor_give_up(&monitor, 1, 5) == 0 &&
+           pciex_monitor_completion(&monitor, 1, ADDED, sizeof ADDED, room, sizeof room) == PCIEX_UNEXPECTED &&
+           pciex_monitor_request(&monitor, 1, ADD, sizeof ADD, room, sizeof room) == 23 &&
            pciex_monitor_acted(&monitor, 1, 0, room, sizeof room) == PCIEX_UNEXPECTED &&
            pciex_monitor_open(&monitor, &count) == 0 && count == 1 &&
            (pciex_monitor_free(&monitor), pciex_monitor_free(&monitor), monitor.at == NULL);

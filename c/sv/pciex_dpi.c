@@ -26,6 +26,9 @@ void *pciex_dpi_memory_new(uint64_t base, uint32_t size, uint32_t block)
     if (size == 0 || size > 1048576) {
         return made(NULL, "a memory has 1 to 1048576 bytes");
     }
+    if (size - 1 > UINT64_MAX - base) {
+        return made(NULL, "a memory has its bytes below 2^64");
+    }
     memory *made_memory = (memory *)malloc(sizeof *made_memory);
     uint8_t *bytes = (uint8_t *)calloc(size, 1);
     if (!made_memory || !bytes) {
@@ -341,6 +344,12 @@ int pciex_dpi_monitor_completion(void *handle, int requester, const svBitVecVal 
     return lined(pciex_monitor_completion(&it->monitor, requester_of(requester), packet, (size_t)completion_length,
                                           room, sizeof room),
                  room, it->file);
+}
+
+int pciex_dpi_monitor_give_up(void *handle, int requester, unsigned char tag)
+{
+    lines *it = (lines *)handle;
+    return plain(it ? pciex_monitor_give_up(&it->monitor, requester_of(requester), tag) : PCIEX_NULL, 0);
 }
 
 int pciex_dpi_monitor_acted(void *handle, int requester, uint32_t number)

@@ -184,6 +184,20 @@ class AMonitor(unittest.TestCase):
                 monitor.acted(1, 0)
             self.assertEqual(monitor.open(), 0)
 
+    def test_give_up(self) -> None:
+        with pciex.Monitor(4096) as monitor:
+            monitor.request(1, ADD)
+            with self.assertRaisesRegex(pciex.Refused, "^Mismatch$"):
+                monitor.completion(1, old(0)[:4] + bytes([0, 0, 0x20]) + old(0)[7:])
+            with self.assertRaisesRegex(pciex.Refused, "^Unexpected$"):
+                monitor.give_up(1, 6)
+            for requester, tag in [(0, 5), (1, 256)]:
+                with self.assertRaises(ValueError):
+                    monitor.give_up(requester, tag)
+            monitor.give_up(1, 5)
+            self.assertEqual((monitor.open(), monitor.request(1, ADD)), (0, "sub 1 1 add 40 07000000"))
+            self.assertEqual(monitor.completion(1, old(0)), "ans 1 1 data 00000000")
+
     def test_trace(self) -> None:
         with pciex.Monitor(4096, is_trace=True) as monitor:
             records = [monitor.request(1, ADD)]

@@ -1,5 +1,5 @@
 //! Monitors of ports.
-use crate::error::{line, Error, Room};
+use crate::error::{line, refused, Error, Room};
 use crate::raw::{self, Slot};
 
 /// A monitor: what the ports of a memory carry goes in, and lines of a log or a trace come out.
@@ -8,16 +8,24 @@ pub struct Monitor {
     slot: Slot,
 }
 
+/// What the monitor finds wrong, if it is that.
+fn found(code: u32) -> Option<Error> {
+    match code {
+        1001..=1013 => Some(Error::Packet(code - 1000)),
+        1020 => Some(Error::TagInUse),
+        1021 => Some(Error::Unexpected),
+        1022 => Some(Error::Mismatch),
+        1023 => Some(Error::OtherRequester),
+        1024 => Some(Error::NumbersUsed),
+        _ => None,
+    }
+}
+
 /// The line in the room, or what the monitor finds wrong.
 fn said(code: u32, room: &Room) -> Result<String, Error> {
-    match code {
-        1001..=1013 => Err(Error::Packet(code - 1000)),
-        1020 => Err(Error::TagInUse),
-        1021 => Err(Error::Unexpected),
-        1022 => Err(Error::Mismatch),
-        1023 => Err(Error::OtherRequester),
-        1024 => Err(Error::NumbersUsed),
-        _ => line(code, room),
+    match found(code) {
+        Some(error) => Err(error),
+        None => line(code, room),
     }
 }
 
@@ -71,6 +79,17 @@ impl Monitor {
             )
         };
         said(code, &room)
+    }
+
+    /// Gives up a tag of the requester, 1 to 7: the tag is free, and the request that was open under it has no answer.
+    /// For after [`Error::Mismatch`], and for a completion that never came.
+    pub fn give_up(&mut self, requester: u8, tag: u8) -> Result<(), Error> {
+        let back: *mut Slot = &mut self.slot;
+        // SAFETY: as in `request`.
+        match unsafe { raw::pciex_raw_monitor_give_up(*back, requester, tag, back) } {
+            0 => Ok(()),
+            code => Err(found(code).unwrap_or_else(|| refused(code))),
+        }
     }
 
     /// For a trace, the request of that number acted on the memory: the line of the history, `ent 1 0 add 40 07000000`.

@@ -52,6 +52,7 @@ extern "C" {
         monitor: Slot, requester: u8, packet: *const u8, packet_length: usize, room: *mut u8, room_length: usize,
         back: *mut Slot,
     ) -> u32;
+    pub(crate) fn pciex_raw_monitor_give_up(monitor: Slot, requester: u8, tag: u8, back: *mut Slot) -> u32;
     pub(crate) fn pciex_raw_monitor_acted(
         monitor: Slot, requester: u8, number: u32, room: *mut u8, room_length: usize, back: *mut Slot,
     ) -> u32;

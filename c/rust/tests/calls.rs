@@ -188,7 +188,11 @@ fn a_monitor_of_a_log() {
     assert_eq!(monitor.completion(1, &other), Err(Error::OtherRequester));
     let split = [0x4A, 0, 0, 2, 0, 0, 0, 8, 1, 0, 5, 0, 0, 0, 0, 0, 0, 0, 0, 0];
     assert_eq!(monitor.completion(1, &split), Err(Error::Mismatch));
-    assert_eq!(monitor.completion(1, &old(0)).as_deref(), Ok("ans 1 0 data 00000000"));
+    assert_eq!(monitor.give_up(0, 5), Err(Error::Argument(2011)));
+    assert_eq!(monitor.give_up(1, 6), Err(Error::Unexpected));
+    assert_eq!((monitor.give_up(1, 5), monitor.open()), (Ok(()), 0));
+    assert_eq!(monitor.request(1, &ADD).as_deref(), Ok("sub 1 1 add 40 07000000"));
+    assert_eq!(monitor.completion(1, &old(0)).as_deref(), Ok("ans 1 1 data 00000000"));
     assert_eq!((monitor.completion(1, &old(0)), monitor.open()), (Err(Error::Unexpected), 0));
 }
 

@@ -1,12 +1,12 @@
 //! The monitor of ports.
 ghost use Rattle.std.specs.Prelude.{◌≡◌, ◌≤◌, ◌<◌, Some};
 ghost use Rattle.port_monitor.specs.declared.head.Head as heads;
-ghost use Rattle.port_monitor.specs.Monitoring.{Monitor, new, open_requests};
+ghost use Rattle.port_monitor.specs.Monitoring.{Monitor, new, open_requests, given_up};
 ghost use Rattle.pciex_c.specs.declared.codes.TheConstants.{NO_MEMORY};
-ghost use Rattle.c_monitor.specs.Calls.{making, AsksFor, IsMonitorCall, request_call, completion_call, acted_call, IsTraced};
-ghost use Rattle.pciex_c.specs.Codes.{code_of};
+ghost use Rattle.c_monitor.specs.Calls.{making, AsksFor, IsMonitorCall, request_call, completion_call, acted_call, give_up_outcome, IsTraced};
+ghost use Rattle.pciex_c.specs.Codes.{code_of, status_of};
 
-use crate::codes::code;
+use crate::codes::{code, status};
 use c_monitor::Slot;
 use std::alloc::Global;
 
@@ -64,6 +64,23 @@ pub extern "C" fn pciex_raw_monitor_completion(
     ensures unchanged { 1000 ≤ result → (back.new.monitor ≡ Some held) × (buffer.new ≡ buffer.old) }
 {
     code(c_monitor::tell_completion(monitor, requester, packet, buffer, back))
+}
+
+/// A requester's tag is given up, at the monitor of the slot, which goes to `back`.
+#[unsafe(no_mangle)]
+pub extern "C" fn pciex_raw_monitor_give_up(
+    monitor: Slot,
+    requester: u8,
+    tag: u8,
+    back: &mut Slot,
+) -> u32
+    ghost held: { Monitor }
+    requires { monitor.monitor ≡ Some held }
+    ensures code { result ≡ status_of (give_up_outcome held requester tag) }
+    ensures monitor { back.new.monitor ≡ Some (given_up held requester tag).monitor }
+    ensures unchanged { 1 ≤ result → back.new.monitor ≡ Some held }
+{
+    status(c_monitor::give_up_tag(monitor, requester, tag, back))
 }
 
 /// A request that acted, at the monitor of the slot, which goes to `back`.

@@ -170,6 +170,12 @@ class Monitor(_Handle):
         requester, packet = number_of("requester", requester, 8), bytes_of(packet)
         return line_of(self._call(library.monitor_completion, requester, packet, len(packet), room.bytes, LINE))
 
+    def give_up(self, requester: int, tag: int) -> None:
+        """Gives up a tag: it is free, and the request that was open under it has no answer. For after `Mismatch`, and
+        for a completion that never came."""
+        requester, tag = number_of("requester", requester, 8), number_of("tag", tag, 8)
+        line_of(self._call(library.monitor_give_up, requester, tag))
+
     def acted(self, requester: int, number: int) -> str:
         """For a trace, the request of that number acted: the line of the history, `ent 1 0 add 40 07000000`."""
         requester, number = number_of("requester", requester, 8), number_of("number", number, 32)

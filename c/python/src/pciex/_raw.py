@@ -35,6 +35,7 @@ _CODES = {
     "monitor_new": [ctypes.c_char_p, _SIZE, _BYTES, _SIZE, _SLOT],
     "monitor_request": [Slot, ctypes.c_uint8, ctypes.c_char_p, _SIZE, _BYTES, _SIZE, _SLOT],
     "monitor_completion": [Slot, ctypes.c_uint8, ctypes.c_char_p, _SIZE, _BYTES, _SIZE, _SLOT],
+    "monitor_give_up": [Slot, ctypes.c_uint8, ctypes.c_uint8, _SLOT],
     "monitor_acted": [Slot, ctypes.c_uint8, ctypes.c_uint32, _BYTES, _SIZE, _SLOT],
     "check": [ctypes.c_char_p, _SIZE, _BYTES, _SIZE],
     "check_clocked": [ctypes.c_char_p, _SIZE, _BYTES, _SIZE],
