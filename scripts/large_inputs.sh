@@ -91,6 +91,11 @@ log() {
     awk -v plan=mixed -v requests=50000 -f bench/log.awk
 }
 
+# Locks, and of 100,000 records one wrong answer near the end.
+wrong() {
+    awk -v plan=locks -v requests=50000 -v wrong=49500 -f bench/log.awk
+}
+
 # 1,000,000 times a write and a read of no byte that is answered behind it: no choice is needed.
 flushes() {
     awk 'BEGIN {
@@ -160,13 +165,14 @@ trace 1 > "$room/flawed_trace"
 window > "$room/window_script"
 tags > "$room/tags_script"
 log > "$room/mixed_log"
+wrong > "$room/wrong_log"
 flushes > "$room/flushes_log"
 writes > "$room/writes_log"
 far > "$room/far_log"
 lost_answers > "$room/lost_answers_log"
 if [ -n "$folder" ]; then
     cp "$room/explained_trace" "$room/flawed_trace" "$room/window_script" "$room/tags_script" \
-        "$room/mixed_log" "$room/flushes_log" "$room/writes_log" "$room/far_log" "$room/lost_answers_log" "$folder"
+        "$room/mixed_log" "$room/wrong_log" "$room/flushes_log" "$room/writes_log" "$room/far_log" "$room/lost_answers_log" "$folder"
     exit
 fi
 
@@ -211,5 +217,9 @@ ends "search on 100,000 records" 0 "$room/mixed_log" search --limit 10000
 ends "search on 1,000,000 writes and flushes" 0 "$room/flushes_log" search --limit 1
 ends "search on 100,000 writes that nobody reads" 0 "$room/writes_log" search --limit 1
 ends "search beside 1,000 lost answers" 0 "$room/lost_answers_log" search --limit 10000
+echo "limit 1000" > "$room/told"
+ends "search on the first and the last word of 1 MiB" 3 "$room/far_log" search --limit 1000
+echo "none 96667" > "$room/told"
+ends "search on 100,000 records with a wrong answer" 1 "$room/wrong_log" search
 echo "large inputs: $runs runs, $([ $failed -eq 0 ] && echo "all as they should be" || echo "not all as they should be")"
 exit $failed

@@ -1,5 +1,5 @@
 -- Places that are known to be dead.
-use Rattle.std.specs.Prelude.{ℕ, List, ◌++◌, replicate, Bool}
+use Rattle.std.specs.Prelude.{ℕ, ◌≡◌, ◌*◌, List, [], ◌∷◌, ◌++◌, length, take, drop, replicate, Bool}
 use Rattle.std.specs.List.{All}
 use Rattle.log_runs.specs.LogView.{LogView}
 use Rattle.log_runs.specs.Runs.{Dead}
@@ -8,13 +8,18 @@ use Rattle.search_places.specs.declared.memo.Key.{Key}
 use Rattle.search_places.specs.declared.memo.Entry.{Entry}
 use Rattle.search_places.specs.declared.memo.Memo.{Memo}
 
--- bytes with zeros at both ends
-abbrev pub filled : ℕ → List ℕ → ℕ → List ℕ
-filled before bytes after = replicate before 0 ++ bytes ++ replicate after 0
+-- blocks of 64 bytes, each behind so many zeros
+abbrev pub laid : List ℕ → List ℕ → List ℕ
+laid [] bytes = []
+laid (gap ∷ gaps) bytes = replicate gap 0 ++ take 64 bytes ++ laid gaps (drop 64 bytes)
 
 -- the bytes of the memory, as a key keeps them
 abbrev pub whole : Key → List ℕ
-whole k = filled k.before k.bytes.items k.after
+whole k = laid k.gaps.items k.bytes.items ++ replicate k.after 0
+
+-- it has a block for each gap
+abbrev pub IsEven : Key → Type 0
+IsEven k = length k.bytes.items ≡ 64 * length k.gaps.items
 
 -- whoever has acted there, no run leads from the place to the end
 abbrev pub IsDeadKey : LogView → Key → Type 0

@@ -1,10 +1,10 @@
 //! Places from which no run leads to the end.
-ghost use Rattle.std.specs.Prelude.{◌≡◌, ◌≤◌, ◌-◌, ◌++◌, ◌∷◌, [], ℕ, IsTrue, IfSome, length, take, drop, replicate};
+ghost use Rattle.std.specs.Prelude.{◌≡◌, ◌+◌, ◌++◌, ◌∷◌, [], ℕ, IsTrue, IfSome, length, replicate};
 ghost use Rattle.std.specs.List.{All};
 ghost use Rattle.log_runs.specs.LogView.{LogView};
 ghost use Rattle.log_runs.specs.Runs.{Dead};
 ghost use Rattle.search_places.specs.Places.{IsPlace};
-ghost use Rattle.search_places.specs.Known.{whole, filled, IsDeadKey, IsDeadEntry, AreDead};
+ghost use Rattle.search_places.specs.Known.{whole, IsEven, IsDeadKey, IsDeadEntry, AreDead};
 
 use crate::place::Place;
 use std::alloc::{AllocError, Global};
@@ -13,24 +13,22 @@ use std::collections::HashMap;
 /// How many bytes may be remembered.
 const ROOM: usize = 268_435_456;
 
-/// How many bytes a key takes at most beside its requests and the memory's bytes: 80 in the list of
+/// How many bytes a key takes at most beside its requests and the memory's bytes: 96 in the list of
 /// keys and 32 for each of its two marks, twice as many where list and table have just grown, and
-/// 32 for the two blocks that hold the rest.
-const OVERHEAD: usize = 320;
+/// 16 for each of its three lists.
+const OVERHEAD: usize = 368;
 
 /// No place in the list of keys.
 const NONE: usize = usize::MAX;
 
-/// A place, but for who has acted: of the requests that were passed, those that aren't pending.
+/// A place, but for who has acted: of the requests that were passed, those that aren't pending. Of the memory's
+/// bytes it has the blocks that aren't zeros, and how many zeros stand before each and at the end.
 #[derive(PartialEq, Drop)]
 pub(crate) struct Key {
     event: usize,
     pending: Vec<u32>,
-    /// How many zeros the memory begins with.
-    before: usize,
-    /// Its bytes between the first and the last that isn't zero.
+    gaps: Vec<u32>,
     bytes: Vec<u8>,
-    /// How many zeros follow.
     after: usize,
 }
 
@@ -67,78 +65,29 @@ fn first_mark(place: &Place) -> u64 {
     mark
 }
 
-/// How many zeros the bytes begin with.
-fn zeros_before(bytes: &[u8]) -> usize
-    ensures len { result ≤ length bytes.now }
-    ensures zeros { take result bytes.now ≡ replicate result 0 }
-{
-    for at in 0..bytes.len() {
-        if bytes[at] != 0 {
-            return at;
-        }
-    }
-    bytes.len()
-}
+/// How many bytes are a block.
+const BLOCK: usize = 64;
 
-/// How many bytes are compared at once.
-const BLOCK: usize = 256;
-
-/// They are so many zeros.
+/// They are a block of zeros.
 fn is_zero_block(bytes: &[u8]) -> bool
-    ensures { IsTrue result → bytes.now ≡ replicate 256 0 }
+    ensures { IsTrue result → bytes.now ≡ replicate 64 0 }
 {
     bytes == [0u8; BLOCK].as_slice()
 }
 
-/// How many zeros the bytes end with, in whole blocks.
-fn zero_blocks_after(bytes: &[u8]) -> usize
-    ensures len { result ≤ length bytes.now }
-    ensures zeros { drop (length bytes.now - result) bytes.now ≡ replicate result 0 }
-{
-    let count = bytes.len();
-    let blocks = count / BLOCK;
-    for block in 0..blocks {
-        let end = count - BLOCK * block;
-        if !is_zero_block(&bytes[end - BLOCK..end]) {
-            return BLOCK * block;
+/// A number that depends on the first mark and on the bytes, and how many blocks of them aren't zeros.
+fn whole_mark(first: u64, bytes: &[u8]) -> (u64, usize) {
+    let (blocks, _) = bytes.as_chunks::<BLOCK>();
+    let mut mark = first;
+    let mut count = 0usize;
+    for number in 0..blocks.len() {
+        let block = blocks[number].as_slice();
+        if !is_zero_block(block) {
+            mark = mix_words(mix(mark, number as u64), block.as_chunks::<8>().0);
+            count = count.saturating_add(1);
         }
     }
-    BLOCK * blocks
-}
-
-/// How many zeros the bytes end with.
-fn zeros_after(bytes: &[u8]) -> usize
-    ensures len { result ≤ length bytes.now }
-    ensures zeros { drop (length bytes.now - result) bytes.now ≡ replicate result 0 }
-{
-    let count = bytes.len();
-    for at in zero_blocks_after(bytes)..count {
-        if bytes[count - 1 - at] != 0 {
-            return at;
-        }
-    }
-    count
-}
-
-/// The bytes of the memory, with the zeros at both ends counted.
-#[derive(Clone, Copy)]
-struct Middle<'a> {
-    before: usize,
-    bytes: &'a [u8],
-    after: usize,
-}
-
-fn middle_of(bytes: &[u8]) -> Middle<'_>
-    ensures { filled result.before result.bytes.now result.after ≡ bytes.now }
-{
-    let before = zeros_before(bytes);
-    let rest = &bytes[before..];
-    let after = zeros_after(rest);
-    Middle {
-        before,
-        bytes: &rest[..rest.len() - after],
-        after,
-    }
+    (mark, count)
 }
 
 fn mix_words(mut mark: u64, words: &[[u8; 8]]) -> u64 {
@@ -146,19 +95,6 @@ fn mix_words(mut mark: u64, words: &[[u8; 8]]) -> u64 {
         mark = mix(mark, u64::from_le_bytes(*word));
     }
     mark
-}
-
-fn mix_bytes(mut mark: u64, bytes: &[u8]) -> u64 {
-    for byte in bytes {
-        mark = mix(mark, u64::from(*byte));
-    }
-    mark
-}
-
-/// A number that depends on the first mark and on the bytes.
-fn whole_mark(first: u64, middle: Middle<'_>) -> u64 {
-    let (words, rest) = middle.bytes.as_chunks::<8>();
-    mix_bytes(mix_words(mix(first, middle.before as u64), words), rest)
 }
 
 /// Adds the number, if it is less than 2^32 and there is memory.
@@ -182,28 +118,65 @@ fn narrowed(alloc: Global, numbers: &[usize]) -> Option<Vec<u32>>
     Some(narrow)
 }
 
-/// None if there is no memory for it, or the place has a number of 2^32 or more.
-fn key_of(alloc: Global, place: &Place, middle: Middle<'_>) -> Option<Key>
-    ensures event { IfSome result (λ k. k.event ≡ place.now.state.event) }
-    ensures pending { IfSome result (λ k. k.pending.items ≡ place.now.pending) }
-    ensures bytes { IfSome result (λ k. whole k ≡ filled middle.entry.before middle.entry.bytes.now middle.entry.after) }
+/// A block of zeros more.
+fn more_zeros(zeros: usize) -> Option<usize>
+    ensures { IfSome result (λ n. n ≡ zeros + 64) }
 {
-    let pending = narrowed(alloc, place.pending.as_slice())?;
-    let bytes = Vec::from_slice(alloc, middle.bytes).ok()?;
-    Some(Key {
-        event: place.event,
-        pending,
-        before: middle.before,
-        bytes,
-        after: middle.after,
-    })
+    zeros.checked_add(BLOCK)
 }
 
-/// How many bytes the key takes of a place where so many requests are pending.
-fn cost(pending: usize, middle: Middle<'_>) -> usize {
+/// Adds the bytes, if there is memory.
+fn add_bytes(bytes: &mut Vec<u8>, more: &[u8]) -> Option<()>
+    ensures { IfSome result (λ u. bytes.new.items ≡ bytes.old.items ++ more.now) }
+{
+    bytes.extend_from_slice(more).ok()
+}
+
+/// Adds a block to the bytes of a key.
+fn add_block(key: &mut Key, block: &[u8]) -> Option<()>
+    requires { length block.now ≡ 64 }
+    ensures event { IfSome result (λ u. key.new.event ≡ key.old.event) }
+    ensures pending { IfSome result (λ u. key.new.pending.items ≡ key.old.pending.items) }
+    ensures even { IfSome result (λ u. IsEven key.old → IsEven key.new) }
+    ensures bytes { IfSome result (λ u. IsEven key.old → whole key.new ≡ whole key.old ++ block.now) }
+{
+    if is_zero_block(block) {
+        key.after = more_zeros(key.after)?;
+        return Some(());
+    }
+    add_narrow(&mut key.gaps, key.after)?;
+    add_bytes(&mut key.bytes, block)?;
+    key.after = 0;
+    Some(())
+}
+
+/// The key of a place where so many blocks aren't zeros. None if there is no memory for it, the place has a number of
+/// 2^32 or more, or the memory's bytes aren't whole blocks.
+fn key_of(alloc: Global, place: &Place, blocks: usize) -> Option<Key>
+    ensures event { IfSome result (λ k. k.event ≡ place.now.state.event) }
+    ensures pending { IfSome result (λ k. k.pending.items ≡ place.now.pending) }
+    ensures bytes { IfSome result (λ k. whole k ≡ place.now.state.bytes) }
+{
+    let mut key = Key {
+        event: place.event,
+        pending: narrowed(alloc, place.pending.as_slice())?,
+        gaps: Vec::with_capacity(alloc, blocks).ok()?,
+        bytes: Vec::with_capacity(alloc, blocks.saturating_mul(BLOCK)).ok()?,
+        after: 0,
+    };
+    let mut rest = place.bytes.as_slice();
+    while rest.len() >= BLOCK {
+        add_block(&mut key, &rest[..BLOCK])?;
+        rest = &rest[BLOCK..];
+    }
+    if rest.is_empty() { Some(key) } else { None }
+}
+
+/// How many bytes the key takes of a place where so many requests are pending and so many blocks aren't zeros.
+fn cost(pending: usize, blocks: usize) -> usize {
     pending
         .saturating_mul(4)
-        .saturating_add(middle.bytes.len())
+        .saturating_add(blocks.saturating_mul(BLOCK + 4))
         .saturating_add(OVERHEAD)
 }
 
@@ -253,11 +226,11 @@ impl Memo {
         if !self.newest.contains_key(&first) {
             return false;
         }
-        let middle = middle_of(place.bytes.as_slice());
-        let Some(at) = self.newest.get(&whole_mark(first, middle)) else {
+        let (whole, blocks) = whole_mark(first, place.bytes.as_slice());
+        let Some(at) = self.newest.get(&whole) else {
             return false;
         };
-        let Some(key) = key_of(alloc, place, middle) else {
+        let Some(key) = key_of(alloc, place, blocks) else {
             return false;
         };
         is_among(self.entries.as_slice(), *at, &key)
@@ -292,16 +265,16 @@ impl Memo {
         if self.room < OVERHEAD {
             return;
         }
-        let middle = middle_of(place.bytes.as_slice());
-        let cost = cost(place.pending.as_slice().len(), middle);
+        let first = first_mark(place);
+        let (whole, blocks) = whole_mark(first, place.bytes.as_slice());
+        let cost = cost(place.pending.as_slice().len(), blocks);
         if self.room < cost {
             return;
         }
-        let Some(key) = key_of(alloc, place, middle) else {
+        let Some(key) = key_of(alloc, place, blocks) else {
             return;
         };
-        let first = first_mark(place);
-        if self.add(first, whole_mark(first, middle), key).is_ok() {
+        if self.add(first, whole, key).is_ok() {
             self.room -= cost;
         }
     }

@@ -1,4 +1,4 @@
-use Rattle.std.proofs.Common.{◌∙◌, ap, sym, subst}
+use Rattle.std.proofs.Common.{sym, subst}
 use Rattle.std.specs.List.{All}
 use Rattle.search_places.specs.Known.{IsDeadEntry}
 use Rattle.search_places.proofs.Knowing.{known_dead}
@@ -7,5 +7,5 @@ use Rattle.search_places.proofs.memo.Memo.is_known.Goals as goal
 pub returns : goal.returns
 returns c = λ log known place hit.
     known_dead log c.args.place.now c.in-Some-key_of.key c.in-Some-key_of.ensures.event c.in-Some-key_of.ensures.pending
-    (c.in-Some-key_of.ensures.bytes ∙ c.middle_of-middle.ensures ∙ c.as_slice.ensures.value ∙ ap (λ p. p.state.bytes) c.place.view_is) place
+    c.in-Some-key_of.ensures.bytes place
     (c.is_among.ensures log (subst (All (IsDeadEntry log)) (sym c.as_slice-2.ensures.value) known) hit)
