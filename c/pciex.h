@@ -291,9 +291,8 @@ static inline uint32_t pciex_fabric_new(const uint8_t *line, size_t line_length,
  * The event of a script's line happens to the fabric: `submit 1 add 40 07000000`, `transmit up1`. Below 1000: the
  * number of bytes of its result, `sub 1 0`, as `pciex step` prints it, without a line feed. 1000 to 1999: the fabric
  * refuses it and stays as it was; 1000 and the number of bytes of the refusal's name, which is in the buffer. Tested in
- * this order: PCIEX_SMALL_ROOM for fewer than PCIEX_LINE bytes, PCIEX_NO_LINE, the refusal, PCIEX_NO_MEMORY. A fabric
- * that keeps a trace may return PCIEX_NO_MEMORY in place of the refusal of a submission or a collection. One call is one
- * event: `settle`, which is many, returns PCIEX_NO_LINE, as a comment and an empty line do, which are none.
+ * this order: PCIEX_SMALL_ROOM for fewer than PCIEX_LINE bytes, PCIEX_NO_LINE, the refusal or PCIEX_NO_MEMORY. One call
+ * is one event: `settle`, which is many, returns PCIEX_NO_LINE, as a comment and an empty line do, which are none.
  */
 static inline uint32_t pciex_fabric_event(pciex_fabric *fabric, const uint8_t *line, size_t line_length, uint8_t *room,
                                           size_t room_length)
