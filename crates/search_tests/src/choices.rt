@@ -11,7 +11,7 @@ struct Row {
     answer: &'static str,
 }
 
-static ROWS: [Row; 16] = [
+static ROWS: [Row; 29] = [
     Row {
         name: "eight additions answered out of order",
         lines: "sub 1 0 add 40 01000000\nsub 2 0 add 40 01000000\nsub 3 0 add 40 01000000\nsub 4 0 add 40 01000000\nsub 5 0 add 40 01000000\nsub 6 0 add 40 01000000\nsub 7 0 add 40 01000000\nsub 1 1 add 40 01000000\nans 1 0 data 05000000\nans 2 0 data 02000000\nans 3 0 data 07000000\nans 4 0 data 00000000\nans 5 0 data 01000000\nans 6 0 data 06000000\nans 7 0 data 03000000\nans 1 1 data 04000000\n",
@@ -107,6 +107,84 @@ static ROWS: [Row; 16] = [
         lines: "sub 1 0 add 40 02000000\nsub 2 0 add 40 04000000\nsub 3 0 add 40 08000000\nsub 4 0 add 40 10000000\nsub 5 0 add 40 20000000\nsub 6 0 add 40 40000000\nsub 7 0 read 40 1 F 0\nans 7 0 data 0E000000\nsub 7 1 read 40 1 F 0\nans 7 1 data 01000000\n",
         choices: 193,
         answer: "none 9\n",
+    },
+    Row {
+        name: "a write of which nobody has bytes but who waits for them",
+        lines: "sub 1 0 read 0 1 F 0\nsub 2 0 write 4 F 0 04000000\nsub 1 1 write 0 F 0 03000000\nsub 1 2 read 0 2 F F\nans 1 0 data 00000000\nans 1 2 data 0300000004000000\n",
+        choices: 0,
+        answer: "pciex-trace",
+    },
+    Row {
+        name: "the last addition that can be answered so",
+        lines: "sub 2 0 add 0 0000000002000000\nsub 1 0 add 0 01000000\nans 2 0 data 0000000000000000\nans 1 0 data 00000000\nsub 1 1 cas 4 00000000 02000000\n",
+        choices: 0,
+        answer: "pciex-trace",
+    },
+    Row {
+        name: "a CAS that finds each of its words, but not both",
+        lines: "sub 3 0 write 0 F 0 02000000\nsub 1 0 write 0 F F 0000000002000000\nsub 3 1 swap 0 01000000\nsub 2 0 cas 0 0300000000000000 0400000002000000\nans 3 1 data 01000000\nans 2 0 data 0000000002000000\n",
+        choices: 1,
+        answer: "none 5\n",
+    },
+    Row {
+        name: "a read of two words, of which one was overwritten",
+        lines: "sub 1 0 read 0 2 F F\nsub 1 1 write 4 F 0 01000000\nsub 1 2 read 0 2 F F\nsub 2 0 write 4 F 0 02000000\nsub 2 1 write 4 F 0 03000000\nans 1 0 data 0000000003000000\nans 1 2 data 0000000000000000\n",
+        choices: 1,
+        answer: "none 6\n",
+    },
+    Row {
+        name: "two reads of a value that nobody leaves in time",
+        lines: "sub 5 0 write 40 F 0 02000000\nsub 1 0 write 40 F F 0100000002000000\nsub 2 0 read 40 2 F F\nsub 4 0 read 40 2 F F\nans 2 0 data 0200000003000000\nans 4 0 data 0200000002000000\n",
+        choices: 1,
+        answer: "none 4\n",
+    },
+    Row {
+        name: "a value that is overwritten before a later answer",
+        lines: "sub 3 0 write 80 F 0 03000000\nsub 5 0 write 80 F 0 02000000\nsub 5 1 add 40 03000000\nsub 1 0 write 40 F 0 01000000\nsub 2 0 add 40 03000000\nsub 5 2 write 40 F 0 01000000\nsub 6 0 add 40 03000000\nans 2 0 data 01000000\nsub 5 3 read 80 1 F 0\nsub 4 0 read 40 1 F 0\nans 5 3 data 02000000\nans 6 0 data 01000000\nans 4 0 data 00000000\nans 5 1 data 04000000\n",
+        choices: 3,
+        answer: "none 13\n",
+    },
+    Row {
+        name: "two writes of one value, of which one must act sooner",
+        lines: "sub 1 0 write 40 F 0 02000000\nsub 2 0 read 40 1 F 0\nsub 1 1 write 40 F 0 01000000\nsub 2 1 write 40 F 0 02000000\nans 2 0 data 02000000\nsub 2 2 read 40 1 F 0\nans 2 2 data 02000000\n",
+        choices: 1,
+        answer: "pciex-trace",
+    },
+    Row {
+        name: "a write that the others of its requester wait for",
+        lines: "sub 1 0 read 40 2 F F\nsub 2 0 write 44 F 0 02000000\nsub 1 1 write 80 F 0 02000000\nsub 1 2 write 40 F 0 02000000\nsub 1 3 read 40 2 F F\nsub 2 1 write 80 F 0 01000000\nsub 1 4 write 40 F 0 02000000\nans 1 3 data 0200000002000000\n",
+        choices: 0,
+        answer: "pciex-trace",
+    },
+    Row {
+        name: "a write whose value a later read misses",
+        lines: "sub 2 0 read 0 1 9 0\nans 2 0 data 00000000\nsub 3 0 write 4 F 0 00000000\nsub 1 0 write 0 F 0 01000000\nsub 2 1 add 3C 00000000\nsub 1 1 write 0 F F 0100000001000000\nans 2 1 data 00000000\nsub 3 1 read 4 1 5 0\nans 3 1 data 01000000\n",
+        choices: 0,
+        answer: "pciex-trace",
+    },
+    Row {
+        name: "two writes of one value behind writes elsewhere",
+        lines: "sub 4 0 write 40 F 0 02000000\nsub 4 1 write 80 F 0 02000000\nsub 2 0 write 40 F 0 02000000\nsub 2 1 read 40 1 F 0\nsub 4 2 read 40 1 F 0\nsub 3 0 write 40 F 0 02000000\nsub 4 3 write 80 F 0 02000000\nsub 2 2 read 80 1 F 0\nans 4 2 data 02000000\nans 2 2 data 02000000\n",
+        choices: 1,
+        answer: "pciex-trace",
+    },
+    Row {
+        name: "posted writes of which runs through cells say which is first",
+        lines: "sub 2 0 read 80 1 F 0\nans 2 0 data 00000000\nsub 1 0 write 80 F 0 07000000\nsub 3 0 write 80 F 0 07000000\nsub 1 1 read 40 1 F 0\nans 1 1 data 00000000\nsub 3 1 read 80 1 F 0\nsub 4 0 write 40 F 0 07000000\nsub 2 1 read 80 1 0 0\nsub 3 2 write 40 F 0 13000000\nsub 4 1 write 80 F 0 0F000000\nans 3 1 data 07000000\nans 2 1 data 00000000\n",
+        choices: 1,
+        answer: "pciex-trace",
+    },
+    Row {
+        name: "a run through a cell with a write that isn't submitted yet",
+        lines: "sub 4 0 write 40 F 0 0C000000\nsub 1 0 write C0 F 0 06000000\nsub 4 1 write 80 F 0 10000000\nsub 5 0 read C0 1 F 0\nsub 5 1 read C0 1 F 0\nans 5 1 data 06000000\nans 5 0 data 06000000\nsub 5 2 read 80 1 F 0\nsub 1 1 write C0 F 0 0B000000\nsub 1 2 write 80 F 0 14000000\nans 5 2 data 10000000\nsub 2 0 read 80 1 F 0\nsub 5 3 read C0 1 F 0\nans 2 0 data 10000000\nsub 2 1 read 40 1 F 0\nsub 3 0 write 40 F 0 0E000000\nans 5 3 data 06000000\nans 2 1 data 0E000000\n",
+        choices: 2,
+        answer: "pciex-trace",
+    },
+    Row {
+        name: "a cell without a run beside one with many orders",
+        lines: "sub 6 0 add 80 02000000\nsub 6 1 cas 80 02000000 01000000\nsub 5 0 add 80 03000000\nsub 5 1 cas 80 02000000 03000000\nsub 5 2 add 80 03000000\nsub 5 3 add 80 03000000\nans 5 2 data 06000000\nsub 4 0 add 80 01000000\nans 4 0 data 09000000\nsub 2 0 read 40 1 F 0\nsub 2 1 add 40 01000000\nsub 1 0 read 40 1 F 0\nsub 3 0 swap 40 03000000\nans 1 0 data 02000000\n",
+        choices: 80,
+        answer: "none 13\n",
     },
 ];
 
