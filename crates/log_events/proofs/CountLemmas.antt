@@ -21,6 +21,7 @@ counted_none rs =
     record {
       counts = record { len = length-replicate 256 none; at = λ i l. get_or-replicate 256 i none none l };
       numbered = λ a i k n op at. cc;
+      asked = λ a i k m reply l at. absurd (omega arith);
     }
 
 abbrev pub Own : Type 0
@@ -38,6 +39,16 @@ Numbered = (rs : List Record) (a i k n : ℕ) (op : Op) → IsNumbered (take a r
 abbrev pub NumberedAnswer : Type 0
 NumberedAnswer = (rs : List Record) (a i k n : ℕ) (reply : Reply) → IsNumbered (take a rs) → slice_get rs a ≡ Some (records.Ans i k reply n) → IsNumbered (take (a + 1) rs)
 
+no_answer : (i k n j l m : ℕ) (op : Op) (reply : Reply) → Some (records.Sub i k op n) ≡ Some (records.Ans j l reply m) → ⊥
+no_answer i k n j l m op reply e = cc
+
+pub record SameAnswer (i k j l : ℕ) : Type 0 where
+  pub who : i ≡ j
+  pub number : k ≡ l
+
+same_answer : (i k n j l m : ℕ) (r q : Reply) → Some (records.Ans i k r n) ≡ Some (records.Ans j l q m) → SameAnswer i k j l
+same_answer i k n j l m r q e = record { who = cc; number = cc }
+
 pub counted_sub : Own → Other → Numbered → (counts : List ℕ) (rs : List Record) (a i k n : ℕ) (op : Op) → slice_get rs a ≡ Some (records.Sub i k op n) → IsCounted counts rs a → i < 256 → k ≡ get_or counts i 0
     → IsCounted (set counts i (get_or counts i 0 + 1)) rs (a + 1)
 counted_sub own other numbered counts rs a i k n op at known small is =
@@ -53,12 +64,27 @@ counted_sub own other numbered counts rs a i k n op at known small is =
         ];
       };
       numbered = numbered rs a i k n op known.numbered at (is ∙ known.counts.at i small);
+      asked = λ b j l m reply less there. elim (cases_lt b a) [
+        | inl before ↦ known.asked b j l m reply before there
+        | inr last ↦
+            let same : a ≡ b = omega (arith, less, last) in
+            let eq : Some (records.Sub i k op n) ≡ Some (records.Ans j l reply m) = sym at ∙ ap (slice_get rs) same ∙ there in
+            absurd (no_answer i k n j l m op reply eq)
+      ];
     }
 
-pub counted_answer : Answer → NumberedAnswer → (counts : List ℕ) (rs : List Record) (a i k n : ℕ) (reply : Reply) → slice_get rs a ≡ Some (records.Ans i k reply n) → IsCounted counts rs a → IsCounted counts rs (a + 1)
-counted_answer answer numbered counts rs a i k n reply at known = record {
+pub counted_answer : Answer → NumberedAnswer → (counts : List ℕ) (rs : List Record) (a i k n : ℕ) (reply : Reply) → slice_get rs a ≡ Some (records.Ans i k reply n) → k < length (submissions (take a rs) i) → IsCounted counts rs a → IsCounted counts rs (a + 1)
+counted_answer answer numbered counts rs a i k n reply at below known = record {
   counts = record { len = known.counts.len; at = λ j l. known.counts.at j l ∙ sym (ap length (answer rs a i j k n reply at)) };
   numbered = numbered rs a i k n reply known.numbered at;
+  asked = λ b j l m other less there. elim (cases_lt b a) [
+    | inl before ↦ known.asked b j l m other before there
+    | inr last ↦
+        let eq : a ≡ b = omega (arith, less, last) in
+        let same = same_answer i k n j l m reply other (sym at ∙ ap (slice_get rs) eq ∙ there) in
+        let here : l < length (submissions (take a rs) j) = subst (λ v. l < length (submissions (take a rs) v)) same.who (subst (λ v. v < length (submissions (take a rs) i)) same.number below) in
+        subst (λ v. l < length (submissions (take v rs) j)) eq here
+  ];
 }
 
 -- ---- misformed records

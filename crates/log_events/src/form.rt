@@ -5,9 +5,9 @@ ghost use Rattle.tlp_core.specs.declared.operation.Op.{Op};
 ghost use Rattle.tlp_core.specs.Operation.{is_posted};
 ghost use Rattle.seq_memory.specs.declared.Reply.{Reply};
 ghost use Rattle.history_check.specs.declared.Record.TheVariants as kinds;
-ghost use Rattle.history_check.specs.Trace.{IsNumbered, answers_to};
+ghost use Rattle.history_check.specs.Trace.{IsNumbered, answers_to, submissions};
 ghost use Rattle.log_runs.specs.Tasks.{IsMisformed};
-ghost use Rattle.log_events.specs.Counts.{AreCounts, IsCounted};
+ghost use Rattle.log_events.specs.Counts.{AreAsked, AreCounts, IsCounted};
 ghost use Rattle.log_events.specs.Formed.{MisformedAt};
 
 use crate::counts::Counts;
@@ -134,7 +134,8 @@ impl Tables {
     fn is_misanswer(&self, records: &[Record], end: usize, requester: u8, number: u32) -> bool
         requires counts { AreCounts self.now.counts (take end records.now) }
         requires numbered { IsNumbered (take end records.now) }
-        ensures { IsTrue result → (reply : Reply) (n : ℕ) → IsMisformed (take end records.now) (kinds.Ans requester number reply n) }
+        ensures wrong { IsTrue result → (reply : Reply) (n : ℕ) → IsMisformed (take end records.now) (kinds.Ans requester number reply n) }
+        ensures asked { result ≡ false → number < length (submissions (take end records.now) requester) }
     {
         numbers_name_submissions();
         if self.counts.of(requester) <= number as usize {
@@ -188,9 +189,12 @@ impl Tables {
 
 /// Joins submissions and answers, up to the first record whose form is wrong: a submission that
 /// hasn't its requester's next number, an answer to what wasn't submitted before or to a posted
-/// write, or a second answer.
+/// write, or a second answer. If none is told, each submission has its number, and each answer the number of a
+/// submission before it.
 pub fn form_of(alloc: Global, records: &[Record]) -> Result<Form, AllocError>
-    ensures { IfOk result (λ f. IfSome f.flaw (MisformedAt records.now)) }
+    ensures wrong { IfOk result (λ f. IfSome f.flaw (MisformedAt records.now)) }
+    ensures numbered { IfOk result (λ f. IfNone f.flaw (IsNumbered records.now)) }
+    ensures asked { IfOk result (λ f. IfNone f.flaw (AreAsked records.now (length records.now))) }
 {
     let mut tables = Tables::new(alloc, records.len())?;
     for at in 0..records.len() {

@@ -8,7 +8,7 @@ pub returns-then-is_misanswer-clause-wrong : goal.returns-then-is_misanswer-clau
 returns-then-is_misanswer-clause-wrong c = λ e. (
   records.Ans c.in-Ans.requester c.in-Ans.number c.in-Ans.reply c.in-Ans.n,
   read_at c.args.records.now c.args.at c.index-records-at.result _ c.requires.within c.index-records-at.is c.in-Ans.is,
-  c.is_misanswer.ensures c.if-is_misanswer.true c.in-Ans.reply c.in-Ans.n,
+  c.is_misanswer.ensures.wrong c.if-is_misanswer.true c.in-Ans.reply c.in-Ans.n,
 )
 
 pub returns-in_ok-submit-in-Sub-clause-right : goal.returns-in_ok-submit-in-Sub-clause-right
@@ -25,4 +25,4 @@ returns-else-is_misanswer-clause-right c = λ e.
     let rs = c.args.records.now in
     let at = read_at rs c.args.at c.index-records-at.result _ c.requires.within c.index-records-at.is c.in-Ans.is in
     subst (λ (xs : List ℕ). IsCounted xs rs (c.args.at + 1)) (sym c.answer.ensures)
-    (counted_answer c.submissions_grow_by_records.ensures.answer c.submissions_grow_by_records.ensures.numbered_answer c.args.self.now.counts rs c.args.at c.in-Ans.requester c.in-Ans.number c.in-Ans.n c.in-Ans.reply at c.requires.known)
+    (counted_answer c.submissions_grow_by_records.ensures.answer c.submissions_grow_by_records.ensures.numbered_answer c.args.self.now.counts rs c.args.at c.in-Ans.requester c.in-Ans.number c.in-Ans.n c.in-Ans.reply at (c.is_misanswer.ensures.asked c.if-is_misanswer.false) c.requires.known)
