@@ -9,6 +9,8 @@ enum Call {
     Request(u8, &'static [u8]),
     /// The port carries a completion of these bytes.
     Completion(u8, &'static [u8]),
+    /// The tag is given up.
+    GiveUp(u8, u8),
     /// The request of that number acts.
     Acted(u8, u32),
 }
@@ -42,7 +44,36 @@ const LONG_READ: &[u8] = &[0, 0, 0, 2, 1, 0, 6, 0xFF, 0, 0, 0, 0x40];
 /// Unsupported Request, under tag 6.
 const UNSUPPORTED: &[u8] = &[0xA, 0, 0, 0, 0, 0, 0x20, 4, 1, 0, 6, 0];
 
-static LOG: [Row; 20] = [
+/// Compares the DW at 40h with 7 and puts 8 there, under tag 7.
+const CAS: &[u8] = &[
+    0x4E, 0, 0, 2, 1, 0, 7, 0, 0, 0, 0, 0x40, 7, 0, 0, 0, 8, 0, 0, 0,
+];
+
+/// The completion of that: 7.
+const COMPARED: &[u8] = &[0x4A, 0, 0, 1, 0, 0, 0, 4, 1, 0, 7, 0, 7, 0, 0, 0];
+
+/// The same with both operands' length.
+const COMPARED_LONG: &[u8] = &[
+    0x4A, 0, 0, 2, 0, 0, 0, 8, 1, 0, 7, 0, 7, 0, 0, 0, 8, 0, 0, 0,
+];
+
+/// Puts 9 into the two DW at 40h, under tag 8.
+const SWAP: &[u8] = &[
+    0x4D, 0, 0, 2, 1, 0, 8, 0, 0, 0, 0, 0x40, 9, 0, 0, 0, 0, 0, 0, 0,
+];
+
+/// The completion of that: 8.
+const SWAPPED: &[u8] = &[
+    0x4A, 0, 0, 2, 0, 0, 0, 8, 1, 0, 8, 0, 8, 0, 0, 0, 0, 0, 0, 0,
+];
+
+/// Reads the two DW at 7Ch, under tag 9.
+const READ_ACROSS: &[u8] = &[0, 0, 0, 2, 1, 0, 9, 0xFF, 0, 0, 0, 0x7C];
+
+/// Completer Abort, under tag 9.
+const ABORTED: &[u8] = &[0xA, 0, 0, 0, 0, 0, 0x80, 8, 1, 0, 9, 0];
+
+static LOG: [Row; 28] = [
     Row(Call::Request(0, ADD), "NoRequester"),
     Row(Call::Request(8, ADD), "NoRequester"),
     Row(Call::Request(1, &[0x4C]), "Short"),
@@ -62,7 +93,15 @@ static LOG: [Row; 20] = [
     Row(Call::Request(1, ADD), "sub 1 3 add 40 07000000"),
     Row(Call::Request(1, LONG_READ), "sub 1 4 read 40 2 F F"),
     Row(Call::Completion(1, DATA), "Mismatch"),
-    Row(Call::Completion(1, UNSUPPORTED), "ans 1 4 ur"),
+    Row(Call::Request(1, READ), "TagInUse"),
+    Row(Call::GiveUp(0, 6), "NoRequester"),
+    Row(Call::GiveUp(1, 7), "Unexpected"),
+    Row(Call::GiveUp(2, 6), "Unexpected"),
+    Row(Call::GiveUp(1, 6), ""),
+    Row(Call::GiveUp(1, 6), "Unexpected"),
+    Row(Call::Completion(1, UNSUPPORTED), "Unexpected"),
+    Row(Call::Request(1, LONG_READ), "sub 1 5 read 40 2 F F"),
+    Row(Call::Completion(1, UNSUPPORTED), "ans 1 5 ur"),
 ];
 
 static TRACE: [Row; 9] = [
@@ -75,6 +114,34 @@ static TRACE: [Row; 9] = [
     Row(Call::Completion(1, ADDED), "ans 1 0 2 data 00000000"),
     Row(Call::Request(1, READ), "sub 1 2 2 read 40 1 3 0"),
     Row(Call::Completion(1, DATA), "ans 1 2 2 data AABB0000"),
+];
+
+static KINDS: [Row; 7] = [
+    Row(Call::Request(1, CAS), "sub 1 0 cas 40 07000000 08000000"),
+    Row(Call::Completion(1, COMPARED_LONG), "Mismatch"),
+    Row(Call::Completion(1, COMPARED), "ans 1 0 data 07000000"),
+    Row(Call::Request(1, SWAP), "sub 1 1 swap 40 0900000000000000"),
+    Row(
+        Call::Completion(1, SWAPPED),
+        "ans 1 1 data 0800000000000000",
+    ),
+    Row(Call::Request(1, READ_ACROSS), "sub 1 2 read 7C 2 F F"),
+    Row(Call::Completion(1, ABORTED), "ans 1 2 ca"),
+];
+
+static SEVEN: [Row; 12] = [
+    Row(Call::Request(1, ADD), "sub 1 0 0 add 40 07000000"),
+    Row(Call::Request(2, ADD), "sub 2 0 0 add 40 07000000"),
+    Row(Call::Request(3, ADD), "sub 3 0 0 add 40 07000000"),
+    Row(Call::Request(4, ADD), "sub 4 0 0 add 40 07000000"),
+    Row(Call::Request(5, ADD), "sub 5 0 0 add 40 07000000"),
+    Row(Call::Request(6, ADD), "sub 6 0 0 add 40 07000000"),
+    Row(Call::Request(7, ADD), "sub 7 0 0 add 40 07000000"),
+    Row(Call::Acted(7, 0), "ent 7 0 add 40 07000000"),
+    Row(Call::Completion(7, ADDED), "ans 7 0 1 data 00000000"),
+    Row(Call::GiveUp(1, 5), ""),
+    Row(Call::Acted(1, 0), "ent 1 0 add 40 07000000"),
+    Row(Call::Completion(1, ADDED), "Unexpected"),
 ];
 
 /// Writes the line of the call, or returns its fault.
@@ -90,6 +157,7 @@ fn line_of(
         Call::Completion(i, packet) => {
             write_record(is_trace, &monitor.completion(*i, packet)?, line);
         }
+        Call::GiveUp(i, tag) => monitor.give_up(*i, *tag)?,
         Call::Acted(i, number) => write_entry(&monitor.acted(*i, *number)?, line),
     }
     Ok(())
@@ -130,6 +198,16 @@ fn a_log(rt: HostRuntime) {
 #[test]
 fn a_trace(rt: HostRuntime) {
     assert!(rt; all_right(rt.alloc(), true, &TRACE, 0) == Ok(true));
+}
+
+#[test]
+fn kinds(rt: HostRuntime) {
+    assert!(rt; all_right(rt.alloc(), false, &KINDS, 0) == Ok(true));
+}
+
+#[test]
+fn seven_requesters(rt: HostRuntime) {
+    assert!(rt; all_right(rt.alloc(), true, &SEVEN, 5) == Ok(true));
 }
 
 /// A line, and the head's lines that it asks for; empty if it asks for none.
