@@ -28,7 +28,7 @@ pub(crate) const LANES: [LaneName; 16] = [
 
 /// An event that a round tries.
 #[derive(Drop)]
-pub(crate) enum Attempt {
+pub enum Attempt {
     /// It is tried once.
     Once(Event),
     /// It is tried until it is refused.

@@ -23,5 +23,6 @@ mod rounds;
 mod turns;
 mod witness;
 
+pub use attempts::Attempt;
 pub use rounds::settle;
 pub use witness::{Witness, happen};
