@@ -21,7 +21,7 @@ count() {
     echo $#
 }
 in=$(count crates/*/must-fail/*.edit)
-out=$(count wrong-bodies/*/*.edit)
+out=$(count crates/*/wrong-bodies/*.edit)
 {
     echo "crates $(grep -c '^[a-z0-9_]*[ a-z]*:' crates.txt)"
     echo "wrong_bodies $((in + out))"

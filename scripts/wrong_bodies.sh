@@ -1,14 +1,14 @@
 #!/bin/sh
 # Tries the wrong bodies that stand outside the gate: wrong_bodies.sh [CRATE..], all without a name. Each edit of
-# wrong-bodies/CRATE must be refused by the prover. They are tried on a copy of the tree by `rt ci CRATE..`, which proves
+# crates/CRATE/wrong-bodies must be refused by the prover. They are tried on a copy of the tree by `rt ci CRATE..`, which proves
 # only what no earlier run on this machine proved; with a kit whose `rt ci` takes no name, by `rt must-fail CRATE..`. The
 # edits of crates/CRATE/must-fail are tried by the gate. The last line counts the edits.
 set -eu
 cd "$(dirname "$0")/.."
 # shellcheck disable=SC2046 # names of crates have no spaces
-[ $# -gt 0 ] || set -- $(cd wrong-bodies && ls)
+[ $# -gt 0 ] || set -- $(for folder in crates/*/wrong-bodies; do basename "${folder%/*}"; done)
 for crate in "$@"; do
-    [ -d "wrong-bodies/$crate" ] || { echo "wrong_bodies.sh: no folder wrong-bodies/$crate" >&2; exit 2; }
+    [ -d "crates/$crate/wrong-bodies" ] || { echo "wrong_bodies.sh: no folder crates/$crate/wrong-bodies" >&2; exit 2; }
 done
 copy=$(mktemp -d)
 log=$(mktemp)
@@ -19,8 +19,8 @@ rm -rf "$copy"/crates/*/must-fail
 edits=0
 for crate in "$@"; do
     mkdir -p "$copy/crates/$crate/must-fail"
-    cp "wrong-bodies/$crate"/*.edit "$copy/crates/$crate/must-fail/"
-    edits=$((edits + $(ls "wrong-bodies/$crate" | wc -l)))
+    cp "crates/$crate/wrong-bodies"/*.edit "$copy/crates/$crate/must-fail/"
+    edits=$((edits + $(ls "crates/$crate/wrong-bodies" | wc -l)))
 done
 git -C "$copy" init -q
 if rt help 2>&1 | grep -q '^ *rt ci NAME'; then
