@@ -1,5 +1,5 @@
 //! The parts of a fabric, and the events by their ports and lanes.
-ghost use Rattle.std.specs.Prelude.{◌≡◌, ◌↔◌, ◌<◌, ◌≤◌, suc, length, IsTrue, IfOk, IfErr, OnOk, OnErr, Ok, Err};
+ghost use Rattle.std.specs.Prelude.{◌≡◌, ◌↔◌, ◌<◌, ◌≤◌, ℕ, suc, length, Some, slice_get, IsTrue, IfOk, IfErr, OnOk, OnErr, Ok, Err};
 
 use crate::config::Config;
 use crate::event::{Event, LaneName, LinkEvent, Seen};
@@ -40,11 +40,11 @@ impl Model for Parts {
 }
 
 ghost use Rattle.requester_core.specs.RequesterView.{RequesterView};
-ghost use Rattle.lane_ends.specs.Steps.{LaneEndsView};
+ghost use Rattle.lane_ends.specs.Steps.{LaneEndsView, IsShort};
 ghost use Rattle.fabric_core.specs.Answers.{Refuses, link_grows, part_at, lane_at, link_at, submit_at, forward_at, serve_at, collect_at, SubmitFits, ForwardFits, ServeFits, Happens, Refused};
 ghost use Rattle.fabric_core.specs.Steps.{IsNoPort, HasLanes};
 ghost use Rattle.fabric_core.specs.Config.{config_of};
-ghost use Rattle.fabric_core.specs.Quiet.{AreStill, IsStillFabric};
+ghost use Rattle.fabric_core.specs.Quiet.{AreStill, IsStillFabric, AreShort};
 
 /// The place of a port in lists of so many parts.
 fn place_of(port: u8, count: usize) -> Result<usize, Refusal>
@@ -67,6 +67,15 @@ fn are_still(lanes: &[LaneEnds]) -> bool
         }
     }
     true
+}
+
+/// The wires of each of these lanes are short.
+fn are_short(lanes: &[LaneEnds])
+    ensures { (i : ℕ) (e : LaneEndsView) → slice_get lanes.now i ≡ Some e → IsShort e }
+{
+    for lane in lanes {
+        lane.short();
+    }
 }
 
 impl Parts {
@@ -95,6 +104,16 @@ impl Parts {
             return false;
         }
         are_still(&self.down)
+    }
+
+    /// The wires of each lane are short.
+    pub(crate) fn short(&self)
+        ensures { AreShort self.now }
+    {
+        self.inward.short();
+        self.outward.short();
+        are_short(&self.up);
+        are_short(&self.down);
     }
 
     /// A call of the link of a lane.

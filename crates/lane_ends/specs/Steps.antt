@@ -1,5 +1,5 @@
 -- The calls of the ends of a lane, on their values.
-use Rattle.std.specs.Prelude.{◌≡◌, ℕ, Bool, true, false, nat_lt, ◌&&◌, if◌then◌else◌, List, [], ◌∷◌, ◌++◌, length, Option, Some, None, slice_get, remove, Result, Ok, Err}
+use Rattle.std.specs.Prelude.{◌≡◌, ◌<◌, ◌^◌, ℕ, Bool, true, false, nat_lt, ◌&&◌, if◌then◌else◌, List, [], ◌∷◌, ◌++◌, length, Option, Some, None, slice_get, remove, Result, Ok, Err}
 use Rattle.std.specs.Option.{option_map}
 use Rattle.dllp_core.specs.declared.packet.Dllp.{Dllp}
 use Rattle.dllp_core.specs.declared.packet.Dllp.TheVariants.{Ack, Nak, Update}
@@ -213,3 +213,8 @@ after_take r place =
 -- no accepted packet waits, and the receiver waits for the number that the sender gives next
 abbrev pub IsStill : LaneEndsView → Type 0
 IsStill e = (e.receiver.queue ≡ []) × (e.receiver.receiving.next ≡ next_number e.sender.sending)
+
+-- fewer than 2 ^ 63 packets and as few DLLPs are under way
+pub record IsShort (e : LaneEndsView) : Type 0 where
+  pub packets : length e.forward < 2 ^ 63
+  pub dllps : length e.back < 2 ^ 63

@@ -26,7 +26,7 @@ impl Model for LaneEnds {
 }
 
 impl LaneEnds {
-    ghost use Rattle.lane_ends.specs.Steps.{new_lane, IsStill};
+    ghost use Rattle.lane_ends.specs.Steps.{new_lane, IsStill, IsShort};
 
     /// A lane whose receiver advertised these credits. It allocates nothing.
     pub fn new(credits: LaneCredits, alloc: Global) -> LaneEnds
@@ -45,5 +45,13 @@ impl LaneEnds {
         ensures { IsTrue result ↔ IsStill self.now }
     {
         self.receiver.is_empty() && self.receiver.next_rcv_seq() == self.sender.next_transmit_seq()
+    }
+
+    /// Each lane's wires are short: a list in memory has fewer than 2 ^ 63 things.
+    pub fn short(&self)
+        ensures { IsShort self.now }
+    {
+        let _packets = self.forward.len();
+        let _dllps = self.back.len();
     }
 }

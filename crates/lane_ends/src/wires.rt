@@ -1,5 +1,5 @@
 //! The two wires of a lane.
-ghost use Rattle.std.specs.Prelude.{◌≡◌, ◌<◌, ◌↔◌, List, [], length, slice_get, Some, IsTrue, IfSome, IsSome};
+ghost use Rattle.std.specs.Prelude.{◌≡◌, ◌<◌, ◌^◌, ◌↔◌, List, [], length, slice_get, Some, IsTrue, IfSome, IsSome};
 
 use crate::packet::WirePacket;
 use arrayvec::ArrayVec;
@@ -56,7 +56,8 @@ impl ForwardWire {
 
     /// How many packets are under way.
     pub fn len(&self) -> usize
-        ensures { result ≡ length self.now }
+        ensures len { result ≡ length self.now }
+        ensures small { result < 2 ^ 63 }
     {
         self.packets.len()
     }
@@ -98,7 +99,8 @@ impl BackWire {
 
     /// How many DLLPs are under way.
     pub fn len(&self) -> usize
-        ensures { result ≡ length self.now }
+        ensures len { result ≡ length self.now }
+        ensures small { result < 2 ^ 63 }
     {
         self.dllps.len()
     }
