@@ -1,13 +1,11 @@
 -- What is answered, happens: the packets that an event moves are spelled by their bytes.
-use Rattle.std.proofs.Common.{ℕ, ◌≡◌, zero, suc, List, [], ◌∷◌, ◌++◌, subst, Option, Some, None, Result, Ok, Err}
+use Rattle.std.proofs.Common.{ℕ, ◌≡◌, zero, suc, List, [], ◌∷◌, ◌++◌, subst, Some, Ok}
 use Rattle.std.specs.Prelude.{slice_get}
-use Rattle.tlp_core.specs.declared.operation.Op.{Op}
 use Rattle.tlp_core.specs.TlpView.{TlpView}
 use Rattle.tlp_core.specs.Layout.{Spells, canonical}
 use Rattle.seq_memory.specs.Limits.{IsBlock}
 use Rattle.seq_memory.specs.History.{MemoryView}
 use Rattle.completer_core.specs.Serving.{completion_to}
-use Rattle.vc_queue.specs.Queue.{Item}
 use Rattle.lane_ends.specs.Steps.{LaneEndsView}
 use Rattle.lane_core.specs.Calls.{content, on_the_way, IsRight}
 use Rattle.fabric_laws.specs.Fabric.{Fabric}
@@ -16,7 +14,6 @@ use Rattle.fabric_core.specs.declared.event.Event.TheVariants as events
 use Rattle.fabric_core.specs.declared.event.LaneName.{LaneName}
 use Rattle.fabric_core.specs.declared.event.LaneName.TheVariants as lanes
 use Rattle.fabric_core.specs.declared.event.Seen.{Seen}
-use Rattle.fabric_core.specs.declared.fault.Refusal.{Refusal}
 use Rattle.fabric_core.specs.declared.fault.Refusal.TheVariants as refusals
 use Rattle.fabric_core.specs.Answers.{part_at, lane_at, item_at, answer, Fits, Happens}
 use Rattle.fabric_core.specs.Kept.{IsSoundFabric, IsNoSubmission, down_credits}

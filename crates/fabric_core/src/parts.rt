@@ -44,7 +44,7 @@ ghost use Rattle.lane_ends.specs.Steps.{LaneEndsView, IsShort};
 ghost use Rattle.fabric_core.specs.Answers.{Refuses, link_grows, part_at, lane_at, link_at, submit_at, forward_at, serve_at, collect_at, SubmitFits, ForwardFits, ServeFits, Happens, Refused};
 ghost use Rattle.fabric_core.specs.Steps.{IsNoPort, HasLanes};
 ghost use Rattle.fabric_core.specs.Config.{config_of};
-ghost use Rattle.fabric_core.specs.Quiet.{AreStill, IsStillFabric, AreShort};
+ghost use Rattle.fabric_core.specs.Quiet.{AreStill, IsStillFabric, AreShort, HaveTags};
 
 /// The place of a port in lists of so many parts.
 fn place_of(port: u8, count: usize) -> Result<usize, Refusal>
@@ -75,6 +75,15 @@ fn are_short(lanes: &[LaneEnds])
 {
     for lane in lanes {
         lane.short();
+    }
+}
+
+/// Each of these requesters has 256 tags.
+fn have_tags(requesters: &[Requester])
+    ensures { (i : ℕ) (q : RequesterView) → slice_get requesters.now i ≡ Some q → length q.open_tags ≡ 256 }
+{
+    for requester in requesters {
+        let _port = requester.port();
     }
 }
 
@@ -114,6 +123,13 @@ impl Parts {
         self.outward.short();
         are_short(&self.up);
         are_short(&self.down);
+    }
+
+    /// Each requester has 256 tags.
+    pub(crate) fn tags(&self)
+        ensures { HaveTags self.now }
+    {
+        have_tags(&self.requesters);
     }
 
     /// A call of the link of a lane.

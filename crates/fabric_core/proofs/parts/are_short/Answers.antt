@@ -1,4 +1,4 @@
-use Rattle.std.proofs.Common.{arith, rules}
+use Rattle.std.proofs.Common.{arith}
 use Rattle.lane_ends.specs.Steps.{IsShort}
 use Rattle.fabric_core.proofs.Still.{each_more, each_of_all}
 use Rattle.fabric_core.proofs.parts.are_short.Goals as goal
