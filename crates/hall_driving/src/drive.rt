@@ -1,5 +1,5 @@
 //! A hall with its seats, and how packets go through it. The calls say no more than that the seats stay the hall's.
-ghost use Rattle.std.specs.Prelude.{◌≡◌, IfOk, IfSome};
+ghost use Rattle.std.specs.Prelude.{◌≡◌, ◌+◌, IfOk, IfSome};
 ghost use Rattle.hall_core.specs.Views.{IsSeatOf, AreSeatsOf};
 
 use arrayvec::ArrayVec;
@@ -42,6 +42,7 @@ pub fn opened(
 ) -> Result<(Hall, Vec<ReqSeat>, Vec<WorkSeat>), OpenFault>
     ensures seats { IfOk result (λ t. AreSeatsOf t.0 t.1.items × AreSeatsOf t.0 t.2.items) }
     ensures config { IfOk result (λ t. t.0.config.requesters ≡ config.requesters) }
+    ensures count { IfOk result (λ t. t.0.seats ≡ config.requesters + work) }
 {
     let fabric = match Fabric::new(config, alloc) {
         Ok(fabric) => fabric,
@@ -96,7 +97,8 @@ pub fn one_and_a_worker(
     config: Config,
     alloc: Global,
 ) -> Result<(Hall, ReqSeat, WorkSeat), OpenFault>
-    ensures { IfOk result (λ t. IsSeatOf t.0 t.1 × IsSeatOf t.0 t.2) }
+    ensures seats { IfOk result (λ t. IsSeatOf t.0 t.1 × IsSeatOf t.0 t.2) }
+    ensures count { IfOk result (λ t. t.0.seats ≡ config.requesters + 1) }
 {
     let (hall, mut seats, mut workers) = opened(config, 1, alloc)?;
     match (

@@ -9,6 +9,7 @@
 //!   through a fabric once the part is back; any other call goes as through the fabric beside it. All words are as
 //!   before after each call, and at the end history, bytes and `quiet` are the fabric's. A meeting is `Busy` with the
 //!   memory.
+//! - A hall that both its seats close is left with both requests in its history.
 //! - A hall that is closed while a seat holds a part returns `StillHeld` with that part and its word, for each part. A
 //!   hall has 1 to 64 work seats.
 //! - The worked scripts, each event given to a hall and to a fabric: result, refusal, trace records, history and bytes

@@ -2,7 +2,7 @@
 ghost use Rattle.std.specs.Prelude.{IfSome};
 ghost use Rattle.hall_core.specs.Views.{IsSeatOf};
 
-use crate::ends::leaves;
+use crate::ends::{both_leave, leaves};
 use fabric_core::{Config, LaneName, Refusal};
 use hall_core::{Hall, HallRefusal, ReqSeat, WorkEvent, WorkSeat};
 use hall_driving::drive::{
@@ -126,6 +126,23 @@ fn a_write_is_read(rt: HostRuntime) -> Result<(), Fail> {
     for block in [64, 128] {
         assert!(rt; one_requester(block, rt.alloc()), "blocks of {block}");
     }
+    Ok(())
+}
+
+/// Whether a hall that both its seats close has both requests in its history.
+fn closed_by_all(alloc: Global) -> bool {
+    match one_and_a_worker(small(1), alloc) {
+        Ok((hall, mut seat, mut worker)) => {
+            all_go_so(&hall, &mut seat, &mut worker, &WRITE_THEN_READ)
+                && both_leave(hall, seat, worker, 2, 0, alloc)
+        }
+        Err(_) => false,
+    }
+}
+
+#[test]
+fn all_seats_close_a_hall(rt: HostRuntime) -> Result<(), Fail> {
+    assert!(rt; closed_by_all(rt.alloc()));
     Ok(())
 }
 

@@ -1,4 +1,4 @@
-use Rattle.std.proofs.Common.{sym, ◌∙◌}
+use Rattle.std.proofs.Common.{◌≡◌, ℕ, ◌+◌, sym, ap, ◌∙◌}
 use Rattle.hall_driving.proofs.Seats.{new_fit}
 use Rattle.hall_driving.proofs.drive.opened.Goals as goal
 
@@ -11,3 +11,9 @@ pub returns-in-Ok-new-clause-config : goal.returns-in-Ok-new-clause-config
 returns-in-Ok-new-clause-config c =
     let many = c.in-Ok-new.ensures.config.requesters in
     sym many ∙ c.in-Ok.ensures.ok.requesters.number
+
+pub returns-in-Ok-new-clause-count : goal.returns-in-Ok-new-clause-count
+returns-in-Ok-new-clause-count c =
+    let t = c.in-Ok-new.made in
+    let many : t.0.config.requesters ≡ c.args.config.requesters = sym c.in-Ok-new.ensures.config.requesters ∙ c.in-Ok.ensures.ok.requesters.number in
+    c.in-Ok-new.ensures.seats ∙ ap (λ (n : ℕ). n + c.args.work) many
