@@ -1,5 +1,5 @@
 -- The calls of a fabric: what it and the caller's buffer hold after them, and what they return.
-use Rattle.std.specs.Prelude.{ℕ, ⊤, ◌≡◌, ◌≤◌, nat_lt, Bool, if◌then◌else◌, List, ◌++◌, length, Option, Some, None, Result, Ok, Err}
+use Rattle.std.specs.Prelude.{ℕ, ⊤, ◌≡◌, ◌≤◌, ◌⊎◌, nat_lt, Bool, true, if◌then◌else◌, List, ◌++◌, length, Option, Some, None, Result, Ok, Err, IsOk}
 use Rattle.history_check.specs.declared.Record.{Record}
 use Rattle.fabric_laws.specs.Fabric.{Fabric}
 use Rattle.fabric_core.specs.declared.config.Config.{Config}
@@ -9,7 +9,9 @@ use Rattle.fabric_core.specs.declared.event.Event.{Event}
 use Rattle.fabric_core.specs.declared.event.Seen.{Seen}
 use Rattle.fabric_core.specs.declared.fault.Refusal.{Refusal}
 use Rattle.fabric_core.specs.Kept.{records_of}
-use Rattle.fabric_core.specs.Answers.{answer}
+use Rattle.fabric_core.specs.Answers.{answer, Refused}
+use Rattle.fabric_core.specs.Faults.{is_memory}
+use Rattle.fabric_core.specs.Runs.{has_record}
 use Rattle.fabric_answers.specs.New.{config_fault}
 use Rattle.operation_text.specs.Words.{words}
 use Rattle.script_text.specs.declared.line.Line.{Line}
@@ -63,10 +65,15 @@ kept s event what f' n = record {
 }
 
 -- the event happens, and leaves this fabric, these records, and the text of what is seen of it
-abbrev pub IsStep : Fabric → Bool → List Record → Event → Fabric → Bool → List Record → List ℕ → Type 0
-IsStep f traced rs event f' traced' rs' text =
+abbrev pub IsStep : Fabric → Bool → List Record → Event → Fabric → List Record → List ℕ → Type 0
+IsStep f traced rs event f' rs' text =
     (what : Seen) × (answer f event ≡ Ok (what, f')) × (text ≡ seen_text event what)
-    × (session_of f' traced' rs' ≡ kept (session_of f traced rs) event what f' (length f.memory.entries))
+    × (session_of f' traced rs' ≡ kept (session_of f traced rs) event what f' (length f.memory.entries))
+
+-- memory is wanted: the event isn't refused, and the fabric can't grow for it; or a trace is kept, and can't grow for the
+-- event's record
+abbrev pub EventWantsMemory : Fabric → Bool → Event → Type 0
+EventWantsMemory f traced event = (IsOk (answer f event) × (r : Refusal) × (is_memory r ≡ true) × Refused f event r) ⊎ ((traced ≡ true) × (has_record event ≡ true))
 
 -- what is seen of the event, or why it is refused, stands in the buffer
 abbrev pub answered : SessionView → List ℕ → Event → ℕ → Result (Seen × Fabric) Refusal → EventCall
@@ -88,9 +95,9 @@ abbrev pub happened_by : SessionView → List ℕ → Option Line → EventCall
 happened_by s buffer (Some (lines.Event event)) = happened s buffer event
 happened_by s buffer _ = unmoved s buffer NoLine
 
--- the buffer is large enough, and the line spells an event
-abbrev pub IsEventCall : List ℕ → List ℕ → Type 0
-IsEventCall line buffer = (512 ≤ length buffer) × (event : Event) × (line_of (words line) ≡ Some (lines.Event event))
+-- there is nothing to refuse but memory: the buffer is large enough, and the line spells an event for which memory is wanted
+abbrev pub IsEventCall : SessionView → List ℕ → List ℕ → Type 0
+IsEventCall s line buffer = (512 ≤ length buffer) × (event : Event) × (line_of (words line) ≡ Some (lines.Event event)) × EventWantsMemory s.fabric s.is_traced event
 
 -- the buffer is tested first, then the line
 abbrev pub event_call : SessionView → List ℕ → List ℕ → EventCall

@@ -1,5 +1,5 @@
 -- A fabric that scripts' lines drive one by one.
-use Rattle.std.specs.Prelude.{ℕ, ◌≡◌, Bool, true, if◌then◌else◌, List, []}
+use Rattle.std.specs.Prelude.{ℕ, ◌≡◌, Bool, true, List, []}
 use Rattle.history_check.specs.declared.Record.{Record}
 use Rattle.history_check.specs.Claim.{Claim}
 use Rattle.fabric_laws.specs.Fabric.{Fabric, whole_of}
@@ -30,15 +30,14 @@ new_session c traced = record { fabric = new_fabric c; is_traced = traced; recor
 abbrev pub claim : SessionView → Claim
 claim s = record { memory = s.fabric.memory; records = s.records }
 
--- what a session keeps of the events: the text of what was seen last, and if a trace is kept its records
+-- the text of what was seen last
+abbrev pub last_text : List ℕ → Happening → List ℕ
+last_text text h = seen_text h.event h.what
+
+-- what a session that keeps a trace keeps of the events: its records, and the text of what was seen last
 pub record KeptView : Type 0 where
-  pub is_traced : Bool
   pub records : List Record
   pub text : List ℕ
 
 abbrev pub kept_of : KeptView → Happening → KeptView
-kept_of k h = record {
-  is_traced = k.is_traced;
-  records = if k.is_traced then with_record k.records h else k.records;
-  text = seen_text h.event h.what;
-}
+kept_of k h = record { records = with_record k.records h; text = last_text k.text h }

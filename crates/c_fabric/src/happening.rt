@@ -1,18 +1,21 @@
 //! Events.
-ghost use Rattle.std.specs.Prelude.{◌≡◌, ◌≤◌, Some, Err, IsErr, true, length, IfErr, OnOk, OnErr};
+ghost use Rattle.std.specs.Prelude.{◌≡◌, ◌≤◌, List, Some, Err, IsErr, true, false, length, IfErr, OnOk, OnErr};
+ghost use Rattle.history_check.specs.declared.Record as records;
 ghost use Rattle.fabric_core.specs.Answers.{answer};
+ghost use Rattle.fabric_core.specs.Faults.{is_memory};
 ghost use Rattle.fabric_answers.specs.Told.{IsTold};
 ghost use Rattle.script_text.specs.Names.{refusal_text};
 ghost use Rattle.c_buffer.specs.declared.outcome.Failure.TheVariants.{Text, NoMemory};
 ghost use Rattle.c_buffer.specs.Buffer.{filled, is_silent};
 ghost use Rattle.c_fabric.specs.SessionView.{SessionView, IsSession, session_of};
-ghost use Rattle.c_fabric.specs.Calls.{IsStep, happened, event_call, IsEventCall};
+ghost use Rattle.c_fabric.specs.Calls.{IsStep, EventWantsMemory, happened, event_call, IsEventCall};
 
 use crate::session::Session;
 use crate::slot::{Slot, close, open};
-use crate::witness::SessionWitness;
+use crate::witness::{LastSeen, SessionWitness};
 use arrayvec::ArrayString;
 use c_buffer::{Failure, LINE_BUFFER, Length, tell, tell_fault};
+use fabric_answers::laws::each_event_has_one_answer;
 use fabric_core::laws::each_event_keeps_it_sound;
 use fabric_core::{Event, Fabric, Refusal};
 use fabric_laws::laws::the_trace_belongs;
@@ -23,7 +26,7 @@ use script_text::{Line, read_line, write_refusal};
 fn put_refusal(refusal: Refusal, buffer: &mut [u8]) -> Failure
     requires { 512 ≤ length buffer.old }
     ensures told { ¬ (result ≡ NoMemory) → IsTold refusal }
-    ensures no_memory { result ≡ NoMemory → ¬ IsTold refusal }
+    ensures no_memory { result ≡ NoMemory → is_memory refusal ≡ true }
     ensures failure { ¬ (result ≡ NoMemory) → result ≡ Text (length (refusal_text refusal)) }
     ensures buffer { ¬ (result ≡ NoMemory) → buffer.new ≡ filled buffer.old (refusal_text refusal) }
     ensures unchanged { result ≡ NoMemory → buffer.new ≡ buffer.old }
@@ -36,17 +39,54 @@ fn put_refusal(refusal: Refusal, buffer: &mut [u8]) -> Failure
     tell_fault(text.as_bytes(), buffer)
 }
 
-/// An event happens to the fabric, of which the witness keeps the text and, where a trace is kept, the record.
-fn step(fabric: &mut Fabric, witness: &mut SessionWitness, event: &Event) -> Result<(), Refusal>
-    ensures ok { OnOk result (IsStep fabric.old witness.old.is_traced witness.old.records.items event.now fabric.new witness.new.is_traced witness.new.records.items witness.new.text.bytes) }
-    ensures session { IsSession (session_of fabric.old witness.old.is_traced witness.old.records.items) → IsSession (session_of fabric.new witness.new.is_traced witness.new.records.items) }
+/// An event happens to a fabric that keeps no trace, and the text of what is seen of it is kept.
+fn step_untraced(fabric: &mut Fabric, last: &mut LastSeen, event: &Event) -> Result<(), Refusal>
+    ensures ok { OnOk result ((rs : List records.Record) → IsStep fabric.old false rs event.now fabric.new rs last.new.text.bytes) }
     ensures refused { IfErr result (λ r. IsTold r → answer fabric.old event.now ≡ Err r) }
-    ensures err { OnErr result (session_of fabric.new witness.new.is_traced witness.new.records.items ≡ session_of fabric.old witness.old.is_traced witness.old.records.items) }
+    ensures no_memory { IfErr result (λ r. is_memory r ≡ true → EventWantsMemory fabric.old false event.now) }
+    ensures err { OnErr result (fabric.new ≡ fabric.old) }
+{
+    each_event_has_one_answer();
+    happen(fabric, last, 0, event)
+}
+
+/// An event happens to a fabric that keeps a trace, which grows by its record, and the text of what is seen of it is kept.
+fn step_traced(
+    fabric: &mut Fabric,
+    witness: &mut SessionWitness,
+    event: &Event,
+) -> Result<(), Refusal>
+    ensures ok { OnOk result (IsStep fabric.old true witness.old.records.items event.now fabric.new witness.new.records.items witness.new.last.text.bytes) }
+    ensures session { IsSession (session_of fabric.old true witness.old.records.items) → IsSession (session_of fabric.new true witness.new.records.items) }
+    ensures refused { IfErr result (λ r. IsTold r → answer fabric.old event.now ≡ Err r) }
+    ensures no_memory { IfErr result (λ r. is_memory r ≡ true → EventWantsMemory fabric.old true event.now) }
+    ensures err { OnErr result (session_of fabric.new true witness.new.records.items ≡ session_of fabric.old true witness.old.records.items) }
 {
     the_trace_belongs();
     each_event_keeps_it_sound();
+    each_event_has_one_answer();
     fabric.sound();
     happen(fabric, witness, 0, event)
+}
+
+/// An event happens to the fabric, and to its trace where it keeps one.
+fn step(
+    fabric: &mut Fabric,
+    is_traced: bool,
+    witness: &mut SessionWitness,
+    event: &Event,
+) -> Result<(), Refusal>
+    ensures ok { OnOk result (IsStep fabric.old is_traced witness.old.records.items event.now fabric.new witness.new.records.items witness.new.last.text.bytes) }
+    ensures session { IsSession (session_of fabric.old is_traced witness.old.records.items) → IsSession (session_of fabric.new is_traced witness.new.records.items) }
+    ensures refused { IfErr result (λ r. IsTold r → answer fabric.old event.now ≡ Err r) }
+    ensures no_memory { IfErr result (λ r. is_memory r ≡ true → EventWantsMemory fabric.old is_traced event.now) }
+    ensures err { OnErr result (session_of fabric.new is_traced witness.new.records.items ≡ session_of fabric.old is_traced witness.old.records.items) }
+{
+    if is_traced {
+        step_traced(fabric, witness, event)
+    } else {
+        step_untraced(fabric, &mut witness.last, event)
+    }
 }
 
 /// An event happens to the session.
@@ -55,11 +95,17 @@ fn happen_to(session: &mut Session, event: &Event, buffer: &mut [u8]) -> Result<
     ensures outcome { ¬ (result ≡ Err NoMemory) → result ≡ (happened session.old buffer.old event.now).outcome }
     ensures session { ¬ (result ≡ Err NoMemory) → session.new ≡ (happened session.old buffer.old event.now).session }
     ensures buffer { ¬ (result ≡ Err NoMemory) → buffer.new ≡ (happened session.old buffer.old event.now).buffer }
+    ensures no_memory { result ≡ Err NoMemory → EventWantsMemory session.old.fabric session.old.is_traced event.now }
     ensures unchanged { IsErr result → session.new ≡ session.old }
     ensures unchanged_buffer { is_silent result ≡ true → buffer.new ≡ buffer.old }
 {
-    match step(&mut session.fabric, &mut session.witness, event) {
-        Ok(()) => Ok(tell(session.witness.text.as_bytes(), buffer)),
+    match step(
+        &mut session.fabric,
+        session.is_traced,
+        &mut session.witness,
+        event,
+    ) {
+        Ok(()) => Ok(tell(session.witness.last.text.as_bytes(), buffer)),
         Err(refusal) => Err(put_refusal(refusal, buffer)),
     }
 }
@@ -69,7 +115,7 @@ fn happen_by(session: &mut Session, line: &[u8], buffer: &mut [u8]) -> Result<Le
     ensures outcome { ¬ (result ≡ Err NoMemory) → result ≡ (event_call session.old line.now buffer.old).outcome }
     ensures session { ¬ (result ≡ Err NoMemory) → session.new ≡ (event_call session.old line.now buffer.old).session }
     ensures buffer { ¬ (result ≡ Err NoMemory) → buffer.new ≡ (event_call session.old line.now buffer.old).buffer }
-    ensures no_memory { result ≡ Err NoMemory → IsEventCall line.now buffer.old }
+    ensures no_memory { result ≡ Err NoMemory → IsEventCall session.old line.now buffer.old }
     ensures unchanged { IsErr result → session.new ≡ session.old }
     ensures unchanged_buffer { is_silent result ≡ true → buffer.new ≡ buffer.old }
 {
@@ -98,7 +144,7 @@ pub fn tell_event(
     ensures outcome { ¬ (result ≡ Err NoMemory) → result ≡ (event_call session line.now buffer.old).outcome }
     ensures session { ¬ (result ≡ Err NoMemory) → back.new.session ≡ Some (event_call session line.now buffer.old).session }
     ensures buffer { ¬ (result ≡ Err NoMemory) → buffer.new ≡ (event_call session line.now buffer.old).buffer }
-    ensures no_memory { result ≡ Err NoMemory → IsEventCall line.now buffer.old }
+    ensures no_memory { result ≡ Err NoMemory → IsEventCall session line.now buffer.old }
     ensures unchanged { IsErr result → back.new.session ≡ Some session }
     ensures unchanged_buffer { is_silent result ≡ true → buffer.new ≡ buffer.old }
 {

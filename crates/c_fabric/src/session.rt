@@ -7,6 +7,7 @@ use std::marker::Model;
 #[derive(Drop)]
 pub struct Session {
     pub(crate) fabric: Fabric,
+    pub(crate) is_traced: bool,
     pub(crate) witness: SessionWitness,
 }
 
@@ -15,7 +16,7 @@ impl Model for Session {
 
     ghost Value = { SessionView };
 
-    ghost view = { λ s. record { fabric = s.fabric; is_traced = s.witness.is_traced; records = s.witness.records.items } };
+    ghost view = { λ s. record { fabric = s.fabric; is_traced = s.is_traced; records = s.witness.records.items } };
 
-    ghost invariant = { λ s. IsSession (record { fabric = s.fabric; is_traced = s.witness.is_traced; records = s.witness.records.items }) };
+    ghost invariant = { λ s. IsSession (record { fabric = s.fabric; is_traced = s.is_traced; records = s.witness.records.items }) };
 }

@@ -10,7 +10,7 @@ ghost use Rattle.c_fabric.specs.Calls.{made, making, AsksFor, IsFabricCall};
 ghost use Rattle.c_fabric.specs.Slot.{slot_owns, session_coded};
 
 use crate::session::Session;
-use crate::witness::SessionWitness;
+use crate::witness::{LastSeen, SessionWitness};
 use arrayvec::ArrayString;
 use c_box::Parts;
 use c_buffer::{Failure, LINE_BUFFER, tell_fault};
@@ -82,10 +82,12 @@ fn make(alloc: Global, config: Config, is_traced: bool) -> Result<Session, Confi
     let fabric = Fabric::new(config, alloc)?;
     Ok(Session {
         fabric,
+        is_traced,
         witness: SessionWitness {
-            is_traced,
             records: Vec::new(alloc),
-            text: ArrayString::new(),
+            last: LastSeen {
+                text: ArrayString::new(),
+            },
         },
     })
 }

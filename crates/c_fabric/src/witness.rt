@@ -6,36 +6,85 @@ use history_check::Record;
 use script_text::write_seen;
 use std::alloc::AllocError;
 
-/// The text of what was seen last, and the records of a trace where one is kept.
+/// The text of what was seen last.
 #[derive(Drop)]
-pub(crate) struct SessionWitness {
-    pub(crate) is_traced: bool,
-    pub(crate) records: Vec<Record>,
+pub(crate) struct LastSeen {
     pub(crate) text: ArrayString<512>,
 }
 
+impl LastSeen {
+    ghost use Rattle.std.specs.Prelude.{◌≡◌};
+    ghost use Rattle.script_text.specs.Texts.{seen_text};
+
+    fn put(&mut self, event: &Event, seen: &Seen)
+        ensures { self.new.text.bytes ≡ seen_text event.now seen.now }
+    {
+        self.text.clear();
+        write_seen(event, seen, &mut self.text);
+    }
+}
+
+/// The records of a trace, where one is kept, and the text of what was seen last.
+#[derive(Drop)]
+pub(crate) struct SessionWitness {
+    pub(crate) records: Vec<Record>,
+    pub(crate) last: LastSeen,
+}
+
+/// Without a trace. Nothing grows.
+impl Witness for LastSeen {
+    ghost use Rattle.std.specs.Prelude.{ℕ, List};
+    ghost use Rattle.fabric_settle.specs.Keeping.{Always, Never};
+    ghost use Rattle.c_fabric.specs.SessionView.{last_text};
+
+    ghost Kept = { List ℕ };
+
+    ghost kept = { λ last. last.text.bytes };
+
+    ghost saw = { λ line. last_text };
+
+    ghost has_room = { λ event last. Always event };
+
+    ghost needs_room = { Never };
+
+    ghost may_lose = { Never };
+
+    fn make_room(&mut self, _event: &Event) -> Result<(), AllocError> {
+        Ok(())
+    }
+
+    fn saw(
+        &mut self,
+        _line: u64,
+        event: &Event,
+        seen: Seen,
+        _fabric: &Fabric,
+    ) -> Result<(), AllocError> {
+        self.put(event, &seen);
+        Ok(())
+    }
+}
+
+/// With a trace.
 impl Witness for SessionWitness {
-    ghost use Rattle.std.specs.Prelude.{◌≡◌, ◌<◌, true, vec_len, vec_capacity};
+    ghost use Rattle.std.specs.Prelude.{◌<◌, vec_len, vec_capacity};
     ghost use Rattle.fabric_settle.specs.Keeping.{IsRecorded, Never};
     ghost use Rattle.c_fabric.specs.SessionView.{KeptView, kept_of};
 
     ghost Kept = { KeptView };
 
-    ghost kept = { λ w. record { is_traced = w.is_traced; records = w.records.items; text = w.text.bytes } };
+    ghost kept = { λ w. record { records = w.records.items; text = w.last.text.bytes } };
 
     ghost saw = { λ line. kept_of };
 
-    ghost has_room = { λ event w. w.is_traced ≡ true → IsRecorded event → vec_len w.records < vec_capacity w.records };
+    ghost has_room = { λ event w. IsRecorded event → vec_len w.records < vec_capacity w.records };
 
     ghost needs_room = { IsRecorded };
 
     ghost may_lose = { Never };
 
     fn make_room(&mut self, event: &Event) -> Result<(), AllocError> {
-        if self.is_traced {
-            self.records.make_room(event)?;
-        }
-        Ok(())
+        self.records.make_room(event)
     }
 
     fn saw(
@@ -45,11 +94,7 @@ impl Witness for SessionWitness {
         seen: Seen,
         fabric: &Fabric,
     ) -> Result<(), AllocError> {
-        self.text.clear();
-        write_seen(event, &seen, &mut self.text);
-        if self.is_traced {
-            self.records.saw(line, event, seen, fabric)?;
-        }
-        Ok(())
+        self.last.put(event, &seen);
+        self.records.saw(line, event, seen, fabric)
     }
 }

@@ -38,15 +38,15 @@ abbrev pub known_words : Option Carried → List ℕ
 known_words None = []
 known_words (Some c) = plain_words c
 
-abbrev pub c_packets : LaneName → ℕ → Option Carried → List ℕ
-c_packets lane number c = codes "packet " ++ (sequence_text number ++ (on_words lane ++ known_words c))
+abbrev pub packet_words : LaneName → ℕ → Option Carried → List ℕ
+packet_words lane number c = codes "packet " ++ (sequence_text number ++ (on_words lane ++ known_words c))
 
 abbrev pub dllp_on_words : LaneName → Dllp → List ℕ
 dllp_on_words lane dllp = dllp_words dllp ++ on_words lane
 
 abbrev pub packet_sent_words : LaneName → Option PacketSent → List ℕ
 packet_sent_words lane None = codes "packet" ++ on_words lane
-packet_sent_words lane (Some p) = c_packets lane p.number p.carried
+packet_sent_words lane (Some p) = packet_words lane p.number p.carried
 
 abbrev pub dllp_sent_words : LaneName → Option DllpSent → List ℕ
 dllp_sent_words lane None = codes "DLLP" ++ on_words lane
@@ -78,7 +78,7 @@ dllp_title lane sent fate r = dllp_sent_words lane sent ++ dllp_end_words fate r
 -- ---- what isn't seen to arrive
 
 abbrev pub flying_words : LaneName → Flying → List ℕ
-flying_words lane (flying.Packet number c) = c_packets lane number c
+flying_words lane (flying.Packet number c) = packet_words lane number c
 flying_words lane (flying.Dllp dllp) = dllp_on_words lane dllp
 
 abbrev pub open_title : Open → List ℕ

@@ -112,7 +112,7 @@ fn write_packet(
     text: &mut ArrayString<512>,
 )
     requires { text.old.bytes ≡ [] }
-    ensures text { text.new.bytes ≡ said.c_packets lane number carried }
+    ensures text { text.new.bytes ≡ said.packet_words lane number carried }
     ensures len { array_string_len text.new ≤ 150 }
 {
     text.push_str("packet ");

@@ -48,7 +48,7 @@ pub extern "C" fn pciex_raw_fabric_event(
     ensures code { ¬ (result ≡ NO_MEMORY) → result ≡ code_of (event_call session line.now buffer.old).outcome }
     ensures session { ¬ (result ≡ NO_MEMORY) → back.new.session ≡ Some (event_call session line.now buffer.old).session }
     ensures buffer { ¬ (result ≡ NO_MEMORY) → buffer.new ≡ (event_call session line.now buffer.old).buffer }
-    ensures no_memory { result ≡ NO_MEMORY → IsEventCall line.now buffer.old }
+    ensures no_memory { result ≡ NO_MEMORY → IsEventCall session line.now buffer.old }
     ensures unchanged { 1000 ≤ result → back.new.session ≡ Some session }
     ensures unchanged_buffer { 2000 ≤ result → buffer.new ≡ buffer.old }
 {

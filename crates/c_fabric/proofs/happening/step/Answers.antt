@@ -1,36 +1,17 @@
-use Rattle.std.proofs.Common.{◌≡◌, Err}
-use Rattle.fabric_core.specs.declared.fault.Refusal.{Refusal}
-use Rattle.fabric_core.specs.Answers.{answer}
-use Rattle.fabric_answers.specs.Told.{IsTold}
-use Rattle.c_fabric.specs.SessionView.{KeptView}
-use Rattle.c_fabric.proofs.EventLemmas.{Laws, is_step, stays_session, unchanged, first_of}
+use Rattle.std.proofs.Common.{Bool, sym, subst, OnOk}
+use Rattle.c_fabric.specs.Calls.{IsStep}
+use Rattle.c_fabric.proofs.EventLemmas.{at_records}
 use Rattle.c_fabric.proofs.happening.step.Goals as goal
 
-pub returns-clause-ok : goal.returns-clause-ok
-returns-clause-ok c =
+pub returns-then-is_traced-clause-ok : goal.returns-then-is_traced-clause-ok
+returns-then-is_traced-clause-ok c =
     let w = c.args.witness.now in
-    let v = c.happen.new.witness in
-    let k : KeptView = record { is_traced = w.is_traced; records = w.records.items; text = w.text.bytes } in
-    let k' : KeptView = record { is_traced = v.is_traced; records = v.records.items; text = v.text.bytes } in
-    is_step c.happen.result c.args.fabric.now c.happen.new.fabric k k' c.args.event.now c.happen.ensures.ok
+    let v = c.step_traced.new.witness in
+    subst (λ (traced : Bool). OnOk c.step_traced.result (IsStep c.args.fabric.now traced w.records.items c.args.event.now c.step_traced.new.fabric v.records.items v.last.text.bytes))
+    (sym c.if-is_traced.true) c.step_traced.ensures.ok
 
-pub returns-clause-session : goal.returns-clause-session
-returns-clause-session c =
-    let w = c.args.witness.now in
-    let v = c.happen.new.witness in
-    let k : KeptView = record { is_traced = w.is_traced; records = w.records.items; text = w.text.bytes } in
-    let k' : KeptView = record { is_traced = v.is_traced; records = v.records.items; text = v.text.bytes } in
-    stays_session (record { run = c.the_trace_belongs.ensures.run; step = c.each_event_keeps_it_sound.ensures.step }) c.happen.result c.args.fabric.now c.happen.new.fabric k k' c.args.event.now
-    c.sound.ensures c.happen.ensures.ok c.happen.ensures.lossless
-
-pub returns-clause-refused : goal.returns-clause-refused
-returns-clause-refused c =
-    first_of c.happen.result IsTold (λ (r : Refusal). answer c.args.fabric.now c.args.event.now ≡ Err r) _ _ c.happen.ensures.told
-
-pub returns-clause-err : goal.returns-clause-err
-returns-clause-err c =
-    let w = c.args.witness.now in
-    let v = c.happen.new.witness in
-    let k : KeptView = record { is_traced = w.is_traced; records = w.records.items; text = w.text.bytes } in
-    let k' : KeptView = record { is_traced = v.is_traced; records = v.records.items; text = v.text.bytes } in
-    unchanged c.happen.result c.args.fabric.now c.happen.new.fabric k k' c.happen.ensures.lossless
+pub returns-else-is_traced-clause-ok : goal.returns-else-is_traced-clause-ok
+returns-else-is_traced-clause-ok c =
+    let rs = c.args.witness.now.records.items in
+    subst (λ (traced : Bool). OnOk c.step_untraced.result (IsStep c.args.fabric.now traced rs c.args.event.now c.step_untraced.new.fabric rs c.step_untraced.new.last.text.bytes))
+    (sym c.if-is_traced.false) (at_records c.step_untraced.result c.args.fabric.now c.step_untraced.new.fabric c.step_untraced.new.last.text.bytes c.args.event.now rs c.step_untraced.ensures.ok)
