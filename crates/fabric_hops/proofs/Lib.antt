@@ -3,3 +3,4 @@ pub mod Served
 pub mod Hopping
 pub mod Nothing
 pub mod Going
+pub mod Few

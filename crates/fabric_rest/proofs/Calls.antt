@@ -1,15 +1,15 @@
 -- A call of a link that is refused leaves its lane, and one that isn't leaves what the call does.
-use Rattle.std.proofs.Common.{◌≡◌, ◌∙◌, ◌⊎◌, inl, inr, ℕ, zero, suc, ◌+◌, ◌<◌, ◌≤◌, Bool, true, false, List, [], ◌∷◌, ◌++◌, length, refl, sym, ap, ap₂, subst, arith, append-nil, Option, Some, None, Result, Ok, Err, IsOk, if◌then◌else◌}
+use Rattle.std.proofs.Common.{◌≡◌, ◌∙◌, ◌⊎◌, inl, inr, ℕ, zero, suc, ◌+◌, ◌<◌, Bool, true, false, List, [], ◌∷◌, ◌++◌, length, refl, sym, ap, ap₂, subst, arith, append-nil, Option, Some, None, Ok, Err, IsOk, if◌then◌else◌}
 use Rattle.std.specs.Prelude.{slice_get, nat_lt, ◌==◌}
 use Rattle.std.proofs.lemmas.Bool.Decides.{nat_tests}
 use Rattle.dllp_core.specs.declared.packet.Dllp.{Dllp}
 use Rattle.replay_sender.specs.CargoView.{CargoView}
-use Rattle.replay_sender.specs.SenderView.{SenderView, next_item, after_transmit, from_oldest, trained, replays_after, stopped_after, number_at}
+use Rattle.replay_sender.specs.SenderView.{SenderView, next_item, after_transmit, number_at}
 use Rattle.lane_ends.specs.declared.packet.DllpSeen.TheVariants as dllps
 use Rattle.lane_ends.specs.declared.packet.Fate.{Fate}
 use Rattle.lane_ends.specs.declared.packet.Fate.TheVariants.{Good}
 use Rattle.lane_ends.specs.declared.packet.WirePacket.{WirePacket}
-use Rattle.lane_ends.specs.Steps.{LaneEndsView, SenderEndView, ReceiverEndView, dllp_seen, dllp_of, is_expected, seen_by, arrival_of, packets_sent, transmitted, delivered}
+use Rattle.lane_ends.specs.Steps.{LaneEndsView, dllp_seen, dllp_of, is_expected, seen_by, arrival_of, packets_sent}
 use Rattle.lane_core.specs.Calls.{after_call, IsRight}
 use Rattle.fabric_core.specs.declared.event.LinkEvent.{LinkEvent}
 use Rattle.fabric_core.specs.declared.event.LinkEvent.TheVariants as links

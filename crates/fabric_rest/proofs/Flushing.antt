@@ -1,11 +1,11 @@
 -- The turns of all lanes leave each lane flushed.
-use Rattle.std.proofs.Common.{◌≡◌, ◌∙◌, ◌⊎◌, inl, inr, ℕ, zero, suc, ◌+◌, ◌<◌, ◌≤◌, Bool, true, false, List, [], ◌∷◌, length, refl, sym, ap, subst, arith, Some, Result, Ok, Err}
+use Rattle.std.proofs.Common.{◌≡◌, ◌∙◌, inl, inr, ℕ, zero, suc, ◌+◌, ◌<◌, ◌≤◌, List, [], ◌∷◌, length, refl, sym, ap, subst, arith, Some, Result, Ok, Err}
 use Rattle.std.specs.Prelude.{slice_get, ◌-◌, ◌^◌, fold}
 use Rattle.std.proofs.lemmas.Option.{slice_get_within}
 use Rattle.dllp_core.specs.declared.packet.Dllp.{Dllp}
 use Rattle.fc_credit.specs.declared.limits.LaneCredits.{LaneCredits}
 use Rattle.lane_ends.specs.declared.packet.WirePacket.{WirePacket}
-use Rattle.lane_ends.specs.Steps.{LaneEndsView}
+use Rattle.lane_ends.specs.Steps.{LaneEndsView, IsShort}
 use Rattle.lane_core.specs.Calls.{IsRightWith}
 use Rattle.lane_core.specs.Flushed.{IsFlushed, turned}
 use Rattle.fabric_laws.specs.Fabric.{Fabric}
@@ -15,12 +15,12 @@ use Rattle.fabric_core.specs.declared.event.LaneName.{LaneName}
 use Rattle.fabric_core.specs.declared.event.LaneName.TheVariants as lanes
 use Rattle.fabric_core.specs.declared.fault.Refusal.{Refusal}
 use Rattle.fabric_core.specs.declared.fault.Refusal.TheVariants as refusals
-use Rattle.fabric_core.specs.Answers.{some_or, part_at, lane_at, with_lane}
+use Rattle.fabric_core.specs.Answers.{some_or, part_at, lane_at}
 use Rattle.fabric_core.specs.Steps.{HasLanes}
 use Rattle.fabric_core.specs.Kept.{IsSoundFabric, down_credits}
+use Rattle.fabric_core.specs.Quiet.{AreShort}
 use Rattle.fabric_hops.specs.Hops.{AreFlushed}
-use Rattle.fabric_settle.specs.Rounds.{Settling, lane_attempts, lane_turn, all_lanes}
-use Rattle.fabric_rest.specs.Rest.{IsShort, AreShort}
+use Rattle.fabric_rounds.specs.Rounds.{Settling, lane_attempts, lane_turn, all_lanes}
 use Rattle.fabric_rest.proofs.Form.{lane_turn_is}
 use Rattle.fabric_rest.proofs.Trying.{Laws, Stays, same_stays, then_stays, stays_all}
 use Rattle.fabric_rest.proofs.Lanes.{lane_there, lane_either, some_ok}
@@ -65,8 +65,8 @@ all_flushed f h lanes.Outward e there = let is : f.outward ≡ e = cc in subst I
 
 pub short_of : (e : LaneEndsView) → IsFlushed e → IsShort e
 short_of e h = record {
-  packets = subst (λ (w : List WirePacket). length w + 2047 ≤ 2 ^ 64 - 1) (sym h.forward) (omega arith);
-  dllps = subst (λ (w : List Dllp). length w + 4 ≤ 2 ^ 64 - 1) (sym h.back) (omega arith);
+  packets = subst (λ (w : List WirePacket). length w < 2 ^ 63) (sym h.forward) (omega arith);
+  dllps = subst (λ (w : List Dllp). length w < 2 ^ 63) (sym h.back) (omega arith);
 }
 
 record Right (e : LaneEndsView) : Type 0 where

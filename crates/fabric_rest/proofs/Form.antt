@@ -1,5 +1,5 @@
 -- What is tried of a fabric, in the form in which the proofs use it. Only this file reads the form of the rounds.
-use Rattle.std.proofs.Common.{◌≡◌, ℕ, zero, suc, Bool, true, false, List, [], ◌∷◌, refl, ap, Result, Ok, Err}
+use Rattle.std.proofs.Common.{◌≡◌, ℕ, suc, false, refl, ap, Result, Ok, Err}
 use Rattle.std.specs.Prelude.{◌||◌, fold}
 use Rattle.fabric_laws.specs.Fabric.{Fabric}
 use Rattle.fabric_core.specs.declared.event.Event.{Event}
@@ -7,7 +7,7 @@ use Rattle.fabric_core.specs.declared.event.LaneName.{LaneName}
 use Rattle.fabric_core.specs.declared.event.Seen.{Seen}
 use Rattle.fabric_core.specs.declared.fault.Refusal.{Refusal}
 use Rattle.fabric_core.specs.Answers.{answer}
-use Rattle.fabric_settle.specs.Rounds.{Settling, at, answered, tried, times, is_move, round, attempted, lane_attempts, after_lanes, lane_turn, all_lanes}
+use Rattle.fabric_rounds.specs.Rounds.{Settling, at, answered, tried, times, is_move, round, attempted, lane_attempts, after_lanes, lane_turn, all_lanes}
 
 -- ---- one event
 

@@ -1,6 +1,6 @@
 -- What can go of the oldest packets is tried in each round.
-use Rattle.std.proofs.Common.{◌≡◌, ◌∙◌, ◌⊎◌, inl, inr, ℕ, zero, suc, ◌<◌, ◌≤◌, Bool, true, false, List, [], ◌∷◌, length, refl, sym, ap, subst, arith, Option, Some, None, Result, Ok, Err, IsOk}
-use Rattle.std.specs.Prelude.{slice_get, is_ok}
+use Rattle.std.proofs.Common.{◌≡◌, inl, inr, ℕ, zero, suc, ◌<◌, ◌≤◌, List, [], ◌∷◌, length, refl, sym, ap, subst, arith, Option, Some, None, IsOk}
+use Rattle.std.specs.Prelude.{slice_get}
 use Rattle.std.proofs.lemmas.Option.{slice_get_within}
 use Rattle.lane_ends.specs.Steps.{LaneEndsView}
 use Rattle.requester_core.specs.RequesterView.{RequesterView}
@@ -12,9 +12,9 @@ use Rattle.fabric_core.specs.declared.event.LaneName.TheVariants as lanes
 use Rattle.fabric_core.specs.Answers.{answer}
 use Rattle.fabric_core.specs.Steps.{HasLanes}
 use Rattle.fabric_hops.specs.Hops.{IsOldestHop}
-use Rattle.fabric_settle.specs.declared.attempts.Attempt.{Attempt}
-use Rattle.fabric_settle.specs.declared.attempts.Attempt.TheVariants as attempts
-use Rattle.fabric_settle.specs.Rounds.{after_lanes}
+use Rattle.fabric_rounds.specs.declared.attempts.Attempt.{Attempt}
+use Rattle.fabric_rounds.specs.declared.attempts.Attempt.TheVariants as attempts
+use Rattle.fabric_rounds.specs.Rounds.{after_lanes}
 use Rattle.fabric_rest.proofs.Trying.{AreHops, Has, event_of}
 
 pub are_hops : AreHops after_lanes

@@ -1,21 +1,20 @@
 -- A sender has sent at most what it keeps.
-use Rattle.std.proofs.Common.{◌≡◌, ◌∙◌, ℕ, zero, suc, ◌+◌, ◌-◌, ◌<◌, ◌≤◌, Bool, true, false, List, [], ◌∷◌, ◌++◌, length, drop, refl, sym, ap, subst, arith, length-drop, if◌then◌else◌}
+use Rattle.std.proofs.Common.{◌≡◌, ℕ, ◌+◌, ◌-◌, ◌<◌, ◌≤◌, Bool, true, false, List, [], ◌∷◌, ◌++◌, length, drop, refl, sym, ap, subst, arith, length-drop, if◌then◌else◌}
 use Rattle.std.specs.Prelude.{nat_lt}
 use Rattle.std.proofs.lemmas.Bool.Decides.{nat_tests}
 use Rattle.std.proofs.lemmas.List.{length_push}
 use Rattle.dllp_core.specs.declared.packet.Dllp.{Dllp}
 use Rattle.dllp_core.specs.declared.packet.Dllp.TheVariants.{Ack, Nak, Update}
-use Rattle.tlp_core.specs.TlpView.{TlpView}
 use Rattle.fc_credit.specs.declared.limits.LaneCredits.{LaneCredits}
 use Rattle.fc_credit.specs.Needs.{need_of}
 use Rattle.seq12.specs.Numbers.{distance_of}
 use Rattle.replay_sender.specs.CargoView.{CargoView}
-use Rattle.replay_sender.specs.SenderView.{SenderView, with_accepted, after_transmit, after_ack, after_nak, acknowledged, from_oldest, is_outstanding}
+use Rattle.replay_sender.specs.SenderView.{SenderView, with_accepted, after_transmit, acknowledged, from_oldest, is_outstanding}
 use Rattle.vc_queue.specs.Queue.{is_takeable}
 use Rattle.lane_ends.specs.declared.packet.Fate.{Fate}
 use Rattle.lane_ends.specs.declared.packet.Fate.TheVariants.{Good, Failed, Lost}
 use Rattle.lane_ends.specs.Content.{cargo_of}
-use Rattle.lane_ends.specs.Steps.{LaneEndsView, SenderEndView, new_lane, may_enter, entered, with_room, after_take, after_dllp, sender_after, sending_told}
+use Rattle.lane_ends.specs.Steps.{LaneEndsView, SenderEndView, new_lane, may_enter, entered, with_room, after_take, sender_after, sending_told}
 use Rattle.lane_core.specs.Calls.{Call, MakeRoom, Release, Enter, Transmit, Deliver, SendDllp, DeliverDllp, Timer, Retrained, Take, after_call, after_calls, IsRightWith}
 
 abbrev Within : SenderView → Type 0

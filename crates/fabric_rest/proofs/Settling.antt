@@ -1,14 +1,14 @@
 -- Each round lowers the hops that are left, until none is, and then nothing moves.
-use Rattle.std.proofs.Common.{◌≡◌, ◌∙◌, ◌⊎◌, ◌↔◌, inl, inr, ℕ, zero, suc, ◌+◌, ◌<◌, ◌≤◌, Bool, true, false, List, [], ◌∷◌, refl, sym, ap, subst, arith, Result, Ok, Err, IsOk, if◌then◌else◌}
+use Rattle.std.proofs.Common.{◌≡◌, ◌∙◌, ◌↔◌, ℕ, zero, suc, ◌+◌, ◌<◌, ◌≤◌, Bool, true, false, [], refl, sym, ap, subst, arith, IsOk, if◌then◌else◌}
 use Rattle.std.specs.Prelude.{fold}
 use Rattle.fabric_laws.specs.Fabric.{Fabric}
 use Rattle.fabric_core.specs.declared.event.Event.{Event}
 use Rattle.fabric_core.specs.Answers.{answer}
 use Rattle.fabric_core.specs.Kept.{IsSoundFabric}
-use Rattle.fabric_core.specs.Quiet.{IsQuiet}
+use Rattle.fabric_core.specs.Quiet.{IsQuiet, AreShort, HaveTags}
 use Rattle.fabric_hops.specs.Hops.{AreFlushed, IsOldestHop, hops_left}
-use Rattle.fabric_settle.specs.Rounds.{Settling, at, settlement, round, rounds, after_rounds, attempted, lane_turn, all_lanes, after_lanes}
-use Rattle.fabric_rest.specs.Rest.{AreShort, EndsWithin, Reaches}
+use Rattle.fabric_rounds.specs.Rounds.{Settling, at, settlement, round, rounds, after_rounds, lane_turn, all_lanes, after_lanes}
+use Rattle.fabric_rest.specs.Rest.{EndsWithin, Reaches}
 use Rattle.fabric_rest.proofs.Reaching.{itself, then_on}
 use Rattle.fabric_rest.proofs.Resting as rest
 use Rattle.fabric_rest.proofs.Counting.{comes_to_rest}
@@ -27,6 +27,7 @@ pub record AllLaws : Type 0 where
   pub parts : ByParts
   pub goes : (f : Fabric) → IsSoundFabric f → AreFlushed f → ¬ IsQuiet f → (event : Event) × IsOldestHop event × IsOk (answer f event)
   pub none : (f : Fabric) → (hops_left f ≡ 0) ↔ IsQuiet f
+  pub few : (f : Fabric) → IsSoundFabric f → HaveTags f → hops_left f ≤ 7888
 
 pub record Good (s : Settling) : Type 0 where
   pub sound : IsSoundFabric s.fabric
@@ -170,17 +171,17 @@ rounds_reach l (suc n) s g = by_moved (round s).moved (rounds_reach l n (round s
 
 -- ---- settlements
 
-few : (n : ℕ) → n < 9999 → n + 1 < 10000
-few n h = omega arith
+room : (n : ℕ) → n ≤ 7888 → n + 1 < 10000
+room n h = omega arith
 
 good : (f : Fabric) → IsSoundFabric f → AreShort f → Good (at f [] false)
 good f s short = record { sound = s; short = short }
 
-pub soon : AllLaws → (f : Fabric) → IsSoundFabric f → AreShort f → hops_left f < 9999 → EndsWithin (hops_left f + 1) (at f [] false) (settlement f)
-soon l f s short room = ends l 10000 (at f [] false) (good f s short) (few (hops_left f) room)
+pub soon : AllLaws → (f : Fabric) → IsSoundFabric f → AreShort f → HaveTags f → EndsWithin (hops_left f + 1) (at f [] false) (settlement f)
+soon l f s short tags = ends l 10000 (at f [] false) (good f s short) (room (hops_left f) (l.few f s tags))
 
-pub quiet : AllLaws → (f : Fabric) → IsSoundFabric f → AreShort f → hops_left f < 9999 → IsQuiet (settlement f).fabric
-quiet l f s short room = is_quiet_then l (hops_left f + 1) (at f [] false) (settlement f) (good f s short) (soon l f s short room)
+pub quiet : AllLaws → (f : Fabric) → IsSoundFabric f → AreShort f → HaveTags f → IsQuiet (settlement f).fabric
+quiet l f s short tags = is_quiet_then l (hops_left f + 1) (at f [] false) (settlement f) (good f s short) (soon l f s short tags)
 
 pub reached : AllLaws → (f : Fabric) → IsSoundFabric f → AreShort f → Reaches f (settlement f).fabric
 reached l f s short = rounds_reach l 10000 (at f [] false) (good f s short)

@@ -10,9 +10,9 @@ use Rattle.fabric_core.specs.declared.fault.Refusal.{Refusal}
 use Rattle.fabric_core.specs.Answers.{answer, Happens}
 use Rattle.fabric_core.specs.Kept.{IsSoundFabric, IsNoSubmission}
 use Rattle.fabric_hops.specs.Hops.{IsHop, IsOfLink, hops_left}
-use Rattle.fabric_settle.specs.declared.attempts.Attempt.{Attempt}
-use Rattle.fabric_settle.specs.declared.attempts.Attempt.TheVariants as attempts
-use Rattle.fabric_settle.specs.Rounds.{Settling, tried, times, is_move, attempted}
+use Rattle.fabric_rounds.specs.declared.attempts.Attempt.{Attempt}
+use Rattle.fabric_rounds.specs.declared.attempts.Attempt.TheVariants as attempts
+use Rattle.fabric_rounds.specs.Rounds.{Settling, tried, times, is_move, attempted}
 use Rattle.fabric_rest.specs.Rest.{Reaches}
 use Rattle.fabric_rest.proofs.Reaching.{itself, by_one, then_on}
 use Rattle.fabric_rest.proofs.Form.{fabric_after, moved_after, refused_stays, times_none, times_next}

@@ -1,14 +1,12 @@
 -- The turn of a lane in a fabric is the calls of a turn on that lane.
-use Rattle.std.proofs.Common.{◌≡◌, ◌∙◌, ◌⊎◌, inl, inr, ℕ, zero, suc, ◌≤◌, Bool, true, false, List, [], ◌∷◌, refl, sym, ap, subst, arith, Option, Some, None, Result, Ok, Err, if◌then◌else◌}
-use Rattle.std.specs.Prelude.{◌-◌, ◌^◌, ◌||◌, ◌==◌, fold, slice_get}
+use Rattle.std.proofs.Common.{◌≡◌, ◌∙◌, inl, inr, ℕ, zero, suc, Bool, true, false, List, [], ◌∷◌, refl, sym, ap, subst, Result, Ok, Err}
+use Rattle.std.specs.Prelude.{◌-◌, ◌^◌, fold}
 use Rattle.dllp_core.specs.declared.packet.Class.TheVariants.{Posted, NonPosted, Completion}
 use Rattle.fc_credit.specs.declared.limits.LaneCredits.{LaneCredits}
-use Rattle.replay_sender.specs.CargoView.{CargoView}
 use Rattle.lane_ends.specs.declared.packet.Fate.TheVariants.{Good}
 use Rattle.lane_ends.specs.declared.packet.DllpKind.TheVariants as kinds
-use Rattle.lane_ends.specs.declared.packet.WirePacket.{WirePacket}
 use Rattle.lane_ends.specs.Steps.{LaneEndsView}
-use Rattle.lane_core.specs.Calls.{Call, Transmit, Deliver, SendDllp, DeliverDllp, Timer, Retrained, IsCall, after_call, after_calls, IsRightWith, IsRight}
+use Rattle.lane_core.specs.Calls.{Call, Timer, Retrained, IsCall, after_call, IsRightWith, IsRight}
 use Rattle.lane_core.specs.Flushed.{IsFlushed, turned}
 use Rattle.lane_core.specs.Flushed as lane_turns
 use Rattle.fabric_laws.specs.Fabric.{Fabric}
@@ -23,12 +21,12 @@ use Rattle.fabric_core.specs.declared.fault.Refusal.{Refusal}
 use Rattle.fabric_core.specs.declared.fault.Refusal.TheVariants as refusals
 use Rattle.fabric_core.specs.Answers.{answer, and_then, map_ok, lane_at, with_lane, link_on, link_at}
 use Rattle.fabric_core.specs.ByParts.{call_of}
-use Rattle.fabric_settle.specs.declared.attempts.Attempt.{Attempt}
-use Rattle.fabric_settle.specs.declared.attempts.Attempt.TheVariants as attempts
-use Rattle.fabric_settle.specs.Rounds.{Settling, tried, times, is_move, attempted, lane_attempts, lane_turn}
-use Rattle.fabric_rest.proofs.Form.{fabric_after, moved_after, refused_stays, times_none, times_next, lane_turn_is}
+use Rattle.fabric_rounds.specs.declared.attempts.Attempt.{Attempt}
+use Rattle.fabric_rounds.specs.declared.attempts.Attempt.TheVariants as attempts
+use Rattle.fabric_rounds.specs.Rounds.{Settling, tried, times, attempted, lane_attempts, lane_turn}
+use Rattle.fabric_rest.proofs.Form.{fabric_after, refused_stays, times_none, times_next, lane_turn_is}
 use Rattle.fabric_rest.proofs.Trying.{event_of, attempt_refused, times_refused, still_tried, still_times}
-use Rattle.fabric_rest.proofs.Calls.{IsGood, Outcome, NeverStrange, outcome}
+use Rattle.fabric_rest.proofs.Calls.{IsGood, NeverStrange, outcome}
 use Rattle.fabric_rest.proofs.Lanes.{lane_same, lane_twice, lane_there}
 
 -- ---- one call

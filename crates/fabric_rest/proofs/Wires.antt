@@ -1,7 +1,7 @@
 -- A hop leaves the wires.
-use Rattle.std.proofs.Common.{◌≡◌, ◌∙◌, ℕ, zero, suc, List, [], ◌∷◌, refl, sym, ap, subst, Some, Result, Ok, Err}
+use Rattle.std.proofs.Common.{◌≡◌, ℕ, zero, suc, List, [], ◌∷◌, refl, sym, subst, Some, Result, Ok, Err}
 use Rattle.std.specs.Prelude.{slice_get, slice_set, fold, ◌-◌, ◌^◌}
-use Rattle.lane_ends.specs.Steps.{LaneEndsView, ReceiverEndView, SenderEndView}
+use Rattle.lane_ends.specs.Steps.{LaneEndsView, ReceiverEndView, SenderEndView, IsShort}
 use Rattle.fabric_laws.specs.Fabric.{Fabric}
 use Rattle.fabric_core.specs.declared.event.Event.{Event}
 use Rattle.fabric_core.specs.declared.event.Event.TheVariants as events
@@ -11,13 +11,13 @@ use Rattle.fabric_core.specs.declared.fault.Refusal.{Refusal}
 use Rattle.fabric_core.specs.Answers.{answer, Happens}
 use Rattle.fabric_core.specs.ByParts.{HappensByParts}
 use Rattle.fabric_core.specs.Kept.{IsSoundFabric}
+use Rattle.fabric_core.specs.Quiet.{AreShort}
 use Rattle.fabric_hops.specs.Hops.{IsHop}
-use Rattle.fabric_settle.specs.declared.attempts.Attempt.{Attempt}
-use Rattle.fabric_settle.specs.declared.attempts.Attempt.TheVariants as attempts
-use Rattle.fabric_settle.specs.Rounds.{Settling, tried, times, attempted}
-use Rattle.fabric_rest.specs.Rest.{IsShort, AreShort}
+use Rattle.fabric_rounds.specs.declared.attempts.Attempt.{Attempt}
+use Rattle.fabric_rounds.specs.declared.attempts.Attempt.TheVariants as attempts
+use Rattle.fabric_rounds.specs.Rounds.{Settling, tried, times, attempted}
 use Rattle.fabric_rest.proofs.Form.{fabric_after, refused_stays, times_none, times_next}
-use Rattle.fabric_rest.proofs.Trying.{Laws, Keeps, AreHops, event_of, keeps_tried, keeps_attempted, hop_submits_nothing}
+use Rattle.fabric_rest.proofs.Trying.{Laws, AreHops, event_of, keeps_tried, keeps_attempted, hop_submits_nothing}
 
 abbrev pub ByParts : Type 0
 ByParts = (f f' : Fabric) (event : Event) (what : Seen) → Happens f event what f' → HappensByParts f event what f'

@@ -7,10 +7,10 @@ use Rattle.fabric_core.specs.declared.event.Seen.{Seen}
 use Rattle.fabric_core.specs.declared.event.LaneName.{LaneName}
 use Rattle.fabric_core.specs.declared.fault.Refusal.{Refusal}
 use Rattle.fabric_core.specs.Answers.{answer}
-use Rattle.fabric_settle.specs.declared.attempts.Attempt.{Attempt}
-use Rattle.fabric_settle.specs.declared.attempts.Attempt.TheVariants as attempts
-use Rattle.fabric_settle.specs.Happenings.{Happening, happening, Answers, Leads}
-use Rattle.fabric_settle.specs.Rounds.{Settling, at, answered, tried, times, attempted, lane_attempts, after_lanes, lane_turn, all_lanes, round, rounds, settlement}
+use Rattle.fabric_rounds.specs.declared.attempts.Attempt.{Attempt}
+use Rattle.fabric_rounds.specs.declared.attempts.Attempt.TheVariants as attempts
+use Rattle.fabric_rounds.specs.Happenings.{Happening, happening, Answers, Leads}
+use Rattle.fabric_rounds.specs.Rounds.{Settling, at, answered, tried, times, attempted, lane_attempts, after_lanes, lane_turn, all_lanes, round, rounds, settlement}
 
 one_more : (hs : List Happening) (f g h : Fabric) (e : Event) (what : Seen) → Leads Answers f hs g → answer g e ≡ Ok (what, h) → Leads Answers f (hs ++ happening g e what h ∷ []) h
 one_more [] f g h e what r a = (r, a, refl)

@@ -1,5 +1,5 @@
 pub mod RoundLemmas
 pub mod ReachedLemmas
 pub mod QuietLemmas
-pub mod EndLemmas
 pub mod AnswerLemmas
+pub mod AnsweredLemmas

@@ -8,7 +8,7 @@ use Rattle.lane_ends.specs.Steps.{LaneEndsView}
 use Rattle.lane_core.specs.Calls.{content}
 use Rattle.fabric_laws.specs.Fabric.{Fabric}
 use Rattle.fabric_core.specs.Quiet.{IsQuiet}
-use Rattle.fabric_settle.specs.Rounds.{is_empty, holds_nothing, is_quiet}
+use Rattle.fabric_rounds.specs.Rounds.{is_empty, holds_nothing, is_quiet}
 
 empty_from : (xs : List Item) → is_empty xs ≡ true → xs ≡ []
 empty_from [] t = refl

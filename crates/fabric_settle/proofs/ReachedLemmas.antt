@@ -8,7 +8,7 @@ use Rattle.fabric_core.specs.declared.event.Seen.{Seen}
 use Rattle.fabric_core.specs.declared.fault.Refusal.{Refusal}
 use Rattle.fabric_core.specs.declared.fault.Refusal.TheVariants as refusals
 use Rattle.fabric_core.specs.Answers.{Happens}
-use Rattle.fabric_settle.specs.Happenings.{Happening, happening, Leads, Answers}
+use Rattle.fabric_rounds.specs.Happenings.{Happening, happening, Leads, Answers}
 use Rattle.fabric_settle.specs.Keeping.{Witnessed, IsLossless}
 use Rattle.fabric_settle.specs.Reached.{Reached}
 

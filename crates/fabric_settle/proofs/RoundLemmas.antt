@@ -8,11 +8,11 @@ use Rattle.fabric_core.specs.declared.event.Seen.{Seen}
 use Rattle.fabric_core.specs.declared.fault.Refusal.{Refusal}
 use Rattle.fabric_core.specs.Answers.{answer}
 use Rattle.fabric_core.specs.declared.event.LaneName.{LaneName}
-use Rattle.fabric_settle.specs.declared.attempts.Attempt.{Attempt}
-use Rattle.fabric_settle.specs.Happenings.{Happening, happening}
+use Rattle.fabric_rounds.specs.declared.attempts.Attempt.{Attempt}
+use Rattle.fabric_rounds.specs.Happenings.{Happening, happening}
 use Rattle.fabric_settle.specs.Keeping.{Witnessed}
 use Rattle.fabric_settle.specs.Doing.{IsBeside, Does}
-use Rattle.fabric_settle.specs.Rounds.{Settling, at, answered, tried, goes, times, is_move, round, rounds, if_moved, attempted, lane_attempts, after_lanes, lane_turn, all_lanes}
+use Rattle.fabric_rounds.specs.Rounds.{Settling, at, answered, tried, goes, times, is_move, round, rounds, if_moved, attempted, lane_attempts, after_lanes, lane_turn, all_lanes}
 
 -- ---- one event
 

@@ -9,7 +9,7 @@ use Rattle.fabric_core.specs.Answers.{Happens, Refused}
 use Rattle.fabric_core.specs.Faults.{is_memory}
 use Rattle.fabric_core.specs.Kept.{records_of}
 use Rattle.fabric_core.specs.Runs.{has_record}
-use Rattle.fabric_settle.specs.Happenings.{Happening, happening}
+use Rattle.fabric_rounds.specs.Happenings.{Happening, happening}
 
 -- the event happens, and the witness keeps what is to be kept of it
 pub record Witnessed {K : Type 0} (saw : K → Happening → K) (f : Fabric) (k : K) (event : Event) (f' : Fabric) (k' : K) : Type 0 where

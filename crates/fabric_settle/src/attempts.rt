@@ -1,9 +1,10 @@
 //! What a round tries, in order.
 ghost use Rattle.std.specs.Prelude.{◌≡◌};
-ghost use Rattle.fabric_settle.specs.Rounds as spec;
+ghost use Rattle.fabric_rounds.specs.Rounds as spec;
 
 use dllp_core::Class;
 use fabric_core::{Event, LaneName};
+use fabric_rounds::Attempt;
 use lane_core::{DllpKind, Fate};
 
 /// The lanes of a fabric with seven requesters.
@@ -25,15 +26,6 @@ pub(crate) const LANES: [LaneName; 16] = [
     LaneName::Down(6),
     LaneName::Down(7),
 ];
-
-/// An event that a round tries.
-#[derive(Drop)]
-pub enum Attempt {
-    /// It is tried once.
-    Once(Event),
-    /// It is tried until it is refused.
-    All(Event),
-}
 
 /// After the turns of the lanes the switch forwards, the memory acts, and the requesters collect.
 pub(crate) const AFTER_LANES: [Attempt; 25] = [

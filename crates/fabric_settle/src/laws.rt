@@ -1,7 +1,7 @@
 //! What holds of all settlements.
 ghost use Rattle.fabric_laws.specs.Fabric.{Fabric};
-ghost use Rattle.fabric_settle.specs.Happenings.{Answers, Leads};
-ghost use Rattle.fabric_settle.specs.Rounds.{settlement};
+ghost use Rattle.fabric_rounds.specs.Happenings.{Answers, Leads};
+ghost use Rattle.fabric_rounds.specs.Rounds.{settlement};
 
 /// What happens while a fabric is run until nothing moves are its answers, one after the other, and they leave the fabric
 /// that the rounds leave.

@@ -1,17 +1,7 @@
 //! A fabric that is run until nothing moves.
 //!
-//! [`settle`] goes through fixed rounds of events. A round tries, in this order:
-//!
-//! 1. on each lane, `up1` to `up7`, `in`, `out`, `down1` to `down7`: the replay timer expires, where a packet that was
-//!    sent is kept; the link is retrained where its sender is stopped; all packets that can go are sent, and all on the
-//!    wire arrive; an Ack or Nak and an UpdateFC of each class are sent, and all DLLPs on the wire back arrive;
-//! 2. on `up1` to `up7` and `out`: the switch forwards the packet at place 0 of the queue and then that at place 1;
-//! 3. the memory acts on the request at place 0 of its queue and then on that at place 1;
-//! 4. each requester, from port 1 on, collects the completions that wait for it.
-//!
-//! Each is an event of the fabric, and one that is refused changes nothing. A round has moved something where a packet
-//! was sent, delivered, moved back, forwarded, served or collected. The rounds end after one that moved nothing, and
-//! after 10,000 at the latest.
+//! [`settle`] goes through the rounds of `fabric_rounds` until one moves nothing. Then the fabric is quiet, by the law
+//! of `fabric_rest`.
 //!
 //! Who wants to keep something of the events is a [`Witness`]: a trace of records is one. What the rounds do to a fabric
 //! doesn't depend on it.
@@ -23,6 +13,5 @@ mod rounds;
 mod turns;
 mod witness;
 
-pub use attempts::Attempt;
 pub use rounds::settle;
 pub use witness::{Witness, happen};

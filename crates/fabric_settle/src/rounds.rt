@@ -1,15 +1,21 @@
 //! Rounds until one moves nothing.
-ghost use Rattle.std.specs.Prelude.{◌≡◌, ◌↔◌, fold, IsTrue, IfOk, OnOk, OnErr};
+ghost use Rattle.std.specs.Prelude.{◌≡◌, ◌≢◌, ◌↔◌, ◌+◌, ℕ, [], Some, false, fold, slice_get, IsTrue, IfOk, OnOk, OnErr};
+ghost use Rattle.requester_core.specs.RequesterView.{RequesterView};
+ghost use Rattle.fabric_laws.specs.Whole.{open_number};
 ghost use Rattle.fabric_core.specs.declared.event.Event as events;
 ghost use Rattle.fabric_core.specs.Quiet.{IsQuiet};
+ghost use Rattle.fabric_hops.specs.Hops.{hops_left};
+ghost use Rattle.fabric_rest.specs.Rest.{EndsWithin};
 ghost use Rattle.fabric_settle.specs.Doing.{Does};
 ghost use Rattle.fabric_settle.specs.Keeping.{IsLossless, WantsMemory};
 ghost use Rattle.fabric_settle.specs.Reached.{Reached};
-ghost use Rattle.fabric_settle.specs.Rounds as spec;
+ghost use Rattle.fabric_rounds.specs.Rounds as spec;
 
 use crate::turns::round;
 use crate::witness::Witness;
 use fabric_core::Fabric;
+use fabric_laws::laws::quiet_is_all_acted;
+use fabric_rest::laws::every_fabric_comes_to_rest;
 use std::alloc::AllocError;
 
 /// The most rounds.
@@ -35,9 +41,8 @@ fn all_rounds<W: Witness>(
     Ok(())
 }
 
-/// Runs the fabric by rounds until one moves nothing, at most 10,000 of them, and tells whether it is quiet then: each
-/// submission stands in the history, and no requester waits for an answer. The witness keeps what it keeps of each event,
-/// as of that line of a script.
+/// Runs the fabric by rounds until one moves nothing. Then it is quiet: each submission stands in the history, and no
+/// requester waits for an answer. The witness keeps what it keeps of each event, as of that line of a script.
 ///
 /// The only error is want of memory, of the fabric for an event or of the witness. Then the events so far have happened,
 /// and a witness that loses nothing has kept what it keeps of them.
@@ -51,14 +56,23 @@ pub fn settle<W: Witness>(
     ensures quiet { IfOk result (λ quiet. IsTrue quiet ↔ IsQuiet fabric.new) }
     ensures told { IfOk result (λ quiet. quiet ≡ spec.is_quiet fabric.new) }
 
-    // The last round moved nothing, or it was the 10,000th.
-    ensures ended { OnOk result (spec.HasEnded fabric.old) }
+    ensures settled { OnOk result (IsQuiet fabric.new) }
+    ensures answered { OnOk result ((i tag k : ℕ) (q : RequesterView) → slice_get fabric.new.requesters i ≡ Some q → open_number q tag ≢ Some k) }
+
+    // The last round moved nothing, and before it there were at most as many as hops were left, and one.
+    ensures soon { OnOk result (EndsWithin (hops_left fabric.old + 1) (spec.at fabric.old [] false) (spec.settlement fabric.old)) }
     ensures err { OnErr result ((event : events.Event) × WantsMemory W.needs_room W.may_lose fabric.new event) }
 
     // In any case the fabric is one that a list of events leads to, and what is kept is of these events.
     ensures reached { Reached (W.saw line) (IsLossless W.may_lose) fabric.old (W.kept witness.old) fabric.new (W.kept witness.new) }
 {
+    every_fabric_comes_to_rest();
+    quiet_is_all_acted();
+    fabric.sound();
+    fabric.short();
+    fabric.tags();
     let mut moved = false;
     all_rounds(fabric, witness, &mut moved, line)?;
+    fabric.sound();
     Ok(fabric.quiet())
 }

@@ -4,11 +4,12 @@ ghost use Rattle.fabric_core.specs.declared.event.Event as events;
 ghost use Rattle.fabric_settle.specs.Doing.{Does};
 ghost use Rattle.fabric_settle.specs.Keeping.{IsLossless, WantsMemory};
 ghost use Rattle.fabric_settle.specs.Reached.{Reached};
-ghost use Rattle.fabric_settle.specs.Rounds as spec;
+ghost use Rattle.fabric_rounds.specs.Rounds as spec;
 
-use crate::attempts::{AFTER_LANES, Attempt, LANES, is_move, lane_attempts};
+use crate::attempts::{AFTER_LANES, LANES, is_move, lane_attempts};
 use crate::witness::{Witness, happen};
 use fabric_core::{Event, Fabric, LaneName};
+use fabric_rounds::Attempt;
 use std::alloc::AllocError;
 
 /// Tries the event, and tells whether it happened.

@@ -7,7 +7,7 @@ ghost use Rattle.fabric_core.specs.Faults.{is_memory};
 ghost use Rattle.fabric_core.specs.Kept.{records_of};
 ghost use Rattle.fabric_core.specs.Runs.{has_record};
 ghost use Rattle.fabric_answers.specs.Told.{IsTold};
-ghost use Rattle.fabric_settle.specs.Happenings.{Happening, happening, Answers};
+ghost use Rattle.fabric_rounds.specs.Happenings.{Happening, happening, Answers};
 ghost use Rattle.fabric_settle.specs.Keeping.{Witnessed, IsLossless, WantsMemory};
 ghost use Rattle.fabric_settle.specs.Reached.{Reached};
 

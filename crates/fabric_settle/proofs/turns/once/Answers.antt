@@ -1,5 +1,5 @@
 use Rattle.std.proofs.Common.{◌∙◌, sym}
-use Rattle.fabric_settle.specs.Rounds.{is_move}
+use Rattle.fabric_rounds.specs.Rounds.{is_move}
 use Rattle.fabric_settle.proofs.RoundLemmas.{does_happen, does_stay, goes_on, refused_goes, moved_before, moved_now}
 use Rattle.fabric_settle.proofs.turns.once.Goals as goal
 

@@ -3,7 +3,7 @@ use Rattle.std.specs.Prelude.{fold}
 use Rattle.std.proofs.lemmas.Result.{on_ok_weaker}
 use Rattle.fabric_core.specs.declared.event.LaneName.TheVariants as lanes
 use Rattle.fabric_settle.specs.Doing.{Does}
-use Rattle.fabric_settle.specs.Rounds.{lane_turn, all_lanes}
+use Rattle.fabric_rounds.specs.Rounds.{lane_turn, all_lanes}
 use Rattle.fabric_settle.proofs.RoundLemmas.{next_item, round_done}
 use Rattle.fabric_settle.proofs.ReachedLemmas.{then}
 use Rattle.fabric_settle.proofs.turns.round.Goals as goal
