@@ -1,5 +1,5 @@
 -- Each call of the recorder keeps the rule of its queue.
-use Rattle.std.proofs.Common.{◌≡◌, ◌≢◌, ℕ, zero, suc, ◌+◌, ◌<◌, ◌⊎◌, cond, eqb, List, [], ◌∷◌, ◌++◌, length, set, sym, refl, ap, ◌∙◌, subst, ⊎_elim, inl, inr, append_assoc, append-nil, eq-eqb, ne_eqb, arith}
+use Rattle.std.proofs.Common.{◌≡◌, ◌≢◌, ℕ, zero, suc, ◌+◌, ◌<◌, ◌≤◌, ◌⊎◌, cond, eqb, List, [], ◌∷◌, ◌++◌, length, set, sym, refl, ap, ◌∙◌, subst, ⊎_elim, inl, inr, append_assoc, append-nil, eq-eqb, ne_eqb, arith}
 use Rattle.std.proofs.lemmas.List.Elements.{filter-append}
 use Rattle.std.specs.List.{AllByRecursion as Each}
 use Rattle.std.specs.Prelude.{Option, Some, None, MatchOption, IfNone}
@@ -14,7 +14,7 @@ use Rattle.recorder.specs.declared.laws.Pushed.{Pushed}
 use Rattle.recorder.specs.declared.laws.Taken.{Taken}
 use Rattle.recorder.specs.declared.laws.Knows.{Knows}
 use Rattle.recorder.specs.declared.laws.Knows.TheVariants as knows
-use Rattle.recorder.specs.Rule.{records_by, fresh, unbegun, newcomer, with_pushed, with_taken, pushed_of, taken_of, Owns, Fits, Kept, pushes as Says, takes as Tells, Rests, but_first, first_alone, both, IsWhole, IsBegun}
+use Rattle.recorder.specs.Rule.{records_by, IsRequesterNumber, AreOfRequesters, fresh, unbegun, newcomer, with_pushed, with_taken, pushed_of, taken_of, Owns, Fits, Kept, pushes as Says, takes as Tells, Rests, but_first, first_alone, both, IsWhole, IsBegun}
 
 -- ---- lists
 
@@ -70,28 +70,29 @@ by_same i x rs n = by_append i rs (x ∷ []) ∙ ap (λ l. records_by i rs ++ l)
 grown : (owner : ℕ → ℕ) (reader : ℕ) (got items : List Record) (x : Record) (j : ℕ) (u : Knows) → owner (requester_of x) ≢ j
     → Fits owner reader got (got ++ items) j u → reader ≢ j ⊎ (got ≡ got) → Fits owner reader got (got ++ (items ++ x ∷ [])) j u
 grown owner reader got items x j (knows.Pusher q) n h _ =
-    (h.0, h.1 ∙ sym (by_same q.requester x (got ++ items) (λ e. n (ap owner (sym e) ∙ h.0))) ∙ ap (records_by q.requester) (append_assoc got items (x ∷ [])))
+    (h.0, h.1 ∙ sym (by_same q.requester x (got ++ items) (λ e. n (ap owner (sym e) ∙ h.0))) ∙ ap (records_by q.requester) (append_assoc got items (x ∷ [])), h.2)
 grown owner reader got items x j (knows.Taker t) n h _ = (
   h.0,
   h.1,
   each_map (Owns owner (got ++ items) j) (Owns owner (got ++ (items ++ x ∷ [])) j)
-      (λ q o. (o.0, o.1 ∙ sym (by_same q.requester x (got ++ items) (λ e. n (ap owner (sym e) ∙ o.0))) ∙ ap (records_by q.requester) (append_assoc got items (x ∷ [])))) t.known h.2,
+      (λ q o. (o.0, o.1 ∙ sym (by_same q.requester x (got ++ items) (λ e. n (ap owner (sym e) ∙ o.0))) ∙ ap (records_by q.requester) (append_assoc got items (x ∷ [])), o.2)) t.known h.2,
 )
 grown owner reader got items x j knows.Spent n h _ = tt
 
 pushes_of : (n pass : ℕ) (p : Pushed) (x : Record) → requester_of x ≡ p.requester → Pushes Kept n pass (knows.Pusher p) x (Says (knows.Pusher p) x)
 pushes_of n pass p x own items views room h at =
     let w : Knows = knows.Pusher (with_pushed p x) in
-    let mine : Owns h.0 (h.2 ++ items) pass p = h.3 pass (knows.Pusher p) at in
+    let mine : Owns h.0 (h.2 ++ items) pass p = h.4 pass (knows.Pusher p) at in
     let here : Owns h.0 (h.2 ++ (items ++ x ∷ [])) pass (with_pushed p x) =
-    (mine.0, ap (λ l. l ++ x ∷ []) mine.1 ∙ sym (by_more p.requester x (h.2 ++ items) (sym own)) ∙ ap (records_by p.requester) (append_assoc h.2 items (x ∷ []))) in (
+    (mine.0, ap (λ l. l ++ x ∷ []) mine.1 ∙ sym (by_more p.requester x (h.2 ++ items) (sym own)) ∙ ap (records_by p.requester) (append_assoc h.2 items (x ∷ [])), mine.2) in (
       w,
       (
         h.0,
         h.1,
         h.2,
+        subst AreOfRequesters (append_assoc h.2 items (x ∷ [])) (each_snoc (λ r. IsRequesterNumber (requester_of r)) (h.2 ++ items) x h.3 (subst IsRequesterNumber (sym own) mine.2)),
         all_set (Fits h.0 h.1 h.2 (h.2 ++ (items ++ x ∷ []))) views pass w here
-            (λ j u other e. grown h.0 h.1 h.2 items x j u (λ k. other (sym k ∙ ap h.0 own ∙ mine.0)) (h.3 j u e) (inr refl)),
+            (λ j u other e. grown h.0 h.1 h.2 items x j u (λ k. other (sym k ∙ ap h.0 own ∙ mine.0)) (h.4 j u e) (inr refl)),
       ),
       refl,
     )
@@ -102,7 +103,7 @@ keeps_push n pass v x is own = subst (λ u. Pushes Kept n pass u x (Says u x)) (
 -- ---- takes
 
 shifted : (owner : ℕ → ℕ) (reader : ℕ) (got got' all all' : List Record) (j : ℕ) (u : Knows) → reader ≢ j → all ≡ all' → Fits owner reader got all j u → Fits owner reader got' all' j u
-shifted owner reader got got' all all' j (knows.Pusher q) n e h = (h.0, h.1 ∙ ap (records_by q.requester) e)
+shifted owner reader got got' all all' j (knows.Pusher q) n e h = (h.0, h.1 ∙ ap (records_by q.requester) e, h.2)
 shifted owner reader got got' all all' j (knows.Taker t) n e h = absurd (n h.0)
 shifted owner reader got got' all all' j knows.Spent n e h = tt
 
@@ -110,16 +111,17 @@ takes_of : (pass : ℕ) (t : Taken) → Pops Kept pass (knows.Taker t) (Tells (k
 takes_of pass t x items views h at =
     let w : Knows = knows.Taker (with_taken t x) in
     let got = h.2 ++ x ∷ [] in
-    let mine : Fits h.0 h.1 h.2 (h.2 ++ x ∷ items) pass (knows.Taker t) = h.3 pass (knows.Taker t) at in
+    let mine : Fits h.0 h.1 h.2 (h.2 ++ x ∷ items) pass (knows.Taker t) = h.4 pass (knows.Taker t) at in
     let same : h.2 ++ x ∷ items ≡ got ++ items = sym (append_assoc h.2 (x ∷ []) items) in (
       w,
       (
         h.0,
         h.1,
         got,
+        subst AreOfRequesters same h.3,
         all_set (Fits h.0 h.1 got (got ++ items)) views pass w
             (mine.0, ap (λ l. l ++ x ∷ []) mine.1, subst (λ a. Each (Owns h.0 a pass) t.known) same mine.2)
-            (λ j u other e. shifted h.0 h.1 h.2 got (h.2 ++ x ∷ items) (got ++ items) j u (λ k. other (sym k ∙ mine.0)) same (h.3 j u e)),
+            (λ j u other e. shifted h.0 h.1 h.2 got (h.2 ++ x ∷ items) (got ++ items) j u (λ k. other (sym k ∙ mine.0)) same (h.4 j u e)),
       ),
       refl,
     )
@@ -129,9 +131,11 @@ keeps_pop pass v is = subst (λ u. Pops Kept pass u (Tells u)) (sym is) (takes_o
 
 rests_of : (pass : ℕ) (t : Taken) → Learns Kept pass (knows.Taker t) (Rests (knows.Taker t))
 rests_of pass t items views h at =
-    let mine : Fits h.0 h.1 h.2 (h.2 ++ items) pass (knows.Taker t) = h.3 pass (knows.Taker t) at in
-    each_map (Owns h.0 (h.2 ++ items) pass) (λ p. p.records ≡ records_by p.requester (t.records ++ items))
-    (λ p o. o.1 ∙ ap (λ l. records_by p.requester (l ++ items)) (sym mine.1)) t.known mine.2
+    let mine : Fits h.0 h.1 h.2 (h.2 ++ items) pass (knows.Taker t) = h.4 pass (knows.Taker t) at in (
+      each_map (Owns h.0 (h.2 ++ items) pass) (λ p. p.records ≡ records_by p.requester (t.records ++ items))
+          (λ p o. o.1 ∙ ap (λ l. records_by p.requester (l ++ items)) (sym mine.1)) t.known mine.2,
+      subst (λ l. AreOfRequesters (l ++ items)) (sym mine.1) h.3,
+    )
 
 pub keeps_learn : (pass : ℕ) (v : Knows) → v ≡ knows.Taker (taken_of v) → Learns Kept pass v (Rests v)
 keeps_learn pass v is = subst (λ u. Learns Kept pass u (Rests u)) (sym is) (rests_of pass (taken_of v))
@@ -149,7 +153,7 @@ moved_else owner i to k n = ap (λ b. cond b to (owner k)) (ne_eqb k i n)
 
 -- a pass that hasn't requester i keeps what it has
 unmoved : (owner : ℕ → ℕ) (reader i to : ℕ) (got all : List Record) (j : ℕ) (u : Knows) → reader ≢ j → owner i ≢ j → Fits owner reader got all j u → Fits (moved owner i to) reader got all j u
-unmoved owner reader i to got all j (knows.Pusher q) n m h = (moved_else owner i to q.requester (λ e. m (ap owner (sym e) ∙ h.0)) ∙ h.0, h.1)
+unmoved owner reader i to got all j (knows.Pusher q) n m h = (moved_else owner i to q.requester (λ e. m (ap owner (sym e) ∙ h.0)) ∙ h.0, h.1, h.2)
 unmoved owner reader i to got all j (knows.Taker t) n m h = absurd (n h.0)
 unmoved owner reader i to got all j knows.Spent n m h = tt
 
@@ -160,15 +164,15 @@ forks_of pass p ps rs apart items views h at =
     let left : Knows = but_first v in
     let right : Knows = first_alone v in
     let all = h.2 ++ items in
-    let mine : Fits h.0 h.1 h.2 all pass v = h.3 pass v at in
+    let mine : Fits h.0 h.1 h.2 all pass v = h.4 pass v at in
     let vs : List Knows = set views pass left in
     let owner : ℕ → ℕ = moved h.0 p.requester (length vs) in
     let here : Fits owner h.1 h.2 all pass left =
-    (mine.0, mine.1, each_both (λ q. q.requester ≢ p.requester) (Owns h.0 all pass) (Owns owner all pass) (λ q n o. (moved_else h.0 p.requester (length vs) q.requester n ∙ o.0, o.1)) ps apart mine.2.1) in
+    (mine.0, mine.1, each_both (λ q. q.requester ≢ p.requester) (Owns h.0 all pass) (Owns owner all pass) (λ q n o. (moved_else h.0 p.requester (length vs) q.requester n ∙ o.0, o.1, o.2)) ps apart mine.2.1) in
     let old : All (Fits owner h.1 h.2 all) vs = all_set (Fits owner h.1 h.2 all) views pass left here
-    (λ j u other e. unmoved h.0 h.1 p.requester (length vs) h.2 all j u (λ k. other (sym k ∙ mine.0)) (λ k. other (sym k ∙ mine.2.0.0)) (h.3 j u e)) in
-    let new : Fits owner h.1 h.2 all (length vs) right = (moved_there h.0 p.requester (length vs) p.requester refl, mine.2.0.1) in
-    (owner, h.1, h.2, λ j u e. ⊎_elim (λ x. old j u x) (λ (x : (j ≡ length vs) × (right ≡ u)). subst (λ (y : ℕ × Knows). Fits owner h.1 h.2 all y.0 y.1) (λ i. (sym x.0 i, x.1 i)) new) (at_end vs right u j e))
+    (λ j u other e. unmoved h.0 h.1 p.requester (length vs) h.2 all j u (λ k. other (sym k ∙ mine.0)) (λ k. other (sym k ∙ mine.2.0.0)) (h.4 j u e)) in
+    let new : Fits owner h.1 h.2 all (length vs) right = (moved_there h.0 p.requester (length vs) p.requester refl, mine.2.0.1, mine.2.0.2) in
+    (owner, h.1, h.2, h.3, λ j u e. ⊎_elim (λ x. old j u x) (λ (x : (j ≡ length vs) × (right ≡ u)). subst (λ (y : ℕ × Knows). Fits owner h.1 h.2 all y.0 y.1) (λ i. (sym x.0 i, x.1 i)) new) (at_end vs right u j e))
 
 unbegun_above : (n i k : ℕ) → k < i → Each (λ q. q.requester ≢ k) (unbegun n i)
 unbegun_above zero i k h = tt
@@ -185,19 +189,19 @@ merges_of pass t other q items views h at two at' =
     let v : Knows = knows.Taker t in
     let now : Knows = both v (knows.Pusher q) in
     let all = h.2 ++ items in
-    let mine : Fits h.0 h.1 h.2 all pass v = h.3 pass v at in
+    let mine : Fits h.0 h.1 h.2 all pass v = h.4 pass v at in
     let vs : List Knows = set views pass now in
     let was : get_elem? views other ≡ some (knows.Pusher q) = ⊎_elim (λ x. absurd (two x.0)) (λ x. x.1) (at_set views pass other now (knows.Pusher q) at') in
-    let theirs : Owns h.0 all other q = h.3 other (knows.Pusher q) was in
+    let theirs : Owns h.0 all other q = h.4 other (knows.Pusher q) was in
     let owner : ℕ → ℕ = moved h.0 q.requester pass in
     let stays : (p : Pushed) → Owns h.0 all pass p → Owns owner all pass p =
-    λ p o. (elim (ℕ_discrete p.requester q.requester) as (λ _. owner p.requester ≡ pass) [ yes e ↦ moved_there h.0 q.requester pass p.requester e | no n ↦ moved_else h.0 q.requester pass p.requester n ∙ o.0 ], o.1) in
+    λ p o. (elim (ℕ_discrete p.requester q.requester) as (λ _. owner p.requester ≡ pass) [ yes e ↦ moved_there h.0 q.requester pass p.requester e | no n ↦ moved_else h.0 q.requester pass p.requester n ∙ o.0 ], o.1, o.2) in
     let here : Fits owner h.1 h.2 all pass now =
-    (mine.0, mine.1, each_snoc (Owns owner all pass) t.known q (each_map (Owns h.0 all pass) (Owns owner all pass) stays t.known mine.2) (moved_there h.0 q.requester pass q.requester refl, theirs.1)) in
+    (mine.0, mine.1, each_snoc (Owns owner all pass) t.known q (each_map (Owns h.0 all pass) (Owns owner all pass) stays t.known mine.2) (moved_there h.0 q.requester pass q.requester refl, theirs.1, theirs.2)) in
     let Now : ℕ → Knows → Type 0 = λ j u. j ≢ other → Fits owner h.1 h.2 all j u in
     let most : All Now vs = all_set Now views pass now (λ _. here)
-    (λ j u apart e not. unmoved h.0 h.1 q.requester pass h.2 all j u (λ k. apart (sym k ∙ mine.0)) (λ k. not (sym k ∙ theirs.0)) (h.3 j u e)) in
-    (owner, h.1, h.2, all_set (Fits owner h.1 h.2 all) vs other knows.Spent tt (λ j u apart e. most j u e apart))
+    (λ j u apart e not. unmoved h.0 h.1 q.requester pass h.2 all j u (λ k. apart (sym k ∙ mine.0)) (λ k. not (sym k ∙ theirs.0)) (h.4 j u e)) in
+    (owner, h.1, h.2, h.3, all_set (Fits owner h.1 h.2 all) vs other knows.Spent tt (λ j u apart e. most j u e apart))
 
 pub keeps_end : (pass : ℕ) (v : Knows) (other : ℕ) (w : Knows) → v ≡ knows.Taker (taken_of v) → w ≡ knows.Pusher (pushed_of w) → Merges Kept pass v other w (both v w) knows.Spent
 keeps_end pass v other w is that =
@@ -205,30 +209,43 @@ keeps_end pass v other w is that =
 
 -- ---- the beginning and the end
 
-unbegun_owned : (n i : ℕ) → Each (Owns (λ _. 0) [] 0) (unbegun n i)
-unbegun_owned zero i = tt
-unbegun_owned (suc n) i = ((refl, refl), unbegun_owned n (i + 1))
+unbegun_owned : (n i : ℕ) → 0 < i → n + i ≤ 8 → Each (Owns (λ _. 0) [] 0) (unbegun n i)
+unbegun_owned zero i above few = tt
+unbegun_owned (suc n) i above few = ((refl, refl, (above, omega arith)), unbegun_owned n (i + 1) (omega arith) (omega arith))
 
 pub begins : Kept [] (newcomer ∷ [])
 begins = (
   (λ _. 0),
   0,
   [],
+  tt,
   λ j u e. ⊎_elim (λ x. absurd (some-ne-none u (sym x))) (λ (x : (j ≡ 0) × (newcomer ≡ u)).
-      subst (λ (y : ℕ × Knows). Fits (λ _. 0) 0 [] [] y.0 y.1) (λ i. (sym x.0 i, x.1 i)) (refl, refl, unbegun_owned 7 1)) (at_end [] newcomer u j e),
+      subst (λ (y : ℕ × Knows). Fits (λ _. 0) 0 [] [] y.0 y.1) (λ i. (sym x.0 i, x.1 i)) (refl, refl, unbegun_owned 7 1 (omega arith) (omega arith))) (at_end [] newcomer u j e),
 )
 
 nil_of : {A : Type 0} (xs : List A) → length xs ≡ 0 → xs ≡ []
 nil_of [] e = refl
 nil_of (x ∷ xs) e = absurd (omega arith)
 
+each_front : {A : Type 0} (P : A → Type 0) (xs ys : List A) → Each P (xs ++ ys) → Each P xs
+each_front P [] ys h = tt
+each_front P (x ∷ xs) ys h = (h.0, each_front P xs ys h.1)
+
 pub whole : (v : Knows) → Held 0 (Rests v) → IsWhole (taken_of v)
-whole v held = let t = taken_of v in each_map (λ p. p.records ≡ records_by p.requester (t.records ++ held.0)) (λ p. records_by p.requester t.records ≡ p.records)
-    (λ p e. sym (e ∙ ap (records_by p.requester) (ap (λ l. t.records ++ l) (nil_of held.0 held.1) ∙ append-nil t.records))) t.known held.2
+whole v held =
+    let t = taken_of v in (
+      each_map (λ p. p.records ≡ records_by p.requester (t.records ++ held.0)) (λ p. records_by p.requester t.records ≡ p.records)
+          (λ p e. sym (e ∙ ap (records_by p.requester) (ap (λ l. t.records ++ l) (nil_of held.0 held.1) ∙ append-nil t.records))) t.known held.2.0,
+      each_front (λ r. IsRequesterNumber (requester_of r)) t.records held.0 held.2.1,
+    )
 
 pub begun : (v : Knows) (items : List Record) → Rests v items → IsBegun (taken_of v)
-begun v items h = let t = taken_of v in each_map (λ p. p.records ≡ records_by p.requester (t.records ++ items)) (λ p. (rest : List Record) × (p.records ≡ records_by p.requester t.records ++ rest))
-    (λ p e. (records_by p.requester items, e ∙ by_append p.requester t.records items)) t.known h
+begun v items h =
+    let t = taken_of v in (
+      each_map (λ p. p.records ≡ records_by p.requester (t.records ++ items)) (λ p. (rest : List Record) × (p.records ≡ records_by p.requester t.records ++ rest))
+          (λ p e. (records_by p.requester items, e ∙ by_append p.requester t.records items)) t.known h.0,
+      each_front (λ r. IsRequesterNumber (requester_of r)) t.records items h.1,
+    )
 
 -- ---- what the calls' clauses say
 

@@ -1,5 +1,5 @@
 -- What passes of the recorder's queue know, and the rule that holds of them and of what it holds.
-use Rattle.std.specs.Prelude.{◌≡◌, ◌==◌, ℕ, ◌+◌, zero, suc, List, [], ◌∷◌, ◌++◌, filter}
+use Rattle.std.specs.Prelude.{◌≡◌, ◌==◌, ◌<◌, ℕ, ◌+◌, zero, suc, List, [], ◌∷◌, ◌++◌, filter}
 use Rattle.std.specs.List.{AllByRecursion as Each}
 use mathlib.Core.Option.{some}
 use lib.ListN.{get_elem?}
@@ -13,6 +13,14 @@ use Rattle.recorder.specs.declared.laws.Knows.TheVariants as knows
 -- the records of requester i, in order
 abbrev pub records_by : ℕ → List Record → List Record
 records_by i rs = filter (λ r. i == requester_of r) rs
+
+-- the number of a requester, 1 to 7
+abbrev pub IsRequesterNumber : ℕ → Type 0
+IsRequesterNumber i = (0 < i) × (i < 8)
+
+-- each record is of such a requester
+abbrev pub AreOfRequesters : List Record → Type 0
+AreOfRequesters rs = Each (λ r. IsRequesterNumber (requester_of r)) rs
 
 -- ---- what passes know
 
@@ -53,7 +61,7 @@ taken_of knows.Spent = record { known = []; records = [] }
 
 -- the pass has that requester, and all that was pushed of it
 abbrev pub Owns : (ℕ → ℕ) → List Record → ℕ → Pushed → Type 0
-Owns owner all pass p = (owner p.requester ≡ pass) × (p.records ≡ records_by p.requester all)
+Owns owner all pass p = (owner p.requester ≡ pass) × (p.records ≡ records_by p.requester all) × IsRequesterNumber p.requester
 
 -- what a pass knows fits the one checker, what it got, and all that was pushed
 abbrev pub Fits : (ℕ → ℕ) → ℕ → List Record → List Record → ℕ → Knows → Type 0
@@ -62,10 +70,11 @@ Fits owner reader got all pass (knows.Taker t) = (reader ≡ pass) × (t.records
 Fits owner reader got all pass knows.Spent = Unit {0}
 
 -- Each requester has one pass, and there is one checker. What each requester pushed is what was
--- taken of it and then what the queue holds of it, in order
+-- taken of it and then what the queue holds of it, in order. No record is of anyone else
 abbrev pub Kept : List Record → List Knows → Type 0
 Kept items views =
     (owner : ℕ → ℕ) × (reader : ℕ) × (got : List Record)
+    × AreOfRequesters (got ++ items)
     × ((pass : ℕ) (v : Knows) → get_elem? views pass ≡ some v → Fits owner reader got (got ++ items) pass v)
 
 -- ---- what the calls tell
@@ -76,9 +85,9 @@ pushes v r w = w ≡ knows.Pusher (with_pushed (pushed_of v) r)
 abbrev pub takes : Knows → Record → Knows → Type 0
 takes v r w = w ≡ knows.Taker (with_taken (taken_of v) r)
 
--- what a requester pushed is what was taken of it and then what the queue holds of it
+-- what a requester pushed is what was taken of it and then what the queue holds of it, and no record is of anyone else
 abbrev pub Rests : Knows → List Record → Type 0
-Rests v items = Each (λ p. p.records ≡ records_by p.requester ((taken_of v).records ++ items)) (taken_of v).known
+Rests v items = Each (λ p. p.records ≡ records_by p.requester ((taken_of v).records ++ items)) (taken_of v).known × AreOfRequesters ((taken_of v).records ++ items)
 
 abbrev pub but_first_of : List Pushed → List Pushed
 but_first_of [] = []
@@ -102,10 +111,10 @@ both v w = knows.Taker (record { known = (taken_of v).known ++ pushed_of w ∷ [
 
 -- ---- what was taken
 
--- all that they pushed was taken, in order, each once
+-- all that they pushed was taken, in order, each once, and nothing that no requester pushed
 abbrev pub IsWhole : Taken → Type 0
-IsWhole t = Each (λ p. records_by p.requester t.records ≡ p.records) t.known
+IsWhole t = Each (λ p. records_by p.requester t.records ≡ p.records) t.known × AreOfRequesters t.records
 
--- what was taken of them is a beginning of what they pushed, each once
+-- what was taken of them is a beginning of what they pushed, each once, and nothing that no requester pushed
 abbrev pub IsBegun : Taken → Type 0
-IsBegun t = Each (λ p. (rest : List Record) × (p.records ≡ records_by p.requester t.records ++ rest)) t.known
+IsBegun t = Each (λ p. (rest : List Record) × (p.records ≡ records_by p.requester t.records ++ rest)) t.known × AreOfRequesters t.records

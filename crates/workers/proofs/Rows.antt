@@ -1,7 +1,7 @@
 -- Seats, threads and records in the order of their requesters.
 use Rattle.std.proofs.Math.Seq.{take-suc, drop-cons}
-use Rattle.std.proofs.lemmas.List.{map-append, length-map, length-take-le}
-use Rattle.std.proofs.Common.{◌≡◌, ℕ, suc, ◌+◌, ◌<◌, Vec, Global, Bool, true, false, cond, eqb, ◌&&◌, ◌||◌, List, [], ◌∷◌, ◌++◌, length, map, take, drop, get_or, refl, add-one, subst, ◌∙◌, sym, ap, arith}
+use Rattle.std.proofs.lemmas.List.{map-append, length-append, length-map, length-take-le}
+use Rattle.std.proofs.Common.{◌≡◌, ◌≢◌, ℕ, zero, suc, ◌+◌, ◌-◌, ◌*◌, ◌<◌, add-zero, true≢false, eq-eqb, Vec, Global, Bool, true, false, cond, eqb, ◌&&◌, ◌||◌, List, [], ◌∷◌, ◌++◌, length, map, take, drop, get_or, refl, add-one, subst, ◌∙◌, sym, ap, arith}
 use Rattle.std.specs.Prelude.{remove, Some, None, slice_get}
 use Rattle.std.specs.declared.thread.PromisedHandle.{PromisedHandle}
 use Rattle.std.specs.List.{AllByRecursion as Each, list_any, cons_option}
@@ -15,11 +15,15 @@ use Rattle.hall_laws.specs.Rule.{newcomer}
 use Rattle.hall_core.specs.Views.{SeatView, HallView, IsSeatOf}
 use Rattle.recorder.specs.declared.laws.Pushed.{Pushed}
 use Rattle.recorder.specs.declared.laws.Taken.{Taken}
-use Rattle.recorder.specs.Rule.{records_by, IsWhole}
+use Rattle.recorder.specs.Rule.{records_by, unbegun, IsWhole}
 use Rattle.worker_requester.specs.declared.requester.Ended.{Ended}
 use Rattle.workers.specs.declared.threads.Keeps.{Keeps}
 use Rattle.worker_requester.specs.Following.{IsUnusedSeat, Finishes}
-use Rattle.workers.specs.Running.{AreUnusedSeats, AreSeats, AreHandles, AreFinished, AreDone}
+use Rattle.fabric_core.specs.declared.event.LaneName.TheVariants as lanes
+use Rattle.workers.specs.declared.jobs.Job.{Job}
+use Rattle.workers.specs.declared.jobs.Job.TheVariants as jobs
+use Rattle.workers.specs.Jobs.{lane_jobs, port_jobs, jobs_of}
+use Rattle.workers.specs.Running.{AreUnusedSeats, AreSeats, AreHandles, AreFinished, AreBelow, AreDone}
 
 pub seats_next : (hall : HallView) (i : ℕ) (ss : List SeatView) → AreUnusedSeats hall i ss → 0 < length ss → AreUnusedSeats hall (i + 1) (remove ss 0)
 seats_next hall i [] h some = absurd (omega arith)
@@ -134,22 +138,70 @@ answers_by : (i k : ℕ) (rs : List Record) → list_any (answers_to i k) (recor
 answers_by i k [] = refl
 answers_by i k (r ∷ rs) = answers_by_at i k r rs (eqb i (requester_of r)) refl (answers_by i k rs)
 
-done_of : (rs : List Record) (i : ℕ) (ss : List (List Op)) (ps : List Pushed) → AreFinished i ss ps → Each (λ p. records_by p.requester rs ≡ p.records) ps → AreDone rs i ss
-done_of rs i [] [] f h = tt
-done_of rs i [] (p ∷ ps) f h = absurd f
-done_of rs i (s ∷ ss) [] f h = absurd f
-done_of rs i (s ∷ ss) (p ∷ ps) f h =
+-- ---- no record is of a requester who never began
+
+each_map : {A : Type 0} (P Q : A → Type 0) → ((x : A) → P x → Q x) → (xs : List A) → Each P xs → Each Q xs
+each_map P Q f [] h = tt
+each_map P Q f (x ∷ xs) h = (f x h.0, each_map P Q f xs h.1)
+
+none_by_at : (i : ℕ) (r : Record) (rs : List Record) (b : Bool) → eqb i (requester_of r) ≡ b → cond b (r ∷ records_by i rs) (records_by i rs) ≡ [] → (requester_of r ≢ i) × (records_by i rs ≡ [])
+none_by_at i r rs true e none = let count : suc (length (records_by i rs)) ≡ 0 = ap length none in absurd (omega arith)
+none_by_at i r rs false e none = ((λ same. true≢false (sym (eq-eqb i (requester_of r) (sym same)) ∙ e)), none)
+
+none_by : (i : ℕ) (rs : List Record) → records_by i rs ≡ [] → Each (λ r. requester_of r ≢ i) rs
+none_by i [] none = tt
+none_by i (r ∷ rs) none = let h = none_by_at i r rs (eqb i (requester_of r)) refl none in (h.0, none_by i rs h.1)
+
+less : (i : ℕ) (rs : List Record) → AreBelow (i + 1) rs → Each (λ r. requester_of r ≢ i) rs → AreBelow i rs
+less i [] below none = tt
+less i (r ∷ rs) below none = let not = none.0 in ((below.0.0, omega arith), less i rs below.1 none.1)
+
+-- no record of the requesters from i on, who are so many
+below_unbegun : (n i : ℕ) (rs : List Record) → Each (λ p. records_by p.requester rs ≡ p.records) (unbegun n i) → AreBelow (i + n) rs → AreBelow i rs
+below_unbegun zero i rs none below = subst (λ k. AreBelow k rs) (add-zero i) below
+below_unbegun (suc n) i rs none below =
+    less i rs (below_unbegun n (i + 1) rs none.1 (subst (λ k. AreBelow k rs) (omega arith) below)) (none_by i rs none.0)
+
+done_of : (rs : List Record) (i : ℕ) (ss : List (List Op)) (ps : List Pushed) → AreFinished i ss ps → Each (λ p. records_by p.requester rs ≡ p.records) ps → AreBelow (i + length ss) rs → AreDone rs i ss
+done_of rs i [] [] f h below = subst (λ k. AreBelow k rs) (add-zero i) below
+done_of rs i [] (p ∷ ps) f h below = absurd f
+done_of rs i (s ∷ ss) [] f h below = absurd f
+done_of rs i (s ∷ ss) (p ∷ ps) f h below =
     let mine : records_by i rs ≡ p.records = ap (λ k. records_by k rs) (sym f.0) ∙ h.0 in (
       sym (submissions_by i rs) ∙ ap (λ l. submissions l i) mine ∙ ap (λ k. submissions p.records k) (sym f.0) ∙ f.1.submitted,
       λ k op at np. sym (answers_by i k rs) ∙ ap (list_any (answers_to i k)) mine ∙ ap (λ j. list_any (answers_to j k) p.records) (sym f.0) ∙ f.1.answered k op at np,
-      done_of rs (i + 1) ss ps f.2 h.1,
+      done_of rs (i + 1) ss ps f.2 h.1 (subst (λ k. AreBelow k rs) (omega arith) below),
     )
 
 each_behind : {A : Type 0} (P : A → Type 0) (xs ys : List A) → Each P (xs ++ ys) → Each P ys
 each_behind P [] ys h = h
 each_behind P (x ∷ xs) ys h = each_behind P xs ys h.1
 
-pub done : (t : Taken) (rs : List Record) (ss : List (List Op)) (before pushed : List Pushed) → IsWhole t → t.records ≡ rs → t.known ≡ before ++ pushed → AreFinished 1 ss pushed → AreDone rs 1 ss
-done t rs ss before pushed whole is known f =
-    let all : Each (λ p. records_by p.requester t.records ≡ p.records) (before ++ pushed) = subst (Each (λ p. records_by p.requester t.records ≡ p.records)) known whole in
-    subst (λ l. AreDone l 1 ss) is (done_of t.records 1 ss pushed f (each_behind (λ p. records_by p.requester t.records ≡ p.records) before pushed all))
+each_before : {A : Type 0} (P : A → Type 0) (xs ys : List A) → Each P (xs ++ ys) → Each P xs
+each_before P [] ys h = tt
+each_before P (x ∷ xs) ys h = (h.0, each_before P xs ys h.1)
+
+pub done : (t : Taken) (rs : List Record) (ss : List (List Op)) (before pushed : List Pushed) → IsWhole t → t.records ≡ rs → t.known ≡ before ++ pushed → before ≡ unbegun (7 - length ss) (length ss + 1) → length ss < 8 → AreFinished 1 ss pushed → AreDone rs 1 ss
+done t rs ss before pushed whole is known unbegun_is few f =
+    let P : Pushed → Type 0 = λ p. records_by p.requester t.records ≡ p.records in
+    let all : Each P (before ++ pushed) = subst (Each P) known whole.0 in
+    let n = length ss in
+    let others : Each P (unbegun (7 - n) (n + 1)) = subst (Each P) unbegun_is (each_before P before pushed all) in
+    let within : AreBelow (n + 1 + (7 - n)) t.records = subst (λ k. AreBelow k t.records) (omega arith) whole.1 in
+    let below : AreBelow (1 + n) t.records = subst (λ k. AreBelow k t.records) (omega arith) (below_unbegun (7 - n) (n + 1) t.records others within) in
+    subst (λ l. AreDone l 1 ss) is (done_of t.records 1 ss pushed f (each_behind P before pushed all) below)
+
+-- ---- the jobs
+
+pub port_jobs_count : (n : ℕ) → length (port_jobs n) ≡ 4 * n
+port_jobs_count zero = refl
+port_jobs_count (suc n) = length-append (port_jobs n) (lane_jobs (lanes.Up (suc n)) ++ lane_jobs (lanes.Down (suc n))) ∙ ap (λ k. k + 4) (port_jobs_count n) ∙ omega arith
+
+pub jobs_count : (n : ℕ) → length (jobs_of n) ≡ 4 * n + 6
+jobs_count n = length-append (port_jobs n) (lane_jobs lanes.Inward ++ (lane_jobs lanes.Outward ++ jobs.Switch ∷ jobs.Completer ∷ [])) ∙ ap (λ k. k + 6) (port_jobs_count n)
+
+-- the promises of the threads, of which one more was started
+pub promised_more : (js : List Job) (i : ℕ) (hs : List (PromisedHandle (Unit {0}) Job)) (j : Job) (h : PromisedHandle (Unit {0}) Job) → map (λ t. t.promise) hs ≡ take i js → i < length js → j ≡ get_or js i j → h.promise ≡ j
+    → map (λ t. t.promise) (hs ++ h ∷ []) ≡ take (i + 1) js
+promised_more js i hs j h old below here is = map-append (λ (t : PromisedHandle (Unit {0}) Job). t.promise) hs (h ∷ [])
+    ∙ (λ k. old k ++ is k ∷ []) ∙ sym (ap (λ k. take k js) (add-one i) ∙ take-suc js i j below ∙ ap (λ x. take i js ++ x ∷ []) (sym here))

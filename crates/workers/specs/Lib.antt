@@ -1,2 +1,3 @@
 pub mod Running
 pub mod Crews
+pub mod Jobs

@@ -1,10 +1,11 @@
 -- Seats, threads and records in the order of their requesters.
-use Rattle.std.specs.Prelude.{◌≡◌, ℕ, ◌+◌, List, [], ◌∷◌}
-use Rattle.std.specs.List.{All}
+use Rattle.std.specs.Prelude.{◌≡◌, ◌<◌, ℕ, ◌+◌, List, [], ◌∷◌}
+use Rattle.std.specs.List.{All, AllByRecursion as Each}
 use Rattle.std.specs.declared.thread.PromisedHandle.{PromisedHandle}
 use Rattle.atomic_table.specs.Seated.{TableId}
 use Rattle.tlp_core.specs.declared.operation.Op.{Op}
 use Rattle.history_check.specs.declared.Record.{Record}
+use Rattle.history_check.specs.Lookup.{requester_of}
 use Rattle.history_check.specs.Trace.{submissions}
 use Rattle.recorder.specs.declared.laws.Pushed.{Pushed}
 use Rattle.hall_core.specs.Views.{SeatView, HallView, IsSeatOf}
@@ -41,8 +42,12 @@ AreFinished i [] (p ∷ ps) = ⊥
 AreFinished i (s ∷ ss) [] = ⊥
 AreFinished i (s ∷ ss) (p ∷ ps) = (p.requester ≡ i) × Finishes s p × AreFinished (i + 1) ss ps
 
--- the records' submissions of the requesters from that number on are these scripts, and each operation of theirs that
--- isn't posted is answered
+-- each record is of a requester from 1 on, below that number
+abbrev pub AreBelow : ℕ → List Record → Type 0
+AreBelow i rs = Each (λ r. (0 < requester_of r) × (requester_of r < i)) rs
+
+-- the records' submissions of the requesters from that number on are these scripts, each operation of theirs that isn't
+-- posted is answered, and no record is of a requester behind them
 abbrev pub AreDone : List Record → ℕ → List (List Op) → Type 0
-AreDone rs i [] = Unit {0}
+AreDone rs i [] = AreBelow i rs
 AreDone rs i (s ∷ ss) = (submissions rs i ≡ s) × IsAnswered i s rs × AreDone rs (i + 1) ss

@@ -4,6 +4,7 @@ ghost use Rattle.history_check.specs.Claim.{claim_of};
 ghost use Rattle.history_check.specs.Trace.{Explains};
 ghost use Rattle.hall_laws.specs.Rule.{HasConfig};
 ghost use Rattle.worker_report.specs.Halts.{IsPlan, IsOfMemory, IsCause};
+ghost use Rattle.workers.specs.Jobs.{jobs_of};
 ghost use Rattle.workers.specs.Running.{AreSeats, AreDone};
 ghost use Rattle.workers.specs.Crews.{IsCrewOf};
 
@@ -43,7 +44,9 @@ fn run_threads<R: Threads + Wait + Sync, G: Gate + Sync>(
 }
 
 /// How many workers there are beside the requesters.
-fn workers_of(requesters: u8) -> usize {
+fn workers_of(requesters: u8) -> usize
+    ensures { result ≡ length (jobs_of requesters) }
+{
     4 * usize::from(requesters) + 6
 }
 
@@ -99,7 +102,7 @@ pub fn run_workers_counting<R: Threads + Wait + Sync, G: Gate + Sync>(
 }
 
 /// Runs the plan. A report's history explains its trace, the submissions of each requester in the trace
-/// are its script, and each operation that isn't posted is answered.
+/// are its script, each operation that isn't posted is answered, and no record is of anyone else.
 pub fn run_workers<R: Threads + Wait + Sync, G: Gate + Sync>(
     rt: &R,
     alloc: Global,

@@ -1,8 +1,9 @@
 //! The threads of a run: one for each worker, each joined at its end.
-ghost use Rattle.std.specs.Prelude.{◌≡◌, ◌+◌, ◌-◌, ◌<◌, [], ◌++◌, IfOk, OnOk, IsTrue, vec_len, length, map};
+ghost use Rattle.std.specs.Prelude.{◌≡◌, ⊤, ◌+◌, ◌-◌, ◌<◌, [], ◌++◌, IfOk, OnOk, IsTrue, vec_len, length, map};
 ghost use Rattle.recorder.specs.Rule.{unbegun, IsWhole};
 ghost use Rattle.hall_core.specs.Views.{IsSeatOf};
 ghost use Rattle.worker_requester.specs.Following.{IsUnusedSeat, Follows, Finishes};
+ghost use Rattle.workers.specs.Jobs.{lane_jobs, port_jobs, jobs_of};
 ghost use Rattle.workers.specs.Running.{AreUnusedSeats, AreSeats, AreHandles, AreFinished, AreDone, AreWorkSeats};
 ghost use Rattle.workers.specs.Crews.{IsCrewOf};
 
@@ -119,6 +120,11 @@ fn start_all<'s, E, G: Gate + Sync>(
     Ok(handles)
 }
 
+/// The thread of a job is started.
+impl Promise<()> for Job {
+    ghost kept_by = { λ _ _. ⊤ };
+}
+
 /// What another worker's thread does.
 fn one_work<G: Gate>(worker: Worker<'_>, job: Job, mut turns: Turns<'_, G>)
     requires { IsSeatOf worker.hall.now worker.seat }
@@ -133,57 +139,87 @@ fn start_work<'s, E, G: Gate + Sync>(
     gate: &'s G,
     seat: WorkSeat,
     job: Job,
-) -> Result<(), AllocError>
+) -> Result<PromisedHandle<(), Job>, AllocError>
     requires { IsSeatOf run.now.hall seat }
+    ensures { IfOk result (λ h. h.promise ≡ job) }
 {
-    let handle = scope.spawn(move || {
+    let handle = scope.spawn_with(job, move || {
         one_work(
             Worker::new(&run.hall, seat, run.plan.plan, run.plan.config.requesters),
             job,
             Turns::new(job.number(), run.plan.turns, gate, &run.shared),
         )
     })?;
-    drop(handle);
+    Ok(handle)
+}
+
+/// The jobs of a lane join the others.
+fn push_lane(jobs: &mut Vec<Job>, lane: LaneName) -> Result<(), AllocError>
+    ensures { OnOk result (jobs.new.items ≡ jobs.old.items ++ lane_jobs lane) }
+{
+    jobs.push(Job::Sender(lane))?;
+    jobs.push(Job::Receiver(lane))?;
     Ok(())
 }
 
 /// The jobs of the workers beside the requesters.
-fn jobs_of(alloc: Global, requesters: u8) -> Result<Vec<Job>, AllocError>
+fn all_jobs(alloc: Global, requesters: u8) -> Result<Vec<Job>, AllocError>
     requires { requesters < 8 }
+    ensures { IfOk result (λ v. v.items ≡ jobs_of requesters) }
 {
     let mut jobs = Vec::new(alloc);
     for i in 0..requesters {
-        for lane in [LaneName::Up(i + 1), LaneName::Down(i + 1)] {
-            jobs.push(Job::Sender(lane))?;
-            jobs.push(Job::Receiver(lane))?;
-        }
+        push_lane(&mut jobs, LaneName::Up(i + 1))?;
+        push_lane(&mut jobs, LaneName::Down(i + 1))?;
     }
-    for lane in [LaneName::Inward, LaneName::Outward] {
-        jobs.push(Job::Sender(lane))?;
-        jobs.push(Job::Receiver(lane))?;
-    }
+    push_lane(&mut jobs, LaneName::Inward)?;
+    push_lane(&mut jobs, LaneName::Outward)?;
     jobs.push(Job::Switch)?;
     jobs.push(Job::Completer)?;
     Ok(jobs)
 }
 
-/// Starts all workers beside the requesters.
+/// Starts all workers beside the requesters, a thread for each job.
 fn start_others<'s, E, G: Gate + Sync>(
     scope: &Scope<'s, E>,
     run: &'s RunContext,
     gate: &'s G,
     mut seats: Vec<WorkSeat>,
-) -> Result<(), AllocError>
+) -> Result<Vec<PromisedHandle<(), Job>>, AllocError>
     requires count { run.now.plan.config.requesters < 8 }
-    requires seats { AreWorkSeats run.now.hall seats.items }
+    requires seats { (vec_len seats ≡ length (jobs_of run.now.plan.config.requesters)) × AreWorkSeats run.now.hall seats.items }
+    ensures { IfOk result (λ v. map (λ h. h.promise) v.items ≡ jobs_of run.now.plan.config.requesters) }
 {
-    for job in jobs_of(run.alloc, run.plan.config.requesters)? {
-        let Some(seat) = seats.pop() else {
-            break;
-        };
-        start_work(scope, run, gate, seat, job)?;
+    let jobs = all_jobs(run.alloc, run.plan.config.requesters)?;
+    let mut handles = Vec::with_capacity(run.alloc, jobs.len())?;
+    for job in &jobs {
+        let seat = seats.pop().unwrap();
+        let handle = start_work(scope, run, gate, seat, *job)?;
+        handles.push(handle)?;
     }
-    Ok(())
+    Ok(handles)
+}
+
+/// Starts all threads. Those of the requesters are joined by their handles, the others with the scope.
+fn start_crew<'s, E, G: Gate + Sync>(
+    scope: &Scope<'s, E>,
+    run: &'s RunContext,
+    gate: &'s G,
+    seats: Vec<ReqSeat>,
+    workers: Vec<WorkSeat>,
+    taker: &mut Taker,
+) -> Result<Vec<PromisedHandle<Ended, Keeps<'s>>>, AllocError>
+    requires few { run.now.plan.config.requesters < 8 }
+    requires seats { (vec_len seats ≡ length run.now.plan.scripts.items) × (length run.now.plan.scripts.items < 8) × AreUnusedSeats run.now.hall 1 seats.items }
+    requires workers { (vec_len workers ≡ length (jobs_of run.now.plan.config.requesters)) × AreWorkSeats run.now.hall workers.items }
+    requires taker { (taker.old.queue ≡ run.now.recorder) × (taker.old.taken.known ≡ unbegun 7 1) }
+    ensures taker { taker.new.queue ≡ taker.old.queue }
+    ensures records { taker.new.taken.records ≡ taker.old.taken.records }
+    ensures known { OnOk result (taker.new.taken.known ≡ unbegun (7 - length run.now.plan.scripts.items) (length run.now.plan.scripts.items + 1)) }
+    ensures handles { IfOk result (λ v. AreHandles run.now.hall run.now.recorder 1 (map (λ s. s.items) run.now.plan.scripts.items) v.items) }
+{
+    drop(start_others(scope, run, gate, workers)?);
+    start_all(scope, run, gate, seats, taker)
 }
 
 /// How many of the records from that place on are answers.
@@ -287,11 +323,7 @@ pub fn drive<'s, E, R: Threads + Wait, G: Gate + Sync>(
         mut taker,
     } = crew;
     let mut records = Vec::new(run.alloc);
-    let started = match start_others(scope, run, gate, workers) {
-        Ok(()) => start_all(scope, run, gate, seats, &mut taker),
-        Err(refused) => Err(refused),
-    };
-    let handles = match started {
+    let handles = match start_crew(scope, run, gate, seats, workers, &mut taker) {
         Ok(handles) => handles,
         Err(refused) => {
             run.shared.stop(Stop::Memory);

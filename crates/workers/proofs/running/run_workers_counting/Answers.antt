@@ -18,6 +18,7 @@ run_threads-gathered-requires-clause-crew g c κs within =
       few = omega arith;
       seats = first_seats c.in-Ok.hall c.in-Ok.seats.items c.in-Ok.ensures.requesters;
       requesters = omega arith;
+      others = omega (arith, c.in-Ok.workers.ok.0, c.in-Ok.ensures.work.number, c.workers_of.ensures);
       workers = work_seats c.in-Ok.hall _ _ c.in-Ok.workers.items c.in-Ok.ensures.work;
       queue = search rules;
       known = search rules;
