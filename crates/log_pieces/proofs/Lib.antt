@@ -1,4 +1,5 @@
 pub mod RowLemmas
+pub mod EndLemmas
 pub mod Chunks
 pub mod Effects
 pub mod Shapes

@@ -14,7 +14,7 @@ mod replies;
 mod rows;
 mod splitting;
 
-pub use splitting::{in_pieces, records_of};
+pub use splitting::{ends_of, in_pieces, records_of};
 
 /// How many bytes of a read or a write act at once: naturally aligned pieces.
 #[derive(Clone, Copy, Debug, PartialEq, Eq)]

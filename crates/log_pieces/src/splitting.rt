@@ -1,5 +1,5 @@
 //! A log in pieces.
-ghost use Rattle.std.specs.Prelude.{◌≡◌, ◌+◌, ◌≤◌, ◌++◌, ◌∷◌, ◌==◌, [], List, IfOk, IfSome, IfNone, OnOk, length, slice_get, take};
+ghost use Rattle.std.specs.Prelude.{ℕ, ◌≡◌, ◌+◌, ◌<◌, ◌≤◌, ◌++◌, ◌∷◌, ◌==◌, [], List, IfOk, IfSome, IfNone, OnOk, Some, length, slice_get, take};
 ghost use Rattle.history_check.specs.declared.Record.{Record};
 ghost use Rattle.history_check.specs.TraceView.{TraceView};
 ghost use Rattle.log_runs.specs.Explainable.{IsExplainable, prefix};
@@ -268,6 +268,46 @@ fn reach(
         add(alloc, &mut pieces, &mut table, cut, &records[at])?;
     }
     Ok(records.len())
+}
+
+/// How many pieces the records up to each one have.
+fn ends(alloc: Global, cut: &Splitter, records: &[Record]) -> Result<Vec<usize>, AllocError>
+    requires some { 4 ≤ cut.now.bytes }
+    requires few { cut.now.bytes ≤ 64 }
+    ensures len { IfOk result (λ v. length v.items ≡ length records.now) }
+    ensures each { IfOk result (λ v. (a : ℕ) → a < length records.now → slice_get v.items a ≡ Some (length (spec.split_all (pieces cut.now.bytes cut.now.extent) [] (take (a + 1) records.now)))) }
+{
+    let mut pieces = Vec::new(alloc);
+    let mut ends = Vec::new(alloc);
+    let mut table = rows(alloc)?;
+    for item in records {
+        add(alloc, &mut pieces, &mut table, cut, item)?;
+        ends.push(pieces.len())?;
+    }
+    Ok(ends)
+}
+
+/// How many records the log in pieces of that size has of the records up to each one; none of whole requests, where
+/// each record is one. Fails where [`in_pieces`] does.
+pub fn ends_of(
+    alloc: Global,
+    trace: &Trace,
+    granularity: Granularity,
+) -> Result<Option<Vec<usize>>, AllocError>
+    ensures len { IfOk result (λ o. IfSome o (λ v. length v.items ≡ length trace.now.records)) }
+    ensures each { IfOk result (λ o. IfSome o (λ v. (a : ℕ) → a < length trace.now.records → slice_get v.items a ≡ Some (length (spec.in_pieces granularity (prefix (a + 1) trace.now)).records))) }
+    ensures whole { IfOk result (λ o. IfNone o (granularity ≡ Granularity.Whole)) }
+{
+    match bytes_of(granularity) {
+        Some(bytes) => {
+            let cut = Splitter {
+                bytes,
+                extent: trace.extent,
+            };
+            Ok(Some(ends(alloc, &cut, &trace.records)?))
+        }
+        None => Ok(None),
+    }
 }
 
 /// How many of the first records have the first `count` records of the log in pieces among their own: where those have

@@ -1,7 +1,8 @@
-//! Small logs of which it is proved whether a history explains them.
+//! What the definition of an explainable log says: small logs of which it is proved whether a history explains them,
+//! and which lines of a log may stand in another order.
 //!
-//! They show what the definition of an explainable log says, by examples: each function here has no
-//! code, and its clause is the fact about one log.
+//! Each function here has no code, and its clause is the fact.
 #![tactic(auto)]
 
 pub mod rows;
+pub mod swaps;
