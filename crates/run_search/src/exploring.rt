@@ -4,10 +4,9 @@ ghost use Rattle.run_search.specs.Catalogs.{IsCatalog};
 ghost use Rattle.run_search.specs.Frames.{IsAt};
 ghost use Rattle.run_search.specs.Outcomes.{IsRun, IsRight};
 
-use crate::catalog::{Catalog, catalog_of};
+use crate::catalog::{Catalog, Way, catalog_of};
 use crate::walk::{Walk, advance, begin, settle};
 use log_runs::{Log, Step};
-use search_choices::Turn;
 use std::alloc::{AllocError, Global};
 
 /// What a search for a run says.
@@ -40,16 +39,6 @@ pub struct Bounds {
     pub choices: u64,
     /// How much work it does: about as many steps, or requests that are looked at for one.
     pub work: u64,
-}
-
-/// Which way a search goes.
-#[derive(Clone, Copy)]
-pub enum Way<'a> {
-    /// Through a part of a log. Posted writes over what nobody needs act as soon as they may, so that the
-    /// run is a good guide to the whole.
-    Part,
-    /// Through a whole log. These say when requests act in runs through its parts.
-    Whole(&'a [Turn]),
 }
 
 /// Takes the steps that may be taken at once. All steps that were taken, if they lead to the end.
@@ -92,7 +81,6 @@ fn choose(
     alloc: Global,
     log: &Log,
     catalog: &Catalog,
-    turns: &[Turn],
     limit: u64,
 ) -> Result<Exploration, AllocError>
     requires at { IsAt log.now walk.old }
@@ -108,7 +96,7 @@ fn choose(
         if walk.work == 0 {
             return Ok(explored(Outcome::Limit, limit, walk));
         }
-        if !advance(walk, alloc, log, catalog, turns)? {
+        if !advance(walk, alloc, log, catalog)? {
             return Ok(explored(Outcome::Dead, states + 1, walk));
         }
     }
@@ -116,29 +104,6 @@ fn choose(
         Some(steps) => Ok(explored(Outcome::Run(steps), limit, walk)),
         None => Ok(explored(Outcome::Limit, limit, walk)),
     }
-}
-
-/// Looks for steps that lead from the start of the log to its end. A whole log without a choice needn't know
-/// from where on nobody needs what a request leaves.
-fn explore_by(
-    alloc: Global,
-    log: &Log,
-    catalog: &mut Catalog,
-    early: bool,
-    turns: &[Turn],
-    bounds: Bounds,
-) -> Result<Exploration, AllocError>
-    requires { IsCatalog log.now catalog.old }
-    ensures right { IfOk result (λ r. IsRight log.now r.outcome) }
-    ensures states { IfOk result (λ r. r.states ≤ bounds.choices) }
-    ensures limit { IfOk result (λ r. r.outcome ≡ Outcome.Limit → r.states ≡ bounds.choices) }
-{
-    let mut walk = begin(alloc, log, early, bounds.work)?;
-    if let Some(steps) = finished(&mut walk, alloc, log, catalog)? {
-        return Ok(explored(Outcome::Run(steps), 0, &walk));
-    }
-    catalog.note_calm(log);
-    choose(&mut walk, alloc, log, catalog, turns, bounds.choices)
 }
 
 /// Looks for steps that lead from the start of the log to its end, within the bounds. Where the work ends
@@ -153,10 +118,11 @@ pub fn explore(
     ensures states { IfOk result (λ r. r.states ≤ bounds.choices) }
     ensures limit { IfOk result (λ r. r.outcome ≡ Outcome.Limit → r.states ≡ bounds.choices) }
 {
-    let (early, turns): (bool, &[Turn]) = match way {
-        Way::Part => (true, &[]),
-        Way::Whole(turns) => (false, turns),
-    };
-    let mut catalog = catalog_of(alloc, log, early)?;
-    explore_by(alloc, log, &mut catalog, early, turns, bounds)
+    let mut catalog = catalog_of(alloc, log, way)?;
+    let mut walk = begin(alloc, log, bounds.work)?;
+    if let Some(steps) = finished(&mut walk, alloc, log, &catalog)? {
+        return Ok(explored(Outcome::Run(steps), 0, &walk));
+    }
+    catalog.note_calm(log);
+    choose(&mut walk, alloc, log, &catalog, bounds.choices)
 }

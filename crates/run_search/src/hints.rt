@@ -94,6 +94,18 @@ impl Look {
         Look::Marked { from: 0, marks: 0 }
     }
 
+    /// At the request that was passed just now, if it was one.
+    fn passed(place: &Place) -> Look {
+        let pending = place.pending();
+        let is_one = pending
+            .last()
+            .is_some_and(|b| b.saturating_add(1) == place.event());
+        Look::Marked {
+            from: pending.len() - usize::from(is_one),
+            marks: u32::MAX,
+        }
+    }
+
     /// The marks of those of the whole list that weren't looked at yet.
     fn left(self) -> u32 {
         match self {
@@ -102,23 +114,13 @@ impl Look {
         }
     }
 
-    /// Which are looked at once the step was taken that led to the place, where so many were pending
-    /// before it: one that was passed just now, or those that the request may have been in the way of.
-    pub(crate) fn after(
-        self,
-        log: &Log,
-        catalog: &Catalog,
-        place: &Place,
-        pending: usize,
-        step: Step,
-    ) -> Look
+    /// Which are looked at once the step was taken that led to the place: one that was passed just now, or
+    /// those that the request may have been in the way of.
+    pub(crate) fn after(self, log: &Log, catalog: &Catalog, place: &Place, step: Step) -> Look
         requires { IsCatalog log.now catalog.now }
     {
         let Step::Act(b) = step else {
-            return Look::Marked {
-                from: pending,
-                marks: u32::MAX,
-            };
+            return Look::passed(place);
         };
         let Some(sketch) = catalog.sketches.get(b).copied() else {
             return Look::all();
@@ -259,11 +261,19 @@ fn writers_before(place: &Place, sketches: &[Sketch], own: Sketch, b: usize) -> 
     writers
 }
 
+/// A request at one of its words.
+#[derive(Clone, Copy)]
+struct Spot {
+    q: usize,
+    word: u64,
+}
+
 /// Request `b` has acted, or is `q`; or it is nothing to it what stands at the word and what `q` leaves
 /// there; or it is pending and may act in turn after `q`.
-fn lets_act(place: &Place, log: &Log, sketches: &[Sketch], q: usize, word: u64, b: usize) -> bool
-    requires { word < log.now.extent.size / 4 }
+fn lets_act(place: &Place, log: &Log, sketches: &[Sketch], spot: Spot, b: usize) -> bool
+    requires { spot.word < log.now.extent.size / 4 }
 {
+    let Spot { q, word } = spot;
     if b == q || place.has_acted(b) {
         return true;
     }
@@ -282,21 +292,14 @@ fn lets_act(place: &Place, log: &Log, sketches: &[Sketch], q: usize, word: u64, 
 }
 
 /// [`lets_act`], each of the list, which isn't long.
-fn all_let_act(
-    place: &Place,
-    log: &Log,
-    sketches: &[Sketch],
-    q: usize,
-    word: u64,
-    list: &[usize],
-) -> bool
-    requires { word < log.now.extent.size / 4 }
+fn all_let_act(place: &Place, log: &Log, sketches: &[Sketch], spot: Spot, list: &[usize]) -> bool
+    requires { spot.word < log.now.extent.size / 4 }
 {
     if list.len() > MOST {
         return false;
     }
     for b in list {
-        if !lets_act(place, log, sketches, q, word, *b) {
+        if !lets_act(place, log, sketches, spot, *b) {
             return false;
         }
     }
@@ -304,19 +307,19 @@ fn all_let_act(
 }
 
 /// [`lets_act`], each that may need what stands at the word now, or what request `q` leaves there.
-fn is_junk_for(place: &Place, log: &Log, catalog: &Catalog, q: usize, word: u64) -> bool
+fn is_junk_for(place: &Place, log: &Log, catalog: &Catalog, spot: Spot) -> bool
     requires catalog { IsCatalog log.now catalog.now }
-    requires word { word < log.now.extent.size / 4 }
+    requires word { spot.word < log.now.extent.size / 4 }
 {
     let words = catalog.others.words();
     let sketches = catalog.sketches.as_slice();
     let (from, to) = (place.earliest(), log.len());
-    let there = near_junk(words, log, place.bytes(), word, from, to);
-    let left = near_left(words, log, q, word, from, to);
-    all_let_act(place, log, sketches, q, word, there.known)
-        && all_let_act(place, log, sketches, q, word, left.known)
-        && all_let_act(place, log, sketches, q, word, there.unknown)
-        && all_let_act(place, log, sketches, q, word, there.wide)
+    let there = near_junk(words, log, place.bytes(), spot.word, from, to);
+    let left = near_left(words, log, spot.q, spot.word, from, to);
+    all_let_act(place, log, sketches, spot, there.known)
+        && all_let_act(place, log, sketches, spot, left.known)
+        && all_let_act(place, log, sketches, spot, there.unknown)
+        && all_let_act(place, log, sketches, spot, there.wide)
 }
 
 /// What stands where request `q` writes and what it leaves there may be nothing to all that are left
@@ -328,7 +331,7 @@ pub(crate) fn may_be_over_junk(place: &Place, log: &Log, catalog: &Catalog, q: u
         return false;
     };
     for word in first..end {
-        if !is_junk_for(place, log, catalog, q, word) {
+        if !is_junk_for(place, log, catalog, Spot { q, word }) {
             return false;
         }
     }

@@ -16,4 +16,5 @@ mod rules;
 mod sketches;
 mod walk;
 
-pub use exploring::{Bounds, Exploration, Outcome, Way, explore};
+pub use catalog::Way;
+pub use exploring::{Bounds, Exploration, Outcome, explore};

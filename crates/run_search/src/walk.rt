@@ -10,7 +10,7 @@ use crate::hints::{Look, Losses, is_back};
 use crate::junk::over_junk;
 use crate::rules::forced;
 use log_runs::{Log, Step};
-use search_choices::{Turn, choices, only_step};
+use search_choices::{choices, only_step};
 use search_others::{Loss, due_is_lost, missed_at};
 use search_places::{Memo, Place, Stack};
 use std::alloc::{AllocError, Global};
@@ -32,15 +32,13 @@ pub(crate) struct Walk {
     losses: Losses,
     /// Which requests may act at once, and couldn't at the last frame.
     look: Look,
-    /// Posted writes over junk act before events are passed.
-    early: bool,
     /// No answer behind this place of the log was needed to see that a state is dead.
     pub(crate) reach: usize,
     /// How much work is left.
     pub(crate) work: u64,
 }
 
-pub(crate) fn begin(alloc: Global, log: &Log, early: bool, work: u64) -> Result<Walk, AllocError>
+pub(crate) fn begin(alloc: Global, log: &Log, work: u64) -> Result<Walk, AllocError>
     ensures { IfOk result (frames.IsAt log.now) }
 {
     Ok(Walk {
@@ -49,7 +47,6 @@ pub(crate) fn begin(alloc: Global, log: &Log, early: bool, work: u64) -> Result<
         memo: Memo::new(alloc),
         losses: Losses::new(alloc),
         look: Look::all(),
-        early,
         reach: 0,
         work,
     })
@@ -94,41 +91,44 @@ fn at_last(
     Ok(single(place, log, catalog))
 }
 
-/// A step that may be taken at once. An event is passed only if no posted write over junk may act, if they
-/// act early or are many; other requests over junk act only where there is no other step, and the only one that may be
-/// taken is no choice.
+/// How much work it is to see which step is taken at once, where the rules for one request see this one.
+fn work_for(place: &Place, step: Option<Step>) -> u64 {
+    let pending = place.pending().len() as u64;
+    let few = 1 + pending / 64;
+    match step {
+        Some(_) => few,
+        None => few + LAST + 4 * pending,
+    }
+}
+
+/// A step that may be taken at once, where the rules for one request see this one. An event is passed only if no posted
+/// write over junk may act, if they act early, as in a part, or are many; other requests over junk act only where
+/// there is no other step, and the only one that may be taken is no choice.
 fn at_once(
     place: &mut Place,
     alloc: Global,
     log: &Log,
     catalog: &Catalog,
-    look: Look,
-    early: bool,
-    work: &mut u64,
+    step: Option<Step>,
 ) -> Result<Option<Step>, AllocError>
     requires place { IsPlace log.now place.old }
     requires catalog { IsCatalog log.now catalog.now }
+    requires step { IfSome step (IsForced log.now place.old.state) }
     ensures state { OnOk result (place.new.state ≡ place.old.state) }
     ensures place { OnOk result (IsPlace log.now place.new) }
     ensures forced { IfOk result (λ o. IfSome o (IsForced log.now place.new.state)) }
 {
-    let pending = place.pending().len() as u64;
-    *work = work.saturating_sub(1 + pending / 64);
-    let step = forced(place, log, catalog, look);
     match step {
         Some(Step::Act(_)) => Ok(step),
         Some(Step::Pass) => {
-            if (early || are_many(place))
+            if (catalog.way.is_part() || are_many(place))
                 && let Some(write) = over_junk(place, alloc, log, catalog, true)?
             {
                 return Ok(Some(write));
             }
             Ok(step)
         }
-        None => {
-            *work = work.saturating_sub(LAST + 4 * pending);
-            at_last(place, alloc, log, catalog)
-        }
+        None => at_last(place, alloc, log, catalog),
     }
 }
 
@@ -143,21 +143,18 @@ pub(crate) fn settle(
     requires catalog { IsCatalog log.now catalog.now }
     ensures { OnOk result (frames.IsAt log.now walk.new) }
 {
-    let early = walk.early;
     let mut look = walk.look;
-    let mut work = walk.work;
     for _step in 0..u64::MAX {
-        if work == 0 {
+        if walk.work == 0 {
             return Ok(());
         }
-        let step = at_once(&mut walk.here, alloc, log, catalog, look, early, &mut work)?;
-        walk.work = work;
-        let Some(step) = step else {
+        let seen = forced(&walk.here, log, catalog, look);
+        walk.work = walk.work.saturating_sub(work_for(&walk.here, seen));
+        let Some(step) = at_once(&mut walk.here, alloc, log, catalog, seen)? else {
             return Ok(());
         };
-        let pending = walk.here.pending().len();
         let done = walk.here.take(log, step)?;
-        look = look.after(log, catalog, &walk.here, pending, step);
+        look = look.after(log, catalog, &walk.here, step);
         walk.losses.push(log, &walk.here, &done)?;
         walk.stack.push(&done)?;
     }
@@ -165,18 +162,12 @@ pub(crate) fn settle(
 }
 
 /// Keeps the steps that may be taken here.
-fn keep(
-    walk: &mut Walk,
-    alloc: Global,
-    log: &Log,
-    catalog: &Catalog,
-    turns: &[Turn],
-) -> Result<(), AllocError>
+fn keep(walk: &mut Walk, alloc: Global, log: &Log, catalog: &Catalog) -> Result<(), AllocError>
     requires at { frames.IsAt log.now walk.old }
     requires more { walk.old.here.state.event ≡ length log.now.events → ⊥ }
     ensures { OnOk result (frames.IsReady log.now walk.new) }
 {
-    let rest = choices(alloc, log, &catalog.others, turns, &walk.here)?;
+    let rest = choices(alloc, log, &catalog.others, catalog.turns(), &walk.here)?;
     walk.stack.close(rest.as_slice())?;
     Ok(())
 }
@@ -200,9 +191,8 @@ fn go_on(walk: &mut Walk, log: &Log, catalog: &Catalog, step: Step) -> Result<()
     ensures at { OnOk result (frames.IsAt log.now walk.new) }
     ensures frames { OnOk result (walk.new.stack.frames ≡ walk.old.stack.frames) }
 {
-    let pending = walk.here.pending().len();
     let done = walk.here.take(log, step)?;
-    walk.look = Look::none().after(log, catalog, &walk.here, pending, step);
+    walk.look = Look::none().after(log, catalog, &walk.here, step);
     walk.losses.list.clear();
     walk.losses.push(log, &walk.here, &done)?;
     walk.stack.push(&done)?;
@@ -299,7 +289,6 @@ pub(crate) fn advance(
     alloc: Global,
     log: &Log,
     catalog: &Catalog,
-    turns: &[Turn],
 ) -> Result<bool, AllocError>
     requires at { frames.IsAt log.now walk.old }
     requires catalog { IsCatalog log.now catalog.now }
@@ -312,7 +301,7 @@ pub(crate) fn advance(
         walk.reach = walk.reach.max(at);
         rewind(walk, log)?;
     } else {
-        keep(walk, alloc, log, catalog, turns)?;
+        keep(walk, alloc, log, catalog)?;
     }
     back(walk, alloc, log, catalog)
 }
