@@ -1,7 +1,6 @@
 //! What stands above the rows.
 ghost use Rattle.std.specs.Prelude.{◌≡◌, ◌<◌, ◌≤◌, ◌+◌, ◌-◌, ◌*◌, ◌++◌, codes, OnOk};
 ghost use Rattle.svg_text.specs.Shapes.{Shape, shape_text, shapes_text};
-ghost use Rattle.svg_text.specs.declared.colour.Colour.TheVariants as colours;
 ghost use Rattle.chart_rows.specs.Layout as layout;
 ghost use Rattle.chart_rows.specs.Words as said;
 ghost use Rattle.chart_page.specs.Shapes as spec;
@@ -194,13 +193,14 @@ pub(crate) fn put_columns(requesters: u8, bottom: u64, out: &mut Vec<u8>) -> Res
     Ok(())
 }
 
-/// White below a name.
-fn name_block(x: u64, y: u64) -> Block
+/// Adds a name, on white, in the stripe that ends at y.
+#[tactic(auto, unfolding(svg_text::specs::Shapes::shapes_text))]
+fn put_name(x: u64, y: u64, words: &[u8], out: &mut Vec<u8>) -> Result<(), AllocError>
     requires x { x ≤ 70000 }
     requires y { y ≤ 2000000 }
-    ensures { result ≡ spec.block_at (x - 44) (y - 22) (x + 44) (y - 4) colours.White colours.White 0 }
+    ensures { OnOk result (out.new.items ≡ out.old.items ++ shapes_text (spec.name x y words.now)) }
 {
-    Block {
+    let block = Block {
         left: x.saturating_sub(44),
         top: y.saturating_sub(22),
         right: x + 44,
@@ -209,17 +209,8 @@ fn name_block(x: u64, y: u64) -> Block
         edge: Colour::White,
         thickness: 0,
         is_open: false,
-    }
-}
-
-/// Adds a name in the stripe that ends at y.
-#[tactic(auto, unfolding(svg_text::specs::Shapes::shapes_text))]
-fn put_name(x: u64, y: u64, words: &[u8], out: &mut Vec<u8>) -> Result<(), AllocError>
-    requires x { x ≤ 70000 }
-    requires y { y ≤ 2000000 }
-    ensures { OnOk result (out.new.items ≡ out.old.items ++ shapes_text (spec.name x y words.now)) }
-{
-    put_block(&name_block(x, y), words, out)?;
+    };
+    put_block(&block, words, out)?;
     let label = Label {
         x,
         y: y.saturating_sub(9),

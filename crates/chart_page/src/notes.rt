@@ -45,28 +45,6 @@ fn put_mark(
     put_tag(tag, words, out)
 }
 
-/// Adds a grey square at the beginning of a way, and a text on that side.
-#[tactic(auto, unfolding(svg_text::specs::Shapes::shapes_text))]
-fn put_notice(way: Way, row: u16, words: &[u8], out: &mut Vec<u8>) -> Result<(), AllocError>
-    requires way { way.from ≤ 70000 }
-    requires words { length words.now ≤ 512 }
-    ensures { OnOk result (out.new.items ≡ out.old.items ++ shapes_text (spec.notice way row words.now)) }
-{
-    let at = Point {
-        x: way.from,
-        y: middle(row),
-    };
-    put_square(at, Colour::Grey, words, out)?;
-    let tag = Tag {
-        x: way.from,
-        is_right: way.is_right,
-        row,
-        kind: None,
-        colour: Colour::Black,
-    };
-    put_tag(tag, words, out)
-}
-
 /// Adds a text at the beginning of a way.
 fn put_departing(
     way: Way,
@@ -87,6 +65,21 @@ fn put_departing(
         colour: Colour::Black,
     };
     put_tag(tag, words, out)
+}
+
+/// Adds a grey square at the beginning of a way, and a text on that side.
+#[tactic(auto, unfolding(svg_text::specs::Shapes::shapes_text))]
+fn put_notice(way: Way, row: u16, words: &[u8], out: &mut Vec<u8>) -> Result<(), AllocError>
+    requires way { way.from ≤ 70000 }
+    requires words { length words.now ≤ 512 }
+    ensures { OnOk result (out.new.items ≡ out.old.items ++ shapes_text (spec.notice way row words.now)) }
+{
+    let at = Point {
+        x: way.from,
+        y: middle(row),
+    };
+    put_square(at, Colour::Grey, words, out)?;
+    put_departing(way, row, None, words, out)
 }
 
 /// Whether a text at the end of a way stands at the right: beyond the line, and before it where something was lost.

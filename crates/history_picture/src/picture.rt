@@ -8,7 +8,7 @@ use crate::entries::{put_entries, shown_entries};
 use crate::flaws::put_mark;
 use crate::heading::{put_captions, put_kinds, put_signs, title_label};
 use crate::marks::View;
-use crate::rows::put_rows;
+use crate::rows::{Shown, put_rows};
 use crate::scale::{Scale, Window, scale_of, x_at};
 use flaw_places::flawed_request;
 use history_check::{Flaw, Record, Trace};
@@ -39,9 +39,14 @@ fn put_body(alloc: Global, drawn: &Drawn<'_>, out: &mut Vec<u8>) -> Result<u64, 
     ensures range { IfOk result (λ bottom. bottom ≤ 100000) }
 {
     let (view, history) = (drawn.view, drawn.history);
-    let width = width_of(view.scale);
+    let shown = Shown {
+        view,
+        width: width_of(view.scale),
+        records: drawn.records,
+        history,
+    };
     let mut rows = Vec::new(alloc);
-    let bottom = put_rows(alloc, view, width, drawn.records, history, &mut rows)?;
+    let bottom = put_rows(alloc, &shown, &mut rows)?;
     put_entries(view, bottom, shown_entries(view.scale, history), out)?;
     out.extend_from_slice(rows.as_slice())?;
     put_mark(view.scale, drawn.records, drawn.flaw, bottom, out)?;

@@ -13,6 +13,16 @@ use seq_memory::Entry;
 use std::alloc::{AllocError, Global};
 use svg_text::{Colour, Rule, put_label, put_lines};
 
+/// What the rows are drawn of.
+#[derive(Clone, Copy)]
+pub(crate) struct Shown<'a> {
+    pub(crate) view: View,
+    /// Of the page, in pixels.
+    pub(crate) width: u64,
+    pub(crate) records: &'a [Record],
+    pub(crate) history: &'a [Entry],
+}
+
 /// Adds a requester's name, and the line below its bars.
 #[tactic(auto, unfolding(svg_text::specs::Shapes::shapes_text))]
 fn put_frame(
@@ -74,54 +84,48 @@ fn put_frame_of(
 /// Adds the row of a requester, and gives its height.
 fn put_row(
     alloc: Global,
-    view: View,
-    width: u64,
-    records: &[Record],
-    history: &[Entry],
+    shown: &Shown<'_>,
     requester: u8,
     top: u64,
     out: &mut Vec<u8>,
 ) -> Result<u64, AllocError>
     requires { top ≤ 900000 }
-    ensures shapes { OnOk result (out.new.items ≡ out.old.items ++ shapes_text (spec.row view width records.now history.now requester top)) }
-    ensures height { IfOk result (λ height. height ≡ spec.row_height view records.now history.now requester) }
+    ensures shapes { OnOk result (out.new.items ≡ out.old.items ++ shapes_text (spec.row shown.now.view shown.now.width shown.now.records.now shown.now.history.now requester top)) }
+    ensures height { IfOk result (λ height. height ≡ spec.row_height shown.now.view shown.now.records.now shown.now.history.now requester) }
     ensures range { IfOk result (λ height. height ≤ 7184) }
 {
-    let acted = acted_by(alloc, history, requester)?;
-    let answers = answers_by(alloc, records, requester)?;
+    let acted = acted_by(alloc, shown.history, requester)?;
+    let answers = answers_by(alloc, shown.records, requester)?;
     let mut ends = Vec::new(alloc);
     let mut words = Vec::new(alloc);
     let row = Row {
-        view,
-        records,
+        view: shown.view,
+        records: shown.records,
         acted: &acted,
         answers: &answers,
         requester,
         top,
     };
     put_bars(row, &mut ends, &mut words, out)?;
-    put_frame_of(width, requester, top, ends.as_slice(), out)?;
+    put_frame_of(shown.width, requester, top, ends.as_slice(), out)?;
     Ok(height_of(ends.as_slice()))
 }
 
 /// Adds the rows of these requesters, and gives where the last one ends.
 fn put_rows_of(
     alloc: Global,
-    view: View,
-    width: u64,
-    records: &[Record],
-    history: &[Entry],
+    shown: &Shown<'_>,
     requesters: &[u8],
     out: &mut Vec<u8>,
 ) -> Result<u64, AllocError>
     requires { length requesters.now ≤ 7 }
-    ensures shapes { OnOk result (out.new.items ≡ out.old.items ++ shapes_text (spec.rows view width records.now history.now 116 requesters.now)) }
-    ensures bottom { IfOk result (λ bottom. bottom ≡ spec.rows_bottom view records.now history.now 116 requesters.now) }
+    ensures shapes { OnOk result (out.new.items ≡ out.old.items ++ shapes_text (spec.rows shown.now.view shown.now.width shown.now.records.now shown.now.history.now 116 requesters.now)) }
+    ensures bottom { IfOk result (λ bottom. bottom ≡ spec.rows_bottom shown.now.view shown.now.records.now shown.now.history.now 116 requesters.now) }
     ensures range { IfOk result (λ bottom. bottom ≤ 100000) }
 {
     let mut top = 116;
     for requester in requesters {
-        let height = put_row(alloc, view, width, records, history, *requester, top, out)?;
+        let height = put_row(alloc, shown, *requester, top, out)?;
         top += height;
     }
     Ok(top)
@@ -130,23 +134,12 @@ fn put_rows_of(
 /// Adds the rows of all requesters, and gives where the last one ends.
 pub(crate) fn put_rows(
     alloc: Global,
-    view: View,
-    width: u64,
-    records: &[Record],
-    history: &[Entry],
+    shown: &Shown<'_>,
     out: &mut Vec<u8>,
 ) -> Result<u64, AllocError>
-    ensures shapes { OnOk result (out.new.items ≡ out.old.items ++ shapes_text (spec.rows view width records.now history.now 116 spec.requesters)) }
-    ensures bottom { IfOk result (λ bottom. bottom ≡ spec.bottom_of view records.now history.now) }
+    ensures shapes { OnOk result (out.new.items ≡ out.old.items ++ shapes_text (spec.rows shown.now.view shown.now.width shown.now.records.now shown.now.history.now 116 spec.requesters)) }
+    ensures bottom { IfOk result (λ bottom. bottom ≡ spec.bottom_of shown.now.view shown.now.records.now shown.now.history.now) }
     ensures range { IfOk result (λ bottom. bottom ≤ 100000) }
 {
-    put_rows_of(
-        alloc,
-        view,
-        width,
-        records,
-        history,
-        &[1, 2, 3, 4, 5, 6, 7],
-        out,
-    )
+    put_rows_of(alloc, shown, &[1, 2, 3, 4, 5, 6, 7], out)
 }

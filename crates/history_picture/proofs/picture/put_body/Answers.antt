@@ -19,6 +19,6 @@ returns-clause-shapes c =
     (both p q c.put_mark.new.out.items (rows v (width_of v.scale) rs h 116 requesters) (mark_shapes v.scale rs c.args.drawn.now.flaw (bottom_of v rs h))
     (c.in_ok-extend_from_slice.ensures.items
     ∙ ap (λ (t : List ℕ). p ++ t) (c.as_slice.ensures.value ∙ c.in_ok-bottom.ensures.shapes
-    ∙ ap (λ (t : List ℕ). t ++ shapes_text (rows v c.width_of-width.result rs h 116 requesters)) c.new-rows.ensures.items
-    ∙ ap (λ (w : ℕ). shapes_text (rows v w rs h 116 requesters)) c.width_of-width.ensures))
+    ∙ ap (λ (t : List ℕ). t ++ shapes_text (rows v c.width_of.result rs h 116 requesters)) c.new-rows.ensures.items
+    ∙ ap (λ (w : ℕ). shapes_text (rows v w rs h 116 requesters)) c.width_of.ensures))
     (c.in_ok-put_mark.ensures ∙ ap (λ (b : ℕ). q ++ shapes_text (mark_shapes v.scale rs c.args.drawn.now.flaw b)) c.in_ok-bottom.ensures.bottom))
