@@ -100,7 +100,7 @@ write_scripts "$room"
 script=0
 while [ $script -lt $number ]; do
     timeout 60 "$pciex" step --keep-going < "$room/$script.txt" > "$room/output" 2> "$room/errors"
-    echo "$script $? $(grep -c -e '^fault' -e '^unsettled' "$room/output") $(tail -n 1 "$room/output")"
+    echo "$script $? $(grep -c '^fault' "$room/output") $(tail -n 1 "$room/output")"
     script=$((script + 1))
 done > "$room/ends"
 # Status 1 tells that an event was refused.

@@ -124,8 +124,8 @@ links between them.
 
 The first line describes the fabric, as in 'fabric 1 0 4096'. Each line after it is one
 event, or 'settle', which runs the fabric until nothing moves. The result of an event is one
-line; 'settle' prints what is collected, and then 'settled' or 'unsettled'. The run ends at
-the first line that can't be read ('fault') or that the fabric refuses ('refused').",
+line; 'settle' prints what is collected, and then 'settled'. The run ends at the first line
+that can't be read ('fault') or that the fabric refuses ('refused').",
     example: "Example:
   $ printf 'fabric 1 0 4096\\nsubmit 1 add 40 07000000\\nsettle\\n' | pciex step
   sub 1 0

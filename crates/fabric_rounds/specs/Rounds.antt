@@ -1,12 +1,8 @@
 -- Running a fabric by rounds of events until one moves nothing.
-use Rattle.std.specs.Prelude.{ℕ, zero, suc, ◌-◌, ◌^◌, ◌||◌, ◌&&◌, Bool, true, false, if◌then◌else◌, List, [], ◌∷◌, ◌++◌, fold, Result, Ok, Err, is_ok}
-use Rattle.std.specs.List.{list_all}
+use Rattle.std.specs.Prelude.{ℕ, zero, suc, ◌-◌, ◌^◌, ◌||◌, Bool, true, false, if◌then◌else◌, List, [], ◌∷◌, ◌++◌, fold, Result, Ok, Err, is_ok}
 use Rattle.dllp_core.specs.declared.packet.Class.TheVariants.{Posted, NonPosted, Completion}
 use Rattle.lane_ends.specs.declared.packet.Fate.TheVariants.{Good}
 use Rattle.lane_ends.specs.declared.packet.DllpKind.TheVariants as kinds
-use Rattle.vc_queue.specs.Queue.{Item}
-use Rattle.lane_ends.specs.Steps.{LaneEndsView}
-use Rattle.lane_core.specs.Calls.{content}
 use Rattle.fabric_laws.specs.Fabric.{Fabric}
 use Rattle.fabric_core.specs.declared.event.Event.{Event}
 use Rattle.fabric_core.specs.declared.event.Event.TheVariants as events
@@ -122,16 +118,3 @@ settlement f = rounds 10000 (at f [] false)
 unfoldable pub after_rounds : ℕ → Settling → Settling
 after_rounds zero s = s
 after_rounds (suc n) s = after_rounds n (round s)
-
--- ---- quiet
-
-abbrev pub is_empty : List Item → Bool
-is_empty [] = true
-is_empty (x ∷ xs) = false
-
-abbrev pub holds_nothing : LaneEndsView → Bool
-holds_nothing e = is_empty (content e)
-
--- all that was entered was taken
-abbrev pub is_quiet : Fabric → Bool
-is_quiet f = holds_nothing f.inward && holds_nothing f.outward && list_all holds_nothing f.up && list_all holds_nothing f.down

@@ -1,2 +1,2 @@
 -- What a settlement leaves.
-pub use Rattle.fabric_rounds.specs.Rounds.{Settling, at, settlement, is_quiet}
+pub use Rattle.fabric_rounds.specs.Rounds.{Settling, at, settlement}

@@ -1,5 +1,5 @@
 //! Rounds until one moves nothing.
-ghost use Rattle.std.specs.Prelude.{◌≡◌, ◌≢◌, ◌↔◌, ◌+◌, ℕ, [], Some, false, fold, slice_get, IsTrue, IfOk, OnOk, OnErr};
+ghost use Rattle.std.specs.Prelude.{◌≡◌, ◌≢◌, ◌+◌, ℕ, [], Some, false, fold, slice_get, OnOk, OnErr};
 ghost use Rattle.requester_core.specs.RequesterView.{RequesterView};
 ghost use Rattle.fabric_laws.specs.Whole.{open_number};
 ghost use Rattle.fabric_core.specs.declared.event.Event as events;
@@ -46,16 +46,9 @@ fn all_rounds<W: Witness>(
 ///
 /// The only error is want of memory, of the fabric for an event or of the witness. Then the events so far have happened,
 /// and a witness that loses nothing has kept what it keeps of them.
-pub fn settle<W: Witness>(
-    fabric: &mut Fabric,
-    witness: &mut W,
-    line: u64,
-) -> Result<bool, AllocError>
+pub fn settle<W: Witness>(fabric: &mut Fabric, witness: &mut W, line: u64) -> Result<(), AllocError>
     ensures fabric { OnOk result (fabric.new ≡ (spec.settlement fabric.old).fabric) }
     ensures kept { OnOk result (W.kept witness.new ≡ fold (W.saw line) (W.kept witness.old) (spec.settlement fabric.old).happened) }
-    ensures quiet { IfOk result (λ quiet. IsTrue quiet ↔ IsQuiet fabric.new) }
-    ensures told { IfOk result (λ quiet. quiet ≡ spec.is_quiet fabric.new) }
-
     ensures settled { OnOk result (IsQuiet fabric.new) }
     ensures answered { OnOk result ((i tag k : ℕ) (q : RequesterView) → slice_get fabric.new.requesters i ≡ Some q → open_number q tag ≢ Some k) }
 
@@ -74,5 +67,5 @@ pub fn settle<W: Witness>(
     let mut moved = false;
     all_rounds(fabric, witness, &mut moved, line)?;
     fabric.sound();
-    Ok(fabric.quiet())
+    Ok(())
 }

@@ -1,5 +1,5 @@
 -- The text of what is seen of an event.
-use Rattle.std.specs.Prelude.{ℕ, ◌%◌, Bool, true, false, List, [], ◌∷◌, codes}
+use Rattle.std.specs.Prelude.{ℕ, ◌%◌, List, [], ◌∷◌, codes}
 use Rattle.std.specs.List.{join_with_byte}
 use Rattle.std.specs.Fmt.{decimal}
 use Rattle.hex.specs.Hex.{encode_upper}
@@ -71,7 +71,6 @@ abbrev pub told_text : Record → List ℕ
 told_text (records.Sub i number op n) = spaced (codes "sub" ∷ decimal i ∷ decimal number ∷ [])
 told_text (records.Ans i number reply n) = spaced (codes "ans" ∷ decimal i ∷ decimal number ∷ reply_text reply ∷ [])
 
--- whether a fabric is quiet in which nothing moves
-abbrev pub settled_text : Bool → List ℕ
-settled_text true = codes "settled"
-settled_text false = codes "unsettled"
+-- a fabric came to rest
+abbrev pub settled_text : List ℕ
+settled_text = codes "settled"

@@ -22,7 +22,7 @@
 //! | `collect <port>` | `ans <port> <number> <reply>` |
 //!
 //! or `settle`, by which the fabric is run until nothing moves: what its requesters collect is told as for `collect`,
-//! and then `settled` where the fabric is quiet, else `unsettled`.
+//! and then `settled`.
 //!
 //! Lanes are `up1` to `up7`, `down1` to `down7`, `in` and `out`. Fields are parted by one space. The
 //! base is hexadecimal, all other numbers are decimal, none has leading zeros. Ports, the number of

@@ -144,11 +144,11 @@ pub fn write_told(told: &Record, out: &mut ArrayString<512>)
     }
 }
 
-/// Adds whether the fabric is quiet in which nothing moves, at most 9 bytes.
-pub fn write_settled(is_quiet: bool, out: &mut ArrayString<512>)
-    requires { array_string_len out.old + 9 ≤ 512 }
-    ensures text { out.new.bytes ≡ out.old.bytes ++ settled_text is_quiet }
-    ensures len { array_string_len out.new ≤ array_string_len out.old + 9 }
+/// Adds that a fabric came to rest, 7 bytes.
+pub fn write_settled(out: &mut ArrayString<512>)
+    requires { array_string_len out.old + 7 ≤ 512 }
+    ensures text { out.new.bytes ≡ out.old.bytes ++ settled_text }
+    ensures len { array_string_len out.new ≤ array_string_len out.old + 7 }
 {
-    out.push_str(if is_quiet { "settled" } else { "unsettled" });
+    out.push_str("settled");
 }

@@ -1,10 +1,10 @@
 -- What is collected, line by line.
-use Rattle.std.proofs.Common.{◌≡◌, ◌∙◌, ◌++◌, ◌+◌, ◌∷◌, ◌<◌, ◌≤◌, Bool, false, List, ℕ, [], zero, suc, Option, Some, Result, Ok, Err, IfOk, OnOk, if◌then◌else◌, refl, ap, ap₂, sym, subst, drop, length, get_or, append_assoc, drop-cons, arith}
+use Rattle.std.proofs.Common.{◌≡◌, ◌∙◌, ◌++◌, ◌+◌, ◌∷◌, ◌<◌, ◌≤◌, Bool, false, List, ℕ, [], zero, suc, Option, Some, Result, Ok, Err, IfOk, OnOk, if◌then◌else◌, refl, ap, sym, subst, drop, length, get_or, append_assoc, drop-cons, arith}
 use Rattle.std.proofs.lemmas.List.{append-nil}
 use Rattle.history_check.specs.declared.Record.{Record}
 use Rattle.fabric_laws.specs.Fabric.{Fabric}
 use Rattle.script_text.specs.Texts.{told_text, settled_text}
-use Rattle.fabric_settle.specs.Rounds.{settlement, is_quiet}
+use Rattle.fabric_settle.specs.Rounds.{settlement}
 use Rattle.line_loop.specs.declared.verdict.Verdict.{Verdict}
 use Rattle.line_loop.specs.declared.verdict.Verdict.TheVariants as verdicts
 use Rattle.line_loop.specs.Run.{IsAnswer, is_fault}
@@ -38,16 +38,16 @@ told-alike s o line [] = refl
 told-alike s o line (r ∷ rs) = ap (λ (t : List ℕ). shown s line (told_text r) ++ t) (told-alike s o line rs)
 
 -- what is told of the fabric that rounds of events leave
-telling : (s : StepperView) (line : List ℕ) (f f' : Fabric) (answers : List Record) (quiet : Bool) (new : StepperView) (before after : List ℕ) (verdict : Verdict)
-    → s.fabric ≡ Some f → s.options.is_traced ≡ false → f' ≡ (settlement f).fabric → answers ≡ recorded_all [] (settlement f) → quiet ≡ is_quiet f'
+telling : (s : StepperView) (line : List ℕ) (f f' : Fabric) (answers : List Record) (new : StepperView) (before after : List ℕ) (verdict : Verdict)
+    → s.fabric ≡ Some f → s.options.is_traced ≡ false → f' ≡ (settlement f).fabric → answers ≡ recorded_all [] (settlement f)
     → new ≡ counted (record s { fabric = Some f' })
-    → after ≡ before ++ (told_lines (record s { fabric = Some f' }) line answers ++ shown s line (settled_text quiet)) → verdict ≡ verdicts.Fine
+    → after ≡ before ++ (told_lines (record s { fabric = Some f' }) line answers ++ shown s line settled_text) → verdict ≡ verdicts.Fine
     → IsAnswer new before after verdict (settled s line s.fabric)
-telling s line f f' answers quiet new before after verdict has plain fabric records is_quiet_so state text fine =
+telling s line f f' answers new before after verdict has plain fabric records state text fine =
     let t = settlement f in
-    let same : settled_lines s line t ≡ told_lines (record s { fabric = Some f' }) line answers ++ shown s line (settled_text quiet) =
-    sym (ap (λ (rs : List ℕ). rs ++ shown s line (settled_text quiet)) (told-alike s (Some f') line answers)
-    ∙ ap₂ (λ (rs : List Record) (q : Bool). told_lines s line rs ++ shown s line (settled_text q)) records (is_quiet_so ∙ ap is_quiet fabric)) in
+    let same : settled_lines s line t ≡ told_lines (record s { fabric = Some f' }) line answers ++ shown s line settled_text =
+    sym (ap (λ (rs : List ℕ). rs ++ shown s line settled_text) (told-alike s (Some f') line answers)
+    ∙ ap (λ (rs : List Record). told_lines s line rs ++ shown s line settled_text) records) in
     subst (IsAnswer new before after verdict) (sym (ap (settled s line) has ∙ ap (λ (b : Bool). if b then settles_traced s t else settles_telling s line t) plain))
     (record {
       state = state ∙ ap (λ (g : Fabric). counted (record s { fabric = Some g })) fabric;
@@ -55,10 +55,10 @@ telling s line f f' answers quiet new before after verdict has plain fabric reco
       is_fault = ap is_fault fine;
     })
 
-pub told_settled : {E : Type 0} (r : Result Verdict E) (s : StepperView) (line : List ℕ) (f f' : Fabric) (answers : List Record) (quiet : Bool) (new : StepperView) (before after : List ℕ)
-    → s.fabric ≡ Some f → s.options.is_traced ≡ false → f' ≡ (settlement f).fabric → answers ≡ recorded_all [] (settlement f) → quiet ≡ is_quiet f'
+pub told_settled : {E : Type 0} (r : Result Verdict E) (s : StepperView) (line : List ℕ) (f f' : Fabric) (answers : List Record) (new : StepperView) (before after : List ℕ)
+    → s.fabric ≡ Some f → s.options.is_traced ≡ false → f' ≡ (settlement f).fabric → answers ≡ recorded_all [] (settlement f)
     → OnOk r (new ≡ counted (record s { fabric = Some f' }))
-    → OnOk r (after ≡ before ++ (told_lines (record s { fabric = Some f' }) line answers ++ shown s line (settled_text quiet))) → IfOk r (λ verdict. verdict ≡ verdicts.Fine)
+    → OnOk r (after ≡ before ++ (told_lines (record s { fabric = Some f' }) line answers ++ shown s line settled_text)) → IfOk r (λ verdict. verdict ≡ verdicts.Fine)
     → IfOk r (λ verdict. IsAnswer new before after verdict (settled s line s.fabric))
-told_settled (Ok x) s line f f' answers quiet new before after a b c d e state text fine = telling s line f f' answers quiet new before after x a b c d e state text fine
-told_settled (Err x) s line f f' answers quiet new before after a b c d e state text fine = fine
+told_settled (Ok x) s line f f' answers new before after a b c d state text fine = telling s line f f' answers new before after x a b c d state text fine
+told_settled (Err x) s line f f' answers new before after a b c d state text fine = fine

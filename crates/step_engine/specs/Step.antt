@@ -22,7 +22,7 @@ use Rattle.fabric_core.specs.Config.{fault_name}
 use Rattle.script_text.specs.Names.{refusal_text}
 use Rattle.script_text.specs.Texts.{seen_text, told_text, settled_text}
 use Rattle.fabric_settle.specs.Keeping.{with_record}
-use Rattle.fabric_settle.specs.Rounds.{Settling, settlement, is_quiet}
+use Rattle.fabric_settle.specs.Rounds.{Settling, settlement}
 use Rattle.line_loop.specs.Run.{Answer, Responses, Run, run_of}
 use Rattle.step_engine.specs.declared.options.StepOptions.{StepOptions}
 use Rattle.step_engine.specs.Options.{plain}
@@ -133,7 +133,7 @@ abbrev pub recorded_all : List Record → Settling → List Record
 recorded_all rs t = fold with_record rs t.happened
 
 abbrev pub settled_lines : StepperView → List ℕ → Settling → List ℕ
-settled_lines s line t = told_lines s line (recorded_all [] t) ++ shown s line (settled_text (is_quiet t.fabric))
+settled_lines s line t = told_lines s line (recorded_all [] t) ++ shown s line settled_text
 
 abbrev pub settles_telling : StepperView → List ℕ → Settling → Answer StepperView
 settles_telling s line t = record { state = record s { lines = next_line s; fabric = Some t.fabric }; text = settled_lines s line t; is_fault = false }

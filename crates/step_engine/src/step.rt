@@ -325,23 +325,22 @@ impl Stepper {
         Ok(())
     }
 
-    /// Tells what was collected, and whether the fabric is quiet.
+    /// Tells what was collected, and that the fabric came to rest.
     fn tell_settled(
         &mut self,
         line: &[u8],
         answers: &[Record],
-        is_quiet: bool,
         out: &mut Vec<u8>,
     ) -> Result<Verdict, AllocError>
         ensures state { OnOk result (self.new ≡ spec.counted self.old) }
-        ensures text { OnOk result (out.new.items ≡ out.old.items ++ (spec.told_lines self.old line.now answers.now ++ spec.shown self.old line.now (settled_text is_quiet))) }
+        ensures text { OnOk result (out.new.items ≡ out.old.items ++ (spec.told_lines self.old line.now answers.now ++ spec.shown self.old line.now settled_text)) }
         ensures verdict { IfOk result (λ verdict. verdict ≡ Verdict.Fine) }
         ensures err { OnErr result (out.new.items ≡ out.old.items) }
     {
         let mut lines = Vec::new(self.alloc);
         self.put_answers(line, answers, &mut lines)?;
         let mut text = ArrayString::new();
-        write_settled(is_quiet, &mut text);
+        write_settled(&mut text);
         self.put(line, &mut text, &mut lines)?;
         out.extend_from_slice(lines.as_slice())?;
         self.count();
@@ -363,8 +362,8 @@ impl Stepper {
             return Ok(Verdict::Fine);
         }
         let mut answers = Vec::new(self.alloc);
-        let is_quiet = settle(fabric, &mut answers, number)?;
-        self.tell_settled(line, answers.as_slice(), is_quiet, out)
+        settle(fabric, &mut answers, number)?;
+        self.tell_settled(line, answers.as_slice(), out)
     }
 }
 
@@ -411,8 +410,7 @@ impl Responder for Stepper {
 }
 
 /// Runs a script: the first line makes a fabric, and each line after it is an event, whose result is written in a line,
-/// or `settle`, which is answered by a line for each answer that it collects and one that tells whether the fabric is
-/// quiet. The first line that is none, the first fault of the configuration and the first refusal end the run with one
+/// or `settle`, which is answered by a line for each answer that it collects and the line `settled`. The first line that is none, the first fault of the configuration and the first refusal end the run with one
 /// line; with `keeps_going` a refusal doesn't end it. With `echoes` what answers an event or `settle` follows its line.
 /// With `is_traced` the trace of a run that ends well is written in place of the results. `Ok` is the exit status, 1
 /// where a fault or a refusal was told. After an `Err` what was written is a beginning of the whole output.

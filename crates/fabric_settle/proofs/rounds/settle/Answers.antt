@@ -1,16 +1,11 @@
 use Rattle.std.proofs.Common.{◌≡◌, [], refl, sym, ap, subst}
-use Rattle.fabric_laws.specs.Fabric.{Fabric}
 use Rattle.fabric_core.specs.Quiet.{IsQuiet}
 use Rattle.fabric_rounds.specs.Rounds.{Settling, settlement}
 use Rattle.fabric_settle.proofs.AnsweredLemmas.{none_waits}
-use Rattle.fabric_settle.proofs.QuietLemmas.{quiet_is}
 use Rattle.fabric_settle.proofs.rounds.settle.Goals as goal
 
 pub returns-clause-fabric : goal.returns-clause-fabric
 returns-clause-fabric g c = ap (λ (t : Settling). t.fabric) (c.in_ok-all_rounds.ensures.state (g.W.Witness.kept c.args.witness.now) [] refl).same
-
-pub returns-clause-told : goal.returns-clause-told
-returns-clause-told g c = quiet_is c.all_rounds.new.fabric c.quiet.result c.quiet.ensures.quiet
 
 pub returns-clause-settled : goal.returns-clause-settled
 returns-clause-settled g c =
