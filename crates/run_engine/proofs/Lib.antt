@@ -1,1 +1,3 @@
+mod Additions
+mod Countings
 pub mod Plans

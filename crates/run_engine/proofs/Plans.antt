@@ -5,6 +5,7 @@ use Rattle.std.proofs.lemmas.List.{length-map, length-replicate}
 use Rattle.tlp_core.specs.declared.operation.Op.{Op}
 use Rattle.fabric_core.specs.declared.config.Config.{Config}
 use Rattle.fabric_core.specs.Config.{IsConfig}
+use Rattle.hall_laws.specs.Rule.{HasConfig}
 use Rattle.worker_report.specs.declared.halt.RunHalt.{RunHalt}
 use Rattle.worker_report.specs.declared.plan.RunPlan.{RunPlan}
 use Rattle.worker_report.specs.declared.report.Report.{Report}
@@ -40,6 +41,10 @@ done c p (Err e) is h = tt
 pub memory : (c : Counting) (p : RunPlan) (r : Result Report RunHalt) → IsPlanOf c p → IfOk r (λ x. IsOfMemory p.config x.trace) → IfOk r (λ x. IsOfMemory (config_of c.requesters) x.trace)
 memory c p (Ok x) is h = subst (λ d. IsOfMemory d x.trace) is.config h
 memory c p (Err e) is h = tt
+
+pub configured : (c : Counting) (p : RunPlan) (r : Result Report RunHalt) → IsPlanOf c p → IfOk r (λ x. IsPlan p × HasConfig x.fabric p.config) → IfOk r (λ x. HasConfig x.fabric (config_of c.requesters))
+configured c p (Ok x) is h = subst (HasConfig x.fabric) is.config h.1
+configured c p (Err e) is h = tt
 
 pub ended : (c : Counting) (p : RunPlan) (r : Result Report RunHalt) → IsPlanOf c p → IsPlan p → IfErr r (λ h. IsCause p h) → IfErr r (λ h. IsEndBy (config_of c.requesters) h)
 ended c p (Ok x) is plan h = tt

@@ -1,5 +1,5 @@
 -- What `run` writes.
-use Rattle.std.specs.Prelude.{◌≡◌, ◌⊎◌, ℕ, Bool, true, false, nat_lt, if◌then◌else◌, List, [], ◌∷◌, ◌++◌, length, take, count_by, codes, Option}
+use Rattle.std.specs.Prelude.{◌≡◌, ◌⊎◌, ◌%◌, ◌^◌, ℕ, Bool, true, false, nat_lt, if◌then◌else◌, List, [], ◌∷◌, ◌++◌, length, take, count_by, codes, Option}
 use Rattle.std.specs.Fmt.{decimal}
 use Rattle.std.specs.Io.KnownBytes.{Appends}
 use Rattle.byteorder.specs.Endian.{little_number}
@@ -11,6 +11,7 @@ use Rattle.history_check.specs.TraceView.{TraceView}
 use Rattle.history_check.specs.Claim.{claim_of}
 use Rattle.history_check.specs.Trace.{Explains}
 use Rattle.fabric_laws.specs.Fabric.{Fabric}
+use Rattle.hall_laws.specs.Rule.{HasConfig}
 use Rattle.worker_report.specs.declared.halt.RunHalt.{RunHalt}
 use Rattle.worker_report.specs.declared.halt.RunHalt.TheVariants as halts
 use Rattle.worker_report.specs.Halts.{halt_name, IsOfMemory, IsEndBy}
@@ -39,6 +40,11 @@ report_text rs f =
     number_line (codes "answered ") (answers_in rs)
     ++ (number_line (codes "history ") (length f.memory.entries) ++ (number_line (codes "word ") (first_word (bytes_of f.memory)) ++ codes "check ok\n"))
 
+-- the text of so many additions, each counted once
+abbrev pub counted_text : ℕ → List ℕ
+counted_text n =
+    number_line (codes "answered ") n ++ (number_line (codes "history ") n ++ (number_line (codes "word ") (n % 2 ^ 32) ++ codes "check ok\n"))
+
 abbrev pub halt_text : RunHalt → List ℕ
 halt_text h = codes "halt " ++ (halt_name h ++ 10 ∷ [])
 
@@ -47,13 +53,14 @@ halt_status halts.Turns = 3
 halt_status _ = 1
 
 -- the text of a report whose history explains its trace, in which each requester submitted its additions and has an
--- answer to each
+-- answer to each, and no record is of anyone else
 pub record IsReport (c : Counting) (text : List ℕ) : Type 0 where
   pub trace : TraceView
   pub fabric : Fabric
   pub explained : Explains (claim_of trace fabric.memory.entries)
   pub done : AreDone trace.records 1 (scripts_of c.requesters c.each)
   pub memory : IsOfMemory (config_of c.requesters) trace
+  pub config : HasConfig fabric (config_of c.requesters)
   pub says : text ≡ report_text trace.records fabric
 
 -- the text of a halt for its cause

@@ -3,6 +3,7 @@ ghost use Rattle.std.specs.Prelude.{◌≡◌, ◌≤◌, ◌+◌, ◌++◌, len
 ghost use Rattle.arrayvec.specs.ArrayString.{array_string_len};
 ghost use Rattle.history_check.specs.Claim.{claim_of};
 ghost use Rattle.history_check.specs.Trace.{Explains};
+ghost use Rattle.hall_laws.specs.Rule.{HasConfig};
 ghost use Rattle.worker_report.specs.Halts.{IsOfMemory, IsEndBy};
 ghost use Rattle.workers.specs.Running.{AreDone};
 ghost use Rattle.parameters.specs.Ranges.{IsCounting};
@@ -114,6 +115,7 @@ fn run<R: Threads + Wait + Sync>(
     ensures checked { IfOk result (λ r. Explains (claim_of r.trace r.fabric.memory.entries)) }
     ensures done { IfOk result (λ r. AreDone r.trace.records 1 (scripts_of counting.now.requesters counting.now.each)) }
     ensures memory { IfOk result (λ r. IsOfMemory (config_of counting.now.requesters) r.trace) }
+    ensures config { IfOk result (λ r. HasConfig r.fabric (config_of counting.now.requesters)) }
     ensures halt { IfErr result (λ h. IsEndBy (config_of counting.now.requesters) h) }
 {
     match plan_of(alloc, counting) {
