@@ -1,8 +1,9 @@
 #!/bin/sh
 # Runs the program on inputs that are too large for a test's table: a memory of 1 MiB with a trace of 200,001
-# records, a lane with 2047 packets that no Ack has told of, a requester with 256 open tags, and logs that are long
-# or hard. It tells each run that ends otherwise than it should: large_inputs.sh [PROGRAM], the one that `rt ci` built if
-# none is named. With a folder in its place the inputs are written there and nothing is run.
+# records, a lane with 2047 packets that no Ack has told of, a requester with 256 open tags, logs that are long or
+# hard, and a chart of a long script. It tells each run that ends otherwise than it should: large_inputs.sh [PROGRAM],
+# the one that `rt ci` built if none is named. With a folder in its place the inputs are written there and nothing is
+# run.
 folder=
 if [ -d "${1:-}" ]; then
     folder=$(cd "$1" && pwd) || exit 1
@@ -191,6 +192,19 @@ ends() {
     fi
 }
 
+# draws WHAT INPUT WORD..: whether a run of the program on the input has status 0, no errors, and a whole picture.
+draws() {
+    what=$1 input=$2
+    shift 2
+    timeout 600 "$pciex" "$@" < "$input" > "$room/output" 2> "$room/errors"
+    status=$?
+    runs=$((runs + 1))
+    if [ $status -ne 0 ] || [ -s "$room/errors" ] || [ "$(tail -c 7 "$room/output")" != "</svg>" ]; then
+        echo "large inputs: $what: status $status, errors, or no whole picture"
+        failed=1
+    fi
+}
+
 echo ok > "$room/told"
 ends "check on 1 MiB and 200,001 records" 0 "$room/explained_trace" check
 echo "flaw 10 Reply 100000" > "$room/told"
@@ -221,5 +235,7 @@ echo "limit 1000" > "$room/told"
 ends "search on the first and the last word of 1 MiB" 3 "$room/far_log" search --limit 1000
 echo "none 96667" > "$room/told"
 ends "search on 100,000 records with a wrong answer" 1 "$room/wrong_log" search
+awk -v rounds=99 -f bench/script.awk > "$room/long_script"
+draws "chart on 100,486 lines" "$room/long_script" chart
 echo "large inputs: $runs runs, $([ $failed -eq 0 ] && echo "all as they should be" || echo "not all as they should be")"
 exit $failed

@@ -7,5 +7,5 @@
 mod outcome;
 mod telling;
 
-pub use outcome::{Failure, LINE_BUFFER, Length};
+pub use outcome::{Failure, LINE_BUFFER, Length, the_longest_answer_fills_a_line_buffer};
 pub use telling::{copy, tell, tell_fault};

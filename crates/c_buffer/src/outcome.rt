@@ -1,10 +1,16 @@
 //! What a call returns.
 ghost use Rattle.std.specs.Prelude.{ℕ, ◌≡◌, ◌≤◌};
+ghost use Rattle.c_buffer.specs.declared.outcome.TheConstants.{LINE_BUFFER};
 
 use std::marker::Model;
 
 /// The bytes of buffer that a line of text is asked for, whatever it has.
 pub const LINE_BUFFER: usize = 512;
+
+/// It holds the longest answer, and no byte more.
+pub fn the_longest_answer_fills_a_line_buffer()
+    ensures { LINE_BUFFER ≡ 512 }
+{}
 
 /// How many bytes an answer or the text of a fault has, 0 to 512.
 #[derive(Clone, Copy, Debug, PartialEq, Eq)]

@@ -7,7 +7,7 @@ ghost use Rattle.log_text.specs.Forms as forms;
 use history_check::Record;
 use operation_text::{BASE, Expected, Misfit, SIZE, alone, cut, number, op_behind, reply_behind};
 use seq_memory::Extent;
-use trace_text::{block, count, no_memory, request, requester};
+use trace_text::{block, count, memory_extent, request, requester};
 
 /// A line, by its first word.
 const LINE: Expected = Expected::Of("a line of a log", "pciex-log, memory, sub, ans, end");
@@ -31,9 +31,9 @@ fn memory_within(
 ) -> Result<LogLine, Misfit>
     ensures { result_ok result ≡ forms.memory_within (record { base = base; size = size; block = block }) (words_behind rest.entry) }
 {
-    match Extent::new(base, size, block) {
-        Some(extent) => alone(LogLine::Memory(extent), rest),
-        None => Err(no_memory(size, place)),
+    match memory_extent(base, size, block, place) {
+        Ok(extent) => alone(LogLine::Memory(extent), rest),
+        Err(misfit) => Err(misfit),
     }
 }
 

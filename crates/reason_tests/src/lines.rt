@@ -61,7 +61,7 @@ fn is_told(alloc: Global, engine: Engine, input: &[u8], want: &str) -> bool {
 }
 
 /// What an engine reads, and what it tells.
-const ROWS: [(Engine, &str, &str); 58] = [
+const ROWS: [(Engine, &str, &str); 62] = [
     // The byte enables of one DW, and of two.
     (
         Engine::Step,
@@ -242,6 +242,27 @@ const ROWS: [(Engine, &str, &str); 58] = [
         Engine::Check,
         "pciex-trace 1\nmemory 40 4096\n",
         "pciex: line 2, column 8: '40' where a base is expected (hexadecimal, a multiple of 80h; the memory ends at 2^64 or below)\n",
+    ),
+    // Base and size are both wrong: the size is told. The block comes before both.
+    (
+        Engine::Check,
+        "pciex-trace 1\nmemory 40 100\n",
+        "pciex: line 2, column 11: '100' where a size is expected (128 to 1048576, a multiple of 128)\n",
+    ),
+    (
+        Engine::Check,
+        "pciex-trace 2\nmemory FFFFFFFFFFFFFF80 0 64\n",
+        "pciex: line 2, column 25: '0' where a size is expected (128 to 1048576, a multiple of 128)\n",
+    ),
+    (
+        Engine::Check,
+        "pciex-trace 2\nmemory FFFFFFFFFFFFFF80 4096 64\n",
+        "pciex: line 2, column 8: 'FFFFFFFFFFFFFF80' where a base is expected (hexadecimal, a multiple of 80h; the memory ends at 2^64 or below)\n",
+    ),
+    (
+        Engine::Check,
+        "pciex-trace 2\nmemory 40 100 96\n",
+        "pciex: line 2, column 15: '96' where a block is expected (64, 128)\n",
     ),
     (
         Engine::Check,

@@ -1,5 +1,5 @@
 -- The forms of lines.
-use Rattle.std.specs.Prelude.{ℕ, ◌==◌, ◌||◌, if◌then◌else◌, List, [], ◌∷◌, Option, Some, None, codes, bytes_eq}
+use Rattle.std.specs.Prelude.{ℕ, ◌==◌, ◌||◌, Bool, if◌then◌else◌, List, [], ◌∷◌, Option, Some, None, codes, bytes_eq}
 use Rattle.seq_memory.specs.Limits.{Extent, is_within_limits}
 use Rattle.history_check.specs.declared.Record.TheVariants as records
 use Rattle.operation_text.specs.Words.{then_with, field, ended}
@@ -26,11 +26,19 @@ count w = numeral 10 18446744073709551615 w
 abbrev pub block : List ℕ → Option ℕ
 block w = then_with (numeral 10 128 w) (λ b. if (b == 64) || (b == 128) then Some b else None)
 
+-- the extent of a memory, if there can be one of it
+abbrev pub memory_extent : Extent → Option Extent
+memory_extent x = if is_within_limits x then Some x else None
+
 abbrev pub version_by : ℕ → Option Version
 version_by n = if n == 1 then Some versions.One else (if n == 2 then Some versions.Two else None)
 
 abbrev pub version : List ℕ → Option Version
 version w = then_with (numeral 10 2 w) version_by
+
+-- the second version tells the block
+abbrev pub version_with : Bool → Version
+version_with has_block = if has_block then versions.Two else versions.One
 
 abbrev pub head_of : List (List ℕ) → Option Line
 head_of ws = field version (λ v. ended (lines.Head v)) ws

@@ -4,7 +4,8 @@ ghost use Rattle.std.specs.Result.{result_ok};
 ghost use Rattle.operation_text.specs.Words.{words_behind, first_field};
 ghost use Rattle.trace_text.specs.Forms as forms;
 
-use operation_text::{BLOCK, Expected, Misfit, number};
+use operation_text::{BASE, BLOCK, Expected, Misfit, SIZE, cut, number};
+use seq_memory::{Extent, is_size};
 
 /// The greatest number of a request.
 const MAX_NUMBER: u64 = 4_294_967_294;
@@ -48,4 +49,28 @@ pub fn block(rest: Option<&[u8]>) -> Result<(u16, Option<&[u8]>), Misfit>
         return Ok((block as u16, behind));
     }
     Err(BLOCK.at(rest))
+}
+
+/// That there can be no memory of the base and the size that come next, of which this is the size.
+fn no_memory(size: usize, rest: Option<&[u8]>) -> Misfit {
+    if is_size(size) {
+        return BASE.at(rest);
+    }
+    match rest {
+        Some(line) => SIZE.at(cut(line).1),
+        None => SIZE.at(None),
+    }
+}
+
+/// The extent of a memory of that base, size and block, if there can be one. Base and size come first in `place`: the
+/// misfit is the size, or else the base.
+pub fn memory_extent(
+    base: u64,
+    size: usize,
+    block: u16,
+    place: Option<&[u8]>,
+) -> Result<Extent, Misfit>
+    ensures { result_ok result ≡ forms.memory_extent (record { base = base; size = size; block = block }) }
+{
+    Extent::new(base, size, block).ok_or(no_memory(size, place))
 }

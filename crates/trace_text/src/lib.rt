@@ -29,9 +29,9 @@ mod rewriting;
 mod writing;
 
 pub use fault::{ReadFault, ReadFaultKind, write_fault};
-pub use fields::{block, count, request, requester};
+pub use fields::{block, count, memory_extent, request, requester};
 pub use laws::{a_rewriting_is_a_reading, own_text_spells_trace, told_trace_is_read_back};
-pub use line::{no_memory, trace_misfit};
+pub use line::trace_misfit;
 pub use reader::TraceReader;
 pub use reading::read_trace;
 pub use rewriting::TraceRewriter;

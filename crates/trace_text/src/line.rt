@@ -1,13 +1,13 @@
 //! The forms of lines.
-ghost use Rattle.std.specs.Prelude.{◌≡◌, option_map};
+ghost use Rattle.std.specs.Prelude.{◌≡◌, option_map, is_none, is_some};
 ghost use Rattle.std.specs.Result.{result_ok};
 ghost use Rattle.operation_text.specs.Words.{words, words_behind, first_field};
 ghost use Rattle.trace_text.specs.Forms as forms;
 
-use crate::fields::{block, count, request, requester};
+use crate::fields::{block, count, memory_extent, request, requester};
 use history_check::Record;
 use operation_text::{BASE, Expected, Misfit, SIZE, alone, cut, number, op_behind, reply_behind};
-use seq_memory::{Entry, Extent, is_size};
+use seq_memory::{Entry, Extent};
 
 /// A line, by its first word.
 const LINE: Expected = Expected::Of(
@@ -57,17 +57,6 @@ fn head(rest: Option<&[u8]>) -> Result<Line, Misfit>
     alone(Line::Head(version), rest)
 }
 
-/// That there can be no memory of the base and the size that come next, of which this is the size.
-pub fn no_memory(size: usize, rest: Option<&[u8]>) -> Misfit {
-    if is_size(size) {
-        return BASE.at(rest);
-    }
-    match rest {
-        Some(line) => SIZE.at(cut(line).1),
-        None => SIZE.at(None),
-    }
-}
-
 /// The line of a memory, if there can be one of that base and size, which come in `place`.
 fn memory_within(
     base: u64,
@@ -78,9 +67,9 @@ fn memory_within(
 ) -> Result<Line, Misfit>
     ensures { result_ok result ≡ forms.memory_within (record { base = base; size = size; block = block }) (words_behind rest.entry) }
 {
-    match Extent::new(base, size, block) {
-        Some(extent) => alone(Line::Memory(extent), rest),
-        None => Err(no_memory(size, place)),
+    match memory_extent(base, size, block, place) {
+        Ok(extent) => alone(Line::Memory(extent), rest),
+        Err(misfit) => Err(misfit),
     }
 }
 
@@ -173,12 +162,20 @@ pub(crate) fn read_line(text: &[u8], version: Version) -> Result<Line, Misfit>
     line_by(kind, rest, version, text)
 }
 
-/// What doesn't fit in a trace's line, whose memory has a block where that is told. None if it is read.
-pub fn trace_misfit(text: &[u8], has_block: bool) -> Option<Misfit> {
-    let version = if has_block {
+/// The version whose memory's line tells the block, or doesn't.
+fn version_with(has_block: bool) -> Version
+    ensures { result ≡ forms.version_with has_block }
+{
+    if has_block {
         Version::Two
     } else {
         Version::One
-    };
-    read_line(text, version).err()
+    }
+}
+
+/// What doesn't fit in a trace's line, whose memory has a block where that is told. None if it is read.
+pub fn trace_misfit(text: &[u8], has_block: bool) -> Option<Misfit>
+    ensures { is_none result ≡ is_some (forms.line_of (forms.version_with has_block) (words text.now)) }
+{
+    read_line(text, version_with(has_block)).err()
 }
