@@ -41,6 +41,8 @@ pub enum ValueOption {
     Lane,
     /// The most choices that a search looks at.
     Limit,
+    /// How many bytes of a read or a write act at once, or all of them.
+    Granularity,
 }
 
 /// The numbers that an option may have: the multiples of the unit from the least to the most.
@@ -106,6 +108,7 @@ impl ValueOption {
             ValueOption::Events => "events",
             ValueOption::Lane => "lane",
             ValueOption::Limit => "limit",
+            ValueOption::Granularity => "granularity",
         }
     }
 
@@ -136,7 +139,7 @@ impl ValueOption {
             ValueOption::Turns => from_to(1, MOST_TURNS),
             ValueOption::Limit => from_to(1, MOST_CHOICES),
             ValueOption::Events => from_to(0, MOST_EVENTS),
-            ValueOption::Lane => from_to(0, 0),
+            ValueOption::Lane | ValueOption::Granularity => from_to(0, 0),
             ValueOption::From | ValueOption::To | ValueOption::Seed => from_to(0, u64::MAX),
         }
     }

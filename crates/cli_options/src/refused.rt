@@ -63,6 +63,7 @@ impl fmt::Display for RefusedValue<'_> {
                 f,
                 "up1 to up{REQUESTERS}, down1 to down{REQUESTERS}, in or out"
             ),
+            ValueOption::Granularity => f.write_str("4, 8, 16, 64 or whole"),
             ValueOption::To => write!(f, "{allowed}, at least --from"),
             _ => write!(f, "{allowed}"),
         }

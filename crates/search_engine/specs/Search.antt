@@ -11,7 +11,9 @@ use Rattle.history_check.specs.Clocks.{IsClocked}
 use Rattle.trace_text.specs.declared.fault.ReadFault.{ReadFault}
 use Rattle.trace_text.specs.Texts.{trace_text}
 use Rattle.trace_text.specs.Names.{fault_line}
-use Rattle.log_runs.specs.Explainable.{SeenAlike, IsExplainable, prefix}
+use Rattle.log_runs.specs.Explainable.{SeenAlike, prefix}
+use Rattle.log_pieces.specs.declared.Granularity.{Granularity}
+use Rattle.log_pieces.specs.InPieces.{in_pieces, IsExplainableIn}
 use Rattle.log_text.specs.LogReaderView.{seen_of}
 
 abbrev pub none_line : ℕ → List ℕ
@@ -30,11 +32,11 @@ pub record IsFoundIn (t : TraceView) (text : List ℕ) (status : ℕ) : Type 0 w
   pub says : text ≡ trace_text (claim_of trace history)
   pub tells : status ≡ 0
 
--- the text is `none` and the place of a record: no history explains the records up to it
-pub record IsNoneIn (t : TraceView) (text : List ℕ) (status : ℕ) : Type 0 where
+-- the text is `none` and the place of a record: with pieces of that size no history explains the records up to it
+pub record IsNoneIn (size : Granularity) (t : TraceView) (text : List ℕ) (status : ℕ) : Type 0 where
   pub place : ℕ
   pub within : place < length t.records
-  pub unexplained : IsExplainable (prefix (place + 1) t) → ⊥
+  pub unexplained : IsExplainableIn size (prefix (place + 1) t) → ⊥
   pub says : text ≡ none_line place ++ 10 ∷ []
   pub tells : status ≡ 1
 
@@ -42,40 +44,40 @@ pub record IsNoneIn (t : TraceView) (text : List ℕ) (status : ℕ) : Type 0 wh
 abbrev pub IsLimit : ℕ → List ℕ → ℕ → Type 0
 IsLimit limit text status = (text ≡ limit_line limit ++ 10 ∷ []) × (status ≡ 3)
 
--- an answer to what was read, and its exit status
-abbrev pub IsAnswerTo : ℕ → Result TraceView ReadFault → List ℕ → ℕ → Type 0
-IsAnswerTo limit (Ok t) text status = IsFoundIn t text status ⊎ IsNoneIn t text status ⊎ IsLimit limit text status
-IsAnswerTo limit (Err f) text status = (text ≡ fault_line f ++ 10 ∷ []) × (status ≡ 1)
+-- an answer to what was read, and its exit status; what is found is a history of the log in pieces of that size
+abbrev pub IsAnswerTo : Granularity → ℕ → Result TraceView ReadFault → List ℕ → ℕ → Type 0
+IsAnswerTo size limit (Ok t) text status = IsFoundIn (in_pieces size t) text status ⊎ IsNoneIn size t text status ⊎ IsLimit limit text status
+IsAnswerTo size limit (Err f) text status = (text ≡ fault_line f ++ 10 ∷ []) × (status ≡ 1)
 
 -- the answer to a text, and its exit status; a text may have many
-abbrev pub OutSearch : ℕ → List ℕ → List ℕ → ℕ → Type 0
-OutSearch limit input text status = IsAnswerTo limit (seen_of input) text status
+abbrev pub OutSearch : Granularity → ℕ → List ℕ → List ℕ → ℕ → Type 0
+OutSearch size limit input text status = IsAnswerTo size limit (seen_of input) text status
 
 -- the input was read to its end, and an answer to it was written
-pub record IsWhole (limit : ℕ) (input rest out out' : Option (List ℕ)) (status : ℕ) : Type 0 where
+pub record IsWhole (size : Granularity) (limit : ℕ) (input rest out out' : Option (List ℕ)) (status : ℕ) : Type 0 where
   pub read : List ℕ
   pub consumed : Consumes input rest read
   pub at_end : IsAtEnd rest
   pub text : List ℕ
-  pub answers : OutSearch limit read text status
+  pub answers : OutSearch size limit read text status
   pub written : Appends out out' text
 
 -- a first part of an answer to the whole input
-pub record BeginsAnswer (limit : ℕ) (read : List ℕ) (rest : Option (List ℕ)) (done : List ℕ) : Type 0 where
+pub record BeginsAnswer (size : Granularity) (limit : ℕ) (read : List ℕ) (rest : Option (List ℕ)) (done : List ℕ) : Type 0 where
   pub at_end : IsAtEnd rest
   pub text : List ℕ
   pub status : ℕ
-  pub answers : OutSearch limit read text status
+  pub answers : OutSearch size limit read text status
   pub begins : IsBeginning done text
 
 -- nothing was written, or a first part of an answer to the whole input
-pub record IsPart (limit : ℕ) (input rest out out' : Option (List ℕ)) : Type 0 where
+pub record IsPart (size : Granularity) (limit : ℕ) (input rest out out' : Option (List ℕ)) : Type 0 where
   pub read : List ℕ
   pub consumed : Consumes input rest read
   pub done : List ℕ
-  pub begins : (done ≡ []) ⊎ BeginsAnswer limit read rest done
+  pub begins : (done ≡ []) ⊎ BeginsAnswer size limit read rest done
   pub written : Appends out out' done
 
 -- the answer was written, with its exit status; or part of one, with status 1
-abbrev pub IsSearched : ℕ → Option (List ℕ) → Option (List ℕ) → Option (List ℕ) → Option (List ℕ) → ℕ → Type 0
-IsSearched limit input rest out out' status = IsWhole limit input rest out out' status ⊎ ((status ≡ 1) × IsPart limit input rest out out')
+abbrev pub IsSearched : Granularity → ℕ → Option (List ℕ) → Option (List ℕ) → Option (List ℕ) → Option (List ℕ) → ℕ → Type 0
+IsSearched size limit input rest out out' status = IsWhole size limit input rest out out' status ⊎ ((status ≡ 1) × IsPart size limit input rest out out')

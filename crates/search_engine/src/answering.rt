@@ -1,14 +1,17 @@
 //! What is answered to a text.
-ghost use Rattle.std.specs.Prelude.{◌≡◌, Ok, IfOk, Result};
+ghost use Rattle.std.specs.Prelude.{◌≡◌, IfOk, Result};
+ghost use Rattle.log_pieces.specs.declared.Granularity.{Granularity};
 ghost use Rattle.history_check.specs.Claim.{claim_of};
 ghost use Rattle.history_check.specs.TraceView.{TraceView};
 ghost use Rattle.trace_text.specs.declared.fault.ReadFault.{ReadFault};
 ghost use Rattle.trace_text.specs.Texts.{trace_text};
 ghost use Rattle.log_text.specs.LogReaderView.{seen_of};
-ghost use Rattle.search_engine.specs.Findings.{is_memory, IsFinding};
+ghost use Rattle.search_engine.specs.Findings.{is_memory, IsFinding, IsFindingOf};
 ghost use Rattle.search_engine.specs.Search.{IsAnswerTo, OutSearch};
 
+use crate::granularity::{Pieces, sought_in};
 use crate::lines::{fault_text, limit_text, none_text};
+use crate::options::SearchOptions;
 use crate::stages::{Stages, tell_choices, tell_records};
 use history_check::Trace;
 use history_search::{Sought, search};
@@ -25,9 +28,16 @@ pub const LIMIT_STATUS: u8 = 3;
 #[derive(Drop)]
 pub(crate) enum Finding {
     /// A log that this history explains, with n's.
-    Found { trace: Trace, history: Vec<Entry> },
-    /// A log of which so many records have no history.
-    None { trace: Trace, prefix: usize },
+    Found {
+        trace: Trace,
+        history: Vec<Entry>,
+    },
+    /// A log of which so many records have no history, and where it was searched in pieces, those.
+    None {
+        trace: Trace,
+        prefix: usize,
+        pieces: Option<Pieces>,
+    },
     /// A log of which nothing is known.
     Limit,
     /// A text that can't be read.
@@ -42,14 +52,14 @@ pub struct Outcome {
 }
 
 /// Looks for a history.
-fn sought<E: Write>(
+pub(crate) fn sought<E: Write>(
     alloc: Global,
     mut trace: Trace,
     limit: u64,
     stages: Stages,
     errors: &mut E,
 ) -> Result<Finding, AllocError>
-    ensures { IfOk result (IsFinding (Ok trace)) }
+    ensures { IfOk result (IsFindingOf Granularity.Whole trace) }
 {
     let records = trace.records.len();
     let shows = stages.are_shown(records);
@@ -58,7 +68,11 @@ fn sought<E: Write>(
     tell_choices(shows, choices, limit, errors);
     match sought {
         Sought::Found(history) => Ok(Finding::Found { trace, history }),
-        Sought::None { prefix } => Ok(Finding::None { trace, prefix }),
+        Sought::None { prefix } => Ok(Finding::None {
+            trace,
+            prefix,
+            pieces: None,
+        }),
         Sought::Limit => Ok(Finding::Limit),
     }
 }
@@ -73,14 +87,14 @@ fn is_memory(kind: ReadFaultKind) -> bool
 pub(crate) fn find<E: Write>(
     alloc: Global,
     text: &[u8],
-    limit: u64,
+    options: SearchOptions,
     stages: Stages,
     errors: &mut E,
 ) -> Result<Finding, AllocError>
-    ensures { IfOk result (IsFinding (seen_of text.now)) }
+    ensures { IfOk result (IsFinding options.granularity (seen_of text.now)) }
 {
     match read_seen(alloc, text) {
-        Ok(trace) => sought(alloc, trace, limit, stages, errors),
+        Ok(trace) => sought_in(alloc, trace, options, stages, errors),
         Err(fault) if is_memory(fault.kind) => Err(AllocError),
         Err(fault) => Ok(Finding::Fault(fault)),
     }
@@ -100,7 +114,7 @@ pub(crate) fn outcome_of(
     finding: &Finding,
     limit: u64,
 ) -> Result<Outcome, AllocError>
-    ensures { (r : Result TraceView ReadFault) → IsFinding r finding.now → IfOk result (λ o. IsAnswerTo limit r o.text.items o.status) }
+    ensures { (size : Granularity) (r : Result TraceView ReadFault) → IsFinding size r finding.now → IfOk result (λ o. IsAnswerTo size limit r o.text.items o.status) }
 {
     match finding {
         Finding::Found { trace, history } => {
@@ -130,8 +144,9 @@ pub(crate) fn outcome_of(
 /// that can't be read and why, and status 1; or `limit` and the limit, and status 3. No more than `limit`
 /// choices are looked at. Fails where memory can't be allocated; nothing is known then.
 pub fn answer_of(alloc: Global, text: &[u8], limit: u64) -> Result<Outcome, AllocError>
-    ensures { IfOk result (λ o. OutSearch limit text.now o.text.items o.status) }
+    ensures { IfOk result (λ o. OutSearch Granularity.Whole limit text.now o.text.items o.status) }
 {
-    let finding = find(alloc, text, limit, Stages::Hidden, &mut sink())?;
+    let options = SearchOptions::of_whole_requests(limit);
+    let finding = find(alloc, text, options, Stages::Hidden, &mut sink())?;
     outcome_of(alloc, &finding, limit)
 }

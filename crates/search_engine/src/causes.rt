@@ -276,7 +276,17 @@ struct Case<'a> {
     requests: Vec<Request>,
 }
 
-impl Case<'_> {
+impl<'a> Case<'a> {
+    /// Of the records up to here.
+    fn new(alloc: Global, trace: &'a Trace, prefix: usize) -> Result<Case<'a>, AllocError> {
+        let records = trace.records.get(..prefix).unwrap_or(&[]);
+        Ok(Case {
+            trace,
+            records,
+            requests: requests_of(alloc, records)?,
+        })
+    }
+
     /// The cause of that kind that is one of the answers at these places.
     fn cause(
         &self,
@@ -302,6 +312,17 @@ impl Case<'_> {
     }
 }
 
+/// What is wrong with the form of one of the replies at these places, of the records up to here.
+pub(crate) fn misreply_among(
+    alloc: Global,
+    trace: &Trace,
+    prefix: usize,
+    answers: &[usize],
+) -> Result<Option<Cause>, AllocError> {
+    let case = Case::new(alloc, trace, prefix)?;
+    case.cause(alloc, answers, None)
+}
+
 /// Why the answers at these places have no history, of the records up to here.
 pub(crate) fn cause_of(
     alloc: Global,
@@ -309,12 +330,7 @@ pub(crate) fn cause_of(
     prefix: usize,
     answers: &[usize],
 ) -> Result<Cause, AllocError> {
-    let records = trace.records.get(..prefix).unwrap_or(&[]);
-    let case = Case {
-        trace,
-        records,
-        requests: requests_of(alloc, records)?,
-    };
+    let case = Case::new(alloc, trace, prefix)?;
     for kind in [
         None,
         Some(Kind::NothingPuts),

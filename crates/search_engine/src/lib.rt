@@ -9,9 +9,12 @@
 mod answering;
 mod causes;
 mod effects;
+mod granularity;
 mod input;
 pub mod laws;
 mod lines;
+mod options;
+mod piece_reasons;
 mod requests;
 mod search;
 mod stages;
@@ -19,5 +22,6 @@ mod telling;
 mod wording;
 
 pub use answering::{LIMIT_STATUS, Outcome, answer_of};
+pub use options::SearchOptions;
 pub use search::{run_search, run_search_with_reasons};
 pub use stages::Stages;

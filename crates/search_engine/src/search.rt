@@ -1,9 +1,11 @@
 //! The subcommand `search`.
 ghost use Rattle.std.specs.Prelude.{IfOk, OnErr};
+ghost use Rattle.log_pieces.specs.declared.Granularity.TheVariants.{Whole};
 ghost use Rattle.search_engine.specs.Search.{IsWhole, IsPart, OutSearch};
 
 use crate::answering::{Finding, Outcome, find, outcome_of};
 use crate::input::read_rest;
+use crate::options::SearchOptions;
 use crate::stages::Stages;
 use crate::telling::tell;
 use line_loop::{EngineFault, write_out};
@@ -30,14 +32,14 @@ struct Answer {
 fn answered<E: Write>(
     alloc: Global,
     text: Vec<u8>,
-    limit: u64,
+    options: SearchOptions,
     stages: Stages,
     errors: &mut E,
 ) -> Result<Answer, AllocError>
-    ensures { IfOk result (λ a. OutSearch limit text.items a.outcome.text.items a.outcome.status) }
+    ensures { IfOk result (λ a. OutSearch options.granularity options.limit text.items a.outcome.text.items a.outcome.status) }
 {
-    let finding = find(alloc, &text, limit, stages, errors)?;
-    let outcome = outcome_of(alloc, &finding, limit)?;
+    let finding = find(alloc, &text, options, stages, errors)?;
+    let outcome = outcome_of(alloc, &finding, options.limit)?;
     let text = kept(text, &finding);
     Ok(Answer {
         outcome,
@@ -54,22 +56,23 @@ fn tell_reason<E: Write>(alloc: Global, answer: &Answer, limit: u64, errors: &mu
 }
 
 /// Does what [`run_search`] does, and tells on `errors` how far it is, where that is shown. Once the answer is
-/// written and flushed, it tells there why there is no history, or why the input can't be read.
+/// written and flushed, it tells there why there is no history, or why the input can't be read. In a search in pieces
+/// each read and write acts in pieces of that many bytes; the trace that is written is of pieces.
 pub fn run_search_with_reasons<R: Read, W: Write, E: Write>(
     alloc: Global,
-    limit: u64,
+    options: SearchOptions,
     stages: Stages,
     reader: &mut R,
     writer: &mut W,
     errors: &mut E,
 ) -> Result<u8, EngineFault>
-    ensures ok { IfOk result (IsWhole limit (R.remaining reader.old) (R.remaining reader.new) (W.contents writer.old) (W.contents writer.new)) }
-    ensures err { OnErr result (IsPart limit (R.remaining reader.old) (R.remaining reader.new) (W.contents writer.old) (W.contents writer.new)) }
+    ensures ok { IfOk result (IsWhole options.granularity options.limit (R.remaining reader.old) (R.remaining reader.new) (W.contents writer.old) (W.contents writer.new)) }
+    ensures err { OnErr result (IsPart options.granularity options.limit (R.remaining reader.old) (R.remaining reader.new) (W.contents writer.old) (W.contents writer.new)) }
 {
     let text = read_rest(alloc, reader)?;
-    let answer = answered(alloc, text, limit, stages, errors)?;
+    let answer = answered(alloc, text, options, stages, errors)?;
     write_out(writer, &answer.outcome.text)?;
-    tell_reason(alloc, &answer, limit, errors);
+    tell_reason(alloc, &answer, options.limit, errors);
     Ok(answer.outcome.status)
 }
 
@@ -84,8 +87,9 @@ pub fn run_search<R: Read, W: Write>(
     reader: &mut R,
     writer: &mut W,
 ) -> Result<u8, EngineFault>
-    ensures ok { IfOk result (IsWhole limit (R.remaining reader.old) (R.remaining reader.new) (W.contents writer.old) (W.contents writer.new)) }
-    ensures err { OnErr result (IsPart limit (R.remaining reader.old) (R.remaining reader.new) (W.contents writer.old) (W.contents writer.new)) }
+    ensures ok { IfOk result (IsWhole Whole limit (R.remaining reader.old) (R.remaining reader.new) (W.contents writer.old) (W.contents writer.new)) }
+    ensures err { OnErr result (IsPart Whole limit (R.remaining reader.old) (R.remaining reader.new) (W.contents writer.old) (W.contents writer.new)) }
 {
-    run_search_with_reasons(alloc, limit, Stages::Hidden, reader, writer, &mut sink())
+    let options = SearchOptions::of_whole_requests(limit);
+    run_search_with_reasons(alloc, options, Stages::Hidden, reader, writer, &mut sink())
 }

@@ -1,6 +1,7 @@
 //! Why there is no history, or why the input can't be read, for people.
 use crate::answering::Finding;
 use crate::causes::cause_of;
+use crate::piece_reasons::tell_none_in_pieces;
 use crate::wording::tell_cause;
 use arrayvec::ArrayString;
 use diagnostics::{Reason, tell_long_line};
@@ -28,7 +29,7 @@ fn first_line(text: &[u8]) -> (&[u8], &[u8]) {
 }
 
 /// The lines of the text, by their numbers.
-fn lines_of(alloc: Global, text: &[u8]) -> Result<TraceLines, AllocError> {
+pub(crate) fn lines_of(alloc: Global, text: &[u8]) -> Result<TraceLines, AllocError> {
     let mut lines = TraceLines::new(alloc);
     let mut rest = text;
     while let Some(end) = memchr(b'\n', rest) {
@@ -162,7 +163,7 @@ fn tell_fault<E: Write>(text: &[u8], fault: ReadFault, errors: &mut E) {
 }
 
 /// Tells on which lines records have no history, and have one.
-fn tell_lines<E: Write>(
+pub(crate) fn tell_lines<E: Write>(
     lines: &TraceLines,
     prefix: usize,
     explained: Option<usize>,
@@ -219,6 +220,23 @@ fn tell_form<E: Write>(lines: &TraceLines, trace: &Trace, place: usize, errors: 
     }
 }
 
+/// Tells what is wrong with the form of the last of so many records, if something is.
+pub(crate) fn tell_flaw<E: Write>(
+    alloc: Global,
+    lines: &TraceLines,
+    trace: &Trace,
+    prefix: usize,
+    errors: &mut E,
+) -> Result<bool, AllocError> {
+    let last = prefix.saturating_sub(1);
+    let records = trace.records.get(..prefix).unwrap_or(&[]);
+    let is_flawed = form_of(alloc, records)?.flaw == Some(last);
+    if is_flawed {
+        tell_form(lines, trace, last, errors);
+    }
+    Ok(is_flawed)
+}
+
 /// Why the record at the place answers nothing.
 fn misanswer(trace: &Trace, place: usize, requester: u8, number: u32) -> &'static str {
     for record in trace.records.get(..place).unwrap_or(&[]) {
@@ -271,7 +289,12 @@ fn tell_answer<E: Write>(
 }
 
 /// Tells the answers at places, the first of which contradicts the others.
-fn tell_answers<E: Write>(lines: &TraceLines, trace: &Trace, answers: &[usize], errors: &mut E) {
+pub(crate) fn tell_answers<E: Write>(
+    lines: &TraceLines,
+    trace: &Trace,
+    answers: &[usize],
+    errors: &mut E,
+) {
     let behind = if answers.len() > 1 {
         ", against these answers:"
     } else {
@@ -285,7 +308,7 @@ fn tell_answers<E: Write>(lines: &TraceLines, trace: &Trace, answers: &[usize], 
 
 /// The places of the answers that are told: few that contradict each other, the last one first, or else the
 /// last one alone.
-fn told_answers(
+pub(crate) fn told_answers(
     alloc: Global,
     trace: &Trace,
     prefix: usize,
@@ -302,7 +325,12 @@ fn told_answers(
 }
 
 /// How many records a history explains, if that is one less than the prefix and is found out.
-fn known_before(alloc: Global, trace: &Trace, prefix: usize, limit: u64) -> Option<usize> {
+pub(crate) fn known_before(
+    alloc: Global,
+    trace: &Trace,
+    prefix: usize,
+    limit: u64,
+) -> Option<usize> {
     if prefix > trace.records.len() {
         return None;
     }
@@ -324,10 +352,7 @@ fn tell_none<E: Write>(
     let lines = lines_of(alloc, text)?;
     let explained = known_before(alloc, trace, prefix, limit);
     tell_lines(&lines, prefix, explained, errors);
-    let last = prefix.saturating_sub(1);
-    let records = trace.records.get(..prefix).unwrap_or(&[]);
-    if form_of(alloc, records)?.flaw == Some(last) {
-        tell_form(&lines, trace, last, errors);
+    if tell_flaw(alloc, &lines, trace, prefix, errors)? {
         return Ok(());
     }
     let told = told_answers(alloc, trace, prefix, limit)?;
@@ -347,8 +372,19 @@ pub(crate) fn tell<E: Write>(
     errors: &mut E,
 ) {
     match finding {
-        Finding::None { trace, prefix } => {
+        Finding::None {
+            trace,
+            prefix,
+            pieces: None,
+        } => {
             let _ = tell_none(alloc, text, trace, *prefix, limit, errors);
+        }
+        Finding::None {
+            trace,
+            prefix,
+            pieces: Some(pieces),
+        } => {
+            let _ = tell_none_in_pieces(alloc, text, trace, *prefix, pieces, limit, errors);
         }
         Finding::Fault(fault) => tell_fault(text, *fault, errors),
         _ => {}

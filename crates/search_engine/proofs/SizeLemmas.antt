@@ -1,0 +1,33 @@
+-- What comes of a log, and of the same log in pieces.
+use Rattle.std.proofs.Common.{◌≡◌, ℕ, ◌≤◌, length, Option, refl, sym, subst}
+use Rattle.history_check.specs.TraceView.{TraceView}
+use Rattle.log_runs.specs.Explainable.{SeenAlike, IsExplainable, prefix as first}
+use Rattle.log_pieces.specs.declared.Granularity.{Granularity}
+use Rattle.log_pieces.specs.declared.Granularity.TheVariants.{Whole}
+use Rattle.log_pieces.specs.InPieces.{in_pieces}
+use Rattle.search_engine.specs.declared.answering.Finding.{Finding}
+use Rattle.search_engine.specs.declared.answering.Finding.TheVariants as findings
+use Rattle.search_engine.specs.declared.granularity.Pieces.{Pieces}
+use Rattle.search_engine.specs.Findings.{AreUnexplained, IsFindingOf}
+
+-- whole requests are their own pieces
+whole_is : (t : TraceView) → in_pieces Whole t ≡ t
+unfolding in_pieces
+whole_is t = refl
+
+pub alike_in_whole : (t u : TraceView) → SeenAlike t u → SeenAlike (in_pieces Whole t) u
+alike_in_whole t u alike = subst (λ (v : TraceView). SeenAlike v u) (sym (whole_is t)) alike
+
+pub unexplained_in_whole : (t : TraceView) (count : ℕ) → count ≤ length t.records → (IsExplainable (first count t) → ⊥) → AreUnexplained Whole t count
+unexplained_in_whole t count l dead = record { within = l; unexplained = λ e. dead (subst IsExplainable (whole_is (first count t)) e) }
+
+pub unexplained : (t : TraceView) (count : ℕ) → AreUnexplained Whole t count → IsExplainable (first count t) → ⊥
+unexplained t count dead e = dead.unexplained (subst IsExplainable (sym (whole_is (first count t))) e)
+
+-- what is found of the log in pieces is found of the log, but for where it has none
+pub of_log : (size : Granularity) (t : TraceView) (f : Finding) → IsFindingOf Whole (in_pieces size t) f
+    → ((u : TraceView) (count : ℕ) (pieces : Option Pieces) → f ≡ findings.None u count pieces → ⊥) → IsFindingOf size t f
+of_log size t (findings.Found trace history) h none = (subst (λ (v : TraceView). SeenAlike v trace) (whole_is (in_pieces size t)) h.0, h.1, h.2)
+of_log size t (findings.None trace count pieces) h none = absurd (none trace count pieces refl)
+of_log size t findings.Limit h none = tt
+of_log size t (findings.Fault f) h none = h

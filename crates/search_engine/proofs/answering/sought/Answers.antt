@@ -1,0 +1,16 @@
+use Rattle.std.proofs.Common.{subst}
+use Rattle.history_search.specs.Answers.{IsFound, IsNone}
+use Rattle.history_search.specs.declared.searching.Sought.{Sought}
+use Rattle.history_search.specs.declared.searching.Sought.TheVariants as answers
+use Rattle.search_engine.proofs.SizeLemmas.{alike_in_whole, unexplained_in_whole}
+use Rattle.search_engine.proofs.answering.sought.Goals as goal
+
+pub returns-in-Found : goal.returns-in-Found
+returns-in-Found g c =
+    let found : IsFound c.search.new.trace (answers.Found c.in-Found.history) = subst (λ (s : Sought). IsFound c.search.new.trace s) c.in-Found.is c.in_ok-sought.ensures.found in
+    (alike_in_whole c.args.trace c.search.new.trace c.search.ensures.alike, found.0, found.1)
+
+pub returns-in-None : goal.returns-in-None
+returns-in-None g c =
+    let none : IsNone c.args.trace (answers.None c.in-None.prefix) = subst (λ (s : Sought). IsNone c.args.trace s) c.in-None.is c.in_ok-sought.ensures.none in
+    unexplained_in_whole c.args.trace c.in-None.prefix none.1.within none.1.unexplained
