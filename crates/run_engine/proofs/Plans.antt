@@ -1,5 +1,5 @@
 -- The plan of a counting, and how its run ends.
-use Rattle.std.proofs.Common.{◌≤◌, ℕ, Vec, Global, List, length, map, ◌⊎◌, ⊎_elim, ◌∙◌, ap, sym, subst, rules, arith}
+use Rattle.std.proofs.Common.{◌≤◌, ℕ, Vec, Global, List, length, map, ⊎_elim, ◌∙◌, ap, sym, subst, rules, arith}
 use Rattle.std.specs.Prelude.{Result, Ok, Err, IfOk, IfErr}
 use Rattle.std.proofs.lemmas.List.{length-map, length-replicate}
 use Rattle.tlp_core.specs.declared.operation.Op.{Op}
