@@ -58,7 +58,12 @@ fn submits(item: &Record, requester: u8, number: u32) -> bool
 }
 
 /// The place, if the request is submitted there.
-fn submission_at(records: &[Record], at: Option<usize>, requester: u8, number: u32) -> Option<usize>
+pub(crate) fn submission_at(
+    records: &[Record],
+    at: Option<usize>,
+    requester: u8,
+    number: u32,
+) -> Option<usize>
     ensures { IfSome result (λ b. (op : Op) × (n : ℕ) × (slice_get records.now b ≡ Some (kinds.Sub requester number op n))) }
 {
     let at = at?;

@@ -5,12 +5,14 @@ ghost use Rattle.tlp_core.specs.declared.operation.Op.{Op};
 ghost use Rattle.tlp_core.specs.Operation.{is_posted};
 ghost use Rattle.seq_memory.specs.declared.Reply.{Reply};
 ghost use Rattle.history_check.specs.declared.Record.TheVariants as kinds;
-ghost use Rattle.history_check.specs.Trace.{IsNumbered, answers_to, submissions};
+ghost use Rattle.history_check.specs.Trace.{IsNumbered, answers_to};
 ghost use Rattle.log_runs.specs.Tasks.{IsMisformed};
-ghost use Rattle.log_events.specs.Counts.{AreAsked, AreCounts, IsCounted};
-ghost use Rattle.log_events.specs.Formed.{MisformedAt};
+ghost use Rattle.log_events.specs.Counts.{AreAsked, AreMarks, IsCounted};
+ghost use Rattle.log_events.specs.Formed.{MisformedAt, AreFormed, IsOpen};
+ghost use Rattle.log_events.specs.Formed as spec;
 
 use crate::counts::Counts;
+use crate::events::submission_at;
 use crate::partners::Partners;
 use history_check::Record;
 use log_runs::laws::{numbers_name_submissions, submissions_grow_by_records};
@@ -32,6 +34,14 @@ struct Tables {
     /// By requester, the places of its submissions.
     rows: Vec<Vec<usize>>,
     partners: Partners,
+    /// By place, whether the request that is submitted there was answered.
+    answered: Vec<bool>,
+}
+
+fn none_answered(alloc: Global, count: usize) -> Result<Vec<bool>, AllocError>
+    ensures { IfOk result (λ v. v.items ≡ replicate count false) }
+{
+    vec![in alloc; false; count]
 }
 
 fn rows(alloc: Global) -> Result<Vec<Vec<usize>>, AllocError> {
@@ -49,70 +59,72 @@ fn place(rows: &[Vec<usize>], requester: u8, number: u32) -> Option<usize> {
         .copied()
 }
 
-/// The record submits the request, and it is posted.
-fn submits_posted(item: &Record, requester: u8, number: u32) -> bool
-    ensures { IsTrue result → (op : Op) × (n : ℕ) × (item.now ≡ kinds.Sub requester number op n) × (is_posted op ≡ true) }
+/// The record submits the request.
+fn submits(item: &Record, requester: u8, number: u32) -> bool
+    ensures { result ≡ spec.submits requester number item.now }
 {
     match item {
         Record::Sub {
             requester: who,
             number: own,
-            op,
             ..
-        } => *who == requester && *own == number && op.is_posted(),
+        } => *who == requester && *own == number,
         Record::Ans { .. } => false,
     }
 }
 
-/// The record answers the request.
-fn answers(item: &Record, requester: u8, number: u32) -> bool
-    ensures { result ≡ answers_to requester number item.now }
+/// The place of the first of the records that submits the request.
+fn first_submission(records: &[Record], requester: u8, number: u32) -> Option<usize>
+    ensures some { IfSome result (λ b. (op : Op) × (n : ℕ) × (slice_get records.now b ≡ Some (kinds.Sub requester number op n))) }
+    ensures none { IfNone result (list_any (spec.submits requester number) records.now ≡ false) }
 {
-    match item {
-        Record::Sub { .. } => false,
-        Record::Ans {
-            requester: who,
-            number: own,
-            ..
-        } => *who == requester && *own == number,
+    for at in 0..records.len() {
+        if submits(&records[at], requester, number) {
+            return Some(at);
+        }
+    }
+    None
+}
+
+/// The place of the record that submits the request: the guess, if it is right, or the first.
+fn place_of(records: &[Record], guess: Option<usize>, requester: u8, number: u32) -> Option<usize>
+    ensures some { IfSome result (λ b. (op : Op) × (n : ℕ) × (slice_get records.now b ≡ Some (kinds.Sub requester number op n))) }
+    ensures none { IfNone result (list_any (spec.submits requester number) records.now ≡ false) }
+{
+    match submission_at(records, guess, requester, number) {
+        Some(at) => Some(at),
+        None => first_submission(records, requester, number),
     }
 }
 
-/// The record at that place, before the end, is a posted submission of the request.
-fn is_write(records: &[Record], end: usize, at: usize, requester: u8, number: u32) -> bool
-    ensures { IsTrue result → (op : Op) × (n : ℕ) × (slice_get records.now at ≡ Some (kinds.Sub requester number op n)) × (is_posted op ≡ true) × (at < end) }
+/// The request that is submitted at that place is posted.
+fn is_posted_at(records: &[Record], at: usize) -> bool
+    ensures { (i k n : ℕ) (op : Op) → slice_get records.now at ≡ Some (kinds.Sub i k op n) → result ≡ is_posted op }
 {
     match records.get(at) {
-        Some(record) => at < end && submits_posted(record, requester, number),
-        None => false,
-    }
-}
-
-/// The record at that place, before the end, answers the request.
-fn is_answer(records: &[Record], end: usize, at: usize, requester: u8, number: u32) -> bool
-    ensures { IsTrue result → list_any (answers_to requester number) (take end records.now) ≡ true }
-{
-    match records.get(at) {
-        Some(record) => at < end && answers(record, requester, number),
-        None => false,
+        Some(Record::Sub { op, .. }) => op.is_posted(),
+        _ => false,
     }
 }
 
 impl Tables {
     fn new(alloc: Global, count: usize) -> Result<Self, AllocError>
-        ensures { IfOk result (λ t. t.counts ≡ replicate 256 0) }
+        ensures counts { IfOk result (λ t. t.counts ≡ replicate 256 0) }
+        ensures answered { IfOk result (λ t. t.answered.items ≡ replicate count false) }
     {
         Ok(Tables {
             counts: Counts::new(alloc)?,
             rows: rows(alloc)?,
             partners: Partners::none(alloc, count)?,
+            answered: none_answered(alloc, count)?,
         })
     }
 
     /// A submission more of the requester, at that place.
     fn submit(&mut self, requester: u8, at: usize) -> Result<(), AllocError>
         requires { get_or self.old.counts requester 0 < 18446744073709551615 }
-        ensures { OnOk result (self.new.counts ≡ set self.old.counts requester (get_or self.old.counts requester 0 + 1)) }
+        ensures counts { OnOk result (self.new.counts ≡ set self.old.counts requester (get_or self.old.counts requester 0 + 1)) }
+        ensures answered { OnOk result (self.new.answered.items ≡ self.old.answered.items) }
     {
         self.counts.add(requester);
         if let Some(row) = self.rows.get_mut(usize::from(requester)) {
@@ -122,45 +134,55 @@ impl Tables {
     }
 
     /// The answer at that place joins its submission.
-    fn answer(&mut self, requester: u8, number: u32, at: usize)
-        ensures { self.new.counts ≡ self.old.counts }
+    fn answer(&mut self, submission: usize, at: usize)
+        requires { submission < length self.old.answered.items }
+        ensures counts { self.new.counts ≡ self.old.counts }
+        ensures answered { self.new.answered.items ≡ set self.old.answered.items submission true }
     {
-        if let Some(submission) = place(&self.rows, requester, number) {
-            self.partners.join(submission, at);
+        self.answered[submission] = true;
+        self.partners.join(submission, at);
+    }
+
+    /// The request that is submitted at that place was answered.
+    fn is_answered(&self, at: usize) -> bool
+        ensures { result ≡ get_or self.now.answered.items at false }
+    {
+        match self.answered.get(at) {
+            Some(answered) => *answered,
+            None => false,
         }
     }
 
-    /// No submission before `end` has that number, or it is of a posted write, or it was answered.
-    fn is_misanswer(&self, records: &[Record], end: usize, requester: u8, number: u32) -> bool
-        requires counts { AreCounts self.now.counts (take end records.now) }
-        requires numbered { IsNumbered (take end records.now) }
-        ensures wrong { IsTrue result → (reply : Reply) (n : ℕ) → IsMisformed (take end records.now) (kinds.Ans requester number reply n) }
-        ensures asked { result ≡ false → number < length (submissions (take end records.now) requester) }
+    /// Where the request is submitted, if behind these records an answer to it is right.
+    fn open_at(&self, records: &[Record], requester: u8, number: u32) -> Option<usize>
+        requires numbered { IsNumbered records.now }
+        requires answered { AreMarks self.now.answered.items records.now }
+        ensures some { IfSome result (IsOpen records.now requester number) }
+        ensures none { IfNone result ((reply : Reply) (n : ℕ) → IsMisformed records.now (kinds.Ans requester number reply n)) }
     {
         numbers_name_submissions();
-        if self.counts.of(requester) <= number as usize {
-            return true;
-        }
-        let Some(at) = place(&self.rows, requester, number) else {
-            return false;
+        let guess = place(&self.rows, requester, number);
+        let Some(at) = place_of(records, guess, requester, number) else {
+            return None;
         };
-        if is_write(records, end, at, requester, number) {
-            return true;
+        if is_posted_at(records, at) {
+            return None;
         }
-        match self.partners.of(at) {
-            Some(answer) => is_answer(records, end, answer, requester, number),
-            None => false,
+        if self.is_answered(at) {
+            return None;
         }
+        Some(at)
     }
 
     /// Takes the next record, if its form is right.
     fn add(&mut self, records: &[Record], at: usize) -> Result<bool, AllocError>
         requires within { at < length records.now }
-        requires known { IsCounted self.old.counts records.now at }
-        ensures right { IfOk result (λ right. IsTrue right → IsCounted self.new.counts records.now (at + 1)) }
+        requires known { IsCounted self.old.counts self.old.answered.items records.now at }
+        ensures right { IfOk result (λ right. IsTrue right → IsCounted self.new.counts self.new.answered.items records.now (at + 1)) }
         ensures wrong { IfOk result (λ right. right ≡ false → MisformedAt records.now at) }
     {
         submissions_grow_by_records();
+        numbers_name_submissions();
         match &records[at] {
             Record::Sub {
                 requester,
@@ -177,10 +199,10 @@ impl Tables {
                 number,
                 ..
             } => {
-                if self.is_misanswer(records, at, *requester, *number) {
+                let Some(submission) = self.open_at(&records[..at], *requester, *number) else {
                     return Ok(false);
-                }
-                self.answer(*requester, *number, at);
+                };
+                self.answer(submission, at);
             }
         }
         Ok(true)
@@ -189,10 +211,11 @@ impl Tables {
 
 /// Joins submissions and answers, up to the first record whose form is wrong: a submission that
 /// hasn't its requester's next number, an answer to what wasn't submitted before or to a posted
-/// write, or a second answer. If none is told, each submission has its number, and each answer the number of a
-/// submission before it.
+/// write, or a second answer.
 pub fn form_of(alloc: Global, records: &[Record]) -> Result<Form, AllocError>
     ensures wrong { IfOk result (λ f. IfSome f.flaw (MisformedAt records.now)) }
+    ensures first { IfOk result (λ f. IfSome f.flaw (AreFormed records.now)) }
+    ensures formed { IfOk result (λ f. IfNone f.flaw (AreFormed records.now (length records.now))) }
     ensures numbered { IfOk result (λ f. IfNone f.flaw (IsNumbered records.now)) }
     ensures asked { IfOk result (λ f. IfNone f.flaw (AreAsked records.now (length records.now))) }
 {

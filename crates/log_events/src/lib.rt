@@ -1,8 +1,7 @@
 //! The events of a log: which answer belongs to which submission.
 //!
 //! Tables guess which records belong together, and each guess is tested where it is used, so that
-//! an event never says more than its record. What is wrong with the form of a record is found by
-//! counts that are exact.
+//! an event never says more than its record. The first record with a wrong form is found exactly.
 #![tactic(auto)]
 
 mod counts;

@@ -19,13 +19,6 @@ pub enum Way<'a> {
     Whole(&'a [Turn]),
 }
 
-impl Way<'_> {
-    /// Through a part.
-    pub(crate) fn is_part(self) -> bool {
-        matches!(self, Way::Part)
-    }
-}
-
 /// What is known of a log's requests, and which way it is searched.
 #[derive(Drop)]
 pub(crate) struct Catalog<'a> {
@@ -47,7 +40,7 @@ pub(crate) fn catalog_of<'a>(
 {
     let others = Others::of(alloc, log)?;
     let mut sketches = sketches_of(alloc, log)?;
-    let calm = way.is_part();
+    let calm = matches!(way, Way::Part);
     if calm {
         note_calm(&mut sketches, log, others.words());
     }
@@ -62,10 +55,7 @@ pub(crate) fn catalog_of<'a>(
 impl Catalog<'_> {
     /// The request changes nothing, as it seems.
     pub(crate) fn is_quiet(&self, q: usize) -> bool {
-        match self.sketches.get(q) {
-            Some(sketch) => sketch.is_quiet(),
-            None => false,
-        }
+        self.sketches.get(q).is_some_and(|sketch| sketch.is_quiet())
     }
 
     /// When requests act in runs through the log's parts.

@@ -14,7 +14,7 @@ use search_words::{near_junk, span_of};
 use std::alloc::{AllocError, Global};
 
 /// The most requests that act after the first one.
-const MOST: usize = 64;
+pub(crate) const MOST_OTHERS: usize = 64;
 
 /// The most requests at a word that are looked at for one that joins.
 const MOST_AT_WORD: usize = 256;
@@ -86,9 +86,7 @@ fn next_of(place: &Place, log: &Log, catalog: &Catalog, q: usize) -> Option<usiz
     requires catalog { IsCatalog log.now catalog.now }
     ensures { IfSome result (MayAct log.now place.now.state) }
 {
-    let Some((first, end)) = span_of(log, q) else {
-        return None;
-    };
+    let (first, end) = span_of(log, q)?;
     for word in first..end {
         if let Some(b) = next_at(place, log, catalog, q, word) {
             return Some(b);
@@ -138,7 +136,7 @@ pub(crate) fn gather(
     ensures { IfOk result (λ g. IsGroup log.now place.old.state q g place.new) }
 {
     let mut group = begin(place, alloc, log, q)?;
-    for _turn in 0..MOST {
+    for _turn in 0..MOST_OTHERS {
         let Some(b) = next_of(place, log, catalog, q) else {
             return Ok(group);
         };

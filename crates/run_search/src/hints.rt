@@ -5,6 +5,7 @@ ghost use Rattle.run_search.specs.Catalogs.{IsCatalog};
 ghost use Rattle.search_words.specs.Words.{IsWords};
 
 use crate::catalog::Catalog;
+use crate::groups::MOST_OTHERS;
 use crate::sketches::Sketch;
 use log_runs::{Event, Log, Step};
 use search_others::Loss;
@@ -27,10 +28,7 @@ fn may_fit(sketch: Sketch, base: u64, bytes: &[u8]) -> bool {
     if sketch.mask == 0 {
         return true;
     }
-    let Some(at) = sketch.place(base) else {
-        return true;
-    };
-    match four(bytes, at) {
+    match sketch.place(base).and_then(|at| four(bytes, at)) {
         Some(found) => (found ^ sketch.need) & sketch.mask == 0,
         None => true,
     }
@@ -70,13 +68,10 @@ fn next_at(log: &Log, catalog: &Catalog, place: &Place, b: usize) -> Option<Look
     if !near.wide.is_empty() || !near.unknown.is_empty() || !near.careless.is_empty() {
         return None;
     }
-    match near.known.first() {
-        None => Some(Look::none()),
-        Some(q) => if near.known.len() == 1 {
-            Some(Look::Only(*q))
-        } else {
-            None
-        },
+    match near.known {
+        [] => Some(Look::none()),
+        [q] => Some(Look::Only(*q)),
+        _ => None,
     }
 }
 
@@ -109,8 +104,8 @@ impl Look {
     /// The marks of those of the whole list that weren't looked at yet.
     fn left(self) -> u32 {
         match self {
-            Look::Marked { from, marks } => if from == 0 { marks } else { 0 },
-            Look::Only(_) => 0,
+            Look::Marked { from: 0, marks } => marks,
+            _ => 0,
         }
     }
 
@@ -203,10 +198,8 @@ impl Losses {
         let Step::Act(b) = done.step else {
             return Ok(());
         };
-        let Some((first, end)) = span_of(log, b) else {
-            return Ok(());
-        };
-        let Some(Event::Sub { op, .. }) = log.event(b) else {
+        let (Some((first, end)), Some(Event::Sub { op, .. })) = (span_of(log, b), log.event(b))
+        else {
             return Ok(());
         };
         let from = op.address().saturating_sub(log.extent().base()) as usize;
@@ -269,44 +262,49 @@ struct Spot {
 }
 
 /// Request `b` has acted, or is `q`; or it is nothing to it what stands at the word and what `q` leaves
-/// there; or it is pending and may act in turn after `q`.
-fn lets_act(place: &Place, log: &Log, sketches: &[Sketch], spot: Spot, b: usize) -> bool
+/// there.
+fn is_aside(place: &Place, log: &Log, spot: Spot, b: usize) -> bool
     requires { spot.word < log.now.extent.size / 4 }
 {
     let Spot { q, word } = spot;
-    if b == q || place.has_acted(b) {
-        return true;
-    }
-    let is_junk = is_junk_at(log, place.bytes(), b, word);
-    if is_junk && leaves_junk_at(log, b, q, word) {
-        return true;
-    }
-    let (Some(own), Some(sketch)) = (sketches.get(q).copied(), sketches.get(b).copied()) else {
-        return false;
-    };
-    if b >= place.event() || !is_junk && sketch.mask != 0 {
-        return false;
-    }
-    sketch.requester() & writers_before(place, sketches, own, b) == 0
-        && (sketch.is_quiet() || is_within(log, b, q))
+    b == q
+        || place.has_acted(b)
+        || is_junk_at(log, place.bytes(), b, word) && leaves_junk_at(log, b, q, word)
 }
 
-/// [`lets_act`], each of the list, which isn't long.
-fn all_let_act(place: &Place, log: &Log, sketches: &[Sketch], spot: Spot, list: &[usize]) -> bool
+/// Request `b` is pending and may act in turn after `q`.
+fn may_join(place: &Place, log: &Log, sketches: &[Sketch], spot: Spot, b: usize) -> bool
+    requires { spot.word < log.now.extent.size / 4 }
+{
+    let (Some(own), Some(sketch)) = (sketches.get(spot.q), sketches.get(b)) else {
+        return false;
+    };
+    b < place.event()
+        && (sketch.mask == 0 || is_junk_at(log, place.bytes(), b, spot.word))
+        && sketch.requester() & writers_before(place, sketches, *own, b) == 0
+        && (sketch.is_quiet() || is_within(log, b, spot.q))
+}
+
+/// Each of the list, which isn't long, is aside or may join, and no more may join than a group has.
+fn let_act(place: &Place, log: &Log, sketches: &[Sketch], spot: Spot, list: &[usize]) -> bool
     requires { spot.word < log.now.extent.size / 4 }
 {
     if list.len() > MOST {
         return false;
     }
+    let mut joining = 0usize;
     for b in list {
-        if !lets_act(place, log, sketches, spot, *b) {
-            return false;
+        if !is_aside(place, log, spot, *b) {
+            joining = joining.saturating_add(1);
+            if joining > MOST_OTHERS || !may_join(place, log, sketches, spot, *b) {
+                return false;
+            }
         }
     }
     true
 }
 
-/// [`lets_act`], each that may need what stands at the word now, or what request `q` leaves there.
+/// [`let_act`], those that may need what stands at the word now, or what request `q` leaves there.
 fn is_junk_for(place: &Place, log: &Log, catalog: &Catalog, spot: Spot) -> bool
     requires catalog { IsCatalog log.now catalog.now }
     requires word { spot.word < log.now.extent.size / 4 }
@@ -316,10 +314,10 @@ fn is_junk_for(place: &Place, log: &Log, catalog: &Catalog, spot: Spot) -> bool
     let (from, to) = (place.earliest(), log.len());
     let there = near_junk(words, log, place.bytes(), spot.word, from, to);
     let left = near_left(words, log, spot.q, spot.word, from, to);
-    all_let_act(place, log, sketches, spot, there.known)
-        && all_let_act(place, log, sketches, spot, left.known)
-        && all_let_act(place, log, sketches, spot, there.unknown)
-        && all_let_act(place, log, sketches, spot, there.wide)
+    let_act(place, log, sketches, spot, there.known)
+        && let_act(place, log, sketches, spot, left.known)
+        && let_act(place, log, sketches, spot, there.unknown)
+        && let_act(place, log, sketches, spot, there.wide)
 }
 
 /// What stands where request `q` writes and what it leaves there may be nothing to all that are left

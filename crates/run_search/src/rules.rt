@@ -99,9 +99,7 @@ fn first_of(place: &Place, log: &Log, catalog: &Catalog, from: usize, marks: u32
     let base = log.extent().base();
     let mut writers = 0u32;
     for q in &pending[from..] {
-        let Some(sketch) = catalog.sketches.get(*q).copied() else {
-            return None;
-        };
+        let sketch = catalog.sketches.get(*q).copied()?;
         if sketch.requester() & writers == 0
             && is_worth(marks, sketch, base, place.bytes())
             && acts_at_once(place, log, catalog, *q)

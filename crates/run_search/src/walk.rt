@@ -5,7 +5,7 @@ ghost use Rattle.search_places.specs.Places.{IsPlace};
 ghost use Rattle.run_search.specs.Catalogs.{IsCatalog};
 ghost use Rattle.run_search.specs.Frames as frames;
 
-use crate::catalog::Catalog;
+use crate::catalog::{Catalog, Way};
 use crate::hints::{Look, Losses, is_back};
 use crate::junk::over_junk;
 use crate::rules::forced;
@@ -121,7 +121,7 @@ fn at_once(
     match step {
         Some(Step::Act(_)) => Ok(step),
         Some(Step::Pass) => {
-            if (catalog.way.is_part() || are_many(place))
+            if (matches!(catalog.way, Way::Part) || are_many(place))
                 && let Some(write) = over_junk(place, alloc, log, catalog, true)?
             {
                 return Ok(Some(write));

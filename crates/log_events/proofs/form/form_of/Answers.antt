@@ -1,7 +1,9 @@
-use Rattle.std.proofs.Common.{sym, subst, List, ℕ}
-use Rattle.log_events.specs.Counts.{IsCounted}
-use Rattle.log_events.proofs.CountLemmas.{counted_none}
+use Rattle.std.proofs.Common.{length, replicate, false}
+use Rattle.log_events.proofs.CountLemmas.{counted_none, same_counted}
 use Rattle.log_events.proofs.form.form_of.Goals as goal
 
 pub loop-at-init : goal.loop-at-init
-loop-at-init c = subst (λ (xs : List ℕ). IsCounted xs c.args.records.now 0) (sym c.in_ok-tables.ensures) (counted_none c.args.records.now)
+loop-at-init c =
+    let rs = c.args.records.now in
+    let tables = c.in_ok-tables.tables in
+    same_counted tables.counts (replicate 256 0) tables.answered.items (replicate (length rs) false) rs 0 c.in_ok-tables.ensures.counts c.in_ok-tables.ensures.answered (counted_none rs)

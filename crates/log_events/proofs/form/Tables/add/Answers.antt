@@ -1,28 +1,43 @@
-use Rattle.std.proofs.Common.{◌∙◌, ◌+◌, ◌<◌, List, ℕ, sym, subst, arith}
+use Rattle.std.proofs.Common.{◌∙◌, ◌+◌, ◌<◌, ℕ, true, get_or, set, sym, arith}
 use Rattle.history_check.specs.declared.Record.TheVariants as records
-use Rattle.log_events.specs.Counts.{IsCounted}
-use Rattle.log_events.proofs.CountLemmas.{counted_sub, counted_answer, read_at}
+use Rattle.log_events.proofs.CountLemmas.{counted_sub, counted_answer, same_counted, is_within, read_at}
 use Rattle.log_events.proofs.form.Tables.add.Goals as goal
 
-pub returns-then-is_misanswer-clause-wrong : goal.returns-then-is_misanswer-clause-wrong
-returns-then-is_misanswer-clause-wrong c = λ e. (
+pub returns-in_default-clause-wrong : goal.returns-in_default-clause-wrong
+returns-in_default-clause-wrong c = λ e. (
   records.Ans c.in-Ans.requester c.in-Ans.number c.in-Ans.reply c.in-Ans.n,
   read_at c.args.records.now c.args.at c.index-records-at.result _ c.requires.within c.index-records-at.is c.in-Ans.is,
-  c.is_misanswer.ensures.wrong c.if-is_misanswer.true c.in-Ans.reply c.in-Ans.n,
+  c.in_default.ensures.none c.in-Ans.reply c.in-Ans.n,
 )
+
+pub answer-requires : goal.answer-requires
+answer-requires c =
+    let rs = c.args.records.now in
+    let at = read_at rs c.args.at c.index-records-at.result _ c.requires.within c.index-records-at.is c.in-Ans.is in
+    is_within c.numbers_name_submissions.ensures.unique c.args.self.now.answered.items rs c.args.at c.in-Ans.requester c.in-Ans.number c.in-Ans.n c.in-Some.submission c.in-Ans.reply at
+    c.requires.known.numbered c.in-Some.ensures.some c.requires.known.len c.requires.known.marked
 
 pub returns-in_ok-submit-in-Sub-clause-right : goal.returns-in_ok-submit-in-Sub-clause-right
 returns-in_ok-submit-in-Sub-clause-right c = λ e.
     let rs = c.args.records.now in
+    let counts = c.args.self.now.counts in
+    let marks = c.args.self.now.answered.items in
+    let i = c.in-Sub.requester in
     let at = read_at rs c.args.at c.index-records-at.result _ c.requires.within c.index-records-at.is c.in-Sub.is in
     let small : c.in-Sub.requester < 256 = omega arith in
-    subst (λ (xs : List ℕ). IsCounted xs rs (c.args.at + 1)) (sym c.in_ok-submit-in-Sub.ensures)
-    (counted_sub c.submissions_grow_by_records.ensures.own c.submissions_grow_by_records.ensures.other c.submissions_grow_by_records.ensures.numbered c.args.self.now.counts rs c.args.at
-    c.in-Sub.requester c.in-Sub.number c.in-Sub.n c.in-Sub.op at c.requires.known small (sym c.if-of-number.false ∙ c.of.ensures))
+    let grow = c.submissions_grow_by_records.ensures in
+    same_counted c.submit.new.self.counts (set counts i (get_or counts i 0 + 1)) c.submit.new.self.answered.items marks rs (c.args.at + 1)
+    c.in_ok-submit-in-Sub.ensures.counts c.in_ok-submit-in-Sub.ensures.answered
+    (counted_sub grow.own grow.other grow.numbered c.numbers_name_submissions.ensures.unique counts marks rs c.args.at i c.in-Sub.number c.in-Sub.n c.in-Sub.op at c.requires.known small (sym c.if-of-number.false ∙ c.of.ensures))
 
-pub returns-else-is_misanswer-clause-right : goal.returns-else-is_misanswer-clause-right
-returns-else-is_misanswer-clause-right c = λ e.
+pub returns-in-Some-clause-right : goal.returns-in-Some-clause-right
+returns-in-Some-clause-right c = λ e.
     let rs = c.args.records.now in
+    let counts = c.args.self.now.counts in
+    let marks = c.args.self.now.answered.items in
+    let b = c.in-Some.submission in
     let at = read_at rs c.args.at c.index-records-at.result _ c.requires.within c.index-records-at.is c.in-Ans.is in
-    subst (λ (xs : List ℕ). IsCounted xs rs (c.args.at + 1)) (sym c.answer.ensures)
-    (counted_answer c.submissions_grow_by_records.ensures.answer c.submissions_grow_by_records.ensures.numbered_answer c.args.self.now.counts rs c.args.at c.in-Ans.requester c.in-Ans.number c.in-Ans.n c.in-Ans.reply at (c.is_misanswer.ensures.asked c.if-is_misanswer.false) c.requires.known)
+    let grow = c.submissions_grow_by_records.ensures in
+    let name = c.numbers_name_submissions.ensures in
+    same_counted c.answer.new.self.counts counts c.answer.new.self.answered.items (set marks b true) rs (c.args.at + 1) c.answer.ensures.counts c.answer.ensures.answered
+    (counted_answer grow.answer grow.numbered_answer name.below name.unique counts marks rs c.args.at c.in-Ans.requester c.in-Ans.number c.in-Ans.n b c.in-Ans.reply at c.in-Some.ensures.some c.requires.known)
