@@ -22,7 +22,7 @@ use Rattle.script_text.specs.Forms.{line_of}
 use Rattle.script_text.specs.Names.{refusal_text}
 use Rattle.chart_page.specs.Shapes.{chart_text, title_text}
 use Rattle.link_chart.specs.declared.window.ChartWindow.{ChartWindow}
-use Rattle.link_chart.specs.ChartView.{ChartView, new_chart, charted, refused, page_of}
+use Rattle.link_chart.specs.ChartView.{ChartView, new_chart, charted, refused, page_of, titled}
 use Rattle.line_loop.specs.Run.{Answer, Responses, Run, run_of}
 use Rattle.chart_engine.specs.declared.chart.Session.{Session}
 
@@ -141,7 +141,7 @@ is_red (Some line) = true
 -- a script without a fabric has the line alone
 abbrev pub text_below : Option Session → Bool → List ℕ → List ℕ
 text_below None red title = title_text red title
-text_below (Some p) red title = chart_text (page_of p.chart) red title
+text_below (Some p) red title = chart_text (page_of p.chart) red (titled p.chart title)
 
 abbrev pub text_of : Option Session → Option (List ℕ) → List ℕ
 text_of o ending = text_below o (is_red ending) (title_of ending)

@@ -160,6 +160,20 @@ const INWARD: ChartWindow = ChartWindow {
     to: u64::MAX,
 };
 
+/// Those of the lane `up3`.
+const THIRD: ChartWindow = ChartWindow {
+    lane: Some(LaneName::Up(3)),
+    from: 1,
+    to: u64::MAX,
+};
+
+/// Those of the lane `down4`.
+const FOURTH: ChartWindow = ChartWindow {
+    lane: Some(LaneName::Down(4)),
+    from: 1,
+    to: u64::MAX,
+};
+
 /// A script, the window, parts of its chart, and the exit status.
 type Charted = (&'static str, ChartWindow, &'static [&'static str], u8);
 
@@ -313,6 +327,26 @@ static CHARTS: [Charted; 11] = [
     ),
 ];
 
+static ABSENT: [Charted; 4] = [
+    (LOST, THIRD, &[">the script ran to its end</text>"], 0),
+    (
+        LOST,
+        FOURTH,
+        &[
+            "fill=\"#000000\" text-anchor=\"start\" pointer-events=\"none\">the script ran to its end; the fabric lacks the chosen lane</text>",
+            ">requester 3</text>",
+        ],
+        0,
+    ),
+    (
+        "fabric 2 0 4096\ncollect 1\n",
+        THIRD,
+        &[">refused 2 Idle; the fabric lacks the chosen lane</text>"],
+        1,
+    ),
+    ("collect 1\n", THIRD, &[">fault 1 Script</text>"], 1),
+];
+
 static FAULTS: [Charted; 2] = [
     (
         "transmit up1\n",
@@ -343,6 +377,11 @@ fn all_are_charted(alloc: Global, charts: &[Charted]) -> bool {
 #[test]
 fn charts(rt: HostRuntime) {
     assert!(rt; all_are_charted(rt.alloc(), &CHARTS));
+}
+
+#[test]
+fn charts_of_absent_lanes(rt: HostRuntime) {
+    assert!(rt; all_are_charted(rt.alloc(), &ABSENT));
 }
 
 #[test]

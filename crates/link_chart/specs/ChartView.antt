@@ -16,7 +16,7 @@ use Rattle.chart_rows.specs.PageView.{PageView}
 use Rattle.link_chart.specs.declared.window.ChartWindow.{ChartWindow}
 use Rattle.link_chart.specs.declared.window.Place.{Place}
 use Rattle.link_chart.specs.declared.window.Place.TheVariants as places
-use Rattle.link_chart.specs.Window.{place_of}
+use Rattle.link_chart.specs.Window.{place_of, absent_words}
 use Rattle.link_chart.specs.CourseView.{CourseView, quiet}
 use Rattle.link_chart.specs.Lanes.{Moved, followed, lane_at}
 
@@ -123,3 +123,7 @@ with_left cs p = record p { opens = p.opens ++ left 0 cs }
 -- the page of a chart
 abbrev pub page_of : ChartView → PageView
 page_of v = with_left v.courses v.page
+
+-- the line above a chart
+abbrev pub titled : ChartView → List ℕ → List ℕ
+titled v title = title ++ absent_words v.window.lane v.page.requesters

@@ -1,5 +1,5 @@
 -- Which events are shown.
-use Rattle.std.specs.Prelude.{ℕ, ◌==◌, nat_lt, Bool, true, false, if◌then◌else◌, Option, Some, None}
+use Rattle.std.specs.Prelude.{ℕ, ◌==◌, ◌&&◌, nat_lt, nat_le, Bool, true, false, if◌then◌else◌, List, [], codes, Option, Some, None}
 use Rattle.fabric_core.specs.declared.event.Event.{Event}
 use Rattle.fabric_core.specs.declared.event.Event.TheVariants as events
 use Rattle.fabric_core.specs.declared.event.LaneName.{LaneName}
@@ -36,6 +36,18 @@ is_of lane (Some other) = is_same lane other
 abbrev pub is_chosen : Option LaneName → Event → Bool
 is_chosen None event = true
 is_chosen (Some lane) event = is_of lane (lane_of event)
+
+-- the lanes of a fabric with so many requesters
+abbrev pub has_lane : ℕ → LaneName → Bool
+has_lane n (lanes.Up port) = nat_le 1 port && nat_le port n
+has_lane n (lanes.Down port) = nat_le 1 port && nat_le port n
+has_lane n lanes.Inward = true
+has_lane n lanes.Outward = true
+
+-- what is said of a lane that the fabric doesn't have
+abbrev pub absent_words : Option LaneName → ℕ → List ℕ
+absent_words None n = []
+absent_words (Some lane) n = if has_lane n lane then [] else codes "; the fabric lacks the chosen lane"
 
 -- where an event of a line goes, after so many rows
 abbrev pub place_in : ChartWindow → ℕ → ℕ → Place

@@ -7,7 +7,7 @@ ghost use Rattle.link_chart.specs.ChartView as spec;
 use crate::course::Course;
 use crate::lanes::follow;
 use crate::left::{add_dllp, add_left, add_packet};
-use crate::window::{ChartWindow, Place};
+use crate::window::{ChartWindow, Place, absent_words};
 use chart_page::put_chart;
 use chart_rows::{Deed, Open, Page, Row};
 use fabric_core::{Event, Refusal, Seen};
@@ -111,6 +111,16 @@ fn add_rest(courses: &[Course], page: &mut Page) -> Result<(), AllocError>
     add_left(courses, &mut page.opens)
 }
 
+/// The line above a chart, with what follows it.
+fn lengthened(alloc: Global, title: &[u8], words: &str) -> Result<Vec<u8>, AllocError>
+    ensures { IfOk result (λ line. line.items ≡ title.now ++ words.now) }
+{
+    let mut line = Vec::new(alloc);
+    line.extend_from_slice(title)?;
+    line.extend_from_slice(words.as_bytes())?;
+    Ok(line)
+}
+
 impl Chart {
     /// A chart of a fabric with so many requesters, to which nothing has happened. The only error is being out of memory.
     pub fn new(alloc: Global, window: ChartWindow, requesters: u8) -> Result<Chart, AllocError>
@@ -168,16 +178,21 @@ impl Chart {
         draw(row, of, &mut self.page)
     }
 
-    /// Adds the chart in SVG below a line, which is red where it tells a fault or a refusal. After an `Err`, which is out
-    /// of memory, nothing is added.
+    /// Adds the chart in SVG below a line, which is red where it tells a fault or a refusal. If the fabric lacks the lane
+    /// of the window, that follows in the line. After an `Err`, which is out of memory, nothing is added.
     pub fn put(self, is_red: bool, title: &[u8], out: &mut Vec<u8>) -> Result<(), AllocError>
-        ensures ok { OnOk result (out.new.items ≡ out.old.items ++ chart_text (spec.page_of self) is_red title.now) }
+        ensures ok { OnOk result (out.new.items ≡ out.old.items ++ chart_text (spec.page_of self) is_red (spec.titled self title.now)) }
         ensures err { OnErr result (out.new.items ≡ out.old.items) }
     {
         let alloc = self.alloc;
         let courses = self.courses;
         let mut page = self.page;
+        let line = lengthened(
+            alloc,
+            title,
+            absent_words(self.window.lane, page.requesters),
+        )?;
         add_rest(courses.as_slice(), &mut page)?;
-        put_chart(alloc, &page, is_red, title, out)
+        put_chart(alloc, &page, is_red, line.as_slice(), out)
     }
 }

@@ -57,6 +57,31 @@ pub(crate) fn is_chosen(lane: Option<LaneName>, event: &Event) -> bool
     }
 }
 
+/// Whether a fabric with so many requesters has the lane.
+fn has_lane(requesters: u8, lane: LaneName) -> bool
+    ensures { result ≡ spec.has_lane requesters lane }
+{
+    match lane {
+        LaneName::Up(port) => 1 <= port && port <= requesters,
+        LaneName::Down(port) => 1 <= port && port <= requesters,
+        LaneName::Inward | LaneName::Outward => true,
+    }
+}
+
+/// What is said of a lane that a fabric with so many requesters doesn't have.
+pub(crate) fn absent_words(lane: Option<LaneName>, requesters: u8) -> &'static str
+    ensures { result.now ≡ spec.absent_words lane requesters }
+{
+    let Some(lane) = lane else {
+        return "";
+    };
+    if has_lane(requesters, lane) {
+        ""
+    } else {
+        "; the fabric lacks the chosen lane"
+    }
+}
+
 /// Where an event goes.
 #[derive(Clone, Copy, Debug, PartialEq, Eq)]
 pub(crate) enum Place {
