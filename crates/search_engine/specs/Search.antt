@@ -13,6 +13,7 @@ use Rattle.trace_text.specs.Texts.{trace_text}
 use Rattle.trace_text.specs.Names.{fault_line}
 use Rattle.log_runs.specs.Explainable.{SeenAlike, prefix}
 use Rattle.log_pieces.specs.declared.Granularity.{Granularity}
+use Rattle.log_pieces.specs.declared.Granularity.TheVariants.{Whole}
 use Rattle.log_pieces.specs.InPieces.{in_pieces, IsExplainableIn}
 use Rattle.log_text.specs.LogReaderView.{seen_of}
 
@@ -50,34 +51,47 @@ IsAnswerTo size limit (Ok t) text status = IsFoundIn (in_pieces size t) text sta
 IsAnswerTo size limit (Err f) text status = (text ≡ fault_line f ++ 10 ∷ []) × (status ≡ 1)
 
 -- the answer to a text, and its exit status; a text may have many
-abbrev pub OutSearch : Granularity → ℕ → List ℕ → List ℕ → ℕ → Type 0
-OutSearch size limit input text status = IsAnswerTo size limit (seen_of input) text status
+abbrev pub OutSearchWith : Granularity → ℕ → List ℕ → List ℕ → ℕ → Type 0
+OutSearchWith size limit input text status = IsAnswerTo size limit (seen_of input) text status
 
 -- the input was read to its end, and an answer to it was written
-pub record IsWhole (size : Granularity) (limit : ℕ) (input rest out out' : Option (List ℕ)) (status : ℕ) : Type 0 where
+pub record IsWholeWith (size : Granularity) (limit : ℕ) (input rest out out' : Option (List ℕ)) (status : ℕ) : Type 0 where
   pub read : List ℕ
   pub consumed : Consumes input rest read
   pub at_end : IsAtEnd rest
   pub text : List ℕ
-  pub answers : OutSearch size limit read text status
+  pub answers : OutSearchWith size limit read text status
   pub written : Appends out out' text
 
 -- a first part of an answer to the whole input
-pub record BeginsAnswer (size : Granularity) (limit : ℕ) (read : List ℕ) (rest : Option (List ℕ)) (done : List ℕ) : Type 0 where
+pub record BeginsAnswerWith (size : Granularity) (limit : ℕ) (read : List ℕ) (rest : Option (List ℕ)) (done : List ℕ) : Type 0 where
   pub at_end : IsAtEnd rest
   pub text : List ℕ
   pub status : ℕ
-  pub answers : OutSearch size limit read text status
+  pub answers : OutSearchWith size limit read text status
   pub begins : IsBeginning done text
 
 -- nothing was written, or a first part of an answer to the whole input
-pub record IsPart (size : Granularity) (limit : ℕ) (input rest out out' : Option (List ℕ)) : Type 0 where
+pub record IsPartWith (size : Granularity) (limit : ℕ) (input rest out out' : Option (List ℕ)) : Type 0 where
   pub read : List ℕ
   pub consumed : Consumes input rest read
   pub done : List ℕ
-  pub begins : (done ≡ []) ⊎ BeginsAnswer size limit read rest done
+  pub begins : (done ≡ []) ⊎ BeginsAnswerWith size limit read rest done
   pub written : Appends out out' done
 
 -- the answer was written, with its exit status; or part of one, with status 1
-abbrev pub IsSearched : Granularity → ℕ → Option (List ℕ) → Option (List ℕ) → Option (List ℕ) → Option (List ℕ) → ℕ → Type 0
-IsSearched size limit input rest out out' status = IsWhole size limit input rest out out' status ⊎ ((status ≡ 1) × IsPart size limit input rest out out')
+abbrev pub IsSearchedWith : Granularity → ℕ → Option (List ℕ) → Option (List ℕ) → Option (List ℕ) → Option (List ℕ) → ℕ → Type 0
+IsSearchedWith size limit input rest out out' status = IsWholeWith size limit input rest out out' status ⊎ ((status ≡ 1) × IsPartWith size limit input rest out out')
+
+-- the same of requests that act as a whole
+abbrev pub OutSearch : ℕ → List ℕ → List ℕ → ℕ → Type 0
+OutSearch limit = OutSearchWith Whole limit
+
+abbrev pub IsWhole : ℕ → Option (List ℕ) → Option (List ℕ) → Option (List ℕ) → Option (List ℕ) → ℕ → Type 0
+IsWhole limit = IsWholeWith Whole limit
+
+abbrev pub IsPart : ℕ → Option (List ℕ) → Option (List ℕ) → Option (List ℕ) → Option (List ℕ) → Type 0
+IsPart limit = IsPartWith Whole limit
+
+abbrev pub IsSearched : ℕ → Option (List ℕ) → Option (List ℕ) → Option (List ℕ) → Option (List ℕ) → ℕ → Type 0
+IsSearched limit = IsSearchedWith Whole limit

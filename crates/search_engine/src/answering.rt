@@ -144,7 +144,7 @@ pub(crate) fn outcome_of(
 /// that can't be read and why, and status 1; or `limit` and the limit, and status 3. No more than `limit`
 /// choices are looked at. Fails where memory can't be allocated; nothing is known then.
 pub fn answer_of(alloc: Global, text: &[u8], limit: u64) -> Result<Outcome, AllocError>
-    ensures { IfOk result (λ o. OutSearch Granularity.Whole limit text.now o.text.items o.status) }
+    ensures { IfOk result (λ o. OutSearch limit text.now o.text.items o.status) }
 {
     let options = SearchOptions::of_whole_requests(limit);
     let finding = find(alloc, text, options, Stages::Hidden, &mut sink())?;

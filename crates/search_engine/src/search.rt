@@ -1,7 +1,6 @@
 //! The subcommand `search`.
 ghost use Rattle.std.specs.Prelude.{IfOk, OnErr};
-ghost use Rattle.log_pieces.specs.declared.Granularity.TheVariants.{Whole};
-ghost use Rattle.search_engine.specs.Search.{IsWhole, IsPart, OutSearch};
+ghost use Rattle.search_engine.specs.Search.{IsWhole, IsWholeWith, IsPart, IsPartWith, OutSearchWith};
 
 use crate::answering::{Finding, Outcome, find, outcome_of};
 use crate::input::read_rest;
@@ -36,7 +35,7 @@ fn answered<E: Write>(
     stages: Stages,
     errors: &mut E,
 ) -> Result<Answer, AllocError>
-    ensures { IfOk result (λ a. OutSearch options.granularity options.limit text.items a.outcome.text.items a.outcome.status) }
+    ensures { IfOk result (λ a. OutSearchWith options.granularity options.limit text.items a.outcome.text.items a.outcome.status) }
 {
     let finding = find(alloc, &text, options, stages, errors)?;
     let outcome = outcome_of(alloc, &finding, options.limit)?;
@@ -55,10 +54,10 @@ fn tell_reason<E: Write>(alloc: Global, answer: &Answer, limit: u64, errors: &mu
     }
 }
 
-/// Does what [`run_search`] does, and tells on `errors` how far it is, where that is shown. Once the answer is
-/// written and flushed, it tells there why there is no history, or why the input can't be read. In a search in pieces
-/// each read and write acts in pieces of that many bytes; the trace that is written is of pieces.
-pub fn run_search_with_reasons<R: Read, W: Write, E: Write>(
+/// Does what [`run_search_with_reasons`] does, for a history of pieces: each read and write acts in naturally aligned
+/// pieces of the size that is asked for. A trace that is written is of pieces; places and reasons name the records and
+/// lines of what was read.
+pub fn run_search_with<R: Read, W: Write, E: Write>(
     alloc: Global,
     options: SearchOptions,
     stages: Stages,
@@ -66,14 +65,31 @@ pub fn run_search_with_reasons<R: Read, W: Write, E: Write>(
     writer: &mut W,
     errors: &mut E,
 ) -> Result<u8, EngineFault>
-    ensures ok { IfOk result (IsWhole options.granularity options.limit (R.remaining reader.old) (R.remaining reader.new) (W.contents writer.old) (W.contents writer.new)) }
-    ensures err { OnErr result (IsPart options.granularity options.limit (R.remaining reader.old) (R.remaining reader.new) (W.contents writer.old) (W.contents writer.new)) }
+    ensures ok { IfOk result (IsWholeWith options.granularity options.limit (R.remaining reader.old) (R.remaining reader.new) (W.contents writer.old) (W.contents writer.new)) }
+    ensures err { OnErr result (IsPartWith options.granularity options.limit (R.remaining reader.old) (R.remaining reader.new) (W.contents writer.old) (W.contents writer.new)) }
 {
     let text = read_rest(alloc, reader)?;
     let answer = answered(alloc, text, options, stages, errors)?;
     write_out(writer, &answer.outcome.text)?;
     tell_reason(alloc, &answer, options.limit, errors);
     Ok(answer.outcome.status)
+}
+
+/// Does what [`run_search`] does, and tells on `errors` how far it is, where that is shown. Once the answer is
+/// written and flushed, it tells there why there is no history, or why the input can't be read.
+pub fn run_search_with_reasons<R: Read, W: Write, E: Write>(
+    alloc: Global,
+    limit: u64,
+    stages: Stages,
+    reader: &mut R,
+    writer: &mut W,
+    errors: &mut E,
+) -> Result<u8, EngineFault>
+    ensures ok { IfOk result (IsWhole limit (R.remaining reader.old) (R.remaining reader.new) (W.contents writer.old) (W.contents writer.new)) }
+    ensures err { OnErr result (IsPart limit (R.remaining reader.old) (R.remaining reader.new) (W.contents writer.old) (W.contents writer.new)) }
+{
+    let options = SearchOptions::of_whole_requests(limit);
+    run_search_with(alloc, options, stages, reader, writer, errors)
 }
 
 /// Reads a log, or a trace whose n's and history say nothing, and writes the answer: a trace with a history
@@ -87,9 +103,8 @@ pub fn run_search<R: Read, W: Write>(
     reader: &mut R,
     writer: &mut W,
 ) -> Result<u8, EngineFault>
-    ensures ok { IfOk result (IsWhole Whole limit (R.remaining reader.old) (R.remaining reader.new) (W.contents writer.old) (W.contents writer.new)) }
-    ensures err { OnErr result (IsPart Whole limit (R.remaining reader.old) (R.remaining reader.new) (W.contents writer.old) (W.contents writer.new)) }
+    ensures ok { IfOk result (IsWhole limit (R.remaining reader.old) (R.remaining reader.new) (W.contents writer.old) (W.contents writer.new)) }
+    ensures err { OnErr result (IsPart limit (R.remaining reader.old) (R.remaining reader.new) (W.contents writer.old) (W.contents writer.new)) }
 {
-    let options = SearchOptions::of_whole_requests(limit);
-    run_search_with_reasons(alloc, options, Stages::Hidden, reader, writer, &mut sink())
+    run_search_with_reasons(alloc, limit, Stages::Hidden, reader, writer, &mut sink())
 }

@@ -1,6 +1,6 @@
 use Rattle.std.proofs.Common.{[], refl, inl}
 use Rattle.search_engine.proofs.KnownLemmas.{appends-nothing, on_err}
-use Rattle.search_engine.proofs.search.run_search_with_reasons.Goals as goal
+use Rattle.search_engine.proofs.search.run_search_with.Goals as goal
 
 pub returns-in_err-answer-clause-err : goal.returns-in_err-answer-clause-err
 returns-in_err-answer-clause-err g c =
