@@ -48,6 +48,7 @@ write() {
     awk -F '\t' -v shell="$1" '
         function values(option) {
             if (option == "--block") return "64 128"
+            if (option == "--granularity") return "4 8 16 64 whole"
             if (option == "--lane") return "up1 up2 up3 up4 up5 up6 up7 down1 down2 down3 down4 down5 down6 down7 in out"
             return ""
         }
@@ -191,7 +192,8 @@ for shell in bash fish; do
     if command -v $shell > /dev/null; then
         completes $shell "pciex st" step
         completes $shell "pciex step --k" --keep-going
-        completes $shell "pciex search --" "--help --limit --progress"
+        completes $shell "pciex search --" "--granularity --help --limit --progress"
+        completes $shell "pciex search --granularity 1" 16
         completes $shell "pciex tlp --block 1" 128
         completes $shell "pciex chart --lane i" in
         completes $shell "pciex help enc" encode

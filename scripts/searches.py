@@ -93,6 +93,48 @@ def perform(memory, op):
     return memory[:op.address] + new + memory[end:], "data " + shown(old)
 
 
+# ---- pieces: what acts at once, where reads and writes needn't act as a whole
+
+
+def pieces_of(op, size):
+    """The naturally aligned pieces of so many bytes of a read or a write that is served, in rising order."""
+    is_served = op.address // BLOCK == (op.address + op.size - 1) // BLOCK and op.address + op.size <= SIZE
+    if op.kind not in ("read", "write") or not is_served:
+        return [op]
+    ends = [end - op.address for end in range(op.address + 1, op.address + op.size) if end % size == 0] + [op.size]
+    return [piece_of(op, start, end) for start, end in zip([0] + ends, ends)]
+
+
+def piece_of(op, start, end):
+    enables = [sum(op.enables(at + i) << i for i in range(4)) for at in range(start, end, 4)]
+    last = enables[-1] if len(enables) > 1 else 0
+    return Op(op.kind, op.address + start, end - start, enables[0], last, op.data[start:end])
+
+
+def parts_of(reply, pieces):
+    """The reply to a request as replies to its pieces."""
+    if not reply.startswith("data "):
+        return [reply] * len(pieces)
+    ends = [2 * sum(piece.size for piece in pieces[:count + 1]) for count in range(len(pieces))]
+    return ["data " + reply[5:][start:end] for start, end in zip([0] + ends, ends)]
+
+
+def in_pieces(records, size):
+    """The well-formed log with each request as its pieces, which are numbered anew, submitted and answered together."""
+    counts, numbered, cut = {}, {}, []
+    for kind, requester, number, what in records:
+        if kind == "sub":
+            pieces, first = pieces_of(what, size), counts.get(requester, 0)
+            counts[requester] = first + len(pieces)
+            numbered[requester, number] = first, pieces
+            parts = pieces
+        else:
+            first, pieces = numbered[requester, number]
+            parts = parts_of(what, pieces)
+        cut += [(kind, requester, first + place, part) for place, part in enumerate(parts)]
+    return cut
+
+
 # ---- logs: lists of ("sub", requester, number, op) and ("ans", requester, number, reply)
 
 
@@ -158,20 +200,25 @@ class Requests:
             acted.add(request)
         return all(request in acted for request in self.replies)
 
-    def has_history(self, history=(), memory=bytes(SIZE)):
-        """Whether a history that begins so explains the log: all are tried."""
-        if all(request in history for request in self.replies):
+    def has_history(self, acted=frozenset(), memory=bytes(SIZE), dead=None):
+        """Whether a history goes on from there that explains the log: all are tried, but not twice from one state."""
+        dead = set() if dead is None else dead
+        if all(request in acted for request in self.replies):
             return True
+        if (acted, memory) in dead:
+            return False
         for request in self.ops:
-            if self.may_follow(request, history):
+            if self.may_follow(request, acted):
                 after, reply = perform(memory, self.ops[request])
-                if self.is_right(request, reply) and self.has_history(history + (request,), after):
+                if self.is_right(request, reply) and self.has_history(acted | {request}, after, dead):
                     return True
+        dead.add((acted, memory))
         return False
 
 
-def is_explainable(records):
-    return is_well_formed(records) and Requests(records).has_history()
+def is_explainable(records, size=None):
+    """Whether some history explains the log, or the log in pieces of so many bytes."""
+    return is_well_formed(records) and Requests(in_pieces(records, size) if size else records).has_history()
 
 
 # ---- a device: requests travel, act and are answered, each after a time of its own
@@ -265,6 +312,40 @@ class Device:
         return self.records
 
 
+class DeviceInPieces(Device):
+    """The same, but for reads and writes: it acts on each DW of them at a time of its own; on those of a write in rising
+    order, or in falling order where that is its defect."""
+
+    def submit(self, now, requester, op):
+        pieces = pieces_of(op, 4)
+        if len(pieces) == 1:
+            Device.submit(self, now, requester, op)
+            return
+        number = self.note(now, requester, op)
+        time = max(now + self.random.between(1, 12), self.last_posted.get(requester, 0) + 1)
+        if op.kind == "write":
+            if self.defect == "falling":
+                pieces, self.is_planted = pieces[::-1], True
+            for piece in pieces:
+                self.last_posted[requester] = time
+                self.at(time, self.act_on_piece, piece)
+                time += self.random.between(1, 12)
+            return
+        parts = {}
+        for piece in pieces:
+            self.at(time + self.random.below(12), self.read_piece, piece, parts)
+        self.at(time + self.random.between(12, 18), self.answer_parts, requester, number, parts)
+
+    def act_on_piece(self, _, piece):
+        self.change(piece)
+
+    def read_piece(self, _, piece, parts):
+        parts[piece.address] = perform(self.memory, piece)[1]
+
+    def answer_parts(self, now, requester, number, parts):
+        self.answer(now, requester, number, "data " + "".join(parts[address][5:] for address in sorted(parts)))
+
+
 DEFECTS = {
     "lost": "an AtomicOp's new value is lost",
     "stale": "a read is answered what was there before the last change",
@@ -275,6 +356,7 @@ DEFECTS = {
     "another": "a request is answered another one's reply",
     "compare": "a CAS writes where the operands differ",
 }
+FALLING = "the DW of a write appear in falling order"
 
 
 def operation(random, words, values, odd):
@@ -349,6 +431,19 @@ def device_log(seed, defect):
     return device.run(), device.is_planted
 
 
+def log_in_pieces(seed, defect):
+    """A log of a device that acts in pieces, of reads and writes of two DW, and whether the defect happened."""
+    random = Random(seed)
+    device = DeviceInPieces(random, defect)
+    now = 0
+    for value in range(1, 13):
+        now += random.below(8)
+        op = Op(random.of(["read", "read", "write"]), 0, 8, 15, 15, bytes([value]) * 8)
+        device.at(now, device.submit, random.between(1, 3), op)
+    device.at(now + 40, device.submit, 1, Op("read", 0, 8, 15, 15))
+    return device.run(), device.is_planted
+
+
 # ---- the program's answers
 
 
@@ -364,20 +459,22 @@ class Judge:
         self.failures += 1
         print("searches: " + failure)
 
-    def tell(self, name, why, records):
+    def tell(self, name, why, records, size=None):
+        name += " in pieces of %d" % size if size else ""
         self.say("%s: %s\n%s" % (name, why, text_of(records).rstrip("\n")))
 
-    def answer(self, name, records):
+    def answer(self, name, records, size=None):
         """What the program says: found, none, the place and the longer and the shorter prefix that it tells of; else None."""
-        status, output, errors = self.run(["search", "--limit", LIMIT], text_of(records))
+        words = ["search", "--limit", LIMIT] + (["--granularity", str(size)] if size else [])
+        status, output, errors = self.run(words, text_of(records))
         if status == 0:
-            if not self.is_history(output, records):
-                self.tell(name, "the history that is found does not explain the log", records)
+            if not is_well_formed(records) or not self.is_history(output, in_pieces(records, size) if size else records):
+                self.tell(name, "the history that is found does not explain the log", records, size)
                 return None
             return "found", None, None
         none = re.fullmatch("none ([0-9]+)\n", output)
         if status != 1 or not none:
-            self.tell(name, "status %d and %r" % (status, output), records)
+            self.tell(name, "status %d and %r" % (status, output), records, size)
             return None
         count = int(none.group(1)) + 1
         return "none", count, prefix_of(count, errors)
@@ -396,29 +493,40 @@ class Judge:
             return False
         return requests.explains(history) and self.run(["check"], output) == (0, "ok\n", "")
 
-    def judge_small(self, name, records):
+    def judge_small(self, name, records, size=None):
         """Whether the answer is that of all histories, and the place the least."""
-        answer = self.answer(name, records)
+        answer = self.answer(name, records, size)
         if answer is None:
             return "limit"
         kind, count, explained = answer
-        if (kind == "found") != is_explainable(records):
-            self.tell(name, "%s, and by all histories it is the other way round" % kind, records)
+        if (kind == "found") != is_explainable(records, size):
+            self.tell(name, "%s, and by all histories it is the other way round" % kind, records, size)
         elif kind == "none":
-            if is_explainable(records[:count]):
-                self.tell(name, "the first %d records have a history" % count, records)
-            elif explained != count - 1 or not is_explainable(records[:explained]):
-                self.tell(name, "%s records are said to have a history, and %d none" % (explained, count), records)
+            if is_explainable(records[:count], size):
+                self.tell(name, "the first %d records have a history" % count, records, size)
+            elif explained != count - 1 or not is_explainable(records[:explained], size):
+                self.tell(name, "%s records are said to have a history, and %d none" % (explained, count), records, size)
         return kind
 
-    def logs_until_none(self, defect):
+    def judge_pieces(self):
+        """How many logs of a device that acts DW by DW have no history of whole requests: each has one of pieces."""
+        torn = 0
+        for seed in range(DEVICE_LOGS):
+            name, (records, _) = "device %d that acts in pieces" % seed, log_in_pieces(seed, None)
+            if self.answer(name, records, 4) != ("found", None, None):
+                self.tell(name, "it has no defect, and no history is found", records, 4)
+            answer = self.answer(name, records)
+            torn += answer is not None and answer[0] == "none"
+        return torn
+
+    def logs_until_none(self, defect, why, log=device_log, size=None):
         """How many logs with the defect are judged until one has no history; None if each has one."""
         planted = 0
         for seed in range(DEVICE_LOGS):
-            records, is_planted = device_log(seed, defect)
+            records, is_planted = log(seed, defect)
             if is_planted:
                 planted += 1
-                answer = self.answer("device %d where %s" % (seed, DEFECTS[defect]), records)
+                answer = self.answer("device %d where %s" % (seed, why), records, size)
                 if answer and answer[0] == "none":
                     return planted
         return None
@@ -436,21 +544,29 @@ def prefix_of(count, errors):
 
 def judge(program):
     judge = Judge(program)
-    kinds = [judge.judge_small("small log %d" % seed, small_log(seed)) for seed in range(SMALL_LOGS)]
+    logs = {"small log %d" % seed: small_log(seed) for seed in range(SMALL_LOGS)}
+    kinds = [judge.judge_small(name, records) for name, records in logs.items()]
+    cut = [judge.judge_small(name, records, 4) for name, records in logs.items()]
     for kind in ["found", "none"]:
-        if kinds.count(kind) < SMALL_LOGS // 4:
-            judge.say("only %d of %d small logs are %s" % (kinds.count(kind), SMALL_LOGS, kind))
+        if kinds.count(kind) < SMALL_LOGS // 4 or cut.count(kind) < SMALL_LOGS // 4:
+            judge.say("only %d and %d of %d small logs are %s" % (kinds.count(kind), cut.count(kind), SMALL_LOGS, kind))
     for seed in range(DEVICE_LOGS):
         records, _ = device_log(seed, None)
         if judge.answer("device %d" % seed, records) != ("found", None, None):
             judge.tell("device %d" % seed, "it has no defect, and no history is found", records)
-    counts = {defect: judge.logs_until_none(defect) for defect in DEFECTS}
+    counts = {defect: judge.logs_until_none(defect, why) for defect, why in DEFECTS.items()}
+    counts["falling"] = judge.logs_until_none("falling", FALLING, log_in_pieces, 4)
     for defect, count in counts.items():
         if count is None:
-            judge.say("each log of a device where %s has a history" % DEFECTS[defect])
-    print("searches: %d small logs, %d with a history; defects, and logs until one has none: %s; %s" % (
-        SMALL_LOGS, kinds.count("found"), ", ".join("%s %s" % c for c in counts.items()),
-        "%d failures" % judge.failures if judge.failures else "each answer is right"))
+            judge.say("each log of a device where %s has a history" % DEFECTS.get(defect, FALLING))
+    torn = judge.judge_pieces()
+    if torn == 0:
+        judge.say("each log of a device that acts in pieces has a history of whole requests")
+    print("searches: %d small logs, %d with a history, %d with one of pieces of 4 bytes; of %d logs of a device that acts in "
+          "pieces each has one of pieces, and %d have none of whole requests; defects, and logs until one has none: %s; %s" % (
+              SMALL_LOGS, kinds.count("found"), cut.count("found"), DEVICE_LOGS, torn,
+              ", ".join("%s %s" % c for c in counts.items()),
+              "%d failures" % judge.failures if judge.failures else "each answer is right"))
     return judge.failures > 0
 
 

@@ -6,6 +6,7 @@ _pciex() {
         --size) words="" ;;
         --block) words="64 128" ;;
         --limit) words="" ;;
+        --granularity) words="4 8 16 64 whole" ;;
         --from) words="" ;;
         --to) words="" ;;
         --lane) words="up1 up2 up3 up4 up5 up6 up7 down1 down2 down3 down4 down5 down6 down7 in out" ;;
@@ -24,7 +25,7 @@ _pciex() {
                 *" decode") words="--help" ;;
                 *" encode") words="--help" ;;
                 *" check") words="--clocked --help" ;;
-                *" search") words="--limit --progress --help" ;;
+                *" search") words="--limit --granularity --progress --help" ;;
                 *" draw") words="--from --to --help" ;;
                 *" upgrade") words="--help" ;;
                 *" step") words="--trace --keep-going --echo --help" ;;

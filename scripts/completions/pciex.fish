@@ -23,6 +23,7 @@ complete -c pciex -n "__fish_seen_subcommand_from encode" -l help -d 'Print help
 complete -c pciex -n "__fish_seen_subcommand_from check" -l clocked -d 'Also test the n: none falls, exceeds the history\'s length or is above its request\'s index'
 complete -c pciex -n "__fish_seen_subcommand_from check" -l help -d 'Print help'
 complete -c pciex -n "__fish_seen_subcommand_from search" -l limit -x -d 'Number of choices to look at, 1 to 1000000000'
+complete -c pciex -n "__fish_seen_subcommand_from search" -l granularity -x -a '4 8 16 64 whole' -d 'Bytes of a read or a write that act at once, in naturally aligned pieces: 4, 8, 16, 64 or whole'
 complete -c pciex -n "__fish_seen_subcommand_from search" -l progress -d 'Print on standard error how many records were read and how many choices were looked at'
 complete -c pciex -n "__fish_seen_subcommand_from search" -l help -d 'Print help'
 complete -c pciex -n "__fish_seen_subcommand_from draw" -l from -x -d 'First point to draw, a length of the history'

@@ -13,7 +13,7 @@ use Rattle.draw_engine.specs.Draw.{out_draw}
 use Rattle.generate_engine.specs.Script.{IsWhole, IsPart}
 use Rattle.packet_engine.specs.Lines.{out_decode, out_encode}
 use Rattle.run_engine.specs.Text.{IsRan}
-use Rattle.search_engine.specs.Search.{IsSearched}
+use Rattle.search_engine.specs.Search.{IsSearchedWith}
 use Rattle.tlp_engine.specs.Tlp.{out_tlp}
 use Rattle.trace_engine.specs.Check.{out_check_with}
 use Rattle.trace_engine.specs.Upgrade.{out_upgrade}
@@ -31,7 +31,7 @@ IsDone (Tlp x) input rest out out' exit = IsRun (out_tlp x) input rest out out' 
 IsDone Decode input rest out out' exit = IsRun out_decode input rest out out' exit
 IsDone Encode input rest out out' exit = IsRun out_encode input rest out out' exit
 IsDone (Check is_clocked) input rest out out' exit = IsRun (out_check_with is_clocked) input rest out out' exit
-IsDone (Search limit is_told) input rest out out' exit = IsSearched limit input rest out out' exit
+IsDone (Search limit size is_told) input rest out out' exit = IsSearchedWith size limit input rest out out' exit
 IsDone (Draw from to) input rest out out' exit = IsRun (out_draw (record { from = from; to = to })) input rest out out' exit
 IsDone Upgrade input rest out out' exit = IsRun out_upgrade input rest out out' exit
 IsDone (Step is_traced keeps_going echoes) input rest out out' exit =

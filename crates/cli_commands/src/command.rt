@@ -18,7 +18,7 @@ use line_loop::EngineFault;
 use link_chart::ChartWindow;
 use packet_engine::{run_decode_with_reasons, run_encode_with_reasons};
 use parameters::Counting;
-use search_engine::{Stages, run_search_with_reasons};
+use search_engine::{SearchOptions, Stages, run_search_with};
 use std::alloc::Global;
 use std::convert::AsStr;
 use std::io;
@@ -149,9 +149,14 @@ fn begin<R: Read, W: Write, E: Write>(
             let run = run_check_with(alloc, is_clocked, reader, writer, errors);
             Outcome::Ended(ended(run, errors))
         }
-        Request::Search { limit, is_told } => {
+        Request::Search {
+            limit,
+            granularity,
+            is_told,
+        } => {
+            let options = SearchOptions { limit, granularity };
             let stages = stages_of(is_told, is_terminal);
-            let run = run_search_with_reasons(alloc, limit, stages, reader, writer, errors);
+            let run = run_search_with(alloc, options, stages, reader, writer, errors);
             Outcome::Ended(ended(run, errors))
         }
         Request::Draw { from, to } => {

@@ -52,12 +52,23 @@ const FOUND: &str =
 const LIE: &str =
     "pciex-log 1\nmemory 0 4096 64\nsub 1 0 add 40 07000000\nans 1 0 data 07000000\nend\n";
 
+/// A log in which the first DW of a write is seen, and not the second.
+const TORN: &str =
+    "pciex-log 1\nmemory 0 4096 64\nsub 1 0 write 40 F F 0700000009000000\nsub 2 0 read 40 2 F F\nans 2 0 data 0700000000000000\nend\n";
+
 /// Words, what standard input has, what is written, and the exit status.
 type Run = (&'static [&'static str], &'static str, &'static str, u8);
 
-static RUNS: [Run; 19] = [
+static RUNS: [Run; 21] = [
     (&["pciex", "search"], LOG, FOUND, 0),
     (&["pciex", "search", "--limit", "1"], LIE, "none 1\n", 1),
+    (&["pciex", "search", "--granularity", "4"], LOG, FOUND, 0),
+    (
+        &["pciex", "search", "--granularity", "8"],
+        TORN,
+        "none 2\n",
+        1,
+    ),
     (&["pciex", "search"], "pciex-log 1\n", "fault 2 Line\n", 1),
     (
         &["pciex", "tlp"],
@@ -170,7 +181,7 @@ type Given = (&'static [&'static str], &'static str);
 
 /// Words that give status 2, and which option is told with what is allowed, none where
 /// they have no form of the grammar.
-static WRONG: [Given; 40] = [
+static WRONG: [Given; 41] = [
     (&["pciex"], ""),
     (&["pciex", "tpl"], ""),
     (&["pciex", "tlp", "--bass", "0"], ""),
@@ -238,6 +249,10 @@ static WRONG: [Given; 40] = [
     (
         &["pciex", "search", "--limit", "0"],
         "invalid value '0' for --limit: expected 1 to 1000000000",
+    ),
+    (
+        &["pciex", "search", "--granularity", "04"],
+        "invalid value '04' for --granularity: expected 4, 8, 16, 64 or whole",
     ),
     (&["pciex", "draw", "--from"], ""),
     (

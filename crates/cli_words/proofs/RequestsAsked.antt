@@ -10,6 +10,8 @@ use Rattle.cli_words.specs.declared.words.Request.{Request}
 use Rattle.cli_words.specs.declared.words.Request.TheVariants.{Tlp, Decode, Encode, Check, Search, Draw, Upgrade, Step, Chart, Generate, Run}
 use Rattle.cli_options.specs.Values.{WritesBase, WritesNumber, WritesGiven, WritesFlag}
 use Rattle.fabric_core.specs.declared.event.LaneName.{LaneName}
+use Rattle.log_pieces.specs.declared.Granularity.{Granularity}
+use Rattle.cli_words.specs.Granularities.{WritesGranularity}
 use Rattle.cli_words.specs.Lanes.{WritesLane}
 use Rattle.cli_words.specs.Options.{Asks}
 
@@ -44,7 +46,7 @@ name_of (Tlp x) = codes "tlp"
 name_of Decode = codes "decode"
 name_of Encode = codes "encode"
 name_of (Check is_clocked) = codes "check"
-name_of (Search limit is_told) = codes "search"
+name_of (Search limit size is_told) = codes "search"
 name_of (Draw from to) = codes "draw"
 name_of Upgrade = codes "upgrade"
 name_of (Step is_traced keeps_going echoes) = codes "step"
@@ -57,7 +59,7 @@ asks_name p (Tlp x) a = a.0
 asks_name p Decode a = a
 asks_name p Encode a = a
 asks_name p (Check is_clocked) a = a.0
-asks_name p (Search limit is_told) a = a.0
+asks_name p (Search limit size is_told) a = a.0
 asks_name p (Draw from to) a = a.0
 asks_name p Upgrade a = a
 asks_name p (Step is_traced keeps_going echoes) a = a.0
@@ -79,6 +81,13 @@ same_lane : (t : Option Text) (a b : Option LaneName) → WritesLane t a → Wri
 same_lane None a b h k = h ∙ sym k
 same_lane (Some t) a b h k = h.2 ∙ sym h.1 ∙ k.1 ∙ sym k.2
 
+same_granularity : (t : Option Text) (a b : Granularity) → WritesGranularity t a → WritesGranularity t b → a ≡ b
+same_granularity None a b h k = h ∙ sym k
+same_granularity (Some t) a b h k = same_Some a b (sym h ∙ k)
+  where
+    same_Some : (a b : Granularity) → Some a ≡ Some b → a ≡ b
+    same_Some a b e = cc
+
 -- words ask for one thing
 pub asks_one : (o : Option (Text × List Row)) (r s : Request) → Asks o r → Asks o s → r ≡ s
 asks_one None r s a b = absurd a
@@ -90,8 +99,9 @@ asks_one (Some p) (Tlp x) (Tlp y) a b =
 asks_one (Some p) Decode Decode a b = refl
 asks_one (Some p) Encode Encode a b = refl
 asks_one (Some p) (Check t) (Check u) a b = ap Check (same_flag _ t u a.1 b.1)
-asks_one (Some p) (Search limit t) (Search limit' u) a b =
-    ap (λ (n : ℕ). Search n t) (same_number 1000000 _ limit limit' a.1.limit_read b.1.limit_read) ∙ ap (Search limit') (same_flag _ t u a.2 b.2)
+asks_one (Some p) (Search limit g t) (Search limit' g' u) a b =
+    ap (λ (n : ℕ). Search n g t) (same_number 1000000 _ limit limit' a.1.limit_read b.1.limit_read)
+    ∙ ap (λ (size : Granularity). Search limit' size t) (same_granularity _ g g' a.1.granularity_read b.1.granularity_read) ∙ ap (Search limit' g') (same_flag _ t u a.2 b.2)
 asks_one (Some p) (Draw from to) (Draw from' to') a b =
     let e = same_number 0 _ from from' a.1.from_read b.1.from_read in
     let f = same_number 18446744073709551615 _ to to' a.1.to_read b.1.to_read in

@@ -10,6 +10,8 @@ use Rattle.parameters.specs.Ranges.{IsStorm}
 use Rattle.cli_options.specs.declared.options.TheConstants.{MOST_CHOICES}
 use Rattle.cli_options.specs.Values.{WritesBase, WritesNumber, WritesGiven, WritesFlag}
 use Rattle.fabric_core.specs.declared.event.LaneName.{LaneName}
+use Rattle.log_pieces.specs.declared.Granularity.{Granularity}
+use Rattle.cli_words.specs.Granularities.{WritesGranularity}
 use Rattle.cli_words.specs.Lanes.{WritesLane}
 use Rattle.cli_words.specs.declared.words.Request.{Request}
 use Rattle.cli_words.specs.declared.words.Subcommand.{Subcommand}
@@ -45,7 +47,7 @@ abbrev pub check_app : App
 check_app = with_rule (new_app (codes "check")) (flag (codes "clocked"))
 
 abbrev pub search_app : App
-search_app = with_rule (with_rule (new_app (codes "search")) (option (codes "limit"))) (flag (codes "progress"))
+search_app = with_rule (with_rule (with_rule (new_app (codes "search")) (option (codes "limit"))) (option (codes "granularity"))) (flag (codes "progress"))
 
 abbrev pub draw_app : App
 draw_app = with_rule (with_rule (new_app (codes "draw")) (option (codes "from"))) (option (codes "to"))
@@ -97,11 +99,12 @@ pub record AsksTlp (rows : List Row) (x : Extent) : Type 0 where
   pub block_read : WritesNumber 64 (first_of (codes "block") rows) x.block
   pub memory : IsWithinLimits x
 
--- the values of `search` ask to look at so many choices at most
-pub record AsksSearch (rows : List Row) (limit : ℕ) : Type 0 where
+-- the values of `search` ask to look at so many choices at most, for a history of pieces of that size
+pub record AsksSearch (rows : List Row) (limit : ℕ) (size : Granularity) : Type 0 where
   pub limit_read : WritesNumber 1000000 (first_of (codes "limit") rows) limit
   pub least : 1 ≤ limit
   pub most : limit ≤ MOST_CHOICES
+  pub granularity_read : WritesGranularity (first_of (codes "granularity") rows) size
 
 -- the values of `draw` ask for the points from one to another, numbers of 64 bits
 pub record AsksDraw (rows : List Row) (from to : ℕ) : Type 0 where
@@ -151,7 +154,7 @@ Asks (Some p) (Tlp x) = (p.0 ≡ codes "tlp") × AsksTlp p.1 x
 Asks (Some p) Decode = p.0 ≡ codes "decode"
 Asks (Some p) Encode = p.0 ≡ codes "encode"
 Asks (Some p) (Check is_clocked) = (p.0 ≡ codes "check") × WritesFlag (first_of (codes "clocked") p.1) is_clocked
-Asks (Some p) (Search limit is_told) = (p.0 ≡ codes "search") × AsksSearch p.1 limit × WritesFlag (first_of (codes "progress") p.1) is_told
+Asks (Some p) (Search limit size is_told) = (p.0 ≡ codes "search") × AsksSearch p.1 limit size × WritesFlag (first_of (codes "progress") p.1) is_told
 Asks (Some p) (Draw from to) = (p.0 ≡ codes "draw") × AsksDraw p.1 from to
 Asks (Some p) Upgrade = p.0 ≡ codes "upgrade"
 Asks (Some p) (Step is_traced keeps_going echoes) = (p.0 ≡ codes "step") × AsksStep p.1 is_traced keeps_going echoes

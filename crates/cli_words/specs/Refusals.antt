@@ -3,9 +3,11 @@
 use Rattle.std.specs.Prelude.{◌≡◌, ◌≤◌, ◌+◌, ◌^◌, ◌⊎◌, ℕ, List, [], ◌∷◌, Option, Some, None, codes, option_map}
 use Rattle.clap.specs.Words.{Row, Text, first_of}
 use Rattle.fabric_core.specs.declared.event.LaneName.{LaneName}
+use Rattle.log_pieces.specs.declared.Granularity.{Granularity}
+use Rattle.cli_words.specs.Granularities.{WritesGranularity}
 use Rattle.cli_words.specs.Lanes.{WritesLane}
 use Rattle.cli_options.specs.declared.options.ValueOption.{ValueOption}
-use Rattle.cli_options.specs.declared.options.ValueOption.TheVariants.{Base, Size, Block, Requesters, Each, Lose, Corrupt, Turns, From, To, Seed, Events, Lane, Limit}
+use Rattle.cli_options.specs.declared.options.ValueOption.TheVariants.{Base, Size, Block, Requesters, Each, Lose, Corrupt, Turns, From, To, Seed, Events, Lane, Limit, Granularity as the_granularity}
 use Rattle.cli_options.specs.declared.refused.RefusedValue.{RefusedValue}
 use Rattle.cli_options.specs.Values.{Gives, GivesBase, name_of}
 
@@ -29,6 +31,13 @@ IsRightLane rows = (l : Option LaneName) × WritesLane (first_of (codes "lane") 
 
 abbrev pub IsWrongLane : List Row → Type 0
 IsWrongLane rows = (l : Option LaneName) → WritesLane (first_of (codes "lane") rows) l → ⊥
+
+-- the same of a granularity
+abbrev pub IsRightGranularity : List Row → Type 0
+IsRightGranularity rows = (g : Granularity) × WritesGranularity (first_of (codes "granularity") rows) g
+
+abbrev pub IsWrongGranularity : List Row → Type 0
+IsWrongGranularity rows = (g : Granularity) → WritesGranularity (first_of (codes "granularity") rows) g → ⊥
 
 -- the value of each option is right
 abbrev pub AreRight : List Row → List (ValueOption × Option ℕ) → Type 0
@@ -76,6 +85,9 @@ RefusesTlp rows option =
     (option ≡ Base) × IsWrongBase rows ⊎ IsRightBase rows × IsFirstWrong rows tlp_values option
     ⊎ (option ≡ Base) × IsRightBase rows × AreRight rows tlp_values × EndsBeyond rows
 
+abbrev pub RefusesSearch : List Row → ValueOption → Type 0
+RefusesSearch rows option = IsFirstWrong rows search_values option ⊎ (option ≡ the_granularity) × AreRight rows search_values × IsWrongGranularity rows
+
 abbrev pub RefusesDraw : List Row → ValueOption → Type 0
 RefusesDraw rows option = IsFirstWrong rows draw_values option ⊎ (option ≡ To) × AreRight rows draw_values × EndsBefore rows
 
@@ -89,7 +101,7 @@ RefusesOption name rows option =
     (name ≡ codes "tlp") × RefusesTlp rows option ⊎ (name ≡ codes "draw") × RefusesDraw rows option
     ⊎ (name ≡ codes "generate") × IsFirstWrong rows generate_values option ⊎ (name ≡ codes "run") × IsFirstWrong rows run_values option
     ⊎ (name ≡ codes "chart") × RefusesChart rows option
-    ⊎ (name ≡ codes "search") × IsFirstWrong rows search_values option
+    ⊎ (name ≡ codes "search") × RefusesSearch rows option
 
 -- of the subcommand with its values this option is refused, with what is written of it
 abbrev pub Refuses : Option (Text × List Row) → RefusedValue → Type 0

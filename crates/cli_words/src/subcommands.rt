@@ -123,7 +123,11 @@ fn search_command<'a>(alloc: Global) -> Result<Command<'a>, AllocError>
 {
     let search = plain_command(alloc, "search", texts::SEARCH);
     let limit = with_arg(search, option_of(alloc, "limit", "CHOICES", texts::LIMIT))?;
-    with_arg(limit, flag_of(alloc, "progress", texts::STAGES))
+    let granularity = with_arg(
+        limit,
+        option_of(alloc, "granularity", "BYTES", texts::GRANULARITY),
+    )?;
+    with_arg(granularity, flag_of(alloc, "progress", texts::STAGES))
 }
 
 /// The subcommand `draw`.

@@ -86,7 +86,10 @@ The input is one log: what requesters submitted and were answered, in the order 
 trace may stand in its place; its history is ignored. The result is a trace with a history,
 to which 'check' says 'ok'; or one line: 'none' with the place of a record up to which no
 history explains the log; 'limit' if the search was given up and nothing is known; or
-'fault' with the first line that can't be read and the reason.",
+'fault' with the first line that can't be read and the reason.
+
+Each read and write acts as a whole, which PCI Express doesn't require of several DW. With
+'--granularity' it acts in pieces.",
     example: "Example:
   $ pciex generate --seed 7 --events 300 | pciex step --trace | pciex search | pciex check
   ok",
@@ -183,6 +186,10 @@ pub(crate) static BLOCK: &str =
 aligned block completes with Completer Abort [default: 64]";
 
 pub(crate) static LIMIT: &str = "Number of choices to look at, 1 to 1000000000 [default: 1000000]";
+
+pub(crate) static GRANULARITY: &str =
+    "Bytes of a read or a write that act at once, in naturally aligned pieces: 4, 8,
+16, 64 or whole; the history that is printed is one of pieces [default: whole]";
 
 pub(crate) static STAGES: &str =
     "Print on standard error how many records were read and how many choices were

@@ -2,21 +2,24 @@
 ghost use Rattle.std.specs.Prelude.{◌≡◌, IfOk, IfErr, IfSome, IfNone, OnErr, map, true, codes, Some, [], option_map};
 ghost use Rattle.clap.specs.Words.{FailsBy, HasKind, fault_of, kind_of, subcommand_of, subcommand_rows_of, has_subcommand, takes, rows_of, found_of, first_of};
 ghost use Rattle.cli_options.specs.Values.{Gives, GivesBase, name_of};
-ghost use Rattle.cli_options.specs.declared.options.ValueOption.TheVariants.{Base, Lane};
+ghost use Rattle.cli_options.specs.declared.options.ValueOption.TheVariants.{Base, Lane, Granularity as the_granularity};
 ghost use Rattle.cli_words.specs.declared.words.Request.{Request};
 ghost use Rattle.cli_words.specs.declared.words.RequestFault.TheVariants.{Value};
 ghost use Rattle.cli_words.specs.Faults.{WordsFault, RangeFault, ValueFault, IsRefusal};
+ghost use Rattle.cli_words.specs.Granularities.{WritesGranularity};
 ghost use Rattle.cli_words.specs.Lanes.{WritesLane};
 ghost use Rattle.cli_words.specs.Options.{the_app, text_of, Asks};
 ghost use Rattle.cli_words.specs.declared.words.Subcommand.{Subcommand};
-ghost use Rattle.cli_words.specs.Refusals.{IsWrong, IsWrongBase, IsWrongLane, Refuses};
+ghost use Rattle.cli_words.specs.Refusals.{IsWrong, IsWrongBase, IsWrongGranularity, IsWrongLane, Refuses};
 
+use crate::granularities::granularity_of;
 use crate::lanes::lane_of;
 use crate::subcommands::grammar;
 use clap::ArgMatches;
 use clap::error::ErrorKind;
 use cli_options::{RefusedValue, ValueOption, base_of, is_set, number_of};
 use fabric_core::LaneName;
+use log_pieces::Granularity;
 use parameters::{Counting, Storm};
 use seq_memory::Extent;
 use std::alloc::Global;
@@ -35,9 +38,11 @@ pub enum Request {
     Check {
         is_clocked: bool,
     },
-    /// The subcommand `search`, which looks at so many choices at most, and may tell how far it is.
+    /// The subcommand `search`, which looks at so many choices at most, lets reads and writes act in pieces, and may
+    /// tell how far it is.
     Search {
         limit: u64,
+        granularity: Granularity,
         is_told: bool,
     },
     /// The subcommand `draw`, of the points of a history from one to another.
@@ -149,14 +154,25 @@ fn check_of(check: &ArgMatches<'_>) -> Request
     }
 }
 
+/// The granularity that the values give.
+fn granularity_in<'a>(values: &ArgMatches<'a>) -> Result<Granularity, RefusedValue<'a>>
+    ensures ok { IfOk result (WritesGranularity (first_of (codes "granularity") (rows_of (found_of values.now)))) }
+    ensures err { OnErr result (IsWrongGranularity (rows_of (found_of values.now))) }
+    ensures refused { IfErr result (λ e. (e.option ≡ the_granularity) × (option_map (λ t. t.now) e.given ≡ first_of (codes "granularity") (rows_of (found_of values.now)))) }
+{
+    granularity_of(values.get_str("granularity"))
+}
+
 /// What the values of `search` ask for.
 fn search_of<'a>(search: &ArgMatches<'a>) -> Result<Request, RefusedValue<'a>>
     ensures ok { IfOk result (Asks (Some (codes "search", rows_of (found_of search.now)))) }
     ensures err { IfErr result (Refuses (Some (codes "search", rows_of (found_of search.now)))) }
 {
     let limit = number_in(search, ValueOption::Limit, Some(1_000_000))?;
+    let granularity = granularity_in(search)?;
     Ok(Request::Search {
         limit,
+        granularity,
         is_told: is_set(search.get_str("progress")),
     })
 }

@@ -4,6 +4,8 @@
 #[cfg(test)]
 mod choices;
 #[cfg(test)]
+mod pieces;
+#[cfg(test)]
 mod rows;
 #[cfg(test)]
 mod texts;

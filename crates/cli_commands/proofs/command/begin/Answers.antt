@@ -3,7 +3,8 @@ use Rattle.line_loop.specs.declared.fault.EngineFault.{EngineFault}
 use Rattle.parameters.specs.declared.storm.Storm.{Storm}
 use Rattle.generate_engine.specs.Script.{IsWhole as IsWholeScript, IsPart as IsPartOfScript}
 use Rattle.line_loop.specs.Run.{Run, IsRun, IsWhole, IsPart as IsPartOf}
-use Rattle.search_engine.specs.Search.{IsWhole as IsWholeSearch, IsPart as IsPartOfSearch, IsSearched}
+use Rattle.log_pieces.specs.declared.Granularity.{Granularity}
+use Rattle.search_engine.specs.Search.{IsWholeWith as IsWholeSearch, IsPartWith as IsPartOfSearch, IsSearchedWith}
 use Rattle.cli_commands.specs.Command.{IsGenerated}
 use Rattle.cli_commands.proofs.command.begin.Goals as goal
 
@@ -21,11 +22,11 @@ generated s (Ok status) out out' exit ok err is whole part = inl (ok ∙ is, who
 generated s (Err fault) out out' exit ok err is whole part = inr (err, part)
 
 -- a search, whole or stopped
-searched : (limit : ℕ) (r : Result ℕ EngineFault) (input rest out out' : Option (List ℕ)) (exit : ℕ)
+searched : (size : Granularity) (limit : ℕ) (r : Result ℕ EngineFault) (input rest out out' : Option (List ℕ)) (exit : ℕ)
     → IfOk r (λ status. exit ≡ status) → OnErr r (exit ≡ 1)
-    → IfOk r (IsWholeSearch limit input rest out out') → OnErr r (IsPartOfSearch limit input rest out out') → IsSearched limit input rest out out' exit
-searched limit (Ok status) input rest out out' exit ok err whole part = inl (subst (λ (n : ℕ). IsWholeSearch limit input rest out out' n) (sym ok) whole)
-searched limit (Err fault) input rest out out' exit ok err whole part = inr (err, part)
+    → IfOk r (IsWholeSearch size limit input rest out out') → OnErr r (IsPartOfSearch size limit input rest out out') → IsSearchedWith size limit input rest out out' exit
+searched size limit (Ok status) input rest out out' exit ok err whole part = inl (subst (λ (n : ℕ). IsWholeSearch size limit input rest out out' n) (sym ok) whole)
+searched size limit (Err fault) input rest out out' exit ok err whole part = inr (err, part)
 
 pub returns-in-Tlp : goal.returns-in-Tlp
 returns-in-Tlp g c = record {
@@ -41,7 +42,7 @@ returns-in-Check g c = record {
 
 pub returns-in-Search : goal.returns-in-Search
 returns-in-Search g c = record {
-  begun = rw c.in-Search.is (searched c.in-Search.limit c.run_search_with_reasons-run.result _ _ _ _ _ c.ended-in-Search.ensures.ok c.ended-in-Search.ensures.err c.run_search_with_reasons-run.ensures.ok c.run_search_with_reasons-run.ensures.err);
+  begun = rw c.in-Search.is (searched c.in-Search.granularity c.in-Search.limit c.run_search_with-run.result _ _ _ _ _ c.ended-in-Search.ensures.ok c.ended-in-Search.ensures.err c.run_search_with-run.ensures.ok c.run_search_with-run.ensures.err);
   right = tt;
 }
 

@@ -14,7 +14,8 @@ use Rattle.line_loop.specs.Run.{Run, IsBeginning, IsPart as IsPartOf}
 use Rattle.parameters.specs.declared.counting.Counting.{Counting}
 use Rattle.worker_report.specs.declared.halt.RunHalt.TheVariants as halts
 use Rattle.run_engine.specs.Text.{IsPart, halt_text}
-use Rattle.search_engine.specs.Search.{IsPart as IsPartOfSearch}
+use Rattle.log_pieces.specs.declared.Granularity.{Granularity}
+use Rattle.search_engine.specs.Search.{IsPartWith as IsPartOfSearch}
 use Rattle.cli_commands.specs.Command.{IsBegun, IsDone, IsRightRequest, AskForNoText, AreRefused}
 use Rattle.cli_commands.proofs.command.on_one_thread.Goals as goal
 
@@ -62,8 +63,8 @@ nothing-counted counting w = record {
 }
 
 -- nothing was read, and nothing written
-nothing-searched : (limit : ℕ) (u w : Option (List ℕ)) → IsPartOfSearch limit u u w w
-nothing-searched limit u w = record { read = []; consumed = consumes-nothing u; done = []; begins = inl refl; written = appends w }
+nothing-searched : (size : Granularity) (limit : ℕ) (u w : Option (List ℕ)) → IsPartOfSearch size limit u u w w
+nothing-searched size limit u w = record { read = []; consumed = consumes-nothing u; done = []; begins = inl refl; written = appends w }
 
 -- nothing was done, and status 1 tells it
 undone : (r : Request) (input out : Option (List ℕ)) (exit : ℕ) → exit ≡ 1 → IsDone r input input out out exit
@@ -71,7 +72,7 @@ undone (Tlp x) input out exit e = inr (e, nothing-done _ input out)
 undone Decode input out exit e = inr (e, nothing-done _ input out)
 undone Encode input out exit e = inr (e, nothing-done _ input out)
 undone (Check is_clocked) input out exit e = inr (e, nothing-done _ input out)
-undone (Search limit is_told) input out exit e = inr (e, nothing-searched limit input out)
+undone (Search limit size is_told) input out exit e = inr (e, nothing-searched size limit input out)
 undone Upgrade input out exit e = inr (e, nothing-done _ input out)
 undone (Draw from to) input out exit e = inr (e, nothing-done _ input out)
 undone (Step is_traced keeps_going echoes) input out exit e = inr (e, nothing-done _ input out)

@@ -6,4 +6,5 @@ use Rattle.cli_words.proofs.subcommands.search_command.Goals as goal
 pub returns-clause-app : goal.returns-clause-app
 returns-clause-app c =
     let limit_is = c.in_ok-limit.ensures.app ∙ ap₂ with_rule c.plain_command-search.ensures.app c.option_of.ensures.rule in
-    IfOk-weaker c.with_arg-2.result _ _ (λ new h. h ∙ ap₂ with_rule limit_is c.flag_of.ensures.rule) c.with_arg-2.ensures.app
+    let granularity_is = c.in_ok-granularity.ensures.app ∙ ap₂ with_rule limit_is c.option_of-2.ensures.rule in
+    IfOk-weaker c.with_arg-3.result _ _ (λ new h. h ∙ ap₂ with_rule granularity_is c.flag_of.ensures.rule) c.with_arg-3.ensures.app

@@ -1,4 +1,4 @@
-use Rattle.std.proofs.Common.{◌∙◌, refl, subst, codes, Option}
+use Rattle.std.proofs.Common.{◌∙◌, refl, subst, codes, inl, inr, Option}
 use Rattle.clap.specs.Words.{found_of, Text}
 use Rattle.clap.proofs.WalkLemmas.{first_value-rows}
 use Rattle.cli_options.specs.Values.{WritesFlag}
@@ -8,6 +8,6 @@ pub returns-clause-ok : goal.returns-clause-ok
 returns-clause-ok c =
     let limit = c.in_ok-limit.ensures.ok in (
       refl,
-      record { limit_read = limit.0; least = limit.1.least; most = limit.1.most },
+      record { limit_read = limit.0; least = limit.1.least; most = limit.1.most; granularity_read = c.in_ok-granularity.ensures.ok },
       subst (λ (t : Option Text). WritesFlag t c.is_set.result) (c.get_str.ensures ∙ first_value-rows (found_of c.args.search.now) (codes "progress")) c.is_set.ensures,
     )
