@@ -5,7 +5,7 @@ use fabric_core::Fabric;
 use hall_core::{Hall, ReqSeat};
 
 /// [`Hall::close`].
-fn closed(hall: Hall, seat: ReqSeat) -> Option<Fabric>
+pub(super) fn closed(hall: Hall, seat: ReqSeat) -> Option<Fabric>
     requires { IsSeatOf hall seat }
 {
     match hall.close(seat) {
