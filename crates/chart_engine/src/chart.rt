@@ -219,7 +219,7 @@ impl Charter {
         let Some(session) = &mut self.session else {
             return Ok(self.no_line());
         };
-        let _ = settle(&mut session.fabric, &mut session.chart, line)?;
+        settle(&mut session.fabric, &mut session.chart, line)?;
         self.count();
         Ok(Verdict::Fine)
     }

@@ -7,7 +7,7 @@ use hall_core::{Hall, ReqSeat, WorkSeat};
 use std::alloc::Global;
 
 /// [`Hall::close`].
-fn closed(hall: Hall, seat: ReqSeat) -> Option<Fabric>
+pub(super) fn closed(hall: Hall, seat: ReqSeat) -> Option<Fabric>
     requires { IsSeatOf hall seat }
 {
     match hall.close(seat) {

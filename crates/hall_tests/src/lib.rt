@@ -17,7 +17,8 @@
 //!   is found out.
 //! - By threads: two requesters and a work seat in three threads, 200 additions of 1, each answered. The two ends of a
 //!   lane in two threads, 10,000 packets, each accepted, while the test's own thread makes all other calls. These
-//!   tests also show that a hall is `Sync` and its seats are `Send`.
+//!   tests also show that a hall is `Sync` and its seats are `Send`. Threads that stop while packets are under way: the
+//!   fabric of the closed hall is settled, and its counter is the number of submissions.
 #![tactic(auto)]
 
 #[cfg(test)]
@@ -30,5 +31,7 @@ mod held;
 mod rows;
 #[cfg(test)]
 mod scripts;
+#[cfg(test)]
+mod stopped;
 #[cfg(test)]
 mod threads;

@@ -85,6 +85,19 @@ fn carry_at(hall: &Hall, seat: &mut WorkSeat, port: u8)
     carry(hall, seat, LaneName::Down(port), Class::Completion);
 }
 
+/// What there is in a fabric with two requesters goes on, by up to 34 calls.
+pub(super) fn carry_all(hall: &Hall, seat: &mut WorkSeat)
+    requires { IsSeatOf hall.now seat.old }
+    ensures { IsSeatOf hall.now seat.new }
+{
+    carry_at(hall, seat, 1);
+    carry_at(hall, seat, 2);
+    carry(hall, seat, LaneName::Inward, Class::NonPosted);
+    let _ = pump(hall, seat, WorkEvent::Serve(0));
+    carry(hall, seat, LaneName::Outward, Class::Completion);
+    let _ = pump(hall, seat, WorkEvent::Forward(LaneName::Outward, 0));
+}
+
 /// Carries what there is until both requesters are done.
 fn work(hall: &Hall, seat: WorkSeat, done: &AtomicU64)
     requires { IsSeatOf hall.now seat }
@@ -94,12 +107,7 @@ fn work(hall: &Hall, seat: WorkSeat, done: &AtomicU64)
         if done.load(Ordering::SeqCst) == 2 {
             break;
         }
-        carry_at(hall, &mut seat, 1);
-        carry_at(hall, &mut seat, 2);
-        carry(hall, &mut seat, LaneName::Inward, Class::NonPosted);
-        let _ = pump(hall, &mut seat, WorkEvent::Serve(0));
-        carry(hall, &mut seat, LaneName::Outward, Class::Completion);
-        let _ = pump(hall, &mut seat, WorkEvent::Forward(LaneName::Outward, 0));
+        carry_all(hall, &mut seat);
         if round % 64 == 0 {
             thread::yield_now();
         }

@@ -1,0 +1,71 @@
+//! The rounds and the hops of a settling.
+use fabric_core::{Event, Fabric, LaneName, Seen};
+use fabric_settle::{Witness, settle};
+use lane_core::DllpKind;
+use std::alloc::AllocError;
+use tlp_core::Op;
+
+/// Counts the rounds, each of which sends one Ack or Nak on `up1`, and the hops.
+#[derive(Drop)]
+pub(super) struct Counts {
+    pub(super) rounds: u64,
+    pub(super) hops: u64,
+}
+
+impl Witness for Counts {
+    ghost use Rattle.fabric_settle.specs.Keeping.{Never};
+
+    ghost Kept = { Unit {0} };
+
+    ghost kept = { λ counts. tt };
+
+    ghost saw = { λ line kept happened. tt };
+
+    ghost has_room = { λ event counts. Unit {0} };
+
+    ghost needs_room = { Never };
+
+    ghost may_lose = { Never };
+
+    fn make_room(&mut self, _event: &Event) -> Result<(), AllocError> {
+        Ok(())
+    }
+
+    fn saw(
+        &mut self,
+        _line: u64,
+        event: &Event,
+        _seen: Seen,
+        _fabric: &Fabric,
+    ) -> Result<(), AllocError> {
+        match event {
+            Event::SendDllp(LaneName::Up(1), DllpKind::Answer) => {
+                self.rounds = self.rounds.wrapping_add(1);
+            }
+            Event::Forward(_, _) | Event::Serve(_) | Event::Collect(_) => {
+                self.hops = self.hops.wrapping_add(1);
+            }
+            _ => {}
+        }
+        Ok(())
+    }
+}
+
+/// How many hops are left after an event.
+pub(super) fn left_after(left: u64, event: &Event) -> u64 {
+    match event {
+        Event::Submit(_, Op::Write { .. }) => left.wrapping_add(2),
+        Event::Submit(_, _) => left.wrapping_add(4),
+        Event::Forward(_, _) | Event::Serve(_) | Event::Collect(_) => left.wrapping_sub(1),
+        _ => left,
+    }
+}
+
+/// How many rounds bring the fabric to rest, the last one counted, and how many hops; none where memory is wanted.
+pub(super) fn settled(fabric: &mut Fabric) -> Option<(u64, u64)> {
+    let mut counts = Counts { rounds: 0, hops: 0 };
+    match settle(fabric, &mut counts, 0) {
+        Ok(()) => Some((counts.rounds, counts.hops)),
+        Err(_) => None,
+    }
+}
