@@ -44,12 +44,7 @@ fn work_some(hall: &Hall, seat: WorkSeat)
 }
 
 /// A requester and the work seat, each in a thread.
-fn stop<R: Threads + Sync>(
-    rt: &R,
-    hall: &Hall,
-    seat: ReqSeat,
-    worker: WorkSeat,
-) -> (ReqSeat, u32)
+fn stop<R: Threads + Sync>(rt: &R, hall: &Hall, seat: ReqSeat, worker: WorkSeat) -> (ReqSeat, u32)
     requires { IsSeatOf hall.now seat × IsSeatOf hall.now worker }
     ensures { IsSeatOf hall.now result.0 }
 {
