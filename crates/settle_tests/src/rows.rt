@@ -121,7 +121,9 @@ fn is_right(fabric: &mut Fabric, row: &Row) -> bool {
     let Some(left) = submit_all(fabric, row) else {
         return false;
     };
-    settled(fabric) == Some((row.rounds, left)) && row.rounds <= left + 2 && fabric.quiet()
+    settled(fabric) == Some((row.rounds, left))
+        && row.rounds.saturating_sub(2) <= left
+        && fabric.quiet()
 }
 
 /// The rounds and hops of a row's fabric.

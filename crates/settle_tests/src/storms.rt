@@ -102,7 +102,7 @@ fn comes_to_rest(fabric: &mut Fabric, storm: &Storm) -> bool {
     let left = one_more(fabric, left);
     end(fabric, storm.seed);
     match settled(fabric) {
-        Some((rounds, hops)) => rounds <= left + 2 && hops == left && fabric.quiet(),
+        Some((rounds, hops)) => rounds.saturating_sub(2) <= left && hops == left && fabric.quiet(),
         None => false,
     }
 }
