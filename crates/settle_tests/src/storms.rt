@@ -110,7 +110,10 @@ fn comes_to_rest(fabric: &mut Fabric, storm: &Storm) -> bool {
 /// The same of a seed.
 fn is_right(alloc: Global, seed: u64) -> bool {
     let storm = storm_of(seed);
-    match fabric_with(alloc, storm.requesters as u8, credits_of(seed)) {
+    let Ok(requesters) = u8::try_from(storm.requesters) else {
+        return false;
+    };
+    match fabric_with(alloc, requesters, credits_of(seed)) {
         Some(mut fabric) => comes_to_rest(&mut fabric, &storm),
         None => false,
     }
