@@ -6,8 +6,8 @@ use Rattle.std_alloc.proofs.BoxSteps.Form.{Bx}
 use Rattle.std_heap.specs.contracts.Global as Heap
 use Rattle.std_heap.specs.contracts.GlobalAllocator.TheImpl.{ghosts, dict}
 use Rattle.std_heap.proofs.Global.TheLaws as heap
-use Rattle.port_monitor.specs.contracts.monitor.Monitor as Monitor
-use Rattle.port_monitor.proofs.monitor.Monitor.TheLaws as monitor
+use Rattle.monitor_ports.specs.contracts.monitor.Monitor as Monitor
+use Rattle.monitor_ports.proofs.monitor.Monitor.TheLaws as monitor
 use Rattle.c_box.specs.contracts.Parts as Parts
 use Rattle.c_monitor.specs.contracts.slot.Slot as held
 

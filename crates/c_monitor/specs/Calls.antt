@@ -4,11 +4,11 @@ use Rattle.seq_memory.specs.declared.Entry.{Entry}
 use Rattle.history_check.specs.declared.Record.{Record}
 use Rattle.operation_text.specs.Words.{words}
 use Rattle.trace_text.specs.Texts.{entry_line}
-use Rattle.port_monitor.specs.declared.head.Head.{Head}
-use Rattle.port_monitor.specs.declared.fault.MonitorFault.{MonitorFault}
-use Rattle.port_monitor.specs.Heads.{head_of, memory_of}
-use Rattle.port_monitor.specs.Texts.{head_lines, record_line}
-use Rattle.port_monitor.specs.Monitoring.{Monitor, request, completion, given_up, acted}
+use Rattle.monitor_ports.specs.declared.head.Head.{Head}
+use Rattle.monitor_ports.specs.declared.fault.MonitorFault.{MonitorFault}
+use Rattle.monitor_ports.specs.Heads.{head_of, memory_of}
+use Rattle.monitor_ports.specs.Texts.{head_lines, record_line}
+use Rattle.monitor_ports.specs.Monitoring.{Monitor, request, completion, given_up, acted}
 use Rattle.c_buffer.specs.declared.outcome.Failure.{Failure}
 use Rattle.c_buffer.specs.declared.outcome.Failure.TheVariants.{SmallBuffer, NoLine}
 use Rattle.c_buffer.specs.Buffer.{filled, Told, untold, told}

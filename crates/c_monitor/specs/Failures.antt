@@ -1,7 +1,7 @@
 -- A monitor's faults as failures of calls.
 use Rattle.tlp_core.specs.Fault.{number_of}
-use Rattle.port_monitor.specs.declared.fault.MonitorFault.{MonitorFault}
-use Rattle.port_monitor.specs.declared.fault.MonitorFault.TheVariants as faults
+use Rattle.monitor_ports.specs.declared.fault.MonitorFault.{MonitorFault}
+use Rattle.monitor_ports.specs.declared.fault.MonitorFault.TheVariants as faults
 use Rattle.c_buffer.specs.declared.outcome.Failure.{Failure}
 use Rattle.c_buffer.specs.declared.outcome.Failure.TheVariants as failures
 

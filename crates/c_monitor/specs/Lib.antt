@@ -2,4 +2,4 @@ pub mod Slot
 pub mod Failures
 pub mod Calls
 pub use Rattle.c_buffer.specs.Buffer
-pub use Rattle.port_monitor.specs.Monitoring
+pub use Rattle.monitor_ports.specs.Monitoring

@@ -1,7 +1,7 @@
 //! Packets at the monitor of a slot.
 ghost use Rattle.std.specs.Prelude.{◌≡◌, ◌≤◌, Some, Err, IsErr, length};
-ghost use Rattle.port_monitor.specs.Monitoring as spec;
-ghost use Rattle.port_monitor.specs.Texts.{record_line};
+ghost use Rattle.monitor_ports.specs.Monitoring as spec;
+ghost use Rattle.monitor_ports.specs.Texts.{record_line};
 ghost use Rattle.trace_text.specs.Texts.{entry_line};
 ghost use Rattle.c_buffer.specs.declared.outcome.Failure.TheVariants.{NoMemory};
 ghost use Rattle.c_buffer.specs.Buffer.{filled};
@@ -12,7 +12,7 @@ use crate::slot::{Slot, close, open};
 use arrayvec::ArrayString;
 use c_buffer::{Failure, LINE_BUFFER, Length, tell};
 use history_check::Record;
-use port_monitor::{Monitor, write_entry, write_record};
+use monitor_ports::{Monitor, write_entry, write_record};
 use seq_memory::Entry;
 
 /// Puts the line of a record to the front of the buffer.

@@ -3,7 +3,7 @@ ghost use Rattle.std.specs.Prelude.{◌≡◌};
 ghost use Rattle.c_monitor.specs.Failures.{failure_of};
 
 use c_buffer::Failure;
-use port_monitor::MonitorFault;
+use monitor_ports::MonitorFault;
 
 /// The failure of a call at which the monitor finds this fault.
 pub(crate) fn failure(fault: MonitorFault) -> Failure

@@ -1,9 +1,9 @@
 //! Slots.
 ghost use Rattle.std.specs.Prelude.{◌≡◌, ◌≤◌, Option, Some, Ok, Err, IsOk, IsErr, length};
-ghost use Rattle.port_monitor.specs.declared.head.Head as heads;
-ghost use Rattle.port_monitor.specs.Monitoring as spec;
-ghost use Rattle.port_monitor.specs.Texts.{head_lines};
-ghost use Rattle.port_monitor.specs.Heads.{memory_of};
+ghost use Rattle.monitor_ports.specs.declared.head.Head as heads;
+ghost use Rattle.monitor_ports.specs.Monitoring as spec;
+ghost use Rattle.monitor_ports.specs.Texts.{head_lines};
+ghost use Rattle.monitor_ports.specs.Heads.{memory_of};
 ghost use Rattle.c_buffer.specs.declared.outcome.Failure.TheVariants.{NoMemory};
 ghost use Rattle.c_buffer.specs.Buffer.{filled};
 ghost use Rattle.c_device.specs.Calls.{limits};
@@ -14,7 +14,7 @@ use arrayvec::ArrayString;
 use c_box::Parts;
 use c_buffer::{Failure, LINE_BUFFER, Length, tell};
 use c_device::extent_of;
-use port_monitor::{Head, Monitor, read_head, write_head};
+use monitor_ports::{Head, Monitor, read_head, write_head};
 use std::alloc::Global;
 use std::marker::Model;
 

@@ -14,7 +14,7 @@ use Rattle.text_lines.specs.Lines.{lines_of, bare, said}
 use Rattle.line_loop.specs.Run.{Answer, Run, after_line, new_run, run_of}
 use Rattle.svg_text.specs.Shapes.{Shape, page_text}
 use Rattle.svg_text.specs.Xml.{IsDocument}
-use Rattle.link_chart.specs.declared.window.ChartWindow.{ChartWindow}
+use Rattle.chart_links.specs.declared.window.ChartWindow.{ChartWindow}
 use Rattle.chart_engine.specs.declared.chart.Session.{Session}
 use Rattle.chart_engine.specs.Chart as spec
 use Rattle.chart_engine.specs.Chart.{CharterView, chart_responses, out_chart, WritesDocument}

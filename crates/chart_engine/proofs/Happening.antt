@@ -15,8 +15,8 @@ use Rattle.script_text.specs.declared.line.Line.{Line}
 use Rattle.script_text.specs.declared.line.Line.TheVariants as lines
 use Rattle.text_lines.specs.Lines.{lines_of, bare, said}
 use Rattle.line_loop.specs.Run.{Answer, Run, after_line, new_run}
-use Rattle.link_chart.specs.declared.window.ChartWindow.{ChartWindow}
-use Rattle.link_chart.specs.ChartView.{ChartView, new_chart, charted, refused}
+use Rattle.chart_links.specs.declared.window.ChartWindow.{ChartWindow}
+use Rattle.chart_links.specs.ChartView.{ChartView, new_chart, charted, refused}
 use Rattle.chart_laws.specs.Arrows.{Tale, told}
 use Rattle.chart_laws.specs.Happened.{Happened, told_all}
 use Rattle.chart_engine.specs.declared.chart.Session.{Session}

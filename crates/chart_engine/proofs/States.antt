@@ -11,7 +11,7 @@ use Rattle.fabric_core.specs.Config.{fault_name}
 use Rattle.fabric_core.specs.Answers.{answer}
 use Rattle.fabric_answers.specs.New.{new_fabric, config_fault}
 use Rattle.script_text.specs.Names.{refusal_text}
-use Rattle.link_chart.specs.ChartView.{ChartView, new_chart}
+use Rattle.chart_links.specs.ChartView.{ChartView, new_chart}
 use Rattle.line_loop.specs.declared.verdict.Verdict.{Verdict}
 use Rattle.line_loop.specs.declared.verdict.Verdict.TheVariants as verdicts
 use Rattle.line_loop.specs.Run.{IsAnswer}

@@ -21,8 +21,8 @@ use Rattle.script_text.specs.declared.line.Line.TheVariants as lines
 use Rattle.script_text.specs.Forms.{line_of}
 use Rattle.script_text.specs.Names.{refusal_text}
 use Rattle.chart_page.specs.Shapes.{chart_text, title_text}
-use Rattle.link_chart.specs.declared.window.ChartWindow.{ChartWindow}
-use Rattle.link_chart.specs.ChartView.{ChartView, new_chart, charted, refused, page_of, titled}
+use Rattle.chart_links.specs.declared.window.ChartWindow.{ChartWindow}
+use Rattle.chart_links.specs.ChartView.{ChartView, new_chart, charted, refused, page_of, titled}
 use Rattle.line_loop.specs.Run.{Answer, Responses, Run, run_of}
 use Rattle.chart_engine.specs.declared.chart.Session.{Session}
 

@@ -5,8 +5,8 @@ use Rattle.fabric_core.specs.declared.config.Config.{Config}
 use Rattle.fabric_core.specs.declared.event.Event.{Event}
 use Rattle.fabric_core.specs.declared.fault.Refusal.{Refusal}
 use Rattle.fabric_answers.specs.New.{new_fabric, config_fault}
-use Rattle.link_chart.specs.declared.window.ChartWindow.{ChartWindow}
-use Rattle.link_chart.specs.ChartView.{ChartView, new_chart, refused}
+use Rattle.chart_links.specs.declared.window.ChartWindow.{ChartWindow}
+use Rattle.chart_links.specs.ChartView.{ChartView, new_chart, refused}
 use Rattle.chart_laws.specs.Arrows.{Tale}
 use Rattle.chart_laws.specs.Happened.{Happened, told_all}
 use Rattle.chart_engine.specs.declared.chart.Session.{Session}

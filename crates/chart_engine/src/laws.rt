@@ -1,7 +1,7 @@
 //! What holds of the charts of `chart`.
 ghost use Rattle.std.specs.Prelude.{List, ℕ};
 ghost use Rattle.svg_text.specs.Xml.{IsDocument};
-ghost use Rattle.link_chart.specs.declared.window.ChartWindow.{ChartWindow};
+ghost use Rattle.chart_links.specs.declared.window.ChartWindow.{ChartWindow};
 ghost use Rattle.chart_engine.specs.Chart.{out_chart};
 ghost use Rattle.chart_engine.specs.Events.{IsOfEvents};
 

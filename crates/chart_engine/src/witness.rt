@@ -1,9 +1,9 @@
 //! The chart as a witness of a fabric's events.
 ghost use Rattle.std.specs.Prelude.{◌≡◌};
 
+use chart_links::Chart;
 use fabric_core::{Event, Fabric, Seen};
 use fabric_settle::Witness;
-use link_chart::Chart;
 use std::alloc::AllocError;
 use std::marker::Model;
 use tlp_core::copy_of;
@@ -33,7 +33,7 @@ pub(crate) struct ChartWitness {
 }
 
 impl Model for ChartWitness {
-    ghost use Rattle.link_chart.specs.ChartView.{ChartView};
+    ghost use Rattle.chart_links.specs.ChartView.{ChartView};
 
     ghost Value = { ChartView };
 
@@ -41,7 +41,7 @@ impl Model for ChartWitness {
 }
 
 impl Witness for ChartWitness {
-    ghost use Rattle.link_chart.specs.ChartView.{ChartView};
+    ghost use Rattle.chart_links.specs.ChartView.{ChartView};
     ghost use Rattle.fabric_settle.specs.Keeping.{Never, Always};
     ghost use Rattle.chart_engine.specs.Chart.{charted_of};
 

@@ -20,9 +20,9 @@ use Rattle.chart_rows.specs.declared.row.Carried.{Carried}
 use Rattle.chart_rows.specs.declared.row.Deed.{Deed}
 use Rattle.chart_rows.specs.declared.row.Deed.TheVariants as deeds
 use Rattle.chart_rows.specs.declared.row.PacketSent.{PacketSent}
-use Rattle.link_chart.specs.CourseView.{CourseView, quiet, entered, next_carried, sent, oldest, arrived, without, sent_back, without_back, replayed, told as told_dllp}
-use Rattle.link_chart.specs.Lanes.{Moved, moved, place_of, changed_found, changed, asked_found, submitted, transmitted, delivered, dllp_sent, dllp_delivered, expired, forwarded, served, collected, with_completion, is_accepted, lane_to, followed}
-use Rattle.link_chart.specs.ChartView.{ChartView}
+use Rattle.chart_links.specs.CourseView.{CourseView, quiet, entered, next_carried, sent, oldest, arrived, without, sent_back, without_back, replayed, told as told_dllp}
+use Rattle.chart_links.specs.Lanes.{Moved, moved, place_of, changed_found, changed, asked_found, submitted, transmitted, delivered, dllp_sent, dllp_delivered, expired, forwarded, served, collected, with_completion, is_accepted, lane_to, followed}
+use Rattle.chart_links.specs.ChartView.{ChartView}
 use Rattle.chart_laws.specs.Arrows.{Tale, told, row_in, deed_in, sent_on, begun_on, sendings, beginnings, NeverMore}
 
 abbrev packets : List PacketSent → List (Option PacketSent)

@@ -5,9 +5,9 @@ use Rattle.fabric_core.specs.declared.event.Seen.{Seen}
 use Rattle.chart_rows.specs.declared.row.PacketSent.{PacketSent}
 use Rattle.chart_rows.specs.declared.row.Deed.{Deed}
 use Rattle.chart_rows.specs.declared.row.Deed.TheVariants as deeds
-use Rattle.link_chart.specs.Window as window
-use Rattle.link_chart.specs.Lanes.{Moved, followed, place_of}
-use Rattle.link_chart.specs.ChartView.{ChartView, row_at, charted}
+use Rattle.chart_links.specs.Window as window
+use Rattle.chart_links.specs.Lanes.{Moved, followed, place_of}
+use Rattle.chart_links.specs.ChartView.{ChartView, row_at, charted}
 
 -- an event that happened, its line of the script, and what was seen of it
 pub record Tale : Type 0 where

@@ -2,7 +2,7 @@
 use Rattle.std.specs.Prelude.{◌≡◌, List, [], ◌∷◌, Ok}
 use Rattle.fabric_laws.specs.Fabric.{Fabric}
 use Rattle.fabric_core.specs.Answers.{answer}
-use Rattle.link_chart.specs.ChartView.{ChartView}
+use Rattle.chart_links.specs.ChartView.{ChartView}
 use Rattle.chart_laws.specs.Arrows.{Tale, told}
 
 -- each tale is of an event that happens to the fabric which the earlier ones leave, and of what is seen of it; all of them

@@ -2,8 +2,8 @@
 #![tactic(auto)]
 
 ghost use Rattle.std.specs.Prelude.{◌≡◌, ◌<◌, ℕ, List, length, take};
-ghost use Rattle.link_chart.specs.declared.window.ChartWindow.{ChartWindow};
-ghost use Rattle.link_chart.specs.ChartView.{new_chart};
+ghost use Rattle.chart_links.specs.declared.window.ChartWindow.{ChartWindow};
+ghost use Rattle.chart_links.specs.ChartView.{new_chart};
 ghost use Rattle.chart_laws.specs.Arrows.{Tale, NeverMore, beginnings, sendings};
 
 /// The n-th arrow of packets on a lane is that of the n-th packet that was sent on it: it has its number and what it

@@ -1,7 +1,7 @@
 //! Charts of short scripts: where arrows begin and end, what is said of them, and what isn't shown.
 use chart_engine::run_chart;
+use chart_links::ChartWindow;
 use fabric_core::LaneName;
-use link_chart::ChartWindow;
 use memchr::memmem;
 use std::alloc::Global;
 

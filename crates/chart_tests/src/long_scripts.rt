@@ -1,6 +1,6 @@
 //! A script with more events than a chart has rows.
 use chart_engine::run_chart;
-use link_chart::ChartWindow;
+use chart_links::ChartWindow;
 use memchr::memmem;
 use std::alloc::{AllocError, Global};
 

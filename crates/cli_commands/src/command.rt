@@ -9,13 +9,13 @@ ghost use Rattle.cli_words.specs.declared.words.Request.{Request};
 
 use crate::hints::hint;
 use chart_engine::run_chart;
+use chart_links::ChartWindow;
 use clap::error::ErrorKind;
 use cli_words::{Request, RequestFault, options};
 use draw_engine::run_draw;
 use generate_engine::run_generate;
 use history_picture::Window;
 use line_loop::EngineFault;
-use link_chart::ChartWindow;
 use packet_engine::{run_decode_with_reasons, run_encode_with_reasons};
 use parameters::Counting;
 use search_engine::{SearchOptions, Stages, run_search_with};

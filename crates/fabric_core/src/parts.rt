@@ -1,5 +1,6 @@
 //! The parts of a fabric, and the events by their ports and lanes.
-ghost use Rattle.std.specs.Prelude.{◌≡◌, ◌↔◌, ◌<◌, ◌≤◌, ℕ, suc, length, Some, slice_get, IsTrue, IfOk, IfErr, OnOk, OnErr, Ok, Err};
+ghost use Rattle.std.specs.Prelude.{◌≡◌, ◌↔◌, ◌<◌, ◌≤◌, ℕ, suc, length, Some, slice_get, IsTrue, IfOk, IfErr, OnOk, OnErr, Ok, Err, option_map};
+ghost use Rattle.std.specs.Result.{result_ok};
 
 use crate::config::Config;
 use crate::event::{Event, LaneName, LinkEvent, Seen};
@@ -99,6 +100,18 @@ impl Parts {
             size: self.memory.bytes().len(),
             credits: self.credits,
             block: self.memory.block(),
+        }
+    }
+
+    /// The lane of that name, if there is one.
+    pub(crate) fn lane(&self, name: LaneName) -> Option<&LaneEnds>
+        ensures { option_map (λ lane. lane.now) result ≡ result_ok (lane_at self.now name) }
+    {
+        match name {
+            LaneName::Up(port) => self.up.get(place_of(port, self.up.len()).ok()?),
+            LaneName::Down(port) => self.down.get(place_of(port, self.down.len()).ok()?),
+            LaneName::Inward => Some(&self.inward),
+            LaneName::Outward => Some(&self.outward),
         }
     }
 

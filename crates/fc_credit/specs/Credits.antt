@@ -1,5 +1,5 @@
 -- Flow-control credits (section 2.6.1): the counters of the gate and of the ledger, for each class and part.
-use Rattle.std.specs.Prelude.{◌≡◌, ℕ, ◌+◌, ◌-◌, ◌%◌, ◌/◌, ◌<◌, ◌≤◌, ◌==◌, Bool, true, false, not, nat_le, ◌||◌, ◌&&◌, if◌then◌else◌}
+use Rattle.std.specs.Prelude.{◌≡◌, ℕ, ◌+◌, ◌-◌, ◌%◌, ◌/◌, ◌<◌, ◌≤◌, ◌==◌, Bool, true, false, not, nat_le, ◌||◌, ◌&&◌, if◌then◌else◌, Option, Some, None}
 use Rattle.dllp_core.specs.declared.packet.Class.{Class}
 use Rattle.dllp_core.specs.declared.packet.Class.TheVariants.{Posted, NonPosted, Completion}
 use Rattle.dllp_core.specs.declared.packet.Dllp.{Dllp}
@@ -34,6 +34,10 @@ covers p a units =
 -- the room by the counters alone: (CREDIT_LIMIT - CREDITS_CONSUMED) mod 2^w
 abbrev pub room_of : Part → Allowance → ℕ
 room_of p a = (a.limit + modulus p - a.consumed) % modulus p
+
+-- the credits that are left, as far as the sender knows; an infinite counter has no such number
+abbrev pub left_of : Part → Allowance → Option ℕ
+left_of p a = if a.first == 0 then None else Some (room_of p a)
 
 -- CREDITS_CONSUMED grows by the units
 abbrev pub spent : Part → Allowance → ℕ → Allowance

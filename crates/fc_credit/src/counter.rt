@@ -54,7 +54,7 @@ fn grown(part: Part, counter: u16, units: u16) -> u16
 }
 
 impl Allowance {
-    ghost use Rattle.fc_credit.specs.Credits.{covers, spent, limited, new_allowance};
+    ghost use Rattle.fc_credit.specs.Credits.{covers, spent, limited, new_allowance, left_of};
 
     pub(crate) fn new(part: Part, first: u16) -> Allowance
         ensures { result ≡ new_allowance part first }
@@ -73,6 +73,18 @@ impl Allowance {
         let modulus = part.modulus();
         let required = u32::from(grown(part, self.consumed, units));
         self.first == 0 || (u32::from(self.limit) + modulus - required) % modulus <= modulus / 2
+    }
+
+    /// What is left, as far as the sender knows; None of an infinite counter.
+    pub(crate) fn left(self, part: Part) -> Option<u16>
+        ensures { result ≡ left_of part self }
+    {
+        if self.first == 0 {
+            return None;
+        }
+        let modulus = part.modulus();
+        let limit = u32::from(self.limit) + modulus;
+        Some((limit.saturating_sub(u32::from(self.consumed)) % modulus) as u16)
     }
 
     pub(crate) fn consume(&mut self, part: Part, units: u16)

@@ -38,7 +38,8 @@ impl Model for CreditGate {
 }
 
 impl ClassGate {
-    ghost use Rattle.fc_credit.specs.Credits.{class_gate, class_covers, class_spent, class_limited};
+    ghost use Rattle.fc_credit.specs.Credits.{class_gate, class_covers, class_spent, class_limited, left_of};
+    ghost use Rattle.fc_credit.specs.declared.counter.Part.TheVariants as parts;
 
     fn new(header: u8, units: u16) -> ClassGate
         ensures { result ≡ class_gate header units }
@@ -53,6 +54,18 @@ impl ClassGate {
         ensures { result ≡ class_covers self header units }
     {
         self.header.fits(Part::Header, u16::from(header)) && self.units.fits(Part::Data, units)
+    }
+
+    fn headers_left(self) -> Option<u16>
+        ensures { result ≡ left_of parts.Header self.header }
+    {
+        self.header.left(Part::Header)
+    }
+
+    fn data_left(self) -> Option<u16>
+        ensures { result ≡ left_of parts.Data self.units }
+    {
+        self.units.left(Part::Data)
     }
 
     fn consume(&mut self, header: u8, units: u16)
@@ -71,8 +84,9 @@ impl ClassGate {
 }
 
 impl CreditGate {
-    ghost use Rattle.fc_credit.specs.Credits.{most, pick, allowance, gate_covers, after_consume, after_limit, first_gate, StandsFor, HasRoom, room_of};
+    ghost use Rattle.fc_credit.specs.Credits.{most, pick, gate_of, allowance, gate_covers, after_consume, after_limit, first_gate, StandsFor, HasRoom, room_of, left_of};
     ghost use Rattle.fc_credit.specs.declared.counter.Part.{Part};
+    ghost use Rattle.fc_credit.specs.declared.counter.Part.TheVariants as parts;
 
     /// The gate as these credits were advertised and nothing used.
     pub fn new(credits: LaneCredits) -> CreditGate
@@ -102,6 +116,30 @@ impl CreditGate {
             Class::NonPosted => self.non_posted.fits(need.header, need.units),
             Class::Completion => self.completion.fits(need.header, need.units),
         }
+    }
+
+    fn of(&self, class: Class) -> ClassGate
+        ensures { result ≡ gate_of class self.now }
+    {
+        match class {
+            Class::Posted => self.posted,
+            Class::NonPosted => self.non_posted,
+            Class::Completion => self.completion,
+        }
+    }
+
+    /// How many headers of a class may still go, as far as the sender knows; None if they are infinite.
+    pub fn headers_left(&self, class: Class) -> Option<u16>
+        ensures { result ≡ left_of parts.Header (allowance class parts.Header self.now) }
+    {
+        self.of(class).headers_left()
+    }
+
+    /// How much data of a class may still go, in units of 16 bytes, as far as the sender knows; None if it is infinite.
+    pub fn data_left(&self, class: Class) -> Option<u16>
+        ensures { result ≡ left_of parts.Data (allowance class parts.Data self.now) }
+    {
+        self.of(class).data_left()
     }
 
     /// Takes the credits of a packet that goes now.

@@ -82,6 +82,20 @@ impl SenderEnd {
         }
     }
 
+    /// The packets that aren't acknowledged, and which of them is sent next.
+    pub fn sending(&self) -> &Sender
+        ensures { result.now ≡ self.now.sending }
+    {
+        &self.sender
+    }
+
+    /// The credits that the sender knows of.
+    pub fn gate(&self) -> &CreditGate
+        ensures { result.now ≡ self.now.gate }
+    {
+        &self.gate
+    }
+
     /// Whether room is kept for one packet.
     pub fn has_room(&self) -> bool
         ensures { result ≡ self.now.sending.reserved }

@@ -5,7 +5,7 @@ ghost use Rattle.tlp_core.specs.Operation.{address_of, count_of};
 ghost use Rattle.log_pieces.specs.Pieces as spec;
 
 use arrayvec::ArrayVec;
-use memory_undo::refusal;
+use search_undo::refusal;
 use seq_memory::Extent;
 use std::alloc::{AllocError, Global};
 use tlp_core::{MAX_PAYLOAD, Op, copy_of};

@@ -1,6 +1,6 @@
 //! Calls on a monitor, and the line or the fault of each.
 use arrayvec::ArrayString;
-use port_monitor::{Monitor, MonitorFault, read_head, write_entry, write_head, write_record};
+use monitor_ports::{Monitor, MonitorFault, read_head, write_entry, write_head, write_record};
 use std::alloc::{AllocError, Global};
 
 /// A call on a monitor, of a requester.

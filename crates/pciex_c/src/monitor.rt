@@ -1,7 +1,7 @@
 //! The monitor of ports.
 ghost use Rattle.std.specs.Prelude.{◌≡◌, ◌≤◌, ◌<◌, Some};
-ghost use Rattle.port_monitor.specs.declared.head.Head as heads;
-ghost use Rattle.port_monitor.specs.Monitoring.{Monitor, new, open_requests, given_up};
+ghost use Rattle.monitor_ports.specs.declared.head.Head as heads;
+ghost use Rattle.monitor_ports.specs.Monitoring.{Monitor, new, open_requests, given_up};
 ghost use Rattle.pciex_c.specs.declared.codes.TheConstants.{NO_MEMORY};
 ghost use Rattle.c_monitor.specs.Calls.{making, AsksFor, IsMonitorCall, request_call, completion_call, acted_call, give_up_outcome, IsTraced};
 ghost use Rattle.pciex_c.specs.Codes.{code_of, status_of};

@@ -96,6 +96,22 @@ impl Sender {
         self.kept.is_empty()
     }
 
+    /// How many of the unacknowledged packets were sent since the last replay, 0 to 2047.
+    pub fn sent(&self) -> usize
+        ensures value { result ≡ self.now.place }
+        ensures in_window { result ≤ length self.now.kept }
+    {
+        self.place
+    }
+
+    /// REPLAY_NUM, the replays since a packet was acknowledged, 0 to 3.
+    pub fn replay_num(&self) -> u8
+        ensures value { result ≡ self.now.replays }
+        ensures two_bits { result ≤ 3 }
+    {
+        self.replays
+    }
+
     /// Whether the sender takes no packet until an Ack comes.
     pub fn is_full(&self) -> bool
         ensures { IsTrue result ↔ (2047 ≤ length self.now.kept) }

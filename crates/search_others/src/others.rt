@@ -8,8 +8,8 @@ ghost use Rattle.search_places.specs.Places.{IsPlace};
 ghost use Rattle.search_others.specs.Spared.{Spares, Holds};
 
 use crate::known::Others;
-use byte_effects::laws::apart_requests_commute;
 use log_runs::Log;
+use search_effects::laws::apart_requests_commute;
 use search_places::Place;
 use search_places::laws::who_is_left_is_pending;
 use search_rules::laws::{answers_yield, nothing_is_put_outside};

@@ -9,7 +9,7 @@ use Rattle.tlp_core.specs.Operation.{is_posted}
 use Rattle.seq_memory.specs.declared.Reply.{Reply}
 use Rattle.seq_memory.specs.declared.Reply.TheVariants as replies
 use Rattle.seq_memory.specs.Limits.{Extent}
-use Rattle.byte_effects.specs.Effects.{Agrees, AreSameAt}
+use Rattle.search_effects.specs.Effects.{Agrees, AreSameAt}
 use Rattle.history_check.specs.Flaws.{same_reply}
 use Rattle.log_runs.specs.EventView.{EventView}
 use Rattle.log_runs.specs.EventView as events

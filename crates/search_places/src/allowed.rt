@@ -1,7 +1,7 @@
 //! Which steps may be taken.
 ghost use Rattle.std.specs.Prelude.{◌≡◌, ◌<◌, ◌≤◌, ◌↔◌, ℕ, IsTrue, slice_get, not};
 ghost use Rattle.std.specs.List.{list_any};
-ghost use Rattle.byte_effects.specs.Effects.{told_of};
+ghost use Rattle.search_effects.specs.Effects.{told_of};
 ghost use Rattle.history_check.specs.Flaws.{same_reply};
 ghost use Rattle.log_runs.specs.Runs.{MayPass, MayAct, reply_of};
 ghost use Rattle.search_places.specs.Pending.{blocks};
@@ -12,8 +12,8 @@ ghost use Rattle.search_places.specs.Ready as ready;
 
 use crate::bytes::reply_to;
 use crate::place::Place;
-use byte_effects::waits;
 use log_runs::{Event, Log};
+use search_effects::waits;
 use seq_memory::Reply;
 use tlp_core::Op;
 

@@ -5,7 +5,7 @@ ghost use Rattle.search_places.specs.Undo.{old_at};
 
 use arrayvec::ArrayVec;
 use log_runs::{Event, Log};
-use memory_undo::{put_back, reply, saved};
+use search_undo::{put_back, reply, saved};
 use seq_memory::{Reply, perform};
 use std::alloc::{AllocError, Global};
 use tlp_core::{MAX_PAYLOAD, Op};

@@ -6,7 +6,7 @@ use Rattle.tlp_core.specs.Operation.{address_of, count_of}
 use Rattle.seq_memory.specs.declared.Reply.{Reply}
 use Rattle.seq_memory.specs.Limits.{Extent}
 use Rattle.seq_memory.specs.Step.{refusal, after, answer}
-use Rattle.byte_effects.specs.Effects.{Agrees, AreSameAt}
+use Rattle.search_effects.specs.Effects.{Agrees, AreSameAt}
 use Rattle.log_runs.specs.EventView.{EventView}
 use Rattle.log_runs.specs.EventView as events
 use Rattle.log_runs.specs.LogView.{LogView}

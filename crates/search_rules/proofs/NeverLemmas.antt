@@ -13,7 +13,7 @@ use Rattle.seq_memory.specs.declared.Reply.{Reply}
 use Rattle.seq_memory.specs.declared.Reply.TheVariants as replies
 use Rattle.seq_memory.specs.Limits.{Extent}
 use Rattle.seq_memory.specs.Step.{after, answer, answer_by, bytes_at, read_back, refusal}
-use Rattle.byte_effects.specs.Effects.{Agrees, AreSameBut}
+use Rattle.search_effects.specs.Effects.{Agrees, AreSameBut}
 use Rattle.log_runs.specs.EventView.{EventView}
 use Rattle.log_runs.specs.EventView as events
 use Rattle.log_runs.specs.declared.Step.{Step}

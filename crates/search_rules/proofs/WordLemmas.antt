@@ -7,7 +7,7 @@ use Rattle.tlp_core.specs.Operation.{address_of, count_of}
 use Rattle.seq_memory.specs.declared.Reply.{Reply}
 use Rattle.seq_memory.specs.Limits.{Extent}
 use Rattle.seq_memory.specs.Step.{after, answer}
-use Rattle.byte_effects.specs.Effects.{Agrees, AreApart, AreSameAt, AreSameBut}
+use Rattle.search_effects.specs.Effects.{Agrees, AreApart, AreSameAt, AreSameBut}
 use Rattle.search_rules.specs.Junk.{Touches, word, HasAddresses, IsJunk, LeavesJunk}
 use Rattle.search_rules.proofs.FirstLemmas.{Others}
 

@@ -6,7 +6,7 @@ use Rattle.tlp_core.specs.Operation.{address_of, count_of}
 use Rattle.seq_memory.specs.declared.Reply.{Reply}
 use Rattle.seq_memory.specs.Limits.{Extent}
 use Rattle.seq_memory.specs.Step.{after}
-use Rattle.byte_effects.specs.Effects.{Agrees, AreApart, AreSameAt, AreSameBut}
+use Rattle.search_effects.specs.Effects.{Agrees, AreApart, AreSameAt, AreSameBut}
 
 -- the operation names bytes of word w
 abbrev pub Touches : ℕ → Op → ℕ → Type 0

@@ -4,7 +4,7 @@ use Rattle.tlp_core.specs.declared.operation.Op.{Op}
 use Rattle.seq_memory.specs.declared.Reply.{Reply}
 use Rattle.seq_memory.specs.Limits.{Extent}
 use Rattle.tlp_core.specs.Operation.{address_of, count_of, is_posted}
-use Rattle.byte_effects.specs.Effects.{AreApart, AreSameAt}
+use Rattle.search_effects.specs.Effects.{AreApart, AreSameAt}
 use Rattle.log_runs.specs.EventView.{EventView}
 use Rattle.log_runs.specs.EventView as events
 use Rattle.log_runs.specs.LogView.{LogView}

@@ -2,13 +2,13 @@
 ghost use Rattle.std.specs.Prelude.{ℕ, ◌≡◌, List, Some, None, false, IsTrue, IfSome, length};
 ghost use Rattle.seq_memory.specs.declared.Reply.{Reply};
 ghost use Rattle.seq_memory.specs.Step.{answer, answer_by, refusal};
-ghost use Rattle.byte_effects.specs.Effects.{told_of};
+ghost use Rattle.search_effects.specs.Effects.{told_of};
 ghost use Rattle.log_runs.specs.Runs.{Dead, reply_of, start};
 ghost use Rattle.search_rules.specs.Rules.{Answers, NeverSuits};
 
 use crate::laws::what_is_never_answered_is_dead;
-use byte_effects::never_gives;
 use log_runs::{Event, Log};
+use search_effects::never_gives;
 use seq_memory::{Refusal, Reply};
 use tlp_core::Op;
 
@@ -39,7 +39,7 @@ fn is_unanswerable(log: &Log, op: &Op, reply: &Reply) -> bool
     ensures { IsTrue result → (m : List ℕ) → length m ≡ log.now.extent.size → reply_of log.now.extent m op.now ≡ reply.now → ⊥ }
 {
     let extent = log.extent();
-    match memory_undo::refusal(extent.base(), extent.block(), extent.size(), op) {
+    match search_undo::refusal(extent.base(), extent.block(), extent.size(), op) {
         Some(refused) => !is_refusal(refused, reply),
         None => is_never_answered(op, reply),
     }

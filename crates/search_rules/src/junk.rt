@@ -4,14 +4,14 @@ ghost use Rattle.tlp_core.specs.declared.operation.Op.{Op};
 ghost use Rattle.seq_memory.specs.declared.Refusal.{Refusal};
 ghost use Rattle.seq_memory.specs.declared.Reply.{Reply};
 ghost use Rattle.seq_memory.specs.Step as step;
-ghost use Rattle.byte_effects.specs.Effects.{AreApart, told_of};
+ghost use Rattle.search_effects.specs.Effects.{AreApart, told_of};
 ghost use Rattle.log_runs.specs.EventView as events;
 ghost use Rattle.search_rules.specs.Rules.{IsJunkAt, LeavesJunkAt, IsWithin};
 ghost use Rattle.search_rules.specs.Junk as specs;
 
-use byte_effects::{are_apart, breaks, covers, sees_none, spans, waits};
 use log_runs::{Event, Log};
-use memory_undo::refusal;
+use search_effects::{are_apart, breaks, covers, sees_none, spans, waits};
+use search_undo::refusal;
 use seq_memory::Reply;
 use seq_memory::laws::refused_and_read_change_nothing;
 use tlp_core::Op;
@@ -36,7 +36,7 @@ fn writes_over(log: &Log, one: &Op, told: Option<&Reply>, other: &Op) -> bool
     if told.is_some() {
         return false;
     }
-    if byte_effects::is_quiet(log.extent().block(), one, told) {
+    if search_effects::is_quiet(log.extent().block(), one, told) {
         return true;
     }
     covers(one, other)

@@ -8,7 +8,7 @@ ghost use Rattle.log_runs.specs.LogView.{LogView};
 ghost use Rattle.log_runs.specs.Runs.{State, MayAct, Dead, IsForced, start};
 ghost use Rattle.search_rules.specs.Rules.{NeverBrings, NeverPuts, Yields, LetsFirst, IsOutside, IsLost, LacksByte, IsLast, IsFirst, IsOverJunk, ChangesNothing, NeverSuits};
 
-use byte_effects::laws::{a_request_sees_its_addresses, apart_requests_commute};
+use search_effects::laws::{a_request_sees_its_addresses, apart_requests_commute};
 use seq_memory::laws::only_the_place_changes;
 
 /// Where a request is lost, no run leads to the end.

@@ -4,14 +4,14 @@ ghost use Rattle.tlp_core.specs.declared.operation.Op.{Op};
 ghost use Rattle.tlp_core.specs.Operation.{address_of};
 ghost use Rattle.seq_memory.specs.declared.Reply.{Reply};
 ghost use Rattle.seq_memory.specs.Step.{answer};
-ghost use Rattle.byte_effects.specs.Effects.{Agrees, told_of};
+ghost use Rattle.search_effects.specs.Effects.{Agrees, told_of};
 ghost use Rattle.log_runs.specs.EventView as events;
 ghost use Rattle.log_runs.specs.Runs.{bytes_after};
 ghost use Rattle.search_rules.specs.Rules.{Answers, NeedsByte, NeverPuts};
 
-use byte_effects::is_needed;
-use byte_effects::laws::what_is_needed_is_there;
 use log_runs::{Event, Log};
+use search_effects::is_needed;
+use search_effects::laws::what_is_needed_is_there;
 use seq_memory::Reply;
 use tlp_core::Op;
 
@@ -72,7 +72,7 @@ fn keeps_byte(log: &Log, op: &Op, told: Option<&Reply>, need: Need) -> bool
     let Some(address) = extent.base().checked_add(need.place as u64) else {
         return false;
     };
-    byte_effects::never_puts(extent.block(), op, told, address, need.value)
+    search_effects::never_puts(extent.block(), op, told, address, need.value)
 }
 
 /// Right after request `b` acted the byte is as it has to be only if it was before.

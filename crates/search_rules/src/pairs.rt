@@ -3,14 +3,14 @@ ghost use Rattle.std.specs.Prelude.{ℕ, ◌≡◌, ◌⊎◌, List, Option, Som
 ghost use Rattle.tlp_core.specs.Operation.{is_posted};
 ghost use Rattle.seq_memory.specs.Limits.{IsBlock};
 ghost use Rattle.seq_memory.specs.Step.{after};
-ghost use Rattle.byte_effects.specs.Effects.{Agrees, AreApart, AreSameAt, told_of};
+ghost use Rattle.search_effects.specs.Effects.{Agrees, AreApart, AreSameAt, told_of};
 ghost use Rattle.log_runs.specs.EventView as events;
 ghost use Rattle.log_runs.specs.Runs.{bytes_after};
 ghost use Rattle.search_rules.specs.Rules.{Answers, Suits, Ends, NeverBrings, Yields, LetsFirst, Follows, ChangesNothing};
 
 use crate::junk::is_served;
-use byte_effects::{are_apart, waits};
 use log_runs::{Event, Log};
+use search_effects::{are_apart, waits};
 use seq_memory::Reply;
 use seq_memory::laws::refused_and_read_change_nothing;
 use tlp_core::Op;
@@ -21,7 +21,7 @@ fn keeps_out(block: u16, one: &Op, told: Option<&Reply>, other: &Op, asked: Opti
     ensures { IsTrue result → (base : ℕ) (m : List ℕ) → Agrees base block m one.now (told_of told.entry) → Agrees base block (after base block m one.now) other.now (told_of asked.entry) → Agrees base block m other.now (told_of asked.entry) }
 {
     match asked {
-        Some(reply) => byte_effects::never_brings(block, one, told, other, reply),
+        Some(reply) => search_effects::never_brings(block, one, told, other, reply),
         None => false,
     }
 }
@@ -58,7 +58,7 @@ fn gives_way(block: u16, one: &Op, told: Option<&Reply>, other: &Op, asked: Opti
     ensures order { IsTrue result → (base : ℕ) (m : List ℕ) → Agrees base block m one.now (told_of told.entry) → Agrees base block m other.now (told_of asked.entry) → (Agrees base block (after base block m one.now) other.now (told_of asked.entry) → ⊥) ⊎ (Agrees base block (after base block m one.now) other.now (told_of asked.entry) × Agrees base block (after base block m other.now) one.now (told_of told.entry) × (after base block (after base block m one.now) other.now ≡ after base block (after base block m other.now) one.now)) }
 {
     match asked {
-        Some(reply) => byte_effects::yields(block, one, told, other, reply),
+        Some(reply) => search_effects::yields(block, one, told, other, reply),
         None => false,
     }
 }
@@ -99,7 +99,7 @@ fn is_quiet(log: &Log, op: &Op, told: Option<&Reply>) -> bool
     if !is_served(log, op) {
         return true;
     }
-    byte_effects::is_quiet(log.extent().block(), op, told)
+    search_effects::is_quiet(log.extent().block(), op, told)
 }
 
 /// Wherever request `q` may act, it changes nothing: also where it isn't served.

@@ -1,5 +1,5 @@
 //! Worked logs.
-use history_search::{Sought, explained_before, search};
+use search_history::{Sought, explained_before, search};
 use std::alloc::Global;
 use std::test::Fail;
 use trace_text::read_trace;

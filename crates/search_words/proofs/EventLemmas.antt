@@ -7,7 +7,7 @@ use Rattle.tlp_core.specs.declared.operation.Op.{Op}
 use Rattle.tlp_core.specs.Operation.{address_of, count_of}
 use Rattle.seq_memory.specs.declared.Reply.{Reply}
 use Rattle.seq_memory.specs.Step.{after, answer}
-use Rattle.byte_effects.specs.Effects.{Agrees, told_of}
+use Rattle.search_effects.specs.Effects.{Agrees, told_of}
 use Rattle.log_runs.specs.declared.Event.{Event}
 use Rattle.log_runs.specs.declared.Event.TheVariants as lent
 use Rattle.log_runs.specs.EventView.{EventView, event_of}

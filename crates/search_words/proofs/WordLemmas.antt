@@ -7,8 +7,8 @@ use Rattle.tlp_core.specs.Operation.{address_of}
 use Rattle.seq_memory.specs.declared.Reply.{Reply}
 use Rattle.seq_memory.specs.Limits.{Extent}
 use Rattle.seq_memory.specs.Step.{refusal, after}
-use Rattle.byte_effects.specs.Effects as effects
-use Rattle.byte_effects.specs.Effects.{Agrees}
+use Rattle.search_effects.specs.Effects as effects
+use Rattle.search_effects.specs.Effects.{Agrees}
 use Rattle.log_runs.specs.EventView.{EventView}
 use Rattle.log_runs.specs.EventView as events
 use Rattle.log_runs.specs.LogView.{LogView}

@@ -5,7 +5,7 @@ use Rattle.tlp_core.specs.Operation.{address_of, count_of}
 use Rattle.seq_memory.specs.declared.Reply.{Reply}
 use Rattle.seq_memory.specs.Limits.{Extent}
 use Rattle.seq_memory.specs.Step.{after, refusal}
-use Rattle.byte_effects.specs.Effects.{Agrees}
+use Rattle.search_effects.specs.Effects.{Agrees}
 use Rattle.log_runs.specs.EventView as events
 use Rattle.log_runs.specs.LogView.{LogView}
 use Rattle.search_rules.specs.Junk.{Overlooks, Touches}

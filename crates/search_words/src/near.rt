@@ -12,8 +12,8 @@ ghost use Rattle.search_rules.specs.Rules.{NeverBrings, Yields, LetsFirst, Names
 
 use crate::lists::window;
 use crate::words::{Words, left_at, needed_at, number_of, place_of, value_in};
-use byte_effects::laws::what_takes_a_reply_away_yields;
 use log_runs::{Event, Log};
+use search_effects::laws::what_takes_a_reply_away_yields;
 use search_rules::is_served;
 use tlp_core::Op;
 

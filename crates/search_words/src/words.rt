@@ -7,17 +7,17 @@
 ghost use Rattle.std.specs.Prelude.{◌≡◌, ◌+◌, ◌*◌, ◌<◌, ◌≤◌, ◌/◌, ◌⊎◌, ℕ, List, Option, Some, None, true, IfOk, IfSome, OnOk, IsTrue, length, slice_get, slice_index, ◌-◌};
 ghost use Rattle.tlp_core.specs.Operation.{address_of, count_of};
 ghost use Rattle.seq_memory.specs.Step.{refusal, after};
-ghost use Rattle.byte_effects.specs.Effects as effects;
-ghost use Rattle.byte_effects.specs.Effects.{Agrees, told_of};
+ghost use Rattle.search_effects.specs.Effects as effects;
+ghost use Rattle.search_effects.specs.Effects.{Agrees, told_of};
 ghost use Rattle.log_runs.specs.EventView as events;
 ghost use Rattle.search_rules.specs.Junk.{Touches};
 ghost use Rattle.search_words.specs.Lists.{Has, InList};
 ghost use Rattle.search_words.specs.Words.{value_in, NeedsWord, LeavesWord, HasWholeWords, IsCareless, IsKnownAt, IsTaken, AllRise, Keeps, AreWords, IsWords, key};
 
 use crate::lists::Lists;
-use byte_effects::laws::what_is_needed_is_there;
-use byte_effects::{is_needed, is_put, left};
 use log_runs::{Event, Log};
+use search_effects::laws::what_is_needed_is_there;
+use search_effects::{is_needed, is_put, left};
 use search_rules::overlooks;
 use seq_memory::Reply;
 use seq_memory::laws::refused_and_read_change_nothing;

@@ -1,8 +1,8 @@
 use Rattle.std.proofs.Common.{◌≡◌, ◌∙◌, ◌++◌, ◌<◌, ℕ, List, length, take, sym, ap, Option, arith}
 use Rattle.std.specs.Prelude.{replicate}
 use Rattle.chart_rows.specs.declared.row.PacketSent.{PacketSent}
-use Rattle.link_chart.specs.CourseView.{quiet}
-use Rattle.link_chart.specs.ChartView.{ChartView, new_chart}
+use Rattle.chart_links.specs.CourseView.{quiet}
+use Rattle.chart_links.specs.ChartView.{ChartView, new_chart}
 use Rattle.chart_laws.specs.Arrows.{beginnings, sendings}
 use Rattle.chart_laws.proofs.Wires.{arrows, nothing_sent}
 use Rattle.chart_laws.proofs.arrows_begin_where_packets_were_sent.Goals as goal

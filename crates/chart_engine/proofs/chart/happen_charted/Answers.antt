@@ -2,7 +2,7 @@ use Rattle.std.proofs.Common.{◌∙◌, sym, ap, Result}
 use Rattle.fabric_laws.specs.Fabric.{Fabric}
 use Rattle.fabric_core.specs.declared.event.Seen.{Seen}
 use Rattle.fabric_core.specs.declared.fault.Refusal.{Refusal}
-use Rattle.link_chart.specs.ChartView.{ChartView, refused}
+use Rattle.chart_links.specs.ChartView.{ChartView, refused}
 use Rattle.chart_engine.specs.Chart.{session, left_by, refusal_in}
 use Rattle.chart_engine.proofs.chart.happen_charted.Goals as goal
 

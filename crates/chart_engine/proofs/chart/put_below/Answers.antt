@@ -1,7 +1,7 @@
 use Rattle.std.proofs.Common.{◌∙◌, ◌++◌, Option, sym, ap}
 use Rattle.std.proofs.lemmas.Result.{on_ok_weaker}
 use Rattle.chart_page.specs.Shapes.{chart_text}
-use Rattle.link_chart.specs.ChartView.{page_of, titled}
+use Rattle.chart_links.specs.ChartView.{page_of, titled}
 use Rattle.chart_engine.specs.declared.chart.Session.{Session}
 use Rattle.chart_engine.specs.Chart.{text_below}
 use Rattle.chart_engine.proofs.chart.put_below.Goals as goal

@@ -1,7 +1,7 @@
 use Rattle.std.proofs.Common.{subst}
-use Rattle.history_search.specs.Answers.{IsFound, IsNone}
-use Rattle.history_search.specs.declared.searching.Sought.{Sought}
-use Rattle.history_search.specs.declared.searching.Sought.TheVariants as answers
+use Rattle.search_history.specs.Answers.{IsFound, IsNone}
+use Rattle.search_history.specs.declared.searching.Sought.{Sought}
+use Rattle.search_history.specs.declared.searching.Sought.TheVariants as answers
 use Rattle.search_engine.proofs.SizeLemmas.{alike_in_whole, unexplained_in_whole}
 use Rattle.search_engine.proofs.answering.sought.Goals as goal
 

@@ -1,5 +1,5 @@
 use Rattle.std.proofs.Common.{ap}
-use Rattle.byte_effects.specs.Effects.{told_of}
+use Rattle.search_effects.specs.Effects.{told_of}
 use Rattle.search_rules.proofs.answers.was_unanswerable.Goals as goal
 
 pub returns-in-Some : goal.returns-in-Some

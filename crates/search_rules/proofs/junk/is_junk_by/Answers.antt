@@ -1,5 +1,5 @@
 use Rattle.std.proofs.Common.{subst}
-use Rattle.byte_effects.specs.Effects.{told_of}
+use Rattle.search_effects.specs.Effects.{told_of}
 use Rattle.search_rules.specs.Junk.{IsJunk}
 use Rattle.search_rules.proofs.junk.is_junk_by.Goals as goal
 

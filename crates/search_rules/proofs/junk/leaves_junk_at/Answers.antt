@@ -1,4 +1,4 @@
-use Rattle.byte_effects.specs.Effects.{told_of}
+use Rattle.search_effects.specs.Effects.{told_of}
 use Rattle.search_rules.proofs.PairLemmas.{sub_at}
 use Rattle.search_rules.proofs.MissLemmas.{leaves_at}
 use Rattle.search_rules.proofs.junk.leaves_junk_at.Goals as goal

@@ -1,6 +1,6 @@
 use Rattle.std.proofs.Common.{◌∙◌, ap}
 use Rattle.seq_memory.specs.Limits.{Extent}
-use Rattle.byte_effects.specs.Effects.{told_of}
+use Rattle.search_effects.specs.Effects.{told_of}
 use Rattle.search_rules.proofs.MissLemmas.{left_by}
 use Rattle.search_rules.proofs.junk.misses_left.Goals as goal
 

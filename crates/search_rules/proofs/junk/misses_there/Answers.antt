@@ -1,4 +1,4 @@
-use Rattle.byte_effects.specs.Effects.{told_of}
+use Rattle.search_effects.specs.Effects.{told_of}
 use Rattle.search_rules.proofs.MissLemmas.{left_among}
 use Rattle.search_rules.proofs.junk.misses_there.Goals as goal
 

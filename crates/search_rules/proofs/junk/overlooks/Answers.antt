@@ -1,4 +1,4 @@
-use Rattle.byte_effects.specs.Effects.{told_of}
+use Rattle.search_effects.specs.Effects.{told_of}
 use Rattle.search_rules.proofs.NeverLemmas.{unserved_overlooks, unseen_overlooks}
 use Rattle.search_rules.proofs.junk.overlooks.Goals as goal
 

@@ -1,6 +1,6 @@
 use Rattle.std.proofs.Common.{◌≡◌, ◌∙◌, ◌+◌, ap, sym}
 use Rattle.seq_memory.specs.Limits.{Extent}
-use Rattle.byte_effects.specs.Effects.{told_of}
+use Rattle.search_effects.specs.Effects.{told_of}
 use Rattle.search_rules.proofs.ByteLemmas.{puts_by}
 use Rattle.search_rules.proofs.missing.keeps_byte.Goals as goal
 

@@ -1,6 +1,6 @@
 use Rattle.std.proofs.Common.{◌∙◌, ap}
 use Rattle.seq_memory.specs.Limits.{Extent}
-use Rattle.byte_effects.specs.Effects.{told_of}
+use Rattle.search_effects.specs.Effects.{told_of}
 use Rattle.search_rules.proofs.PairLemmas.{sub_at}
 use Rattle.search_rules.proofs.ByteLemmas.{needs_some, placed_some}
 use Rattle.search_rules.proofs.missing.need_at.Goals as goal

@@ -1,7 +1,7 @@
 use Rattle.std.proofs.Common.{◌≡◌, ◌∙◌, ◌+◌, ◌-◌, ◌<◌, ℕ, List, length, true, ap, sym, arith}
 use Rattle.std.specs.Prelude.{slice_index}
 use Rattle.tlp_core.specs.Operation.{address_of}
-use Rattle.byte_effects.specs.Effects.{is_needed}
+use Rattle.search_effects.specs.Effects.{is_needed}
 use Rattle.search_rules.proofs.missing.need_for.Goals as goal
 
 pub returns-clause-value : goal.returns-clause-value

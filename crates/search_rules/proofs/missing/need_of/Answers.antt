@@ -1,5 +1,5 @@
 use Rattle.std.proofs.Common.{ap}
-use Rattle.byte_effects.specs.Effects.{told_of}
+use Rattle.search_effects.specs.Effects.{told_of}
 use Rattle.search_rules.proofs.ByteLemmas.{need_by}
 use Rattle.search_rules.proofs.missing.need_of.Goals as goal
 

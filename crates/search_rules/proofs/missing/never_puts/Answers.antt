@@ -1,4 +1,4 @@
-use Rattle.byte_effects.specs.Effects.{told_of}
+use Rattle.search_effects.specs.Effects.{told_of}
 use Rattle.search_rules.proofs.PairLemmas.{sub_at, due_is_idle, free_is_idle}
 use Rattle.search_rules.proofs.ByteLemmas.{puts_at, idle_puts}
 use Rattle.search_rules.proofs.missing.never_puts.Goals as goal

@@ -1,5 +1,5 @@
 use Rattle.std.specs.Prelude.{slice_get}
-use Rattle.byte_effects.specs.Effects.{told_of}
+use Rattle.search_effects.specs.Effects.{told_of}
 use Rattle.search_rules.proofs.PairLemmas.{sub_at}
 use Rattle.search_rules.proofs.NeverLemmas.{quiet_at}
 use Rattle.search_rules.proofs.pairs.changes_nothing.Goals as goal

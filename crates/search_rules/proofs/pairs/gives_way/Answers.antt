@@ -1,6 +1,6 @@
 use Rattle.std.proofs.Common.{◌∙◌, ap, sym}
 use Rattle.std.proofs.lemmas.Option.{same_Some}
-use Rattle.byte_effects.specs.Effects.{told_of}
+use Rattle.search_effects.specs.Effects.{told_of}
 use Rattle.search_rules.proofs.PairLemmas.{way_of}
 use Rattle.search_rules.proofs.pairs.gives_way.Goals as goal
 

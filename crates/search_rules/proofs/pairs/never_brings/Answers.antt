@@ -1,4 +1,4 @@
-use Rattle.byte_effects.specs.Effects.{told_of}
+use Rattle.search_effects.specs.Effects.{told_of}
 use Rattle.search_rules.proofs.PairLemmas.{sub_at, due_is_idle, free_is_idle, brings_at, idle_brings}
 use Rattle.search_rules.proofs.pairs.never_brings.Goals as goal
 

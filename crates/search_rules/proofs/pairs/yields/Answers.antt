@@ -1,4 +1,4 @@
-use Rattle.byte_effects.specs.Effects.{told_of}
+use Rattle.search_effects.specs.Effects.{told_of}
 use Rattle.search_rules.proofs.PairLemmas.{sub_at, due_is_idle, free_is_idle, brings_at, yields_at, idle_brings, idle_yields}
 use Rattle.search_rules.proofs.pairs.yields.Goals as goal
 

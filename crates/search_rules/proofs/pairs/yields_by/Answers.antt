@@ -1,7 +1,7 @@
 use Rattle.std.proofs.Common.{◌∙◌, ap}
 use Rattle.std.specs.Prelude.{slice_get}
 use Rattle.seq_memory.specs.Limits.{Extent}
-use Rattle.byte_effects.specs.Effects.{told_of}
+use Rattle.search_effects.specs.Effects.{told_of}
 use Rattle.search_rules.proofs.PairLemmas.{sub_at, brings_by, yields_by}
 use Rattle.search_rules.proofs.pairs.yields_by.Goals as goal
 

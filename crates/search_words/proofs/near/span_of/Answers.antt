@@ -1,5 +1,5 @@
 use Rattle.std.proofs.Common.{◌∙◌, ◌+◌, ◌/◌, ap, arith}
-use Rattle.byte_effects.specs.Effects.{told_of}
+use Rattle.search_effects.specs.Effects.{told_of}
 use Rattle.seq_memory.specs.Limits.{Extent}
 use Rattle.search_words.proofs.EventLemmas.{sub_at}
 use Rattle.search_words.proofs.NearLemmas.{named_by, own_words}

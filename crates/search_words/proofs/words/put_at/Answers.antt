@@ -1,6 +1,6 @@
 use Rattle.std.proofs.Common.{◌∙◌, ap}
 use Rattle.seq_memory.specs.Limits.{Extent}
-use Rattle.byte_effects.specs.Effects.{told_of}
+use Rattle.search_effects.specs.Effects.{told_of}
 use Rattle.search_words.proofs.WordLemmas.{leaves_by}
 use Rattle.search_words.proofs.words.put_at.Goals as goal
 

@@ -1,6 +1,6 @@
 use Rattle.std.proofs.Common.{subst}
 use Rattle.std.specs.Prelude.{IfSome}
-use Rattle.byte_effects.specs.Effects.{told_of}
+use Rattle.search_effects.specs.Effects.{told_of}
 use Rattle.search_words.specs.Words.{NeedsWord, LeavesWord}
 use Rattle.search_words.proofs.WordLemmas.{keeps_then, known_by}
 use Rattle.search_words.proofs.words.Words.add_at.Goals as goal

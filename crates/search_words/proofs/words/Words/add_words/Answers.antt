@@ -1,5 +1,5 @@
 use Rattle.std.proofs.Common.{arith}
-use Rattle.byte_effects.specs.Effects.{told_of}
+use Rattle.search_effects.specs.Effects.{told_of}
 use Rattle.search_words.proofs.WordLemmas.{keeps_then, words_next}
 use Rattle.search_words.proofs.words.Words.add_words.Goals as goal
 

@@ -1,5 +1,5 @@
 use Rattle.std.proofs.Common.{ℕ, ◌<◌, ◌≤◌}
-use Rattle.byte_effects.specs.Effects.{told_of}
+use Rattle.search_effects.specs.Effects.{told_of}
 use Rattle.search_words.specs.Words.{IsKnownAt, AllRise, Keeps}
 use Rattle.search_words.proofs.words.Words.add_words.Given as goal
 

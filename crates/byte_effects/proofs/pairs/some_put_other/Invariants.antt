@@ -1,4 +1,0 @@
-use Rattle.byte_effects.proofs.pairs.some_put_other.Given as goal
-
-abbrev pub invariant-loop-at : goal.invariant-loop-at
-invariant-loop-at l = Unit {0}

@@ -1,0 +1,129 @@
+-- What happened on the links of a fabric so far, as a chart.
+use Rattle.std.specs.Prelude.{ℕ, ◌+◌, ◌-◌, ◌^◌, min, nat_lt, Bool, true, false, if◌then◌else◌, List, [], ◌∷◌, ◌++◌, length, replicate, Option, Some, None, Result, Ok, Err}
+use Rattle.fabric_core.specs.declared.event.Event.{Event}
+use Rattle.fabric_core.specs.declared.event.Seen.{Seen}
+use Rattle.fabric_core.specs.declared.event.LaneName.{LaneName}
+use Rattle.fabric_core.specs.declared.fault.Refusal.{Refusal}
+use Rattle.chart_rows.specs.declared.row.Row.{Row}
+use Rattle.chart_rows.specs.declared.row.PacketSent.{PacketSent}
+use Rattle.chart_rows.specs.declared.row.DllpSent.{DllpSent}
+use Rattle.chart_rows.specs.declared.row.Flying.{Flying}
+use Rattle.chart_rows.specs.declared.row.Flying.TheVariants as flying
+use Rattle.chart_rows.specs.declared.row.Open.{Open}
+use Rattle.chart_rows.specs.declared.row.Deed.{Deed}
+use Rattle.chart_rows.specs.declared.row.Deed.TheVariants as deeds
+use Rattle.chart_rows.specs.PageView.{PageView}
+use Rattle.chart_links.specs.declared.window.ChartWindow.{ChartWindow}
+use Rattle.chart_links.specs.declared.window.Place.{Place}
+use Rattle.chart_links.specs.declared.window.Place.TheVariants as places
+use Rattle.chart_links.specs.Window.{place_of, absent_words}
+use Rattle.chart_links.specs.CourseView.{CourseView, quiet}
+use Rattle.chart_links.specs.Lanes.{Moved, followed, lane_at}
+
+pub record ChartView : Type 0 where
+  pub window : ChartWindow
+  -- `in`, `up1` to `up7`, `out`, `down1` to `down7`
+  pub courses : List CourseView
+  pub page : PageView
+
+abbrev pub empty_page : ℕ → PageView
+empty_page requesters = record { requesters = requesters; rows = []; opens = []; before = 0; after = 0 }
+
+-- a fabric with so many requesters, to which nothing has happened
+abbrev pub new_chart : ChartWindow → ℕ → ChartView
+new_chart window requesters = record { window = window; courses = replicate 16 quiet; page = empty_page requesters }
+
+-- ---- where an event goes
+
+-- a count of 64 bits
+abbrev pub one_more : ℕ → ℕ
+one_more n = min (n + 1) (2 ^ 64 - 1)
+
+-- the row of an event, if it is shown
+abbrev pub row_at : Place → ℕ → Option ℕ
+row_at places.Shown row = Some row
+row_at _ row = None
+
+-- one event more that isn't shown, before the rows or after them
+abbrev pub counted : Place → PageView → PageView
+counted places.Before p = record p { before = one_more p.before }
+counted places.After p = record p { after = one_more p.after }
+counted _ p = p
+
+-- ---- what is drawn
+
+abbrev pub opened_at : LaneName → Flying → Option ℕ → List Open
+opened_at lane what None = []
+opened_at lane what (Some row) = record { lane = lane; what = what; row = row } ∷ []
+
+abbrev pub opened_packet : LaneName → PacketSent → List Open
+opened_packet lane p = opened_at lane (flying.Packet p.number p.carried) p.row
+
+abbrev pub opened_dllp : LaneName → DllpSent → List Open
+opened_dllp lane d = opened_at lane (flying.Dllp d.dllp) d.row
+
+-- what was sent in a row that is shown, and arrives in one that isn't
+abbrev pub opened : Deed → List Open
+opened (deeds.Arrived lane fate arrival (Some p)) = opened_packet lane p
+opened (deeds.ArrivedDllp lane fate (Some d) replay) = opened_dllp lane d
+opened _ = []
+
+-- an event gets a row, or it ends what was sent in one
+abbrev pub drawn : Option ℕ → Row → PageView → PageView
+drawn (Some row) r p = record p { rows = p.rows ++ r ∷ [] }
+drawn None r p = record p { opens = p.opens ++ opened r.deed }
+
+abbrev pub row_of : ℕ → Event → Result Seen Refusal → Deed → Row
+row_of line event outcome deed = record { line = line; event = event; outcome = outcome; deed = deed }
+
+abbrev pub follows : ChartView → Place → ℕ → Event → Seen → Moved → ChartView
+follows v place line event what m = record v {
+  courses = m.courses;
+  page = drawn (row_at place (length v.page.rows)) (row_of line event (Ok what) m.deed) (counted place v.page);
+}
+
+abbrev pub placed : ChartView → Place → ℕ → Event → Seen → ChartView
+placed v place line event what = follows v place line event what (followed v.courses (row_at place (length v.page.rows)) event what)
+
+-- an event of that line of the script happened, and this was seen of it
+abbrev pub charted : ChartView → ℕ → Event → Seen → ChartView
+charted v line event what = placed v (place_of v.window (length v.page.rows) line event) line event what
+
+abbrev pub refused_at : ChartView → Place → ℕ → Event → Refusal → ChartView
+refused_at v place line event r = record v {
+  page = drawn (row_at place (length v.page.rows)) (row_of line event (Err r) deeds.Nothing) (counted place v.page);
+}
+
+-- it was refused
+abbrev pub refused : ChartView → ℕ → Event → Refusal → ChartView
+refused v line event r = refused_at v (place_of v.window (length v.page.rows) line event) line event r
+
+-- ---- the end
+
+-- what is still on a wire
+abbrev pub left_of_wire : LaneName → List PacketSent → List Open
+left_of_wire lane [] = []
+left_of_wire lane (p ∷ ps) = opened_packet lane p ++ left_of_wire lane ps
+
+abbrev pub left_of_back : LaneName → List DllpSent → List Open
+left_of_back lane [] = []
+left_of_back lane (d ∷ ds) = opened_dllp lane d ++ left_of_back lane ds
+
+abbrev pub left_of : LaneName → CourseView → List Open
+left_of lane c = left_of_wire lane c.wire ++ left_of_back lane c.back
+
+-- on the wires of each lane, from this place of the list on
+abbrev pub left : ℕ → List CourseView → List Open
+left place [] = []
+left place (c ∷ cs) = left_of (lane_at place) c ++ left (place + 1) cs
+
+abbrev pub with_left : List CourseView → PageView → PageView
+with_left cs p = record p { opens = p.opens ++ left 0 cs }
+
+-- the page of a chart
+abbrev pub page_of : ChartView → PageView
+page_of v = with_left v.courses v.page
+
+-- the line above a chart
+abbrev pub titled : ChartView → List ℕ → List ℕ
+titled v title = title ++ absent_words v.window.lane v.page.requesters

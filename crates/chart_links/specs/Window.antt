@@ -1,0 +1,60 @@
+-- Which events are shown.
+use Rattle.std.specs.Prelude.{ℕ, ◌==◌, ◌&&◌, nat_lt, nat_le, Bool, true, false, if◌then◌else◌, List, [], codes, Option, Some, None}
+use Rattle.fabric_core.specs.declared.event.Event.{Event}
+use Rattle.fabric_core.specs.declared.event.Event.TheVariants as events
+use Rattle.fabric_core.specs.declared.event.LaneName.{LaneName}
+use Rattle.fabric_core.specs.declared.event.LaneName.TheVariants as lanes
+use Rattle.chart_links.specs.declared.window.ChartWindow.{ChartWindow}
+use Rattle.chart_links.specs.declared.window.Place.{Place}
+use Rattle.chart_links.specs.declared.window.Place.TheVariants as places
+
+-- the lane that an event is of
+abbrev pub lane_of : Event → Option LaneName
+lane_of (events.Submit port op) = None
+lane_of (events.Transmit lane) = Some lane
+lane_of (events.Deliver lane fate) = Some lane
+lane_of (events.SendDllp lane kind) = Some lane
+lane_of (events.DeliverDllp lane fate) = Some lane
+lane_of (events.Timer lane) = Some lane
+lane_of (events.Retrained lane) = Some lane
+lane_of (events.Forward lane place) = Some lane
+lane_of (events.Serve place) = None
+lane_of (events.Collect port) = None
+
+abbrev pub is_same : LaneName → LaneName → Bool
+is_same (lanes.Up port) (lanes.Up same) = port == same
+is_same (lanes.Down port) (lanes.Down same) = port == same
+is_same lanes.Inward lanes.Inward = true
+is_same lanes.Outward lanes.Outward = true
+is_same _ _ = false
+
+abbrev pub is_of : LaneName → Option LaneName → Bool
+is_of lane None = false
+is_of lane (Some other) = is_same lane other
+
+-- every event is, or those of one lane
+abbrev pub is_chosen : Option LaneName → Event → Bool
+is_chosen None event = true
+is_chosen (Some lane) event = is_of lane (lane_of event)
+
+-- the lanes of a fabric with so many requesters
+abbrev pub has_lane : ℕ → LaneName → Bool
+has_lane n (lanes.Up port) = nat_le 1 port && nat_le port n
+has_lane n (lanes.Down port) = nat_le 1 port && nat_le port n
+has_lane n lanes.Inward = true
+has_lane n lanes.Outward = true
+
+-- what is said of a lane that the fabric doesn't have
+abbrev pub absent_words : Option LaneName → ℕ → List ℕ
+absent_words None n = []
+absent_words (Some lane) n = if has_lane n lane then [] else codes "; the fabric lacks the chosen lane"
+
+-- where an event of a line goes, after so many rows
+abbrev pub place_in : ChartWindow → ℕ → ℕ → Place
+place_in w rows line =
+    if nat_lt line w.from then places.Before
+    else (if nat_lt w.to line then places.After
+    else (if nat_lt rows 1000 then places.Shown else places.After))
+
+abbrev pub place_of : ChartWindow → ℕ → ℕ → Event → Place
+place_of w rows line event = if is_chosen w.lane event then place_in w rows line else places.Hidden

@@ -1,0 +1,129 @@
+//! Which events are shown.
+ghost use Rattle.std.specs.Prelude.{◌≡◌, ◌<◌, length};
+ghost use Rattle.chart_links.specs.Window as spec;
+
+use fabric_core::{Event, LaneName};
+
+/// Which events are shown.
+#[derive(Clone, Copy, Debug, PartialEq, Eq)]
+pub struct ChartWindow {
+    /// The lane whose events alone are shown; None shows all.
+    pub lane: Option<LaneName>,
+    /// The first line of the script whose events are shown, from 1 on.
+    pub from: u64,
+    /// The last one.
+    pub to: u64,
+}
+
+/// The lane that an event is of.
+fn lane_of(event: &Event) -> Option<LaneName>
+    ensures { result ≡ spec.lane_of event.now }
+{
+    match event {
+        Event::Transmit(lane) => Some(*lane),
+        Event::Deliver(lane, _) => Some(*lane),
+        Event::SendDllp(lane, _) => Some(*lane),
+        Event::DeliverDllp(lane, _) => Some(*lane),
+        Event::Timer(lane) => Some(*lane),
+        Event::Retrained(lane) => Some(*lane),
+        Event::Forward(lane, _) => Some(*lane),
+        Event::Submit(_, _) | Event::Serve(_) | Event::Collect(_) => None,
+    }
+}
+
+/// Whether two are the same lane.
+fn is_same(one: LaneName, other: LaneName) -> bool
+    ensures { result ≡ spec.is_same one other }
+{
+    match (one, other) {
+        (LaneName::Up(port), LaneName::Up(same)) => port == same,
+        (LaneName::Down(port), LaneName::Down(same)) => port == same,
+        (LaneName::Inward, LaneName::Inward) => true,
+        (LaneName::Outward, LaneName::Outward) => true,
+        _ => false,
+    }
+}
+
+/// Whether the event is of a lane that is shown.
+pub(crate) fn is_chosen(lane: Option<LaneName>, event: &Event) -> bool
+    ensures { result ≡ spec.is_chosen lane event.now }
+{
+    let Some(lane) = lane else {
+        return true;
+    };
+    match lane_of(event) {
+        None => false,
+        Some(of) => is_same(lane, of),
+    }
+}
+
+/// Whether a fabric with so many requesters has the lane.
+fn has_lane(requesters: u8, lane: LaneName) -> bool
+    ensures { result ≡ spec.has_lane requesters lane }
+{
+    match lane {
+        LaneName::Up(port) => 1 <= port && port <= requesters,
+        LaneName::Down(port) => 1 <= port && port <= requesters,
+        LaneName::Inward | LaneName::Outward => true,
+    }
+}
+
+/// What is said of a lane that a fabric with so many requesters doesn't have.
+pub(crate) fn absent_words(lane: Option<LaneName>, requesters: u8) -> &'static str
+    ensures { result.now ≡ spec.absent_words lane requesters }
+{
+    let Some(lane) = lane else {
+        return "";
+    };
+    if has_lane(requesters, lane) {
+        ""
+    } else {
+        "; the fabric lacks the chosen lane"
+    }
+}
+
+/// Where an event goes.
+#[derive(Clone, Copy, Debug, PartialEq, Eq)]
+pub(crate) enum Place {
+    /// It is of no lane that is shown.
+    Hidden,
+    /// It isn't shown, and comes before the rows.
+    Before,
+    /// It is the next row.
+    Shown,
+    /// It isn't shown, and comes after the rows.
+    After,
+}
+
+/// The most rows of a chart.
+const MOST_ROWS: usize = 1_000;
+
+impl ChartWindow {
+    /// Where an event of a line goes, after so many rows.
+    fn place_in(&self, rows: usize, line: u64) -> Place
+        ensures place { result ≡ spec.place_in self.now rows line }
+        ensures shown { result ≡ Place.Shown → rows < 1000 }
+    {
+        if line < self.from {
+            Place::Before
+        } else if self.to < line {
+            Place::After
+        } else if rows < MOST_ROWS {
+            Place::Shown
+        } else {
+            Place::After
+        }
+    }
+
+    /// Where an event goes.
+    pub(crate) fn place_of(&self, rows: usize, line: u64, event: &Event) -> Place
+        ensures place { result ≡ spec.place_of self.now rows line event.now }
+        ensures shown { result ≡ Place.Shown → rows < 1000 }
+    {
+        if is_chosen(self.lane, event) {
+            self.place_in(rows, line)
+        } else {
+            Place::Hidden
+        }
+    }
+}

@@ -1,6 +1,0 @@
-use Rattle.history_search.proofs.Prefixing.{none_from_dead}
-use Rattle.history_search.proofs.judging.judged.Goals as goal
-
-pub returns-clause-none : goal.returns-clause-none
-returns-clause-none c = λ dead.
-    none_from_dead c.args.trace.now c.args.count c.in_ok-log.log c.explainable_has_a_run.ensures c.in_ok-log.ensures.events c.in_ok-log.ensures.extent (c.in_ok-found.ensures.dead dead)

@@ -1,6 +1,0 @@
-use Rattle.std.proofs.Common.{◌≡◌, ◌++◌, drop}
-use Rattle.link_chart.specs.ChartView.{left_of_back}
-use Rattle.link_chart.proofs.left.add_back.Given as goal
-
-abbrev pub invariant-loop-place : goal.invariant-loop-place
-invariant-loop-place l = l.opens.items ++ left_of_back l.lane (drop l.place l.back.items) ≡ l.fn.opens.items ++ left_of_back l.lane l.back.items

@@ -1,6 +1,0 @@
-use Rattle.std.proofs.Common.{◌≡◌, ◌++◌, drop}
-use Rattle.link_chart.specs.ChartView.{left}
-use Rattle.link_chart.proofs.left.add_left.Given as goal
-
-abbrev pub invariant-loop-place : goal.invariant-loop-place
-invariant-loop-place l = l.opens.items ++ left l.place (drop l.place l.courses) ≡ l.fn.opens.items ++ left 0 l.courses

@@ -1,5 +1,0 @@
-use Rattle.port_monitor.proofs.Calls.{submission_is}
-use Rattle.port_monitor.proofs.laws.a_submission_has_the_packets_operation.Goals as goal
-
-pub returns : goal.returns
-returns c = submission_is

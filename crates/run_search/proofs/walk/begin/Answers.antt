@@ -1,9 +1,0 @@
-use Rattle.run_search.proofs.FrameLemmas.{begun}
-use Rattle.run_search.proofs.walk.begin.Goals as goal
-
-pub returns : goal.returns
-returns c = record {
-  path = begun c.args.log.now c.new.result.frames c.new.result.done c.in_ok-first.field-0.state c.new.ensures.frames c.new.ensures.done c.in_ok-first.ensures.state;
-  place = c.in_ok-first.ensures.place;
-  known = c.new-2.ensures c.args.log.now;
-}

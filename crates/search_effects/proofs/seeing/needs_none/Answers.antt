@@ -1,0 +1,5 @@
+use Rattle.std.proofs.Common.{arith}
+use Rattle.search_effects.proofs.seeing.needs_none.Goals as goal
+
+pub returns : goal.returns
+returns c = λ yes at l. c.loop-at.invariant at (omega (arith, l, c.loop-at-test.false))

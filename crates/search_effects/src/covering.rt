@@ -1,0 +1,55 @@
+//! Writes over all bytes of another request.
+ghost use Rattle.std.specs.Prelude.{◌≡◌, ◌+◌, ◌<◌, ◌≤◌, ℕ, true, None, List, length, IsTrue};
+ghost use Rattle.arrayvec.specs.ArrayVec.{ArrayVec};
+ghost use Rattle.tlp_core.specs.Operation.{address_of, count_of};
+ghost use Rattle.tlp_core.specs.declared.operation.Op.TheVariants as ops;
+ghost use Rattle.seq_memory.specs.Step.{refusal, after};
+ghost use Rattle.search_effects.specs.Effects as effects;
+ghost use Rattle.search_effects.specs.Effects.{AreSameBut};
+
+use crate::ranges::is_put;
+use seq_memory::laws::only_the_place_changes;
+use tlp_core::Op;
+
+fn is_write(op: &Op) -> bool
+    ensures { IsTrue result → (a : ℕ) × (f : ℕ) × (l : ℕ) × (bytes : ArrayVec ℕ) × (op.now ≡ ops.Write a f l bytes) }
+{
+    matches!(op, Op::Write { .. })
+}
+
+/// The operation writes each byte of its range.
+fn puts_all(op: &Op) -> bool
+    ensures { IsTrue result → (at : ℕ) → at < count_of op.now → effects.is_put op.now at ≡ true }
+{
+    for at in 0..op.size() as usize {
+        if !is_put(op, at) {
+            return false;
+        }
+    }
+    true
+}
+
+/// The first has all addresses of the second.
+pub fn spans(one: &Op, other: &Op) -> bool
+    ensures low { IsTrue result → address_of one.now ≤ address_of other.now }
+    ensures high { IsTrue result → address_of other.now + count_of other.now ≤ address_of one.now + count_of one.now }
+{
+    let (a, b) = (one.address(), other.address());
+    let (count, inner) = (u64::from(one.size()), u64::from(other.size()));
+    a <= b && inner <= count && b - a <= count - inner
+}
+
+/// The first is a write of all bytes of the second: where it is served, it makes no difference what
+/// stood there.
+pub fn covers(one: &Op, other: &Op) -> bool
+    ensures { IsTrue result → (base block : ℕ) (m n : List ℕ) → refusal base (length m) block one.now ≡ None → AreSameBut base other.now m n → after base block n one.now ≡ after base block m one.now }
+{
+    only_the_place_changes();
+    if !is_write(one) {
+        return false;
+    }
+    if !spans(one, other) {
+        return false;
+    }
+    puts_all(one)
+}

@@ -1,0 +1,63 @@
+//! Requests that don't find what they need.
+ghost use Rattle.std.specs.Prelude.{◌≡◌, ◌+◌, ◌-◌, ◌<◌, ◌≤◌, ◌≢◌, ℕ, true, List, length, IsTrue, slice_index};
+ghost use Rattle.tlp_core.specs.Operation.{address_of, count_of};
+ghost use Rattle.seq_memory.specs.Step.{answer};
+ghost use Rattle.search_effects.specs.Effects as effects;
+ghost use Rattle.search_effects.specs.Effects.{Agrees, AreSameAt, told_of};
+
+use crate::laws::what_is_needed_is_there;
+use crate::ranges::{index_of, is_needed, place_in};
+use seq_memory::Reply;
+use tlp_core::Op;
+
+/// At place `at` of the first operation, which is in the second's range, stands another byte than the
+/// first needs.
+fn differs(base: u64, bytes: &[u8], one: &Op, old: &[u8], other: &Op, at: usize) -> bool
+    ensures { IsTrue result → (base ≤ address_of one.now) × (address_of other.now ≤ address_of one.now + at) × (address_of one.now + at < address_of other.now + count_of other.now) × (at < length old.now) × (effects.is_needed one.now at ≡ true) × (slice_index bytes.now (address_of one.now - base + at) ≢ slice_index old.now at) }
+{
+    let Some(i) = place_in(other, one, at) else {
+        return false;
+    };
+    let Some(k) = index_of(base, one, at) else {
+        return false;
+    };
+    i < other.size() as usize
+        && k < bytes.len()
+        && at < old.len()
+        && bytes[k] != old[at]
+        && is_needed(one, at)
+}
+
+/// It does so at some place.
+fn some_differs(base: u64, bytes: &[u8], one: &Op, old: &[u8], other: &Op) -> bool
+    ensures { IsTrue result → (at : ℕ) × (base ≤ address_of one.now) × (address_of other.now ≤ address_of one.now + at) × (address_of one.now + at < address_of other.now + count_of other.now) × (at < length old.now) × (effects.is_needed one.now at ≡ true) × (slice_index bytes.now (address_of one.now - base + at) ≢ slice_index old.now at) }
+{
+    for at in 0..old.len() {
+        if differs(base, bytes, one, old, other, at) {
+            return true;
+        }
+    }
+    false
+}
+
+/// The memory doesn't answer so while the bytes in the second's range are these.
+fn waits_for(base: u64, bytes: &[u8], one: &Op, reply: &Reply, other: &Op) -> bool
+    ensures { IsTrue result → (block : ℕ) (n : List ℕ) → AreSameAt base other.now bytes.now n → answer base block n one.now ≡ reply.now → ⊥ }
+{
+    what_is_needed_is_there();
+    let Reply::Data(old) = reply else {
+        return false;
+    };
+    some_differs(base, bytes, one, old.as_slice(), other)
+}
+
+/// The memory doesn't answer the first request what it was answered while the bytes in the second's
+/// range are these.
+pub fn waits(base: u64, bytes: &[u8], one: &Op, told: Option<&Reply>, other: &Op) -> bool
+    ensures { IsTrue result → (block : ℕ) (n : List ℕ) → AreSameAt base other.now bytes.now n → Agrees base block n one.now (told_of told.entry) → ⊥ }
+{
+    match told {
+        Some(reply) => waits_for(base, bytes, one, reply, other),
+        None => false,
+    }
+}

@@ -1,0 +1,33 @@
+-- Records without some answers.
+use Rattle.std.proofs.Common.{◌≡◌, ◌∙◌, ℕ, suc, ◌+◌, ◌<◌, Bool, true, false, List, [], ◌∷◌, ◌++◌, take, get_or, length, refl, sym, ap, arith, add-one}
+use Rattle.std.specs.Prelude.{◌==◌, if◌then◌else◌}
+use Rattle.std.specs.List.{list_any}
+use Rattle.std.proofs.Math.Seq.{take-suc}
+use Rattle.std.proofs.lemmas.List.{length-take-le}
+use Rattle.history_check.specs.declared.Record.{Record}
+use Rattle.history_check.specs.declared.Record.TheVariants as records
+use Rattle.search_history.specs.Contradictions.{keeping_from}
+
+put_if : (b : Bool) (r : Record) (xs ys : List Record) → (if b then r ∷ (xs ++ ys) else xs ++ ys) ≡ (if b then r ∷ xs else xs) ++ ys
+put_if true r xs ys = refl
+put_if false r xs ys = refl
+
+moved : (a : ℕ) (kept : List ℕ) (n m : ℕ) (ys : List Record) → n ≡ m → keeping_from n kept ys ≡ keeping_from m kept ys
+moved a kept n m ys e = ap (λ k. keeping_from k kept ys) e
+
+keeping_append : (a : ℕ) (kept : List ℕ) (xs ys : List Record) → keeping_from a kept (xs ++ ys) ≡ keeping_from a kept xs ++ keeping_from (a + length xs) kept ys
+keeping_append a kept [] ys = moved a kept a (a + 0) ys (omega arith)
+keeping_append a kept (records.Sub i k op n ∷ xs) ys =
+    ap (λ zs. records.Sub i k op n ∷ zs) (keeping_append (suc a) kept xs ys ∙ ap (λ zs. keeping_from (suc a) kept xs ++ zs) (moved a kept (suc a + length xs) (a + suc (length xs)) ys (omega arith)))
+keeping_append a kept (records.Ans i k reply n ∷ xs) ys =
+    let rest : keeping_from (suc a) kept (xs ++ ys) ≡ keeping_from (suc a) kept xs ++ keeping_from (a + suc (length xs)) kept ys =
+    keeping_append (suc a) kept xs ys ∙ ap (λ zs. keeping_from (suc a) kept xs ++ zs) (moved a kept (suc a + length xs) (a + suc (length xs)) ys (omega arith)) in
+    ap (λ zs. if list_any (λ b. b == a) kept then records.Ans i k reply n ∷ zs else zs) rest
+    ∙ put_if (list_any (λ b. b == a) kept) (records.Ans i k reply n) (keeping_from (suc a) kept xs) (keeping_from (a + suc (length xs)) kept ys)
+
+-- the records up to the next one, and with it
+pub keeping_more : (kept : List ℕ) (rs : List Record) (i : ℕ) (r : Record) → i < length rs → r ≡ get_or rs i r → keeping_from 0 kept (take (i + 1) rs) ≡ keeping_from 0 kept (take i rs) ++ keeping_from i kept (r ∷ [])
+keeping_more kept rs i r l is =
+    let grown : take (i + 1) rs ≡ take i rs ++ r ∷ [] = ap (λ k. take k rs) (add-one i) ∙ take-suc rs i r l ∙ ap (λ y. take i rs ++ y ∷ []) (sym is) in
+    let long : 0 + length (take i rs) ≡ i = omega (arith, length-take-le i rs (omega (arith, l))) in
+    ap (keeping_from 0 kept) grown ∙ keeping_append 0 kept (take i rs) (r ∷ []) ∙ ap (λ zs. keeping_from 0 kept (take i rs) ++ zs) (moved 0 kept (0 + length (take i rs)) i (r ∷ []) long)

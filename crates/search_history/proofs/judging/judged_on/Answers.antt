@@ -1,0 +1,6 @@
+use Rattle.search_history.proofs.Prefixing.{none_from_dead}
+use Rattle.search_history.proofs.judging.judged_on.Goals as goal
+
+pub returns : goal.returns
+returns c = λ dead.
+    none_from_dead c.args.trace.now c.args.count c.in_ok-log.log c.explainable_has_a_run.ensures c.in_ok-log.ensures.events c.in_ok-log.ensures.extent (c.in_ok-found.ensures dead)

@@ -1,0 +1,297 @@
+//! Each cell of the memory alone.
+ghost use Rattle.std.specs.Prelude.{◌≡◌, ◌≤◌, IfOk, IsSome};
+ghost use Rattle.log_runs.specs.Runs.{Dead, start};
+ghost use Rattle.log_cells.specs.Places.{ArePlaces};
+
+use log_cells::{Cells, part};
+use log_runs::{Log, Step};
+use search_choices::{NO_PART, Turn};
+use search_run::{Bounds, Exploration, Outcome, Way, explore};
+use std::alloc::{AllocError, Global};
+
+/// What was found out of the part of a log on a range of bytes.
+#[derive(Drop)]
+pub(crate) struct Explored {
+    /// How far it reached is told by a place of the whole log.
+    pub(crate) found: Exploration,
+    /// The places in the log of the part's events.
+    pub(crate) names: Vec<usize>,
+}
+
+/// Looks for a run through the part of the log on the bytes from `range.0` up to `range.1`, within the
+/// bounds.
+pub(crate) fn explored_on(
+    alloc: Global,
+    log: &Log<'_>,
+    cells: &Cells,
+    range: (u64, u64),
+    bounds: Bounds,
+) -> Result<Explored, AllocError>
+    requires places { ArePlaces log.now.events cells.now }
+    ensures dead { IfOk result (λ r. r.found.outcome ≡ Outcome.Dead → Dead log.now (start log.now)) }
+    ensures states { IfOk result (λ r. r.found.states ≤ bounds.choices) }
+{
+    let Some(part) = part(alloc, log, cells, range.0, range.1)? else {
+        let found = Exploration {
+            outcome: Outcome::Limit,
+            states: 0,
+            reach: 0,
+            work: bounds.work,
+        };
+        return Ok(Explored {
+            found,
+            names: Vec::new(alloc),
+        });
+    };
+    let mut found = explore(alloc, &part.log, Way::Part, bounds)?;
+    found.reach = part.names.get(found.reach).copied().unwrap_or(log.len());
+    Ok(Explored {
+        found,
+        names: part.names,
+    })
+}
+
+/// A range of cells on which there is no run.
+#[derive(Clone, Copy)]
+pub(crate) struct DeadRange {
+    /// The addresses where it begins and ends.
+    pub(crate) range: (u64, u64),
+    /// No answer behind this place of the log was needed to see that.
+    pub(crate) reach: usize,
+}
+
+/// What was found out of the parts of a log.
+#[derive(Drop)]
+pub(crate) struct Parts {
+    pub(crate) dead: Option<DeadRange>,
+    /// When requests act in the runs that were found, by their places in the log.
+    pub(crate) turns: Vec<Turn>,
+    /// How many choices were looked at.
+    pub(crate) states: u64,
+    /// How much work is left.
+    pub(crate) work: u64,
+}
+
+/// The request isn't in a run.
+const NO_TURN: Turn = Turn {
+    part: NO_PART,
+    before: 0,
+    since: 0,
+};
+
+/// The place in the log, if the name is one in a list of such places, or in the log itself.
+fn named(places: Option<&[usize]>, name: usize) -> Option<usize> {
+    match places {
+        Some(places) => places.get(name).copied(),
+        None => Some(name),
+    }
+}
+
+/// Notes when the requests act in a run through a part, whose events have these names.
+fn note(
+    turns: &mut Vec<Turn>,
+    part: u32,
+    places: Option<&[usize]>,
+    names: &[usize],
+    steps: &[Step],
+) {
+    let mut before = 0u32;
+    let mut since = 0usize;
+    for step in steps {
+        if let Step::Act(b) = step
+            && let Some(name) = names.get(*b)
+            && let Some(name) = named(places, *name)
+            && name < turns.len()
+        {
+            turns[name] = Turn {
+                part,
+                before,
+                since,
+            };
+            before = before.saturating_add(1);
+            since = since.max(name.saturating_add(1));
+        }
+    }
+}
+
+/// Ranges of cells of a log, from one on and before another.
+#[derive(Clone, Copy)]
+struct Ranges<'a> {
+    cells: &'a Cells,
+    first: usize,
+    end: usize,
+}
+
+impl Ranges<'_> {
+    /// The addresses where they begin and end.
+    fn whole(self) -> Option<(u64, u64)> {
+        let last = self.end.checked_sub(1)?;
+        Some((self.cells.range(self.first)?.0, self.cells.range(last)?.1))
+    }
+}
+
+/// What was found out of ranges, and the choices and the work that are left.
+#[derive(Drop)]
+struct Tried {
+    dead: Option<DeadRange>,
+    left: Bounds,
+}
+
+fn so_far(dead: Option<DeadRange>, choices: u64, work: u64) -> Tried
+    ensures dead { result.dead ≡ dead }
+    ensures choices { result.left.choices ≡ choices }
+{
+    Tried {
+        dead,
+        left: Bounds { choices, work },
+    }
+}
+
+/// Looks for one of the ranges on which the log's part has no run, so that the log has none. Looks at each
+/// range within the bounds, at no more than a quarter of what is left of the choices.
+fn each_of(
+    alloc: Global,
+    log: &Log<'_>,
+    cells: &Cells,
+    ranges: Ranges<'_>,
+    places: Option<&[usize]>,
+    turns: &mut Vec<Turn>,
+    bounds: Bounds,
+) -> Result<Tried, AllocError>
+    requires places { ArePlaces log.now.events cells.now }
+    ensures dead { IfOk result (λ r. IsSome r.dead → Dead log.now (start log.now)) }
+    ensures states { IfOk result (λ r. r.left.choices ≤ bounds.choices) }
+{
+    let mut left = bounds.choices;
+    let mut work = bounds.work;
+    for number in ranges.first..ranges.end {
+        let Some(range) = ranges.cells.range(number) else {
+            break;
+        };
+        let part = u32::try_from(number).unwrap_or(NO_PART);
+        let each = Bounds {
+            choices: left / 4,
+            work,
+        };
+        let Explored { found, names } = explored_on(alloc, log, cells, range, each)?;
+        left -= found.states;
+        work = found.work;
+        match found.outcome {
+            Outcome::Run(steps) => note(turns, part, places, &names, &steps),
+            Outcome::Dead => {
+                let reach = named(places, found.reach).unwrap_or(usize::MAX);
+                return Ok(so_far(Some(DeadRange { range, reach }), left, work));
+            }
+            Outcome::Limit => {}
+        }
+    }
+    Ok(so_far(None, left, work))
+}
+
+/// [`each_of`], in the part of the log on all of the ranges.
+fn each_within(
+    alloc: Global,
+    log: &Log<'_>,
+    cells: &Cells,
+    ranges: Ranges<'_>,
+    turns: &mut Vec<Turn>,
+    bounds: Bounds,
+) -> Result<Tried, AllocError>
+    requires places { ArePlaces log.now.events cells.now }
+    ensures dead { IfOk result (λ r. IsSome r.dead → Dead log.now (start log.now)) }
+    ensures states { IfOk result (λ r. r.left.choices ≤ bounds.choices) }
+{
+    let Some((low, high)) = ranges.whole() else {
+        return Ok(so_far(None, bounds.choices, bounds.work));
+    };
+    let Some(group) = part(alloc, log, cells, low, high)? else {
+        return Ok(so_far(None, bounds.choices, bounds.work));
+    };
+    let inner = Cells::of(alloc, &group.log)?;
+    each_of(
+        alloc,
+        &group.log,
+        &inner,
+        ranges,
+        Some(&group.names),
+        turns,
+        bounds,
+    )
+}
+
+/// How many ranges a part of a log has at least that is found by way of a part on several.
+const MANY: usize = 16;
+
+/// How many of them such a part has: about the root of their number.
+fn group_of(count: usize) -> usize {
+    (1..MANY)
+        .find(|root| root.saturating_mul(root.saturating_mul(16)) >= count)
+        .unwrap_or(MANY)
+        .saturating_mul(4)
+}
+
+/// [`each_of`], all ranges of the log. If they are many, they are looked for by groups.
+fn each_part(
+    alloc: Global,
+    log: &Log<'_>,
+    cells: &Cells,
+    turns: &mut Vec<Turn>,
+    bounds: Bounds,
+) -> Result<Tried, AllocError>
+    requires places { ArePlaces log.now.events cells.now }
+    ensures dead { IfOk result (λ r. IsSome r.dead → Dead log.now (start log.now)) }
+    ensures states { IfOk result (λ r. r.left.choices ≤ bounds.choices) }
+{
+    let count = cells.count();
+    if count < MANY {
+        let ranges = Ranges {
+            cells,
+            first: 0,
+            end: count,
+        };
+        return each_of(alloc, log, cells, ranges, None, turns, bounds);
+    }
+    let size = group_of(count);
+    let mut left = bounds;
+    for group in 0..count {
+        let first = group.saturating_mul(size);
+        if first >= count {
+            break;
+        }
+        let ranges = Ranges {
+            cells,
+            first,
+            end: first.saturating_add(size).min(count),
+        };
+        let found = each_within(alloc, log, cells, ranges, turns, left)?;
+        left = found.left;
+        if found.dead.is_some() {
+            return Ok(found);
+        }
+    }
+    Ok(so_far(None, left.choices, left.work))
+}
+
+/// Looks for a range of cells on which the log's part has no run, so that the log has none, within the bounds.
+pub(crate) fn parts_of(alloc: Global, log: &Log<'_>, bounds: Bounds) -> Result<Parts, AllocError>
+    ensures dead { IfOk result (λ r. IsSome r.dead → Dead log.now (start log.now)) }
+    ensures states { IfOk result (λ r. r.states ≤ bounds.choices) }
+{
+    let cells = Cells::of(alloc, log)?;
+    if cells.count() <= 1 {
+        return Ok(Parts {
+            dead: None,
+            turns: Vec::new(alloc),
+            states: 0,
+            work: bounds.work,
+        });
+    }
+    let mut turns = vec![in alloc; NO_TURN; log.len()]?;
+    let Tried { dead, left } = each_part(alloc, log, &cells, &mut turns, bounds)?;
+    Ok(Parts {
+        dead,
+        turns,
+        states: bounds.choices - left.choices,
+        work: left.work,
+    })
+}

@@ -1,0 +1,187 @@
+//! Whether a run leads through the first records.
+ghost use Rattle.std.specs.Prelude.{◌≡◌, ◌≤◌, true, IfOk, length};
+ghost use Rattle.log_runs.specs.Runs.{Dead, start};
+ghost use Rattle.log_runs.specs.Explainable.{IsExplainable, prefix};
+
+use crate::alone::{explored_on, parts_of};
+use crate::copies;
+use crate::moments::confirmed;
+use history_check::Trace;
+use log_cells::Cells;
+use log_events::{Partners, form_of, log_of};
+use log_runs::Log;
+use log_runs::laws::{explainable_has_a_run, explainable_is_well_formed, prefix_is_explainable};
+use search_rules::first_unanswerable;
+use search_run::{Bounds, Outcome, Way, explore};
+use std::alloc::{AllocError, Global};
+
+/// What was found out of records.
+#[derive(Drop)]
+pub(crate) struct Judgment {
+    pub(crate) outcome: Outcome,
+    /// How many choices were looked at.
+    pub(crate) states: u64,
+    /// By what it was seen that there is no run, if there is none.
+    pub(crate) clue: Clue,
+}
+
+/// By what it was seen that there is no run.
+#[derive(Clone, Copy)]
+pub(crate) struct Clue {
+    /// The addresses where cells begin and end on which there is none, if that was found out.
+    pub(crate) range: Option<(u64, u64)>,
+    /// No answer behind this place of the log was needed.
+    pub(crate) reach: usize,
+}
+
+/// There is no run, as was seen by the answer at that place, or on cells, at so many choices.
+fn dead(states: u64, range: Option<(u64, u64)>, reach: usize) -> Judgment
+    ensures outcome { result.outcome ≡ Outcome.Dead }
+    ensures states { result.states ≡ states }
+{
+    Judgment {
+        outcome: Outcome::Dead,
+        states,
+        clue: Clue { range, reach },
+    }
+}
+
+/// Looks for a run through the log, first through its part on each cell of the memory, with a tenth of
+/// the choices. The runs through its parts are a guide to the whole.
+fn explored_parts(alloc: Global, log: &Log<'_>, bounds: Bounds) -> Result<Judgment, AllocError>
+    ensures dead { IfOk result (λ r. r.outcome ≡ Outcome.Dead → Dead log.now (start log.now)) }
+    ensures states { IfOk result (λ r. r.states ≤ bounds.choices) }
+    ensures limit { IfOk result (λ r. r.outcome ≡ Outcome.Limit → r.states ≡ bounds.choices) }
+{
+    let few = Bounds {
+        choices: bounds.choices / 10,
+        work: bounds.work,
+    };
+    let parts = parts_of(alloc, log, few)?;
+    if let Some(by) = parts.dead {
+        return Ok(dead(parts.states, Some(by.range), by.reach));
+    }
+    let rest = Bounds {
+        choices: bounds.choices - parts.states,
+        work: parts.work,
+    };
+    let found = explore(alloc, log, Way::Whole(&parts.turns), rest)?;
+    let clue = Clue {
+        range: None,
+        reach: found.reach,
+    };
+    Ok(Judgment {
+        outcome: found.outcome,
+        states: parts.states + found.states,
+        clue,
+    })
+}
+
+/// Looks for a run through the log, within the bounds. An answer that no memory gives ends it at once.
+fn explored(alloc: Global, log: &Log<'_>, bounds: Bounds) -> Result<Judgment, AllocError>
+    ensures dead { IfOk result (λ r. r.outcome ≡ Outcome.Dead → Dead log.now (start log.now)) }
+    ensures states { IfOk result (λ r. r.states ≤ bounds.choices) }
+    ensures limit { IfOk result (λ r. r.outcome ≡ Outcome.Limit → r.states ≡ bounds.choices) }
+{
+    match first_unanswerable(log) {
+        Some(at) => Ok(dead(0, None, at)),
+        None => explored_parts(alloc, log, bounds),
+    }
+}
+
+/// Looks for a run through the first `count` records, within the bounds. `partners` says which records may
+/// belong together.
+pub(crate) fn judged(
+    alloc: Global,
+    trace: &Trace,
+    partners: &Partners,
+    count: usize,
+    bounds: Bounds,
+) -> Result<Judgment, AllocError>
+    requires { count ≤ length trace.now.records }
+    ensures none { IfOk result (λ r. r.outcome ≡ Outcome.Dead → IsExplainable (prefix count trace.now) → ⊥) }
+    ensures states { IfOk result (λ r. r.states ≤ bounds.choices) }
+    ensures limit { IfOk result (λ r. r.outcome ≡ Outcome.Limit → r.states ≡ bounds.choices) }
+{
+    explainable_has_a_run();
+    let log = log_of(alloc, trace, partners, count)?;
+    let found = explored(alloc, &log, bounds)?;
+    Ok(found)
+}
+
+/// [`judged`], by what is on the bytes of a range alone, if there is one.
+fn explored_by(
+    alloc: Global,
+    log: &Log<'_>,
+    range: Option<(u64, u64)>,
+    bounds: Bounds,
+) -> Result<Outcome, AllocError>
+    ensures { IfOk result (λ o. o ≡ Outcome.Dead → Dead log.now (start log.now)) }
+{
+    let Some(range) = range else {
+        let found = explored(alloc, log, bounds)?;
+        return Ok(found.outcome);
+    };
+    let cells = Cells::of(alloc, log)?;
+    let explored = explored_on(alloc, log, &cells, range, bounds)?;
+    Ok(explored.found.outcome)
+}
+
+/// Looks for a run through the first `count` records, on the bytes of a range alone, if there is one.
+pub(crate) fn judged_on(
+    alloc: Global,
+    trace: &Trace,
+    partners: &Partners,
+    count: usize,
+    range: Option<(u64, u64)>,
+    bounds: Bounds,
+) -> Result<Outcome, AllocError>
+    requires { count ≤ length trace.now.records }
+    ensures { IfOk result (λ o. o ≡ Outcome.Dead → IsExplainable (prefix count trace.now) → ⊥) }
+{
+    explainable_has_a_run();
+    let log = log_of(alloc, trace, partners, count)?;
+    let found = explored_by(alloc, &log, range, bounds)?;
+    Ok(found)
+}
+
+/// A history explains the first `count` records; false where it isn't found.
+pub(crate) fn is_explainable(
+    alloc: Global,
+    trace: &Trace,
+    partners: &Partners,
+    count: usize,
+    bounds: Bounds,
+) -> Result<bool, AllocError>
+    requires { count ≤ length trace.now.records }
+    ensures { IfOk result (λ yes. yes ≡ true → IsExplainable (prefix count trace.now)) }
+{
+    let judgment = judged(alloc, trace, partners, count, bounds)?;
+    let Outcome::Run(steps) = judgment.outcome else {
+        return Ok(false);
+    };
+    let mut part = copies::prefix(alloc, trace, count)?;
+    let history = confirmed(alloc, &mut part, steps)?;
+    Ok(history.is_some())
+}
+
+/// No history explains the records, as far as it is found out within the bounds on the bytes of a range alone,
+/// if there is one.
+pub(crate) fn is_unexplained(
+    alloc: Global,
+    trace: &Trace,
+    range: Option<(u64, u64)>,
+    bounds: Bounds,
+) -> Result<bool, AllocError>
+    ensures { IfOk result (λ yes. yes ≡ true → IsExplainable trace.now → ⊥) }
+{
+    explainable_is_well_formed();
+    prefix_is_explainable();
+    let form = form_of(alloc, &trace.records)?;
+    if form.flaw.is_some() {
+        return Ok(true);
+    }
+    let count = trace.records.len();
+    let outcome = judged_on(alloc, trace, &form.partners, count, range, bounds)?;
+    Ok(matches!(outcome, Outcome::Dead))
+}

@@ -1,0 +1,148 @@
+//! Whether a history explains a log.
+ghost use Rattle.std.specs.Prelude.{ℕ, ◌≡◌, ◌<◌, ◌≤◌, ◌+◌, IfOk, length};
+ghost use Rattle.log_events.specs.Formed.{MisformedAt};
+ghost use Rattle.log_runs.specs.Explainable.{SeenAlike};
+ghost use Rattle.search_history.specs.Prefixes.{IsUnexplained};
+ghost use Rattle.search_history.specs.Answers.{IsFound, IsNone};
+
+use crate::judging::{Judgment, judged};
+use crate::moments::confirmed;
+use crate::shortest::shortened;
+use history_check::Trace;
+use log_events::{Partners, form_of};
+use log_runs::Step;
+use log_runs::laws::{explainable_is_well_formed, prefix_is_explainable};
+use search_run::{Bounds, Outcome};
+use seq_memory::Entry;
+use std::alloc::{AllocError, Global};
+
+/// What a search says of a log.
+#[derive(Debug, Drop)]
+pub enum Sought {
+    /// This history explains the log, with the n's that the trace has now.
+    Found(Vec<Entry>),
+    /// No history explains the log, nor its first `prefix` records.
+    None { prefix: usize },
+    /// It wasn't found out.
+    Limit,
+}
+
+/// How many records there are up to that place, and with it.
+fn up_to(trace: &Trace, place: usize) -> usize
+    requires { place < length trace.now.records }
+    ensures { result ≡ place + 1 }
+{
+    let count = trace.records.len();
+    if place < count {
+        return place + 1;
+    }
+    count
+}
+
+/// What is found before a run is checked.
+#[derive(Drop)]
+enum Unchecked {
+    /// These steps may be a history that explains the log.
+    Run(Vec<Step>),
+    /// No history does, nor does one explain the first so many records.
+    None(usize),
+    /// It wasn't found out.
+    Limit,
+}
+
+/// Looks for a run through the first `count` records, whose form is right.
+fn well_formed(
+    alloc: Global,
+    trace: &Trace,
+    partners: &Partners,
+    count: usize,
+    limit: u64,
+) -> Result<(Unchecked, u64), AllocError>
+    requires { count ≤ length trace.now.records }
+    ensures none { IfOk result (λ r. (prefix : ℕ) → r.0 ≡ Unchecked.None prefix → IsUnexplained trace.now prefix) }
+    ensures states { IfOk result (λ r. r.1 ≤ limit) }
+{
+    let bounds = Bounds {
+        choices: limit,
+        work: u64::MAX,
+    };
+    let Judgment {
+        outcome,
+        states,
+        clue,
+        ..
+    } = judged(alloc, trace, partners, count, bounds)?;
+    match outcome {
+        Outcome::Run(steps) => Ok((Unchecked::Run(steps), states)),
+        Outcome::Dead => {
+            let prefix = shortened(alloc, trace, partners, count, clue, limit)?;
+            Ok((Unchecked::None(prefix), states))
+        }
+        Outcome::Limit => Ok((Unchecked::Limit, limit)),
+    }
+}
+
+/// The record at that place has a wrong form, so the records up to it have no history; those before it may
+/// have none either.
+fn misformed(
+    alloc: Global,
+    trace: &Trace,
+    partners: &Partners,
+    flaw: usize,
+    limit: u64,
+) -> Result<(usize, u64), AllocError>
+    requires { MisformedAt trace.now.records flaw }
+    ensures none { IfOk result (λ r. IsUnexplained trace.now r.0) }
+    ensures states { IfOk result (λ r. r.1 ≤ limit) }
+{
+    explainable_is_well_formed();
+    let (before, states) = well_formed(alloc, trace, partners, flaw, limit)?;
+    if let Unchecked::None(prefix) = before {
+        return Ok((prefix, states));
+    }
+    Ok((up_to(trace, flaw), states))
+}
+
+/// Looks for a run through a log. What it needed of memory is free again, but for the steps.
+fn searched(alloc: Global, trace: &Trace, limit: u64) -> Result<(Unchecked, u64), AllocError>
+    ensures none { IfOk result (λ r. (prefix : ℕ) → r.0 ≡ Unchecked.None prefix → IsUnexplained trace.now prefix) }
+    ensures states { IfOk result (λ r. r.1 ≤ limit) }
+{
+    let form = form_of(alloc, &trace.records)?;
+    match form.flaw {
+        Some(flaw) => {
+            let (prefix, states) = misformed(alloc, trace, &form.partners, flaw, limit)?;
+            Ok((Unchecked::None(prefix), states))
+        }
+        None => {
+            let count = trace.records.len();
+            let found = well_formed(alloc, trace, &form.partners, count, limit)?;
+            Ok(found)
+        }
+    }
+}
+
+/// Looks for a history that explains the log: what the trace's requesters submitted and were
+/// answered, in the order of its records, whatever its n's are. Looks at no more than `limit`
+/// choices; the second number is how many there were. The searches for a shorter prefix have a
+/// limit of their own and aren't counted.
+///
+/// Only n's of the trace change. Fails where memory can't be allocated; nothing is known then.
+pub fn search(alloc: Global, trace: &mut Trace, limit: u64) -> Result<(Sought, u64), AllocError>
+    ensures alike { SeenAlike trace.old trace.new }
+    ensures found { IfOk result (λ r. IsFound trace.new r.0) }
+    ensures none { IfOk result (λ r. IsNone trace.old r.0) }
+    ensures limit { IfOk result (λ r. r.0 ≡ Sought.Limit → r.1 ≡ limit) }
+    ensures states { IfOk result (λ r. r.1 ≤ limit) }
+{
+    prefix_is_explainable();
+    let (found, states) = searched(alloc, trace, limit)?;
+    match found {
+        Unchecked::Run(steps) => match confirmed(alloc, trace, steps)? {
+            Some(history) => Ok((Sought::Found(history), states)),
+            None => Ok((Sought::Limit, limit)),
+        },
+        Unchecked::None(prefix) => Ok((Sought::None { prefix }, states)),
+        Unchecked::Limit => Ok((Sought::Limit, limit)),
+    }
+}

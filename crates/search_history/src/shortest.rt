@@ -1,0 +1,158 @@
+//! The shortest prefix that has no history, as far as it is found.
+ghost use Rattle.std.specs.Prelude.{◌≤◌, ◌<◌, ◌+◌, IfOk, IfSome, length};
+ghost use Rattle.search_history.specs.Prefixes.{IsUnexplained, IsExplainedBefore};
+
+use crate::judging::{Clue, is_explainable, judged_on};
+use history_check::{Record, Trace};
+use log_events::{Partners, form_of};
+use log_runs::laws::prefix_is_explainable;
+use search_run::{Bounds, Outcome};
+use std::alloc::{AllocError, Global};
+use tlp_core::Op;
+
+/// How many choices the search for a prefix looks at, at most.
+const EACH: u64 = 20_000;
+
+/// How many prefixes are searched, at most.
+const SEARCHES: u32 = 20;
+
+/// So many records are no long log: all prefixes that may be shorter are searched.
+const LONG: usize = 10_000;
+
+/// How much work is done for each record of a prefix that is searched, and for all of them at least.
+const WORK: u64 = 32;
+
+const LEAST: u64 = 200_000;
+
+/// What the search of so many records may do.
+fn bounds_for(count: usize, limit: u64) -> Bounds {
+    Bounds {
+        choices: limit.min(EACH),
+        work: (count as u64).saturating_mul(WORK).max(LEAST),
+    }
+}
+
+/// The prefix that is tried next, of those between the two: the first one that is to be tried; then, if it
+/// has no history, the one that is one less; else those that follow it in growing steps, or the middle.
+fn next(low: usize, high: usize, first: usize, turn: u32) -> usize
+    requires { low + 1 < high }
+    ensures low { low ≤ result }
+    ensures high { result < high }
+{
+    if turn == 0 && low <= first && first < high {
+        return first;
+    }
+    if turn == 0 || turn == 1 && high == first {
+        return high - 1;
+    }
+    let half = (high - low) / 2;
+    if low < first {
+        return low + half;
+    }
+    low + half.min(64usize << turn.min(24))
+}
+
+/// Halves what lies before a prefix that has no history, by what is on the bytes of a range alone, if there is
+/// one. Of a long log the first one that is tried is taken, if it has no history. A search that is given up
+/// ends it.
+fn halved(
+    alloc: Global,
+    trace: &Trace,
+    partners: &Partners,
+    prefix: usize,
+    first: usize,
+    range: Option<(u64, u64)>,
+    limit: u64,
+) -> Result<usize, AllocError>
+    requires { IsUnexplained trace.now prefix }
+    ensures { IfOk result (IsUnexplained trace.now) }
+{
+    let mut high = prefix;
+    let mut low = 0;
+    for turn in 0..SEARCHES {
+        if high - low <= 1 {
+            return Ok(high);
+        }
+        let middle = next(low, high, first, turn);
+        let bounds = bounds_for(middle, limit);
+        let outcome = judged_on(alloc, trace, partners, middle, range, bounds)?;
+        match outcome {
+            Outcome::Dead if turn == 0 && middle > LONG => return Ok(middle),
+            Outcome::Dead => high = middle,
+            Outcome::Run(_) => low = middle,
+            Outcome::Limit => return Ok(high),
+        }
+    }
+    Ok(high)
+}
+
+/// Where more AtomicOps are open at the end of a prefix, they have too many orders for a search.
+const OPEN: usize = 256;
+
+/// Request `b` is an AtomicOp whose answer stands behind the first `count` records.
+fn is_open(trace: &Trace, partners: &Partners, count: usize, b: usize) -> bool {
+    match (trace.records.get(b), partners.of(b)) {
+        (Some(Record::Sub { op, .. }), Some(answer)) => {
+            !matches!(op, Op::Read { .. }) && answer >= count
+        }
+        _ => false,
+    }
+}
+
+/// Looks for a shorter prefix without a history, first by the cells on which there is none.
+pub(crate) fn shortened(
+    alloc: Global,
+    trace: &Trace,
+    partners: &Partners,
+    prefix: usize,
+    clue: Clue,
+    limit: u64,
+) -> Result<usize, AllocError>
+    requires { IsUnexplained trace.now prefix }
+    ensures { IfOk result (IsUnexplained trace.now) }
+{
+    let first = clue.reach.saturating_add(1).min(prefix);
+    if clue.range.is_none()
+        && (0..first)
+            .filter(|b| is_open(trace, partners, first, *b))
+            .count()
+            > OPEN
+    {
+        return Ok(prefix);
+    }
+    let near = halved(alloc, trace, partners, prefix, first, clue.range, limit)?;
+    if clue.range.is_none() || near > LONG {
+        return Ok(near);
+    }
+    halved(
+        alloc,
+        trace,
+        partners,
+        near,
+        near.saturating_sub(1),
+        None,
+        limit,
+    )
+}
+
+/// How many of the first records a history explains, if `prefix` records have none and that is found: as many
+/// but one.
+pub fn explained_before(
+    alloc: Global,
+    trace: &Trace,
+    prefix: usize,
+    limit: u64,
+) -> Result<Option<usize>, AllocError>
+    requires { prefix ≤ length trace.now.records }
+    ensures { IfOk result (λ o. IfSome o (IsExplainedBefore trace.now prefix)) }
+{
+    let Some(count) = prefix.checked_sub(1) else {
+        return Ok(None);
+    };
+    let form = form_of(alloc, &trace.records)?;
+    let bounds = bounds_for(count, limit);
+    if !is_explainable(alloc, trace, &form.partners, count, bounds)? {
+        return Ok(None);
+    }
+    Ok(Some(count))
+}

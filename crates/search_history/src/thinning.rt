@@ -1,0 +1,299 @@
+//! Few answers that contradict each other.
+//!
+//! A log without some of its answers is explainable if the log is: what they answered may have acted,
+//! with any reply, or not. So answers are left out, as long as what is left has no history: first those
+//! whose requests are in other cells of the memory than the last one, of which then nothing is looked at any
+//! more; then halves, quarters and so on, and single ones, the oldest first.
+ghost use Rattle.std.specs.Prelude.{◌≤◌, IfOk, length};
+ghost use Rattle.search_history.specs.Contradictions.{Contradict};
+
+use crate::copies::keeping;
+use crate::judging::is_unexplained;
+use history_check::{Record, Trace};
+use log_cells::{Cells, part};
+use log_events::{form_of, log_of};
+use log_runs::{Event, Log};
+use search_run::{Bounds, Outcome, Way, explore};
+use std::alloc::{AllocError, Global};
+
+/// How many choices one search looks at, at most.
+const EACH: u64 = 2_000;
+
+/// How many choices all of them look at.
+const ALL: u64 = 100_000;
+
+/// How often answers are left out, at most.
+const SEARCHES: u32 = 64;
+
+/// How much work all of them do for each record, and at least.
+const WORK: u64 = 12;
+
+const LEAST: u64 = 100_000;
+
+/// How much work it is to make a log, for each of its events.
+const EVENT: u64 = 4;
+
+/// The most answers that are told.
+const MAX_ANSWERS: usize = 16;
+
+/// The places of the answers.
+fn answers_of(alloc: Global, log: &Log<'_>) -> Result<Vec<usize>, AllocError> {
+    let mut places = Vec::new(alloc);
+    for place in 0..log.len() {
+        if let Some(Event::Due { .. }) = log.event(place) {
+            places.push(place)?;
+        }
+    }
+    Ok(places)
+}
+
+/// The places but for some.
+fn places_without(
+    alloc: Global,
+    places: &[usize],
+    from: usize,
+    to: usize,
+) -> Result<Vec<usize>, AllocError> {
+    let mut others = Vec::new(alloc);
+    for index in 0..places.len() {
+        if index < from || to <= index {
+            others.push(places[index])?;
+        }
+    }
+    Ok(others)
+}
+
+/// The address that the request at this answer names.
+fn address_at(log: &Log<'_>, answer: usize) -> Option<u64> {
+    let Some(Event::Due { request }) = log.event(answer) else {
+        return None;
+    };
+    match log.event(request) {
+        Some(Event::Sub { op, .. }) => Some(op.address()),
+        _ => None,
+    }
+}
+
+/// The events of a log, which has no run, and which of its answers are left out next.
+#[derive(Drop)]
+struct Thinning<'a> {
+    log: &'a Log<'a>,
+    kept: Vec<usize>,
+    from: usize,
+    size: usize,
+    left: Bounds,
+}
+
+/// By place, whether it is that of one of these answers or of the request that one answers.
+fn marks(alloc: Global, log: &Log<'_>, kept: &[usize]) -> Result<Vec<bool>, AllocError> {
+    let mut marks = vec![in alloc; false; log.len()]?;
+    for answer in kept {
+        if let Some(Event::Due { request }) = log.event(*answer)
+            && *answer < marks.len()
+            && request < marks.len()
+        {
+            marks[*answer] = true;
+            marks[request] = true;
+        }
+    }
+    Ok(marks)
+}
+
+/// The event, without its reply or as an answer to nothing, if it isn't kept.
+fn kept_event(event: Event<'_>, is_kept: bool) -> Event<'_> {
+    match event {
+        _ if is_kept => event,
+        Event::Sub { requester, op, .. } => Event::Sub {
+            requester,
+            op,
+            reply: None,
+        },
+        _ => Event::Free,
+    }
+}
+
+/// The log with these answers alone.
+fn log_keeping<'a>(alloc: Global, log: &Log<'a>, kept: &[usize]) -> Result<Log<'a>, AllocError> {
+    let marks = marks(alloc, log, kept)?;
+    let mut events = Vec::with_capacity(alloc, log.len())?;
+    for at in 0..log.len() {
+        if let Some(event) = log.event(at) {
+            let is_kept = marks.get(at) == Some(&true);
+            events.push(kept_event(event, is_kept))?;
+        }
+    }
+    Ok(Log::new(log.extent(), events))
+}
+
+impl Thinning<'_> {
+    /// No run leads through the log with these answers alone, as far as it is found out.
+    fn is_dead(&mut self, alloc: Global, kept: &[usize]) -> Result<bool, AllocError> {
+        let few = log_keeping(alloc, self.log, kept)?;
+        let bounds = Bounds {
+            choices: self.left.choices.min(EACH),
+            work: self.left.work,
+        };
+        let found = explore(alloc, &few, Way::Part, bounds)?;
+        self.left = Bounds {
+            choices: self.left.choices.saturating_sub(found.states),
+            work: found.work.saturating_sub(EVENT * few.len() as u64),
+        };
+        Ok(matches!(found.outcome, Outcome::Dead))
+    }
+
+    /// Leaves out some answers more, if what is left has no run. Whether all was tried.
+    fn thin(&mut self, alloc: Global) -> Result<bool, AllocError> {
+        if self.from >= self.kept.len() {
+            self.from = 0;
+            self.size /= 2;
+            return Ok(self.size == 0);
+        }
+        let to = self.from.saturating_add(self.size);
+        let fewer = places_without(alloc, &self.kept, self.from, to)?;
+        if self.is_dead(alloc, &fewer)? {
+            self.kept = fewer;
+        } else {
+            self.from = to;
+        }
+        Ok(self.left.work == 0 || self.left.choices == 0)
+    }
+}
+
+/// Few answers, and the cell that they are of, if it is known.
+#[derive(Drop)]
+struct Few {
+    kept: Vec<usize>,
+    range: Option<(u64, u64)>,
+}
+
+/// Few of the answers of a log without a run, with which it has none either.
+fn thinned(alloc: Global, log: &Log<'_>, left: Bounds) -> Result<Vec<usize>, AllocError> {
+    let kept = answers_of(alloc, log)?;
+    let size = kept.len() / 2 + 1;
+    let mut thinning = Thinning {
+        log,
+        kept,
+        from: 0,
+        size,
+        left,
+    };
+    for _search in 0..SEARCHES {
+        if thinning.thin(alloc)? {
+            break;
+        }
+    }
+    Ok(thinning.kept)
+}
+
+/// The cell of the log's last answer, if it isn't the only one.
+fn last_cell(log: &Log<'_>, cells: &Cells) -> Option<(u64, u64)> {
+    let last = log.len().checked_sub(1)?;
+    if cells.count() <= 1 {
+        return None;
+    }
+    cells.around(address_at(log, last)?)
+}
+
+/// Few of the answers of the log, which has no run: those of the cell of the last one, if that has none, else
+/// of all.
+fn few_of(alloc: Global, log: &Log<'_>, mut left: Bounds) -> Result<Few, AllocError> {
+    let cells = Cells::of(alloc, log)?;
+    if let Some(range) = last_cell(log, &cells)
+        && let Some(cell) = part(alloc, log, &cells, range.0, range.1)?
+    {
+        let found = explore(alloc, &cell.log, Way::Part, left)?;
+        left.work = found.work;
+        if matches!(found.outcome, Outcome::Dead) {
+            let kept = thinned(alloc, &cell.log, left)?;
+            return Ok(Few {
+                kept: named(alloc, &kept, &cell.names)?,
+                range: Some(range),
+            });
+        }
+    }
+    Ok(Few {
+        kept: thinned(alloc, log, left)?,
+        range: None,
+    })
+}
+
+/// The places in the log of events of a part with these names.
+fn named(alloc: Global, places: &[usize], names: &[usize]) -> Result<Vec<usize>, AllocError> {
+    let mut named = Vec::new(alloc);
+    for place in places {
+        if let Some(name) = names.get(*place) {
+            named.push(*name)?;
+        }
+    }
+    Ok(named)
+}
+
+/// The request that the record answers.
+fn answered_by(seen: &Record) -> Option<(u8, u32)> {
+    match seen {
+        Record::Ans {
+            requester,
+            number,
+            ..
+        } => Some((*requester, *number)),
+        Record::Sub { .. } => None,
+    }
+}
+
+/// The answers to the same request as the answer there.
+fn same_answers(alloc: Global, records: &[Record], place: usize) -> Result<Vec<usize>, AllocError> {
+    let mut places = Vec::new(alloc);
+    let request = records.get(place).and_then(answered_by);
+    for at in 0..records.len() {
+        if request.is_some() && answered_by(&records[at]) == request {
+            places.push(at)?;
+        }
+    }
+    Ok(places)
+}
+
+/// Places of answers, as few of them as are found that no history explains.
+fn found(alloc: Global, trace: &Trace, prefix: usize, bounds: Bounds) -> Result<Few, AllocError>
+    requires { prefix ≤ length trace.now.records }
+{
+    let records = &trace.records[..prefix];
+    let form = form_of(alloc, records)?;
+    if let Some(flaw) = form.flaw {
+        return Ok(Few {
+            kept: same_answers(alloc, records, flaw)?,
+            range: None,
+        });
+    }
+    let log = log_of(alloc, trace, &form.partners, prefix)?;
+    few_of(alloc, &log, bounds)
+}
+
+/// Places of at most 16 answers of the first `prefix` records that no history explains together, in
+/// their order; none if they aren't found. It looks at no more than `limit` choices, and does work in
+/// proportion to the records.
+pub fn contradiction(
+    alloc: Global,
+    trace: &Trace,
+    prefix: usize,
+    limit: u64,
+) -> Result<Vec<usize>, AllocError>
+    ensures none { IfOk result (λ v. Contradict trace.now prefix v.items) }
+    ensures few { IfOk result (λ v. length v.items ≤ 16) }
+{
+    if prefix > trace.records.len() {
+        return Ok(Vec::new(alloc));
+    }
+    let bounds = Bounds {
+        choices: limit.min(ALL),
+        work: (prefix as u64).saturating_mul(WORK).max(LEAST),
+    };
+    let Few { kept, range } = found(alloc, trace, prefix, bounds)?;
+    if kept.len() > MAX_ANSWERS {
+        return Ok(Vec::new(alloc));
+    }
+    let few = keeping(alloc, trace, prefix, &kept)?;
+    if is_unexplained(alloc, &few, range, bounds)? {
+        return Ok(kept);
+    }
+    Ok(Vec::new(alloc))
+}

@@ -1,0 +1,12 @@
+use Rattle.std.proofs.Common.{◌≡◌, length}
+use Rattle.search_run.specs.Frames.{IsBack}
+use Rattle.search_run.proofs.walk.rewind.Given as goal
+
+abbrev pub invariant-loop-done : goal.invariant-loop-done
+invariant-loop-done l = record {
+  back : IsBack l.log l.walk;
+  same : l.walk.stack.frames ≡ l.fn.walk.stack.frames;
+}
+
+abbrev pub decreases-loop-done : goal.decreases-loop-done
+decreases-loop-done l = length l.walk.stack.done

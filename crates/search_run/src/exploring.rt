@@ -1,0 +1,128 @@
+//! Whether a run leads through a log to its end.
+ghost use Rattle.std.specs.Prelude.{◌≡◌, ◌≤◌, IfOk, OnOk, IfSome, IfNone, length};
+ghost use Rattle.search_run.specs.Catalogs.{IsCatalog};
+ghost use Rattle.search_run.specs.Frames.{IsAt};
+ghost use Rattle.search_run.specs.Outcomes.{IsRun, IsRight};
+
+use crate::catalog::{Catalog, Way, catalog_of};
+use crate::walk::{Walk, advance, begin, settle};
+use log_runs::{Log, Step};
+use std::alloc::{AllocError, Global};
+
+/// What a search for a run says.
+#[derive(Debug, Drop)]
+pub enum Outcome {
+    /// These steps lead from the start to the end.
+    Run(Vec<Step>),
+    /// No steps do.
+    Dead,
+    /// It wasn't found out.
+    Limit,
+}
+
+/// What a search found out.
+#[derive(Debug, Drop)]
+pub struct Exploration {
+    pub outcome: Outcome,
+    /// How many choices were looked at.
+    pub states: u64,
+    /// No answer behind this place of the log was needed to see that there is no run.
+    pub reach: usize,
+    /// How much work is left.
+    pub work: u64,
+}
+
+/// How much a search may do.
+#[derive(Clone, Copy, Debug, PartialEq, Eq)]
+pub struct Bounds {
+    /// How many choices it looks at.
+    pub choices: u64,
+    /// How much work it does: about as many steps, or requests that are looked at for one.
+    pub work: u64,
+}
+
+/// Takes the steps that may be taken at once. All steps that were taken, if they lead to the end.
+fn finished(
+    walk: &mut Walk,
+    alloc: Global,
+    log: &Log,
+    catalog: &Catalog,
+) -> Result<Option<Vec<Step>>, AllocError>
+    requires at { IsAt log.now walk.old }
+    requires catalog { IsCatalog log.now catalog.now }
+    ensures at { OnOk result (IsAt log.now walk.new) }
+    ensures run { IfOk result (λ o. IfSome o (λ v. IsRun log.now v.items)) }
+    ensures more { IfOk result (λ o. IfNone o (walk.new.here.state.event ≡ length log.now.events → ⊥)) }
+{
+    settle(walk, alloc, log, catalog)?;
+    if walk.here.event() == log.len() {
+        let steps = walk.stack.steps(alloc)?;
+        return Ok(Some(steps));
+    }
+    Ok(None)
+}
+
+/// What was found out at so many choices.
+fn explored(outcome: Outcome, states: u64, walk: &Walk) -> Exploration
+    ensures outcome { result.outcome ≡ outcome }
+    ensures states { result.states ≡ states }
+{
+    Exploration {
+        outcome,
+        states,
+        reach: walk.reach,
+        work: walk.work,
+    }
+}
+
+/// Goes on from the start of the log, at no more than `limit` choices.
+fn choose(
+    walk: &mut Walk,
+    alloc: Global,
+    log: &Log,
+    catalog: &Catalog,
+    limit: u64,
+) -> Result<Exploration, AllocError>
+    requires at { IsAt log.now walk.old }
+    requires catalog { IsCatalog log.now catalog.now }
+    ensures right { IfOk result (λ r. IsRight log.now r.outcome) }
+    ensures states { IfOk result (λ r. r.states ≤ limit) }
+    ensures limit { IfOk result (λ r. r.outcome ≡ Outcome.Limit → r.states ≡ limit) }
+{
+    for states in 0..limit {
+        if let Some(steps) = finished(walk, alloc, log, catalog)? {
+            return Ok(explored(Outcome::Run(steps), states, walk));
+        }
+        if walk.work == 0 {
+            return Ok(explored(Outcome::Limit, limit, walk));
+        }
+        if !advance(walk, alloc, log, catalog)? {
+            return Ok(explored(Outcome::Dead, states + 1, walk));
+        }
+    }
+    match finished(walk, alloc, log, catalog)? {
+        Some(steps) => Ok(explored(Outcome::Run(steps), limit, walk)),
+        None => Ok(explored(Outcome::Limit, limit, walk)),
+    }
+}
+
+/// Looks for steps that lead from the start of the log to its end, within the bounds. Where the work ends
+/// it, as many choices are said to have been looked at as the bounds allow.
+pub fn explore(
+    alloc: Global,
+    log: &Log,
+    way: Way,
+    bounds: Bounds,
+) -> Result<Exploration, AllocError>
+    ensures right { IfOk result (λ r. IsRight log.now r.outcome) }
+    ensures states { IfOk result (λ r. r.states ≤ bounds.choices) }
+    ensures limit { IfOk result (λ r. r.outcome ≡ Outcome.Limit → r.states ≡ bounds.choices) }
+{
+    let mut catalog = catalog_of(alloc, log, way)?;
+    let mut walk = begin(alloc, log, bounds.work)?;
+    if let Some(steps) = finished(&mut walk, alloc, log, &catalog)? {
+        return Ok(explored(Outcome::Run(steps), 0, &walk));
+    }
+    catalog.note_calm(log);
+    choose(&mut walk, alloc, log, &catalog, bounds.choices)
+}

@@ -1,0 +1,307 @@
+//! The search's stack.
+ghost use Rattle.std.specs.Prelude.{◌≡◌, ◌++◌, ◌∷◌, [], ℕ, List, true, false, length, IsTrue, IfOk, OnOk, IfSome};
+ghost use Rattle.log_runs.specs.Runs.{Dead, IsForced, start};
+ghost use Rattle.search_places.specs.Places.{IsPlace};
+ghost use Rattle.search_run.specs.Catalogs.{IsCatalog};
+ghost use Rattle.search_run.specs.Frames as frames;
+
+use crate::catalog::{Catalog, Way};
+use crate::hints::{Look, Losses, is_back};
+use crate::junk::over_junk;
+use crate::rules::forced;
+use log_runs::{Log, Step};
+use search_choices::{choices, only_step};
+use search_others::{Loss, due_is_lost, missed_at};
+use search_places::{Memo, Place, Stack};
+use std::alloc::{AllocError, Global};
+
+/// Of so many events to come it is looked whether their requests are lost.
+const SOON: usize = 128;
+
+/// How much work a choice is, and a step that isn't seen by the rules for one request.
+const CHOICE: u64 = 256;
+
+const LAST: u64 = 64;
+
+#[derive(Drop)]
+pub(crate) struct Walk {
+    pub(crate) stack: Stack,
+    pub(crate) here: Place,
+    pub(crate) memo: Memo,
+    /// What the steps since the last frame overwrote.
+    losses: Losses,
+    /// Which requests may act at once, and couldn't at the last frame.
+    look: Look,
+    /// No answer behind this place of the log was needed to see that a state is dead.
+    pub(crate) reach: usize,
+    /// How much work is left.
+    pub(crate) work: u64,
+}
+
+pub(crate) fn begin(alloc: Global, log: &Log, work: u64) -> Result<Walk, AllocError>
+    ensures { IfOk result (frames.IsAt log.now) }
+{
+    Ok(Walk {
+        stack: Stack::new(alloc),
+        here: Place::first(alloc, log)?,
+        memo: Memo::new(alloc),
+        losses: Losses::new(alloc),
+        look: Look::all(),
+        reach: 0,
+        work,
+    })
+}
+
+/// So many posted writes that are pending are many, and are looked at once for so many events.
+const MANY: usize = 64;
+
+/// Many posted writes are pending, and it is time to see whether some are over junk.
+fn are_many(place: &Place) -> bool {
+    place.posts().len() > MANY && place.event() % (MANY / 4) == 0
+}
+
+/// The only step that may be taken, if there is just one, unless the request whose answer is due is lost.
+fn single(place: &Place, log: &Log, catalog: &Catalog) -> Option<Step>
+    requires place { IsPlace log.now place.now }
+    requires catalog { IsCatalog log.now catalog.now }
+    ensures { IfSome result (IsForced log.now place.now.state) }
+{
+    if place.event() >= log.len() || due_is_lost(place, log, &catalog.others) {
+        return None;
+    }
+    only_step(log, place)
+}
+
+/// [`single`], or a request that acts over junk.
+fn at_last(
+    place: &mut Place,
+    alloc: Global,
+    log: &Log,
+    catalog: &Catalog,
+) -> Result<Option<Step>, AllocError>
+    requires place { IsPlace log.now place.old }
+    requires catalog { IsCatalog log.now catalog.now }
+    ensures state { OnOk result (place.new.state ≡ place.old.state) }
+    ensures place { OnOk result (IsPlace log.now place.new) }
+    ensures forced { IfOk result (λ o. IfSome o (IsForced log.now place.new.state)) }
+{
+    if let Some(step) = over_junk(place, alloc, log, catalog, false)? {
+        return Ok(Some(step));
+    }
+    Ok(single(place, log, catalog))
+}
+
+/// How much work it is to see which step is taken at once, where the rules for one request see this one.
+fn work_for(place: &Place, step: Option<Step>) -> u64 {
+    let pending = place.pending().len() as u64;
+    let few = 1 + pending / 64;
+    match step {
+        Some(_) => few,
+        None => few + LAST + 4 * pending,
+    }
+}
+
+/// A step that may be taken at once, where the rules for one request see this one. An event is passed only if no posted
+/// write over junk may act, if they act early, as in a part, or are many; other requests over junk act only where
+/// there is no other step, and the only one that may be taken is no choice.
+fn at_once(
+    place: &mut Place,
+    alloc: Global,
+    log: &Log,
+    catalog: &Catalog,
+    step: Option<Step>,
+) -> Result<Option<Step>, AllocError>
+    requires place { IsPlace log.now place.old }
+    requires catalog { IsCatalog log.now catalog.now }
+    requires step { IfSome step (IsForced log.now place.old.state) }
+    ensures state { OnOk result (place.new.state ≡ place.old.state) }
+    ensures place { OnOk result (IsPlace log.now place.new) }
+    ensures forced { IfOk result (λ o. IfSome o (IsForced log.now place.new.state)) }
+{
+    match step {
+        Some(Step::Act(_)) => Ok(step),
+        Some(Step::Pass) => {
+            if (matches!(catalog.way, Way::Part) || are_many(place))
+                && let Some(write) = over_junk(place, alloc, log, catalog, true)?
+            {
+                return Ok(Some(write));
+            }
+            Ok(step)
+        }
+        None => at_last(place, alloc, log, catalog),
+    }
+}
+
+/// Takes the steps that may be taken at once, as long as there is work left.
+pub(crate) fn settle(
+    walk: &mut Walk,
+    alloc: Global,
+    log: &Log,
+    catalog: &Catalog,
+) -> Result<(), AllocError>
+    requires at { frames.IsAt log.now walk.old }
+    requires catalog { IsCatalog log.now catalog.now }
+    ensures { OnOk result (frames.IsAt log.now walk.new) }
+{
+    let mut look = walk.look;
+    for _step in 0..u64::MAX {
+        if walk.work == 0 {
+            return Ok(());
+        }
+        let seen = forced(&walk.here, log, catalog, look);
+        walk.work = walk.work.saturating_sub(work_for(&walk.here, seen));
+        let Some(step) = at_once(&mut walk.here, alloc, log, catalog, seen)? else {
+            return Ok(());
+        };
+        let done = walk.here.take(log, step)?;
+        look = look.after(log, catalog, &walk.here, step);
+        walk.losses.push(log, &walk.here, &done)?;
+        walk.stack.push(&done)?;
+    }
+    Ok(())
+}
+
+/// Keeps the steps that may be taken here.
+fn keep(walk: &mut Walk, alloc: Global, log: &Log, catalog: &Catalog) -> Result<(), AllocError>
+    requires at { frames.IsAt log.now walk.old }
+    requires more { walk.old.here.state.event ≡ length log.now.events → ⊥ }
+    ensures { OnOk result (frames.IsReady log.now walk.new) }
+{
+    let rest = choices(alloc, log, &catalog.others, catalog.turns(), &walk.here)?;
+    walk.stack.close(rest.as_slice())?;
+    Ok(())
+}
+
+/// Goes back to the last frame.
+fn rewind(walk: &mut Walk, log: &Log) -> Result<(), AllocError>
+    requires { frames.IsBack log.now walk.old }
+    ensures ready { OnOk result (frames.IsReady log.now walk.new) }
+    ensures frames { walk.new.stack.frames ≡ walk.old.stack.frames }
+{
+    while let Some(done) = walk.stack.pop() {
+        walk.here.take_back(log, &done)?;
+    }
+    Ok(())
+}
+
+/// Takes a step of the last frame, which isn't among those that are left there any more.
+fn go_on(walk: &mut Walk, log: &Log, catalog: &Catalog, step: Step) -> Result<(), AllocError>
+    requires step { frames.MayTake log.now walk.old step }
+    requires catalog { IsCatalog log.now catalog.now }
+    ensures at { OnOk result (frames.IsAt log.now walk.new) }
+    ensures frames { OnOk result (walk.new.stack.frames ≡ walk.old.stack.frames) }
+{
+    let done = walk.here.take(log, step)?;
+    walk.look = Look::none().after(log, catalog, &walk.here, step);
+    walk.losses.list.clear();
+    walk.losses.push(log, &walk.here, &done)?;
+    walk.stack.push(&done)?;
+    Ok(())
+}
+
+/// Where a request is due that is lost here, if one is of those before place `to` that may need what stood at
+/// the word.
+fn missed_by(walk: &Walk, log: &Log, catalog: &Catalog, loss: Loss, to: usize) -> Option<usize>
+    requires place { IsPlace log.now walk.now.here }
+    requires catalog { IsCatalog log.now catalog.now }
+    ensures { IfSome result (λ at. Dead log.now walk.now.here.state) }
+{
+    if is_back(loss, walk.here.bytes()) {
+        return None;
+    }
+    let from = walk.here.earliest();
+    missed_at(&walk.here, log, &catalog.others, loss, from, to)
+}
+
+/// [`missed_by`], one of the words that the steps since the last frame overwrote.
+fn some_missed(walk: &Walk, log: &Log, catalog: &Catalog, to: usize) -> Option<usize>
+    requires place { IsPlace log.now walk.now.here }
+    requires catalog { IsCatalog log.now catalog.now }
+    ensures { IfSome result (λ at. Dead log.now walk.now.here.state) }
+{
+    for loss in &walk.losses.list {
+        if let Some(at) = missed_by(walk, log, catalog, *loss, to) {
+            return Some(at);
+        }
+    }
+    None
+}
+
+/// Where a request is due that is lost here: at once, or of those before place `to`.
+fn lost_at(walk: &Walk, log: &Log, catalog: &Catalog, to: usize) -> Option<usize>
+    requires place { IsPlace log.now walk.now.here }
+    requires catalog { IsCatalog log.now catalog.now }
+    ensures { IfSome result (λ at. Dead log.now walk.now.here.state) }
+{
+    if due_is_lost(&walk.here, log, &catalog.others) {
+        return Some(walk.here.event());
+    }
+    some_missed(walk, log, catalog, to)
+}
+
+/// Goes on with what is left and isn't lost at once; false if nothing is.
+fn back(walk: &mut Walk, alloc: Global, log: &Log, catalog: &Catalog) -> Result<bool, AllocError>
+    requires ready { frames.IsReady log.now walk.old }
+    requires catalog { IsCatalog log.now catalog.now }
+    ensures at { IfOk result (λ more. IsTrue more → frames.IsAt log.now walk.new) }
+    ensures none { IfOk result (λ more. more ≡ false → Dead log.now (start log.now)) }
+{
+    loop {
+        if let Some(step) = walk.stack.next() {
+            go_on(walk, log, catalog, step)?;
+            let event = walk.here.event();
+            let Some(at) = lost_at(walk, log, catalog, event) else {
+                return Ok(true);
+            };
+            walk.reach = walk.reach.max(at);
+            rewind(walk, log)?;
+        } else {
+            if !walk.stack.reopen() {
+                return Ok(false);
+            }
+            walk.reach = walk.reach.max(walk.here.event());
+            walk.memo.note(alloc, &walk.here);
+            rewind(walk, log)?;
+        }
+    }
+}
+
+/// The place of an answer by which it is seen that no run leads from here to the end, or the next event's where
+/// that is known.
+fn dead_at(walk: &Walk, alloc: Global, log: &Log, catalog: &Catalog) -> Option<usize>
+    requires at { frames.IsAt log.now walk.now }
+    requires catalog { IsCatalog log.now catalog.now }
+    ensures { IfSome result (λ at. Dead log.now walk.now.here.state) }
+{
+    let event = walk.here.event();
+    if let Some(at) = lost_at(walk, log, catalog, event.saturating_add(SOON)) {
+        return Some(at);
+    }
+    if walk.memo.is_known(alloc, &walk.here) {
+        return Some(event);
+    }
+    None
+}
+
+/// Goes on from here; false if no run leads to the end.
+pub(crate) fn advance(
+    walk: &mut Walk,
+    alloc: Global,
+    log: &Log,
+    catalog: &Catalog,
+) -> Result<bool, AllocError>
+    requires at { frames.IsAt log.now walk.old }
+    requires catalog { IsCatalog log.now catalog.now }
+    requires more { walk.old.here.state.event ≡ length log.now.events → ⊥ }
+    ensures at { IfOk result (λ more. IsTrue more → frames.IsAt log.now walk.new) }
+    ensures none { IfOk result (λ more. more ≡ false → Dead log.now (start log.now)) }
+{
+    walk.work = walk.work.saturating_sub(CHOICE);
+    if let Some(at) = dead_at(walk, alloc, log, catalog) {
+        walk.reach = walk.reach.max(at);
+        rewind(walk, log)?;
+    } else {
+        keep(walk, alloc, log, catalog)?;
+    }
+    back(walk, alloc, log, catalog)
+}
