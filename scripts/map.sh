@@ -3,6 +3,7 @@
 #   docs/crates.md has the headings and crates of crates.txt, in its order, says in at most 12 words what each does, and
 #     names functions, clauses, types and modules that the crate's src/ declares
 #   crates/README.md and docs/architecture.md have each heading as the name of a layer
+#   where a layer's row in crates/README.md begins with names, each crate of the layer begins or ends with one of them
 #   docs/promises.md names clauses that their functions have, definitions with their number of lines, and wrong bodies
 #     that exist, in at most 25 rows, and that the rows of README.md's table of promises are its first ones
 #   each contract and definition quoted in docs/reading-proofs.md stands in the file that is named last above it
@@ -35,6 +36,28 @@ while read -r layer; do
         grep -qiE "^[|] (\[)?$layer(\]| )" "$page" || fail "$page has no layer '$layer'"
     done
 done < "$room/layers"
+# The layers whose crates have names in common, and from each of the other lines of crates.txt the crate, with its layer.
+awk -F ' [|] ' '
+    FNR == NR {
+        if ($2 !~ /^`/) next
+        sub(/\].*/, "", $1); sub(/^[|] \[/, "", $1); sub(/[:|].*/, "", $2)
+        names[tolower($1)] = $2
+        next
+    }
+    /^# / { layer = tolower(substr($0, 3)); next }
+    layer in names {
+        right = 0
+        count = split(names[layer], parts, "`")
+        for (i = 2; i <= count; i += 2) {
+            at = substr($0, 1, length(parts[i])) == parts[i]
+            if (parts[i] ~ /^_/) at = substr($0, length($0) - length(parts[i]) + 1) == parts[i]
+            if (parts[i] !~ /^_|_$/) at = $0 == parts[i]
+            right = right || at
+        }
+        if (!right) print $0 ": " layer
+    }
+' crates/README.md "$room/listed" > "$room/strangers"
+while read -r crate; do fail "another name than its layer's crates: $crate"; done < "$room/strangers"
 awk -F ' [|] ' '/^[|] `/ && split($2, words, " ") > 12 { print $1 }' docs/crates.md > "$room/long"
 while read -r row; do fail "more than 12 words: $row"; done < "$room/long"
 
