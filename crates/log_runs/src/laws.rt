@@ -51,10 +51,11 @@ pub fn a_run_is_a_history()
 {}
 
 /// Where the numbers of submissions are right, a number names one submission, and is below the
-/// number of its requester's submissions.
+/// number of its requester's submissions; and each number below that names one.
 pub fn numbers_name_submissions()
     ensures below { (rs : List Record) (b i k n : ℕ) (op : Op) → IsNumbered rs → slice_get rs b ≡ Some (records.Sub i k op n) → k < length (submissions rs i) }
     ensures unique { (rs : List Record) (a b i k n m : ℕ) (op w : Op) → IsNumbered rs → slice_get rs a ≡ Some (records.Sub i k op n) → slice_get rs b ≡ Some (records.Sub i k w m) → a ≡ b }
+    ensures named { (rs : List Record) (i k : ℕ) (op : Op) → IsNumbered rs → slice_get (submissions rs i) k ≡ Some op → (b : ℕ) × (n : ℕ) × (slice_get rs b ≡ Some (records.Sub i k op n)) }
 {}
 
 /// A record more is a submission more of its requester, if it is one.
