@@ -7,15 +7,13 @@ use Rattle.std.proofs.lemmas.List.{length-set, get_or-set_same, get_or-set_other
 use Rattle.std.proofs.lemmas.List.Folds.{list_any_more}
 use Rattle.std.proofs.lemmas.Option.{slice_get_read, slice_get_within, get_or_from_slice_get, same_Some}
 use Rattle.tlp_core.specs.declared.operation.Op.{Op}
-use Rattle.tlp_core.specs.Operation.{is_posted}
 use Rattle.seq_memory.specs.declared.Reply.{Reply}
 use Rattle.history_check.specs.declared.Record.{Record}
 use Rattle.history_check.specs.declared.Record.TheVariants as records
 use Rattle.history_check.specs.Trace.{submissions, IsNumbered, answers_to}
-use Rattle.log_runs.specs.EventView.{EventView}
-use Rattle.log_runs.specs.Tasks.{IsMisformed, Says}
+use Rattle.log_runs.specs.Tasks.{IsMisformed}
 use Rattle.log_events.specs.Formed.{AreFormed, IsOpen, submits}
-use Rattle.log_events.specs.Counts.{AreCounts, AreMarks, AreRight, IsCounted}
+use Rattle.log_events.specs.Counts.{AreMarks, AreRight, IsCounted}
 
 false_at : (n b : ℕ) → get_or (replicate n false) b false ≡ false
 false_at n b = elim (cases_lt b n) [
@@ -54,17 +52,17 @@ Numbered = (rs : List Record) (a i k n : ℕ) (op : Op) → IsNumbered (take a r
 abbrev pub NumberedAnswer : Type 0
 NumberedAnswer = (rs : List Record) (a i k n : ℕ) (reply : Reply) → IsNumbered (take a rs) → slice_get rs a ≡ Some (records.Ans i k reply n) → IsNumbered (take (a + 1) rs)
 
-no_answer : (i k n j l m : ℕ) (op : Op) (reply : Reply) → Some (records.Sub i k op n) ≡ Some (records.Ans j l reply m) → ⊥
+pub no_answer : (i k n j l m : ℕ) (op : Op) (reply : Reply) → Some (records.Sub i k op n) ≡ Some (records.Ans j l reply m) → ⊥
 no_answer i k n j l m op reply e = cc
 
 pub record SameAnswer (i k j l : ℕ) : Type 0 where
   pub who : i ≡ j
   pub number : k ≡ l
 
-same_answer : (i k n j l m : ℕ) (r q : Reply) → Some (records.Ans i k r n) ≡ Some (records.Ans j l q m) → SameAnswer i k j l
+pub same_answer : (i k n j l m : ℕ) (r q : Reply) → Some (records.Ans i k r n) ≡ Some (records.Ans j l q m) → SameAnswer i k j l
 same_answer i k n j l m r q e = record { who = cc; number = cc }
 
-clash : {b : Bool} → b ≡ true → b ≡ false → ⊥
+pub clash : {b : Bool} → b ≡ true → b ≡ false → ⊥
 clash t f = let e : true ≡ false = sym t ∙ f in cc
 
 or_none : (b : Bool) → (b || false) ≡ b
@@ -99,7 +97,7 @@ any_none : (t : Record → Bool) (rs : List Record) → ((p : ℕ) (r : Record) 
 any_none t [] f = refl
 any_none t (x ∷ xs) f = ap (λ b. b || list_any t xs) (f zero x refl) ∙ any_none t xs (λ p. f (suc p))
 
-any_at : (t : Record → Bool) (rs : List Record) (p : ℕ) (r : Record) → slice_get rs p ≡ Some r → t r ≡ true → list_any t rs ≡ true
+pub any_at : (t : Record → Bool) (rs : List Record) (p : ℕ) (r : Record) → slice_get rs p ≡ Some r → t r ≡ true → list_any t rs ≡ true
 any_at t [] p r at e = cc
 any_at t (x ∷ xs) zero r at e = or_left (t x) (list_any t xs) (ap t (same_Some x r at) ∙ e)
 any_at t (x ∷ xs) (suc p) r at e = or_right (t x) (list_any t xs) (any_at t xs p r at e)
@@ -115,7 +113,7 @@ pub record SameSubmission (i k j l : ℕ) : Type 0 where
   pub who : i ≡ j
   pub number : k ≡ l
 
-same_submission : (i k n j l m : ℕ) (op w : Op) → Some (records.Sub i k op n) ≡ Some (records.Sub j l w m) → SameSubmission i k j l
+pub same_submission : (i k n j l m : ℕ) (op w : Op) → Some (records.Sub i k op n) ≡ Some (records.Sub j l w m) → SameSubmission i k j l
 same_submission i k n j l m op w e = record { who = cc; number = cc }
 
 -- ---- marks
@@ -283,32 +281,3 @@ all_formed totals marks rs n known = λ a l wrong. formed_at rs n a l known.numb
 
 pub read_at : {X : Type 0} → (rs : List X) (a : ℕ) (r s : X) → a < length rs → r ≡ get_or rs a r → r ≡ s → slice_get rs a ≡ Some s
 read_at rs a r s within read e = slice_get_read rs (length rs) a r refl within read ∙ ap Some e
-
--- ---- events, one after another
-
-pub record EventsTo (rs : List Record) (es : List EventView) (n : ℕ) : Type 0 where
-  pub len : length es ≡ n
-  pub at : (a : ℕ) (r : Record) (e : EventView) → slice_get rs a ≡ Some r → slice_get es a ≡ Some e → Says rs r e
-
-get_front : {X : Type 0} → (xs : List X) (y : X) (p : ℕ) → p < length xs → slice_get (xs ++ y ∷ []) p ≡ slice_get xs p
-get_front [] y p l = absurd (omega arith)
-get_front (x ∷ xs) y zero l = refl
-get_front (x ∷ xs) y (suc p) l = get_front xs y p (omega arith)
-
-get_end : {X : Type 0} → (xs : List X) (y : X) → slice_get (xs ++ y ∷ []) (length xs) ≡ Some y
-get_end [] y = refl
-get_end (x ∷ xs) y = get_end xs y
-
-pub events_more : (rs : List Record) (es fs : List EventView) (e : EventView) (n : ℕ) → fs ≡ es ++ e ∷ [] → EventsTo rs es n → ((r : Record) → slice_get rs n ≡ Some r → Says rs r e) → EventsTo rs fs (n + 1)
-events_more rs es fs e n is before last = record {
-  len = ap length is ∙ length-append es (e ∷ []) ∙ ap (λ k. k + 1) before.len;
-  at = λ a r x at there. elim (cases_lt a n) [
-    | inl low ↦ before.at a r x at (sym (get_front es e a (omega (arith, before.len))) ∙ ap (λ (ys : List EventView). slice_get ys a) (sym is) ∙ there)
-    | inr high ↦
-        let inside : a < length fs = slice_get_within fs a x there in
-        let count : length fs ≡ n + 1 = ap length is ∙ length-append es (e ∷ []) ∙ ap (λ k. k + 1) before.len in
-        let same : n ≡ a = omega arith in
-        let eq : e ≡ x = same_Some e x (sym (get_end es e) ∙ ap (slice_get (es ++ e ∷ [])) (before.len ∙ same) ∙ ap (λ (ys : List EventView). slice_get ys a) (sym is) ∙ there) in
-        subst (Says rs r) eq (last r (ap (slice_get rs) same ∙ at))
-  ];
-}

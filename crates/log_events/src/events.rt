@@ -1,11 +1,13 @@
 //! The events of records.
-ghost use Rattle.std.specs.Prelude.{◌≡◌, ◌≤◌, ℕ, IfOk, IfSome, IsTrue, length, map, slice_get, take, Some};
+ghost use Rattle.std.specs.Prelude.{◌≡◌, ◌≤◌, ℕ, IfOk, IfSome, IsTrue, length, map, option_map, slice_get, take, Some, true};
 ghost use Rattle.tlp_core.specs.declared.operation.Op.{Op};
+ghost use Rattle.seq_memory.specs.declared.Reply.{Reply};
 ghost use Rattle.history_check.specs.declared.Record.{Record};
 ghost use Rattle.history_check.specs.declared.Record.TheVariants as kinds;
 ghost use Rattle.history_check.specs.TraceView.{observed};
 ghost use Rattle.log_runs.specs.EventView.{event_of};
-ghost use Rattle.log_runs.specs.Tasks.{Says, AreEvents};
+ghost use Rattle.log_runs.specs.Tasks.{Says, AreEvents, AreAllEvents};
+ghost use Rattle.log_events.specs.Joined.{partner, ArePartners, SaysAll};
 
 use crate::partners::Partners;
 use history_check::{Record, Trace};
@@ -15,7 +17,8 @@ use std::alloc::{AllocError, Global};
 
 /// The reply, if the record answers the request.
 fn reply_of<'a>(item: &'a Record, requester: u8, number: u32) -> Option<&'a Reply>
-    ensures { IfSome result (λ r. (n : ℕ) × (item.now ≡ kinds.Ans requester number r.now n)) }
+    ensures some { IfSome result (λ r. (n : ℕ) × (item.now ≡ kinds.Ans requester number r.now n)) }
+    ensures own { (n : ℕ) (reply : Reply) → item.now ≡ kinds.Ans requester number reply n → option_map (λ r. r.now) result ≡ Some reply }
 {
     match item {
         Record::Ans {
@@ -35,7 +38,8 @@ fn reply_at<'a>(
     requester: u8,
     number: u32,
 ) -> Option<&'a Reply>
-    ensures { IfSome result (λ r. (a : ℕ) × (n : ℕ) × (slice_get records.now a ≡ Some (kinds.Ans requester number r.now n))) }
+    ensures some { IfSome result (λ r. (a : ℕ) × (n : ℕ) × (slice_get records.now a ≡ Some (kinds.Ans requester number r.now n))) }
+    ensures own { (a n : ℕ) (reply : Reply) → at ≡ Some a → slice_get records.now a ≡ Some (kinds.Ans requester number reply n) → option_map (λ r. r.now) result ≡ Some reply }
 {
     match records.get(at?) {
         Some(record) => reply_of(record, requester, number),
@@ -45,7 +49,8 @@ fn reply_at<'a>(
 
 /// The record submits the request.
 fn submits(item: &Record, requester: u8, number: u32) -> bool
-    ensures { IsTrue result → (op : Op) × (n : ℕ) × (item.now ≡ kinds.Sub requester number op n) }
+    ensures yes { IsTrue result → (op : Op) × (n : ℕ) × (item.now ≡ kinds.Sub requester number op n) }
+    ensures own { (n : ℕ) (op : Op) → item.now ≡ kinds.Sub requester number op n → result ≡ true }
 {
     match item {
         Record::Sub {
@@ -64,7 +69,8 @@ pub(crate) fn submission_at(
     requester: u8,
     number: u32,
 ) -> Option<usize>
-    ensures { IfSome result (λ b. (op : Op) × (n : ℕ) × (slice_get records.now b ≡ Some (kinds.Sub requester number op n))) }
+    ensures some { IfSome result (λ b. (op : Op) × (n : ℕ) × (slice_get records.now b ≡ Some (kinds.Sub requester number op n))) }
+    ensures own { (b n : ℕ) (op : Op) → at ≡ Some b → slice_get records.now b ≡ Some (kinds.Sub requester number op n) → result ≡ Some b }
 {
     let at = at?;
     match records.get(at) {
@@ -79,7 +85,8 @@ pub(crate) fn submission_at(
 
 /// The event of a record.
 fn event_for<'a>(records: &'a [Record], item: &'a Record, partner: Option<usize>) -> Event<'a>
-    ensures { Says records.now item.now (event_of result) }
+    ensures says { Says records.now item.now (event_of result) }
+    ensures all { SaysAll records.now partner item.now (event_of result) }
 {
     match item {
         Record::Sub {
@@ -105,7 +112,8 @@ fn event_for<'a>(records: &'a [Record], item: &'a Record, partner: Option<usize>
 
 /// The event at a place, whose record belongs together with another as the table has it.
 fn event_at<'a>(records: &'a [Record], partners: &Partners, at: usize) -> Event<'a>
-    ensures { (r : Record) → slice_get records.now at ≡ Some r → Says records.now r (event_of result) }
+    ensures says { (r : Record) → slice_get records.now at ≡ Some r → Says records.now r (event_of result) }
+    ensures all { (r : Record) → slice_get records.now at ≡ Some r → SaysAll records.now (partner partners.now at) r (event_of result) }
 {
     match records.get(at) {
         Some(item) => event_for(records, item, partners.of(at)),
@@ -119,7 +127,8 @@ fn events_of<'a>(
     records: &'a [Record],
     partners: &Partners,
 ) -> Result<Vec<Event<'a>>, AllocError>
-    ensures { IfOk result (λ v. AreEvents records.now (map event_of v.items)) }
+    ensures says { IfOk result (λ v. AreEvents records.now (map event_of v.items)) }
+    ensures all { IfOk result (λ v. ArePartners partners.now records.now → AreAllEvents records.now (map event_of v.items)) }
 {
     let mut events = Vec::with_capacity(alloc, records.len())?;
     for at in 0..records.len() {
@@ -128,7 +137,8 @@ fn events_of<'a>(
     Ok(events)
 }
 
-/// The first `count` records as a search sees them. `partners` says which records may belong together.
+/// The first `count` records as a search sees them. `partners` says which records may belong together; where it is right
+/// for all of them, the events say all that the records do.
 pub fn log_of<'a>(
     alloc: Global,
     trace: &'a Trace,
@@ -137,6 +147,7 @@ pub fn log_of<'a>(
 ) -> Result<Log<'a>, AllocError>
     requires { count ≤ length trace.now.records }
     ensures events { IfOk result (λ l. AreEvents (take count trace.now.records) l.events) }
+    ensures all { IfOk result (λ l. ArePartners partners.now (take count trace.now.records) → AreAllEvents (take count trace.now.records) l.events) }
     ensures extent { IfOk result (λ l. l.extent ≡ observed trace.now) }
 {
     let events = events_of(alloc, &trace.records[..count], partners)?;

@@ -10,6 +10,7 @@ ghost use Rattle.log_runs.specs.Tasks.{IsMisformed};
 ghost use Rattle.log_events.specs.Counts.{AreAsked, AreMarks, IsCounted};
 ghost use Rattle.log_events.specs.Formed.{MisformedAt, AreFormed, IsOpen};
 ghost use Rattle.log_events.specs.Formed as spec;
+ghost use Rattle.log_events.specs.Joined.{AreJoined, ArePartners};
 
 use crate::counts::Counts;
 use crate::events::submission_at;
@@ -110,6 +111,7 @@ fn is_posted_at(records: &[Record], at: usize) -> bool
 impl Tables {
     fn new(alloc: Global, count: usize) -> Result<Self, AllocError>
         ensures counts { IfOk result (λ t. t.counts ≡ replicate 256 0) }
+        ensures partners { IfOk result (λ t. length t.partners ≡ count) }
         ensures answered { IfOk result (λ t. t.answered.items ≡ replicate count false) }
     {
         Ok(Tables {
@@ -124,6 +126,7 @@ impl Tables {
     fn submit(&mut self, requester: u8, at: usize) -> Result<(), AllocError>
         requires { get_or self.old.counts requester 0 < 18446744073709551615 }
         ensures counts { OnOk result (self.new.counts ≡ set self.old.counts requester (get_or self.old.counts requester 0 + 1)) }
+        ensures partners { OnOk result (self.new.partners ≡ self.old.partners) }
         ensures answered { OnOk result (self.new.answered.items ≡ self.old.answered.items) }
     {
         self.counts.add(requester);
@@ -137,6 +140,7 @@ impl Tables {
     fn answer(&mut self, submission: usize, at: usize)
         requires { submission < length self.old.answered.items }
         ensures counts { self.new.counts ≡ self.old.counts }
+        ensures partners { self.new.partners ≡ set (set self.old.partners submission at) at submission }
         ensures answered { self.new.answered.items ≡ set self.old.answered.items submission true }
     {
         self.answered[submission] = true;
@@ -178,8 +182,11 @@ impl Tables {
     fn add(&mut self, records: &[Record], at: usize) -> Result<bool, AllocError>
         requires within { at < length records.now }
         requires known { IsCounted self.old.counts self.old.answered.items records.now at }
+        requires joined { AreJoined self.old.partners records.now at }
         ensures right { IfOk result (λ right. IsTrue right → IsCounted self.new.counts self.new.answered.items records.now (at + 1)) }
+        ensures joined { IfOk result (λ right. IsTrue right → AreJoined self.new.partners records.now (at + 1)) }
         ensures wrong { IfOk result (λ right. right ≡ false → MisformedAt records.now at) }
+        ensures kept { IfOk result (λ right. right ≡ false → self.new.partners ≡ self.old.partners) }
     {
         submissions_grow_by_records();
         numbers_name_submissions();
@@ -217,6 +224,8 @@ pub fn form_of(alloc: Global, records: &[Record]) -> Result<Form, AllocError>
     ensures first { IfOk result (λ f. IfSome f.flaw (AreFormed records.now)) }
     ensures formed { IfOk result (λ f. IfNone f.flaw (AreFormed records.now (length records.now))) }
     ensures numbered { IfOk result (λ f. IfNone f.flaw (IsNumbered records.now)) }
+    ensures joined { IfOk result (λ f. IfNone f.flaw (ArePartners f.partners records.now)) }
+    ensures joined_before { IfOk result (λ f. IfSome f.flaw (λ a. ArePartners f.partners (take a records.now))) }
     ensures asked { IfOk result (λ f. IfNone f.flaw (AreAsked records.now (length records.now))) }
 {
     let mut tables = Tables::new(alloc, records.len())?;

@@ -7,3 +7,5 @@ pub mod RunOf
 pub mod Forms
 pub mod Prefixes
 pub mod Fewer
+pub mod Ends
+pub mod HistoryOf

@@ -1,5 +1,5 @@
 -- The events of a log, and what is wrong with the form of one.
-use Rattle.std.specs.Prelude.{ℕ, ◌≡◌, ◌⊎◌, List, length, slice_get, Some, true}
+use Rattle.std.specs.Prelude.{ℕ, ◌≡◌, ◌⊎◌, List, length, slice_get, take, Some, true}
 use Rattle.std.specs.List.{list_any}
 use Rattle.tlp_core.specs.declared.operation.Op.{Op}
 use Rattle.tlp_core.specs.Operation.{is_posted}
@@ -25,6 +25,12 @@ pub record AreEvents (rs : List Record) (es : List EventView) : Type 0 where
   pub len : length es ≡ length rs
   pub at : (a : ℕ) (r : Record) (e : EventView) → slice_get rs a ≡ Some r → slice_get es a ≡ Some e → Says rs r e
 
+-- the events say all: the submission of an answered request has the reply, and each answer is due to a request
+pub record AreAllEvents (rs : List Record) (es : List EventView) : Type 0 where
+  pub right : AreEvents rs es
+  pub replied : (a b i k n m : ℕ) (op : Op) (r : Reply) → slice_get rs b ≡ Some (records.Sub i k op n) → slice_get rs a ≡ Some (records.Ans i k r m) → slice_get es b ≡ Some (events.Sub i op (Some r))
+  pub due : (a i k n : ℕ) (r : Reply) → slice_get rs a ≡ Some (records.Ans i k r n) → (b : ℕ) × (slice_get es a ≡ Some (events.Due b))
+
 -- what is wrong with the form of the record after those
 abbrev pub IsMisformed : List Record → Record → Type 0
 -- its number isn't the next of its requester
@@ -33,3 +39,7 @@ IsMisformed before (records.Sub i k op n) = k ≡ length (submissions before i) 
 IsMisformed before (records.Ans i k r n) =
     ((b : ℕ) (op : Op) (m : ℕ) → slice_get before b ≡ Some (records.Sub i k op m) → is_posted op ≡ true)
     ⊎ (list_any (answers_to i k) before ≡ true)
+
+-- no record's form is wrong
+abbrev pub IsWellFormed : List Record → Type 0
+IsWellFormed rs = (a : ℕ) (r : Record) → slice_get rs a ≡ Some r → IsMisformed (take a rs) r → ⊥

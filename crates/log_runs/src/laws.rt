@@ -10,9 +10,10 @@ ghost use Rattle.history_check.specs.Clocks.{IsClocked};
 ghost use Rattle.history_check.specs.Trace.{Explains, IsNumbered, submissions};
 ghost use Rattle.history_check.specs.TraceView.{TraceView, observed};
 ghost use Rattle.log_runs.specs.EventView.{EventView};
-ghost use Rattle.log_runs.specs.Explainable.{IsExplainable, prefix, without};
+ghost use Rattle.log_runs.specs.Explainable.{IsExplainable, SeenAlike, prefix, without};
+ghost use Rattle.log_runs.specs.Histories.{history_of, timed};
 ghost use Rattle.log_runs.specs.Runs.{Live, start};
-ghost use Rattle.log_runs.specs.Tasks.{AreEvents, IsMisformed};
+ghost use Rattle.log_runs.specs.Tasks.{AreAllEvents, AreEvents, IsMisformed, IsWellFormed};
 
 /// What a history explains, with `n` that are those of a history that grew, is explainable: so it has a history whatever
 /// its `n` are.
@@ -40,11 +41,21 @@ pub fn explainable_has_a_run()
     ensures { (t : TraceView) (es : List EventView) → AreEvents t.records es → IsExplainable t → Live (record { extent = observed t; events = es }) (start (record { extent = observed t; events = es })) }
 {}
 
+/// A run through all events of a log whose form is right is a history that explains the log. Its entries are the
+/// requests in the order in which they act, and n of a record is the number of requests that had acted when it was passed.
+pub fn a_run_is_a_history()
+    ensures explains { (t : TraceView) (es : List EventView) → IsWellFormed t.records → AreAllEvents t.records es → (run : Live (record { extent = observed t; events = es }) (start (record { extent = observed t; events = es }))) → Explains (claim_of (timed run.steps t) (history_of t.records run.steps)) }
+    ensures clocked { (t : TraceView) (es : List EventView) → IsWellFormed t.records → AreAllEvents t.records es → (run : Live (record { extent = observed t; events = es }) (start (record { extent = observed t; events = es }))) → IsClocked (claim_of (timed run.steps t) (history_of t.records run.steps)) }
+    ensures alike { (t : TraceView) (es : List EventView) → IsWellFormed t.records → AreAllEvents t.records es → (run : Live (record { extent = observed t; events = es }) (start (record { extent = observed t; events = es }))) → SeenAlike t (timed run.steps t) }
+    ensures explainable { (t : TraceView) (es : List EventView) → IsWellFormed t.records → AreAllEvents t.records es → Live (record { extent = observed t; events = es }) (start (record { extent = observed t; events = es })) → IsExplainable t }
+{}
+
 /// Where the numbers of submissions are right, a number names one submission, and is below the
-/// number of its requester's submissions.
+/// number of its requester's submissions; and each number below that names one.
 pub fn numbers_name_submissions()
     ensures below { (rs : List Record) (b i k n : ℕ) (op : Op) → IsNumbered rs → slice_get rs b ≡ Some (records.Sub i k op n) → k < length (submissions rs i) }
     ensures unique { (rs : List Record) (a b i k n m : ℕ) (op w : Op) → IsNumbered rs → slice_get rs a ≡ Some (records.Sub i k op n) → slice_get rs b ≡ Some (records.Sub i k w m) → a ≡ b }
+    ensures named { (rs : List Record) (i k : ℕ) (op : Op) → IsNumbered rs → slice_get (submissions rs i) k ≡ Some op → (b : ℕ) × (n : ℕ) × (slice_get rs b ≡ Some (records.Sub i k op n)) }
 {}
 
 /// A record more is a submission more of its requester, if it is one.

@@ -1,7 +1,7 @@
-use Rattle.std.proofs.Common.{◌∙◌, ◌∷◌, [], ap, map}
+use Rattle.std.proofs.Common.{◌≡◌, ◌∙◌, ◌∷◌, [], ap, map, length, arith}
 use Rattle.std.proofs.lemmas.List.{map-append}
 use Rattle.log_runs.specs.EventView.{event_of}
-use Rattle.log_events.proofs.CountLemmas.{events_more}
+use Rattle.log_events.proofs.EventLemmas.{events_more, events_end, are_events, are_all_events}
 use Rattle.log_events.proofs.events.events_of.Goals as goal
 
 pub loop-at-preserved : goal.loop-at-preserved
@@ -9,4 +9,16 @@ loop-at-preserved c =
     let es = c.loop-at.events.items in
     let e = c.event_at.result in
     let grown = ap (map event_of) c.in_ok-push.ensures.items ∙ map-append event_of es (e ∷ []) in
-    events_more c.args.records.now (map event_of es) (map event_of c.push.new.self.items) (event_of e) c.loop-at.at grown c.loop-at.invariant c.event_at.ensures
+    events_more c.args.partners.now c.args.records.now (map event_of es) (map event_of c.push.new.self.items) (event_of e) c.loop-at.at grown c.loop-at.invariant c.event_at.ensures.says c.event_at.ensures.all
+
+pub returns-clause-says : goal.returns-clause-says
+returns-clause-says c =
+    let over : c.loop-at.at ≡ length c.args.records.now = omega (arith, c.loop-at-test.false, c.loop-at.auto.at-end) in
+    let es = map event_of c.loop-at.events.items in
+    are_events c.args.partners.now c.args.records.now es (events_end c.args.partners.now c.args.records.now es c.loop-at.at over c.loop-at.invariant)
+
+pub returns-clause-all : goal.returns-clause-all
+returns-clause-all c =
+    let over : c.loop-at.at ≡ length c.args.records.now = omega (arith, c.loop-at-test.false, c.loop-at.auto.at-end) in
+    let es = map event_of c.loop-at.events.items in
+    are_all_events c.args.partners.now c.args.records.now es (events_end c.args.partners.now c.args.records.now es c.loop-at.at over c.loop-at.invariant)
