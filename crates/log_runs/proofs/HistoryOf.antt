@@ -132,8 +132,8 @@ module _ (t : TraceView) (es : List EventView) (formed : IsWellFormed t.records)
         rises = λ c d r p l here there. front_or_last us new d p (moment r ≤ moment p) there
             (λ m e. front_or_last us new c r (moment r ≤ moment p) here (λ k f. x.rises c d r p l f e) (λ k f. absurd (omega arith)))
             (λ m e.
-                let last : moment p ≡ length h = ap moment (sym e) ∙ moment_with (length h) q in
-                front_or_last us new c r (moment r ≤ moment p) here (λ k f. omega (arith, x.bounded c r f)) (λ k f. absurd (omega arith)));
+            let last : moment p ≡ length h = ap moment (sym e) ∙ moment_with (length h) q in
+            front_or_last us new c r (moment r ≤ moment p) here (λ k f. omega (arith, x.bounded c r f)) (λ k f. absurd (omega arith)));
         bounded = λ c r here. front_or_last us new c r (moment r ≤ length h) here
             (λ m e. x.bounded c r e)
             (λ m e. let last : moment r ≡ length h = ap moment (sym e) ∙ moment_with (length h) q in omega arith);
@@ -220,16 +220,16 @@ module _ (t : TraceView) (es : List EventView) (formed : IsWellFormed t.records)
         since = λ p f at. front_or_last h e p f (Since us p f) at
             (λ l there. x.since p f there)
             (λ l same.
-                let inside : slice_get (take s.event rs) b ≡ Some (records.Sub a.requester m.number a.op m.n) = to_take_here s b (records.Sub a.requester m.number a.op m.n) a.since m.at in
-                let (n, there) = sub_alike (take s.event rs) us (sym x.alike) b a.requester m.number m.n a.op inside in
-                subst (Since us p) same (record { place = b; n = n; at = there; before = omega (arith, l, x.bounded b (records.Sub a.requester m.number a.op n) there) }));
+            let inside : slice_get (take s.event rs) b ≡ Some (records.Sub a.requester m.number a.op m.n) = to_take_here s b (records.Sub a.requester m.number a.op m.n) a.since m.at in
+            let (n, there) = sub_alike (take s.event rs) us (sym x.alike) b a.requester m.number m.n a.op inside in
+            subst (Since us p) same (record { place = b; n = n; at = there; before = omega (arith, l, x.bounded b (records.Sub a.requester m.number a.op n) there) }));
         acted = λ c i k n r at. ap (λ (g : List Entry). stands g i k) (front n (x.bounded c (records.Ans i k r n) at)) ∙ x.acted c i k n r at;
         replied = λ p c n f r at sub event. front_or_last h e p f (answer t.base t.block (contents (observed t) (take p (h ++ e ∷ []))) f.op ≡ r) at
             (λ l there. ap (λ (g : List Entry). answer t.base t.block (contents (observed t) g) f.op) (front p (omega arith)) ∙ x.replied p c n f r there sub event)
             (λ l same.
-                let here : c ≡ b = unique rs numbered c b a.requester m.number n m.n f.op a.op (rw (← same_who same, ← same_number same) sub) m.at in
-                ap (λ (g : List Entry). answer t.base t.block (contents (observed t) g) f.op) (ap (λ q. take q (h ++ e ∷ [])) l ∙ take-append_seam h (e ∷ []))
-                ∙ reply_there s h b f r x.matches a (sym (ap (λ (y : Entry). y.op) same)) (ap (slice_get es) (sym here) ∙ event));
+            let here : c ≡ b = unique rs numbered c b a.requester m.number n m.n f.op a.op (rw (← same_who same, ← same_number same) sub) m.at in
+            ap (λ (g : List Entry). answer t.base t.block (contents (observed t) g) f.op) (ap (λ q. take q (h ++ e ∷ [])) l ∙ take-append_seam h (e ∷ []))
+            ∙ reply_there s h b f r x.matches a (sym (ap (λ (y : Entry). y.op) same)) (ap (slice_get es) (sym here) ∙ event));
       }
     where
       to_take_here : (s : State) (b : ℕ) (r : Record) → b < s.event → slice_get rs b ≡ Some r → slice_get (take s.event rs) b ≡ Some r
