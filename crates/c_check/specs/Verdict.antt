@@ -5,9 +5,9 @@ use Rattle.history_check.specs.Claim.{Claim}
 use Rattle.history_check.specs.Clocks.{IsClocked, KeepsRealTimeOrder}
 use Rattle.history_check.specs.Flaws.{first_flaw, first_flaw_clocked}
 use Rattle.history_check.specs.Trace.{Explains}
-use Rattle.trace_text.specs.declared.fault.ReadFault.{ReadFault}
+use Rattle.record_text.specs.declared.fault.ReadFault.{ReadFault}
 use Rattle.trace_text.specs.TraceReaderView.{read_of}
-use Rattle.trace_text.specs.Names.{fault_line}
+use Rattle.record_text.specs.Names.{fault_line}
 use Rattle.flaw_places.specs.Places.{flaw_line}
 use Rattle.c_buffer.specs.declared.outcome.Failure.TheVariants.{SmallBuffer}
 use Rattle.c_buffer.specs.Buffer.{Told, untold, told_fault}

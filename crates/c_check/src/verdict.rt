@@ -4,7 +4,7 @@ ghost use Rattle.history_check.specs.Claim.{Claim, claim_of};
 ghost use Rattle.history_check.specs.Trace.{Explains};
 ghost use Rattle.history_check.specs.Flaws.{Tells};
 ghost use Rattle.trace_text.specs.TraceReaderView.{read_of};
-ghost use Rattle.trace_text.specs.Names.{fault_line};
+ghost use Rattle.record_text.specs.Names.{fault_line};
 ghost use Rattle.flaw_places.specs.Places.{flaw_line};
 ghost use Rattle.c_buffer.specs.declared.outcome.Failure.TheVariants.{Text, SmallBuffer, NoMemory};
 ghost use Rattle.c_buffer.specs.Buffer.{filled, is_silent};
@@ -14,9 +14,10 @@ use arrayvec::ArrayString;
 use c_buffer::{Failure, LINE_BUFFER, tell_fault};
 use flaw_places::write_flaw;
 use history_check::{Flaw, FlawKind, Trace, check, check_clocked};
+use record_text::{ReadFault, ReadFaultKind, write_fault};
 use seq_memory::Entry;
 use std::alloc::Global;
-use trace_text::{ReadFault, ReadFaultKind, read_trace, write_fault};
+use trace_text::read_trace;
 
 /// Puts the line of a flaw to the front of the buffer.
 fn put_flaw(flaw: Flaw, buffer: &mut [u8]) -> Failure

@@ -7,7 +7,7 @@ use Rattle.std.specs.Prelude.{nat_lt, is_some, Option}
 use Rattle.history_check.specs.Claim.{Claim}
 use Rattle.history_check.specs.Flaws.{first_flaw}
 use Rattle.history_picture.specs.Picture.{picture_text, line_text}
-use Rattle.trace_text.specs.Names.{fault_line}
+use Rattle.record_text.specs.Names.{fault_line}
 use Rattle.history_picture.specs.declared.scale.Window.{Window}
 use Rattle.text_lines.specs.Lines.{lines_of, bare, said}
 use Rattle.line_loop.specs.declared.verdict.Verdict.{Verdict}
@@ -15,7 +15,7 @@ use Rattle.line_loop.specs.declared.verdict.Verdict.TheVariants as verdicts
 use Rattle.line_loop.specs.Run.{Answer, IsAnswer, is_fault, Run, after_line, new_run, run_of}
 use Rattle.svg_text.specs.Shapes.{Shape, page_text}
 use Rattle.svg_text.specs.Xml.{IsDocument}
-use Rattle.trace_text.specs.declared.fault.ReadFault.{ReadFault}
+use Rattle.record_text.specs.declared.fault.ReadFault.{ReadFault}
 use Rattle.trace_text.specs.TraceReaderView.{nothing_read, at_end}
 use Rattle.draw_engine.specs.Draw.{DrawerView, flaw_of, shows, drawn, draw_responses, out_draw, WritesDocument}
 

@@ -11,9 +11,9 @@ use Rattle.history_picture.specs.Words.{flaw_words}
 use Rattle.history_picture.specs.Picture as picture
 use Rattle.text_lines.specs.Lines.{lines_of, bare, said}
 use Rattle.line_loop.specs.Run.{Run, with_answer, after_line, new_run}
-use Rattle.trace_text.specs.declared.fault.ReadFault.{ReadFault}
+use Rattle.record_text.specs.declared.fault.ReadFault.{ReadFault}
 use Rattle.trace_text.specs.TraceReaderView as read
-use Rattle.trace_text.specs.Names.{fault_line}
+use Rattle.record_text.specs.Names.{fault_line}
 use Rattle.flaw_places.specs.Places.{flaw_line}
 use Rattle.trace_engine.specs.Check.{judged, checked, check_responses, out_check}
 use Rattle.draw_engine.specs.Draw.{DrawerView, shows, drawn, flaw_of, draw_responses, out_draw, SaysTheSame}

@@ -9,9 +9,9 @@ use Rattle.history_picture.specs.declared.scale.Window.{Window}
 use Rattle.history_picture.specs.Picture.{title_label, picture_text, line_text}
 use Rattle.svg_text.specs.Shapes.{Shape, page_text}
 use Rattle.svg_text.specs.Xml.{IsDocument}
-use Rattle.trace_text.specs.declared.fault.ReadFault.{ReadFault}
+use Rattle.record_text.specs.declared.fault.ReadFault.{ReadFault}
 use Rattle.trace_text.specs.TraceReaderView.{TraceReaderView, nothing_read, after_line, after_long_line, at_end}
-use Rattle.trace_text.specs.Names.{fault_line}
+use Rattle.record_text.specs.Names.{fault_line}
 use Rattle.line_loop.specs.Run.{Answer, Responses, Run, run_of}
 
 -- the window that is drawn, and what was read so far

@@ -4,7 +4,7 @@ ghost use Rattle.history_check.specs.Claim.{claim_of};
 ghost use Rattle.history_check.specs.Flaws.{first_flaw};
 ghost use Rattle.history_picture.specs.Picture.{picture_text, line_text};
 ghost use Rattle.trace_text.specs.TraceReaderView.{nothing_read, at_end};
-ghost use Rattle.trace_text.specs.Names.{fault_line};
+ghost use Rattle.record_text.specs.Names.{fault_line};
 ghost use Rattle.line_loop.specs.Run.{IsWhole, IsPart, is_fault};
 ghost use Rattle.draw_engine.specs.Draw.{DrawerView, WritesDocument, flaw_of, out_draw};
 
@@ -13,12 +13,13 @@ use arrayvec::ArrayString;
 use history_check::{Flaw, FlawKind, Trace, check};
 use history_picture::{Window, put_line_picture, put_picture};
 use line_loop::{EngineFault, Responder, Verdict, run};
+use record_text::{ReadFault, write_fault};
 use seq_memory::Entry;
 use std::alloc::{AllocError, Global};
 use std::io::{Read, Write};
 use std::marker::Model;
 use std::mem;
-use trace_text::{ReadFault, TraceReader, write_fault};
+use trace_text::TraceReader;
 
 /// The first flaw of the trace and its history, if there is one.
 fn flaw_in(alloc: Global, trace: &Trace, history: &[Entry]) -> Result<Option<Flaw>, AllocError>

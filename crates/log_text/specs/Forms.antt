@@ -1,19 +1,16 @@
 -- The forms of a log's lines: those of a trace of version 2, whose records have no n.
-use Rattle.std.specs.Prelude.{ℕ, if◌then◌else◌, List, [], ◌∷◌, Option, Some, None, codes, bytes_eq}
-use Rattle.seq_memory.specs.Limits.{Extent, is_within_limits}
+use Rattle.std.specs.Prelude.{ℕ, true, if◌then◌else◌, List, [], ◌∷◌, Option, Some, None, codes, bytes_eq}
 use Rattle.history_check.specs.declared.Record.TheVariants as records
 use Rattle.operation_text.specs.Words.{words, then_with, field, ended}
-use Rattle.operation_text.specs.Operations.{address, op_spelled, reply_spelled}
-use Rattle.trace_text.specs.Forms.{requester, number, count, block}
+use Rattle.operation_text.specs.Operations.{op_spelled, reply_spelled}
+use Rattle.record_text.specs.Forms.{requester, number, memory_of}
+use Rattle.record_text.specs.declared.form.Section.{Section}
+use Rattle.record_text.specs.declared.form.Section.TheVariants as sections
 use Rattle.log_text.specs.declared.line.LogLine.{LogLine}
 use Rattle.log_text.specs.declared.line.LogLine.TheVariants as lines
 
--- a memory of that extent, if there can be one
-abbrev pub memory_within : Extent → List (List ℕ) → Option LogLine
-memory_within x ws = if is_within_limits x then ended (lines.Memory x) ws else None
-
-abbrev pub memory_of : List (List ℕ) → Option LogLine
-memory_of ws = field address (λ base. field count (λ size. field block (λ b. memory_within (record { base = base; size = size; block = b })))) ws
+abbrev pub memory_line_of : List (List ℕ) → Option LogLine
+memory_line_of ws = then_with (memory_of true ws) (λ x. Some (lines.Memory x))
 
 -- a record's n is 0: it says nothing
 abbrev pub sub_of : List (List ℕ) → Option LogLine
@@ -27,7 +24,7 @@ abbrev pub line_by : List ℕ → List (List ℕ) → Option LogLine
 line_by kind ws =
     if bytes_eq kind (codes "sub") then sub_of ws
     else (if bytes_eq kind (codes "ans") then ans_of ws
-    else (if bytes_eq kind (codes "memory") then memory_of ws
+    else (if bytes_eq kind (codes "memory") then memory_line_of ws
     else (if bytes_eq kind (codes "end") then ended lines.End ws else None)))
 
 abbrev pub line_in_words : List (List ℕ) → Option LogLine
@@ -37,3 +34,11 @@ line_in_words (kind ∷ ws) = line_by kind ws
 -- the line that the text spells
 abbrev pub line_of : List ℕ → Option LogLine
 line_of line = if bytes_eq line (codes "pciex-log 1") then Some lines.Head else line_in_words (words line)
+
+-- the section after a line, if the line is due in the section
+abbrev pub section_after : Section → LogLine → Option Section
+section_after sections.Head lines.Head = Some sections.Memory
+section_after sections.Memory (lines.Memory x) = Some sections.Records
+section_after sections.Records (lines.Record r) = Some sections.Records
+section_after sections.Records lines.End = Some sections.End
+section_after _ _ = None

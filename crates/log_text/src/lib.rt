@@ -14,9 +14,8 @@
 //! say nothing of the log.
 #![tactic(auto)]
 
+mod form;
 mod line;
-mod reader;
 mod reading;
 
-pub use line::log_misfit;
-pub use reading::{read_log, read_seen};
+pub use reading::{read_log, read_seen, read_seen_with_cause};

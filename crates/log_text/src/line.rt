@@ -5,9 +5,9 @@ ghost use Rattle.operation_text.specs.Words.{words, words_behind};
 ghost use Rattle.log_text.specs.Forms as forms;
 
 use history_check::Record;
-use operation_text::{BASE, Expected, Misfit, SIZE, alone, cut, number, op_behind, reply_behind};
+use operation_text::{Expected, Misfit, alone, cut, op_behind, reply_behind};
+use record_text::{memory, request, requester};
 use seq_memory::Extent;
-use trace_text::{block, count, memory_extent, request, requester};
 
 /// A line, by its first word.
 const LINE: Expected = Expected::Of("a line of a log", "pciex-log, memory, sub, ans, end");
@@ -21,30 +21,13 @@ pub(crate) enum LogLine {
     End,
 }
 
-/// The line of a memory, if there can be one of that base and size, which come in `place`.
-fn memory_within(
-    base: u64,
-    size: usize,
-    block: u16,
-    place: Option<&[u8]>,
-    rest: Option<&[u8]>,
-) -> Result<LogLine, Misfit>
-    ensures { result_ok result ≡ forms.memory_within (record { base = base; size = size; block = block }) (words_behind rest.entry) }
+fn memory_line(rest: Option<&[u8]>) -> Result<LogLine, Misfit>
+    ensures { result_ok result ≡ forms.memory_line_of (words_behind rest.entry) }
 {
-    match memory_extent(base, size, block, place) {
-        Ok(extent) => alone(LogLine::Memory(extent), rest),
+    match memory(rest, true) {
+        Ok(extent) => Ok(LogLine::Memory(extent)),
         Err(misfit) => Err(misfit),
     }
-}
-
-fn memory(place: Option<&[u8]>) -> Result<LogLine, Misfit>
-    ensures { result_ok result ≡ forms.memory_of (words_behind place.entry) }
-{
-    let (base, rest) = number(place, 16, u64::MAX, BASE)?;
-    let (size, rest) = count(rest, SIZE)?;
-    let size = size as usize;
-    let (block, rest) = block(rest)?;
-    memory_within(base, size, block, place, rest)
 }
 
 fn sub(rest: Option<&[u8]>) -> Result<LogLine, Misfit>
@@ -84,7 +67,7 @@ fn line_by(kind: &[u8], rest: Option<&[u8]>, text: &[u8]) -> Result<LogLine, Mis
     } else if kind == b"ans".as_slice() {
         ans(rest)
     } else if kind == b"memory".as_slice() {
-        memory(rest)
+        memory_line(rest)
     } else if kind == b"end".as_slice() {
         alone(LogLine::End, rest)
     } else {
@@ -108,9 +91,4 @@ pub(crate) fn read_line(text: &[u8]) -> Result<LogLine, Misfit>
     } else {
         line_in_words(text)
     }
-}
-
-/// What doesn't fit in the line of a log. None if it is read.
-pub fn log_misfit(text: &[u8]) -> Option<Misfit> {
-    read_line(text).err()
 }

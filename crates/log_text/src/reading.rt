@@ -1,45 +1,23 @@
 //! Reading the whole text of a log.
-ghost use Rattle.std.specs.Prelude.{◌≡◌, ◌⊎◌, true, OnOk, OnErr, IfOk, IfErr, Ok, Err};
+ghost use Rattle.std.specs.Prelude.{◌≡◌, ◌⊎◌, IfOk, IfErr, Ok, Err};
 ghost use Rattle.trace_text.specs.TraceReaderView.{read_of, IsRefused};
 ghost use Rattle.log_text.specs.LogReaderView.{log_of, seen_of, is_head, without_history, Tells, SeenTells};
-ghost use Rattle.log_text.specs.Endings.{on_said, on_ended_line, on_last_line, adds_said, adds_ended, adds_last};
 
-use crate::reader::LogReader;
+use crate::form::LogForm;
 use history_check::Trace;
-use memchr::memchr;
-use std::alloc::{AllocError, Global};
-use text_lines::{is_too_long, without_return};
-use trace_text::{ReadFault, ReadFaultKind, read_trace};
+use record_text::{Cause, Misread, ReadFault, ReadFaultKind, read_records};
+use std::alloc::Global;
+use trace_text::read_trace_with_cause;
 
-/// Takes a line, of which this is said if it isn't too long.
-fn take(reader: &mut LogReader, line: &[u8], said: &[u8]) -> Result<(), AllocError>
-    ensures ok { OnOk result (reader.new ≡ on_said reader.old line.now said.now) }
-    ensures err { OnErr result (reader.new ≡ reader.old) }
-    ensures adds { OnErr result (adds_said reader.old line.now said.now ≡ true) }
+/// What [`read_log`] returns, with the cause of a fault.
+fn read_log_with_cause(alloc: Global, text: &[u8]) -> Result<Trace, Misread>
+    ensures ok { IfOk result (λ t. log_of text.now ≡ Ok t) }
+    ensures err { IfErr result (λ e. Tells text.now e.fault) }
 {
-    if is_too_long(line) {
-        reader.long_line();
-        return Ok(());
+    match read_records(LogForm::new(alloc), text) {
+        Ok(form) => Ok(form.trace()),
+        Err(misread) => Err(misread),
     }
-    reader.line(said)
-}
-
-/// Takes a line that a line feed ended, given without it.
-fn take_ended(reader: &mut LogReader, line: &[u8]) -> Result<(), AllocError>
-    ensures ok { OnOk result (reader.new ≡ on_ended_line reader.old line.now) }
-    ensures err { OnErr result (reader.new ≡ reader.old) }
-    ensures adds { OnErr result (adds_ended reader.old line.now ≡ true) }
-{
-    take(reader, line, without_return(line))
-}
-
-/// Takes a line that the end of the text ended.
-fn take_last(reader: &mut LogReader, line: &[u8]) -> Result<(), AllocError>
-    ensures ok { OnOk result (reader.new ≡ on_last_line reader.old line.now) }
-    ensures err { OnErr result (reader.new ≡ reader.old) }
-    ensures adds { OnErr result (adds_last reader.old line.now ≡ true) }
-{
-    take(reader, line, line)
 }
 
 /// The log that the text spells, or its first fault: its lines end in line feeds, the last may lack it,
@@ -50,23 +28,10 @@ pub fn read_log(alloc: Global, text: &[u8]) -> Result<Trace, ReadFault>
     ensures ok { IfOk result (λ t. log_of text.now ≡ Ok t) }
     ensures err { IfErr result (Tells text.now) }
 {
-    let mut reader = LogReader::new(alloc);
-    let mut rest = text;
-    while let Some(end) = memchr(b'\n', rest) {
-        let Ok(()) = take_ended(&mut reader, &rest[..end]) else {
-            return Err(reader.out_of_memory());
-        };
-        if let Some(fault) = reader.fault() {
-            return Err(fault);
-        }
-        rest = &rest[end + 1..];
+    match read_log_with_cause(alloc, text) {
+        Ok(log) => Ok(log),
+        Err(misread) => Err(misread.fault),
     }
-    if !rest.is_empty() {
-        let Ok(()) = take_last(&mut reader, rest) else {
-            return Err(reader.out_of_memory());
-        };
-    }
-    reader.end()
 }
 
 /// The first line is none of a log.
@@ -76,14 +41,38 @@ fn is_head(kind: ReadFaultKind) -> bool
     matches!(kind, ReadFaultKind::Head)
 }
 
-/// The trace that the text spells, without its history.
-fn read_seen_trace(alloc: Global, text: &[u8]) -> Result<Trace, ReadFault>
-    ensures ok { IfOk result (λ t. without_history (read_of text.now) ≡ Ok t) }
-    ensures err { IfErr result (λ f. (without_history (read_of text.now) ≡ Err f) ⊎ IsRefused text.now f) }
+/// A fault of a trace in the place of a log, in whose head this was wrong.
+fn told_by(misread: Misread, head: Cause) -> Misread
+    ensures { result.fault ≡ misread.fault }
 {
-    match read_trace(alloc, text) {
+    let Misread { fault, cause } = misread;
+    let cause = if is_head(fault.kind) { head } else { cause };
+    Misread { fault, cause }
+}
+
+/// The trace that the text spells, without its history. In the head of a log this was wrong.
+fn read_seen_trace(alloc: Global, text: &[u8], head: Cause) -> Result<Trace, Misread>
+    ensures ok { IfOk result (λ t. without_history (read_of text.now) ≡ Ok t) }
+    ensures err { IfErr result (λ e. (without_history (read_of text.now) ≡ Err e.fault) ⊎ IsRefused text.now e.fault) }
+{
+    match read_trace_with_cause(alloc, text) {
         Ok((trace, _)) => Ok(trace),
-        Err(fault) => Err(fault),
+        Err(misread) => Err(told_by(misread, head)),
+    }
+}
+
+/// What [`read_seen`] returns, with the cause of a fault: if neither a log's head nor a trace's is there,
+/// that one is expected.
+pub fn read_seen_with_cause(alloc: Global, text: &[u8]) -> Result<Trace, Misread>
+    ensures ok { IfOk result (λ t. seen_of text.now ≡ Ok t) }
+    ensures err { IfErr result (λ e. SeenTells text.now e.fault) }
+{
+    match read_log_with_cause(alloc, text) {
+        Ok(log) => Ok(log),
+        Err(misread) if is_head(misread.fault.kind) => {
+            read_seen_trace(alloc, text, misread.cause)
+        }
+        Err(misread) => Err(misread),
     }
 }
 
@@ -94,9 +83,8 @@ pub fn read_seen(alloc: Global, text: &[u8]) -> Result<Trace, ReadFault>
     ensures ok { IfOk result (λ t. seen_of text.now ≡ Ok t) }
     ensures err { IfErr result (SeenTells text.now) }
 {
-    match read_log(alloc, text) {
-        Ok(log) => Ok(log),
-        Err(fault) if is_head(fault.kind) => read_seen_trace(alloc, text),
-        Err(fault) => Err(fault),
+    match read_seen_with_cause(alloc, text) {
+        Ok(seen) => Ok(seen),
+        Err(misread) => Err(misread.fault),
     }
 }

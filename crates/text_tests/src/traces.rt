@@ -1,11 +1,10 @@
 //! Worked texts of traces, in both versions.
 use crate::rows::{Row, all_right};
 use history_check::{Trace, check};
+use record_text::{ReadFault, ReadFaultKind};
 use seq_memory::Entry;
 use std::alloc::{AllocError, Global};
-use trace_text::{
-    ReadFault, ReadFaultKind, TraceReader, own_text_spells_trace, read_trace, write_trace,
-};
+use trace_text::{TraceReader, own_text_spells_trace, read_trace, write_trace};
 
 /// The fault of the text.
 fn fault_of(alloc: Global, text: &str) -> Option<ReadFault> {

@@ -5,12 +5,12 @@
 //! what it says is no promise, and where the stream fails, it is lost.
 #![tactic(auto)]
 
-mod due;
+mod cause;
 mod flaws;
 pub mod laws;
 mod trace_lines;
 mod traces;
 
-pub use due::DueLine;
+pub use cause::tell_misread;
 pub use trace_lines::TraceLines;
 pub use traces::TraceReasons;

@@ -3,25 +3,23 @@ ghost use Rattle.std.specs.Prelude.{◌≡◌, length, Some, None, IfErr, OnOk, 
 ghost use Rattle.diagnostics.specs.Told.{IsReasonTold, IsReasonToldAt, IsReasonBegun, IsReasonBegunAt};
 ghost use Rattle.trace_diagnostics.specs.Told.{first_of, news_of, line_of_flaw};
 
-use crate::due::DueLine;
+use crate::cause::tell_misread;
 use crate::flaws::flaw_reason;
 use crate::trace_lines::TraceLines;
-use diagnostics::tell_long_line;
 use flaw_places::is_of_entry;
 use history_check::{Flaw, Trace};
 use line_loop::EngineFault;
+use record_text::Cause;
 use seq_memory::Entry;
 use std::alloc::Global;
 use std::io::Write;
 use std::marker::Model;
-use text_lines::is_skipped;
 
 /// Tells why the text of a trace can't be read, or the trace isn't explained: one line at most. The
 /// calls tell the number of the first line that can't be read, once one was found. After an `Err` a
 /// beginning of the reason was written.
 #[derive(Drop)]
 pub struct TraceReasons<E: Write> {
-    due: DueLine,
     /// The line whose reason was told.
     told: Option<u64>,
     errors: E,
@@ -41,11 +39,7 @@ impl<E: Write + Drop> TraceReasons<E> {
         ensures told { result.told ≡ None }
         ensures errors { result.errors ≡ E.contents errors }
     {
-        TraceReasons {
-            due: DueLine::Head,
-            told: None,
-            errors,
-        }
+        TraceReasons { told: None, errors }
     }
 
     /// The line of the fault, where its reason is still to be told.
@@ -61,61 +55,33 @@ impl<E: Write + Drop> TraceReasons<E> {
         fault
     }
 
-    /// Tells why the line with this number can't be read.
-    #[inline(never)]
-    fn refuse(&mut self, line: &[u8], number: u64) -> Result<(), EngineFault>
-        ensures told { self.new.told ≡ self.old.told }
-        ensures errors { OnOk result (IsReasonToldAt number self.old.errors self.new.errors) }
-        ensures fault { IfErr result (λ f. f ≡ EngineFault.Write) }
-        ensures part { OnErr result (IsReasonBegunAt number self.old.errors self.new.errors) }
-    {
-        let reason = self.due.refusal_reason(line);
-        reason.tell_at(number, &mut self.errors)
-    }
-
-    /// Takes a line: without a fault so far, it fits.
-    pub fn take_line(&mut self, line: &[u8], fault: Option<u64>) -> Result<(), EngineFault>
-        ensures told { self.new.told ≡ first_of self.old.told fault }
-        ensures errors { OnOk result (IsReasonTold (news_of self.old.told fault) self.old.errors self.new.errors) }
-        ensures fault { IfErr result (λ f. f ≡ EngineFault.Write) }
-        ensures part { OnErr result (IsReasonBegun (news_of self.old.told fault) self.old.errors self.new.errors) }
-    {
-        if let Some(number) = self.news(fault) {
-            return self.refuse(line, number);
-        }
-        if !is_skipped(line) {
-            self.due = self.due.after(line);
-        }
-        Ok(())
-    }
-
-    /// Takes a line of more bytes than a line may have.
-    pub fn take_long_line(&mut self, fault: Option<u64>) -> Result<(), EngineFault>
+    /// Takes a line, and the cause of the fault, if there is one.
+    pub fn take_line(
+        &mut self,
+        line: &[u8],
+        fault: Option<u64>,
+        cause: Cause,
+    ) -> Result<(), EngineFault>
         ensures told { self.new.told ≡ first_of self.old.told fault }
         ensures errors { OnOk result (IsReasonTold (news_of self.old.told fault) self.old.errors self.new.errors) }
         ensures fault { IfErr result (λ f. f ≡ EngineFault.Write) }
         ensures part { OnErr result (IsReasonBegun (news_of self.old.told fault) self.old.errors self.new.errors) }
     {
         let news = self.news(fault);
-        tell_long_line(news, &mut self.errors)
+        tell_misread(line, cause, news, &mut self.errors)
     }
 
-    /// Takes the end of a text that has a fault: a line is missing, if none was found before. Then it
-    /// begins anew.
-    pub fn take_end(&mut self, fault: u64) -> Result<(), EngineFault>
+    /// Takes the end of a text that has a fault, and what is wrong there, if none was found before. Then
+    /// it begins anew.
+    pub fn take_end(&mut self, fault: u64, cause: Cause) -> Result<(), EngineFault>
         ensures told { self.new.told ≡ None }
         ensures errors { OnOk result (IsReasonTold (news_of self.old.told (Some fault)) self.old.errors self.new.errors) }
         ensures fault { IfErr result (λ f. f ≡ EngineFault.Write) }
         ensures part { OnErr result (IsReasonBegun (news_of self.old.told (Some fault)) self.old.errors self.new.errors) }
     {
         let news = self.news(Some(fault));
-        let due = self.due;
         self.told = None;
-        self.due = DueLine::Head;
-        match news {
-            Some(number) => due.end_reason().tell_at(number, &mut self.errors),
-            None => Ok(()),
-        }
+        tell_misread(b"", cause, news, &mut self.errors)
     }
 
     /// Tells on which line of the text the trace's first flaw lies, what stands there and what was

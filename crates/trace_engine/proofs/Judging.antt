@@ -9,7 +9,7 @@ use Rattle.history_check.specs.Flaws.{first_flaw, first_clock_flaw, first_flaw_c
 use Rattle.history_check.specs.Trace.{Explains}
 use Rattle.text_lines.specs.Lines.{lines_of, bare, said}
 use Rattle.line_loop.specs.Run.{Run, with_answer, after_line as run_on, after_end, new_run}
-use Rattle.trace_text.specs.declared.fault.ReadFault.{ReadFault}
+use Rattle.record_text.specs.declared.fault.ReadFault.{ReadFault}
 use Rattle.trace_text.specs.TraceReaderView.{TraceReaderView, nothing_read, after_line, after_long_line, take_line, read_of}
 use Rattle.trace_engine.specs.Check.{is_read, judged, checked, check_responses, out_check, clocked, clocked_responses, out_check_clocked}
 use Rattle.trace_engine.proofs.Clocked.{by_first}

@@ -6,7 +6,7 @@ use Rattle.history_check.specs.Claim.{Claim}
 use Rattle.text_lines.specs.Lines.{lines_of, bare, said}
 use Rattle.line_loop.specs.Run.{Run, with_answer, new_run, run_of, IsBeginning, IsWhole, IsPart}
 use Rattle.line_loop.specs.Run.{after_line as run_on}
-use Rattle.trace_text.specs.declared.fault.ReadFault.{ReadFault}
+use Rattle.record_text.specs.declared.fault.ReadFault.{ReadFault}
 use Rattle.trace_text.specs.TraceReaderView.{TraceReaderView, nothing_read, after_line, after_long_line, take_line, at_end}
 use Rattle.trace_text.specs.TraceRewriterView.{TraceRewriterView, nothing_rewritten, long_line_passed, text_at_end}
 use Rattle.trace_text.specs.TraceRewriterView.{after_line as rewritten_line}

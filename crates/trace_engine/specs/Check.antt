@@ -4,8 +4,8 @@ use Rattle.history_check.specs.declared.flaws.FlawKind.{FlawKind}
 use Rattle.flaw_places.specs.Places.{flaw_line}
 use Rattle.history_check.specs.Claim.{Claim}
 use Rattle.history_check.specs.Flaws.{first_flaw, first_flaw_clocked}
-use Rattle.trace_text.specs.declared.fault.ReadFault.{ReadFault}
-use Rattle.trace_text.specs.Names.{fault_line}
+use Rattle.record_text.specs.declared.fault.ReadFault.{ReadFault}
+use Rattle.record_text.specs.Names.{fault_line}
 use Rattle.trace_text.specs.TraceReaderView.{TraceReaderView, nothing_read, after_line, after_long_line, at_end}
 use Rattle.line_loop.specs.Run.{Answer, Responses, Run, run_of}
 

@@ -3,8 +3,8 @@ use Rattle.std.specs.Prelude.{ℕ, ◌≡◌, length, Option, Some, None}
 use Rattle.history_check.specs.declared.flaws.FlawKind.{FlawKind}
 use Rattle.history_check.specs.Claim.{Claim}
 use Rattle.history_check.specs.Flaws.{first_flaw_clocked}
-use Rattle.trace_text.specs.declared.fault.ReadFault.{ReadFault}
-use Rattle.trace_text.specs.TraceReaderView.{TraceReaderView}
+use Rattle.record_text.specs.declared.fault.ReadFault.{ReadFault}
+use Rattle.record_text.specs.RecordReaderView.{RecordReaderView}
 use Rattle.trace_diagnostics.specs.Told.{TraceReasonsView, TraceLinesView, line_of_flaw}
 
 abbrev pub line_of_fault : Option ReadFault → Option ℕ
@@ -12,11 +12,11 @@ line_of_fault None = None
 line_of_fault (Some f) = Some f.line
 
 -- the number of the first line that can't be read, if one was found so far
-abbrev pub faulty_line : TraceReaderView → Option ℕ
+abbrev pub faulty_line : {F : Type 0} → RecordReaderView F → Option ℕ
 faulty_line s = line_of_fault s.fault
 
 -- a reason was told exactly where there is a fault, and its line is the fault's
-abbrev pub Agrees : TraceReaderView → TraceReasonsView → Type 0
+abbrev pub Agrees : {F : Type 0} → RecordReaderView F → TraceReasonsView → Type 0
 Agrees s t = t.told ≡ faulty_line s
 
 abbrev pub line_of_first : TraceLinesView → ℕ → Option (FlawKind × ℕ) → Option ℕ

@@ -1,9 +1,9 @@
 -- What `upgrade` answers while it keeps the text that it is to write in place of records and entries.
 use Rattle.std.specs.Prelude.{ℕ, List, [], ◌∷◌, ◌++◌, true, false, Result, Ok, Err}
-use Rattle.trace_text.specs.declared.fault.ReadFault.{ReadFault}
+use Rattle.record_text.specs.declared.fault.ReadFault.{ReadFault}
 use Rattle.trace_text.specs.TraceRewriterView.{TraceRewriterView, nothing_rewritten, after_line, long_line_passed, text_at_end}
 use Rattle.line_loop.specs.Run.{Answer, Responses}
-use Rattle.trace_text.specs.Names.{fault_line}
+use Rattle.record_text.specs.Names.{fault_line}
 
 abbrev pub goes_on : TraceRewriterView → Answer TraceRewriterView
 goes_on w = record { state = w; text = []; is_fault = false }

@@ -1,11 +1,11 @@
 -- What `upgrade` answers to the text of a trace.
 use Rattle.std.specs.Prelude.{ℕ, List, true, false, Result, Ok, Err}
 use Rattle.history_check.specs.Claim.{Claim}
-use Rattle.trace_text.specs.declared.fault.ReadFault.{ReadFault}
+use Rattle.record_text.specs.declared.fault.ReadFault.{ReadFault}
 use Rattle.trace_text.specs.TraceReaderView.{TraceReaderView, nothing_read, after_line, after_long_line, at_end}
 use Rattle.trace_text.specs.Texts.{trace_text}
 use Rattle.line_loop.specs.Run.{Answer, Responses, Run, run_of}
-use Rattle.trace_text.specs.Names.{fault_line}
+use Rattle.record_text.specs.Names.{fault_line}
 use Rattle.trace_engine.specs.Check.{is_read, concludes}
 
 -- the text in the second version, whether or not the history explains the trace

@@ -3,19 +3,20 @@ ghost use Rattle.std.specs.Prelude.{◌≡◌, ◌++◌, ◌∷◌, [], IfOk, If
 ghost use Rattle.history_check.specs.Claim.{claim_of};
 ghost use Rattle.trace_text.specs.Texts.{trace_text};
 ghost use Rattle.trace_text.specs.TraceReaderView.{nothing_read, after_line, after_long_line, at_end};
-ghost use Rattle.trace_text.specs.Names.{fault_line};
+ghost use Rattle.record_text.specs.Names.{fault_line};
 ghost use Rattle.trace_engine.specs.Reasons.{line_of_fault};
 
 use arrayvec::ArrayString;
 use history_check::Trace;
 use line_loop::Verdict;
+use record_text::{ReadFault, write_fault};
 use seq_memory::Entry;
 use std::alloc::{AllocError, Global};
 use std::io::Write;
 use std::marker::Model;
 use std::mem;
 use trace_diagnostics::TraceReasons;
-use trace_text::{ReadFault, TraceReader, write_fault, write_trace};
+use trace_text::{TraceReader, write_trace};
 
 /// The number of the line that can't be read, if there is one.
 pub(crate) fn line_of_fault(fault: Option<ReadFault>) -> Option<u64>
@@ -69,9 +70,8 @@ impl<E: Write + Drop> TraceInput<E> {
         ensures err { OnErr result (self.new ≡ self.old) }
     {
         self.reader.line(line)?;
-        let _ = self
-            .reasons
-            .take_line(line, line_of_fault(self.reader.fault()));
+        let fault = line_of_fault(self.reader.fault());
+        let _ = self.reasons.take_line(line, fault, self.reader.cause());
         Ok(())
     }
 
@@ -80,9 +80,8 @@ impl<E: Write + Drop> TraceInput<E> {
         ensures { self.new ≡ after_long_line self.old }
     {
         self.reader.long_line();
-        let _ = self
-            .reasons
-            .take_long_line(line_of_fault(self.reader.fault()));
+        let fault = line_of_fault(self.reader.fault());
+        let _ = self.reasons.take_line(b"", fault, self.reader.cause());
     }
 
     /// Takes the end of the text: gives what was read, or the first fault, and keeps nothing.
@@ -92,10 +91,11 @@ impl<E: Write + Drop> TraceInput<E> {
         ensures gone { self.new ≡ nothing_read }
     {
         let reader = mem::replace(&mut self.reader, TraceReader::new(self.alloc));
+        let cause = reader.cause();
         match reader.end() {
             Ok(read) => Ok(read),
             Err(fault) => {
-                let _ = self.reasons.take_end(fault.line);
+                let _ = self.reasons.take_end(fault.line, cause);
                 Err(fault)
             }
         }

@@ -6,12 +6,13 @@ ghost use Rattle.trace_engine.specs.Upgrade.{out_upgrade};
 
 use crate::traces::{hand_over, line_of_fault, tell_fault};
 use line_loop::{EngineFault, Responder, Verdict, run};
+use record_text::ReadFault;
 use std::alloc::{AllocError, Global};
 use std::io::{Read, Write, sink};
 use std::marker::Model;
 use std::mem;
 use trace_diagnostics::TraceReasons;
-use trace_text::{ReadFault, TraceRewriter, a_rewriting_is_a_reading};
+use trace_text::{TraceRewriter, a_rewriting_is_a_reading};
 
 /// A trace that is written line by line as it is read, and the reasons that are told of it. The text is
 /// handed on at the end: behind a fault nothing of it counts.
@@ -30,7 +31,7 @@ impl<E: Write> Model for Upgrader<E> {
 
     ghost view = { λ u. u.rewriter };
 
-    ghost invariant = { λ u. Agrees u.rewriter.reading u.reasons };
+    ghost invariant = { λ u. Agrees u.rewriter u.reasons };
 }
 
 impl<E: Write + Drop> Upgrader<E> {
@@ -52,10 +53,11 @@ impl<E: Write + Drop> Upgrader<E> {
         ensures gone { self.new ≡ nothing_rewritten }
     {
         let rewriter = mem::replace(&mut self.rewriter, TraceRewriter::new(self.alloc));
+        let cause = rewriter.cause();
         match rewriter.end() {
             Ok(text) => Ok(text),
             Err(fault) => {
-                let _ = self.reasons.take_end(fault.line);
+                let _ = self.reasons.take_end(fault.line, cause);
                 Err(fault)
             }
         }
@@ -69,17 +71,15 @@ impl<E: Write + Drop> Responder for Upgrader<E> {
 
     fn on_line(&mut self, line: &[u8], _out: &mut Vec<u8>) -> Result<Verdict, AllocError> {
         self.rewriter.line(line)?;
-        let _ = self
-            .reasons
-            .take_line(line, line_of_fault(self.rewriter.fault()));
+        let fault = line_of_fault(self.rewriter.fault());
+        let _ = self.reasons.take_line(line, fault, self.rewriter.cause());
         Ok(Verdict::Fine)
     }
 
     fn on_long_line(&mut self, _out: &mut Vec<u8>) -> Result<Verdict, AllocError> {
         self.rewriter.long_line();
-        let _ = self
-            .reasons
-            .take_long_line(line_of_fault(self.rewriter.fault()));
+        let fault = line_of_fault(self.rewriter.fault());
+        let _ = self.reasons.take_line(b"", fault, self.rewriter.cause());
         Ok(Verdict::Fine)
     }
 

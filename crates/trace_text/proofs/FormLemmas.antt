@@ -13,9 +13,9 @@ use Rattle.operation_text.specs.Operations.{address, op_spelled, reply_spelled}
 use Rattle.operation_text.specs.Words.{field, then_with, ended}
 use Rattle.operation_text.specs.Numbers.{numeral}
 use Rattle.trace_text.specs.declared.line.Version.{Version}
-use Rattle.trace_text.specs.declared.line.Version.TheVariants as versions
 use Rattle.trace_text.specs.declared.line.Line.{Line}
 use Rattle.trace_text.specs.declared.line.Line.TheVariants as lines
+use Rattle.record_text.specs.Forms as fields
 use Rattle.trace_text.specs.Forms as forms
 use Rattle.trace_text.specs.Forms.{line_of}
 
@@ -58,7 +58,7 @@ either P false a b y f g h = g h
 pub some-is : {A : Type 0} (x y : A) → Some x ≡ Some y → x ≡ y
 some-is x y e = cc e
 
-pub block-is : (w : List ℕ) (b : ℕ) → forms.block w ≡ Some b → IsBlock b
+pub block-is : (w : List ℕ) (b : ℕ) → fields.block w ≡ Some b → IsBlock b
 block-is w b h =
     let t = then-first (numeral 10 128 w) _ b h in
     elim (cases_Bool ((t.value == 64) || (t.value == 128))) [
@@ -75,24 +75,24 @@ abbrev pub IsSpelled : {W X : Type 0} → (W → Option X) → X → Type 0
 IsSpelled {W} spells x = (w : W) × (spells w ≡ Some x)
 
 abbrev pub RecordIs : Record → Type 0
-RecordIs (records.Sub i k op n) = IsSpelled forms.requester i × IsSpelled forms.number k × IsSpelled forms.count n × IsSpelled op_spelled op
-RecordIs (records.Ans i k reply n) = IsSpelled forms.requester i × IsSpelled forms.number k × IsSpelled forms.count n × IsSpelled reply_spelled reply
+RecordIs (records.Sub i k op n) = IsSpelled fields.requester i × IsSpelled fields.number k × IsSpelled fields.count n × IsSpelled op_spelled op
+RecordIs (records.Ans i k reply n) = IsSpelled fields.requester i × IsSpelled fields.number k × IsSpelled fields.count n × IsSpelled reply_spelled reply
 
 abbrev pub EntryIs : Entry → Type 0
-EntryIs e = IsSpelled forms.requester e.requester × IsSpelled forms.number e.number × IsSpelled op_spelled e.op
+EntryIs e = IsSpelled fields.requester e.requester × IsSpelled fields.number e.number × IsSpelled op_spelled e.op
 
 abbrev pub LineIs : Line → Type 0
 LineIs (lines.Head v) = Unit {0}
-LineIs (lines.Memory x) = IsSpelled address x.base × IsSpelled forms.count x.size × IsBlock x.block × (is_within_limits x ≡ true)
+LineIs (lines.Memory x) = IsSpelled address x.base × IsSpelled fields.count x.size × IsBlock x.block × (is_within_limits x ≡ true)
 LineIs (lines.Record r) = RecordIs r
 LineIs lines.History = Unit {0}
 LineIs (lines.Entry e) = EntryIs e
 LineIs lines.End = Unit {0}
 
-within : (x : Extent) (ws : List (List ℕ)) (l : Line) → forms.memory_within x ws ≡ Some l → (is_within_limits x ≡ true) × (lines.Memory x ≡ l)
-within x ws l h =
+within : (x y : Extent) (ws : List (List ℕ)) → fields.memory_within x ws ≡ Some y → (is_within_limits x ≡ true) × (x ≡ y)
+within x y ws h =
     elim (cases_Bool (is_within_limits x)) [
-      | inl hit ↦ (hit, ended-is (lines.Memory x) l ws (rw hit at h))
+      | inl hit ↦ (hit, ended-is x y ws (rw hit at h))
       | inr miss ↦ absurd (let k = rw miss at h in cc k)
     ]
 
@@ -104,42 +104,50 @@ head-is ws l h =
 abbrev extent : ℕ → ℕ → ℕ → Extent
 extent base size block = record { base = base; size = size; block = block }
 
-memory-is : (v : Version) (ws : List (List ℕ)) (l : Line) → forms.memory_of v ws ≡ Some l → LineIs l
-memory-is versions.One ws l h =
-    let base = field-first address (λ base. field forms.count (λ size. forms.memory_within (extent base size 64))) ws l h in
-    let size = field-first forms.count (λ size. forms.memory_within (extent base.value size 64)) base.rest l base.follows in
-    let w = within (extent base.value size.value 64) size.rest l size.follows in
-    subst LineIs w.1 ((base.word, base.is), (size.word, size.is), inl refl, w.0)
-memory-is versions.Two ws l h =
-    let base = field-first address (λ base. field forms.count (λ size. field forms.block (λ b. forms.memory_within (extent base size b)))) ws l h in
-    let size = field-first forms.count (λ size. field forms.block (λ b. forms.memory_within (extent base.value size b))) base.rest l base.follows in
-    let b = field-first forms.block (λ b. forms.memory_within (extent base.value size.value b)) size.rest l size.follows in
-    let w = within (extent base.value size.value b.value) b.rest l b.follows in
-    subst LineIs w.1 ((base.word, base.is), (size.word, size.is), block-is b.word b.value b.is, w.0)
+abbrev ExtentIs : Extent → Type 0
+ExtentIs x = IsSpelled address x.base × IsSpelled fields.count x.size × IsBlock x.block × (is_within_limits x ≡ true)
+
+extent-is : (has_block : Bool) (ws : List (List ℕ)) (x : Extent) → fields.memory_of has_block ws ≡ Some x → ExtentIs x
+extent-is false ws x h =
+    let base = field-first address (λ base. field fields.count (λ size. fields.memory_within (extent base size 64))) ws x h in
+    let size = field-first fields.count (λ size. fields.memory_within (extent base.value size 64)) base.rest x base.follows in
+    let w = within (extent base.value size.value 64) x size.rest size.follows in
+    subst ExtentIs w.1 ((base.word, base.is), (size.word, size.is), inl refl, w.0)
+extent-is true ws x h =
+    let base = field-first address (λ base. field fields.count (λ size. field fields.block (λ b. fields.memory_within (extent base size b)))) ws x h in
+    let size = field-first fields.count (λ size. field fields.block (λ b. fields.memory_within (extent base.value size b))) base.rest x base.follows in
+    let b = field-first fields.block (λ b. fields.memory_within (extent base.value size.value b)) size.rest x size.follows in
+    let w = within (extent base.value size.value b.value) x b.rest b.follows in
+    subst ExtentIs w.1 ((base.word, base.is), (size.word, size.is), block-is b.word b.value b.is, w.0)
+
+memory-is : (v : Version) (ws : List (List ℕ)) (l : Line) → forms.memory_line_of v ws ≡ Some l → LineIs l
+memory-is v ws l h =
+    let x = then-first (fields.memory_of (forms.has_block v) ws) (λ x. Some (lines.Memory x)) l h in
+    subst LineIs (some-is (lines.Memory x.value) l x.follows) (extent-is (forms.has_block v) ws x.value x.is)
 
 sub-is : (ws : List (List ℕ)) (l : Line) → forms.sub_of ws ≡ Some l → LineIs l
 sub-is ws l h =
     let made : ℕ → ℕ → ℕ → Op → Option Line = λ i k n op. Some (lines.Record (records.Sub i k op n)) in
-    let i = field-first forms.requester (λ i. field forms.number (λ k. field forms.count (λ n rest. then_with (op_spelled rest) (made i k n)))) ws l h in
-    let k = field-first forms.number (λ k. field forms.count (λ n rest. then_with (op_spelled rest) (made i.value k n))) i.rest l i.follows in
-    let n = field-first forms.count (λ n rest. then_with (op_spelled rest) (made i.value k.value n)) k.rest l k.follows in
+    let i = field-first fields.requester (λ i. field fields.number (λ k. field fields.count (λ n rest. then_with (op_spelled rest) (made i k n)))) ws l h in
+    let k = field-first fields.number (λ k. field fields.count (λ n rest. then_with (op_spelled rest) (made i.value k n))) i.rest l i.follows in
+    let n = field-first fields.count (λ n rest. then_with (op_spelled rest) (made i.value k.value n)) k.rest l k.follows in
     let op = then-first (op_spelled n.rest) (made i.value k.value n.value) l n.follows in
     subst LineIs (some-is (lines.Record (records.Sub i.value k.value op.value n.value)) l op.follows) ((i.word, i.is), (k.word, k.is), (n.word, n.is), (n.rest, op.is))
 
 ans-is : (ws : List (List ℕ)) (l : Line) → forms.ans_of ws ≡ Some l → LineIs l
 ans-is ws l h =
     let made : ℕ → ℕ → ℕ → Reply → Option Line = λ i k n reply. Some (lines.Record (records.Ans i k reply n)) in
-    let i = field-first forms.requester (λ i. field forms.number (λ k. field forms.count (λ n rest. then_with (reply_spelled rest) (made i k n)))) ws l h in
-    let k = field-first forms.number (λ k. field forms.count (λ n rest. then_with (reply_spelled rest) (made i.value k n))) i.rest l i.follows in
-    let n = field-first forms.count (λ n rest. then_with (reply_spelled rest) (made i.value k.value n)) k.rest l k.follows in
+    let i = field-first fields.requester (λ i. field fields.number (λ k. field fields.count (λ n rest. then_with (reply_spelled rest) (made i k n)))) ws l h in
+    let k = field-first fields.number (λ k. field fields.count (λ n rest. then_with (reply_spelled rest) (made i.value k n))) i.rest l i.follows in
+    let n = field-first fields.count (λ n rest. then_with (reply_spelled rest) (made i.value k.value n)) k.rest l k.follows in
     let reply = then-first (reply_spelled n.rest) (made i.value k.value n.value) l n.follows in
     subst LineIs (some-is (lines.Record (records.Ans i.value k.value reply.value n.value)) l reply.follows) ((i.word, i.is), (k.word, k.is), (n.word, n.is), (n.rest, reply.is))
 
 ent-is : (ws : List (List ℕ)) (l : Line) → forms.ent_of ws ≡ Some l → LineIs l
 ent-is ws l h =
     let made : ℕ → ℕ → Op → Option Line = λ i k op. Some (lines.Entry (record { requester = i; number = k; op = op })) in
-    let i = field-first forms.requester (λ i. field forms.number (λ k rest. then_with (op_spelled rest) (made i k))) ws l h in
-    let k = field-first forms.number (λ k rest. then_with (op_spelled rest) (made i.value k)) i.rest l i.follows in
+    let i = field-first fields.requester (λ i. field fields.number (λ k rest. then_with (op_spelled rest) (made i k))) ws l h in
+    let k = field-first fields.number (λ k rest. then_with (op_spelled rest) (made i.value k)) i.rest l i.follows in
     let op = then-first (op_spelled k.rest) (made i.value k.value) l k.follows in
     subst LineIs (some-is (lines.Entry (record { requester = i.value; number = k.value; op = op.value })) l op.follows) ((i.word, i.is), (k.word, k.is), (k.rest, op.is))
 

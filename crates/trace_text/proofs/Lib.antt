@@ -1,5 +1,4 @@
 mod FormLemmas
-mod LineLemmas
 mod TextLemmas
 mod ReadSpelled
 mod ReadBack

@@ -24,15 +24,16 @@ use Rattle.trace_text.specs.declared.line.Version.{Version}
 use Rattle.trace_text.specs.declared.line.Version.TheVariants as versions
 use Rattle.trace_text.specs.declared.line.Line.{Line}
 use Rattle.trace_text.specs.declared.line.Line.TheVariants as lines
-use Rattle.trace_text.specs.declared.reader.Section.{Section}
-use Rattle.trace_text.specs.declared.reader.Section.TheVariants as sections
-use Rattle.trace_text.specs.Forms as forms
-use Rattle.trace_text.specs.Forms.{line_of}
-use Rattle.trace_text.specs.TraceReaderView.{TraceReaderView, nothing_read, placed, reading_of, at_end, read_of}
+use Rattle.record_text.specs.declared.form.Section.{Section}
+use Rattle.record_text.specs.declared.form.Section.TheVariants as sections
+use Rattle.record_text.specs.RecordReaderView.{placed}
+use Rattle.record_text.specs.ReadingFacts as readings
+use Rattle.record_text.specs.Forms as fields
+use Rattle.trace_text.specs.Forms.{line_of, section_after}
+use Rattle.trace_text.specs.TraceReaderView.{TraceReaderView, trace_grammar, nothing_read, at_end, read_of}
 use Rattle.trace_text.specs.Tellable.{IsTellableRecord, IsTellableEntry, IsTellable}
 use Rattle.trace_text.specs.Texts.{memory_line, record_line, entry_line, lines_text, trace_text}
 use Rattle.trace_text.proofs.FormLemmas.{IsSpelled, RecordIs, EntryIs, then-first, some-is}
-use Rattle.trace_text.proofs.LineLemmas.{reading_on, on-feed, on-none}
 use Rattle.trace_text.proofs.ReadSpelled.{AllRecords, AllEntries, own-lines, own-nothing, OwnClaim, own-end}
 use Rattle.trace_text.proofs.TextLemmas.{lines_text-next, lines_text-none, trace_text-is}
 
@@ -59,13 +60,14 @@ pub record Laws : Type 0 where
 abbrev at : Section → ℕ → Extent → List Record → List Entry → TraceReaderView
 at section n x rs es = record {
   section = section;
-  version = versions.Two;
   lines = n;
-  extent = x;
-  records = rs;
-  entries = es;
   fault = None;
+  form = record { version = versions.Two; extent = x; records = rs; entries = es };
 }
+
+-- the lines that follow a reading
+abbrev reading_on : TraceReaderView → List ℕ → TraceReaderView
+reading_on s text = readings.reading_on trace_grammar s text
 
 -- a printed line of a form, that is none of those skipped
 record IsLine (v : Version) (line : List ℕ) (l : Line) : Type 0 where
@@ -87,11 +89,11 @@ no_return (c ∷ cs) h =
     let ne : (get_or (c ∷ cs) (length (c ∷ cs) - 1) 0 == 13) ≡ false = ne_eqb (get_or (c ∷ cs) (length (c ∷ cs) - 1) 0) 13 (λ e. omega (arith, last.0, e)) in
     rw ne (grind (arith, nat_tests))
 
-on-line : (s : TraceReaderView) (line more : List ℕ) (l : Line) → s.fault ≡ None → IsLine s.version line l
-    → reading_on s (line ++ 10 ∷ more) ≡ reading_on (placed s.section s l) more
+on-line : (s : TraceReaderView) (line more : List ℕ) (l : Line) → s.fault ≡ None → IsLine s.form.version line l
+    → reading_on s (line ++ 10 ∷ more) ≡ reading_on (placed trace_grammar s l (section_after s.section l)) more
 on-line s line more l none is =
     let short : nat_lt 512 (length line) ≡ false = let fits = is.fits in grind (arith, nat_tests) in
-    on-feed s line more (no_feeds line is.printed)
+    readings.on-feed trace_grammar s line more (no_feeds line is.printed)
     ∙ ap (λ (r : TraceReaderView). reading_on r more) (rw (short, no_return line is.printed, none, is.kept, is.says) refl)
 
 -- one word more
@@ -119,7 +121,7 @@ printed-is (c ∷ cs) h =
 -- ---- lines by their values
 
 module _ (law : Laws) where
-  requester-range : (i : ℕ) → IsSpelled forms.requester i → (i ≤ 7) × (i ≢ 0)
+  requester-range : (i : ℕ) → IsSpelled fields.requester i → (i ≤ 7) × (i ≢ 0)
   requester-range i h =
       let t = then-first (numeral 10 7 h.0) (λ n. if n == 0 then None else Some n) i h.1 in
       let le = law.range 10 7 t.value h.0 t.is in
@@ -131,28 +133,28 @@ module _ (law : Laws) where
             (omega (arith, le, same), λ e. some (same ∙ e))
       ]
 
-  requester-back : (i : ℕ) → IsSpelled forms.requester i → forms.requester (decimal i) ≡ Some i
+  requester-back : (i : ℕ) → IsSpelled fields.requester i → fields.requester (decimal i) ≡ Some i
   requester-back i h =
       let r = requester-range i h in
       let test : (i == 0) ≡ false = ne_eqb i 0 r.1 in
       rw (law.decimal_back 7 i r.0 (omega (arith, r.0)), test) refl
 
-  number-back : (k : ℕ) → IsSpelled forms.number k → forms.number (decimal k) ≡ Some k
+  number-back : (k : ℕ) → IsSpelled fields.number k → fields.number (decimal k) ≡ Some k
   number-back k h = let le = law.range 10 4294967294 k h.0 h.1 in law.decimal_back 4294967294 k le (omega arith)
 
-  count-back : (n : ℕ) → IsSpelled forms.count n → forms.count (decimal n) ≡ Some n
+  count-back : (n : ℕ) → IsSpelled fields.count n → fields.count (decimal n) ≡ Some n
   count-back n h = let le = law.range 10 18446744073709551615 n h.0 h.1 in law.decimal_back 18446744073709551615 n le (omega arith)
 
   address-back : (a : ℕ) → IsSpelled address a → address (hexadecimal a) ≡ Some a
   address-back a h = let le = law.range 16 18446744073709551615 a h.0 h.1 in law.hexadecimal_back 18446744073709551615 a le (omega arith)
 
-  requester-short : (i : ℕ) → IsSpelled forms.requester i → length (decimal i) ≤ 20
+  requester-short : (i : ℕ) → IsSpelled fields.requester i → length (decimal i) ≤ 20
   requester-short i h = let r = requester-range i h in (law.short i (omega (arith, r.0))).0
 
-  number-short : (k : ℕ) → IsSpelled forms.number k → length (decimal k) ≤ 20
+  number-short : (k : ℕ) → IsSpelled fields.number k → length (decimal k) ≤ 20
   number-short k h = let le = law.range 10 4294967294 k h.0 h.1 in (law.short k (omega arith)).0
 
-  count-short : (n : ℕ) → IsSpelled forms.count n → length (decimal n) ≤ 20
+  count-short : (n : ℕ) → IsSpelled fields.count n → length (decimal n) ≤ 20
   count-short n h = let le = law.range 10 18446744073709551615 n h.0 h.1 in (law.short n (omega arith)).0
 
   address-short : (a : ℕ) → IsSpelled address a → length (hexadecimal a) ≤ 16
@@ -231,7 +233,7 @@ module _ (law : Laws) where
   record-line (records.Sub i k op n) h = sub-line i k n op h
   record-line (records.Ans i k reply n) h = ans-line i k n reply h
 
-  block-back : (b : ℕ) → IsBlock b → forms.block (decimal b) ≡ Some b
+  block-back : (b : ℕ) → IsBlock b → fields.block (decimal b) ≡ Some b
   block-back b (inl e) = rw (e, law.decimal_back 128 64 (omega arith) (omega arith)) refl
   block-back b (inr e) = rw (e, law.decimal_back 128 128 (omega arith) (omega arith)) refl
 
@@ -239,7 +241,7 @@ module _ (law : Laws) where
   block-short b (inl e) = (law.short b (omega arith)).0
   block-short b (inr e) = (law.short b (omega arith)).0
 
-  memory-line : (m : MemoryView) → IsSpelled address m.base → IsSpelled forms.count m.size → IsBlock m.block → is_within_limits (extent_of m) ≡ true → IsLine versions.Two (memory_line m) (lines.Memory (extent_of m))
+  memory-line : (m : MemoryView) → IsSpelled address m.base → IsSpelled fields.count m.size → IsBlock m.block → is_within_limits (extent_of m) ≡ true → IsLine versions.Two (memory_line m) (lines.Memory (extent_of m))
   unfolding are_printed
   memory-line m hb hs hk hw = record {
     printed =
@@ -313,7 +315,7 @@ module _ (law : Laws) where
   end-line = record { printed = printed-is (codes "end") refl; fits = omega arith; kept = refl; says = refl }
 
   -- all that is read of the whole text
-  on-text : (c : Claim) → OwnClaim c → (n : ℕ) × (reading_of (trace_text c) ≡ at sections.End n (extent_of c.memory) c.records c.memory.entries)
+  on-text : (c : Claim) → OwnClaim c → (n : ℕ) × (reading_on nothing_read (trace_text c) ≡ at sections.End n (extent_of c.memory) c.records c.memory.entries)
   on-text c h =
       let x : Extent = extent_of c.memory in
       let rs = c.records in
@@ -328,19 +330,19 @@ module _ (law : Laws) where
       let n2 : ℕ = min (read.0 + 1) (2 ^ 64 - 1) in
       let entered = on-entries x n2 rs [] es last h.entries_are in (
         min (entered.0 + 1) (2 ^ 64 - 1),
-        ap reading_of (trace_text-is c)
+        ap (reading_on nothing_read) (trace_text-is c)
             ∙ on-line nothing_read (codes "pciex-trace 2") first (lines.Head versions.Two) refl head-line
             ∙ on-line (at sections.Memory n0 (record { base = 0; size = 128; block = 64 }) [] []) (memory_line c.memory) second (lines.Memory x) refl (memory-line c.memory h.base_is h.size_is h.block_is h.within)
             ∙ read.1
             ∙ on-line (at sections.Records read.0 x rs []) (codes "history") (lines_text (map entry_line es) ++ last) lines.History refl history-line
             ∙ entered.1
             ∙ on-line (at sections.History entered.0 x rs es) (codes "end") [] lines.End refl end-line
-            ∙ on-none (at sections.End (min (entered.0 + 1) (2 ^ 64 - 1)) x rs es),
+            ∙ readings.on-none trace_grammar (at sections.End (min (entered.0 + 1) (2 ^ 64 - 1)) x rs es),
       )
 
   pub read-back : (text : List ℕ) (c : Claim) → read_of text ≡ Ok c → read_of (trace_text c) ≡ Ok c
   read-back text c h =
-      let own = own-end (reading_of text) c (own-lines (lines_of text) nothing_read own-nothing) h in
+      let own = own-end (reading_on nothing_read text) c (own-lines (lines_of text) nothing_read own-nothing) h in
       ap at_end (on-text c own).1
 
   pub one-claim : (t u : List ℕ) (c d : Claim) → read_of t ≡ Ok c → read_of u ≡ Ok d → trace_text c ≡ trace_text d → c ≡ d
@@ -348,15 +350,15 @@ module _ (law : Laws) where
 
   -- ---- what lines can tell is spelled
 
-  requester-told : (i : ℕ) → 1 ≤ i → i ≤ 7 → IsSpelled forms.requester i
+  requester-told : (i : ℕ) → 1 ≤ i → i ≤ 7 → IsSpelled fields.requester i
   requester-told i low high =
       let test : (i == 0) ≡ false = ne_eqb i 0 (λ e. omega (arith, low, e)) in
       (decimal i, rw (law.decimal_back 7 i high (omega (arith, high)), test) refl)
 
-  number-told : (k : ℕ) → k < 2 ^ 32 - 1 → IsSpelled forms.number k
+  number-told : (k : ℕ) → k < 2 ^ 32 - 1 → IsSpelled fields.number k
   number-told k lt = (decimal k, law.decimal_back 4294967294 k (omega (arith, lt)) (omega (arith, lt)))
 
-  count-told : (n : ℕ) → n < 2 ^ 64 → IsSpelled forms.count n
+  count-told : (n : ℕ) → n < 2 ^ 64 → IsSpelled fields.count n
   count-told n lt = (decimal n, law.decimal_back 18446744073709551615 n (omega (arith, lt)) lt)
 
   address-told : (a : ℕ) → a < 2 ^ 64 → IsSpelled address a

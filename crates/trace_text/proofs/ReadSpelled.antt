@@ -9,15 +9,16 @@ use Rattle.history_check.specs.declared.Record.{Record}
 use Rattle.history_check.specs.Claim.{Claim}
 use Rattle.operation_text.specs.Words.{words}
 use Rattle.operation_text.specs.Operations.{address}
-use Rattle.trace_text.specs.declared.fault.ReadFault.{ReadFault}
+use Rattle.record_text.specs.declared.fault.ReadFault.{ReadFault}
 use Rattle.trace_text.specs.declared.line.Version.{Version}
 use Rattle.trace_text.specs.declared.line.Line.{Line}
 use Rattle.trace_text.specs.declared.line.Line.TheVariants as lines
-use Rattle.trace_text.specs.declared.reader.Section.{Section}
-use Rattle.trace_text.specs.declared.reader.Section.TheVariants as sections
-use Rattle.trace_text.specs.Forms as forms
-use Rattle.trace_text.specs.Forms.{line_of}
-use Rattle.trace_text.specs.TraceReaderView.{TraceReaderView, nothing_read, in_head, in_memory, in_records, in_history, placed, taken, after_line, after_long_line, take_line, claim_read, at_end, fault_or_end}
+use Rattle.record_text.specs.declared.form.Section.{Section}
+use Rattle.record_text.specs.declared.form.Section.TheVariants as sections
+use Rattle.record_text.specs.Forms as fields
+use Rattle.record_text.specs.RecordReaderView as reads
+use Rattle.trace_text.specs.Forms.{line_of, section_after}
+use Rattle.trace_text.specs.TraceReaderView.{TraceFormView, TraceReaderView, trace_grammar, kept, nothing_read, after_line, after_long_line, take_line, claim_read, claim_in, at_end}
 use Rattle.trace_text.proofs.FormLemmas.{IsSpelled, RecordIs, EntryIs, LineIs, line-is}
 
 abbrev pub AllRecords : List Record → Type 0
@@ -39,87 +40,60 @@ entries-more (x ∷ es) e h he = (h.0, entries-more es e h.1 he)
 pub record IsOwn (x : Extent) (rs : List Record) (es : List Entry) : Type 0 where
   pub within : is_within_limits x ≡ true
   pub base_is : IsSpelled address x.base
-  pub size_is : IsSpelled forms.count x.size
+  pub size_is : IsSpelled fields.count x.size
   pub block_is : IsBlock x.block
   pub records_are : AllRecords rs
   pub entries_are : AllEntries es
 
-abbrev pub Own : TraceReaderView → Type 0
-Own s = IsOwn s.extent s.records s.entries
+abbrev pub Own : TraceFormView → Type 0
+Own t = IsOwn t.extent t.records t.entries
 
-pub own-memory : (s : TraceReaderView) (l : Line) → Own s → LineIs l → Own (in_memory s l)
-own-memory s (lines.Memory x) h is = record { within = is.3; base_is = is.0; size_is = is.1; block_is = is.2; records_are = h.records_are; entries_are = h.entries_are }
-own-memory s (lines.Head v) h is = h
-own-memory s (lines.Record r) h is = h
-own-memory s lines.History h is = h
-own-memory s (lines.Entry e) h is = h
-own-memory s lines.End h is = h
+pub own-kept : (t : TraceFormView) (l : Line) → Own t → LineIs l → Own (kept t l)
+own-kept t (lines.Head v) h is = h
+own-kept t (lines.Memory x) h is = record { within = is.3; base_is = is.0; size_is = is.1; block_is = is.2; records_are = h.records_are; entries_are = h.entries_are }
+own-kept t (lines.Record r) h is = record { within = h.within; base_is = h.base_is; size_is = h.size_is; block_is = h.block_is; records_are = records-more t.records r h.records_are is; entries_are = h.entries_are }
+own-kept t lines.History h is = h
+own-kept t (lines.Entry e) h is = record { within = h.within; base_is = h.base_is; size_is = h.size_is; block_is = h.block_is; records_are = h.records_are; entries_are = entries-more t.entries e h.entries_are is }
+own-kept t lines.End h is = h
 
-pub own-records : (s : TraceReaderView) (l : Line) → Own s → LineIs l → Own (in_records s l)
-own-records s (lines.Record r) h is = record { within = h.within; base_is = h.base_is; size_is = h.size_is; block_is = h.block_is; records_are = records-more s.records r h.records_are is; entries_are = h.entries_are }
-own-records s (lines.Head v) h is = h
-own-records s (lines.Memory x) h is = h
-own-records s lines.History h is = h
-own-records s (lines.Entry e) h is = h
-own-records s lines.End h is = h
-
-pub own-history : (s : TraceReaderView) (l : Line) → Own s → LineIs l → Own (in_history s l)
-own-history s (lines.Entry e) h is = record { within = h.within; base_is = h.base_is; size_is = h.size_is; block_is = h.block_is; records_are = h.records_are; entries_are = entries-more s.entries e h.entries_are is }
-own-history s (lines.Head v) h is = h
-own-history s (lines.Memory x) h is = h
-own-history s (lines.Record r) h is = h
-own-history s lines.History h is = h
-own-history s lines.End h is = h
-
-pub own-head : (s : TraceReaderView) (l : Line) → Own s → Own (in_head s (Some l))
-own-head s (lines.Head v) h = h
-own-head s (lines.Memory x) h = h
-own-head s (lines.Record r) h = h
-own-head s lines.History h = h
-own-head s (lines.Entry e) h = h
-own-head s lines.End h = h
-
-pub own-placed : (section : Section) (s : TraceReaderView) (l : Line) → Own s → LineIs l → Own (placed section s l)
-own-placed sections.Head s l h is = own-head s l h
-own-placed sections.Memory s l h is = own-memory s l h is
-own-placed sections.Records s l h is = own-records s l h is
-own-placed sections.History s l h is = own-history s l h is
-own-placed sections.End s l h is = h
-
-pub own-taken : (s : TraceReaderView) (v : Version) (ws : List (List ℕ)) → Own s → Own (taken s (line_of v ws))
+pub own-taken : (s : TraceReaderView) (v : Version) (ws : List (List ℕ)) → Own s.form → Own (reads.taken trace_grammar s (line_of v ws)).form
 own-taken s v ws h = by (line_of v ws) refl
   where
-    by : (o : Option Line) → line_of v ws ≡ o → Own (taken s o)
-    by None e = h
-    by (Some l) e = own-placed s.section s l h (line-is v ws l e)
+    placed : (l : Line) (next : Option Section) → line_of v ws ≡ Some l → Own (reads.placed trace_grammar s l next).form
+    placed l None e = h
+    placed l (Some section) e = own-kept s.form l h (line-is v ws l e)
 
-pub own-if : (t : Bool) (a b : TraceReaderView) → Own a → Own b → Own (cond t a b)
+    by : (o : Option Line) → line_of v ws ≡ o → Own (reads.taken trace_grammar s o).form
+    by None e = h
+    by (Some l) e = placed l (section_after s.section l) e
+
+pub own-if : (t : Bool) (a b : TraceReaderView) → Own a.form → Own b.form → Own (cond t a b).form
 own-if true a b ha hb = ha
 own-if false a b ha hb = hb
 
-pub own-line : (s : TraceReaderView) (line : List ℕ) → Own s → Own (take_line s line)
+pub own-line : (s : TraceReaderView) (line : List ℕ) → Own s.form → Own (take_line s line).form
 own-line s line h =
     own-if (nat_lt 512 (length (bare line))) (after_long_line s) (after_line s (said line))
-    (own-if (is_some s.fault) s (taken s None) h h)
-    (own-if (is_some s.fault) s _ h (own-if (is_skipped (said line)) _ (taken s (line_of s.version (words (said line)))) h (own-taken s s.version (words (said line)) h)))
+    (own-if (is_some s.fault) s (reads.faulty s (reads.formless s.section)) h h)
+    (own-if (is_some s.fault) s _ h (own-if (is_skipped (said line)) _ (reads.taken trace_grammar s (line_of s.form.version (words (said line)))) h (own-taken s s.form.version (words (said line)) h)))
 
-pub own-lines : (ls : List (List ℕ)) (s : TraceReaderView) → Own s → Own (fold take_line s ls)
+pub own-lines : (ls : List (List ℕ)) (s : TraceReaderView) → Own s.form → Own (fold take_line s ls).form
 own-lines [] s h = h
 own-lines (l ∷ ls) s h = own-lines ls (take_line s l) (own-line s l h)
 
-pub own-nothing : Own nothing_read
+pub own-nothing : Own nothing_read.form
 own-nothing = record { within = refl; base_is = (codes "0", refl); size_is = (codes "128", refl); block_is = inl refl; records_are = tt; entries_are = tt }
 
 abbrev pub OwnClaim : Claim → Type 0
 OwnClaim c = IsOwn (extent_of c.memory) c.records c.memory.entries
 
-pub own-end : (s : TraceReaderView) (c : Claim) → Own s → at_end s ≡ Ok c → OwnClaim c
+pub own-end : (s : TraceReaderView) (c : Claim) → Own s.form → at_end s ≡ Ok c → OwnClaim c
 own-end s c h e = by s.fault s.section e
   where
-    by : (f : Option ReadFault) (section : Section) → fault_or_end f (record s { section = section }) ≡ Ok c → OwnClaim c
+    by : (f : Option ReadFault) (section : Section) → claim_in (reads.fault_or_end f (record s { section = section })) ≡ Ok c → OwnClaim c
     by (Some f) section k = absurd (cc k)
     by None sections.Head k = absurd (cc k)
     by None sections.Memory k = absurd (cc k)
     by None sections.Records k = absurd (cc k)
     by None sections.History k = absurd (cc k)
-    by None sections.End k = let same : claim_read s ≡ c = cc k in subst OwnClaim same h
+    by None sections.End k = let same : claim_read s.form ≡ c = cc k in subst OwnClaim same h

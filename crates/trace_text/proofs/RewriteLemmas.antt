@@ -1,5 +1,5 @@
 -- What a rewriter has written is the text of what a reader has read.
-use Rattle.std.proofs.Common.{◌≡◌, ◌∙◌, ℕ, Bool, true, false, List, [], ◌∷◌, ◌++◌, length, refl, sym, ap, subst, fold, cond, map, append_assoc, Option, Some, None, Ok}
+use Rattle.std.proofs.Common.{◌≡◌, ◌∙◌, ℕ, Bool, true, false, List, [], ◌∷◌, ◌++◌, length, refl, sym, ap, fold, cond, map, append_assoc, Option, Some, None, Ok}
 use Rattle.std.specs.Prelude.{nat_lt, is_some, codes}
 use Rattle.std.proofs.lemmas.List.{append-nil, map-append}
 use Rattle.seq_memory.specs.Limits.{Extent}
@@ -8,16 +8,18 @@ use Rattle.history_check.specs.declared.Record.{Record}
 use Rattle.history_check.specs.Claim.{Claim}
 use Rattle.text_lines.specs.Lines.{bare, said, is_skipped}
 use Rattle.operation_text.specs.Words.{words}
-use Rattle.trace_text.specs.declared.fault.ReadFault.{ReadFault}
+use Rattle.record_text.specs.declared.fault.ReadFault.{ReadFault}
+use Rattle.record_text.specs.declared.form.Section.{Section}
+use Rattle.record_text.specs.declared.form.Section.TheVariants as sections
+use Rattle.record_text.specs.RecordReaderView as reads
+use Rattle.trace_text.specs.declared.line.Version.{Version}
 use Rattle.trace_text.specs.declared.line.Line.{Line}
 use Rattle.trace_text.specs.declared.line.Line.TheVariants as lines
-use Rattle.trace_text.specs.declared.reader.Section.{Section}
-use Rattle.trace_text.specs.declared.reader.Section.TheVariants as sections
-use Rattle.trace_text.specs.Forms.{line_of}
-use Rattle.trace_text.specs.TraceReaderView.{TraceReaderView, nothing_read, counted, faulty, placed, taken, formless, take_line, at_end, fault_or_end, claim_read}
+use Rattle.trace_text.specs.Forms.{line_of, section_after}
+use Rattle.trace_text.specs.TraceReaderView.{TraceFormView, TraceReaderView, trace_grammar, kept, nothing_read, take_line, claim_in, claim_read}
 use Rattle.trace_text.specs.TraceReaderView.{after_line as read_line, after_long_line as read_long_line}
 use Rattle.trace_text.specs.Texts.{memory_line, record_line, entry_line, lines_text, records_text, trace_text}
-use Rattle.trace_text.specs.TraceRewriterView.{TraceRewriterView, nothing_rewritten, added, onward, rewritten_by, rewritten, after_line, long_line_passed, text_or_fault, text_at_end}
+use Rattle.trace_text.specs.TraceRewriterView.{TraceRewriterView, rewrite_grammar, added, version_after, after_line, long_line_passed, text_in, text_at_end}
 use Rattle.trace_text.specs.Rewritten.{rewrite_line, text_of, RewritingIsReading}
 use Rattle.trace_text.proofs.TextLemmas.{lines_text-append, lines_text-next, lines_text-none, trace_text-by}
 
@@ -25,32 +27,34 @@ use Rattle.trace_text.proofs.TextLemmas.{lines_text-append, lines_text-next, lin
 abbrev claim_by : Extent → List Record → List Entry → Claim
 claim_by m rs es = record { memory = record { base = m.base; size = m.size; block = m.block; entries = es }; records = rs }
 
--- what is written of a reading, by its section
-abbrev text_in : Section → Extent → List Record → List Entry → List ℕ
-text_in sections.Head m rs es = []
-text_in sections.Memory m rs es = codes "pciex-trace 2\n"
-text_in sections.Records m rs es = (codes "pciex-trace 2\n" ++ (memory_line (claim_by m [] []).memory ++ 10 ∷ [])) ++ lines_text (map record_line rs)
-text_in sections.History m rs es = records_text (claim_by m rs []) ++ lines_text (map entry_line es)
-text_in sections.End m rs es = (records_text (claim_by m rs []) ++ lines_text (map entry_line es)) ++ codes "end\n"
-
-abbrev text_so_far : TraceReaderView → List ℕ
-text_so_far s = text_in s.section s.extent s.records s.entries
+-- what is written of what is kept, by the section
+abbrev text_so_far : Section → TraceFormView → List ℕ
+text_so_far sections.Head t = []
+text_so_far sections.Memory t = codes "pciex-trace 2\n"
+text_so_far sections.Records t = (codes "pciex-trace 2\n" ++ (memory_line (claim_by t.extent [] []).memory ++ 10 ∷ [])) ++ lines_text (map record_line t.records)
+text_so_far sections.History t = records_text (claim_by t.extent t.records []) ++ lines_text (map entry_line t.entries)
+text_so_far sections.End t = (records_text (claim_by t.extent t.records []) ++ lines_text (map entry_line t.entries)) ++ codes "end\n"
 
 -- lists are empty until their section
-abbrev IsInOrder : Section → List Record → List Entry → Type 0
-IsInOrder sections.Head rs es = (rs ≡ []) × (es ≡ [])
-IsInOrder sections.Memory rs es = (rs ≡ []) × (es ≡ [])
-IsInOrder sections.Records rs es = es ≡ []
-IsInOrder sections.History rs es = Unit {0}
-IsInOrder sections.End rs es = Unit {0}
+abbrev IsInOrder : Section → TraceFormView → Type 0
+IsInOrder sections.Head t = (t.records ≡ []) × (t.entries ≡ [])
+IsInOrder sections.Memory t = (t.records ≡ []) × (t.entries ≡ [])
+IsInOrder sections.Records t = t.entries ≡ []
+IsInOrder sections.History t = Unit {0}
+IsInOrder sections.End t = Unit {0}
 
-abbrev emptied : TraceReaderView → TraceReaderView
-emptied s = record s { records = []; entries = [] }
+-- the rewriter of what a reader has read
+abbrev rewriter_of : TraceReaderView → TraceRewriterView
+rewriter_of s = record {
+  section = s.section;
+  lines = s.lines;
+  fault = s.fault;
+  form = record { version = s.form.version; text = text_so_far s.section s.form };
+}
 
 record Stands (w : TraceRewriterView) (s : TraceReaderView) : Type 0 where
-  reading : w.reading ≡ emptied s
-  text : w.text ≡ text_so_far s
-  order : IsInOrder s.section s.records s.entries
+  is : w ≡ rewriter_of s
+  order : IsInOrder s.section s.form
 
 -- a line more at the end
 more : {X : Type 0} (f : X → List ℕ) (xs : List X) (x : X) → lines_text (map f xs) ++ (f x ++ 10 ∷ []) ≡ lines_text (map f (xs ++ x ∷ []))
@@ -60,164 +64,150 @@ more f xs x =
     ∙ sym (lines_text-append (map f xs) (f x ∷ []))
     ∙ ap lines_text (sym (map-append f xs (x ∷ [])))
 
--- what a section's line makes of the text and of the order
-record Goes (section : Section) (s : TraceReaderView) (l : Line) : Type 0 where
-  reading : onward (emptied s) (placed section (emptied s) l) ≡ emptied (placed section s l)
-  text : text_in section s.extent s.records s.entries ++ added section l ≡ text_so_far (placed section s l)
-  order : IsInOrder (placed section s l).section (placed section s l).records (placed section s l).entries
+-- what a line that is due makes of the text and of the order
+record Goes (section next : Section) (t : TraceFormView) (l : Line) : Type 0 where
+  text : text_so_far section t ++ added l ≡ text_so_far next (kept t l)
+  order : IsInOrder next (kept t l)
 
-record Stays (section : Section) (s : TraceReaderView) : Type 0 where
-  text : text_in section s.extent s.records s.entries ++ [] ≡ text_so_far s
-  order : IsInOrder s.section s.records s.entries
-
--- a line that isn't due leaves all as it is
-stays : (section : Section) (s : TraceReaderView) → s.section ≡ section → IsInOrder section s.records s.entries → Stays section s
-stays section s e h = record {
-  text = append-nil (text_in section s.extent s.records s.entries) ∙ ap (λ (x : Section). text_in x s.extent s.records s.entries) (sym e);
-  order = subst (λ (x : Section). IsInOrder x s.records s.entries) (sym e) h;
-}
-
-goes-head : (s : TraceReaderView) (l : Line) → s.section ≡ sections.Head → IsInOrder sections.Head s.records s.entries → Goes sections.Head s l
-goes-head s (lines.Head v) e h = record { reading = refl; text = refl; order = h }
-goes-head s (lines.Memory m) e h = let k = stays sections.Head s e h in record { reading = refl; text = k.text; order = k.order }
-goes-head s (lines.Record r) e h = let k = stays sections.Head s e h in record { reading = refl; text = k.text; order = k.order }
-goes-head s lines.History e h = let k = stays sections.Head s e h in record { reading = refl; text = k.text; order = k.order }
-goes-head s (lines.Entry x) e h = let k = stays sections.Head s e h in record { reading = refl; text = k.text; order = k.order }
-goes-head s lines.End e h = let k = stays sections.Head s e h in record { reading = refl; text = k.text; order = k.order }
-
-goes-memory : (s : TraceReaderView) (l : Line) → s.section ≡ sections.Memory → IsInOrder sections.Memory s.records s.entries → Goes sections.Memory s l
-goes-memory s (lines.Memory m) e h =
+goes-memory : (t : TraceFormView) (m : Extent) → IsInOrder sections.Memory t → Goes sections.Memory sections.Records t (lines.Memory m)
+goes-memory t m h =
     let head = codes "pciex-trace 2\n" ++ (memory_line (claim_by m [] []).memory ++ 10 ∷ []) in
     record {
-      reading = refl;
       text = sym (append-nil head) ∙ ap (λ (t : List ℕ). head ++ t) (sym lines_text-none) ∙ ap (λ (rs : List Record). head ++ lines_text (map record_line rs)) (sym h.0);
       order = h.1;
     }
-goes-memory s (lines.Head v) e h = let k = stays sections.Memory s e h in record { reading = refl; text = k.text; order = k.order }
-goes-memory s (lines.Record r) e h = let k = stays sections.Memory s e h in record { reading = refl; text = k.text; order = k.order }
-goes-memory s lines.History e h = let k = stays sections.Memory s e h in record { reading = refl; text = k.text; order = k.order }
-goes-memory s (lines.Entry x) e h = let k = stays sections.Memory s e h in record { reading = refl; text = k.text; order = k.order }
-goes-memory s lines.End e h = let k = stays sections.Memory s e h in record { reading = refl; text = k.text; order = k.order }
 
-goes-records : (s : TraceReaderView) (l : Line) → s.section ≡ sections.Records → IsInOrder sections.Records s.records s.entries → Goes sections.Records s l
-goes-records s (lines.Record r) e h =
-    let head = codes "pciex-trace 2\n" ++ (memory_line (claim_by s.extent [] []).memory ++ 10 ∷ []) in
+goes-record : (t : TraceFormView) (r : Record) → IsInOrder sections.Records t → Goes sections.Records sections.Records t (lines.Record r)
+goes-record t r h =
+    let head = codes "pciex-trace 2\n" ++ (memory_line (claim_by t.extent [] []).memory ++ 10 ∷ []) in
     record {
-      reading = refl;
-      text = append_assoc head (lines_text (map record_line s.records)) (record_line r ++ 10 ∷ [])
-          ∙ ap (λ (t : List ℕ). head ++ t) (more record_line s.records r)
-          ∙ ap (λ (x : Section). text_in x s.extent (s.records ++ r ∷ []) s.entries) (sym e);
-      order = subst (λ (x : Section). IsInOrder x (s.records ++ r ∷ []) s.entries) (sym e) h;
+      text = append_assoc head (lines_text (map record_line t.records)) (record_line r ++ 10 ∷ []) ∙ ap (λ (t : List ℕ). head ++ t) (more record_line t.records r);
+      order = h;
     }
-goes-records s lines.History e h =
-    let before = records_text (claim_by s.extent s.records []) in
+
+goes-history : (t : TraceFormView) → IsInOrder sections.Records t → Goes sections.Records sections.History t lines.History
+goes-history t h =
+    let before = records_text (claim_by t.extent t.records []) in
     record {
-      reading = refl;
       text = sym (append-nil before) ∙ ap (λ (t : List ℕ). before ++ t) (sym lines_text-none) ∙ ap (λ (es : List Entry). before ++ lines_text (map entry_line es)) (sym h);
       order = tt;
     }
-goes-records s (lines.Head v) e h = let k = stays sections.Records s e h in record { reading = refl; text = k.text; order = k.order }
-goes-records s (lines.Memory m) e h = let k = stays sections.Records s e h in record { reading = refl; text = k.text; order = k.order }
-goes-records s (lines.Entry x) e h = let k = stays sections.Records s e h in record { reading = refl; text = k.text; order = k.order }
-goes-records s lines.End e h = let k = stays sections.Records s e h in record { reading = refl; text = k.text; order = k.order }
 
-goes-history : (s : TraceReaderView) (l : Line) → s.section ≡ sections.History → Goes sections.History s l
-goes-history s (lines.Entry x) e =
-    let before = records_text (claim_by s.extent s.records []) in
+goes-entry : (t : TraceFormView) (e : Entry) → Goes sections.History sections.History t (lines.Entry e)
+goes-entry t e =
+    let before = records_text (claim_by t.extent t.records []) in
     record {
-      reading = refl;
-      text = append_assoc before (lines_text (map entry_line s.entries)) (entry_line x ++ 10 ∷ [])
-          ∙ ap (λ (t : List ℕ). before ++ t) (more entry_line s.entries x)
-          ∙ ap (λ (y : Section). text_in y s.extent s.records (s.entries ++ x ∷ [])) (sym e);
-      order = subst (λ (y : Section). IsInOrder y s.records (s.entries ++ x ∷ [])) (sym e) tt;
+      text = append_assoc before (lines_text (map entry_line t.entries)) (entry_line e ++ 10 ∷ []) ∙ ap (λ (t : List ℕ). before ++ t) (more entry_line t.entries e);
+      order = tt;
     }
-goes-history s lines.End e = record { reading = refl; text = refl; order = tt }
-goes-history s (lines.Head v) e = let k = stays sections.History s e tt in record { reading = refl; text = k.text; order = k.order }
-goes-history s (lines.Memory m) e = let k = stays sections.History s e tt in record { reading = refl; text = k.text; order = k.order }
-goes-history s (lines.Record r) e = let k = stays sections.History s e tt in record { reading = refl; text = k.text; order = k.order }
-goes-history s lines.History e = let k = stays sections.History s e tt in record { reading = refl; text = k.text; order = k.order }
 
-goes-end : (s : TraceReaderView) (l : Line) → s.section ≡ sections.End → Goes sections.End s l
-goes-end s l e = let k = stays sections.End s e tt in record { reading = refl; text = k.text; order = k.order }
+-- the rewriter of what is read with a line
+record Places (s : TraceReaderView) (l : Line) (next : Option Section) : Type 0 where
+  is : reads.placed rewrite_grammar (rewriter_of s) l next ≡ rewriter_of (reads.placed trace_grammar s l next)
+  order : IsInOrder (reads.placed trace_grammar s l next).section (reads.placed trace_grammar s l next).form
 
-goes : (section : Section) (s : TraceReaderView) (l : Line) → s.section ≡ section → IsInOrder section s.records s.entries → Goes section s l
-goes sections.Head s l e h = goes-head s l e h
-goes sections.Memory s l e h = goes-memory s l e h
-goes sections.Records s l e h = goes-records s l e h
-goes sections.History s l e h = goes-history s l e
-goes sections.End s l e h = goes-end s l e
+-- a line that isn't due leaves all as it is
+stays : (s : TraceReaderView) (l : Line) → IsInOrder s.section s.form → Places s l None
+stays s l h = record { is = refl; order = h }
 
--- the same of a rewriter that stands at a reading
-by-line : (w : TraceRewriterView) (s : TraceReaderView) (l : Line) → Stands w s → Stands (rewritten_by w.reading.section w l) (placed s.section s l)
-by-line w s l at =
-    let g = goes s.section s l refl at.order in
+same-version : (t : TraceFormView) (l : Line) → version_after t.version l ≡ (kept t l).version
+same-version t (lines.Head v) = refl
+same-version t (lines.Memory m) = refl
+same-version t (lines.Record r) = refl
+same-version t lines.History = refl
+same-version t (lines.Entry e) = refl
+same-version t lines.End = refl
+
+goes-on : (s : TraceReaderView) (l : Line) (next : Section) → Goes s.section next s.form l → Places s l (Some next)
+goes-on s l next g =
+    let made : Version → List ℕ → TraceRewriterView = λ v text. record { section = next; lines = reads.next_line s; fault = s.fault; form = record { version = v; text = text } } in
     record {
-      reading = ap (λ (r : TraceReaderView). onward r (placed r.section r l)) at.reading ∙ g.reading;
-      text = ap (λ (r : TraceReaderView). w.text ++ added r.section l) at.reading ∙ ap (λ (t : List ℕ). t ++ added s.section l) at.text ∙ g.text;
+      is = ap (λ (v : Version). made v (text_so_far s.section s.form ++ added l)) (same-version s.form l) ∙ ap (made (kept s.form l).version) g.text;
       order = g.order;
     }
 
-by-form : (w : TraceRewriterView) (s : TraceReaderView) (o : Option Line) → Stands w s → Stands (rewritten w o) (taken s o)
-by-form w s None at = record { reading = ap (λ (r : TraceReaderView). faulty r (formless r.section)) at.reading; text = at.text; order = at.order }
-by-form w s (Some l) at = by-line w s l at
+places : (section : Section) (s : TraceReaderView) (l : Line) → IsInOrder section s.form → Places (record s { section = section }) l (section_after section l)
+places sections.Head s (lines.Head v) h = goes-on _ (lines.Head v) sections.Memory (record { text = refl; order = h })
+places sections.Head s (lines.Memory m) h = stays _ (lines.Memory m) h
+places sections.Head s (lines.Record r) h = stays _ (lines.Record r) h
+places sections.Head s lines.History h = stays _ lines.History h
+places sections.Head s (lines.Entry e) h = stays _ (lines.Entry e) h
+places sections.Head s lines.End h = stays _ lines.End h
+places sections.Memory s (lines.Head v) h = stays _ (lines.Head v) h
+places sections.Memory s (lines.Memory m) h = goes-on _ (lines.Memory m) sections.Records (goes-memory s.form m h)
+places sections.Memory s (lines.Record r) h = stays _ (lines.Record r) h
+places sections.Memory s lines.History h = stays _ lines.History h
+places sections.Memory s (lines.Entry e) h = stays _ (lines.Entry e) h
+places sections.Memory s lines.End h = stays _ lines.End h
+places sections.Records s (lines.Head v) h = stays _ (lines.Head v) h
+places sections.Records s (lines.Memory m) h = stays _ (lines.Memory m) h
+places sections.Records s (lines.Record r) h = goes-on _ (lines.Record r) sections.Records (goes-record s.form r h)
+places sections.Records s lines.History h = goes-on _ lines.History sections.History (goes-history s.form h)
+places sections.Records s (lines.Entry e) h = stays _ (lines.Entry e) h
+places sections.Records s lines.End h = stays _ lines.End h
+places sections.History s (lines.Head v) h = stays _ (lines.Head v) h
+places sections.History s (lines.Memory m) h = stays _ (lines.Memory m) h
+places sections.History s (lines.Record r) h = stays _ (lines.Record r) h
+places sections.History s lines.History h = stays _ lines.History h
+places sections.History s (lines.Entry e) h = goes-on _ (lines.Entry e) sections.History (goes-entry s.form e)
+places sections.History s lines.End h = goes-on _ lines.End sections.End (record { text = refl; order = tt })
+places sections.End s l h = stays _ l h
 
-after : (w : TraceRewriterView) (s : TraceReaderView) (line : List ℕ) → Stands w s → Stands (after_line w line) (read_line s line)
-after w s line at = by (is_some w.reading.fault) (is_some s.fault) (ap (λ (r : TraceReaderView). is_some r.fault) at.reading) (is_skipped line)
+by-form : (s : TraceReaderView) (o : Option Line) → IsInOrder s.section s.form → Stands (reads.taken rewrite_grammar (rewriter_of s) o) (reads.taken trace_grammar s o)
+by-form s None h = record { is = refl; order = h }
+by-form s (Some l) h = let p = places s.section s l h in record { is = p.is; order = p.order }
+
+after : (s : TraceReaderView) (line : List ℕ) → IsInOrder s.section s.form → Stands (after_line (rewriter_of s) line) (read_line s line)
+after s line h = by (is_some s.fault) (is_skipped line)
   where
-    mine : Option Line
-    mine = line_of w.reading.version (words line)
-
     other : Option Line
-    other = line_of s.version (words line)
+    other = line_of s.form.version (words line)
 
-    same : mine ≡ other
-    same = ap (λ (r : TraceReaderView). line_of r.version (words line)) at.reading
+    by : (faulty skipped : Bool) → Stands
+        (cond faulty (rewriter_of s) (cond skipped (reads.counted (rewriter_of s)) (reads.taken rewrite_grammar (rewriter_of s) other)))
+        (cond faulty s (cond skipped (reads.counted s) (reads.taken trace_grammar s other)))
+    by true skipped = record { is = refl; order = h }
+    by false true = record { is = refl; order = h }
+    by false false = by-form s other h
 
-    by : (f g : Bool) → f ≡ g → (skipped : Bool) → Stands
-        (cond f w (cond skipped (record w { reading = counted w.reading }) (rewritten w mine)))
-        (cond g s (cond skipped (counted s) (taken s other)))
-    by true true e skipped = at
-    by true false e skipped = absurd (cc e)
-    by false true e skipped = absurd (cc e)
-    by false false e true = record { reading = ap counted at.reading; text = at.text; order = at.order }
-    by false false e false = subst (λ (o : Option Line). Stands (rewritten w mine) (taken s o)) same (by-form w s mine at)
-
-after-long : (w : TraceRewriterView) (s : TraceReaderView) → Stands w s → Stands (long_line_passed w) (read_long_line s)
-after-long w s at = by (is_some w.reading.fault) (is_some s.fault) (ap (λ (r : TraceReaderView). is_some r.fault) at.reading)
+after-long : (s : TraceReaderView) → IsInOrder s.section s.form → Stands (long_line_passed (rewriter_of s)) (read_long_line s)
+after-long s h = by (is_some s.fault)
   where
-    by : (f g : Bool) → f ≡ g → Stands (record w { reading = cond f w.reading (taken w.reading None) }) (cond g s (taken s None))
-    by true true e = at
-    by true false e = absurd (cc e)
-    by false true e = absurd (cc e)
-    by false false e = by-form w s None at
+    by : (faulty : Bool) → Stands
+        (cond faulty (rewriter_of s) (reads.faulty (rewriter_of s) (reads.formless s.section)))
+        (cond faulty s (reads.faulty s (reads.formless s.section)))
+    by true = record { is = refl; order = h }
+    by false = record { is = refl; order = h }
 
-line : (w : TraceRewriterView) (s : TraceReaderView) (l : List ℕ) → Stands w s → Stands (rewrite_line w l) (take_line s l)
-line w s l at = by (nat_lt 512 (length (bare l)))
+line : (s : TraceReaderView) (l : List ℕ) → IsInOrder s.section s.form → Stands (rewrite_line (rewriter_of s) l) (take_line s l)
+line s l h = by (nat_lt 512 (length (bare l)))
   where
-    by : (long : Bool) → Stands (cond long (long_line_passed w) (after_line w (said l))) (cond long (read_long_line s) (read_line s (said l)))
-    by true = after-long w s at
-    by false = after w s (said l) at
+    by : (long : Bool) → Stands (cond long (long_line_passed (rewriter_of s)) (after_line (rewriter_of s) (said l))) (cond long (read_long_line s) (read_line s (said l)))
+    by true = after-long s h
+    by false = after s (said l) h
 
-all : (ls : List (List ℕ)) (w : TraceRewriterView) (s : TraceReaderView) → Stands w s → Stands (fold rewrite_line w ls) (fold take_line s ls)
-all [] w s at = at
-all (l ∷ ls) w s at = all ls (rewrite_line w l) (take_line s l) (line w s l at)
+all : (ls : List (List ℕ)) (s : TraceReaderView) → IsInOrder s.section s.form → Stands (fold rewrite_line (rewriter_of s) ls) (fold take_line s ls)
+all [] s h = record { is = refl; order = h }
+all (l ∷ ls) s h =
+    let one = line s l h in
+    let rest = all ls (take_line s l) one.order in
+    record { is = ap (λ (r : TraceRewriterView). fold rewrite_line r ls) one.is ∙ rest.is; order = rest.order }
 
 -- ---- the end
 
-whole-text : (s : TraceReaderView) → text_in sections.End s.extent s.records s.entries ≡ trace_text (claim_read s)
-whole-text s = trace_text-by (claim_read s) (records_text (claim_read s)) (records_text (claim_read s) ++ lines_text (map entry_line s.entries)) (text_in sections.End s.extent s.records s.entries) refl refl refl
+whole-text : (t : TraceFormView) → text_so_far sections.End t ≡ trace_text (claim_read t)
+whole-text t = trace_text-by (claim_read t) (records_text (claim_read t)) (records_text (claim_read t) ++ lines_text (map entry_line t.entries)) (text_so_far sections.End t) refl refl refl
 
-ends : (f : Option ReadFault) (section : Section) (s : TraceReaderView) → text_or_fault (text_in section s.extent s.records s.entries) (fault_or_end f (record (emptied s) { section = section })) ≡ text_of (fault_or_end f (record s { section = section }))
+ends : (f : Option ReadFault) (section : Section) (s : TraceReaderView) → text_in (reads.fault_or_end f (rewriter_of (record s { section = section }))) ≡ text_of (claim_in (reads.fault_or_end f (record s { section = section })))
 ends (Some f) section s = refl
 ends None sections.Head s = refl
 ends None sections.Memory s = refl
 ends None sections.Records s = refl
 ends None sections.History s = refl
-ends None sections.End s = ap (λ (t : List ℕ). Ok t) (whole-text s)
-
-at-end : (w : TraceRewriterView) (s : TraceReaderView) → Stands w s → text_at_end w ≡ text_of (at_end s)
-at-end w s at =
-    ap (λ (r : TraceReaderView). text_or_fault w.text (at_end r)) at.reading ∙ ap (λ (t : List ℕ). text_or_fault t (at_end (emptied s))) at.text ∙ ends s.fault s.section s
+ends None sections.End s = ap (λ (t : List ℕ). Ok t) (whole-text s.form)
 
 pub rewriting-is-reading : RewritingIsReading
-rewriting-is-reading ls = at-end _ _ (all ls nothing_rewritten nothing_read (record { reading = refl; text = refl; order = (refl, refl) }))
+rewriting-is-reading ls =
+    let read = fold take_line nothing_read ls in
+    let run = all ls nothing_read (refl, refl) in
+    ap text_at_end run.is ∙ ends read.fault read.section read

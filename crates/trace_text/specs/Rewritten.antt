@@ -2,7 +2,7 @@
 use Rattle.std.specs.Prelude.{ℕ, ◌≡◌, List, nat_lt, if◌then◌else◌, length, fold, Result, Ok, Err}
 use Rattle.history_check.specs.Claim.{Claim}
 use Rattle.text_lines.specs.Lines.{bare, said}
-use Rattle.trace_text.specs.declared.fault.ReadFault.{ReadFault}
+use Rattle.record_text.specs.declared.fault.ReadFault.{ReadFault}
 use Rattle.trace_text.specs.TraceReaderView.{nothing_read, take_line, at_end}
 use Rattle.trace_text.specs.Texts.{trace_text}
 use Rattle.trace_text.specs.TraceRewriterView.{TraceRewriterView, nothing_rewritten, after_line, long_line_passed, text_at_end}

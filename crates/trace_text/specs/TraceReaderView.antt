@@ -1,169 +1,95 @@
 -- What a text of a trace is read as, line by line.
-use Rattle.std.specs.Prelude.{ℕ, ◌≡◌, ◌+◌, ◌-◌, ◌^◌, ◌⊎◌, ◌&&◌, Bool, true, false, not, min, nat_lt, if◌then◌else◌, List, [], ◌∷◌, ◌++◌, length, fold, Option, Some, None, is_some, Result, Ok, Err}
-use Rattle.text_lines.specs.Lines.{lines_of, bare, said, is_skipped}
+use Rattle.std.specs.Prelude.{ℕ, ◌≡◌, ◌⊎◌, Bool, true, false, List, [], ◌∷◌, ◌++◌, Result, Ok, Err}
 use Rattle.seq_memory.specs.Limits.{Extent}
 use Rattle.seq_memory.specs.declared.Entry.{Entry}
 use Rattle.history_check.specs.declared.Record.{Record}
 use Rattle.history_check.specs.Claim.{Claim}
 use Rattle.operation_text.specs.Words.{words}
-use Rattle.trace_text.specs.declared.fault.ReadFault.{ReadFault}
-use Rattle.trace_text.specs.declared.fault.ReadFaultKind.{ReadFaultKind}
-use Rattle.trace_text.specs.declared.fault.ReadFaultKind.TheVariants as faults
+use Rattle.record_text.specs.declared.fault.ReadFault.{ReadFault}
+use Rattle.record_text.specs.declared.fault.ReadFaultKind.{ReadFaultKind}
+use Rattle.record_text.specs.Grammar.{Grammar}
+use Rattle.record_text.specs.RecordReaderView.{RecordReaderView}
+use Rattle.record_text.specs.RecordReaderView as reads
 use Rattle.trace_text.specs.declared.line.Version.{Version}
 use Rattle.trace_text.specs.declared.line.Version.TheVariants as versions
 use Rattle.trace_text.specs.declared.line.Line.{Line}
 use Rattle.trace_text.specs.declared.line.Line.TheVariants as lines
-use Rattle.trace_text.specs.declared.reader.Section.{Section}
-use Rattle.trace_text.specs.declared.reader.Section.TheVariants as sections
-use Rattle.trace_text.specs.Forms.{line_of}
+use Rattle.trace_text.specs.Forms.{line_of, section_after}
 
--- what was read so far: the section that goes on, the number of lines, skipped ones counted, and the first fault
-pub record TraceReaderView : Type 0 where
-  pub section : Section
+-- what is kept of the lines so far
+pub record TraceFormView : Type 0 where
   pub version : Version
-  pub lines : ℕ
   pub extent : Extent
   pub records : List Record
   pub entries : List Entry
-  pub fault : Option ReadFault
 
 -- the extent is told by the memory's line, and that of the least memory until then
-abbrev pub nothing_read : TraceReaderView
-nothing_read = record {
-  section = sections.Head;
-  version = versions.One;
-  lines = 0;
-  extent = record { base = 0; size = 128; block = 64 };
-  records = [];
-  entries = [];
-  fault = None;
-}
+abbrev pub no_trace : TraceFormView
+no_trace = record { version = versions.One; extent = record { base = 0; size = 128; block = 64 }; records = []; entries = [] }
 
--- the number of the line that comes next, a number of 64 bits
-abbrev pub next_line : TraceReaderView → ℕ
-next_line s = min (s.lines + 1) (2 ^ 64 - 1)
+-- what is kept with a line that is due
+abbrev pub kept : TraceFormView → Line → TraceFormView
+kept t (lines.Head v) = record t { version = v }
+kept t (lines.Memory x) = record t { extent = x }
+kept t (lines.Record r) = record t { records = t.records ++ r ∷ [] }
+kept t (lines.Entry e) = record t { entries = t.entries ++ e ∷ [] }
+kept t lines.History = t
+kept t lines.End = t
+
+-- a list grows by its own lines alone
+abbrev pub adds : Line → Bool
+adds (lines.Record r) = true
+adds (lines.Entry e) = true
+adds _ = false
+
+abbrev pub trace_grammar : Grammar TraceFormView Line
+trace_grammar = record { line_of = λ t line. line_of t.version (words line); section_after = section_after; kept = kept; adds = adds }
+
+-- the section that goes on, the number of lines, skipped ones counted, the first fault, and what is kept
+abbrev pub TraceReaderView : Type 0
+TraceReaderView = RecordReaderView TraceFormView
+
+abbrev pub nothing_read : TraceReaderView
+nothing_read = reads.nothing_read no_trace
 
 abbrev pub fault_at_next : TraceReaderView → ReadFaultKind → ReadFault
-fault_at_next s kind = record { kind = kind; line = next_line s }
+fault_at_next s kind = reads.fault_at_next s kind
 
--- one line more
-abbrev pub counted : TraceReaderView → TraceReaderView
-counted s = record s { lines = next_line s }
-
-abbrev pub faulty : TraceReaderView → ReadFaultKind → TraceReaderView
-faulty s kind = record s { lines = next_line s; fault = Some (fault_at_next s kind) }
-
--- one line more, which ends a section
-abbrev pub entered : TraceReaderView → Section → TraceReaderView
-entered s section = record s { lines = next_line s; section = section }
-
--- ---- sections: each takes its lines, and the line that ends it
-
-abbrev pub in_head : TraceReaderView → Option Line → TraceReaderView
-in_head s (Some (lines.Head v)) = record s { lines = next_line s; section = sections.Memory; version = v }
-in_head s _ = faulty s faults.Head
-
-abbrev pub in_memory : TraceReaderView → Line → TraceReaderView
-in_memory s (lines.Memory x) = record s { lines = next_line s; section = sections.Records; extent = x }
-in_memory s _ = faulty s faults.Section
-
-abbrev pub in_records : TraceReaderView → Line → TraceReaderView
-in_records s (lines.Record r) = record s { lines = next_line s; records = s.records ++ r ∷ [] }
-in_records s lines.History = record s { lines = next_line s; section = sections.History }
-in_records s _ = faulty s faults.Section
-
-abbrev pub in_history : TraceReaderView → Line → TraceReaderView
-in_history s (lines.Entry e) = record s { lines = next_line s; entries = s.entries ++ e ∷ [] }
-in_history s lines.End = record s { lines = next_line s; section = sections.End }
-in_history s _ = faulty s faults.Section
-
-abbrev pub placed : Section → TraceReaderView → Line → TraceReaderView
-placed sections.Head s l = in_head s (Some l)
-placed sections.Memory s l = in_memory s l
-placed sections.Records s l = in_records s l
-placed sections.History s l = in_history s l
-placed sections.End s l = faulty s faults.Section
-
--- a line of no form is a fault of the line, or of the head where that is due
-abbrev pub formless : Section → ReadFaultKind
-formless sections.Head = faults.Head
-formless _ = faults.Line
-
-abbrev pub taken : TraceReaderView → Option Line → TraceReaderView
-taken s None = faulty s (formless s.section)
-taken s (Some l) = placed s.section s l
-
--- ---- lines
-
--- behind a fault nothing is read
 abbrev pub after_line : TraceReaderView → List ℕ → TraceReaderView
-after_line s line =
-    if is_some s.fault then s
-    else (if is_skipped line then counted s else taken s (line_of s.version (words line)))
+after_line s line = reads.after_line trace_grammar s line
 
--- a line over the limit has no form
 abbrev pub after_long_line : TraceReaderView → TraceReaderView
-after_long_line s = if is_some s.fault then s else taken s None
+after_long_line s = reads.after_long_line s
 
--- a line has at most 512 bytes before its line feed: that is tested first
 abbrev pub take_line : TraceReaderView → List ℕ → TraceReaderView
-take_line s line = if nat_lt 512 (length (bare line)) then after_long_line s else after_line s (said line)
-
--- what was read of a text
-abbrev pub reading_of : List ℕ → TraceReaderView
-reading_of text = fold take_line nothing_read (lines_of text)
-
--- ---- growth
-
--- a section grows by its own lines alone
-abbrev pub adds : Section → Option Line → Bool
-adds sections.Records (Some (lines.Record r)) = true
-adds sections.History (Some (lines.Entry e)) = true
-adds _ _ = false
+take_line s line = reads.take_line trace_grammar s line
 
 -- no fault was read before, and the line adds a record or an entry
 abbrev pub adds_one : TraceReaderView → List ℕ → Bool
-adds_one s line = not (is_some s.fault) && (not (is_skipped line) && adds s.section (line_of s.version (words line)))
-
--- the same of a line with what ends it
-abbrev pub adds_by : TraceReaderView → List ℕ → Bool
-adds_by s line = not (nat_lt 512 (length (bare line))) && adds_one s (said line)
+adds_one s line = reads.adds_one trace_grammar s line
 
 -- ---- the end
 
-abbrev pub claim_read : TraceReaderView → Claim
-claim_read s = record {
-  memory = record { base = s.extent.base; size = s.extent.size; block = s.extent.block; entries = s.entries };
-  records = s.records;
+abbrev pub claim_read : TraceFormView → Claim
+claim_read t = record {
+  memory = record { base = t.extent.base; size = t.extent.size; block = t.extent.block; entries = t.entries };
+  records = t.records;
 }
 
--- what is missing
-abbrev pub ended_in : Section → TraceReaderView → Result Claim ReadFault
-ended_in sections.Head s = Err (fault_at_next s faults.Head)
-ended_in sections.Memory s = Err (fault_at_next s faults.Line)
-ended_in sections.Records s = Err (fault_at_next s faults.Section)
-ended_in sections.History s = Err (fault_at_next s faults.Section)
-ended_in sections.End s = Ok (claim_read s)
-
-abbrev pub fault_or_end : Option ReadFault → TraceReaderView → Result Claim ReadFault
-fault_or_end (Some f) s = Err f
-fault_or_end None s = ended_in s.section s
+abbrev pub claim_in : Result TraceFormView ReadFault → Result Claim ReadFault
+claim_in (Err f) = Err f
+claim_in (Ok t) = Ok (claim_read t)
 
 abbrev pub at_end : TraceReaderView → Result Claim ReadFault
-at_end s = fault_or_end s.fault s
+at_end s = claim_in (reads.at_end s)
 
 -- the trace and the history that a text spells, or its first fault
 abbrev pub read_of : List ℕ → Result Claim ReadFault
-read_of text = at_end (reading_of text)
+read_of text = claim_in (reads.read_of trace_grammar no_trace text)
 
 -- a growth was refused for a record or an entry, before which no fault was read
-pub record IsRefused (text : List ℕ) (f : ReadFault) : Type 0 where
-  pub read : List (List ℕ)
-  pub line : List ℕ
-  pub rest : List (List ℕ)
-  pub begins : lines_of text ≡ read ++ line ∷ rest
-  pub adds : adds_by (fold take_line nothing_read read) line ≡ true
-  pub is : f ≡ fault_at_next (fold take_line nothing_read read) faults.Memory
+abbrev pub IsRefused : List ℕ → ReadFault → Type 0
+IsRefused text f = reads.IsRefused trace_grammar no_trace text f
 
 -- the first fault, or that memory ran out before one
 abbrev pub Tells : List ℕ → ReadFault → Type 0

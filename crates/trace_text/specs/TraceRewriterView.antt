@@ -1,60 +1,57 @@
 -- A text of a trace that is written in the second version while it is read.
-use Rattle.std.specs.Prelude.{ℕ, List, [], ◌∷◌, ◌++◌, codes, if◌then◌else◌, is_some, Option, Some, None, Result, Ok, Err}
-use Rattle.history_check.specs.Claim.{Claim}
-use Rattle.text_lines.specs.Lines.{is_skipped}
+use Rattle.std.specs.Prelude.{ℕ, true, List, [], ◌∷◌, ◌++◌, codes, Result, Ok, Err}
 use Rattle.operation_text.specs.Words.{words}
-use Rattle.trace_text.specs.declared.fault.ReadFault.{ReadFault}
+use Rattle.record_text.specs.declared.fault.ReadFault.{ReadFault}
+use Rattle.record_text.specs.Grammar.{Grammar}
+use Rattle.record_text.specs.RecordReaderView.{RecordReaderView}
+use Rattle.record_text.specs.RecordReaderView as reads
+use Rattle.trace_text.specs.declared.line.Version.{Version}
+use Rattle.trace_text.specs.declared.line.Version.TheVariants as versions
 use Rattle.trace_text.specs.declared.line.Line.{Line}
 use Rattle.trace_text.specs.declared.line.Line.TheVariants as lines
-use Rattle.trace_text.specs.declared.reader.Section.{Section}
-use Rattle.trace_text.specs.declared.reader.Section.TheVariants as sections
-use Rattle.trace_text.specs.Forms.{line_of}
-use Rattle.trace_text.specs.TraceReaderView.{TraceReaderView, nothing_read, counted, faulty, formless, placed, after_long_line, at_end}
+use Rattle.trace_text.specs.Forms.{line_of, section_after}
 use Rattle.trace_text.specs.Texts.{memory_line, record_line, entry_line}
 
--- what was read so far, without the records and entries, and what was written of it
-pub record TraceRewriterView : Type 0 where
-  pub reading : TraceReaderView
+-- what is kept of the lines so far: no record and no entry
+pub record RewriteFormView : Type 0 where
+  pub version : Version
   pub text : List ℕ
 
+-- what a line adds to the text
+abbrev pub added : Line → List ℕ
+added (lines.Head v) = codes "pciex-trace 2\n"
+added (lines.Memory x) = memory_line (record { base = x.base; size = x.size; block = x.block; entries = [] }) ++ 10 ∷ []
+added (lines.Record r) = record_line r ++ 10 ∷ []
+added lines.History = codes "history\n"
+added (lines.Entry e) = entry_line e ++ 10 ∷ []
+added lines.End = codes "end\n"
+
+abbrev pub version_after : Version → Line → Version
+version_after v (lines.Head w) = w
+version_after v _ = v
+
+abbrev pub written : RewriteFormView → Line → RewriteFormView
+written w l = record { version = version_after w.version l; text = w.text ++ added l }
+
+abbrev pub rewrite_grammar : Grammar RewriteFormView Line
+rewrite_grammar = record { line_of = λ w line. line_of w.version (words line); section_after = section_after; kept = written; adds = λ l. true }
+
+abbrev pub TraceRewriterView : Type 0
+TraceRewriterView = RecordReaderView RewriteFormView
+
 abbrev pub nothing_rewritten : TraceRewriterView
-nothing_rewritten = record { reading = nothing_read; text = [] }
+nothing_rewritten = reads.nothing_read (record { version = versions.One; text = [] })
 
--- what a line adds to the text in each section
-abbrev pub added : Section → Line → List ℕ
-added sections.Head (lines.Head v) = codes "pciex-trace 2\n"
-added sections.Memory (lines.Memory x) = memory_line (record { base = x.base; size = x.size; block = x.block; entries = [] }) ++ 10 ∷ []
-added sections.Records (lines.Record r) = record_line r ++ 10 ∷ []
-added sections.Records lines.History = codes "history\n"
-added sections.History (lines.Entry e) = entry_line e ++ 10 ∷ []
-added sections.History lines.End = codes "end\n"
-added _ _ = []
-
--- a reading that goes on to another one, and takes no record and no entry
-abbrev pub onward : TraceReaderView → TraceReaderView → TraceReaderView
-onward s t = record t { records = s.records; entries = s.entries }
-
--- a line of that form is taken, and written
-abbrev pub rewritten_by : Section → TraceRewriterView → Line → TraceRewriterView
-rewritten_by section w l = record { reading = onward w.reading (placed section w.reading l); text = w.text ++ added section l }
-
-abbrev pub rewritten : TraceRewriterView → Option Line → TraceRewriterView
-rewritten w None = record w { reading = faulty w.reading (formless w.reading.section) }
-rewritten w (Some l) = rewritten_by w.reading.section w l
-
--- behind a fault nothing is read
 abbrev pub after_line : TraceRewriterView → List ℕ → TraceRewriterView
-after_line w line =
-    if is_some w.reading.fault then w
-    else (if is_skipped line then record w { reading = counted w.reading } else rewritten w (line_of w.reading.version (words line)))
+after_line w line = reads.after_line rewrite_grammar w line
 
 abbrev pub long_line_passed : TraceRewriterView → TraceRewriterView
-long_line_passed w = record w { reading = after_long_line w.reading }
+long_line_passed w = reads.after_long_line w
 
-abbrev pub text_or_fault : List ℕ → Result Claim ReadFault → Result (List ℕ) ReadFault
-text_or_fault text (Err f) = Err f
-text_or_fault text (Ok x) = Ok text
+abbrev pub text_in : Result RewriteFormView ReadFault → Result (List ℕ) ReadFault
+text_in (Err f) = Err f
+text_in (Ok w) = Ok w.text
 
 -- the text in the second version, or the first fault
 abbrev pub text_at_end : TraceRewriterView → Result (List ℕ) ReadFault
-text_at_end w = text_or_fault w.text (at_end w.reading)
+text_at_end w = text_in (reads.at_end w)

@@ -19,8 +19,7 @@
 //! 64 bytes. Both versions are read, and the second is written.
 #![tactic(auto)]
 
-mod fault;
-mod fields;
+mod form;
 mod laws;
 mod line;
 mod reader;
@@ -28,11 +27,8 @@ mod reading;
 mod rewriting;
 mod writing;
 
-pub use fault::{ReadFault, ReadFaultKind, write_fault};
-pub use fields::{block, count, memory_extent, request, requester};
 pub use laws::{a_rewriting_is_a_reading, own_text_spells_trace, told_trace_is_read_back};
-pub use line::trace_misfit;
 pub use reader::TraceReader;
-pub use reading::read_trace;
+pub use reading::{read_trace, read_trace_with_cause};
 pub use rewriting::TraceRewriter;
 pub use writing::write_trace;

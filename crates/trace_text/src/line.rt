@@ -1,12 +1,12 @@
 //! The forms of lines.
-ghost use Rattle.std.specs.Prelude.{◌≡◌, option_map, is_none, is_some};
+ghost use Rattle.std.specs.Prelude.{◌≡◌, option_map};
 ghost use Rattle.std.specs.Result.{result_ok};
 ghost use Rattle.operation_text.specs.Words.{words, words_behind, first_field};
 ghost use Rattle.trace_text.specs.Forms as forms;
 
-use crate::fields::{block, count, memory_extent, request, requester};
 use history_check::Record;
-use operation_text::{BASE, Expected, Misfit, SIZE, alone, cut, number, op_behind, reply_behind};
+use operation_text::{Expected, Misfit, alone, cut, number, op_behind, reply_behind};
+use record_text::{count, memory, request, requester};
 use seq_memory::{Entry, Extent};
 
 /// A line, by its first word.
@@ -26,6 +26,18 @@ pub(crate) enum Version {
     One,
     /// The memory's line tells the block.
     Two,
+}
+
+impl Version {
+    /// Whether the memory's line tells the block.
+    fn has_block(self) -> bool
+        ensures { result ≡ forms.has_block self }
+    {
+        match self {
+            Version::One => false,
+            Version::Two => true,
+        }
+    }
 }
 
 /// What a line says.
@@ -57,34 +69,12 @@ fn head(rest: Option<&[u8]>) -> Result<Line, Misfit>
     alone(Line::Head(version), rest)
 }
 
-/// The line of a memory, if there can be one of that base and size, which come in `place`.
-fn memory_within(
-    base: u64,
-    size: usize,
-    block: u16,
-    place: Option<&[u8]>,
-    rest: Option<&[u8]>,
-) -> Result<Line, Misfit>
-    ensures { result_ok result ≡ forms.memory_within (record { base = base; size = size; block = block }) (words_behind rest.entry) }
+fn memory_line(place: Option<&[u8]>, version: Version) -> Result<Line, Misfit>
+    ensures { result_ok result ≡ forms.memory_line_of version (words_behind place.entry) }
 {
-    match memory_extent(base, size, block, place) {
-        Ok(extent) => alone(Line::Memory(extent), rest),
+    match memory(place, version.has_block()) {
+        Ok(extent) => Ok(Line::Memory(extent)),
         Err(misfit) => Err(misfit),
-    }
-}
-
-fn memory(place: Option<&[u8]>, version: Version) -> Result<Line, Misfit>
-    ensures { result_ok result ≡ forms.memory_of version (words_behind place.entry) }
-{
-    let (base, rest) = number(place, 16, u64::MAX, BASE)?;
-    let (size, rest) = count(rest, SIZE)?;
-    let size = size as usize;
-    match version {
-        Version::One => memory_within(base, size, 64, place, rest),
-        Version::Two => {
-            let (block, rest) = block(rest)?;
-            memory_within(base, size, block, place, rest)
-        }
     }
 }
 
@@ -142,7 +132,7 @@ fn line_by(kind: &[u8], rest: Option<&[u8]>, version: Version, text: &[u8]) -> R
     } else if kind == b"ent".as_slice() {
         ent(rest)
     } else if kind == b"memory".as_slice() {
-        memory(rest, version)
+        memory_line(rest, version)
     } else if kind == b"history".as_slice() {
         alone(Line::History, rest)
     } else if kind == b"end".as_slice() {
@@ -160,22 +150,4 @@ pub(crate) fn read_line(text: &[u8], version: Version) -> Result<Line, Misfit>
 {
     let (kind, rest) = cut(text);
     line_by(kind, rest, version, text)
-}
-
-/// The version whose memory's line tells the block, or doesn't.
-fn version_with(has_block: bool) -> Version
-    ensures { result ≡ forms.version_with has_block }
-{
-    if has_block {
-        Version::Two
-    } else {
-        Version::One
-    }
-}
-
-/// What doesn't fit in a trace's line, whose memory has a block where that is told. None if it is read.
-pub fn trace_misfit(text: &[u8], has_block: bool) -> Option<Misfit>
-    ensures { is_none result ≡ is_some (forms.line_of (forms.version_with has_block) (words text.now)) }
-{
-    read_line(text, version_with(has_block)).err()
 }

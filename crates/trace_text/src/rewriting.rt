@@ -1,27 +1,89 @@
 //! Writing a trace in the second version while it is read.
 ghost use Rattle.std.specs.Prelude.{◌≡◌, ◌++◌, OnOk, OnErr, IfOk, IfErr, Ok, Err};
-ghost use Rattle.trace_text.specs.TraceReaderView.{faulty, formless};
 ghost use Rattle.trace_text.specs.TraceRewriterView as writes;
 
-use crate::fault::{ReadFault, ReadFaultKind};
-use crate::line::{Line, read_line};
-use crate::reader::{Section, TraceReader};
+use crate::form::{begins_with, expected, section_after};
+use crate::line::{Line, Version, read_line};
 use crate::writing::{put_entry, put_memory, put_record};
 use arrayvec::ArrayString;
-use history_check::Record;
-use seq_memory::Entry;
+use operation_text::{Expected, Misfit};
+use record_text::{Cause, Form, ReadFault, RecordReader, Section};
 use std::alloc::{AllocError, Global};
 use std::marker::Model;
-use text_lines::is_skipped;
+
+/// The text in the second version of the lines so far.
+#[derive(Drop)]
+struct RewriteForm {
+    version: Version,
+    text: Vec<u8>,
+    /// Room for a line: what it holds does not count.
+    line: ArrayString<512>,
+}
+
+impl Model for RewriteForm {
+    ghost use Rattle.trace_text.specs.TraceRewriterView.{RewriteFormView};
+
+    ghost Value = { RewriteFormView };
+
+    ghost view = { λ w. record { version = w.version; text = w.text.items } };
+}
+
+impl Form for RewriteForm {
+    ghost use Rattle.trace_text.specs.TraceRewriterView.{rewrite_grammar};
+
+    type Line = Line;
+
+    ghost grammar = { rewrite_grammar };
+
+    fn read_line(&self, text: &[u8]) -> Result<Line, Misfit> {
+        read_line(text, self.version)
+    }
+
+    fn section_after(section: Section, line: &Line) -> Option<Section> {
+        section_after(section, line)
+    }
+
+    fn keep(&mut self, line: Line) -> Result<(), AllocError> {
+        match &line {
+            Line::Head(version) => {
+                self.text.extend_from_slice(b"pciex-trace 2\n")?;
+                self.version = *version;
+            }
+            Line::Memory(extent) => {
+                self.line.clear();
+                put_memory(*extent, &mut self.line);
+                self.text.extend_from_slice(self.line.as_bytes())?;
+            }
+            Line::Record(record) => {
+                self.line.clear();
+                put_record(record, &mut self.line);
+                self.text.extend_from_slice(self.line.as_bytes())?;
+            }
+            Line::History => self.text.extend_from_slice(b"history\n")?,
+            Line::Entry(entry) => {
+                self.line.clear();
+                put_entry(entry, &mut self.line);
+                self.text.extend_from_slice(self.line.as_bytes())?;
+            }
+            Line::End => self.text.extend_from_slice(b"end\n")?,
+        }
+        Ok(())
+    }
+
+    fn expected(section: Section) -> Expected {
+        expected(section)
+    }
+
+    fn begins_with(section: Section, word: &[u8]) -> bool {
+        begins_with(section, word)
+    }
+}
 
 /// A trace and a history that are written in the second version while their text is read: the text
 /// alone is kept.
 #[derive(Drop)]
 pub struct TraceRewriter {
-    reader: TraceReader,
-    text: Vec<u8>,
-    /// Room for a line: what it holds does not count.
-    line: ArrayString<512>,
+    reader: RecordReader<RewriteForm>,
 }
 
 impl Model for TraceRewriter {
@@ -29,7 +91,7 @@ impl Model for TraceRewriter {
 
     ghost Value = { TraceRewriterView };
 
-    ghost view = { λ w. record { reading = w.reader; text = w.text.items } };
+    ghost view = { λ w. w.reader };
 }
 
 impl TraceRewriter {
@@ -38,122 +100,33 @@ impl TraceRewriter {
         ensures { result ≡ writes.nothing_rewritten }
     {
         TraceRewriter {
-            reader: TraceReader::new(alloc),
-            text: Vec::new(alloc),
-            line: ArrayString::new(),
+            reader: RecordReader::new(RewriteForm {
+                version: Version::One,
+                text: Vec::new(alloc),
+                line: ArrayString::new(),
+            }),
         }
     }
 
     /// The first fault of the lines so far.
     pub fn fault(&self) -> Option<ReadFault>
-        ensures { result ≡ self.now.reading.fault }
+        ensures { result ≡ self.now.fault }
     {
         self.reader.fault()
     }
 
-    fn in_head(&mut self, line: Line) -> Result<(), AllocError>
-        ensures ok { OnOk result (self.new ≡ writes.rewritten_by Section.Head self.old line) }
-        ensures err { OnErr result (self.new ≡ self.old) }
-    {
-        if let Line::Head(_) = line {
-            self.text.extend_from_slice(b"pciex-trace 2\n")?;
-        }
-        self.reader.in_head(line);
-        Ok(())
+    /// What is wrong at the fault, for people; or if there is none, that the text ends here.
+    pub fn cause(&self) -> Cause {
+        self.reader.cause()
     }
 
-    fn in_memory(&mut self, line: Line) -> Result<(), AllocError>
-        ensures ok { OnOk result (self.new ≡ writes.rewritten_by Section.Memory self.old line) }
-        ensures err { OnErr result (self.new ≡ self.old) }
-    {
-        if let Line::Memory(extent) = line {
-            self.line.clear();
-            put_memory(extent, &mut self.line);
-            self.text.extend_from_slice(self.line.as_bytes())?;
-        }
-        self.reader.in_memory(line);
-        Ok(())
-    }
-
-    fn in_records(&mut self, line: &Line) -> Result<(), AllocError>
-        ensures ok { OnOk result (self.new ≡ writes.rewritten_by Section.Records self.old line.now) }
-        ensures err { OnErr result (self.new ≡ self.old) }
-    {
-        match line {
-            Line::Record(record) => {
-                self.line.clear();
-                put_record(record, &mut self.line);
-                self.text.extend_from_slice(self.line.as_bytes())?;
-                self.reader.count();
-            }
-            Line::History => {
-                self.text.extend_from_slice(b"history\n")?;
-                self.reader.enter(Section::History);
-            }
-            _ => self.reader.tell(ReadFaultKind::Section),
-        }
-        Ok(())
-    }
-
-    fn in_history(&mut self, line: &Line) -> Result<(), AllocError>
-        ensures ok { OnOk result (self.new ≡ writes.rewritten_by Section.History self.old line.now) }
-        ensures err { OnErr result (self.new ≡ self.old) }
-    {
-        match line {
-            Line::Entry(entry) => {
-                self.line.clear();
-                put_entry(entry, &mut self.line);
-                self.text.extend_from_slice(self.line.as_bytes())?;
-                self.reader.count();
-            }
-            Line::End => {
-                self.text.extend_from_slice(b"end\n")?;
-                self.reader.enter(Section::End);
-            }
-            _ => self.reader.tell(ReadFaultKind::Section),
-        }
-        Ok(())
-    }
-
-    /// Takes a line of that form.
-    fn place(&mut self, line: Line) -> Result<(), AllocError>
-        ensures ok { OnOk result (self.new ≡ writes.rewritten_by self.old.reading.section self.old line) }
-        ensures err { OnErr result (self.new ≡ self.old) }
-    {
-        match self.reader.section() {
-            Section::Head => self.in_head(line),
-            Section::Memory => self.in_memory(line),
-            Section::Records => self.in_records(&line),
-            Section::History => self.in_history(&line),
-            Section::End => {
-                self.reader.tell(ReadFaultKind::Section);
-                Ok(())
-            }
-        }
-    }
-}
-
-impl TraceRewriter {
     /// Takes a line, without the line feed and the carriage return that end it. Behind a fault
     /// nothing is read. `Err` tells that a growth was refused; nothing was taken then.
     pub fn line(&mut self, line: &[u8]) -> Result<(), AllocError>
         ensures ok { OnOk result (self.new ≡ writes.after_line self.old line.now) }
         ensures err { OnErr result (self.new ≡ self.old) }
     {
-        if self.reader.fault().is_some() {
-            return Ok(());
-        }
-        if is_skipped(line) {
-            self.reader.count();
-            return Ok(());
-        }
-        match read_line(line, self.reader.version()) {
-            Ok(line) => self.place(line),
-            Err(_) => {
-                self.reader.refuse();
-                Ok(())
-            }
-        }
+        self.reader.line(line)
     }
 
     /// Takes a line of more bytes than a line may have: 512 before its line feed.
@@ -169,7 +142,7 @@ impl TraceRewriter {
         ensures err { IfErr result (λ f. writes.text_at_end self ≡ Err f) }
     {
         match self.reader.end() {
-            Ok(_) => Ok(self.text),
+            Ok(form) => Ok(form.text),
             Err(fault) => Err(fault),
         }
     }

@@ -1,10 +1,10 @@
-//! Why a text is no trace.
+//! Why a text of records can't be read.
 ghost use Rattle.std.specs.Prelude.{◌≡◌, ◌≤◌, ◌+◌, ◌++◌};
 ghost use Rattle.arrayvec.specs.ArrayString.{array_string_len};
-ghost use Rattle.trace_text.specs.Names.{number_of, name_of, fault_line};
+ghost use Rattle.record_text.specs.Names.{number_of, name_of, fault_line};
 
 use arrayvec::ArrayString;
-use operation_text::write_decimal;
+use operation_text::{Expected, Misfit, write_decimal};
 use thiserror::Error;
 
 /// The faults of a trace's text, in the order of their numbers.
@@ -56,6 +56,24 @@ impl ReadFaultKind {
 pub struct ReadFault {
     pub kind: ReadFaultKind,
     pub line: u64,
+}
+
+/// What is wrong at a fault, for people.
+#[derive(Clone, Copy, Debug, PartialEq, Eq)]
+pub enum Cause {
+    /// This doesn't fit in the line.
+    Misfit(Misfit),
+    /// The line has more than 512 bytes.
+    LongLine,
+    /// The text ends where this is due.
+    End(Expected),
+}
+
+/// The first fault of a text, and its cause, which says nothing for the kind `Memory`.
+#[derive(Clone, Copy, Debug, PartialEq, Eq)]
+pub struct Misread {
+    pub fault: ReadFault,
+    pub cause: Cause,
 }
 
 /// Adds `fault`, the number of the line that can't be read and the fault's name, at most 34 bytes.

@@ -1,9 +1,9 @@
 -- The numbers and names under which faults are told, and the line that tells one.
 use Rattle.std.specs.Prelude.{ℕ, ◌∷◌, ◌++◌, List, codes}
 use Rattle.std.specs.Fmt.{decimal}
-use Rattle.trace_text.specs.declared.fault.ReadFault.{ReadFault}
-use Rattle.trace_text.specs.declared.fault.ReadFaultKind.{ReadFaultKind}
-use Rattle.trace_text.specs.declared.fault.ReadFaultKind.TheVariants as faults
+use Rattle.record_text.specs.declared.fault.ReadFault.{ReadFault}
+use Rattle.record_text.specs.declared.fault.ReadFaultKind.{ReadFaultKind}
+use Rattle.record_text.specs.declared.fault.ReadFaultKind.TheVariants as faults
 
 abbrev pub number_of : ReadFaultKind → ℕ
 number_of faults.Head = 1

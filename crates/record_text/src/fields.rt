@@ -1,10 +1,10 @@
-//! The fields of lines, which a log's lines have too.
+//! The fields of lines.
 ghost use Rattle.std.specs.Prelude.{◌≡◌, option_map};
 ghost use Rattle.std.specs.Result.{result_ok};
 ghost use Rattle.operation_text.specs.Words.{words_behind, first_field};
-ghost use Rattle.trace_text.specs.Forms as forms;
+ghost use Rattle.record_text.specs.Forms as forms;
 
-use operation_text::{BASE, BLOCK, Expected, Misfit, SIZE, cut, number};
+use operation_text::{BASE, BLOCK, Expected, Misfit, SIZE, alone, cut, number};
 use seq_memory::{Extent, is_size};
 
 /// The greatest number of a request.
@@ -41,7 +41,7 @@ pub fn count(rest: Option<&[u8]>, expected: Expected) -> Result<(u64, Option<&[u
 }
 
 /// The block that comes first, 64 or 128, and what is behind it.
-pub fn block(rest: Option<&[u8]>) -> Result<(u16, Option<&[u8]>), Misfit>
+fn block(rest: Option<&[u8]>) -> Result<(u16, Option<&[u8]>), Misfit>
     ensures { first_field forms.block (words_behind rest.entry) ≡ option_map (λ s. (s.0, words_behind s.1)) (result_ok result) }
 {
     let (block, behind) = number(rest, 10, 128, BLOCK)?;
@@ -64,13 +64,38 @@ fn no_memory(size: usize, rest: Option<&[u8]>) -> Misfit {
 
 /// The extent of a memory of that base, size and block, if there can be one. Base and size come first in `place`: the
 /// misfit is the size, or else the base.
-pub fn memory_extent(
+fn memory_extent(base: u64, size: usize, block: u16, place: Option<&[u8]>) -> Result<Extent, Misfit>
+    ensures { result_ok result ≡ forms.memory_extent (record { base = base; size = size; block = block }) }
+{
+    Extent::new(base, size, block).ok_or(no_memory(size, place))
+}
+
+/// The extent of a memory, if there can be one of that base and size, which come in `place`, and the line ends.
+fn memory_within(
     base: u64,
     size: usize,
     block: u16,
     place: Option<&[u8]>,
+    rest: Option<&[u8]>,
 ) -> Result<Extent, Misfit>
-    ensures { result_ok result ≡ forms.memory_extent (record { base = base; size = size; block = block }) }
+    ensures { result_ok result ≡ forms.memory_within (record { base = base; size = size; block = block }) (words_behind rest.entry) }
 {
-    Extent::new(base, size, block).ok_or(no_memory(size, place))
+    match memory_extent(base, size, block, place) {
+        Ok(extent) => alone(extent, rest),
+        Err(misfit) => Err(misfit),
+    }
+}
+
+/// The extent of the memory that the rest of a line tells, with a block or of blocks of 64 bytes.
+pub fn memory(place: Option<&[u8]>, has_block: bool) -> Result<Extent, Misfit>
+    ensures { result_ok result ≡ forms.memory_of has_block (words_behind place.entry) }
+{
+    let (base, rest) = number(place, 16, u64::MAX, BASE)?;
+    let (size, rest) = count(rest, SIZE)?;
+    let size = size as usize;
+    if has_block {
+        let (block, rest) = block(rest)?;
+        return memory_within(base, size, block, place, rest);
+    }
+    memory_within(base, size, 64, place, rest)
 }

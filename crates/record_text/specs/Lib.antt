@@ -1,0 +1,6 @@
+pub mod Names
+pub mod Forms
+pub mod Grammar
+pub mod RecordReaderView
+pub mod Endings
+pub mod ReadingFacts
