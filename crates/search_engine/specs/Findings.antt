@@ -4,9 +4,9 @@ use Rattle.history_check.specs.TraceView.{TraceView}
 use Rattle.history_check.specs.Claim.{claim_of}
 use Rattle.history_check.specs.Trace.{Explains}
 use Rattle.history_check.specs.Clocks.{IsClocked}
-use Rattle.trace_text.specs.declared.fault.ReadFault.{ReadFault}
-use Rattle.trace_text.specs.declared.fault.ReadFaultKind.{ReadFaultKind}
-use Rattle.trace_text.specs.declared.fault.ReadFaultKind.TheVariants as faults
+use Rattle.record_text.specs.declared.fault.ReadFault.{ReadFault}
+use Rattle.record_text.specs.declared.fault.ReadFaultKind.{ReadFaultKind}
+use Rattle.record_text.specs.declared.fault.ReadFaultKind.TheVariants as faults
 use Rattle.log_runs.specs.Explainable.{SeenAlike, prefix as first}
 use Rattle.log_pieces.specs.declared.Granularity.{Granularity}
 use Rattle.log_pieces.specs.InPieces.{in_pieces, IsExplainableIn}
@@ -36,4 +36,4 @@ IsFinding size (Ok t) finding = IsFindingOf size t finding
 IsFinding size (Err f) (findings.Found trace history) = ⊥
 IsFinding size (Err f) (findings.None trace prefix pieces) = ⊥
 IsFinding size (Err f) findings.Limit = ⊥
-IsFinding size (Err f) (findings.Fault g) = f ≡ g
+IsFinding size (Err f) (findings.Fault g) = f ≡ g.fault

@@ -8,9 +8,9 @@ use Rattle.history_check.specs.TraceView.{TraceView}
 use Rattle.history_check.specs.Claim.{claim_of}
 use Rattle.history_check.specs.Trace.{Explains}
 use Rattle.history_check.specs.Clocks.{IsClocked}
-use Rattle.trace_text.specs.declared.fault.ReadFault.{ReadFault}
+use Rattle.record_text.specs.declared.fault.ReadFault.{ReadFault}
 use Rattle.trace_text.specs.Texts.{trace_text}
-use Rattle.trace_text.specs.Names.{fault_line}
+use Rattle.record_text.specs.Names.{fault_line}
 use Rattle.log_runs.specs.Explainable.{SeenAlike, prefix}
 use Rattle.log_pieces.specs.declared.Granularity.{Granularity}
 use Rattle.log_pieces.specs.declared.Granularity.TheVariants.{Whole}

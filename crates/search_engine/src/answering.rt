@@ -3,7 +3,7 @@ ghost use Rattle.std.specs.Prelude.{◌≡◌, IfOk, Result};
 ghost use Rattle.log_pieces.specs.declared.Granularity.{Granularity};
 ghost use Rattle.history_check.specs.Claim.{claim_of};
 ghost use Rattle.history_check.specs.TraceView.{TraceView};
-ghost use Rattle.trace_text.specs.declared.fault.ReadFault.{ReadFault};
+ghost use Rattle.record_text.specs.declared.fault.ReadFault.{ReadFault};
 ghost use Rattle.trace_text.specs.Texts.{trace_text};
 ghost use Rattle.log_text.specs.LogReaderView.{seen_of};
 ghost use Rattle.search_engine.specs.Findings.{is_memory, IsFinding, IsFindingOf};
@@ -14,12 +14,13 @@ use crate::lines::{fault_text, limit_text, none_text};
 use crate::options::SearchOptions;
 use crate::stages::{Stages, tell_choices, tell_records};
 use history_check::Trace;
-use log_text::read_seen;
+use log_text::read_seen_with_cause;
+use record_text::{Misread, ReadFaultKind};
 use search_history::{Sought, search};
 use seq_memory::Entry;
 use std::alloc::{AllocError, Global};
 use std::io::{Write, sink};
-use trace_text::{ReadFault, ReadFaultKind, write_trace};
+use trace_text::write_trace;
 
 /// The exit status of a search that was given up.
 pub const LIMIT_STATUS: u8 = 3;
@@ -41,7 +42,7 @@ pub(crate) enum Finding {
     /// A log of which nothing is known.
     Limit,
     /// A text that can't be read.
-    Fault(ReadFault),
+    Fault(Misread),
 }
 
 /// What is written of a text, and the exit status.
@@ -93,10 +94,10 @@ pub(crate) fn find<E: Write>(
 ) -> Result<Finding, AllocError>
     ensures { IfOk result (IsFinding options.granularity (seen_of text.now)) }
 {
-    match read_seen(alloc, text) {
+    match read_seen_with_cause(alloc, text) {
         Ok(trace) => sought_in(alloc, trace, options, stages, errors),
-        Err(fault) if is_memory(fault.kind) => Err(AllocError),
-        Err(fault) => Ok(Finding::Fault(fault)),
+        Err(misread) if is_memory(misread.fault.kind) => Err(AllocError),
+        Err(misread) => Ok(Finding::Fault(misread)),
     }
 }
 
@@ -132,8 +133,8 @@ pub(crate) fn outcome_of(
                 status: LIMIT_STATUS,
             })
         }
-        Finding::Fault(fault) => {
-            let text = fault_text(alloc, *fault)?;
+        Finding::Fault(misread) => {
+            let text = fault_text(alloc, misread.fault)?;
             Ok(Outcome { text, status: 1 })
         }
     }

@@ -1,12 +1,12 @@
 //! The lines of answers.
 ghost use Rattle.std.specs.Prelude.{◌≡◌, ◌++◌, ◌∷◌, [], IfOk};
-ghost use Rattle.trace_text.specs.Names.{fault_line};
+ghost use Rattle.record_text.specs.Names.{fault_line};
 ghost use Rattle.search_engine.specs.Search.{none_line, limit_line};
 
 use arrayvec::ArrayString;
 use operation_text::write_decimal;
+use record_text::{ReadFault, write_fault};
 use std::alloc::{AllocError, Global};
-use trace_text::{ReadFault, write_fault};
 
 /// The text in a buffer that grows.
 fn owned(alloc: Global, text: &ArrayString<512>) -> Result<Vec<u8>, AllocError>

@@ -4,18 +4,16 @@ use crate::causes::cause_of;
 use crate::piece_reasons::tell_none_in_pieces;
 use crate::wording::tell_cause;
 use arrayvec::ArrayString;
-use diagnostics::{Reason, tell_long_line};
 use history_check::{Record, Trace};
 use log_events::form_of;
-use log_text::log_misfit;
 use memchr::memchr;
-use operation_text::{Expected, Misfit, cut, write_reply};
+use operation_text::write_reply;
+use record_text::Misread;
 use search_history::{contradiction, explained_before};
 use std::alloc::{AllocError, Global};
 use std::io::Write;
-use text_lines::{is_skipped, is_too_long, without_return};
-use trace_diagnostics::{DueLine, TraceLines};
-use trace_text::ReadFault;
+use text_lines::without_return;
+use trace_diagnostics::{TraceLines, tell_misread};
 
 /// The most other answers that are told beside one.
 const SHOWN: usize = 15;
@@ -39,127 +37,19 @@ pub(crate) fn lines_of(alloc: Global, text: &[u8]) -> Result<TraceLines, AllocEr
     Ok(lines)
 }
 
-const HEAD: Expected = Expected::Of("the head", "pciex-log 1, pciex-trace 1, pciex-trace 2");
-
-const MEMORY: Expected = Expected::Of("the memory's line", "memory <base> <size> <block>");
-
-const RECORD: Expected = Expected::Of(
-    "a record or the end",
-    "sub <requester> <number> <operation>, ans <requester> <number> <reply>, end",
-);
-
-const NOTHING: Expected = Expected::Named("the text's end");
-
-/// What is due in a text.
-#[derive(Clone, Copy)]
-enum Due {
-    /// The head of a log or of a trace.
-    Head,
-    /// A line of a trace.
-    OfTrace(DueLine),
-    /// The memory's line of a log.
-    Memory,
-    /// A record of a log, or its end.
-    Record,
-    /// Nothing: the log has ended.
-    Nothing,
-}
-
-impl Due {
-    /// What is due after this line, which fits.
-    fn after(self, line: &[u8]) -> Due {
-        match self {
-            Due::Head if line == b"pciex-log 1".as_slice() => Due::Memory,
-            Due::Head => Due::OfTrace(DueLine::Head.after(line)),
-            Due::OfTrace(due) => Due::OfTrace(due.after(line)),
-            Due::Memory => Due::Record,
-            Due::Record if line == b"end".as_slice() => Due::Nothing,
-            same => same,
-        }
-    }
-
-    /// The line of a log that is due.
-    fn expected(self) -> Expected {
-        match self {
-            Due::Head => HEAD,
-            Due::Memory => MEMORY,
-            Due::Nothing => NOTHING,
-            _ => RECORD,
-        }
-    }
-
-    /// Whether the line of a log that is due begins with that word.
-    fn begins_with(self, word: &[u8]) -> bool {
-        match self {
-            Due::Memory => word == b"memory".as_slice(),
-            Due::Record => {
-                word == b"sub".as_slice() || word == b"ans".as_slice() || word == b"end".as_slice()
-            }
-            _ => false,
-        }
-    }
-
-    /// What doesn't fit in the line of a log.
-    fn misfit(self, line: &[u8]) -> Misfit {
-        if self.begins_with(cut(line).0)
-            && let Some(misfit) = log_misfit(line)
-        {
-            return misfit;
-        }
-        self.expected().at(Some(line))
-    }
-
-    /// Why the line is none that is due.
-    fn refusal_reason(self, line: &[u8]) -> Reason {
-        match self {
-            Due::OfTrace(due) => due.refusal_reason(line),
-            _ => Reason::of_misfit(line, &self.misfit(line)),
-        }
-    }
-
-    /// That the text ends where a line is due.
-    fn end_reason(self) -> Reason {
-        match self {
-            Due::OfTrace(due) => due.end_reason(),
-            _ => {
-                let mut reason = Reason::new();
-                reason.put(": the text ends");
-                reason.put_expected(match self {
-                    Due::Nothing => RECORD,
-                    due => due.expected(),
-                });
-                reason
-            }
-        }
-    }
-}
-
-/// What is due in the line with this number, if those before it fit, and the rest of the text from that
-/// line on.
-fn due_at(text: &[u8], number: u64) -> (Due, &[u8]) {
-    let mut due = Due::Head;
+/// The line of the text with this number, from 1, without what ends it.
+fn line_at(text: &[u8], number: u64) -> &[u8] {
     let mut rest = text;
     for _line in 1..number {
-        let (line, after) = first_line(rest);
-        if !is_skipped(line) {
-            due = due.after(line);
-        }
-        rest = after;
+        rest = first_line(rest).1;
     }
-    (due, rest)
+    first_line(rest).0
 }
 
 /// Tells why the text can't be read.
-fn tell_fault<E: Write>(text: &[u8], fault: ReadFault, errors: &mut E) {
-    let (due, rest) = due_at(text, fault.line);
-    let (line, _) = first_line(rest);
-    let _ = if rest.is_empty() {
-        due.end_reason().tell_at(fault.line, errors)
-    } else if is_too_long(line) {
-        tell_long_line(Some(fault.line), errors)
-    } else {
-        due.refusal_reason(line).tell_at(fault.line, errors)
-    };
+fn tell_fault<E: Write>(text: &[u8], misread: Misread, errors: &mut E) {
+    let number = misread.fault.line;
+    let _ = tell_misread(line_at(text, number), misread.cause, Some(number), errors);
 }
 
 /// Tells on which lines records have no history, and have one.
@@ -386,7 +276,7 @@ pub(crate) fn tell<E: Write>(
         } => {
             let _ = tell_none_in_pieces(alloc, text, trace, *prefix, pieces, limit, errors);
         }
-        Finding::Fault(fault) => tell_fault(text, *fault, errors),
+        Finding::Fault(misread) => tell_fault(text, *misread, errors),
         _ => {}
     }
 }

@@ -11,3 +11,5 @@ mod rows;
 mod texts;
 #[cfg(test)]
 mod why_none;
+#[cfg(test)]
+mod why_unread;

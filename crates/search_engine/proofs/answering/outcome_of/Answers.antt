@@ -1,5 +1,5 @@
 use Rattle.std.proofs.Common.{◌∙◌, ℕ, ◌-◌, ◌∷◌, ◌++◌, [], ap, refl, inl, inr, subst, arith, Result, Ok, Err}
-use Rattle.trace_text.specs.declared.fault.ReadFault.{ReadFault}
+use Rattle.record_text.specs.declared.fault.ReadFault.{ReadFault}
 use Rattle.history_check.specs.TraceView.{TraceView}
 use Rattle.log_pieces.specs.declared.Granularity.{Granularity}
 use Rattle.search_engine.specs.declared.answering.Finding.{Finding}
