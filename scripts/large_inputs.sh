@@ -146,16 +146,34 @@ far() {
     }'
 }
 
-# 1,000 Swaps that weren't answered, and 10,000 times a write and an answered read behind it.
-lost_answers() {
-    awk 'BEGIN {
+# pairs SWAPS PAIRS: so many Swaps of one word that weren't answered, and so many times a write and an answered read behind
+# it. With more than 256 Swaps each read is a choice at which each of them may act; with fewer it is seen that all that they
+# overwrite is junk.
+pairs() {
+    awk -v swaps="$1" -v pairs="$2" 'BEGIN {
         print "pciex-log 1"
         print "memory 0 4096 64"
-        for (k = 0; k < 1000; k++) print "sub " 2 + k % 6 " " int(k / 6) " swap 40 " sprintf("%08X", k + 1)
-        for (k = 0; k < 10000; k++) {
+        for (k = 0; k < swaps; k++) print "sub " 2 + k % 6 " " int(k / 6) " swap 40 " sprintf("%08X", k + 1)
+        for (k = 0; k < pairs; k++) {
             print "sub 1 " 2 * k " write 40 F 0 " sprintf("FF%06X", k)
             print "sub 1 " 2 * k + 1 " read 40 1 F 0"
             print "ans 1 " 2 * k + 1 " data " sprintf("FF%06X", k)
+        }
+        print "end"
+    }'
+}
+
+# An AtomicOp that was lost at the start, and 10,000 times a write and an answered read of some bytes: all requests behind the
+# AtomicOp are near each other, those that have acted, too.
+lost_at_start() {
+    awk 'BEGIN {
+        print "pciex-log 1"
+        print "memory 0 4096 64"
+        print "sub 2 0 add 40 00000100"
+        for (k = 0; k < 10000; k++) {
+            print "sub 1 " 2 * k " write 40 F 0 " sprintf("%04X0007", k)
+            print "sub 1 " 2 * k + 1 " read 40 1 3 0"
+            print "ans 1 " 2 * k + 1 " data " sprintf("%04X0000", k)
         }
         print "end"
     }'
@@ -170,19 +188,34 @@ wrong > "$room/wrong_log"
 flushes > "$room/flushes_log"
 writes > "$room/writes_log"
 far > "$room/far_log"
-lost_answers > "$room/lost_answers_log"
+pairs 2000 4000 > "$room/lost_answers_log"
+pairs 250 2000 > "$room/junk_log"
+lost_at_start > "$room/lost_at_start_log"
 if [ -n "$folder" ]; then
     cp "$room/explained_trace" "$room/flawed_trace" "$room/window_script" "$room/tags_script" \
-        "$room/mixed_log" "$room/wrong_log" "$room/flushes_log" "$room/writes_log" "$room/far_log" "$room/lost_answers_log" "$folder"
+        "$room/mixed_log" "$room/wrong_log" "$room/flushes_log" "$room/writes_log" "$room/far_log" \
+        "$room/lost_answers_log" "$room/junk_log" "$room/lost_at_start_log" "$folder"
     exit
 fi
+
+# within SECONDS MEGABYTES: bounds the runs that follow. A program that doesn't start in so little room, as one with checks at
+# run time, has all memory that there is.
+within() {
+    seconds=$1
+    kilobytes=$(($2 * 1024))
+    # shellcheck disable=SC3045 # dash has ulimit -v
+    (ulimit -v "$kilobytes" && "$pciex" --version) > "$room/output" 2>&1 || kilobytes=unlimited
+}
+seconds=600
+kilobytes=unlimited
 
 # ends WHAT STATUS INPUT WORD..: whether a run of the program on the input has this exit status and its output ends with
 # the lines of $room/told.
 ends() {
     what=$1 want=$2 input=$3
     shift 3
-    timeout 600 "$pciex" "$@" < "$input" > "$room/output" 2> "$room/errors"
+    # shellcheck disable=SC3045
+    (ulimit -v "$kilobytes" && exec timeout "$seconds" "$pciex" "$@") < "$input" > "$room/output" 2> "$room/errors"
     status=$?
     runs=$((runs + 1))
     tail -n "$(wc -l < "$room/told")" "$room/output" > "$room/end"
@@ -229,10 +262,16 @@ ends "step with 256 open tags" 1 "$room/tags_script" step --keep-going
 echo end > "$room/told"
 ends "search on 100,000 records" 0 "$room/mixed_log" search --limit 10000
 ends "search on 1,000,000 writes and flushes" 0 "$room/flushes_log" search --limit 1
+within 60 400
 ends "search on 100,000 writes that nobody reads" 0 "$room/writes_log" search --limit 1
-ends "search beside 1,000 lost answers" 0 "$room/lost_answers_log" search --limit 10000
+within 60 100
+ends "search beside 2,000 lost answers" 0 "$room/lost_answers_log" search --limit 10000
+ends "search beside 250 lost answers" 0 "$room/junk_log" search --limit 1
+ends "search behind an AtomicOp that was lost at the start" 0 "$room/lost_at_start_log" search --limit 1
 echo "limit 1000" > "$room/told"
 ends "search on the first and the last word of 1 MiB" 3 "$room/far_log" search --limit 1000
+seconds=600
+kilobytes=unlimited
 echo "none 96667" > "$room/told"
 ends "search on 100,000 records with a wrong answer" 1 "$room/wrong_log" search
 awk -v rounds=99 -f bench/script.awk > "$room/long_script"
