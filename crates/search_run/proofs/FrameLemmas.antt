@@ -201,7 +201,7 @@ module _ (log : LogView) where
 module _ (log : LogView) (w v : Walk) (xs : List Step) (lost : AreLost log w v xs) where
   pub lost_more : (u : Walk) (ys : List Step) → AreLost log v u ys → AreLost log w u (xs ++ ys)
   lost_more u ys more = record {
-    open = more.open;
+    at = more.at;
     state = more.state ∙ lost.state;
     dead = All-append (LeadsNowhere log w.here.state) xs ys lost.dead (subst (λ s. All (LeadsNowhere log s) ys) lost.state more.dead);
     same = more.same ∙ lost.same;
@@ -209,29 +209,29 @@ module _ (log : LogView) (w v : Walk) (xs : List Step) (lost : AreLost log w v x
 
   pub lost_too : (x : Step) → LeadsNowhere log v.here.state x → AreLost log w v (xs ++ x ∷ [])
   lost_too x nowhere = record {
-    open = lost.open;
+    at = lost.at;
     state = lost.state;
     dead = All-push (LeadsNowhere log w.here.state) xs x lost.dead (subst (λ s. LeadsNowhere log s x) lost.state nowhere);
     same = lost.same;
   }
 
 pub none_lost : (log : LogView) (w : Walk) → IsOpen log w → AreLost log w w []
-none_lost log w open = record { open = open; state = refl; dead = All-nil (LeadsNowhere log w.here.state); same = refl }
+none_lost log w stands = record { at = stands; state = refl; dead = All-nil (LeadsNowhere log w.here.state); same = refl }
 
 -- the last that is noted isn't any more, or all is as it was
 pub spared : (log : LogView) (w : Walk) (t : StackView) (b : Bool) → IsOpen log w → (b ≡ true → Forgets w.stack t) → (b ≡ false → t ≡ w.stack)
     → AreLost log w (record { stack = t; here = w.here; memo = w.memo; losses = w.losses; look = w.look; reach = w.reach; work = w.work }) []
-spared log w t true open some none =
+spared log w t true stands some none =
     let f = some refl in
-    let here = subst (λ (fs : List FrameView). PathFrom log fs (λ (m : State) (P : Type 0). (m ≡ w.here.state) × P)) f.old open.ready.path in
+    let here = subst (λ (fs : List FrameView). PathFrom log fs (λ (m : State) (P : Type 0). (m ≡ w.here.state) × P)) f.old stands.ready.path in
     record {
-      open = record {
+      at = record {
         ready = record {
           path = subst (λ (fs : List FrameView). PathFrom log fs (λ (m : State) (P : Type 0). (m ≡ w.here.state) × P)) (sym f.new)
               (forgot log f.before f.frame w.here.state here f.rest f.step f.at);
-          none = f.done ∙ open.ready.none;
-          place = open.ready.place;
-          known = open.ready.known;
+          none = f.done ∙ stands.ready.none;
+          place = stands.ready.place;
+          known = stands.ready.known;
         };
         some = λ none. not_nil f.before (record { done = f.frame.done; noted = f.rest }) (sym f.new ∙ none);
       };
@@ -239,17 +239,17 @@ spared log w t true open some none =
       dead = All-nil (LeadsNowhere log w.here.state);
       same = ap length f.new ∙ as_many f.before (record { done = f.frame.done; noted = f.rest }) f.frame ∙ sym (ap length f.old);
     }
-spared log w t false open some none =
+spared log w t false stands some none =
     let e = none refl in
     record {
-      open = record {
+      at = record {
         ready = record {
-          path = subst (λ (s : StackView). PathFrom log s.frames (λ (m : State) (P : Type 0). (m ≡ w.here.state) × P)) (sym e) open.ready.path;
-          none = ap (λ (s : StackView). s.done) e ∙ open.ready.none;
-          place = open.ready.place;
-          known = open.ready.known;
+          path = subst (λ (s : StackView). PathFrom log s.frames (λ (m : State) (P : Type 0). (m ≡ w.here.state) × P)) (sym e) stands.ready.path;
+          none = ap (λ (s : StackView). s.done) e ∙ stands.ready.none;
+          place = stands.ready.place;
+          known = stands.ready.known;
         };
-        some = λ none. open.some (sym (ap (λ (s : StackView). s.frames) e) ∙ none);
+        some = λ none. stands.some (sym (ap (λ (s : StackView). s.frames) e) ∙ none);
       };
       state = refl;
       dead = All-nil (LeadsNowhere log w.here.state);
@@ -258,28 +258,28 @@ spared log w t false open some none =
 
 -- each that is noted at the last frame leads nowhere
 pub noted_dead : (log : LogView) (w : Walk) (xs : List Step) → IsOpen log w → ((fs : List FrameView) (f : FrameView) → w.stack.frames ≡ fs ++ f ∷ [] → xs ≡ f.noted) → All (LeadsNowhere log w.here.state) xs
-noted_dead log w xs open is =
-    let (fs, f, e) = has_last w.stack.frames open.some in
-    let here = subst (λ (gs : List FrameView). PathFrom log gs (λ (m : State) (P : Type 0). (m ≡ w.here.state) × P)) e open.ready.path in
+noted_dead log w xs stands is =
+    let (fs, f, e) = has_last w.stack.frames stands.some in
+    let here = subst (λ (gs : List FrameView). PathFrom log gs (λ (m : State) (P : Type 0). (m ≡ w.here.state) × P)) e stands.ready.path in
     subst (All (LeadsNowhere log w.here.state)) (sym (is fs f e)) (dead_there log fs f w.here.state here)
 
 -- it isn't the end
 pub more_here : (log : LogView) (w : Walk) → IsOpen log w → w.here.state.event ≡ length log.events → ⊥
-more_here log w open =
-    let (fs, f, e) = has_last w.stack.frames open.some in
-    more_there log fs f w.here.state (subst (λ (gs : List FrameView). PathFrom log gs (λ (m : State) (P : Type 0). (m ≡ w.here.state) × P)) e open.ready.path)
+more_here log w stands =
+    let (fs, f, e) = has_last w.stack.frames stands.some in
+    more_there log fs f w.here.state (subst (λ (gs : List FrameView). PathFrom log gs (λ (m : State) (P : Type 0). (m ≡ w.here.state) × P)) e stands.ready.path)
 
 -- the last frame is dropped, from which nothing leads to the end
 reopens : (s t : StackView) (b : Bool) → (s.frames ≡ [] → ⊥) → (b ≡ true → Reopens s t) → (b ≡ false → s.frames ≡ []) → Reopens s t
-reopens s t true open some none = some refl
-reopens s t false open some none = absurd (open (none refl))
+reopens s t true stands some none = some refl
+reopens s t false stands some none = absurd (stands (none refl))
 
 pub reopened_back : (log : LogView) (w : Walk) (t : StackView) (b : Bool) → IsOpen log w → Dead log w.here.state → (b ≡ true → Reopens w.stack t) → (b ≡ false → w.stack.frames ≡ [])
     → PathFrom log t.frames (Back log t.done w.here.state) × (suc (length t.frames) ≡ length w.stack.frames)
-reopened_back log w t b open dead some none =
-    let r = reopens w.stack t b open.some some none in
-    let here = subst (λ (gs : List FrameView). PathFrom log gs (λ (m : State) (P : Type 0). (m ≡ w.here.state) × P)) r.old open.ready.path in
-    let steps : t.done ≡ r.frame.done = r.done ∙ ap (λ (ds : List Done). r.frame.done ++ ds) open.ready.none ∙ append-nil r.frame.done in (
+reopened_back log w t b stands dead some none =
+    let r = reopens w.stack t b stands.some some none in
+    let here = subst (λ (gs : List FrameView). PathFrom log gs (λ (m : State) (P : Type 0). (m ≡ w.here.state) × P)) r.old stands.ready.path in
+    let steps : t.done ≡ r.frame.done = r.done ∙ ap (λ (ds : List Done). r.frame.done ++ ds) stands.ready.none ∙ append-nil r.frame.done in (
       subst (λ (ds : List Done). PathFrom log t.frames (Back log ds w.here.state)) (sym steps) (dropped log t.frames r.frame w.here.state here dead),
       sym (ap length r.old ∙ length-append t.frames (r.frame ∷ []) ∙ omega arith),
     )

@@ -72,13 +72,13 @@ LeadsNowhere log s x = Allowed log s x → Dead log (next log s x)
 
 -- it stood as w and stands as v, at the same frame, and none of the steps leads to the end
 pub record AreLost (log : LogView) (w v : Walk) (xs : List Step) : Type 0 where
-  pub open : IsOpen log v
+  pub at : IsOpen log v
   pub state : v.here.state ≡ w.here.state
   pub dead : AllDead log w.here.state xs
   pub same : length v.stack.frames ≡ length w.stack.frames
 
 -- it stood as w and stands as v, at the same frame, from which nothing leads to the end
 pub record IsSpent (log : LogView) (w v : Walk) : Type 0 where
-  pub open : IsOpen log v
+  pub at : IsOpen log v
   pub dead : Dead log v.here.state
   pub same : length v.stack.frames ≡ length w.stack.frames

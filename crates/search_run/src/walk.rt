@@ -252,7 +252,7 @@ fn try_step(
     catalog: &Catalog,
     step: Step,
 ) -> Result<bool, AllocError>
-    requires open { frames.IsOpen log.now walk.old }
+    requires at { frames.IsOpen log.now walk.old }
     requires allowed { Allowed log.now walk.old.here.state step }
     requires catalog { IsCatalog log.now catalog.now }
     ensures at { IfOk result (λ more. IsTrue more → frames.IsAt log.now walk.new) }
@@ -343,7 +343,7 @@ fn try_next(
     from: usize,
     step: Step,
 ) -> Result<bool, AllocError>
-    requires open { frames.IsOpen log.now walk.old }
+    requires at { frames.IsOpen log.now walk.old }
     requires allowed { Allowed log.now walk.old.here.state step }
     requires catalog { IsCatalog log.now catalog.now }
     ensures at { IfOk result (λ more. IsTrue more → frames.IsAt log.now walk.new) }
@@ -366,7 +366,7 @@ fn try_each(
     catalog: &Catalog,
     steps: &[Step],
 ) -> Result<bool, AllocError>
-    requires open { frames.IsOpen log.now walk.old }
+    requires at { frames.IsOpen log.now walk.old }
     requires allowed { All (Allowed log.now walk.old.here.state) steps.now }
     requires catalog { IsCatalog log.now catalog.now }
     ensures at { IfOk result (λ more. IsTrue more → frames.IsAt log.now walk.new) }
@@ -389,7 +389,7 @@ fn try_here(
     log: &Log,
     catalog: &Catalog,
 ) -> Result<bool, AllocError>
-    requires open { frames.IsOpen log.now walk.old }
+    requires at { frames.IsOpen log.now walk.old }
     requires catalog { IsCatalog log.now catalog.now }
     ensures at { IfOk result (λ more. IsTrue more → frames.IsAt log.now walk.new) }
     ensures spent { IfOk result (λ more. more ≡ false → frames.IsSpent log.now walk.old walk.new) }

@@ -8,8 +8,8 @@ returns-then-is_empty-clause-none c = λ so.
     let walk = c.loop.walk in
     none_left c.args.log.now walk.stack.frames walk.here.state c.loop.invariant.path (c.is_empty.ensures.0 c.if-is_empty.true)
 
-pub try_here-requires-clause-open : goal.try_here-requires-clause-open
-try_here-requires-clause-open c = record {
+pub try_here-requires-clause-at : goal.try_here-requires-clause-at
+try_here-requires-clause-at c = record {
   ready = c.loop.invariant;
   some = λ none. false≢true (sym c.if-is_empty.false ∙ c.is_empty.ensures.1 none);
 }
@@ -19,11 +19,11 @@ rewind-requires c =
     let log = c.args.log.now in
     let walk = c.try_here.new.walk in
     let spent = c.in_ok-try_here.ensures.spent c.if-branch.false in
-    let back = reopened_back log walk c.reopen.new.self c.reopen.result spent.open spent.dead c.reopen.ensures.some c.reopen.ensures.none in
+    let back = reopened_back log walk c.reopen.new.self c.reopen.result spent.at spent.dead c.reopen.ensures.some c.reopen.ensures.none in
     record {
       path = back.0;
-      place = spent.open.ready.place;
-      known = c.note.ensures log spent.open.ready.known spent.open.ready.place spent.dead;
+      place = spent.at.ready.place;
+      known = c.note.ensures log spent.at.ready.known spent.at.ready.place spent.dead;
     }
 
 pub loop-smaller : goal.loop-smaller
@@ -31,6 +31,6 @@ loop-smaller c =
     let log = c.args.log.now in
     let walk = c.try_here.new.walk in
     let spent = c.in_ok-try_here.ensures.spent c.if-branch.false in
-    let fewer = (reopened_back log walk c.reopen.new.self c.reopen.result spent.open spent.dead c.reopen.ensures.some c.reopen.ensures.none).1 in
+    let fewer = (reopened_back log walk c.reopen.new.self c.reopen.result spent.at spent.dead c.reopen.ensures.some c.reopen.ensures.none).1 in
     let same = ap length c.in_ok-rewind.ensures.frames in
     omega (arith, same, fewer, spent.same)

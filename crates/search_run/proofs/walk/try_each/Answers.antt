@@ -9,10 +9,10 @@ use Rattle.search_run.proofs.FrameLemmas.{lost_more, none_lost}
 use Rattle.search_run.proofs.walk.try_each.Goals as goal
 
 pub loop-step-init : goal.loop-step-init
-loop-step-init c = none_lost c.args.log.now c.args.walk.now c.requires.open
+loop-step-init c = none_lost c.args.log.now c.args.walk.now c.requires.at
 
-pub try_next-requires-clause-open : goal.try_next-requires-clause-open
-try_next-requires-clause-open c = c.loop-step.invariant.open
+pub try_next-requires-clause-at : goal.try_next-requires-clause-at
+try_next-requires-clause-at c = c.loop-step.invariant.at
 
 pub try_next-requires-clause-allowed : goal.try_next-requires-clause-allowed
 try_next-requires-clause-allowed c =

@@ -6,10 +6,10 @@ use Rattle.search_run.proofs.FrameLemmas.{more_here}
 use Rattle.search_run.proofs.walk.try_here.Goals as goal
 
 pub choices-requires-clause-more : goal.choices-requires-clause-more
-choices-requires-clause-more c = more_here c.args.log.now c.args.walk.now c.requires.open
+choices-requires-clause-more c = more_here c.args.log.now c.args.walk.now c.requires.at
 
 pub choices-requires-clause-place : goal.choices-requires-clause-place
-choices-requires-clause-place c = c.requires.open.ready.place
+choices-requires-clause-place c = c.requires.at.ready.place
 
 pub try_each-requires-clause-allowed : goal.try_each-requires-clause-allowed
 try_each-requires-clause-allowed c =
@@ -22,7 +22,7 @@ returns-clause-spent c = λ so.
     let lost = c.in_ok-try_each.ensures.lost so in
     let all : AllDead log s c.in_ok-steps.steps.items = subst (AllDead log s) c.as_slice.ensures.value lost.dead in
     record {
-      open = lost.open;
+      at = lost.at;
       dead = subst (Dead log) (sym lost.state) (c.in_ok-steps.ensures.covers all);
       same = lost.same;
     }

@@ -14,7 +14,7 @@ go_on-requires-clause-step c =
     let t = walk.here.state in
     let x = c.args.step in
     let notes = c.in_ok-note.ensures in
-    let ready = c.requires.open.ready in
+    let ready = c.requires.at.ready in
     let path = subst (λ (fs : List FrameView). PathFrom log fs (λ (m : State) (P : Type 0). (m ≡ t) × P)) notes.old ready.path in
     record {
       allowed = c.requires.allowed;
@@ -48,7 +48,7 @@ returns-clause-lost c = λ so.
     let there : Dead log (next log s x) = subst (Dead log) (sym c.in_ok-go_on.ensures.next) dead in
     let frames = c.in_ok-rewind.ensures.frames ∙ c.in_ok-go_on.ensures.frames ∙ notes.new in
     record {
-      open = record {
+      at = record {
         ready = c.in_ok-rewind.ensures.ready;
         some = λ none. not_nil notes.before (record { done = notes.frame.done; noted = notes.frame.noted ++ x ∷ [] }) (sym frames ∙ none);
       };
