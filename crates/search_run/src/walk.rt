@@ -246,12 +246,7 @@ fn lost_at(walk: &Walk, log: &Log, catalog: &Catalog, to: usize) -> Option<usize
 
 /// Notes the step at the last frame and takes it; false if it is seen at once that it leads nowhere, and is taken
 /// back.
-fn try_step(
-    walk: &mut Walk,
-    log: &Log,
-    catalog: &Catalog,
-    step: Step,
-) -> Result<bool, AllocError>
+fn try_step(walk: &mut Walk, log: &Log, catalog: &Catalog, step: Step) -> Result<bool, AllocError>
     requires at { frames.IsOpen log.now walk.old }
     requires allowed { Allowed log.now walk.old.here.state step }
     requires catalog { IsCatalog log.now catalog.now }
