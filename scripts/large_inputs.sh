@@ -264,7 +264,7 @@ ends "search on 100,000 records" 0 "$room/mixed_log" search --limit 10000
 ends "search on 1,000,000 writes and flushes" 0 "$room/flushes_log" search --limit 1
 within 60 400
 ends "search on 100,000 writes that nobody reads" 0 "$room/writes_log" search --limit 1
-within 60 500
+within 60 100
 ends "search beside 2,000 lost answers" 0 "$room/lost_answers_log" search --limit 10000
 ends "search beside 250 lost answers" 0 "$room/junk_log" search --limit 1
 ends "search behind an AtomicOp that was lost at the start" 0 "$room/lost_at_start_log" search --limit 1

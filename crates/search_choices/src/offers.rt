@@ -1,4 +1,4 @@
-//! The steps that may be taken from a place, the most promising one last.
+//! The steps that may be taken from a place, the most promising one first.
 //!
 //! The search goes for the request whose answer is due, or for the first posted write that has to act
 //! before it.
@@ -278,6 +278,5 @@ pub fn choices(
     let aim = Aim { target, guess };
     let mut steps = allowed(alloc, log, place)?;
     steps.sort_by_cached_key(|step| number_of(log, others, aim, *step))?;
-    steps.reverse();
     Ok(steps)
 }

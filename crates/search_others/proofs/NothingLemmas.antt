@@ -44,7 +44,7 @@ beside_or_named log b w = at (slice_get log.events b) refl
     at None is = inl (λ i op told there. let e : None ≡ Some (events.Sub i op told) = sym is ∙ there in cc)
 
 nothing_beside : (log : LogView) (m : List ℕ) (k : Junk) (b w : ℕ) → IsBeside log b w → IsNothing log m k w b
-nothing_beside log m (junk.Standing q but) b w beside = λ distinct out i one told at. inl (beside i one told at)
+nothing_beside log m (junk.Standing x) b w beside = λ distinct out i one told at. inl (beside i one told at)
 nothing_beside log m (junk.LeftBy g) b w beside = λ i l one third told had at behind. inl (beside i one told at)
 
 -- what those do at a word that name bytes of it, all do that are left

@@ -8,7 +8,7 @@ use Rattle.search_others.specs.declared.junk.Junk.TheVariants as junk
 
 -- it is nothing to request b at word w, where the bytes are as in m
 abbrev pub IsNothing : LogView → List ℕ → Junk → ℕ → ℕ → Type 0
-IsNothing log m (junk.Standing q but) w b = (q ≡ b → ⊥) → ((i : ℕ) → slice_get but.now i ≡ Some b → ⊥) → IsJunkAt log m b w
+IsNothing log m (junk.Standing x) w b = (x.q ≡ b → ⊥) → ((i : ℕ) → slice_get x.but.now i ≡ Some b → ⊥) → IsJunkAt log m b w
 IsNothing log m (junk.LeftBy g) w b = LeavesJunkAt log b g w
 
 -- it is nothing to request b, if it hasn't acted in s

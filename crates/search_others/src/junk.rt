@@ -14,11 +14,18 @@ use search_places::laws::who_is_left_is_pending;
 use search_rules::{is_junk_at, leaves_junk_at};
 use search_words::{Near, near_junk, near_left, span_of};
 
+/// This request and those of the list.
+#[derive(Clone, Copy)]
+struct Exempt<'a> {
+    q: usize,
+    but: &'a [usize],
+}
+
 /// What may be something to others at a word.
 #[derive(Clone, Copy)]
 enum Junk<'a> {
-    /// What stands there. It isn't asked of this request, nor of those of the list.
-    Standing(usize, &'a [usize]),
+    /// What stands there. It isn't asked of those that are exempt.
+    Standing(Exempt<'a>),
     /// What this request leaves there.
     LeftBy(usize),
 }
@@ -30,15 +37,15 @@ fn is_in(list: &[usize], b: usize) -> bool
     list.contains(&b)
 }
 
-/// What stands at the word is nothing to request `b`, or it is `q` or of the list.
-fn overlooks(log: &Log, bytes: &[u8], word: u64, q: usize, but: &[usize], b: usize) -> bool
+/// What stands at the word is nothing to request `b`, or it is exempt.
+fn overlooks(log: &Log, bytes: &[u8], exempt: Exempt, word: u64, b: usize) -> bool
     requires word { word < log.now.extent.size / 4 }
-    ensures { IsTrue result → (q ≡ b → ⊥) → ((i : ℕ) → slice_get but.now i ≡ Some b → ⊥) → IsJunkAt log.now bytes.now b word }
+    ensures { IsTrue result → (exempt.q ≡ b → ⊥) → ((i : ℕ) → slice_get exempt.entry.but.now i ≡ Some b → ⊥) → IsJunkAt log.now bytes.now b word }
 {
-    if b == q {
+    if b == exempt.q {
         return true;
     }
-    if is_in(but, b) {
+    if is_in(exempt.but, b) {
         return true;
     }
     is_junk_at(log, bytes, b, word)
@@ -50,7 +57,7 @@ fn is_nothing(log: &Log, bytes: &[u8], junk: Junk, word: u64, b: usize) -> bool
     ensures { IsTrue result → IsNothing log.now bytes.now junk.entry word b }
 {
     match junk {
-        Junk::Standing(q, but) => overlooks(log, bytes, word, q, but, b),
+        Junk::Standing(exempt) => overlooks(log, bytes, exempt, word, b),
         Junk::LeftBy(g) => leaves_junk_at(log, b, g, word),
     }
 }
@@ -90,42 +97,35 @@ fn near_ignore(place: &Place, log: &Log, junk: Junk, word: u64, near: Near) -> b
         && list_ignores(place, log, junk, word, near.careless)
 }
 
-/// Those, from one place on, of whom it isn't known by the word alone that it is nothing to them.
-fn near_of<'a>(
-    others: &'a Others,
-    log: &Log,
-    bytes: &[u8],
-    junk: Junk,
+/// The requests at a word, from one place of the log on.
+#[derive(Clone, Copy)]
+struct Spot {
     word: u64,
     from: usize,
-) -> Near<'a>
+}
+
+/// Those of whom it isn't known by the word alone that it is nothing to them.
+fn near_of<'a>(others: &'a Others, log: &Log, bytes: &[u8], junk: Junk, spot: Spot) -> Near<'a>
     requires others { AreOthers log.now others.now }
-    requires word { word < log.now.extent.size / 4 }
-    ensures { (b : ℕ) → from ≤ b → b < length log.now.events → NamesWord log.now b word → IsNear result b ⊎ IsNothing log.now bytes.now junk.entry word b }
+    requires word { spot.word < log.now.extent.size / 4 }
+    ensures { (b : ℕ) → spot.from ≤ b → b < length log.now.events → NamesWord log.now b spot.word → IsNear result b ⊎ IsNothing log.now bytes.now junk.entry spot.word b }
 {
     let words = &others.words;
     let to = log.len();
     match junk {
-        Junk::Standing(_, _) => near_junk(words, log, bytes, word, from, to),
-        Junk::LeftBy(g) => near_left(words, log, g, word, from, to),
+        Junk::Standing(_) => near_junk(words, log, bytes, spot.word, spot.from, to),
+        Junk::LeftBy(g) => near_left(words, log, g, spot.word, spot.from, to),
     }
 }
 
-/// [`ignores`], each from that place on that names bytes of the word.
-fn word_ignored(
-    place: &Place,
-    log: &Log,
-    others: &Others,
-    junk: Junk,
-    word: u64,
-    from: usize,
-) -> bool
+/// [`ignores`], each of them that names bytes of the word.
+fn word_ignored(place: &Place, log: &Log, others: &Others, junk: Junk, spot: Spot) -> bool
     requires others { AreOthers log.now others.now }
-    requires word { word < log.now.extent.size / 4 }
-    ensures { IsTrue result → (b : ℕ) → from ≤ b → b < length log.now.events → NamesWord log.now b word → Ignores log.now place.now.state junk.entry word b }
+    requires word { spot.word < log.now.extent.size / 4 }
+    ensures { IsTrue result → (b : ℕ) → spot.from ≤ b → b < length log.now.events → NamesWord log.now b spot.word → Ignores log.now place.now.state junk.entry spot.word b }
 {
-    let near = near_of(others, log, place.bytes(), junk, word, from);
-    near_ignore(place, log, junk, word, near)
+    let near = near_of(others, log, place.bytes(), junk, spot);
+    near_ignore(place, log, junk, spot.word, near)
 }
 
 /// [`ignores`], each request, at each word of request `q`.
@@ -140,7 +140,7 @@ fn words_ignored(place: &Place, log: &Log, others: &Others, junk: Junk, q: usize
     };
     let from = place.earliest();
     for word in first..end {
-        if !word_ignored(place, log, others, junk, word, from) {
+        if !word_ignored(place, log, others, junk, Spot { word, from }) {
             return false;
         }
     }
@@ -155,7 +155,7 @@ pub fn all_overlook(place: &Place, log: &Log, others: &Others, q: usize, but: &[
     requires others { AreOthers log.now others.now }
     ensures { IsTrue result → (w : ℕ) → Names log.now q w → (b : ℕ) → (q ≡ b → ⊥) → ((i : ℕ) → slice_get but.now i ≡ Some b → ⊥) → slice_get place.now.state.acted b ≡ Some false → IsJunkAt log.now place.now.state.bytes b w }
 {
-    words_ignored(place, log, others, Junk::Standing(q, but), q)
+    words_ignored(place, log, others, Junk::Standing(Exempt { q, but }), q)
 }
 
 /// What request `g` leaves at its words is nothing to all that are left.

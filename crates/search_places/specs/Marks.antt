@@ -1,31 +1,31 @@
--- Frames, as a stack keeps them: for each how many steps were taken and how many are left, and one list of each kind.
+-- Frames, as a stack keeps them: for each how many steps were taken and how many are noted, and one list of each kind.
 use Rattle.std.specs.Prelude.{ℕ, ◌≡◌, ◌+◌, ◌≤◌, List, [], ◌∷◌, ◌++◌, length, take, drop}
 use Rattle.log_runs.specs.declared.Step.{Step}
 use Rattle.search_places.specs.declared.steps.Done.{Done}
 use Rattle.search_places.specs.declared.stack.Mark.{Mark}
 use Rattle.search_places.specs.StackView.{FrameView}
 
--- how many steps of all frames were taken, and how many are left
+-- how many steps of all frames were taken, and how many are noted
 abbrev pub taken_by : List Mark → ℕ
 taken_by [] = 0
 taken_by (m ∷ ms) = m.done + taken_by ms
 
-abbrev pub left_by : List Mark → ℕ
-left_by [] = 0
-left_by (m ∷ ms) = m.rest + left_by ms
+abbrev pub noted_by : List Mark → ℕ
+noted_by [] = 0
+noted_by (m ∷ ms) = m.noted + noted_by ms
 
 -- the frames
 abbrev pub frames_in : List Mark → List Done → List Step → List FrameView
 frames_in [] ds xs = []
-frames_in (m ∷ ms) ds xs = record { done = take m.done ds; rest = take m.rest xs } ∷ frames_in ms (drop m.done ds) (drop m.rest xs)
+frames_in (m ∷ ms) ds xs = record { done = take m.done ds; noted = take m.noted xs } ∷ frames_in ms (drop m.done ds) (drop m.noted xs)
 
 -- all steps are there
 pub record IsCut (ms : List Mark) (n : ℕ) (ds : List Done) (xs : List Step) : Type 0 where
   pub closed : n ≡ taken_by ms
   pub taken : taken_by ms ≤ length ds
-  pub left : length xs ≡ left_by ms
+  pub noted : length xs ≡ noted_by ms
 
--- of the last frame one step less is left
+-- at the last frame one step less is noted
 pub record Lowers (ms ks : List Mark) : Type 0 where
   pub before : List Mark
   pub old-mark : Mark
@@ -33,8 +33,8 @@ pub record Lowers (ms ks : List Mark) : Type 0 where
   pub old : ms ≡ before ++ old-mark ∷ []
   pub new : ks ≡ before ++ new-mark ∷ []
   pub same : new-mark.done ≡ old-mark.done
-  pub less : new-mark.rest + 1 ≡ old-mark.rest
+  pub less : new-mark.noted + 1 ≡ old-mark.noted
 
--- nothing is left of the last frame, if there is one
+-- no step is noted at the last frame, if there is one
 abbrev pub IsLowest : List Mark → Type 0
-IsLowest ms = (before : List Mark) (m : Mark) → ms ≡ before ++ m ∷ [] → m.rest ≡ 0
+IsLowest ms = (before : List Mark) (m : Mark) → ms ≡ before ++ m ∷ [] → m.noted ≡ 0

@@ -1,26 +1,40 @@
 -- What the calls of a stack do to its frames.
-use Rattle.std.specs.Prelude.{◌≡◌, List, [], ◌∷◌, ◌++◌}
+use Rattle.std.specs.Prelude.{◌≡◌, ◌+◌, ℕ, List, [], ◌∷◌, ◌++◌, length}
 use Rattle.log_runs.specs.declared.Step.{Step}
 use Rattle.search_places.specs.Trails.{steps_by}
 use Rattle.search_places.specs.StackView.{FrameView, StackView}
 
--- the steps since the last frame became a frame, and these are left there
-abbrev pub close : StackView → List Step → StackView
-close s rest = record { frames = s.frames ++ record { done = s.done; rest = rest } ∷ []; done = [] }
+-- the steps since the last frame became a frame, where no step is noted
+abbrev pub close : StackView → StackView
+close s = record { frames = s.frames ++ record { done = s.done; noted = [] } ∷ []; done = [] }
 
--- x was the last of the steps that were left at the last frame
-pub record Takes (s t : StackView) (x : Step) : Type 0 where
+-- x is noted last at the last frame
+pub record Notes (s t : StackView) (x : Step) : Type 0 where
+  pub before : List FrameView
+  pub frame : FrameView
+  pub old : s.frames ≡ before ++ frame ∷ []
+  pub new : t.frames ≡ before ++ record { done = frame.done; noted = frame.noted ++ x ∷ [] } ∷ []
+  pub done : t.done ≡ s.done
+
+-- the step that was noted last at the last frame isn't noted there
+pub record Forgets (s t : StackView) : Type 0 where
   pub before : List FrameView
   pub frame : FrameView
   pub rest : List Step
+  pub step : Step
   pub old : s.frames ≡ before ++ frame ∷ []
-  pub at : frame.rest ≡ rest ++ x ∷ []
-  pub new : t.frames ≡ before ++ record { done = frame.done; rest = rest } ∷ []
+  pub at : frame.noted ≡ rest ++ step ∷ []
+  pub new : t.frames ≡ before ++ record { done = frame.done; noted = rest } ∷ []
   pub done : t.done ≡ s.done
 
--- nothing is left at the last frame, if there is one
-abbrev pub IsDrained : StackView → Type 0
-IsDrained s = (fs : List FrameView) (f : FrameView) → s.frames ≡ fs ++ f ∷ [] → f.rest ≡ []
+-- no step is noted at the last frame, if there is one
+abbrev pub HasNone : StackView → Type 0
+HasNone s = (fs : List FrameView) (f : FrameView) → s.frames ≡ fs ++ f ∷ [] → f.noted ≡ []
+
+-- how many steps are noted
+abbrev pub noted_at : List FrameView → ℕ
+noted_at [] = 0
+noted_at (f ∷ fs) = length f.noted + noted_at fs
 
 -- the last frame is dropped, and its steps are among those since the frame before
 pub record Reopens (s t : StackView) : Type 0 where

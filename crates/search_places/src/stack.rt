@@ -1,9 +1,10 @@
 //! The frames of the search and the steps that it took, in little room.
-ghost use Rattle.std.specs.Prelude.{◌≡◌, ◌++◌, ◌∷◌, [], false, length, IfOk, OnOk, IfNone, IfSome, IsTrue, option_to_list};
+ghost use Rattle.std.specs.Prelude.{◌≡◌, ◌+◌, ◌-◌, ◌<◌, ◌≤◌, ◌++◌, ◌∷◌, ◌↔◌, [], List, false, length, drop, IfOk, OnOk, IfNone, IsTrue, option_to_list};
 ghost use Rattle.log_runs.specs.declared.Step.TheVariants as kinds;
 ghost use Rattle.search_places.specs.Trails.{steps_by};
 ghost use Rattle.search_places.specs.Marks as marks;
 ghost use Rattle.search_places.specs.Stacked as stacked;
+ghost use Rattle.search_places.specs.StackView.{FrameView};
 
 use crate::steps::Done;
 use crate::trail::Trail;
@@ -16,18 +17,18 @@ use std::marker::Model;
 pub(crate) struct Mark {
     /// How many steps lead there from the frame before.
     done: usize,
-    /// How many steps weren't tried yet.
-    rest: usize,
+    /// How many steps are noted there.
+    noted: usize,
 }
 
-/// Frames, and the steps since the last one. All steps stand in one list, and all that are left at
-/// frames in another, so that a frame takes 16 bytes.
+/// Frames, and the steps since the last one. All steps that were taken stand in one list, and all that
+/// are noted at frames in another, so that a frame takes 16 bytes.
 #[derive(Drop)]
 pub struct Stack {
     /// All steps that were taken.
     trail: Trail,
-    /// The steps that are left at the frames.
-    rests: Vec<Step>,
+    /// The steps that are noted at the frames.
+    notes: Vec<Step>,
     frames: Vec<Mark>,
     /// How many of the steps that were taken lead to frames.
     closed: usize,
@@ -40,12 +41,12 @@ impl Model for Stack {
 
     ghost Value = { StackView };
 
-    ghost view = { λ s. record { frames = frames_in s.frames.items s.trail s.rests.items; done = drop s.closed s.trail } };
+    ghost view = { λ s. record { frames = frames_in s.frames.items s.trail s.notes.items; done = drop s.closed s.trail } };
 
-    ghost invariant = { λ s. IsCut s.frames.items s.closed s.trail s.rests.items };
+    ghost invariant = { λ s. IsCut s.frames.items s.closed s.trail s.notes.items };
 }
 
-/// Of the last frame one step less is left; false if none is.
+/// At the last frame one step less is noted; false if none is.
 fn lower(frames: &mut Vec<Mark>) -> bool
     ensures some { IsTrue result → marks.Lowers frames.old.items frames.new.items }
     ensures none { result ≡ false → frames.new.items ≡ frames.old.items }
@@ -56,14 +57,33 @@ fn lower(frames: &mut Vec<Mark>) -> bool
     }
     let last = frames.len() - 1;
     let mark = frames[last];
-    if mark.rest == 0 {
+    if mark.noted == 0 {
         return false;
     }
     frames[last] = Mark {
         done: mark.done,
-        rest: mark.rest - 1,
+        noted: mark.noted - 1,
     };
     true
+}
+
+/// Where one step more is noted, and fewer than so many were.
+fn raised(mark: Mark, many: usize) -> Mark
+    requires { mark.noted < many }
+    ensures { result ≡ record { done = mark.done; noted = mark.noted + 1 } }
+{
+    Mark {
+        done: mark.done,
+        noted: mark.noted + 1,
+    }
+}
+
+/// The last steps.
+fn last_of(steps: &[Step], count: usize) -> &[Step]
+    requires { count ≤ length steps.now }
+    ensures { result.now ≡ drop (length steps.now - count) steps.now }
+{
+    &steps[steps.len() - count..]
 }
 
 /// Adds the steps.
@@ -85,7 +105,7 @@ impl Stack {
     {
         Stack {
             trail: Trail::new(alloc),
-            rests: Vec::new(alloc),
+            notes: Vec::new(alloc),
             frames: Vec::new(alloc),
             closed: 0,
         }
@@ -113,32 +133,70 @@ impl Stack {
         self.trail.pop()
     }
 
-    /// Makes the steps since the last frame a frame, where these steps are left.
-    pub fn close(&mut self, rest: &[Step]) -> Result<(), AllocError>
-        ensures { OnOk result (self.new ≡ stacked.close self.old rest.now) }
+    /// Makes the steps since the last frame a frame, where no step is noted.
+    pub fn close(&mut self) -> Result<(), AllocError>
+        ensures { OnOk result (self.new ≡ stacked.close self.old) }
     {
         let len = self.trail.len();
         let mark = Mark {
             done: len - self.closed,
-            rest: rest.len(),
+            noted: 0,
         };
-        self.frames.reserve(1)?;
-        self.rests.extend_from_slice(rest)?;
         self.frames.push(mark)?;
         self.closed = len;
         Ok(())
     }
 
-    /// Takes the last step that is left at the last frame.
-    pub fn next(&mut self) -> Option<Step>
-        ensures some { IfSome result (stacked.Takes self.old self.new) }
-        ensures none { IfNone result (self.new ≡ self.old) }
-        ensures drained { IfNone result (stacked.IsDrained self.old) }
+    /// No place is a frame.
+    pub fn is_empty(&self) -> bool
+        ensures { IsTrue result ↔ self.now.frames ≡ [] }
+    {
+        self.frames.is_empty()
+    }
+
+    /// Notes the step at the last frame.
+    pub fn note(&mut self, step: Step) -> Result<(), AllocError>
+        requires { self.old.frames ≡ [] → ⊥ }
+        ensures { OnOk result (stacked.Notes self.old self.new step) }
+    {
+        self.notes.push(step)?;
+        let many = self.notes.len();
+        let last = self.frames.len() - 1;
+        let mark = self.frames[last];
+        self.frames[last] = raised(mark, many);
+        Ok(())
+    }
+
+    /// Forgets the step that was noted last at the last frame. False if none is noted there.
+    pub fn forget(&mut self) -> bool
+        ensures some { IsTrue result → stacked.Forgets self.old self.new }
+        ensures none { result ≡ false → self.new ≡ self.old }
+        ensures empty { result ≡ false → stacked.HasNone self.old }
     {
         if !lower(&mut self.frames) {
-            return None;
+            return false;
         }
-        self.rests.pop()
+        self.notes.pop();
+        true
+    }
+
+    /// The steps that are noted at the last frame, in their order.
+    pub fn noted(&self) -> &[Step]
+        ensures { (fs : List FrameView) (f : FrameView) → self.now.frames ≡ fs ++ f ∷ [] → result.now ≡ f.noted }
+    {
+        let count = self.frames.len();
+        if count == 0 {
+            return &[];
+        }
+        let mark = self.frames[count - 1];
+        last_of(self.notes.as_slice(), mark.noted)
+    }
+
+    /// How many steps are noted at all frames.
+    pub fn count(&self) -> usize
+        ensures { result ≡ stacked.noted_at self.now.frames }
+    {
+        self.notes.len()
     }
 
     /// Drops the last frame: its steps are among those since the frame before. False if there is none.
@@ -151,7 +209,7 @@ impl Stack {
             return false;
         };
         self.closed -= mark.done;
-        self.rests.truncate(self.rests.len() - mark.rest);
+        self.notes.truncate(self.notes.len() - mark.noted);
         true
     }
 

@@ -1,16 +1,18 @@
 -- The way through the frames.
-use Rattle.std.proofs.Common.{◌≡◌, ◌∙◌, ℕ, suc, ◌+◌, ◌<◌, List, [], ◌∷◌, ◌++◌, Some, length, refl, sym, ap, subst, append_assoc, arith, length-append}
+use Rattle.std.proofs.Common.{◌≡◌, ◌∙◌, suc, Bool, true, false, List, [], ◌∷◌, ◌++◌, Some, length, refl, sym, ap, subst, append_assoc, arith, length-append}
+use Rattle.std.proofs.lemmas.List.{append-nil}
 use Rattle.std.specs.List.{All}
-use Rattle.std.proofs.lemmas.List.Elements.{All-push, All-nil, All-pop}
+use Rattle.std.proofs.lemmas.List.Elements.{All-push, All-append, All-nil, All-pop}
 use Rattle.log_runs.specs.LogView.{LogView}
 use Rattle.log_runs.specs.declared.Step.{Step}
-use Rattle.log_runs.specs.Runs.{State, Allowed, Leads, Live, Dead, AllDead, Covers, IsForced, next, start}
+use Rattle.log_runs.specs.Runs.{State, Allowed, Leads, Live, Dead, AllDead, IsForced, next, start}
 use Rattle.search_places.specs.declared.steps.Done.{Done}
-use Rattle.search_places.specs.StackView.{FrameView}
+use Rattle.search_places.specs.StackView.{FrameView, StackView}
 use Rattle.search_places.specs.Undo.{MayCome, CameBy}
 use Rattle.search_run.specs.Outcomes.{IsRun}
-use Rattle.search_run.specs.Frames.{LeadsBy, Path, PathFrom, Here, Back}
-use Rattle.search_places.specs.Stacked.{steps_of}
+use Rattle.search_run.specs.declared.walk.Walk.{Walk}
+use Rattle.search_run.specs.Frames.{LeadsBy, Path, PathFrom, Here, Back, LeadsNowhere, IsOpen, AreLost}
+use Rattle.search_places.specs.Stacked.{steps_of, Forgets, Reopens}
 use Rattle.search_places.specs.Trails.{steps_by}
 
 -- ---- steps, one after another
@@ -27,22 +29,21 @@ one_less log s t (x ∷ ds) d leads =
     let (m, before, last) = one_less log (next log s x.step) t ds d leads.1 in
     (m, (leads.0, before), last)
 
--- ---- frames, and steps that are left there
+-- ---- frames
 
-abbrev pub left_in : List FrameView → ℕ
-left_in [] = 0
-left_in (f ∷ fs) = suc (length f.rest + left_in fs)
+pub not_nil : {X : Type 0} → (xs : List X) (x : X) → xs ++ x ∷ [] ≡ [] → ⊥
+not_nil [] x e = cc
+not_nil (y ∷ xs) x e = cc
 
-left_more : (fs : List FrameView) (f : FrameView) → left_in (fs ++ f ∷ []) ≡ suc (length f.rest + left_in fs)
-left_more [] f = refl
-left_more (g ∷ fs) f = let e = left_more fs f in omega (arith, e)
+pub as_many : {X : Type 0} → (xs : List X) (x y : X) → length (xs ++ x ∷ []) ≡ length (xs ++ y ∷ [])
+as_many [] x y = refl
+as_many (z ∷ xs) x y = ap suc (as_many xs x y)
 
-pub fewer_steps : (fs : List FrameView) (f : FrameView) (r : List Step) (x : Step) → f.rest ≡ r ++ x ∷ [] → left_in (fs ++ record { done = f.done; rest = r } ∷ []) < left_in (fs ++ f ∷ [])
-fewer_steps fs f r x e =
-    omega (arith, left_more fs f, left_more fs (record { done = f.done; rest = r }), ap length e, length-append r (x ∷ []))
-
-pub fewer_frames : (fs : List FrameView) (f : FrameView) → left_in fs < left_in (fs ++ f ∷ [])
-fewer_frames fs f = omega (arith, left_more fs f)
+-- a list that isn't empty has a last element
+pub has_last : {X : Type 0} → (xs : List X) → (xs ≡ [] → ⊥) → (ys : List X) × (y : X) × (xs ≡ ys ++ y ∷ [])
+has_last [] some = absurd (some refl)
+has_last (x ∷ []) some = ([], x, refl)
+has_last (x ∷ z ∷ xs) some = let (ys, y, e) = has_last (z ∷ xs) (λ n. cc) in (x ∷ ys, y, ap (λ zs. x ∷ zs) e)
 
 module _ (log : LogView) where
   -- ---- a frame more, a frame less, and what follows at the end
@@ -50,27 +51,27 @@ module _ (log : LogView) where
   -- how the way goes on at a frame
   abbrev pub At : FrameView → (State → Type 0 → Type 0) → State → Type 0 → Type 0
   At f K s P =
-      (m : State) × LeadsBy log s f.done m × All (Allowed log m) f.rest × (Dead log m → P) × K m (AllDead log m f.rest → Dead log m)
+      (m : State) × LeadsBy log s f.done m × (m.event ≡ length log.events → ⊥) × (Dead log m → P) × K m (AllDead log m f.noted)
 
   path_pop : (P : Type 0) (s : State) (fs : List FrameView) (f : FrameView) (K : State → Type 0 → Type 0) → Path log P s (fs ++ f ∷ []) K → Path log P s fs (At f K)
   path_pop P s [] f K h = h
   path_pop P s (g ∷ gs) f K h =
-      (h.0, h.1, h.2, h.3, path_pop (AllDead log h.0 g.rest → Dead log h.0) h.0 gs f K h.4)
+      (h.0, h.1, h.2, h.3, path_pop (AllDead log h.0 g.noted) h.0 gs f K h.4)
 
   path_push : (P : Type 0) (s : State) (fs : List FrameView) (f : FrameView) (K : State → Type 0 → Type 0) → Path log P s fs (At f K) → Path log P s (fs ++ f ∷ []) K
   path_push P s [] f K h = h
   path_push P s (g ∷ gs) f K h =
-      (h.0, h.1, h.2, h.3, path_push (AllDead log h.0 g.rest → Dead log h.0) h.0 gs f K h.4)
+      (h.0, h.1, h.2, h.3, path_push (AllDead log h.0 g.noted) h.0 gs f K h.4)
 
   path_map : (P : Type 0) (s : State) (fs : List FrameView) (K L : State → Type 0 → Type 0) → ((m : State) (Q : Type 0) → K m Q → L m Q) → Path log P s fs K → Path log P s fs L
   path_map P s [] K L f h = f s P h
   path_map P s (g ∷ gs) K L f h =
-      (h.0, h.1, h.2, h.3, path_map (AllDead log h.0 g.rest → Dead log h.0) h.0 gs K L f h.4)
+      (h.0, h.1, h.2, h.3, path_map (AllDead log h.0 g.noted) h.0 gs K L f h.4)
 
   -- what holds wherever the way ends
   path_end : (P : Type 0) (s : State) (fs : List FrameView) (K : State → Type 0 → Type 0) (R : Type 0) → ((m : State) (Q : Type 0) → K m Q → R) → Path log P s fs K → R
   path_end P s [] K R f h = f s P h
-  path_end P s (g ∷ gs) K R f h = path_end (AllDead log h.0 g.rest → Dead log h.0) h.0 gs K R f h.4
+  path_end P s (g ∷ gs) K R f h = path_end (AllDead log h.0 g.noted) h.0 gs K R f h.4
 
   -- ---- the moves of the search
 
@@ -85,12 +86,13 @@ module _ (log : LogView) where
       (λ m Q e. (one_more log m t u ds d e.0 c, λ dead. e.1 (λ live. dead (subst (Live log) (sym c.led) (f.live live))))) h
 
   -- the place becomes a frame
-  pub kept : (fs : List FrameView) (ds : List Done) (t : State) (f : FrameView) → PathFrom log fs (Here log ds t) → f.done ≡ ds
-      → All (Allowed log t) f.rest → Covers log t f.rest → PathFrom log (fs ++ f ∷ []) (λ m P. (m ≡ t) × P)
-  kept fs ds t f h ed all covers =
+  pub kept : (fs : List FrameView) (ds : List Done) (t : State) → PathFrom log fs (Here log ds t) → (t.event ≡ length log.events → ⊥)
+      → PathFrom log (fs ++ record { done = ds; noted = [] } ∷ []) (λ m P. (m ≡ t) × P)
+  kept fs ds t h more =
+      let f : FrameView = record { done = ds; noted = [] } in
       path_push (Dead log (start log)) (start log) fs f (λ m P. (m ≡ t) × P)
       (path_map (Dead log (start log)) (start log) fs (Here log ds t) (At f (λ m P. (m ≡ t) × P))
-      (λ m Q e. (t, subst (λ xs. LeadsBy log m xs t) (sym ed) e.0, all, e.1, (refl, covers))) h)
+      (λ m Q e. (t, e.0, more, e.1, (refl, All-nil (LeadsNowhere log t)))) h)
 
   -- the place is dead
   pub turned : (fs : List FrameView) (ds : List Done) (t : State) → PathFrom log fs (Here log ds t) → Dead log t → PathFrom log fs (Back log ds t)
@@ -107,45 +109,52 @@ module _ (log : LogView) where
       path_map (Dead log (start log)) (start log) fs (Back log (ds ++ d ∷ []) t) (Back log ds u)
       (λ m Q e. let (n, before, last) = one_less log m t ds d e.0 in (subst (LeadsBy log m ds) (sym (back n last)) before, e.1)) h
 
-  -- a step is taken from the last frame's list
+  pub led_back : (s t u : State) (ds : List Done) (d : Done) → LeadsBy log s (ds ++ d ∷ []) t → ((m : State) → CameBy log m t d → u ≡ m) → LeadsBy log s ds u
+  led_back s t u ds d leads back = let (n, before, last) = one_less log s t ds d leads in subst (LeadsBy log s ds) (sym (back n last)) before
+
+  -- at the last frame
   module _ (fs : List FrameView) (f : FrameView) (t : State) (h : PathFrom log (fs ++ f ∷ []) (λ m P. (m ≡ t) × P)) where
     last : PathFrom log fs (At f (λ m P. (m ≡ t) × P))
     last = path_pop (Dead log (start log)) (start log) fs f (λ m P. (m ≡ t) × P) h
 
-    pub allowed_there : All (Allowed log t) f.rest
-    allowed_there =
-        path_end (Dead log (start log)) (start log) fs (At f (λ m P. (m ≡ t) × P)) (All (Allowed log t) f.rest)
-        (λ m Q e. subst (λ n. All (Allowed log n) f.rest) e.4.0 e.2) last
+    pub more_there : t.event ≡ length log.events → ⊥
+    more_there =
+        path_end (Dead log (start log)) (start log) fs (At f (λ m P. (m ≡ t) × P)) (t.event ≡ length log.events → ⊥)
+        (λ m Q e. subst (λ (n : State). n.event ≡ length log.events → ⊥) e.4.0 e.2) last
 
-    pub covers_there : Covers log t f.rest
-    covers_there =
-        path_end (Dead log (start log)) (start log) fs (At f (λ m P. (m ≡ t) × P)) (Covers log t f.rest)
-        (λ m Q e. subst (λ n. Covers log n f.rest) e.4.0 e.4.1) last
+    pub dead_there : AllDead log t f.noted
+    dead_there =
+        path_end (Dead log (start log)) (start log) fs (At f (λ m P. (m ≡ t) × P)) (AllDead log t f.noted)
+        (λ m Q e. subst (λ n. AllDead log n f.noted) e.4.0 e.4.1) last
 
-    pub popped : (r : List Step) (x : Step) → f.rest ≡ r ++ x ∷ []
-        → Allowed log t x × PathFrom log (fs ++ record { done = f.done; rest = r } ∷ []) (λ m P. (m ≡ t) × (Dead log (next log t x) → P))
-    popped r x er =
-        let (others, this) = All-pop (Allowed log t) f.rest r (Some x) er allowed_there in
-        let DeadBy : Step → Type 0 = λ y. Allowed log t y → Dead log (next log t y) in
-        let g : FrameView = record { done = f.done; rest = r } in
-        let Then : State → Type 0 → Type 0 = λ m P. (m ≡ t) × (Dead log (next log t x) → P) in (
-          this,
-          path_push (Dead log (start log)) (start log) fs g Then
-              (path_map (Dead log (start log)) (start log) fs (At f (λ m P. (m ≡ t) × P)) (At g Then)
-              (λ m Q e. (
-                t,
-                subst (LeadsBy log m f.done) e.4.0 e.1,
-                others,
-                λ dead. e.3 (subst (Dead log) (sym e.4.0) dead),
-                (refl, λ dead left. covers_there (subst (All DeadBy) (sym er) (All-push DeadBy r x left (λ a. dead)))),
-              )) last),
-        )
+    -- a step is noted
+    pub noted : (x : Step) → PathFrom log (fs ++ record { done = f.done; noted = f.noted ++ x ∷ [] } ∷ []) (λ m P. (m ≡ t) × (Dead log (next log t x) → P))
+    noted x =
+        let g : FrameView = record { done = f.done; noted = f.noted ++ x ∷ [] } in
+        let Then : State → Type 0 → Type 0 = λ m P. (m ≡ t) × (Dead log (next log t x) → P) in
+        path_push (Dead log (start log)) (start log) fs g Then
+        (path_map (Dead log (start log)) (start log) fs (At f (λ m P. (m ≡ t) × P)) (At g Then)
+        (λ m Q e. (
+          t,
+          subst (LeadsBy log m f.done) e.4.0 e.1,
+          subst (λ (n : State). n.event ≡ length log.events → ⊥) e.4.0 e.2,
+          λ dead. e.3 (subst (Dead log) (sym e.4.0) dead),
+          (refl, λ dead. All-push (LeadsNowhere log t) f.noted x (subst (λ n. AllDead log n f.noted) e.4.0 e.4.1) (λ a. dead)),
+        )) last)
 
-    -- nothing is left there
-    pub drained : f.rest ≡ [] → Dead log t
-    drained er =
-        let DeadBy : Step → Type 0 = λ y. Allowed log t y → Dead log (next log t y) in
-        covers_there (subst (All DeadBy) (sym er) (All-nil DeadBy))
+    -- the last that is noted isn't any more
+    pub forgot : (r : List Step) (x : Step) → f.noted ≡ r ++ x ∷ [] → PathFrom log (fs ++ record { done = f.done; noted = r } ∷ []) (λ m P. (m ≡ t) × P)
+    forgot r x er =
+        let g : FrameView = record { done = f.done; noted = r } in
+        path_push (Dead log (start log)) (start log) fs g (λ m P. (m ≡ t) × P)
+        (path_map (Dead log (start log)) (start log) fs (At f (λ m P. (m ≡ t) × P)) (At g (λ m P. (m ≡ t) × P))
+        (λ m Q e. (
+          m,
+          e.1,
+          e.2,
+          e.3,
+          (e.4.0, (All-pop (LeadsNowhere log m) f.noted r (Some x) er e.4.1).0),
+        )) last)
 
     pub dropped : Dead log t → PathFrom log fs (Back log f.done t)
     dropped dead =
@@ -161,6 +170,12 @@ module _ (log : LogView) where
 
   -- ---- the end
 
+  -- there is no frame
+  pub none_left : (fs : List FrameView) (t : State) → PathFrom log fs (λ m P. (m ≡ t) × P) → fs ≡ [] → Dead log (start log)
+  none_left fs t h none =
+      let there : PathFrom log [] (λ m P. (m ≡ t) × P) = subst (λ (gs : List FrameView). PathFrom log gs (λ m P. (m ≡ t) × P)) none h in
+      there.1
+
   leads_on : (xs : List Step) (s t u : State) (ys : List Step) → Leads log s xs t → Leads log t ys u → Leads log s (xs ++ ys) u
   leads_on [] s t u ys a b = subst (λ v. Leads log v ys u) (sym a) b
   leads_on (x ∷ xs) s t u ys a b = (a.0, leads_on xs (next log s x) t u ys a.1 b)
@@ -174,9 +189,97 @@ module _ (log : LogView) where
   whole P s (g ∷ gs) ds t h =
       subst (λ xs. Leads log s xs t) (sym (append_assoc (steps_by g.done) (steps_of gs) (steps_by ds)))
       (leads_on (steps_by g.done) s h.0 t (steps_of gs ++ steps_by ds) (told g.done s h.0 h.1)
-      (whole (AllDead log h.0 g.rest → Dead log h.0) h.0 gs ds t h.4))
+      (whole (AllDead log h.0 g.noted) h.0 gs ds t h.4))
 
   pub found : (fs : List FrameView) (ds : List Done) (t : State) (xs : List Step) → PathFrom log fs (Here log ds t) → t.event ≡ length log.events
       → xs ≡ steps_of fs ++ steps_by ds → IsRun log xs
   found fs ds t xs h over e =
       record { last = t; leads = subst (λ ys. Leads log (start log) ys t) (sym e) (whole (Dead log (start log)) (start log) fs ds t h); over = over }
+
+-- ---- steps that are lost
+
+module _ (log : LogView) (w v : Walk) (xs : List Step) (lost : AreLost log w v xs) where
+  pub lost_more : (u : Walk) (ys : List Step) → AreLost log v u ys → AreLost log w u (xs ++ ys)
+  lost_more u ys more = record {
+    at = more.at;
+    state = more.state ∙ lost.state;
+    dead = All-append (LeadsNowhere log w.here.state) xs ys lost.dead (subst (λ s. All (LeadsNowhere log s) ys) lost.state more.dead);
+    same = more.same ∙ lost.same;
+  }
+
+  pub lost_too : (x : Step) → LeadsNowhere log v.here.state x → AreLost log w v (xs ++ x ∷ [])
+  lost_too x nowhere = record {
+    at = lost.at;
+    state = lost.state;
+    dead = All-push (LeadsNowhere log w.here.state) xs x lost.dead (subst (λ s. LeadsNowhere log s x) lost.state nowhere);
+    same = lost.same;
+  }
+
+pub none_lost : (log : LogView) (w : Walk) → IsOpen log w → AreLost log w w []
+none_lost log w stands = record { at = stands; state = refl; dead = All-nil (LeadsNowhere log w.here.state); same = refl }
+
+-- the last that is noted isn't any more, or all is as it was
+pub spared : (log : LogView) (w : Walk) (t : StackView) (b : Bool) → IsOpen log w → (b ≡ true → Forgets w.stack t) → (b ≡ false → t ≡ w.stack)
+    → AreLost log w (record { stack = t; here = w.here; memo = w.memo; losses = w.losses; look = w.look; reach = w.reach; work = w.work }) []
+spared log w t true stands some none =
+    let f = some refl in
+    let here = subst (λ (fs : List FrameView). PathFrom log fs (λ (m : State) (P : Type 0). (m ≡ w.here.state) × P)) f.old stands.ready.path in
+    record {
+      at = record {
+        ready = record {
+          path = subst (λ (fs : List FrameView). PathFrom log fs (λ (m : State) (P : Type 0). (m ≡ w.here.state) × P)) (sym f.new)
+              (forgot log f.before f.frame w.here.state here f.rest f.step f.at);
+          none = f.done ∙ stands.ready.none;
+          place = stands.ready.place;
+          known = stands.ready.known;
+        };
+        some = λ none. not_nil f.before (record { done = f.frame.done; noted = f.rest }) (sym f.new ∙ none);
+      };
+      state = refl;
+      dead = All-nil (LeadsNowhere log w.here.state);
+      same = ap length f.new ∙ as_many f.before (record { done = f.frame.done; noted = f.rest }) f.frame ∙ sym (ap length f.old);
+    }
+spared log w t false stands some none =
+    let e = none refl in
+    record {
+      at = record {
+        ready = record {
+          path = subst (λ (s : StackView). PathFrom log s.frames (λ (m : State) (P : Type 0). (m ≡ w.here.state) × P)) (sym e) stands.ready.path;
+          none = ap (λ (s : StackView). s.done) e ∙ stands.ready.none;
+          place = stands.ready.place;
+          known = stands.ready.known;
+        };
+        some = λ none. stands.some (sym (ap (λ (s : StackView). s.frames) e) ∙ none);
+      };
+      state = refl;
+      dead = All-nil (LeadsNowhere log w.here.state);
+      same = ap (λ (s : StackView). length s.frames) e;
+    }
+
+-- each that is noted at the last frame leads nowhere
+pub noted_dead : (log : LogView) (w : Walk) (xs : List Step) → IsOpen log w → ((fs : List FrameView) (f : FrameView) → w.stack.frames ≡ fs ++ f ∷ [] → xs ≡ f.noted) → All (LeadsNowhere log w.here.state) xs
+noted_dead log w xs stands is =
+    let (fs, f, e) = has_last w.stack.frames stands.some in
+    let here = subst (λ (gs : List FrameView). PathFrom log gs (λ (m : State) (P : Type 0). (m ≡ w.here.state) × P)) e stands.ready.path in
+    subst (All (LeadsNowhere log w.here.state)) (sym (is fs f e)) (dead_there log fs f w.here.state here)
+
+-- it isn't the end
+pub more_here : (log : LogView) (w : Walk) → IsOpen log w → w.here.state.event ≡ length log.events → ⊥
+more_here log w stands =
+    let (fs, f, e) = has_last w.stack.frames stands.some in
+    more_there log fs f w.here.state (subst (λ (gs : List FrameView). PathFrom log gs (λ (m : State) (P : Type 0). (m ≡ w.here.state) × P)) e stands.ready.path)
+
+-- the last frame is dropped, from which nothing leads to the end
+reopens : (s t : StackView) (b : Bool) → (s.frames ≡ [] → ⊥) → (b ≡ true → Reopens s t) → (b ≡ false → s.frames ≡ []) → Reopens s t
+reopens s t true stands some none = some refl
+reopens s t false stands some none = absurd (stands (none refl))
+
+pub reopened_back : (log : LogView) (w : Walk) (t : StackView) (b : Bool) → IsOpen log w → Dead log w.here.state → (b ≡ true → Reopens w.stack t) → (b ≡ false → w.stack.frames ≡ [])
+    → PathFrom log t.frames (Back log t.done w.here.state) × (suc (length t.frames) ≡ length w.stack.frames)
+reopened_back log w t b stands dead some none =
+    let r = reopens w.stack t b stands.some some none in
+    let here = subst (λ (gs : List FrameView). PathFrom log gs (λ (m : State) (P : Type 0). (m ≡ w.here.state) × P)) r.old stands.ready.path in
+    let steps : t.done ≡ r.frame.done = r.done ∙ ap (λ (ds : List Done). r.frame.done ++ ds) stands.ready.none ∙ append-nil r.frame.done in (
+      subst (λ (ds : List Done). PathFrom log t.frames (Back log ds w.here.state)) (sym steps) (dropped log t.frames r.frame w.here.state here dead),
+      sym (ap length r.old ∙ length-append t.frames (r.frame ∷ []) ∙ omega arith),
+    )

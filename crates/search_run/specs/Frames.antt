@@ -1,6 +1,5 @@
 -- What the search keeps between its steps.
-use Rattle.std.specs.Prelude.{◌≡◌, List, [], ◌∷◌}
-use Rattle.std.specs.List.{All}
+use Rattle.std.specs.Prelude.{◌≡◌, List, [], ◌∷◌, length}
 use Rattle.log_runs.specs.declared.Step.{Step}
 use Rattle.log_runs.specs.LogView.{LogView}
 use Rattle.log_runs.specs.Runs.{State, Allowed, Dead, AllDead, next, start}
@@ -16,18 +15,18 @@ abbrev pub LeadsBy : LogView → State → List Done → State → Type 0
 LeadsBy log s [] t = s ≡ t
 LeadsBy log s (d ∷ ds) t = MayCome log s d × LeadsBy log (next log s d.step) ds t
 
--- The way from s through the frames. At each frame stands some m: steps lead to it, what is left there may be done, and if
--- it is dead, P holds. K says how it goes on from the last m, and what follows if that is dead.
+-- The way from s through the frames. At each frame stands some m: steps lead to it, it isn't the end, and if it is dead, P
+-- holds. K says how it goes on from the last m, and what follows if that is dead: no step that is noted there leads anywhere.
 abbrev pub Path : LogView → Type 0 → State → List FrameView → (State → Type 0 → Type 0) → Type 0
 Path log P s [] K = K s P
 Path log P s (f ∷ fs) K =
-    (m : State) × LeadsBy log s f.done m × All (Allowed log m) f.rest × (Dead log m → P)
-    × Path log (AllDead log m f.rest → Dead log m) m fs K
+    (m : State) × LeadsBy log s f.done m × (m.event ≡ length log.events → ⊥) × (Dead log m → P)
+    × Path log (AllDead log m f.noted) m fs K
 
 abbrev pub PathFrom : LogView → List FrameView → (State → Type 0 → Type 0) → Type 0
 PathFrom log fs K = Path log (Dead log (start log)) (start log) fs K
 
--- steps lead here, and if this is dead, so is the last frame but for what is left there
+-- steps lead here, and if this is dead, so is what follows each step that is noted at the last frame
 abbrev pub Here : LogView → List Done → State → State → Type 0 → Type 0
 Here log ds t m P = LeadsBy log m ds t × (Dead log t → P)
 
@@ -47,17 +46,39 @@ pub record IsBack (log : LogView) (w : Walk) : Type 0 where
   pub place : IsPlace log w.here
   pub known : AreDead log w.memo
 
--- it stands at the last frame, to go on with what is left there
+-- it stands at the last frame, if there is one, and no step that is noted there leads to the end
 pub record IsReady (log : LogView) (w : Walk) : Type 0 where
   pub path : PathFrom log w.stack.frames (λ m P. (m ≡ w.here.state) × P)
   pub none : w.stack.done ≡ []
   pub place : IsPlace log w.here
   pub known : AreDead log w.memo
 
--- it stands at the last frame, to take step x, which isn't among those that are left there any more
+-- so it is, and there is one
+pub record IsOpen (log : LogView) (w : Walk) : Type 0 where
+  pub ready : IsReady log w
+  pub some : w.stack.frames ≡ [] → ⊥
+
+-- it stands at the last frame, to take step x, which is noted there last
 pub record MayTake (log : LogView) (w : Walk) (x : Step) : Type 0 where
   pub allowed : Allowed log w.here.state x
   pub path : PathFrom log w.stack.frames (λ m P. (m ≡ w.here.state) × (Dead log (next log w.here.state x) → P))
   pub none : w.stack.done ≡ []
   pub place : IsPlace log w.here
   pub known : AreDead log w.memo
+
+-- if the step may be taken, it doesn't lead to the end
+abbrev pub LeadsNowhere : LogView → State → Step → Type 0
+LeadsNowhere log s x = Allowed log s x → Dead log (next log s x)
+
+-- it stood as w and stands as v, at the same frame, and none of the steps leads to the end
+pub record AreLost (log : LogView) (w v : Walk) (xs : List Step) : Type 0 where
+  pub at : IsOpen log v
+  pub state : v.here.state ≡ w.here.state
+  pub dead : AllDead log w.here.state xs
+  pub same : length v.stack.frames ≡ length w.stack.frames
+
+-- it stood as w and stands as v, at the same frame, from which nothing leads to the end
+pub record IsSpent (log : LogView) (w v : Walk) : Type 0 where
+  pub at : IsOpen log v
+  pub dead : Dead log v.here.state
+  pub same : length v.stack.frames ≡ length w.stack.frames

@@ -1,6 +1,8 @@
 //! The search's stack.
-ghost use Rattle.std.specs.Prelude.{◌≡◌, ◌++◌, ◌∷◌, [], ℕ, List, true, false, length, IsTrue, IfOk, OnOk, IfSome};
-ghost use Rattle.log_runs.specs.Runs.{Dead, IsForced, start};
+ghost use Rattle.std.specs.Prelude.{◌≡◌, ◌∷◌, [], false, length, IsTrue, IfOk, OnOk, IfSome};
+ghost use Rattle.std.specs.List.{All, Contains};
+ghost use Rattle.log_runs.specs.LogView.{LogView};
+ghost use Rattle.log_runs.specs.Runs.{State, Allowed, Dead, IsForced, next, start};
 ghost use Rattle.search_places.specs.Places.{IsPlace};
 ghost use Rattle.search_run.specs.Catalogs.{IsCatalog};
 ghost use Rattle.search_run.specs.Frames as frames;
@@ -22,6 +24,10 @@ const SOON: usize = 128;
 const CHOICE: u64 = 256;
 
 const LAST: u64 = 64;
+
+/// A step that is lost at once stays noted only while no more than so many steps are. So the frames keep no more
+/// steps than these and the choices that were looked at.
+const MOST_NOTED: usize = 1 << 18;
 
 #[derive(Drop)]
 pub(crate) struct Walk {
@@ -161,14 +167,11 @@ pub(crate) fn settle(
     Ok(())
 }
 
-/// Keeps the steps that may be taken here.
-fn keep(walk: &mut Walk, alloc: Global, log: &Log, catalog: &Catalog) -> Result<(), AllocError>
-    requires at { frames.IsAt log.now walk.old }
-    requires more { walk.old.here.state.event ≡ length log.now.events → ⊥ }
-    ensures { OnOk result (frames.IsReady log.now walk.new) }
+/// The place becomes a frame.
+fn keep(walk: &mut Walk) -> Result<(), AllocError>
+    ensures { OnOk result ((log : LogView) → frames.IsAt log walk.old → (walk.old.here.state.event ≡ length log.events → ⊥) → frames.IsReady log walk.new) }
 {
-    let rest = choices(alloc, log, &catalog.others, catalog.turns(), &walk.here)?;
-    walk.stack.close(rest.as_slice())?;
+    walk.stack.close()?;
     Ok(())
 }
 
@@ -184,12 +187,14 @@ fn rewind(walk: &mut Walk, log: &Log) -> Result<(), AllocError>
     Ok(())
 }
 
-/// Takes a step of the last frame, which isn't among those that are left there any more.
+/// Takes a step of the last frame, which is noted there.
 fn go_on(walk: &mut Walk, log: &Log, catalog: &Catalog, step: Step) -> Result<(), AllocError>
     requires step { frames.MayTake log.now walk.old step }
     requires catalog { IsCatalog log.now catalog.now }
     ensures at { OnOk result (frames.IsAt log.now walk.new) }
     ensures frames { OnOk result (walk.new.stack.frames ≡ walk.old.stack.frames) }
+    ensures led { OnOk result (frames.LeadsBy log.now walk.old.here.state walk.new.stack.done walk.new.here.state) }
+    ensures next { OnOk result (next log.now walk.old.here.state step ≡ walk.new.here.state) }
 {
     let done = walk.here.take(log, step)?;
     walk.look = Look::none().after(log, catalog, &walk.here, step);
@@ -239,7 +244,156 @@ fn lost_at(walk: &Walk, log: &Log, catalog: &Catalog, to: usize) -> Option<usize
     some_missed(walk, log, catalog, to)
 }
 
-/// Goes on with what is left and isn't lost at once; false if nothing is.
+/// Notes the step at the last frame and takes it; false if it is seen at once that it leads nowhere, and is taken
+/// back.
+fn try_step(walk: &mut Walk, log: &Log, catalog: &Catalog, step: Step) -> Result<bool, AllocError>
+    requires at { frames.IsOpen log.now walk.old }
+    requires allowed { Allowed log.now walk.old.here.state step }
+    requires catalog { IsCatalog log.now catalog.now }
+    ensures at { IfOk result (λ more. IsTrue more → frames.IsAt log.now walk.new) }
+    ensures lost { IfOk result (λ more. more ≡ false → frames.AreLost log.now walk.old walk.new (step ∷ [])) }
+{
+    walk.stack.note(step)?;
+    go_on(walk, log, catalog, step)?;
+    let event = walk.here.event();
+    let Some(at) = lost_at(walk, log, catalog, event) else {
+        return Ok(true);
+    };
+    walk.reach = walk.reach.max(at);
+    rewind(walk, log)?;
+    Ok(false)
+}
+
+fn is_same(one: Step, other: Step) -> bool
+    ensures { IsTrue result → one ≡ other }
+{
+    match one {
+        Step::Pass => match other {
+            Step::Pass => true,
+            Step::Act(_) => false,
+        },
+        Step::Act(b) => match other {
+            Step::Pass => false,
+            Step::Act(c) => b == c,
+        },
+    }
+}
+
+/// The list has the step.
+fn has_step(steps: &[Step], step: Step) -> bool
+    ensures { IsTrue result → Contains steps.now step }
+{
+    for one in steps {
+        if is_same(*one, step) {
+            return true;
+        }
+    }
+    false
+}
+
+/// The step is noted at the last frame, not before that one of those that are.
+fn was_tried(walk: &Walk, from: usize, step: Step) -> bool
+    ensures { IsTrue result → (log : LogView) → frames.IsOpen log walk.now → frames.LeadsNowhere log walk.now.here.state step }
+{
+    let noted = walk.stack.noted();
+    if from >= noted.len() {
+        return false;
+    }
+    has_step(&noted[from..], step)
+}
+
+/// The place behind the step among those that are noted at the last frame, if it is the one at that place; or else that
+/// place.
+fn behind(walk: &Walk, from: usize, step: Step) -> usize {
+    match walk.stack.noted().get(from) {
+        Some(noted) => if is_same(*noted, step) {
+            from.saturating_add(1)
+        } else {
+            from
+        },
+        None => from,
+    }
+}
+
+/// More steps are noted than those may be that are lost at once.
+fn is_full(walk: &Walk) -> bool {
+    walk.stack.count() > MOST_NOTED
+}
+
+/// Forgets the step that was noted last, if many are.
+fn spare(walk: &mut Walk)
+    ensures { (log : LogView) → frames.IsOpen log walk.old → frames.AreLost log walk.old walk.new [] }
+{
+    if !is_full(walk) {
+        return;
+    }
+    walk.stack.forget();
+}
+
+/// [`try_step`], unless the step was tried, from that one on of those that are noted.
+fn try_next(
+    walk: &mut Walk,
+    log: &Log,
+    catalog: &Catalog,
+    from: usize,
+    step: Step,
+) -> Result<bool, AllocError>
+    requires at { frames.IsOpen log.now walk.old }
+    requires allowed { Allowed log.now walk.old.here.state step }
+    requires catalog { IsCatalog log.now catalog.now }
+    ensures at { IfOk result (λ more. IsTrue more → frames.IsAt log.now walk.new) }
+    ensures lost { IfOk result (λ more. more ≡ false → frames.AreLost log.now walk.old walk.new (step ∷ [])) }
+{
+    if was_tried(walk, from, step) {
+        return Ok(false);
+    }
+    if try_step(walk, log, catalog, step)? {
+        return Ok(true);
+    }
+    spare(walk);
+    Ok(false)
+}
+
+/// Tries each step of the list that wasn't tried at the last frame; false if each leads nowhere.
+fn try_each(
+    walk: &mut Walk,
+    log: &Log,
+    catalog: &Catalog,
+    steps: &[Step],
+) -> Result<bool, AllocError>
+    requires at { frames.IsOpen log.now walk.old }
+    requires allowed { All (Allowed log.now walk.old.here.state) steps.now }
+    requires catalog { IsCatalog log.now catalog.now }
+    ensures at { IfOk result (λ more. IsTrue more → frames.IsAt log.now walk.new) }
+    ensures lost { IfOk result (λ more. more ≡ false → frames.AreLost log.now walk.old walk.new steps.now) }
+{
+    let mut from = 0usize;
+    for step in steps {
+        if try_next(walk, log, catalog, from, *step)? {
+            return Ok(true);
+        }
+        from = behind(walk, from, *step);
+    }
+    Ok(false)
+}
+
+/// Tries what wasn't tried at the last frame; false if nothing leads to the end from there.
+fn try_here(
+    walk: &mut Walk,
+    alloc: Global,
+    log: &Log,
+    catalog: &Catalog,
+) -> Result<bool, AllocError>
+    requires at { frames.IsOpen log.now walk.old }
+    requires catalog { IsCatalog log.now catalog.now }
+    ensures at { IfOk result (λ more. IsTrue more → frames.IsAt log.now walk.new) }
+    ensures spent { IfOk result (λ more. more ≡ false → frames.IsSpent log.now walk.old walk.new) }
+{
+    let steps = choices(alloc, log, &catalog.others, catalog.turns(), &walk.here)?;
+    try_each(walk, log, catalog, steps.as_slice())
+}
+
+/// Goes on at the last frame that has a step that wasn't tried and isn't lost at once; false if none has.
 fn back(walk: &mut Walk, alloc: Global, log: &Log, catalog: &Catalog) -> Result<bool, AllocError>
     requires ready { frames.IsReady log.now walk.old }
     requires catalog { IsCatalog log.now catalog.now }
@@ -247,22 +401,16 @@ fn back(walk: &mut Walk, alloc: Global, log: &Log, catalog: &Catalog) -> Result<
     ensures none { IfOk result (λ more. more ≡ false → Dead log.now (start log.now)) }
 {
     loop {
-        if let Some(step) = walk.stack.next() {
-            go_on(walk, log, catalog, step)?;
-            let event = walk.here.event();
-            let Some(at) = lost_at(walk, log, catalog, event) else {
-                return Ok(true);
-            };
-            walk.reach = walk.reach.max(at);
-            rewind(walk, log)?;
-        } else {
-            if !walk.stack.reopen() {
-                return Ok(false);
-            }
-            walk.reach = walk.reach.max(walk.here.event());
-            walk.memo.note(alloc, &walk.here);
-            rewind(walk, log)?;
+        if walk.stack.is_empty() {
+            return Ok(false);
         }
+        if try_here(walk, alloc, log, catalog)? {
+            return Ok(true);
+        }
+        walk.stack.reopen();
+        walk.reach = walk.reach.max(walk.here.event());
+        walk.memo.note(alloc, &walk.here);
+        rewind(walk, log)?;
     }
 }
 
@@ -301,7 +449,7 @@ pub(crate) fn advance(
         walk.reach = walk.reach.max(at);
         rewind(walk, log)?;
     } else {
-        keep(walk, alloc, log, catalog)?;
+        keep(walk)?;
     }
     back(walk, alloc, log, catalog)
 }

@@ -193,6 +193,15 @@ fn is_careless(log: &Log, op: &Op, told: Option<&Reply>) -> bool
     has_whole_words(log, op) && overlooks(log, op, told, op)
 }
 
+/// A request of a log, and whether it is careless.
+#[derive(Clone, Copy)]
+struct Request<'a> {
+    b: usize,
+    op: &'a Op,
+    told: Option<&'a Reply>,
+    careless: bool,
+}
+
 impl Words {
     /// No request is known.
     fn new(alloc: Global) -> Words
@@ -277,51 +286,50 @@ impl Words {
         Ok(())
     }
 
-    /// Takes request `b` at the word, bytes of which its operation names.
+    /// Takes the request at the word, bytes of which its operation names.
     fn add_at(
         &mut self,
         alloc: Global,
         log: &Log,
-        b: usize,
-        op: &Op,
-        told: Option<&Reply>,
-        careless: bool,
+        request: Request,
         word: u64,
     ) -> Result<(), AllocError>
-        requires rise { AllRise self.old b }
-        requires careless { IsTrue careless → IsCareless log.now.extent op.now (told_of told) }
+        requires rise { AllRise self.old request.b }
+        requires careless { IsTrue request.careless → IsCareless log.now.extent request.op.now (told_of request.told) }
         requires word { word < 262144 }
         ensures keeps { OnOk result (Keeps self.old self.new) }
-        ensures rise { OnOk result (AllRise self.new b) }
-        ensures own { OnOk result (IsKnownAt log.now.extent self.new b op.now (told_of told.entry) word) }
+        ensures rise { OnOk result (AllRise self.new request.b) }
+        ensures own { OnOk result (IsKnownAt log.now.extent self.new request.b request.entry.op.now (told_of request.entry.told) word) }
     {
+        let Request {
+            b,
+            op,
+            told,
+            careless,
+        } = request;
         self.add_name(alloc, word, b)?;
         self.add_need(alloc, word, needed_at(log, op, told, word), careless, b)?;
         self.add_left(alloc, word, left_at(log, op, told, word), b)?;
         Ok(())
     }
 
-    /// Takes request `b` at the words from `first` up to `end`.
+    /// Takes the request at the words from the first up to the other.
     fn add_words(
         &mut self,
         alloc: Global,
         log: &Log,
-        b: usize,
-        op: &Op,
-        told: Option<&Reply>,
-        careless: bool,
-        first: u64,
-        end: u64,
+        request: Request,
+        words: (u64, u64),
     ) -> Result<(), AllocError>
-        requires rise { AllRise self.old b }
-        requires careless { IsTrue careless → IsCareless log.now.extent op.now (told_of told) }
-        requires few { end ≤ 262144 }
+        requires rise { AllRise self.old request.b }
+        requires careless { IsTrue request.careless → IsCareless log.now.extent request.op.now (told_of request.told) }
+        requires few { words.1 ≤ 262144 }
         ensures keeps { OnOk result (Keeps self.old self.new) }
-        ensures rise { OnOk result (AllRise self.new b) }
-        ensures own { OnOk result ((w : ℕ) → first ≤ w → w < end → IsKnownAt log.now.extent self.new b op.now (told_of told.entry) w) }
+        ensures rise { OnOk result (AllRise self.new request.b) }
+        ensures own { OnOk result ((w : ℕ) → words.0 ≤ w → w < words.1 → IsKnownAt log.now.extent self.new request.b request.entry.op.now (told_of request.entry.told) w) }
     {
-        for word in first..end {
-            self.add_at(alloc, log, b, op, told, careless, word)?;
+        for word in words.0..words.1 {
+            self.add_at(alloc, log, request, word)?;
         }
         Ok(())
     }
@@ -344,9 +352,14 @@ impl Words {
             self.add_wide(b)?;
             return Ok(());
         }
-        let (first, end) = words_near(log, op);
-        let careless = is_careless(log, op, told);
-        self.add_words(alloc, log, b, op, told, careless, first, end)?;
+        let words = words_near(log, op);
+        let request = Request {
+            b,
+            op,
+            told,
+            careless: is_careless(log, op, told),
+        };
+        self.add_words(alloc, log, request, words)?;
         Ok(())
     }
 

@@ -1,8 +1,9 @@
-use Rattle.std.proofs.Common.{◌∙◌, List, [], ◌∷◌, ◌++◌, ap, sym, subst}
+use Rattle.std.proofs.Common.{◌∙◌, refl, List, [], ◌∷◌, ◌++◌, ap, sym, subst}
+use Rattle.log_runs.specs.Runs.{next}
 use Rattle.search_places.specs.declared.steps.Done.{Done}
 use Rattle.search_places.specs.StackView.{FrameView}
-use Rattle.search_run.specs.Frames.{PathFrom, Here}
-use Rattle.search_run.proofs.FrameLemmas.{taken}
+use Rattle.search_run.specs.Frames.{LeadsBy, PathFrom, Here}
+use Rattle.search_run.proofs.FrameLemmas.{taken, one_more}
 use Rattle.search_run.proofs.walk.go_on.Goals as goal
 
 pub returns-clause-at : goal.returns-clause-at
@@ -20,3 +21,15 @@ returns-clause-at c =
       place = c.in_ok-done.ensures.place;
       known = c.requires.step.known;
     }
+
+pub returns-clause-led : goal.returns-clause-led
+returns-clause-led c =
+    let log = c.args.log.now in
+    let s = c.args.walk.now.here.state in
+    let u = c.take.new.self.state in
+    let d = c.in_ok-done.done in
+    subst (λ (ds : List Done). LeadsBy log s ds u) (sym (c.in_ok-push-2.ensures.done ∙ ap (λ (ds : List Done). ds ++ d ∷ []) c.requires.step.none))
+    (one_more log s s u [] d refl c.in_ok-done.ensures.came)
+
+pub returns-clause-next : goal.returns-clause-next
+returns-clause-next c = sym (c.in_ok-done.ensures.came.led ∙ ap (next c.args.log.now c.args.walk.now.here.state) c.in_ok-done.ensures.step)

@@ -1,9 +1,10 @@
-use Rattle.std.proofs.Common.{List, [], ◌∙◌, sym, subst}
+use Rattle.std.proofs.Common.{◌≡◌, List, [], ◌∙◌, sym, subst}
 use Rattle.std.proofs.lemmas.List.{append-nil}
+use Rattle.log_runs.specs.Runs.{State}
 use Rattle.search_places.specs.declared.steps.Done.{Done}
 use Rattle.search_places.specs.StackView.{FrameView}
-use Rattle.search_run.specs.Frames.{PathFrom, Back}
-use Rattle.search_run.proofs.FrameLemmas.{came, rewound}
+use Rattle.search_run.specs.Frames.{LeadsBy, PathFrom, Back}
+use Rattle.search_run.proofs.FrameLemmas.{came, rewound, led_back}
 use Rattle.search_run.proofs.walk.rewind.Goals as goal
 
 pub take_back-requires-clause-came : goal.take_back-requires-clause-came
@@ -29,6 +30,9 @@ loop-done-preserved c =
         known = c.loop-done.invariant.back.known;
       };
       same = c.in-Some.ensures.frames ∙ c.loop-done.invariant.same;
+      led = λ s leads.
+          led_back log s walk.here.state c.take_back.new.self.state stack.done c.in-Some.done
+          (subst (λ (ds : List Done). LeadsBy log s ds walk.here.state) c.in-Some.ensures.done (c.loop-done.invariant.led s leads)) c.in_ok-take_back.ensures.state;
     }
 
 pub returns-clause-ready : goal.returns-clause-ready
@@ -43,3 +47,9 @@ returns-clause-ready c =
       place = c.loop-done.invariant.back.place;
       known = c.loop-done.invariant.back.known;
     }
+
+pub returns-clause-state : goal.returns-clause-state
+returns-clause-state c = λ s leads.
+    let there : LeadsBy c.args.log.now s [] c.loop-done.walk.here.state =
+    subst (λ (ds : List Done). LeadsBy c.args.log.now s ds c.loop-done.walk.here.state) c.in_default.ensures.none (c.loop-done.invariant.led s leads) in
+    there

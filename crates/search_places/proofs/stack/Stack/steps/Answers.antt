@@ -11,5 +11,5 @@ returns c =
     let s = c.self.inside in
     c.in_ok-add_steps.ensures
     ∙ ap (λ (xs : List Step). xs ++ steps_by s.trail) c.in_ok-steps.ensures.items
-    ∙ all_steps s.frames.items s.closed s.trail s.rests.items c.self.invariant
+    ∙ all_steps s.frames.items s.closed s.trail s.notes.items c.self.invariant
     ∙ ap (λ (v : StackView). steps_of v.frames ++ steps_by v.done) c.self.view_is
