@@ -7,19 +7,14 @@
 #![tactic(auto)]
 
 mod answering;
-mod causes;
-mod effects;
 mod granularity;
 mod input;
 pub mod laws;
 mod lines;
 mod options;
-mod piece_reasons;
-mod requests;
 mod search;
 mod stages;
 mod telling;
-mod wording;
 
 pub use answering::{LIMIT_STATUS, Outcome, answer_of};
 pub use options::SearchOptions;
