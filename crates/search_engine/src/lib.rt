@@ -3,7 +3,8 @@
 //! [`run_search`] reads the whole input, a log or a trace, and looks for a history. What it finds it
 //! writes as a trace, to which `check` says `ok`. It writes nothing before the answer is there.
 //! [`run_search_with_reasons`] also says for people why there is no history, or why the input can't be
-//! read. [`run_search_with`] looks for a history of pieces, too, of reads and writes that don't act as a whole.
+//! read. [`run_search_with`] looks for a history of pieces, too, of reads and writes that don't act as a whole, and
+//! tells how far it is.
 #![tactic(auto)]
 
 mod answering;
