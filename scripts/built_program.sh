@@ -126,6 +126,10 @@ wants "search --limit 1" 3 "$room/limit" "$room/nothing"
 printf '8 records\n1 of 1 choices\n' > "$room/stages"
 of_file "$room/hard" search --limit 1 --progress
 wants "search --progress" 3 "$room/limit" "$room/stages"
+echo "limit 2" > "$room/limit"
+printf '8 records\n1 of 2 choices\n2 of 2 choices\n' > "$room/stages"
+of_file "$room/hard" search --limit 2 --progress
+wants "search --progress while it goes on" 3 "$room/limit" "$room/stages"
 
 # A script goes on after a refusal where it is to, and shows its lines where it is to.
 sed 's/^submit/collect 1\nsubmit/' examples/first_script.txt > "$room/refused.txt"

@@ -24,7 +24,7 @@ complete -c pciex -n "__fish_seen_subcommand_from check" -l clocked -d 'Also tes
 complete -c pciex -n "__fish_seen_subcommand_from check" -l help -d 'Print help'
 complete -c pciex -n "__fish_seen_subcommand_from search" -l limit -x -d 'Number of choices to look at, 1 to 1000000000'
 complete -c pciex -n "__fish_seen_subcommand_from search" -l granularity -x -a '4 8 16 64 whole' -d 'Bytes of a read or a write that act at once, in naturally aligned pieces: 4, 8, 16, 64 or whole'
-complete -c pciex -n "__fish_seen_subcommand_from search" -l progress -d 'Print on standard error how many records were read and how many choices were looked at'
+complete -c pciex -n "__fish_seen_subcommand_from search" -l progress -d 'Print on standard error how many records were read, and after each hundredth of the limit how many choices were looked at'
 complete -c pciex -n "__fish_seen_subcommand_from search" -l help -d 'Print help'
 complete -c pciex -n "__fish_seen_subcommand_from draw" -l from -x -d 'First point to draw, a length of the history'
 complete -c pciex -n "__fish_seen_subcommand_from draw" -l to -x -d 'Last point to draw, at least --from'

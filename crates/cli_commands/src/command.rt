@@ -154,9 +154,12 @@ fn begin<R: Read, W: Write, E: Write>(
             granularity,
             is_told,
         } => {
-            let options = SearchOptions { limit, granularity };
-            let stages = stages_of(is_told, is_terminal);
-            let run = run_search_with(alloc, options, stages, reader, writer, errors);
+            let options = SearchOptions {
+                limit,
+                granularity,
+                stages: stages_of(is_told, is_terminal),
+            };
+            let run = run_search_with(alloc, options, reader, writer, errors);
             Outcome::Ended(ended(run, errors))
         }
         Request::Draw { from, to } => {

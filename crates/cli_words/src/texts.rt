@@ -192,8 +192,9 @@ pub(crate) static GRANULARITY: &str =
 16, 64 or whole; the history that is printed is one of pieces [default: whole]";
 
 pub(crate) static STAGES: &str =
-    "Print on standard error how many records were read and how many choices were
-looked at; on by default for 10000 records or more if standard error is a terminal";
+    "Print on standard error how many records were read, and after each hundredth of
+the limit how many choices were looked at; on by default for 10000 records or more
+if standard error is a terminal";
 
 pub(crate) static FROM: &str = "First point to draw, a length of the history [default: 0]";
 

@@ -12,11 +12,11 @@ ghost use Rattle.search_engine.specs.Search.{IsAnswerTo, OutSearch};
 use crate::granularity::{Pieces, sought_in};
 use crate::lines::{fault_text, limit_text, none_text};
 use crate::options::SearchOptions;
-use crate::stages::{Stages, tell_choices, tell_records};
+use crate::stages::Progress;
 use history_check::Trace;
 use log_text::read_seen_with_cause;
 use record_text::{Misread, ReadFaultKind};
-use search_history::{Sought, search};
+use search_history::{Sought, search_watched};
 use seq_memory::Entry;
 use std::alloc::{AllocError, Global};
 use std::io::{Write, sink};
@@ -56,17 +56,15 @@ pub struct Outcome {
 pub(crate) fn sought<E: Write>(
     alloc: Global,
     mut trace: Trace,
-    limit: u64,
-    stages: Stages,
+    options: SearchOptions,
     errors: &mut E,
 ) -> Result<Finding, AllocError>
     ensures { IfOk result (IsFindingOf Granularity.Whole trace) }
 {
     let records = trace.records.len();
-    let shows = stages.are_shown(records);
-    tell_records(shows, records, errors);
-    let (sought, choices) = search(alloc, &mut trace, limit)?;
-    tell_choices(shows, choices, limit, errors);
+    let mut progress = Progress::new(options.stages, records, options.limit, errors);
+    let (sought, choices) = search_watched(alloc, &mut trace, options.limit, &mut progress)?;
+    progress.end(choices);
     match sought {
         Sought::Found(history) => Ok(Finding::Found { trace, history }),
         Sought::None { prefix } => Ok(Finding::None {
@@ -89,13 +87,12 @@ pub(crate) fn find<E: Write>(
     alloc: Global,
     text: &[u8],
     options: SearchOptions,
-    stages: Stages,
     errors: &mut E,
 ) -> Result<Finding, AllocError>
     ensures { IfOk result (IsFinding options.granularity (seen_of text.now)) }
 {
     match read_seen_with_cause(alloc, text) {
-        Ok(trace) => sought_in(alloc, trace, options, stages, errors),
+        Ok(trace) => sought_in(alloc, trace, options, errors),
         Err(misread) if is_memory(misread.fault.kind) => Err(AllocError),
         Err(misread) => Ok(Finding::Fault(misread)),
     }
@@ -148,6 +145,6 @@ pub fn answer_of(alloc: Global, text: &[u8], limit: u64) -> Result<Outcome, Allo
     ensures { IfOk result (λ o. OutSearch limit text.now o.text.items o.status) }
 {
     let options = SearchOptions::of_whole_requests(limit);
-    let finding = find(alloc, text, options, Stages::Hidden, &mut sink())?;
+    let finding = find(alloc, text, options, &mut sink())?;
     outcome_of(alloc, &finding, limit)
 }

@@ -6,7 +6,6 @@ ghost use Rattle.search_engine.specs.Findings.{IsFindingOf};
 
 use crate::answering::{Finding, sought};
 use crate::options::SearchOptions;
-use crate::stages::Stages;
 use history_check::Trace;
 use log_pieces::{Granularity, ends_of, in_pieces, records_of};
 use std::alloc::{AllocError, Global};
@@ -61,15 +60,14 @@ pub(crate) fn sought_in<E: Write>(
     alloc: Global,
     trace: Trace,
     options: SearchOptions,
-    stages: Stages,
     errors: &mut E,
 ) -> Result<Finding, AllocError>
     ensures { IfOk result (IsFindingOf options.granularity trace) }
 {
     match in_pieces(alloc, &trace, options.granularity)? {
-        None => sought(alloc, trace, options.limit, stages, errors),
+        None => sought(alloc, trace, options, errors),
         Some(pieces) => {
-            let finding = sought(alloc, pieces, options.limit, stages, errors)?;
+            let finding = sought(alloc, pieces, options, errors)?;
             of_records(alloc, trace, options.granularity, finding)
         }
     }

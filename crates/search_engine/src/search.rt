@@ -5,7 +5,6 @@ ghost use Rattle.search_engine.specs.Search.{IsWhole, IsWholeWith, IsPart, IsPar
 use crate::answering::{Finding, Outcome, find, outcome_of};
 use crate::input::read_rest;
 use crate::options::SearchOptions;
-use crate::stages::Stages;
 use crate::telling::tell;
 use line_loop::{EngineFault, write_out};
 use std::alloc::{AllocError, Global};
@@ -32,12 +31,11 @@ fn answered<E: Write>(
     alloc: Global,
     text: Vec<u8>,
     options: SearchOptions,
-    stages: Stages,
     errors: &mut E,
 ) -> Result<Answer, AllocError>
     ensures { IfOk result (λ a. OutSearchWith options.granularity options.limit text.items a.outcome.text.items a.outcome.status) }
 {
-    let finding = find(alloc, &text, options, stages, errors)?;
+    let finding = find(alloc, &text, options, errors)?;
     let outcome = outcome_of(alloc, &finding, options.limit)?;
     let text = kept(text, &finding);
     Ok(Answer {
@@ -56,11 +54,11 @@ fn tell_reason<E: Write>(alloc: Global, answer: &Answer, limit: u64, errors: &mu
 
 /// Does what [`run_search_with_reasons`] does, for a history of pieces: each read and write acts in naturally aligned
 /// pieces of the size that is asked for. A trace that is written is of pieces; places and reasons name the records and
-/// lines of what was read.
+/// lines of what was read. Before the answer it tells on `errors` how far the search is, if that is asked for: how many
+/// records were read, then after each hundredth of the limit, and at the end, how many choices were looked at.
 pub fn run_search_with<R: Read, W: Write, E: Write>(
     alloc: Global,
     options: SearchOptions,
-    stages: Stages,
     reader: &mut R,
     writer: &mut W,
     errors: &mut E,
@@ -69,18 +67,17 @@ pub fn run_search_with<R: Read, W: Write, E: Write>(
     ensures err { OnErr result (IsPartWith options.granularity options.limit (R.remaining reader.old) (R.remaining reader.new) (W.contents writer.old) (W.contents writer.new)) }
 {
     let text = read_rest(alloc, reader)?;
-    let answer = answered(alloc, text, options, stages, errors)?;
+    let answer = answered(alloc, text, options, errors)?;
     write_out(writer, &answer.outcome.text)?;
     tell_reason(alloc, &answer, options.limit, errors);
     Ok(answer.outcome.status)
 }
 
-/// Does what [`run_search`] does, and tells on `errors` how far it is, where that is shown. Once the answer is
-/// written and flushed, it tells there why there is no history, or why the input can't be read.
+/// Does what [`run_search`] does. Once the answer is written and flushed, it tells on `errors` why there is no
+/// history, or why the input can't be read.
 pub fn run_search_with_reasons<R: Read, W: Write, E: Write>(
     alloc: Global,
     limit: u64,
-    stages: Stages,
     reader: &mut R,
     writer: &mut W,
     errors: &mut E,
@@ -89,7 +86,7 @@ pub fn run_search_with_reasons<R: Read, W: Write, E: Write>(
     ensures err { OnErr result (IsPart limit (R.remaining reader.old) (R.remaining reader.new) (W.contents writer.old) (W.contents writer.new)) }
 {
     let options = SearchOptions::of_whole_requests(limit);
-    run_search_with(alloc, options, stages, reader, writer, errors)
+    run_search_with(alloc, options, reader, writer, errors)
 }
 
 /// Reads a log, or a trace whose n's and history say nothing, and writes the answer: a trace with a history
@@ -106,5 +103,5 @@ pub fn run_search<R: Read, W: Write>(
     ensures ok { IfOk result (IsWhole limit (R.remaining reader.old) (R.remaining reader.new) (W.contents writer.old) (W.contents writer.new)) }
     ensures err { OnErr result (IsPart limit (R.remaining reader.old) (R.remaining reader.new) (W.contents writer.old) (W.contents writer.new)) }
 {
-    run_search_with_reasons(alloc, limit, Stages::Hidden, reader, writer, &mut sink())
+    run_search_with_reasons(alloc, limit, reader, writer, &mut sink())
 }

@@ -6,8 +6,15 @@ ghost use Rattle.log_cells.specs.Places.{ArePlaces};
 use log_cells::{Cells, part};
 use log_runs::{Log, Step};
 use search_choices::{NO_PART, Turn};
-use search_run::{Bounds, Exploration, Outcome, Way, explore};
+use search_run::{Bounds, Exploration, Outcome, Watch, Way, explore_watched};
 use std::alloc::{AllocError, Global};
+
+/// A log, and the cells that it may be cut by.
+#[derive(Clone, Copy)]
+pub(crate) struct Field<'a> {
+    pub(crate) log: &'a Log<'a>,
+    pub(crate) cells: &'a Cells,
+}
 
 /// What was found out of the part of a log on a range of bytes.
 #[derive(Drop)]
@@ -20,17 +27,18 @@ pub(crate) struct Explored {
 
 /// Looks for a run through the part of the log on the bytes from `range.0` up to `range.1`, within the
 /// bounds.
-pub(crate) fn explored_on(
+pub(crate) fn explored_on<W: Watch>(
     alloc: Global,
-    log: &Log<'_>,
-    cells: &Cells,
+    field: Field<'_>,
     range: (u64, u64),
     bounds: Bounds,
+    watch: &mut W,
 ) -> Result<Explored, AllocError>
-    requires places { ArePlaces log.now.events cells.now }
-    ensures dead { IfOk result (λ r. r.found.outcome ≡ Outcome.Dead → Dead log.now (start log.now)) }
+    requires places { ArePlaces field.log.now.events field.cells.now }
+    ensures dead { IfOk result (λ r. r.found.outcome ≡ Outcome.Dead → Dead field.entry.log.now (start field.entry.log.now)) }
     ensures states { IfOk result (λ r. r.found.states ≤ bounds.choices) }
 {
+    let Field { log, cells } = field;
     let Some(part) = part(alloc, log, cells, range.0, range.1)? else {
         let found = Exploration {
             outcome: Outcome::Limit,
@@ -43,7 +51,7 @@ pub(crate) fn explored_on(
             names: Vec::new(alloc),
         });
     };
-    let mut found = explore(alloc, &part.log, Way::Part, bounds)?;
+    let mut found = explore_watched(alloc, &part.log, Way::Part, bounds, watch)?;
     found.reach = part.names.get(found.reach).copied().unwrap_or(log.len());
     Ok(Explored {
         found,
@@ -130,11 +138,38 @@ impl Ranges<'_> {
     }
 }
 
+/// Ranges of cells of a log that are looked at in it, or in a part of it.
+#[derive(Clone, Copy)]
+struct Task<'a> {
+    field: Field<'a>,
+    ranges: Ranges<'a>,
+    /// If it is a part, the places in the log of its events.
+    places: Option<&'a [usize]>,
+}
+
 /// What was found out of ranges, and the choices and the work that are left.
 #[derive(Drop)]
 struct Tried {
     dead: Option<DeadRange>,
     left: Bounds,
+}
+
+impl<'a> Field<'a> {
+    /// Ranges of its own cells, from one on and before another.
+    fn task(self, first: usize, end: usize) -> Task<'a>
+        ensures log { result.field.log.now ≡ self.entry.log.now }
+        ensures cells { result.field.cells.now ≡ self.entry.cells.now }
+    {
+        Task {
+            field: self,
+            ranges: Ranges {
+                cells: self.cells,
+                first,
+                end,
+            },
+            places: None,
+        }
+    }
 }
 
 fn so_far(dead: Option<DeadRange>, choices: u64, work: u64) -> Tried
@@ -149,19 +184,22 @@ fn so_far(dead: Option<DeadRange>, choices: u64, work: u64) -> Tried
 
 /// Looks for one of the ranges on which the log's part has no run, so that the log has none. Looks at each
 /// range within the bounds, at no more than a quarter of what is left of the choices.
-fn each_of(
+fn each_of<W: Watch>(
     alloc: Global,
-    log: &Log<'_>,
-    cells: &Cells,
-    ranges: Ranges<'_>,
-    places: Option<&[usize]>,
+    task: Task<'_>,
     turns: &mut Vec<Turn>,
     bounds: Bounds,
+    watch: &mut W,
 ) -> Result<Tried, AllocError>
-    requires places { ArePlaces log.now.events cells.now }
-    ensures dead { IfOk result (λ r. IsSome r.dead → Dead log.now (start log.now)) }
+    requires places { ArePlaces task.field.log.now.events task.field.cells.now }
+    ensures dead { IfOk result (λ r. IsSome r.dead → Dead task.entry.field.log.now (start task.entry.field.log.now)) }
     ensures states { IfOk result (λ r. r.left.choices ≤ bounds.choices) }
 {
+    let Task {
+        field,
+        ranges,
+        places,
+    } = task;
     let mut left = bounds.choices;
     let mut work = bounds.work;
     for number in ranges.first..ranges.end {
@@ -173,7 +211,7 @@ fn each_of(
             choices: left / 4,
             work,
         };
-        let Explored { found, names } = explored_on(alloc, log, cells, range, each)?;
+        let Explored { found, names } = explored_on(alloc, field, range, each, watch)?;
         left -= found.states;
         work = found.work;
         match found.outcome {
@@ -189,34 +227,34 @@ fn each_of(
 }
 
 /// [`each_of`], in the part of the log on all of the ranges.
-fn each_within(
+fn each_within<W: Watch>(
     alloc: Global,
-    log: &Log<'_>,
-    cells: &Cells,
-    ranges: Ranges<'_>,
+    task: Task<'_>,
     turns: &mut Vec<Turn>,
     bounds: Bounds,
+    watch: &mut W,
 ) -> Result<Tried, AllocError>
-    requires places { ArePlaces log.now.events cells.now }
-    ensures dead { IfOk result (λ r. IsSome r.dead → Dead log.now (start log.now)) }
+    requires places { ArePlaces task.field.log.now.events task.field.cells.now }
+    ensures dead { IfOk result (λ r. IsSome r.dead → Dead task.entry.field.log.now (start task.entry.field.log.now)) }
     ensures states { IfOk result (λ r. r.left.choices ≤ bounds.choices) }
 {
-    let Some((low, high)) = ranges.whole() else {
+    let Field { log, cells } = task.field;
+    let Some((low, high)) = task.ranges.whole() else {
         return Ok(so_far(None, bounds.choices, bounds.work));
     };
     let Some(group) = part(alloc, log, cells, low, high)? else {
         return Ok(so_far(None, bounds.choices, bounds.work));
     };
     let inner = Cells::of(alloc, &group.log)?;
-    each_of(
-        alloc,
-        &group.log,
-        &inner,
-        ranges,
-        Some(&group.names),
-        turns,
-        bounds,
-    )
+    let within = Task {
+        field: Field {
+            log: &group.log,
+            cells: &inner,
+        },
+        ranges: task.ranges,
+        places: Some(&group.names),
+    };
+    each_of(alloc, within, turns, bounds, watch)
 }
 
 /// How many ranges a part of a log has at least that is found by way of a part on several.
@@ -231,25 +269,21 @@ fn group_of(count: usize) -> usize {
 }
 
 /// [`each_of`], all ranges of the log. If they are many, they are looked for by groups.
-fn each_part(
+fn each_part<W: Watch>(
     alloc: Global,
-    log: &Log<'_>,
-    cells: &Cells,
+    field: Field<'_>,
     turns: &mut Vec<Turn>,
     bounds: Bounds,
+    watch: &mut W,
 ) -> Result<Tried, AllocError>
-    requires places { ArePlaces log.now.events cells.now }
-    ensures dead { IfOk result (λ r. IsSome r.dead → Dead log.now (start log.now)) }
+    requires places { ArePlaces field.log.now.events field.cells.now }
+    ensures dead { IfOk result (λ r. IsSome r.dead → Dead field.entry.log.now (start field.entry.log.now)) }
     ensures states { IfOk result (λ r. r.left.choices ≤ bounds.choices) }
 {
-    let count = cells.count();
+    let count = field.cells.count();
     if count < MANY {
-        let ranges = Ranges {
-            cells,
-            first: 0,
-            end: count,
-        };
-        return each_of(alloc, log, cells, ranges, None, turns, bounds);
+        let all = field.task(0, count);
+        return each_of(alloc, all, turns, bounds, watch);
     }
     let size = group_of(count);
     let mut left = bounds;
@@ -258,12 +292,8 @@ fn each_part(
         if first >= count {
             break;
         }
-        let ranges = Ranges {
-            cells,
-            first,
-            end: first.saturating_add(size).min(count),
-        };
-        let found = each_within(alloc, log, cells, ranges, turns, left)?;
+        let task = field.task(first, first.saturating_add(size).min(count));
+        let found = each_within(alloc, task, turns, left, watch)?;
         left = found.left;
         if found.dead.is_some() {
             return Ok(found);
@@ -273,7 +303,12 @@ fn each_part(
 }
 
 /// Looks for a range of cells on which the log's part has no run, so that the log has none, within the bounds.
-pub(crate) fn parts_of(alloc: Global, log: &Log<'_>, bounds: Bounds) -> Result<Parts, AllocError>
+pub(crate) fn parts_of<W: Watch>(
+    alloc: Global,
+    log: &Log<'_>,
+    bounds: Bounds,
+    watch: &mut W,
+) -> Result<Parts, AllocError>
     ensures dead { IfOk result (λ r. IsSome r.dead → Dead log.now (start log.now)) }
     ensures states { IfOk result (λ r. r.states ≤ bounds.choices) }
 {
@@ -287,7 +322,8 @@ pub(crate) fn parts_of(alloc: Global, log: &Log<'_>, bounds: Bounds) -> Result<P
         });
     }
     let mut turns = vec![in alloc; NO_TURN; log.len()]?;
-    let Tried { dead, left } = each_part(alloc, log, &cells, &mut turns, bounds)?;
+    let field = Field { log, cells: &cells };
+    let Tried { dead, left } = each_part(alloc, field, &mut turns, bounds, watch)?;
     Ok(Parts {
         dead,
         turns,

@@ -3,7 +3,7 @@ ghost use Rattle.std.specs.Prelude.{◌≡◌, ◌≤◌, true, IfOk, length};
 ghost use Rattle.log_runs.specs.Runs.{Dead, start};
 ghost use Rattle.log_runs.specs.Explainable.{IsExplainable, prefix};
 
-use crate::alone::{explored_on, parts_of};
+use crate::alone::{Field, explored_on, parts_of};
 use crate::copies;
 use crate::moments::confirmed;
 use history_check::Trace;
@@ -12,8 +12,31 @@ use log_events::{Partners, form_of, log_of};
 use log_runs::Log;
 use log_runs::laws::{explainable_has_a_run, explainable_is_well_formed, prefix_is_explainable};
 use search_rules::first_unanswerable;
-use search_run::{Bounds, Outcome, Way, explore};
+use search_run::{Bounds, Outcome, Unwatched, Watch, Way, explore_watched};
 use std::alloc::{AllocError, Global};
+
+/// The first `count` records of a trace.
+#[derive(Clone, Copy)]
+pub(crate) struct Records<'a> {
+    pub(crate) trace: &'a Trace,
+    /// Which of them may belong together.
+    pub(crate) partners: &'a Partners,
+    pub(crate) count: usize,
+}
+
+impl<'a> Records<'a> {
+    /// The first so many of the trace.
+    pub(crate) fn first(self, count: usize) -> Records<'a>
+        ensures trace { result.trace.now ≡ self.entry.trace.now }
+        ensures count { result.count ≡ count }
+    {
+        Records {
+            trace: self.trace,
+            partners: self.partners,
+            count,
+        }
+    }
+}
 
 /// What was found out of records.
 #[derive(Drop)]
@@ -48,7 +71,12 @@ fn dead(states: u64, range: Option<(u64, u64)>, reach: usize) -> Judgment
 
 /// Looks for a run through the log, first through its part on each cell of the memory, with a tenth of
 /// the choices. The runs through its parts are a guide to the whole.
-fn explored_parts(alloc: Global, log: &Log<'_>, bounds: Bounds) -> Result<Judgment, AllocError>
+fn explored_parts<W: Watch>(
+    alloc: Global,
+    log: &Log<'_>,
+    bounds: Bounds,
+    watch: &mut W,
+) -> Result<Judgment, AllocError>
     ensures dead { IfOk result (λ r. r.outcome ≡ Outcome.Dead → Dead log.now (start log.now)) }
     ensures states { IfOk result (λ r. r.states ≤ bounds.choices) }
     ensures limit { IfOk result (λ r. r.outcome ≡ Outcome.Limit → r.states ≡ bounds.choices) }
@@ -57,7 +85,7 @@ fn explored_parts(alloc: Global, log: &Log<'_>, bounds: Bounds) -> Result<Judgme
         choices: bounds.choices / 10,
         work: bounds.work,
     };
-    let parts = parts_of(alloc, log, few)?;
+    let parts = parts_of(alloc, log, few, watch)?;
     if let Some(by) = parts.dead {
         return Ok(dead(parts.states, Some(by.range), by.reach));
     }
@@ -65,7 +93,7 @@ fn explored_parts(alloc: Global, log: &Log<'_>, bounds: Bounds) -> Result<Judgme
         choices: bounds.choices - parts.states,
         work: parts.work,
     };
-    let found = explore(alloc, log, Way::Whole(&parts.turns), rest)?;
+    let found = explore_watched(alloc, log, Way::Whole(&parts.turns), rest, watch)?;
     let clue = Clue {
         range: None,
         reach: found.reach,
@@ -78,34 +106,37 @@ fn explored_parts(alloc: Global, log: &Log<'_>, bounds: Bounds) -> Result<Judgme
 }
 
 /// Looks for a run through the log, within the bounds. An answer that no memory gives ends it at once.
-fn explored(alloc: Global, log: &Log<'_>, bounds: Bounds) -> Result<Judgment, AllocError>
+fn explored<W: Watch>(
+    alloc: Global,
+    log: &Log<'_>,
+    bounds: Bounds,
+    watch: &mut W,
+) -> Result<Judgment, AllocError>
     ensures dead { IfOk result (λ r. r.outcome ≡ Outcome.Dead → Dead log.now (start log.now)) }
     ensures states { IfOk result (λ r. r.states ≤ bounds.choices) }
     ensures limit { IfOk result (λ r. r.outcome ≡ Outcome.Limit → r.states ≡ bounds.choices) }
 {
     match first_unanswerable(log) {
         Some(at) => Ok(dead(0, None, at)),
-        None => explored_parts(alloc, log, bounds),
+        None => explored_parts(alloc, log, bounds, watch),
     }
 }
 
-/// Looks for a run through the first `count` records, within the bounds. `partners` says which records may
-/// belong together.
-pub(crate) fn judged(
+/// Looks for a run through the records, within the bounds.
+pub(crate) fn judged<W: Watch>(
     alloc: Global,
-    trace: &Trace,
-    partners: &Partners,
-    count: usize,
+    records: Records<'_>,
     bounds: Bounds,
+    watch: &mut W,
 ) -> Result<Judgment, AllocError>
-    requires { count ≤ length trace.now.records }
-    ensures none { IfOk result (λ r. r.outcome ≡ Outcome.Dead → IsExplainable (prefix count trace.now) → ⊥) }
+    requires { records.count ≤ length records.trace.now.records }
+    ensures none { IfOk result (λ r. r.outcome ≡ Outcome.Dead → IsExplainable (prefix records.entry.count records.entry.trace.now) → ⊥) }
     ensures states { IfOk result (λ r. r.states ≤ bounds.choices) }
     ensures limit { IfOk result (λ r. r.outcome ≡ Outcome.Limit → r.states ≡ bounds.choices) }
 {
     explainable_has_a_run();
-    let log = log_of(alloc, trace, partners, count)?;
-    let found = explored(alloc, &log, bounds)?;
+    let log = log_of(alloc, records.trace, records.partners, records.count)?;
+    let found = explored(alloc, &log, bounds, watch)?;
     Ok(found)
 }
 
@@ -119,48 +150,45 @@ fn explored_by(
     ensures { IfOk result (λ o. o ≡ Outcome.Dead → Dead log.now (start log.now)) }
 {
     let Some(range) = range else {
-        let found = explored(alloc, log, bounds)?;
+        let found = explored(alloc, log, bounds, &mut Unwatched)?;
         return Ok(found.outcome);
     };
     let cells = Cells::of(alloc, log)?;
-    let explored = explored_on(alloc, log, &cells, range, bounds)?;
+    let field = Field { log, cells: &cells };
+    let explored = explored_on(alloc, field, range, bounds, &mut Unwatched)?;
     Ok(explored.found.outcome)
 }
 
-/// Looks for a run through the first `count` records, on the bytes of a range alone, if there is one.
+/// Looks for a run through the records, on the bytes of a range alone, if there is one.
 pub(crate) fn judged_on(
     alloc: Global,
-    trace: &Trace,
-    partners: &Partners,
-    count: usize,
+    records: Records<'_>,
     range: Option<(u64, u64)>,
     bounds: Bounds,
 ) -> Result<Outcome, AllocError>
-    requires { count ≤ length trace.now.records }
-    ensures { IfOk result (λ o. o ≡ Outcome.Dead → IsExplainable (prefix count trace.now) → ⊥) }
+    requires { records.count ≤ length records.trace.now.records }
+    ensures { IfOk result (λ o. o ≡ Outcome.Dead → IsExplainable (prefix records.entry.count records.entry.trace.now) → ⊥) }
 {
     explainable_has_a_run();
-    let log = log_of(alloc, trace, partners, count)?;
+    let log = log_of(alloc, records.trace, records.partners, records.count)?;
     let found = explored_by(alloc, &log, range, bounds)?;
     Ok(found)
 }
 
-/// A history explains the first `count` records; false where it isn't found.
+/// A history explains the records; false where it isn't found.
 pub(crate) fn is_explainable(
     alloc: Global,
-    trace: &Trace,
-    partners: &Partners,
-    count: usize,
+    records: Records<'_>,
     bounds: Bounds,
 ) -> Result<bool, AllocError>
-    requires { count ≤ length trace.now.records }
-    ensures { IfOk result (λ yes. yes ≡ true → IsExplainable (prefix count trace.now)) }
+    requires { records.count ≤ length records.trace.now.records }
+    ensures { IfOk result (λ yes. yes ≡ true → IsExplainable (prefix records.entry.count records.entry.trace.now)) }
 {
-    let judgment = judged(alloc, trace, partners, count, bounds)?;
+    let judgment = judged(alloc, records, bounds, &mut Unwatched)?;
     let Outcome::Run(steps) = judgment.outcome else {
         return Ok(false);
     };
-    let mut part = copies::prefix(alloc, trace, count)?;
+    let mut part = copies::prefix(alloc, records.trace, records.count)?;
     let history = confirmed(alloc, &mut part, steps)?;
     Ok(history.is_some())
 }
@@ -181,7 +209,11 @@ pub(crate) fn is_unexplained(
     if form.flaw.is_some() {
         return Ok(true);
     }
-    let count = trace.records.len();
-    let outcome = judged_on(alloc, trace, &form.partners, count, range, bounds)?;
+    let records = Records {
+        trace,
+        partners: &form.partners,
+        count: trace.records.len(),
+    };
+    let outcome = judged_on(alloc, records, range, bounds)?;
     Ok(matches!(outcome, Outcome::Dead))
 }

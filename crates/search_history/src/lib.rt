@@ -17,6 +17,7 @@ mod searching;
 mod shortest;
 mod thinning;
 
-pub use searching::{Sought, search};
+pub use search_run::{Unwatched, Watch};
+pub use searching::{Sought, search, search_watched};
 pub use shortest::explained_before;
 pub use thinning::contradiction;

@@ -5,14 +5,14 @@ ghost use Rattle.log_runs.specs.Explainable.{SeenAlike};
 ghost use Rattle.search_history.specs.Prefixes.{IsUnexplained};
 ghost use Rattle.search_history.specs.Answers.{IsFound, IsNone};
 
-use crate::judging::{Judgment, judged};
+use crate::judging::{Judgment, Records, judged};
 use crate::moments::confirmed;
 use crate::shortest::shortened;
 use history_check::Trace;
-use log_events::{Partners, form_of};
+use log_events::form_of;
 use log_runs::Step;
 use log_runs::laws::{explainable_is_well_formed, prefix_is_explainable};
-use search_run::{Bounds, Outcome};
+use search_run::{Bounds, Outcome, Unwatched, Watch};
 use seq_memory::Entry;
 use std::alloc::{AllocError, Global};
 
@@ -50,16 +50,15 @@ enum Unchecked {
     Limit,
 }
 
-/// Looks for a run through the first `count` records, whose form is right.
-fn well_formed(
+/// Looks for a run through the records, whose form is right.
+fn well_formed<W: Watch>(
     alloc: Global,
-    trace: &Trace,
-    partners: &Partners,
-    count: usize,
+    records: Records<'_>,
     limit: u64,
+    watch: &mut W,
 ) -> Result<(Unchecked, u64), AllocError>
-    requires { count ≤ length trace.now.records }
-    ensures none { IfOk result (λ r. (prefix : ℕ) → r.0 ≡ Unchecked.None prefix → IsUnexplained trace.now prefix) }
+    requires { records.count ≤ length records.trace.now.records }
+    ensures none { IfOk result (λ r. (prefix : ℕ) → r.0 ≡ Unchecked.None prefix → IsUnexplained records.entry.trace.now prefix) }
     ensures states { IfOk result (λ r. r.1 ≤ limit) }
 {
     let bounds = Bounds {
@@ -71,52 +70,60 @@ fn well_formed(
         states,
         clue,
         ..
-    } = judged(alloc, trace, partners, count, bounds)?;
+    } = judged(alloc, records, bounds, watch)?;
     match outcome {
         Outcome::Run(steps) => Ok((Unchecked::Run(steps), states)),
         Outcome::Dead => {
-            let prefix = shortened(alloc, trace, partners, count, clue, limit)?;
+            let prefix = shortened(alloc, records, clue, limit)?;
             Ok((Unchecked::None(prefix), states))
         }
         Outcome::Limit => Ok((Unchecked::Limit, limit)),
     }
 }
 
-/// The record at that place has a wrong form, so the records up to it have no history; those before it may
-/// have none either.
-fn misformed(
+/// The record behind these has a wrong form, so with it they have no history; without it they may have none
+/// either.
+fn misformed<W: Watch>(
     alloc: Global,
-    trace: &Trace,
-    partners: &Partners,
-    flaw: usize,
+    records: Records<'_>,
     limit: u64,
+    watch: &mut W,
 ) -> Result<(usize, u64), AllocError>
-    requires { MisformedAt trace.now.records flaw }
-    ensures none { IfOk result (λ r. IsUnexplained trace.now r.0) }
+    requires { MisformedAt records.trace.now.records records.count }
+    ensures none { IfOk result (λ r. IsUnexplained records.entry.trace.now r.0) }
     ensures states { IfOk result (λ r. r.1 ≤ limit) }
 {
     explainable_is_well_formed();
-    let (before, states) = well_formed(alloc, trace, partners, flaw, limit)?;
+    let (before, states) = well_formed(alloc, records, limit, watch)?;
     if let Unchecked::None(prefix) = before {
         return Ok((prefix, states));
     }
-    Ok((up_to(trace, flaw), states))
+    Ok((up_to(records.trace, records.count), states))
 }
 
 /// Looks for a run through a log. What it needed of memory is free again, but for the steps.
-fn searched(alloc: Global, trace: &Trace, limit: u64) -> Result<(Unchecked, u64), AllocError>
+fn searched<W: Watch>(
+    alloc: Global,
+    trace: &Trace,
+    limit: u64,
+    watch: &mut W,
+) -> Result<(Unchecked, u64), AllocError>
     ensures none { IfOk result (λ r. (prefix : ℕ) → r.0 ≡ Unchecked.None prefix → IsUnexplained trace.now prefix) }
     ensures states { IfOk result (λ r. r.1 ≤ limit) }
 {
     let form = form_of(alloc, &trace.records)?;
+    let records = Records {
+        trace,
+        partners: &form.partners,
+        count: trace.records.len(),
+    };
     match form.flaw {
         Some(flaw) => {
-            let (prefix, states) = misformed(alloc, trace, &form.partners, flaw, limit)?;
+            let (prefix, states) = misformed(alloc, records.first(flaw), limit, watch)?;
             Ok((Unchecked::None(prefix), states))
         }
         None => {
-            let count = trace.records.len();
-            let found = well_formed(alloc, trace, &form.partners, count, limit)?;
+            let found = well_formed(alloc, records, limit, watch)?;
             Ok(found)
         }
     }
@@ -124,11 +131,16 @@ fn searched(alloc: Global, trace: &Trace, limit: u64) -> Result<(Unchecked, u64)
 
 /// Looks for a history that explains the log: what the trace's requesters submitted and were
 /// answered, in the order of its records, whatever its n's are. Looks at no more than `limit`
-/// choices; the second number is how many there were. The searches for a shorter prefix have a
-/// limit of their own and aren't counted.
+/// choices, each of which `watch` sees; the second number is how many there were. The searches for a
+/// shorter prefix have a limit of their own and aren't counted or seen.
 ///
 /// Only n's of the trace change. Fails where memory can't be allocated; nothing is known then.
-pub fn search(alloc: Global, trace: &mut Trace, limit: u64) -> Result<(Sought, u64), AllocError>
+pub fn search_watched<W: Watch>(
+    alloc: Global,
+    trace: &mut Trace,
+    limit: u64,
+    watch: &mut W,
+) -> Result<(Sought, u64), AllocError>
     ensures alike { SeenAlike trace.old trace.new }
     ensures found { IfOk result (λ r. IsFound trace.new r.0) }
     ensures none { IfOk result (λ r. IsNone trace.old r.0) }
@@ -136,7 +148,7 @@ pub fn search(alloc: Global, trace: &mut Trace, limit: u64) -> Result<(Sought, u
     ensures states { IfOk result (λ r. r.1 ≤ limit) }
 {
     prefix_is_explainable();
-    let (found, states) = searched(alloc, trace, limit)?;
+    let (found, states) = searched(alloc, trace, limit, watch)?;
     match found {
         Unchecked::Run(steps) => match confirmed(alloc, trace, steps)? {
             Some(history) => Ok((Sought::Found(history), states)),
@@ -145,4 +157,15 @@ pub fn search(alloc: Global, trace: &mut Trace, limit: u64) -> Result<(Sought, u
         Unchecked::None(prefix) => Ok((Sought::None { prefix }, states)),
         Unchecked::Limit => Ok((Sought::Limit, limit)),
     }
+}
+
+/// [`search_watched`], which nobody sees.
+pub fn search(alloc: Global, trace: &mut Trace, limit: u64) -> Result<(Sought, u64), AllocError>
+    ensures alike { SeenAlike trace.old trace.new }
+    ensures found { IfOk result (λ r. IsFound trace.new r.0) }
+    ensures none { IfOk result (λ r. IsNone trace.old r.0) }
+    ensures limit { IfOk result (λ r. r.0 ≡ Sought.Limit → r.1 ≡ limit) }
+    ensures states { IfOk result (λ r. r.1 ≤ limit) }
+{
+    search_watched(alloc, trace, limit, &mut Unwatched)
 }

@@ -2,9 +2,9 @@
 ghost use Rattle.std.specs.Prelude.{◌≤◌, ◌<◌, ◌+◌, IfOk, IfSome, length};
 ghost use Rattle.search_history.specs.Prefixes.{IsUnexplained, IsExplainedBefore};
 
-use crate::judging::{Clue, is_explainable, judged_on};
+use crate::judging::{Clue, Records, is_explainable, judged_on};
 use history_check::{Record, Trace};
-use log_events::{Partners, form_of};
+use log_events::form_of;
 use log_runs::laws::prefix_is_explainable;
 use search_run::{Bounds, Outcome};
 use std::alloc::{AllocError, Global};
@@ -57,17 +57,15 @@ fn next(low: usize, high: usize, first: usize, turn: u32) -> usize
 /// ends it.
 fn halved(
     alloc: Global,
-    trace: &Trace,
-    partners: &Partners,
-    prefix: usize,
+    records: Records<'_>,
     first: usize,
     range: Option<(u64, u64)>,
     limit: u64,
 ) -> Result<usize, AllocError>
-    requires { IsUnexplained trace.now prefix }
-    ensures { IfOk result (IsUnexplained trace.now) }
+    requires { IsUnexplained records.trace.now records.count }
+    ensures { IfOk result (IsUnexplained records.entry.trace.now) }
 {
-    let mut high = prefix;
+    let mut high = records.count;
     let mut low = 0;
     for turn in 0..SEARCHES {
         if high - low <= 1 {
@@ -75,7 +73,7 @@ fn halved(
         }
         let middle = next(low, high, first, turn);
         let bounds = bounds_for(middle, limit);
-        let outcome = judged_on(alloc, trace, partners, middle, range, bounds)?;
+        let outcome = judged_on(alloc, records.first(middle), range, bounds)?;
         match outcome {
             Outcome::Dead if turn == 0 && middle > LONG => return Ok(middle),
             Outcome::Dead => high = middle,
@@ -90,8 +88,9 @@ fn halved(
 const OPEN: usize = 256;
 
 /// Request `b` is an AtomicOp whose answer stands behind the first `count` records.
-fn is_open(trace: &Trace, partners: &Partners, count: usize, b: usize) -> bool {
-    match (trace.records.get(b), partners.of(b)) {
+fn is_open(records: Records<'_>, count: usize, b: usize) -> bool {
+    let trace = records.trace;
+    match (trace.records.get(b), records.partners.of(b)) {
         (Some(Record::Sub { op, .. }), Some(answer)) => {
             !matches!(op, Op::Read { .. }) && answer >= count
         }
@@ -102,33 +101,24 @@ fn is_open(trace: &Trace, partners: &Partners, count: usize, b: usize) -> bool {
 /// Looks for a shorter prefix without a history, first by the cells on which there is none.
 pub(crate) fn shortened(
     alloc: Global,
-    trace: &Trace,
-    partners: &Partners,
-    prefix: usize,
+    records: Records<'_>,
     clue: Clue,
     limit: u64,
 ) -> Result<usize, AllocError>
-    requires { IsUnexplained trace.now prefix }
-    ensures { IfOk result (IsUnexplained trace.now) }
+    requires { IsUnexplained records.trace.now records.count }
+    ensures { IfOk result (IsUnexplained records.entry.trace.now) }
 {
-    let first = clue.reach.saturating_add(1).min(prefix);
-    if clue.range.is_none()
-        && (0..first)
-            .filter(|b| is_open(trace, partners, first, *b))
-            .count()
-            > OPEN
-    {
-        return Ok(prefix);
+    let first = clue.reach.saturating_add(1).min(records.count);
+    if clue.range.is_none() && (0..first).filter(|b| is_open(records, first, *b)).count() > OPEN {
+        return Ok(records.count);
     }
-    let near = halved(alloc, trace, partners, prefix, first, clue.range, limit)?;
+    let near = halved(alloc, records, first, clue.range, limit)?;
     if clue.range.is_none() || near > LONG {
         return Ok(near);
     }
     halved(
         alloc,
-        trace,
-        partners,
-        near,
+        records.first(near),
         near.saturating_sub(1),
         None,
         limit,
@@ -151,7 +141,12 @@ pub fn explained_before(
     };
     let form = form_of(alloc, &trace.records)?;
     let bounds = bounds_for(count, limit);
-    if !is_explainable(alloc, trace, &form.partners, count, bounds)? {
+    let records = Records {
+        trace,
+        partners: &form.partners,
+        count,
+    };
+    if !is_explainable(alloc, records, bounds)? {
         return Ok(None);
     }
     Ok(Some(count))

@@ -13,14 +13,15 @@ use history_check::{Record, Trace};
 use log_cells::{Cells, part};
 use log_events::{form_of, log_of};
 use log_runs::{Event, Log};
+use search_rules::first_unanswerable;
 use search_run::{Bounds, Outcome, Way, explore};
 use std::alloc::{AllocError, Global};
 
 /// How many choices one search looks at, at most.
 const EACH: u64 = 2_000;
 
-/// How many choices all of them look at.
-const ALL: u64 = 100_000;
+/// How many choices all of them look at, and the search that confirms what they found.
+const ALL: u64 = 200_000;
 
 /// How often answers are left out, at most.
 const SEARCHES: u32 = 64;
@@ -159,15 +160,16 @@ impl Thinning<'_> {
     }
 }
 
-/// Few answers, and the cell that they are of, if it is known.
+/// Few answers, the cell that they are of, if it is known, and what is left to do.
 #[derive(Drop)]
 struct Few {
     kept: Vec<usize>,
     range: Option<(u64, u64)>,
+    left: Bounds,
 }
 
-/// Few of the answers of a log without a run, with which it has none either.
-fn thinned(alloc: Global, log: &Log<'_>, left: Bounds) -> Result<Vec<usize>, AllocError> {
+/// Few of the answers of a log without a run, with which it has none either, and what is left to do.
+fn thinned(alloc: Global, log: &Log<'_>, left: Bounds) -> Result<(Vec<usize>, Bounds), AllocError> {
     let kept = answers_of(alloc, log)?;
     let size = kept.len() / 2 + 1;
     let mut thinning = Thinning {
@@ -182,7 +184,7 @@ fn thinned(alloc: Global, log: &Log<'_>, left: Bounds) -> Result<Vec<usize>, All
             break;
         }
     }
-    Ok(thinning.kept)
+    Ok((thinning.kept, thinning.left))
 }
 
 /// The cell of the log's last answer, if it isn't the only one.
@@ -194,26 +196,39 @@ fn last_cell(log: &Log<'_>, cells: &Cells) -> Option<(u64, u64)> {
     cells.around(address_at(log, last)?)
 }
 
-/// Few of the answers of the log, which has no run: those of the cell of the last one, if that has none, else
-/// of all.
+/// Few of the answers of the log, which has no run: one that no memory gives; or else those of the cell of the
+/// last one, if that has none; or else of all.
 fn few_of(alloc: Global, log: &Log<'_>, mut left: Bounds) -> Result<Few, AllocError> {
+    if let Some(at) = first_unanswerable(log) {
+        return Ok(Few {
+            kept: vec![in alloc; at; 1usize]?,
+            range: None,
+            left,
+        });
+    }
     let cells = Cells::of(alloc, log)?;
     if let Some(range) = last_cell(log, &cells)
         && let Some(cell) = part(alloc, log, &cells, range.0, range.1)?
     {
         let found = explore(alloc, &cell.log, Way::Part, left)?;
-        left.work = found.work;
+        left = Bounds {
+            choices: left.choices.saturating_sub(found.states),
+            work: found.work,
+        };
         if matches!(found.outcome, Outcome::Dead) {
-            let kept = thinned(alloc, &cell.log, left)?;
+            let (kept, left) = thinned(alloc, &cell.log, left)?;
             return Ok(Few {
                 kept: named(alloc, &kept, &cell.names)?,
                 range: Some(range),
+                left,
             });
         }
     }
+    let (kept, left) = thinned(alloc, log, left)?;
     Ok(Few {
-        kept: thinned(alloc, log, left)?,
+        kept,
         range: None,
+        left,
     })
 }
 
@@ -262,6 +277,7 @@ fn found(alloc: Global, trace: &Trace, prefix: usize, bounds: Bounds) -> Result<
         return Ok(Few {
             kept: same_answers(alloc, records, flaw)?,
             range: None,
+            left: bounds,
         });
     }
     let log = log_of(alloc, trace, &form.partners, prefix)?;
@@ -283,16 +299,24 @@ pub fn contradiction(
     if prefix > trace.records.len() {
         return Ok(Vec::new(alloc));
     }
+    let all = limit.min(ALL);
+    let half = all / 2;
+    let work = (prefix as u64).saturating_mul(WORK).max(LEAST);
     let bounds = Bounds {
-        choices: limit.min(ALL),
-        work: (prefix as u64).saturating_mul(WORK).max(LEAST),
+        choices: half,
+        work,
     };
-    let Few { kept, range } = found(alloc, trace, prefix, bounds)?;
+    let Few { kept, range, left } = found(alloc, trace, prefix, bounds)?;
     if kept.len() > MAX_ANSWERS {
         return Ok(Vec::new(alloc));
     }
     let few = keeping(alloc, trace, prefix, &kept)?;
-    if is_unexplained(alloc, &few, range, bounds)? {
+    let looked = half.saturating_sub(left.choices);
+    let rest = Bounds {
+        choices: all.saturating_sub(looked),
+        work,
+    };
+    if is_unexplained(alloc, &few, range, rest)? {
         return Ok(kept);
     }
     Ok(Vec::new(alloc))

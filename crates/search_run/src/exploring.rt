@@ -6,6 +6,7 @@ ghost use Rattle.search_run.specs.Outcomes.{IsRun, IsRight};
 
 use crate::catalog::{Catalog, Way, catalog_of};
 use crate::walk::{Walk, advance, begin, settle};
+use crate::watching::{Unwatched, Watch};
 use log_runs::{Log, Step};
 use std::alloc::{AllocError, Global};
 
@@ -75,20 +76,27 @@ fn explored(outcome: Outcome, states: u64, walk: &Walk) -> Exploration
     }
 }
 
-/// Goes on from the start of the log, at no more than `limit` choices.
-fn choose(
+/// How many choices may be looked at, and who sees each.
+struct Tries<'w, W> {
+    limit: u64,
+    watch: &'w mut W,
+}
+
+/// Goes on from the start of the log, at no more than the limit of choices.
+fn choose<W: Watch>(
     walk: &mut Walk,
     alloc: Global,
     log: &Log,
     catalog: &Catalog,
-    limit: u64,
+    tries: Tries<'_, W>,
 ) -> Result<Exploration, AllocError>
     requires at { IsAt log.now walk.old }
     requires catalog { IsCatalog log.now catalog.now }
     ensures right { IfOk result (λ r. IsRight log.now r.outcome) }
-    ensures states { IfOk result (λ r. r.states ≤ limit) }
-    ensures limit { IfOk result (λ r. r.outcome ≡ Outcome.Limit → r.states ≡ limit) }
+    ensures states { IfOk result (λ r. r.states ≤ tries.entry.limit) }
+    ensures limit { IfOk result (λ r. r.outcome ≡ Outcome.Limit → r.states ≡ tries.entry.limit) }
 {
+    let Tries { limit, watch } = tries;
     for states in 0..limit {
         if let Some(steps) = finished(walk, alloc, log, catalog)? {
             return Ok(explored(Outcome::Run(steps), states, walk));
@@ -96,6 +104,7 @@ fn choose(
         if walk.work == 0 {
             return Ok(explored(Outcome::Limit, limit, walk));
         }
+        watch.choice();
         if !advance(walk, alloc, log, catalog)? {
             return Ok(explored(Outcome::Dead, states + 1, walk));
         }
@@ -107,12 +116,14 @@ fn choose(
 }
 
 /// Looks for steps that lead from the start of the log to its end, within the bounds. Where the work ends
-/// it, as many choices are said to have been looked at as the bounds allow.
-pub fn explore(
+/// it, as many choices are said to have been looked at as the bounds allow. `watch` sees each choice that is
+/// looked at.
+pub fn explore_watched<W: Watch>(
     alloc: Global,
     log: &Log,
     way: Way,
     bounds: Bounds,
+    watch: &mut W,
 ) -> Result<Exploration, AllocError>
     ensures right { IfOk result (λ r. IsRight log.now r.outcome) }
     ensures states { IfOk result (λ r. r.states ≤ bounds.choices) }
@@ -124,5 +135,23 @@ pub fn explore(
         return Ok(explored(Outcome::Run(steps), 0, &walk));
     }
     catalog.note_calm(log);
-    choose(&mut walk, alloc, log, &catalog, bounds.choices)
+    let tries = Tries {
+        limit: bounds.choices,
+        watch,
+    };
+    choose(&mut walk, alloc, log, &catalog, tries)
+}
+
+/// [`explore_watched`], which nobody sees.
+pub fn explore(
+    alloc: Global,
+    log: &Log,
+    way: Way,
+    bounds: Bounds,
+) -> Result<Exploration, AllocError>
+    ensures right { IfOk result (λ r. IsRight log.now r.outcome) }
+    ensures states { IfOk result (λ r. r.states ≤ bounds.choices) }
+    ensures limit { IfOk result (λ r. r.outcome ≡ Outcome.Limit → r.states ≡ bounds.choices) }
+{
+    explore_watched(alloc, log, way, bounds, &mut Unwatched)
 }

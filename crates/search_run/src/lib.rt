@@ -15,6 +15,8 @@ mod junk;
 mod rules;
 mod sketches;
 mod walk;
+mod watching;
 
 pub use catalog::Way;
-pub use exploring::{Bounds, Exploration, Outcome, explore};
+pub use exploring::{Bounds, Exploration, Outcome, explore, explore_watched};
+pub use watching::{Unwatched, Watch};

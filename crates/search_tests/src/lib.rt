@@ -6,6 +6,8 @@ mod choices;
 #[cfg(test)]
 mod pieces;
 #[cfg(test)]
+mod progress;
+#[cfg(test)]
 mod rows;
 #[cfg(test)]
 mod texts;

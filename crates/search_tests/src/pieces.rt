@@ -139,18 +139,12 @@ fn prints(alloc: Global, row: &Row) -> Result<bool, Fail> {
     let options = SearchOptions {
         limit: 1000,
         granularity: row.granularity,
+        stages: Stages::OfLongLogs,
     };
     let mut reader = text.as_bytes();
     let mut out = Vec::new(alloc);
     let mut errors = Vec::new(alloc);
-    let status = run_search_with(
-        alloc,
-        options,
-        Stages::OfLongLogs,
-        &mut reader,
-        &mut out,
-        &mut errors,
-    );
+    let status = run_search_with(alloc, options, &mut reader, &mut out, &mut errors);
     let is_right = if row.output == "found" {
         status == Ok(0) && is_ok(alloc, out.as_slice())
     } else {

@@ -1,5 +1,5 @@
 //! What `search` tells on standard error of a log that has no history.
-use search_engine::{Stages, run_search_with_reasons};
+use search_engine::run_search_with_reasons;
 use std::alloc::Global;
 use std::test::Fail;
 
@@ -128,47 +128,55 @@ static ROWS: [Row; 23] = [
     },
 ];
 
-/// Whether the search tells what the row has.
-fn tells(alloc: Global, row: &Row) -> Result<bool, Fail> {
+/// Whether the search, at that limit, tells what the row has.
+fn tells(alloc: Global, row: &Row, limit: u64) -> Result<bool, Fail> {
     let text = format!(in alloc; "pciex-log 1\nmemory 0 4096 64\n{}end\n", row.records)?;
     let mut reader = text.as_bytes();
     let mut out = Vec::new(alloc);
     let mut errors = Vec::new(alloc);
-    let status = run_search_with_reasons(
-        alloc,
-        1000,
-        Stages::OfLongLogs,
-        &mut reader,
-        &mut out,
-        &mut errors,
-    );
+    let status = run_search_with_reasons(alloc, limit, &mut reader, &mut out, &mut errors);
     Ok(status == Ok(1) && errors.as_slice() == row.told.as_bytes())
 }
 
 #[test]
 fn reasons_are_told(rt: HostRuntime) -> Result<(), Fail> {
     for row in &ROWS {
-        assert_eq!(rt; (row.name, tells(rt.alloc(), row)?), (row.name, true));
+        assert_eq!(rt; (row.name, tells(rt.alloc(), row, 1000)?), (row.name, true));
     }
     Ok(())
 }
 
+/// A log whose last answer no memory gives, which is seen without a choice, and whose other records have a history, which
+/// takes several: reasons at a limit of 1000 choices, and of 1.
+static LIMITED: [(u64, Row); 2] = [
+    (
+        1000,
+        Row {
+            name: "reasons at 1000 choices",
+            records: TOLD_LATE,
+            told: "pciex: lines 3 to 12 have no history, lines 3 to 11 have one\npciex: line 12: ans 5 2 ur\npciex: the access at 40 is served: data of 4 bytes is expected\n",
+        },
+    ),
+    (
+        1,
+        Row {
+            name: "reasons at 1 choice",
+            records: TOLD_LATE,
+            told: "pciex: lines 3 to 12 have no history\npciex: line 12: ans 5 2 ur\npciex: the access at 40 is served: data of 4 bytes is expected\n",
+        },
+    ),
+];
+
+const TOLD_LATE: &str =
+    "sub 1 0 add 40 01000000\nsub 2 0 add 40 02000000\nsub 3 0 swap 44 01000000\nsub 4 0 swap 44 02000000\nsub 5 0 read 40 2 F F\nans 5 0 data 0200000002000000\nsub 5 1 read 40 2 F F\nans 5 1 data 0300000001000000\nsub 5 2 read 40 1 F 0\nans 5 2 ur\n";
+
 #[test]
-fn stages_are_shown(rt: HostRuntime) {
-    let mut reader =
-        "pciex-log 1\nmemory 0 4096 64\nsub 1 0 swap 40 07000000\nsub 2 0 read 40 1 F 0\nans 2 0 data 07000000\nend\n".as_bytes();
-    let alloc = rt.alloc();
-    let mut out = Vec::new(alloc);
-    let mut errors = Vec::new(alloc);
-    let status = run_search_with_reasons(
-        alloc,
-        9,
-        Stages::Shown,
-        &mut reader,
-        &mut out,
-        &mut errors,
-    );
-    let is_right = errors.as_slice().starts_with(b"3 records\n".as_slice())
-        && errors.as_slice().ends_with(b" of 9 choices\n".as_slice());
-    assert!(rt; status == Ok(0) && is_right);
+fn the_limit_bounds_the_reasons(rt: HostRuntime) -> Result<(), Fail> {
+    for (limit, row) in &LIMITED {
+        assert_eq!(rt;
+            (row.name, tells(rt.alloc(), row, *limit)?),
+            (row.name, true)
+        );
+    }
+    Ok(())
 }

@@ -7,8 +7,8 @@ use Rattle.search_engine.proofs.answering.sought.Goals as goal
 
 pub returns-in-Found : goal.returns-in-Found
 returns-in-Found g c =
-    let found : IsFound c.search.new.trace (answers.Found c.in-Found.history) = subst (λ (s : Sought). IsFound c.search.new.trace s) c.in-Found.is c.in_ok-sought.ensures.found in
-    (alike_in_whole c.args.trace c.search.new.trace c.search.ensures.alike, found.0, found.1)
+    let found : IsFound c.search_watched.new.trace (answers.Found c.in-Found.history) = subst (λ (s : Sought). IsFound c.search_watched.new.trace s) c.in-Found.is c.in_ok-sought.ensures.found in
+    (alike_in_whole c.args.trace c.search_watched.new.trace c.search_watched.ensures.alike, found.0, found.1)
 
 pub returns-in-None : goal.returns-in-None
 returns-in-None g c =

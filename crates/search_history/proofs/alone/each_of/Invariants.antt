@@ -2,4 +2,4 @@ use Rattle.std.proofs.Common.{◌≤◌}
 use Rattle.search_history.proofs.alone.each_of.Given as goal
 
 abbrev pub invariant-loop-number : goal.invariant-loop-number
-invariant-loop-number l = l.left ≤ l.fn.bounds.choices
+invariant-loop-number g l = l.left ≤ l.fn.bounds.choices

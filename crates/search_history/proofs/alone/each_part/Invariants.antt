@@ -2,4 +2,4 @@ use Rattle.std.proofs.Common.{◌≤◌}
 use Rattle.search_history.proofs.alone.each_part.Given as goal
 
 abbrev pub invariant-loop-group : goal.invariant-loop-group
-invariant-loop-group l = l.left.choices ≤ l.fn.bounds.choices
+invariant-loop-group g l = l.left.choices ≤ l.fn.bounds.choices

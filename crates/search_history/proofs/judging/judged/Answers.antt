@@ -2,5 +2,5 @@ use Rattle.search_history.proofs.Prefixing.{none_from_dead}
 use Rattle.search_history.proofs.judging.judged.Goals as goal
 
 pub returns-clause-none : goal.returns-clause-none
-returns-clause-none c = λ dead.
-    none_from_dead c.args.trace.now c.args.count c.in_ok-log.log c.explainable_has_a_run.ensures c.in_ok-log.ensures.events c.in_ok-log.ensures.extent (c.in_ok-found.ensures.dead dead)
+returns-clause-none g c = λ dead.
+    none_from_dead c.args.records.trace.now c.args.records.count c.in_ok-log.log c.explainable_has_a_run.ensures c.in_ok-log.ensures.events c.in_ok-log.ensures.extent (c.in_ok-found.ensures.dead dead)

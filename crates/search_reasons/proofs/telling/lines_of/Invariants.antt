@@ -1,5 +1,5 @@
 use Rattle.std.proofs.Common.{length, ◌≤◌}
-use Rattle.search_engine.proofs.telling.lines_of.Given as goal
+use Rattle.search_reasons.proofs.telling.lines_of.Given as goal
 
 abbrev pub invariant-loop-end : goal.invariant-loop-end
 invariant-loop-end l = length l.rest ≤ length l.text

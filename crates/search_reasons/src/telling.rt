@@ -1,0 +1,238 @@
+//! The reasons in lines.
+ghost use Rattle.std.specs.Prelude.{List, ℕ, ◌≡◌, IfErr, OnErr, OnOk};
+ghost use Rattle.std.specs.Io.KnownBytes.{Appends, Keeps};
+ghost use Rattle.line_loop.specs.declared.fault.EngineFault.{EngineFault};
+
+use crate::cases::{Case, Prefix};
+use crate::causes::{Cause, WordCause};
+use crate::finding::{Reasons, Why, reasons_of, records_with};
+use crate::wording::{put_cause, put_line};
+use arrayvec::ArrayString;
+use history_check::{Record, Trace};
+use line_loop::{EngineFault, write_out};
+use memchr::memchr;
+use operation_text::write_reply;
+use std::alloc::{AllocError, Global};
+use std::io::Write;
+use text_lines::without_return;
+use trace_diagnostics::TraceLines;
+
+/// The lines of the text, by their numbers.
+fn lines_of(alloc: Global, text: &[u8]) -> Result<TraceLines, AllocError> {
+    let mut lines = TraceLines::new(alloc);
+    let mut rest = text;
+    while let Some(end) = memchr(b'\n', rest) {
+        lines.note(without_return(&rest[..end]))?;
+        rest = &rest[end + 1..];
+    }
+    Ok(lines)
+}
+
+/// Adds on which lines the first `count` records have no history, and on which they have one.
+fn put_lines(
+    out: &mut Vec<u8>,
+    lines: &TraceLines,
+    count: usize,
+    explained: Option<usize>,
+) -> Result<(), AllocError> {
+    let first = lines.of_record(0);
+    let last = lines.of_record(count.saturating_sub(1));
+    if first == last {
+        return put_line(out, format_args!("line {first} has no history"));
+    }
+    match explained {
+        Some(known) if known > 0 => {
+            let end = lines.of_record(known - 1);
+            put_line(
+                out,
+                format_args!(
+                    "lines {first} to {last} have no history, lines {first} to {end} have one"
+                ),
+            )
+        }
+        _ => put_line(out, format_args!("lines {first} to {last} have no history")),
+    }
+}
+
+/// Why the record at the place answers nothing.
+fn misanswer(trace: &Trace, place: usize, requester: u8, number: u32) -> &'static str {
+    for record in trace.records.get(..place).unwrap_or(&[]) {
+        if let Record::Sub {
+            requester: who,
+            number: own,
+            op,
+            ..
+        } = record
+        {
+            if *who == requester && *own == number {
+                return if op.is_posted() {
+                    "is a posted write, which has no answer"
+                } else {
+                    "was answered before"
+                };
+            }
+        }
+    }
+    "was not submitted before"
+}
+
+/// Adds the answer at a place, and what is behind it.
+fn put_answer(
+    out: &mut Vec<u8>,
+    lines: &TraceLines,
+    trace: &Trace,
+    place: usize,
+    behind: &str,
+) -> Result<(), AllocError> {
+    let Some(
+        Record::Ans {
+            requester,
+            number,
+            reply,
+            ..
+        },
+    ) = trace.records.get(place)
+    else {
+        return Ok(());
+    };
+    let line = lines.of_record(place);
+    let mut text = ArrayString::new();
+    write_reply(reply, &mut text);
+    let shown = text.as_str();
+    put_line(
+        out,
+        format_args!("line {line}: ans {requester} {number} {shown}{behind}"),
+    )
+}
+
+/// Adds what is wrong with the form of the record at a place: a submission has not the next number of its requester, or
+/// an answer is none, whatever its reply is.
+fn put_form(
+    out: &mut Vec<u8>,
+    lines: &TraceLines,
+    trace: &Trace,
+    place: usize,
+) -> Result<(), AllocError> {
+    let line = lines.of_record(place);
+    match trace.records.get(place) {
+        Some(
+            Record::Sub {
+                requester,
+                number,
+                ..
+            },
+        ) => put_line(
+            out,
+            format_args!(
+                "line {line}: request {number} of requester {requester} where its next is expected"
+            ),
+        ),
+        Some(
+            Record::Ans {
+                requester,
+                number,
+                ..
+            },
+        ) => {
+            put_answer(out, lines, trace, place, "")?;
+            let why = misanswer(trace, place, *requester, *number);
+            put_line(
+                out,
+                format_args!("request {number} of requester {requester} {why}"),
+            )
+        }
+        None => Ok(()),
+    }
+}
+
+/// Adds the answers at places, the first of which contradicts the others.
+fn put_answers(
+    out: &mut Vec<u8>,
+    lines: &TraceLines,
+    trace: &Trace,
+    answers: &[usize],
+) -> Result<(), AllocError> {
+    let first = if answers.len() > 1 {
+        ", against these answers:"
+    } else {
+        ""
+    };
+    for index in 0..answers.len() {
+        let behind = if index == 0 { first } else { "" };
+        put_answer(out, lines, trace, answers[index], behind)?;
+    }
+    Ok(())
+}
+
+/// The cause, with records of the log that was read in place of those that were searched.
+fn cause_as_read(case: Case<'_>, cause: Cause) -> Cause {
+    match cause {
+        Cause::Words(WordCause::Overwritten(word, submission, by)) => {
+            let (asked, over) = (case.record_with(submission), case.record_with(by));
+            Cause::Words(WordCause::Overwritten(word, asked, over))
+        }
+        other => other,
+    }
+}
+
+/// The places of the answers in the log that was read, the last one first.
+fn answers_as_read(
+    alloc: Global,
+    case: Case<'_>,
+    last: usize,
+    others: &[usize],
+) -> Result<Vec<usize>, AllocError> {
+    let mut places = Vec::new(alloc);
+    places.push(last)?;
+    places.extend_from_slice(others)?;
+    records_with(alloc, case, &places)
+}
+
+/// The lines of the reasons.
+fn told(
+    alloc: Global,
+    text: &[u8],
+    case: Case<'_>,
+    reasons: &Reasons,
+) -> Result<Vec<u8>, AllocError> {
+    let lines = lines_of(alloc, text)?;
+    let mut out = Vec::new(alloc);
+    let explained = match reasons.explained {
+        Some(count) => Some(case.record_with(count)),
+        None => None,
+    };
+    let Prefix { trace, count } = case.read;
+    put_lines(&mut out, &lines, count, explained)?;
+    match &reasons.why {
+        Why::Form => put_form(&mut out, &lines, trace, count.saturating_sub(1))?,
+        Why::Answers {
+            last,
+            others,
+            cause,
+        } => {
+            let answers = answers_as_read(alloc, case, *last, others)?;
+            put_answers(&mut out, &lines, trace, &answers)?;
+            put_cause(&mut out, &lines, &cause_as_read(case, *cause))?;
+        }
+    }
+    Ok(out)
+}
+
+/// Tells why the prefix has no history: on which lines of the text it has none, and on which a shorter one has a
+/// history, as far as that is known; which answers contradict each other; and why. [`reasons_of`] says what is promised
+/// of that and what is done for it. Nothing is written if memory can't be allocated.
+pub fn tell_none<E: Write>(
+    alloc: Global,
+    text: &[u8],
+    case: Case<'_>,
+    limit: u64,
+    errors: &mut E,
+) -> Result<(), EngineFault>
+    ensures ok { OnOk result ((lines : List ℕ) × Appends (E.contents errors.old) (E.contents errors.new) lines) }
+    ensures memory { IfErr result (λ f. f ≡ EngineFault.Memory → Keeps (E.contents errors.old) (E.contents errors.new)) }
+    ensures part { OnErr result ((lines : List ℕ) × Appends (E.contents errors.old) (E.contents errors.new) lines) }
+{
+    let reasons = reasons_of(alloc, case, limit)?;
+    let lines = told(alloc, text, case, &reasons)?;
+    write_out(errors, &lines)
+}
