@@ -1,16 +1,20 @@
 //! Whether a run leads through the first records.
-ghost use Rattle.std.specs.Prelude.{◌≡◌, ◌≤◌, true, IfOk, length};
+ghost use Rattle.std.specs.Prelude.{◌≡◌, ◌≤◌, true, IfOk, length, take};
+ghost use Rattle.log_events.specs.Joined.{ArePartners};
 ghost use Rattle.log_runs.specs.Runs.{Dead, start};
 ghost use Rattle.log_runs.specs.Explainable.{IsExplainable, prefix};
+ghost use Rattle.log_runs.specs.Tasks.{IsWellFormed};
+ghost use Rattle.search_history.specs.Runs.{IsOutcomeOf};
+ghost use Rattle.search_run.specs.Outcomes.{IsRight};
 
 use crate::alone::{explored_on, parts_of};
-use crate::copies;
-use crate::moments::confirmed;
 use history_check::Trace;
 use log_cells::Cells;
 use log_events::{Partners, form_of, log_of};
 use log_runs::Log;
-use log_runs::laws::{explainable_has_a_run, explainable_is_well_formed, prefix_is_explainable};
+use log_runs::laws::{
+    a_run_is_a_history, explainable_has_a_run, explainable_is_well_formed, prefix_is_explainable,
+};
 use search_rules::first_unanswerable;
 use search_run::{Bounds, Outcome, Way, explore};
 use std::alloc::{AllocError, Global};
@@ -49,7 +53,7 @@ fn dead(states: u64, range: Option<(u64, u64)>, reach: usize) -> Judgment
 /// Looks for a run through the log, first through its part on each cell of the memory, with a tenth of
 /// the choices. The runs through its parts are a guide to the whole.
 fn explored_parts(alloc: Global, log: &Log<'_>, bounds: Bounds) -> Result<Judgment, AllocError>
-    ensures dead { IfOk result (λ r. r.outcome ≡ Outcome.Dead → Dead log.now (start log.now)) }
+    ensures right { IfOk result (λ r. IsRight log.now r.outcome) }
     ensures states { IfOk result (λ r. r.states ≤ bounds.choices) }
     ensures limit { IfOk result (λ r. r.outcome ≡ Outcome.Limit → r.states ≡ bounds.choices) }
 {
@@ -79,7 +83,7 @@ fn explored_parts(alloc: Global, log: &Log<'_>, bounds: Bounds) -> Result<Judgme
 
 /// Looks for a run through the log, within the bounds. An answer that no memory gives ends it at once.
 fn explored(alloc: Global, log: &Log<'_>, bounds: Bounds) -> Result<Judgment, AllocError>
-    ensures dead { IfOk result (λ r. r.outcome ≡ Outcome.Dead → Dead log.now (start log.now)) }
+    ensures right { IfOk result (λ r. IsRight log.now r.outcome) }
     ensures states { IfOk result (λ r. r.states ≤ bounds.choices) }
     ensures limit { IfOk result (λ r. r.outcome ≡ Outcome.Limit → r.states ≡ bounds.choices) }
 {
@@ -99,6 +103,7 @@ pub(crate) fn judged(
     bounds: Bounds,
 ) -> Result<Judgment, AllocError>
     requires { count ≤ length trace.now.records }
+    ensures run { IfOk result (λ r. ArePartners partners.now (take count trace.now.records) → IsWellFormed (take count trace.now.records) → IsOutcomeOf (prefix count trace.now) r.outcome) }
     ensures none { IfOk result (λ r. r.outcome ≡ Outcome.Dead → IsExplainable (prefix count trace.now) → ⊥) }
     ensures states { IfOk result (λ r. r.states ≤ bounds.choices) }
     ensures limit { IfOk result (λ r. r.outcome ≡ Outcome.Limit → r.states ≡ bounds.choices) }
@@ -145,7 +150,8 @@ pub(crate) fn judged_on(
     Ok(found)
 }
 
-/// A history explains the first `count` records; false where it isn't found.
+/// A history explains the first `count` records; false where it isn't found. `partners` is right for them, and their form
+/// is.
 pub(crate) fn is_explainable(
     alloc: Global,
     trace: &Trace,
@@ -153,16 +159,14 @@ pub(crate) fn is_explainable(
     count: usize,
     bounds: Bounds,
 ) -> Result<bool, AllocError>
-    requires { count ≤ length trace.now.records }
+    requires within { count ≤ length trace.now.records }
+    requires joined { ArePartners partners.now (take count trace.now.records) }
+    requires formed { IsWellFormed (take count trace.now.records) }
     ensures { IfOk result (λ yes. yes ≡ true → IsExplainable (prefix count trace.now)) }
 {
+    a_run_is_a_history();
     let judgment = judged(alloc, trace, partners, count, bounds)?;
-    let Outcome::Run(steps) = judgment.outcome else {
-        return Ok(false);
-    };
-    let mut part = copies::prefix(alloc, trace, count)?;
-    let history = confirmed(alloc, &mut part, steps)?;
-    Ok(history.is_some())
+    Ok(matches!(judgment.outcome, Outcome::Run(_)))
 }
 
 /// No history explains the records, as far as it is found out within the bounds on the bytes of a range alone,

@@ -1,12 +1,15 @@
 //! Whether a history explains a log.
-ghost use Rattle.std.specs.Prelude.{ℕ, ◌≡◌, ◌<◌, ◌≤◌, ◌+◌, IfOk, length};
+ghost use Rattle.std.specs.Prelude.{ℕ, ◌≡◌, ◌<◌, ◌≤◌, ◌+◌, IfOk, length, take};
 ghost use Rattle.log_events.specs.Formed.{MisformedAt};
-ghost use Rattle.log_runs.specs.Explainable.{SeenAlike};
+ghost use Rattle.log_events.specs.Joined.{ArePartners};
+ghost use Rattle.log_runs.specs.Explainable.{SeenAlike, prefix};
+ghost use Rattle.log_runs.specs.Tasks.{IsWellFormed};
 ghost use Rattle.search_history.specs.Prefixes.{IsUnexplained};
 ghost use Rattle.search_history.specs.Answers.{IsFound, IsNone};
+ghost use Rattle.search_history.specs.Runs.{IsAnswered, IsVerdictOf};
 
 use crate::judging::{Judgment, judged};
-use crate::moments::confirmed;
+use crate::moments::history_by;
 use crate::shortest::shortened;
 use history_check::Trace;
 use log_events::{Partners, form_of};
@@ -39,12 +42,12 @@ fn up_to(trace: &Trace, place: usize) -> usize
     count
 }
 
-/// What is found before a run is checked.
+/// What is found out of runs.
 #[derive(Drop)]
-enum Unchecked {
-    /// These steps may be a history that explains the log.
+enum Verdict {
+    /// These steps lead through the log to its end.
     Run(Vec<Step>),
-    /// No history does, nor does one explain the first so many records.
+    /// No history explains the log, nor its first records up to that number.
     None(usize),
     /// It wasn't found out.
     Limit,
@@ -57,9 +60,11 @@ fn well_formed(
     partners: &Partners,
     count: usize,
     limit: u64,
-) -> Result<(Unchecked, u64), AllocError>
+) -> Result<(Verdict, u64), AllocError>
     requires { count ≤ length trace.now.records }
-    ensures none { IfOk result (λ r. (prefix : ℕ) → r.0 ≡ Unchecked.None prefix → IsUnexplained trace.now prefix) }
+    ensures run { IfOk result (λ r. ArePartners partners.now (take count trace.now.records) → IsWellFormed (take count trace.now.records) → IsVerdictOf (prefix count trace.now) r.0) }
+    ensures none { IfOk result (λ r. (prefix : ℕ) → r.0 ≡ Verdict.None prefix → IsUnexplained trace.now prefix) }
+    ensures limit { IfOk result (λ r. r.0 ≡ Verdict.Limit → r.1 ≡ limit) }
     ensures states { IfOk result (λ r. r.1 ≤ limit) }
 {
     let bounds = Bounds {
@@ -73,12 +78,12 @@ fn well_formed(
         ..
     } = judged(alloc, trace, partners, count, bounds)?;
     match outcome {
-        Outcome::Run(steps) => Ok((Unchecked::Run(steps), states)),
+        Outcome::Run(steps) => Ok((Verdict::Run(steps), states)),
         Outcome::Dead => {
             let prefix = shortened(alloc, trace, partners, count, clue, limit)?;
-            Ok((Unchecked::None(prefix), states))
+            Ok((Verdict::None(prefix), states))
         }
-        Outcome::Limit => Ok((Unchecked::Limit, limit)),
+        Outcome::Limit => Ok((Verdict::Limit, states)),
     }
 }
 
@@ -97,28 +102,47 @@ fn misformed(
 {
     explainable_is_well_formed();
     let (before, states) = well_formed(alloc, trace, partners, flaw, limit)?;
-    if let Unchecked::None(prefix) = before {
+    if let Verdict::None(prefix) = before {
         return Ok((prefix, states));
     }
     Ok((up_to(trace, flaw), states))
 }
 
 /// Looks for a run through a log. What it needed of memory is free again, but for the steps.
-fn searched(alloc: Global, trace: &Trace, limit: u64) -> Result<(Unchecked, u64), AllocError>
-    ensures none { IfOk result (λ r. (prefix : ℕ) → r.0 ≡ Unchecked.None prefix → IsUnexplained trace.now prefix) }
+fn searched(alloc: Global, trace: &Trace, limit: u64) -> Result<(Verdict, u64), AllocError>
+    ensures run { IfOk result (λ r. IsVerdictOf trace.now r.0) }
+    ensures none { IfOk result (λ r. (prefix : ℕ) → r.0 ≡ Verdict.None prefix → IsUnexplained trace.now prefix) }
+    ensures limit { IfOk result (λ r. r.0 ≡ Verdict.Limit → r.1 ≡ limit) }
     ensures states { IfOk result (λ r. r.1 ≤ limit) }
 {
     let form = form_of(alloc, &trace.records)?;
     match form.flaw {
         Some(flaw) => {
             let (prefix, states) = misformed(alloc, trace, &form.partners, flaw, limit)?;
-            Ok((Unchecked::None(prefix), states))
+            Ok((Verdict::None(prefix), states))
         }
         None => {
             let count = trace.records.len();
             let found = well_formed(alloc, trace, &form.partners, count, limit)?;
             Ok(found)
         }
+    }
+}
+
+/// The answer to a verdict. A run is a history, whose n's the trace then has.
+fn answered(alloc: Global, trace: &mut Trace, verdict: Verdict) -> Result<Sought, AllocError>
+    requires { IsVerdictOf trace.old verdict }
+    ensures alike { SeenAlike trace.old trace.new }
+    ensures found { IfOk result (IsFound trace.new) }
+    ensures answered { IfOk result (IsAnswered verdict) }
+{
+    match verdict {
+        Verdict::Run(steps) => {
+            let history = history_by(alloc, trace, &steps)?;
+            Ok(Sought::Found(history))
+        }
+        Verdict::None(prefix) => Ok(Sought::None { prefix }),
+        Verdict::Limit => Ok(Sought::Limit),
     }
 }
 
@@ -136,13 +160,7 @@ pub fn search(alloc: Global, trace: &mut Trace, limit: u64) -> Result<(Sought, u
     ensures states { IfOk result (λ r. r.1 ≤ limit) }
 {
     prefix_is_explainable();
-    let (found, states) = searched(alloc, trace, limit)?;
-    match found {
-        Unchecked::Run(steps) => match confirmed(alloc, trace, steps)? {
-            Some(history) => Ok((Sought::Found(history), states)),
-            None => Ok((Sought::Limit, limit)),
-        },
-        Unchecked::None(prefix) => Ok((Sought::None { prefix }, states)),
-        Unchecked::Limit => Ok((Sought::Limit, limit)),
-    }
+    let (verdict, states) = searched(alloc, trace, limit)?;
+    let sought = answered(alloc, trace, verdict)?;
+    Ok((sought, states))
 }

@@ -149,9 +149,9 @@ pub fn explained_before(
     let Some(count) = prefix.checked_sub(1) else {
         return Ok(None);
     };
-    let form = form_of(alloc, &trace.records)?;
+    let form = form_of(alloc, &trace.records[..count])?;
     let bounds = bounds_for(count, limit);
-    if !is_explainable(alloc, trace, &form.partners, count, bounds)? {
+    if form.flaw.is_some() || !is_explainable(alloc, trace, &form.partners, count, bounds)? {
         return Ok(None);
     }
     Ok(Some(count))
