@@ -1,3 +1,4 @@
 mod KnownLemmas
 mod NoneLemmas
 mod SizeLemmas
+pub mod TellableLemmas

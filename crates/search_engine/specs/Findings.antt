@@ -1,5 +1,5 @@
 -- What comes of a text, before it is written.
-use Rattle.std.specs.Prelude.{ℕ, ◌≡◌, ◌≤◌, Bool, true, false, length, Result, Ok, Err}
+use Rattle.std.specs.Prelude.{ℕ, ◌≡◌, ◌<◌, ◌≤◌, ◌^◌, Bool, true, false, length, Result, Ok, Err}
 use Rattle.history_check.specs.TraceView.{TraceView}
 use Rattle.history_check.specs.Claim.{claim_of}
 use Rattle.history_check.specs.Trace.{Explains}
@@ -25,7 +25,7 @@ pub record AreUnexplained (size : Granularity) (t : TraceView) (count : ℕ) : T
 -- of a log that was seen
 abbrev pub IsFindingOf : Granularity → TraceView → Finding → Type 0
 IsFindingOf size t (findings.Found trace history) =
-    SeenAlike (in_pieces size t) trace × Explains (claim_of trace history.items) × IsClocked (claim_of trace history.items)
+    SeenAlike (in_pieces size t) trace × Explains (claim_of trace history.items) × IsClocked (claim_of trace history.items) × (length history.items < 2 ^ 64)
 IsFindingOf size t (findings.None trace prefix pieces) = AreUnexplained size t prefix
 IsFindingOf size t findings.Limit = Unit {0}
 IsFindingOf size t (findings.Fault f) = ⊥

@@ -1,5 +1,5 @@
 -- What `search` answers to a text.
-use Rattle.std.specs.Prelude.{ℕ, ◌≡◌, ◌+◌, ◌<◌, ◌⊎◌, List, [], ◌∷◌, ◌++◌, length, codes, Option, Result, Ok, Err}
+use Rattle.std.specs.Prelude.{ℕ, ◌≡◌, ◌+◌, ◌^◌, ◌<◌, ◌⊎◌, List, [], ◌∷◌, ◌++◌, length, codes, Option, Result, Ok, Err}
 use Rattle.std.specs.Fmt.{decimal}
 use Rattle.std.specs.Io.KnownBytes.{Appends, Consumes, IsAtEnd}
 use Rattle.line_loop.specs.Run.{IsBeginning}
@@ -30,6 +30,7 @@ pub record IsFoundIn (t : TraceView) (text : List ℕ) (status : ℕ) : Type 0 w
   pub alike : SeenAlike t trace
   pub explained : Explains (claim_of trace history)
   pub clocked : IsClocked (claim_of trace history)
+  pub few : length history < 2 ^ 64
   pub says : text ≡ trace_text (claim_of trace history)
   pub tells : status ≡ 0
 

@@ -1,3 +1,4 @@
-pub mod Clocking
 pub mod Prefixing
 pub mod Keeping
+pub mod Runs
+pub mod Verdicts

@@ -1,6 +1,5 @@
 -- Prefixes without a history.
-use Rattle.std.proofs.Common.{◌≡◌, ◌∙◌, ℕ, suc, zero, ◌+◌, ◌<◌, ◌≤◌, List, [], ◌∷◌, ◌++◌, take, get_or, length, Some, refl, sym, ap, subst, arith, add-one}
-use Rattle.std.proofs.Math.Seq.{take-suc}
+use Rattle.std.proofs.Common.{◌≡◌, ℕ, suc, zero, ◌+◌, ◌<◌, ◌≤◌, List, [], ◌∷◌, take, length, Some, refl, sym, ap, subst, arith}
 use Rattle.std.specs.Prelude.{slice_get}
 use Rattle.std.proofs.lemmas.Option.{slice_get_within}
 use Rattle.seq_memory.specs.Limits.{Extent}
@@ -16,12 +15,6 @@ use Rattle.search_history.specs.Prefixes.{IsUnexplained}
 
 abbrev pub of : Extent → List EventView → LogView
 of x es = record { extent = x; events = es }
-
--- the copy of a prefix and the element after it
-pub copied_more : {X : Type 0} → (xs ys zs : List X) (i : ℕ) (x y : X) → i < length xs → x ≡ get_or xs i x → ys ≡ take i xs → y ≡ x → zs ≡ ys ++ y ∷ [] → zs ≡ take (i + 1) xs
-copied_more xs ys zs i x y l is old same grown =
-    let at : take (i + 1) xs ≡ take i xs ++ x ∷ [] = ap (λ k. take k xs) (add-one i) ∙ take-suc xs i x l ∙ ap (λ w. take i xs ++ w ∷ []) (sym is) in
-    grown ∙ ap (λ v. v ++ y ∷ []) old ∙ ap (λ w. take i xs ++ w ∷ []) same ∙ sym at
 
 -- some run leads through the events of an explainable log
 abbrev pub HaveRuns : Type 0

@@ -1,4 +1,4 @@
-pub mod Clocks
 pub mod Prefixes
 pub mod Answers
 pub mod Contradictions
+pub mod Runs

@@ -1,6 +1,5 @@
-//! Copies of the first records, with all answers or with some.
+//! Copies of the first records with some of their answers.
 ghost use Rattle.std.specs.Prelude.{◌≡◌, ◌≤◌, ◌++◌, ◌∷◌, [], IfOk, OnOk, length, take};
-ghost use Rattle.log_runs.specs.Explainable as explainable;
 ghost use Rattle.search_history.specs.Contradictions as contradictions;
 ghost use Rattle.search_history.specs.Contradictions.{keeping_from};
 
@@ -56,27 +55,6 @@ fn copy_of_record(item: &Record) -> Record
             n: *n,
         },
     }
-}
-
-fn copy_of_records(alloc: Global, records: &[Record]) -> Result<Vec<Record>, AllocError>
-    ensures { IfOk result (λ v. v.items ≡ records.now) }
-{
-    let mut copy = Vec::with_capacity(alloc, records.len())?;
-    for item in records {
-        copy.push(copy_of_record(item))?;
-    }
-    Ok(copy)
-}
-
-/// The first `count` records of the trace, over the same memory.
-pub(crate) fn prefix(alloc: Global, trace: &Trace, count: usize) -> Result<Trace, AllocError>
-    requires { count ≤ length trace.now.records }
-    ensures { IfOk result (λ t. t ≡ explainable.prefix count trace.now) }
-{
-    Ok(Trace {
-        extent: trace.extent,
-        records: copy_of_records(alloc, &trace.records[..count])?,
-    })
 }
 
 /// Adds a copy of the record at the place, if it is no answer or its place is one of these.

@@ -1,16 +1,20 @@
 //! Whether a run leads through the first records.
-ghost use Rattle.std.specs.Prelude.{◌≡◌, ◌≤◌, true, IfOk, length};
+ghost use Rattle.std.specs.Prelude.{◌≡◌, ◌≤◌, true, IfOk, length, take};
+ghost use Rattle.log_events.specs.Joined.{ArePartners};
 ghost use Rattle.log_runs.specs.Runs.{Dead, start};
 ghost use Rattle.log_runs.specs.Explainable.{IsExplainable, prefix};
+ghost use Rattle.log_runs.specs.Tasks.{IsWellFormed};
+ghost use Rattle.search_history.specs.Runs.{IsOutcomeOf};
+ghost use Rattle.search_run.specs.Outcomes.{IsRight};
 
 use crate::alone::{Field, explored_on, parts_of};
-use crate::copies;
-use crate::moments::confirmed;
 use history_check::Trace;
 use log_cells::Cells;
 use log_events::{Partners, form_of, log_of};
 use log_runs::Log;
-use log_runs::laws::{explainable_has_a_run, explainable_is_well_formed, prefix_is_explainable};
+use log_runs::laws::{
+    a_run_is_a_history, explainable_has_a_run, explainable_is_well_formed, prefix_is_explainable,
+};
 use search_rules::first_unanswerable;
 use search_run::{Bounds, Outcome, Unwatched, Watch, Way, explore_watched};
 use std::alloc::{AllocError, Global};
@@ -77,7 +81,7 @@ fn explored_parts<W: Watch>(
     bounds: Bounds,
     watch: &mut W,
 ) -> Result<Judgment, AllocError>
-    ensures dead { IfOk result (λ r. r.outcome ≡ Outcome.Dead → Dead log.now (start log.now)) }
+    ensures right { IfOk result (λ r. IsRight log.now r.outcome) }
     ensures states { IfOk result (λ r. r.states ≤ bounds.choices) }
     ensures limit { IfOk result (λ r. r.outcome ≡ Outcome.Limit → r.states ≡ bounds.choices) }
 {
@@ -112,7 +116,7 @@ fn explored<W: Watch>(
     bounds: Bounds,
     watch: &mut W,
 ) -> Result<Judgment, AllocError>
-    ensures dead { IfOk result (λ r. r.outcome ≡ Outcome.Dead → Dead log.now (start log.now)) }
+    ensures right { IfOk result (λ r. IsRight log.now r.outcome) }
     ensures states { IfOk result (λ r. r.states ≤ bounds.choices) }
     ensures limit { IfOk result (λ r. r.outcome ≡ Outcome.Limit → r.states ≡ bounds.choices) }
 {
@@ -130,6 +134,7 @@ pub(crate) fn judged<W: Watch>(
     watch: &mut W,
 ) -> Result<Judgment, AllocError>
     requires { records.count ≤ length records.trace.now.records }
+    ensures run { IfOk result (λ r. ArePartners records.entry.partners.now (take records.entry.count records.entry.trace.now.records) → IsWellFormed (take records.entry.count records.entry.trace.now.records) → IsOutcomeOf (prefix records.entry.count records.entry.trace.now) r.outcome) }
     ensures none { IfOk result (λ r. r.outcome ≡ Outcome.Dead → IsExplainable (prefix records.entry.count records.entry.trace.now) → ⊥) }
     ensures states { IfOk result (λ r. r.states ≤ bounds.choices) }
     ensures limit { IfOk result (λ r. r.outcome ≡ Outcome.Limit → r.states ≡ bounds.choices) }
@@ -175,22 +180,21 @@ pub(crate) fn judged_on(
     Ok(found)
 }
 
-/// A history explains the records; false where it isn't found.
+/// A history explains the records; false where it isn't found. What is said to belong together does, and their form is
+/// right.
 pub(crate) fn is_explainable(
     alloc: Global,
     records: Records<'_>,
     bounds: Bounds,
 ) -> Result<bool, AllocError>
-    requires { records.count ≤ length records.trace.now.records }
+    requires within { records.count ≤ length records.trace.now.records }
+    requires joined { ArePartners records.partners.now (take records.count records.trace.now.records) }
+    requires formed { IsWellFormed (take records.count records.trace.now.records) }
     ensures { IfOk result (λ yes. yes ≡ true → IsExplainable (prefix records.entry.count records.entry.trace.now)) }
 {
+    a_run_is_a_history();
     let judgment = judged(alloc, records, bounds, &mut Unwatched)?;
-    let Outcome::Run(steps) = judgment.outcome else {
-        return Ok(false);
-    };
-    let mut part = copies::prefix(alloc, records.trace, records.count)?;
-    let history = confirmed(alloc, &mut part, steps)?;
-    Ok(history.is_some())
+    Ok(matches!(judgment.outcome, Outcome::Run(_)))
 }
 
 /// No history explains the records, as far as it is found out within the bounds on the bytes of a range alone,

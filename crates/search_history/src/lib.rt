@@ -1,14 +1,13 @@
 //! A history that explains what requesters saw, or a proof that there is none.
 //!
 //! A log is a [`Trace`](history_check::Trace) of which only the order of its records counts, not its
-//! n's. [`search`] looks for n's and a history that make it a trace that the history explains. What
-//! it finds is checked before it is returned. Where it says that there is none, no history explains
+//! n's. [`search`] looks for n's and a history that make it a trace that the history explains: a run
+//! through the log is one. Where it says that there is none, no history explains
 //! the log; it then looks for a prefix that has none either, and is as short as it can prove.
 //! [`explained_before`] says that the prefix that is one shorter has one, and [`contradiction`] looks for few answers of such a prefix that no history explains together.
 #![tactic(auto)]
 
 mod alone;
-mod clocked;
 mod copies;
 mod judging;
 pub mod laws;

@@ -1,13 +1,17 @@
 //! The history and the n's of a run.
-ghost use Rattle.std.specs.Prelude.{◌≡◌, ◌≤◌, ℕ, IfOk, IfSome, true, map};
+ghost use Rattle.std.specs.Prelude.{◌≡◌, ◌++◌, ◌∷◌, [], IfOk, OnOk, None, Some, option_and_then, set, slice_get};
+ghost use Rattle.history_check.specs.declared.Record.{Record};
 ghost use Rattle.history_check.specs.Claim.{claim_of};
 ghost use Rattle.history_check.specs.Trace.{Explains};
 ghost use Rattle.history_check.specs.Clocks.{IsClocked};
-ghost use Rattle.log_runs.specs.Explainable.{SeenAlike, without_n};
+ghost use Rattle.log_runs.specs.Explainable.{SeenAlike};
+ghost use Rattle.log_runs.specs.Histories.{timed_from, with_n};
+ghost use Rattle.log_runs.specs.Histories as histories;
+ghost use Rattle.search_history.specs.Runs.{IsRunOf};
 
-use crate::clocked::is_clocked;
-use history_check::{FlawKind, Record, Trace, check};
+use history_check::{Record, Trace};
 use log_runs::Step;
+use log_runs::laws::a_run_is_a_history;
 use seq_memory::Entry;
 use std::alloc::{AllocError, Global};
 use tlp_core::copy_of;
@@ -23,50 +27,64 @@ fn act_count(steps: &[Step]) -> usize {
     count
 }
 
-/// The requests that act, each by the place of its submission.
-fn acts_of(alloc: Global, steps: &[Step]) -> Result<Vec<usize>, AllocError> {
-    let mut acts = Vec::with_capacity(alloc, act_count(steps))?;
-    for step in steps {
-        if let Step::Act(b) = step {
-            acts.push(*b)?;
-        }
-    }
-    Ok(acts)
-}
-
-/// The request that was submitted there.
-fn entry_at(records: &[Record], b: usize) -> Option<Entry> {
-    match records.get(b) {
-        Some(
-            Record::Sub {
-                requester,
-                number,
-                op,
-                ..
-            },
-        ) => Some(Entry {
+/// The request that the record submits.
+fn submitted(item: &Record) -> Option<Entry>
+    ensures { result ≡ histories.submitted item.now }
+{
+    match item {
+        Record::Sub {
+            requester,
+            number,
+            op,
+            ..
+        } => Some(Entry {
             requester: *requester,
             number: *number,
             op: copy_of(op),
         }),
-        _ => None,
+        Record::Ans { .. } => None,
     }
 }
 
-/// The requests in the order in which they act.
-fn history_of(alloc: Global, records: &[Record], acts: &[usize]) -> Result<Vec<Entry>, AllocError> {
-    let mut history = Vec::with_capacity(alloc, acts.len())?;
-    for b in acts {
-        if let Some(entry) = entry_at(records, *b) {
-            history.push(entry)?;
+/// The request that is submitted there.
+fn entry_at(records: &[Record], b: usize) -> Option<Entry>
+    ensures { result ≡ option_and_then histories.submitted (slice_get records.now b) }
+{
+    match records.get(b) {
+        Some(item) => submitted(item),
+        None => None,
+    }
+}
+
+/// Adds the request that acts, if the step is one.
+fn act(history: &mut Vec<Entry>, records: &[Record], step: Step) -> Result<(), AllocError>
+    ensures { OnOk result (history.new.items ≡ history.old.items ++ histories.history_of records.now (step ∷ [])) }
+{
+    match step {
+        Step::Pass => {}
+        Step::Act(b) => {
+            if let Some(entry) = entry_at(records, b) {
+                history.push(entry)?;
+            }
         }
+    }
+    Ok(())
+}
+
+/// The requests in the order in which they act.
+fn history_of(alloc: Global, records: &[Record], steps: &[Step]) -> Result<Vec<Entry>, AllocError>
+    ensures { IfOk result (λ h. h.items ≡ histories.history_of records.now steps.now) }
+{
+    let mut history = Vec::with_capacity(alloc, act_count(steps))?;
+    for at in 0..steps.len() {
+        act(&mut history, records, steps[at])?;
     }
     Ok(history)
 }
 
 /// Sets the n of a record.
 fn set_n(item: &mut Record, moment: u64)
-    ensures { without_n item.new ≡ without_n item.old }
+    ensures { item.new ≡ with_n moment item.old }
 {
     match item {
         Record::Sub { n, .. } => *n = moment,
@@ -76,7 +94,8 @@ fn set_n(item: &mut Record, moment: u64)
 
 /// Sets the n of the record at the place, if there is one.
 fn set_n_at(records: &mut Vec<Record>, at: usize, n: u64)
-    ensures { map without_n records.new.items ≡ map without_n records.old.items }
+    ensures some { (r : Record) → slice_get records.old.items at ≡ Some r → records.new.items ≡ set records.old.items at (with_n n r) }
+    ensures none { slice_get records.old.items at ≡ None → records.new.items ≡ records.old.items }
 {
     if let Some(item) = records.get_mut(at) {
         set_n(item, n);
@@ -85,64 +104,29 @@ fn set_n_at(records: &mut Vec<Record>, at: usize, n: u64)
 
 /// Sets each n to how many requests had acted when its record was passed.
 fn set_moments(records: &mut Vec<Record>, steps: &[Step])
-    ensures { map without_n records.new.items ≡ map without_n records.old.items }
+    ensures { records.new.items ≡ timed_from 0 steps.now records.old.items }
 {
     let mut event = 0usize;
-    let mut acted = 0u64;
-    for step in steps {
-        match step {
-            Step::Pass => {
-                set_n_at(records, event, acted);
-                event = event.saturating_add(1);
-            }
-            Step::Act(_) => acted = acted.saturating_add(1),
+    for at in 0..steps.len() {
+        if let Step::Pass = steps[at] {
+            set_n_at(records, event, (at - event) as u64);
+            event += 1;
         }
     }
 }
 
-/// Sets the n's as the steps say. Returns the requests that act; the steps are dropped.
-fn acts_at(
-    alloc: Global,
-    records: &mut Vec<Record>,
-    steps: Vec<Step>,
-) -> Result<Vec<usize>, AllocError>
-    ensures { map without_n records.new.items ≡ map without_n records.old.items }
-{
-    set_moments(records, &steps);
-    acts_of(alloc, &steps)
-}
-
-/// The history explains the trace, or that isn't known.
-fn is_explained(
-    alloc: Global,
-    trace: &Trace,
-    history: &[Entry],
-    acts: &[usize],
-) -> Result<bool, AllocError>
-    ensures { IfOk result (λ yes. yes ≡ true → Explains (claim_of trace.now history.now) × IsClocked (claim_of trace.now history.now)) }
-{
-    match check(alloc, trace, history) {
-        Ok(()) => Ok(is_clocked(trace, history, acts)),
-        Err(flaw) if flaw.kind == FlawKind::Memory => Err(AllocError),
-        Err(_) => Ok(false),
-    }
-}
-
-/// The history that the steps are, which explains the trace with the n's that it then has; none
-/// where that isn't so.
-pub(crate) fn confirmed(
+/// The history that a run is. It explains the trace with the n's that that then has; only they change.
+pub(crate) fn history_by(
     alloc: Global,
     trace: &mut Trace,
-    steps: Vec<Step>,
-) -> Result<Option<Vec<Entry>>, AllocError>
+    steps: &[Step],
+) -> Result<Vec<Entry>, AllocError>
+    requires { IsRunOf trace.old steps.now }
     ensures alike { SeenAlike trace.old trace.new }
-    ensures explained { IfOk result (λ o. IfSome o (λ h. Explains (claim_of trace.new h.items) × IsClocked (claim_of trace.new h.items))) }
+    ensures explained { IfOk result (λ h. Explains (claim_of trace.new h.items) × IsClocked (claim_of trace.new h.items)) }
 {
-    let acts = acts_at(alloc, &mut trace.records, steps)?;
-    let history = history_of(alloc, &trace.records, &acts)?;
-    if is_explained(alloc, trace, &history, &acts)? {
-        Ok(Some(history))
-    } else {
-        Ok(None)
-    }
+    a_run_is_a_history();
+    let history = history_of(alloc, &trace.records, steps)?;
+    set_moments(&mut trace.records, steps);
+    Ok(history)
 }

@@ -1,12 +1,15 @@
 //! Whether a history explains a log.
-ghost use Rattle.std.specs.Prelude.{ℕ, ◌≡◌, ◌<◌, ◌≤◌, ◌+◌, IfOk, length};
+ghost use Rattle.std.specs.Prelude.{ℕ, ◌≡◌, ◌<◌, ◌≤◌, ◌+◌, IfOk, length, take};
 ghost use Rattle.log_events.specs.Formed.{MisformedAt};
-ghost use Rattle.log_runs.specs.Explainable.{SeenAlike};
+ghost use Rattle.log_events.specs.Joined.{ArePartners};
+ghost use Rattle.log_runs.specs.Explainable.{SeenAlike, prefix};
+ghost use Rattle.log_runs.specs.Tasks.{IsWellFormed};
 ghost use Rattle.search_history.specs.Prefixes.{IsUnexplained};
 ghost use Rattle.search_history.specs.Answers.{IsFound, IsNone};
+ghost use Rattle.search_history.specs.Runs.{IsAnswered, IsVerdictOf};
 
 use crate::judging::{Judgment, Records, judged};
-use crate::moments::confirmed;
+use crate::moments::history_by;
 use crate::shortest::shortened;
 use history_check::Trace;
 use log_events::form_of;
@@ -39,12 +42,12 @@ fn up_to(trace: &Trace, place: usize) -> usize
     count
 }
 
-/// What is found before a run is checked.
+/// What is found out of runs.
 #[derive(Drop)]
-enum Unchecked {
-    /// These steps may be a history that explains the log.
+enum Verdict {
+    /// These steps lead through the log to its end.
     Run(Vec<Step>),
-    /// No history does, nor does one explain the first so many records.
+    /// No history explains the log, nor its first records up to that number.
     None(usize),
     /// It wasn't found out.
     Limit,
@@ -56,9 +59,11 @@ fn well_formed<W: Watch>(
     records: Records<'_>,
     limit: u64,
     watch: &mut W,
-) -> Result<(Unchecked, u64), AllocError>
+) -> Result<(Verdict, u64), AllocError>
     requires { records.count ≤ length records.trace.now.records }
-    ensures none { IfOk result (λ r. (prefix : ℕ) → r.0 ≡ Unchecked.None prefix → IsUnexplained records.entry.trace.now prefix) }
+    ensures run { IfOk result (λ r. ArePartners records.entry.partners.now (take records.entry.count records.entry.trace.now.records) → IsWellFormed (take records.entry.count records.entry.trace.now.records) → IsVerdictOf (prefix records.entry.count records.entry.trace.now) r.0) }
+    ensures none { IfOk result (λ r. (prefix : ℕ) → r.0 ≡ Verdict.None prefix → IsUnexplained records.entry.trace.now prefix) }
+    ensures limit { IfOk result (λ r. r.0 ≡ Verdict.Limit → r.1 ≡ limit) }
     ensures states { IfOk result (λ r. r.1 ≤ limit) }
 {
     let bounds = Bounds {
@@ -72,12 +77,12 @@ fn well_formed<W: Watch>(
         ..
     } = judged(alloc, records, bounds, watch)?;
     match outcome {
-        Outcome::Run(steps) => Ok((Unchecked::Run(steps), states)),
+        Outcome::Run(steps) => Ok((Verdict::Run(steps), states)),
         Outcome::Dead => {
             let prefix = shortened(alloc, records, clue, limit)?;
-            Ok((Unchecked::None(prefix), states))
+            Ok((Verdict::None(prefix), states))
         }
-        Outcome::Limit => Ok((Unchecked::Limit, limit)),
+        Outcome::Limit => Ok((Verdict::Limit, states)),
     }
 }
 
@@ -95,7 +100,7 @@ fn misformed<W: Watch>(
 {
     explainable_is_well_formed();
     let (before, states) = well_formed(alloc, records, limit, watch)?;
-    if let Unchecked::None(prefix) = before {
+    if let Verdict::None(prefix) = before {
         return Ok((prefix, states));
     }
     Ok((up_to(records.trace, records.count), states))
@@ -107,8 +112,10 @@ fn searched<W: Watch>(
     trace: &Trace,
     limit: u64,
     watch: &mut W,
-) -> Result<(Unchecked, u64), AllocError>
-    ensures none { IfOk result (λ r. (prefix : ℕ) → r.0 ≡ Unchecked.None prefix → IsUnexplained trace.now prefix) }
+) -> Result<(Verdict, u64), AllocError>
+    ensures run { IfOk result (λ r. IsVerdictOf trace.now r.0) }
+    ensures none { IfOk result (λ r. (prefix : ℕ) → r.0 ≡ Verdict.None prefix → IsUnexplained trace.now prefix) }
+    ensures limit { IfOk result (λ r. r.0 ≡ Verdict.Limit → r.1 ≡ limit) }
     ensures states { IfOk result (λ r. r.1 ≤ limit) }
 {
     let form = form_of(alloc, &trace.records)?;
@@ -120,12 +127,29 @@ fn searched<W: Watch>(
     match form.flaw {
         Some(flaw) => {
             let (prefix, states) = misformed(alloc, records.first(flaw), limit, watch)?;
-            Ok((Unchecked::None(prefix), states))
+            Ok((Verdict::None(prefix), states))
         }
         None => {
             let found = well_formed(alloc, records, limit, watch)?;
             Ok(found)
         }
+    }
+}
+
+/// The answer to a verdict. A run is a history, whose n's the trace then has.
+fn answered(alloc: Global, trace: &mut Trace, verdict: Verdict) -> Result<Sought, AllocError>
+    requires { IsVerdictOf trace.old verdict }
+    ensures alike { SeenAlike trace.old trace.new }
+    ensures found { IfOk result (IsFound trace.new) }
+    ensures answered { IfOk result (IsAnswered verdict) }
+{
+    match verdict {
+        Verdict::Run(steps) => {
+            let history = history_by(alloc, trace, &steps)?;
+            Ok(Sought::Found(history))
+        }
+        Verdict::None(prefix) => Ok(Sought::None { prefix }),
+        Verdict::Limit => Ok(Sought::Limit),
     }
 }
 
@@ -148,15 +172,9 @@ pub fn search_watched<W: Watch>(
     ensures states { IfOk result (λ r. r.1 ≤ limit) }
 {
     prefix_is_explainable();
-    let (found, states) = searched(alloc, trace, limit, watch)?;
-    match found {
-        Unchecked::Run(steps) => match confirmed(alloc, trace, steps)? {
-            Some(history) => Ok((Sought::Found(history), states)),
-            None => Ok((Sought::Limit, limit)),
-        },
-        Unchecked::None(prefix) => Ok((Sought::None { prefix }, states)),
-        Unchecked::Limit => Ok((Sought::Limit, limit)),
-    }
+    let (verdict, states) = searched(alloc, trace, limit, watch)?;
+    let sought = answered(alloc, trace, verdict)?;
+    Ok((sought, states))
 }
 
 /// [`search_watched`], which nobody sees.

@@ -139,14 +139,14 @@ pub fn explained_before(
     let Some(count) = prefix.checked_sub(1) else {
         return Ok(None);
     };
-    let form = form_of(alloc, &trace.records)?;
+    let form = form_of(alloc, &trace.records[..count])?;
     let bounds = bounds_for(count, limit);
     let records = Records {
         trace,
         partners: &form.partners,
         count,
     };
-    if !is_explainable(alloc, records, bounds)? {
+    if form.flaw.is_some() || !is_explainable(alloc, records, bounds)? {
         return Ok(None);
     }
     Ok(Some(count))

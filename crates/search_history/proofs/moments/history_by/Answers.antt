@@ -1,0 +1,20 @@
+use Rattle.std.proofs.Common.{◌∙◌, ap, List}
+use Rattle.history_check.specs.declared.Record.{Record}
+use Rattle.log_runs.specs.Histories.{history_of}
+use Rattle.search_history.proofs.Runs.{run_alike, run_explains, run_clocked}
+use Rattle.search_history.proofs.moments.history_by.Goals as goal
+
+pub returns-clause-alike : goal.returns-clause-alike
+returns-clause-alike c =
+    let t = c.args.trace.now in
+    run_alike _ t c.trace.view_is c.args.steps.now c.requires c.set_moments.new.records.items c.set_moments.ensures (c.a_run_is_a_history.ensures.alike t)
+
+pub returns-clause-explained : goal.returns-clause-explained
+returns-clause-explained c =
+    let t = c.args.trace.now in
+    let xs = c.args.steps.now in
+    let rs = c.set_moments.new.records.items in
+    let law = c.a_run_is_a_history.ensures in
+    let h = c.in_ok-history.history.items in
+    let e = c.in_ok-history.ensures ∙ ap (λ (ys : List Record). history_of ys xs) c.deref.ensures.value in
+    (run_explains _ t c.trace.view_is xs c.requires rs c.set_moments.ensures (law.explains t) h e, run_clocked _ t c.trace.view_is xs c.requires rs c.set_moments.ensures (law.clocked t) h e)

@@ -1,0 +1,19 @@
+use Rattle.std.proofs.Common.{◌≡◌, ◌∙◌, ap, length, Option, ℕ, subst}
+use Rattle.std.specs.Prelude.{IfNone}
+use Rattle.history_check.specs.TraceView.{TraceView}
+use Rattle.log_events.specs.Formed.{AreFormed}
+use Rattle.log_events.specs.Joined.{ArePartners}
+use Rattle.log_runs.specs.Tasks.{IsWellFormed}
+use Rattle.search_history.proofs.Runs.{well_formed, whole, of_all}
+use Rattle.search_history.proofs.searching.searched.Goals as goal
+
+pub returns-clause-run : goal.returns-clause-run
+returns-clause-run c =
+    let seen = c.deref.result.now in
+    let rs = c.args.trace.now.records in
+    let places = c.in_ok-form.form.partners in
+    let same : seen ≡ rs = c.deref.ensures.value ∙ ap (λ (v : TraceView). v.records) c.trace.view_is in
+    let joined : ArePartners places seen = subst (λ (o : Option ℕ). IfNone o (ArePartners places seen)) c.in-None.is c.in_ok-form.ensures.joined in
+    let formed : AreFormed seen (length seen) = subst (λ (o : Option ℕ). IfNone o (AreFormed seen (length seen))) c.in-None.is c.in_ok-form.ensures.formed in
+    whole c.args.trace.now c.in_ok-found-in-None.found.0
+    (c.in_ok-found-in-None.ensures.run (of_all rs (ArePartners places) (subst (ArePartners places) same joined)) (of_all rs IsWellFormed (subst IsWellFormed same (well_formed seen formed))))
