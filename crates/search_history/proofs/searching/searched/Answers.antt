@@ -8,7 +8,7 @@ use Rattle.search_history.proofs.Runs.{well_formed, whole, of_all}
 use Rattle.search_history.proofs.searching.searched.Goals as goal
 
 pub returns-clause-run : goal.returns-clause-run
-returns-clause-run c =
+returns-clause-run g c =
     let seen = c.deref.result.now in
     let rs = c.args.trace.now.records in
     let places = c.in_ok-form.form.partners in
