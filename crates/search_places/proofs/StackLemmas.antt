@@ -344,8 +344,3 @@ empty_so (m ∷ ms) ds xs b e = (λ so. let z : length (m ∷ ms) ≡ 0 = eqb-tr
 pub none_there : (ms : List Mark) (ds : List Done) (xs : List Step) → length ms ≡ 0 → (fs : List FrameView) (f : FrameView) → frames_in ms ds xs ≡ fs ++ f ∷ [] → ⊥
 none_there [] ds xs size fs f e = not_nil fs f e
 none_there (m ∷ ms) ds xs size fs f e = omega (arith, size)
-
-pub rest_of : (xs : List Step) (n k : ℕ) → n ≡ length xs → take (length xs - (n - k)) (drop (n - k) xs) ≡ drop (length xs - k) xs
-rest_of xs n k e =
-    let long = length-drop (n - k) xs in
-    take_all (length xs - (n - k)) (drop (n - k) xs) (omega (arith, long)) ∙ ap (λ (i : ℕ). drop (i - k) xs) e

@@ -298,8 +298,8 @@ impl Words {
         requires careless { IsTrue request.careless → IsCareless log.now.extent request.op.now (told_of request.told) }
         requires word { word < 262144 }
         ensures keeps { OnOk result (Keeps self.old self.new) }
-        ensures rise { OnOk result (AllRise self.new request.b) }
-        ensures own { OnOk result (IsKnownAt log.now.extent self.new request.b request.entry.op.now (told_of request.entry.told) word) }
+        ensures rise { OnOk result (AllRise self.new request.entry.b) }
+        ensures own { OnOk result (IsKnownAt log.now.extent self.new request.entry.b request.entry.op.now (told_of request.entry.told) word) }
     {
         let Request {
             b,
@@ -325,8 +325,8 @@ impl Words {
         requires careless { IsTrue request.careless → IsCareless log.now.extent request.op.now (told_of request.told) }
         requires few { words.1 ≤ 262144 }
         ensures keeps { OnOk result (Keeps self.old self.new) }
-        ensures rise { OnOk result (AllRise self.new request.b) }
-        ensures own { OnOk result ((w : ℕ) → words.0 ≤ w → w < words.1 → IsKnownAt log.now.extent self.new request.b request.entry.op.now (told_of request.entry.told) w) }
+        ensures rise { OnOk result (AllRise self.new request.entry.b) }
+        ensures own { OnOk result ((w : ℕ) → words.0 ≤ w → w < words.1 → IsKnownAt log.now.extent self.new request.entry.b request.entry.op.now (told_of request.entry.told) w) }
     {
         for word in words.0..words.1 {
             self.add_at(alloc, log, request, word)?;

@@ -7,5 +7,5 @@ abbrev pub invariant-loop-word : goal.invariant-loop-word
 invariant-loop-word l = record {
   keeps : Keeps l.fn.self l.self;
   rise : AllRise l.self l.request.b;
-  own : (w : ℕ) → l.words.0 ≤ w → w < l.word → IsKnownAt l.log.extent l.self l.request.b l.request.op.now (told_of l.request.told) w;
+  own : (w : ℕ) → l.fn.words.0 ≤ w → w < l.word → IsKnownAt l.log.extent l.self l.request.b l.request.op.now (told_of l.request.told) w;
 }
