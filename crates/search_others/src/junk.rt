@@ -40,7 +40,7 @@ fn is_in(list: &[usize], b: usize) -> bool
 /// What stands at the word is nothing to request `b`, or it is exempt.
 fn overlooks(log: &Log, bytes: &[u8], exempt: Exempt, word: u64, b: usize) -> bool
     requires word { word < log.now.extent.size / 4 }
-    ensures { IsTrue result → (exempt.q ≡ b → ⊥) → ((i : ℕ) → slice_get exempt.entry.but.now i ≡ Some b → ⊥) → IsJunkAt log.now bytes.now b word }
+    ensures { IsTrue result → (exempt.entry.q ≡ b → ⊥) → ((i : ℕ) → slice_get exempt.entry.but.now i ≡ Some b → ⊥) → IsJunkAt log.now bytes.now b word }
 {
     if b == exempt.q {
         return true;

@@ -149,11 +149,11 @@ module _ (log : LogView) where
         path_push (Dead log (start log)) (start log) fs g (λ m P. (m ≡ t) × P)
         (path_map (Dead log (start log)) (start log) fs (At f (λ m P. (m ≡ t) × P)) (At g (λ m P. (m ≡ t) × P))
         (λ m Q e. (
-          m,
+          e.0,
           e.1,
           e.2,
           e.3,
-          (e.4.0, (All-pop (LeadsNowhere log m) f.noted r (Some x) er e.4.1).0),
+          (e.4.0, (All-pop (LeadsNowhere log e.0) f.noted r (Some x) er e.4.1).0),
         )) last)
 
     pub dropped : Dead log t → PathFrom log fs (Back log f.done t)

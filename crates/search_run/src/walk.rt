@@ -179,7 +179,8 @@ fn keep(walk: &mut Walk) -> Result<(), AllocError>
 fn rewind(walk: &mut Walk, log: &Log) -> Result<(), AllocError>
     requires { frames.IsBack log.now walk.old }
     ensures ready { OnOk result (frames.IsReady log.now walk.new) }
-    ensures frames { walk.new.stack.frames ≡ walk.old.stack.frames }
+    ensures frames { OnOk result (walk.new.stack.frames ≡ walk.old.stack.frames) }
+    ensures state { OnOk result ((s : State) → frames.LeadsBy log.now s walk.old.stack.done walk.old.here.state → s ≡ walk.new.here.state) }
 {
     while let Some(done) = walk.stack.pop() {
         walk.here.take_back(log, &done)?;
@@ -264,31 +265,11 @@ fn try_step(walk: &mut Walk, log: &Log, catalog: &Catalog, step: Step) -> Result
     Ok(false)
 }
 
-fn is_same(one: Step, other: Step) -> bool
-    ensures { IsTrue result → one ≡ other }
-{
-    match one {
-        Step::Pass => match other {
-            Step::Pass => true,
-            Step::Act(_) => false,
-        },
-        Step::Act(b) => match other {
-            Step::Pass => false,
-            Step::Act(c) => b == c,
-        },
-    }
-}
-
 /// The list has the step.
 fn has_step(steps: &[Step], step: Step) -> bool
     ensures { IsTrue result → Contains steps.now step }
 {
-    for one in steps {
-        if is_same(*one, step) {
-            return true;
-        }
-    }
-    false
+    steps.contains(&step)
 }
 
 /// The step is noted at the last frame, not before that one of those that are.
@@ -306,7 +287,7 @@ fn was_tried(walk: &Walk, from: usize, step: Step) -> bool
 /// place.
 fn behind(walk: &Walk, from: usize, step: Step) -> usize {
     match walk.stack.noted().get(from) {
-        Some(noted) => if is_same(*noted, step) {
+        Some(noted) => if *noted == step {
             from.saturating_add(1)
         } else {
             from
@@ -390,7 +371,8 @@ fn try_here(
     ensures spent { IfOk result (λ more. more ≡ false → frames.IsSpent log.now walk.old walk.new) }
 {
     let steps = choices(alloc, log, &catalog.others, catalog.turns(), &walk.here)?;
-    try_each(walk, log, catalog, steps.as_slice())
+    let goes_on = try_each(walk, log, catalog, steps.as_slice())?;
+    Ok(goes_on)
 }
 
 /// Goes on at the last frame that has a step that wasn't tried and isn't lost at once; false if none has.

@@ -5,12 +5,12 @@ use Rattle.search_run.proofs.walk.back.Goals as goal
 
 pub returns-then-is_empty-clause-none : goal.returns-then-is_empty-clause-none
 returns-then-is_empty-clause-none c = λ so.
-    let walk = c.loop.walk in
-    none_left c.args.log.now walk.stack.frames walk.here.state c.loop.invariant.path (c.is_empty.ensures.0 c.if-is_empty.true)
+    let walk = c.loop-alloc.walk in
+    none_left c.args.log.now walk.stack.frames walk.here.state c.loop-alloc.invariant.path (c.is_empty.ensures.0 c.if-is_empty.true)
 
 pub try_here-requires-clause-at : goal.try_here-requires-clause-at
 try_here-requires-clause-at c = record {
-  ready = c.loop.invariant;
+  ready = c.loop-alloc.invariant;
   some = λ none. false≢true (sym c.if-is_empty.false ∙ c.is_empty.ensures.1 none);
 }
 
@@ -26,8 +26,8 @@ rewind-requires c =
       known = c.note.ensures log spent.at.ready.known spent.at.ready.place spent.dead;
     }
 
-pub loop-smaller : goal.loop-smaller
-loop-smaller c =
+pub loop-alloc-smaller : goal.loop-alloc-smaller
+loop-alloc-smaller c =
     let log = c.args.log.now in
     let walk = c.try_here.new.walk in
     let spent = c.in_ok-try_here.ensures.spent c.if-branch.false in

@@ -19,7 +19,7 @@ pub returns-clause-spent : goal.returns-clause-spent
 returns-clause-spent c = λ so.
     let log = c.args.log.now in
     let s = c.args.walk.now.here.state in
-    let lost = c.in_ok-try_each.ensures.lost so in
+    let lost = c.in_ok-goes_on.ensures.lost so in
     let all : AllDead log s c.in_ok-steps.steps.items = subst (AllDead log s) c.as_slice.ensures.value lost.dead in
     record {
       at = lost.at;

@@ -7,8 +7,8 @@ use Rattle.search_run.proofs.walk.was_tried.Goals as goal
 pub returns : goal.returns
 returns c = λ so log stands.
     let walk = c.args.walk.now in
-    let xs = c.noted.result.now in
+    let xs = c.noted-noted.result.now in
     let n = c.args.from in
     let P = LeadsNowhere log walk.here.state in
     All-contains P (take (length xs - n) (drop n xs)) c.args.step
-    (All-take P (length xs - n) (drop n xs) (All-drop P n xs (noted_dead log walk xs stands c.noted.ensures))) (c.has_step.ensures so)
+    (All-take P (length xs - n) (drop n xs) (All-drop P n xs (noted_dead log walk xs stands c.noted-noted.ensures))) (c.has_step.ensures so)
