@@ -122,7 +122,7 @@ fn searched<W: Watch>(
     let records = Records {
         trace,
         partners: &form.partners,
-        count: trace.records.len(),
+        count: trace.records.as_slice().len(),
     };
     match form.flaw {
         Some(flaw) => {
