@@ -1,1 +1,13 @@
+mod Parts
+mod Lists
+mod Courses
+mod Moves
+mod Ends
+mod Standing
+mod Links
+mod Passing
+mod Serving
+mod Keeping
+mod Rests
+mod Drawn
 mod Flying

@@ -10,7 +10,14 @@ ghost use Rattle.chart_links.specs.ChartView.{new_chart};
 ghost use Rattle.chart_laws.specs.Arrows.{Tale, NeverMore, beginnings, sendings};
 ghost use Rattle.chart_laws.specs.Happened.{Happened};
 
+mod accounts;
+mod deeds;
+mod wires;
+
+pub use accounts::a_chart_keeps_account_of_its_fabric;
 use chart_laws::arrows_begin_where_packets_were_sent;
+pub use deeds::{packets_are_drawn_as_they_are, replays_are_drawn_as_they_are};
+pub use wires::what_is_sent_arrives_or_is_left;
 
 /// On the lanes of a new fabric to which these events happen, no more packets arrive than were sent.
 pub fn packets_arrive_that_were_sent()
