@@ -237,7 +237,7 @@ status=$?
 echo "Usage: pciex step [OPTIONS]" > "$room/told"
 wants "step -h under another name" 0 "$room/told" "$room/nothing"
 
-# Runs of worker threads, with status 0 where each addition was counted once, and 3 where a worker had used up its turns.
+# Runs of worker threads, with status 0 where each addition was counted once, and 3 where a part had used up its turns.
 # counts NUMBER WORD..: whether `run` with these words tells that number of answers.
 counts() {
     printf 'answered %s\nhistory %s\nword %s\ncheck ok\n' "$1" "$1" "$1" > "$room/counted"
@@ -249,6 +249,8 @@ counts() {
 counts 0 --requesters 1 --each 0
 counts 2000 --requesters 2 --each 1000 --lose 3
 counts 4200 --requesters 7 --each 600 --lose 2 --corrupt 3 --turns 1000000000
+counts 700 --requesters 7 --each 100 --workers 1
+counts 700 --requesters 7 --each 100 --lose 3 --workers 34
 echo "halt Turns" > "$room/halt"
 for words in "--requesters 1 --each 1 --lose 1" "--requesters 2 --each 1 --corrupt 1"; do
     # shellcheck disable=SC2086

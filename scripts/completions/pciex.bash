@@ -17,6 +17,7 @@ _pciex() {
         --corrupt) words="" ;;
         --each) words="" ;;
         --turns) words="" ;;
+        --workers) words="" ;;
         *)
             case "$COMP_CWORD ${COMP_WORDS[1]}" in
                 "1 "*) words="tlp decode encode check search draw upgrade step chart generate run help --help --version" ;;
@@ -31,7 +32,7 @@ _pciex() {
                 *" step") words="--trace --keep-going --echo --help" ;;
                 *" chart") words="--lane --from --to --help" ;;
                 *" generate") words="--seed --events --requesters --lose --corrupt --block --help" ;;
-                *" run") words="--requesters --each --lose --corrupt --turns --progress --help" ;;
+                *" run") words="--requesters --each --lose --corrupt --turns --workers --progress --help" ;;
             esac
             ;;
     esac

@@ -49,6 +49,7 @@ complete -c pciex -n "__fish_seen_subcommand_from run" -l requesters -x -d 'Numb
 complete -c pciex -n "__fish_seen_subcommand_from run" -l each -x -d 'Number of additions of each requester, 0 to 100000'
 complete -c pciex -n "__fish_seen_subcommand_from run" -l lose -x -d 'Lose one in COUNT packets and DLLPs, 0 to 65536'
 complete -c pciex -n "__fish_seen_subcommand_from run" -l corrupt -x -d 'Corrupt one in COUNT packets and DLLPs, 0 to 65536'
-complete -c pciex -n "__fish_seen_subcommand_from run" -l turns -x -d 'Limit of calls and records for each worker, 1 to 1000000000'
+complete -c pciex -n "__fish_seen_subcommand_from run" -l turns -x -d 'Limit of calls and records for each part, 1 to 1000000000'
+complete -c pciex -n "__fish_seen_subcommand_from run" -l workers -x -d 'Number of threads that the parts other than requesters share, 1 to 64'
 complete -c pciex -n "__fish_seen_subcommand_from run" -l progress -d 'Print the number of answers on standard error about twice a second'
 complete -c pciex -n "__fish_seen_subcommand_from run" -l help -d 'Print help'

@@ -181,7 +181,7 @@ type Given = (&'static [&'static str], &'static str);
 
 /// Words that give status 2, and which option is told with what is allowed, none where
 /// they have no form of the grammar.
-static WRONG: [Given; 41] = [
+static WRONG: [Given; 43] = [
     (&["pciex"], ""),
     (&["pciex", "tpl"], ""),
     (&["pciex", "tlp", "--bass", "0"], ""),
@@ -345,6 +345,14 @@ static WRONG: [Given; 41] = [
             "0",
         ],
         "invalid value '0' for --turns: expected 1 to 1000000000",
+    ),
+    (
+        &["pciex", "run", "--requesters=1", "--each=1", "--workers=65"],
+        "invalid value '65' for --workers: expected 1 to 64",
+    ),
+    (
+        &["pciex", "run", "--requesters=1", "--each=1", "--workers=0"],
+        "invalid value '0' for --workers: expected 1 to 64",
     ),
     (
         &["pciex", "run", "--requesters", "1", "--each", "+1"],

@@ -1,15 +1,15 @@
 -- What the options of a command line are called, which numbers they may have, and what their values write.
-use Rattle.std.specs.Prelude.{◌≡◌, ◌≤◌, ◌%◌, ℕ, Bool, false, List, length, Option, Some, None, codes, bytes_eq}
+use Rattle.std.specs.Prelude.{◌≡◌, ◌≤◌, ◌%◌, ℕ, Bool, false, List, length, Option, Some, None, IfSome, codes, bytes_eq}
 use Rattle.std.specs.Str.Parse.{IsNumeral, digits_value}
 use Rattle.seq_memory.specs.declared.limits.TheConstants.{MIN_SIZE, MAX_SIZE, ALIGNMENT}
 use Rattle.switch_core.specs.declared.routing.TheConstants.{REQUESTERS}
 use Rattle.fault_plan.specs.declared.TheConstants.{MOST}
-use Rattle.parameters.specs.declared.counting.TheConstants.{MOST_ADDITIONS, MOST_TURNS}
+use Rattle.parameters.specs.declared.counting.TheConstants.{MOST_ADDITIONS, MOST_TURNS, MOST_WORKERS}
 use Rattle.parameters.specs.declared.storm.TheConstants.{MOST_EVENTS}
 use Rattle.cli_options.specs.declared.options.TheConstants.{MOST_CHOICES}
 use Rattle.cli_options.specs.declared.options.Allowed.{Allowed}
 use Rattle.cli_options.specs.declared.options.ValueOption.{ValueOption}
-use Rattle.cli_options.specs.declared.options.ValueOption.TheVariants.{Base, Size, Block, Requesters, Each, Lose, Corrupt, Turns, From, To, Seed, Events, Lane, Limit, Granularity}
+use Rattle.cli_options.specs.declared.options.ValueOption.TheVariants.{Base, Size, Block, Requesters, Each, Lose, Corrupt, Turns, Workers, From, To, Seed, Events, Lane, Limit, Granularity}
 
 abbrev pub name_of : ValueOption → List ℕ
 name_of Base = codes "base"
@@ -20,6 +20,7 @@ name_of Each = codes "each"
 name_of Lose = codes "lose"
 name_of Corrupt = codes "corrupt"
 name_of Turns = codes "turns"
+name_of Workers = codes "workers"
 name_of From = codes "from"
 name_of To = codes "to"
 name_of Seed = codes "seed"
@@ -42,6 +43,7 @@ allowed_of Each = multiples 1 0 MOST_ADDITIONS
 allowed_of Lose = multiples 1 0 MOST
 allowed_of Corrupt = multiples 1 0 MOST
 allowed_of Turns = multiples 1 1 MOST_TURNS
+allowed_of Workers = multiples 1 1 MOST_WORKERS
 allowed_of From = multiples 1 0 18446744073709551615
 allowed_of To = multiples 1 0 18446744073709551615
 allowed_of Seed = multiples 1 0 18446744073709551615
@@ -75,6 +77,11 @@ abbrev pub Writes : Option ℕ → Option (List ℕ) → ℕ → Type 0
 Writes (Some default) = WritesNumber default
 Writes None = WritesGiven
 
+-- a number that need not be given
+abbrev pub WritesOptional : Option (List ℕ) → Option ℕ → Type 0
+WritesOptional text None = text ≡ None
+WritesOptional text (Some n) = WritesGiven text n
+
 -- the value of a base gives this one, an aligned address
 abbrev pub GivesBase : Option (List ℕ) → ℕ → Type 0
 GivesBase text base = WritesBase text base × IsAmong (allowed_of Base) base
@@ -82,6 +89,10 @@ GivesBase text base = WritesBase text base × IsAmong (allowed_of Base) base
 -- the option's value gives this number, one that it may have
 abbrev pub Gives : ValueOption → Option ℕ → Option (List ℕ) → ℕ → Type 0
 Gives option default text n = Writes default text n × IsAmong (allowed_of option) n
+
+-- the option's value, if it has one, gives this number, one that it may have
+abbrev pub GivesOptional : ValueOption → Option (List ℕ) → Option ℕ → Type 0
+GivesOptional option text n = WritesOptional text n × IfSome n (IsAmong (allowed_of option))
 
 -- a flag is set exactly where its value is `true`
 abbrev pub WritesFlag : Option (List ℕ) → Bool → Type 0

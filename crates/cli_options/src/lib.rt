@@ -8,4 +8,4 @@ mod values;
 
 pub use options::{Allowed, MOST_CHOICES, ValueOption};
 pub use refused::RefusedValue;
-pub use values::{base_of, is_set, number_of};
+pub use values::{base_of, is_set, number_of, optional_of};

@@ -2,7 +2,7 @@
 ghost use Rattle.std.specs.Prelude.{◌≡◌, ◌≢◌, ◌↔◌, IsTrue};
 ghost use Rattle.cli_options.specs.Values.{allowed_of, name_of, IsAmong};
 
-use parameters::{MOST_ADDITIONS, MOST_EVENTS, MOST_TURNS};
+use parameters::{MOST_ADDITIONS, MOST_EVENTS, MOST_TURNS, MOST_WORKERS};
 use seq_memory::{ALIGNMENT, MAX_SIZE, MIN_SIZE};
 use std::fmt;
 use switch_core::REQUESTERS;
@@ -29,6 +29,8 @@ pub enum ValueOption {
     Corrupt,
     /// The most calls and records of each worker.
     Turns,
+    /// The number of threads that the workers of lanes, switch and completer share.
+    Workers,
     /// The first point of a history that is drawn.
     From,
     /// The last point of a history that is drawn.
@@ -102,6 +104,7 @@ impl ValueOption {
             ValueOption::Lose => "lose",
             ValueOption::Corrupt => "corrupt",
             ValueOption::Turns => "turns",
+            ValueOption::Workers => "workers",
             ValueOption::From => "from",
             ValueOption::To => "to",
             ValueOption::Seed => "seed",
@@ -137,6 +140,7 @@ impl ValueOption {
             ValueOption::Each => from_to(0, MOST_ADDITIONS),
             ValueOption::Lose | ValueOption::Corrupt => from_to(0, u64::from(fault_plan::MOST)),
             ValueOption::Turns => from_to(1, MOST_TURNS),
+            ValueOption::Workers => from_to(1, MOST_WORKERS),
             ValueOption::Limit => from_to(1, MOST_CHOICES),
             ValueOption::Events => from_to(0, MOST_EVENTS),
             ValueOption::Lane | ValueOption::Granularity => from_to(0, 0),

@@ -1,6 +1,6 @@
 //! The values of options as they are written.
-ghost use Rattle.std.specs.Prelude.{◌≡◌, ◌^◌, ◌<◌, ℕ, IfSome, IfNone, IfOk, IfErr, OnErr, option_map};
-ghost use Rattle.cli_options.specs.Values.{WritesBase, Writes, WritesFlag, GivesBase, Gives};
+ghost use Rattle.std.specs.Prelude.{◌≡◌, ◌^◌, ◌<◌, ℕ, Option, IfSome, IfNone, IfOk, IfErr, OnErr, option_map};
+ghost use Rattle.cli_options.specs.Values.{WritesBase, Writes, WritesFlag, GivesBase, Gives, GivesOptional};
 ghost use Rattle.cli_options.specs.declared.options.ValueOption.TheVariants.{Base};
 
 use crate::options::ValueOption;
@@ -66,6 +66,21 @@ pub fn number_of<'a>(
             option,
             given: text,
         }),
+    }
+}
+
+/// The number that the option's value writes in decimal digits, if it is given: a number that the option may have.
+pub fn optional_of<'a>(
+    option: ValueOption,
+    text: Option<&'a str>,
+) -> Result<Option<u64>, RefusedValue<'a>>
+    ensures ok { IfOk result (GivesOptional option (option_map (λ t. t.now) text.entry)) }
+    ensures err { OnErr result ((n : Option ℕ) → GivesOptional option (option_map (λ t. t.now) text.entry) n → ⊥) }
+    ensures refused { IfErr result (λ e. e ≡ record { option = option; given = text.entry }) }
+{
+    match text {
+        Some(_) => Ok(Some(number_of(option, None, text)?)),
+        None => Ok(None),
     }
 }
 

@@ -1,19 +1,20 @@
 -- Words of which an option is refused ask for nothing.
 use Rattle.std.proofs.Common.{◌≡◌, ◌∙◌, ◌≤◌, ℕ, List, [], ◌∷◌, Option, Some, None, refl, sym, subst, arith, codes, inl, inr}
+use Rattle.std.proofs.lemmas.Option.{IfSome_then}
 use Rattle.clap.specs.Words.{Row, Text, first_of}
 use Rattle.parameters.specs.declared.counting.Counting.{Counting}
 use Rattle.parameters.specs.declared.storm.Storm.{Storm}
 use Rattle.seq_memory.specs.Limits.{Extent, IsBlock}
 use Rattle.cli_options.specs.declared.options.ValueOption.{ValueOption}
-use Rattle.cli_options.specs.declared.options.ValueOption.TheVariants.{Size, From, To}
+use Rattle.cli_options.specs.declared.options.ValueOption.TheVariants.{Size, Workers, From, To}
 use Rattle.cli_options.specs.declared.refused.RefusedValue.{RefusedValue}
-use Rattle.cli_options.specs.Values.{Gives, GivesBase, IsAmong, multiples}
+use Rattle.cli_options.specs.Values.{Gives, GivesBase, GivesOptional, IsAmong, multiples}
 use Rattle.fabric_core.specs.declared.event.LaneName.{LaneName}
 use Rattle.log_pieces.specs.declared.Granularity.{Granularity}
 use Rattle.cli_words.specs.declared.words.Request.{Request}
 use Rattle.cli_words.specs.declared.words.Request.TheVariants.{Tlp, Search, Draw, Chart, Generate, Run}
 use Rattle.cli_words.specs.Options.{Asks, AsksTlp, AsksSearch, AsksDraw, AsksChart, AsksGenerate, AsksRun}
-use Rattle.cli_words.specs.Refusals.{AreRight, IsFirstWrong, Refuses, RefusesOption, RefusesTlp, RefusesSearch, RefusesDraw, RefusesChart, tlp_values, search_values, draw_values, chart_values, generate_values, run_values}
+use Rattle.cli_words.specs.Refusals.{AreRight, IsFirstWrong, Refuses, RefusesOption, RefusesTlp, RefusesSearch, RefusesDraw, RefusesChart, RefusesRun, tlp_values, search_values, draw_values, chart_values, generate_values, run_values}
 use Rattle.cli_words.proofs.RequestsAsked.{name_of, asks_name, differ}
 
 -- where each is right, none is the first that is wrong
@@ -119,6 +120,13 @@ refused_chart rows option lane from to (inl h) a = h.1 lane a.lane_read
 refused_chart rows option lane from to (inr (inl h)) a = none_wrong rows chart_values option (chart_right rows lane from to a) h.1
 refused_chart rows option lane from to (inr (inr h)) a = h.3 from to (chart_from rows lane from to a) (chart_to rows lane from to a) a.ordered
 
+run_workers : (rows : List Row) (c : Counting) → AsksRun rows c → GivesOptional Workers (first_of (codes "workers") rows) c.workers
+run_workers rows c a = (a.workers_read, IfSome_then c.workers a.right.workers (λ n w. among 1 64 n w.0 w.1))
+
+refused_run : (rows : List Row) (option : ValueOption) (c : Counting) → RefusesRun rows option → AsksRun rows c → ⊥
+refused_run rows option c (inl h) a = none_wrong rows run_values option (run_right rows c a) h
+refused_run rows option c (inr h) a = h.2 c.workers (run_workers rows c a)
+
 tlp_nothing : (p : Text × List Row) (option : ValueOption) → p.0 ≡ codes "tlp" → RefusesTlp p.1 option → (r : Request) → Asks (Some p) r → ⊥
 tlp_nothing p option e h (Tlp x) a = refused_tlp p.1 option x h a.1
 tlp_nothing p option e h r a = differ (codes "tlp") (name_of r) refl (sym e ∙ asks_name p r a)
@@ -139,8 +147,8 @@ generate_nothing : (p : Text × List Row) (option : ValueOption) → p.0 ≡ cod
 generate_nothing p option e h (Generate s) a = none_wrong p.1 generate_values option (generate_right p.1 s a.1) h
 generate_nothing p option e h r a = differ (codes "generate") (name_of r) refl (sym e ∙ asks_name p r a)
 
-run_nothing : (p : Text × List Row) (option : ValueOption) → p.0 ≡ codes "run" → IsFirstWrong p.1 run_values option → (r : Request) → Asks (Some p) r → ⊥
-run_nothing p option e h (Run c told) a = none_wrong p.1 run_values option (run_right p.1 c a.1) h
+run_nothing : (p : Text × List Row) (option : ValueOption) → p.0 ≡ codes "run" → RefusesRun p.1 option → (r : Request) → Asks (Some p) r → ⊥
+run_nothing p option e h (Run c told) a = refused_run p.1 option c h a.1
 run_nothing p option e h r a = differ (codes "run") (name_of r) refl (sym e ∙ asks_name p r a)
 
 option_nothing : (p : Text × List Row) (option : ValueOption) → RefusesOption p.0 p.1 option → (r : Request) → Asks (Some p) r → ⊥

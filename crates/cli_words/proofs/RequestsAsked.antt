@@ -8,7 +8,7 @@ use Rattle.parameters.specs.declared.storm.Storm.{Storm}
 use Rattle.seq_memory.specs.Limits.{Extent}
 use Rattle.cli_words.specs.declared.words.Request.{Request}
 use Rattle.cli_words.specs.declared.words.Request.TheVariants.{Tlp, Decode, Encode, Check, Search, Draw, Upgrade, Step, Chart, Generate, Run}
-use Rattle.cli_options.specs.Values.{WritesBase, WritesNumber, WritesGiven, WritesFlag}
+use Rattle.cli_options.specs.Values.{WritesBase, WritesNumber, WritesGiven, WritesOptional, WritesFlag}
 use Rattle.fabric_core.specs.declared.event.LaneName.{LaneName}
 use Rattle.log_pieces.specs.declared.Granularity.{Granularity}
 use Rattle.cli_words.specs.Granularities.{WritesGranularity}
@@ -31,11 +31,19 @@ pub same_given : (t : Option Text) (a b : ℕ) → WritesGiven t a → WritesGiv
 same_given None a b h k = absurd h
 same_given (Some t) a b h k = h.1 ∙ sym k.1
 
+pub same_optional : (t : Option Text) (a b : Option ℕ) → WritesOptional t a → WritesOptional t b → a ≡ b
+same_optional t None None h k = refl
+same_optional (Some t) None (Some b) h k = cc
+same_optional None None (Some b) h k = absurd k
+same_optional (Some t) (Some a) None h k = cc
+same_optional None (Some a) None h k = absurd h
+same_optional t (Some a) (Some b) h k = ap Some (same_given t a b h k)
+
 pub same_extent : (x y : Extent) → x.base ≡ y.base → x.size ≡ y.size → x.block ≡ y.block → x ≡ y
 same_extent x y a b e j = record { base = a j; size = b j; block = e j }
 
-pub same_counting : (c d : Counting) → c.requesters ≡ d.requesters → c.each ≡ d.each → c.lose ≡ d.lose → c.corrupt ≡ d.corrupt → c.turns ≡ d.turns → c ≡ d
-same_counting c d a b e f g j = record { requesters = a j; each = b j; lose = e j; corrupt = f j; turns = g j }
+pub same_counting : (c d : Counting) → c.requesters ≡ d.requesters → c.each ≡ d.each → c.lose ≡ d.lose → c.corrupt ≡ d.corrupt → c.turns ≡ d.turns → c.workers ≡ d.workers → c ≡ d
+same_counting c d a b e f g h j = record { requesters = a j; each = b j; lose = e j; corrupt = f j; turns = g j; workers = h j }
 
 pub same_storm : (s t : Storm) → s.seed ≡ t.seed → s.events ≡ t.events → s.requesters ≡ t.requesters → s.lose ≡ t.lose → s.corrupt ≡ t.corrupt → s.block ≡ t.block → s ≡ t
 same_storm s t a b e f g h j = record { seed = a j; events = b j; requesters = e j; lose = f j; corrupt = g j; block = h j }
@@ -126,6 +134,6 @@ asks_one (Some p) (Run c t) (Run d u) a b =
     let x = a.1 in
     let y = b.1 in
     let same = same_counting c d (same_given _ _ _ x.requesters_read y.requesters_read) (same_given _ _ _ x.each_read y.each_read) (same_number 0 _ _ _ x.lose_read y.lose_read)
-    (same_number 0 _ _ _ x.corrupt_read y.corrupt_read) (same_number 50000000 _ _ _ x.turns_read y.turns_read) in
+    (same_number 0 _ _ _ x.corrupt_read y.corrupt_read) (same_number 50000000 _ _ _ x.turns_read y.turns_read) (same_optional _ _ _ x.workers_read y.workers_read) in
     ap (λ (k : Counting). Run k t) same ∙ ap (Run d) (same_flag _ t u a.2 b.2)
 asks_one (Some p) r s a b = absurd (differ (name_of r) (name_of s) refl (sym (asks_name p r a) ∙ asks_name p s b))

@@ -8,7 +8,7 @@ use Rattle.seq_memory.specs.Limits.{Extent, IsWithinLimits}
 use Rattle.parameters.specs.declared.storm.Storm.{Storm}
 use Rattle.parameters.specs.Ranges.{IsStorm}
 use Rattle.cli_options.specs.declared.options.TheConstants.{MOST_CHOICES}
-use Rattle.cli_options.specs.Values.{WritesBase, WritesNumber, WritesGiven, WritesFlag}
+use Rattle.cli_options.specs.Values.{WritesBase, WritesNumber, WritesGiven, WritesOptional, WritesFlag}
 use Rattle.fabric_core.specs.declared.event.LaneName.{LaneName}
 use Rattle.log_pieces.specs.declared.Granularity.{Granularity}
 use Rattle.cli_words.specs.Granularities.{WritesGranularity}
@@ -73,7 +73,8 @@ generate_app =
 
 abbrev pub run_app : App
 run_app =
-    with_rule (with_rule (with_links (with_rule (with_rule (new_app (codes "run")) (required (codes "requesters"))) (required (codes "each")))) (option (codes "turns"))) (flag (codes "progress"))
+    with_rule (with_rule (with_rule (with_links (with_rule (with_rule (new_app (codes "run")) (required (codes "requesters"))) (required (codes "each")))) (option (codes "turns"))) (option (codes "workers")))
+    (flag (codes "progress"))
 
 -- the program, with `help` among its subcommands, which the parser answers
 abbrev pub top_app : App
@@ -145,6 +146,7 @@ pub record AsksRun (rows : List Row) (c : Counting) : Type 0 where
   pub lose_read : WritesNumber 0 (first_of (codes "lose") rows) c.lose
   pub corrupt_read : WritesNumber 0 (first_of (codes "corrupt") rows) c.corrupt
   pub turns_read : WritesNumber 50000000 (first_of (codes "turns") rows) c.turns
+  pub workers_read : WritesOptional (first_of (codes "workers") rows) c.workers
   pub right : IsCounting c
 
 -- the subcommand with its values asks for this

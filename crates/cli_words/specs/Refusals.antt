@@ -7,9 +7,9 @@ use Rattle.log_pieces.specs.declared.Granularity.{Granularity}
 use Rattle.cli_words.specs.Granularities.{WritesGranularity}
 use Rattle.cli_words.specs.Lanes.{WritesLane}
 use Rattle.cli_options.specs.declared.options.ValueOption.{ValueOption}
-use Rattle.cli_options.specs.declared.options.ValueOption.TheVariants.{Base, Size, Block, Requesters, Each, Lose, Corrupt, Turns, From, To, Seed, Events, Lane, Limit, Granularity as the_granularity}
+use Rattle.cli_options.specs.declared.options.ValueOption.TheVariants.{Base, Size, Block, Requesters, Each, Lose, Corrupt, Turns, Workers, From, To, Seed, Events, Lane, Limit, Granularity as the_granularity}
 use Rattle.cli_options.specs.declared.refused.RefusedValue.{RefusedValue}
-use Rattle.cli_options.specs.Values.{Gives, GivesBase, name_of}
+use Rattle.cli_options.specs.Values.{Gives, GivesBase, GivesOptional, name_of}
 
 -- the value gives a number that the option may have; the option stands with its default, if it has one
 abbrev pub IsRight : List Row → ValueOption × Option ℕ → Type 0
@@ -38,6 +38,13 @@ IsRightGranularity rows = (g : Granularity) × WritesGranularity (first_of (code
 
 abbrev pub IsWrongGranularity : List Row → Type 0
 IsWrongGranularity rows = (g : Granularity) → WritesGranularity (first_of (codes "granularity") rows) g → ⊥
+
+-- the same of a number that need not be given
+abbrev pub IsRightOptional : List Row → ValueOption → Type 0
+IsRightOptional rows option = (n : Option ℕ) × GivesOptional option (first_of (name_of option) rows) n
+
+abbrev pub IsWrongOptional : List Row → ValueOption → Type 0
+IsWrongOptional rows option = (n : Option ℕ) → GivesOptional option (first_of (name_of option) rows) n → ⊥
 
 -- the value of each option is right
 abbrev pub AreRight : List Row → List (ValueOption × Option ℕ) → Type 0
@@ -88,6 +95,9 @@ RefusesTlp rows option =
 abbrev pub RefusesSearch : List Row → ValueOption → Type 0
 RefusesSearch rows option = IsFirstWrong rows search_values option ⊎ (option ≡ the_granularity) × AreRight rows search_values × IsWrongGranularity rows
 
+abbrev pub RefusesRun : List Row → ValueOption → Type 0
+RefusesRun rows option = IsFirstWrong rows run_values option ⊎ (option ≡ Workers) × AreRight rows run_values × IsWrongOptional rows Workers
+
 abbrev pub RefusesDraw : List Row → ValueOption → Type 0
 RefusesDraw rows option = IsFirstWrong rows draw_values option ⊎ (option ≡ To) × AreRight rows draw_values × EndsBefore rows
 
@@ -99,7 +109,7 @@ RefusesChart rows option =
 abbrev pub RefusesOption : Text → List Row → ValueOption → Type 0
 RefusesOption name rows option =
     (name ≡ codes "tlp") × RefusesTlp rows option ⊎ (name ≡ codes "draw") × RefusesDraw rows option
-    ⊎ (name ≡ codes "generate") × IsFirstWrong rows generate_values option ⊎ (name ≡ codes "run") × IsFirstWrong rows run_values option
+    ⊎ (name ≡ codes "generate") × IsFirstWrong rows generate_values option ⊎ (name ≡ codes "run") × RefusesRun rows option
     ⊎ (name ≡ codes "chart") × RefusesChart rows option
     ⊎ (name ≡ codes "search") × RefusesSearch rows option
 

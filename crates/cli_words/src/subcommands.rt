@@ -190,7 +190,8 @@ fn run_command<'a>(alloc: Global) -> Result<Command<'a>, AllocError>
     let each = with_arg(requesters, required_of(alloc, "each", "COUNT", texts::EACH))?;
     let links = with_links(alloc, each)?;
     let turns = with_arg(links, option_of(alloc, "turns", "COUNT", texts::TURNS))?;
-    with_arg(turns, flag_of(alloc, "progress", texts::PROGRESS))
+    let workers = with_arg(turns, option_of(alloc, "workers", "COUNT", texts::WORKERS))?;
+    with_arg(workers, flag_of(alloc, "progress", texts::PROGRESS))
 }
 
 /// The program without subcommands but `help`. Its name in a usage line is `pciex`, whatever its file is called.

@@ -24,7 +24,7 @@ Exit status:
   1  a fault, a flaw, a refusal, 'none' or a halt was printed, or reading, writing or memory
      failed
   2  wrong arguments
-  3  a worker of 'run' used up its turns, or 'search' its limit";
+  3  a part of 'run' used up its turns, or 'search' its limit";
 
 pub(crate) static TLP: Help = Help {
     about: "Answer request TLPs with their completions",
@@ -162,10 +162,10 @@ pub(crate) static RUN: Help = Help {
     about: "Count with worker threads over lossy links, and check the history",
     long: "Counts with worker threads over lossy links, and checks the history.
 
-Each requester adds 1 to one word of the memory --each times. Each requester, each end of a
-link, the switch and the memory has a thread of its own. The result is four lines:
-'answered', 'history' and 'word' with their numbers, and 'check ok'; or 'halt' and the name
-of what ended the run.",
+Each requester adds 1 to one word of the memory --each times, on a thread of its own. The
+other parts, which are the ends of the links, the switch and the memory, share up to
+--workers threads. The result is four lines: 'answered', 'history' and 'word' with their
+numbers, and 'check ok'; or 'halt' and the name of what ended the run.",
     example: "Example:
   $ pciex run --requesters 2 --each 1000 --lose 3
   answered 2000
@@ -236,8 +236,12 @@ pub(crate) static CORRUPT: &str =
     "Corrupt one in COUNT packets and DLLPs, 0 to 65536; 0 corrupts none
 [default: 0]";
 
-pub(crate) static TURNS: &str = "Limit of calls and records for each worker, 1 to 1000000000
+pub(crate) static TURNS: &str = "Limit of calls and records for each part, 1 to 1000000000
 [default: 50000000]";
+
+pub(crate) static WORKERS: &str =
+    "Number of threads that the parts other than requesters share, 1 to 64
+[default: twice the number of processors]";
 
 pub(crate) static PROGRESS: &str =
     "Print the number of answers on standard error about twice a second;

@@ -10,14 +10,14 @@ ghost use Rattle.cli_words.specs.Granularities.{WritesGranularity};
 ghost use Rattle.cli_words.specs.Lanes.{WritesLane};
 ghost use Rattle.cli_words.specs.Options.{the_app, text_of, Asks};
 ghost use Rattle.cli_words.specs.declared.words.Subcommand.{Subcommand};
-ghost use Rattle.cli_words.specs.Refusals.{IsWrong, IsWrongBase, IsWrongGranularity, IsWrongLane, Refuses};
+ghost use Rattle.cli_words.specs.Refusals.{IsWrong, IsWrongBase, IsWrongGranularity, IsWrongLane, IsWrongOptional, Refuses};
 
 use crate::granularities::granularity_of;
 use crate::lanes::lane_of;
 use crate::subcommands::grammar;
 use clap::ArgMatches;
 use clap::error::ErrorKind;
-use cli_options::{RefusedValue, ValueOption, base_of, is_set, number_of};
+use cli_options::{RefusedValue, ValueOption, base_of, is_set, number_of, optional_of};
 use fabric_core::LaneName;
 use log_pieces::Granularity;
 use parameters::{Counting, Storm};
@@ -126,6 +126,18 @@ fn number_in<'a>(
     ensures refused { IfErr result (λ e. (e.option ≡ option) × (option_map (λ t. t.now) e.given ≡ first_of (name_of option) (rows_of (found_of values.now)))) }
 {
     number_of(option, default, values.get_str(option.name()))
+}
+
+/// The number that the values give to an option that need not be given.
+fn optional_in<'a>(
+    values: &ArgMatches<'a>,
+    option: ValueOption,
+) -> Result<Option<u64>, RefusedValue<'a>>
+    ensures ok { IfOk result (GivesOptional option (first_of (name_of option) (rows_of (found_of values.now)))) }
+    ensures err { OnErr result (IsWrongOptional (rows_of (found_of values.now)) option) }
+    ensures refused { IfErr result (λ e. (e.option ≡ option) × (option_map (λ t. t.now) e.given ≡ first_of (name_of option) (rows_of (found_of values.now)))) }
+{
+    optional_of(option, values.get_str(option.name()))
 }
 
 /// What the values of `tlp` ask for.
@@ -263,6 +275,7 @@ fn run_of<'a>(run: &ArgMatches<'a>) -> Result<Request, RefusedValue<'a>>
     let lose = number_in(run, ValueOption::Lose, Some(0))?;
     let corrupt = number_in(run, ValueOption::Corrupt, Some(0))?;
     let turns = number_in(run, ValueOption::Turns, Some(50_000_000))?;
+    let workers = optional_in(run, ValueOption::Workers)?;
     Ok(Request::Run {
         counting: Counting {
             requesters,
@@ -270,6 +283,7 @@ fn run_of<'a>(run: &ArgMatches<'a>) -> Result<Request, RefusedValue<'a>>
             lose,
             corrupt,
             turns,
+            workers,
         },
         is_told: is_set(run.get_str("progress")),
     })

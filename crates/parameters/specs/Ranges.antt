@@ -1,9 +1,9 @@
 -- The ranges of what `run` and `generate` are asked for.
-use Rattle.std.specs.Prelude.{◌≤◌}
+use Rattle.std.specs.Prelude.{◌≤◌, IfSome}
 use Rattle.seq_memory.specs.Limits.{IsBlock}
 use Rattle.switch_core.specs.declared.routing.TheConstants.{REQUESTERS}
 use Rattle.fault_plan.specs.declared.TheConstants.{MOST}
-use Rattle.parameters.specs.declared.counting.TheConstants.{MOST_ADDITIONS, MOST_TURNS}
+use Rattle.parameters.specs.declared.counting.TheConstants.{MOST_ADDITIONS, MOST_TURNS, MOST_WORKERS}
 use Rattle.parameters.specs.declared.counting.Counting.{Counting}
 use Rattle.parameters.specs.declared.storm.TheConstants.{MOST_EVENTS}
 use Rattle.parameters.specs.declared.storm.Storm.{Storm}
@@ -14,6 +14,7 @@ pub record IsCounting (c : Counting) : Type 0 where
   pub lose : c.lose ≤ MOST
   pub corrupt : c.corrupt ≤ MOST
   pub turns : (1 ≤ c.turns) × (c.turns ≤ MOST_TURNS)
+  pub workers : IfSome c.workers (λ n. (1 ≤ n) × (n ≤ MOST_WORKERS))
 
 pub record IsStorm (s : Storm) : Type 0 where
   pub events : s.events ≤ MOST_EVENTS

@@ -10,6 +10,9 @@ pub const MOST_ADDITIONS: u64 = 100_000;
 /// The most calls of the hall and pushes of records of a worker.
 pub const MOST_TURNS: u64 = 1_000_000_000;
 
+/// The most threads that the workers of lanes, switch and completer are shared by.
+pub const MOST_WORKERS: u64 = 64;
+
 /// How many requesters add how often 1 to the first word of a memory, over what links.
 #[derive(Clone, Copy, Debug, PartialEq, Eq)]
 pub struct Counting {
@@ -23,6 +26,8 @@ pub struct Counting {
     pub corrupt: u64,
     /// How many calls of the hall and pushes of records a worker makes at most, 1 to 1,000,000,000.
     pub turns: u64,
+    /// How many threads the workers of lanes, switch and completer share, 1 to 64. None: twice the processors.
+    pub workers: Option<u64>,
 }
 
 impl Counting {
@@ -37,5 +42,8 @@ impl Counting {
             && self.corrupt <= u64::from(fault_plan::MOST)
             && self.turns >= 1
             && self.turns <= MOST_TURNS
+            && self
+                .workers
+                .is_none_or(|workers| workers >= 1 && workers <= MOST_WORKERS)
     }
 }

@@ -4,5 +4,5 @@
 mod counting;
 mod storm;
 
-pub use counting::{Counting, MOST_ADDITIONS, MOST_TURNS};
+pub use counting::{Counting, MOST_ADDITIONS, MOST_TURNS, MOST_WORKERS};
 pub use storm::{MOST_EVENTS, Storm};

@@ -1,5 +1,5 @@
 //! The plan of a counting.
-ghost use Rattle.std.specs.Prelude.{◌≡◌, IfOk, map};
+ghost use Rattle.std.specs.Prelude.{◌≡◌, IfOk, IfSome, map};
 ghost use Rattle.parameters.specs.Ranges.{IsCounting};
 ghost use Rattle.tlp_core.specs.declared.operation.Op.{Op};
 ghost use Rattle.run_engine.specs.Counting.{addition, script_of, scripts_of, config_of, IsPlanOf};
@@ -7,8 +7,10 @@ ghost use Rattle.run_engine.specs.Counting.{addition, script_of, scripts_of, con
 use fabric_core::Config;
 use fault_plan::Plan;
 use fc_credit::LaneCredits;
-use parameters::Counting;
+use parameters::{Counting, MOST_WORKERS};
 use std::alloc::{AllocError, Global};
+use std::thread;
+use std::thread::Threads;
 use tlp_core::{Op, Width};
 use workers::RunPlan;
 
@@ -59,10 +61,31 @@ fn scripts_of(alloc: Global, requesters: u8, each: u64) -> Result<Vec<Vec<Op>>, 
     Ok(scripts)
 }
 
-/// The plan of the run.
-pub(crate) fn plan_of(alloc: Global, counting: &Counting) -> Result<RunPlan, AllocError>
+/// How many threads share the workers of lanes, switch and completer: as many as are asked for, else twice the processors,
+/// or 8 if their number is unknown.
+pub(crate) fn threads_of<R: Threads>(rt: &R, counting: &Counting) -> u64
+    ensures { IfSome counting.now.workers (λ n. result ≡ n) }
+{
+    if let Some(workers) = counting.workers {
+        return workers;
+    }
+    match thread::available_parallelism(rt) {
+        Ok(processors) => (processors.get() as u64)
+            .saturating_mul(2)
+            .min(MOST_WORKERS),
+        Err(_) => 8,
+    }
+}
+
+/// The plan of the run, with so many threads.
+pub(crate) fn plan_of(
+    alloc: Global,
+    counting: &Counting,
+    threads: u64,
+) -> Result<RunPlan, AllocError>
     requires { IsCounting counting.now }
-    ensures { IfOk result (IsPlanOf counting.now) }
+    ensures plan { IfOk result (IsPlanOf counting.now) }
+    ensures threads { IfOk result (λ p. p.threads ≡ threads) }
 {
     let requesters = counting.requesters as u8;
     let scripts = scripts_of(alloc, requesters, counting.each)?;
@@ -74,5 +97,6 @@ pub(crate) fn plan_of(alloc: Global, counting: &Counting) -> Result<RunPlan, All
             corrupt_every: counting.corrupt as u32,
         },
         turns: counting.turns,
+        threads,
     })
 }

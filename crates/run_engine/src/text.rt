@@ -10,7 +10,7 @@ ghost use Rattle.parameters.specs.Ranges.{IsCounting};
 ghost use Rattle.run_engine.specs.Counting.{scripts_of, config_of};
 ghost use Rattle.run_engine.specs.Text.{number_line, is_answer, answers_in, first_word, report_text, halt_text, halt_status, IsOutput, IsWhole, IsPart};
 
-use crate::plan::plan_of;
+use crate::plan::{plan_of, threads_of};
 use crate::progress::watched;
 use arrayvec::ArrayString;
 use byteorder::{ByteOrder, LittleEndian};
@@ -118,7 +118,7 @@ fn run<R: Threads + Wait + Sync>(
     ensures config { IfOk result (λ r. HasConfig r.fabric (config_of counting.now.requesters)) }
     ensures halt { IfErr result (λ h. IsEndBy (config_of counting.now.requesters) h) }
 {
-    match plan_of(alloc, counting) {
+    match plan_of(alloc, counting, threads_of(rt, counting)) {
         Ok(plan) => run_workers_counting(rt, alloc, plan, &OpenGate, answered),
         Err(_) => Err(RunHalt::Memory),
     }

@@ -23,7 +23,12 @@ struct Counting {
     lose: u32,
     corrupt: u32,
     turns: u64,
+    /// How many threads the workers of lanes, switch and completer share.
+    threads: u64,
 }
+
+/// A thread for each worker.
+const ONE_EACH: u64 = 34;
 
 pub(super) fn add(address: u64) -> Op {
     Op::FetchAdd {
@@ -62,6 +67,7 @@ fn plan_of(alloc: Global, counting: Counting) -> Result<RunPlan, AllocError> {
             corrupt_every: counting.corrupt.min(65536),
         },
         turns: counting.turns,
+        threads: counting.threads,
     })
 }
 
@@ -77,6 +83,7 @@ pub(super) fn plan_with(requesters: u8, scripts: Vec<Vec<Op>>) -> RunPlan
             corrupt_every: 0,
         },
         turns: 50_000_000,
+        threads: ONE_EACH,
     }
 }
 
@@ -141,6 +148,7 @@ fn two_requesters_count_each_addition_once(rt: HostRuntime) -> Result<(), Fail> 
             lose: 3,
             corrupt: 0,
             turns: 50_000_000,
+            threads: ONE_EACH,
         },
     )?;
     assert!(rt; counts(&rt, rt.alloc(), plan, 2000)?);
@@ -157,9 +165,48 @@ fn seven_requesters_count_over_bad_links(rt: HostRuntime) -> Result<(), Fail> {
             lose: 2,
             corrupt: 3,
             turns: 1_000_000_000,
+            threads: 8,
         },
     )?;
     assert!(rt; counts(&rt, rt.alloc(), plan, 4200)?);
+    Ok(())
+}
+
+/// Runs in which few threads share the workers of lanes, switch and completer.
+const SHARED: [Counting; 3] = [
+    Counting {
+        requesters: 3,
+        each: 30,
+        lose: 3,
+        corrupt: 5,
+        turns: 50_000_000,
+        threads: 1,
+    },
+    Counting {
+        requesters: 7,
+        each: 10,
+        lose: 0,
+        corrupt: 0,
+        turns: 50_000_000,
+        threads: 3,
+    },
+    Counting {
+        requesters: 2,
+        each: 30,
+        lose: 0,
+        corrupt: 0,
+        turns: 50_000_000,
+        threads: 9,
+    },
+];
+
+#[test]
+fn few_threads_count(rt: HostRuntime) -> Result<(), Fail> {
+    for counting in SHARED {
+        let count = usize::from(counting.requesters).saturating_mul(counting.each as usize);
+        let plan = plan_of(rt.alloc(), counting)?;
+        assert!(rt; counts(&rt, rt.alloc(), plan, count)?, "{counting.threads}");
+    }
     Ok(())
 }
 
@@ -236,6 +283,7 @@ fn halt_of_two<R: Threads + Wait + Sync>(
             lose: 0,
             corrupt: 0,
             turns: 50_000_000,
+            threads: ONE_EACH,
         },
     )?;
     let halt = halt_of(rt, alloc, plan, &gate);
@@ -273,6 +321,7 @@ fn a_gate_ends_the_run(rt: HostRuntime) -> Result<(), Fail> {
             lose: 0,
             corrupt: 0,
             turns: 50_000_000,
+            threads: ONE_EACH,
         },
     )?;
     assert_eq!(rt; halt_of(&rt, rt.alloc(), plan, &gate), Some(RunHalt::Gated));
@@ -315,6 +364,7 @@ const TOO_FEW: [Counting; 2] = [
         lose: 1,
         corrupt: 0,
         turns: 1000,
+        threads: ONE_EACH,
     },
     Counting {
         requesters: 2,
@@ -322,6 +372,7 @@ const TOO_FEW: [Counting; 2] = [
         lose: 0,
         corrupt: 1,
         turns: 1000,
+        threads: ONE_EACH,
     },
 ];
 
@@ -342,6 +393,7 @@ fn a_hundred_turns_are_too_few(rt: HostRuntime) -> Result<(), Fail> {
         lose: 0,
         corrupt: 0,
         turns: 100,
+        threads: ONE_EACH,
     };
     let (halt, turn) = ends_at(&rt, rt.alloc(), counting)?;
     assert_eq!(rt; (halt, turn <= 100), (Some(RunHalt::Turns), true));
@@ -423,6 +475,7 @@ fn faulty_plans<R: Threads + Wait + Sync>(rt: &R, alloc: Global) -> Result<u32, 
                 lose: 0,
                 corrupt: 0,
                 turns,
+                threads: ONE_EACH,
             },
         )?;
         let plan = RunPlan { config, ..plan };

@@ -92,6 +92,7 @@ fn mixed_plan(alloc: Global, each: u64) -> Result<RunPlan, AllocError> {
             corrupt_every: 7,
         },
         turns: 1_000_000_000,
+        threads: 8,
     })
 }
 

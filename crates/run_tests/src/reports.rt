@@ -13,6 +13,7 @@ fn counts_nothing<T: Threads + Wait + Sync>(rt: &T, alloc: Global) -> bool {
         lose: 0,
         corrupt: 0,
         turns: 50_000_000,
+        workers: None,
     };
     let mut out = Vec::new(alloc);
     let mut errors = Vec::new(alloc);

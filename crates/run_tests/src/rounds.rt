@@ -18,7 +18,7 @@ use std::alloc::Global;
 use std::sync::atomic::{AtomicU64, Ordering};
 use std::test::Fail;
 use worker_turns::{Gate, Shared, Stop, Turns};
-use workers::{Job, Worker};
+use workers::{Job, Task, Worker, work};
 
 /// Counts the calls of a worker. A call of another worker ends the run.
 #[derive(Drop)]
@@ -64,8 +64,9 @@ fn makes(hall: &Hall, seat: WorkSeat, job: Job, count: u64) -> bool
     };
     let calls = no_calls(100);
     let shared = Shared::new();
-    let mut turns = Turns::new(100, count, &calls, &shared);
-    Worker::new(hall, seat, plan, 2).run(job, &mut turns);
+    let worker = Worker::new(hall, seat, plan, 2);
+    let turns = Turns::new(100, count, &calls, &shared);
+    work(&mut [Task::new(worker, job, turns)]);
     shared.stopped() == Some(Stop::Turns) && counted(&calls) == (count, count)
 }
 

@@ -21,6 +21,8 @@ pub struct RunPlan {
     pub plan: Plan,
     /// How many calls of the hall and pushes of records a worker makes at most.
     pub turns: u64,
+    /// How many threads the workers of lanes, switch and completer share at most. 0 stands for 1.
+    pub threads: u64,
 }
 
 /// The fabric of a plan that can be run, to which nothing has happened. The halts are `Plan`, then `Memory`.

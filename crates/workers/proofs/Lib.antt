@@ -1,2 +1,4 @@
 pub mod Beginning
 pub mod Rows
+pub mod Dealing
+pub mod Starting

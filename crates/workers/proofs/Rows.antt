@@ -20,7 +20,6 @@ use Rattle.worker_requester.specs.declared.requester.Ended.{Ended}
 use Rattle.workers.specs.declared.threads.Keeps.{Keeps}
 use Rattle.worker_requester.specs.Following.{IsUnusedSeat, Finishes}
 use Rattle.fabric_core.specs.declared.event.LaneName.TheVariants as lanes
-use Rattle.workers.specs.declared.jobs.Job.{Job}
 use Rattle.workers.specs.declared.jobs.Job.TheVariants as jobs
 use Rattle.workers.specs.Jobs.{lane_jobs, port_jobs, jobs_of}
 use Rattle.workers.specs.Running.{AreUnusedSeats, AreSeats, AreHandles, AreFinished, AreBelow, AreDone}
@@ -199,9 +198,3 @@ port_jobs_count (suc n) = length-append (port_jobs n) (lane_jobs (lanes.Up (suc 
 
 pub jobs_count : (n : ℕ) → length (jobs_of n) ≡ 4 * n + 6
 jobs_count n = length-append (port_jobs n) (lane_jobs lanes.Inward ++ (lane_jobs lanes.Outward ++ jobs.Switch ∷ jobs.Completer ∷ [])) ∙ ap (λ k. k + 6) (port_jobs_count n)
-
--- the promises of the threads, of which one more was started
-pub promised_more : (js : List Job) (i : ℕ) (hs : List (PromisedHandle (Unit {0}) Job)) (j : Job) (h : PromisedHandle (Unit {0}) Job) → map (λ t. t.promise) hs ≡ take i js → i < length js → j ≡ get_or js i j → h.promise ≡ j
-    → map (λ t. t.promise) (hs ++ h ∷ []) ≡ take (i + 1) js
-promised_more js i hs j h old below here is = map-append (λ (t : PromisedHandle (Unit {0}) Job). t.promise) hs (h ∷ [])
-    ∙ (λ k. old k ++ is k ∷ []) ∙ sym (ap (λ k. take k js) (add-one i) ∙ take-suc js i j below ∙ ap (λ x. take i js ++ x ∷ []) (sym here))

@@ -1,17 +1,18 @@
 -- The seats of a run's hall, and the pass of its checker.
-use Rattle.std.specs.Prelude.{◌≡◌, ◌<◌, [], vec_len, length}
+use Rattle.std.specs.Prelude.{◌≡◌, ◌<◌, [], vec_len, length, map}
 use Rattle.recorder.specs.Rule.{unbegun}
 use Rattle.workers.specs.declared.context.RunContext.{RunContext}
 use Rattle.workers.specs.declared.context.Crew.{Crew}
-use Rattle.workers.specs.Jobs.{jobs_of}
+use Rattle.workers.specs.Jobs.{jobs_of, AreShares}
 use Rattle.workers.specs.Running.{AreUnusedSeats, AreWorkSeats}
 
--- a seat for each script, one for each of the other workers, and a checker's pass with which nothing was taken yet
+-- a seat for each script, one for each of the other jobs, which threads share, and a checker's pass with which nothing
+-- was taken yet
 pub record IsCrewOf (run : RunContext) (crew : Crew) : Type 0 where
   pub count : vec_len crew.seats ≡ length run.plan.scripts.items
   pub few : length run.plan.scripts.items < 8
   pub seats : AreUnusedSeats run.hall 1 crew.seats.items
-  pub requesters : run.plan.config.requesters < 8
+  pub shares : AreShares run.plan.config.requesters run.plan.threads (map (λ s. s.items) run.shares.items)
   pub others : vec_len crew.workers ≡ length (jobs_of run.plan.config.requesters)
   pub workers : AreWorkSeats run.hall crew.workers.items
   pub queue : crew.taker.queue ≡ run.recorder

@@ -1,3 +1,4 @@
 pub mod Running
 pub mod Crews
 pub mod Jobs
+pub mod Tasks

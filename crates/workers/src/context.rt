@@ -1,5 +1,6 @@
 //! What a run has before its threads begin.
 
+use crate::jobs::Job;
 use hall_core::{Hall, ReqSeat, WorkSeat};
 use recorder::{Recorder, Taker};
 use std::alloc::Global;
@@ -11,6 +12,8 @@ use worker_turns::Shared;
 pub struct RunContext {
     pub alloc: Global,
     pub plan: RunPlan,
+    /// The jobs of each thread beside those of the requesters.
+    pub shares: Vec<Vec<Job>>,
     pub hall: Hall,
     pub recorder: Recorder,
     pub shared: Shared,

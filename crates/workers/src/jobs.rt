@@ -1,4 +1,4 @@
-//! The workers of the lanes, the switch and the completer. Each has one seat and a loop of rounds.
+//! The workers of the lanes, the switch and the completer. Each has one seat, and goes round by round.
 ghost use Rattle.std.specs.Prelude.{◌≡◌, ◌<◌, ◌≤◌, IfSome, false};
 ghost use Rattle.dllp_core.specs.declared.packet.Class.TheVariants.{Posted};
 ghost use Rattle.hall_core.specs.Views.{IsSeatOf};
@@ -8,7 +8,6 @@ use fabric_core::{LaneName, Refusal};
 use fault_plan::Plan;
 use hall_core::{Hall, HallRefusal, WorkEvent, WorkSeat};
 use lane_core::DllpKind;
-use std::thread;
 use worker_turns::{
     COMPLETER, DOWN_LANES, Gate, INWARD_LANE, OUTWARD_LANE, RECEIVERS, SWITCH, Stop, Turns,
     UP_LANES,
@@ -233,8 +232,8 @@ impl<'a> Worker<'a> {
         Some(served == Tried::Done)
     }
 
-    /// A round: whether it got on.
-    fn round<G: Gate>(&mut self, job: Job, turns: &mut Turns<'_, G>) -> Option<bool>
+    /// A round: whether it got on. None if the run is over.
+    pub(crate) fn round<G: Gate>(&mut self, job: Job, turns: &mut Turns<'_, G>) -> Option<bool>
         requires { IsSeatOf self.old.hall.now self.old.seat }
         ensures seat { IsSeatOf self.new.hall.now self.new.seat }
         ensures limit { turns.new.limit ≡ turns.old.limit }
@@ -245,19 +244,6 @@ impl<'a> Worker<'a> {
             Job::Receiver(name) => self.receive(name, turns),
             Job::Switch => self.switch(turns),
             Job::Completer => self.complete(turns),
-        }
-    }
-
-    /// Rounds until the run is over. Each call of the hall is one turn. The seat is spent.
-    pub fn run<G: Gate>(self, job: Job, turns: &mut Turns<'_, G>)
-        requires { IsSeatOf self.hall.now self.seat }
-        ensures { turns.new.limit ≡ turns.old.limit }
-    {
-        let mut at = self;
-        while let Some(did) = at.round(job, turns) {
-            if !did {
-                thread::yield_now();
-            }
         }
     }
 }

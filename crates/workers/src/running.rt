@@ -9,6 +9,7 @@ ghost use Rattle.workers.specs.Running.{AreSeats, AreDone};
 ghost use Rattle.workers.specs.Crews.{IsCrewOf};
 
 use crate::context::{Crew, RunContext};
+use crate::shares::shares_of;
 use crate::threads::{Gathered, drive};
 use hall_core::Hall;
 use recorder::Recorder;
@@ -66,6 +67,9 @@ pub fn run_workers_counting<R: Threads + Wait + Sync, G: Gate + Sync>(
 {
     let fabric = fabric_of(alloc, &plan)?;
     let config = plan.config;
+    let Ok(shares) = shares_of(alloc, config.requesters, plan.threads) else {
+        return Err(RunHalt::Memory);
+    };
     let Ok((hall, seats, workers)) = Hall::new(fabric, workers_of(config.requesters), alloc) else {
         return Err(RunHalt::Memory);
     };
@@ -75,6 +79,7 @@ pub fn run_workers_counting<R: Threads + Wait + Sync, G: Gate + Sync>(
     let run = RunContext {
         alloc,
         plan,
+        shares,
         hall,
         recorder,
         shared: Shared::new(),

@@ -1,15 +1,15 @@
-//! The threads of a run: one for each worker, each joined at its end.
-ghost use Rattle.std.specs.Prelude.{◌≡◌, ⊤, ◌+◌, ◌-◌, ◌<◌, [], ◌++◌, IfOk, OnOk, IsTrue, vec_len, length, map};
+//! The threads of a run: one for each requester, and one for each share of the other jobs. Each is joined at its end.
+ghost use Rattle.std.specs.Prelude.{◌≡◌, ⊤, ◌+◌, ◌-◌, ◌<◌, ◌≤◌, [], ◌++◌, IfOk, OnOk, IsTrue, vec_len, length, map};
 ghost use Rattle.recorder.specs.Rule.{unbegun, IsWhole};
 ghost use Rattle.hall_core.specs.Views.{IsSeatOf};
 ghost use Rattle.worker_requester.specs.Following.{IsUnusedSeat, Follows, Finishes};
-ghost use Rattle.workers.specs.Jobs.{lane_jobs, port_jobs, jobs_of};
+ghost use Rattle.workers.specs.Jobs.{jobs_of, AreShares};
 ghost use Rattle.workers.specs.Running.{AreUnusedSeats, AreSeats, AreHandles, AreFinished, AreDone, AreWorkSeats};
 ghost use Rattle.workers.specs.Crews.{IsCrewOf};
 
 use crate::context::{Crew, RunContext};
 use crate::jobs::{Job, Worker};
-use fabric_core::LaneName;
+use crate::tasks::{Task, work};
 use hall_core::{Hall, ReqSeat, WorkSeat};
 use history_check::Record;
 use recorder::{Pusher, Recorder, Taker};
@@ -120,81 +120,81 @@ fn start_all<'s, E, G: Gate + Sync>(
     Ok(handles)
 }
 
-/// The thread of a job is started.
-impl Promise<()> for Job {
+/// The jobs of a thread that is started.
+#[derive(Clone, Copy)]
+pub struct Share<'a> {
+    jobs: &'a [Job],
+}
+
+impl<'a> Promise<()> for Share<'a> {
     ghost kept_by = { λ _ _. ⊤ };
 }
 
-/// What another worker's thread does.
-fn one_work<G: Gate>(worker: Worker<'_>, job: Job, mut turns: Turns<'_, G>)
-    requires { IsSeatOf worker.hall.now worker.seat }
+/// The job as a task, with the seat.
+fn task_of<'s, G: Gate>(run: &'s RunContext, gate: &'s G, job: Job, seat: WorkSeat) -> Task<'s, G>
+    requires { IsSeatOf run.now.hall seat }
+    ensures { result.job ≡ job }
 {
-    worker.run(job, &mut turns);
+    let worker = Worker::new(&run.hall, seat, run.plan.plan, run.plan.config.requesters);
+    let turns = Turns::new(job.number(), run.plan.turns, gate, &run.shared);
+    Task::new(worker, job, turns)
 }
 
-/// Starts the thread of another worker. It is joined with the scope.
-fn start_work<'s, E, G: Gate + Sync>(
-    scope: &Scope<'s, E>,
+/// The jobs as tasks, each with a seat of its own.
+fn tasks_of<'s, G: Gate>(
     run: &'s RunContext,
     gate: &'s G,
-    seat: WorkSeat,
-    job: Job,
-) -> Result<PromisedHandle<(), Job>, AllocError>
-    requires { IsSeatOf run.now.hall seat }
-    ensures { IfOk result (λ h. h.promise ≡ job) }
+    jobs: &[Job],
+    seats: &mut Vec<WorkSeat>,
+) -> Result<Vec<Task<'s, G>>, AllocError>
+    requires { AreWorkSeats run.now.hall seats.old.items × (length jobs.now ≤ vec_len seats.old) }
+    ensures jobs { IfOk result (λ v. map (λ t. t.job) v.items ≡ jobs.now) }
+    ensures seats { OnOk result (AreWorkSeats run.now.hall seats.new.items × (vec_len seats.new + length jobs.now ≡ vec_len seats.old)) }
 {
-    let handle = scope.spawn_with(job, move || {
-        one_work(
-            Worker::new(&run.hall, seat, run.plan.plan, run.plan.config.requesters),
-            job,
-            Turns::new(job.number(), run.plan.turns, gate, &run.shared),
-        )
-    })?;
+    let mut tasks = Vec::with_capacity(run.alloc, jobs.len())?;
+    for job in jobs {
+        let seat = seats.pop().unwrap();
+        tasks.push(task_of(run, gate, *job, seat))?;
+    }
+    Ok(tasks)
+}
+
+/// What the thread of a share does.
+fn one_work<G: Gate>(mut tasks: Vec<Task<'_, G>>) {
+    work(tasks.as_mut_slice());
+}
+
+/// Starts the thread of a share. It is joined with the scope.
+fn start_work<'s, E, G: Gate + Sync>(
+    scope: &Scope<'s, E>,
+    share: Share<'s>,
+    tasks: Vec<Task<'s, G>>,
+) -> Result<PromisedHandle<(), Share<'s>>, AllocError>
+    requires { map (λ t. t.job) tasks.items ≡ share.jobs.now }
+    ensures { IfOk result (λ h. h.promise ≡ share.entry) }
+{
+    let handle = scope.spawn_with(share, move || one_work(tasks))?;
     Ok(handle)
 }
 
-/// The jobs of a lane join the others.
-fn push_lane(jobs: &mut Vec<Job>, lane: LaneName) -> Result<(), AllocError>
-    ensures { OnOk result (jobs.new.items ≡ jobs.old.items ++ lane_jobs lane) }
-{
-    jobs.push(Job::Sender(lane))?;
-    jobs.push(Job::Receiver(lane))?;
-    Ok(())
-}
-
-/// The jobs of the workers beside the requesters.
-fn all_jobs(alloc: Global, requesters: u8) -> Result<Vec<Job>, AllocError>
-    requires { requesters < 8 }
-    ensures { IfOk result (λ v. v.items ≡ jobs_of requesters) }
-{
-    let mut jobs = Vec::new(alloc);
-    for i in 0..requesters {
-        push_lane(&mut jobs, LaneName::Up(i + 1))?;
-        push_lane(&mut jobs, LaneName::Down(i + 1))?;
-    }
-    push_lane(&mut jobs, LaneName::Inward)?;
-    push_lane(&mut jobs, LaneName::Outward)?;
-    jobs.push(Job::Switch)?;
-    jobs.push(Job::Completer)?;
-    Ok(jobs)
-}
-
-/// Starts all workers beside the requesters, a thread for each job.
+/// Starts the threads of all jobs, one for each share.
 fn start_others<'s, E, G: Gate + Sync>(
     scope: &Scope<'s, E>,
     run: &'s RunContext,
     gate: &'s G,
     mut seats: Vec<WorkSeat>,
-) -> Result<Vec<PromisedHandle<(), Job>>, AllocError>
-    requires count { run.now.plan.config.requesters < 8 }
+) -> Result<Vec<PromisedHandle<(), Share<'s>>>, AllocError>
+    requires shares { AreShares run.now.plan.config.requesters run.now.plan.threads (map (λ s. s.items) run.now.shares.items) }
     requires seats { (vec_len seats ≡ length (jobs_of run.now.plan.config.requesters)) × AreWorkSeats run.now.hall seats.items }
-    ensures { IfOk result (λ v. map (λ h. h.promise) v.items ≡ jobs_of run.now.plan.config.requesters) }
+    ensures { IfOk result (λ v. AreShares run.now.plan.config.requesters run.now.plan.threads (map (λ h. h.promise.jobs.now) v.items)) }
 {
-    let jobs = all_jobs(run.alloc, run.plan.config.requesters)?;
-    let mut handles = Vec::with_capacity(run.alloc, jobs.len())?;
-    for job in &jobs {
-        let seat = seats.pop().unwrap();
-        let handle = start_work(scope, run, gate, seat, *job)?;
+    let mut handles = Vec::with_capacity(run.alloc, run.shares.len())?;
+    for jobs in &run.shares {
+        let share = Share {
+            jobs: jobs.as_slice(),
+        };
+        let tasks = tasks_of(run, gate, share.jobs, &mut seats)?;
+        let handle = start_work(scope, share, tasks)?;
         handles.push(handle)?;
     }
     Ok(handles)
@@ -209,7 +209,7 @@ fn start_crew<'s, E, G: Gate + Sync>(
     workers: Vec<WorkSeat>,
     taker: &mut Taker,
 ) -> Result<Vec<PromisedHandle<Ended, Keeps<'s>>>, AllocError>
-    requires few { run.now.plan.config.requesters < 8 }
+    requires shares { AreShares run.now.plan.config.requesters run.now.plan.threads (map (λ s. s.items) run.now.shares.items) }
     requires seats { (vec_len seats ≡ length run.now.plan.scripts.items) × (length run.now.plan.scripts.items < 8) × AreUnusedSeats run.now.hall 1 seats.items }
     requires workers { (vec_len workers ≡ length (jobs_of run.now.plan.config.requesters)) × AreWorkSeats run.now.hall workers.items }
     requires taker { (taker.old.queue ≡ run.now.recorder) × (taker.old.taken.known ≡ unbegun 7 1) }

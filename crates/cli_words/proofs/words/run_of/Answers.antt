@@ -1,4 +1,5 @@
 use Rattle.std.proofs.Common.{◌∙◌, refl, subst, codes, Option}
+use Rattle.std.proofs.lemmas.Option.{IfSome_then}
 use Rattle.clap.specs.Words.{found_of, Text}
 use Rattle.clap.proofs.WalkLemmas.{first_value-rows}
 use Rattle.cli_options.specs.Values.{WritesFlag}
@@ -10,7 +11,8 @@ returns-clause-ok c =
     let each = c.in_ok-each.ensures.ok in
     let lose = c.in_ok-lose.ensures.ok in
     let corrupt = c.in_ok-corrupt.ensures.ok in
-    let turns = c.in_ok-turns.ensures.ok in (
+    let turns = c.in_ok-turns.ensures.ok in
+    let workers = c.in_ok-workers.ensures.ok in (
       refl,
       record {
         requesters_read = requesters.0;
@@ -18,12 +20,14 @@ returns-clause-ok c =
         lose_read = lose.0;
         corrupt_read = corrupt.0;
         turns_read = turns.0;
+        workers_read = workers.0;
         right = record {
           requesters = (requesters.1.least, requesters.1.most);
           each = each.1.most;
           lose = lose.1.most;
           corrupt = corrupt.1.most;
           turns = (turns.1.least, turns.1.most);
+          workers = IfSome_then c.in_ok-workers.workers workers.1 (λ n a. (a.least, a.most));
         };
       },
       subst (λ (t : Option Text). WritesFlag t c.is_set.result) (c.get_str.ensures ∙ first_value-rows (found_of c.args.run.now) (codes "progress")) c.is_set.ensures,

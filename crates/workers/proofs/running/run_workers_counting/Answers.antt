@@ -7,19 +7,19 @@ pub run_threads-gathered-requires-clause-crew : goal.run_threads-gathered-requir
 run_threads-gathered-requires-clause-crew g c κs within =
     let plan = c.in_ok-fabric.ensures.ok.0 in
     let new = c.in_ok-fabric.ensures.ok.1 in
-    let has = c.in-Ok.ensures.config in
-    let number = c.in-Ok.ensures.requesters.number in
+    let has = c.in-Ok-new.ensures.config in
+    let number = c.in-Ok-new.ensures.requesters.number in
     let count = has.requesters in
     let made = new.requesters.number in
     let same = plan.1 in
     let few = plan.0.requesters.1 in
     record {
-      count = omega (arith, c.in-Ok.seats.ok.0);
+      count = omega (arith, c.in-Ok-new.seats.ok.0);
       few = omega arith;
-      seats = first_seats c.in-Ok.hall c.in-Ok.seats.items c.in-Ok.ensures.requesters;
-      requesters = omega arith;
-      others = omega (arith, c.in-Ok.workers.ok.0, c.in-Ok.ensures.work.number, c.workers_of.ensures);
-      workers = work_seats c.in-Ok.hall _ _ c.in-Ok.workers.items c.in-Ok.ensures.work;
+      seats = first_seats c.in-Ok-new.hall c.in-Ok-new.seats.items c.in-Ok-new.ensures.requesters;
+      shares = c.in-Ok.ensures;
+      others = omega (arith, c.in-Ok-new.workers.ok.0, c.in-Ok-new.ensures.work.number, c.workers_of.ensures);
+      workers = work_seats c.in-Ok-new.hall _ _ c.in-Ok-new.workers.items c.in-Ok-new.ensures.work;
       queue = search rules;
       known = search rules;
       records = search rules;

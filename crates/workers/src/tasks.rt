@@ -1,0 +1,82 @@
+//! The work of a thread: the rounds of the workers that share it, one after the other.
+ghost use Rattle.std.specs.Prelude.{◌≡◌, ◌<◌, zero, IfSome, IfNone};
+ghost use Rattle.hall_core.specs.Views.{IsSeatOf};
+ghost use Rattle.workers.specs.Tasks.{turns_left};
+
+use crate::jobs::{Job, Worker};
+use std::marker::Model;
+use std::thread;
+use worker_turns::{Gate, Turns};
+
+/// A worker at its job, with its own turns.
+#[derive(Drop)]
+pub struct Task<'a, G> {
+    worker: Worker<'a>,
+    job: Job,
+    turns: Turns<'a, G>,
+    /// Whether it has ended.
+    is_over: bool,
+}
+
+impl<'a, G> Model for Task<'a, G> {
+    ghost use Rattle.std.specs.Prelude.{◌-◌, suc, cond};
+    ghost use Rattle.hall_core.specs.Views.{IsSeatOf};
+    ghost use Rattle.workers.specs.Tasks.{TaskView};
+
+    ghost Value = { TaskView };
+
+    ghost view = { λ t. record { job = t.job; left = cond t.is_over 0 (suc (t.turns.limit - t.turns.done)) } };
+
+    ghost invariant = { λ t. IsSeatOf t.worker.hall.now t.worker.seat };
+}
+
+impl<'a, G: Gate> Task<'a, G> {
+    /// The worker has done nothing at its job yet.
+    pub fn new(worker: Worker<'a>, job: Job, turns: Turns<'a, G>) -> Task<'a, G>
+        requires { IsSeatOf worker.hall.now worker.seat }
+        ensures { result.job ≡ job }
+    {
+        Task {
+            worker,
+            job,
+            turns,
+            is_over: false,
+        }
+    }
+
+    /// A round: whether it got on. None if it has ended, as it does with the run.
+    fn round(&mut self) -> Option<bool>
+        ensures job { self.new.job ≡ self.old.job }
+        ensures turn { IfSome result (λ _. self.new.left < self.old.left) }
+        ensures ended { IfNone result (self.new.left ≡ zero) }
+    {
+        if self.is_over {
+            return None;
+        }
+        let did = self.worker.round(self.job, &mut self.turns);
+        self.is_over = did.is_none();
+        did
+    }
+}
+
+/// A round of each: whether one got on. None if each has ended.
+fn all_round<G: Gate>(tasks: &mut [Task<'_, G>]) -> Option<bool>
+    ensures { IfSome result (λ _. turns_left tasks.new < turns_left tasks.old) }
+{
+    let mut went = None;
+    for task in tasks.iter_mut() {
+        if let Some(did) = task.round() {
+            went = Some(did || went == Some(true));
+        }
+    }
+    went
+}
+
+/// Rounds of each until each has ended. Each call of the hall is one of its worker's turns. The seats are spent.
+pub fn work<G: Gate>(tasks: &mut [Task<'_, G>]) {
+    while let Some(did) = all_round(tasks) {
+        if !did {
+            thread::yield_now();
+        }
+    }
+}
