@@ -58,3 +58,11 @@ place_in w rows line =
 
 abbrev pub place_of : ChartWindow → ℕ → ℕ → Event → Place
 place_of w rows line event = if is_chosen w.lane event then place_in w rows line else places.Hidden
+
+-- of what would be shown, a brief chart leaves out what tells nothing new
+abbrev pub is_omitted : ChartWindow → Bool → Bool
+is_omitted w is_old = w.is_brief && is_old
+
+abbrev pub unless_omitted : Bool → Place → Place
+unless_omitted true places.Shown = places.Omitted
+unless_omitted _ place = place

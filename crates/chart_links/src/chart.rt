@@ -7,6 +7,7 @@ ghost use Rattle.chart_links.specs.ChartView as spec;
 use crate::course::Course;
 use crate::lanes::follow;
 use crate::left::{add_dllp, add_left, add_packet};
+use crate::news::tells_nothing;
 use crate::window::{ChartWindow, Place, absent_words};
 use chart_page::put_chart;
 use chart_rows::{Deed, Open, Page, Row};
@@ -62,7 +63,7 @@ fn add_open(deed: Deed, opens: &mut Vec<Open>) -> Result<(), AllocError>
     }
 }
 
-/// One event more that isn't shown, before the rows or after them.
+/// One event more that isn't shown, before the rows, after them, or as it tells nothing new.
 fn count(place: Place, page: &mut Page)
     ensures page { page.new ≡ spec.counted place page.old }
     ensures rows { page.new.rows ≡ page.old.rows }
@@ -70,6 +71,7 @@ fn count(place: Place, page: &mut Page)
     match place {
         Place::Before => page.before = page.before.saturating_add(1),
         Place::After => page.after = page.after.saturating_add(1),
+        Place::Omitted => page.omitted = page.omitted.saturating_add(1),
         _ => {}
     }
 }
@@ -137,6 +139,7 @@ impl Chart {
                 opens: Vec::new(alloc),
                 before: 0,
                 after: 0,
+                omitted: 0,
             },
         })
     }
@@ -147,7 +150,9 @@ impl Chart {
         ensures { OnOk result (self.new ≡ spec.charted self.old line event seen) }
     {
         let rows = self.page.rows.len();
-        let place = self.window.place_of(rows, line, &event);
+        let is_old = tells_nothing(&self.courses, &event, &seen);
+        let chosen = self.window.place_of(rows, line, &event);
+        let place = self.window.unless_old(is_old, chosen);
         let row = row_at(place, rows);
         let deed = follow(&mut self.courses, row, &event, &seen)?;
         count(place, &mut self.page);

@@ -13,6 +13,8 @@ pub struct ChartWindow {
     pub from: u64,
     /// The last one.
     pub to: u64,
+    /// Whether events that tell nothing new are left out.
+    pub is_brief: bool,
 }
 
 /// The lane that an event is of.
@@ -93,6 +95,8 @@ pub(crate) enum Place {
     Shown,
     /// It isn't shown, and comes after the rows.
     After,
+    /// It is left out, as it tells nothing new.
+    Omitted,
 }
 
 /// The most rows of a chart.
@@ -124,6 +128,17 @@ impl ChartWindow {
             self.place_in(rows, line)
         } else {
             Place::Hidden
+        }
+    }
+
+    /// Where an event goes that goes to this place, unless it is left out.
+    pub(crate) fn unless_old(&self, is_old: bool, place: Place) -> Place
+        ensures place { result ≡ spec.unless_omitted (spec.is_omitted self.now is_old) place }
+        ensures shown { result ≡ Place.Shown → place ≡ Place.Shown }
+    {
+        match place {
+            Place::Shown if self.is_brief && is_old => Place::Omitted,
+            _ => place,
         }
     }
 }

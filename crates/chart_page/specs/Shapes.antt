@@ -385,8 +385,11 @@ before_cut count = cut count 98 (said.before_words count)
 abbrev pub after_cut : ℕ → ℕ → List Shape
 after_cut count bottom = cut count bottom (said.after_words count)
 
-abbrev pub cuts : ℕ → ℕ → ℕ → List Shape
-cuts before after bottom = before_cut before ++ after_cut after bottom
+abbrev pub omitted_cut : ℕ → List Shape
+omitted_cut count = cut count 84 (said.omitted_words count)
+
+abbrev pub cuts : ℕ → ℕ → ℕ → ℕ → List Shape
+cuts before after omitted bottom = before_cut before ++ (after_cut after bottom ++ omitted_cut omitted)
 
 -- ---- the whole page
 
@@ -402,7 +405,7 @@ body p =
     ++ (stripes p.requesters (length p.rows / 40)
     ++ (each (row_strokes p.requesters) 0 p.rows
     ++ (open_strokes p.requesters p.opens
-    ++ (each (row_note p.requesters) 0 p.rows ++ cuts p.before p.after (bottom_of p.rows + 18))))))
+    ++ (each (row_note p.requesters) 0 p.rows ++ cuts p.before p.after p.omitted (bottom_of p.rows + 18))))))
 
 abbrev pub shapes : PageView → Bool → List ℕ → List Shape
 shapes p is_red title = Shape.Written (title_label is_red) title ∷ (legend ++ body p)

@@ -10,7 +10,7 @@ use crate::shapes::label_at;
 use arrayvec::ArrayString;
 use chart_rows::{
     Deed, Open, Page, Row, top_of, width_of, write_after, write_before, write_event_words,
-    write_outcome_words, write_row_words,
+    write_omitted, write_outcome_words, write_row_words,
 };
 use operation_text::write_decimal;
 use std::alloc::{AllocError, Global};
@@ -187,12 +187,28 @@ fn put_after_cut(count: u64, bottom: u64, out: &mut Vec<u8>) -> Result<(), Alloc
     put_cut(count, bottom, text.as_bytes(), out)
 }
 
-/// Adds how many events aren't shown, before the rows and after them.
-fn put_cuts(before: u64, after: u64, bottom: u64, out: &mut Vec<u8>) -> Result<(), AllocError>
-    ensures { OnOk result (out.new.items ≡ out.old.items ++ shapes_text (spec.cuts before after bottom)) }
+/// Adds how many events are left out, as they tell nothing new.
+fn put_omitted_cut(count: u64, out: &mut Vec<u8>) -> Result<(), AllocError>
+    ensures { OnOk result (out.new.items ≡ out.old.items ++ shapes_text (spec.omitted_cut count)) }
+{
+    let mut text = ArrayString::new();
+    write_omitted(count, &mut text);
+    put_cut(count, 84, text.as_bytes(), out)
+}
+
+/// Adds how many events aren't shown: before the rows, after them, and as they tell nothing new.
+fn put_cuts(
+    before: u64,
+    after: u64,
+    omitted: u64,
+    bottom: u64,
+    out: &mut Vec<u8>,
+) -> Result<(), AllocError>
+    ensures { OnOk result (out.new.items ≡ out.old.items ++ shapes_text (spec.cuts before after omitted bottom)) }
 {
     put_before_cut(before, out)?;
     put_after_cut(after, bottom, out)?;
+    put_omitted_cut(omitted, out)?;
     Ok(())
 }
 
@@ -211,12 +227,12 @@ fn put_body(
     requesters: u8,
     rows: &[Row],
     opens: &[Open],
-    cut: (u64, u64),
+    cut: (u64, u64, u64),
     out: &mut Vec<u8>,
 ) -> Result<(), AllocError>
     requires { length rows.now ≤ 1000 }
     ensures { OnOk result (out.new.items ≡ out.old.items ++ shapes_text (spec.body
-        (record { requesters = requesters; rows = rows.now; opens = opens.now; before = cut.0; after = cut.1 }))) }
+        (record { requesters = requesters; rows = rows.now; opens = opens.now; before = cut.0; after = cut.1; omitted = cut.2 }))) }
 {
     let bottom = bottom_of(rows);
     put_bands(alloc, requesters, rows, out)?;
@@ -225,7 +241,7 @@ fn put_body(
     put_all_strokes(requesters, rows, out)?;
     put_all_open(requesters, opens, out)?;
     put_notes(requesters, rows, out)?;
-    put_cuts(cut.0, cut.1, bottom + 18, out)?;
+    put_cuts(cut.0, cut.1, cut.2, bottom + 18, out)?;
     Ok(())
 }
 
@@ -250,7 +266,7 @@ fn put_shapes(
 {
     put_title(is_red, title, out)?;
     put_legend(out)?;
-    let cut = (page.before, page.after);
+    let cut = (page.before, page.after, page.omitted);
     let (rows, opens) = (page.rows.as_slice(), page.opens.as_slice());
     put_body(alloc, page.requesters, rows, opens, cut, out)?;
     Ok(())

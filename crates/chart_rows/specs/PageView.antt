@@ -9,6 +9,7 @@ pub record PageView : Type 0 where
   pub rows : List Row
   -- what was sent in these rows and isn't seen to arrive
   pub opens : List Open
-  -- how many events aren't shown, before the rows and after them
+  -- how many events aren't shown: before the rows, after them, and as they tell nothing new
   pub before : ℕ
   pub after : ℕ
+  pub omitted : ℕ

@@ -131,3 +131,6 @@ before_words count = codes "events before these rows: " ++ decimal count
 
 abbrev pub after_words : ℕ → List ℕ
 after_words count = codes "events after these rows: " ++ decimal count
+
+abbrev pub omitted_words : ℕ → List ℕ
+omitted_words count = codes "events left out, as they tell nothing new: " ++ decimal count

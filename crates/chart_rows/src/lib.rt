@@ -19,6 +19,7 @@ pub use row::{
 pub use titles::{write_dllp_title, write_open_title, write_packet_title};
 pub use words::{
     arrival_words, kind_name, write_after, write_before, write_collected, write_dllp,
-    write_dllp_arrival, write_event_words, write_expired, write_forwarded, write_outcome_words,
-    write_requester, write_row_words, write_sent, write_served, write_submitted,
+    write_dllp_arrival, write_event_words, write_expired, write_forwarded, write_omitted,
+    write_outcome_words, write_requester, write_row_words, write_sent, write_served,
+    write_submitted,
 };

@@ -22,5 +22,5 @@ returns c =
     (both p2 p3 last (stripes n (length rs / 40)) _ c.in_ok-put_stripes.ensures
     (both p3 p4 last (each (row_strokes n) 0 rs) _ c.in_ok-put_all_strokes.ensures
     (both p4 p5 last (open_strokes n os) _ c.in_ok-put_all_open.ensures
-    (both p5 p6 last (each (row_note n) 0 rs) (cuts c.args.cut.0 c.args.cut.1 (bottom_of rs + 18)) c.in_ok-put_notes.ensures
-    (c.in_ok-put_cuts.ensures ∙ ap (λ (b : ℕ). p6 ++ shapes_text (cuts c.args.cut.0 c.args.cut.1 (b + 18))) c.bottom_of-bottom.ensures.value))))))
+    (both p5 p6 last (each (row_note n) 0 rs) (cuts c.args.cut.0 c.args.cut.1 c.args.cut.2 (bottom_of rs + 18)) c.in_ok-put_notes.ensures
+    (c.in_ok-put_cuts.ensures ∙ ap (λ (b : ℕ). p6 ++ shapes_text (cuts c.args.cut.0 c.args.cut.1 c.args.cut.2 (b + 18))) c.bottom_of-bottom.ensures.value))))))

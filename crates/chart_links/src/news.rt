@@ -1,0 +1,43 @@
+//! What tells nothing new.
+ghost use Rattle.std.specs.Prelude.{◌≡◌, false};
+ghost use Rattle.chart_links.specs.Lanes.{asked};
+ghost use Rattle.chart_links.specs.News as spec;
+
+use crate::course::Course;
+use crate::lanes::place_of;
+use dllp_core::Dllp;
+use fabric_core::{Event, LaneName, Seen};
+use lane_ends::DllpSeen;
+
+/// Whether a DLLP that is sent on a lane tells nothing new.
+fn is_old(courses: &Vec<Course>, lane: LaneName, dllp: Dllp) -> bool
+    ensures { result ≡ asked (spec.is_old dllp) false courses.now.items lane }
+{
+    match courses.get(place_of(lane)) {
+        Some(course) => course.is_old(dllp),
+        None => false,
+    }
+}
+
+/// Whether a DLLP that arrives on a lane tells nothing new.
+fn is_old_arrival(courses: &Vec<Course>, lane: LaneName, dllp: Dllp) -> bool
+    ensures { result ≡ asked (spec.is_old_arrival dllp) false courses.now.items lane }
+{
+    match courses.get(place_of(lane)) {
+        Some(course) => course.is_old_arrival(dllp),
+        None => false,
+    }
+}
+
+/// Whether an event tells nothing new.
+pub(crate) fn tells_nothing(courses: &Vec<Course>, event: &Event, seen: &Seen) -> bool
+    ensures { result ≡ spec.tells_nothing courses.now.items event.now seen.now }
+{
+    match (event, seen) {
+        (Event::SendDllp(lane, _), Seen::SentDllp(dllp)) => is_old(courses, *lane, *dllp),
+        (Event::DeliverDllp(lane, _), Seen::SeenDllp(DllpSeen::Took(dllp))) => {
+            is_old_arrival(courses, *lane, *dllp)
+        }
+        _ => false,
+    }
+}
