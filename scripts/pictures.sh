@@ -79,6 +79,14 @@ charts "the chart of a storm" 0
 charts "the lane in of a storm" 0 --lane in --from 1000
 charts "the brief chart of a storm" 0 --brief
 "$pciex" generate --seed 3 --requesters 3 --events 900 --lose 4 --corrupt 8 > "$room/input"
+for lane in up2 down2 in out; do
+    charts "the lane $lane of three requesters" 0 --lane $lane
+    [ "$(grep -o 'text-anchor="middle"[^>]*>[^<]*<' "$room/picture" | sort -u | wc -l)" -eq 2 ] || {
+        echo "pictures: the lane $lane of three requesters has other lines than those of its two ends"
+        failed=1
+    }
+done
+"$pciex" generate --seed 3 --requesters 3 --events 900 --lose 4 --corrupt 8 > "$room/input"
 charts "the chart of three requesters with losses" 0
 # The lines of the parts stand at 560 and each 240 pixels: no cross is on one.
 crosses=$(sed 's/<g>/\n&/g' "$room/picture" | sed -n 's/^<g><title>[^<]*, lost<\/title><line [^>]* x2="\([0-9]*\)".*/\1/p')

@@ -16,23 +16,25 @@ use Rattle.chart_rows.specs.PageView.{PageView}
 use Rattle.chart_links.specs.declared.window.ChartWindow.{ChartWindow}
 use Rattle.chart_links.specs.declared.window.Place.{Place}
 use Rattle.chart_links.specs.declared.window.Place.TheVariants as places
-use Rattle.chart_links.specs.Window.{place_of, is_omitted, unless_omitted, absent_words}
+use Rattle.chart_rows.specs.declared.layout.Parts.{Parts}
+use Rattle.chart_links.specs.Window.{place_of, is_omitted, unless_omitted, absent_words, parts_of}
 use Rattle.chart_links.specs.CourseView.{CourseView, quiet}
 use Rattle.chart_links.specs.Lanes.{Moved, followed, lane_at}
 use Rattle.chart_links.specs.News.{tells_nothing}
 
 pub record ChartView : Type 0 where
   pub window : ChartWindow
+  pub requesters : ℕ
   -- `in`, `up1` to `up7`, `out`, `down1` to `down7`
   pub courses : List CourseView
   pub page : PageView
 
-abbrev pub empty_page : ℕ → PageView
-empty_page requesters = record { requesters = requesters; rows = []; opens = []; before = 0; after = 0; omitted = 0 }
+abbrev pub empty_page : Parts → PageView
+empty_page parts = record { parts = parts; rows = []; opens = []; before = 0; after = 0; omitted = 0 }
 
 -- a fabric with so many requesters, to which nothing has happened
 abbrev pub new_chart : ChartWindow → ℕ → ChartView
-new_chart window requesters = record { window = window; courses = replicate 16 quiet; page = empty_page requesters }
+new_chart window requesters = record { window = window; requesters = requesters; courses = replicate 16 quiet; page = empty_page (parts_of window.lane requesters) }
 
 -- ---- where an event goes
 
@@ -132,4 +134,4 @@ page_of v = with_left v.courses v.page
 
 -- the line above a chart
 abbrev pub titled : ChartView → List ℕ → List ℕ
-titled v title = title ++ absent_words v.window.lane v.page.requesters
+titled v title = title ++ absent_words v.window.lane v.requesters

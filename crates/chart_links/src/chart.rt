@@ -2,16 +2,18 @@
 ghost use Rattle.std.specs.Prelude.{◌≡◌, ◌≤◌, ◌<◌, ◌++◌, length, replicate, IsSome, OnOk, OnErr, IfOk};
 ghost use Rattle.chart_page.specs.Shapes.{chart_text};
 ghost use Rattle.chart_links.specs.CourseView.{quiet};
+ghost use Rattle.chart_links.specs.Window.{absent_words};
 ghost use Rattle.chart_links.specs.ChartView as spec;
 
 use crate::course::Course;
 use crate::lanes::follow;
 use crate::left::{add_dllp, add_left, add_packet};
 use crate::news::tells_nothing;
-use crate::window::{ChartWindow, Place, absent_words};
+use crate::window::{ChartWindow, Place, parts_of, write_if_absent};
+use arrayvec::ArrayString;
 use chart_page::put_chart;
 use chart_rows::{Deed, Open, Page, Row};
-use fabric_core::{Event, Refusal, Seen};
+use fabric_core::{Event, LaneName, Refusal, Seen};
 use std::alloc::{AllocError, Global};
 use std::marker::Model;
 
@@ -26,6 +28,7 @@ const LANES: usize = 16;
 pub struct Chart {
     alloc: Global,
     window: ChartWindow,
+    requesters: u8,
     courses: Vec<Course>,
     page: Page,
 }
@@ -36,7 +39,7 @@ impl Model for Chart {
 
     ghost Value = { ChartView };
 
-    ghost view = { λ c. record { window = c.window; courses = c.courses.items; page = c.page } };
+    ghost view = { λ c. record { window = c.window; requesters = c.requesters; courses = c.courses.items; page = c.page } };
 
     ghost invariant = { λ c. length c.page.rows ≤ 1000 };
 }
@@ -114,9 +117,16 @@ fn add_rest(courses: &[Course], page: &mut Page) -> Result<(), AllocError>
 }
 
 /// The line above a chart, with what follows it.
-fn lengthened(alloc: Global, title: &[u8], words: &str) -> Result<Vec<u8>, AllocError>
-    ensures { IfOk result (λ line. line.items ≡ title.now ++ words.now) }
+fn lengthened(
+    alloc: Global,
+    title: &[u8],
+    lane: Option<LaneName>,
+    requesters: u8,
+) -> Result<Vec<u8>, AllocError>
+    ensures { IfOk result (λ line. line.items ≡ title.now ++ absent_words lane requesters) }
 {
+    let mut words = ArrayString::new();
+    write_if_absent(lane, requesters, &mut words);
     let mut line = Vec::new(alloc);
     line.extend_from_slice(title)?;
     line.extend_from_slice(words.as_bytes())?;
@@ -132,9 +142,10 @@ impl Chart {
         Ok(Chart {
             alloc,
             window,
+            requesters,
             courses,
             page: Page {
-                requesters,
+                parts: parts_of(window.lane, requesters),
                 rows: Vec::new(alloc),
                 opens: Vec::new(alloc),
                 before: 0,
@@ -192,11 +203,7 @@ impl Chart {
         let alloc = self.alloc;
         let courses = self.courses;
         let mut page = self.page;
-        let line = lengthened(
-            alloc,
-            title,
-            absent_words(self.window.lane, page.requesters),
-        )?;
+        let line = lengthened(alloc, title, self.window.lane, self.requesters)?;
         add_rest(courses.as_slice(), &mut page)?;
         put_chart(alloc, &page, is_red, line.as_slice(), out)
     }

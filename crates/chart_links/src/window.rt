@@ -1,13 +1,15 @@
 //! Which events are shown.
-ghost use Rattle.std.specs.Prelude.{◌≡◌, ◌<◌, length};
+ghost use Rattle.std.specs.Prelude.{◌≡◌, ◌<◌, []};
 ghost use Rattle.chart_links.specs.Window as spec;
 
+use arrayvec::ArrayString;
+use chart_rows::{Parts, write_absent};
 use fabric_core::{Event, LaneName};
 
 /// Which events are shown.
 #[derive(Clone, Copy, Debug, PartialEq, Eq)]
 pub struct ChartWindow {
-    /// The lane whose events alone are shown; None shows all.
+    /// The lane whose events and ends alone are shown; None shows all.
     pub lane: Option<LaneName>,
     /// The first line of the script whose events are shown, from 1 on.
     pub from: u64,
@@ -70,17 +72,36 @@ fn has_lane(requesters: u8, lane: LaneName) -> bool
     }
 }
 
-/// What is said of a lane that a fabric with so many requesters doesn't have.
-pub(crate) fn absent_words(lane: Option<LaneName>, requesters: u8) -> &'static str
-    ensures { result.now ≡ spec.absent_words lane requesters }
+/// Writes what is said of a lane that a fabric with so many requesters doesn't have.
+pub(crate) fn write_if_absent(lane: Option<LaneName>, requesters: u8, text: &mut ArrayString<512>)
+    requires { text.old.bytes ≡ [] }
+    ensures { text.new.bytes ≡ spec.absent_words lane requesters }
 {
     let Some(lane) = lane else {
-        return "";
+        return;
     };
-    if has_lane(requesters, lane) {
-        ""
-    } else {
-        "; the fabric lacks the chosen lane"
+    if !has_lane(requesters, lane) {
+        write_absent(lane, text);
+    }
+}
+
+/// The parts at the two ends of a lane.
+fn ends_of(lane: LaneName) -> Parts
+    ensures { result ≡ spec.ends_of lane }
+{
+    match lane {
+        LaneName::Up(port) | LaneName::Down(port) => Parts::Requester(port),
+        LaneName::Inward | LaneName::Outward => Parts::Memory,
+    }
+}
+
+/// The parts that have a line: all, or those of the chosen lane if the fabric has it.
+pub(crate) fn parts_of(lane: Option<LaneName>, requesters: u8) -> Parts
+    ensures { result ≡ spec.parts_of lane requesters }
+{
+    match lane {
+        Some(lane) if has_lane(requesters, lane) => ends_of(lane),
+        _ => Parts::All(requesters),
     }
 }
 

@@ -13,6 +13,8 @@ use Rattle.svg_text.specs.declared.shapes.Rule.{Rule}
 use Rattle.svg_text.specs.declared.shapes.Label.{Label}
 use Rattle.svg_text.specs.Shapes.{Shape, page_text}
 use Rattle.script_text.specs.LineTexts.{event_line}
+use Rattle.chart_rows.specs.declared.layout.Parts.{Parts}
+use Rattle.chart_rows.specs.declared.layout.Parts.TheVariants as drawn
 use Rattle.chart_rows.specs.declared.layout.Point.{Point}
 use Rattle.chart_rows.specs.declared.layout.Way.{Way}
 use Rattle.chart_page.specs.declared.shapes.Pen.{Pen}
@@ -133,12 +135,12 @@ dllp_row None = None
 dllp_row (Some d) = d.row
 
 -- the arrow that ends in a row of this deed
-abbrev pub strokes : ℕ → ℕ → Deed → List Shape
-strokes n row (deeds.Arrived lane fate arrival sent) =
-    arrow (arrow_on (way_of n lane false) (packet_pen arrival) fate (packet_row sent) row) (titles.packet_title lane sent fate arrival)
-strokes n row (deeds.ArrivedDllp lane fate sent replay) =
-    arrow (arrow_on (way_of n lane true) dllp_pen fate (dllp_row sent) row) (titles.dllp_title lane sent fate replay)
-strokes n row _ = []
+abbrev pub strokes : Parts → ℕ → Deed → List Shape
+strokes parts row (deeds.Arrived lane fate arrival sent) =
+    arrow (arrow_on (way_of parts lane false) (packet_pen arrival) fate (packet_row sent) row) (titles.packet_title lane sent fate arrival)
+strokes parts row (deeds.ArrivedDllp lane fate sent replay) =
+    arrow (arrow_on (way_of parts lane true) dllp_pen fate (dllp_row sent) row) (titles.dllp_title lane sent fate replay)
+strokes parts row _ = []
 
 abbrev pub is_dllp : Flying → Bool
 is_dllp (flying.Packet number c) = false
@@ -148,8 +150,8 @@ is_dllp (flying.Dllp dllp) = true
 abbrev pub open_line : Way → ℕ → List ℕ → Shape
 open_line w row title = line (pen colours.Grey 1 3) (point w.from (departure row)) (point (thirds w 1) (departure row + 5)) title
 
-abbrev pub open_stroke : ℕ → Open → Shape
-open_stroke n o = open_line (way_of n o.lane (is_dllp o.what)) o.row (titles.open_title o)
+abbrev pub open_stroke : Parts → Open → Shape
+open_stroke parts o = open_line (way_of parts o.lane (is_dllp o.what)) o.row (titles.open_title o)
 
 -- ---- texts beside a line
 
@@ -235,19 +237,19 @@ abbrev pub remark_colour : Fate → Colour
 remark_colour fates.Good = colours.Black
 remark_colour _ = colours.Red
 
-abbrev pub note : ℕ → ℕ → Deed → List Shape
-note n row deeds.Nothing = []
-note n row (deeds.Submitted port c) = mark (requester_x port) row (Some c.kind) (said.submitted_words c)
-note n row (deeds.Sent lane number c) = departing (way_of n lane false) row (kind_in c) (said.sent_words number c)
-note n row (deeds.Arrived lane fate arrival sent) =
-    remark (way_of n lane false) row fate colours.Red (said.arrival_words fate arrival) ++ far_remark (way_of n lane false) row fate arrival sent
-note n row (deeds.SentDllp lane dllp) = departing (way_of n lane true) row None (said.dllp_words dllp)
-note n row (deeds.ArrivedDllp lane fate sent replay) = remark (way_of n lane true) row fate (remark_colour fate) (said.dllp_arrival_words fate replay)
-note n row (deeds.Expired lane replay) = notice (way_of n lane false) row (said.expired_words replay)
-note n row (deeds.Retrained lane) = notice (way_of n lane false) row (codes "link retrained")
-note n row (deeds.Forwarded c) = mark (switch_x n) row (kind_in c) (said.forwarded_words c)
-note n row (deeds.Served c index) = mark (memory_x n) row (kind_in c) (said.served_words c index)
-note n row (deeds.Collected port c) = mark (requester_x port) row (kind_in c) (said.collected_words c)
+abbrev pub note : Parts → ℕ → Deed → List Shape
+note parts row deeds.Nothing = []
+note parts row (deeds.Submitted port c) = mark (requester_x parts port) row (Some c.kind) (said.submitted_words c)
+note parts row (deeds.Sent lane number c) = departing (way_of parts lane false) row (kind_in c) (said.sent_words number c)
+note parts row (deeds.Arrived lane fate arrival sent) =
+    remark (way_of parts lane false) row fate colours.Red (said.arrival_words fate arrival) ++ far_remark (way_of parts lane false) row fate arrival sent
+note parts row (deeds.SentDllp lane dllp) = departing (way_of parts lane true) row None (said.dllp_words dllp)
+note parts row (deeds.ArrivedDllp lane fate sent replay) = remark (way_of parts lane true) row fate (remark_colour fate) (said.dllp_arrival_words fate replay)
+note parts row (deeds.Expired lane replay) = notice (way_of parts lane false) row (said.expired_words replay)
+note parts row (deeds.Retrained lane) = notice (way_of parts lane false) row (codes "link retrained")
+note parts row (deeds.Forwarded c) = mark (switch_x parts) row (kind_in c) (said.forwarded_words c)
+note parts row (deeds.Served c index) = mark (memory_x parts) row (kind_in c) (said.served_words c index)
+note parts row (deeds.Collected port c) = mark (requester_x parts port) row (kind_in c) (said.collected_words c)
 
 -- ---- rows
 
@@ -256,12 +258,12 @@ abbrev pub row_colour : Deed → Colour
 row_colour deeds.Nothing = colours.Red
 row_colour _ = colours.Black
 
-abbrev pub band_block : ℕ → ℕ → Block
-band_block n row = block_at 0 (top_of row) (width_of n) (top_of row + 26) colours.White colours.White 0
+abbrev pub band_block : Parts → ℕ → Block
+band_block parts row = block_at 0 (top_of row) (width_of parts) (top_of row + 26) colours.White colours.White 0
 
 -- white, and what is shown where one points at it
-abbrev pub white : ℕ → ℕ → Row → Shape
-white n row r = Shape.Filled (band_block n row) (said.row_words r)
+abbrev pub white : Parts → ℕ → Row → Shape
+white parts row r = Shape.Filled (band_block parts row) (said.row_words r)
 
 abbrev pub number : ℕ → ℕ → Shape
 number row line = Shape.Written (label_at 10 (top_of row + 17) colours.Grey) (decimal line)
@@ -273,23 +275,23 @@ abbrev pub outcome_said : ℕ → Row → Shape
 outcome_said row r = Shape.Written (label_at 266 (top_of row + 17) (row_colour r.deed)) (said.shortened 20 (said.outcome_words r.event r.outcome))
 
 -- the number of the line, the event, and what was seen of it or why it was refused
-abbrev pub band : ℕ → ℕ → Row → List Shape
-band n row r = white n row r ∷ number row r.line ∷ event_said row r ∷ outcome_said row r ∷ []
+abbrev pub band : Parts → ℕ → Row → List Shape
+band parts row r = white parts row r ∷ number row r.line ∷ event_said row r ∷ outcome_said row r ∷ []
 
-abbrev pub row_strokes : ℕ → ℕ → Row → List Shape
-row_strokes n row r = strokes n row r.deed
+abbrev pub row_strokes : Parts → ℕ → Row → List Shape
+row_strokes parts row r = strokes parts row r.deed
 
-abbrev pub row_note : ℕ → ℕ → Row → List Shape
-row_note n row r = note n row r.deed
+abbrev pub row_note : Parts → ℕ → Row → List Shape
+row_note parts row r = note parts row r.deed
 
 -- the shapes of each, from this row on
 abbrev pub each : (ℕ → Row → List Shape) → ℕ → List Row → List Shape
 each shapes row [] = []
 each shapes row (r ∷ rs) = shapes row r ++ each shapes (row + 1) rs
 
-abbrev pub open_strokes : ℕ → List Open → List Shape
-open_strokes n [] = []
-open_strokes n (o ∷ os) = open_stroke n o ∷ open_strokes n os
+abbrev pub open_strokes : Parts → List Open → List Shape
+open_strokes parts [] = []
+open_strokes parts (o ∷ os) = open_stroke parts o ∷ open_strokes parts os
 
 -- ---- the heading
 
@@ -337,22 +339,31 @@ column x bottom name =
     ∷ line (pen colours.Grey 1 0) (point x 92) (point x bottom) name
     ∷ []
 
-abbrev pub requester_column : ℕ → ℕ → List Shape
-requester_column port bottom = column (requester_x port) bottom (said.requester_words port)
+abbrev pub requester_column : Parts → ℕ → ℕ → List Shape
+requester_column parts port bottom = column (requester_x parts port) bottom (said.requester_words port)
 
 -- of so many requesters
-abbrev pub requester_columns : ℕ → ℕ → List Shape
-requester_columns zero bottom = []
-requester_columns (suc k) bottom = requester_columns k bottom ++ requester_column (k + 1) bottom
+abbrev pub requester_columns : Parts → ℕ → ℕ → List Shape
+requester_columns parts zero bottom = []
+requester_columns parts (suc k) bottom = requester_columns parts k bottom ++ requester_column parts (k + 1) bottom
 
-abbrev pub switch_column : ℕ → ℕ → List Shape
-switch_column n bottom = column (switch_x n) bottom (codes "switch")
+abbrev pub left_columns : Parts → ℕ → List Shape
+left_columns (drawn.All requesters) bottom = requester_columns (drawn.All requesters) requesters bottom
+left_columns (drawn.Requester port) bottom = requester_column (drawn.Requester port) port bottom
+left_columns drawn.Memory bottom = []
 
-abbrev pub memory_column : ℕ → ℕ → List Shape
-memory_column n bottom = column (memory_x n) bottom (codes "memory")
+abbrev pub switch_column : Parts → ℕ → List Shape
+switch_column parts bottom = column (switch_x parts) bottom (codes "switch")
 
-abbrev pub columns : ℕ → ℕ → List Shape
-columns n bottom = requester_columns n bottom ++ (switch_column n bottom ++ memory_column n bottom)
+abbrev pub memory_column : Parts → ℕ → List Shape
+memory_column parts bottom = column (memory_x parts) bottom (codes "memory")
+
+abbrev pub right_column : Parts → ℕ → List Shape
+right_column (drawn.Requester port) bottom = []
+right_column parts bottom = memory_column parts bottom
+
+abbrev pub columns : Parts → ℕ → List Shape
+columns parts bottom = left_columns parts bottom ++ (switch_column parts bottom ++ right_column parts bottom)
 
 -- a name in the stripe that ends at y, on white
 abbrev pub name : ℕ → ℕ → List ℕ → List Shape
@@ -361,18 +372,30 @@ name x y words =
     ∷ Shape.Written (record { x = x; y = y - 9; size = 12; colour = colours.Grey; is_centred = true }) words
     ∷ []
 
--- of so many requesters
-abbrev pub requester_names : ℕ → ℕ → List Shape
-requester_names zero y = []
-requester_names (suc k) y = requester_names k y ++ name (requester_x (k + 1)) y (said.requester_words (k + 1))
+abbrev pub requester_name : Parts → ℕ → ℕ → List Shape
+requester_name parts port y = name (requester_x parts port) y (said.requester_words port)
 
-abbrev pub names : ℕ → ℕ → List Shape
-names n y = requester_names n y ++ (name (switch_x n) y (codes "switch") ++ name (memory_x n) y (codes "memory"))
+-- of so many requesters
+abbrev pub requester_names : Parts → ℕ → ℕ → List Shape
+requester_names parts zero y = []
+requester_names parts (suc k) y = requester_names parts k y ++ requester_name parts (k + 1) y
+
+abbrev pub left_names : Parts → ℕ → List Shape
+left_names (drawn.All requesters) y = requester_names (drawn.All requesters) requesters y
+left_names (drawn.Requester port) y = requester_name (drawn.Requester port) port y
+left_names drawn.Memory y = []
+
+abbrev pub right_name : Parts → ℕ → List Shape
+right_name (drawn.Requester port) y = []
+right_name parts y = name (memory_x parts) y (codes "memory")
+
+abbrev pub names : Parts → ℕ → List Shape
+names parts y = left_names parts y ++ (name (switch_x parts) y (codes "switch") ++ right_name parts y)
 
 -- the names again in so many stripes, one below each 40 rows
-abbrev pub stripes : ℕ → ℕ → List Shape
-stripes n zero = []
-stripes n (suc k) = stripes n k ++ names n (top_of (40 * (k + 1)))
+abbrev pub stripes : Parts → ℕ → List Shape
+stripes parts zero = []
+stripes parts (suc k) = stripes parts k ++ names parts (top_of (40 * (k + 1)))
 
 -- ---- what isn't shown
 
@@ -400,19 +423,19 @@ bottom_of rows = top_of (length rows)
 -- arrows lie above the lines of the parts, and texts above both
 abbrev pub body : PageView → List Shape
 body p =
-    each (band p.requesters) 0 p.rows
-    ++ (columns p.requesters (bottom_of p.rows + 6)
-    ++ (stripes p.requesters (length p.rows / 40)
-    ++ (each (row_strokes p.requesters) 0 p.rows
-    ++ (open_strokes p.requesters p.opens
-    ++ (each (row_note p.requesters) 0 p.rows ++ cuts p.before p.after p.omitted (bottom_of p.rows + 18))))))
+    each (band p.parts) 0 p.rows
+    ++ (columns p.parts (bottom_of p.rows + 6)
+    ++ (stripes p.parts (length p.rows / 40)
+    ++ (each (row_strokes p.parts) 0 p.rows
+    ++ (open_strokes p.parts p.opens
+    ++ (each (row_note p.parts) 0 p.rows ++ cuts p.before p.after p.omitted (bottom_of p.rows + 18))))))
 
 abbrev pub shapes : PageView → Bool → List ℕ → List Shape
 shapes p is_red title = Shape.Written (title_label is_red) title ∷ (legend ++ body p)
 
 -- the text of a chart below a line
 abbrev pub chart_text : PageView → Bool → List ℕ → List ℕ
-chart_text p is_red title = page_text (width_of p.requesters) (bottom_of p.rows + 30) (shapes p is_red title)
+chart_text p is_red title = page_text (width_of p.parts) (bottom_of p.rows + 30) (shapes p is_red title)
 
 abbrev pub title : Bool → List ℕ → List Shape
 title is_red words = Shape.Written (title_label is_red) words ∷ []

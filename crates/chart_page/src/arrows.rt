@@ -6,8 +6,8 @@ ghost use Rattle.chart_page.specs.Shapes as spec;
 use crate::shapes::{Pen, put_square, rule};
 use arrayvec::ArrayString;
 use chart_rows::{
-    Deed, DllpSent, Flying, Open, PacketSent, Point, Replay, Way, behind, departure, finish_of,
-    start_of, thirds, way_of, write_dllp_title, write_open_title, write_packet_title,
+    Deed, DllpSent, Flying, Open, PacketSent, Parts, Point, Replay, Way, behind, departure,
+    finish_of, start_of, thirds, way_of, write_dllp_title, write_open_title, write_packet_title,
 };
 use fabric_core::LaneName;
 use lane_ends::{Arrival, Fate};
@@ -245,7 +245,7 @@ fn dllp_row(sent: &Option<DllpSent>) -> Option<u16>
 
 /// Adds the arrow of a packet.
 fn put_packet(
-    requesters: u8,
+    parts: Parts,
     row: u16,
     lane: LaneName,
     fate: Fate,
@@ -253,10 +253,10 @@ fn put_packet(
     sent: Option<PacketSent>,
     out: &mut Vec<u8>,
 ) -> Result<(), AllocError>
-    ensures { OnOk result (out.new.items ≡ out.old.items ++ shapes_text (spec.strokes requesters row (Deed.Arrived lane fate arrival sent))) }
+    ensures { OnOk result (out.new.items ≡ out.old.items ++ shapes_text (spec.strokes parts row (Deed.Arrived lane fate arrival sent))) }
 {
     let arrow = Arrow {
-        way: way_of(requesters, lane, false),
+        way: way_of(parts, lane, false),
         pen: packet_pen(arrival),
         fate,
         sent: packet_row(&sent),
@@ -269,7 +269,7 @@ fn put_packet(
 
 /// Adds the arrow of a DLLP.
 fn put_dllp(
-    requesters: u8,
+    parts: Parts,
     row: u16,
     lane: LaneName,
     fate: Fate,
@@ -277,10 +277,10 @@ fn put_dllp(
     replay: Replay,
     out: &mut Vec<u8>,
 ) -> Result<(), AllocError>
-    ensures { OnOk result (out.new.items ≡ out.old.items ++ shapes_text (spec.strokes requesters row (Deed.ArrivedDllp lane fate sent replay))) }
+    ensures { OnOk result (out.new.items ≡ out.old.items ++ shapes_text (spec.strokes parts row (Deed.ArrivedDllp lane fate sent replay))) }
 {
     let arrow = Arrow {
-        way: way_of(requesters, lane, true),
+        way: way_of(parts, lane, true),
         pen: dllp_pen(),
         fate,
         sent: dllp_row(&sent),
@@ -294,19 +294,19 @@ fn put_dllp(
 /// Adds the arrow that ends in a row of this deed, if there is one.
 #[tactic(auto, unfolding(svg_text::specs::Shapes::shapes_text))]
 pub(crate) fn put_strokes(
-    requesters: u8,
+    parts: Parts,
     row: u16,
     deed: Deed,
     out: &mut Vec<u8>,
 ) -> Result<(), AllocError>
-    ensures { OnOk result (out.new.items ≡ out.old.items ++ shapes_text (spec.strokes requesters row deed)) }
+    ensures { OnOk result (out.new.items ≡ out.old.items ++ shapes_text (spec.strokes parts row deed)) }
 {
     match deed {
         Deed::Arrived(lane, fate, arrival, sent) => {
-            put_packet(requesters, row, lane, fate, arrival, sent, out)
+            put_packet(parts, row, lane, fate, arrival, sent, out)
         }
         Deed::ArrivedDllp(lane, fate, sent, replay) => {
-            put_dllp(requesters, row, lane, fate, sent, replay, out)
+            put_dllp(parts, row, lane, fate, sent, replay, out)
         }
         _ => Ok(()),
     }
@@ -337,11 +337,11 @@ fn put_open_line(way: Way, row: u16, title: &[u8], out: &mut Vec<u8>) -> Result<
 }
 
 /// Adds the first third of the way of what isn't seen to arrive.
-pub(crate) fn put_open(requesters: u8, of: &Open, out: &mut Vec<u8>) -> Result<(), AllocError>
-    ensures { OnOk result (out.new.items ≡ out.old.items ++ shape_text (spec.open_stroke requesters of.now)) }
+pub(crate) fn put_open(parts: Parts, of: &Open, out: &mut Vec<u8>) -> Result<(), AllocError>
+    ensures { OnOk result (out.new.items ≡ out.old.items ++ shape_text (spec.open_stroke parts of.now)) }
 {
     let mut title = ArrayString::new();
     write_open_title(of, &mut title);
-    let way = way_of(requesters, of.lane, is_dllp(of.what));
+    let way = way_of(parts, of.lane, is_dllp(of.what));
     put_open_line(way, of.row, title.as_bytes(), out)
 }

@@ -8,7 +8,7 @@ ghost use Rattle.chart_page.specs.Shapes as spec;
 use crate::arrows::{cross, pen};
 use crate::shapes::{label_at, put_square, rule};
 use arrayvec::ArrayString;
-use chart_rows::{Point, memory_x, requester_x, switch_x, top_of, write_requester};
+use chart_rows::{Parts, Point, memory_x, requester_x, switch_x, top_of, write_requester};
 use std::alloc::AllocError;
 use svg_text::{Block, Colour, Label, put_block, put_label, put_lines};
 
@@ -151,45 +151,78 @@ fn put_column(x: u64, bottom: u64, name: &[u8], out: &mut Vec<u8>) -> Result<(),
 }
 
 /// Adds the line of the requester at a port.
-fn put_requester_column(port: u8, bottom: u64, out: &mut Vec<u8>) -> Result<(), AllocError>
-    ensures { OnOk result (out.new.items ≡ out.old.items ++ shapes_text (spec.requester_column port bottom)) }
+fn put_requester_column(
+    parts: Parts,
+    port: u8,
+    bottom: u64,
+    out: &mut Vec<u8>,
+) -> Result<(), AllocError>
+    ensures { OnOk result (out.new.items ≡ out.old.items ++ shapes_text (spec.requester_column parts port bottom)) }
 {
     let mut name = ArrayString::new();
     write_requester(port, &mut name);
-    put_column(requester_x(port), bottom, name.as_bytes(), out)
+    put_column(requester_x(parts, port), bottom, name.as_bytes(), out)
 }
 
 /// Adds the line of the switch.
-fn put_switch_column(requesters: u8, bottom: u64, out: &mut Vec<u8>) -> Result<(), AllocError>
-    ensures { OnOk result (out.new.items ≡ out.old.items ++ shapes_text (spec.switch_column requesters bottom)) }
+fn put_switch_column(parts: Parts, bottom: u64, out: &mut Vec<u8>) -> Result<(), AllocError>
+    ensures { OnOk result (out.new.items ≡ out.old.items ++ shapes_text (spec.switch_column parts bottom)) }
 {
-    put_column(switch_x(requesters), bottom, b"switch", out)
+    put_column(switch_x(parts), bottom, b"switch", out)
 }
 
 /// Adds the line of the memory.
-fn put_memory_column(requesters: u8, bottom: u64, out: &mut Vec<u8>) -> Result<(), AllocError>
-    ensures { OnOk result (out.new.items ≡ out.old.items ++ shapes_text (spec.memory_column requesters bottom)) }
+fn put_memory_column(parts: Parts, bottom: u64, out: &mut Vec<u8>) -> Result<(), AllocError>
+    ensures { OnOk result (out.new.items ≡ out.old.items ++ shapes_text (spec.memory_column parts bottom)) }
 {
-    put_column(memory_x(requesters), bottom, b"memory", out)
+    put_column(memory_x(parts), bottom, b"memory", out)
 }
 
 /// Adds the lines of the requesters.
-fn put_requester_columns(requesters: u8, bottom: u64, out: &mut Vec<u8>) -> Result<(), AllocError>
-    ensures { OnOk result (out.new.items ≡ out.old.items ++ shapes_text (spec.requester_columns requesters bottom)) }
+fn put_requester_columns(
+    parts: Parts,
+    requesters: u8,
+    bottom: u64,
+    out: &mut Vec<u8>,
+) -> Result<(), AllocError>
+    ensures { OnOk result (out.new.items ≡ out.old.items ++ shapes_text (spec.requester_columns parts requesters bottom)) }
 {
     for place in 0..requesters {
-        put_requester_column(place + 1, bottom, out)?;
+        put_requester_column(parts, place + 1, bottom, out)?;
     }
     Ok(())
 }
 
-/// Adds the lines of the parts.
-pub(crate) fn put_columns(requesters: u8, bottom: u64, out: &mut Vec<u8>) -> Result<(), AllocError>
-    ensures { OnOk result (out.new.items ≡ out.old.items ++ shapes_text (spec.columns requesters bottom)) }
+/// Adds the lines of the requesters that have one.
+#[tactic(auto, unfolding(svg_text::specs::Shapes::shapes_text))]
+fn put_left_columns(parts: Parts, bottom: u64, out: &mut Vec<u8>) -> Result<(), AllocError>
+    ensures { OnOk result (out.new.items ≡ out.old.items ++ shapes_text (spec.left_columns parts bottom)) }
 {
-    put_requester_columns(requesters, bottom, out)?;
-    put_switch_column(requesters, bottom, out)?;
-    put_memory_column(requesters, bottom, out)?;
+    match parts {
+        Parts::All(requesters) => put_requester_columns(parts, requesters, bottom, out),
+        Parts::Requester(port) => put_requester_column(parts, port, bottom, out),
+        Parts::Memory => Ok(()),
+    }
+}
+
+/// Adds the line of the memory, if it has one.
+#[tactic(auto, unfolding(svg_text::specs::Shapes::shapes_text))]
+fn put_right_column(parts: Parts, bottom: u64, out: &mut Vec<u8>) -> Result<(), AllocError>
+    ensures { OnOk result (out.new.items ≡ out.old.items ++ shapes_text (spec.right_column parts bottom)) }
+{
+    match parts {
+        Parts::All(_) | Parts::Memory => put_memory_column(parts, bottom, out),
+        Parts::Requester(_) => Ok(()),
+    }
+}
+
+/// Adds the lines of the parts.
+pub(crate) fn put_columns(parts: Parts, bottom: u64, out: &mut Vec<u8>) -> Result<(), AllocError>
+    ensures { OnOk result (out.new.items ≡ out.old.items ++ shapes_text (spec.columns parts bottom)) }
+{
+    put_left_columns(parts, bottom, out)?;
+    put_switch_column(parts, bottom, out)?;
+    put_right_column(parts, bottom, out)?;
     Ok(())
 }
 
@@ -222,68 +255,98 @@ fn put_name(x: u64, y: u64, words: &[u8], out: &mut Vec<u8>) -> Result<(), Alloc
 }
 
 /// Adds the name of the requester at a port.
-fn put_requester_name(port: u8, y: u64, out: &mut Vec<u8>) -> Result<(), AllocError>
+fn put_requester_name(parts: Parts, port: u8, y: u64, out: &mut Vec<u8>) -> Result<(), AllocError>
     requires { y ≤ 2000000 }
-    ensures { OnOk result (out.new.items ≡ out.old.items ++ shapes_text (spec.name (layout.requester_x port) y (said.requester_words port))) }
+    ensures { OnOk result (out.new.items ≡ out.old.items ++ shapes_text (spec.requester_name parts port y)) }
 {
     let mut name = ArrayString::new();
     write_requester(port, &mut name);
-    put_name(requester_x(port), y, name.as_bytes(), out)
+    put_name(requester_x(parts, port), y, name.as_bytes(), out)
 }
 
 /// Adds the names of the requesters.
-fn put_requester_names(requesters: u8, y: u64, out: &mut Vec<u8>) -> Result<(), AllocError>
+fn put_requester_names(
+    parts: Parts,
+    requesters: u8,
+    y: u64,
+    out: &mut Vec<u8>,
+) -> Result<(), AllocError>
     requires { y ≤ 2000000 }
-    ensures { OnOk result (out.new.items ≡ out.old.items ++ shapes_text (spec.requester_names requesters y)) }
+    ensures { OnOk result (out.new.items ≡ out.old.items ++ shapes_text (spec.requester_names parts requesters y)) }
 {
     for place in 0..requesters {
-        put_requester_name(place + 1, y, out)?;
+        put_requester_name(parts, place + 1, y, out)?;
     }
     Ok(())
 }
 
-/// Adds the name of the switch.
-fn put_switch_name(requesters: u8, y: u64, out: &mut Vec<u8>) -> Result<(), AllocError>
+/// Adds the names of the requesters that have a line.
+#[tactic(auto, unfolding(svg_text::specs::Shapes::shapes_text))]
+fn put_left_names(parts: Parts, y: u64, out: &mut Vec<u8>) -> Result<(), AllocError>
     requires { y ≤ 2000000 }
-    ensures { OnOk result (out.new.items ≡ out.old.items ++ shapes_text (spec.name (layout.switch_x requesters) y (codes "switch"))) }
+    ensures { OnOk result (out.new.items ≡ out.old.items ++ shapes_text (spec.left_names parts y)) }
 {
-    put_name(switch_x(requesters), y, b"switch", out)
+    match parts {
+        Parts::All(requesters) => put_requester_names(parts, requesters, y, out),
+        Parts::Requester(port) => put_requester_name(parts, port, y, out),
+        Parts::Memory => Ok(()),
+    }
+}
+
+/// Adds the name of the switch.
+fn put_switch_name(parts: Parts, y: u64, out: &mut Vec<u8>) -> Result<(), AllocError>
+    requires { y ≤ 2000000 }
+    ensures { OnOk result (out.new.items ≡ out.old.items ++ shapes_text (spec.name (layout.switch_x parts) y (codes "switch"))) }
+{
+    put_name(switch_x(parts), y, b"switch", out)
 }
 
 /// Adds the name of the memory.
-fn put_memory_name(requesters: u8, y: u64, out: &mut Vec<u8>) -> Result<(), AllocError>
+fn put_memory_name(parts: Parts, y: u64, out: &mut Vec<u8>) -> Result<(), AllocError>
     requires { y ≤ 2000000 }
-    ensures { OnOk result (out.new.items ≡ out.old.items ++ shapes_text (spec.name (layout.memory_x requesters) y (codes "memory"))) }
+    ensures { OnOk result (out.new.items ≡ out.old.items ++ shapes_text (spec.name (layout.memory_x parts) y (codes "memory"))) }
 {
-    put_name(memory_x(requesters), y, b"memory", out)
+    put_name(memory_x(parts), y, b"memory", out)
+}
+
+/// Adds the name of the memory, if it has a line.
+#[tactic(auto, unfolding(svg_text::specs::Shapes::shapes_text))]
+fn put_right_name(parts: Parts, y: u64, out: &mut Vec<u8>) -> Result<(), AllocError>
+    requires { y ≤ 2000000 }
+    ensures { OnOk result (out.new.items ≡ out.old.items ++ shapes_text (spec.right_name parts y)) }
+{
+    match parts {
+        Parts::All(_) | Parts::Memory => put_memory_name(parts, y, out),
+        Parts::Requester(_) => Ok(()),
+    }
 }
 
 /// Adds the names of the lines in the stripe that ends at y.
-fn put_names(requesters: u8, y: u64, out: &mut Vec<u8>) -> Result<(), AllocError>
+fn put_names(parts: Parts, y: u64, out: &mut Vec<u8>) -> Result<(), AllocError>
     requires { y ≤ 2000000 }
-    ensures { OnOk result (out.new.items ≡ out.old.items ++ shapes_text (spec.names requesters y)) }
+    ensures { OnOk result (out.new.items ≡ out.old.items ++ shapes_text (spec.names parts y)) }
 {
-    put_requester_names(requesters, y, out)?;
-    put_switch_name(requesters, y, out)?;
-    put_memory_name(requesters, y, out)?;
+    put_left_names(parts, y, out)?;
+    put_switch_name(parts, y, out)?;
+    put_right_name(parts, y, out)?;
     Ok(())
 }
 
 /// Adds the names in the stripe of this number, from 0.
-fn put_stripe(requesters: u8, stripe: u16, out: &mut Vec<u8>) -> Result<(), AllocError>
+fn put_stripe(parts: Parts, stripe: u16, out: &mut Vec<u8>) -> Result<(), AllocError>
     requires { stripe < 25 }
-    ensures { OnOk result (out.new.items ≡ out.old.items ++ shapes_text (spec.names requesters (layout.top_of (40 * (stripe + 1))))) }
+    ensures { OnOk result (out.new.items ≡ out.old.items ++ shapes_text (spec.names parts (layout.top_of (40 * (stripe + 1))))) }
 {
-    put_names(requesters, top_of(40 * (stripe + 1)), out)
+    put_names(parts, top_of(40 * (stripe + 1)), out)
 }
 
 /// Adds the names again in so many stripes, at most 25.
-pub(crate) fn put_stripes(requesters: u8, count: u16, out: &mut Vec<u8>) -> Result<(), AllocError>
+pub(crate) fn put_stripes(parts: Parts, count: u16, out: &mut Vec<u8>) -> Result<(), AllocError>
     requires { count ≤ 25 }
-    ensures { OnOk result (out.new.items ≡ out.old.items ++ shapes_text (spec.stripes requesters count)) }
+    ensures { OnOk result (out.new.items ≡ out.old.items ++ shapes_text (spec.stripes parts count)) }
 {
     for stripe in 0..count {
-        put_stripe(requesters, stripe, out)?;
+        put_stripe(parts, stripe, out)?;
     }
     Ok(())
 }

@@ -10,9 +10,9 @@ use crate::arrows::is_lost;
 use crate::shapes::{Tag, kind_in, put_square, put_tag};
 use arrayvec::ArrayString;
 use chart_rows::{
-    Carried, Deed, Kind, PacketSent, Point, Replay, Way, arrival_words, memory_x, middle, other,
-    requester_x, switch_x, way_of, write_collected, write_dllp, write_dllp_arrival, write_expired,
-    write_forwarded, write_sent, write_served, write_submitted,
+    Carried, Deed, Kind, PacketSent, Parts, Point, Replay, Way, arrival_words, memory_x, middle,
+    other, requester_x, switch_x, way_of, write_collected, write_dllp, write_dllp_arrival,
+    write_expired, write_forwarded, write_sent, write_served, write_submitted,
 };
 use dllp_core::Dllp;
 use lane_ends::{Arrival, Fate};
@@ -131,17 +131,18 @@ fn remark_colour(fate: Fate) -> Colour
 }
 
 fn put_submitted_note(
+    parts: Parts,
     row: u16,
     port: u8,
     carried: Carried,
     out: &mut Vec<u8>,
 ) -> Result<(), AllocError>
-    ensures { OnOk result (out.new.items ≡ out.old.items ++ shapes_text (spec.mark (layout.requester_x port) row (Some carried.kind) (said.submitted_words carried))) }
+    ensures { OnOk result (out.new.items ≡ out.old.items ++ shapes_text (spec.mark (layout.requester_x parts port) row (Some carried.kind) (said.submitted_words carried))) }
 {
     let mut text = ArrayString::new();
     write_submitted(carried, &mut text);
     let kind = Some(carried.kind);
-    put_mark(requester_x(port), row, kind, text.as_bytes(), out)
+    put_mark(requester_x(parts, port), row, kind, text.as_bytes(), out)
 }
 
 fn put_sent_note(
@@ -268,82 +269,81 @@ fn put_expired_note(way: Way, row: u16, replay: Replay, out: &mut Vec<u8>) -> Re
 }
 
 fn put_forwarded_note(
-    requesters: u8,
+    parts: Parts,
     row: u16,
     carried: Option<Carried>,
     out: &mut Vec<u8>,
 ) -> Result<(), AllocError>
-    ensures { OnOk result (out.new.items ≡ out.old.items ++ shapes_text (spec.mark (layout.switch_x requesters) row (spec.kind_in carried) (said.forwarded_words carried))) }
+    ensures { OnOk result (out.new.items ≡ out.old.items ++ shapes_text (spec.mark (layout.switch_x parts) row (spec.kind_in carried) (said.forwarded_words carried))) }
 {
     let mut text = ArrayString::new();
     write_forwarded(carried, &mut text);
     let kind = kind_in(carried);
-    put_mark(switch_x(requesters), row, kind, text.as_bytes(), out)
+    put_mark(switch_x(parts), row, kind, text.as_bytes(), out)
 }
 
 fn put_served_note(
-    requesters: u8,
+    parts: Parts,
     row: u16,
     carried: Option<Carried>,
     index: usize,
     out: &mut Vec<u8>,
 ) -> Result<(), AllocError>
-    ensures { OnOk result (out.new.items ≡ out.old.items ++ shapes_text (spec.mark (layout.memory_x requesters) row (spec.kind_in carried) (said.served_words carried index))) }
+    ensures { OnOk result (out.new.items ≡ out.old.items ++ shapes_text (spec.mark (layout.memory_x parts) row (spec.kind_in carried) (said.served_words carried index))) }
 {
     let mut text = ArrayString::new();
     write_served(carried, index, &mut text);
     let kind = kind_in(carried);
-    put_mark(memory_x(requesters), row, kind, text.as_bytes(), out)
+    put_mark(memory_x(parts), row, kind, text.as_bytes(), out)
 }
 
 fn put_collected_note(
+    parts: Parts,
     row: u16,
     port: u8,
     carried: Option<Carried>,
     out: &mut Vec<u8>,
 ) -> Result<(), AllocError>
-    ensures { OnOk result (out.new.items ≡ out.old.items ++ shapes_text (spec.mark (layout.requester_x port) row (spec.kind_in carried) (said.collected_words carried))) }
+    ensures { OnOk result (out.new.items ≡ out.old.items ++ shapes_text (spec.mark (layout.requester_x parts port) row (spec.kind_in carried) (said.collected_words carried))) }
 {
     let mut text = ArrayString::new();
     write_collected(carried, &mut text);
     let kind = kind_in(carried);
-    put_mark(requester_x(port), row, kind, text.as_bytes(), out)
+    put_mark(requester_x(parts, port), row, kind, text.as_bytes(), out)
 }
 
 /// Adds the dot, the square and the text of a row of this deed.
 #[tactic(auto, unfolding(svg_text::specs::Shapes::shapes_text))]
 pub(crate) fn put_note(
-    requesters: u8,
+    parts: Parts,
     row: u16,
     deed: Deed,
     out: &mut Vec<u8>,
 ) -> Result<(), AllocError>
-    ensures { OnOk result (out.new.items ≡ out.old.items ++ shapes_text (spec.note requesters row deed)) }
+    ensures { OnOk result (out.new.items ≡ out.old.items ++ shapes_text (spec.note parts row deed)) }
 {
     match deed {
         Deed::Nothing => Ok(()),
-        Deed::Submitted(port, carried) => put_submitted_note(row, port, carried, out),
+        Deed::Submitted(port, carried) => put_submitted_note(parts, row, port, carried, out),
         Deed::Sent(lane, number, carried) => {
-            put_sent_note(way_of(requesters, lane, false), row, number, carried, out)
+            put_sent_note(way_of(parts, lane, false), row, number, carried, out)
         }
         Deed::Arrived(lane, fate, arrival, sent) => {
-            let way = way_of(requesters, lane, false);
+            let way = way_of(parts, lane, false);
             put_arrived(way, row, fate, arrival, sent, out)
         }
-        Deed::SentDllp(lane, dllp) => {
-            put_dllp_note(way_of(requesters, lane, true), row, dllp, out)
-        }
+        Deed::SentDllp(lane, dllp) => { put_dllp_note(way_of(parts, lane, true), row, dllp, out) }
         Deed::ArrivedDllp(lane, fate, _, replay) => {
-            put_dllp_arrival_note(way_of(requesters, lane, true), row, fate, replay, out)
+            put_dllp_arrival_note(way_of(parts, lane, true), row, fate, replay, out)
         }
         Deed::Expired(lane, replay) => {
-            put_expired_note(way_of(requesters, lane, false), row, replay, out)
+            put_expired_note(way_of(parts, lane, false), row, replay, out)
         }
         Deed::Retrained(lane) => {
-            put_notice(way_of(requesters, lane, false), row, b"link retrained", out)
+            put_notice(way_of(parts, lane, false), row, b"link retrained", out)
         }
-        Deed::Forwarded(carried) => put_forwarded_note(requesters, row, carried, out),
-        Deed::Served(carried, index) => put_served_note(requesters, row, carried, index, out),
-        Deed::Collected(port, carried) => put_collected_note(row, port, carried, out),
+        Deed::Forwarded(carried) => put_forwarded_note(parts, row, carried, out),
+        Deed::Served(carried, index) => put_served_note(parts, row, carried, index, out),
+        Deed::Collected(port, carried) => put_collected_note(parts, row, port, carried, out),
     }
 }

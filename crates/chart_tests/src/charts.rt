@@ -332,8 +332,11 @@ static CHARTS: [Charted; 11] = [
         STOPPED,
         INWARD,
         &[
+            "width=\"1160\"",
             "<title>line 12: dllp in p -&gt; ",
-            "<text x=\"1152\" y=\"121\"",
+            ">switch</text><g><title>switch</title><line x1=\"560\"",
+            ">memory</text><g><title>memory</title><line x1=\"800\"",
+            "<text x=\"672\" y=\"121\"",
         ],
         0,
     ),
@@ -411,12 +414,22 @@ static BRIEFS: [Charted; 3] = [
 ];
 
 static ABSENT: [Charted; 4] = [
-    (LOST, THIRD, &[">the script ran to its end</text>"], 0),
+    (
+        LOST,
+        THIRD,
+        &[
+            "width=\"1160\"",
+            ">the script ran to its end</text>",
+            ">requester 3</text><g><title>requester 3</title><line x1=\"560\"",
+            ">switch</text><g><title>switch</title><line x1=\"800\"",
+        ],
+        0,
+    ),
     (
         LOST,
         FOURTH,
         &[
-            "fill=\"#000000\" text-anchor=\"start\" pointer-events=\"none\">the script ran to its end; the fabric lacks the chosen lane</text>",
+            "fill=\"#000000\" text-anchor=\"start\" pointer-events=\"none\">the script ran to its end; the fabric lacks down4</text>",
             ">requester 3</text>",
         ],
         0,
@@ -424,7 +437,7 @@ static ABSENT: [Charted; 4] = [
     (
         "fabric 2 0 4096\ncollect 1\n",
         THIRD,
-        &[">refused 2 Idle; the fabric lacks the chosen lane</text>"],
+        &[">refused 2 Idle; the fabric lacks up3</text>"],
         1,
     ),
     ("collect 1\n", THIRD, &[">fault 1 Script</text>"], 1),

@@ -6,7 +6,7 @@ use Rattle.chart_page.proofs.page.put_body.Goals as goal
 
 pub returns : goal.returns
 returns c =
-    let n = c.args.requesters in
+    let n = c.args.parts in
     let rs = c.args.rows.now in
     let os = c.args.opens.now in
     let p1 = c.put_bands.new.out.items in
