@@ -7,7 +7,8 @@ use Rattle.chart_rows.specs.declared.row.Row.{Row}
 use Rattle.chart_rows.specs.declared.row.Open.{Open}
 use Rattle.chart_rows.specs.declared.layout.Parts.{Parts}
 use Rattle.chart_rows.specs.Layout.{top_of}
-use Rattle.chart_page.specs.Shapes.{each, names, open_stroke, open_strokes, requester_column, requester_columns, requester_name, requester_names, stripes}
+use Rattle.chart_page.specs.Look.{names, requester_column, requester_columns, requester_name, requester_names, stripes}
+use Rattle.chart_page.specs.Shapes.{each, open_stroke, open_strokes}
 
 text-append : (a b : List Shape) → shapes_text (a ++ b) ≡ shapes_text a ++ shapes_text b
 unfolding shapes_text

@@ -1,6 +1,7 @@
 //! Arrows.
 ghost use Rattle.std.specs.Prelude.{◌≡◌, ◌≤◌, ◌+◌, ◌*◌, ◌++◌, ◌∷◌, [], OnOk};
 ghost use Rattle.svg_text.specs.Shapes.{Shape, shape_text, shapes_text};
+ghost use Rattle.chart_page.specs.Look as look;
 ghost use Rattle.chart_page.specs.Shapes as spec;
 
 use crate::shapes::{Pen, put_square, rule};
@@ -27,7 +28,7 @@ pub(crate) struct Arrow {
 }
 
 pub(crate) fn pen(colour: Colour, thickness: u64, dash: u64) -> Pen
-    ensures { result ≡ spec.pen colour thickness dash }
+    ensures { result ≡ look.pen colour thickness dash }
 {
     Pen {
         colour,
@@ -38,7 +39,7 @@ pub(crate) fn pen(colour: Colour, thickness: u64, dash: u64) -> Pen
 
 /// The pen of a packet that arrived so.
 fn packet_pen(arrival: Arrival) -> Pen
-    ensures { result ≡ spec.packet_pen arrival }
+    ensures { result ≡ look.packet_pen arrival }
 {
     match arrival {
         Arrival::Answered(Reception::Accept) => pen(Colour::Black, 2, 0),
@@ -50,14 +51,14 @@ fn packet_pen(arrival: Arrival) -> Pen
 }
 
 pub(crate) fn dllp_pen() -> Pen
-    ensures { result ≡ spec.dllp_pen }
+    ensures { result ≡ look.dllp_pen }
 {
     pen(Colour::Grey, 1, 0)
 }
 
 /// The same pen without dashes.
 fn whole(pen: Pen) -> Pen
-    ensures { result ≡ spec.whole pen }
+    ensures { result ≡ look.whole pen }
 {
     Pen { dash: 0, ..pen }
 }
@@ -66,7 +67,7 @@ fn whole(pen: Pen) -> Pen
 fn flat_tip(pen: Pen, is_right: bool, to: Point) -> (Rule, Rule)
     requires x { to.x ≤ 300000 }
     requires y { to.y ≤ 2000100 }
-    ensures { result ≡ spec.flat_tip pen is_right to }
+    ensures { result ≡ look.flat_tip pen is_right to }
 {
     let x = behind(is_right, to.x, 9);
     let high = Point {
@@ -81,7 +82,7 @@ fn flat_tip(pen: Pen, is_right: bool, to: Point) -> (Rule, Rule)
 fn slanted_tip(pen: Pen, is_right: bool, to: Point) -> (Rule, Rule)
     requires x { to.x ≤ 300000 }
     requires y { to.y ≤ 2000100 }
-    ensures { result ≡ spec.slanted_tip pen is_right to }
+    ensures { result ≡ look.slanted_tip pen is_right to }
 {
     let low = Point {
         x: behind(is_right, to.x, 10),
@@ -98,7 +99,7 @@ fn slanted_tip(pen: Pen, is_right: bool, to: Point) -> (Rule, Rule)
 fn steep_tip(pen: Pen, to: Point) -> (Rule, Rule)
     requires x { to.x ≤ 300000 }
     requires y { to.y ≤ 2000100 }
-    ensures { result ≡ spec.steep_tip pen to }
+    ensures { result ≡ look.steep_tip pen to }
 {
     let y = to.y.saturating_sub(9);
     let left = Point {
@@ -113,7 +114,7 @@ fn steep_tip(pen: Pen, to: Point) -> (Rule, Rule)
 fn across(from: Point, to: Point) -> u64
     requires from { from.x ≤ 300000 }
     requires to { to.x ≤ 300000 }
-    ensures value { result ≡ spec.across from to }
+    ensures value { result ≡ look.across from to }
     ensures range { result ≤ 600000 }
 {
     to.x.saturating_sub(from.x) + from.x.saturating_sub(to.x)
@@ -124,7 +125,7 @@ fn tip(pen: Pen, is_right: bool, from: Point, to: Point) -> (Rule, Rule)
     requires from { from.x ≤ 300000 }
     requires x { to.x ≤ 300000 }
     requires y { to.y ≤ 2000100 }
-    ensures { result ≡ spec.tip pen is_right from to }
+    ensures { result ≡ look.tip pen is_right from to }
 {
     let across = across(from, to);
     let down = to.y.saturating_sub(from.y);
@@ -141,7 +142,7 @@ fn tip(pen: Pen, is_right: bool, from: Point, to: Point) -> (Rule, Rule)
 pub(crate) fn cross(at: Point) -> (Rule, Rule)
     requires x { at.x ≤ 300000 }
     requires y { at.y ≤ 2000100 }
-    ensures { result ≡ spec.cross at }
+    ensures { result ≡ look.cross at }
 {
     let red = pen(Colour::Red, 2, 0);
     let (left, right) = (at.x.saturating_sub(6), at.x + 6);
@@ -166,7 +167,7 @@ pub(crate) fn cross(at: Point) -> (Rule, Rule)
 fn put_failed(at: Point, out: &mut Vec<u8>) -> Result<(), AllocError>
     requires x { at.x ≤ 300000 }
     requires y { at.y ≤ 2000100 }
-    ensures { OnOk result (out.new.items ≡ out.old.items ++ shape_text (spec.failed at)) }
+    ensures { OnOk result (out.new.items ≡ out.old.items ++ shape_text (look.failed at)) }
 {
     put_square(at, Colour::Red, b"failed", out)
 }
@@ -179,7 +180,7 @@ fn put_three(
     title: &[u8],
     out: &mut Vec<u8>,
 ) -> Result<(), AllocError>
-    ensures { OnOk result (out.new.items ≡ out.old.items ++ shapes_text (spec.three shaft ends title.now ∷ [])) }
+    ensures { OnOk result (out.new.items ≡ out.old.items ++ shapes_text (look.three shaft ends title.now ∷ [])) }
 {
     put_lines(&[shaft, ends.0, ends.1], title, out)
 }
@@ -189,14 +190,14 @@ fn put_three(
 fn put_failing(shaft: Rule, to: Point, title: &[u8], out: &mut Vec<u8>) -> Result<(), AllocError>
     requires x { to.x ≤ 300000 }
     requires y { to.y ≤ 2000100 }
-    ensures { OnOk result (out.new.items ≡ out.old.items ++ shapes_text (Shape.Lined (shaft ∷ []) title.now ∷ spec.failed to ∷ [])) }
+    ensures { OnOk result (out.new.items ≡ out.old.items ++ shapes_text (Shape.Lined (shaft ∷ []) title.now ∷ look.failed to ∷ [])) }
 {
     put_lines(&[shaft], title, out)?;
     put_failed(to, out)
 }
 
 pub(crate) fn is_lost(fate: Fate) -> bool
-    ensures { result ≡ spec.is_lost fate }
+    ensures { result ≡ look.is_lost fate }
 {
     match fate {
         Fate::Lost => true,
@@ -325,7 +326,7 @@ fn is_dllp(what: Flying) -> bool
 fn put_open_line(way: Way, row: u16, title: &[u8], out: &mut Vec<u8>) -> Result<(), AllocError>
     requires from { way.from ≤ 70000 }
     requires to { way.to ≤ 70000 }
-    ensures { OnOk result (out.new.items ≡ out.old.items ++ shape_text (spec.open_line way row title.now)) }
+    ensures { OnOk result (out.new.items ≡ out.old.items ++ shape_text (look.open_line way row title.now)) }
 {
     let y = departure(row);
     let from = Point { x: way.from, y };

@@ -4,6 +4,7 @@ ghost use Rattle.svg_text.specs.Shapes.{shapes_text};
 ghost use Rattle.svg_text.specs.declared.colour.Colour.TheVariants as colours;
 ghost use Rattle.chart_rows.specs.Layout as layout;
 ghost use Rattle.chart_rows.specs.Words as said;
+ghost use Rattle.chart_page.specs.Look as look;
 ghost use Rattle.chart_page.specs.Shapes as spec;
 
 use crate::arrows::is_lost;
@@ -31,7 +32,7 @@ fn put_mark(
 ) -> Result<(), AllocError>
     requires x { x ≤ 70000 }
     requires words { length words.now ≤ 512 }
-    ensures { OnOk result (out.new.items ≡ out.old.items ++ shapes_text (spec.mark x row kind words.now)) }
+    ensures { OnOk result (out.new.items ≡ out.old.items ++ shapes_text (look.mark x row kind words.now)) }
 {
     let y = middle(row);
     put_dot(&Dot { x, y }, words, out)?;
@@ -55,7 +56,7 @@ fn put_departing(
 ) -> Result<(), AllocError>
     requires way { way.from ≤ 70000 }
     requires words { length words.now ≤ 512 }
-    ensures { OnOk result (out.new.items ≡ out.old.items ++ shapes_text (spec.departing way row kind words.now)) }
+    ensures { OnOk result (out.new.items ≡ out.old.items ++ shapes_text (look.departing way row kind words.now)) }
 {
     let tag = Tag {
         x: way.from,
@@ -72,7 +73,7 @@ fn put_departing(
 fn put_notice(way: Way, row: u16, words: &[u8], out: &mut Vec<u8>) -> Result<(), AllocError>
     requires way { way.from ≤ 70000 }
     requires words { length words.now ≤ 512 }
-    ensures { OnOk result (out.new.items ≡ out.old.items ++ shapes_text (spec.notice way row words.now)) }
+    ensures { OnOk result (out.new.items ≡ out.old.items ++ shapes_text (look.notice way row words.now)) }
 {
     let at = Point {
         x: way.from,
@@ -84,7 +85,7 @@ fn put_notice(way: Way, row: u16, words: &[u8], out: &mut Vec<u8>) -> Result<(),
 
 /// Whether a text at the end of a way stands at the right: beyond the line, and before it where something was lost.
 fn remark_side(way: Way, fate: Fate) -> bool
-    ensures { result ≡ spec.remark_side way fate }
+    ensures { result ≡ look.remark_side way fate }
 {
     if is_lost(fate) {
         other(way.is_right)
@@ -105,7 +106,7 @@ fn put_remark(
 ) -> Result<(), AllocError>
     requires way { way.to ≤ 70000 }
     requires words { length words.now ≤ 512 }
-    ensures { OnOk result (out.new.items ≡ out.old.items ++ shapes_text (spec.remark way row fate colour words.now)) }
+    ensures { OnOk result (out.new.items ≡ out.old.items ++ shapes_text (look.remark way row fate colour words.now)) }
 {
     if words.is_empty() {
         return Ok(());
@@ -122,7 +123,7 @@ fn put_remark(
 
 /// What goes well is told in black.
 fn remark_colour(fate: Fate) -> Colour
-    ensures { result ≡ spec.remark_colour fate }
+    ensures { result ≡ look.remark_colour fate }
 {
     match fate {
         Fate::Good => Colour::Black,
@@ -137,7 +138,7 @@ fn put_submitted_note(
     carried: Carried,
     out: &mut Vec<u8>,
 ) -> Result<(), AllocError>
-    ensures { OnOk result (out.new.items ≡ out.old.items ++ shapes_text (spec.mark (layout.requester_x parts port) row (Some carried.kind) (said.submitted_words carried))) }
+    ensures { OnOk result (out.new.items ≡ out.old.items ++ shapes_text (look.mark (layout.requester_x parts port) row (Some carried.kind) (said.submitted_words carried))) }
 {
     let mut text = ArrayString::new();
     write_submitted(carried, &mut text);
@@ -153,7 +154,7 @@ fn put_sent_note(
     out: &mut Vec<u8>,
 ) -> Result<(), AllocError>
     requires { way.from ≤ 70000 }
-    ensures { OnOk result (out.new.items ≡ out.old.items ++ shapes_text (spec.departing way row (spec.kind_in carried) (said.sent_words number carried))) }
+    ensures { OnOk result (out.new.items ≡ out.old.items ++ shapes_text (look.departing way row (look.kind_in carried) (said.sent_words number carried))) }
 {
     let mut text = ArrayString::new();
     write_sent(number, carried, &mut text);
@@ -168,7 +169,7 @@ fn put_arrival_note(
     out: &mut Vec<u8>,
 ) -> Result<(), AllocError>
     requires { way.to ≤ 70000 }
-    ensures { OnOk result (out.new.items ≡ out.old.items ++ shapes_text (spec.remark way row fate colours.Red (said.arrival_words fate arrival))) }
+    ensures { OnOk result (out.new.items ≡ out.old.items ++ shapes_text (look.remark way row fate colours.Red (said.arrival_words fate arrival))) }
 {
     let words = arrival_words(fate, arrival);
     put_remark(way, row, fate, Colour::Red, words.as_bytes(), out)
@@ -176,7 +177,7 @@ fn put_arrival_note(
 
 /// Whether something arrives more than twelve rows below its sending.
 fn is_far(sent: Option<u16>, row: u16) -> bool
-    ensures { result ≡ spec.is_far sent row }
+    ensures { result ≡ look.is_far sent row }
 {
     match sent {
         None => false,
@@ -187,7 +188,7 @@ fn is_far(sent: Option<u16>, row: u16) -> bool
 /// Writes the number of a packet that comes from far.
 fn write_far(sent: Option<PacketSent>, row: u16, text: &mut ArrayString<512>)
     requires { text.old.bytes ≡ [] }
-    ensures { text.new.bytes ≡ spec.far_words sent row }
+    ensures { text.new.bytes ≡ look.far_words sent row }
 {
     if let Some(packet) = sent {
         if is_far(packet.row, row) {
@@ -207,7 +208,7 @@ fn put_far_note(
     out: &mut Vec<u8>,
 ) -> Result<(), AllocError>
     requires { way.to ≤ 70000 }
-    ensures { OnOk result (out.new.items ≡ out.old.items ++ shapes_text (spec.far_remark way row fate arrival sent)) }
+    ensures { OnOk result (out.new.items ≡ out.old.items ++ shapes_text (look.far_remark way row fate arrival sent)) }
 {
     if !arrival_words(fate, arrival).is_empty() {
         return Ok(());
@@ -228,7 +229,7 @@ fn put_arrived(
 ) -> Result<(), AllocError>
     requires { way.to ≤ 70000 }
     ensures { OnOk result (out.new.items ≡ out.old.items ++ shapes_text (
-        spec.remark way row fate colours.Red (said.arrival_words fate arrival) ++ spec.far_remark way row fate arrival sent)) }
+        look.remark way row fate colours.Red (said.arrival_words fate arrival) ++ look.far_remark way row fate arrival sent)) }
 {
     put_arrival_note(way, row, fate, arrival, out)?;
     put_far_note(way, row, fate, arrival, sent, out)?;
@@ -237,7 +238,7 @@ fn put_arrived(
 
 fn put_dllp_note(way: Way, row: u16, dllp: Dllp, out: &mut Vec<u8>) -> Result<(), AllocError>
     requires { way.from ≤ 70000 }
-    ensures { OnOk result (out.new.items ≡ out.old.items ++ shapes_text (spec.departing way row None (said.dllp_words dllp))) }
+    ensures { OnOk result (out.new.items ≡ out.old.items ++ shapes_text (look.departing way row None (said.dllp_words dllp))) }
 {
     let mut text = ArrayString::new();
     write_dllp(dllp, &mut text);
@@ -252,7 +253,7 @@ fn put_dllp_arrival_note(
     out: &mut Vec<u8>,
 ) -> Result<(), AllocError>
     requires { way.to ≤ 70000 }
-    ensures { OnOk result (out.new.items ≡ out.old.items ++ shapes_text (spec.remark way row fate (spec.remark_colour fate) (said.dllp_arrival_words fate replay))) }
+    ensures { OnOk result (out.new.items ≡ out.old.items ++ shapes_text (look.remark way row fate (look.remark_colour fate) (said.dllp_arrival_words fate replay))) }
 {
     let mut text = ArrayString::new();
     write_dllp_arrival(fate, replay, &mut text);
@@ -261,7 +262,7 @@ fn put_dllp_arrival_note(
 
 fn put_expired_note(way: Way, row: u16, replay: Replay, out: &mut Vec<u8>) -> Result<(), AllocError>
     requires { way.from ≤ 70000 }
-    ensures { OnOk result (out.new.items ≡ out.old.items ++ shapes_text (spec.notice way row (said.expired_words replay))) }
+    ensures { OnOk result (out.new.items ≡ out.old.items ++ shapes_text (look.notice way row (said.expired_words replay))) }
 {
     let mut text = ArrayString::new();
     write_expired(replay, &mut text);
@@ -274,7 +275,7 @@ fn put_forwarded_note(
     carried: Option<Carried>,
     out: &mut Vec<u8>,
 ) -> Result<(), AllocError>
-    ensures { OnOk result (out.new.items ≡ out.old.items ++ shapes_text (spec.mark (layout.switch_x parts) row (spec.kind_in carried) (said.forwarded_words carried))) }
+    ensures { OnOk result (out.new.items ≡ out.old.items ++ shapes_text (look.mark (layout.switch_x parts) row (look.kind_in carried) (said.forwarded_words carried))) }
 {
     let mut text = ArrayString::new();
     write_forwarded(carried, &mut text);
@@ -289,7 +290,7 @@ fn put_served_note(
     index: usize,
     out: &mut Vec<u8>,
 ) -> Result<(), AllocError>
-    ensures { OnOk result (out.new.items ≡ out.old.items ++ shapes_text (spec.mark (layout.memory_x parts) row (spec.kind_in carried) (said.served_words carried index))) }
+    ensures { OnOk result (out.new.items ≡ out.old.items ++ shapes_text (look.mark (layout.memory_x parts) row (look.kind_in carried) (said.served_words carried index))) }
 {
     let mut text = ArrayString::new();
     write_served(carried, index, &mut text);
@@ -304,7 +305,7 @@ fn put_collected_note(
     carried: Option<Carried>,
     out: &mut Vec<u8>,
 ) -> Result<(), AllocError>
-    ensures { OnOk result (out.new.items ≡ out.old.items ++ shapes_text (spec.mark (layout.requester_x parts port) row (spec.kind_in carried) (said.collected_words carried))) }
+    ensures { OnOk result (out.new.items ≡ out.old.items ++ shapes_text (look.mark (layout.requester_x parts port) row (look.kind_in carried) (said.collected_words carried))) }
 {
     let mut text = ArrayString::new();
     write_collected(carried, &mut text);

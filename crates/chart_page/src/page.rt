@@ -1,6 +1,7 @@
 //! The whole page.
 ghost use Rattle.std.specs.Prelude.{◌≡◌, ◌≤◌, ◌+◌, ◌++◌, length, OnOk, OnErr};
 ghost use Rattle.svg_text.specs.Shapes.{shape_text, shapes_text};
+ghost use Rattle.chart_page.specs.Look as look;
 ghost use Rattle.chart_page.specs.Shapes as spec;
 
 use crate::arrows::{put_open, put_strokes};
@@ -18,7 +19,7 @@ use svg_text::{Block, Colour, put_block, put_label, put_page};
 
 /// What is refused is told in red.
 fn row_colour(deed: Deed) -> Colour
-    ensures { result ≡ spec.row_colour deed }
+    ensures { result ≡ look.row_colour deed }
 {
     match deed {
         Deed::Nothing => Colour::Red,
@@ -28,7 +29,7 @@ fn row_colour(deed: Deed) -> Colour
 
 /// White below a row.
 fn band_block(parts: Parts, row: u16) -> Block
-    ensures { result ≡ spec.band_block parts row }
+    ensures { result ≡ look.band_block parts row }
 {
     Block {
         left: 0,
@@ -156,7 +157,7 @@ fn put_all_open(parts: Parts, opens: &[Open], out: &mut Vec<u8>) -> Result<(), A
 /// Adds a count of events that aren't shown, if there are any.
 #[tactic(auto, unfolding(svg_text::specs::Shapes::shapes_text))]
 fn put_cut(count: u64, y: u64, words: &[u8], out: &mut Vec<u8>) -> Result<(), AllocError>
-    ensures { OnOk result (out.new.items ≡ out.old.items ++ shapes_text (spec.cut count y words.now)) }
+    ensures { OnOk result (out.new.items ≡ out.old.items ++ shapes_text (look.cut count y words.now)) }
 {
     if count == 0 {
         return Ok(());

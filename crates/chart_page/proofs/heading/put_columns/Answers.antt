@@ -1,4 +1,4 @@
-use Rattle.chart_page.specs.Shapes.{left_columns, switch_column, right_column}
+use Rattle.chart_page.specs.Look.{left_columns, switch_column, right_column}
 use Rattle.chart_page.proofs.Steps.{both}
 use Rattle.chart_page.proofs.heading.put_columns.Goals as goal
 

@@ -1,6 +1,6 @@
 use Rattle.std.specs.Prelude.{codes}
 use Rattle.chart_rows.specs.Layout.{switch_x}
-use Rattle.chart_page.specs.Shapes.{left_names, right_name, name}
+use Rattle.chart_page.specs.Look.{left_names, right_name, name}
 use Rattle.chart_page.proofs.Steps.{both}
 use Rattle.chart_page.proofs.heading.put_names.Goals as goal
 

@@ -1,6 +1,6 @@
 use Rattle.std.proofs.Common.{◌≡◌, ◌++◌}
 use Rattle.svg_text.specs.Shapes.{shapes_text}
-use Rattle.chart_page.specs.Shapes.{requester_columns}
+use Rattle.chart_page.specs.Look.{requester_columns}
 use Rattle.chart_page.proofs.heading.put_requester_columns.Given as goal
 
 abbrev pub invariant-loop-place : goal.invariant-loop-place

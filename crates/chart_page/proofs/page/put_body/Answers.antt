@@ -1,6 +1,7 @@
 use Rattle.std.proofs.Common.{◌∙◌, ◌++◌, ◌+◌, ◌/◌, ap, length, ℕ}
 use Rattle.svg_text.specs.Shapes.{shapes_text}
-use Rattle.chart_page.specs.Shapes.{each, band, columns, stripes, row_strokes, open_strokes, row_note, cuts, bottom_of}
+use Rattle.chart_page.specs.Look.{columns, stripes}
+use Rattle.chart_page.specs.Shapes.{each, band, row_strokes, open_strokes, row_note, cuts, bottom_of}
 use Rattle.chart_page.proofs.Steps.{both}
 use Rattle.chart_page.proofs.page.put_body.Goals as goal
 

@@ -3,7 +3,8 @@ use Rattle.svg_text.specs.Shapes.{shapes_text}
 use Rattle.chart_rows.specs.declared.row.Row.{Row}
 use Rattle.chart_rows.specs.declared.row.Open.{Open}
 use Rattle.chart_rows.specs.PageView.{PageView}
-use Rattle.chart_page.specs.Shapes.{title, legend, body}
+use Rattle.chart_page.specs.Look.{legend}
+use Rattle.chart_page.specs.Shapes.{title, body}
 use Rattle.chart_page.proofs.Steps.{both}
 use Rattle.chart_page.proofs.page.put_shapes.Goals as goal
 
