@@ -1,4 +1,4 @@
-use Rattle.std.specs.Prelude.{codes, [], ◌∷◌}
+use Rattle.std.specs.Prelude.{codes}
 use Rattle.svg_text.specs.Shapes.{Shape}
 use Rattle.chart_rows.specs.Layout.{point}
 use Rattle.chart_page.specs.Look.{cross, two, text_at}
