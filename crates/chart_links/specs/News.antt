@@ -2,9 +2,11 @@
 use Rattle.std.specs.Prelude.{◌==◌, ◌&&◌, Bool, true, false, if◌then◌else◌, List, Option, Some, None, is_some}
 use Rattle.dllp_core.specs.declared.packet.Dllp.{Dllp}
 use Rattle.dllp_core.specs.declared.packet.Dllp.TheVariants as dllps
+use Rattle.lane_ends.specs.declared.packet.DllpSeen.{DllpSeen}
 use Rattle.lane_ends.specs.declared.packet.DllpSeen.TheVariants as dllps_seen
 use Rattle.fabric_core.specs.declared.event.Event.{Event}
 use Rattle.fabric_core.specs.declared.event.Event.TheVariants as events
+use Rattle.fabric_core.specs.declared.event.LaneName.{LaneName}
 use Rattle.fabric_core.specs.declared.event.Seen.{Seen}
 use Rattle.fabric_core.specs.declared.event.Seen.TheVariants as seen
 use Rattle.chart_rows.specs.declared.row.DllpSent.{DllpSent}
@@ -34,8 +36,21 @@ is_begun (Some d) = is_some d.row
 abbrev pub is_old_arrival : Dllp → CourseView → Bool
 is_old_arrival dllp s = if is_begun (oldest_back s) then false else is_old dllp s
 
--- an event that sends such a DLLP or delivers it; a DLLP that is lost or fails its check is always shown
+abbrev pub is_old_sending : List CourseView → LaneName → Seen → Bool
+is_old_sending cs lane (seen.SentDllp dllp) = asked (is_old dllp) false cs lane
+is_old_sending cs lane _ = false
+
+-- what is lost or fails its check is always shown
+abbrev pub is_old_end : List CourseView → LaneName → DllpSeen → Bool
+is_old_end cs lane (dllps_seen.Took dllp) = asked (is_old_arrival dllp) false cs lane
+is_old_end cs lane dllps_seen.Gone = false
+
+abbrev pub is_old_delivery : List CourseView → LaneName → Seen → Bool
+is_old_delivery cs lane (seen.SeenDllp what) = is_old_end cs lane what
+is_old_delivery cs lane _ = false
+
+-- an event tells nothing new if it sends such a DLLP or delivers it
 abbrev pub tells_nothing : List CourseView → Event → Seen → Bool
-tells_nothing cs (events.SendDllp lane kind) (seen.SentDllp dllp) = asked (is_old dllp) false cs lane
-tells_nothing cs (events.DeliverDllp lane fate) (seen.SeenDllp (dllps_seen.Took dllp)) = asked (is_old_arrival dllp) false cs lane
-tells_nothing cs _ _ = false
+tells_nothing cs (events.SendDllp lane kind) what = is_old_sending cs lane what
+tells_nothing cs (events.DeliverDllp lane fate) what = is_old_delivery cs lane what
+tells_nothing cs _ what = false

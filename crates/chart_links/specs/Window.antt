@@ -78,6 +78,9 @@ place_of w rows line event = if is_chosen w.lane event then place_in w rows line
 abbrev pub is_omitted : ChartWindow → Bool → Bool
 is_omitted w is_old = w.is_brief && is_old
 
+abbrev pub omitted : Place → Place
+omitted places.Shown = places.Omitted
+omitted place = place
+
 abbrev pub unless_omitted : Bool → Place → Place
-unless_omitted true places.Shown = places.Omitted
-unless_omitted _ place = place
+unless_omitted is_left_out place = if is_left_out then omitted place else place

@@ -29,15 +29,43 @@ fn is_old_arrival(courses: &Vec<Course>, lane: LaneName, dllp: Dllp) -> bool
     }
 }
 
+/// Whether the sending of a DLLP tells nothing new.
+fn is_old_sending(courses: &Vec<Course>, lane: LaneName, seen: &Seen) -> bool
+    ensures { result ≡ spec.is_old_sending courses.now.items lane seen.now }
+{
+    let Seen::SentDllp(dllp) = seen else {
+        return false;
+    };
+    is_old(courses, lane, *dllp)
+}
+
+/// Whether what became of a DLLP tells nothing new.
+fn is_old_end(courses: &Vec<Course>, lane: LaneName, what: DllpSeen) -> bool
+    ensures { result ≡ spec.is_old_end courses.now.items lane what }
+{
+    match what {
+        DllpSeen::Took(dllp) => is_old_arrival(courses, lane, dllp),
+        DllpSeen::Gone => false,
+    }
+}
+
+/// Whether the delivery of a DLLP tells nothing new.
+fn is_old_delivery(courses: &Vec<Course>, lane: LaneName, seen: &Seen) -> bool
+    ensures { result ≡ spec.is_old_delivery courses.now.items lane seen.now }
+{
+    let Seen::SeenDllp(what) = seen else {
+        return false;
+    };
+    is_old_end(courses, lane, *what)
+}
+
 /// Whether an event tells nothing new.
 pub(crate) fn tells_nothing(courses: &Vec<Course>, event: &Event, seen: &Seen) -> bool
     ensures { result ≡ spec.tells_nothing courses.now.items event.now seen.now }
 {
-    match (event, seen) {
-        (Event::SendDllp(lane, _), Seen::SentDllp(dllp)) => is_old(courses, *lane, *dllp),
-        (Event::DeliverDllp(lane, _), Seen::SeenDllp(DllpSeen::Took(dllp))) => {
-            is_old_arrival(courses, *lane, *dllp)
-        }
+    match event {
+        Event::SendDllp(lane, _) => is_old_sending(courses, *lane, seen),
+        Event::DeliverDllp(lane, _) => is_old_delivery(courses, *lane, seen),
         _ => false,
     }
 }

@@ -90,7 +90,8 @@ fn ends_of(lane: LaneName) -> Parts
     ensures { result ≡ spec.ends_of lane }
 {
     match lane {
-        LaneName::Up(port) | LaneName::Down(port) => Parts::Requester(port),
+        LaneName::Up(port) => Parts::Requester(port),
+        LaneName::Down(port) => Parts::Requester(port),
         LaneName::Inward | LaneName::Outward => Parts::Memory,
     }
 }
@@ -99,9 +100,13 @@ fn ends_of(lane: LaneName) -> Parts
 pub(crate) fn parts_of(lane: Option<LaneName>, requesters: u8) -> Parts
     ensures { result ≡ spec.parts_of lane requesters }
 {
-    match lane {
-        Some(lane) if has_lane(requesters, lane) => ends_of(lane),
-        _ => Parts::All(requesters),
+    let Some(lane) = lane else {
+        return Parts::All(requesters);
+    };
+    if has_lane(requesters, lane) {
+        ends_of(lane)
+    } else {
+        Parts::All(requesters)
     }
 }
 
@@ -118,6 +123,19 @@ pub(crate) enum Place {
     After,
     /// It is left out, as it tells nothing new.
     Omitted,
+}
+
+/// Where an event goes that is left out, if it would be shown.
+fn omitted(place: Place) -> Place
+    ensures place { result ≡ spec.omitted place }
+    ensures shown { result ≡ Place.Shown → ⊥ }
+{
+    match place {
+        Place::Hidden => Place::Hidden,
+        Place::Before => Place::Before,
+        Place::After => Place::After,
+        Place::Shown | Place::Omitted => Place::Omitted,
+    }
 }
 
 /// The most rows of a chart.
@@ -157,9 +175,10 @@ impl ChartWindow {
         ensures place { result ≡ spec.unless_omitted (spec.is_omitted self.now is_old) place }
         ensures shown { result ≡ Place.Shown → place ≡ Place.Shown }
     {
-        match place {
-            Place::Shown if self.is_brief && is_old => Place::Omitted,
-            _ => place,
+        if self.is_brief && is_old {
+            omitted(place)
+        } else {
+            place
         }
     }
 }
