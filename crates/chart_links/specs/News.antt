@@ -20,8 +20,8 @@ abbrev pub is_known : Option Limit → Bool → Limit → Bool
 is_known None has_taken now = if has_taken then false else true
 is_known (Some last) has_taken now = (last.headers == now.headers) && (last.units == now.units)
 
--- an Ack tells a sender nothing new if it acknowledges no packet that wasn't acknowledged before, an update if it raises
--- no limit; a Nak always tells something
+-- an Ack tells a sender nothing new if it acknowledges no packet that wasn't acknowledged before, an update if its limit is
+-- known, so that it raises none; a Nak always tells something
 abbrev pub is_old : Dllp → CourseView → Bool
 is_old (dllps.Ack number) s = number == s.acked
 is_old (dllps.Nak number) s = false
