@@ -1,7 +1,7 @@
 #!/bin/sh
 # Draws and charts the examples, and reads each picture with python's parser of XML, where there is python. Tells each
-# picture that is no XML, and whether docs/overlaps.svg and examples/lost_ack.svg are the pictures of their examples:
-# pictures.sh [PROGRAM], the one that `rt ci` built if none is named.
+# picture that is no XML, and whether docs/overlaps.svg, examples/lost_ack.svg and examples/first_script.svg are the
+# pictures of their examples: pictures.sh [PROGRAM], the one that `rt ci` built if none is named.
 pciex=$(sh "$(dirname "$0")/program.sh" "$@") || exit 1
 cd "$(dirname "$0")/.." || exit 1
 room=$(mktemp -d) || exit 1
@@ -66,6 +66,7 @@ for name in lost_ack write_passes_read credits stopped_link first_script; do
     charts "the chart of $name.txt" 0
     charts "the lane up1 of $name.txt" 0 --lane up1
     charts "the lines 4 to 9 of $name.txt" 0 --from 4 --to 9
+    charts "the brief chart of $name.txt" 0 --brief
 done
 cp examples/credits_used_up.txt "$room/input"
 charts "the chart of credits_used_up.txt" 1
@@ -76,6 +77,15 @@ done
 "$pciex" generate --seed 7 --events 3000 --lose 8 --corrupt 8 > "$room/input"
 charts "the chart of a storm" 0
 charts "the lane in of a storm" 0 --lane in --from 1000
+charts "the brief chart of a storm" 0 --brief
+"$pciex" generate --seed 3 --requesters 3 --events 900 --lose 4 --corrupt 8 > "$room/input"
+for lane in up2 down2 in out; do
+    charts "the lane $lane of three requesters" 0 --lane $lane
+    [ "$(grep -o 'text-anchor="middle"[^>]*>[^<]*<' "$room/picture" | sort -u | wc -l)" -eq 2 ] || {
+        echo "pictures: the lane $lane of three requesters has other lines than those of its two ends"
+        failed=1
+    }
+done
 "$pciex" generate --seed 3 --requesters 3 --events 900 --lose 4 --corrupt 8 > "$room/input"
 charts "the chart of three requesters with losses" 0
 # The lines of the parts stand at 560 and each 240 pixels: no cross is on one.
@@ -88,10 +98,12 @@ fi
     echo "pictures: the names don't stand again below each 40 rows"
     failed=1
 }
-"$pciex" chart < examples/lost_ack.txt | cmp -s - examples/lost_ack.svg || {
-    echo "pictures: examples/lost_ack.svg is not the chart of examples/lost_ack.txt"
-    failed=1
-}
+for name in lost_ack first_script; do
+    "$pciex" chart --brief < examples/$name.txt | cmp -s - examples/$name.svg || {
+        echo "pictures: examples/$name.svg is not the brief chart of examples/$name.txt"
+        failed=1
+    }
+done
 "$pciex" draw < examples/overlaps.txt | cmp -s - docs/overlaps.svg || {
     echo "pictures: docs/overlaps.svg is not the picture of examples/overlaps.txt"
     failed=1

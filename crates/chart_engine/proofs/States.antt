@@ -1,5 +1,5 @@
 -- What a line leaves.
-use Rattle.std.proofs.Common.{◌≡◌, ◌∙◌, ◌++◌, ◌∷◌, List, ℕ, false, [], refl, sym, ap, subst, Option, Some, None}
+use Rattle.std.proofs.Common.{◌≡◌, ◌∙◌, List, ℕ, false, refl, sym, ap, subst, Option, Some, None}
 use Rattle.std.specs.Prelude.{is_some, codes}
 use Rattle.std.proofs.lemmas.List.{append-nil}
 use Rattle.fabric_laws.specs.Fabric.{Fabric}

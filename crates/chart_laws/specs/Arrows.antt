@@ -5,9 +5,8 @@ use Rattle.fabric_core.specs.declared.event.Seen.{Seen}
 use Rattle.chart_rows.specs.declared.row.PacketSent.{PacketSent}
 use Rattle.chart_rows.specs.declared.row.Deed.{Deed}
 use Rattle.chart_rows.specs.declared.row.Deed.TheVariants as deeds
-use Rattle.chart_links.specs.Window as window
 use Rattle.chart_links.specs.Lanes.{Moved, followed, place_of}
-use Rattle.chart_links.specs.ChartView.{ChartView, row_at, charted}
+use Rattle.chart_links.specs.ChartView.{ChartView, row_at, place_for, charted}
 
 -- an event that happened, its line of the script, and what was seen of it
 pub record Tale : Type 0 where
@@ -20,7 +19,7 @@ told v t = charted v t.line t.event t.what
 
 -- the row that the event gets, if it is shown
 abbrev pub row_in : ChartView → Tale → Option ℕ
-row_in v t = row_at (window.place_of v.window (length v.page.rows) t.line t.event) (length v.page.rows)
+row_in v t = row_at (place_for v t.line t.event t.what) (length v.page.rows)
 
 -- what is drawn of it
 abbrev pub deed_in : ChartView → Tale → Deed

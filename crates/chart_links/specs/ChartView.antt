@@ -1,5 +1,5 @@
 -- What happened on the links of a fabric so far, as a chart.
-use Rattle.std.specs.Prelude.{ℕ, ◌+◌, ◌-◌, ◌^◌, min, nat_lt, Bool, true, false, if◌then◌else◌, List, [], ◌∷◌, ◌++◌, length, replicate, Option, Some, None, Result, Ok, Err}
+use Rattle.std.specs.Prelude.{ℕ, ◌+◌, ◌-◌, ◌^◌, min, List, [], ◌∷◌, ◌++◌, length, replicate, Option, Some, None, Result, Ok, Err}
 use Rattle.fabric_core.specs.declared.event.Event.{Event}
 use Rattle.fabric_core.specs.declared.event.Seen.{Seen}
 use Rattle.fabric_core.specs.declared.event.LaneName.{LaneName}
@@ -16,22 +16,25 @@ use Rattle.chart_rows.specs.PageView.{PageView}
 use Rattle.chart_links.specs.declared.window.ChartWindow.{ChartWindow}
 use Rattle.chart_links.specs.declared.window.Place.{Place}
 use Rattle.chart_links.specs.declared.window.Place.TheVariants as places
-use Rattle.chart_links.specs.Window.{place_of, absent_words}
+use Rattle.chart_rows.specs.declared.layout.Parts.{Parts}
+use Rattle.chart_links.specs.Window.{place_of, is_omitted, unless_omitted, absent_words, parts_of}
 use Rattle.chart_links.specs.CourseView.{CourseView, quiet}
 use Rattle.chart_links.specs.Lanes.{Moved, followed, lane_at}
+use Rattle.chart_links.specs.News.{tells_nothing}
 
 pub record ChartView : Type 0 where
   pub window : ChartWindow
+  pub requesters : ℕ
   -- `in`, `up1` to `up7`, `out`, `down1` to `down7`
   pub courses : List CourseView
   pub page : PageView
 
-abbrev pub empty_page : ℕ → PageView
-empty_page requesters = record { requesters = requesters; rows = []; opens = []; before = 0; after = 0 }
+abbrev pub empty_page : Parts → PageView
+empty_page parts = record { parts = parts; rows = []; opens = []; before = 0; after = 0; omitted = 0 }
 
 -- a fabric with so many requesters, to which nothing has happened
 abbrev pub new_chart : ChartWindow → ℕ → ChartView
-new_chart window requesters = record { window = window; courses = replicate 16 quiet; page = empty_page requesters }
+new_chart window requesters = record { window = window; requesters = requesters; courses = replicate 16 quiet; page = empty_page (parts_of window.lane requesters) }
 
 -- ---- where an event goes
 
@@ -44,10 +47,15 @@ abbrev pub row_at : Place → ℕ → Option ℕ
 row_at places.Shown row = Some row
 row_at _ row = None
 
--- one event more that isn't shown, before the rows or after them
+-- where an event goes of which this is seen
+abbrev pub place_for : ChartView → ℕ → Event → Seen → Place
+place_for v line event what = unless_omitted (is_omitted v.window (tells_nothing v.courses event what)) (place_of v.window (length v.page.rows) line event)
+
+-- one event more that isn't shown, before the rows, after them, or as it tells nothing new
 abbrev pub counted : Place → PageView → PageView
 counted places.Before p = record p { before = one_more p.before }
 counted places.After p = record p { after = one_more p.after }
+counted places.Omitted p = record p { omitted = one_more p.omitted }
 counted _ p = p
 
 -- ---- what is drawn
@@ -87,7 +95,7 @@ placed v place line event what = follows v place line event what (followed v.cou
 
 -- an event of that line of the script happened, and this was seen of it
 abbrev pub charted : ChartView → ℕ → Event → Seen → ChartView
-charted v line event what = placed v (place_of v.window (length v.page.rows) line event) line event what
+charted v line event what = placed v (place_for v line event what) line event what
 
 abbrev pub refused_at : ChartView → Place → ℕ → Event → Refusal → ChartView
 refused_at v place line event r = record v {
@@ -126,4 +134,4 @@ page_of v = with_left v.courses v.page
 
 -- the line above a chart
 abbrev pub titled : ChartView → List ℕ → List ℕ
-titled v title = title ++ absent_words v.window.lane v.page.requesters
+titled v title = title ++ absent_words v.window.lane v.requesters

@@ -1,6 +1,8 @@
 -- What is on a lane, as far as its events tell.
 use Rattle.std.specs.Prelude.{ℕ, ◌+◌, ◌-◌, ◌==◌, nat_lt, Bool, true, false, if◌then◌else◌, List, [], ◌∷◌, ◌++◌, length, drop, remove, Option, Some, None, slice_get}
 use Rattle.seq12.specs.Numbers.{distance_of}
+use Rattle.dllp_core.specs.declared.packet.Class.{Class}
+use Rattle.dllp_core.specs.declared.packet.Class.TheVariants as classes
 use Rattle.dllp_core.specs.declared.packet.Dllp.{Dllp}
 use Rattle.dllp_core.specs.declared.packet.Dllp.TheVariants as dllps
 use Rattle.lane_ends.specs.declared.packet.DllpSeen.{DllpSeen}
@@ -10,6 +12,28 @@ use Rattle.chart_rows.specs.declared.row.PacketSent.{PacketSent}
 use Rattle.chart_rows.specs.declared.row.DllpSent.{DllpSent}
 use Rattle.chart_rows.specs.declared.row.Replay.{Replay}
 use Rattle.chart_rows.specs.declared.row.Replay.TheVariants as replays
+use Rattle.chart_links.specs.declared.limits.Limit.{Limit}
+use Rattle.chart_links.specs.declared.limits.Limits.{Limits}
+
+-- ---- the limits of credits (section 2.6.1), of each class
+
+abbrev pub no_limits : Limits
+no_limits = record { posted = None; non_posted = None; completion = None }
+
+abbrev pub limit : ℕ → ℕ → Limit
+limit headers units = record { headers = headers; units = units }
+
+abbrev pub limit_of : Limits → Class → Option Limit
+limit_of l classes.Posted = l.posted
+limit_of l classes.NonPosted = l.non_posted
+limit_of l classes.Completion = l.completion
+
+abbrev pub with_limit : Limits → Class → Limit → Limits
+with_limit l classes.Posted now = record l { posted = Some now }
+with_limit l classes.NonPosted now = record l { non_posted = Some now }
+with_limit l classes.Completion now = record l { completion = Some now }
+
+-- ---- a lane
 
 pub record CourseView : Type 0 where
   -- ACKD_SEQ, the number that was acknowledged last
@@ -26,9 +50,13 @@ pub record CourseView : Type 0 where
   pub back : List DllpSent
   -- what the packets carry that were accepted and not yet taken, oldest first
   pub queue : List (Option Carried)
+  -- whether one was taken
+  pub has_taken : Bool
+  -- the limits that the sender was told by updates, if it was told any
+  pub limits : Limits
 
 abbrev pub quiet : CourseView
-quiet = record { acked = 4095; kept = []; place = 0; replays = 0; wire = []; back = []; queue = [] }
+quiet = record { acked = 4095; kept = []; place = 0; replays = 0; wire = []; back = []; queue = []; has_taken = false; limits = no_limits }
 
 -- what is there, if anything is
 abbrev pub known : {X : Type 0} → Option (Option X) → Option X
@@ -73,7 +101,7 @@ abbrev pub taken : ℕ → CourseView → Option Carried
 taken place s = known (slice_get s.queue place)
 
 abbrev pub without : ℕ → CourseView → CourseView
-without place s = record s { queue = remove s.queue place }
+without place s = record s { queue = remove s.queue place; has_taken = true }
 
 -- ---- DLLPs
 
@@ -112,7 +140,7 @@ replayed s = record s {
 abbrev pub after_dllp : Dllp → CourseView → CourseView
 after_dllp (dllps.Ack number) s = acknowledged number s
 after_dllp (dllps.Nak number) s = replayed (acknowledged number s)
-after_dllp (dllps.Update class headers units) s = s
+after_dllp (dllps.Update class headers units) s = record s { limits = with_limit s.limits class (limit headers units) }
 
 abbrev pub dllp_replay : Dllp → CourseView → Replay
 dllp_replay (dllps.Ack number) s = replays.Nothing

@@ -16,7 +16,6 @@ use Rattle.chart_rows.specs.declared.row.Kind.TheVariants as requests
 use Rattle.chart_rows.specs.declared.row.Carried.{Carried}
 use Rattle.chart_rows.specs.declared.row.Deed.{Deed}
 use Rattle.chart_rows.specs.declared.row.Deed.TheVariants as deeds
-use Rattle.chart_rows.specs.declared.row.Replay.{Replay}
 use Rattle.chart_rows.specs.declared.row.Replay.TheVariants as replays
 use Rattle.chart_rows.specs.Words.{kind_of}
 use Rattle.chart_links.specs.CourseView.{CourseView, entered, next_carried, sent, oldest, arrived, taken, without, sent_back, oldest_back, without_back, replay_of, replayed, told, told_replay}

@@ -1,4 +1,5 @@
 pub mod Window
 pub mod CourseView
 pub mod Lanes
+pub mod News
 pub mod ChartView

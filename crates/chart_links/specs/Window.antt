@@ -1,9 +1,12 @@
 -- Which events are shown.
-use Rattle.std.specs.Prelude.{ℕ, ◌==◌, ◌&&◌, nat_lt, nat_le, Bool, true, false, if◌then◌else◌, List, [], codes, Option, Some, None}
+use Rattle.std.specs.Prelude.{ℕ, ◌==◌, ◌&&◌, nat_lt, nat_le, Bool, true, false, if◌then◌else◌, List, [], Option, Some, None}
 use Rattle.fabric_core.specs.declared.event.Event.{Event}
 use Rattle.fabric_core.specs.declared.event.Event.TheVariants as events
 use Rattle.fabric_core.specs.declared.event.LaneName.{LaneName}
 use Rattle.fabric_core.specs.declared.event.LaneName.TheVariants as lanes
+use Rattle.chart_rows.specs.declared.layout.Parts.{Parts}
+use Rattle.chart_rows.specs.declared.layout.Parts.TheVariants as parts
+use Rattle.chart_rows.specs.Words as said
 use Rattle.chart_links.specs.declared.window.ChartWindow.{ChartWindow}
 use Rattle.chart_links.specs.declared.window.Place.{Place}
 use Rattle.chart_links.specs.declared.window.Place.TheVariants as places
@@ -47,7 +50,19 @@ has_lane n lanes.Outward = true
 -- what is said of a lane that the fabric doesn't have
 abbrev pub absent_words : Option LaneName → ℕ → List ℕ
 absent_words None n = []
-absent_words (Some lane) n = if has_lane n lane then [] else codes "; the fabric lacks the chosen lane"
+absent_words (Some lane) n = if has_lane n lane then [] else said.absent_words lane
+
+-- the parts at the two ends of a lane
+abbrev pub ends_of : LaneName → Parts
+ends_of (lanes.Up port) = parts.Requester port
+ends_of (lanes.Down port) = parts.Requester port
+ends_of lanes.Inward = parts.Memory
+ends_of lanes.Outward = parts.Memory
+
+-- the parts that have a line: all, or those of the chosen lane if the fabric has it
+abbrev pub parts_of : Option LaneName → ℕ → Parts
+parts_of None n = parts.All n
+parts_of (Some lane) n = if has_lane n lane then ends_of lane else parts.All n
 
 -- where an event of a line goes, after so many rows
 abbrev pub place_in : ChartWindow → ℕ → ℕ → Place
@@ -58,3 +73,14 @@ place_in w rows line =
 
 abbrev pub place_of : ChartWindow → ℕ → ℕ → Event → Place
 place_of w rows line event = if is_chosen w.lane event then place_in w rows line else places.Hidden
+
+-- of what would be shown, a brief chart leaves out what tells nothing new
+abbrev pub is_omitted : ChartWindow → Bool → Bool
+is_omitted w is_old = w.is_brief && is_old
+
+abbrev pub omitted : Place → Place
+omitted places.Shown = places.Omitted
+omitted place = place
+
+abbrev pub unless_omitted : Bool → Place → Place
+unless_omitted is_left_out place = if is_left_out then omitted place else place

@@ -2,15 +2,18 @@
 ghost use Rattle.std.specs.Prelude.{◌≡◌, ◌≤◌, ◌<◌, ◌++◌, length, replicate, IsSome, OnOk, OnErr, IfOk};
 ghost use Rattle.chart_page.specs.Shapes.{chart_text};
 ghost use Rattle.chart_links.specs.CourseView.{quiet};
+ghost use Rattle.chart_links.specs.Window.{absent_words};
 ghost use Rattle.chart_links.specs.ChartView as spec;
 
 use crate::course::Course;
 use crate::lanes::follow;
 use crate::left::{add_dllp, add_left, add_packet};
-use crate::window::{ChartWindow, Place, absent_words};
+use crate::news::tells_nothing;
+use crate::window::{ChartWindow, Place, parts_of, write_if_absent};
+use arrayvec::ArrayString;
 use chart_page::put_chart;
 use chart_rows::{Deed, Open, Page, Row};
-use fabric_core::{Event, Refusal, Seen};
+use fabric_core::{Event, LaneName, Refusal, Seen};
 use std::alloc::{AllocError, Global};
 use std::marker::Model;
 
@@ -25,6 +28,7 @@ const LANES: usize = 16;
 pub struct Chart {
     alloc: Global,
     window: ChartWindow,
+    requesters: u8,
     courses: Vec<Course>,
     page: Page,
 }
@@ -35,7 +39,7 @@ impl Model for Chart {
 
     ghost Value = { ChartView };
 
-    ghost view = { λ c. record { window = c.window; courses = c.courses.items; page = c.page } };
+    ghost view = { λ c. record { window = c.window; requesters = c.requesters; courses = c.courses.items; page = c.page } };
 
     ghost invariant = { λ c. length c.page.rows ≤ 1000 };
 }
@@ -62,7 +66,7 @@ fn add_open(deed: Deed, opens: &mut Vec<Open>) -> Result<(), AllocError>
     }
 }
 
-/// One event more that isn't shown, before the rows or after them.
+/// One event more that isn't shown, before the rows, after them, or as it tells nothing new.
 fn count(place: Place, page: &mut Page)
     ensures page { page.new ≡ spec.counted place page.old }
     ensures rows { page.new.rows ≡ page.old.rows }
@@ -70,6 +74,7 @@ fn count(place: Place, page: &mut Page)
     match place {
         Place::Before => page.before = page.before.saturating_add(1),
         Place::After => page.after = page.after.saturating_add(1),
+        Place::Omitted => page.omitted = page.omitted.saturating_add(1),
         _ => {}
     }
 }
@@ -112,9 +117,16 @@ fn add_rest(courses: &[Course], page: &mut Page) -> Result<(), AllocError>
 }
 
 /// The line above a chart, with what follows it.
-fn lengthened(alloc: Global, title: &[u8], words: &str) -> Result<Vec<u8>, AllocError>
-    ensures { IfOk result (λ line. line.items ≡ title.now ++ words.now) }
+fn lengthened(
+    alloc: Global,
+    title: &[u8],
+    lane: Option<LaneName>,
+    requesters: u8,
+) -> Result<Vec<u8>, AllocError>
+    ensures { IfOk result (λ line. line.items ≡ title.now ++ absent_words lane requesters) }
 {
+    let mut words = ArrayString::new();
+    write_if_absent(lane, requesters, &mut words);
     let mut line = Vec::new(alloc);
     line.extend_from_slice(title)?;
     line.extend_from_slice(words.as_bytes())?;
@@ -130,13 +142,15 @@ impl Chart {
         Ok(Chart {
             alloc,
             window,
+            requesters,
             courses,
             page: Page {
-                requesters,
+                parts: parts_of(window.lane, requesters),
                 rows: Vec::new(alloc),
                 opens: Vec::new(alloc),
                 before: 0,
                 after: 0,
+                omitted: 0,
             },
         })
     }
@@ -147,7 +161,9 @@ impl Chart {
         ensures { OnOk result (self.new ≡ spec.charted self.old line event seen) }
     {
         let rows = self.page.rows.len();
-        let place = self.window.place_of(rows, line, &event);
+        let is_old = tells_nothing(&self.courses, &event, &seen);
+        let chosen = self.window.place_of(rows, line, &event);
+        let place = self.window.unless_old(is_old, chosen);
         let row = row_at(place, rows);
         let deed = follow(&mut self.courses, row, &event, &seen)?;
         count(place, &mut self.page);
@@ -187,11 +203,7 @@ impl Chart {
         let alloc = self.alloc;
         let courses = self.courses;
         let mut page = self.page;
-        let line = lengthened(
-            alloc,
-            title,
-            absent_words(self.window.lane, page.requesters),
-        )?;
+        let line = lengthened(alloc, title, self.window.lane, self.requesters)?;
         add_rest(courses.as_slice(), &mut page)?;
         put_chart(alloc, &page, is_red, line.as_slice(), out)
     }

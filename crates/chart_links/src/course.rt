@@ -1,6 +1,7 @@
 //! What is on a lane, as far as its events tell.
 ghost use Rattle.std.specs.Prelude.{◌≡◌, drop, remove, slice_get, IfOk, OnOk};
 
+use crate::limits::{Limit, Limits, is_known, limit_of, with_limit};
 use chart_rows::{Carried, DllpSent, PacketSent, Replay};
 use dllp_core::Dllp;
 use lane_ends::DllpSeen;
@@ -22,6 +23,8 @@ pub(crate) struct Course {
     wire: VecDeque<PacketSent>,
     back: VecDeque<DllpSent>,
     queue: VecDeque<Option<Carried>>,
+    has_taken: bool,
+    limits: Limits,
 }
 
 impl Model for Course {
@@ -30,7 +33,7 @@ impl Model for Course {
 
     ghost Value = { CourseView };
 
-    ghost view = { λ c. record { acked = c.acked; kept = c.kept.items; place = c.place; replays = c.replays; wire = c.wire.items; back = c.back.items; queue = c.queue.items } };
+    ghost view = { λ c. record { acked = c.acked; kept = c.kept.items; place = c.place; replays = c.replays; wire = c.wire.items; back = c.back.items; queue = c.queue.items; has_taken = c.has_taken; limits = c.limits } };
 
     ghost invariant = { λ c. c.replays ≤ 3 };
 }
@@ -54,6 +57,7 @@ fn take_item(queue: &mut VecDeque<Option<Carried>>, place: usize) -> Option<Opti
 
 impl Course {
     ghost use Rattle.chart_links.specs.CourseView as spec;
+    ghost use Rattle.chart_links.specs.News as news;
 
     /// A lane on which nothing has happened. It allocates nothing.
     pub(crate) fn new(alloc: Global) -> Course
@@ -67,6 +71,8 @@ impl Course {
             wire: VecDeque::new(alloc),
             back: VecDeque::new(alloc),
             queue: VecDeque::new(alloc),
+            has_taken: false,
+            limits: Limits::NONE,
         }
     }
 
@@ -142,6 +148,7 @@ impl Course {
         ensures state { self.new ≡ spec.without place self.old }
         ensures carried { result ≡ spec.taken place self.old }
     {
+        self.has_taken = true;
         match take_item(&mut self.queue, place) {
             Some(carried) => carried,
             None => None,
@@ -209,7 +216,11 @@ impl Course {
                 self.acknowledge(number);
                 self.replay()
             }
-            Dllp::Update(_, _, _) => Replay::Nothing,
+            Dllp::Update(class, headers, units) => {
+                let limit = Limit { headers, units };
+                self.limits = with_limit(self.limits, class, limit);
+                Replay::Nothing
+            }
         }
     }
 
@@ -222,5 +233,36 @@ impl Course {
             DllpSeen::Took(dllp) => self.take_dllp(dllp),
             DllpSeen::Gone => Replay::Nothing,
         }
+    }
+
+    /// Whether a DLLP tells the sender nothing new.
+    pub(crate) fn is_old(&self, dllp: Dllp) -> bool
+        ensures { result ≡ news.is_old dllp self.now }
+    {
+        match dllp {
+            Dllp::Ack(number) => number == self.acked,
+            Dllp::Nak(_) => false,
+            Dllp::Update(class, headers, units) => {
+                let limit = Limit { headers, units };
+                is_known(limit_of(self.limits, class), self.has_taken, limit)
+            }
+        }
+    }
+
+    /// Whether the sending of the oldest DLLP is shown.
+    fn is_begun(&self) -> bool
+        ensures { result ≡ news.is_begun (spec.oldest_back self.now) }
+    {
+        match self.back.get(0) {
+            Some(sent) => sent.row.is_some(),
+            None => false,
+        }
+    }
+
+    /// Whether the oldest DLLP, which arrives, tells the sender nothing new, and isn't shown where it was sent.
+    pub(crate) fn is_old_arrival(&self, dllp: Dllp) -> bool
+        ensures { result ≡ news.is_old_arrival dllp self.now }
+    {
+        !self.is_begun() && self.is_old(dllp)
     }
 }

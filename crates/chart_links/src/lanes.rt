@@ -15,7 +15,7 @@ use std::alloc::AllocError;
 use tlp_core::Op;
 
 /// The place of a lane in the list of all.
-fn place_of(lane: LaneName) -> usize
+pub(crate) fn place_of(lane: LaneName) -> usize
     ensures { result ≡ spec.place_of lane }
 {
     match lane {

@@ -2,13 +2,16 @@
 //!
 //! A [`Chart`] is told each event with what was seen of it, and follows the packets and DLLPs: what waits in the replay
 //! buffer of each lane, what is on its wires and in its receive queue. So it knows what each packet carries, and in
-//! which row it was sent. It keeps the events of a [`ChartWindow`], 1,000 at most, and counts the others.
+//! which row it was sent. It keeps the events of a [`ChartWindow`], 1,000 at most, and counts the others. A brief one leaves
+//! out the DLLPs that tell their sender nothing new.
 #![tactic(auto)]
 
 mod chart;
 mod course;
 mod lanes;
 mod left;
+mod limits;
+mod news;
 mod window;
 
 pub use chart::Chart;

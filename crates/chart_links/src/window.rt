@@ -1,18 +1,22 @@
 //! Which events are shown.
-ghost use Rattle.std.specs.Prelude.{◌≡◌, ◌<◌, length};
+ghost use Rattle.std.specs.Prelude.{◌≡◌, ◌<◌, []};
 ghost use Rattle.chart_links.specs.Window as spec;
 
+use arrayvec::ArrayString;
+use chart_rows::{Parts, write_absent};
 use fabric_core::{Event, LaneName};
 
 /// Which events are shown.
 #[derive(Clone, Copy, Debug, PartialEq, Eq)]
 pub struct ChartWindow {
-    /// The lane whose events alone are shown; None shows all.
+    /// The lane whose events and ends alone are shown; None shows all.
     pub lane: Option<LaneName>,
     /// The first line of the script whose events are shown, from 1 on.
     pub from: u64,
     /// The last one.
     pub to: u64,
+    /// Whether events that tell nothing new are left out.
+    pub is_brief: bool,
 }
 
 /// The lane that an event is of.
@@ -68,17 +72,41 @@ fn has_lane(requesters: u8, lane: LaneName) -> bool
     }
 }
 
-/// What is said of a lane that a fabric with so many requesters doesn't have.
-pub(crate) fn absent_words(lane: Option<LaneName>, requesters: u8) -> &'static str
-    ensures { result.now ≡ spec.absent_words lane requesters }
+/// Writes what is said of a lane that a fabric with so many requesters doesn't have.
+pub(crate) fn write_if_absent(lane: Option<LaneName>, requesters: u8, text: &mut ArrayString<512>)
+    requires { text.old.bytes ≡ [] }
+    ensures { text.new.bytes ≡ spec.absent_words lane requesters }
 {
     let Some(lane) = lane else {
-        return "";
+        return;
+    };
+    if !has_lane(requesters, lane) {
+        write_absent(lane, text);
+    }
+}
+
+/// The parts at the two ends of a lane.
+fn ends_of(lane: LaneName) -> Parts
+    ensures { result ≡ spec.ends_of lane }
+{
+    match lane {
+        LaneName::Up(port) => Parts::Requester(port),
+        LaneName::Down(port) => Parts::Requester(port),
+        LaneName::Inward | LaneName::Outward => Parts::Memory,
+    }
+}
+
+/// The parts that have a line: all, or those of the chosen lane if the fabric has it.
+pub(crate) fn parts_of(lane: Option<LaneName>, requesters: u8) -> Parts
+    ensures { result ≡ spec.parts_of lane requesters }
+{
+    let Some(lane) = lane else {
+        return Parts::All(requesters);
     };
     if has_lane(requesters, lane) {
-        ""
+        ends_of(lane)
     } else {
-        "; the fabric lacks the chosen lane"
+        Parts::All(requesters)
     }
 }
 
@@ -93,6 +121,21 @@ pub(crate) enum Place {
     Shown,
     /// It isn't shown, and comes after the rows.
     After,
+    /// It is left out, as it tells nothing new.
+    Omitted,
+}
+
+/// Where an event goes that is left out, if it would be shown.
+fn omitted(place: Place) -> Place
+    ensures place { result ≡ spec.omitted place }
+    ensures shown { result ≡ Place.Shown → ⊥ }
+{
+    match place {
+        Place::Hidden => Place::Hidden,
+        Place::Before => Place::Before,
+        Place::After => Place::After,
+        Place::Shown | Place::Omitted => Place::Omitted,
+    }
 }
 
 /// The most rows of a chart.
@@ -124,6 +167,18 @@ impl ChartWindow {
             self.place_in(rows, line)
         } else {
             Place::Hidden
+        }
+    }
+
+    /// Where an event goes that goes to this place, unless it is left out.
+    pub(crate) fn unless_old(&self, is_old: bool, place: Place) -> Place
+        ensures place { result ≡ spec.unless_omitted (spec.is_omitted self.now is_old) place }
+        ensures shown { result ≡ Place.Shown → place ≡ Place.Shown }
+    {
+        if self.is_brief && is_old {
+            omitted(place)
+        } else {
+            place
         }
     }
 }

@@ -5,9 +5,10 @@ use Rattle.std.proofs.lemmas.List.{append-nil}
 use Rattle.svg_text.specs.Shapes.{Shape, shape_text, shapes_text}
 use Rattle.chart_rows.specs.declared.row.Row.{Row}
 use Rattle.chart_rows.specs.declared.row.Open.{Open}
-use Rattle.chart_rows.specs.Layout.{requester_x, top_of}
-use Rattle.chart_rows.specs.Words.{requester_words}
-use Rattle.chart_page.specs.Shapes.{each, name, names, open_stroke, open_strokes, requester_column, requester_columns, requester_names, stripes}
+use Rattle.chart_rows.specs.declared.layout.Parts.{Parts}
+use Rattle.chart_rows.specs.Layout.{top_of}
+use Rattle.chart_page.specs.Look.{names, requester_column, requester_columns, requester_name, requester_names, stripes}
+use Rattle.chart_page.specs.Shapes.{each, open_stroke, open_strokes}
 
 text-append : (a b : List Shape) → shapes_text (a ++ b) ≡ shapes_text a ++ shapes_text b
 unfolding shapes_text
@@ -54,33 +55,33 @@ each-past f all i row o le = text-none o ∙ ap (λ (rs : List Row). o ++ shapes
 
 -- ---- what isn't seen to arrive
 
-pub open-next : (n : ℕ) (all : List Open) (i : ℕ) (r : Open) (o p : List ℕ) → i < length all → r ≡ get_or all i r → p ≡ o ++ shape_text (open_stroke n r)
+pub open-next : (n : Parts) (all : List Open) (i : ℕ) (r : Open) (o p : List ℕ) → i < length all → r ≡ get_or all i r → p ≡ o ++ shape_text (open_stroke n r)
     → p ++ shapes_text (open_strokes n (drop (i + 1) all)) ≡ o ++ shapes_text (open_strokes n (drop i all))
 open-next n all i r o p lt is e =
     first o p (p ++ shapes_text (open_strokes n (drop (i + 1) all))) (open_stroke n r) (open_strokes n (drop (i + 1) all)) e refl
     ∙ ap (λ (os : List Open). o ++ shapes_text (open_strokes n os)) (sym (cut all i r lt is))
 
-pub open-past : (n : ℕ) (all : List Open) (i : ℕ) (o : List ℕ) → length all ≤ i → o ≡ o ++ shapes_text (open_strokes n (drop i all))
+pub open-past : (n : Parts) (all : List Open) (i : ℕ) (o : List ℕ) → length all ≤ i → o ≡ o ++ shapes_text (open_strokes n (drop i all))
 open-past n all i o le = text-none o ∙ ap (λ (os : List Open). o ++ shapes_text (open_strokes n os)) (sym (past all i le))
 
 -- ---- requesters
 
-pub columns-next : (k bottom : ℕ) (o p q : List ℕ) → p ≡ o ++ shapes_text (requester_columns k bottom) → q ≡ p ++ shapes_text (requester_column (k + 1) bottom)
-    → q ≡ o ++ shapes_text (requester_columns (k + 1) bottom)
-columns-next k bottom o p q e f =
+pub columns-next : (n : Parts) (k bottom : ℕ) (o p q : List ℕ) → p ≡ o ++ shapes_text (requester_columns n k bottom) → q ≡ p ++ shapes_text (requester_column n (k + 1) bottom)
+    → q ≡ o ++ shapes_text (requester_columns n (k + 1) bottom)
+columns-next n k bottom o p q e f =
     let next : k + 1 ≡ suc k = omega arith in
-    subst (λ (j : ℕ). q ≡ o ++ shapes_text (requester_columns j bottom)) (sym next) (both o p q (requester_columns k bottom) (requester_column (k + 1) bottom) e f)
+    subst (λ (j : ℕ). q ≡ o ++ shapes_text (requester_columns n j bottom)) (sym next) (both o p q (requester_columns n k bottom) (requester_column n (k + 1) bottom) e f)
 
 -- ---- names in stripes
 
-pub names-next : (k y : ℕ) (o p q : List ℕ) → p ≡ o ++ shapes_text (requester_names k y) → q ≡ p ++ shapes_text (name (requester_x (k + 1)) y (requester_words (k + 1)))
-    → q ≡ o ++ shapes_text (requester_names (k + 1) y)
-names-next k y o p q e f =
+pub names-next : (n : Parts) (k y : ℕ) (o p q : List ℕ) → p ≡ o ++ shapes_text (requester_names n k y) → q ≡ p ++ shapes_text (requester_name n (k + 1) y)
+    → q ≡ o ++ shapes_text (requester_names n (k + 1) y)
+names-next n k y o p q e f =
     let next : k + 1 ≡ suc k = omega arith in
-    subst (λ (j : ℕ). q ≡ o ++ shapes_text (requester_names j y)) (sym next)
-    (both o p q (requester_names k y) (name (requester_x (k + 1)) y (requester_words (k + 1))) e f)
+    subst (λ (j : ℕ). q ≡ o ++ shapes_text (requester_names n j y)) (sym next)
+    (both o p q (requester_names n k y) (requester_name n (k + 1) y) e f)
 
-pub stripes-next : (n k : ℕ) (o p q : List ℕ) → p ≡ o ++ shapes_text (stripes n k) → q ≡ p ++ shapes_text (names n (top_of (40 * (k + 1))))
+pub stripes-next : (n : Parts) (k : ℕ) (o p q : List ℕ) → p ≡ o ++ shapes_text (stripes n k) → q ≡ p ++ shapes_text (names n (top_of (40 * (k + 1))))
     → q ≡ o ++ shapes_text (stripes n (k + 1))
 stripes-next n k o p q e f =
     let next : k + 1 ≡ suc k = omega arith in

@@ -1,1 +1,2 @@
+pub mod Look
 pub mod Shapes

@@ -1,25 +1,21 @@
--- The shapes of a chart.
-use Rattle.std.specs.Prelude.{ℕ, zero, suc, ◌+◌, ◌-◌, ◌*◌, ◌/◌, ◌==◌, nat_lt, Bool, true, false, if◌then◌else◌, List, [], ◌∷◌, ◌++◌, length, codes, Option, Some, None}
+-- What a chart shows: an arrow for each packet and DLLP, a row for each event, and the page of both.
+--
+-- What a reader may count on is said elsewhere, and proved of these definitions:
+-- - the text is one well-formed document of XML, whatever is shown (chart_engine, `charts_are_well_formed`);
+-- - an arrow is of the packet that was sent, and begins in the row of its sending (chart_arrows,
+--   `arrows_are_of_the_packets_sent`);
+-- - the rows are of events that happened, one after the other, to a new fabric (chart_engine,
+--   `charts_show_what_happened`).
+-- How the parts look, pixel by pixel, is in Look.antt, for the curious.
+use Rattle.std.specs.Prelude.{ℕ, ◌+◌, ◌/◌, Bool, true, false, List, [], ◌∷◌, ◌++◌, length, codes, Option, Some, None}
 use Rattle.std.specs.Fmt.{decimal}
 use Rattle.lane_ends.specs.declared.packet.Fate.{Fate}
-use Rattle.lane_ends.specs.declared.packet.Fate.TheVariants as fates
-use Rattle.lane_ends.specs.declared.packet.Arrival.{Arrival}
-use Rattle.lane_ends.specs.declared.packet.Arrival.TheVariants as arrivals
-use Rattle.link_receiver.specs.declared.receiver.Reception.TheVariants as receptions
-use Rattle.svg_text.specs.declared.colour.Colour.{Colour}
 use Rattle.svg_text.specs.declared.colour.Colour.TheVariants as colours
-use Rattle.svg_text.specs.declared.shapes.Block.{Block}
-use Rattle.svg_text.specs.declared.shapes.Rule.{Rule}
-use Rattle.svg_text.specs.declared.shapes.Label.{Label}
 use Rattle.svg_text.specs.Shapes.{Shape, page_text}
 use Rattle.script_text.specs.LineTexts.{event_line}
-use Rattle.chart_rows.specs.declared.layout.Point.{Point}
+use Rattle.chart_rows.specs.declared.layout.Parts.{Parts}
 use Rattle.chart_rows.specs.declared.layout.Way.{Way}
 use Rattle.chart_page.specs.declared.shapes.Pen.{Pen}
-use Rattle.chart_page.specs.declared.shapes.Tag.{Tag}
-use Rattle.chart_rows.specs.declared.row.Kind.{Kind}
-use Rattle.chart_rows.specs.declared.row.Kind.TheVariants as requests
-use Rattle.chart_rows.specs.declared.row.Carried.{Carried}
 use Rattle.chart_rows.specs.declared.row.Deed.{Deed}
 use Rattle.chart_rows.specs.declared.row.Deed.TheVariants as deeds
 use Rattle.chart_rows.specs.declared.row.Row.{Row}
@@ -29,93 +25,13 @@ use Rattle.chart_rows.specs.declared.row.Flying.{Flying}
 use Rattle.chart_rows.specs.declared.row.Flying.TheVariants as flying
 use Rattle.chart_rows.specs.declared.row.Open.{Open}
 use Rattle.chart_rows.specs.PageView.{PageView}
-use Rattle.chart_rows.specs.Layout.{requester_x, switch_x, memory_x, width_of, top_of, departure, middle, packet_way, way_of, other, behind, thirds, point, start_of, finish_of}
+use Rattle.chart_rows.specs.Layout.{requester_x, switch_x, memory_x, width_of, top_of, way_of, start_of, finish_of}
 use Rattle.chart_rows.specs.Words as said
 use Rattle.chart_rows.specs.Titles as titles
 use Rattle.chart_page.specs.declared.arrows.Arrow.{Arrow}
-
--- ---- lines and squares
-
-abbrev pub pen : Colour → ℕ → ℕ → Pen
-pen colour thickness dash = record { colour = colour; thickness = thickness; dash = dash }
-
-abbrev pub rule : Pen → Point → Point → Rule
-rule p from to = record { left = from.x; top = from.y; right = to.x; bottom = to.y; colour = p.colour; thickness = p.thickness; dash = p.dash }
-
--- a line with a title
-abbrev pub line : Pen → Point → Point → List ℕ → Shape
-line p from to title = Shape.Lined (rule p from to ∷ []) title
-
-abbrev pub two : Rule × Rule → List Rule
-two ends = ends.0 ∷ ends.1 ∷ []
-
--- lines with one title
-abbrev pub three : Rule → Rule × Rule → List ℕ → Shape
-three shaft ends title = Shape.Lined (shaft ∷ two ends) title
-
-abbrev pub block_at : ℕ → ℕ → ℕ → ℕ → Colour → Colour → ℕ → Block
-block_at left top right bottom fill edge thickness = record { left = left; top = top; right = right; bottom = bottom; fill = fill; edge = edge; thickness = thickness; is_open = false }
-
-abbrev pub square_block : Point → Colour → Block
-square_block p fill = block_at (p.x - 5) (p.y - 5) (p.x + 5) (p.y + 5) fill colours.Black 1
-
--- a square round a point, and what is shown where one points at it
-abbrev pub square : Point → Colour → List ℕ → Shape
-square p fill words = Shape.Filled (square_block p fill) words
-
-abbrev pub label_at : ℕ → ℕ → Colour → Label
-label_at x y colour = record { x = x; y = y; size = 12; colour = colour; is_centred = false }
+use Rattle.chart_page.specs.Look.{pen, line, label_at, packet_pen, dllp_pen, ended, is_lost, open_line, kind_in, mark, notice, departing, remark, far_remark, remark_colour, row_colour, band_block, title_label, legend, columns, stripes, cut}
 
 -- ---- arrows
-
--- the pen of packets: a duplicate's line is dashed, and the line of one that arrives and isn't accepted is red
-abbrev pub packet_pen : Arrival → Pen
-packet_pen (arrivals.Answered receptions.Accept) = pen colours.Black 2 0
-packet_pen (arrivals.Answered receptions.Duplicate) = pen colours.Black 2 6
-packet_pen (arrivals.Answered receptions.NakNow) = pen colours.Red 2 0
-packet_pen (arrivals.Answered receptions.Quiet) = pen colours.Red 2 0
-packet_pen arrivals.Gone = pen colours.Black 2 0
-
-abbrev pub dllp_pen : Pen
-dllp_pen = pen colours.Grey 1 0
-
-abbrev pub whole : Pen → Pen
-whole p = pen p.colour p.thickness 0
-
--- the tip of an arrow has two short lines, by how steep the arrow is
-abbrev pub flat_tip : Pen → Bool → Point → Rule × Rule
-flat_tip p is_right to = (rule p (point (behind is_right to.x 9) (to.y - 5)) to, rule p (point (behind is_right to.x 9) (to.y + 5)) to)
-
-abbrev pub slanted_tip : Pen → Bool → Point → Rule × Rule
-slanted_tip p is_right to = (rule p (point (behind is_right to.x 10) (to.y - 3)) to, rule p (point (behind is_right to.x 3) (to.y - 10)) to)
-
-abbrev pub steep_tip : Pen → Point → Rule × Rule
-steep_tip p to = (rule p (point (to.x - 5) (to.y - 9)) to, rule p (point (to.x + 5) (to.y - 9)) to)
-
-abbrev pub across : Point → Point → ℕ
-across from to = (to.x - from.x) + (from.x - to.x)
-
-abbrev pub tip : Pen → Bool → Point → Point → Rule × Rule
-tip p is_right from to =
-    if nat_lt (2 * (to.y - from.y)) (across from to) then flat_tip p is_right to
-    else (if nat_lt (2 * across from to) (to.y - from.y) then steep_tip p to else slanted_tip p is_right to)
-
-abbrev pub cross : Point → Rule × Rule
-cross p =
-    (rule (pen colours.Red 2 0) (point (p.x - 6) (p.y - 6)) (point (p.x + 6) (p.y + 6)), rule (pen colours.Red 2 0) (point (p.x - 6) (p.y + 6)) (point (p.x + 6) (p.y - 6)))
-
-abbrev pub failed : Point → Shape
-failed p = square p colours.Red (codes "failed")
-
--- what arrives has a tip, what fails its check a red square, and what is lost a cross
-abbrev pub ended : Fate → Pen → Bool → Point → Point → List ℕ → List Shape
-ended fates.Good p is_right from to title = three (rule p from to) (tip (whole p) is_right from to) title ∷ []
-ended fates.Failed p is_right from to title = line p from to title ∷ failed to ∷ []
-ended fates.Lost p is_right from to title = three (rule p from to) (cross to) title ∷ []
-
-abbrev pub is_lost : Fate → Bool
-is_lost fates.Lost = true
-is_lost _ = false
 
 abbrev pub arrow_on : Way → Pen → Fate → Option ℕ → ℕ → Arrow
 arrow_on w p fate sent row = record { way = w; pen = p; fate = fate; sent = sent; row = row }
@@ -133,135 +49,41 @@ dllp_row None = None
 dllp_row (Some d) = d.row
 
 -- the arrow that ends in a row of this deed
-abbrev pub strokes : ℕ → ℕ → Deed → List Shape
-strokes n row (deeds.Arrived lane fate arrival sent) =
-    arrow (arrow_on (way_of n lane false) (packet_pen arrival) fate (packet_row sent) row) (titles.packet_title lane sent fate arrival)
-strokes n row (deeds.ArrivedDllp lane fate sent replay) =
-    arrow (arrow_on (way_of n lane true) dllp_pen fate (dllp_row sent) row) (titles.dllp_title lane sent fate replay)
-strokes n row _ = []
+abbrev pub strokes : Parts → ℕ → Deed → List Shape
+strokes parts row (deeds.Arrived lane fate arrival sent) =
+    arrow (arrow_on (way_of parts lane false) (packet_pen arrival) fate (packet_row sent) row) (titles.packet_title lane sent fate arrival)
+strokes parts row (deeds.ArrivedDllp lane fate sent replay) =
+    arrow (arrow_on (way_of parts lane true) dllp_pen fate (dllp_row sent) row) (titles.dllp_title lane sent fate replay)
+strokes parts row _ = []
 
 abbrev pub is_dllp : Flying → Bool
 is_dllp (flying.Packet number c) = false
 is_dllp (flying.Dllp dllp) = true
 
--- the first third of the way of what isn't seen to arrive
-abbrev pub open_line : Way → ℕ → List ℕ → Shape
-open_line w row title = line (pen colours.Grey 1 3) (point w.from (departure row)) (point (thirds w 1) (departure row + 5)) title
-
-abbrev pub open_stroke : ℕ → Open → Shape
-open_stroke n o = open_line (way_of n o.lane (is_dllp o.what)) o.row (titles.open_title o)
-
--- ---- texts beside a line
-
--- letters of 12 pixels are seven and a quarter wide
-abbrev pub text_width : List ℕ → ℕ
-text_width words = length words * 29 / 4
-
-abbrev pub indent : Option Kind → ℕ
-indent None = 12
-indent (Some kind) = 28
-
--- where the text begins
-abbrev pub text_left : Tag → List ℕ → ℕ
-text_left t words = if t.is_right then t.x + indent t.kind else t.x - text_width words - indent t.kind
-
--- white below the text
-abbrev pub plate : Tag → List ℕ → Block
-plate t words = block_at (text_left t words - 2) (top_of t.row + 5) (text_left t words + text_width words + 2) (top_of t.row + 19) colours.White colours.White 0
-
-abbrev pub kind_x : Tag → ℕ
-kind_x t = if t.is_right then t.x + 18 else t.x - 18
-
-abbrev pub kind_colour : Kind → Colour
-kind_colour requests.Read = colours.SkyBlue
-kind_colour requests.Write = colours.Orange
-kind_colour requests.Add = colours.Green
-kind_colour requests.Swap = colours.Yellow
-kind_colour requests.Cas = colours.Purple
-
--- the colour of the kind of what is carried
-abbrev pub kind_square : Tag → Option Kind → List Shape
-kind_square t None = []
-kind_square t (Some kind) = square (point (kind_x t) (middle t.row)) (kind_colour kind) (said.kind_name kind) ∷ []
-
-abbrev pub tag_shapes : Tag → List ℕ → List Shape
-tag_shapes t words =
-    Shape.Filled (plate t words) words ∷ Shape.Written (label_at (text_left t words) (top_of t.row + 17) t.colour) words ∷ kind_square t t.kind
-
-abbrev pub tag : ℕ → Bool → ℕ → Option Kind → Colour → Tag
-tag x is_right row kind colour = record { x = x; is_right = is_right; row = row; kind = kind; colour = colour }
-
-abbrev pub kind_in : Option Carried → Option Kind
-kind_in None = None
-kind_in (Some c) = Some c.kind
+abbrev pub open_stroke : Parts → Open → Shape
+open_stroke parts o = open_line (way_of parts o.lane (is_dllp o.what)) o.row (titles.open_title o)
 
 -- ---- what is said of an event at a line
 
--- a dot on a line, and a text at its right
-abbrev pub mark : ℕ → ℕ → Option Kind → List ℕ → List Shape
-mark x row kind words = Shape.Dotted (record { x = x; y = middle row }) words ∷ tag_shapes (tag x true row kind colours.Black) words
-
--- a grey square at the beginning of a way, and a text on that side
-abbrev pub notice : Way → ℕ → List ℕ → List Shape
-notice w row words = square (point w.from (middle row)) colours.Grey words ∷ tag_shapes (tag w.from w.is_right row None colours.Black) words
-
--- a text at the beginning of a way
-abbrev pub departing : Way → ℕ → Option Kind → List ℕ → List Shape
-departing w row kind words = tag_shapes (tag w.from w.is_right row kind colours.Black) words
-
--- beyond the line at the end of a way, and before it where something was lost
-abbrev pub remark_side : Way → Fate → Bool
-remark_side w fate = if is_lost fate then other w.is_right else w.is_right
-
--- a text at the end of a way, if there is something to say
-abbrev pub remark : Way → ℕ → Fate → Colour → List ℕ → List Shape
-remark w row fate colour words = if length words == 0 then [] else tag_shapes (tag w.to (remark_side w fate) row None colour) words
-
--- whether something arrives more than twelve rows below its sending
-abbrev pub is_far : Option ℕ → ℕ → Bool
-is_far None row = false
-is_far (Some sent) row = nat_lt (sent + 12) row
-
-abbrev pub far_words : Option PacketSent → ℕ → List ℕ
-far_words None row = []
-far_words (Some p) row = if is_far p.row row then said.sent_words p.number None else []
-
--- the number of a packet that comes from far, if nothing else is said of its arrival
-abbrev pub far_remark : Way → ℕ → Fate → Arrival → Option PacketSent → List Shape
-far_remark w row fate arrival sent = if length (said.arrival_words fate arrival) == 0 then remark w row fate colours.Black (far_words sent row) else []
-
--- what goes well is told in black
-abbrev pub remark_colour : Fate → Colour
-remark_colour fates.Good = colours.Black
-remark_colour _ = colours.Red
-
-abbrev pub note : ℕ → ℕ → Deed → List Shape
-note n row deeds.Nothing = []
-note n row (deeds.Submitted port c) = mark (requester_x port) row (Some c.kind) (said.submitted_words c)
-note n row (deeds.Sent lane number c) = departing (way_of n lane false) row (kind_in c) (said.sent_words number c)
-note n row (deeds.Arrived lane fate arrival sent) =
-    remark (way_of n lane false) row fate colours.Red (said.arrival_words fate arrival) ++ far_remark (way_of n lane false) row fate arrival sent
-note n row (deeds.SentDllp lane dllp) = departing (way_of n lane true) row None (said.dllp_words dllp)
-note n row (deeds.ArrivedDllp lane fate sent replay) = remark (way_of n lane true) row fate (remark_colour fate) (said.dllp_arrival_words fate replay)
-note n row (deeds.Expired lane replay) = notice (way_of n lane false) row (said.expired_words replay)
-note n row (deeds.Retrained lane) = notice (way_of n lane false) row (codes "link retrained")
-note n row (deeds.Forwarded c) = mark (switch_x n) row (kind_in c) (said.forwarded_words c)
-note n row (deeds.Served c index) = mark (memory_x n) row (kind_in c) (said.served_words c index)
-note n row (deeds.Collected port c) = mark (requester_x port) row (kind_in c) (said.collected_words c)
+abbrev pub note : Parts → ℕ → Deed → List Shape
+note parts row deeds.Nothing = []
+note parts row (deeds.Submitted port c) = mark (requester_x parts port) row (Some c.kind) (said.submitted_words c)
+note parts row (deeds.Sent lane number c) = departing (way_of parts lane false) row (kind_in c) (said.sent_words number c)
+note parts row (deeds.Arrived lane fate arrival sent) =
+    remark (way_of parts lane false) row fate colours.Red (said.arrival_words fate arrival) ++ far_remark (way_of parts lane false) row fate arrival sent
+note parts row (deeds.SentDllp lane dllp) = departing (way_of parts lane true) row None (said.dllp_words dllp)
+note parts row (deeds.ArrivedDllp lane fate sent replay) = remark (way_of parts lane true) row fate (remark_colour fate) (said.dllp_arrival_words fate replay)
+note parts row (deeds.Expired lane replay) = notice (way_of parts lane false) row (said.expired_words replay)
+note parts row (deeds.Retrained lane) = notice (way_of parts lane false) row (codes "link retrained")
+note parts row (deeds.Forwarded c) = mark (switch_x parts) row (kind_in c) (said.forwarded_words c)
+note parts row (deeds.Served c index) = mark (memory_x parts) row (kind_in c) (said.served_words c index)
+note parts row (deeds.Collected port c) = mark (requester_x parts port) row (kind_in c) (said.collected_words c)
 
 -- ---- rows
 
--- what is refused is told in red
-abbrev pub row_colour : Deed → Colour
-row_colour deeds.Nothing = colours.Red
-row_colour _ = colours.Black
-
-abbrev pub band_block : ℕ → ℕ → Block
-band_block n row = block_at 0 (top_of row) (width_of n) (top_of row + 26) colours.White colours.White 0
-
 -- white, and what is shown where one points at it
-abbrev pub white : ℕ → ℕ → Row → Shape
-white n row r = Shape.Filled (band_block n row) (said.row_words r)
+abbrev pub white : Parts → ℕ → Row → Shape
+white parts row r = Shape.Filled (band_block parts row) (said.row_words r)
 
 abbrev pub number : ℕ → ℕ → Shape
 number row line = Shape.Written (label_at 10 (top_of row + 17) colours.Grey) (decimal line)
@@ -273,111 +95,25 @@ abbrev pub outcome_said : ℕ → Row → Shape
 outcome_said row r = Shape.Written (label_at 266 (top_of row + 17) (row_colour r.deed)) (said.shortened 20 (said.outcome_words r.event r.outcome))
 
 -- the number of the line, the event, and what was seen of it or why it was refused
-abbrev pub band : ℕ → ℕ → Row → List Shape
-band n row r = white n row r ∷ number row r.line ∷ event_said row r ∷ outcome_said row r ∷ []
+abbrev pub band : Parts → ℕ → Row → List Shape
+band parts row r = white parts row r ∷ number row r.line ∷ event_said row r ∷ outcome_said row r ∷ []
 
-abbrev pub row_strokes : ℕ → ℕ → Row → List Shape
-row_strokes n row r = strokes n row r.deed
+abbrev pub row_strokes : Parts → ℕ → Row → List Shape
+row_strokes parts row r = strokes parts row r.deed
 
-abbrev pub row_note : ℕ → ℕ → Row → List Shape
-row_note n row r = note n row r.deed
+abbrev pub row_note : Parts → ℕ → Row → List Shape
+row_note parts row r = note parts row r.deed
 
 -- the shapes of each, from this row on
 abbrev pub each : (ℕ → Row → List Shape) → ℕ → List Row → List Shape
 each shapes row [] = []
 each shapes row (r ∷ rs) = shapes row r ++ each shapes (row + 1) rs
 
-abbrev pub open_strokes : ℕ → List Open → List Shape
-open_strokes n [] = []
-open_strokes n (o ∷ os) = open_stroke n o ∷ open_strokes n os
-
--- ---- the heading
-
--- a line in letters of 16 pixels, red where it tells a fault or a refusal
-abbrev pub title_label : Bool → Label
-title_label is_red = record { x = 10; y = 22; size = 16; colour = if is_red then colours.Red else colours.Black; is_centred = false }
-
--- the colour of a kind of operations
-abbrev pub kind_sign : ℕ → Colour → List ℕ → List Shape
-kind_sign x colour name =
-    Shape.Filled (block_at x 42 (x + 10) 52 colour colours.Black 1) name ∷ Shape.Written (label_at (x + 16) 51 colours.Black) name ∷ []
-
-abbrev pub kind_signs : List Shape
-kind_signs =
-    kind_sign 10 colours.SkyBlue (codes "read") ++ (kind_sign 66 colours.Orange (codes "write") ++ (kind_sign 128 colours.Green (codes "add")
-    ++ (kind_sign 180 colours.Yellow (codes "swap") ++ kind_sign 238 colours.Purple (codes "cas"))))
-
--- what a line means
-abbrev pub pen_sign : ℕ → Pen → List ℕ → List Shape
-pen_sign x p name = line p (point x 47) (point (x + 30) 47) name ∷ Shape.Written (label_at (x + 36) 51 colours.Black) name ∷ []
-
-abbrev pub pen_signs : List Shape
-pen_signs =
-    pen_sign 300 (pen colours.Black 2 0) (codes "packet") ++ (pen_sign 400 (pen colours.Black 2 6) (codes "duplicate")
-    ++ (pen_sign 520 (pen colours.Red 2 0) (codes "not accepted") ++ pen_sign 662 dllp_pen (codes "DLLP")))
-
-abbrev pub text_at : ℕ → ℕ → List ℕ → List Shape
-text_at x y words = Shape.Written (label_at x y colours.Black) words ∷ []
-
--- what the end of an arrow means
-abbrev pub lost_sign : List Shape
-lost_sign = Shape.Lined (two (cross (point 750 47))) (codes "lost") ∷ text_at 764 51 (codes "lost")
-
-abbrev pub failed_sign : List Shape
-failed_sign = square (point 815 47) colours.Red (codes "failed") ∷ text_at 826 51 (codes "failed its check")
-
-abbrev pub legend : List Shape
-legend = kind_signs ++ (pen_signs ++ (lost_sign ++ failed_sign))
-
--- ---- the lines of the parts
-
-abbrev pub column : ℕ → ℕ → List ℕ → List Shape
-column x bottom name =
-    Shape.Written (record { x = x; y = 84; size = 12; colour = colours.Black; is_centred = true }) name
-    ∷ line (pen colours.Grey 1 0) (point x 92) (point x bottom) name
-    ∷ []
-
-abbrev pub requester_column : ℕ → ℕ → List Shape
-requester_column port bottom = column (requester_x port) bottom (said.requester_words port)
-
--- of so many requesters
-abbrev pub requester_columns : ℕ → ℕ → List Shape
-requester_columns zero bottom = []
-requester_columns (suc k) bottom = requester_columns k bottom ++ requester_column (k + 1) bottom
-
-abbrev pub switch_column : ℕ → ℕ → List Shape
-switch_column n bottom = column (switch_x n) bottom (codes "switch")
-
-abbrev pub memory_column : ℕ → ℕ → List Shape
-memory_column n bottom = column (memory_x n) bottom (codes "memory")
-
-abbrev pub columns : ℕ → ℕ → List Shape
-columns n bottom = requester_columns n bottom ++ (switch_column n bottom ++ memory_column n bottom)
-
--- a name in the stripe that ends at y, on white
-abbrev pub name : ℕ → ℕ → List ℕ → List Shape
-name x y words =
-    Shape.Filled (block_at (x - 44) (y - 22) (x + 44) (y - 4) colours.White colours.White 0) words
-    ∷ Shape.Written (record { x = x; y = y - 9; size = 12; colour = colours.Grey; is_centred = true }) words
-    ∷ []
-
--- of so many requesters
-abbrev pub requester_names : ℕ → ℕ → List Shape
-requester_names zero y = []
-requester_names (suc k) y = requester_names k y ++ name (requester_x (k + 1)) y (said.requester_words (k + 1))
-
-abbrev pub names : ℕ → ℕ → List Shape
-names n y = requester_names n y ++ (name (switch_x n) y (codes "switch") ++ name (memory_x n) y (codes "memory"))
-
--- the names again in so many stripes, one below each 40 rows
-abbrev pub stripes : ℕ → ℕ → List Shape
-stripes n zero = []
-stripes n (suc k) = stripes n k ++ names n (top_of (40 * (k + 1)))
+abbrev pub open_strokes : Parts → List Open → List Shape
+open_strokes parts [] = []
+open_strokes parts (o ∷ os) = open_stroke parts o ∷ open_strokes parts os
 
 -- ---- what isn't shown
-
-abbrev pub cut : ℕ → ℕ → List ℕ → List Shape
-cut count y words = if count == 0 then [] else Shape.Written (label_at 10 y colours.Red) words ∷ []
 
 abbrev pub before_cut : ℕ → List Shape
 before_cut count = cut count 98 (said.before_words count)
@@ -385,8 +121,11 @@ before_cut count = cut count 98 (said.before_words count)
 abbrev pub after_cut : ℕ → ℕ → List Shape
 after_cut count bottom = cut count bottom (said.after_words count)
 
-abbrev pub cuts : ℕ → ℕ → ℕ → List Shape
-cuts before after bottom = before_cut before ++ after_cut after bottom
+abbrev pub omitted_cut : ℕ → List Shape
+omitted_cut count = cut count 84 (said.omitted_words count)
+
+abbrev pub cuts : ℕ → ℕ → ℕ → ℕ → List Shape
+cuts before after omitted bottom = before_cut before ++ (after_cut after bottom ++ omitted_cut omitted)
 
 -- ---- the whole page
 
@@ -397,19 +136,19 @@ bottom_of rows = top_of (length rows)
 -- arrows lie above the lines of the parts, and texts above both
 abbrev pub body : PageView → List Shape
 body p =
-    each (band p.requesters) 0 p.rows
-    ++ (columns p.requesters (bottom_of p.rows + 6)
-    ++ (stripes p.requesters (length p.rows / 40)
-    ++ (each (row_strokes p.requesters) 0 p.rows
-    ++ (open_strokes p.requesters p.opens
-    ++ (each (row_note p.requesters) 0 p.rows ++ cuts p.before p.after (bottom_of p.rows + 18))))))
+    each (band p.parts) 0 p.rows
+    ++ (columns p.parts (bottom_of p.rows + 6)
+    ++ (stripes p.parts (length p.rows / 40)
+    ++ (each (row_strokes p.parts) 0 p.rows
+    ++ (open_strokes p.parts p.opens
+    ++ (each (row_note p.parts) 0 p.rows ++ cuts p.before p.after p.omitted (bottom_of p.rows + 18))))))
 
 abbrev pub shapes : PageView → Bool → List ℕ → List Shape
 shapes p is_red title = Shape.Written (title_label is_red) title ∷ (legend ++ body p)
 
 -- the text of a chart below a line
 abbrev pub chart_text : PageView → Bool → List ℕ → List ℕ
-chart_text p is_red title = page_text (width_of p.requesters) (bottom_of p.rows + 30) (shapes p is_red title)
+chart_text p is_red title = page_text (width_of p.parts) (bottom_of p.rows + 30) (shapes p is_red title)
 
 abbrev pub title : Bool → List ℕ → List Shape
 title is_red words = Shape.Written (title_label is_red) words ∷ []

@@ -1,13 +1,14 @@
 //! Arrows.
 ghost use Rattle.std.specs.Prelude.{◌≡◌, ◌≤◌, ◌+◌, ◌*◌, ◌++◌, ◌∷◌, [], OnOk};
 ghost use Rattle.svg_text.specs.Shapes.{Shape, shape_text, shapes_text};
+ghost use Rattle.chart_page.specs.Look as look;
 ghost use Rattle.chart_page.specs.Shapes as spec;
 
 use crate::shapes::{Pen, put_square, rule};
 use arrayvec::ArrayString;
 use chart_rows::{
-    Deed, DllpSent, Flying, Open, PacketSent, Point, Replay, Way, behind, departure, finish_of,
-    start_of, thirds, way_of, write_dllp_title, write_open_title, write_packet_title,
+    Deed, DllpSent, Flying, Open, PacketSent, Parts, Point, Replay, Way, behind, departure,
+    finish_of, start_of, thirds, way_of, write_dllp_title, write_open_title, write_packet_title,
 };
 use fabric_core::LaneName;
 use lane_ends::{Arrival, Fate};
@@ -27,7 +28,7 @@ pub(crate) struct Arrow {
 }
 
 pub(crate) fn pen(colour: Colour, thickness: u64, dash: u64) -> Pen
-    ensures { result ≡ spec.pen colour thickness dash }
+    ensures { result ≡ look.pen colour thickness dash }
 {
     Pen {
         colour,
@@ -38,7 +39,7 @@ pub(crate) fn pen(colour: Colour, thickness: u64, dash: u64) -> Pen
 
 /// The pen of a packet that arrived so.
 fn packet_pen(arrival: Arrival) -> Pen
-    ensures { result ≡ spec.packet_pen arrival }
+    ensures { result ≡ look.packet_pen arrival }
 {
     match arrival {
         Arrival::Answered(Reception::Accept) => pen(Colour::Black, 2, 0),
@@ -50,14 +51,14 @@ fn packet_pen(arrival: Arrival) -> Pen
 }
 
 pub(crate) fn dllp_pen() -> Pen
-    ensures { result ≡ spec.dllp_pen }
+    ensures { result ≡ look.dllp_pen }
 {
     pen(Colour::Grey, 1, 0)
 }
 
 /// The same pen without dashes.
 fn whole(pen: Pen) -> Pen
-    ensures { result ≡ spec.whole pen }
+    ensures { result ≡ look.whole pen }
 {
     Pen { dash: 0, ..pen }
 }
@@ -66,7 +67,7 @@ fn whole(pen: Pen) -> Pen
 fn flat_tip(pen: Pen, is_right: bool, to: Point) -> (Rule, Rule)
     requires x { to.x ≤ 300000 }
     requires y { to.y ≤ 2000100 }
-    ensures { result ≡ spec.flat_tip pen is_right to }
+    ensures { result ≡ look.flat_tip pen is_right to }
 {
     let x = behind(is_right, to.x, 9);
     let high = Point {
@@ -81,7 +82,7 @@ fn flat_tip(pen: Pen, is_right: bool, to: Point) -> (Rule, Rule)
 fn slanted_tip(pen: Pen, is_right: bool, to: Point) -> (Rule, Rule)
     requires x { to.x ≤ 300000 }
     requires y { to.y ≤ 2000100 }
-    ensures { result ≡ spec.slanted_tip pen is_right to }
+    ensures { result ≡ look.slanted_tip pen is_right to }
 {
     let low = Point {
         x: behind(is_right, to.x, 10),
@@ -98,7 +99,7 @@ fn slanted_tip(pen: Pen, is_right: bool, to: Point) -> (Rule, Rule)
 fn steep_tip(pen: Pen, to: Point) -> (Rule, Rule)
     requires x { to.x ≤ 300000 }
     requires y { to.y ≤ 2000100 }
-    ensures { result ≡ spec.steep_tip pen to }
+    ensures { result ≡ look.steep_tip pen to }
 {
     let y = to.y.saturating_sub(9);
     let left = Point {
@@ -113,7 +114,7 @@ fn steep_tip(pen: Pen, to: Point) -> (Rule, Rule)
 fn across(from: Point, to: Point) -> u64
     requires from { from.x ≤ 300000 }
     requires to { to.x ≤ 300000 }
-    ensures value { result ≡ spec.across from to }
+    ensures value { result ≡ look.across from to }
     ensures range { result ≤ 600000 }
 {
     to.x.saturating_sub(from.x) + from.x.saturating_sub(to.x)
@@ -124,7 +125,7 @@ fn tip(pen: Pen, is_right: bool, from: Point, to: Point) -> (Rule, Rule)
     requires from { from.x ≤ 300000 }
     requires x { to.x ≤ 300000 }
     requires y { to.y ≤ 2000100 }
-    ensures { result ≡ spec.tip pen is_right from to }
+    ensures { result ≡ look.tip pen is_right from to }
 {
     let across = across(from, to);
     let down = to.y.saturating_sub(from.y);
@@ -141,7 +142,7 @@ fn tip(pen: Pen, is_right: bool, from: Point, to: Point) -> (Rule, Rule)
 pub(crate) fn cross(at: Point) -> (Rule, Rule)
     requires x { at.x ≤ 300000 }
     requires y { at.y ≤ 2000100 }
-    ensures { result ≡ spec.cross at }
+    ensures { result ≡ look.cross at }
 {
     let red = pen(Colour::Red, 2, 0);
     let (left, right) = (at.x.saturating_sub(6), at.x + 6);
@@ -166,7 +167,7 @@ pub(crate) fn cross(at: Point) -> (Rule, Rule)
 fn put_failed(at: Point, out: &mut Vec<u8>) -> Result<(), AllocError>
     requires x { at.x ≤ 300000 }
     requires y { at.y ≤ 2000100 }
-    ensures { OnOk result (out.new.items ≡ out.old.items ++ shape_text (spec.failed at)) }
+    ensures { OnOk result (out.new.items ≡ out.old.items ++ shape_text (look.failed at)) }
 {
     put_square(at, Colour::Red, b"failed", out)
 }
@@ -179,7 +180,7 @@ fn put_three(
     title: &[u8],
     out: &mut Vec<u8>,
 ) -> Result<(), AllocError>
-    ensures { OnOk result (out.new.items ≡ out.old.items ++ shapes_text (spec.three shaft ends title.now ∷ [])) }
+    ensures { OnOk result (out.new.items ≡ out.old.items ++ shapes_text (look.three shaft ends title.now ∷ [])) }
 {
     put_lines(&[shaft, ends.0, ends.1], title, out)
 }
@@ -189,14 +190,14 @@ fn put_three(
 fn put_failing(shaft: Rule, to: Point, title: &[u8], out: &mut Vec<u8>) -> Result<(), AllocError>
     requires x { to.x ≤ 300000 }
     requires y { to.y ≤ 2000100 }
-    ensures { OnOk result (out.new.items ≡ out.old.items ++ shapes_text (Shape.Lined (shaft ∷ []) title.now ∷ spec.failed to ∷ [])) }
+    ensures { OnOk result (out.new.items ≡ out.old.items ++ shapes_text (Shape.Lined (shaft ∷ []) title.now ∷ look.failed to ∷ [])) }
 {
     put_lines(&[shaft], title, out)?;
     put_failed(to, out)
 }
 
 pub(crate) fn is_lost(fate: Fate) -> bool
-    ensures { result ≡ spec.is_lost fate }
+    ensures { result ≡ look.is_lost fate }
 {
     match fate {
         Fate::Lost => true,
@@ -245,7 +246,7 @@ fn dllp_row(sent: &Option<DllpSent>) -> Option<u16>
 
 /// Adds the arrow of a packet.
 fn put_packet(
-    requesters: u8,
+    parts: Parts,
     row: u16,
     lane: LaneName,
     fate: Fate,
@@ -253,10 +254,10 @@ fn put_packet(
     sent: Option<PacketSent>,
     out: &mut Vec<u8>,
 ) -> Result<(), AllocError>
-    ensures { OnOk result (out.new.items ≡ out.old.items ++ shapes_text (spec.strokes requesters row (Deed.Arrived lane fate arrival sent))) }
+    ensures { OnOk result (out.new.items ≡ out.old.items ++ shapes_text (spec.strokes parts row (Deed.Arrived lane fate arrival sent))) }
 {
     let arrow = Arrow {
-        way: way_of(requesters, lane, false),
+        way: way_of(parts, lane, false),
         pen: packet_pen(arrival),
         fate,
         sent: packet_row(&sent),
@@ -269,7 +270,7 @@ fn put_packet(
 
 /// Adds the arrow of a DLLP.
 fn put_dllp(
-    requesters: u8,
+    parts: Parts,
     row: u16,
     lane: LaneName,
     fate: Fate,
@@ -277,10 +278,10 @@ fn put_dllp(
     replay: Replay,
     out: &mut Vec<u8>,
 ) -> Result<(), AllocError>
-    ensures { OnOk result (out.new.items ≡ out.old.items ++ shapes_text (spec.strokes requesters row (Deed.ArrivedDllp lane fate sent replay))) }
+    ensures { OnOk result (out.new.items ≡ out.old.items ++ shapes_text (spec.strokes parts row (Deed.ArrivedDllp lane fate sent replay))) }
 {
     let arrow = Arrow {
-        way: way_of(requesters, lane, true),
+        way: way_of(parts, lane, true),
         pen: dllp_pen(),
         fate,
         sent: dllp_row(&sent),
@@ -294,19 +295,19 @@ fn put_dllp(
 /// Adds the arrow that ends in a row of this deed, if there is one.
 #[tactic(auto, unfolding(svg_text::specs::Shapes::shapes_text))]
 pub(crate) fn put_strokes(
-    requesters: u8,
+    parts: Parts,
     row: u16,
     deed: Deed,
     out: &mut Vec<u8>,
 ) -> Result<(), AllocError>
-    ensures { OnOk result (out.new.items ≡ out.old.items ++ shapes_text (spec.strokes requesters row deed)) }
+    ensures { OnOk result (out.new.items ≡ out.old.items ++ shapes_text (spec.strokes parts row deed)) }
 {
     match deed {
         Deed::Arrived(lane, fate, arrival, sent) => {
-            put_packet(requesters, row, lane, fate, arrival, sent, out)
+            put_packet(parts, row, lane, fate, arrival, sent, out)
         }
         Deed::ArrivedDllp(lane, fate, sent, replay) => {
-            put_dllp(requesters, row, lane, fate, sent, replay, out)
+            put_dllp(parts, row, lane, fate, sent, replay, out)
         }
         _ => Ok(()),
     }
@@ -325,7 +326,7 @@ fn is_dllp(what: Flying) -> bool
 fn put_open_line(way: Way, row: u16, title: &[u8], out: &mut Vec<u8>) -> Result<(), AllocError>
     requires from { way.from ≤ 70000 }
     requires to { way.to ≤ 70000 }
-    ensures { OnOk result (out.new.items ≡ out.old.items ++ shape_text (spec.open_line way row title.now)) }
+    ensures { OnOk result (out.new.items ≡ out.old.items ++ shape_text (look.open_line way row title.now)) }
 {
     let y = departure(row);
     let from = Point { x: way.from, y };
@@ -337,11 +338,11 @@ fn put_open_line(way: Way, row: u16, title: &[u8], out: &mut Vec<u8>) -> Result<
 }
 
 /// Adds the first third of the way of what isn't seen to arrive.
-pub(crate) fn put_open(requesters: u8, of: &Open, out: &mut Vec<u8>) -> Result<(), AllocError>
-    ensures { OnOk result (out.new.items ≡ out.old.items ++ shape_text (spec.open_stroke requesters of.now)) }
+pub(crate) fn put_open(parts: Parts, of: &Open, out: &mut Vec<u8>) -> Result<(), AllocError>
+    ensures { OnOk result (out.new.items ≡ out.old.items ++ shape_text (spec.open_stroke parts of.now)) }
 {
     let mut title = ArrayString::new();
     write_open_title(of, &mut title);
-    let way = way_of(requesters, of.lane, is_dllp(of.what));
+    let way = way_of(parts, of.lane, is_dllp(of.what));
     put_open_line(way, of.row, title.as_bytes(), out)
 }

@@ -2,19 +2,18 @@
 ghost use Rattle.std.specs.Prelude.{◌≡◌, ◌<◌, ◌≤◌, ◌+◌, ◌-◌, ◌*◌, ◌++◌, codes, OnOk};
 ghost use Rattle.svg_text.specs.Shapes.{Shape, shape_text, shapes_text};
 ghost use Rattle.chart_rows.specs.Layout as layout;
-ghost use Rattle.chart_rows.specs.Words as said;
-ghost use Rattle.chart_page.specs.Shapes as spec;
+ghost use Rattle.chart_page.specs.Look as look;
 
 use crate::arrows::{cross, pen};
 use crate::shapes::{label_at, put_square, rule};
 use arrayvec::ArrayString;
-use chart_rows::{Point, memory_x, requester_x, switch_x, top_of, write_requester};
+use chart_rows::{Parts, Point, memory_x, requester_x, switch_x, top_of, write_requester};
 use std::alloc::AllocError;
 use svg_text::{Block, Colour, Label, put_block, put_label, put_lines};
 
 /// Where the first line stands, in red where it tells a fault or a refusal.
 pub(crate) fn title_label(is_red: bool) -> Label
-    ensures { result ≡ spec.title_label is_red }
+    ensures { result ≡ look.title_label is_red }
 {
     Label {
         x: 10,
@@ -29,7 +28,7 @@ pub(crate) fn title_label(is_red: bool) -> Label
 #[tactic(auto, unfolding(svg_text::specs::Shapes::shapes_text))]
 fn put_kind_sign(x: u64, colour: Colour, name: &str, out: &mut Vec<u8>) -> Result<(), AllocError>
     requires { x ≤ 900 }
-    ensures { OnOk result (out.new.items ≡ out.old.items ++ shapes_text (spec.kind_sign x colour name.now)) }
+    ensures { OnOk result (out.new.items ≡ out.old.items ++ shapes_text (look.kind_sign x colour name.now)) }
 {
     let block = Block {
         left: x,
@@ -47,7 +46,7 @@ fn put_kind_sign(x: u64, colour: Colour, name: &str, out: &mut Vec<u8>) -> Resul
 
 /// Adds the colours of the kinds of operations.
 fn put_kind_signs(out: &mut Vec<u8>) -> Result<(), AllocError>
-    ensures { OnOk result (out.new.items ≡ out.old.items ++ shapes_text spec.kind_signs) }
+    ensures { OnOk result (out.new.items ≡ out.old.items ++ shapes_text look.kind_signs) }
 {
     put_kind_sign(10, Colour::SkyBlue, "read", out)?;
     put_kind_sign(66, Colour::Orange, "write", out)?;
@@ -68,7 +67,7 @@ fn put_pen_sign(
     out: &mut Vec<u8>,
 ) -> Result<(), AllocError>
     requires { x ≤ 900 }
-    ensures { OnOk result (out.new.items ≡ out.old.items ++ shapes_text (spec.pen_sign x (spec.pen colour thickness dash) name.now)) }
+    ensures { OnOk result (out.new.items ≡ out.old.items ++ shapes_text (look.pen_sign x (look.pen colour thickness dash) name.now)) }
 {
     let pen = pen(colour, thickness, dash);
     let line = rule(pen, Point { x, y: 47 }, Point { x: x + 30, y: 47 });
@@ -78,7 +77,7 @@ fn put_pen_sign(
 
 /// Adds what the lines of arrows mean.
 fn put_pen_signs(out: &mut Vec<u8>) -> Result<(), AllocError>
-    ensures { OnOk result (out.new.items ≡ out.old.items ++ shapes_text spec.pen_signs) }
+    ensures { OnOk result (out.new.items ≡ out.old.items ++ shapes_text look.pen_signs) }
 {
     put_pen_sign(300, Colour::Black, 2, 0, "packet", out)?;
     put_pen_sign(400, Colour::Black, 2, 6, "duplicate", out)?;
@@ -90,14 +89,14 @@ fn put_pen_signs(out: &mut Vec<u8>) -> Result<(), AllocError>
 /// Adds a text.
 #[tactic(auto, unfolding(svg_text::specs::Shapes::shapes_text))]
 fn put_text(x: u64, y: u64, words: &str, out: &mut Vec<u8>) -> Result<(), AllocError>
-    ensures { OnOk result (out.new.items ≡ out.old.items ++ shapes_text (spec.text_at x y words.now)) }
+    ensures { OnOk result (out.new.items ≡ out.old.items ++ shapes_text (look.text_at x y words.now)) }
 {
     put_label(&label_at(x, y, Colour::Black), words.as_bytes(), out)
 }
 
 /// Adds a cross.
 fn put_cross_sign(out: &mut Vec<u8>) -> Result<(), AllocError>
-    ensures { OnOk result (out.new.items ≡ out.old.items ++ shape_text (Shape.Lined (spec.two (spec.cross (layout.point 750 47))) (codes "lost"))) }
+    ensures { OnOk result (out.new.items ≡ out.old.items ++ shape_text (Shape.Lined (look.two (look.cross (layout.point 750 47))) (codes "lost"))) }
 {
     let lines = cross(Point { x: 750, y: 47 });
     put_lines(&[lines.0, lines.1], b"lost", out)
@@ -105,7 +104,7 @@ fn put_cross_sign(out: &mut Vec<u8>) -> Result<(), AllocError>
 
 /// Adds what a cross means.
 fn put_lost_sign(out: &mut Vec<u8>) -> Result<(), AllocError>
-    ensures { OnOk result (out.new.items ≡ out.old.items ++ shapes_text spec.lost_sign) }
+    ensures { OnOk result (out.new.items ≡ out.old.items ++ shapes_text look.lost_sign) }
 {
     put_cross_sign(out)?;
     put_text(764, 51, "lost", out)?;
@@ -114,7 +113,7 @@ fn put_lost_sign(out: &mut Vec<u8>) -> Result<(), AllocError>
 
 /// Adds what a red square means.
 fn put_failed_sign(out: &mut Vec<u8>) -> Result<(), AllocError>
-    ensures { OnOk result (out.new.items ≡ out.old.items ++ shapes_text spec.failed_sign) }
+    ensures { OnOk result (out.new.items ≡ out.old.items ++ shapes_text look.failed_sign) }
 {
     put_square(Point { x: 815, y: 47 }, Colour::Red, b"failed", out)?;
     put_text(826, 51, "failed its check", out)?;
@@ -123,7 +122,7 @@ fn put_failed_sign(out: &mut Vec<u8>) -> Result<(), AllocError>
 
 /// Adds what colours, lines and ends mean.
 pub(crate) fn put_legend(out: &mut Vec<u8>) -> Result<(), AllocError>
-    ensures { OnOk result (out.new.items ≡ out.old.items ++ shapes_text spec.legend) }
+    ensures { OnOk result (out.new.items ≡ out.old.items ++ shapes_text look.legend) }
 {
     put_kind_signs(out)?;
     put_pen_signs(out)?;
@@ -135,7 +134,7 @@ pub(crate) fn put_legend(out: &mut Vec<u8>) -> Result<(), AllocError>
 /// Adds the line of a part and its name.
 #[tactic(auto, unfolding(svg_text::specs::Shapes::shapes_text))]
 fn put_column(x: u64, bottom: u64, name: &[u8], out: &mut Vec<u8>) -> Result<(), AllocError>
-    ensures { OnOk result (out.new.items ≡ out.old.items ++ shapes_text (spec.column x bottom name.now)) }
+    ensures { OnOk result (out.new.items ≡ out.old.items ++ shapes_text (look.column x bottom name.now)) }
 {
     let label = Label {
         x,
@@ -151,45 +150,78 @@ fn put_column(x: u64, bottom: u64, name: &[u8], out: &mut Vec<u8>) -> Result<(),
 }
 
 /// Adds the line of the requester at a port.
-fn put_requester_column(port: u8, bottom: u64, out: &mut Vec<u8>) -> Result<(), AllocError>
-    ensures { OnOk result (out.new.items ≡ out.old.items ++ shapes_text (spec.requester_column port bottom)) }
+fn put_requester_column(
+    parts: Parts,
+    port: u8,
+    bottom: u64,
+    out: &mut Vec<u8>,
+) -> Result<(), AllocError>
+    ensures { OnOk result (out.new.items ≡ out.old.items ++ shapes_text (look.requester_column parts port bottom)) }
 {
     let mut name = ArrayString::new();
     write_requester(port, &mut name);
-    put_column(requester_x(port), bottom, name.as_bytes(), out)
+    put_column(requester_x(parts, port), bottom, name.as_bytes(), out)
 }
 
 /// Adds the line of the switch.
-fn put_switch_column(requesters: u8, bottom: u64, out: &mut Vec<u8>) -> Result<(), AllocError>
-    ensures { OnOk result (out.new.items ≡ out.old.items ++ shapes_text (spec.switch_column requesters bottom)) }
+fn put_switch_column(parts: Parts, bottom: u64, out: &mut Vec<u8>) -> Result<(), AllocError>
+    ensures { OnOk result (out.new.items ≡ out.old.items ++ shapes_text (look.switch_column parts bottom)) }
 {
-    put_column(switch_x(requesters), bottom, b"switch", out)
+    put_column(switch_x(parts), bottom, b"switch", out)
 }
 
 /// Adds the line of the memory.
-fn put_memory_column(requesters: u8, bottom: u64, out: &mut Vec<u8>) -> Result<(), AllocError>
-    ensures { OnOk result (out.new.items ≡ out.old.items ++ shapes_text (spec.memory_column requesters bottom)) }
+fn put_memory_column(parts: Parts, bottom: u64, out: &mut Vec<u8>) -> Result<(), AllocError>
+    ensures { OnOk result (out.new.items ≡ out.old.items ++ shapes_text (look.memory_column parts bottom)) }
 {
-    put_column(memory_x(requesters), bottom, b"memory", out)
+    put_column(memory_x(parts), bottom, b"memory", out)
 }
 
 /// Adds the lines of the requesters.
-fn put_requester_columns(requesters: u8, bottom: u64, out: &mut Vec<u8>) -> Result<(), AllocError>
-    ensures { OnOk result (out.new.items ≡ out.old.items ++ shapes_text (spec.requester_columns requesters bottom)) }
+fn put_requester_columns(
+    parts: Parts,
+    requesters: u8,
+    bottom: u64,
+    out: &mut Vec<u8>,
+) -> Result<(), AllocError>
+    ensures { OnOk result (out.new.items ≡ out.old.items ++ shapes_text (look.requester_columns parts requesters bottom)) }
 {
     for place in 0..requesters {
-        put_requester_column(place + 1, bottom, out)?;
+        put_requester_column(parts, place + 1, bottom, out)?;
     }
     Ok(())
 }
 
-/// Adds the lines of the parts.
-pub(crate) fn put_columns(requesters: u8, bottom: u64, out: &mut Vec<u8>) -> Result<(), AllocError>
-    ensures { OnOk result (out.new.items ≡ out.old.items ++ shapes_text (spec.columns requesters bottom)) }
+/// Adds the lines of the requesters that have one.
+#[tactic(auto, unfolding(svg_text::specs::Shapes::shapes_text))]
+fn put_left_columns(parts: Parts, bottom: u64, out: &mut Vec<u8>) -> Result<(), AllocError>
+    ensures { OnOk result (out.new.items ≡ out.old.items ++ shapes_text (look.left_columns parts bottom)) }
 {
-    put_requester_columns(requesters, bottom, out)?;
-    put_switch_column(requesters, bottom, out)?;
-    put_memory_column(requesters, bottom, out)?;
+    match parts {
+        Parts::All(requesters) => put_requester_columns(parts, requesters, bottom, out),
+        Parts::Requester(port) => put_requester_column(parts, port, bottom, out),
+        Parts::Memory => Ok(()),
+    }
+}
+
+/// Adds the line of the memory, if it has one.
+#[tactic(auto, unfolding(svg_text::specs::Shapes::shapes_text))]
+fn put_right_column(parts: Parts, bottom: u64, out: &mut Vec<u8>) -> Result<(), AllocError>
+    ensures { OnOk result (out.new.items ≡ out.old.items ++ shapes_text (look.right_column parts bottom)) }
+{
+    match parts {
+        Parts::All(_) | Parts::Memory => put_memory_column(parts, bottom, out),
+        Parts::Requester(_) => Ok(()),
+    }
+}
+
+/// Adds the lines of the parts.
+pub(crate) fn put_columns(parts: Parts, bottom: u64, out: &mut Vec<u8>) -> Result<(), AllocError>
+    ensures { OnOk result (out.new.items ≡ out.old.items ++ shapes_text (look.columns parts bottom)) }
+{
+    put_left_columns(parts, bottom, out)?;
+    put_switch_column(parts, bottom, out)?;
+    put_right_column(parts, bottom, out)?;
     Ok(())
 }
 
@@ -198,7 +230,7 @@ pub(crate) fn put_columns(requesters: u8, bottom: u64, out: &mut Vec<u8>) -> Res
 fn put_name(x: u64, y: u64, words: &[u8], out: &mut Vec<u8>) -> Result<(), AllocError>
     requires x { x ≤ 70000 }
     requires y { y ≤ 2000000 }
-    ensures { OnOk result (out.new.items ≡ out.old.items ++ shapes_text (spec.name x y words.now)) }
+    ensures { OnOk result (out.new.items ≡ out.old.items ++ shapes_text (look.name x y words.now)) }
 {
     let block = Block {
         left: x.saturating_sub(44),
@@ -222,68 +254,98 @@ fn put_name(x: u64, y: u64, words: &[u8], out: &mut Vec<u8>) -> Result<(), Alloc
 }
 
 /// Adds the name of the requester at a port.
-fn put_requester_name(port: u8, y: u64, out: &mut Vec<u8>) -> Result<(), AllocError>
+fn put_requester_name(parts: Parts, port: u8, y: u64, out: &mut Vec<u8>) -> Result<(), AllocError>
     requires { y ≤ 2000000 }
-    ensures { OnOk result (out.new.items ≡ out.old.items ++ shapes_text (spec.name (layout.requester_x port) y (said.requester_words port))) }
+    ensures { OnOk result (out.new.items ≡ out.old.items ++ shapes_text (look.requester_name parts port y)) }
 {
     let mut name = ArrayString::new();
     write_requester(port, &mut name);
-    put_name(requester_x(port), y, name.as_bytes(), out)
+    put_name(requester_x(parts, port), y, name.as_bytes(), out)
 }
 
 /// Adds the names of the requesters.
-fn put_requester_names(requesters: u8, y: u64, out: &mut Vec<u8>) -> Result<(), AllocError>
+fn put_requester_names(
+    parts: Parts,
+    requesters: u8,
+    y: u64,
+    out: &mut Vec<u8>,
+) -> Result<(), AllocError>
     requires { y ≤ 2000000 }
-    ensures { OnOk result (out.new.items ≡ out.old.items ++ shapes_text (spec.requester_names requesters y)) }
+    ensures { OnOk result (out.new.items ≡ out.old.items ++ shapes_text (look.requester_names parts requesters y)) }
 {
     for place in 0..requesters {
-        put_requester_name(place + 1, y, out)?;
+        put_requester_name(parts, place + 1, y, out)?;
     }
     Ok(())
 }
 
-/// Adds the name of the switch.
-fn put_switch_name(requesters: u8, y: u64, out: &mut Vec<u8>) -> Result<(), AllocError>
+/// Adds the names of the requesters that have a line.
+#[tactic(auto, unfolding(svg_text::specs::Shapes::shapes_text))]
+fn put_left_names(parts: Parts, y: u64, out: &mut Vec<u8>) -> Result<(), AllocError>
     requires { y ≤ 2000000 }
-    ensures { OnOk result (out.new.items ≡ out.old.items ++ shapes_text (spec.name (layout.switch_x requesters) y (codes "switch"))) }
+    ensures { OnOk result (out.new.items ≡ out.old.items ++ shapes_text (look.left_names parts y)) }
 {
-    put_name(switch_x(requesters), y, b"switch", out)
+    match parts {
+        Parts::All(requesters) => put_requester_names(parts, requesters, y, out),
+        Parts::Requester(port) => put_requester_name(parts, port, y, out),
+        Parts::Memory => Ok(()),
+    }
+}
+
+/// Adds the name of the switch.
+fn put_switch_name(parts: Parts, y: u64, out: &mut Vec<u8>) -> Result<(), AllocError>
+    requires { y ≤ 2000000 }
+    ensures { OnOk result (out.new.items ≡ out.old.items ++ shapes_text (look.name (layout.switch_x parts) y (codes "switch"))) }
+{
+    put_name(switch_x(parts), y, b"switch", out)
 }
 
 /// Adds the name of the memory.
-fn put_memory_name(requesters: u8, y: u64, out: &mut Vec<u8>) -> Result<(), AllocError>
+fn put_memory_name(parts: Parts, y: u64, out: &mut Vec<u8>) -> Result<(), AllocError>
     requires { y ≤ 2000000 }
-    ensures { OnOk result (out.new.items ≡ out.old.items ++ shapes_text (spec.name (layout.memory_x requesters) y (codes "memory"))) }
+    ensures { OnOk result (out.new.items ≡ out.old.items ++ shapes_text (look.name (layout.memory_x parts) y (codes "memory"))) }
 {
-    put_name(memory_x(requesters), y, b"memory", out)
+    put_name(memory_x(parts), y, b"memory", out)
+}
+
+/// Adds the name of the memory, if it has a line.
+#[tactic(auto, unfolding(svg_text::specs::Shapes::shapes_text))]
+fn put_right_name(parts: Parts, y: u64, out: &mut Vec<u8>) -> Result<(), AllocError>
+    requires { y ≤ 2000000 }
+    ensures { OnOk result (out.new.items ≡ out.old.items ++ shapes_text (look.right_name parts y)) }
+{
+    match parts {
+        Parts::All(_) | Parts::Memory => put_memory_name(parts, y, out),
+        Parts::Requester(_) => Ok(()),
+    }
 }
 
 /// Adds the names of the lines in the stripe that ends at y.
-fn put_names(requesters: u8, y: u64, out: &mut Vec<u8>) -> Result<(), AllocError>
+fn put_names(parts: Parts, y: u64, out: &mut Vec<u8>) -> Result<(), AllocError>
     requires { y ≤ 2000000 }
-    ensures { OnOk result (out.new.items ≡ out.old.items ++ shapes_text (spec.names requesters y)) }
+    ensures { OnOk result (out.new.items ≡ out.old.items ++ shapes_text (look.names parts y)) }
 {
-    put_requester_names(requesters, y, out)?;
-    put_switch_name(requesters, y, out)?;
-    put_memory_name(requesters, y, out)?;
+    put_left_names(parts, y, out)?;
+    put_switch_name(parts, y, out)?;
+    put_right_name(parts, y, out)?;
     Ok(())
 }
 
 /// Adds the names in the stripe of this number, from 0.
-fn put_stripe(requesters: u8, stripe: u16, out: &mut Vec<u8>) -> Result<(), AllocError>
+fn put_stripe(parts: Parts, stripe: u16, out: &mut Vec<u8>) -> Result<(), AllocError>
     requires { stripe < 25 }
-    ensures { OnOk result (out.new.items ≡ out.old.items ++ shapes_text (spec.names requesters (layout.top_of (40 * (stripe + 1))))) }
+    ensures { OnOk result (out.new.items ≡ out.old.items ++ shapes_text (look.names parts (layout.top_of (40 * (stripe + 1))))) }
 {
-    put_names(requesters, top_of(40 * (stripe + 1)), out)
+    put_names(parts, top_of(40 * (stripe + 1)), out)
 }
 
 /// Adds the names again in so many stripes, at most 25.
-pub(crate) fn put_stripes(requesters: u8, count: u16, out: &mut Vec<u8>) -> Result<(), AllocError>
+pub(crate) fn put_stripes(parts: Parts, count: u16, out: &mut Vec<u8>) -> Result<(), AllocError>
     requires { count ≤ 25 }
-    ensures { OnOk result (out.new.items ≡ out.old.items ++ shapes_text (spec.stripes requesters count)) }
+    ensures { OnOk result (out.new.items ≡ out.old.items ++ shapes_text (look.stripes parts count)) }
 {
     for stripe in 0..count {
-        put_stripe(requesters, stripe, out)?;
+        put_stripe(parts, stripe, out)?;
     }
     Ok(())
 }

@@ -4,15 +4,16 @@ ghost use Rattle.svg_text.specs.Shapes.{shapes_text};
 ghost use Rattle.svg_text.specs.declared.colour.Colour.TheVariants as colours;
 ghost use Rattle.chart_rows.specs.Layout as layout;
 ghost use Rattle.chart_rows.specs.Words as said;
+ghost use Rattle.chart_page.specs.Look as look;
 ghost use Rattle.chart_page.specs.Shapes as spec;
 
 use crate::arrows::is_lost;
 use crate::shapes::{Tag, kind_in, put_square, put_tag};
 use arrayvec::ArrayString;
 use chart_rows::{
-    Carried, Deed, Kind, PacketSent, Point, Replay, Way, arrival_words, memory_x, middle, other,
-    requester_x, switch_x, way_of, write_collected, write_dllp, write_dllp_arrival, write_expired,
-    write_forwarded, write_sent, write_served, write_submitted,
+    Carried, Deed, Kind, PacketSent, Parts, Point, Replay, Way, arrival_words, memory_x, middle,
+    other, requester_x, switch_x, way_of, write_collected, write_dllp, write_dllp_arrival,
+    write_expired, write_forwarded, write_sent, write_served, write_submitted,
 };
 use dllp_core::Dllp;
 use lane_ends::{Arrival, Fate};
@@ -31,7 +32,7 @@ fn put_mark(
 ) -> Result<(), AllocError>
     requires x { x ≤ 70000 }
     requires words { length words.now ≤ 512 }
-    ensures { OnOk result (out.new.items ≡ out.old.items ++ shapes_text (spec.mark x row kind words.now)) }
+    ensures { OnOk result (out.new.items ≡ out.old.items ++ shapes_text (look.mark x row kind words.now)) }
 {
     let y = middle(row);
     put_dot(&Dot { x, y }, words, out)?;
@@ -55,7 +56,7 @@ fn put_departing(
 ) -> Result<(), AllocError>
     requires way { way.from ≤ 70000 }
     requires words { length words.now ≤ 512 }
-    ensures { OnOk result (out.new.items ≡ out.old.items ++ shapes_text (spec.departing way row kind words.now)) }
+    ensures { OnOk result (out.new.items ≡ out.old.items ++ shapes_text (look.departing way row kind words.now)) }
 {
     let tag = Tag {
         x: way.from,
@@ -72,7 +73,7 @@ fn put_departing(
 fn put_notice(way: Way, row: u16, words: &[u8], out: &mut Vec<u8>) -> Result<(), AllocError>
     requires way { way.from ≤ 70000 }
     requires words { length words.now ≤ 512 }
-    ensures { OnOk result (out.new.items ≡ out.old.items ++ shapes_text (spec.notice way row words.now)) }
+    ensures { OnOk result (out.new.items ≡ out.old.items ++ shapes_text (look.notice way row words.now)) }
 {
     let at = Point {
         x: way.from,
@@ -84,7 +85,7 @@ fn put_notice(way: Way, row: u16, words: &[u8], out: &mut Vec<u8>) -> Result<(),
 
 /// Whether a text at the end of a way stands at the right: beyond the line, and before it where something was lost.
 fn remark_side(way: Way, fate: Fate) -> bool
-    ensures { result ≡ spec.remark_side way fate }
+    ensures { result ≡ look.remark_side way fate }
 {
     if is_lost(fate) {
         other(way.is_right)
@@ -105,7 +106,7 @@ fn put_remark(
 ) -> Result<(), AllocError>
     requires way { way.to ≤ 70000 }
     requires words { length words.now ≤ 512 }
-    ensures { OnOk result (out.new.items ≡ out.old.items ++ shapes_text (spec.remark way row fate colour words.now)) }
+    ensures { OnOk result (out.new.items ≡ out.old.items ++ shapes_text (look.remark way row fate colour words.now)) }
 {
     if words.is_empty() {
         return Ok(());
@@ -122,7 +123,7 @@ fn put_remark(
 
 /// What goes well is told in black.
 fn remark_colour(fate: Fate) -> Colour
-    ensures { result ≡ spec.remark_colour fate }
+    ensures { result ≡ look.remark_colour fate }
 {
     match fate {
         Fate::Good => Colour::Black,
@@ -131,17 +132,18 @@ fn remark_colour(fate: Fate) -> Colour
 }
 
 fn put_submitted_note(
+    parts: Parts,
     row: u16,
     port: u8,
     carried: Carried,
     out: &mut Vec<u8>,
 ) -> Result<(), AllocError>
-    ensures { OnOk result (out.new.items ≡ out.old.items ++ shapes_text (spec.mark (layout.requester_x port) row (Some carried.kind) (said.submitted_words carried))) }
+    ensures { OnOk result (out.new.items ≡ out.old.items ++ shapes_text (look.mark (layout.requester_x parts port) row (Some carried.kind) (said.submitted_words carried))) }
 {
     let mut text = ArrayString::new();
     write_submitted(carried, &mut text);
     let kind = Some(carried.kind);
-    put_mark(requester_x(port), row, kind, text.as_bytes(), out)
+    put_mark(requester_x(parts, port), row, kind, text.as_bytes(), out)
 }
 
 fn put_sent_note(
@@ -152,7 +154,7 @@ fn put_sent_note(
     out: &mut Vec<u8>,
 ) -> Result<(), AllocError>
     requires { way.from ≤ 70000 }
-    ensures { OnOk result (out.new.items ≡ out.old.items ++ shapes_text (spec.departing way row (spec.kind_in carried) (said.sent_words number carried))) }
+    ensures { OnOk result (out.new.items ≡ out.old.items ++ shapes_text (look.departing way row (look.kind_in carried) (said.sent_words number carried))) }
 {
     let mut text = ArrayString::new();
     write_sent(number, carried, &mut text);
@@ -167,7 +169,7 @@ fn put_arrival_note(
     out: &mut Vec<u8>,
 ) -> Result<(), AllocError>
     requires { way.to ≤ 70000 }
-    ensures { OnOk result (out.new.items ≡ out.old.items ++ shapes_text (spec.remark way row fate colours.Red (said.arrival_words fate arrival))) }
+    ensures { OnOk result (out.new.items ≡ out.old.items ++ shapes_text (look.remark way row fate colours.Red (said.arrival_words fate arrival))) }
 {
     let words = arrival_words(fate, arrival);
     put_remark(way, row, fate, Colour::Red, words.as_bytes(), out)
@@ -175,7 +177,7 @@ fn put_arrival_note(
 
 /// Whether something arrives more than twelve rows below its sending.
 fn is_far(sent: Option<u16>, row: u16) -> bool
-    ensures { result ≡ spec.is_far sent row }
+    ensures { result ≡ look.is_far sent row }
 {
     match sent {
         None => false,
@@ -186,7 +188,7 @@ fn is_far(sent: Option<u16>, row: u16) -> bool
 /// Writes the number of a packet that comes from far.
 fn write_far(sent: Option<PacketSent>, row: u16, text: &mut ArrayString<512>)
     requires { text.old.bytes ≡ [] }
-    ensures { text.new.bytes ≡ spec.far_words sent row }
+    ensures { text.new.bytes ≡ look.far_words sent row }
 {
     if let Some(packet) = sent {
         if is_far(packet.row, row) {
@@ -206,7 +208,7 @@ fn put_far_note(
     out: &mut Vec<u8>,
 ) -> Result<(), AllocError>
     requires { way.to ≤ 70000 }
-    ensures { OnOk result (out.new.items ≡ out.old.items ++ shapes_text (spec.far_remark way row fate arrival sent)) }
+    ensures { OnOk result (out.new.items ≡ out.old.items ++ shapes_text (look.far_remark way row fate arrival sent)) }
 {
     if !arrival_words(fate, arrival).is_empty() {
         return Ok(());
@@ -227,7 +229,7 @@ fn put_arrived(
 ) -> Result<(), AllocError>
     requires { way.to ≤ 70000 }
     ensures { OnOk result (out.new.items ≡ out.old.items ++ shapes_text (
-        spec.remark way row fate colours.Red (said.arrival_words fate arrival) ++ spec.far_remark way row fate arrival sent)) }
+        look.remark way row fate colours.Red (said.arrival_words fate arrival) ++ look.far_remark way row fate arrival sent)) }
 {
     put_arrival_note(way, row, fate, arrival, out)?;
     put_far_note(way, row, fate, arrival, sent, out)?;
@@ -236,7 +238,7 @@ fn put_arrived(
 
 fn put_dllp_note(way: Way, row: u16, dllp: Dllp, out: &mut Vec<u8>) -> Result<(), AllocError>
     requires { way.from ≤ 70000 }
-    ensures { OnOk result (out.new.items ≡ out.old.items ++ shapes_text (spec.departing way row None (said.dllp_words dllp))) }
+    ensures { OnOk result (out.new.items ≡ out.old.items ++ shapes_text (look.departing way row None (said.dllp_words dllp))) }
 {
     let mut text = ArrayString::new();
     write_dllp(dllp, &mut text);
@@ -251,7 +253,7 @@ fn put_dllp_arrival_note(
     out: &mut Vec<u8>,
 ) -> Result<(), AllocError>
     requires { way.to ≤ 70000 }
-    ensures { OnOk result (out.new.items ≡ out.old.items ++ shapes_text (spec.remark way row fate (spec.remark_colour fate) (said.dllp_arrival_words fate replay))) }
+    ensures { OnOk result (out.new.items ≡ out.old.items ++ shapes_text (look.remark way row fate (look.remark_colour fate) (said.dllp_arrival_words fate replay))) }
 {
     let mut text = ArrayString::new();
     write_dllp_arrival(fate, replay, &mut text);
@@ -260,7 +262,7 @@ fn put_dllp_arrival_note(
 
 fn put_expired_note(way: Way, row: u16, replay: Replay, out: &mut Vec<u8>) -> Result<(), AllocError>
     requires { way.from ≤ 70000 }
-    ensures { OnOk result (out.new.items ≡ out.old.items ++ shapes_text (spec.notice way row (said.expired_words replay))) }
+    ensures { OnOk result (out.new.items ≡ out.old.items ++ shapes_text (look.notice way row (said.expired_words replay))) }
 {
     let mut text = ArrayString::new();
     write_expired(replay, &mut text);
@@ -268,82 +270,81 @@ fn put_expired_note(way: Way, row: u16, replay: Replay, out: &mut Vec<u8>) -> Re
 }
 
 fn put_forwarded_note(
-    requesters: u8,
+    parts: Parts,
     row: u16,
     carried: Option<Carried>,
     out: &mut Vec<u8>,
 ) -> Result<(), AllocError>
-    ensures { OnOk result (out.new.items ≡ out.old.items ++ shapes_text (spec.mark (layout.switch_x requesters) row (spec.kind_in carried) (said.forwarded_words carried))) }
+    ensures { OnOk result (out.new.items ≡ out.old.items ++ shapes_text (look.mark (layout.switch_x parts) row (look.kind_in carried) (said.forwarded_words carried))) }
 {
     let mut text = ArrayString::new();
     write_forwarded(carried, &mut text);
     let kind = kind_in(carried);
-    put_mark(switch_x(requesters), row, kind, text.as_bytes(), out)
+    put_mark(switch_x(parts), row, kind, text.as_bytes(), out)
 }
 
 fn put_served_note(
-    requesters: u8,
+    parts: Parts,
     row: u16,
     carried: Option<Carried>,
     index: usize,
     out: &mut Vec<u8>,
 ) -> Result<(), AllocError>
-    ensures { OnOk result (out.new.items ≡ out.old.items ++ shapes_text (spec.mark (layout.memory_x requesters) row (spec.kind_in carried) (said.served_words carried index))) }
+    ensures { OnOk result (out.new.items ≡ out.old.items ++ shapes_text (look.mark (layout.memory_x parts) row (look.kind_in carried) (said.served_words carried index))) }
 {
     let mut text = ArrayString::new();
     write_served(carried, index, &mut text);
     let kind = kind_in(carried);
-    put_mark(memory_x(requesters), row, kind, text.as_bytes(), out)
+    put_mark(memory_x(parts), row, kind, text.as_bytes(), out)
 }
 
 fn put_collected_note(
+    parts: Parts,
     row: u16,
     port: u8,
     carried: Option<Carried>,
     out: &mut Vec<u8>,
 ) -> Result<(), AllocError>
-    ensures { OnOk result (out.new.items ≡ out.old.items ++ shapes_text (spec.mark (layout.requester_x port) row (spec.kind_in carried) (said.collected_words carried))) }
+    ensures { OnOk result (out.new.items ≡ out.old.items ++ shapes_text (look.mark (layout.requester_x parts port) row (look.kind_in carried) (said.collected_words carried))) }
 {
     let mut text = ArrayString::new();
     write_collected(carried, &mut text);
     let kind = kind_in(carried);
-    put_mark(requester_x(port), row, kind, text.as_bytes(), out)
+    put_mark(requester_x(parts, port), row, kind, text.as_bytes(), out)
 }
 
 /// Adds the dot, the square and the text of a row of this deed.
 #[tactic(auto, unfolding(svg_text::specs::Shapes::shapes_text))]
 pub(crate) fn put_note(
-    requesters: u8,
+    parts: Parts,
     row: u16,
     deed: Deed,
     out: &mut Vec<u8>,
 ) -> Result<(), AllocError>
-    ensures { OnOk result (out.new.items ≡ out.old.items ++ shapes_text (spec.note requesters row deed)) }
+    ensures { OnOk result (out.new.items ≡ out.old.items ++ shapes_text (spec.note parts row deed)) }
 {
     match deed {
         Deed::Nothing => Ok(()),
-        Deed::Submitted(port, carried) => put_submitted_note(row, port, carried, out),
+        Deed::Submitted(port, carried) => put_submitted_note(parts, row, port, carried, out),
         Deed::Sent(lane, number, carried) => {
-            put_sent_note(way_of(requesters, lane, false), row, number, carried, out)
+            put_sent_note(way_of(parts, lane, false), row, number, carried, out)
         }
         Deed::Arrived(lane, fate, arrival, sent) => {
-            let way = way_of(requesters, lane, false);
+            let way = way_of(parts, lane, false);
             put_arrived(way, row, fate, arrival, sent, out)
         }
-        Deed::SentDllp(lane, dllp) => {
-            put_dllp_note(way_of(requesters, lane, true), row, dllp, out)
-        }
+        Deed::SentDllp(lane, dllp) => { put_dllp_note(way_of(parts, lane, true), row, dllp, out) }
         Deed::ArrivedDllp(lane, fate, _, replay) => {
-            put_dllp_arrival_note(way_of(requesters, lane, true), row, fate, replay, out)
+            put_dllp_arrival_note(way_of(parts, lane, true), row, fate, replay, out)
         }
         Deed::Expired(lane, replay) => {
-            put_expired_note(way_of(requesters, lane, false), row, replay, out)
+            put_expired_note(way_of(parts, lane, false), row, replay, out)
         }
         Deed::Retrained(lane) => {
-            put_notice(way_of(requesters, lane, false), row, b"link retrained", out)
+            put_notice(way_of(parts, lane, false), row, b"link retrained", out)
         }
-        Deed::Forwarded(carried) => put_forwarded_note(requesters, row, carried, out),
-        Deed::Served(carried, index) => put_served_note(requesters, row, carried, index, out),
-        Deed::Collected(port, carried) => put_collected_note(row, port, carried, out),
+        Deed::Forwarded(carried) => put_forwarded_note(parts, row, carried, out),
+        Deed::Served(carried, index) => put_served_note(parts, row, carried, index, out),
+        Deed::Collected(port, carried) => put_collected_note(parts, row, port, carried, out),
     }
 }

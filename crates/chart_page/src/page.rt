@@ -1,6 +1,7 @@
 //! The whole page.
 ghost use Rattle.std.specs.Prelude.{◌≡◌, ◌≤◌, ◌+◌, ◌++◌, length, OnOk, OnErr};
 ghost use Rattle.svg_text.specs.Shapes.{shape_text, shapes_text};
+ghost use Rattle.chart_page.specs.Look as look;
 ghost use Rattle.chart_page.specs.Shapes as spec;
 
 use crate::arrows::{put_open, put_strokes};
@@ -9,8 +10,8 @@ use crate::notes::put_note;
 use crate::shapes::label_at;
 use arrayvec::ArrayString;
 use chart_rows::{
-    Deed, Open, Page, Row, top_of, width_of, write_after, write_before, write_event_words,
-    write_outcome_words, write_row_words,
+    Deed, Open, Page, Parts, Row, top_of, width_of, write_after, write_before, write_event_words,
+    write_omitted, write_outcome_words, write_row_words,
 };
 use operation_text::write_decimal;
 use std::alloc::{AllocError, Global};
@@ -18,7 +19,7 @@ use svg_text::{Block, Colour, put_block, put_label, put_page};
 
 /// What is refused is told in red.
 fn row_colour(deed: Deed) -> Colour
-    ensures { result ≡ spec.row_colour deed }
+    ensures { result ≡ look.row_colour deed }
 {
     match deed {
         Deed::Nothing => Colour::Red,
@@ -27,13 +28,13 @@ fn row_colour(deed: Deed) -> Colour
 }
 
 /// White below a row.
-fn band_block(requesters: u8, row: u16) -> Block
-    ensures { result ≡ spec.band_block requesters row }
+fn band_block(parts: Parts, row: u16) -> Block
+    ensures { result ≡ look.band_block parts row }
 {
     Block {
         left: 0,
         top: top_of(row),
-        right: width_of(requesters),
+        right: width_of(parts),
         bottom: top_of(row) + 26,
         fill: Colour::White,
         edge: Colour::White,
@@ -45,16 +46,16 @@ fn band_block(requesters: u8, row: u16) -> Block
 /// Adds white below a row, and what is shown where one points at it.
 fn put_white(
     alloc: Global,
-    requesters: u8,
+    parts: Parts,
     row: u16,
     of: &Row,
     out: &mut Vec<u8>,
 ) -> Result<(), AllocError>
-    ensures { OnOk result (out.new.items ≡ out.old.items ++ shape_text (spec.white requesters row of.now)) }
+    ensures { OnOk result (out.new.items ≡ out.old.items ++ shape_text (spec.white parts row of.now)) }
 {
     let mut words = Vec::new(alloc);
     write_row_words(of, &mut words)?;
-    put_block(&band_block(requesters, row), words.as_slice(), out)
+    put_block(&band_block(parts, row), words.as_slice(), out)
 }
 
 /// Adds the number of a row's line.
@@ -91,69 +92,64 @@ fn put_seen(alloc: Global, row: u16, of: &Row, out: &mut Vec<u8>) -> Result<(), 
 #[tactic(auto, unfolding(svg_text::specs::Shapes::shapes_text))]
 fn put_band(
     alloc: Global,
-    requesters: u8,
+    parts: Parts,
     row: u16,
     of: &Row,
     out: &mut Vec<u8>,
 ) -> Result<(), AllocError>
-    ensures { OnOk result (out.new.items ≡ out.old.items ++ shapes_text (spec.band requesters row of.now)) }
+    ensures { OnOk result (out.new.items ≡ out.old.items ++ shapes_text (spec.band parts row of.now)) }
 {
-    put_white(alloc, requesters, row, of, out)?;
+    put_white(alloc, parts, row, of, out)?;
     put_number(row, of.line, out)?;
     put_said(alloc, row, of, out)?;
     put_seen(alloc, row, of, out)
 }
 
 /// Adds what stands below the arrows of each row.
-fn put_bands(
-    alloc: Global,
-    requesters: u8,
-    rows: &[Row],
-    out: &mut Vec<u8>,
-) -> Result<(), AllocError>
+fn put_bands(alloc: Global, parts: Parts, rows: &[Row], out: &mut Vec<u8>) -> Result<(), AllocError>
     requires { length rows.now ≤ 1000 }
-    ensures { OnOk result (out.new.items ≡ out.old.items ++ shapes_text (spec.each (spec.band requesters) 0 rows.now)) }
+    ensures { OnOk result (out.new.items ≡ out.old.items ++ shapes_text (spec.each (spec.band parts) 0 rows.now)) }
 {
     let mut row = 0;
     for of in rows {
-        put_band(alloc, requesters, row, of, out)?;
+        put_band(alloc, parts, row, of, out)?;
         row += 1;
     }
     Ok(())
 }
 
 /// Adds the arrows that end in each row.
-fn put_all_strokes(requesters: u8, rows: &[Row], out: &mut Vec<u8>) -> Result<(), AllocError>
+fn put_all_strokes(parts: Parts, rows: &[Row], out: &mut Vec<u8>) -> Result<(), AllocError>
     requires { length rows.now ≤ 1000 }
-    ensures { OnOk result (out.new.items ≡ out.old.items ++ shapes_text (spec.each (spec.row_strokes requesters) 0 rows.now)) }
+    ensures { OnOk result (out.new.items ≡ out.old.items ++ shapes_text (spec.each (spec.row_strokes parts) 0 rows.now)) }
 {
     let mut row = 0;
     for of in rows {
-        put_strokes(requesters, row, of.deed, out)?;
+        put_strokes(parts, row, of.deed, out)?;
         row += 1;
     }
     Ok(())
 }
 
 /// Adds the marks and texts of each row.
-fn put_notes(requesters: u8, rows: &[Row], out: &mut Vec<u8>) -> Result<(), AllocError>
+fn put_notes(parts: Parts, rows: &[Row], out: &mut Vec<u8>) -> Result<(), AllocError>
     requires { length rows.now ≤ 1000 }
-    ensures { OnOk result (out.new.items ≡ out.old.items ++ shapes_text (spec.each (spec.row_note requesters) 0 rows.now)) }
+    ensures { OnOk result (out.new.items ≡ out.old.items ++ shapes_text (spec.each (spec.row_note parts) 0 rows.now)) }
 {
     let mut row = 0;
     for of in rows {
-        put_note(requesters, row, of.deed, out)?;
+        put_note(parts, row, of.deed, out)?;
         row += 1;
     }
     Ok(())
 }
 
 /// Adds the beginnings of the ways of what isn't seen to arrive.
-fn put_all_open(requesters: u8, opens: &[Open], out: &mut Vec<u8>) -> Result<(), AllocError>
-    ensures { OnOk result (out.new.items ≡ out.old.items ++ shapes_text (spec.open_strokes requesters opens.now)) }
+fn put_all_open(parts: Parts, opens: &[Open], out: &mut Vec<u8>) -> Result<(), AllocError>
+    ensures { OnOk result (out.new.items ≡ out.old.items ++ shapes_text (spec.open_strokes parts opens.now)) }
 {
     for of in opens {
-        put_open(requesters, of, out)?;
+        put_open(parts, of, out)?;
     }
     Ok(())
 }
@@ -161,7 +157,7 @@ fn put_all_open(requesters: u8, opens: &[Open], out: &mut Vec<u8>) -> Result<(),
 /// Adds a count of events that aren't shown, if there are any.
 #[tactic(auto, unfolding(svg_text::specs::Shapes::shapes_text))]
 fn put_cut(count: u64, y: u64, words: &[u8], out: &mut Vec<u8>) -> Result<(), AllocError>
-    ensures { OnOk result (out.new.items ≡ out.old.items ++ shapes_text (spec.cut count y words.now)) }
+    ensures { OnOk result (out.new.items ≡ out.old.items ++ shapes_text (look.cut count y words.now)) }
 {
     if count == 0 {
         return Ok(());
@@ -187,12 +183,28 @@ fn put_after_cut(count: u64, bottom: u64, out: &mut Vec<u8>) -> Result<(), Alloc
     put_cut(count, bottom, text.as_bytes(), out)
 }
 
-/// Adds how many events aren't shown, before the rows and after them.
-fn put_cuts(before: u64, after: u64, bottom: u64, out: &mut Vec<u8>) -> Result<(), AllocError>
-    ensures { OnOk result (out.new.items ≡ out.old.items ++ shapes_text (spec.cuts before after bottom)) }
+/// Adds how many events are left out, as they tell nothing new.
+fn put_omitted_cut(count: u64, out: &mut Vec<u8>) -> Result<(), AllocError>
+    ensures { OnOk result (out.new.items ≡ out.old.items ++ shapes_text (spec.omitted_cut count)) }
+{
+    let mut text = ArrayString::new();
+    write_omitted(count, &mut text);
+    put_cut(count, 84, text.as_bytes(), out)
+}
+
+/// Adds how many events aren't shown: before the rows, after them, and as they tell nothing new.
+fn put_cuts(
+    before: u64,
+    after: u64,
+    omitted: u64,
+    bottom: u64,
+    out: &mut Vec<u8>,
+) -> Result<(), AllocError>
+    ensures { OnOk result (out.new.items ≡ out.old.items ++ shapes_text (spec.cuts before after omitted bottom)) }
 {
     put_before_cut(before, out)?;
     put_after_cut(after, bottom, out)?;
+    put_omitted_cut(omitted, out)?;
     Ok(())
 }
 
@@ -208,24 +220,24 @@ fn bottom_of(rows: &[Row]) -> u64
 /// Adds the rows and what lies between and above them.
 fn put_body(
     alloc: Global,
-    requesters: u8,
+    parts: Parts,
     rows: &[Row],
     opens: &[Open],
-    cut: (u64, u64),
+    cut: (u64, u64, u64),
     out: &mut Vec<u8>,
 ) -> Result<(), AllocError>
     requires { length rows.now ≤ 1000 }
     ensures { OnOk result (out.new.items ≡ out.old.items ++ shapes_text (spec.body
-        (record { requesters = requesters; rows = rows.now; opens = opens.now; before = cut.0; after = cut.1 }))) }
+        (record { parts = parts; rows = rows.now; opens = opens.now; before = cut.0; after = cut.1; omitted = cut.2 }))) }
 {
     let bottom = bottom_of(rows);
-    put_bands(alloc, requesters, rows, out)?;
-    put_columns(requesters, bottom + 6, out)?;
-    put_stripes(requesters, (rows.len() / 40) as u16, out)?;
-    put_all_strokes(requesters, rows, out)?;
-    put_all_open(requesters, opens, out)?;
-    put_notes(requesters, rows, out)?;
-    put_cuts(cut.0, cut.1, bottom + 18, out)?;
+    put_bands(alloc, parts, rows, out)?;
+    put_columns(parts, bottom + 6, out)?;
+    put_stripes(parts, (rows.len() / 40) as u16, out)?;
+    put_all_strokes(parts, rows, out)?;
+    put_all_open(parts, opens, out)?;
+    put_notes(parts, rows, out)?;
+    put_cuts(cut.0, cut.1, cut.2, bottom + 18, out)?;
     Ok(())
 }
 
@@ -250,9 +262,9 @@ fn put_shapes(
 {
     put_title(is_red, title, out)?;
     put_legend(out)?;
-    let cut = (page.before, page.after);
+    let cut = (page.before, page.after, page.omitted);
     let (rows, opens) = (page.rows.as_slice(), page.opens.as_slice());
-    put_body(alloc, page.requesters, rows, opens, cut, out)?;
+    put_body(alloc, page.parts, rows, opens, cut, out)?;
     Ok(())
 }
 
@@ -272,7 +284,7 @@ pub fn put_chart(
     let mut shapes = Vec::new(alloc);
     put_shapes(alloc, page, is_red, title, &mut shapes)?;
     let height = bottom_of(page.rows.as_slice()) + 30;
-    put_page(alloc, width_of(page.requesters), height, shapes, out)?;
+    put_page(alloc, width_of(page.parts), height, shapes, out)?;
     Ok(())
 }
 

@@ -1,7 +1,7 @@
 //! Lines, squares and texts in their places.
 ghost use Rattle.std.specs.Prelude.{◌≡◌, ◌≤◌, ◌+◌, ◌++◌, length, OnOk};
-ghost use Rattle.svg_text.specs.Shapes.{Shape, shape_text, shapes_text};
-ghost use Rattle.chart_page.specs.Shapes as spec;
+ghost use Rattle.svg_text.specs.Shapes.{shape_text, shapes_text};
+ghost use Rattle.chart_page.specs.Look as look;
 
 use chart_rows::{Carried, Kind, Point, kind_name, middle, top_of};
 use std::alloc::AllocError;
@@ -30,7 +30,7 @@ pub(crate) struct Tag {
 
 /// A line from one point to another.
 pub(crate) fn rule(pen: Pen, from: Point, to: Point) -> Rule
-    ensures { result ≡ spec.rule pen from to }
+    ensures { result ≡ look.rule pen from to }
 {
     Rule {
         left: from.x,
@@ -46,7 +46,7 @@ pub(crate) fn rule(pen: Pen, from: Point, to: Point) -> Rule
 fn square_block(at: Point, fill: Colour) -> Block
     requires x { at.x ≤ 3000000 }
     requires y { at.y ≤ 3000000 }
-    ensures { result ≡ spec.square_block at fill }
+    ensures { result ≡ look.square_block at fill }
 {
     Block {
         left: at.x.saturating_sub(5),
@@ -69,14 +69,14 @@ pub(crate) fn put_square(
 ) -> Result<(), AllocError>
     requires x { at.x ≤ 3000000 }
     requires y { at.y ≤ 3000000 }
-    ensures { OnOk result (out.new.items ≡ out.old.items ++ shape_text (spec.square at fill words.now)) }
+    ensures { OnOk result (out.new.items ≡ out.old.items ++ shape_text (look.square at fill words.now)) }
 {
     put_block(&square_block(at, fill), words, out)
 }
 
 /// A text in letters of 12 pixels.
 pub(crate) fn label_at(x: u64, y: u64, colour: Colour) -> Label
-    ensures { result ≡ spec.label_at x y colour }
+    ensures { result ≡ look.label_at x y colour }
 {
     Label {
         x,
@@ -90,14 +90,14 @@ pub(crate) fn label_at(x: u64, y: u64, colour: Colour) -> Label
 /// How wide a text is.
 fn text_width(words: &[u8]) -> u64
     requires { length words.now ≤ 512 }
-    ensures value { result ≡ spec.text_width words.now }
+    ensures value { result ≡ look.text_width words.now }
     ensures range { result ≤ 4000 }
 {
     words.len() as u64 * 29 / 4
 }
 
 fn indent(kind: Option<Kind>) -> u64
-    ensures value { result ≡ spec.indent kind }
+    ensures value { result ≡ look.indent kind }
     ensures range { result ≤ 28 }
 {
     match kind {
@@ -110,7 +110,7 @@ fn indent(kind: Option<Kind>) -> u64
 fn text_left(tag: Tag, words: &[u8]) -> u64
     requires x { tag.x ≤ 3000000 }
     requires words { length words.now ≤ 512 }
-    ensures value { result ≡ spec.text_left tag words.now }
+    ensures value { result ≡ look.text_left tag words.now }
     ensures range { result ≤ 3000100 }
 {
     if tag.is_right {
@@ -126,7 +126,7 @@ fn text_left(tag: Tag, words: &[u8]) -> u64
 fn plate(tag: Tag, words: &[u8]) -> Block
     requires x { tag.x ≤ 3000000 }
     requires words { length words.now ≤ 512 }
-    ensures { result ≡ spec.plate tag words.now }
+    ensures { result ≡ look.plate tag words.now }
 {
     Block {
         left: text_left(tag, words).saturating_sub(2),
@@ -142,7 +142,7 @@ fn plate(tag: Tag, words: &[u8]) -> Block
 
 fn kind_x(tag: Tag) -> u64
     requires { tag.x ≤ 2999000 }
-    ensures value { result ≡ spec.kind_x tag }
+    ensures value { result ≡ look.kind_x tag }
     ensures range { result ≤ 3000000 }
 {
     if tag.is_right {
@@ -153,7 +153,7 @@ fn kind_x(tag: Tag) -> u64
 }
 
 fn kind_colour(kind: Kind) -> Colour
-    ensures { result ≡ spec.kind_colour kind }
+    ensures { result ≡ look.kind_colour kind }
 {
     match kind {
         Kind::Read => Colour::SkyBlue,
@@ -168,7 +168,7 @@ fn kind_colour(kind: Kind) -> Colour
 #[tactic(auto, unfolding(svg_text::specs::Shapes::shapes_text))]
 fn put_kind(tag: Tag, out: &mut Vec<u8>) -> Result<(), AllocError>
     requires { tag.x ≤ 2999000 }
-    ensures { OnOk result (out.new.items ≡ out.old.items ++ shapes_text (spec.kind_square tag tag.kind)) }
+    ensures { OnOk result (out.new.items ≡ out.old.items ++ shapes_text (look.kind_square tag tag.kind)) }
 {
     let Some(kind) = tag.kind else {
         return Ok(());
@@ -185,7 +185,7 @@ fn put_kind(tag: Tag, out: &mut Vec<u8>) -> Result<(), AllocError>
 pub(crate) fn put_tag(tag: Tag, words: &[u8], out: &mut Vec<u8>) -> Result<(), AllocError>
     requires x { tag.x ≤ 2999000 }
     requires words { length words.now ≤ 512 }
-    ensures { OnOk result (out.new.items ≡ out.old.items ++ shapes_text (spec.tag_shapes tag words.now)) }
+    ensures { OnOk result (out.new.items ≡ out.old.items ++ shapes_text (look.tag_shapes tag words.now)) }
 {
     put_block(&plate(tag, words), words, out)?;
     let label = label_at(text_left(tag, words), top_of(tag.row) + 17, tag.colour);
@@ -195,7 +195,7 @@ pub(crate) fn put_tag(tag: Tag, words: &[u8], out: &mut Vec<u8>) -> Result<(), A
 
 /// The kind of what is carried, if that is known.
 pub(crate) fn kind_in(carried: Option<Carried>) -> Option<Kind>
-    ensures { result ≡ spec.kind_in carried }
+    ensures { result ≡ look.kind_in carried }
 {
     match carried {
         None => None,

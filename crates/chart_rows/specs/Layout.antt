@@ -2,21 +2,29 @@
 use Rattle.std.specs.Prelude.{ℕ, ◌+◌, ◌-◌, ◌*◌, ◌/◌, Bool, true, false, if◌then◌else◌, nat_lt, Option, Some, None}
 use Rattle.fabric_core.specs.declared.event.LaneName.{LaneName}
 use Rattle.fabric_core.specs.declared.event.LaneName.TheVariants as lanes
+use Rattle.chart_rows.specs.declared.layout.Parts.{Parts}
+use Rattle.chart_rows.specs.declared.layout.Parts.TheVariants as parts
 use Rattle.chart_rows.specs.declared.layout.Point.{Point}
 use Rattle.chart_rows.specs.declared.layout.Way.{Way}
 
--- the lines of the requesters, from port 1 on, then that of the switch and that of the memory
-abbrev pub requester_x : ℕ → ℕ
-requester_x port = 560 + 240 * (port - 1)
+-- the lines of the requesters, from port 1 on, then that of the switch and that of the memory; of one lane, those of its
+-- two ends
+abbrev pub requester_x : Parts → ℕ → ℕ
+requester_x (parts.All requesters) port = 560 + 240 * (port - 1)
+requester_x _ port = 560
 
-abbrev pub switch_x : ℕ → ℕ
-switch_x requesters = 560 + 240 * requesters
+abbrev pub switch_x : Parts → ℕ
+switch_x (parts.All requesters) = 560 + 240 * requesters
+switch_x (parts.Requester port) = 800
+switch_x parts.Memory = 560
 
-abbrev pub memory_x : ℕ → ℕ
-memory_x requesters = switch_x requesters + 240
+abbrev pub memory_x : Parts → ℕ
+memory_x p = switch_x p + 240
 
-abbrev pub width_of : ℕ → ℕ
-width_of requesters = memory_x requesters + 360
+-- the last line, and what is written beside it
+abbrev pub width_of : Parts → ℕ
+width_of (parts.All requesters) = memory_x (parts.All requesters) + 360
+width_of _ = 1160
 
 -- a row is 26 pixels high, and so is the stripe with the names of the lines below each 40 rows; an arrow ends in the
 -- middle of its row, and begins below the middle
@@ -35,11 +43,11 @@ abbrev pub way : ℕ → ℕ → Bool → Way
 way from to is_right = record { from = from; to = to; is_right = is_right }
 
 -- the way of packets on a lane
-abbrev pub packet_way : ℕ → LaneName → Way
-packet_way n (lanes.Up port) = way (requester_x port) (switch_x n) true
-packet_way n (lanes.Down port) = way (switch_x n) (requester_x port) false
-packet_way n lanes.Inward = way (switch_x n) (memory_x n) true
-packet_way n lanes.Outward = way (memory_x n) (switch_x n) false
+abbrev pub packet_way : Parts → LaneName → Way
+packet_way p (lanes.Up port) = way (requester_x p port) (switch_x p) true
+packet_way p (lanes.Down port) = way (switch_x p) (requester_x p port) false
+packet_way p lanes.Inward = way (switch_x p) (memory_x p) true
+packet_way p lanes.Outward = way (memory_x p) (switch_x p) false
 
 -- and back
 abbrev pub other : Bool → Bool
@@ -49,8 +57,8 @@ abbrev pub back : Way → Way
 back w = way w.to w.from (other w.is_right)
 
 -- the way of DLLPs, or of packets
-abbrev pub way_of : ℕ → LaneName → Bool → Way
-way_of n lane is_dllp = if is_dllp then back (packet_way n lane) else packet_way n lane
+abbrev pub way_of : Parts → LaneName → Bool → Way
+way_of p lane is_dllp = if is_dllp then back (packet_way p lane) else packet_way p lane
 
 -- a place that lies so far behind x for one who goes that way
 abbrev pub behind : Bool → ℕ → ℕ → ℕ

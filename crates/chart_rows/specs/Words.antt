@@ -11,12 +11,13 @@ use Rattle.lane_ends.specs.declared.packet.Arrival.{Arrival}
 use Rattle.lane_ends.specs.declared.packet.Arrival.TheVariants as arrivals
 use Rattle.link_receiver.specs.declared.receiver.Reception.TheVariants as receptions
 use Rattle.fabric_core.specs.declared.event.Event.{Event}
+use Rattle.fabric_core.specs.declared.event.LaneName.{LaneName}
 use Rattle.fabric_core.specs.declared.event.Seen.{Seen}
 use Rattle.fabric_core.specs.declared.fault.Refusal.{Refusal}
 use Rattle.operation_text.specs.Texts.{sequence_text}
 use Rattle.script_text.specs.Names.{class_name, refusal_text}
 use Rattle.script_text.specs.Texts.{seen_text}
-use Rattle.script_text.specs.LineTexts.{event_line}
+use Rattle.script_text.specs.LineTexts.{event_line, lane_text}
 use Rattle.chart_rows.specs.declared.row.Kind.{Kind}
 use Rattle.chart_rows.specs.declared.row.Kind.TheVariants as requests
 use Rattle.chart_rows.specs.declared.row.Carried.{Carried}
@@ -123,6 +124,10 @@ row_words r = (codes "line " ++ (decimal r.line ++ codes ": ")) ++ (shortened 60
 
 -- ---- the heading
 
+-- what is said of a lane that the fabric doesn't have
+abbrev pub absent_words : LaneName → List ℕ
+absent_words lane = codes "; the fabric lacks " ++ lane_text lane
+
 abbrev pub requester_words : ℕ → List ℕ
 requester_words port = codes "requester " ++ decimal port
 
@@ -131,3 +136,6 @@ before_words count = codes "events before these rows: " ++ decimal count
 
 abbrev pub after_words : ℕ → List ℕ
 after_words count = codes "events after these rows: " ++ decimal count
+
+abbrev pub omitted_words : ℕ → List ℕ
+omitted_words count = codes "events left out, as they tell nothing new: " ++ decimal count

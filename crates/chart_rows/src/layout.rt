@@ -19,35 +19,56 @@ pub struct Way {
     pub is_right: bool,
 }
 
+/// The parts of a fabric that have a line.
+#[derive(Clone, Copy, Debug, PartialEq, Eq)]
+pub enum Parts {
+    /// So many requesters, the switch and the memory.
+    All(u8),
+    /// The requester at this port and the switch.
+    Requester(u8),
+    /// The switch and the memory.
+    Memory,
+}
+
 /// Where the line of the requester at a port stands.
-pub fn requester_x(port: u8) -> u64
-    ensures value { result ≡ layout.requester_x port }
+pub fn requester_x(parts: Parts, port: u8) -> u64
+    ensures value { result ≡ layout.requester_x parts port }
     ensures range { result ≤ 70000 }
 {
-    560 + 240 * u64::from(port).saturating_sub(1)
+    match parts {
+        Parts::All(_) => 560 + 240 * u64::from(port).saturating_sub(1),
+        Parts::Requester(_) | Parts::Memory => 560,
+    }
 }
 
 /// Where the line of the switch stands.
-pub fn switch_x(requesters: u8) -> u64
-    ensures value { result ≡ layout.switch_x requesters }
-    ensures range { result ≤ 70000 }
+pub fn switch_x(parts: Parts) -> u64
+    ensures value { result ≡ layout.switch_x parts }
+    ensures range { result ≤ 69000 }
 {
-    560 + 240 * u64::from(requesters)
+    match parts {
+        Parts::All(requesters) => 560 + 240 * u64::from(requesters),
+        Parts::Requester(_) => 800,
+        Parts::Memory => 560,
+    }
 }
 
 /// Where the line of the memory stands.
-pub fn memory_x(requesters: u8) -> u64
-    ensures value { result ≡ layout.memory_x requesters }
+pub fn memory_x(parts: Parts) -> u64
+    ensures value { result ≡ layout.memory_x parts }
     ensures range { result ≤ 70000 }
 {
-    switch_x(requesters) + 240
+    switch_x(parts) + 240
 }
 
 /// How wide a chart is.
-pub fn width_of(requesters: u8) -> u64
-    ensures { result ≡ layout.width_of requesters }
+pub fn width_of(parts: Parts) -> u64
+    ensures { result ≡ layout.width_of parts }
 {
-    memory_x(requesters) + 360
+    match parts {
+        Parts::All(_) => memory_x(parts) + 360,
+        Parts::Requester(_) | Parts::Memory => 1160,
+    }
 }
 
 /// Where a row begins. Below each 40 rows there is a stripe with the names of the lines.
@@ -76,30 +97,30 @@ pub fn middle(row: u16) -> u64
 }
 
 /// The way of packets on a lane.
-fn packet_way(requesters: u8, lane: LaneName) -> Way
-    ensures value { result ≡ layout.packet_way requesters lane }
+fn packet_way(parts: Parts, lane: LaneName) -> Way
+    ensures value { result ≡ layout.packet_way parts lane }
     ensures from { result.from ≤ 70000 }
     ensures to { result.to ≤ 70000 }
 {
     match lane {
         LaneName::Up(port) => Way {
-            from: requester_x(port),
-            to: switch_x(requesters),
+            from: requester_x(parts, port),
+            to: switch_x(parts),
             is_right: true,
         },
         LaneName::Down(port) => Way {
-            from: switch_x(requesters),
-            to: requester_x(port),
+            from: switch_x(parts),
+            to: requester_x(parts, port),
             is_right: false,
         },
         LaneName::Inward => Way {
-            from: switch_x(requesters),
-            to: memory_x(requesters),
+            from: switch_x(parts),
+            to: memory_x(parts),
             is_right: true,
         },
         LaneName::Outward => Way {
-            from: memory_x(requesters),
-            to: switch_x(requesters),
+            from: memory_x(parts),
+            to: switch_x(parts),
             is_right: false,
         },
     }
@@ -113,12 +134,12 @@ pub fn other(is_right: bool) -> bool
 }
 
 /// The way of DLLPs on a lane, or of packets.
-pub fn way_of(requesters: u8, lane: LaneName, is_dllp: bool) -> Way
-    ensures value { result ≡ layout.way_of requesters lane is_dllp }
+pub fn way_of(parts: Parts, lane: LaneName, is_dllp: bool) -> Way
+    ensures value { result ≡ layout.way_of parts lane is_dllp }
     ensures from { result.from ≤ 70000 }
     ensures to { result.to ≤ 70000 }
 {
-    let way = packet_way(requesters, lane);
+    let way = packet_way(parts, lane);
     if !is_dllp {
         return way;
     }

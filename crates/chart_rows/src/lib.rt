@@ -10,15 +10,16 @@ mod titles;
 mod words;
 
 pub use layout::{
-    Point, Way, behind, departure, finish_of, memory_x, middle, other, requester_x, start_of,
-    switch_x, thirds, top_of, way_of, width_of,
+    Parts, Point, Way, behind, departure, finish_of, memory_x, middle, other, requester_x,
+    start_of, switch_x, thirds, top_of, way_of, width_of,
 };
 pub use row::{
     Carried, Deed, DllpSent, Flying, Kind, Open, PacketSent, Page, Replay, Row, kind_of,
 };
-pub use titles::{write_dllp_title, write_open_title, write_packet_title};
+pub use titles::{write_absent, write_dllp_title, write_open_title, write_packet_title};
 pub use words::{
     arrival_words, kind_name, write_after, write_before, write_collected, write_dllp,
-    write_dllp_arrival, write_event_words, write_expired, write_forwarded, write_outcome_words,
-    write_requester, write_row_words, write_sent, write_served, write_submitted,
+    write_dllp_arrival, write_event_words, write_expired, write_forwarded, write_omitted,
+    write_outcome_words, write_requester, write_row_words, write_sent, write_served,
+    write_submitted,
 };

@@ -2,6 +2,7 @@
 ghost use Rattle.std.specs.Prelude.{◌≡◌};
 ghost use Rattle.chart_rows.specs.Words as said;
 
+use crate::layout::Parts;
 use dllp_core::Dllp;
 use fabric_core::{Event, LaneName, Refusal, Seen};
 use lane_ends::{Arrival, Fate};
@@ -108,14 +109,15 @@ pub struct Open {
     pub row: u16,
 }
 
-/// What a chart shows, and how many events it leaves out before its rows and after them.
+/// What a chart shows, and how many events it leaves out before its rows, after them, and because they tell nothing new.
 #[derive(Debug, Drop)]
 pub struct Page {
-    pub requesters: u8,
+    pub parts: Parts,
     pub rows: Vec<Row>,
     pub opens: Vec<Open>,
     pub before: u64,
     pub after: u64,
+    pub omitted: u64,
 }
 
 impl Model for Page {
@@ -123,7 +125,7 @@ impl Model for Page {
 
     ghost Value = { PageView };
 
-    ghost view = { λ p. record { requesters = p.requesters; rows = p.rows.items; opens = p.opens.items; before = p.before; after = p.after } };
+    ghost view = { λ p. record { parts = p.parts; rows = p.rows.items; opens = p.opens.items; before = p.before; after = p.after; omitted = p.omitted } };
 }
 
 /// The kind of an operation.

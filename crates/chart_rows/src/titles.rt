@@ -4,6 +4,7 @@ ghost use Rattle.std.specs.Fmt.{decimal};
 ghost use Rattle.arrayvec.specs.ArrayString.{array_string_len};
 ghost use Rattle.script_text.specs.LineTexts as lines;
 ghost use Rattle.chart_rows.specs.Titles as said;
+ghost use Rattle.chart_rows.specs.Words as words;
 
 use crate::row::{Carried, DllpSent, Flying, Open, PacketSent, Replay};
 use crate::words::{arrival_words, kind_name, put_replay, write_dllp};
@@ -249,4 +250,13 @@ pub fn write_open_title(of: &Open, text: &mut ArrayString<512>)
 {
     write_flying(of.lane, of.what, text);
     text.push_str(", not seen to arrive");
+}
+
+/// Writes what is said of a lane that the fabric doesn't have.
+pub fn write_absent(lane: LaneName, text: &mut ArrayString<512>)
+    requires { text.old.bytes ≡ [] }
+    ensures { text.new.bytes ≡ words.absent_words lane }
+{
+    text.push_str("; the fabric lacks ");
+    put_lane(lane, text);
 }

@@ -345,3 +345,12 @@ pub fn write_after(count: u64, text: &mut ArrayString<512>)
     text.push_str("events after these rows: ");
     write_decimal(count, text);
 }
+
+/// Writes how many events are left out, as they tell nothing new.
+pub fn write_omitted(count: u64, text: &mut ArrayString<512>)
+    requires { text.old.bytes ≡ [] }
+    ensures { text.new.bytes ≡ said.omitted_words count }
+{
+    text.push_str("events left out, as they tell nothing new: ");
+    write_decimal(count, text);
+}

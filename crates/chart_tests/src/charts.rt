@@ -85,6 +85,24 @@ retrained up2
 dllp in p
 ";
 
+const CREDITS: &str = "\
+fabric 1 0 4096
+dllp up1 np
+dllp up1 ack
+deliver-dllp up1 good
+deliver-dllp up1 good
+submit 1 add 40 07000000
+transmit up1
+deliver up1 good
+forward up1 0
+dllp up1 np
+dllp up1 np
+deliver-dllp up1 lost
+deliver-dllp up1 good
+dllp up1 np
+deliver-dllp up1 failed
+";
+
 const SETTLED: &str = "\
 fabric 1 0 4096
 submit 1 add 40 07000000
@@ -130,6 +148,7 @@ const WHOLE: ChartWindow = ChartWindow {
     lane: None,
     from: 1,
     to: u64::MAX,
+    is_brief: false,
 };
 
 /// The events of the lines 14 to 16.
@@ -137,6 +156,7 @@ const COPY: ChartWindow = ChartWindow {
     lane: None,
     from: 14,
     to: 16,
+    is_brief: false,
 };
 
 /// Those of line 12.
@@ -144,6 +164,7 @@ const LOSS: ChartWindow = ChartWindow {
     lane: None,
     from: 12,
     to: 12,
+    is_brief: false,
 };
 
 /// Those of line 11.
@@ -151,6 +172,7 @@ const SENDING: ChartWindow = ChartWindow {
     lane: None,
     from: 11,
     to: 11,
+    is_brief: false,
 };
 
 /// Those of the lane `in`.
@@ -158,6 +180,7 @@ const INWARD: ChartWindow = ChartWindow {
     lane: Some(LaneName::Inward),
     from: 1,
     to: u64::MAX,
+    is_brief: false,
 };
 
 /// Those of the lane `up3`.
@@ -165,6 +188,7 @@ const THIRD: ChartWindow = ChartWindow {
     lane: Some(LaneName::Up(3)),
     from: 1,
     to: u64::MAX,
+    is_brief: false,
 };
 
 /// Those of the lane `down4`.
@@ -172,6 +196,15 @@ const FOURTH: ChartWindow = ChartWindow {
     lane: Some(LaneName::Down(4)),
     from: 1,
     to: u64::MAX,
+    is_brief: false,
+};
+
+/// All events, but for those that tell nothing new.
+const BRIEF: ChartWindow = ChartWindow {
+    lane: None,
+    from: 1,
+    to: u64::MAX,
+    is_brief: true,
 };
 
 /// A script, the window, parts of its chart, and the exit status.
@@ -299,8 +332,11 @@ static CHARTS: [Charted; 11] = [
         STOPPED,
         INWARD,
         &[
+            "width=\"1160\"",
             "<title>line 12: dllp in p -&gt; ",
-            "<text x=\"1152\" y=\"121\"",
+            ">switch</text><g><title>switch</title><line x1=\"560\"",
+            ">memory</text><g><title>memory</title><line x1=\"800\"",
+            "<text x=\"672\" y=\"121\"",
         ],
         0,
     ),
@@ -327,13 +363,73 @@ static CHARTS: [Charted; 11] = [
     ),
 ];
 
+static BRIEFS: [Charted; 3] = [
+    // 173 events: 13 that aren't of DLLPs, four Acks, and three updates that raise a limit.
+    (
+        SETTLED,
+        BRIEF,
+        &[
+            "height=\"836\"",
+            ">Ack 000</text>",
+            ">UpdateFC NP 17 17</text>",
+            ">Ack 000</text>",
+            ">UpdateFC NP 17 17</text>",
+            ">Ack 000</text>",
+            ">UpdateFC Cpl 17 65</text>",
+            ">Ack 000</text>",
+            ">collect cpl of add 1:0</text>",
+            ">events left out, as they tell nothing new: 146</text>",
+        ],
+        0,
+    ),
+    // The lost Ack and the second one tell something.
+    (
+        LOST_ACK,
+        BRIEF,
+        &[
+            ">Ack 000</text>",
+            ">lost</text>",
+            ">duplicate, dropped</text>",
+            ">Ack 000</text>",
+        ],
+        0,
+    ),
+    // The limits of the beginning and a second Ack of nothing are left out, an update that was sent twice isn't: the first
+    // is lost. A third one tells nothing new, but fails its check, which is shown.
+    (
+        CREDITS,
+        BRIEF,
+        &[
+            "<title>line 6: submit 1 add 40 07000000 -&gt; sub 1 0</title>",
+            "<title>line 10: dllp up1 np -&gt; 90044011</title>",
+            "<title>line 11: dllp up1 np -&gt; 90044011</title>",
+            "<title>line 12: deliver-dllp up1 lost -&gt; gone</title>",
+            "<title>line 13: deliver-dllp up1 good -&gt; took 90044011</title>",
+            "<title>line 15: deliver-dllp up1 failed -&gt; gone</title>",
+            "<g><title>UpdateFC NP 17 17 on up1, failed</title>",
+            ">events left out, as they tell nothing new: 5</text>",
+        ],
+        0,
+    ),
+];
+
 static ABSENT: [Charted; 4] = [
-    (LOST, THIRD, &[">the script ran to its end</text>"], 0),
+    (
+        LOST,
+        THIRD,
+        &[
+            "width=\"1160\"",
+            ">the script ran to its end</text>",
+            ">requester 3</text><g><title>requester 3</title><line x1=\"560\"",
+            ">switch</text><g><title>switch</title><line x1=\"800\"",
+        ],
+        0,
+    ),
     (
         LOST,
         FOURTH,
         &[
-            "fill=\"#000000\" text-anchor=\"start\" pointer-events=\"none\">the script ran to its end; the fabric lacks the chosen lane</text>",
+            "fill=\"#000000\" text-anchor=\"start\" pointer-events=\"none\">the script ran to its end; the fabric lacks down4</text>",
             ">requester 3</text>",
         ],
         0,
@@ -341,7 +437,7 @@ static ABSENT: [Charted; 4] = [
     (
         "fabric 2 0 4096\ncollect 1\n",
         THIRD,
-        &[">refused 2 Idle; the fabric lacks the chosen lane</text>"],
+        &[">refused 2 Idle; the fabric lacks up3</text>"],
         1,
     ),
     ("collect 1\n", THIRD, &[">fault 1 Script</text>"], 1),
@@ -377,6 +473,11 @@ fn all_are_charted(alloc: Global, charts: &[Charted]) -> bool {
 #[test]
 fn charts(rt: HostRuntime) {
     assert!(rt; all_are_charted(rt.alloc(), &CHARTS));
+}
+
+#[test]
+fn brief_charts(rt: HostRuntime) {
+    assert!(rt; all_are_charted(rt.alloc(), &BRIEFS));
 }
 
 #[test]

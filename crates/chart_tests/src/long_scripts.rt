@@ -8,6 +8,7 @@ const ALL: ChartWindow = ChartWindow {
     lane: None,
     from: 1,
     to: u64::MAX,
+    is_brief: false,
 };
 
 /// A script of 1,001 events.

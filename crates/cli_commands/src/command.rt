@@ -183,8 +183,18 @@ fn begin<R: Read, W: Write, E: Write>(
             let run = run_step_with_reasons(alloc, options, reader, writer, errors);
             Outcome::Ended(ended(run, errors))
         }
-        Request::Chart { lane, from, to } => {
-            let window = ChartWindow { lane, from, to };
+        Request::Chart {
+            lane,
+            from,
+            to,
+            is_brief,
+        } => {
+            let window = ChartWindow {
+                lane,
+                from,
+                to,
+                is_brief,
+            };
             Outcome::Ended(ended(run_chart(alloc, window, reader, writer), errors))
         }
         Request::Generate { storm } => {

@@ -144,7 +144,7 @@ The input is one script, as 'step' reads it. Each event of a link that the optio
 has a row, 1000 at most. Above them stands the fault or the refusal that ended the run, in
 red, or that the script ran to its end.",
     example: "Example:
-  $ pciex chart --lane up1 < examples/lost_ack.txt > chart.svg",
+  $ pciex chart --brief < examples/first_script.txt > chart.svg",
 };
 
 pub(crate) static GENERATE: Help = Help {
@@ -208,6 +208,9 @@ pub(crate) static FIRST_LINE: &str = "First line of the script to draw [default:
 
 pub(crate) static LAST_LINE: &str =
     "Last line of the script to draw, at least --from [default: the last one]";
+
+pub(crate) static BRIEF: &str =
+    "Leave out the Acks and credit updates that tell nothing new, and count them";
 
 pub(crate) static CLOCKED: &str =
     "Also test the n: none falls, exceeds the history's length or is above its request's index";

@@ -59,11 +59,13 @@ pub enum Request {
         keeps_going: bool,
         echoes: bool,
     },
-    /// The subcommand `chart`, of the lane alone, if one is given, and of the lines from one to another.
+    /// The subcommand `chart`, of the lane alone, if one is given, and of the lines from one to another; a brief one leaves
+    /// out what tells nothing new.
     Chart {
         lane: Option<LaneName>,
         from: u64,
         to: u64,
+        is_brief: bool,
     },
     /// The subcommand `generate`, which writes the script of a storm.
     Generate {
@@ -228,7 +230,12 @@ fn chart_of<'a>(chart: &ArgMatches<'a>) -> Result<Request, RefusedValue<'a>>
             given: chart.get_str("to"),
         });
     }
-    Ok(Request::Chart { lane, from, to })
+    Ok(Request::Chart {
+        lane,
+        from,
+        to,
+        is_brief: is_set(chart.get_str("brief")),
+    })
 }
 
 /// What the values of `step` ask for.

@@ -1,6 +1,6 @@
 -- The jobs of the workers beside the requesters.
 use Rattle.std.specs.Prelude.{◌≡◌, ◌<◌, ◌≤◌, ℕ, zero, suc, max, List, [], ◌∷◌, ◌++◌, length, map}
-use Rattle.std.specs.List.{AllByRecursion as All, flat_map}
+use Rattle.std.specs.List.{AllByRecursion, flat_map}
 use Rattle.fabric_core.specs.declared.event.LaneName.{LaneName}
 use Rattle.fabric_core.specs.declared.event.LaneName.TheVariants as lanes
 use Rattle.workers.specs.declared.jobs.Job.{Job}
@@ -27,7 +27,7 @@ jobs_of requesters = port_jobs requesters ++ middle_jobs
 -- stands twice; and no thread is without a job
 pub record AreShares (requesters threads : ℕ) (shares : List (List Job)) : Type 0 where
   pub all : flat_map (λ s. s) shares ≡ jobs_of requesters
-  pub some : All (λ s. 0 < length s) shares
+  pub some : AllByRecursion (λ s. 0 < length s) shares
   pub few : length shares ≤ max 1 threads
 
 -- each job alone

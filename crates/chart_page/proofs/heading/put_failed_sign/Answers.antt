@@ -1,7 +1,7 @@
 use Rattle.std.specs.Prelude.{codes}
 use Rattle.svg_text.specs.declared.colour.Colour.TheVariants as colours
 use Rattle.chart_rows.specs.Layout.{point}
-use Rattle.chart_page.specs.Shapes.{square, text_at}
+use Rattle.chart_page.specs.Look.{square, text_at}
 use Rattle.chart_page.proofs.Steps.{first}
 use Rattle.chart_page.proofs.heading.put_failed_sign.Goals as goal
 

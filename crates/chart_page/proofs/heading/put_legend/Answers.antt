@@ -1,4 +1,4 @@
-use Rattle.chart_page.specs.Shapes.{kind_signs, pen_signs, lost_sign, failed_sign}
+use Rattle.chart_page.specs.Look.{kind_signs, pen_signs, lost_sign, failed_sign}
 use Rattle.chart_page.proofs.Steps.{both}
 use Rattle.chart_page.proofs.heading.put_legend.Goals as goal
 

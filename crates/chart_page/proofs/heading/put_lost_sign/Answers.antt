@@ -1,7 +1,7 @@
-use Rattle.std.specs.Prelude.{codes, [], ◌∷◌}
+use Rattle.std.specs.Prelude.{codes}
 use Rattle.svg_text.specs.Shapes.{Shape}
 use Rattle.chart_rows.specs.Layout.{point}
-use Rattle.chart_page.specs.Shapes.{cross, two, text_at}
+use Rattle.chart_page.specs.Look.{cross, two, text_at}
 use Rattle.chart_page.proofs.Steps.{first}
 use Rattle.chart_page.proofs.heading.put_lost_sign.Goals as goal
 

@@ -1,6 +1,6 @@
 use Rattle.std.specs.Prelude.{codes}
 use Rattle.svg_text.specs.declared.colour.Colour.TheVariants as colours
-use Rattle.chart_page.specs.Shapes.{pen, pen_sign}
+use Rattle.chart_page.specs.Look.{pen, pen_sign}
 use Rattle.chart_page.proofs.Steps.{both}
 use Rattle.chart_page.proofs.heading.put_pen_signs.Goals as goal
 

@@ -1,6 +1,6 @@
 use Rattle.svg_text.specs.declared.colour.Colour.TheVariants as colours
 use Rattle.chart_rows.specs.Words.{arrival_words}
-use Rattle.chart_page.specs.Shapes.{remark, far_remark}
+use Rattle.chart_page.specs.Look.{remark, far_remark}
 use Rattle.chart_page.proofs.Steps.{both}
 use Rattle.chart_page.proofs.notes.put_arrived.Goals as goal
 

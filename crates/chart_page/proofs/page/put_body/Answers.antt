@@ -1,12 +1,13 @@
 use Rattle.std.proofs.Common.{◌∙◌, ◌++◌, ◌+◌, ◌/◌, ap, length, ℕ}
 use Rattle.svg_text.specs.Shapes.{shapes_text}
-use Rattle.chart_page.specs.Shapes.{each, band, columns, stripes, row_strokes, open_strokes, row_note, cuts, bottom_of}
+use Rattle.chart_page.specs.Look.{columns, stripes}
+use Rattle.chart_page.specs.Shapes.{each, band, row_strokes, open_strokes, row_note, cuts, bottom_of}
 use Rattle.chart_page.proofs.Steps.{both}
 use Rattle.chart_page.proofs.page.put_body.Goals as goal
 
 pub returns : goal.returns
 returns c =
-    let n = c.args.requesters in
+    let n = c.args.parts in
     let rs = c.args.rows.now in
     let os = c.args.opens.now in
     let p1 = c.put_bands.new.out.items in
@@ -22,5 +23,5 @@ returns c =
     (both p2 p3 last (stripes n (length rs / 40)) _ c.in_ok-put_stripes.ensures
     (both p3 p4 last (each (row_strokes n) 0 rs) _ c.in_ok-put_all_strokes.ensures
     (both p4 p5 last (open_strokes n os) _ c.in_ok-put_all_open.ensures
-    (both p5 p6 last (each (row_note n) 0 rs) (cuts c.args.cut.0 c.args.cut.1 (bottom_of rs + 18)) c.in_ok-put_notes.ensures
-    (c.in_ok-put_cuts.ensures ∙ ap (λ (b : ℕ). p6 ++ shapes_text (cuts c.args.cut.0 c.args.cut.1 (b + 18))) c.bottom_of-bottom.ensures.value))))))
+    (both p5 p6 last (each (row_note n) 0 rs) (cuts c.args.cut.0 c.args.cut.1 c.args.cut.2 (bottom_of rs + 18)) c.in_ok-put_notes.ensures
+    (c.in_ok-put_cuts.ensures ∙ ap (λ (b : ℕ). p6 ++ shapes_text (cuts c.args.cut.0 c.args.cut.1 c.args.cut.2 (b + 18))) c.bottom_of-bottom.ensures.value))))))

@@ -3,7 +3,8 @@ use Rattle.svg_text.specs.Shapes.{shapes_text}
 use Rattle.chart_rows.specs.declared.row.Row.{Row}
 use Rattle.chart_rows.specs.declared.row.Open.{Open}
 use Rattle.chart_rows.specs.PageView.{PageView}
-use Rattle.chart_page.specs.Shapes.{title, legend, body}
+use Rattle.chart_page.specs.Look.{legend}
+use Rattle.chart_page.specs.Shapes.{title, body}
 use Rattle.chart_page.proofs.Steps.{both}
 use Rattle.chart_page.proofs.page.put_shapes.Goals as goal
 
@@ -16,6 +17,6 @@ returns c =
     both c.args.out.now.items p1 last (title c.args.is_red c.args.title.now) _ c.in_ok-put_title.ensures
     (both p1 p2 last legend (body c.args.page.now) c.in_ok-put_legend.ensures
     (c.in_ok-put_body.ensures
-    ∙ ap (λ (rs : List Row). p2 ++ shapes_text (body (record { requesters = inside.requesters; rows = rs; opens = c.as_slice-opens.result.now; before = inside.before; after = inside.after }))) c.as_slice-rows.ensures.value
-    ∙ ap (λ (os : List Open). p2 ++ shapes_text (body (record { requesters = inside.requesters; rows = inside.rows.items; opens = os; before = inside.before; after = inside.after }))) c.as_slice-opens.ensures.value
+    ∙ ap (λ (rs : List Row). p2 ++ shapes_text (body (record { parts = inside.parts; rows = rs; opens = c.as_slice-opens.result.now; before = inside.before; after = inside.after; omitted = inside.omitted }))) c.as_slice-rows.ensures.value
+    ∙ ap (λ (os : List Open). p2 ++ shapes_text (body (record { parts = inside.parts; rows = inside.rows.items; opens = os; before = inside.before; after = inside.after; omitted = inside.omitted }))) c.as_slice-opens.ensures.value
     ∙ ap (λ (v : PageView). p2 ++ shapes_text (body v)) c.page.view_is))

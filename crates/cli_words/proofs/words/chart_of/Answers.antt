@@ -1,6 +1,7 @@
-use Rattle.std.proofs.Common.{◌≡◌, ◌∙◌, arith, refl, codes, inl, inr}
-use Rattle.clap.specs.Words.{found_of}
+use Rattle.std.proofs.Common.{◌≡◌, ◌∙◌, arith, refl, subst, codes, inl, inr, Option}
+use Rattle.clap.specs.Words.{found_of, Text}
 use Rattle.clap.proofs.WalkLemmas.{first_value-rows}
+use Rattle.cli_options.specs.Values.{WritesFlag}
 use Rattle.cli_words.proofs.RequestsAsked.{same_number}
 use Rattle.cli_words.proofs.words.chart_of.Goals as goal
 
@@ -22,4 +23,19 @@ returns-then-to-from-clause-err c =
               omega (arith, same_from, same_to, ordered, c.if-to-from.true),
         )),
       ))))),
+    )
+
+pub returns-clause-ok : goal.returns-clause-ok
+returns-clause-ok c =
+    let from = c.in_ok-from.ensures.ok in
+    let to = c.in_ok-to.ensures.ok in (
+      refl,
+      record {
+        lane_read = c.in_ok-lane.ensures.ok;
+        from_read = from.0;
+        to_read = to.0;
+        ordered = omega (arith, c.if-to-from.false);
+        fits = omega (arith, to.1.most);
+        brief_read = subst (λ (t : Option Text). WritesFlag t c.is_set.result) (c.get_str-2.ensures ∙ first_value-rows (found_of c.args.chart.now) (codes "brief")) c.is_set.ensures;
+      },
     )

@@ -1,9 +1,8 @@
-use Rattle.std.proofs.Common.{rules, ◌≡◌, ◌∙◌, List, ℕ, Option, sym, ap, Some}
+use Rattle.std.proofs.Common.{◌∙◌, List, ℕ, sym, ap, Some}
 use Rattle.std.specs.Prelude.{option_map}
 use Rattle.fabric_laws.specs.Fabric.{Fabric}
 use Rattle.fabric_core.specs.Answers.{answer}
 use Rattle.chart_links.specs.ChartView.{ChartView}
-use Rattle.chart_engine.specs.declared.chart.Session.{Session}
 use Rattle.chart_engine.specs.Chart.{CharterView, session, next_line, left_by}
 use Rattle.chart_engine.proofs.States.{is_left, was_refused}
 use Rattle.chart_engine.proofs.chart.Charter.happen.Goals as goal

@@ -1,4 +1,4 @@
-use Rattle.std.proofs.Common.{rules, ◌≡◌, ◌∙◌, List, ℕ, sym, ap, None}
+use Rattle.std.proofs.Common.{rules, ◌∙◌, List, ℕ, sym, ap}
 use Rattle.chart_links.specs.ChartView.{new_chart}
 use Rattle.chart_engine.specs.Chart.{CharterView}
 use Rattle.chart_engine.proofs.States.{none_of, is_made, not_made}
