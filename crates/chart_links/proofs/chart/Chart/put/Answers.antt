@@ -1,5 +1,6 @@
 use Rattle.std.proofs.Common.{◌∙◌, ◌++◌, ap, List, ℕ}
 use Rattle.std.proofs.lemmas.Result.{on_ok_weaker}
+use Rattle.chart_rows.specs.PageView.{PageView}
 use Rattle.chart_page.specs.Shapes.{chart_text}
 use Rattle.chart_links.specs.CourseView.{CourseView}
 use Rattle.chart_links.specs.ChartView.{ChartView, with_left, page_of, titled}
