@@ -1,7 +1,7 @@
 //! What the words of a command line ask for.
 ghost use Rattle.std.specs.Prelude.{◌≡◌, IfOk, IfErr, IfSome, IfNone, OnErr, map, true, codes, Some, [], option_map};
 ghost use Rattle.clap.specs.Words.{FailsBy, HasKind, fault_of, kind_of, subcommand_of, subcommand_rows_of, has_subcommand, takes, rows_of, found_of, first_of};
-ghost use Rattle.cli_options.specs.Values.{Gives, GivesBase, name_of};
+ghost use Rattle.cli_options.specs.Values.{Gives, GivesBase, GivesOptional, name_of};
 ghost use Rattle.cli_options.specs.declared.options.ValueOption.TheVariants.{Base, Lane, Granularity as the_granularity};
 ghost use Rattle.cli_words.specs.declared.words.Request.{Request};
 ghost use Rattle.cli_words.specs.declared.words.RequestFault.TheVariants.{Value};
