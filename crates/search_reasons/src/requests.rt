@@ -1,5 +1,6 @@
 //! The requests of a log, with what is known of when they act.
-ghost use Rattle.std.specs.Prelude.{◌≡◌, IfOk, IfSome};
+ghost use Rattle.std.specs.Prelude.{◌≡◌, ℕ, IfOk, IfSome, Some, slice_get};
+ghost use Rattle.history_check.specs.declared.Record.TheVariants as kinds;
 ghost use Rattle.history_check.specs.TraceView.{observed};
 ghost use Rattle.search_reasons.specs.Reasons.{IsAsked};
 
@@ -76,30 +77,86 @@ pub(crate) struct Asked<'a> {
     pub(crate) reply: &'a Reply,
 }
 
+/// A request as it was submitted.
+#[derive(Clone, Copy)]
+struct Submitted<'a> {
+    requester: u8,
+    number: u32,
+    op: &'a Op,
+}
+
+/// The request that the record submits.
+fn submitted_by<'a>(item: &'a Record) -> Option<Submitted<'a>>
+    ensures { IfSome result (λ s. (n : ℕ) × (item.now ≡ kinds.Sub s.requester s.number s.op.now n)) }
+{
+    match item {
+        Record::Sub {
+            requester,
+            number,
+            op,
+            ..
+        } => Some(Submitted {
+            requester: *requester,
+            number: *number,
+            op,
+        }),
+        Record::Ans { .. } => None,
+    }
+}
+
+/// The request that is submitted at the place.
+fn submitted_at<'a>(records: &'a [Record], place: usize) -> Option<Submitted<'a>>
+    ensures { IfSome result (λ s. (n : ℕ) × (slice_get records.now place ≡ Some (kinds.Sub s.requester s.number s.op.now n))) }
+{
+    match records.get(place) {
+        Some(record) => submitted_by(record),
+        None => None,
+    }
+}
+
+/// The reply, if the record answers the request.
+fn reply_of<'a>(item: &'a Record, requester: u8, number: u32) -> Option<&'a Reply>
+    ensures { IfSome result (λ r. (n : ℕ) × (item.now ≡ kinds.Ans requester number r.now n)) }
+{
+    match item {
+        Record::Ans {
+            requester: who,
+            number: own,
+            reply,
+            ..
+        } if *who == requester && *own == number => Some(reply),
+        _ => None,
+    }
+}
+
+/// The reply to the request, if it is answered at the place.
+fn reply_at<'a>(
+    records: &'a [Record],
+    place: usize,
+    requester: u8,
+    number: u32,
+) -> Option<&'a Reply>
+    ensures { IfSome result (λ r. (n : ℕ) × (slice_get records.now place ≡ Some (kinds.Ans requester number r.now n))) }
+{
+    match records.get(place) {
+        Some(record) => reply_of(record, requester, number),
+        None => None,
+    }
+}
+
 /// What was submitted at one place and answered at another.
 fn asked_at<'a>(records: &'a [Record], submission: usize, answer: usize) -> Option<Asked<'a>>
     ensures { IfSome result (λ a. IsAsked records.now a.op.now a.reply.now) }
 {
-    match (records.get(submission), records.get(answer)) {
-        (
-            Some(
-                Record::Sub {
-                    requester,
-                    number,
-                    op,
-                    n: since,
-                },
-            ),
-            Some(
-                Record::Ans {
-                    requester: who,
-                    number: own,
-                    reply,
-                    n: until,
-                },
-            ),
-        ) if *who == *requester && *own == *number => Some(Asked { op, reply }),
-        _ => None,
+    let Some(asked) = submitted_at(records, submission) else {
+        return None;
+    };
+    match reply_at(records, answer, asked.requester, asked.number) {
+        Some(reply) => Some(Asked {
+            op: asked.op,
+            reply,
+        }),
+        None => None,
     }
 }
 
