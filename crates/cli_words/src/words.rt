@@ -282,7 +282,10 @@ fn run_of<'a>(run: &ArgMatches<'a>) -> Result<Request, RefusedValue<'a>>
     let lose = number_in(run, ValueOption::Lose, Some(0))?;
     let corrupt = number_in(run, ValueOption::Corrupt, Some(0))?;
     let turns = number_in(run, ValueOption::Turns, Some(50_000_000))?;
-    let workers = optional_in(run, ValueOption::Workers)?;
+    let workers = match optional_in(run, ValueOption::Workers) {
+        Ok(workers) => workers,
+        Err(refused) => return Err(refused),
+    };
     Ok(Request::Run {
         counting: Counting {
             requesters,

@@ -1,8 +1,9 @@
-use Rattle.std.proofs.Common.{◌∙◌, refl, subst, codes, Option}
+use Rattle.std.proofs.Common.{◌∙◌, refl, sym, ap, subst, codes, inl, inr, Option}
 use Rattle.std.proofs.lemmas.Option.{IfSome_then}
-use Rattle.clap.specs.Words.{found_of, Text}
+use Rattle.clap.specs.Words.{first_of, found_of, rows_of, Text}
 use Rattle.clap.proofs.WalkLemmas.{first_value-rows}
-use Rattle.cli_options.specs.Values.{WritesFlag}
+use Rattle.cli_options.specs.Values.{WritesFlag, name_of}
+use Rattle.cli_options.specs.declared.options.ValueOption.{ValueOption}
 use Rattle.cli_words.proofs.words.run_of.Goals as goal
 
 pub returns-clause-ok : goal.returns-clause-ok
@@ -12,7 +13,7 @@ returns-clause-ok c =
     let lose = c.in_ok-lose.ensures.ok in
     let corrupt = c.in_ok-corrupt.ensures.ok in
     let turns = c.in_ok-turns.ensures.ok in
-    let workers = c.in_ok-workers.ensures.ok in (
+    let workers = c.in-Ok.ensures.ok in (
       refl,
       record {
         requesters_read = requesters.0;
@@ -27,8 +28,31 @@ returns-clause-ok c =
           lose = lose.1.most;
           corrupt = corrupt.1.most;
           turns = (turns.1.least, turns.1.most);
-          workers = IfSome_then c.in_ok-workers.workers workers.1 (λ n a. (a.least, a.most));
+          workers = IfSome_then c.in-Ok.workers workers.1 (λ n a. (a.least, a.most));
         };
       },
       subst (λ (t : Option Text). WritesFlag t c.is_set.result) (c.get_str.ensures ∙ first_value-rows (found_of c.args.run.now) (codes "progress")) c.is_set.ensures,
+    )
+
+pub returns-in-Err-clause-err : goal.returns-in-Err-clause-err
+returns-in-Err-clause-err c =
+    let refused = c.in-Err.ensures.refused in (
+      refused.1 ∙ ap (λ (o : ValueOption). first_of (name_of o) (rows_of (found_of c.args.run.now))) (sym refused.0),
+      inr (inr (inr (inl (
+        refl,
+        inr (
+          refused.0,
+          (
+            (c.in_ok-requesters.requesters, c.in_ok-requesters.ensures.ok),
+            (
+              (c.in_ok-each.each, c.in_ok-each.ensures.ok),
+              (
+                (c.in_ok-lose.lose, c.in_ok-lose.ensures.ok),
+                ((c.in_ok-corrupt.corrupt, c.in_ok-corrupt.ensures.ok), ((c.in_ok-turns.turns, c.in_ok-turns.ensures.ok), tt)),
+              ),
+            ),
+          ),
+          c.in-Err.ensures.err,
+        ),
+      )))),
     )
