@@ -204,8 +204,9 @@ const SHARED: [Counting; 3] = [
 fn few_threads_count(rt: HostRuntime) -> Result<(), Fail> {
     for counting in SHARED {
         let count = usize::from(counting.requesters).saturating_mul(counting.each as usize);
+        let threads = counting.threads;
         let plan = plan_of(rt.alloc(), counting)?;
-        assert!(rt; counts(&rt, rt.alloc(), plan, count)?, "{counting.threads}");
+        assert!(rt; counts(&rt, rt.alloc(), plan, count)?, "{threads}");
     }
     Ok(())
 }

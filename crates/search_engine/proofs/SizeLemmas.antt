@@ -27,7 +27,7 @@ unexplained t count dead e = dead.unexplained (subst IsExplainable (sym (whole_i
 -- what is found of the log in pieces is found of the log, but for where it has none
 pub of_log : (size : Granularity) (t : TraceView) (f : Finding) → IsFindingOf Whole (in_pieces size t) f
     → ((u : TraceView) (count : ℕ) (pieces : Option Pieces) → f ≡ findings.None u count pieces → ⊥) → IsFindingOf size t f
-of_log size t (findings.Found trace history) h none = (subst (λ (v : TraceView). SeenAlike v trace) (whole_is (in_pieces size t)) h.0, h.1, h.2)
+of_log size t (findings.Found trace history) h none = (subst (λ (v : TraceView). SeenAlike v trace) (whole_is (in_pieces size t)) h.0, h.1, h.2, h.3)
 of_log size t (findings.None trace count pieces) h none = absurd (none trace count pieces refl)
 of_log size t findings.Limit h none = tt
 of_log size t (findings.Fault f) h none = h
