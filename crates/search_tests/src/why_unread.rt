@@ -1,5 +1,5 @@
 //! What `search` tells on standard error of a text that can't be read, as `check` does of a trace.
-use search_engine::{Stages, run_search_with_reasons};
+use search_engine::run_search_with_reasons;
 use std::alloc::Global;
 
 /// A text, and what is told.
@@ -69,14 +69,7 @@ fn tells(alloc: Global, text: &str, want: &str) -> bool {
     let mut reader = text.as_bytes();
     let mut out = Vec::new(alloc);
     let mut errors = Vec::new(alloc);
-    let status = run_search_with_reasons(
-        alloc,
-        1000,
-        Stages::OfLongLogs,
-        &mut reader,
-        &mut out,
-        &mut errors,
-    );
+    let status = run_search_with_reasons(alloc, 1000, &mut reader, &mut out, &mut errors);
     status == Ok(1) && errors.as_slice() == want.as_bytes()
 }
 
