@@ -147,8 +147,8 @@ far() {
 }
 
 # pairs SWAPS PAIRS: so many Swaps of one word that weren't answered, and so many times a write and an answered read behind
-# it. With more than 256 Swaps each read is a choice at which each of them may act; with fewer it is seen that all that they
-# overwrite is junk.
+# it. Each read is a choice, at which each Swap may act; with at most 256 of them it is looked, too, whether a Swap and those
+# that act after it are over junk.
 pairs() {
     awk -v swaps="$1" -v pairs="$2" 'BEGIN {
         print "pciex-log 1"
@@ -266,8 +266,8 @@ within 60 400
 ends "search on 100,000 writes that nobody reads" 0 "$room/writes_log" search --limit 1
 within 60 100
 ends "search beside 2,000 lost answers" 0 "$room/lost_answers_log" search --limit 10000
-ends "search beside 250 lost answers" 0 "$room/junk_log" search --limit 1
-ends "search behind an AtomicOp that was lost at the start" 0 "$room/lost_at_start_log" search --limit 1
+ends "search beside 250 lost answers" 0 "$room/junk_log" search --limit 2000
+ends "search behind an AtomicOp that was lost at the start" 0 "$room/lost_at_start_log" search --limit 10000
 echo "limit 1000" > "$room/told"
 ends "search on the first and the last word of 1 MiB" 3 "$room/far_log" search --limit 1000
 seconds=600
