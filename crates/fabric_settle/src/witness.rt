@@ -4,7 +4,6 @@ ghost use Rattle.fabric_laws.specs.Fabric as fabrics;
 ghost use Rattle.fabric_core.specs.declared.event.Event as events;
 ghost use Rattle.fabric_core.specs.Answers.{answer};
 ghost use Rattle.fabric_core.specs.Faults.{is_memory};
-ghost use Rattle.fabric_core.specs.Kept.{records_of};
 ghost use Rattle.fabric_core.specs.Runs.{has_record};
 ghost use Rattle.fabric_answers.specs.Told.{IsTold};
 ghost use Rattle.fabric_rounds.specs.Happenings.{Happening, happening, Answers};
@@ -12,10 +11,9 @@ ghost use Rattle.fabric_settle.specs.Keeping.{Witnessed, IsLossless, WantsMemory
 ghost use Rattle.fabric_settle.specs.Reached.{Reached};
 
 use fabric_answers::laws::each_event_has_one_answer;
-use fabric_core::{Event, Fabric, Refusal, Seen};
+use fabric_core::{Event, Fabric, Refusal, Seen, record_of};
 use history_check::Record;
 use std::alloc::AllocError;
-use tlp_core::copy_of;
 
 /// Keeps something of each event that happens to a fabric.
 ///
@@ -61,33 +59,6 @@ fn is_recorded(event: &Event) -> bool
     ensures { result ≡ has_record event.now }
 {
     matches!(event, Event::Submit(_, _) | Event::Collect(_))
-}
-
-/// What an event adds to a trace, `n` being the length of the history before it.
-fn record_of(event: &Event, seen: Seen, n: u64) -> Option<Record>
-    ensures { option_to_list result ≡ records_of event.now seen n }
-{
-    match event {
-        Event::Submit(port, op) => match seen {
-            Seen::Submitted(number) => Some(Record::Sub {
-                requester: *port,
-                number,
-                op: copy_of(op),
-                n,
-            }),
-            _ => None,
-        },
-        Event::Collect(port) => match seen {
-            Seen::Collected(answer) => Some(Record::Ans {
-                requester: *port,
-                number: answer.number,
-                reply: answer.reply,
-                n,
-            }),
-            _ => None,
-        },
-        _ => None,
-    }
 }
 
 /// Keeps a record for which there is room.

@@ -1,6 +1,8 @@
 //! What memories hold, answer and refuse.
 use arrayvec::ArrayVec;
-use seq_memory::{Entry, Extent, Memory, Refusal, Reply, is_base, is_block, is_size, perform};
+use seq_memory::{
+    Entry, Extent, Memory, Refusal, Reply, enabled_bytes, is_base, is_block, is_size, perform,
+};
 use std::alloc::{AllocError, Global};
 use tlp_core::{MAX_PAYLOAD, Op, Width};
 
@@ -345,4 +347,16 @@ fn writes_to_zeros() -> bool {
 #[test]
 fn a_step_on_a_slice(rt: HostRuntime) {
     assert!(rt; writes_to_zeros());
+}
+
+/// Whether of two DW the bytes are shown that these enables name.
+fn are_shown(first: u8, last: u8, want: &[u8]) -> bool {
+    enabled_bytes(&[1, 2, 3, 4, 5, 6, 7, 8], first, last).as_slice() == want
+}
+
+#[test]
+fn a_read_shows_enabled_bytes(rt: HostRuntime) {
+    assert!(rt;
+        are_shown(15, 15, &[1, 2, 3, 4, 5, 6, 7, 8]) && are_shown(12, 1, &[0, 0, 3, 4, 5, 0, 0, 0])
+    );
 }

@@ -1,4 +1,3 @@
-mod Merges
 mod Forms
 mod Kept
 mod Calls

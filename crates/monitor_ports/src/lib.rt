@@ -6,7 +6,6 @@
 //! which request a completion answers. A refused call changes nothing.
 #![tactic(auto)]
 
-mod enabled;
 mod fault;
 mod head;
 pub mod laws;

@@ -3,11 +3,10 @@ ghost use Rattle.std.specs.Prelude.{◌≡◌, ◌≤◌, ◌<◌, ◌%◌, IfNo
 ghost use Rattle.requester_core.specs.RequesterView as requesting;
 ghost use Rattle.monitor_ports.specs.Watched as spec;
 
-use crate::enabled::{copy_of, enabled_bytes};
 use crate::fault::MonitorFault;
 use arrayvec::ArrayVec;
 use requester_core::NUMBERS;
-use seq_memory::Reply;
+use seq_memory::{Reply, enabled_bytes};
 use tlp_core::{Body, Kind, MAX_PAYLOAD, Status, TlpRef};
 
 /// The number of tags of 8 bits.
@@ -54,6 +53,16 @@ fn enables_of(packet: &TlpRef<'_>) -> Option<(u8, u8)>
         (Kind::MemoryRead, Body::Request { first, last, .. }) => Some((first, last)),
         _ => None,
     }
+}
+
+/// The bytes as data.
+fn copy_of(bytes: &[u8]) -> ArrayVec<u8, MAX_PAYLOAD>
+    requires { length bytes.now ≤ 128 }
+    ensures { result.items ≡ bytes.now }
+{
+    let mut copy = ArrayVec::new();
+    let _ = copy.try_extend_from_slice(bytes);
+    copy
 }
 
 /// The data as the requester sees it.

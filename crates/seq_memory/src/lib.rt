@@ -28,7 +28,7 @@ pub use extent::Extent;
 pub use lent::{Outcome, perform_lent};
 pub use limits::{ALIGNMENT, MAX_SIZE, MIN_SIZE, is_base, is_block, is_size};
 pub use memory::Memory;
-pub use step::perform;
+pub use step::{enabled_bytes, perform};
 use tlp_core::{MAX_PAYLOAD, Op};
 
 /// Why an access is not served. It then changes no byte.

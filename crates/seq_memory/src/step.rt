@@ -6,7 +6,7 @@ ghost use Rattle.tlp_core.specs.Operation.{size_of, count_of, op_fault};
 ghost use Rattle.tlp_core.specs.Enables.{enables, dw_enables};
 ghost use Rattle.atomic_op.specs.NewValue.{FitsWidth};
 ghost use Rattle.seq_memory.specs.Limits.{IsBlock};
-ghost use Rattle.seq_memory.specs.Step.{merged, changed, place_after, read_back, after, answer, IsSizedFor};
+ghost use Rattle.seq_memory.specs.Step.{merged, changed, place_after, read_back, read_over, after, answer, IsSizedFor};
 
 use crate::place::refusal_of;
 use crate::{Refusal, Reply};
@@ -142,12 +142,13 @@ pub(crate) fn merge(old: &mut [u8], new: &[u8], first: u8, last: u8)
 
 pub(crate) const ZEROS: [u8; MAX_PAYLOAD] = [0; MAX_PAYLOAD];
 
-/// The bytes of a read.
-fn read(place: &[u8], first: u8, last: u8) -> ArrayVec<u8, MAX_PAYLOAD>
+/// The data of a read of these bytes, which are whole DW: 00 where its byte enables, First DW BE and
+/// Last DW BE, have none (section 2.2.5).
+pub fn enabled_bytes(place: &[u8], first: u8, last: u8) -> ArrayVec<u8, MAX_PAYLOAD>
     requires some { 4 ≤ length place.now }
     requires few { length place.now ≤ 128 }
     requires whole { length place.now % 4 ≡ 0 }
-    ensures items { result.items ≡ merged (enables (length place.now / 4) first last) place.now (replicate (length place.now) 0) }
+    ensures items { result.items ≡ read_over first last place.now place.now }
     ensures len { array_vec_len result ≡ length place.now }
 {
     if are_all_enabled(place.len(), first, last) {
@@ -169,7 +170,7 @@ fn serve(place: &mut [u8], op: &Op) -> Reply
     ensures size { IsSizedFor op.now result }
 {
     match op {
-        Op::Read { first, last, .. } => Reply::Data(read(place, *first, *last)),
+        Op::Read { first, last, .. } => Reply::Data(enabled_bytes(place, *first, *last)),
         Op::Write {
             first,
             last,

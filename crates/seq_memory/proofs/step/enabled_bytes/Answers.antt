@@ -3,7 +3,7 @@ use Rattle.tlp_core.specs.Enables.{enables}
 use Rattle.seq_memory.specs.Step.{merged}
 use Rattle.seq_memory.proofs.Histories.{written_back}
 use Rattle.seq_memory.proofs.Merges.{take_zeros, all_read}
-use Rattle.seq_memory.proofs.step.read.Goals as goal
+use Rattle.seq_memory.proofs.step.enabled_bytes.Goals as goal
 
 pub returns-clause-items : goal.returns-clause-items
 returns-clause-items c =
