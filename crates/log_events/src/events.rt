@@ -31,14 +31,14 @@ fn reply_of<'a>(item: &'a Record, requester: u8, number: u32) -> Option<&'a Repl
     }
 }
 
-/// The reply to the request, if it is answered at that place.
-fn reply_at<'a>(
+/// The reply to the request, if the record at that place answers it.
+pub fn reply_at<'a>(
     records: &'a [Record],
     at: Option<usize>,
     requester: u8,
     number: u32,
 ) -> Option<&'a Reply>
-    ensures some { IfSome result (λ r. (a : ℕ) × (n : ℕ) × (slice_get records.now a ≡ Some (kinds.Ans requester number r.now n))) }
+    ensures some { IfSome result (λ r. (a : ℕ) × (n : ℕ) × (at ≡ Some a) × (slice_get records.now a ≡ Some (kinds.Ans requester number r.now n))) }
     ensures own { (a n : ℕ) (reply : Reply) → at ≡ Some a → slice_get records.now a ≡ Some (kinds.Ans requester number reply n) → option_map (λ r. r.now) result ≡ Some reply }
 {
     match records.get(at?) {

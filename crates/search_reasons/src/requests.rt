@@ -6,7 +6,7 @@ ghost use Rattle.search_reasons.specs.Reasons.{IsAsked};
 
 use crate::cases::Prefix;
 use history_check::Record;
-use log_events::form_of;
+use log_events::{form_of, reply_at};
 use seq_memory::{Extent, Reply};
 use std::alloc::{AllocError, Global};
 use tlp_core::Op;
@@ -114,36 +114,6 @@ fn submitted_at<'a>(records: &'a [Record], place: usize) -> Option<Submitted<'a>
     }
 }
 
-/// The reply, if the record answers the request.
-fn reply_of<'a>(item: &'a Record, requester: u8, number: u32) -> Option<&'a Reply>
-    ensures { IfSome result (λ r. (n : ℕ) × (item.now ≡ kinds.Ans requester number r.now n)) }
-{
-    match item {
-        Record::Ans {
-            requester: who,
-            number: own,
-            reply,
-            ..
-        } if *who == requester && *own == number => Some(reply),
-        _ => None,
-    }
-}
-
-/// The reply to the request, if it is answered at the place.
-fn reply_at<'a>(
-    records: &'a [Record],
-    place: usize,
-    requester: u8,
-    number: u32,
-) -> Option<&'a Reply>
-    ensures { IfSome result (λ r. (n : ℕ) × (slice_get records.now place ≡ Some (kinds.Ans requester number r.now n))) }
-{
-    match records.get(place) {
-        Some(record) => reply_of(record, requester, number),
-        None => None,
-    }
-}
-
 /// What was submitted at one place and answered at another.
 fn asked_at<'a>(records: &'a [Record], submission: usize, answer: usize) -> Option<Asked<'a>>
     ensures { IfSome result (λ a. IsAsked records.now a.op.now a.reply.now) }
@@ -151,7 +121,7 @@ fn asked_at<'a>(records: &'a [Record], submission: usize, answer: usize) -> Opti
     let Some(asked) = submitted_at(records, submission) else {
         return None;
     };
-    match reply_at(records, answer, asked.requester, asked.number) {
+    match reply_at(records, Some(answer), asked.requester, asked.number) {
         Some(reply) => Some(Asked {
             op: asked.op,
             reply,
