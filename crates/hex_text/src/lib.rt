@@ -1,6 +1,7 @@
 //! Bytes in a line of hexadecimal digits.
 //!
 //! [`HexLine`] reads the bytes of a line: two digits a byte, of either case, and spaces are ignored.
+//! [`read_digits`] reads those of digits without spaces.
 //! [`write_bytes`] writes a line of bytes in capitals, in groups of four with a space between each
 //! two groups.
 #![tactic(auto)]
@@ -9,5 +10,5 @@ mod reading;
 mod tables;
 mod writing;
 
-pub use reading::HexLine;
+pub use reading::{HexLine, read_digits};
 pub use writing::{HexText, write_bytes};

@@ -65,13 +65,41 @@ fn read_groups(line: &[u8], bytes: &mut [u8; 256]) -> Option<usize>
     Some(count)
 }
 
-/// Reads the bytes of the digits, and says whether they are digits of whole bytes.
-fn read_digits(digits: &[u8], bytes: &mut [u8]) -> bool
+/// Reads the bytes of the digits four at a time, and says whether it did: of digits of whole pairs of bytes.
+fn read_fours(digits: &[u8], bytes: &mut [u8]) -> bool
+    requires { length bytes.old ≡ length digits.now / 2 }
+    ensures { result ≡ true → decode_of digits.now ≡ Ok bytes.new }
+{
+    let mut count = 0;
+    let mut rest = digits;
+    while let [a, b, c, d, after @ ..] = rest {
+        let Some((first, second)) = two_bytes_of(*a, *b, *c, *d) else {
+            return false;
+        };
+        bytes[count] = first;
+        bytes[count + 1] = second;
+        count += 2;
+        rest = after;
+    }
+    rest.is_empty()
+}
+
+/// Reads the bytes of the digits one by one, and says whether they are digits of whole bytes.
+fn read_each(digits: &[u8], bytes: &mut [u8]) -> bool
     requires { length bytes.old ≡ length digits.now / 2 }
     ensures read { result ≡ true → decode_of digits.now ≡ Ok bytes.new }
     ensures not_read { result ≡ false → IsErr (decode_of digits.now) }
 {
     hex::decode_to_slice(digits, bytes).is_ok()
+}
+
+/// Reads the bytes of the digits, and says whether they are digits of whole bytes.
+pub fn read_digits(digits: &[u8], bytes: &mut [u8]) -> bool
+    requires { length bytes.old ≡ length digits.now / 2 }
+    ensures read { result ≡ true → decode_of digits.now ≡ Ok bytes.new }
+    ensures not_read { result ≡ false → IsErr (decode_of digits.now) }
+{
+    read_fours(digits, bytes) || read_each(digits, bytes)
 }
 
 /// Reads the bytes of the line's digits to the front of `bytes`, and gives their number; none where

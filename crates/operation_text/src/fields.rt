@@ -9,6 +9,7 @@ ghost use Rattle.operation_text.specs.Operations as spelled;
 use crate::misfit::{Expected, LINE_END, Misfit};
 use arrayvec::ArrayVec;
 use byteorder::{ByteOrder, LittleEndian};
+use hex_text::read_digits;
 use tlp_core::{MAX_PAYLOAD, Width};
 
 /// The first word of a line, and what is behind the space that ends it, none where the line ends with
@@ -53,6 +54,7 @@ pub fn alone<T: Drop>(value: T, rest: Option<&[u8]>) -> Result<T, Misfit>
 }
 
 /// The digit's value.
+#[inline(always)]
 fn digit(c: u8, radix: u32) -> Option<u64>
     requires low { 2 ≤ radix }
     requires high { radix ≤ 36 }
@@ -62,6 +64,7 @@ fn digit(c: u8, radix: u32) -> Option<u64>
 }
 
 /// The number that the digits write.
+#[inline(always)]
 fn value(word: &[u8], radix: u32, most: u64) -> Option<u64>
     requires low { 2 ≤ radix }
     requires high { radix ≤ 36 }
@@ -81,6 +84,7 @@ fn value(word: &[u8], radix: u32, most: u64) -> Option<u64>
 }
 
 /// The number that the word spells.
+#[inline(always)]
 fn number_in(word: &[u8], radix: u32, most: u64) -> Option<u64>
     requires low { 2 ≤ radix }
     requires high { radix ≤ 36 }
@@ -103,12 +107,14 @@ pub fn bytes_in(word: &[u8]) -> Option<ArrayVec<u8, MAX_PAYLOAD>>
     }
     let mut room = [0u8; MAX_PAYLOAD];
     let bytes = &mut room[..word.len() / 2];
-    hex::decode_to_slice(word, bytes).ok()?;
+    if !read_digits(word, bytes) {
+        return None;
+    }
     ArrayVec::try_from(&*bytes).ok()
 }
 
 /// The operand and its width, by its bytes.
-fn operand_in(bytes: &[u8]) -> Option<(Width, u128)>
+fn operand_by(bytes: &[u8]) -> Option<(Width, u128)>
     ensures { result ≡ operand_of bytes.now }
 {
     match bytes.len() {
@@ -117,6 +123,21 @@ fn operand_in(bytes: &[u8]) -> Option<(Width, u128)>
         16 => Some((Width::Sixteen, LittleEndian::read_u128(bytes))),
         _ => None,
     }
+}
+
+/// The operand and its width that the word spells.
+fn operand_in(word: &[u8]) -> Option<(Width, u128)>
+    ensures { result ≡ spelled.operand word.now }
+{
+    if word.len() != 8 && word.len() != 16 && word.len() != 32 {
+        return None;
+    }
+    let mut room = [0u8; 16];
+    let bytes = &mut room[..word.len() / 2];
+    if !read_digits(word, bytes) {
+        return None;
+    }
+    operand_by(bytes)
 }
 
 /// The next word, and what is behind it. `rest` is what [`cut`] left.
@@ -128,6 +149,7 @@ pub fn word(rest: Option<&[u8]>, expected: Expected) -> Result<(&[u8], Option<&[
 
 /// The number that the next word spells in that radix, of at most `most` and without leading zeros,
 /// and what is behind it. `rest` is what [`cut`] left.
+#[inline(always)]
 pub fn number(
     rest: Option<&[u8]>,
     radix: u32,
@@ -163,7 +185,7 @@ pub(crate) fn operand(
 ) -> Result<(Width, u128, Option<&[u8]>), Misfit>
     ensures { first_field spelled.operand (words_behind rest.entry) ≡ option_map (λ s. ((s.0, s.1), words_behind s.2)) (result_ok result) }
 {
-    let (bytes, behind) = bytes(rest, expected)?;
-    let (width, operand) = operand_in(&bytes).ok_or(expected.at(rest))?;
+    let (word, behind) = word(rest, expected)?;
+    let (width, operand) = operand_in(word).ok_or(expected.at(rest))?;
     Ok((width, operand, behind))
 }

@@ -3,7 +3,7 @@ use Rattle.std.specs.Prelude.{MatchResult, IsErr}
 use Rattle.hex.specs.Hex.{decode_of, decode_sized}
 use Rattle.hex.specs.declared.error.FromHexError.{FromHexError}
 use Rattle.hex_text.proofs.TextLemmas.{decode_sized-half}
-use Rattle.hex_text.proofs.reading.read_digits.Goals as goal
+use Rattle.hex_text.proofs.reading.read_each.Goals as goal
 
 -- what decoding into a slice tells
 abbrev Told : Result (List ℕ) FromHexError → Result (Unit {0}) FromHexError → List ℕ → Type 0
