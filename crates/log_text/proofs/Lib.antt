@@ -1,1 +1,2 @@
 mod SeenLemmas
+mod ToldLemmas

@@ -15,7 +15,9 @@
 #![tactic(auto)]
 
 mod form;
+mod laws;
 mod line;
 mod reading;
 
+pub use laws::what_is_seen_can_be_told;
 pub use reading::{read_log, read_seen, read_seen_with_cause};

@@ -104,10 +104,10 @@ head-is ws l h =
 abbrev extent : ℕ → ℕ → ℕ → Extent
 extent base size block = record { base = base; size = size; block = block }
 
-abbrev ExtentIs : Extent → Type 0
+abbrev pub ExtentIs : Extent → Type 0
 ExtentIs x = IsSpelled address x.base × IsSpelled fields.count x.size × IsBlock x.block × (is_within_limits x ≡ true)
 
-extent-is : (has_block : Bool) (ws : List (List ℕ)) (x : Extent) → fields.memory_of has_block ws ≡ Some x → ExtentIs x
+pub extent-is : (has_block : Bool) (ws : List (List ℕ)) (x : Extent) → fields.memory_of has_block ws ≡ Some x → ExtentIs x
 extent-is false ws x h =
     let base = field-first address (λ base. field fields.count (λ size. fields.memory_within (extent base size 64))) ws x h in
     let size = field-first fields.count (λ size. fields.memory_within (extent base.value size 64)) base.rest x base.follows in

@@ -3,3 +3,4 @@ mod TextLemmas
 mod ReadSpelled
 mod ReadBack
 mod RewriteLemmas
+mod ToldLemmas

@@ -1,8 +1,10 @@
 //! Laws of the texts: what holds of the definitions that the contracts cite.
-ghost use Rattle.std.specs.Prelude.{◌≡◌, List, ℕ, Ok};
+ghost use Rattle.std.specs.Prelude.{◌≡◌, Bool, List, ℕ, Ok, Some};
+ghost use Rattle.seq_memory.specs.Limits.{Extent, IsWithinLimits};
 ghost use Rattle.history_check.specs.Claim.{Claim};
+ghost use Rattle.record_text.specs.Forms.{requester, number, memory_of};
 ghost use Rattle.trace_text.specs.TraceReaderView.{read_of};
-ghost use Rattle.trace_text.specs.Tellable.{IsTellable};
+ghost use Rattle.trace_text.specs.Tellable.{IsRequest, IsTellable};
 ghost use Rattle.trace_text.specs.Rewritten.{RewritingIsReading};
 ghost use Rattle.trace_text.specs.Texts.{trace_text};
 
@@ -27,6 +29,22 @@ pub fn told_trace_is_read_back()
     own_digits_spell_number();
     own_text_spells_operation();
     own_text_spells_reply();
+}
+
+/// Lines can tell the request whose numbers two fields spell, and there can be a memory of the extent that fields spell.
+pub fn fields_can_be_told()
+    ensures request { (v w : List ℕ) (i k : ℕ) → requester v ≡ Some i → number w ≡ Some k → IsRequest i k }
+    ensures memory { (has_block : Bool) (ws : List (List ℕ)) (x : Extent) → memory_of has_block ws ≡ Some x → IsWithinLimits x }
+{
+    own_digits_spell_number();
+}
+
+/// Lines can tell each trace and history that is read: its requests, counts, operations and replies, over a memory
+/// that there can be.
+pub fn what_is_read_can_be_told()
+    ensures { (text : List ℕ) (c : Claim) → read_of text ≡ Ok c → IsTellable c }
+{
+    own_digits_spell_number();
 }
 
 /// What a rewriter has written of lines at their end is the text of what a reader has read of them, or the

@@ -27,7 +27,10 @@ mod reading;
 mod rewriting;
 mod writing;
 
-pub use laws::{a_rewriting_is_a_reading, own_text_spells_trace, told_trace_is_read_back};
+pub use laws::{
+    a_rewriting_is_a_reading, fields_can_be_told, own_text_spells_trace, told_trace_is_read_back,
+    what_is_read_can_be_told,
+};
 pub use reader::TraceReader;
 pub use reading::{read_trace, read_trace_with_cause};
 pub use rewriting::TraceRewriter;

@@ -1,0 +1,198 @@
+-- What was seen can be told.
+use Rattle.std.proofs.Common.{◌≡◌, ℕ, Bool, true, false, List, [], ◌∷◌, ◌∙◌, length, refl, subst, fold, arith, Option, Some, None, inl, Result, Ok, Err}
+use Rattle.std.specs.Prelude.{nat_lt, cond, codes, bytes_eq, is_some}
+use Rattle.std.proofs.lemmas.List.Elements.{All-nil, All-cons, All-append}
+use Rattle.text_lines.specs.Lines.{lines_of, bare, said, is_skipped}
+use Rattle.seq_memory.specs.Limits.{IsWithinLimits, Extent}
+use Rattle.history_check.specs.declared.Record.TheVariants as records
+use Rattle.history_check.specs.Claim.{Claim, claim_of}
+use Rattle.history_check.specs.TraceView.{TraceView}
+use Rattle.tlp_core.specs.declared.operation.Op.{Op}
+use Rattle.seq_memory.specs.declared.Reply.{Reply}
+use Rattle.operation_text.specs.Operations.{op_spelled, reply_spelled}
+use Rattle.operation_text.specs.Words.{words, field, then_with, ended}
+use Rattle.record_text.specs.declared.fault.ReadFault.{ReadFault}
+use Rattle.record_text.specs.declared.form.Section.{Section}
+use Rattle.record_text.specs.declared.form.Section.TheVariants as sections
+use Rattle.record_text.specs.Forms as fields
+use Rattle.record_text.specs.RecordReaderView.{RecordReaderView}
+use Rattle.record_text.specs.RecordReaderView as reads
+use Rattle.trace_text.specs.Tellable.{IsRequest, IsTellableRecord, IsTellableEntry, IsTellable}
+use Rattle.trace_text.specs.TraceReaderView as traces
+use Rattle.log_text.specs.declared.line.LogLine.{LogLine}
+use Rattle.log_text.specs.declared.line.LogLine.TheVariants as lines
+use Rattle.log_text.specs.Forms as forms
+use Rattle.log_text.specs.Forms.{line_of, section_after}
+use Rattle.log_text.specs.LogReaderView.{LogFormView, no_log, kept, log_grammar, log_read, log_in, log_of, seen_in, without_history, is_head, or_trace, seen_of}
+
+-- ---- what the fields of a line are
+
+-- the field that a line begins with, and what follows
+record Field {X Y : Type 0} (spells : List ℕ → Option X) (f : X → List (List ℕ) → Option Y) (y : Y) : Type 0 where
+  value : X
+  word : List ℕ
+  rest : List (List ℕ)
+  is : spells word ≡ Some value
+  follows : f value rest ≡ Some y
+
+field-first : {X Y : Type 0} (spells : List ℕ → Option X) (f : X → List (List ℕ) → Option Y) (ws : List (List ℕ)) (y : Y)
+    → field spells f ws ≡ Some y → Field spells f y
+field-first spells f [] y h = absurd (cc h)
+field-first {X} {Y} spells f (w ∷ rest) y h = by (spells w) refl h
+  where
+    by : (o : Option X) → spells w ≡ o → then_with {X = X × List (List ℕ)} (then_with o (λ x. Some (x, rest))) (λ s. f s.0 s.1) ≡ Some y → Field spells f y
+    by None e k = absurd (cc k)
+    by (Some x) e k = record { value = x; word = w; rest = rest; is = e; follows = k }
+
+-- what one word spells, and what is made of it
+record Then {X Y : Type 0} (o : Option X) (f : X → Option Y) (y : Y) : Type 0 where
+  value : X
+  is : o ≡ Some value
+  follows : f value ≡ Some y
+
+then-first : {X Y : Type 0} (o : Option X) (f : X → Option Y) (y : Y) → then_with o f ≡ Some y → Then o f y
+then-first None f y h = absurd (cc h)
+then-first (Some x) f y h = record { value = x; is = refl; follows = h }
+
+ended-is : {X : Type 0} (x y : X) (ws : List (List ℕ)) → ended x ws ≡ Some y → x ≡ y
+ended-is x y [] h = cc h
+ended-is x y (w ∷ ws) h = absurd (cc h)
+
+some-is : {A : Type 0} (x y : A) → Some x ≡ Some y → x ≡ y
+some-is x y e = cc e
+
+-- one of two ways
+either : {Y : Type 0} (P : Type 0) (t : Bool) (a b : Option Y) (y : Y) → (a ≡ Some y → P) → (b ≡ Some y → P) → cond t a b ≡ Some y → P
+either P true a b y f g h = f h
+either P false a b y f g h = g h
+
+-- ---- what is known of the fields
+
+-- the numbers of a request, and an extent
+pub record Fields : Type 0 where
+  pub request : (v w : List ℕ) (i k : ℕ) → fields.requester v ≡ Some i → fields.number w ≡ Some k → IsRequest i k
+  pub memory : (has_block : Bool) (ws : List (List ℕ)) (x : Extent) → fields.memory_of has_block ws ≡ Some x → IsWithinLimits x
+
+abbrev LineTold : LogLine → Type 0
+LineTold lines.Head = Unit {0}
+LineTold (lines.Memory x) = IsWithinLimits x
+LineTold (lines.Record r) = IsTellableRecord r
+LineTold lines.End = Unit {0}
+
+abbrev Told : LogFormView → Type 0
+Told l = IsTellable (claim_of (log_read l) [])
+
+-- a record more
+told-kept : (l : LogFormView) (line : LogLine) → Told l → LineTold line → Told (kept l line)
+told-kept l lines.Head h is = h
+told-kept l (lines.Memory x) h is = record { limits = is; records_are = h.records_are; entries_are = h.entries_are }
+told-kept l (lines.Record r) h is = record {
+  limits = h.limits;
+  records_are = All-append IsTellableRecord l.records (r ∷ []) h.records_are (All-cons IsTellableRecord r [] is (All-nil IsTellableRecord));
+  entries_are = h.entries_are;
+}
+told-kept l lines.End h is = h
+
+module _ (known : Fields) where
+  memory-told : (ws : List (List ℕ)) (l : LogLine) → forms.memory_line_of ws ≡ Some l → LineTold l
+  memory-told ws l h =
+      let x = then-first (fields.memory_of true ws) (λ x. Some (lines.Memory x)) l h in
+      subst LineTold (some-is (lines.Memory x.value) l x.follows) (known.memory true ws x.value x.is)
+
+  sub-told : (ws : List (List ℕ)) (l : LogLine) → forms.sub_of ws ≡ Some l → LineTold l
+  sub-told ws l h =
+      let made : ℕ → ℕ → Op → Option LogLine = λ i k op. Some (lines.Record (records.Sub i k op 0)) in
+      let i = field-first fields.requester (λ i. field fields.number (λ k rest. then_with (op_spelled rest) (made i k))) ws l h in
+      let k = field-first fields.number (λ k rest. then_with (op_spelled rest) (made i.value k)) i.rest l i.follows in
+      let op = then-first (op_spelled k.rest) (made i.value k.value) l k.follows in
+      subst LineTold (some-is (lines.Record (records.Sub i.value k.value op.value 0)) l op.follows) (known.request i.word k.word i.value k.value i.is k.is, omega arith, (k.rest, op.is))
+
+  ans-told : (ws : List (List ℕ)) (l : LogLine) → forms.ans_of ws ≡ Some l → LineTold l
+  ans-told ws l h =
+      let made : ℕ → ℕ → Reply → Option LogLine = λ i k reply. Some (lines.Record (records.Ans i k reply 0)) in
+      let i = field-first fields.requester (λ i. field fields.number (λ k rest. then_with (reply_spelled rest) (made i k))) ws l h in
+      let k = field-first fields.number (λ k rest. then_with (reply_spelled rest) (made i.value k)) i.rest l i.follows in
+      let reply = then-first (reply_spelled k.rest) (made i.value k.value) l k.follows in
+      subst LineTold (some-is (lines.Record (records.Ans i.value k.value reply.value 0)) l reply.follows) (known.request i.word k.word i.value k.value i.is k.is, omega arith, (k.rest, reply.is))
+
+  words-told : (ws : List (List ℕ)) (l : LogLine) → forms.line_in_words ws ≡ Some l → LineTold l
+  words-told [] l h = absurd (cc h)
+  words-told (kind ∷ ws) l h =
+      either (LineTold l) (bytes_eq kind (codes "sub")) _ _ l (sub-told ws l)
+      (either (LineTold l) (bytes_eq kind (codes "ans")) _ _ l (ans-told ws l)
+      (either (LineTold l) (bytes_eq kind (codes "memory")) _ _ l (memory-told ws l)
+      (either (LineTold l) (bytes_eq kind (codes "end")) _ _ l (λ e. subst LineTold (ended-is lines.End l ws e) tt) (λ n. absurd (cc n))))) h
+
+  line-told : (line : List ℕ) (l : LogLine) → line_of line ≡ Some l → LineTold l
+  line-told line l h =
+      either (LineTold l) (bytes_eq line (codes "pciex-log 1")) _ _ l (λ e. subst LineTold (some-is lines.Head l e) tt) (words-told (words line) l) h
+
+  -- ---- the lines one after the other
+
+  taken-told : (s : RecordReaderView LogFormView) (line : List ℕ) → Told s.form → Told (reads.taken log_grammar s (line_of line)).form
+  taken-told s line h = by (line_of line) refl
+    where
+      placed : (l : LogLine) (next : Option Section) → line_of line ≡ Some l → Told (reads.placed log_grammar s l next).form
+      placed l None e = h
+      placed l (Some section) e = told-kept s.form l h (line-told line l e)
+
+      by : (o : Option LogLine) → line_of line ≡ o → Told (reads.taken log_grammar s o).form
+      by None e = h
+      by (Some l) e = placed l (section_after s.section l) e
+
+  told-if : (t : Bool) (a b : RecordReaderView LogFormView) → Told a.form → Told b.form → Told (cond t a b).form
+  told-if true a b ha hb = ha
+  told-if false a b ha hb = hb
+
+  take-told : (s : RecordReaderView LogFormView) (line : List ℕ) → Told s.form → Told (reads.take_line log_grammar s line).form
+  take-told s line h =
+      told-if (nat_lt 512 (length (bare line))) (reads.after_long_line s) (reads.after_line log_grammar s (said line))
+      (told-if (is_some s.fault) s (reads.faulty s (reads.formless s.section)) h h)
+      (told-if (is_some s.fault) s _ h (told-if (is_skipped (said line)) _ (reads.taken log_grammar s (line_of (said line))) h (taken-told s (said line) h)))
+
+  lines-told : (ls : List (List ℕ)) (s : RecordReaderView LogFormView) → Told s.form → Told (fold (reads.take_line log_grammar) s ls).form
+  lines-told [] s h = h
+  lines-told (l ∷ ls) s h = lines-told ls (reads.take_line log_grammar s l) (take-told s l h)
+
+  nothing-told : Told no_log
+  nothing-told = record {
+    limits = record { in_size = (omega arith, omega arith, refl); in_base = (refl, omega arith); in_block = inl refl };
+    records_are = All-nil IsTellableRecord;
+    entries_are = All-nil IsTellableEntry;
+  }
+
+  end-told : (s : RecordReaderView LogFormView) (t : TraceView) → Told s.form → log_in (reads.at_end s) ≡ Ok t → IsTellable (claim_of t [])
+  end-told s t h e = by s.fault s.section e
+    where
+      by : (f : Option ReadFault) (section : Section) → log_in (reads.fault_or_end f (record s { section = section })) ≡ Ok t → IsTellable (claim_of t [])
+      by (Some f) section k = absurd (cc k)
+      by None sections.Head k = absurd (cc k)
+      by None sections.Memory k = absurd (cc k)
+      by None sections.Records k = absurd (cc k)
+      by None sections.History k = absurd (cc k)
+      by None sections.End k = let same : log_read s.form ≡ t = cc k in subst (λ (u : TraceView). IsTellable (claim_of u [])) same h
+
+  log-told : (text : List ℕ) (t : TraceView) → log_of text ≡ Ok t → IsTellable (claim_of t [])
+  log-told text t e = end-told (reads.reading_of log_grammar no_log text) t (lines-told (lines_of text) (reads.nothing_read no_log) nothing-told) e
+
+  -- ---- a log or a trace
+
+  -- a trace without its history
+  seen-told : (r : Result Claim ReadFault) (t : TraceView) → ((c : Claim) → r ≡ Ok c → IsTellable c) → without_history r ≡ Ok t → IsTellable (claim_of t [])
+  seen-told (Err f) t told e = absurd (cc e)
+  seen-told (Ok c) t told e =
+      let x = told c refl in
+      let same : seen_in c ≡ t = cc e in
+      subst (λ (u : TraceView). IsTellable (claim_of u [])) same (record { limits = x.limits; records_are = x.records_are; entries_are = All-nil IsTellableEntry })
+
+  pub can-be-told : ((text : List ℕ) (c : Claim) → traces.read_of text ≡ Ok c → IsTellable c) → (text : List ℕ) (t : TraceView) → seen_of text ≡ Ok t → IsTellable (claim_of t [])
+  unfolding seen_of
+  can-be-told read text t e = by (log_of text) refl e
+    where
+      trace-or : (f : ReadFault) (head : Bool) → cond head (without_history (traces.read_of text)) (Err f) ≡ Ok t → IsTellable (claim_of t [])
+      trace-or f true k = seen-told (traces.read_of text) t (read text) k
+      trace-or f false k = absurd (cc k)
+
+      by : (r : Result TraceView ReadFault) → log_of text ≡ r → or_trace r text ≡ Ok t → IsTellable (claim_of t [])
+      by (Ok u) is k = log-told text t (is ∙ k)
+      by (Err f) is k = trace-or f (is_head f.kind) k
