@@ -1,6 +1,8 @@
 -- Laws of digits, one by one.
-use Rattle.std.proofs.Common.{◌≡◌, ◌≢◌, ℕ, zero, suc, ◌+◌, ◌*◌, ◌/◌, ◌%◌, ◌<◌, ◌≤◌, ◌==◌, Bool, true, ◌&&◌, List, [], ◌∷◌, ◌++◌, length, slice_index, Option, Some, None, unwrap_or, Result, Ok, Err, refl, ap, ◌∙◌, arith, inl, inr}
-use Rattle.std.specs.Prelude.{IsErr}
+use Rattle.std.proofs.Common.{◌≡◌, ◌≢◌, ℕ, zero, suc, ◌+◌, ◌*◌, ◌/◌, ◌%◌, ◌<◌, ◌≤◌, ◌==◌, Bool, true, ◌&&◌, List, [], ◌∷◌, ◌++◌, length, take, drop, slice_index, Option, Some, None, unwrap_or, Result, Ok, Err, refl, ap, ◌∙◌, arith, inl, inr, add-zero}
+use Rattle.std.specs.Prelude.{IsErr, nat_lt}
+use Rattle.std.specs.Str.{IsAscii}
+use Rattle.std.proofs.lemmas.Bool.Decides.{nat_tests}
 use Rattle.std.proofs.lemmas.Bool.{and_parts, cases_lt, eqb-true}
 use Rattle.std.specs.Option.{option_map_or}
 use Rattle.std.specs.Int.{bytes_low_first}
@@ -82,6 +84,51 @@ unfolding encode_with
 pair-at k lt =
     let parts = pair-below 256 k refl lt in
     rw (parts.0, parts.1) refl
+
+-- the test that a text has the digits of the bytes from n on
+abbrev has_text : List ℕ → ℕ → Bool
+has_text [] n = n == 256
+has_text (a ∷ []) n = n == 256
+has_text (a ∷ b ∷ text) n = ((a == slice_index upper_digits (n / 16)) && (b == slice_index upper_digits (n % 16))) && has_text text (suc n)
+
+-- the digits of the byte n + k stand at place 2 k
+text-at : (text : List ℕ) (n k : ℕ) → has_text text n ≡ true → n + k < 256 → take 2 (drop (2 * k) text) ≡ encode_upper ((n + k) ∷ [])
+unfolding encode_with
+text-at [] n k h lt = let e = eqb-true n 256 h in absurd (omega arith)
+text-at (a ∷ []) n k h lt = let e = eqb-true n 256 h in absurd (omega arith)
+text-at (a ∷ b ∷ text) n zero h lt =
+    let parts = and_parts ((a == slice_index upper_digits (n / 16)) && (b == slice_index upper_digits (n % 16))) (has_text text (suc n)) h in
+    let both = and_parts (a == slice_index upper_digits (n / 16)) (b == slice_index upper_digits (n % 16)) parts.0 in
+    rw (add-zero n, eqb-true a (slice_index upper_digits (n / 16)) both.0, eqb-true b (slice_index upper_digits (n % 16)) both.1) refl
+text-at (a ∷ b ∷ text) n (suc k) h lt =
+    let parts = and_parts ((a == slice_index upper_digits (n / 16)) && (b == slice_index upper_digits (n % 16))) (has_text text (suc n)) h in
+    let e : 2 * suc k ≡ suc (suc (2 * k)) = omega arith in
+    let f : suc n + k ≡ n + suc k = omega arith in
+    ap (λ (i : ℕ). take 2 (drop i (a ∷ b ∷ text))) e
+    ∙ text-at text (suc n) k parts.1 (omega arith)
+    ∙ ap (λ (i : ℕ). encode_upper (i ∷ [])) f
+
+pub pairs-at : (text : List ℕ) → has_text text 0 ≡ true → (b : ℕ) → b < 256 → take 2 (drop (2 * b) text) ≡ encode_upper (b ∷ [])
+pairs-at text h b lt =
+    let e : 0 + b ≡ b = omega arith in
+    text-at text 0 b h (omega (arith, lt)) ∙ ap (λ (i : ℕ). encode_upper (i ∷ [])) e
+
+-- the test that a text is of ASCII
+abbrev has_ascii : List ℕ → Bool
+has_ascii [] = true
+has_ascii (a ∷ text) = nat_lt a 128 && has_ascii text
+
+ascii-at : (text : List ℕ) → has_ascii text ≡ true → IsAscii text
+ascii-at [] h i = omega arith
+ascii-at (a ∷ text) h zero = let parts = and_parts (nat_lt a 128) (has_ascii text) h in below a parts.0
+  where
+    below : (a : ℕ) → nat_lt a 128 ≡ true → a < 128
+    below a h = grind (arith, nat_tests)
+ascii-at (a ∷ text) h (suc i) = let parts = and_parts (nat_lt a 128) (has_ascii text) h in ascii-at text parts.1 i
+
+-- the same of a text of which the digits are known
+pub ascii-of : (text : List ℕ) → ((b : ℕ) → b < 256 → take 2 (drop (2 * b) text) ≡ encode_upper (b ∷ [])) → has_ascii text ≡ true → IsAscii text
+ascii-of text pairs h = ascii-at text h
 
 -- ---- digits
 

@@ -3,7 +3,8 @@
 //! Four digits are two bytes, and here those are one number: the first byte is its low one. Each
 //! table has, for each byte of a text, what that digit adds to the number, and 65536 for a byte that
 //! is no digit.
-ghost use Rattle.std.specs.Prelude.{◌≡◌, ◌*◌, ◌≤◌, ◌∷◌, []};
+ghost use Rattle.std.specs.Prelude.{ℕ, ◌≡◌, ◌*◌, ◌<◌, ◌≤◌, ◌∷◌, [], length, take, drop};
+ghost use Rattle.std.specs.Str.{IsAscii};
 ghost use Rattle.std.specs.Option.{option_map_or};
 ghost use Rattle.hex.specs.Hex.{encode_upper, hex_digit_value};
 
@@ -125,6 +126,10 @@ const PAIRS: [u16; 256] = [
     14150, 14406, 14662, 16710, 16966, 17222, 17478, 17734, 17990,
 ];
 
+/// The two digits of each byte, in capitals, one pair behind the other.
+const DIGITS: &str =
+    "000102030405060708090A0B0C0D0E0F101112131415161718191A1B1C1D1E1F202122232425262728292A2B2C2D2E2F303132333435363738393A3B3C3D3E3F404142434445464748494A4B4C4D4E4F505152535455565758595A5B5C5D5E5F606162636465666768696A6B6C6D6E6F707172737475767778797A7B7C7D7E7F808182838485868788898A8B8C8D8E8F909192939495969798999A9B9C9D9E9FA0A1A2A3A4A5A6A7A8A9AAABACADAEAFB0B1B2B3B4B5B6B7B8B9BABBBCBDBEBFC0C1C2C3C4C5C6C7C8C9CACBCCCDCECFD0D1D2D3D4D5D6D7D8D9DADBDCDDDEDFE0E1E2E3E4E5E6E7E8E9EAEBECEDEEEFF0F1F2F3F4F5F6F7F8F9FAFBFCFDFEFF";
+
 /// What the first digit of the first byte adds.
 #[inline(always)]
 pub(crate) fn first_high(digit: u8) -> u32
@@ -167,4 +172,24 @@ pub(crate) fn digits_of(byte: u8) -> [u8; 2]
     ensures { result ≡ encode_upper (byte ∷ []) }
 {
     PAIRS[usize::from(byte)].to_le_bytes()
+}
+
+/// The digits of all bytes.
+#[inline(always)]
+fn digits() -> &'static str
+    ensures len { length result.now ≡ 512 }
+    ensures ascii { IsAscii result.now }
+    ensures pairs { (b : ℕ) → b < 256 → take 2 (drop (2 * b) result.now) ≡ encode_upper (b ∷ []) }
+{
+    DIGITS
+}
+
+/// The two digits of a byte, in capitals, as text.
+#[inline(always)]
+pub fn pair_of(byte: u8) -> &'static str
+    ensures text { result.now ≡ encode_upper (byte ∷ []) }
+    ensures len { length result.now ≡ 2 }
+{
+    let start = 2 * usize::from(byte);
+    &digits()[start..start + 2]
 }

@@ -96,6 +96,21 @@ fn put_last(bytes: &[u8], text: &mut HexText)
     text.extend(b"\n");
 }
 
+/// Adds the digits of the bytes in groups of four, with a space between each two groups, and a line
+/// feed.
+#[inline(always)]
+fn put_groups(bytes: &[u8], text: &mut HexText)
+    requires room { 8 * length text.old + 18 * length bytes.now ≤ 2592 }
+    ensures { text.new ≡ text.old ++ (spaced (encode_upper bytes.now) ++ 10 ∷ []) }
+{
+    let mut rest = bytes;
+    while rest.len() > 4 {
+        put_group(&rest[..4], b' ', text);
+        rest = &rest[4..];
+    }
+    put_last(rest, text);
+}
+
 /// Writes the line of these bytes, in place of what the text was: in capitals in groups of four,
 /// with a space between each two groups and a line feed at the end.
 pub fn write_bytes(bytes: &[u8], text: &mut HexText)
@@ -103,10 +118,22 @@ pub fn write_bytes(bytes: &[u8], text: &mut HexText)
     ensures { text.new ≡ spaced (encode_upper bytes.now) ++ 10 ∷ [] }
 {
     text.clear();
-    let mut rest = bytes;
-    while rest.len() > 4 {
-        put_group(&rest[..4], b' ', text);
-        rest = &rest[4..];
+    put_groups(bytes, text);
+}
+
+/// As [`write_bytes`], for the 12 bytes of a front and those behind it.
+#[inline(always)]
+pub fn write_both(front: &[u8; 12], bytes: &[u8], text: &mut HexText)
+    requires { length bytes.now ≤ 128 }
+    ensures { text.new ≡ spaced (encode_upper (front.now ++ bytes.now)) ++ 10 ∷ [] }
+{
+    text.clear();
+    put_group(&front[..4], b' ', text);
+    put_group(&front[4..8], b' ', text);
+    if bytes.is_empty() {
+        put_group(&front[8..], b'\n', text);
+        return;
     }
-    put_last(rest, text);
+    put_group(&front[8..], b' ', text);
+    put_groups(bytes, text);
 }

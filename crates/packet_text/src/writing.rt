@@ -1,6 +1,10 @@
 //! Writing packets and faults.
-ghost use Rattle.std.specs.Prelude.{◌≡◌, ◌≤◌, ◌<◌, ◌+◌, ◌*◌, ◌++◌, length, is_ok};
+ghost use Rattle.std.specs.Prelude.{◌≡◌, ◌≤◌, ◌<◌, ◌+◌, ◌*◌, ◌++◌, ◌∷◌, length, is_ok};
 ghost use Rattle.arrayvec.specs.ArrayString.{array_string_len};
+ghost use Rattle.tlp_core.specs.Lent.{IsOperand, number_of};
+ghost use Rattle.tlp_core.specs.Operation.{width_of};
+ghost use Rattle.operation_text.specs.Texts.{hexadecimal, octet_text, operand_word, op_text};
+ghost use Rattle.hex.specs.Hex.{encode_upper};
 ghost use Rattle.packet_text.specs.Packets as packets;
 ghost use Rattle.packet_text.specs.Texts as texts;
 
@@ -8,8 +12,31 @@ use crate::fault::{BytesFault, TextFault};
 use crate::packet::Packet;
 use arrayvec::ArrayString;
 use dllp_core::{Class, Dllp, DllpFault};
-use operation_text::{write_bytes, write_decimal, write_octet, write_op, write_sequence};
-use tlp_core::{Body, Kind, Op, Status, TlpFault, TlpRef, decode_lent, op_lent};
+use hex_text::pair_of;
+use operation_text::{write_decimal, write_hexadecimal, write_sequence};
+use tlp_core::{Body, Kind, OpForm, OpRef, Status, TlpFault, TlpRef, decode_lent, op_lent};
+
+/// Adds the two digits of a byte.
+#[inline(always)]
+#[tactic(auto, using(crate::proofs::DigitLemmas::octet_is))]
+fn put_octet(octet: u8, out: &mut ArrayString<512>)
+    requires { array_string_len out.old + 2 ≤ 512 }
+    ensures text { out.new.bytes ≡ out.old.bytes ++ octet_text octet }
+    ensures len { array_string_len out.new ≡ array_string_len out.old + 2 }
+{
+    out.push_str(pair_of(octet));
+}
+
+/// Adds the two digits of each byte.
+fn put_bytes(bytes: &[u8], out: &mut ArrayString<512>)
+    requires { array_string_len out.old + 2 * length bytes.now ≤ 512 }
+    ensures text { out.new.bytes ≡ out.old.bytes ++ encode_upper bytes.now }
+    ensures len { array_string_len out.new ≡ array_string_len out.old + 2 * length bytes.now }
+{
+    for byte in bytes {
+        put_octet(*byte, out);
+    }
+}
 
 /// Adds four digits.
 fn put_id(id: u16, out: &mut ArrayString<512>)
@@ -17,8 +44,8 @@ fn put_id(id: u16, out: &mut ArrayString<512>)
     ensures text { out.new.bytes ≡ out.old.bytes ++ texts.id_text id }
     ensures len { array_string_len out.new ≡ array_string_len out.old + 4 }
 {
-    write_octet((id / 256) as u8, out);
-    write_octet((id % 256) as u8, out);
+    put_octet((id / 256) as u8, out);
+    put_octet((id % 256) as u8, out);
 }
 
 /// Adds a name and its number, nothing for 0.
@@ -52,15 +79,93 @@ fn put_origin(tlp: &TlpRef<'_>, out: &mut ArrayString<512>)
 {
     put_id(tlp.header.requester, out);
     out.push_str(" tag ");
-    write_octet(tlp.header.tag, out);
+    put_octet(tlp.header.tag, out);
 }
 
-fn put_request(tlp: &TlpRef<'_>, op: &Op, out: &mut ArrayString<512>)
+/// Adds a space and the operand's bytes.
+fn put_operand(operand: &[u8], out: &mut ArrayString<512>)
+    requires operand { IsOperand operand.now }
+    requires room { array_string_len out.old + 33 ≤ 512 }
+    ensures text { out.new.bytes ≡ out.old.bytes ++ 32 ∷ operand_word (width_of (length operand.now)) (number_of operand.now) }
+    ensures len { array_string_len out.new ≤ array_string_len out.old + 33 }
+{
+    out.push_str(" ");
+    put_bytes(operand, out);
+}
+
+/// Adds a space before each of the byte enables.
+fn put_enables(first: u8, last: u8, out: &mut ArrayString<512>)
+    requires { array_string_len out.old + 34 ≤ 512 }
+    ensures text { out.new.bytes ≡ out.old.bytes ++ (32 ∷ hexadecimal first ++ 32 ∷ hexadecimal last) }
+    ensures len { array_string_len out.new ≤ array_string_len out.old + 34 }
+{
+    out.push_str(" ");
+    write_hexadecimal(u64::from(first), out);
+    out.push_str(" ");
+    write_hexadecimal(u64::from(last), out);
+}
+
+/// Adds the operation's text, as [`operation_text::write_op`] does: its bytes are written where they
+/// stand.
+fn put_op(op: &OpRef<'_>, out: &mut ArrayString<512>)
+    requires { array_string_len out.old + 320 ≤ 512 }
+    ensures text { out.new.bytes ≡ out.old.bytes ++ op_text op.now }
+    ensures len { array_string_len out.new ≤ array_string_len out.old + 320 }
+{
+    match op.form() {
+        OpForm::Read {
+            address,
+            dw,
+            first,
+            last,
+        } => {
+            out.push_str("read ");
+            write_hexadecimal(address, out);
+            out.push_str(" ");
+            write_decimal(u64::from(dw), out);
+            put_enables(first, last, out);
+        }
+        OpForm::Write {
+            address,
+            first,
+            last,
+            bytes,
+        } => {
+            out.push_str("write ");
+            write_hexadecimal(address, out);
+            put_enables(first, last, out);
+            out.push_str(" ");
+            put_bytes(bytes, out);
+        }
+        OpForm::FetchAdd { address, operand } => {
+            out.push_str("add ");
+            write_hexadecimal(address, out);
+            put_operand(operand, out);
+        }
+        OpForm::Swap { address, operand } => {
+            out.push_str("swap ");
+            write_hexadecimal(address, out);
+            put_operand(operand, out);
+        }
+        OpForm::Cas {
+            address,
+            compare,
+            swap,
+        } => {
+            out.push_str("cas ");
+            write_hexadecimal(address, out);
+            put_operand(compare, out);
+            put_operand(swap, out);
+        }
+    }
+}
+
+fn put_request(tlp: &TlpRef<'_>, op: &OpRef<'_>, out: &mut ArrayString<512>)
     requires { array_string_len out.old + 400 ≤ 512 }
     ensures text { out.new.bytes ≡ out.old.bytes ++ texts.request_text tlp.now op.now }
     ensures len { array_string_len out.new ≤ array_string_len out.old + 400 }
 {
-    write_op(op, out);
+    put_op(op, out);
     out.push_str(" from ");
     put_origin(tlp, out);
     put_class(tlp, out);
@@ -86,7 +191,7 @@ fn put_data(tlp: &TlpRef<'_>, out: &mut ArrayString<512>)
 {
     if let Kind::CompletionData = tlp.header.kind {
         out.push_str(" ");
-        write_bytes(tlp.payload, out);
+        put_bytes(tlp.payload, out);
     }
 }
 
@@ -101,7 +206,7 @@ fn put_completer(completer: u16, byte_count: u16, lower: u8, out: &mut ArrayStri
     out.push_str(" count ");
     write_decimal(u64::from(byte_count), out);
     out.push_str(" lower ");
-    write_octet(lower, out);
+    put_octet(lower, out);
 }
 
 fn put_completion(tlp: &TlpRef<'_>, out: &mut ArrayString<512>)
@@ -134,7 +239,7 @@ fn put_tlp(tlp: &TlpRef<'_>, out: &mut ArrayString<512>)
     ensures len { array_string_len out.new ≤ array_string_len out.old + 400 }
 {
     match op_lent(tlp) {
-        Some(op) => put_request(tlp, &op.to_owned(), out),
+        Some(op) => put_request(tlp, &op, out),
         None => put_completion(tlp, out),
     }
 }

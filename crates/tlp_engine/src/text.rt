@@ -8,7 +8,8 @@ ghost use Rattle.hex_text.specs.Line.{spaced};
 ghost use Rattle.tlp_engine.specs.Tlp.{fault_text};
 
 use arrayvec::ArrayVec;
-use hex_text::{HexText, write_bytes};
+use completion_bytes::{HEADER, put_header};
+use hex_text::{HexText, write_both, write_bytes};
 use tlp_core::{MAX_TLP, TlpFault, TlpRef, encode_lent};
 
 /// Adds the bytes.
@@ -26,6 +27,11 @@ fn put<const N: usize>(text: &mut ArrayVec<u8, N>, bytes: &[u8])
 pub fn write_packet(packet: &TlpRef<'_>, room: &mut [u8; MAX_TLP], text: &mut HexText)
     ensures { text.new ≡ spaced (encode_upper (canonical packet.now)) ++ 10 ∷ [] }
 {
+    let mut header = [0; HEADER];
+    if put_header(packet, &mut header) {
+        write_both(&header, packet.payload, text);
+        return;
+    }
     let count = encode_lent(packet, room);
     write_bytes(&room[..count], text);
 }

@@ -3,7 +3,7 @@ use Rattle.std.proofs.lemmas.Grind.{common_steps}
 use Rattle.hex.specs.Hex.{encode_upper}
 use Rattle.hex_text.specs.Line.{spaced}
 use Rattle.hex_text.proofs.TextLemmas.{spaced-encode_more, spaced-encode_last}
-use Rattle.hex_text.proofs.writing.write_bytes.Goals as goal
+use Rattle.hex_text.proofs.writing.put_groups.Goals as goal
 
 -- all that is left behind a place
 left : (xs : List ℕ) (n : ℕ) → take (length xs - n) (drop n xs) ≡ drop n xs
