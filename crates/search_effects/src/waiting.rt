@@ -10,11 +10,19 @@ use crate::ranges::{index_of, is_needed, place_in};
 use seq_memory::Reply;
 use tlp_core::Op;
 
+/// An operation that is answered with data.
+#[derive(Clone, Copy)]
+struct Answered<'a> {
+    op: &'a Op,
+    data: &'a [u8],
+}
+
 /// At place `at` of the first operation, which is in the second's range, stands another byte than the
 /// first needs.
-fn differs(base: u64, bytes: &[u8], one: &Op, old: &[u8], other: &Op, at: usize) -> bool
-    ensures { IsTrue result → (base ≤ address_of one.now) × (address_of other.now ≤ address_of one.now + at) × (address_of one.now + at < address_of other.now + count_of other.now) × (at < length old.now) × (effects.is_needed one.now at ≡ true) × (slice_index bytes.now (address_of one.now - base + at) ≢ slice_index old.now at) }
+fn differs(base: u64, bytes: &[u8], first: Answered<'_>, other: &Op, at: usize) -> bool
+    ensures { IsTrue result → (base ≤ address_of first.entry.op.now) × (address_of other.now ≤ address_of first.entry.op.now + at) × (address_of first.entry.op.now + at < address_of other.now + count_of other.now) × (at < length first.entry.data.now) × (effects.is_needed first.entry.op.now at ≡ true) × (slice_index bytes.now (address_of first.entry.op.now - base + at) ≢ slice_index first.entry.data.now at) }
 {
+    let Answered { op: one, data: old } = first;
     let Some(i) = place_in(other, one, at) else {
         return false;
     };
@@ -29,11 +37,11 @@ fn differs(base: u64, bytes: &[u8], one: &Op, old: &[u8], other: &Op, at: usize)
 }
 
 /// It does so at some place.
-fn some_differs(base: u64, bytes: &[u8], one: &Op, old: &[u8], other: &Op) -> bool
-    ensures { IsTrue result → (at : ℕ) × (base ≤ address_of one.now) × (address_of other.now ≤ address_of one.now + at) × (address_of one.now + at < address_of other.now + count_of other.now) × (at < length old.now) × (effects.is_needed one.now at ≡ true) × (slice_index bytes.now (address_of one.now - base + at) ≢ slice_index old.now at) }
+fn some_differs(base: u64, bytes: &[u8], first: Answered<'_>, other: &Op) -> bool
+    ensures { IsTrue result → (at : ℕ) × (base ≤ address_of first.entry.op.now) × (address_of other.now ≤ address_of first.entry.op.now + at) × (address_of first.entry.op.now + at < address_of other.now + count_of other.now) × (at < length first.entry.data.now) × (effects.is_needed first.entry.op.now at ≡ true) × (slice_index bytes.now (address_of first.entry.op.now - base + at) ≢ slice_index first.entry.data.now at) }
 {
-    for at in 0..old.len() {
-        if differs(base, bytes, one, old, other, at) {
+    for at in 0..first.data.len() {
+        if differs(base, bytes, first, other, at) {
             return true;
         }
     }
@@ -48,7 +56,11 @@ fn waits_for(base: u64, bytes: &[u8], one: &Op, reply: &Reply, other: &Op) -> bo
     let Reply::Data(old) = reply else {
         return false;
     };
-    some_differs(base, bytes, one, old.as_slice(), other)
+    let first = Answered {
+        op: one,
+        data: old.as_slice(),
+    };
+    some_differs(base, bytes, first, other)
 }
 
 /// The memory doesn't answer the first request what it was answered while the bytes in the second's

@@ -1,5 +1,5 @@
 //! Requests to which it is nothing what stands at words, or what a request leaves there.
-ghost use Rattle.std.specs.Prelude.{ℕ, ◌≡◌, ◌<◌, ◌≤◌, ◌/◌, ◌⊎◌, Some, false, IsTrue, length, slice_get};
+ghost use Rattle.std.specs.Prelude.{ℕ, ◌≡◌, ◌<◌, ◌≤◌, ◌/◌, ◌⊎◌, Some, false, IsTrue, slice_get};
 ghost use Rattle.search_words.specs.Lists.{InList};
 ghost use Rattle.search_words.specs.Words.{IsNear, NamesWord};
 ghost use Rattle.search_rules.specs.Rules.{Names, IsJunkAt, LeavesJunkAt};
@@ -12,7 +12,7 @@ use log_runs::Log;
 use search_places::Place;
 use search_places::laws::who_is_left_is_pending;
 use search_rules::{is_junk_at, leaves_junk_at};
-use search_words::{Near, near_junk, near_left, span_of};
+use search_words::{Near, Stretch, near_junk, near_left, span_of};
 
 /// This request and those of the list.
 #[derive(Clone, Copy)]
@@ -97,35 +97,33 @@ fn near_ignore(place: &Place, log: &Log, junk: Junk, word: u64, near: Near) -> b
         && list_ignores(place, log, junk, word, near.careless)
 }
 
-/// The requests at a word, from one place of the log on.
-#[derive(Clone, Copy)]
-struct Spot {
-    word: u64,
-    from: usize,
-}
-
-/// Those of whom it isn't known by the word alone that it is nothing to them.
-fn near_of<'a>(others: &'a Others, log: &Log, bytes: &[u8], junk: Junk, spot: Spot) -> Near<'a>
+/// Those of the stretch of whom it isn't known by the word alone that it is nothing to them.
+fn near_of<'a>(
+    others: &'a Others,
+    log: &Log,
+    bytes: &[u8],
+    junk: Junk,
+    stretch: Stretch,
+) -> Near<'a>
     requires others { AreOthers log.now others.now }
-    requires word { spot.word < log.now.extent.size / 4 }
-    ensures { (b : ℕ) → spot.from ≤ b → b < length log.now.events → NamesWord log.now b spot.word → IsNear result b ⊎ IsNothing log.now bytes.now junk.entry spot.word b }
+    requires word { stretch.word < log.now.extent.size / 4 }
+    ensures { (b : ℕ) → stretch.from ≤ b → b < stretch.to → NamesWord log.now b stretch.word → IsNear result b ⊎ IsNothing log.now bytes.now junk.entry stretch.word b }
 {
     let words = &others.words;
-    let to = log.len();
     match junk {
-        Junk::Standing(_) => near_junk(words, log, bytes, spot.word, spot.from, to),
-        Junk::LeftBy(g) => near_left(words, log, g, spot.word, spot.from, to),
+        Junk::Standing(_) => near_junk(words, log, bytes, stretch),
+        Junk::LeftBy(g) => near_left(words, log, g, stretch),
     }
 }
 
-/// [`ignores`], each of them that names bytes of the word.
-fn word_ignored(place: &Place, log: &Log, others: &Others, junk: Junk, spot: Spot) -> bool
+/// [`ignores`], each of the stretch that names bytes of the word.
+fn word_ignored(place: &Place, log: &Log, others: &Others, junk: Junk, stretch: Stretch) -> bool
     requires others { AreOthers log.now others.now }
-    requires word { spot.word < log.now.extent.size / 4 }
-    ensures { IsTrue result → (b : ℕ) → spot.from ≤ b → b < length log.now.events → NamesWord log.now b spot.word → Ignores log.now place.now.state junk.entry spot.word b }
+    requires word { stretch.word < log.now.extent.size / 4 }
+    ensures { IsTrue result → (b : ℕ) → stretch.from ≤ b → b < stretch.to → NamesWord log.now b stretch.word → Ignores log.now place.now.state junk.entry stretch.word b }
 {
-    let near = near_of(others, log, place.bytes(), junk, spot);
-    near_ignore(place, log, junk, spot.word, near)
+    let near = near_of(others, log, place.bytes(), junk, stretch);
+    near_ignore(place, log, junk, stretch.word, near)
 }
 
 /// [`ignores`], each request, at each word of request `q`.
@@ -139,8 +137,10 @@ fn words_ignored(place: &Place, log: &Log, others: &Others, junk: Junk, q: usize
         return false;
     };
     let from = place.earliest();
+    let to = log.len();
     for word in first..end {
-        if !word_ignored(place, log, others, junk, Spot { word, from }) {
+        let stretch = Stretch { word, from, to };
+        if !word_ignored(place, log, others, junk, stretch) {
             return false;
         }
     }

@@ -8,39 +8,52 @@ ghost use Rattle.search_places.specs.Places.{IsPlace};
 ghost use Rattle.search_places.specs.Ready as ready;
 
 use crate::known::Others;
-use crate::others::{Asked, others_spare};
+use crate::others::{Asked, Question, others_spare};
 use log_runs::{Event, Log};
 use search_places::Place;
 use search_places::laws::what_was_told_is_told;
 use search_rules::laws::{lost_is_dead, what_lacks_a_byte_is_dead};
 use search_rules::{Need, need_at};
 
-/// The byte isn't what request `q` needs, and nobody makes it so before place `a`.
-fn lacks(place: &Place, log: &Log, others: &Others, q: usize, a: usize, need: Need) -> bool
+/// A request whose answer is to come.
+#[derive(Clone, Copy)]
+struct Awaited {
+    request: usize,
+    /// The place of the answer.
+    due: usize,
+}
+
+/// The byte isn't what the request needs, and nobody makes it so before that is due.
+fn lacks(place: &Place, log: &Log, others: &Others, awaited: Awaited, need: Need) -> bool
     requires place { IsPlace log.now place.now }
     requires others { AreOthers log.now others.now }
     ensures gone { IsTrue result → slice_index place.now.state.bytes need.place ≡ need.value → ⊥ }
-    ensures nobody { IsTrue result → AllOthers place.now.state q a (λ b. NeverPuts log.now b need.place need.value) }
+    ensures nobody { IsTrue result → AllOthers place.now.state awaited.request awaited.due (λ b. NeverPuts log.now b need.place need.value) }
 {
     let bytes = place.bytes();
     if need.place >= bytes.len() || bytes[need.place] == need.value {
         return false;
     }
-    others_spare(place, log, others, q, a, Asked::Byte(need))
+    let question = Question {
+        of: awaited.request,
+        before: awaited.due,
+        asked: Asked::Byte(need),
+    };
+    others_spare(place, log, others, question)
 }
 
-/// Request `q`, which is due at place `a`, lacks the byte at place `at` of its range.
-fn lacks_byte(place: &Place, log: &Log, others: &Others, q: usize, a: usize, at: usize) -> bool
+/// The request lacks the byte at place `at` of its range.
+fn lacks_byte(place: &Place, log: &Log, others: &Others, awaited: Awaited, at: usize) -> bool
     requires place { IsPlace log.now place.now }
     requires others { AreOthers log.now others.now }
-    requires due { slice_get log.now.events a ≡ Some (events.Due q) }
-    requires since { place.now.state.event ≤ a }
-    requires left { slice_get place.now.state.acted q ≡ Some false }
+    requires due { slice_get log.now.events awaited.due ≡ Some (events.Due awaited.request) }
+    requires since { place.now.state.event ≤ awaited.due }
+    requires left { slice_get place.now.state.acted awaited.request ≡ Some false }
     ensures { IsTrue result → Dead log.now place.now.state }
 {
     what_lacks_a_byte_is_dead();
-    match need_at(log, q, at) {
-        Some(need) => lacks(place, log, others, q, a, need),
+    match need_at(log, awaited.request, at) {
+        Some(need) => lacks(place, log, others, awaited, need),
         None => false,
     }
 }
@@ -66,23 +79,23 @@ fn first_other(place: &Place, log: &Log, q: usize, first: usize) -> Option<usize
     None
 }
 
-/// Request `q`, which is due at place `a`, lacks some byte: the first other one of each DW is looked at.
-/// With no more than a word it needs that at once, so there it isn't asked for each byte.
-fn lacks_some_byte(place: &Place, log: &Log, others: &Others, q: usize, a: usize) -> bool
+/// The request lacks some byte: the first other one of each DW is looked at. With no more than a word it
+/// needs that at once, so there it isn't asked for each byte.
+fn lacks_some_byte(place: &Place, log: &Log, others: &Others, awaited: Awaited) -> bool
     requires place { IsPlace log.now place.now }
     requires others { AreOthers log.now others.now }
-    requires due { slice_get log.now.events a ≡ Some (events.Due q) }
-    requires since { place.now.state.event ≤ a }
-    requires left { slice_get place.now.state.acted q ≡ Some false }
+    requires due { slice_get log.now.events awaited.due ≡ Some (events.Due awaited.request) }
+    requires since { place.now.state.event ≤ awaited.due }
+    requires left { slice_get place.now.state.acted awaited.request ≡ Some false }
     ensures { IsTrue result → Dead log.now place.now.state }
 {
-    let size = size_of(log, q);
+    let size = size_of(log, awaited.request);
     if size <= 4 {
         return false;
     }
     for word in 0..size / 4 {
-        if let Some(at) = first_other(place, log, q, word.saturating_mul(4))
-            && lacks_byte(place, log, others, q, a, at)
+        if let Some(at) = first_other(place, log, awaited.request, word.saturating_mul(4))
+            && lacks_byte(place, log, others, awaited, at)
         {
             return true;
         }
@@ -111,10 +124,16 @@ pub fn is_lost(place: &Place, log: &Log, others: &Others, q: usize) -> bool
     if place.suits(log, q) {
         return false;
     }
-    if others_spare(place, log, others, q, a, Asked::Lost) {
+    let question = Question {
+        of: q,
+        before: a,
+        asked: Asked::Lost,
+    };
+    if others_spare(place, log, others, question) {
         return true;
     }
-    lacks_some_byte(place, log, others, q, a)
+    let awaited = Awaited { request: q, due: a };
+    lacks_some_byte(place, log, others, awaited)
 }
 
 /// The request whose answer is due is lost here.

@@ -8,7 +8,7 @@ use crate::known::Others;
 use crate::lost::is_lost;
 use log_runs::{Event, Log};
 use search_places::Place;
-use search_words::near_value;
+use search_words::{Stretch, near_value};
 
 /// A word of the memory that was changed.
 #[derive(Clone, Copy, Debug, PartialEq, Eq)]
@@ -59,18 +59,11 @@ fn lost_of(place: &Place, log: &Log, others: &Others, list: &[usize]) -> Option<
     None
 }
 
-/// Where a request is due that is lost here, if one is from one place on and before another, which may need
-/// what stood at the word.
+/// Where a request is due that is lost here, if one is that was submitted before place `to` and may need what
+/// stood at the word.
 ///
 /// The test is careful: it returns None where it isn't sure.
-pub fn missed_at(
-    place: &Place,
-    log: &Log,
-    others: &Others,
-    loss: Loss,
-    from: usize,
-    to: usize,
-) -> Option<usize>
+pub fn missed_at(place: &Place, log: &Log, others: &Others, loss: Loss, to: usize) -> Option<usize>
     requires place { IsPlace log.now place.now }
     requires others { AreOthers log.now others.now }
     ensures { IfSome result (λ at. Dead log.now place.now.state) }
@@ -78,7 +71,12 @@ pub fn missed_at(
     if loss.word >= log.extent().size() as u64 / 4 {
         return None;
     }
-    let near = near_value(&others.words, log, loss.word, loss.old, from, to);
+    let stretch = Stretch {
+        word: loss.word,
+        from: place.earliest(),
+        to,
+    };
+    let near = near_value(&others.words, log, stretch, loss.old);
     match lost_of(place, log, others, near.known) {
         Some(at) => Some(at),
         None => lost_of(place, log, others, near.unknown),

@@ -14,7 +14,7 @@ use search_places::Place;
 use search_places::laws::who_is_left_is_pending;
 use search_rules::laws::{answers_yield, nothing_is_put_outside};
 use search_rules::{Need, lets_first, never_brings, never_puts, yields};
-use search_words::{Near, near_named, near_needed, near_there, span_of};
+use search_words::{Near, Stretch, near_named, near_needed, near_there, span_of};
 
 /// What is asked of the others.
 #[derive(Clone, Copy)]
@@ -31,11 +31,12 @@ pub enum Asked {
 
 /// A question about the requests that are submitted before a place and haven't acted.
 #[derive(Clone, Copy)]
-struct Question {
+pub struct Question {
     /// The request for whose sake it is asked. Of itself it isn't.
-    of: usize,
-    before: usize,
-    asked: Asked,
+    pub of: usize,
+    /// The place of the log.
+    pub before: usize,
+    pub asked: Asked,
 }
 
 /// Request `b` does to request `q` as is asked.
@@ -105,83 +106,61 @@ fn words_of(log: &Log, question: Question) -> Option<(u64, u64)>
     }
 }
 
-/// Those, from one place on, of whom it isn't known by the word alone that they do as is asked.
+/// Those of the stretch of whom it isn't known by the word alone that they do as is asked.
 fn near_of<'a>(
     others: &'a Others,
     log: &Log,
     bytes: &[u8],
     question: Question,
-    word: u64,
-    from: usize,
+    stretch: Stretch,
 ) -> Near<'a>
     requires others { AreOthers log.now others.now }
-    requires word { word < log.now.extent.size / 4 }
-    ensures { (b : ℕ) → from ≤ b → b < question.before → NamesWord log.now b word → IsNear result b ⊎ Spares log.now bytes.now question.of question.asked b }
+    requires word { stretch.word < log.now.extent.size / 4 }
+    ensures { (b : ℕ) → stretch.from ≤ b → b < stretch.to → NamesWord log.now b stretch.word → IsNear result b ⊎ Spares log.now bytes.now question.of question.asked b }
 {
     let words = &others.words;
     let q = question.of;
-    let to = question.before;
     match question.asked {
-        Asked::Lost => near_needed(words, log, q, word, from, to),
-        Asked::Last => near_needed(words, log, q, word, from, to),
-        Asked::First => near_there(words, log, bytes, q, word, from, to),
-        Asked::Byte(_) => near_named(words, log, word, from, to),
+        Asked::Lost => near_needed(words, log, q, stretch),
+        Asked::Last => near_needed(words, log, q, stretch),
+        Asked::First => near_there(words, log, bytes, q, stretch),
+        Asked::Byte(_) => near_named(words, log, stretch),
     }
 }
 
-/// [`holds`], each from that place on that names bytes of the word.
+/// [`holds`], each of the stretch that names bytes of the word.
 fn word_holds(
     place: &Place,
     log: &Log,
     others: &Others,
     question: Question,
-    word: u64,
-    from: usize,
+    stretch: Stretch,
 ) -> bool
     requires others { AreOthers log.now others.now }
-    requires word { word < log.now.extent.size / 4 }
-    ensures { IsTrue result → (b : ℕ) → from ≤ b → b < question.before → NamesWord log.now b word → Holds log.now place.now.state question b }
+    requires word { stretch.word < log.now.extent.size / 4 }
+    ensures { IsTrue result → (b : ℕ) → stretch.from ≤ b → b < stretch.to → NamesWord log.now b stretch.word → Holds log.now place.now.state question b }
 {
-    let near = near_of(others, log, place.bytes(), question, word, from);
+    let near = near_of(others, log, place.bytes(), question, stretch);
     near_hold(place, log, question, near)
 }
 
-/// All of whom it is asked do so.
-fn all_do(place: &Place, log: &Log, others: &Others, question: Question) -> bool
+/// All that could act before the place spare the request, as is asked.
+pub fn others_spare(place: &Place, log: &Log, others: &Others, question: Question) -> bool
     requires place { IsPlace log.now place.now }
     requires others { AreOthers log.now others.now }
-    ensures { IsTrue result → (b : ℕ) → b < question.before → Holds log.now place.now.state question b }
+    ensures { IsTrue result → AllOthers place.now.state question.of question.before (Spares log.now place.now.state.bytes question.of question.asked) }
 {
     who_is_left_is_pending();
     let Some((first, end)) = words_of(log, question) else {
         return false;
     };
     let from = place.earliest();
+    let to = question.before;
     for word in first..end {
-        if !word_holds(place, log, others, question, word, from) {
+        let stretch = Stretch { word, from, to };
+        if !word_holds(place, log, others, question, stretch) {
             return false;
         }
     }
     true
-}
-
-/// All that could act before place `a` spare `q`.
-pub fn others_spare(
-    place: &Place,
-    log: &Log,
-    others: &Others,
-    q: usize,
-    a: usize,
-    asked: Asked,
-) -> bool
-    requires place { IsPlace log.now place.now }
-    requires others { AreOthers log.now others.now }
-    ensures { IsTrue result → AllOthers place.now.state q a (Spares log.now place.now.state.bytes q asked) }
-{
-    let question = Question {
-        of: q,
-        before: a,
-        asked,
-    };
-    all_do(place, log, others, question)
 }

@@ -4,5 +4,3 @@ pub mod Tables
 pub mod UndoLemmas
 pub mod Knowing
 pub mod Readiness
-pub mod TrailLemmas
-pub mod StackLemmas

@@ -1,6 +1,5 @@
 -- Lists: an element at a place, after a write.
-use Rattle.std.proofs.Common.{◌≡◌, ◌∙◌, ℕ, zero, suc, ◌+◌, ◌-◌, ◌<◌, ◌≤◌, Bool, true, false, List, [], ◌∷◌, ◌++◌, length, take, drop, get_or, Some, refl, sym, ap, arith, add-one}
-use Rattle.std.proofs.Math.Seq.{take-suc}
+use Rattle.std.proofs.Common.{◌≡◌, ◌∙◌, ℕ, zero, suc, ◌+◌, ◌-◌, ◌<◌, ◌≤◌, Bool, true, false, List, [], ◌∷◌, ◌++◌, length, take, drop, Some, refl, sym, ap, arith}
 use Rattle.std.specs.Prelude.{slice_get, slice_set, replicate}
 use Rattle.std.proofs.lemmas.List.{take-append-drop, drop-drop, replicate-append-replicate}
 use Rattle.std.proofs.lemmas.Option.{same_Some}
@@ -32,13 +31,6 @@ same_list (x ∷ xs) (y ∷ ys) n h =
     let first : x ≡ y = same_Some x y (h 0 (omega arith)) in
     let rest : xs ≡ ys = same_list xs ys (omega (arith, n)) (λ i l. h (suc i) (omega arith)) in
     rw (first, rest) refl
-
--- a prefix and the element after it
-pub take_one : {X : Type 0} → (xs : List X) (i : ℕ) (d : X) → i < length xs → take (i + 1) xs ≡ take i xs ++ get_or xs i d ∷ []
-take_one xs i d l = ap (λ k. take k xs) (add-one i) ∙ take-suc xs i d l
-
-pub take_more : {X : Type 0} → (xs : List X) (i : ℕ) (x : X) → i < length xs → x ≡ get_or xs i x → take (i + 1) xs ≡ take i xs ++ x ∷ []
-take_more xs i x l is = take_one xs i x l ∙ ap (λ y. take i xs ++ y ∷ []) (sym is)
 
 -- a block of zeros before others
 pub more_zeros : (xs : List ℕ) (end n r : ℕ) → n ≤ end → take (end - (end - n)) (drop (end - n) xs) ≡ replicate n 0 → drop end xs ≡ replicate r 0 → drop (end - n) xs ≡ replicate (n + r) 0

@@ -4,7 +4,3 @@ pub mod Places
 pub mod Ready
 pub mod Undo
 pub mod Known
-pub mod Trails
-pub mod StackView
-pub mod Marks
-pub mod Stacked

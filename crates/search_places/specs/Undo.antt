@@ -1,5 +1,5 @@
 -- Steps that are taken back.
-use Rattle.std.specs.Prelude.{ℕ, ◌≡◌, ◌≤◌, List, [], Option, Some, None, slice_get}
+use Rattle.std.specs.Prelude.{ℕ, ◌≡◌, ◌≤◌, List, [], ◌∷◌, Option, Some, None, slice_get}
 use Rattle.seq_memory.specs.Limits.{Extent}
 use Rattle.search_undo.specs.Saved.{saved_at}
 use Rattle.log_runs.specs.EventView.{EventView}
@@ -31,3 +31,8 @@ pub record MayCome (log : LogView) (m : State) (d : Done) : Type 0 where
 pub record CameBy (log : LogView) (m t : State) (d : Done) : Type 0 where
   pub may : MayCome log m d
   pub led : t ≡ next log m d.step
+
+-- the steps lead from s to t, each with what it overwrote
+abbrev pub LeadsBy : LogView → State → List Done → State → Type 0
+LeadsBy log s [] t = s ≡ t
+LeadsBy log s (d ∷ ds) t = MayCome log s d × LeadsBy log (next log s d.step) ds t

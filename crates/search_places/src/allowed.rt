@@ -73,16 +73,6 @@ fn agrees(log: &Log, bytes: &[u8], op: &Op, told: Option<&Reply>) -> bool
 }
 
 impl Place {
-    /// Request `b` is the requester's, which was answered so or not at all: it may act.
-    fn fits(&self, log: &Log, b: usize, requester: u8, op: &Op, told: Option<&Reply>) -> bool
-        ensures { result ≡ ready.fits log.now self.now.state self.now.posts b requester op.now (told_of told.entry) }
-    {
-        b < self.event
-            && !self.has_acted(b)
-            && agrees(log, self.bytes.as_slice(), op, told)
-            && is_free(self.posts.as_slice(), log, requester, b)
-    }
-
     /// The event at that place submits a request that may act.
     fn is_ready(&self, log: &Log, b: usize) -> bool
         ensures { result ≡ ready.is_ready log.now self.now.state self.now.posts b (slice_get log.now.events b) }
@@ -94,7 +84,12 @@ impl Place {
                     op,
                     reply,
                 },
-            ) => self.fits(log, b, requester, op, reply),
+            ) => {
+                b < self.event
+                    && !self.has_acted(b)
+                    && agrees(log, self.bytes.as_slice(), op, reply)
+                    && is_free(self.posts.as_slice(), log, requester, b)
+            }
             _ => false,
         }
     }

@@ -3,14 +3,12 @@
 //! A [`Place`] is where the search stands: how many events were passed, which requests have acted,
 //! and the bytes of the memory. Each search begins at [`Place::first`]. [`Place::may_pass`] and
 //! [`Place::may_act`] say which steps may be taken. [`Place::take`] takes one, [`Place::take_back`]
-//! takes it back. A [`Stack`] has the steps that were taken, and the places from which others may be
-//! taken. A [`Memo`] remembers places from which no run leads to the end, while there is room for
-//! them.
+//! takes it back. A [`Memo`] remembers places from which no run leads to the end, while there is room
+//! for them.
 //!
 //! A place is remembered by all that decides what may follow: the events passed, who is pending, and the
 //! bytes without the zeros at both ends. So equal places are equal states. They stand in one list, and a
-//! table has the newest of each mark: a table of keys would hash hundreds of requests at each look. The
-//! steps of all frames stand in one list: with lists of its own each frame took 400 bytes.
+//! table has the newest of each mark: a table of keys would hash hundreds of requests at each look.
 #![tactic(auto)]
 
 mod allowed;
@@ -19,11 +17,8 @@ pub mod laws;
 mod memo;
 mod pending;
 mod place;
-mod stack;
 mod steps;
-mod trail;
 
 pub use memo::Memo;
 pub use place::Place;
-pub use stack::Stack;
 pub use steps::Done;

@@ -7,13 +7,13 @@ use Rattle.log_runs.specs.LogView.{LogView}
 use Rattle.log_runs.specs.declared.Step.{Step}
 use Rattle.log_runs.specs.Runs.{State, Allowed, Leads, Live, Dead, AllDead, IsForced, next, start}
 use Rattle.search_places.specs.declared.steps.Done.{Done}
-use Rattle.search_places.specs.StackView.{FrameView, StackView}
-use Rattle.search_places.specs.Undo.{MayCome, CameBy}
+use Rattle.search_run.specs.StackView.{FrameView, StackView}
+use Rattle.search_places.specs.Undo.{MayCome, CameBy, LeadsBy}
 use Rattle.search_run.specs.Outcomes.{IsRun}
 use Rattle.search_run.specs.declared.walk.Walk.{Walk}
-use Rattle.search_run.specs.Frames.{LeadsBy, Path, PathFrom, Here, Back, LeadsNowhere, IsOpen, AreLost}
-use Rattle.search_places.specs.Stacked.{steps_of, Forgets, Reopens}
-use Rattle.search_places.specs.Trails.{steps_by}
+use Rattle.search_run.specs.Frames.{Path, PathFrom, Here, Back, LeadsNowhere, IsOpen, AreLost}
+use Rattle.search_run.specs.Stacked.{steps_of, Forgets, Reopens}
+use Rattle.search_run.specs.Trails.{steps_by}
 
 -- ---- steps, one after another
 

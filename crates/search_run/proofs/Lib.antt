@@ -1,4 +1,4 @@
 pub mod Lists
-pub mod RuleLemmas
+pub mod TrailLemmas
+pub mod StackLemmas
 pub mod FrameLemmas
-pub mod GroupLemmas

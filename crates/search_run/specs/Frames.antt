@@ -5,15 +5,10 @@ use Rattle.log_runs.specs.LogView.{LogView}
 use Rattle.log_runs.specs.Runs.{State, Allowed, Dead, AllDead, next, start}
 use Rattle.search_places.specs.declared.steps.Done.{Done}
 use Rattle.search_run.specs.declared.walk.Walk.{Walk}
-use Rattle.search_places.specs.StackView.{FrameView}
+use Rattle.search_run.specs.StackView.{FrameView}
 use Rattle.search_places.specs.Places.{IsPlace}
-use Rattle.search_places.specs.Undo.{MayCome}
+use Rattle.search_places.specs.Undo.{LeadsBy}
 use Rattle.search_places.specs.Known.{AreDead}
-
--- the steps lead from s to t, each with what it overwrote
-abbrev pub LeadsBy : LogView → State → List Done → State → Type 0
-LeadsBy log s [] t = s ≡ t
-LeadsBy log s (d ∷ ds) t = MayCome log s d × LeadsBy log (next log s d.step) ds t
 
 -- The way from s through the frames. At each frame stands some m: steps lead to it, it isn't the end, and if it is dead, P
 -- holds. K says how it goes on from the last m, and what follows if that is dead: no step that is noted there leads anywhere.

@@ -1,4 +1,6 @@
+pub mod Trails
+pub mod StackView
+pub mod Marks
+pub mod Stacked
 pub mod Frames
-pub mod Groups
 pub mod Outcomes
-pub mod Catalogs

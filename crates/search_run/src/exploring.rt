@@ -1,13 +1,13 @@
 //! Whether a run leads through a log to its end.
 ghost use Rattle.std.specs.Prelude.{◌≡◌, ◌≤◌, IfOk, OnOk, IfSome, IfNone, length};
-ghost use Rattle.search_run.specs.Catalogs.{IsCatalog};
+ghost use Rattle.search_forced.specs.Catalogs.{IsCatalog};
 ghost use Rattle.search_run.specs.Frames.{IsAt};
 ghost use Rattle.search_run.specs.Outcomes.{IsRun, IsRight};
 
-use crate::catalog::{Catalog, Way, catalog_of};
 use crate::walk::{Walk, advance, begin, settle};
 use crate::watching::{Unwatched, Watch};
 use log_runs::{Log, Step};
+use search_forced::{Catalog, Way, catalog_of};
 use std::alloc::{AllocError, Global};
 
 /// What a search for a run says.

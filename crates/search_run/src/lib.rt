@@ -5,18 +5,18 @@
 //! that may act is tried, one after the other, and each try is taken back. A state is dead where a
 //! request can't have what it needs any more. States from which nothing leads to the end are
 //! remembered, while there is room for them.
+//!
+//! A place from which several steps may be taken is a frame. A stack keeps the steps that lead to each and
+//! those that were tried there. The steps of all frames stand in one list: with lists of its own each frame
+//! took 400 bytes.
 #![tactic(auto)]
 
-mod catalog;
 mod exploring;
-mod groups;
-mod hints;
-mod junk;
-mod rules;
-mod sketches;
+mod stack;
+mod trail;
 mod walk;
 mod watching;
 
-pub use catalog::Way;
 pub use exploring::{Bounds, Exploration, Outcome, explore, explore_watched};
+pub use search_forced::Way;
 pub use watching::{Unwatched, Watch};

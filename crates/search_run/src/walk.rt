@@ -1,29 +1,26 @@
-//! The search's stack.
+//! The frames of the search, and what is tried there.
 ghost use Rattle.std.specs.Prelude.{◌≡◌, ◌∷◌, [], false, length, IsTrue, IfOk, OnOk, IfSome};
 ghost use Rattle.std.specs.List.{All, Contains};
 ghost use Rattle.log_runs.specs.LogView.{LogView};
-ghost use Rattle.log_runs.specs.Runs.{State, Allowed, Dead, IsForced, next, start};
+ghost use Rattle.log_runs.specs.Runs.{State, Allowed, Dead, next, start};
 ghost use Rattle.search_places.specs.Places.{IsPlace};
-ghost use Rattle.search_run.specs.Catalogs.{IsCatalog};
+ghost use Rattle.search_places.specs.Undo.{LeadsBy};
+ghost use Rattle.search_forced.specs.Catalogs.{IsCatalog};
 ghost use Rattle.search_run.specs.Frames as frames;
 
-use crate::catalog::{Catalog, Way};
-use crate::hints::{Look, Losses, is_back};
-use crate::junk::over_junk;
-use crate::rules::forced;
+use crate::stack::Stack;
 use log_runs::{Log, Step};
-use search_choices::{choices, only_step};
-use search_others::{Loss, due_is_lost, missed_at};
-use search_places::{Memo, Place, Stack};
+use search_choices::choices;
+use search_forced::{Catalog, Look, Losses, at_once, forced, work_for};
+use search_others::due_is_lost;
+use search_places::{Memo, Place};
 use std::alloc::{AllocError, Global};
 
 /// Of so many events to come it is looked whether their requests are lost.
 const SOON: usize = 128;
 
-/// How much work a choice is, and a step that isn't seen by the rules for one request.
+/// How much work a choice is.
 const CHOICE: u64 = 256;
-
-const LAST: u64 = 64;
 
 /// A step that is lost at once stays noted only while no more than so many steps are. So the frames keep no more
 /// steps than these and the choices that were looked at.
@@ -56,86 +53,6 @@ pub(crate) fn begin(alloc: Global, log: &Log, work: u64) -> Result<Walk, AllocEr
         reach: 0,
         work,
     })
-}
-
-/// So many posted writes that are pending are many, and are looked at once for so many events.
-const MANY: usize = 64;
-
-/// Many posted writes are pending, and it is time to see whether some are over junk.
-fn are_many(place: &Place) -> bool {
-    place.posts().len() > MANY && place.event() % (MANY / 4) == 0
-}
-
-/// The only step that may be taken, if there is just one, unless the request whose answer is due is lost.
-fn single(place: &Place, log: &Log, catalog: &Catalog) -> Option<Step>
-    requires place { IsPlace log.now place.now }
-    requires catalog { IsCatalog log.now catalog.now }
-    ensures { IfSome result (IsForced log.now place.now.state) }
-{
-    if place.event() >= log.len() || due_is_lost(place, log, &catalog.others) {
-        return None;
-    }
-    only_step(log, place)
-}
-
-/// [`single`], or a request that acts over junk.
-fn at_last(
-    place: &mut Place,
-    alloc: Global,
-    log: &Log,
-    catalog: &Catalog,
-) -> Result<Option<Step>, AllocError>
-    requires place { IsPlace log.now place.old }
-    requires catalog { IsCatalog log.now catalog.now }
-    ensures state { OnOk result (place.new.state ≡ place.old.state) }
-    ensures place { OnOk result (IsPlace log.now place.new) }
-    ensures forced { IfOk result (λ o. IfSome o (IsForced log.now place.new.state)) }
-{
-    if let Some(step) = over_junk(place, alloc, log, catalog, false)? {
-        return Ok(Some(step));
-    }
-    Ok(single(place, log, catalog))
-}
-
-/// How much work it is to see which step is taken at once, where the rules for one request see this one.
-fn work_for(place: &Place, step: Option<Step>) -> u64 {
-    let pending = place.pending().len() as u64;
-    let few = 1 + pending / 64;
-    match step {
-        Some(_) => few,
-        None => few + LAST + 4 * pending,
-    }
-}
-
-/// A step that may be taken at once, where the rules for one request see this one. An event is passed only if no posted
-/// write over junk may act, if they act early, as in a part, or are many; other requests over junk act only where
-/// there is no other step, and the only one that may be taken is no choice.
-fn at_once(
-    place: &mut Place,
-    alloc: Global,
-    log: &Log,
-    catalog: &Catalog,
-    step: Option<Step>,
-) -> Result<Option<Step>, AllocError>
-    requires place { IsPlace log.now place.old }
-    requires catalog { IsCatalog log.now catalog.now }
-    requires step { IfSome step (IsForced log.now place.old.state) }
-    ensures state { OnOk result (place.new.state ≡ place.old.state) }
-    ensures place { OnOk result (IsPlace log.now place.new) }
-    ensures forced { IfOk result (λ o. IfSome o (IsForced log.now place.new.state)) }
-{
-    match step {
-        Some(Step::Act(_)) => Ok(step),
-        Some(Step::Pass) => {
-            if (matches!(catalog.way, Way::Part) || are_many(place))
-                && let Some(write) = over_junk(place, alloc, log, catalog, true)?
-            {
-                return Ok(Some(write));
-            }
-            Ok(step)
-        }
-        None => at_last(place, alloc, log, catalog),
-    }
 }
 
 /// Takes the steps that may be taken at once, as long as there is work left.
@@ -180,7 +97,7 @@ fn rewind(walk: &mut Walk, log: &Log) -> Result<(), AllocError>
     requires { frames.IsBack log.now walk.old }
     ensures ready { OnOk result (frames.IsReady log.now walk.new) }
     ensures frames { OnOk result (walk.new.stack.frames ≡ walk.old.stack.frames) }
-    ensures state { OnOk result ((s : State) → frames.LeadsBy log.now s walk.old.stack.done walk.old.here.state → s ≡ walk.new.here.state) }
+    ensures state { OnOk result ((s : State) → LeadsBy log.now s walk.old.stack.done walk.old.here.state → s ≡ walk.new.here.state) }
 {
     while let Some(done) = walk.stack.pop() {
         walk.here.take_back(log, &done)?;
@@ -194,43 +111,15 @@ fn go_on(walk: &mut Walk, log: &Log, catalog: &Catalog, step: Step) -> Result<()
     requires catalog { IsCatalog log.now catalog.now }
     ensures at { OnOk result (frames.IsAt log.now walk.new) }
     ensures frames { OnOk result (walk.new.stack.frames ≡ walk.old.stack.frames) }
-    ensures led { OnOk result (frames.LeadsBy log.now walk.old.here.state walk.new.stack.done walk.new.here.state) }
+    ensures led { OnOk result (LeadsBy log.now walk.old.here.state walk.new.stack.done walk.new.here.state) }
     ensures next { OnOk result (next log.now walk.old.here.state step ≡ walk.new.here.state) }
 {
     let done = walk.here.take(log, step)?;
     walk.look = Look::none().after(log, catalog, &walk.here, step);
-    walk.losses.list.clear();
+    walk.losses.clear();
     walk.losses.push(log, &walk.here, &done)?;
     walk.stack.push(&done)?;
     Ok(())
-}
-
-/// Where a request is due that is lost here, if one is of those before place `to` that may need what stood at
-/// the word.
-fn missed_by(walk: &Walk, log: &Log, catalog: &Catalog, loss: Loss, to: usize) -> Option<usize>
-    requires place { IsPlace log.now walk.now.here }
-    requires catalog { IsCatalog log.now catalog.now }
-    ensures { IfSome result (λ at. Dead log.now walk.now.here.state) }
-{
-    if is_back(loss, walk.here.bytes()) {
-        return None;
-    }
-    let from = walk.here.earliest();
-    missed_at(&walk.here, log, &catalog.others, loss, from, to)
-}
-
-/// [`missed_by`], one of the words that the steps since the last frame overwrote.
-fn some_missed(walk: &Walk, log: &Log, catalog: &Catalog, to: usize) -> Option<usize>
-    requires place { IsPlace log.now walk.now.here }
-    requires catalog { IsCatalog log.now catalog.now }
-    ensures { IfSome result (λ at. Dead log.now walk.now.here.state) }
-{
-    for loss in &walk.losses.list {
-        if let Some(at) = missed_by(walk, log, catalog, *loss, to) {
-            return Some(at);
-        }
-    }
-    None
 }
 
 /// Where a request is due that is lost here: at once, or of those before place `to`.
@@ -239,10 +128,10 @@ fn lost_at(walk: &Walk, log: &Log, catalog: &Catalog, to: usize) -> Option<usize
     requires catalog { IsCatalog log.now catalog.now }
     ensures { IfSome result (λ at. Dead log.now walk.now.here.state) }
 {
-    if due_is_lost(&walk.here, log, &catalog.others) {
+    if due_is_lost(&walk.here, log, catalog.others()) {
         return Some(walk.here.event());
     }
-    some_missed(walk, log, catalog, to)
+    walk.losses.missed(&walk.here, log, catalog.others(), to)
 }
 
 /// Notes the step at the last frame and takes it; false if it is seen at once that it leads nowhere, and is taken
@@ -370,7 +259,7 @@ fn try_here(
     ensures at { IfOk result (λ more. IsTrue more → frames.IsAt log.now walk.new) }
     ensures spent { IfOk result (λ more. more ≡ false → frames.IsSpent log.now walk.old walk.new) }
 {
-    let steps = choices(alloc, log, &catalog.others, catalog.turns(), &walk.here)?;
+    let steps = choices(alloc, log, catalog.others(), catalog.turns(), &walk.here)?;
     let goes_on = try_each(walk, log, catalog, steps.as_slice())?;
     Ok(goes_on)
 }

@@ -30,6 +30,14 @@ pub struct Near<'a> {
     pub careless: &'a [usize],
 }
 
+/// The requests at a word, from one place of the log on and before another.
+#[derive(Clone, Copy, Debug, PartialEq, Eq)]
+pub struct Stretch {
+    pub word: u64,
+    pub from: usize,
+    pub to: usize,
+}
+
 /// The first word of the memory that has bytes of the request, and the end of those that do, if all of
 /// its range is in the memory and it has some.
 pub fn span_of(log: &Log, q: usize) -> Option<(u64, u64)>
@@ -49,11 +57,12 @@ pub fn span_of(log: &Log, q: usize) -> Option<(u64, u64)>
     Some((offset / 4, (end + 3) / 4))
 }
 
-/// Requests from one place on and before another that name bytes of the word.
-fn near_by_name(words: &Words, word: u64, from: usize, to: usize) -> Near<'_>
+/// The requests of the stretch that name bytes of the word.
+fn near_by_name(words: &Words, stretch: Stretch) -> Near<'_>
     requires { (n : ℕ) × AllRise words.now n }
-    ensures { (b : ℕ) → from ≤ b → b < to → InList words.now.wide b ⊎ Has words.now.named word b → IsNear result b }
+    ensures { (b : ℕ) → stretch.from ≤ b → b < stretch.to → InList words.now.wide b ⊎ Has words.now.named stretch.word b → IsNear result b }
 {
+    let Stretch { word, from, to } = stretch;
     Near {
         wide: window(words.wide.as_slice(), from, to),
         unknown: words.named.between(word, from, to),
@@ -62,22 +71,20 @@ fn near_by_name(words: &Words, word: u64, from: usize, to: usize) -> Near<'_>
     }
 }
 
-/// Requests from one place on and before another that need the value of the word, or of which that isn't
-/// known; and those of a list.
+/// The requests of the stretch that need the value of the word, or of which that isn't known; and those of a list.
 fn near_by_need<'a>(
     words: &'a Words,
-    word: u64,
+    stretch: Stretch,
     value: u64,
     careless: &'a [usize],
-    from: usize,
-    to: usize,
 ) -> Near<'a>
     requires rise { (n : ℕ) × AllRise words.now n }
-    requires word { word < 262144 }
+    requires word { stretch.word < 262144 }
     requires value { value < 4294967296 }
-    ensures need { (b : ℕ) → from ≤ b → b < to → MayNeed words.now word value b → IsNear result b }
+    ensures need { (b : ℕ) → stretch.from ≤ b → b < stretch.to → MayNeed words.now stretch.word value b → IsNear result b }
     ensures careless { (b : ℕ) → InList careless.now b → IsNear result b }
 {
+    let Stretch { word, from, to } = stretch;
     Near {
         wide: window(words.wide.as_slice(), from, to),
         unknown: words.blind.between(word, from, to),
@@ -86,14 +93,14 @@ fn near_by_need<'a>(
     }
 }
 
-/// Requests from one place on and before another that leave the value at the word, or of which that isn't
-/// known.
-fn near_by_left(words: &Words, word: u64, value: u64, from: usize, to: usize) -> Near<'_>
+/// The requests of the stretch that leave the value at the word, or of which that isn't known.
+fn near_by_left(words: &Words, stretch: Stretch, value: u64) -> Near<'_>
     requires rise { (n : ℕ) × AllRise words.now n }
-    requires word { word < 262144 }
+    requires word { stretch.word < 262144 }
     requires value { value < 4294967296 }
-    ensures { (b : ℕ) → from ≤ b → b < to → InList words.now.wide b ⊎ Has words.now.loose word b ⊎ Has words.now.left (key word value) b → IsNear result b }
+    ensures { (b : ℕ) → stretch.from ≤ b → b < stretch.to → InList words.now.wide b ⊎ Has words.now.loose stretch.word b ⊎ Has words.now.left (key stretch.word value) b → IsNear result b }
 {
+    let Stretch { word, from, to } = stretch;
     Near {
         wide: window(words.wide.as_slice(), from, to),
         unknown: words.loose.between(word, from, to),
@@ -109,12 +116,14 @@ fn has_word(base: u64, op: &Op, word: u64) -> bool
     place_of(base, op, word).is_some()
 }
 
-/// Requests from one place on and before another to which it makes no difference what stands at the word.
-fn careless_at(words: &Words, word: u64, from: usize, to: usize) -> &[usize]
+/// The requests of the stretch to which it makes no difference what stands at the word.
+fn careless_at(words: &Words, stretch: Stretch) -> &[usize]
     requires { (n : ℕ) × AllRise words.now n }
-    ensures { (b : ℕ) → from ≤ b → b < to → Has words.now.careless word b → InList result.now b }
+    ensures { (b : ℕ) → stretch.from ≤ b → b < stretch.to → Has words.now.careless stretch.word b → InList result.now b }
 {
-    words.careless.between(word, from, to)
+    words
+        .careless
+        .between(stretch.word, stretch.from, stretch.to)
 }
 
 /// What stands at the word, all of which is in the range of request `q`.
@@ -176,117 +185,87 @@ fn left_of(log: &Log, g: usize, word: u64) -> Option<u64>
     Some(value)
 }
 
-/// The requests, from one place on and before another, that may act while the word has the value; of
+/// The requests of the stretch that may act while the word has the value; of
 /// those that name bytes of the word.
-pub fn near_value<'a>(
-    words: &'a Words,
-    log: &Log,
-    word: u64,
-    value: u32,
-    from: usize,
-    to: usize,
-) -> Near<'a>
+pub fn near_value<'a>(words: &'a Words, log: &Log, stretch: Stretch, value: u32) -> Near<'a>
     requires words { IsWords log.now words.now }
-    requires word { word < log.now.extent.size / 4 }
-    ensures { (b : ℕ) → from ≤ b → b < to → NamesWord log.now b word → IsNear result b ⊎ IsOutAt log.now b word value }
+    requires word { stretch.word < log.now.extent.size / 4 }
+    ensures { (b : ℕ) → stretch.from ≤ b → b < stretch.to → NamesWord log.now b stretch.word → IsNear result b ⊎ IsOutAt log.now b stretch.word value }
 {
     let _extent = log.extent();
-    let careless = careless_at(words, word, from, to);
-    near_by_need(words, word, u64::from(value), careless, from, to)
+    let careless = careless_at(words, stretch);
+    near_by_need(words, stretch, u64::from(value), careless)
 }
 
-/// The requests, from one place on and before another, that may act before request `q` although these
+/// The requests of the stretch that may act before request `q` although these
 /// bytes stand at its addresses; of those that name bytes of the word.
 pub fn near_there<'a>(
     words: &'a Words,
     log: &Log,
     bytes: &[u8],
     q: usize,
-    word: u64,
-    from: usize,
-    to: usize,
+    stretch: Stretch,
 ) -> Near<'a>
     requires words { IsWords log.now words.now }
-    requires word { word < log.now.extent.size / 4 }
-    ensures first { (b : ℕ) → from ≤ b → b < to → NamesWord log.now b word → IsNear result b ⊎ LetsFirst log.now bytes.now b q }
+    requires word { stretch.word < log.now.extent.size / 4 }
+    ensures first { (b : ℕ) → stretch.from ≤ b → b < stretch.to → NamesWord log.now b stretch.word → IsNear result b ⊎ LetsFirst log.now bytes.now b q }
 {
-    match found_of(log, bytes, q, word) {
+    match found_of(log, bytes, q, stretch.word) {
         Some(value) => {
-            let careless = careless_at(words, word, from, to);
-            near_by_need(words, word, value, careless, from, to)
+            let careless = careless_at(words, stretch);
+            near_by_need(words, stretch, value, careless)
         }
-        None => near_by_name(words, word, from, to),
+        None => near_by_name(words, stretch),
     }
 }
 
-/// The requests, from one place on and before another, to which it may be something that these bytes
+/// The requests of the stretch to which it may be something that these bytes
 /// stand at the word; of those that name bytes of it.
-pub fn near_junk<'a>(
-    words: &'a Words,
-    log: &Log,
-    bytes: &[u8],
-    word: u64,
-    from: usize,
-    to: usize,
-) -> Near<'a>
+pub fn near_junk<'a>(words: &'a Words, log: &Log, bytes: &[u8], stretch: Stretch) -> Near<'a>
     requires words { IsWords log.now words.now }
-    requires word { word < log.now.extent.size / 4 }
-    ensures { (b : ℕ) → from ≤ b → b < to → NamesWord log.now b word → IsNear result b ⊎ IsJunkAt log.now bytes.now b word }
+    requires word { stretch.word < log.now.extent.size / 4 }
+    ensures { (b : ℕ) → stretch.from ≤ b → b < stretch.to → NamesWord log.now b stretch.word → IsNear result b ⊎ IsJunkAt log.now bytes.now b stretch.word }
 {
     let _extent = log.extent();
-    match value_in(bytes, (4 * word) as usize) {
-        Some(value) => near_by_need(words, word, value, &[], from, to),
-        None => near_by_name(words, word, from, to),
+    match value_in(bytes, (4 * stretch.word) as usize) {
+        Some(value) => near_by_need(words, stretch, value, &[]),
+        None => near_by_name(words, stretch),
     }
 }
 
-/// The requests, from one place on and before another, that may bring what request `q` needs, or don't
+/// The requests of the stretch that may bring what request `q` needs, or don't
 /// yield to it; of those that name bytes of the word.
-pub fn near_needed<'a>(
-    words: &'a Words,
-    log: &Log,
-    q: usize,
-    word: u64,
-    from: usize,
-    to: usize,
-) -> Near<'a>
+pub fn near_needed<'a>(words: &'a Words, log: &Log, q: usize, stretch: Stretch) -> Near<'a>
     requires words { IsWords log.now words.now }
-    requires word { word < log.now.extent.size / 4 }
-    ensures brings { (b : ℕ) → from ≤ b → b < to → NamesWord log.now b word → IsNear result b ⊎ NeverBrings log.now b q }
-    ensures yields { (b : ℕ) → from ≤ b → b < to → NamesWord log.now b word → IsNear result b ⊎ Yields log.now b q }
+    requires word { stretch.word < log.now.extent.size / 4 }
+    ensures brings { (b : ℕ) → stretch.from ≤ b → b < stretch.to → NamesWord log.now b stretch.word → IsNear result b ⊎ NeverBrings log.now b q }
+    ensures yields { (b : ℕ) → stretch.from ≤ b → b < stretch.to → NamesWord log.now b stretch.word → IsNear result b ⊎ Yields log.now b q }
 {
     what_takes_a_reply_away_yields();
-    match need_of(log, q, word) {
-        Some(value) => near_by_left(words, word, value, from, to),
-        None => near_by_name(words, word, from, to),
+    match need_of(log, q, stretch.word) {
+        Some(value) => near_by_left(words, stretch, value),
+        None => near_by_name(words, stretch),
     }
 }
 
-/// The requests, from one place on and before another, to which it may be something what request `g`
+/// The requests of the stretch to which it may be something what request `g`
 /// leaves at the word; of those that name bytes of it.
-pub fn near_left<'a>(
-    words: &'a Words,
-    log: &Log,
-    g: usize,
-    word: u64,
-    from: usize,
-    to: usize,
-) -> Near<'a>
+pub fn near_left<'a>(words: &'a Words, log: &Log, g: usize, stretch: Stretch) -> Near<'a>
     requires words { IsWords log.now words.now }
-    requires word { word < log.now.extent.size / 4 }
-    ensures { (b : ℕ) → from ≤ b → b < to → NamesWord log.now b word → IsNear result b ⊎ LeavesJunkAt log.now b g word }
+    requires word { stretch.word < log.now.extent.size / 4 }
+    ensures { (b : ℕ) → stretch.from ≤ b → b < stretch.to → NamesWord log.now b stretch.word → IsNear result b ⊎ LeavesJunkAt log.now b g stretch.word }
 {
-    match left_of(log, g, word) {
-        Some(value) => near_by_need(words, word, value, &[], from, to),
-        None => near_by_name(words, word, from, to),
+    match left_of(log, g, stretch.word) {
+        Some(value) => near_by_need(words, stretch, value, &[]),
+        None => near_by_name(words, stretch),
     }
 }
 
-/// The requests, from one place on and before another, that name bytes of the word.
-pub fn near_named<'a>(words: &'a Words, log: &Log, word: u64, from: usize, to: usize) -> Near<'a>
+/// The requests of the stretch that name bytes of the word.
+pub fn near_named<'a>(words: &'a Words, log: &Log, stretch: Stretch) -> Near<'a>
     requires words { IsWords log.now words.now }
-    requires word { word < log.now.extent.size / 4 }
-    ensures { (b : ℕ) → from ≤ b → b < to → NamesWord log.now b word → IsNear result b }
+    requires word { stretch.word < log.now.extent.size / 4 }
+    ensures { (b : ℕ) → stretch.from ≤ b → b < stretch.to → NamesWord log.now b stretch.word → IsNear result b }
 {
-    near_by_name(words, word, from, to)
+    near_by_name(words, stretch)
 }

@@ -1,7 +1,7 @@
-use Rattle.std.proofs.Common.{ℕ, ◌<◌, ◌≤◌, length}
+use Rattle.std.proofs.Common.{ℕ, ◌<◌, ◌≤◌}
 use Rattle.search_words.specs.Words.{NamesWord}
 use Rattle.search_others.specs.Nothing.{Ignores}
 use Rattle.search_others.proofs.junk.words_ignored.Given as goal
 
 abbrev pub invariant-loop-word : goal.invariant-loop-word
-invariant-loop-word l = (w : ℕ) → l.first ≤ w → w < l.word → (b : ℕ) → l.from ≤ b → b < length l.log.events → NamesWord l.log b w → Ignores l.log l.place.state l.junk w b
+invariant-loop-word l = (w : ℕ) → l.first ≤ w → w < l.word → (b : ℕ) → l.from ≤ b → b < l.to → NamesWord l.log b w → Ignores l.log l.place.state l.junk w b

@@ -1,8 +1,9 @@
 use Rattle.std.proofs.Common.{◌∙◌, refl, List, [], ◌∷◌, ◌++◌, ap, sym, subst}
 use Rattle.log_runs.specs.Runs.{next}
 use Rattle.search_places.specs.declared.steps.Done.{Done}
-use Rattle.search_places.specs.StackView.{FrameView}
-use Rattle.search_run.specs.Frames.{LeadsBy, PathFrom, Here}
+use Rattle.search_run.specs.StackView.{FrameView}
+use Rattle.search_places.specs.Undo.{LeadsBy}
+use Rattle.search_run.specs.Frames.{PathFrom, Here}
 use Rattle.search_run.proofs.FrameLemmas.{taken, one_more}
 use Rattle.search_run.proofs.walk.go_on.Goals as goal
 

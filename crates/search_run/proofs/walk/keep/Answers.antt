@@ -1,6 +1,6 @@
 use Rattle.std.proofs.Common.{◌≡◌, ap, sym, subst}
 use Rattle.log_runs.specs.Runs.{State}
-use Rattle.search_places.specs.StackView.{StackView}
+use Rattle.search_run.specs.StackView.{StackView}
 use Rattle.search_run.specs.Frames.{PathFrom}
 use Rattle.search_run.proofs.FrameLemmas.{kept}
 use Rattle.search_run.proofs.walk.keep.Goals as goal

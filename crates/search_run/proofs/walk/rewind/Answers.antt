@@ -2,8 +2,9 @@ use Rattle.std.proofs.Common.{◌≡◌, List, [], ◌∙◌, sym, subst}
 use Rattle.std.proofs.lemmas.List.{append-nil}
 use Rattle.log_runs.specs.Runs.{State}
 use Rattle.search_places.specs.declared.steps.Done.{Done}
-use Rattle.search_places.specs.StackView.{FrameView}
-use Rattle.search_run.specs.Frames.{LeadsBy, PathFrom, Back}
+use Rattle.search_run.specs.StackView.{FrameView}
+use Rattle.search_places.specs.Undo.{LeadsBy}
+use Rattle.search_run.specs.Frames.{PathFrom, Back}
 use Rattle.search_run.proofs.FrameLemmas.{came, rewound, led_back}
 use Rattle.search_run.proofs.walk.rewind.Goals as goal
 

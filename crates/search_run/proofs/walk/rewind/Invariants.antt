@@ -1,6 +1,7 @@
 use Rattle.std.proofs.Common.{◌≡◌, length}
 use Rattle.log_runs.specs.Runs.{State}
-use Rattle.search_run.specs.Frames.{IsBack, LeadsBy}
+use Rattle.search_places.specs.Undo.{LeadsBy}
+use Rattle.search_run.specs.Frames.{IsBack}
 use Rattle.search_run.proofs.walk.rewind.Given as goal
 
 abbrev pub invariant-loop-done : goal.invariant-loop-done

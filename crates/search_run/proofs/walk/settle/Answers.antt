@@ -3,7 +3,7 @@ use Rattle.std.specs.Prelude.{IfSome}
 use Rattle.log_runs.specs.declared.Step.{Step}
 use Rattle.log_runs.specs.Runs.{State, IsForced}
 use Rattle.search_places.specs.declared.steps.Done.{Done}
-use Rattle.search_places.specs.StackView.{FrameView}
+use Rattle.search_run.specs.StackView.{FrameView}
 use Rattle.search_run.specs.Frames.{PathFrom, Here}
 use Rattle.search_run.proofs.FrameLemmas.{moved}
 use Rattle.search_run.proofs.walk.settle.Goals as goal

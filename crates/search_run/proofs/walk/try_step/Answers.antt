@@ -2,7 +2,7 @@ use Rattle.std.proofs.Common.{◌≡◌, ◌∙◌, ℕ, Option, List, [], ◌�
 use Rattle.std.specs.Prelude.{IfSome}
 use Rattle.std.proofs.lemmas.List.Elements.{All-cons, All-nil}
 use Rattle.log_runs.specs.Runs.{State, Dead, next}
-use Rattle.search_places.specs.StackView.{FrameView}
+use Rattle.search_run.specs.StackView.{FrameView}
 use Rattle.search_run.specs.Frames.{PathFrom, LeadsNowhere}
 use Rattle.search_run.proofs.FrameLemmas.{noted, turned, not_nil, as_many}
 use Rattle.search_run.proofs.walk.try_step.Goals as goal

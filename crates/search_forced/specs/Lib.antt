@@ -1,0 +1,2 @@
+pub mod Catalogs
+pub mod Groups

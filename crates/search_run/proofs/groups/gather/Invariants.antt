@@ -1,5 +1,0 @@
-use Rattle.search_run.specs.Groups.{IsGroup}
-use Rattle.search_run.proofs.groups.gather.Given as goal
-
-abbrev pub invariant-loop-turn : goal.invariant-loop-turn
-invariant-loop-turn l = IsGroup l.log l.fn.place.state l.q l.group l.place

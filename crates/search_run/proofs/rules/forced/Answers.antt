@@ -1,5 +1,0 @@
-use Rattle.search_run.proofs.RuleLemmas.{pass_is_forced}
-use Rattle.search_run.proofs.rules.forced.Goals as goal
-
-pub returns-then-may_pass : goal.returns-then-may_pass
-returns-then-may_pass c = pass_is_forced c.args.log.now c.args.place.now.state (c.may_pass.ensures.0 c.if-may_pass.true)

@@ -1,7 +1,0 @@
--- What is known of a log before the search begins.
-use Rattle.log_runs.specs.LogView.{LogView}
-use Rattle.search_others.specs.Known.{AreOthers}
-use Rattle.search_run.specs.declared.catalog.Catalog.{Catalog}
-
-abbrev pub IsCatalog : LogView → Catalog → Type 0
-IsCatalog log c = AreOthers log c.others
