@@ -16,6 +16,7 @@ pub const MAX_COMPLETION: usize = MAX_TLP;
 
 /// Puts the canonical bytes of the completion to the front of a buffer of at least
 /// [`MAX_COMPLETION`] bytes, and returns how many they are.
+#[inline(always)]
 pub fn tell_completion(completion: &TlpRef<'_>, buffer: &mut [u8]) -> Length
     requires { 144 ≤ length buffer.old }
     ensures length { result ≡ length (canonical completion.now) }
