@@ -7,6 +7,7 @@ ghost use Rattle.c_answer.specs.Call.{served, call};
 
 use c_buffer::{Failure, Length, tell};
 use completer_core::answer_lent;
+use completion_bytes::{HEADER, put_header};
 use seq_memory::ReplyData;
 use tlp_core::{MAX_TLP, TlpRef, decode_lent, encode_lent};
 
@@ -15,11 +16,19 @@ pub const MAX_COMPLETION: usize = MAX_TLP;
 
 /// Puts the canonical bytes of the completion to the front of a buffer of at least
 /// [`MAX_COMPLETION`] bytes, and returns how many they are.
+#[inline(always)]
 pub fn tell_completion(completion: &TlpRef<'_>, buffer: &mut [u8]) -> Length
     requires { 144 ≤ length buffer.old }
     ensures length { result ≡ length (canonical completion.now) }
     ensures buffer { buffer.new ≡ filled buffer.old (canonical completion.now) }
 {
+    let mut header = [0; HEADER];
+    if put_header(completion, &mut header) {
+        let end = HEADER + completion.payload.len();
+        buffer[..HEADER].copy_from_slice(&header);
+        buffer[HEADER..end].copy_from_slice(completion.payload);
+        return Length::new(end);
+    }
     let mut room = [0; MAX_TLP];
     let count = encode_lent(completion, &mut room);
     tell(&room[..count], buffer)
