@@ -4,7 +4,7 @@ use Rattle.std.specs.Prelude.{◌==◌, ◌&&◌, cond}
 use Rattle.std.specs.Fmt.{digits, digits_onto, digit_glyph}
 use Rattle.std.proofs.lemmas.Bool.{and_parts, cases_lt, eqb-true, ne_eqb, eq-eqb}
 use Rattle.hex.specs.Hex.{encode_with, encode_upper, upper_digits}
-use Rattle.operation_text.specs.Texts.{hexadecimal}
+use Rattle.operation_text.specs.Texts.{hexadecimal, octet_text}
 
 -- ---- hexadecimal numbers, digit by digit
 
@@ -95,3 +95,22 @@ encode-next bytes i lt fits =
     rw (next, drop-cons bytes i 0 lt, high, low) refl
 
 pub ruleset short_rules = (hexadecimal-short)
+
+-- the digits of a byte
+pub octet_is : (n : ℕ) → n < 256 → encode_upper (n ∷ []) ≡ octet_text n
+unfolding encode_with
+octet_is n lt = encode-next (n ∷ []) 0 (omega arith) lt
+
+-- a number's digits, by bytes
+pub hexadecimal_octet : (n : ℕ) → 16 ≤ n → n < 256 → hexadecimal n ≡ octet_text n
+hexadecimal_octet n more less =
+    hexadecimal_step n more (omega arith) ∙ ap (λ (t : List ℕ). t ++ digit_glyph true (n % 16) ∷ []) (hexadecimal_digit (n / 16) (omega arith))
+    ∙ ap (λ (k : ℕ). digit_glyph true k ∷ digit_glyph true (n % 16) ∷ []) (omega arith)
+
+pub hexadecimal_octets : (n : ℕ) → 256 ≤ n → n < 2 ^ 64 → hexadecimal n ≡ hexadecimal (n / 256) ++ octet_text (n % 256)
+hexadecimal_octets n more small =
+    hexadecimal_step n (omega arith) small
+    ∙ ap (λ (t : List ℕ). t ++ digit_glyph true (n % 16) ∷ []) (hexadecimal_step (n / 16) (omega arith) (omega arith))
+    ∙ append_assoc (hexadecimal (n / 16 / 16)) (digit_glyph true (n / 16 % 16) ∷ []) (digit_glyph true (n % 16) ∷ [])
+    ∙ ap (λ (t : List ℕ). hexadecimal (n / 16 / 16) ++ t) (ap (λ (k : ℕ). digit_glyph true k ∷ digit_glyph true (n % 16) ∷ []) (omega arith) ∙ ap (λ (k : ℕ). digit_glyph true (n % 256 / 16) ∷ digit_glyph true k ∷ []) (omega arith))
+    ∙ ap (λ (k : ℕ). hexadecimal k ++ octet_text (n % 256)) (omega arith)

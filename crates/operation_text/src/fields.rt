@@ -54,7 +54,6 @@ pub fn alone<T: Drop>(value: T, rest: Option<&[u8]>) -> Result<T, Misfit>
 }
 
 /// The digit's value.
-#[inline(always)]
 fn digit(c: u8, radix: u32) -> Option<u64>
     requires low { 2 ≤ radix }
     requires high { radix ≤ 36 }
@@ -64,7 +63,6 @@ fn digit(c: u8, radix: u32) -> Option<u64>
 }
 
 /// The number that the digits write.
-#[inline(always)]
 fn value(word: &[u8], radix: u32, most: u64) -> Option<u64>
     requires low { 2 ≤ radix }
     requires high { radix ≤ 36 }
@@ -84,7 +82,6 @@ fn value(word: &[u8], radix: u32, most: u64) -> Option<u64>
 }
 
 /// The number that the word spells.
-#[inline(always)]
 fn number_in(word: &[u8], radix: u32, most: u64) -> Option<u64>
     requires low { 2 ≤ radix }
     requires high { radix ≤ 36 }
@@ -149,7 +146,6 @@ pub fn word(rest: Option<&[u8]>, expected: Expected) -> Result<(&[u8], Option<&[
 
 /// The number that the next word spells in that radix, of at most `most` and without leading zeros,
 /// and what is behind it. `rest` is what [`cut`] left.
-#[inline(always)]
 pub fn number(
     rest: Option<&[u8]>,
     radix: u32,

@@ -7,6 +7,7 @@ ghost use Rattle.operation_text.specs.Texts.{hexadecimal, octet_text, sequence_t
 
 use arrayvec::ArrayString;
 use byteorder::{ByteOrder, LittleEndian};
+use hex_text::pair_of;
 use itoa::Buffer;
 use seq_memory::Reply;
 use seq12::Seq12;
@@ -32,10 +33,14 @@ fn put_hexadecimal(number: u64, out: &mut ArrayString<512>)
     requires { array_string_len out.old + length (hexadecimal number) ≤ 512 }
     ensures { out.new.bytes ≡ out.old.bytes ++ hexadecimal number }
 {
-    if number >= 16 {
-        put_hexadecimal(number / 16, out);
+    if number >= 256 {
+        put_hexadecimal(number / 256, out);
+        write_octet((number % 256) as u8, out);
+    } else if number >= 16 {
+        write_octet(number as u8, out);
+    } else {
+        put_digit(number as u8, out);
     }
-    put_digit((number % 16) as u8, out);
 }
 
 /// Adds the number in hexadecimal, in capitals and without leading zeros.
@@ -59,13 +64,14 @@ pub fn write_decimal(number: u64, out: &mut ArrayString<512>)
 }
 
 /// Adds the two digits of a byte, in hexadecimal and in capitals.
+#[inline(always)]
+#[tactic(auto, using(crate::proofs::DigitLemmas::octet_is))]
 pub fn write_octet(octet: u8, out: &mut ArrayString<512>)
     requires { array_string_len out.old + 2 ≤ 512 }
     ensures text { out.new.bytes ≡ out.old.bytes ++ octet_text octet }
     ensures len { array_string_len out.new ≡ array_string_len out.old + 2 }
 {
-    put_digit(octet / 16, out);
-    put_digit(octet % 16, out);
+    out.push_str(pair_of(octet));
 }
 
 /// Adds the three digits of a sequence number, in hexadecimal and in capitals.

@@ -62,19 +62,3 @@ pub id-reads : (n : ℕ) → n < 65536 → forms.id (id_text n) ≡ Some n
 id-reads n lt =
     let e : n / 256 * 256 + n % 256 ≡ n = omega arith in
     rw (octet-reads (n / 256) (omega arith), octet-reads (n % 256) (omega arith)) (ap Some e)
-
--- ---- the digits of bytes
-
-pub octet_is : (n : ℕ) → n < 256 → encode_upper (n ∷ []) ≡ octet_text n
-unfolding encode_with
-octet_is n lt = rw (glyph-is (n / 16) (omega arith), glyph-is (n % 16) (omega arith)) refl
-
--- one byte more
-pub octet-next : (bytes : List ℕ) (i : ℕ) → i < length bytes → get_or bytes i 0 < 256
-    → encode_upper (drop i bytes) ≡ octet_text (get_or bytes i 0) ++ encode_upper (drop (i + 1) bytes)
-unfolding encode_with
-octet-next bytes i lt fits =
-    let high = glyph-is (get_or bytes i 0 / 16) (omega arith) in
-    let low = glyph-is (get_or bytes i 0 % 16) (omega arith) in
-    let next : i + 1 ≡ suc i = omega arith in
-    rw (next, drop-cons bytes i 0 lt, high, low) refl

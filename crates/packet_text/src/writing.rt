@@ -12,31 +12,8 @@ use crate::fault::{BytesFault, TextFault};
 use crate::packet::Packet;
 use arrayvec::ArrayString;
 use dllp_core::{Class, Dllp, DllpFault};
-use hex_text::pair_of;
-use operation_text::{write_decimal, write_hexadecimal, write_sequence};
+use operation_text::{write_bytes, write_decimal, write_hexadecimal, write_octet, write_sequence};
 use tlp_core::{Body, Kind, OpForm, OpRef, Status, TlpFault, TlpRef, decode_lent, op_lent};
-
-/// Adds the two digits of a byte.
-#[inline(always)]
-#[tactic(auto, using(crate::proofs::DigitLemmas::octet_is))]
-fn put_octet(octet: u8, out: &mut ArrayString<512>)
-    requires { array_string_len out.old + 2 ≤ 512 }
-    ensures text { out.new.bytes ≡ out.old.bytes ++ octet_text octet }
-    ensures len { array_string_len out.new ≡ array_string_len out.old + 2 }
-{
-    out.push_str(pair_of(octet));
-}
-
-/// Adds the two digits of each byte.
-fn put_bytes(bytes: &[u8], out: &mut ArrayString<512>)
-    requires { array_string_len out.old + 2 * length bytes.now ≤ 512 }
-    ensures text { out.new.bytes ≡ out.old.bytes ++ encode_upper bytes.now }
-    ensures len { array_string_len out.new ≡ array_string_len out.old + 2 * length bytes.now }
-{
-    for byte in bytes {
-        put_octet(*byte, out);
-    }
-}
 
 /// Adds four digits.
 fn put_id(id: u16, out: &mut ArrayString<512>)
@@ -44,8 +21,8 @@ fn put_id(id: u16, out: &mut ArrayString<512>)
     ensures text { out.new.bytes ≡ out.old.bytes ++ texts.id_text id }
     ensures len { array_string_len out.new ≡ array_string_len out.old + 4 }
 {
-    put_octet((id / 256) as u8, out);
-    put_octet((id % 256) as u8, out);
+    write_octet((id / 256) as u8, out);
+    write_octet((id % 256) as u8, out);
 }
 
 /// Adds a name and its number, nothing for 0.
@@ -79,7 +56,7 @@ fn put_origin(tlp: &TlpRef<'_>, out: &mut ArrayString<512>)
 {
     put_id(tlp.header.requester, out);
     out.push_str(" tag ");
-    put_octet(tlp.header.tag, out);
+    write_octet(tlp.header.tag, out);
 }
 
 /// Adds a space and the operand's bytes.
@@ -90,7 +67,7 @@ fn put_operand(operand: &[u8], out: &mut ArrayString<512>)
     ensures len { array_string_len out.new ≤ array_string_len out.old + 33 }
 {
     out.push_str(" ");
-    put_bytes(operand, out);
+    write_bytes(operand, out);
 }
 
 /// Adds a space before each of the byte enables.
@@ -135,7 +112,7 @@ fn put_op(op: &OpRef<'_>, out: &mut ArrayString<512>)
             write_hexadecimal(address, out);
             put_enables(first, last, out);
             out.push_str(" ");
-            put_bytes(bytes, out);
+            write_bytes(bytes, out);
         }
         OpForm::FetchAdd { address, operand } => {
             out.push_str("add ");
@@ -191,7 +168,7 @@ fn put_data(tlp: &TlpRef<'_>, out: &mut ArrayString<512>)
 {
     if let Kind::CompletionData = tlp.header.kind {
         out.push_str(" ");
-        put_bytes(tlp.payload, out);
+        write_bytes(tlp.payload, out);
     }
 }
 
@@ -206,7 +183,7 @@ fn put_completer(completer: u16, byte_count: u16, lower: u8, out: &mut ArrayStri
     out.push_str(" count ");
     write_decimal(u64::from(byte_count), out);
     out.push_str(" lower ");
-    put_octet(lower, out);
+    write_octet(lower, out);
 }
 
 fn put_completion(tlp: &TlpRef<'_>, out: &mut ArrayString<512>)

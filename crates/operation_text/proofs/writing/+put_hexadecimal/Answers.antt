@@ -1,44 +1,50 @@
 use Rattle.std.proofs.Common.{◌≤◌, ◌<◌, ◌^◌, ◌≡◌, ◌+◌, ◌++◌, ◌∷◌, ◌%◌, ◌/◌, ◌∙◌, [], List, ℕ, true, length, ap, sym, append_assoc, length-append, arith}
 use Rattle.std.specs.Fmt.{digit_glyph}
-use Rattle.operation_text.specs.Texts.{hexadecimal}
-use Rattle.operation_text.proofs.DigitLemmas.{hexadecimal_digit, hexadecimal_step}
-use Rattle.operation_text.proofs.writing.+put_hexadecimal.Goals.{then-number-ge16, else-number-ge16}
+use Rattle.operation_text.specs.Texts.{hexadecimal, octet_text}
+use Rattle.operation_text.proofs.DigitLemmas.{hexadecimal_digit, hexadecimal_octet, hexadecimal_octets}
 use Rattle.operation_text.proofs.writing.+put_hexadecimal.Goals as goal
 
--- the digits but the last, and the last
-front : (n : ℕ) → 16 ≤ n → n < 2 ^ 64 → length (hexadecimal n) ≡ length (hexadecimal (n / 16)) + 1
-front n more fits = ap length (hexadecimal_step n more fits) ∙ length-append (hexadecimal (n / 16)) (digit_glyph true (n % 16) ∷ [])
+-- the digits but the last two, and the last two
+front : (n : ℕ) → 256 ≤ n → n < 2 ^ 64 → length (hexadecimal n) ≡ length (hexadecimal (n / 256)) + 2
+front n more fits = ap length (hexadecimal_octets n more fits) ∙ length-append (hexadecimal (n / 256)) (octet_text (n % 256))
 
 pub put_hexadecimal-requires : goal.put_hexadecimal-requires
 put_hexadecimal-requires t c =
-    let n = c.args.number in
-    let e = front n c.if-number-ge16.true c.ranges.number.fits in
+    let e = front c.args.number c.if-number-ge256.true c.ranges.number.fits in
     (omega arith, omega (arith, e, c.requires))
 
-pub put_digit-requires : goal.put_digit-requires
-put_digit-requires t c = elim c.if-number-ge16.branch [
-  | then-number-ge16 w ↦
-      let n = c.args.number in
-      let e = front n w.if-number-ge16.true c.ranges.number.fits in
-      let out = ap (λ o. length o.bytes) w.out-is in
-      let more = ap length w.put_hexadecimal.ensures ∙ length-append c.args.out.now.bytes (hexadecimal (n / 16)) in
-      record { value = omega arith; room = omega (arith, e, out, more, c.requires) }
-  | else-number-ge16 w ↦
-      let n = c.args.number in
-      let e = ap length (hexadecimal_digit n w.if-number-ge16.false) in
-      let out = ap (λ o. length o.bytes) w.out-is in
-      record { value = omega arith; room = omega (arith, e, out, c.requires) }
-]
+pub write_octet-requires : goal.write_octet-requires
+write_octet-requires t c =
+    let n = c.args.number in
+    let e = front n c.if-number-ge256.true c.ranges.number.fits in
+    let more = ap length c.put_hexadecimal.ensures ∙ length-append c.args.out.now.bytes (hexadecimal (n / 256)) in
+    omega (arith, e, more, c.requires)
 
-pub returns : goal.returns
-returns t c = elim c.if-number-ge16.branch [
-  | then-number-ge16 w ↦
-      let n = c.args.number in
-      c.put_digit.ensures.text ∙ ap (λ (b : List ℕ). b ++ digit_glyph true (n % 16) ∷ []) (ap (λ o. o.bytes) w.out-is ∙ w.put_hexadecimal.ensures)
-      ∙ append_assoc c.args.out.now.bytes (hexadecimal (n / 16)) (digit_glyph true (n % 16) ∷ [])
-      ∙ ap (λ (b : List ℕ). c.args.out.now.bytes ++ b) (sym (hexadecimal_step n w.if-number-ge16.true c.ranges.number.fits))
-  | else-number-ge16 w ↦
-      let n = c.args.number in
-      c.put_digit.ensures.text ∙ ap (λ (b : List ℕ). b ++ digit_glyph true (n % 16) ∷ []) (ap (λ o. o.bytes) w.out-is)
-      ∙ ap (λ (b : List ℕ). c.args.out.now.bytes ++ b) (sym (hexadecimal_digit n w.if-number-ge16.false))
-]
+pub write_octet-requires-then-number-ge16 : goal.write_octet-requires-then-number-ge16
+write_octet-requires-then-number-ge16 t c =
+    let e = ap length (hexadecimal_octet c.args.number c.if-number-ge16.true c.if-number-ge256.false) in
+    omega (arith, e, c.requires)
+
+pub put_digit-requires-clause-room : goal.put_digit-requires-clause-room
+put_digit-requires-clause-room t c =
+    let e = ap length (hexadecimal_digit c.args.number c.if-number-ge16.false) in
+    omega (arith, e, c.requires)
+
+pub returns-then-number-ge256 : goal.returns-then-number-ge256
+returns-then-number-ge256 t c =
+    let n = c.args.number in
+    c.write_octet.ensures.text ∙ ap (λ (b : List ℕ). b ++ octet_text (n % 256)) c.put_hexadecimal.ensures
+    ∙ append_assoc c.args.out.now.bytes (hexadecimal (n / 256)) (octet_text (n % 256))
+    ∙ ap (λ (b : List ℕ). c.args.out.now.bytes ++ b) (sym (hexadecimal_octets n c.if-number-ge256.true c.ranges.number.fits))
+
+pub returns-then-number-ge16 : goal.returns-then-number-ge16
+returns-then-number-ge16 t c =
+    c.write_octet-then-number-ge16.ensures.text
+    ∙ ap (λ (b : List ℕ). c.args.out.now.bytes ++ b) (sym (hexadecimal_octet c.args.number c.if-number-ge16.true c.if-number-ge256.false))
+
+pub returns-else-number-ge16 : goal.returns-else-number-ge16
+returns-else-number-ge16 t c =
+    let n = c.args.number in
+    let same : n % 16 ≡ n = omega (arith, c.if-number-ge16.false) in
+    c.put_digit.ensures.text
+    ∙ ap (λ (b : List ℕ). c.args.out.now.bytes ++ b) (sym (hexadecimal_digit n c.if-number-ge16.false ∙ ap (λ (k : ℕ). digit_glyph true k ∷ []) same))
