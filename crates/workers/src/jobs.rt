@@ -4,10 +4,11 @@ ghost use Rattle.dllp_core.specs.declared.packet.Class.TheVariants.{Posted};
 ghost use Rattle.hall_core.specs.Views.{IsSeatOf};
 
 use dllp_core::Class;
-use fabric_core::{LaneName, Refusal};
+use fabric_core::{LaneName, Refusal, Seen};
 use fault_plan::Plan;
 use hall_core::{Hall, HallRefusal, WorkEvent, WorkSeat};
-use lane_core::DllpKind;
+use lane_core::{Arrival, DllpKind};
+use link_receiver::Reception;
 use worker_turns::{
     COMPLETER, DOWN_LANES, Gate, INWARD_LANE, OUTWARD_LANE, RECEIVERS, SWITCH, Stop, Turns,
     UP_LANES,
@@ -56,9 +57,38 @@ impl Job {
 #[derive(Clone, Copy, Debug, PartialEq, Eq)]
 enum Tried {
     Done,
+    /// A packet was lost, failed its check or came too early.
+    Missed,
     Idle,
     Refused,
     Busy,
+}
+
+/// What became of a call of which this is seen.
+fn tried_of(seen: &Seen) -> Tried
+    ensures { (¬ (result ≡ Tried.Idle)) × (¬ (result ≡ Tried.Refused)) × (¬ (result ≡ Tried.Busy)) }
+{
+    match seen {
+        Seen::Delivered(Arrival::Gone) => Tried::Missed,
+        Seen::Delivered(Arrival::Answered(Reception::NakNow)) => Tried::Missed,
+        Seen::Delivered(Arrival::Answered(Reception::Quiet)) => Tried::Missed,
+        _ => Tried::Done,
+    }
+}
+
+/// What became of a round.
+#[derive(Clone, Copy, Debug, PartialEq, Eq)]
+pub(crate) enum Went {
+    /// The worker got on.
+    On,
+    /// A packet was lost, failed its check or came too early. The next round is due at once.
+    Again,
+    Nothing,
+}
+
+/// That of a round in which the worker got on or didn't.
+fn went_of(did: bool) -> Went {
+    if did { Went::On } else { Went::Nothing }
 }
 
 /// Whose update is due after one of this class.
@@ -117,7 +147,7 @@ impl<'a> Worker<'a> {
             return None;
         }
         match self.hall.pump(&mut self.seat, event) {
-            Ok(_seen) => Some(Tried::Done),
+            Ok(seen) => Some(tried_of(&seen)),
             Err(HallRefusal::Busy { .. }) => Some(Tried::Busy),
             Err(HallRefusal::Core(Refusal::Idle)) => Some(Tried::Idle),
             Err(HallRefusal::Core(refusal)) if refusal.is_memory() => {
@@ -160,8 +190,8 @@ impl<'a> Worker<'a> {
         Some(again == Tried::Done)
     }
 
-    /// A round of a lane's second worker: whether it got on.
-    fn receive<G: Gate>(&mut self, name: LaneName, turns: &mut Turns<'_, G>) -> Option<bool>
+    /// A round of a lane's second worker: what became of it.
+    fn receive<G: Gate>(&mut self, name: LaneName, turns: &mut Turns<'_, G>) -> Option<Went>
         requires { IsSeatOf self.old.hall.now self.old.seat }
         ensures seat { IsSeatOf self.new.hall.now self.new.seat }
         ensures limit { turns.new.limit ≡ turns.old.limit }
@@ -169,7 +199,7 @@ impl<'a> Worker<'a> {
     {
         let fate = self.plan.fate(self.packets);
         let arrived = self.attempt(WorkEvent::Deliver(name, fate), turns)?;
-        if arrived == Tried::Done {
+        if arrived == Tried::Done || arrived == Tried::Missed {
             self.packets = self.packets.wrapping_add(1);
         }
         if !self.busy {
@@ -182,11 +212,14 @@ impl<'a> Worker<'a> {
             self.attempt(WorkEvent::SendDllp(name, DllpKind::Update(class)), turns)?;
         }
         self.deliver_dllp(name, turns)?;
+        if arrived == Tried::Missed {
+            return Some(Went::Again);
+        }
         if arrived != Tried::Idle {
-            return Some(arrived == Tried::Done);
+            return Some(went_of(arrived == Tried::Done));
         }
         let moved = self.attempt(WorkEvent::Timer(name), turns)?;
-        Some(moved == Tried::Done)
+        Some(went_of(moved == Tried::Done))
     }
 
     /// Forwards from a lane, place 0 or, where the core refused it, place 1.
@@ -232,18 +265,19 @@ impl<'a> Worker<'a> {
         Some(served == Tried::Done)
     }
 
-    /// A round: whether it got on. None if the run is over.
-    pub(crate) fn round<G: Gate>(&mut self, job: Job, turns: &mut Turns<'_, G>) -> Option<bool>
+    /// A round: what became of it. None if the run is over.
+    pub(crate) fn round<G: Gate>(&mut self, job: Job, turns: &mut Turns<'_, G>) -> Option<Went>
         requires { IsSeatOf self.old.hall.now self.old.seat }
         ensures seat { IsSeatOf self.new.hall.now self.new.seat }
         ensures limit { turns.new.limit ≡ turns.old.limit }
         ensures turn { IfSome result (λ _. (turns.old.done < turns.new.done) × (turns.new.done ≤ turns.new.limit)) }
     {
-        match job {
-            Job::Sender(name) => self.send(name, turns),
-            Job::Receiver(name) => self.receive(name, turns),
-            Job::Switch => self.switch(turns),
-            Job::Completer => self.complete(turns),
-        }
+        let did = match job {
+            Job::Sender(name) => self.send(name, turns)?,
+            Job::Receiver(name) => return self.receive(name, turns),
+            Job::Switch => self.switch(turns)?,
+            Job::Completer => self.complete(turns)?,
+        };
+        Some(went_of(did))
     }
 }

@@ -3,7 +3,7 @@ ghost use Rattle.std.specs.Prelude.{◌≡◌, ◌<◌, zero, IfSome, IfNone};
 ghost use Rattle.hall_core.specs.Views.{IsSeatOf};
 ghost use Rattle.workers.specs.Tasks.{turns_left};
 
-use crate::jobs::{Job, Worker};
+use crate::jobs::{Job, Went, Worker};
 use std::marker::Model;
 use std::thread;
 use worker_turns::{Gate, Turns};
@@ -44,8 +44,8 @@ impl<'a, G: Gate> Task<'a, G> {
         }
     }
 
-    /// A round: whether it got on. None if it has ended, as it does with the run.
-    fn round(&mut self) -> Option<bool>
+    /// A round: what became of it. None if it has ended, as it does with the run.
+    fn round(&mut self) -> Option<Went>
         ensures job { self.new.job ≡ self.old.job }
         ensures turn { IfSome result (λ _. self.new.left < self.old.left) }
         ensures ended { IfNone result (self.new.left ≡ zero) }
@@ -53,19 +53,36 @@ impl<'a, G: Gate> Task<'a, G> {
         if self.is_over {
             return None;
         }
-        let did = self.worker.round(self.job, &mut self.turns);
-        self.is_over = did.is_none();
-        did
+        let went = self.worker.round(self.job, &mut self.turns);
+        self.is_over = went.is_none();
+        went
+    }
+
+    /// A round, and the next ones that are due at once: whether it got on. None if it has ended. So after a packet was
+    /// lost the replay timer expires before the sender, if it shares the thread, sends the packets behind that one.
+    fn rounds(&mut self) -> Option<bool>
+        ensures job { self.new.job ≡ self.old.job }
+        ensures turn { IfSome result (λ _. self.new.left < self.old.left) }
+        ensures ended { IfNone result (self.new.left ≡ zero) }
+    {
+        let mut did = false;
+        loop {
+            match self.round() {
+                Some(Went::Again) => did = true,
+                Some(went) => return Some(did || went == Went::On),
+                None => return None,
+            }
+        }
     }
 }
 
-/// A round of each: whether one got on. None if each has ended.
+/// A round of each, and those due at once: whether one got on. None if each has ended.
 fn all_round<G: Gate>(tasks: &mut [Task<'_, G>]) -> Option<bool>
     ensures { IfSome result (λ _. turns_left tasks.new < turns_left tasks.old) }
 {
     let mut went = None;
     for task in tasks.iter_mut() {
-        if let Some(did) = task.round() {
+        if let Some(did) = task.rounds() {
             went = Some(did || went == Some(true));
         }
     }
