@@ -1,8 +1,10 @@
 -- Words that are joined, and the addresses where cells begin.
-use Rattle.std.proofs.Common.{◌≡◌, ◌∙◌, ℕ, zero, suc, ◌+◌, ◌*◌, ◌<◌, ◌≤◌, inl, inr, List, [], ◌∷◌, length, Option, Some, refl, sym, ap, subst, arith}
+use Rattle.std.proofs.Common.{◌≡◌, ◌∙◌, ℕ, zero, suc, ◌+◌, ◌*◌, ◌<◌, ◌≤◌, inl, inr, List, [], ◌∷◌, length, Some, refl, sym, ap, subst, arith}
 use Rattle.std.specs.Prelude.{slice_get, slice_set}
 use Rattle.std.proofs.lemmas.Bool.{cases_eq, cases_lt}
-use Rattle.std.proofs.lemmas.Option.{same_Some, slice_get_within}
+use Rattle.std.specs.List.{All}
+use Rattle.std.proofs.lemmas.List.Elements.{All-get_or}
+use Rattle.std.proofs.lemmas.Option.{same_Some, slice_get_within, get_or_from_slice_get}
 use Rattle.tlp_core.specs.Operation.{address_of, count_of}
 use Rattle.seq_memory.specs.Limits.{Extent}
 use Rattle.log_runs.specs.EventView.{EventView}
@@ -12,7 +14,7 @@ use Rattle.log_cells.specs.declared.cells.Word.{Word}
 use Rattle.log_cells.specs.declared.cells.Word.TheVariants as words
 use Rattle.log_cells.specs.declared.places.Place.{Place}
 use Rattle.log_cells.specs.Places.{ArePlaces}
-use Rattle.log_cells.specs.Cells.{IsUncut}
+use Rattle.log_cells.specs.Cells.{IsUncut, AreCells}
 use Rattle.log_cells.specs.Marks.{IsCut, Keeps, AreJoined, IsBeginning, IsBound}
 use Rattle.log_cells.proofs.Tables.{some_at}
 
@@ -116,3 +118,16 @@ uncut_by log ps v places none = λ a i op told at low high.
         | inl reaches ↦ absurd (none a p there (omega (arith, from, low), omega (arith, from, count, high), omega (arith, from, begins), omega (arith, from, count, reaches)))
       ]
     ]
+
+-- ---- all of it
+
+at_of : {X : Type 0} (P : X → Type 0) (xs : List X) → All P xs → (j : ℕ) (x : X) → slice_get xs j ≡ Some x → P x
+at_of P xs all j x at = subst P (get_or_from_slice_get xs j x x at) (All-get_or P xs j x (slice_get_within xs j x at) all)
+
+pub are_cells : (log : LogView) (ps : List Place) (ws : List Word) (beginnings bounds : List ℕ) → ArePlaces log.events ps → AreJoined log.extent ps ws (length ps) → All (IsBeginning ws) beginnings
+    → All (IsBound log.extent beginnings) bounds → AreCells log (record { places = ps; bounds = bounds })
+are_cells log ps ws beginnings bounds places joined begin bound = record {
+  places = places;
+  uncut = λ j v at inner. uncut_by log ps v places
+      (not_cut log.extent ps ws beginnings v joined (at_of (IsBeginning ws) beginnings begin) (at_of (IsBound log.extent beginnings) bounds bound j v at) inner);
+}
