@@ -234,10 +234,16 @@ impl Cells {
 
     /// The range that has the address, by the addresses where it begins and ends, if one has it.
     pub fn around(&self, address: u64) -> Option<(u64, u64)>
-        ensures { IfSome result (λ r. (j : ℕ) × (slice_get self.now.bounds j ≡ Some r.0) × (slice_get self.now.bounds (j + 1) ≡ Some r.1)) }
+        ensures range { IfSome result (λ r. (j : ℕ) × (slice_get self.now.bounds j ≡ Some r.0) × (slice_get self.now.bounds (j + 1) ≡ Some r.1)) }
+        ensures has { IfSome result (λ r. (r.0 ≤ address) × (address < r.1)) }
     {
         let behind = self.bounds.partition_point(|bound| *bound <= address);
-        self.range(behind.checked_sub(1)?)
+        let (low, high) = self.range(behind.checked_sub(1)?)?;
+        if low <= address && address < high {
+            Some((low, high))
+        } else {
+            None
+        }
     }
 
     pub(crate) fn places(&self) -> &[Place]
