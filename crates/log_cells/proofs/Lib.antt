@@ -1,3 +1,4 @@
 pub mod Window
 pub mod PartRuns
 pub mod Tables
+pub mod MarkLemmas

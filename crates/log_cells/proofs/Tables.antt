@@ -33,7 +33,7 @@ last_at : {X : Type 0} → (xs : List X) (v : X) → slice_get (xs ++ v ∷ []) 
 last_at [] v = refl
 last_at (z ∷ zs) v = last_at zs v
 
-some_at : {X : Type 0} → (xs : List X) (i : ℕ) → i < length xs → (x : X) × (slice_get xs i ≡ Some x)
+pub some_at : {X : Type 0} → (xs : List X) (i : ℕ) → i < length xs → (x : X) × (slice_get xs i ≡ Some x)
 some_at [] i l = absurd (omega arith)
 some_at (x ∷ xs) zero l = (x, refl)
 some_at (x ∷ xs) (suc i) l = some_at xs i (omega arith)

@@ -1,9 +1,13 @@
 //! Ranges of bytes that no request crosses the ends of.
-ghost use Rattle.std.specs.Prelude.{◌≡◌, IfOk, List};
-ghost use Rattle.log_cells.specs.Places.{ArePlaces};
+ghost use Rattle.std.specs.Prelude.{◌≡◌, ◌+◌, ◌-◌, ◌*◌, ◌/◌, ◌<◌, ◌≤◌, ℕ, Some, IfOk, IfSome, IfNone, IsTrue, length, replicate, slice_get, slice_set};
+ghost use Rattle.std.specs.List.{All};
+ghost use Rattle.log_cells.specs.declared.cells.Word.TheVariants as kinds;
+ghost use Rattle.log_cells.specs.Cells.{AreCells};
+ghost use Rattle.log_cells.specs.Marks.{IsCut, Keeps, AreJoined, IsBeginning, IsBound};
 
 use crate::places::{Place, places_of};
 use log_runs::Log;
+use seq_memory::Extent;
 use std::alloc::{AllocError, Global};
 use std::marker::Model;
 
@@ -14,8 +18,8 @@ const WORD: u64 = 4;
 const WORK: usize = 33_554_432;
 
 /// What requests say of a word of the memory.
-#[derive(Clone, Copy, PartialEq)]
-enum Word {
+#[derive(Clone, Copy)]
+pub(crate) enum Word {
     /// No request names it.
     Unused,
     /// One does.
@@ -34,18 +38,22 @@ pub struct Cells {
 }
 
 impl Model for Cells {
-    ghost use Rattle.std.specs.Prelude.{List};
-    ghost use Rattle.log_cells.specs.declared.places.Place.{Place};
+    ghost use Rattle.log_cells.specs.CellsView.{CellsView};
 
-    ghost Value = { List Place };
+    ghost Value = { CellsView };
 
-    ghost view = { λ m. m.places.items };
+    ghost view = { λ m. record { places = m.places.items; bounds = m.bounds.items } };
 
     ghost invariant = { λ m. Unit {0} };
 }
 
 /// The first word and the last that the place has, if it lies in the memory.
-fn words_of(place: Place, base: u64, size: u64) -> Option<(usize, usize)> {
+fn words_of(place: Place, extent: Extent) -> Option<(usize, usize)>
+    ensures some { IfSome result (λ r. (k : ℕ) → IsCut extent (extent.base + 4 * (k + 1)) place → (r.0 ≤ k) × (k < r.1)) }
+    ensures none { IfNone result ((k : ℕ) → IsCut extent (extent.base + 4 * (k + 1)) place → ⊥) }
+{
+    let base = extent.base();
+    let size = extent.size() as u64;
     if place.count == 0 || place.from < base {
         return None;
     }
@@ -58,51 +66,113 @@ fn words_of(place: Place, base: u64, size: u64) -> Option<(usize, usize)> {
     Some(((first / WORD) as usize, (last / WORD) as usize))
 }
 
-fn unused(alloc: Global, count: usize) -> Result<Vec<Word>, AllocError> {
-    let mut words = Vec::with_capacity(alloc, count)?;
-    for _ in 0..count {
-        words.push(Word::Unused)?;
+fn unused(alloc: Global, count: usize) -> Result<Vec<Word>, AllocError>
+    ensures { IfOk result (λ v. v.items ≡ replicate count kinds.Unused) }
+{
+    vec![in alloc; Word::Unused; count]
+}
+
+/// The requests say this of the word, if there is one.
+fn set(words: &mut [Word], at: usize, word: Word)
+    ensures { words.new ≡ slice_set words.old at word }
+{
+    if at < words.len() {
+        words[at] = word;
     }
-    Ok(words)
+}
+
+/// A request names the word.
+fn name(words: &mut [Word], at: usize)
+    ensures { Keeps words.old words.new }
+{
+    if let Some(Word::Unused) = words.get(at) {
+        set(words, at, Word::Used);
+    }
 }
 
 /// A request names these words.
-fn join(words: &mut [Word], first: usize, last: usize) {
+fn join(words: &mut [Word], first: usize, last: usize)
+    ensures keeps { Keeps words.old words.new }
+    ensures joined { (k : ℕ) → first ≤ k → k < last → k < length words.old → slice_get words.new k ≡ Some kinds.Joined }
+{
     for at in first..last {
-        if let Some(word) = words.get_mut(at) {
-            *word = Word::Joined;
-        }
+        set(words, at, Word::Joined);
     }
-    if let Some(word) = words.get_mut(last) {
-        if *word == Word::Unused {
-            *word = Word::Used;
-        }
+    name(words, last);
+}
+
+/// A request names the words of the place.
+fn mark(words: &mut [Word], place: Place, extent: Extent)
+    requires { length words.old ≡ extent.size / 4 }
+    ensures keeps { Keeps words.old words.new }
+    ensures joined { (k : ℕ) → IsCut extent (extent.base + 4 * (k + 1)) place → slice_get words.new k ≡ Some kinds.Joined }
+{
+    if let Some((first, last)) = words_of(place, extent) {
+        join(words, first, last);
     }
 }
 
 /// What the requests at these places say of each word.
-fn joined(alloc: Global, places: &[Place], base: u64, size: u64) -> Result<Vec<Word>, AllocError> {
-    let mut words = unused(alloc, (size / WORD) as usize)?;
-    for place in places {
-        if let Some((first, last)) = words_of(*place, base, size) {
-            join(&mut words, first, last);
-        }
+fn joined(alloc: Global, places: &[Place], extent: Extent) -> Result<Vec<Word>, AllocError>
+    ensures len { IfOk result (λ v. length v.items ≡ extent.size / 4) }
+    ensures joined { IfOk result (λ v. AreJoined extent places.now v.items (length places.now)) }
+{
+    let mut words = unused(alloc, extent.size() / WORD as usize)?;
+    for at in 0..places.len() {
+        mark(words.as_mut_slice(), places[at], extent);
     }
     Ok(words)
 }
 
+/// A request names the word.
+fn is_named(words: &[Word], at: usize) -> bool {
+    matches!(words.get(at), Some(Word::Used | Word::Joined))
+}
+
+/// A request names the word and the next.
+fn is_joined(words: &[Word], at: usize) -> bool
+    ensures { slice_get words.now at ≡ Some kinds.Joined → IsTrue result }
+{
+    match words.get(at) {
+        Some(Word::Joined) => true,
+        _ => false,
+    }
+}
+
+/// A cell begins with the word.
+fn begins(words: &[Word], at: usize) -> bool
+    requires { at < length words.now }
+    ensures { IsTrue result → IsBeginning words.now at }
+{
+    if at == 0 {
+        return is_named(words, at);
+    }
+    if is_joined(words, at - 1) {
+        return false;
+    }
+    is_named(words, at)
+}
+
 /// The words with which cells begin.
-fn beginnings(alloc: Global, words: &[Word]) -> Result<Vec<usize>, AllocError> {
+fn beginnings(alloc: Global, words: &[Word]) -> Result<Vec<usize>, AllocError>
+    ensures { IfOk result (λ v. All (IsBeginning words.now) v.items) }
+{
     let mut beginnings = Vec::new(alloc);
-    let mut before = Word::Unused;
     for at in 0..words.len() {
-        let word = words[at];
-        if word != Word::Unused && before != Word::Joined {
+        if begins(words, at) {
             beginnings.push(at)?;
         }
-        before = word;
     }
     Ok(beginnings)
+}
+
+/// The address of the word.
+fn address_of(extent: Extent, word: usize) -> u64
+    requires { word < extent.size / 4 }
+    ensures { result ≡ extent.base + 4 * word }
+{
+    let size = extent.size();
+    extent.base() + WORD * word as u64
 }
 
 /// The bounds of ranges of so many cells each.
@@ -110,61 +180,74 @@ fn bounds_of(
     alloc: Global,
     beginnings: &[usize],
     each: usize,
-    base: u64,
-    size: u64,
-) -> Result<Vec<u64>, AllocError> {
+    extent: Extent,
+) -> Result<Vec<u64>, AllocError>
+    requires { All (λ b. b < extent.size / 4) beginnings.now }
+    ensures { IfOk result (λ v. All (IsBound extent beginnings.now) v.items) }
+{
     let mut bounds = Vec::new(alloc);
-    bounds.push(base)?;
+    bounds.push(extent.base())?;
     let mut cells = 0usize;
-    for at in beginnings {
+    for at in 0..beginnings.len() {
         if cells == each {
-            bounds.push(base.saturating_add((*at as u64).saturating_mul(WORD)))?;
+            bounds.push(address_of(extent, beginnings[at]))?;
             cells = 0;
         }
         cells = cells.saturating_add(1);
     }
-    bounds.push(base.saturating_add(size))?;
+    bounds.push(extent.base().saturating_add(extent.size() as u64))?;
     Ok(bounds)
 }
 
 impl Cells {
     /// The cells of a log's memory.
     pub fn of(alloc: Global, log: &Log<'_>) -> Result<Self, AllocError>
-        ensures { IfOk result (λ c. ArePlaces log.now.events c) }
+        ensures { IfOk result (AreCells log.now) }
     {
         let places = places_of(alloc, log)?;
-        let base = log.extent().base();
-        let size = log.extent().size() as u64;
-        let words = joined(alloc, &places, base, size)?;
+        let extent = log.extent();
+        let words = joined(alloc, &places, extent)?;
         let beginnings = beginnings(alloc, &words)?;
         let most = WORK / places.len().saturating_add(1);
         let each = beginnings.len() / most.saturating_add(1) + 1;
-        Ok(Cells {
-            bounds: bounds_of(alloc, &beginnings, each, base, size)?,
-            places,
-        })
+        let bounds = bounds_of(alloc, &beginnings, each, extent)?;
+        Ok(Cells { places, bounds })
     }
 
     /// How many ranges there are.
-    pub fn count(&self) -> usize {
+    pub fn count(&self) -> usize
+        ensures { result ≡ length self.now.bounds - 1 }
+    {
         self.bounds.len().saturating_sub(1)
     }
 
     /// The addresses where a range begins and ends, if there is one.
-    pub fn range(&self, range: usize) -> Option<(u64, u64)> {
+    pub fn range(&self, range: usize) -> Option<(u64, u64)>
+        ensures low { IfSome result (λ r. slice_get self.now.bounds range ≡ Some r.0) }
+        ensures high { IfSome result (λ r. slice_get self.now.bounds (range + 1) ≡ Some r.1) }
+        ensures none { IfNone result (length self.now.bounds ≤ range + 1) }
+    {
         let low = self.bounds.get(range)?;
         let high = self.bounds.get(range.checked_add(1)?)?;
         Some((*low, *high))
     }
 
     /// The range that has the address, by the addresses where it begins and ends, if one has it.
-    pub fn around(&self, address: u64) -> Option<(u64, u64)> {
+    pub fn around(&self, address: u64) -> Option<(u64, u64)>
+        ensures range { IfSome result (λ r. (j : ℕ) × (slice_get self.now.bounds j ≡ Some r.0) × (slice_get self.now.bounds (j + 1) ≡ Some r.1)) }
+        ensures has { IfSome result (λ r. (r.0 ≤ address) × (address < r.1)) }
+    {
         let behind = self.bounds.partition_point(|bound| *bound <= address);
-        self.range(behind.checked_sub(1)?)
+        let (low, high) = self.range(behind.checked_sub(1)?)?;
+        if low <= address && address < high {
+            Some((low, high))
+        } else {
+            None
+        }
     }
 
     pub(crate) fn places(&self) -> &[Place]
-        ensures { result.now ≡ self.now }
+        ensures { result.now ≡ self.now.places }
     {
         &self.places
     }

@@ -111,7 +111,7 @@ pub fn part<'a>(
     low: u64,
     high: u64,
 ) -> Result<Option<LogPart<'a>>, AllocError>
-    requires places { ArePlaces log.now.events cells.now }
+    requires places { ArePlaces log.now.events cells.now.places }
     ensures live { IfOk result (λ o. IfSome o (λ p. Live log.now (start log.now) → Live p.log (start p.log))) }
     ensures names { IfOk result (λ o. IfSome o (λ p. AreKept log.now.events p.names.items low high p.log.events (length p.names.items))) }
 {

@@ -34,7 +34,7 @@ pub(crate) fn explored_on<W: Watch>(
     bounds: Bounds,
     watch: &mut W,
 ) -> Result<Explored, AllocError>
-    requires places { ArePlaces field.log.now.events field.cells.now }
+    requires places { ArePlaces field.log.now.events field.cells.now.places }
     ensures dead { IfOk result (λ r. r.found.outcome ≡ Outcome.Dead → Dead field.entry.log.now (start field.entry.log.now)) }
     ensures states { IfOk result (λ r. r.found.states ≤ bounds.choices) }
 {
@@ -191,7 +191,7 @@ fn each_of<W: Watch>(
     bounds: Bounds,
     watch: &mut W,
 ) -> Result<Tried, AllocError>
-    requires places { ArePlaces task.field.log.now.events task.field.cells.now }
+    requires places { ArePlaces task.field.log.now.events task.field.cells.now.places }
     ensures dead { IfOk result (λ r. IsSome r.dead → Dead task.entry.field.log.now (start task.entry.field.log.now)) }
     ensures states { IfOk result (λ r. r.left.choices ≤ bounds.choices) }
 {
@@ -234,7 +234,7 @@ fn each_within<W: Watch>(
     bounds: Bounds,
     watch: &mut W,
 ) -> Result<Tried, AllocError>
-    requires places { ArePlaces task.field.log.now.events task.field.cells.now }
+    requires places { ArePlaces task.field.log.now.events task.field.cells.now.places }
     ensures dead { IfOk result (λ r. IsSome r.dead → Dead task.entry.field.log.now (start task.entry.field.log.now)) }
     ensures states { IfOk result (λ r. r.left.choices ≤ bounds.choices) }
 {
@@ -276,7 +276,7 @@ fn each_part<W: Watch>(
     bounds: Bounds,
     watch: &mut W,
 ) -> Result<Tried, AllocError>
-    requires places { ArePlaces field.log.now.events field.cells.now }
+    requires places { ArePlaces field.log.now.events field.cells.now.places }
     ensures dead { IfOk result (λ r. IsSome r.dead → Dead field.entry.log.now (start field.entry.log.now)) }
     ensures states { IfOk result (λ r. r.left.choices ≤ bounds.choices) }
 {

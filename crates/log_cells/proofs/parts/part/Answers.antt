@@ -23,7 +23,7 @@ returns c =
     let kept = subst (λ o. IfSome o (λ v. AreKept log.events c.deref.result.now low high (map event_of v.items) (length c.deref.result.now))) c.in-Some-2.is c.in_ok-events.ensures in
     let kept_names = subst (λ ns. AreKept log.events ns low high events (length ns)) c.deref.ensures.value kept in
     let leads = c.a_part_has_a_run.ensures log (record { extent = extent; events = events }) low high names
-    (is_part log (record { extent = extent; events = events }) low high names c.args.cells.now c.requires.places are kept_names made.0 (c.if-not-holds.ensures refl) made.1) in
+    (is_part log (record { extent = extent; events = events }) low high names c.args.cells.now.places c.requires.places are kept_names made.0 (c.if-not-holds.ensures refl) made.1) in
     record {
       live = subst (λ (p : LogView). Live log (start log) → Live p (start p)) (sym c.new.ensures) leads;
       names = subst (λ (p : LogView). AreKept log.events names low high p.events (length names)) (sym c.new.ensures) kept_names;
