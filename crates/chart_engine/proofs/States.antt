@@ -11,26 +11,26 @@ use Rattle.fabric_core.specs.Config.{fault_name}
 use Rattle.fabric_core.specs.Answers.{answer}
 use Rattle.fabric_answers.specs.New.{new_fabric, config_fault}
 use Rattle.script_text.specs.Names.{refusal_text}
-use Rattle.chart_links.specs.ChartView.{ChartView, new_chart}
 use Rattle.line_loop.specs.declared.verdict.Verdict.{Verdict}
 use Rattle.line_loop.specs.declared.verdict.Verdict.TheVariants as verdicts
 use Rattle.line_loop.specs.Run.{IsAnswer}
 use Rattle.chart_engine.specs.declared.chart.Session.{Session}
 use Rattle.chart_engine.specs.Chart as spec
-use Rattle.chart_engine.specs.Chart.{CharterView, session, next_line}
+use Rattle.chart_engine.specs.ChartWitnessView.{ChartWitnessView}
+use Rattle.chart_engine.specs.Chart.{CharterView, new_witness, session, next_line}
 
 pub none_of : {X : Type 0} (o : Option X) → is_some o ≡ false → o ≡ None
 none_of None e = refl
 none_of (Some x) e = absurd cc
 
 -- the fabric of the script is made, with its chart
-pub is_made : (s new : CharterView) (c : Config) (f : Fabric) (chart : ChartView) (out : List ℕ) → s.session ≡ None → config_fault c ≡ None → f ≡ new_fabric c
-    → chart ≡ new_chart s.window c.requesters → new ≡ record s { lines = next_line s; session = Some (session f chart) } → IsAnswer new out out verdicts.Fine (spec.made_once s s.session c)
+pub is_made : (s new : CharterView) (c : Config) (f : Fabric) (chart : ChartWitnessView) (out : List ℕ) → s.session ≡ None → config_fault c ≡ None → f ≡ new_fabric c
+    → chart ≡ new_witness s.window c.requesters → new ≡ record s { lines = next_line s; session = Some (session f chart) } → IsAnswer new out out verdicts.Fine (spec.made_once s s.session c)
 is_made s new c f chart out none fault made charts now =
     subst (IsAnswer new out out verdicts.Fine) (sym (ap (λ (o : Option Session). spec.made_once s o c) none ∙ ap (spec.made s c) fault))
     (record {
       state = now ∙ ap (λ (g : Fabric). record s { lines = next_line s; session = Some (session g chart) }) made
-          ∙ ap (λ (v : ChartView). record s { lines = next_line s; session = Some (session (new_fabric c) v) }) charts;
+          ∙ ap (λ (v : ChartWitnessView). record s { lines = next_line s; session = Some (session (new_fabric c) v) }) charts;
       text = sym (append-nil out);
       is_fault = refl;
     })

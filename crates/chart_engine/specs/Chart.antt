@@ -1,5 +1,5 @@
 -- What `chart` answers to the lines of a script.
-use Rattle.std.specs.Prelude.{ℕ, ◌+◌, ◌-◌, ◌^◌, min, Bool, true, false, if◌then◌else◌, List, [], ◌∷◌, ◌++◌, fold, codes, Option, Some, None, Result, Ok, Err}
+use Rattle.std.specs.Prelude.{ℕ, ◌+◌, ◌-◌, ◌^◌, min, Bool, true, false, if◌then◌else◌, List, [], ◌∷◌, ◌++◌, map, fold, codes, Option, Some, None, Result, Ok, Err}
 use Rattle.std.specs.Fmt.{decimal}
 use Rattle.std.specs.Io.KnownBytes.{Appends}
 use Rattle.svg_text.specs.Xml.{IsDocument}
@@ -20,14 +20,46 @@ use Rattle.script_text.specs.declared.line.Line.{Line}
 use Rattle.script_text.specs.declared.line.Line.TheVariants as lines
 use Rattle.script_text.specs.Forms.{line_of}
 use Rattle.script_text.specs.Names.{refusal_text}
-use Rattle.chart_page.specs.Shapes.{chart_text, title_text}
+use Rattle.chart_page.specs.Shapes.{title_text}
+use Rattle.chart_levels.specs.StepLineView.{StepLineView}
+use Rattle.chart_levels.specs.Levels.{shown}
 use Rattle.chart_links.specs.declared.window.ChartWindow.{ChartWindow}
-use Rattle.chart_links.specs.ChartView.{ChartView, new_chart, charted, refused, page_of, titled}
+use Rattle.chart_links.specs.ChartView.{ChartView, new_chart, row_for, refused_row, charted, refused, page_of, titled}
+use Rattle.chart_links.specs.Levels.{new_lines, levelled_text}
 use Rattle.line_loop.specs.Run.{Answer, Responses, Run, run_of}
+use Rattle.chart_engine.specs.ChartWitnessView.{ChartWitnessView}
 use Rattle.chart_engine.specs.declared.chart.Session.{Session}
 
--- the fabric of a script and its chart
-abbrev pub session : Fabric → ChartView → Session
+-- ---- a chart and the step lines beside its rows
+
+abbrev pub witness : ChartView → List StepLineView → ChartWitnessView
+witness chart lines = record { chart = chart; lines = lines }
+
+-- of a fabric to which nothing has happened
+abbrev pub new_witness : ChartWindow → ℕ → ChartWitnessView
+new_witness window requesters = witness (new_chart window requesters) (new_lines window requesters)
+
+-- the step lines are shown the fabric after the event of a row
+abbrev pub row_shown : Option ℕ → Fabric → List StepLineView → List StepLineView
+row_shown None f lines = lines
+row_shown (Some row) f lines = map (shown row f) lines
+
+-- an event happened, and left the fabric
+abbrev pub witnessed : ChartWitnessView → ℕ → Event → Seen → Fabric → ChartWitnessView
+witnessed w line event what f = witness (charted w.chart line event what) (row_shown (row_for w.chart line event what) f w.lines)
+
+-- it was refused by the fabric
+abbrev pub refused_with : ChartWitnessView → ℕ → Event → Refusal → Fabric → ChartWitnessView
+refused_with w line event r f = witness (refused w.chart line event r) (row_shown (refused_row w.chart line event) f w.lines)
+
+-- the chart below a line, with the step lines at its right
+abbrev pub witness_text : ChartWitnessView → Bool → List ℕ → List ℕ
+witness_text w red title = levelled_text (page_of w.chart) w.lines red (titled w.chart title)
+
+-- ---- a script
+
+-- its fabric, and the chart of that
+abbrev pub session : Fabric → ChartWitnessView → Session
 session f chart = record { fabric = f; chart = chart }
 
 -- a script so far: what is shown of it, its fabric with the chart, the number of lines, skipped ones counted, and the
@@ -73,7 +105,7 @@ no_line s = fault s (codes "Script")
 
 abbrev pub made : CharterView → Config → Option ConfigFault → Answer CharterView
 made s c (Some x) = fault s (fault_name x)
-made s c None = goes_on s (session (new_fabric c) (new_chart s.window c.requesters))
+made s c None = goes_on s (session (new_fabric c) (new_witness s.window c.requesters))
 
 -- a script has one fabric
 abbrev pub made_once : CharterView → Option Session → Config → Answer CharterView
@@ -82,8 +114,8 @@ made_once s (Some now) c = no_line s
 
 -- what an event with this answer leaves, and why it is refused
 abbrev pub left_by : ℕ → Session → Event → Result (Seen × Fabric) Refusal → Session
-left_by line p event (Ok a) = session a.1 (charted p.chart line event a.0)
-left_by line p event (Err r) = session p.fabric (refused p.chart line event r)
+left_by line p event (Ok a) = session a.1 (witnessed p.chart line event a.0 a.1)
+left_by line p event (Err r) = session p.fabric (refused_with p.chart line event r p.fabric)
 
 abbrev pub refusal_in : Result (Seen × Fabric) Refusal → Option Refusal
 refusal_in (Ok a) = None
@@ -99,10 +131,10 @@ happened s None event = no_line s
 happened s (Some p) event = unless_refused s (left_by (next_line s) p event (answer p.fabric event)) (refusal_in (answer p.fabric event))
 
 -- a chart that is told what happened, as of that line
-abbrev pub charted_of : ℕ → ChartView → Happening → ChartView
-charted_of line chart h = charted chart line h.event h.what
+abbrev pub charted_of : ℕ → ChartWitnessView → Happening → ChartWitnessView
+charted_of line chart h = witnessed chart line h.event h.what h.after
 
-abbrev pub after_rounds : ℕ → ChartView → Settling → Session
+abbrev pub after_rounds : ℕ → ChartWitnessView → Settling → Session
 after_rounds line chart t = session t.fabric (fold (charted_of line) chart t.happened)
 
 -- rounds of events until nothing moves
@@ -141,7 +173,7 @@ is_red (Some line) = true
 -- a script without a fabric has the line alone
 abbrev pub text_below : Option Session → Bool → List ℕ → List ℕ
 text_below None red title = title_text red title
-text_below (Some p) red title = chart_text (page_of p.chart) red (titled p.chart title)
+text_below (Some p) red title = witness_text p.chart red title
 
 abbrev pub text_of : Option Session → Option (List ℕ) → List ℕ
 text_of o ending = text_below o (is_red ending) (title_of ending)

@@ -1,2 +1,3 @@
+pub mod ChartWitnessView
 pub mod Chart
 pub mod Events

@@ -6,7 +6,6 @@ ghost use Rattle.fabric_core.specs.Answers.{answer};
 ghost use Rattle.fabric_answers.specs.Told.{IsTold};
 ghost use Rattle.fabric_core.specs.Config.{fault_name};
 ghost use Rattle.script_text.specs.Names.{refusal_text};
-ghost use Rattle.chart_links.specs.ChartView.{refused};
 ghost use Rattle.line_loop.specs.Run.{IsAnswer, IsWhole, IsPart};
 ghost use Rattle.chart_engine.specs.Chart as spec;
 ghost use Rattle.chart_engine.specs.Chart.{WritesDocument, out_chart};
@@ -16,7 +15,7 @@ use crate::laws::{charts_are_well_formed, charts_show_what_happened};
 use crate::making::{is_no_memory, make};
 use crate::witness::ChartWitness;
 use arrayvec::ArrayString;
-use chart_links::{Chart, ChartWindow};
+use chart_links::ChartWindow;
 use chart_page::put_title_chart;
 use fabric_core::{Config, ConfigFault, Event, Fabric, Refusal};
 use fabric_settle::{happen, settle};
@@ -75,14 +74,15 @@ fn tell_refused(
     line: u64,
     event: Event,
     refusal: Refusal,
+    fabric: &Fabric,
 ) -> Result<(), AllocError>
     ensures told { OnOk result (IsTold refusal) }
-    ensures chart { OnOk result (witness.new ≡ refused witness.old line event refusal) }
+    ensures chart { OnOk result (witness.new ≡ spec.refused_with witness.old line event refusal fabric.now) }
 {
     if refusal.is_memory() {
         return Err(AllocError);
     }
-    witness.chart.refused(line, event, refusal)
+    witness.refused(line, event, refusal, fabric)
 }
 
 /// An event happens to a fabric or is refused, and its chart is told. Gives why it was refused.
@@ -99,7 +99,7 @@ fn happen_charted(
     match happen(fabric, chart, line, &event) {
         Ok(()) => Ok(None),
         Err(refusal) => {
-            tell_refused(chart, line, event, refusal)?;
+            tell_refused(chart, line, event, refusal, fabric)?;
             Ok(Some(refusal))
         }
     }
@@ -178,11 +178,8 @@ impl Charter {
         }
         match make(config, self.alloc) {
             Ok(fabric) => {
-                let chart = Chart::new(self.alloc, self.window, config.requesters)?;
-                self.session = Some(Session {
-                    fabric,
-                    chart: ChartWitness { chart },
-                });
+                let chart = ChartWitness::new(self.alloc, self.window, config.requesters)?;
+                self.session = Some(Session { fabric, chart });
                 self.count();
                 Ok(Verdict::Fine)
             }
@@ -238,7 +235,7 @@ fn put_below(
 {
     match session {
         None => put_title_chart(alloc, is_red, title, out),
-        Some(session) => session.chart.chart.put(is_red, title, out),
+        Some(session) => session.chart.put(is_red, title, out),
     }
 }
 
@@ -294,9 +291,9 @@ impl Responder for Charter {
 }
 
 /// Reads a script as `step` does, and writes a chart of what happened on the links of its fabric in SVG: the events of
-/// the window, 1,000 at most. Above it stands the line of the fault or the refusal that ended the run, in red, or that
-/// the script ran to its end. `Ok` is the exit status, 1 where a fault or a refusal ended the run. After an `Err` what
-/// was written is a beginning of the whole output.
+/// the window, 1,000 at most, with step lines if it has levels. Above it stands the line of the fault or the refusal
+/// that ended the run, in red, or that the script ran to its end. `Ok` is the exit status, 1 where a fault or a refusal
+/// ended the run. After an `Err` what was written is a beginning of the whole output.
 pub fn run_chart<R: Read, W: Write>(
     alloc: Global,
     window: ChartWindow,
@@ -309,7 +306,8 @@ pub fn run_chart<R: Read, W: Write>(
     // Whatever the input is, what is written is a well-formed document of XML.
     ensures document { OnOk result (WritesDocument (W.contents writer.old) (W.contents writer.new)) }
 
-    // It is the chart of events that happened one after the other to a new fabric, and perhaps of one refused last.
+    // It is the chart of events that happened one after the other to a new fabric, and perhaps of one refused last. Its
+    // step lines have the levels of the fabric after the event of each row.
     ensures events { OnOk result (WritesEvents window (W.contents writer.old) (W.contents writer.new)) }
 {
     let charter = Charter::new(alloc, window);

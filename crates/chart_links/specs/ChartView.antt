@@ -93,6 +93,19 @@ follows v place line event what m = record v {
 abbrev pub placed : ChartView → Place → ℕ → Event → Seen → ChartView
 placed v place line event what = follows v place line event what (followed v.courses (row_at place (length v.page.rows)) event what)
 
+-- the row of an event of which this is seen, if it is shown
+abbrev pub row_for : ChartView → ℕ → Event → Seen → Option ℕ
+row_for v line event what = row_at (place_for v line event what) (length v.page.rows)
+
+-- so many rows, with that of an event if it has one
+abbrev pub rows_with : Option ℕ → ℕ → ℕ
+rows_with None n = n
+rows_with (Some row) n = n + 1
+
+-- of one that is refused
+abbrev pub refused_row : ChartView → ℕ → Event → Option ℕ
+refused_row v line event = row_at (place_of v.window (length v.page.rows) line event) (length v.page.rows)
+
 -- an event of that line of the script happened, and this was seen of it
 abbrev pub charted : ChartView → ℕ → Event → Seen → ChartView
 charted v line event what = placed v (place_for v line event what) line event what

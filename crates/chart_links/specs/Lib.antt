@@ -3,3 +3,4 @@ pub mod CourseView
 pub mod Lanes
 pub mod News
 pub mod ChartView
+pub mod Levels

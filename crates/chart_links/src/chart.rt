@@ -1,6 +1,6 @@
 //! The chart, event by event.
 ghost use Rattle.std.specs.Prelude.{◌≡◌, ◌≤◌, ◌<◌, ◌++◌, length, replicate, IsSome, OnOk, OnErr, IfOk};
-ghost use Rattle.chart_page.specs.Shapes.{chart_text};
+ghost use Rattle.chart_links.specs.Levels.{levelled_text};
 ghost use Rattle.chart_links.specs.CourseView.{quiet};
 ghost use Rattle.chart_links.specs.Window.{absent_words};
 ghost use Rattle.chart_links.specs.ChartView as spec;
@@ -11,7 +11,8 @@ use crate::left::{add_dllp, add_left, add_packet};
 use crate::news::tells_nothing;
 use crate::window::{ChartWindow, Place, parts_of, write_if_absent};
 use arrayvec::ArrayString;
-use chart_page::put_chart;
+use chart_levels::{StepLine, put_levelled_page};
+use chart_page::put_chart_shapes;
 use chart_rows::{Deed, Open, Page, Row};
 use fabric_core::{Event, LaneName, Refusal, Seen};
 use std::alloc::{AllocError, Global};
@@ -155,10 +156,11 @@ impl Chart {
         })
     }
 
-    /// An event of that line of the script happened, and this was seen of it. The only error is being out of memory;
-    /// after it the chart may lack the event.
-    pub fn event(&mut self, line: u64, event: Event, seen: Seen) -> Result<(), AllocError>
-        ensures { OnOk result (self.new ≡ spec.charted self.old line event seen) }
+    /// An event of that line of the script happened, and this was seen of it. Gives its row, if it is shown. The only error
+    /// is being out of memory; after it the chart may lack the event.
+    pub fn event(&mut self, line: u64, event: Event, seen: Seen) -> Result<Option<u16>, AllocError>
+        ensures chart { OnOk result (self.new ≡ spec.charted self.old line event seen) }
+        ensures row { IfOk result (λ row. row ≡ spec.row_for self.old line event seen) }
     {
         let rows = self.page.rows.len();
         let is_old = tells_nothing(&self.courses, &event, &seen);
@@ -173,13 +175,20 @@ impl Chart {
             outcome: Ok(seen),
             deed,
         };
-        draw(row, of, &mut self.page)
+        draw(row, of, &mut self.page)?;
+        Ok(row)
     }
 
-    /// An event of that line of the script was refused. The only error is being out of memory; after it the chart may
-    /// lack the event.
-    pub fn refused(&mut self, line: u64, event: Event, refusal: Refusal) -> Result<(), AllocError>
-        ensures { OnOk result (self.new ≡ spec.refused self.old line event refusal) }
+    /// An event of that line of the script was refused. Gives its row, if it is shown. The only error is being out of
+    /// memory; after it the chart may lack the event.
+    pub fn refused(
+        &mut self,
+        line: u64,
+        event: Event,
+        refusal: Refusal,
+    ) -> Result<Option<u16>, AllocError>
+        ensures chart { OnOk result (self.new ≡ spec.refused self.old line event refusal) }
+        ensures row { IfOk result (λ row. row ≡ spec.refused_row self.old line event) }
     {
         let rows = self.page.rows.len();
         let place = self.window.place_of(rows, line, &event);
@@ -191,13 +200,21 @@ impl Chart {
             outcome: Err(refusal),
             deed: Deed::Nothing,
         };
-        draw(row, of, &mut self.page)
+        draw(row, of, &mut self.page)?;
+        Ok(row)
     }
 
-    /// Adds the chart in SVG below a line, which is red where it tells a fault or a refusal. If the fabric lacks the lane
-    /// of the window, that follows in the line. After an `Err`, which is out of memory, nothing is added.
-    pub fn put(self, is_red: bool, title: &[u8], out: &mut Vec<u8>) -> Result<(), AllocError>
-        ensures ok { OnOk result (out.new.items ≡ out.old.items ++ chart_text (spec.page_of self) is_red (spec.titled self title.now)) }
+    /// Adds the chart in SVG below a line, which is red where it tells a fault or a refusal, with step lines at its right.
+    /// If the fabric lacks the lane of the window, that follows in the line. After an `Err`, which is out of memory,
+    /// nothing is added.
+    pub fn put(
+        self,
+        lines: &[StepLine],
+        is_red: bool,
+        title: &[u8],
+        out: &mut Vec<u8>,
+    ) -> Result<(), AllocError>
+        ensures ok { OnOk result (out.new.items ≡ out.old.items ++ levelled_text (spec.page_of self) lines.now is_red (spec.titled self title.now)) }
         ensures err { OnErr result (out.new.items ≡ out.old.items) }
     {
         let alloc = self.alloc;
@@ -205,6 +222,8 @@ impl Chart {
         let mut page = self.page;
         let line = lengthened(alloc, title, self.window.lane, self.requesters)?;
         add_rest(courses.as_slice(), &mut page)?;
-        put_chart(alloc, &page, is_red, line.as_slice(), out)
+        let mut shapes = Vec::new(alloc);
+        put_chart_shapes(alloc, &page, is_red, line.as_slice(), &mut shapes)?;
+        put_levelled_page(alloc, &page, lines, shapes, out)
     }
 }

@@ -1,4 +1,4 @@
-//! Which events are shown.
+//! What is shown.
 ghost use Rattle.std.specs.Prelude.{◌≡◌, ◌<◌, []};
 ghost use Rattle.chart_links.specs.Window as spec;
 
@@ -6,7 +6,7 @@ use arrayvec::ArrayString;
 use chart_rows::{Parts, write_absent};
 use fabric_core::{Event, LaneName};
 
-/// Which events are shown.
+/// What is shown.
 #[derive(Clone, Copy, Debug, PartialEq, Eq)]
 pub struct ChartWindow {
     /// The lane whose events and ends alone are shown; None shows all.
@@ -17,6 +17,8 @@ pub struct ChartWindow {
     pub to: u64,
     /// Whether events that tell nothing new are left out.
     pub is_brief: bool,
+    /// Whether the levels of the lanes stand beside their rows.
+    pub has_levels: bool,
 }
 
 /// The lane that an event is of.
@@ -62,7 +64,7 @@ pub(crate) fn is_chosen(lane: Option<LaneName>, event: &Event) -> bool
 }
 
 /// Whether a fabric with so many requesters has the lane.
-fn has_lane(requesters: u8, lane: LaneName) -> bool
+pub(crate) fn has_lane(requesters: u8, lane: LaneName) -> bool
     ensures { result ≡ spec.has_lane requesters lane }
 {
     match lane {

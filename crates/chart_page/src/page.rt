@@ -249,8 +249,9 @@ fn put_title(is_red: bool, title: &[u8], out: &mut Vec<u8>) -> Result<(), AllocE
     put_label(&title_label(is_red), title, out)
 }
 
-/// Adds all shapes.
-fn put_shapes(
+/// Adds the shapes of a chart below a line, which is red where it tells a fault or a refusal. It has 1,000 rows at most.
+/// After an `Err`, which is out of memory, some of them may be added.
+pub fn put_chart_shapes(
     alloc: Global,
     page: &Page,
     is_red: bool,
@@ -265,26 +266,6 @@ fn put_shapes(
     let cut = (page.before, page.after, page.omitted);
     let (rows, opens) = (page.rows.as_slice(), page.opens.as_slice());
     put_body(alloc, page.parts, rows, opens, cut, out)?;
-    Ok(())
-}
-
-/// Adds a chart in SVG below a line, which is red where it tells a fault or a refusal. It has 1,000 rows at most. After
-/// an `Err`, which is out of memory, nothing is added.
-pub fn put_chart(
-    alloc: Global,
-    page: &Page,
-    is_red: bool,
-    title: &[u8],
-    out: &mut Vec<u8>,
-) -> Result<(), AllocError>
-    requires { length page.now.rows ≤ 1000 }
-    ensures ok { OnOk result (out.new.items ≡ out.old.items ++ spec.chart_text page.now is_red title.now) }
-    ensures err { OnErr result (out.new.items ≡ out.old.items) }
-{
-    let mut shapes = Vec::new(alloc);
-    put_shapes(alloc, page, is_red, title, &mut shapes)?;
-    let height = bottom_of(page.rows.as_slice()) + 30;
-    put_page(alloc, width_of(page.parts), height, shapes, out)?;
     Ok(())
 }
 

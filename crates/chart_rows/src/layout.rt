@@ -63,7 +63,8 @@ pub fn memory_x(parts: Parts) -> u64
 
 /// How wide a chart is.
 pub fn width_of(parts: Parts) -> u64
-    ensures { result ≡ layout.width_of parts }
+    ensures value { result ≡ layout.width_of parts }
+    ensures range { result ≤ 71000 }
 {
     match parts {
         Parts::All(_) => memory_x(parts) + 360,

@@ -16,7 +16,9 @@ pub use layout::{
 pub use row::{
     Carried, Deed, DllpSent, Flying, Kind, Open, PacketSent, Page, Replay, Row, kind_of,
 };
-pub use titles::{write_absent, write_dllp_title, write_open_title, write_packet_title};
+pub use titles::{
+    put_lane, put_on, write_absent, write_dllp_title, write_open_title, write_packet_title,
+};
 pub use words::{
     arrival_words, kind_name, write_after, write_before, write_collected, write_dllp,
     write_dllp_arrival, write_event_words, write_expired, write_forwarded, write_omitted,

@@ -16,7 +16,7 @@ use operation_text::{write_decimal, write_sequence};
 use seq12::Seq12;
 
 /// Adds the name of a lane.
-fn put_lane(lane: LaneName, text: &mut ArrayString<512>)
+pub fn put_lane(lane: LaneName, text: &mut ArrayString<512>)
     requires { array_string_len text.old ≤ 200 }
     ensures text { text.new.bytes ≡ text.old.bytes ++ lines.lane_text lane }
     ensures len { array_string_len text.new ≤ array_string_len text.old + 24 }
@@ -36,7 +36,7 @@ fn put_lane(lane: LaneName, text: &mut ArrayString<512>)
 }
 
 /// Adds on which lane it is.
-fn put_on(lane: LaneName, text: &mut ArrayString<512>)
+pub fn put_on(lane: LaneName, text: &mut ArrayString<512>)
     requires { array_string_len text.old ≤ 190 }
     ensures text { text.new.bytes ≡ text.old.bytes ++ said.on_words lane }
     ensures len { array_string_len text.new ≤ array_string_len text.old + 28 }

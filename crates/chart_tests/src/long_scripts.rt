@@ -9,6 +9,7 @@ const ALL: ChartWindow = ChartWindow {
     from: 1,
     to: u64::MAX,
     is_brief: false,
+    has_levels: false,
 };
 
 /// A script of 1,001 events.

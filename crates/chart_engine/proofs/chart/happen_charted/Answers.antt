@@ -2,8 +2,8 @@ use Rattle.std.proofs.Common.{◌∙◌, sym, ap, Result}
 use Rattle.fabric_laws.specs.Fabric.{Fabric}
 use Rattle.fabric_core.specs.declared.event.Seen.{Seen}
 use Rattle.fabric_core.specs.declared.fault.Refusal.{Refusal}
-use Rattle.chart_links.specs.ChartView.{ChartView, refused}
-use Rattle.chart_engine.specs.Chart.{session, left_by, refusal_in}
+use Rattle.chart_engine.specs.ChartWitnessView.{ChartWitnessView}
+use Rattle.chart_engine.specs.Chart.{session, left_by, refusal_in, refused_with}
 use Rattle.chart_engine.proofs.chart.happen_charted.Goals as goal
 
 pub returns-in-Ok : goal.returns-in-Ok
@@ -24,7 +24,9 @@ returns-in_ok-tell_refused-in-Err c =
     let is = told.0 in
     record {
       fabric = told.1 ∙ sym (ap (λ (a : Result (Seen × Fabric) Refusal). (left_by c.args.line p c.args.event a).fabric) is);
-      chart = c.in_ok-tell_refused-in-Err.ensures.chart ∙ ap (λ (v : ChartView). refused v c.args.line c.args.event c.in-Err.refusal) told.2
+      chart = c.in_ok-tell_refused-in-Err.ensures.chart
+          ∙ ap (λ (v : ChartWitnessView). refused_with v c.args.line c.args.event c.in-Err.refusal c.happen.new.fabric) told.2
+          ∙ ap (λ (f : Fabric). refused_with c.args.chart.now c.args.line c.args.event c.in-Err.refusal f) told.1
           ∙ sym (ap (λ (a : Result (Seen × Fabric) Refusal). (left_by c.args.line p c.args.event a).chart) is);
       refusal = sym (ap (λ (a : Result (Seen × Fabric) Refusal). refusal_in a) is);
     }

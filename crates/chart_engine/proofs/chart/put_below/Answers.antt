@@ -1,7 +1,5 @@
 use Rattle.std.proofs.Common.{◌∙◌, ◌++◌, Option, sym, ap}
 use Rattle.std.proofs.lemmas.Result.{on_ok_weaker}
-use Rattle.chart_page.specs.Shapes.{chart_text}
-use Rattle.chart_links.specs.ChartView.{page_of, titled}
 use Rattle.chart_engine.specs.declared.chart.Session.{Session}
 use Rattle.chart_engine.specs.Chart.{text_below}
 use Rattle.chart_engine.proofs.chart.put_below.Goals as goal
@@ -9,6 +7,4 @@ use Rattle.chart_engine.proofs.chart.put_below.Goals as goal
 pub returns-in-Some-clause-ok : goal.returns-in-Some-clause-ok
 returns-in-Some-clause-ok c =
     let before = c.args.out.now.items in
-    on_ok_weaker c.put.result
-    (λ e. e ∙ ap (λ (p : Session). before ++ chart_text (page_of p.chart) c.args.is_red (titled p.chart c.args.title.now)) c.session.view_is
-    ∙ sym (ap (λ (o : Option Session). before ++ text_below o c.args.is_red c.args.title.now) c.in-Some.is)) c.put.ensures.ok
+    on_ok_weaker c.put.result (λ e. e ∙ sym (ap (λ (o : Option Session). before ++ text_below o c.args.is_red c.args.title.now) c.in-Some.is)) c.put.ensures.ok

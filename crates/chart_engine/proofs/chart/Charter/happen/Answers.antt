@@ -2,7 +2,7 @@ use Rattle.std.proofs.Common.{◌∙◌, List, ℕ, sym, ap, Some}
 use Rattle.std.specs.Prelude.{option_map}
 use Rattle.fabric_laws.specs.Fabric.{Fabric}
 use Rattle.fabric_core.specs.Answers.{answer}
-use Rattle.chart_links.specs.ChartView.{ChartView}
+use Rattle.chart_engine.specs.ChartWitnessView.{ChartWitnessView}
 use Rattle.chart_engine.specs.Chart.{CharterView, session, next_line, left_by}
 use Rattle.chart_engine.proofs.States.{is_left, was_refused}
 use Rattle.chart_engine.proofs.chart.Charter.happen.Goals as goal
@@ -19,7 +19,7 @@ returns-in-Some-refusal c = λ (o : List ℕ).
     let chart = left.chart ∙ ap (λ (line : ℕ). (left_by line p c.args.event (answer p.fabric c.args.event)).chart) c.next_line-line.ensures in
     is_left s c.end_refused.new.self p c.args.event now c.in_ok-refusal.refusal o c.end_refused.result
     (sym (ap (λ (v : CharterView). v.session) c.self.view_is) ∙ c.in-Some.is)
-    (ap (λ (f : Fabric). session f c.happen_charted.new.chart) fabric ∙ ap (λ (v : ChartView). session (left_by (next_line s) p c.args.event (answer p.fabric c.args.event)).fabric v) chart)
+    (ap (λ (f : Fabric). session f c.happen_charted.new.chart) fabric ∙ ap (λ (v : ChartWitnessView). session (left_by (next_line s) p c.args.event (answer p.fabric c.args.event)).fabric v) chart)
     left.refusal
     (was_refused s (record { window = inside.window; session = Some now; lines = inside.lines; ending = ending }) c.end_refused.new.self now c.in_ok-refusal.refusal c.in-Some-refusal.refusal o c.end_refused.result
     c.in-Some-refusal.is

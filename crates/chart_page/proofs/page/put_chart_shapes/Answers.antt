@@ -6,7 +6,7 @@ use Rattle.chart_rows.specs.PageView.{PageView}
 use Rattle.chart_page.specs.Look.{legend}
 use Rattle.chart_page.specs.Shapes.{title, body}
 use Rattle.chart_page.proofs.Steps.{both}
-use Rattle.chart_page.proofs.page.put_shapes.Goals as goal
+use Rattle.chart_page.proofs.page.put_chart_shapes.Goals as goal
 
 pub returns : goal.returns
 returns c =

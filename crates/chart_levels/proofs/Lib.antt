@@ -1,0 +1,4 @@
+pub mod Values
+pub mod Steps
+pub mod Mixed
+pub mod Last

@@ -1,0 +1,9 @@
+use Rattle.chart_levels.proofs.Steps.{text-none, stripe-next}
+use Rattle.chart_levels.proofs.drawing.put_stripes.Goals as goal
+
+pub loop-stripe-init : goal.loop-stripe-init
+loop-stripe-init c = text-none c.args.out.now.items
+
+pub loop-stripe-preserved : goal.loop-stripe-preserved
+loop-stripe-preserved c =
+    stripe-next c.args.strip c.loop-stripe.stripe c.args.out.now.items c.loop-stripe.out.items c.put_stripe.new.out.items c.loop-stripe.invariant c.in_ok-put_stripe.ensures

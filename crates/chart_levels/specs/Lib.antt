@@ -1,0 +1,4 @@
+pub mod StepLineView
+pub mod Levels
+pub mod Strips
+pub mod Pages
