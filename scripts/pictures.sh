@@ -67,6 +67,7 @@ for name in lost_ack write_passes_read credits stopped_link first_script; do
     charts "the lane up1 of $name.txt" 0 --lane up1
     charts "the lines 4 to 9 of $name.txt" 0 --from 4 --to 9
     charts "the brief chart of $name.txt" 0 --brief
+    charts "the lane up1 of $name.txt with its levels" 0 --lane up1 --levels
 done
 cp examples/credits_used_up.txt "$room/input"
 charts "the chart of credits_used_up.txt" 1
@@ -87,6 +88,11 @@ for lane in up2 down2 in out; do
     }
 done
 "$pciex" generate --seed 3 --requesters 3 --events 900 --lose 4 --corrupt 8 > "$room/input"
+charts "the levels of three requesters with losses" 0 --levels
+[ "$(grep -o '>max [0-9]*</text>' "$room/picture" | wc -l)" -eq 34 ] || {
+    echo "pictures: the levels of three requesters are not 34"
+    failed=1
+}
 charts "the chart of three requesters with losses" 0
 # The lines of the parts stand at 560 and each 240 pixels: no cross is on one.
 crosses=$(sed 's/<g>/\n&/g' "$room/picture" | sed -n 's/^<g><title>[^<]*, lost<\/title><line [^>]* x2="\([0-9]*\)".*/\1/p')

@@ -30,7 +30,7 @@ _pciex() {
                 *" draw") words="--from --to --help" ;;
                 *" upgrade") words="--help" ;;
                 *" step") words="--trace --keep-going --echo --help" ;;
-                *" chart") words="--lane --from --to --brief --help" ;;
+                *" chart") words="--lane --from --to --brief --levels --help" ;;
                 *" generate") words="--seed --events --requesters --lose --corrupt --block --help" ;;
                 *" run") words="--requesters --each --lose --corrupt --turns --workers --progress --help" ;;
             esac

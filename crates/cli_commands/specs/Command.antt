@@ -36,8 +36,8 @@ IsDone (Draw from to) input rest out out' exit = IsRun (out_draw (record { from 
 IsDone Upgrade input rest out out' exit = IsRun out_upgrade input rest out out' exit
 IsDone (Step is_traced keeps_going echoes) input rest out out' exit =
     IsRun (out_step_with (record { is_traced = is_traced; keeps_going = keeps_going; echoes = echoes })) input rest out out' exit
-IsDone (Chart lane from to is_brief) input rest out out' exit =
-    IsRun (out_chart (record { lane = lane; from = from; to = to; is_brief = is_brief })) input rest out out' exit
+IsDone (Chart lane from to is_brief has_levels) input rest out out' exit =
+    IsRun (out_chart (record { lane = lane; from = from; to = to; is_brief = is_brief; has_levels = has_levels })) input rest out out' exit
 IsDone (Generate storm) input rest out out' exit = (rest ≡ input) × IsGenerated storm out out' exit
 IsDone (Run counting is_told) input rest out out' exit = (rest ≡ input) × IsRan counting out out' exit
 

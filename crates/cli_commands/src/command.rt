@@ -188,12 +188,14 @@ fn begin<R: Read, W: Write, E: Write>(
             from,
             to,
             is_brief,
+            has_levels,
         } => {
             let window = ChartWindow {
                 lane,
                 from,
                 to,
                 is_brief,
+                has_levels,
             };
             Outcome::Ended(ended(run_chart(alloc, window, reader, writer), errors))
         }

@@ -563,7 +563,10 @@ static STREAMED: [Given; 11] = [
     (&["pciex", "step"], SCRIPT),
     (&["pciex", "step", "--echo", "--keep-going"], SCRIPT),
     (&["pciex", "step", "--trace"], SCRIPT),
-    (&["pciex", "chart", "--lane", "up1", "--brief"], SCRIPT),
+    (
+        &["pciex", "chart", "--lane", "up1", "--brief", "--levels"],
+        SCRIPT,
+    ),
 ];
 
 /// Whether the error stream and the exit status tell of this.

@@ -59,14 +59,14 @@ draw_to rows from to a = (a.to_read, up_to 18446744073709551615 to (omega (arith
 draw_right : (rows : List Row) (from to : ℕ) → AsksDraw rows from to → AreRight rows draw_values
 draw_right rows from to a = ((from, draw_from rows from to a), ((to, draw_to rows from to a), tt))
 
-chart_from : (rows : List Row) (lane : Option LaneName) (from to : ℕ) (t : Bool) → AsksChart rows lane from to t → Gives From (Some 1) (first_of (codes "from") rows) from
-chart_from rows lane from to t a = (a.from_read, up_to 18446744073709551615 from (omega (arith, a.ordered, a.fits)))
+chart_from : (rows : List Row) (lane : Option LaneName) (from to : ℕ) (t u : Bool) → AsksChart rows lane from to t u → Gives From (Some 1) (first_of (codes "from") rows) from
+chart_from rows lane from to t u a = (a.from_read, up_to 18446744073709551615 from (omega (arith, a.ordered, a.fits)))
 
-chart_to : (rows : List Row) (lane : Option LaneName) (from to : ℕ) (t : Bool) → AsksChart rows lane from to t → Gives To (Some 18446744073709551615) (first_of (codes "to") rows) to
-chart_to rows lane from to t a = (a.to_read, up_to 18446744073709551615 to (omega (arith, a.fits)))
+chart_to : (rows : List Row) (lane : Option LaneName) (from to : ℕ) (t u : Bool) → AsksChart rows lane from to t u → Gives To (Some 18446744073709551615) (first_of (codes "to") rows) to
+chart_to rows lane from to t u a = (a.to_read, up_to 18446744073709551615 to (omega (arith, a.fits)))
 
-chart_right : (rows : List Row) (lane : Option LaneName) (from to : ℕ) (t : Bool) → AsksChart rows lane from to t → AreRight rows chart_values
-chart_right rows lane from to t a = ((from, chart_from rows lane from to t a), ((to, chart_to rows lane from to t a), tt))
+chart_right : (rows : List Row) (lane : Option LaneName) (from to : ℕ) (t u : Bool) → AsksChart rows lane from to t u → AreRight rows chart_values
+chart_right rows lane from to t u a = ((from, chart_from rows lane from to t u a), ((to, chart_to rows lane from to t u a), tt))
 
 generate_right : (rows : List Row) (s : Storm) → AsksGenerate rows s → AreRight rows generate_values
 generate_right rows s a =
@@ -115,10 +115,10 @@ refused_draw : (rows : List Row) (option : ValueOption) (from to : ℕ) → Refu
 refused_draw rows option from to (inl h) a = none_wrong rows draw_values option (draw_right rows from to a) h
 refused_draw rows option from to (inr h) a = h.2 from to (draw_from rows from to a) (draw_to rows from to a) a.ordered
 
-refused_chart : (rows : List Row) (option : ValueOption) (lane : Option LaneName) (from to : ℕ) (t : Bool) → RefusesChart rows option → AsksChart rows lane from to t → ⊥
-refused_chart rows option lane from to t (inl h) a = h.1 lane a.lane_read
-refused_chart rows option lane from to t (inr (inl h)) a = none_wrong rows chart_values option (chart_right rows lane from to t a) h.1
-refused_chart rows option lane from to t (inr (inr h)) a = h.3 from to (chart_from rows lane from to t a) (chart_to rows lane from to t a) a.ordered
+refused_chart : (rows : List Row) (option : ValueOption) (lane : Option LaneName) (from to : ℕ) (t u : Bool) → RefusesChart rows option → AsksChart rows lane from to t u → ⊥
+refused_chart rows option lane from to t u (inl h) a = h.1 lane a.lane_read
+refused_chart rows option lane from to t u (inr (inl h)) a = none_wrong rows chart_values option (chart_right rows lane from to t u a) h.1
+refused_chart rows option lane from to t u (inr (inr h)) a = h.3 from to (chart_from rows lane from to t u a) (chart_to rows lane from to t u a) a.ordered
 
 run_workers : (rows : List Row) (c : Counting) → AsksRun rows c → GivesOptional Workers (first_of (codes "workers") rows) c.workers
 run_workers rows c a = (a.workers_read, IfSome_then c.workers a.right.workers (λ n w. among 1 64 n w.0 w.1))
@@ -140,7 +140,7 @@ draw_nothing p option e h (Draw from to) a = refused_draw p.1 option from to h a
 draw_nothing p option e h r a = differ (codes "draw") (name_of r) refl (sym e ∙ asks_name p r a)
 
 chart_nothing : (p : Text × List Row) (option : ValueOption) → p.0 ≡ codes "chart" → RefusesChart p.1 option → (r : Request) → Asks (Some p) r → ⊥
-chart_nothing p option e h (Chart lane from to t) a = refused_chart p.1 option lane from to t h a.1
+chart_nothing p option e h (Chart lane from to t u) a = refused_chart p.1 option lane from to t u h a.1
 chart_nothing p option e h r a = differ (codes "chart") (name_of r) refl (sym e ∙ asks_name p r a)
 
 generate_nothing : (p : Text × List Row) (option : ValueOption) → p.0 ≡ codes "generate" → IsFirstWrong p.1 generate_values option → (r : Request) → Asks (Some p) r → ⊥

@@ -58,7 +58,7 @@ name_of (Search limit size is_told) = codes "search"
 name_of (Draw from to) = codes "draw"
 name_of Upgrade = codes "upgrade"
 name_of (Step is_traced keeps_going echoes) = codes "step"
-name_of (Chart lane from to is_brief) = codes "chart"
+name_of (Chart lane from to is_brief has_levels) = codes "chart"
 name_of (Generate storm) = codes "generate"
 name_of (Run counting is_told) = codes "run"
 
@@ -71,7 +71,7 @@ asks_name p (Search limit size is_told) a = a.0
 asks_name p (Draw from to) a = a.0
 asks_name p Upgrade a = a
 asks_name p (Step is_traced keeps_going echoes) a = a.0
-asks_name p (Chart lane from to is_brief) a = a.0
+asks_name p (Chart lane from to is_brief has_levels) a = a.0
 asks_name p (Generate storm) a = a.0
 asks_name p (Run counting is_told) a = a.0
 
@@ -120,12 +120,12 @@ asks_one (Some p) (Step t k e) (Step u l f) a b =
     let y = b.1 in
     ap (λ (z : Bool). Step z k e) (same_flag _ t u x.trace_read y.trace_read) ∙ ap (λ (z : Bool). Step u z e) (same_flag _ k l x.keep_going_read y.keep_going_read)
     ∙ ap (λ (z : Bool). Step u l z) (same_flag _ e f x.echo_read y.echo_read)
-asks_one (Some p) (Chart lane from to t) (Chart lane' from' to' u) a b =
+asks_one (Some p) (Chart lane from to t v) (Chart lane' from' to' u w) a b =
     let e = same_lane _ lane lane' a.1.lane_read b.1.lane_read in
     let f = same_number 1 _ from from' a.1.from_read b.1.from_read in
     let g = same_number 18446744073709551615 _ to to' a.1.to_read b.1.to_read in
-    ap (λ (x : Option LaneName). Chart x from to t) e ∙ ap (λ (x : ℕ). Chart lane' x to t) f ∙ ap (λ (x : ℕ). Chart lane' from' x t) g
-    ∙ ap (Chart lane' from' to') (same_flag _ t u a.1.brief_read b.1.brief_read)
+    ap (λ (x : Option LaneName). Chart x from to t v) e ∙ ap (λ (x : ℕ). Chart lane' x to t v) f ∙ ap (λ (x : ℕ). Chart lane' from' x t v) g
+    ∙ ap (λ (x : Bool). Chart lane' from' to' x v) (same_flag _ t u a.1.brief_read b.1.brief_read) ∙ ap (Chart lane' from' to' u) (same_flag _ v w a.1.levels_read b.1.levels_read)
 asks_one (Some p) (Generate s) (Generate t) a b =
     let x = a.1 in
     let y = b.1 in

@@ -57,7 +57,7 @@ step_app = with_rule (with_rule (with_rule (new_app (codes "step")) (flag (codes
 
 abbrev pub chart_app : App
 chart_app =
-    with_rule (with_rule (with_rule (with_rule (new_app (codes "chart")) (option (codes "lane"))) (option (codes "from"))) (option (codes "to"))) (flag (codes "brief"))
+    with_rule (with_rule (with_rule (with_rule (with_rule (new_app (codes "chart")) (option (codes "lane"))) (option (codes "from"))) (option (codes "to"))) (flag (codes "brief"))) (flag (codes "levels"))
 
 -- an option with a value, which has to be given
 abbrev pub required : Text → Rule
@@ -123,13 +123,14 @@ pub record AsksStep (rows : List Row) (is_traced keeps_going echoes : Bool) : Ty
 
 -- the values of `chart` ask for the events of this lane, or of all, on the lines from one to another, numbers of 64 bits,
 -- and to leave out what tells nothing new
-pub record AsksChart (rows : List Row) (lane : Option LaneName) (from to : ℕ) (is_brief : Bool) : Type 0 where
+pub record AsksChart (rows : List Row) (lane : Option LaneName) (from to : ℕ) (is_brief has_levels : Bool) : Type 0 where
   pub lane_read : WritesLane (first_of (codes "lane") rows) lane
   pub from_read : WritesNumber 1 (first_of (codes "from") rows) from
   pub to_read : WritesNumber 18446744073709551615 (first_of (codes "to") rows) to
   pub ordered : from ≤ to
   pub fits : to < 2 ^ 64
   pub brief_read : WritesFlag (first_of (codes "brief") rows) is_brief
+  pub levels_read : WritesFlag (first_of (codes "levels") rows) has_levels
 
 -- the values of `generate` ask for this storm, of a seed of 64 bits
 pub record AsksGenerate (rows : List Row) (s : Storm) : Type 0 where
@@ -163,6 +164,6 @@ Asks (Some p) (Search limit size is_told) = (p.0 ≡ codes "search") × AsksSear
 Asks (Some p) (Draw from to) = (p.0 ≡ codes "draw") × AsksDraw p.1 from to
 Asks (Some p) Upgrade = p.0 ≡ codes "upgrade"
 Asks (Some p) (Step is_traced keeps_going echoes) = (p.0 ≡ codes "step") × AsksStep p.1 is_traced keeps_going echoes
-Asks (Some p) (Chart lane from to is_brief) = (p.0 ≡ codes "chart") × AsksChart p.1 lane from to is_brief
+Asks (Some p) (Chart lane from to is_brief has_levels) = (p.0 ≡ codes "chart") × AsksChart p.1 lane from to is_brief has_levels
 Asks (Some p) (Generate storm) = (p.0 ≡ codes "generate") × AsksGenerate p.1 storm
 Asks (Some p) (Run counting is_told) = (p.0 ≡ codes "run") × AsksRun p.1 counting × WritesFlag (first_of (codes "progress") p.1) is_told

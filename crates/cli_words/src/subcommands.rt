@@ -149,7 +149,8 @@ fn chart_command<'a>(alloc: Global) -> Result<Command<'a>, AllocError>
     let lane = with_arg(chart, option_of(alloc, "lane", "NAME", texts::LANE))?;
     let from = with_arg(lane, option_of(alloc, "from", "LINE", texts::FIRST_LINE))?;
     let to = with_arg(from, option_of(alloc, "to", "LINE", texts::LAST_LINE))?;
-    with_arg(to, flag_of(alloc, "brief", texts::BRIEF))
+    let brief = with_arg(to, flag_of(alloc, "brief", texts::BRIEF))?;
+    with_arg(brief, flag_of(alloc, "levels", texts::LEVELS))
 }
 
 /// The command with the links' faults, which `generate` and `run` have.

@@ -212,6 +212,9 @@ pub(crate) static LAST_LINE: &str =
 pub(crate) static BRIEF: &str =
     "Leave out the Acks and credit updates that tell nothing new, and count them";
 
+pub(crate) static LEVELS: &str =
+    "Draw beside the rows how full each lane's queue and replay buffer are, and its credits left";
+
 pub(crate) static CLOCKED: &str =
     "Also test the n: none falls, exceeds the history's length or is above its request's index";
 

@@ -18,7 +18,7 @@ kind_of (requests.Search limit granularity is_told) = kinds.Search
 kind_of (requests.Draw from to) = kinds.Draw
 kind_of requests.Upgrade = kinds.Upgrade
 kind_of (requests.Step is_traced keeps_going echoes) = kinds.Step
-kind_of (requests.Chart lane from to is_brief) = kinds.Chart
+kind_of (requests.Chart lane from to is_brief has_levels) = kinds.Chart
 kind_of (requests.Generate storm) = kinds.Generate
 kind_of (requests.Run counting is_told) = kinds.Run
 
@@ -31,7 +31,7 @@ named (requests.Search limit granularity is_told) = refl
 named (requests.Draw from to) = refl
 named requests.Upgrade = refl
 named (requests.Step is_traced keeps_going echoes) = refl
-named (requests.Chart lane from to is_brief) = refl
+named (requests.Chart lane from to is_brief has_levels) = refl
 named (requests.Generate storm) = refl
 named (requests.Run counting is_told) = refl
 
