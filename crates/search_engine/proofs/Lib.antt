@@ -1,4 +1,5 @@
 mod KnownLemmas
 mod NoneLemmas
 mod SizeLemmas
+mod AnsweredLemmas
 pub mod TellableLemmas

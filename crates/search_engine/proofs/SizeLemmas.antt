@@ -11,7 +11,7 @@ use Rattle.search_engine.specs.declared.granularity.Pieces.{Pieces}
 use Rattle.search_engine.specs.Findings.{AreUnexplained, IsFindingOf}
 
 -- whole requests are their own pieces
-whole_is : (t : TraceView) → in_pieces Whole t ≡ t
+pub whole_is : (t : TraceView) → in_pieces Whole t ≡ t
 unfolding in_pieces
 whole_is t = refl
 

@@ -4,9 +4,10 @@ ghost use Rattle.history_check.specs.Claim.{claim_of};
 ghost use Rattle.history_check.specs.TraceView.{TraceView};
 ghost use Rattle.trace_text.specs.Tellable.{IsTellable};
 ghost use Rattle.trace_engine.specs.Check.{out_check, out_check_clocked};
-ghost use Rattle.search_engine.specs.Search.{IsFoundIn};
+ghost use Rattle.search_engine.specs.Search.{IsFoundIn, OutSearch};
 
 use log_runs::laws::numbers_name_submissions;
+use log_text::what_is_seen_can_be_told;
 use trace_engine::laws::{a_clocked_trace_is_ok, an_explained_trace_is_ok};
 use trace_text::told_trace_is_read_back;
 
@@ -21,4 +22,14 @@ pub fn what_is_found_is_ok()
     told_trace_is_read_back();
     a_clocked_trace_is_ok();
     an_explained_trace_is_ok();
+}
+
+/// `check` says `ok`, with status 0, to what is answered to a text with status 0, and so does `check --clocked`.
+pub fn what_is_answered_is_ok()
+    ensures ok { (limit : ℕ) (input text : List ℕ) → OutSearch limit input text 0 → (out_check text).text ≡ codes "ok\n" }
+    ensures status { (limit : ℕ) (input text : List ℕ) → OutSearch limit input text 0 → (out_check text).status ≡ 0 }
+    ensures clocked { (limit : ℕ) (input text : List ℕ) → OutSearch limit input text 0 → (out_check_clocked text).text ≡ codes "ok\n" }
+{
+    what_is_seen_can_be_told();
+    what_is_found_is_ok();
 }
