@@ -4,7 +4,7 @@
 //! payload need not be copied behind it first.
 #![tactic(auto)]
 
-ghost use Rattle.std.specs.Prelude.{◌≡◌, ◌≤◌, ◌++◌, true, length};
+ghost use Rattle.std.specs.Prelude.{◌≡◌, ◌≤◌, ◌++◌, true, false, length};
 ghost use Rattle.tlp_core.specs.Layout.{canonical, status_code};
 ghost use Rattle.tlp_core.specs.Operation.{is_completion};
 
@@ -32,6 +32,7 @@ pub fn put_header(packet: &TlpRef<'_>, room: &mut [u8; HEADER]) -> bool
     ensures value { result ≡ is_completion packet.now.kind }
     ensures bytes { result ≡ true → canonical packet.now ≡ room.new ++ packet.now.payload }
     ensures few { result ≡ true → length packet.now.payload ≤ 128 }
+    ensures kept { result ≡ false → room.new ≡ room.old }
 {
     let header = packet.header;
     let Body::Completion {
