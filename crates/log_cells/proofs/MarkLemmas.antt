@@ -1,10 +1,12 @@
 -- Words that are joined, and the addresses where cells begin.
-use Rattle.std.proofs.Common.{◌≡◌, ◌∙◌, ℕ, zero, suc, ◌+◌, ◌*◌, ◌<◌, ◌≤◌, inl, inr, List, [], ◌∷◌, length, Some, refl, sym, ap, subst, arith}
+use Rattle.std.proofs.Common.{◌≡◌, ◌∙◌, ◌++◌, ℕ, zero, suc, ◌+◌, ◌*◌, ◌/◌, ◌^◌, ◌<◌, ◌≤◌, min, ◌-◌, true, false, leb, leb-true, leb-false, get_or, inl, inr, List, [], ◌∷◌, length, Some, refl, sym, ap, subst, arith}
 use Rattle.std.specs.Prelude.{slice_get, slice_set}
 use Rattle.std.proofs.lemmas.Bool.{cases_eq, cases_lt}
 use Rattle.std.specs.List.{All}
-use Rattle.std.proofs.lemmas.List.Elements.{All-get_or}
-use Rattle.std.proofs.lemmas.Option.{same_Some, slice_get_within, get_or_from_slice_get}
+use Rattle.std.specs.List.Sorted.{IsNonDecreasingBy, IsPartitionPoint}
+use Rattle.std.proofs.lemmas.List.Sorted.{IsNonDecreasingBy-from_all_adjacent}
+use Rattle.std.proofs.lemmas.List.Elements.{All-get_or, All-head, All-tail, All-push, All-weaker}
+use Rattle.std.proofs.lemmas.Option.{same_Some, slice_get_within, get_or_from_slice_get, slice_get-get_or}
 use Rattle.tlp_core.specs.Operation.{address_of, count_of}
 use Rattle.seq_memory.specs.Limits.{Extent}
 use Rattle.log_runs.specs.EventView.{EventView}
@@ -14,8 +16,8 @@ use Rattle.log_cells.specs.declared.cells.Word.{Word}
 use Rattle.log_cells.specs.declared.cells.Word.TheVariants as words
 use Rattle.log_cells.specs.declared.places.Place.{Place}
 use Rattle.log_cells.specs.Places.{ArePlaces}
-use Rattle.log_cells.specs.Cells.{IsUncut, AreCells}
-use Rattle.log_cells.specs.Marks.{IsCut, Keeps, AreJoined, IsBeginning, IsBound}
+use Rattle.log_cells.specs.Cells.{IsUncut, IsRising, IsEnd, IsDivided, AreCells}
+use Rattle.log_cells.specs.Marks.{IsCut, Keeps, AreJoined, IsBeginning, IsBound, IsSplit}
 use Rattle.log_cells.proofs.Tables.{some_at}
 
 -- ---- a word is set
@@ -119,15 +121,125 @@ uncut_by log ps v places none = λ a i op told at low high.
       ]
     ]
 
--- ---- all of it
+-- ---- bounds rise
 
 at_of : {X : Type 0} (P : X → Type 0) (xs : List X) → All P xs → (j : ℕ) (x : X) → slice_get xs j ≡ Some x → P x
 at_of P xs all j x at = subst P (get_or_from_slice_get xs j x x at) (All-get_or P xs j x (slice_get_within xs j x at) all)
 
+next : (i : ℕ) → suc (i + 1) ≡ suc i + 1
+next i = omega arith
+
+pub rising_push : (us : List ℕ) (x : ℕ) → IsRising us → All (λ u. u < x) us → IsRising (us ++ (x ∷ []))
+rising_push us x rising below = λ j v w a b. by us j v w rising below a b
+  where
+    by : (us : List ℕ) (j v w : ℕ) → IsRising us → All (λ u. u < x) us → slice_get (us ++ (x ∷ [])) j ≡ Some v → slice_get (us ++ (x ∷ [])) (j + 1) ≡ Some w → v < w
+    by [] j v w rising below a b = absurd (let l = slice_get_within (x ∷ []) (j + 1) w b in omega (arith, l))
+    by (u ∷ []) zero v w rising below a b = let one = same_Some u v a in let other = same_Some x w b in let l = All-head (λ y. y < x) u [] below in omega (arith, one, other, l)
+    by (u ∷ t ∷ ts) zero v w rising below a b = rising 0 v w a b
+    by (u ∷ us) (suc j) v w rising below a b = by us j v w (λ i p q c d. rising (suc i) p q c (subst (λ k. slice_get (u ∷ us) k ≡ Some q) (next i) d)) (All-tail (λ y. y < x) u us below) a (subst (λ k. slice_get ((u ∷ us) ++ (x ∷ [])) k ≡ Some w) (sym (next j)) b)
+
+pub first_push : (us : List ℕ) (u x : ℕ) → slice_get us 0 ≡ Some u → slice_get (us ++ (x ∷ [])) 0 ≡ Some u
+first_push [] u x at = absurd (let l = slice_get_within [] 0 u at in omega (arith, l))
+first_push (t ∷ ts) u x at = at
+
+pub last_push : (us : List ℕ) (x n v : ℕ) → length (us ++ (x ∷ [])) ≡ n + 1 → slice_get (us ++ (x ∷ [])) n ≡ Some v → v ≡ x
+last_push [] x zero v len at = sym (same_Some x v at)
+last_push [] x (suc n) v len at = absurd (omega (arith, len))
+last_push (u ∷ us) x zero v len at = absurd (more us x (omega (arith, len)))
+  where
+    more : (us : List ℕ) (x : ℕ) → length (us ++ (x ∷ [])) ≡ 0 → ⊥
+    more [] x e = omega (arith, e)
+    more (t ∷ ts) x e = omega (arith, e)
+last_push (u ∷ us) x (suc n) v len at = last_push us x n v (omega (arith, len)) at
+
+-- bounds from the memory's base on that rise, each at least a word before its end, and before each beginning from one on
+pub record AreBounds (x : Extent) (bs : List ℕ) (n : ℕ) (vs : List ℕ) : Type 0 where
+  pub bound : All (IsBound x bs) vs
+  pub first : slice_get vs 0 ≡ Some x.base
+  pub rising : IsRising vs
+  pub inner : All (λ v. v + 4 ≤ x.base + x.size) vs
+  pub before : (b : ℕ) → slice_get bs n ≡ Some b → All (λ v. v < x.base + 4 * b) vs
+
+-- one beginning on, without a bound
+pub bounds_same : (x : Extent) (bs : List ℕ) (n b : ℕ) (vs : List ℕ) → IsRising bs → slice_get bs n ≡ Some b → AreBounds x bs n vs → AreBounds x bs (n + 1) vs
+bounds_same x bs n b vs rising there are = record {
+  bound = are.bound;
+  first = are.first;
+  rising = are.rising;
+  inner = are.inner;
+  before = λ d at. let l = rising n b d there at in All-weaker (λ v. v < x.base + 4 * b) (λ v. v < x.base + 4 * d) (λ v h. omega (arith, h, l)) vs (are.before b there);
+}
+
+-- with a bound
+pub bounds_more : (x : Extent) (bs : List ℕ) (n b v : ℕ) (vs : List ℕ) → IsRising bs → All (λ d. d < x.size / 4) bs → slice_get bs n ≡ Some b → v ≡ x.base + 4 * b → AreBounds x bs n vs → AreBounds x bs (n + 1) (vs ++ (v ∷ []))
+bounds_more x bs n b v vs rising all there is are =
+    let within = at_of (λ d. d < x.size / 4) bs all n b there in
+    record {
+      bound = All-push (IsBound x bs) vs v are.bound (inr (inr (n, b, there, is)));
+      first = first_push vs x.base v are.first;
+      rising = rising_push vs v are.rising (subst (λ w. All (λ u. u < w) vs) (sym is) (are.before b there));
+      inner = All-push (λ u. u + 4 ≤ x.base + x.size) vs v are.inner (omega (arith, is, within));
+      before = λ d at.
+          let l = rising n b d there at in
+          All-push (λ u. u < x.base + 4 * d) vs v (All-weaker (λ u. u < x.base + 4 * b) (λ u. u < x.base + 4 * d) (λ u h. omega (arith, h, l)) vs (are.before b there)) (omega (arith, is, l));
+    }
+
+is_end : (x : Extent) (v : ℕ) → x.base + x.size ≤ 2 ^ 64 → v ≡ min (x.base + x.size) 18446744073709551615 → IsEnd x v
+is_end x v most is = elim (cases_lt (x.base + x.size) (2 ^ 64)) [
+  | inl low ↦ inl (low, omega (arith, is, low))
+  | inr high ↦ inr (omega (arith, most, high), omega (arith, is, most, high))
+]
+
+-- the memory's end is put behind them
+pub bounds_end : (x : Extent) (bs : List ℕ) (n v : ℕ) (vs : List ℕ) → x.base + x.size ≤ 2 ^ 64 → v ≡ min (x.base + x.size) 18446744073709551615 → AreBounds x bs n vs → IsDivided x (vs ++ (v ∷ []))
+bounds_end x bs n v vs most is are = record {
+  first = first_push vs x.base v are.first;
+  last = λ k w len at. subst (IsEnd x) (sym (last_push vs v k w len at)) (is_end x v most is);
+  rising = rising_push vs v are.rising (All-weaker (λ u. u + 4 ≤ x.base + x.size) (λ u. u < v) (λ u h. omega (arith, h, is, most)) vs are.inner);
+}
+
+-- ---- the range around an address
+
+pub rising_order : (vs : List ℕ) → IsRising vs → IsNonDecreasingBy (λ v. v) vs
+rising_order vs rising = IsNonDecreasingBy-from_all_adjacent (λ v. v) vs (λ k d l. let r = rising k (get_or vs k d) (get_or vs (k + 1) d) (slice_get-get_or vs k d (omega (arith, l))) (slice_get-get_or vs (k + 1) d l) in omega (arith, r))
+
+pub split_by : (vs : List ℕ) (a n : ℕ) → IsPartitionPoint (λ v. leb v a ≡ true) (λ v. leb v a ≡ false) vs n → IsSplit vs a n
+split_by vs a n point = record {
+  below = λ j v l at. subst (λ u. u ≤ a) (get_or_from_slice_get vs j v 0 at) (leb-true (get_or vs j 0) a (point.0 j 0 (omega arith) l));
+  above = λ j v l at. subst (λ u. a < u) (get_or_from_slice_get vs j v 0 at) (leb-false (get_or vs j 0) a (point.1 j 0 l (slice_get_within vs j v at)));
+}
+
+-- an address of the memory has a bound up to it and one behind it
+pub split_within : (x : Extent) (vs : List ℕ) (a n : ℕ) → IsDivided x vs → IsSplit vs a n → x.base ≤ a → a < x.base + x.size → a + 1 < 2 ^ 64 → (0 < n) × (n < length vs)
+split_within x vs a n divided split low high top = (begins, ends)
+  where
+    begins : 0 < n
+    begins = elim (cases_lt 0 n) [
+      | inl l ↦ l
+      | inr l ↦ absurd (let above = split.above 0 x.base l divided.first in omega (arith, above, low))
+    ]
+
+    ends : n < length vs
+    ends = elim (cases_lt n (length vs)) [
+      | inl l ↦ l
+      | inr l ↦ absurd (
+          let some = slice_get_within vs 0 x.base divided.first in
+          let m = length vs - 1 in
+          let there = slice_get-get_or vs m 0 (omega (arith, some)) in
+          let below = split.below m (get_or vs m 0) (omega (arith, some, l)) there in
+          elim (divided.last m (get_or vs m 0) (omega (arith, some)) there) [
+            | inl e ↦ let is = e.1 in omega (arith, is, below, high)
+            | inr e ↦ let is = e.1 in omega (arith, is, below, top)
+          ])
+    ]
+
+-- ---- all of it
+
 pub are_cells : (log : LogView) (ps : List Place) (ws : List Word) (beginnings bounds : List ℕ) → ArePlaces log.events ps → AreJoined log.extent ps ws (length ps) → All (IsBeginning ws) beginnings
-    → All (IsBound log.extent beginnings) bounds → AreCells log (record { places = ps; bounds = bounds })
-are_cells log ps ws beginnings bounds places joined begin bound = record {
+    → All (IsBound log.extent beginnings) bounds → IsDivided log.extent bounds → AreCells log (record { places = ps; bounds = bounds })
+are_cells log ps ws beginnings bounds places joined begin bound divided = record {
   places = places;
+  divided = divided;
   uncut = λ j v at inner. uncut_by log ps v places
       (not_cut log.extent ps ws beginnings v joined (at_of (IsBeginning ws) beginnings begin) (at_of (IsBound log.extent beginnings) bounds bound j v at) inner);
 }

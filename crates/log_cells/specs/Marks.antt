@@ -26,3 +26,8 @@ pub record IsBeginning (ws : List Word) (b : ℕ) : Type 0 where
 -- an end of the memory, or the address of one of the words
 abbrev pub IsBound : Extent → List ℕ → ℕ → Type 0
 IsBound x bs v = (v ≡ x.base) ⊎ (x.base + x.size ≤ v + 1) ⊎ ((j b : ℕ) × (slice_get bs j ≡ Some b) × (v ≡ x.base + 4 * b))
+
+-- the first n of the addresses are up to this one, the rest behind it
+pub record IsSplit (vs : List ℕ) (a n : ℕ) : Type 0 where
+  pub below : (j v : ℕ) → j < n → slice_get vs j ≡ Some v → v ≤ a
+  pub above : (j v : ℕ) → n ≤ j → slice_get vs j ≡ Some v → a < v

@@ -1,9 +1,10 @@
-//! Ranges of bytes that no request crosses the ends of.
-ghost use Rattle.std.specs.Prelude.{◌≡◌, ◌+◌, ◌-◌, ◌*◌, ◌/◌, ◌<◌, ◌≤◌, ℕ, Some, IfOk, IfSome, IfNone, IsTrue, length, replicate, slice_get, slice_set};
+//! A memory, divided into ranges that no request crosses the ends of.
+ghost use Rattle.std.specs.Prelude.{◌≡◌, ◌+◌, ◌-◌, ◌*◌, ◌/◌, ◌^◌, ◌<◌, ◌≤◌, ℕ, Some, IfOk, IfSome, IfNone, IsTrue, length, replicate, slice_get, slice_set};
 ghost use Rattle.std.specs.List.{All};
+ghost use Rattle.seq_memory.specs.Limits as limits;
 ghost use Rattle.log_cells.specs.declared.cells.Word.TheVariants as kinds;
-ghost use Rattle.log_cells.specs.Cells.{AreCells};
-ghost use Rattle.log_cells.specs.Marks.{IsCut, Keeps, AreJoined, IsBeginning, IsBound};
+ghost use Rattle.log_cells.specs.Cells.{IsRising, IsDivided, AreCells};
+ghost use Rattle.log_cells.specs.Marks.{IsCut, Keeps, AreJoined, IsBeginning, IsBound, IsSplit};
 
 use crate::places::{Place, places_of};
 use log_runs::Log;
@@ -28,8 +29,9 @@ pub(crate) enum Word {
     Joined,
 }
 
-/// The memory of a log, divided into ranges of one cell or several, and the bytes that each event
-/// names. There are so few ranges that all their parts together take time in proportion to the log.
+/// The memory of a log, divided into ranges that no request crosses the ends of, and the bytes that
+/// each event names. There are so few ranges that all their parts together take time in proportion to
+/// the log.
 #[derive(Drop)]
 pub struct Cells {
     places: Vec<Place>,
@@ -155,7 +157,8 @@ fn begins(words: &[Word], at: usize) -> bool
 
 /// The words with which cells begin.
 fn beginnings(alloc: Global, words: &[Word]) -> Result<Vec<usize>, AllocError>
-    ensures { IfOk result (λ v. All (IsBeginning words.now) v.items) }
+    ensures begin { IfOk result (λ v. All (IsBeginning words.now) v.items) }
+    ensures rising { IfOk result (λ v. IsRising v.items) }
 {
     let mut beginnings = Vec::new(alloc);
     for at in 0..words.len() {
@@ -182,13 +185,16 @@ fn bounds_of(
     each: usize,
     extent: Extent,
 ) -> Result<Vec<u64>, AllocError>
-    requires { All (λ b. b < extent.size / 4) beginnings.now }
-    ensures { IfOk result (λ v. All (IsBound extent beginnings.now) v.items) }
+    requires within { All (λ b. b < extent.size / 4) beginnings.now }
+    requires rising { IsRising beginnings.now }
+    ensures bound { IfOk result (λ v. All (IsBound extent beginnings.now) v.items) }
+    ensures divided { IfOk result (λ v. IsDivided extent v.items) }
 {
     let mut bounds = Vec::new(alloc);
     bounds.push(extent.base())?;
-    let mut cells = 0usize;
-    for at in 0..beginnings.len() {
+    // The first cell is in the first range, which begins with the memory.
+    let mut cells = 1usize;
+    for at in 1..beginnings.len() {
         if cells == each {
             bounds.push(address_of(extent, beginnings[at]))?;
             cells = 0;
@@ -199,8 +205,16 @@ fn bounds_of(
     Ok(bounds)
 }
 
+/// How many bounds there are up to the address.
+fn up_to(bounds: &[u64], address: u64) -> usize
+    ensures { IsRising bounds.now → IsSplit bounds.now address result }
+{
+    bounds.partition_point(|bound| *bound <= address)
+}
+
 impl Cells {
-    /// The cells of a log's memory.
+    /// Divides a log's memory into ranges. No request whose bytes the memory has crosses the end of
+    /// one. A byte at 2^64 - 1 is in no range.
     pub fn of(alloc: Global, log: &Log<'_>) -> Result<Self, AllocError>
         ensures { IfOk result (AreCells log.now) }
     {
@@ -233,11 +247,13 @@ impl Cells {
     }
 
     /// The range that has the address, by the addresses where it begins and ends, if one has it.
+    /// Each address of the memory is in one, but for 2^64 - 1.
     pub fn around(&self, address: u64) -> Option<(u64, u64)>
         ensures range { IfSome result (λ r. (j : ℕ) × (slice_get self.now.bounds j ≡ Some r.0) × (slice_get self.now.bounds (j + 1) ≡ Some r.1)) }
         ensures has { IfSome result (λ r. (r.0 ≤ address) × (address < r.1)) }
+        ensures none { IfNone result ((x : limits.Extent) → IsDivided x self.now.bounds → x.base ≤ address → address < x.base + x.size → address + 1 < 2 ^ 64 → ⊥) }
     {
-        let behind = self.bounds.partition_point(|bound| *bound <= address);
+        let behind = up_to(&self.bounds, address);
         let (low, high) = self.range(behind.checked_sub(1)?)?;
         if low <= address && address < high {
             Some((low, high))

@@ -1,8 +1,7 @@
-use Rattle.std.proofs.Common.{◌≡◌, ◌++◌, ◌∷◌, [], get_or, inr, refl, subst, sym}
-use Rattle.std.proofs.lemmas.List.Elements.{All-push}
+use Rattle.std.proofs.Common.{◌≡◌, ◌+◌, ◌++◌, ◌∷◌, [], get_or, refl, subst, sym, arith}
 use Rattle.std.proofs.lemmas.Option.{slice_get-get_or}
-use Rattle.std.specs.List.{All}
-use Rattle.log_cells.specs.Marks.{IsBound}
+use Rattle.log_cells.specs.Cells.{IsDivided}
+use Rattle.log_cells.proofs.MarkLemmas.{AreBounds, bounds_same, bounds_more, bounds_end}
 use Rattle.log_cells.proofs.cells.bounds_of.Goals.{then-cells-each+in_ok-push-2, else-cells-each}
 use Rattle.log_cells.proofs.cells.bounds_of.Goals as goal
 
@@ -12,12 +11,22 @@ loop-at-preserved c =
     let bs = c.args.beginnings.now in
     let old = c.loop-at.bounds.items in
     let at = c.loop-at.at in
-    elim c.if-cells-each.branch as (λ w. All (IsBound x bs) c.if-cells-each.bounds.items) [
+    let there = slice_get-get_or bs at 0 c.loop-at-test.true in
+    elim c.if-cells-each.branch as (λ w. AreBounds x bs (at + 1) c.if-cells-each.bounds.items) [
       | then-cells-each+in_ok-push-2 w ↦
           let grown : c.if-cells-each.bounds.items ≡ old ++ (w.address_of.result ∷ []) = rw w.bounds-is w.in_ok-push-2.ensures.items in
-          let bound = inr (inr (at, get_or bs at 0, slice_get-get_or bs at 0 c.loop-at-test.true, w.address_of.ensures)) in
-          subst (All (IsBound x bs)) (sym grown) (All-push (IsBound x bs) old w.address_of.result c.loop-at.invariant bound)
+          subst (AreBounds x bs (at + 1)) (sym grown) (bounds_more x bs at (get_or bs at 0) w.address_of.result old c.requires.rising c.requires.within there w.address_of.ensures c.loop-at.invariant)
       | else-cells-each w ↦
           let same : c.if-cells-each.bounds.items ≡ old = rw w.bounds-is refl in
-          subst (All (IsBound x bs)) (sym same) c.loop-at.invariant
+          subst (AreBounds x bs (at + 1)) (sym same) (bounds_same x bs at (get_or bs at 0) old c.requires.rising there c.loop-at.invariant)
     ]
+
+pub returns-clause-divided : goal.returns-clause-divided
+returns-clause-divided c =
+    let x = c.args.extent in
+    let base = c.base-2.ensures.value in
+    let size = c.size.ensures.value in
+    let is = c.saturating_add.ensures in
+    let range = c.base-2.ensures.range.1 in
+    subst (IsDivided x) (sym c.in_ok-push-3.ensures.items)
+    (bounds_end x c.args.beginnings.now c.loop-at.at c.saturating_add.result c.loop-at.bounds.items (omega (arith, base, range)) (rw (sym base, sym size) is) c.loop-at.invariant)
