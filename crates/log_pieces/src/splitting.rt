@@ -26,6 +26,13 @@ struct Of {
     n: u64,
 }
 
+/// A reply, and whose it is.
+#[derive(Clone, Copy)]
+struct Answered<'a> {
+    of: Of,
+    reply: &'a Reply,
+}
+
 /// Adds submissions of these operations, under numbers that follow each other.
 fn put_subs(records: &mut Vec<Record>, of: Of, ops: &[Op]) -> Result<(), AllocError>
     ensures { OnOk result (records.new.items ≡ records.old.items ++ spec.subs of.requester of.number of.n ops.now) }
@@ -107,13 +114,13 @@ fn answer(
     records: &mut Vec<Record>,
     row: &Row<'_>,
     cut: &Splitter,
-    of: Of,
-    reply: &Reply,
+    answered: Answered,
 ) -> Result<(), AllocError>
     requires some { 4 ≤ cut.now.bytes }
     requires few { cut.now.bytes ≤ 64 }
-    ensures { OnOk result (records.new.items ≡ records.old.items ++ spec.answers_by (pieces cut.now.bytes cut.now.extent) (slice_get row.now.requests of.number) of.requester row.now.next of.n reply.now) }
+    ensures { OnOk result (records.new.items ≡ records.old.items ++ spec.answers_by (pieces cut.now.bytes cut.now.extent) (slice_get row.now.requests answered.entry.of.number) answered.entry.of.requester row.now.next answered.entry.of.n answered.entry.reply.now) }
 {
+    let Answered { of, reply } = answered;
     match row.request(of.number) {
         None => records.push(Record::Ans {
             requester: of.requester,
@@ -174,13 +181,13 @@ fn add<'a>(
                 number: *number,
                 n: *n,
             };
+            let answered = Answered { of, reply };
             answer(
                 alloc,
                 records,
                 &rows[usize::from(*requester)],
                 cut,
-                of,
-                reply,
+                answered,
             )
         }
     }

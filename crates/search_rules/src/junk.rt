@@ -16,6 +16,13 @@ use seq_memory::Reply;
 use seq_memory::laws::refused_and_read_change_nothing;
 use tlp_core::Op;
 
+/// A request: its operation, and its answer, if it has one.
+#[derive(Clone, Copy)]
+struct Request<'a> {
+    op: &'a Op,
+    told: Option<&'a Reply>,
+}
+
 /// The memory would do the operation.
 pub fn is_served(log: &Log, op: &Op) -> bool
     ensures yes { IsTrue result → step.refusal log.now.extent.base log.now.extent.size log.now.extent.block op.now ≡ None }
@@ -129,37 +136,23 @@ fn misses_left(log: &Log, one: &Op, told: Option<&Reply>, third: &Op, had: Optio
 }
 
 /// [`misses_left`], the third having no addresses but the other's.
-fn misses_there(
-    log: &Log,
-    one: &Op,
-    told: Option<&Reply>,
-    other: &Op,
-    third: &Op,
-    had: Option<&Reply>,
-) -> bool
-    ensures { IsTrue result → specs.MissesLeft log.now.extent one.now (told_of told.entry) other.now third.now (told_of had.entry) }
+fn misses_there(log: &Log, one: Request, other: &Op, third: Request) -> bool
+    ensures { IsTrue result → specs.MissesLeft log.now.extent one.entry.op.now (told_of one.entry.told) other.now third.entry.op.now (told_of third.entry.told) }
 {
-    if !spans(other, third) {
+    if !spans(other, third.op) {
         return false;
     }
-    misses_left(log, one, told, third, had)
+    misses_left(log, one.op, one.told, third.op, third.told)
 }
 
 /// What the third leaves at the addresses of the other is nothing to the operation.
-fn leaves_junk(
-    log: &Log,
-    one: &Op,
-    told: Option<&Reply>,
-    other: &Op,
-    third: &Op,
-    had: Option<&Reply>,
-) -> bool
-    ensures { IsTrue result → specs.LeavesJunk log.now.extent one.now (told_of told.entry) other.now third.now (told_of had.entry) }
+fn leaves_junk(log: &Log, one: Request, other: &Op, third: Request) -> bool
+    ensures { IsTrue result → specs.LeavesJunk log.now.extent one.entry.op.now (told_of one.entry.told) other.now third.entry.op.now (told_of third.entry.told) }
 {
-    if ignores(log, one, told, other) {
+    if ignores(log, one.op, one.told, other) {
         return true;
     }
-    misses_there(log, one, told, other, third, had)
+    misses_there(log, one, other, third)
 }
 
 /// [`leaves_junk`], the third being request `g`.
@@ -167,7 +160,11 @@ fn leaves_junk_behind(log: &Log, one: &Op, told: Option<&Reply>, other: &Op, g: 
     ensures { IsTrue result → (l : ℕ) × (third : Op) × (had : Option Reply) × (slice_get log.now.events g ≡ Some (events.Sub l third had)) × specs.LeavesJunk log.now.extent one.now (told_of told.entry) other.now third had }
 {
     match log.event(g) {
-        Some(Event::Sub { op, reply, .. }) => leaves_junk(log, one, told, other, op, reply),
+        Some(Event::Sub { op, reply, .. }) => {
+            let one = Request { op: one, told };
+            let third = Request { op, told: reply };
+            leaves_junk(log, one, other, third)
+        }
         _ => false,
     }
 }

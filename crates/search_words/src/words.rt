@@ -193,12 +193,18 @@ fn is_careless(log: &Log, op: &Op, told: Option<&Reply>) -> bool
     has_whole_words(log, op) && overlooks(log, op, told, op)
 }
 
-/// A request of a log, and whether it is careless.
+/// A request of a log.
 #[derive(Clone, Copy)]
 struct Request<'a> {
     b: usize,
     op: &'a Op,
     told: Option<&'a Reply>,
+}
+
+/// A request of a log, and whether it is careless.
+#[derive(Clone, Copy)]
+struct Judged<'a> {
+    request: Request<'a>,
     careless: bool,
 }
 
@@ -218,25 +224,25 @@ impl Words {
         }
     }
 
-    /// Request `b` needs this at the word, if that is known, or is careless.
+    /// The request needs this at the word, if that is known, or is careless.
     fn add_need(
         &mut self,
         alloc: Global,
+        judged: Judged,
         word: u64,
         need: Option<u64>,
-        careless: bool,
-        b: usize,
     ) -> Result<(), AllocError>
-        requires rise { AllRise self.old b }
+        requires rise { AllRise self.old judged.request.b }
         requires word { word < 262144 }
         requires few { IfSome need (λ v. v < 4294967296) }
         ensures keeps { OnOk result (Keeps self.old self.new) }
-        ensures rise { OnOk result (AllRise self.new b) }
-        ensures own { OnOk result (Has self.new.blind word b ⊎ (IsTrue careless × Has self.new.careless word b) ⊎ ((v : ℕ) × (need ≡ Some v) × Has self.new.needed (key word v) b)) }
+        ensures rise { OnOk result (AllRise self.new judged.entry.request.b) }
+        ensures own { OnOk result (Has self.new.blind word judged.entry.request.b ⊎ (IsTrue judged.entry.careless × Has self.new.careless word judged.entry.request.b) ⊎ ((v : ℕ) × (need ≡ Some v) × Has self.new.needed (key word v) judged.entry.request.b)) }
     {
+        let b = judged.request.b;
         match need {
             Some(value) => self.needed.add(alloc, number_of(word, value), b)?,
-            None if careless => self.careless.add(alloc, word, b)?,
+            None if judged.careless => self.careless.add(alloc, word, b)?,
             None => self.blind.add(alloc, word, b)?,
         }
         Ok(())
@@ -291,24 +297,19 @@ impl Words {
         &mut self,
         alloc: Global,
         log: &Log,
-        request: Request,
+        judged: Judged,
         word: u64,
     ) -> Result<(), AllocError>
-        requires rise { AllRise self.old request.b }
-        requires careless { IsTrue request.careless → IsCareless log.now.extent request.op.now (told_of request.told) }
+        requires rise { AllRise self.old judged.request.b }
+        requires careless { IsTrue judged.careless → IsCareless log.now.extent judged.request.op.now (told_of judged.request.told) }
         requires word { word < 262144 }
         ensures keeps { OnOk result (Keeps self.old self.new) }
-        ensures rise { OnOk result (AllRise self.new request.entry.b) }
-        ensures own { OnOk result (IsKnownAt log.now.extent self.new request.entry.b request.entry.op.now (told_of request.entry.told) word) }
+        ensures rise { OnOk result (AllRise self.new judged.entry.request.b) }
+        ensures own { OnOk result (IsKnownAt log.now.extent self.new judged.entry.request.b judged.entry.request.op.now (told_of judged.entry.request.told) word) }
     {
-        let Request {
-            b,
-            op,
-            told,
-            careless,
-        } = request;
+        let Request { b, op, told } = judged.request;
         self.add_name(alloc, word, b)?;
-        self.add_need(alloc, word, needed_at(log, op, told, word), careless, b)?;
+        self.add_need(alloc, judged, word, needed_at(log, op, told, word))?;
         self.add_left(alloc, word, left_at(log, op, told, word), b)?;
         Ok(())
     }
@@ -318,48 +319,40 @@ impl Words {
         &mut self,
         alloc: Global,
         log: &Log,
-        request: Request,
+        judged: Judged,
         words: (u64, u64),
     ) -> Result<(), AllocError>
-        requires rise { AllRise self.old request.b }
-        requires careless { IsTrue request.careless → IsCareless log.now.extent request.op.now (told_of request.told) }
+        requires rise { AllRise self.old judged.request.b }
+        requires careless { IsTrue judged.careless → IsCareless log.now.extent judged.request.op.now (told_of judged.request.told) }
         requires few { words.1 ≤ 262144 }
         ensures keeps { OnOk result (Keeps self.old self.new) }
-        ensures rise { OnOk result (AllRise self.new request.entry.b) }
-        ensures own { OnOk result ((w : ℕ) → words.0 ≤ w → w < words.1 → IsKnownAt log.now.extent self.new request.entry.b request.entry.op.now (told_of request.entry.told) w) }
+        ensures rise { OnOk result (AllRise self.new judged.entry.request.b) }
+        ensures own { OnOk result ((w : ℕ) → words.0 ≤ w → w < words.1 → IsKnownAt log.now.extent self.new judged.entry.request.b judged.entry.request.op.now (told_of judged.entry.request.told) w) }
     {
         for word in words.0..words.1 {
-            self.add_at(alloc, log, request, word)?;
+            self.add_at(alloc, log, judged, word)?;
         }
         Ok(())
     }
 
-    /// Takes request `b`.
-    fn add_request(
-        &mut self,
-        alloc: Global,
-        log: &Log,
-        b: usize,
-        op: &Op,
-        told: Option<&Reply>,
-    ) -> Result<(), AllocError>
-        requires { AllRise self.old b }
+    /// Takes the request.
+    fn add_request(&mut self, alloc: Global, log: &Log, request: Request) -> Result<(), AllocError>
+        requires { AllRise self.old request.b }
         ensures keeps { OnOk result (Keeps self.old self.new) }
-        ensures rise { OnOk result (AllRise self.new b) }
-        ensures own { OnOk result (IsTaken log.now.extent self.new b op.now (told_of told.entry)) }
+        ensures rise { OnOk result (AllRise self.new request.entry.b) }
+        ensures own { OnOk result (IsTaken log.now.extent self.new request.entry.b request.entry.op.now (told_of request.entry.told)) }
     {
+        let Request { b, op, told } = request;
         if op.size() == 0 || op.size() > MOST_BYTES {
             self.add_wide(b)?;
             return Ok(());
         }
         let words = words_near(log, op);
-        let request = Request {
-            b,
-            op,
-            told,
+        let judged = Judged {
+            request,
             careless: is_careless(log, op, told),
         };
-        self.add_words(alloc, log, request, words)?;
+        self.add_words(alloc, log, judged, words)?;
         Ok(())
     }
 
@@ -371,7 +364,14 @@ impl Words {
         ensures own { OnOk result ((i : ℕ) (op : Op) (told : Option Reply) → slice_get log.now.events at ≡ Some (events.Sub i op told) → IsTaken log.now.extent self.new at op told) }
     {
         match log.event(at) {
-            Some(Event::Sub { op, reply, .. }) => self.add_request(alloc, log, at, op, reply)?,
+            Some(Event::Sub { op, reply, .. }) => {
+                let request = Request {
+                    b: at,
+                    op,
+                    told: reply,
+                };
+                self.add_request(alloc, log, request)?;
+            }
             Some(Event::Due { .. }) => {}
             Some(Event::Free) => {}
             None => {}

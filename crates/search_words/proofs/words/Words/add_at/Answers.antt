@@ -11,7 +11,7 @@ returns-clause-keeps c =
 
 pub returns-clause-own : goal.returns-clause-own
 returns-clause-own c =
-    known_by c.args.log.now.extent c.add_name.new.self c.add_need.new.self c.add_left.new.self c.args.request.b c.args.request.op.now (told_of c.args.request.told) c.args.word c.needed_at.result c.left_at.result c.args.request.careless
+    known_by c.args.log.now.extent c.add_name.new.self c.add_need.new.self c.add_left.new.self c.args.judged.request.b c.args.judged.request.op.now (told_of c.args.judged.request.told) c.args.word c.needed_at.result c.left_at.result c.args.judged.careless
     c.in_ok-add_need.ensures.keeps c.in_ok-add_left.ensures.keeps c.in_ok-add_name.ensures.own c.in_ok-add_need.ensures.own c.in_ok-add_left.ensures.own c.requires.careless
-    (λ n is. subst (λ o. IfSome o (NeedsWord c.args.log.now.extent c.args.request.op.now (told_of c.args.request.told) c.args.word)) is c.needed_at.ensures.needs)
-    (λ n is. subst (λ o. IfSome o (LeavesWord c.args.log.now.extent c.args.request.op.now (told_of c.args.request.told) c.args.word)) is c.left_at.ensures.leaves)
+    (λ n is. subst (λ o. IfSome o (NeedsWord c.args.log.now.extent c.args.judged.request.op.now (told_of c.args.judged.request.told) c.args.word)) is c.needed_at.ensures.needs)
+    (λ n is. subst (λ o. IfSome o (LeavesWord c.args.log.now.extent c.args.judged.request.op.now (told_of c.args.judged.request.told) c.args.word)) is c.left_at.ensures.leaves)

@@ -6,6 +6,6 @@ use Rattle.search_words.proofs.words.Words.add_words.Given as goal
 abbrev pub invariant-loop-word : goal.invariant-loop-word
 invariant-loop-word l = record {
   keeps : Keeps l.fn.self l.self;
-  rise : AllRise l.self l.request.b;
-  own : (w : ℕ) → l.fn.words.0 ≤ w → w < l.word → IsKnownAt l.log.extent l.self l.request.b l.request.op.now (told_of l.request.told) w;
+  rise : AllRise l.self l.judged.request.b;
+  own : (w : ℕ) → l.fn.words.0 ≤ w → w < l.word → IsKnownAt l.log.extent l.self l.judged.request.b l.judged.request.op.now (told_of l.judged.request.told) w;
 }
