@@ -4,4 +4,6 @@
 #[cfg(test)]
 mod charts;
 #[cfg(test)]
+mod levels;
+#[cfg(test)]
 mod long_scripts;
