@@ -38,7 +38,7 @@ complete -c pciex -n "__fish_seen_subcommand_from chart" -l lane -x -a 'up1 up2 
 complete -c pciex -n "__fish_seen_subcommand_from chart" -l from -x -d 'First line of the script to draw'
 complete -c pciex -n "__fish_seen_subcommand_from chart" -l to -x -d 'Last line of the script to draw, at least --from'
 complete -c pciex -n "__fish_seen_subcommand_from chart" -l brief -d 'Leave out the Acks and credit updates that tell nothing new, and count them'
-complete -c pciex -n "__fish_seen_subcommand_from chart" -l levels -d 'Draw beside the rows how full each lane\'s queue and replay buffer are, and its credits left'
+complete -c pciex -n "__fish_seen_subcommand_from chart" -l levels -d 'Draw the levels of each lane\'s queue, replay buffer and credits beside the rows'
 complete -c pciex -n "__fish_seen_subcommand_from chart" -l help -d 'Print help'
 complete -c pciex -n "__fish_seen_subcommand_from generate" -l seed -x -d 'Seed of the random choices, 0 to 18446744073709551615'
 complete -c pciex -n "__fish_seen_subcommand_from generate" -l events -x -d 'Number of events, 0 to 1000000000'

@@ -213,7 +213,7 @@ pub(crate) static BRIEF: &str =
     "Leave out the Acks and credit updates that tell nothing new, and count them";
 
 pub(crate) static LEVELS: &str =
-    "Draw beside the rows how full each lane's queue and replay buffer are, and its credits left";
+    "Draw the levels of each lane's queue, replay buffer and credits beside the rows";
 
 pub(crate) static CLOCKED: &str =
     "Also test the n: none falls, exceeds the history's length or is above its request's index";
