@@ -8,12 +8,12 @@ ghost use Rattle.tlp_core.specs.Lent.{owned, HasSizes};
 ghost use Rattle.atomic_op.specs.NewValue.{FitsWidth};
 ghost use Rattle.seq_memory.specs.Limits.{IsBlock};
 ghost use Rattle.seq_memory.specs.Step.{changed, place_after, read_back, after, answer, IsSizedFor};
-ghost use Rattle.seq_memory.specs.Outcome.{reply_of};
+ghost use Rattle.seq_memory.specs.Outcome.{reply_of, owned_reply, HasRoom};
 
-use crate::Refusal;
 use crate::data::ReplyData;
 use crate::place::refusal_at;
-use crate::step::{change, merge};
+use crate::step::{change, copy_of, merge};
+use crate::{Refusal, Reply};
 use atomic_op::AtomicOp;
 use tlp_core::{OpForm, OpRef, Width, operand_of};
 
@@ -28,6 +28,35 @@ pub enum Outcome {
     Unsupported,
     /// See [`Refusal::Aborted`].
     Aborted,
+}
+
+/// A [`Reply`] whose data stands where it was read.
+#[derive(Clone, Copy)]
+pub enum ReplyForm<'a> {
+    /// See [`Reply::Done`].
+    Done,
+    /// See [`Reply::Data`].
+    Data(&'a [u8]),
+    /// See [`Refusal::Unsupported`].
+    Unsupported,
+    /// See [`Refusal::Aborted`].
+    Aborted,
+}
+
+impl ReplyForm<'_> {
+    /// The reply with data of its own. Takes no memory.
+    #[inline(always)]
+    pub fn to_owned(&self) -> Reply
+        requires { HasRoom self.now }
+        ensures { result ≡ owned_reply self.now }
+    {
+        match *self {
+            ReplyForm::Done => Reply::Done,
+            ReplyForm::Data(bytes) => Reply::Data(copy_of(bytes)),
+            ReplyForm::Unsupported => Reply::Unsupported,
+            ReplyForm::Aborted => Reply::Aborted,
+        }
+    }
 }
 
 /// Does an AtomicOp at its place, and puts the bytes that were there into the room.

@@ -25,7 +25,7 @@ mod step;
 use arrayvec::ArrayVec;
 pub use data::ReplyData;
 pub use extent::Extent;
-pub use lent::{Outcome, perform_lent};
+pub use lent::{Outcome, ReplyForm, perform_lent};
 pub use limits::{ALIGNMENT, MAX_SIZE, MIN_SIZE, is_base, is_block, is_size};
 pub use memory::Memory;
 pub use step::{enabled_bytes, perform};

@@ -42,7 +42,7 @@ fn put_number(place: &mut [u8], width: Width, number: u128)
 }
 
 /// The bytes as data.
-fn copy_of(bytes: &[u8]) -> ArrayVec<u8, MAX_PAYLOAD>
+pub(crate) fn copy_of(bytes: &[u8]) -> ArrayVec<u8, MAX_PAYLOAD>
     requires { length bytes.now ≤ 128 }
     ensures items { result.items ≡ bytes.now }
     ensures len { array_vec_len result ≡ length bytes.now }

@@ -179,7 +179,7 @@ pub fn op_of(tlp: &Tlp) -> Option<Op>
     Some(op.to_owned())
 }
 
-fn fits(width: Width, number: u128) -> bool
+pub(crate) fn fits(width: Width, number: u128) -> bool
     ensures { result ≡ spec.fits width number }
 {
     match width {
