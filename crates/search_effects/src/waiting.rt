@@ -14,15 +14,18 @@ use tlp_core::Op;
 #[derive(Clone, Copy)]
 struct Answered<'a> {
     op: &'a Op,
-    data: &'a [u8],
+    reply: &'a [u8],
 }
 
 /// At place `at` of the first operation, which is in the second's range, stands another byte than the
 /// first needs.
 fn differs(base: u64, bytes: &[u8], first: Answered<'_>, other: &Op, at: usize) -> bool
-    ensures { IsTrue result → (base ≤ address_of first.entry.op.now) × (address_of other.now ≤ address_of first.entry.op.now + at) × (address_of first.entry.op.now + at < address_of other.now + count_of other.now) × (at < length first.entry.data.now) × (effects.is_needed first.entry.op.now at ≡ true) × (slice_index bytes.now (address_of first.entry.op.now - base + at) ≢ slice_index first.entry.data.now at) }
+    ensures { IsTrue result → (base ≤ address_of first.entry.op.now) × (address_of other.now ≤ address_of first.entry.op.now + at) × (address_of first.entry.op.now + at < address_of other.now + count_of other.now) × (at < length first.entry.reply.now) × (effects.is_needed first.entry.op.now at ≡ true) × (slice_index bytes.now (address_of first.entry.op.now - base + at) ≢ slice_index first.entry.reply.now at) }
 {
-    let Answered { op: one, data: old } = first;
+    let Answered {
+        op: one,
+        reply: old,
+    } = first;
     let Some(i) = place_in(other, one, at) else {
         return false;
     };
@@ -38,9 +41,9 @@ fn differs(base: u64, bytes: &[u8], first: Answered<'_>, other: &Op, at: usize) 
 
 /// It does so at some place.
 fn some_differs(base: u64, bytes: &[u8], first: Answered<'_>, other: &Op) -> bool
-    ensures { IsTrue result → (at : ℕ) × (base ≤ address_of first.entry.op.now) × (address_of other.now ≤ address_of first.entry.op.now + at) × (address_of first.entry.op.now + at < address_of other.now + count_of other.now) × (at < length first.entry.data.now) × (effects.is_needed first.entry.op.now at ≡ true) × (slice_index bytes.now (address_of first.entry.op.now - base + at) ≢ slice_index first.entry.data.now at) }
+    ensures { IsTrue result → (at : ℕ) × (base ≤ address_of first.entry.op.now) × (address_of other.now ≤ address_of first.entry.op.now + at) × (address_of first.entry.op.now + at < address_of other.now + count_of other.now) × (at < length first.entry.reply.now) × (effects.is_needed first.entry.op.now at ≡ true) × (slice_index bytes.now (address_of first.entry.op.now - base + at) ≢ slice_index first.entry.reply.now at) }
 {
-    for at in 0..first.data.len() {
+    for at in 0..first.reply.len() {
         if differs(base, bytes, first, other, at) {
             return true;
         }
@@ -58,7 +61,7 @@ fn waits_for(base: u64, bytes: &[u8], one: &Op, reply: &Reply, other: &Op) -> bo
     };
     let first = Answered {
         op: one,
-        data: old.as_slice(),
+        reply: old.as_slice(),
     };
     some_differs(base, bytes, first, other)
 }
