@@ -1,5 +1,6 @@
 pub mod Firsts
 pub mod Tables
+pub mod Parts
 pub mod Entries
 pub mod Floors
 pub mod Judged
