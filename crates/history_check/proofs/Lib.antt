@@ -5,7 +5,6 @@ pub mod Entries
 pub mod Floors
 pub mod Judged
 pub mod Replies
-pub mod Verdicts
 pub mod Linked
 pub mod Lists
 pub mod Same

@@ -17,6 +17,11 @@ abbrev pub head_of : Record → Head
 head_of (records.Sub i k op n) = heads.Sub i k (is_posted op) n
 head_of (records.Ans i k reply n) = heads.Ans i k n
 
+-- the requester and the number of the record's request
+abbrev pub request_of_head : Head → ℕ × ℕ
+request_of_head (heads.Sub i k posted n) = (i, k)
+request_of_head (heads.Ans i k n) = (i, k)
+
 -- the requester and the number of an entry's request
 abbrev pub request_of : Entry → ℕ × ℕ
 request_of e = (e.requester, e.number)
