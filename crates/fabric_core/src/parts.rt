@@ -4,7 +4,7 @@ ghost use Rattle.std.specs.Result.{result_ok};
 
 use crate::config::Config;
 use crate::event::{Event, LaneName, LinkEvent, Seen};
-use crate::events;
+use crate::events::{self, LinkSeen};
 use crate::fault::Refusal;
 use fc_credit::LaneCredits;
 use lane_core::LaneEnds;
@@ -42,7 +42,7 @@ impl Model for Parts {
 
 ghost use Rattle.requester_core.specs.RequesterView.{RequesterView};
 ghost use Rattle.lane_ends.specs.Steps.{LaneEndsView, IsShort};
-ghost use Rattle.fabric_core.specs.Answers.{Refuses, link_grows, part_at, lane_at, link_at, submit_at, forward_at, serve_at, collect_at, SubmitFits, ForwardFits, ServeFits, Happens, Refused};
+ghost use Rattle.fabric_core.specs.Answers.{Refuses, link_grows, seen_of, part_at, lane_at, link_at, submit_at, forward_at, serve_at, collect_at, SubmitFits, ForwardFits, ServeFits, Happens, Refused};
 ghost use Rattle.fabric_core.specs.Steps.{IsNoPort, HasLanes};
 ghost use Rattle.fabric_core.specs.Config.{config_of};
 ghost use Rattle.fabric_core.specs.Quiet.{AreStill, IsStillFabric, AreShort, HaveTags};
@@ -146,8 +146,8 @@ impl Parts {
     }
 
     /// A call of the link of a lane.
-    fn link(&mut self, name: LaneName, event: LinkEvent) -> Result<Seen, Refusal>
-        ensures answers { IfOk result (λ what. link_at self.old name event ≡ Ok (what, self.new)) }
+    fn link(&mut self, name: LaneName, event: LinkEvent) -> Result<LinkSeen, Refusal>
+        ensures answers { IfOk result (λ what. link_at self.old name event ≡ Ok (seen_of what, self.new)) }
         ensures refuses { IfErr result (λ r. Refuses (λ x. link_grows x.0) (link_at self.old name event) r) }
         ensures err { OnErr result (self.new ≡ self.old) }
     {
@@ -266,12 +266,14 @@ impl Parts {
     {
         match event {
             Event::Submit(port, op) => Ok(Seen::Submitted(self.submit(*port, op)?)),
-            Event::Transmit(lane) => self.link(*lane, LinkEvent::Transmit),
-            Event::Deliver(lane, fate) => self.link(*lane, LinkEvent::Deliver(*fate)),
-            Event::SendDllp(lane, kind) => self.link(*lane, LinkEvent::SendDllp(*kind)),
-            Event::DeliverDllp(lane, fate) => self.link(*lane, LinkEvent::DeliverDllp(*fate)),
-            Event::Timer(lane) => self.link(*lane, LinkEvent::Timer),
-            Event::Retrained(lane) => self.link(*lane, LinkEvent::Retrained),
+            Event::Transmit(lane) => Ok(self.link(*lane, LinkEvent::Transmit)?.seen()),
+            Event::Deliver(lane, fate) => Ok(self.link(*lane, LinkEvent::Deliver(*fate))?.seen()),
+            Event::SendDllp(lane, kind) => Ok(self.link(*lane, LinkEvent::SendDllp(*kind))?.seen()),
+            Event::DeliverDllp(lane, fate) => Ok(
+                self.link(*lane, LinkEvent::DeliverDllp(*fate))?.seen(),
+            ),
+            Event::Timer(lane) => Ok(self.link(*lane, LinkEvent::Timer)?.seen()),
+            Event::Retrained(lane) => Ok(self.link(*lane, LinkEvent::Retrained)?.seen()),
             Event::Forward(lane, place) => self.forward(*lane, *place),
             Event::Serve(place) => Ok(Seen::At(self.serve(*place)?)),
             Event::Collect(port) => Ok(Seen::Collected(self.collect(*port)?)),
