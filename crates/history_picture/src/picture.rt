@@ -11,7 +11,7 @@ use crate::marks::View;
 use crate::rows::{Shown, put_rows};
 use crate::scale::{Scale, Window, scale_of, x_at};
 use flaw_places::flawed_request;
-use history_check::{Flaw, Record, Trace};
+use history_check::{Claim, Flaw, Record, Trace};
 use seq_memory::Entry;
 use std::alloc::{AllocError, Global};
 use svg_text::{put_label, put_page};
@@ -85,13 +85,13 @@ fn put_whole(alloc: Global, drawn: &Drawn<'_>, out: &mut Vec<u8>) -> Result<(), 
 }
 
 /// What is shown of a trace and its history.
-fn view_of(window: Window, records: &[Record], history: &[Entry], flaw: Option<Flaw>) -> View
-    ensures view { result ≡ spec.view_of window records.now history.now flaw }
+fn view_of(window: Window, trace: &Trace, history: &[Entry], flaw: Option<Flaw>) -> View
+    ensures view { result ≡ spec.view_of window trace.now.records history.now flaw }
     ensures within { result.scale.from + result.scale.span ≤ length history.now }
 {
     View {
         scale: scale_of(window, history.len()),
-        flawed: flawed_request(records, history, flaw),
+        flawed: flawed_request(&Claim { trace, history }, flaw),
     }
 }
 
@@ -110,7 +110,7 @@ pub fn put_picture(
     ensures err { OnErr result (out.new.items ≡ out.old.items) }
 {
     let records = trace.records.as_slice();
-    let view = view_of(window, records, history, flaw);
+    let view = view_of(window, trace, history, flaw);
     let drawn = Drawn {
         view,
         records,

@@ -11,4 +11,4 @@ returns-clause-ok c =
     let h = c.args.history.now in
     c.in_ok-put_whole.ensures.ok
     ∙ ap (λ (v : View). o ++ view_text v c.as_slice-records.result.now h c.args.flaw) c.view_of-view.ensures.view
-    ∙ ap (λ (rs : List Record). o ++ view_text (view_of c.args.window rs h c.args.flaw) rs h c.args.flaw) (c.as_slice-records.ensures.value ∙ ap (λ (t : TraceView). t.records) c.trace.view_is)
+    ∙ ap (λ (rs : List Record). o ++ view_text (view_of c.args.window c.args.trace.now.records h c.args.flaw) rs h c.args.flaw) (c.as_slice-records.ensures.value ∙ ap (λ (t : TraceView). t.records) c.trace.view_is)
