@@ -18,8 +18,8 @@ cas_kept a before new x y f ea ex ec el ey g e =
     let first : bytes_at new f.from f.count ≡ x = part_stays before new f.from f.count g (omega arith) ∙ ex in
     let same : f.count ≡ length y = ec ∙ ey in
     let second : bytes_at new (f.from + f.count) f.count ≡ y =
-        ap (λ (n : ℕ). bytes_at new n f.count) el ∙ ap (λ (n : ℕ). bytes_at new (length before) n) same
-        ∙ ap (λ (v : List ℕ). bytes_at v (length before) (length y)) e ∙ part_behind before y in
+    ap (λ (n : ℕ). bytes_at new n f.count) el ∙ ap (λ (n : ℕ). bytes_at new (length before) n) same
+    ∙ ap (λ (v : List ℕ). bytes_at v (length before) (length y)) e ∙ part_behind before y in
     rw (ea, first, second) refl
 
 -- what is kept stays as it is

@@ -131,11 +131,7 @@ fn put(bytes: &mut Vec<u8>, more: &[u8]) -> Result<usize, AllocError>
 
 /// Puts the operand behind the other bytes.
 #[inline(always)]
-fn keep_operand(
-    bytes: &mut Vec<u8>,
-    address: u64,
-    operand: &[u8],
-) -> Result<Fields, AllocError>
+fn keep_operand(bytes: &mut Vec<u8>, address: u64, operand: &[u8]) -> Result<Fields, AllocError>
     requires { IsOperand operand.now }
     ensures kept { IfOk result (λ f. (bytes_at bytes.new.items f.from f.count ≡ operand.now) × (f.address ≡ address)) }
     ensures fits { IfOk result (λ f. (f.count ≡ length operand.now) × (f.from + f.count ≡ length bytes.new.items)) }
@@ -153,10 +149,7 @@ fn keep_operand(
 
 /// Puts the operation's bytes behind the others.
 #[inline(always)]
-pub(crate) fn keep_op(
-    bytes: &mut Vec<u8>,
-    op: &OpForm<'_>,
-) -> Result<(OpKind, Fields), AllocError>
+pub(crate) fn keep_op(bytes: &mut Vec<u8>, op: &OpForm<'_>) -> Result<(OpKind, Fields), AllocError>
     requires { HasSizes op.now }
     ensures kept { IfOk result (λ kept. op_in bytes.new.items kept.0 kept.1 ≡ owned op.now) }
     ensures fits { IfOk result (λ kept. HasOp bytes.new.items kept.0 kept.1) }

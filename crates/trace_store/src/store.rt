@@ -53,11 +53,7 @@ fn owned_records(
 }
 
 /// The entries with bytes of their own.
-fn owned_entries(
-    alloc: Global,
-    bytes: &[u8],
-    heads: &[EntryHead],
-) -> Result<Vec<Entry>, AllocError>
+fn owned_entries(alloc: Global, bytes: &[u8], heads: &[EntryHead]) -> Result<Vec<Entry>, AllocError>
     requires { All (HasEntry bytes.now) heads.now }
     ensures { IfOk result (λ v. v.items ≡ map (entry_in bytes.now) heads.now) }
 {
@@ -139,15 +135,9 @@ impl TraceStore {
     }
 
     /// Adds an entry to the history.
-    pub fn acted(
-        &mut self,
-        requester: u8,
-        number: u32,
-        op: &OpForm<'_>,
-    ) -> Result<(), AllocError>
+    pub fn acted(&mut self, requester: u8, number: u32, op: &OpForm<'_>) -> Result<(), AllocError>
         requires { HasSizes op.now }
-        ensures records { OnOk result (self.new.records ≡ self.old.records) }
-        ensures memory { OnOk result (self.new.memory ≡ record self.old.memory { entries = self.old.memory.entries ++ (record { requester = requester; number = number; op = owned op.now }) ∷ [] }) }
+        ensures ok { OnOk result (self.new ≡ record self.old { memory = record self.old.memory { entries = self.old.memory.entries ++ (record { requester = requester; number = number; op = owned op.now }) ∷ [] } }) }
         ensures err { OnErr result (self.new ≡ self.old) }
     {
         let (kind, fields) = keep_op(&mut self.bytes, op)?;
