@@ -1,5 +1,5 @@
 -- Operations and replies in a list of bytes that grows.
-use Rattle.std.proofs.Common.{◌≡◌, ◌≤◌, ◌∙◌, ap, sym, refl, ℕ, ◌+◌, List, ◌++◌, length, arith, add_assoc}
+use Rattle.std.proofs.Common.{◌≡◌, ◌∙◌, ap, refl, ℕ, ◌+◌, List, ◌++◌, length, arith}
 use Rattle.tlp_core.specs.declared.operation.Op.TheVariants as ops
 use Rattle.tlp_core.specs.Operation.{width_of}
 use Rattle.tlp_core.specs.Lent.{number_of}

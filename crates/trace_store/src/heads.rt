@@ -1,16 +1,17 @@
 //! A record and an entry whose bytes stand in a list with those of others.
-ghost use Rattle.std.specs.Prelude.{◌≡◌};
+ghost use Rattle.std.specs.Prelude.{ℕ, ◌≡◌, List};
 ghost use Rattle.tlp_core.specs.Lent.{owned, HasSizes};
 ghost use Rattle.seq_memory.specs.Outcome.{reply_of};
 ghost use Rattle.seq_memory.specs.Step.{after, answer};
 ghost use Rattle.history_check.specs.Flaws as flaw;
+ghost use Rattle.history_check.specs.Heads.{head_of};
 ghost use Rattle.history_check.specs.Lookup.{answers_with};
 ghost use Rattle.trace_store.specs.Kept.{op_in};
 ghost use Rattle.trace_store.specs.Heads.{record_in, entry_in, HasRecord, HasEntry};
 
 use crate::kept::{Fields, OpKind, ReplyKind, form_in, reply_form_in};
 use crate::same::{is_outcome, is_same_op};
-use history_check::Record;
+use history_check::{Head, Record};
 use seq_memory::{Entry, Extent, Outcome, ReplyData, perform_lent};
 use tlp_core::{OpForm, OpRef};
 
@@ -43,6 +44,26 @@ pub(crate) struct EntryHead {
 }
 
 impl RecordHead {
+    /// The record without its operation or its reply, wherever their bytes stand.
+    #[inline(always)]
+    pub(crate) fn head(&self) -> Head
+        ensures { (bytes : List ℕ) → result ≡ head_of (record_in bytes self.now) }
+    {
+        match self.kind {
+            RecordKind::Sub(kind) => Head::Sub {
+                requester: self.requester,
+                number: self.number,
+                is_posted: matches!(kind, OpKind::Write),
+                n: self.n,
+            },
+            RecordKind::Ans(_) => Head::Ans {
+                requester: self.requester,
+                number: self.number,
+                n: self.n,
+            },
+        }
+    }
+
     /// The record with bytes of its own.
     pub(crate) fn to_owned(&self, bytes: &[u8]) -> Record
         requires { HasRecord bytes.now self.now }

@@ -3,14 +3,17 @@ ghost use Rattle.std.specs.Prelude.{◌≡◌, [], ◌∷◌, ◌++◌, map, OnO
 ghost use Rattle.std.specs.List.{All};
 ghost use Rattle.tlp_core.specs.Lent.{owned, HasSizes};
 ghost use Rattle.seq_memory.specs.History.{extent_of};
-ghost use Rattle.seq_memory.specs.Outcome.{owned_reply, HasRoom};
+ghost use Rattle.seq_memory.specs.Outcome.{owned_reply, reply_of, HasRoom};
 ghost use Rattle.history_check.specs.Claim.{claim_of};
+ghost use Rattle.history_check.specs.Flaws as flaw;
+ghost use Rattle.history_check.specs.Flaws.{at_place};
+ghost use Rattle.history_check.specs.Lookup.{is_told_at};
 ghost use Rattle.trace_store.specs.Heads.{record_in, entry_in, HasRecord, HasEntry};
 
 use crate::heads::{EntryHead, RecordHead, RecordKind};
-use crate::kept::{keep_op, keep_reply};
-use history_check::{Record, Trace};
-use seq_memory::{Entry, Extent, ReplyForm};
+use crate::kept::{form_in, keep_op, keep_reply};
+use history_check::{AsClaim, Head, Record, Trace};
+use seq_memory::{Entry, Extent, Outcome, ReplyData, ReplyForm};
 use std::alloc::{AllocError, Global};
 use std::marker::Model;
 use tlp_core::OpForm;
@@ -62,6 +65,41 @@ fn owned_entries(alloc: Global, bytes: &[u8], heads: &[EntryHead]) -> Result<Vec
         entries.push(head.to_owned(bytes))?;
     }
     Ok(entries)
+}
+
+/// The record at the place, if there is one, submits the operation.
+#[inline(always)]
+fn submits_at(bytes: &[u8], records: &[RecordHead], place: usize, op: &OpForm<'_>) -> bool
+    requires records { All (HasRecord bytes.now) records.now }
+    requires sizes { HasSizes op.now }
+    ensures { result ≡ at_place (flaw.submits (owned op.now)) (map (record_in bytes.now) records.now) place }
+{
+    match records.get(place) {
+        Some(head) => head.submits(bytes, op),
+        None => false,
+    }
+}
+
+/// The record at the place, if there is one, is an answer with that outcome, whose data stands in the
+/// room.
+#[inline(always)]
+fn tells_at(
+    bytes: &[u8],
+    records: &[RecordHead],
+    place: Option<usize>,
+    made: Outcome,
+    room: &[u8],
+) -> bool
+    requires { All (HasRecord bytes.now) records.now }
+    ensures { result ≡ is_told_at (map (record_in bytes.now) records.now) place (reply_of made room.now) }
+{
+    let Some(a) = place else {
+        return false;
+    };
+    match records.get(a) {
+        Some(head) => head.tells(bytes, made, room),
+        None => false,
+    }
 }
 
 impl TraceStore {
@@ -161,5 +199,64 @@ impl TraceStore {
             records,
         };
         Ok((trace, entries))
+    }
+}
+
+impl AsClaim for TraceStore {
+    ghost claim = { λ s. s };
+
+    fn extent(&self) -> Extent {
+        self.extent
+    }
+
+    fn records(&self) -> usize {
+        self.records.len()
+    }
+
+    fn entries(&self) -> usize {
+        self.entries.len()
+    }
+
+    #[inline(always)]
+    fn head(&self, place: usize) -> Option<Head> {
+        Some(self.records.get(place)?.head())
+    }
+
+    #[inline(always)]
+    fn request(&self, index: usize) -> Option<(u8, u32)> {
+        let head = self.entries.get(index)?;
+        Some((head.requester, head.number))
+    }
+
+    #[inline(always)]
+    fn submits(&self, place: usize, index: usize) -> bool {
+        let Some(head) = self.entries.get(index) else {
+            return false;
+        };
+        let op = form_in(&self.bytes, head.kind, head.fields);
+        submits_at(&self.bytes, &self.records, place, &op)
+    }
+
+    #[inline(always)]
+    fn replays(
+        &self,
+        index: usize,
+        place: Option<usize>,
+        bytes: &mut [u8],
+        room: &mut ReplyData,
+    ) -> bool {
+        let Some(head) = self.entries.get(index) else {
+            return false;
+        };
+        let made = head.perform(&self.bytes, self.extent, bytes, room);
+        tells_at(&self.bytes, &self.records, place, made, room.as_slice())
+    }
+
+    fn record(&self, place: usize) -> Option<Record> {
+        Some(self.records.get(place)?.to_owned(&self.bytes))
+    }
+
+    fn entry(&self, index: usize) -> Option<Entry> {
+        Some(self.entries.get(index)?.to_owned(&self.bytes))
     }
 }

@@ -1,8 +1,6 @@
-use Rattle.std.proofs.Common.{◌≡◌, refl, ap}
+use Rattle.std.proofs.Common.{refl, ap}
 use Rattle.tlp_core.specs.Lent.{owned}
 use Rattle.tlp_core.specs.declared.operation.Op.{Op}
-use Rattle.seq_memory.specs.declared.Entry.{Entry}
-use Rattle.history_check.specs.Claim.{Claim}
 use Rattle.trace_store.proofs.Growth.{all_there_still, same_view, entry_there, entry_added, on_err}
 use Rattle.trace_store.proofs.store.TraceStore.acted.Goals as goal
 

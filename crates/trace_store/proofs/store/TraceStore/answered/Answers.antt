@@ -2,7 +2,6 @@ use Rattle.std.proofs.Common.{refl, ap}
 use Rattle.seq_memory.specs.Outcome.{owned_reply}
 use Rattle.seq_memory.specs.declared.Reply.{Reply}
 use Rattle.history_check.specs.declared.Record.TheVariants as records
-use Rattle.trace_store.specs.declared.heads.RecordKind.TheVariants as kinds
 use Rattle.trace_store.proofs.Growth.{all_there_still, same_view, record_there, record_added, on_err}
 use Rattle.trace_store.proofs.store.TraceStore.answered.Goals as goal
 
