@@ -2,7 +2,7 @@
 ghost use Rattle.tlp_core.specs.Lent.{HasSizes};
 ghost use Rattle.seq_memory.specs.Outcome.{HasRoom};
 
-use history_check::{AsClaim, Record};
+use history_check::{AsClaim, Flaw, FlawKind, Record, check_claim};
 use seq_memory::{Entry, Extent, ReplyData, ReplyForm};
 use std::alloc::{AllocError, Global};
 use tlp_core::OpForm;
@@ -10,6 +10,12 @@ use trace_store::TraceStore;
 
 /// How many operations there are.
 const OPS: u8 = 9;
+
+/// The answer to the posted write.
+const UNASKED: Flaw = Flaw {
+    kind: FlawKind::Unasked,
+    place: 10,
+};
 
 /// Operations, no two of them the same. The first seven are served at 40h, the others aren't.
 fn form(which: u8) -> OpForm<'static>
@@ -81,13 +87,18 @@ fn reply(which: u8) -> ReplyForm<'static>
     }
 }
 
-/// Submits them, answers them, and puts them into the history.
-fn fill(store: &mut TraceStore) -> Result<(), AllocError> {
+/// Submits them, and puts them into the history.
+fn submit(store: &mut TraceStore) -> Result<(), AllocError> {
     for which in 0..OPS {
         store.submitted(1, u32::from(which), 0, &form(which))?;
         store.acted(1, u32::from(which), &form(which))?;
     }
-    for which in 0..OPS {
+    Ok(())
+}
+
+/// Answers them from one on, of which the second is posted.
+fn answer_from(store: &mut TraceStore, from: u8) -> Result<(), AllocError> {
+    for which in from..OPS {
         store.answered(1, u32::from(which), 9, &reply(which))?;
     }
     Ok(())
@@ -174,28 +185,36 @@ fn are_replayed(store: &TraceStore, behind: u8, bytes: &mut [u8]) -> bool {
     right
 }
 
-/// A store of all, over 4096 bytes from 0 on.
-fn filled(alloc: Global) -> Result<TraceStore, AllocError> {
+/// A store of all, with the answers from one on, over 4096 bytes from 0 on.
+fn filled(alloc: Global, from: u8) -> Result<TraceStore, AllocError> {
     let mut store = TraceStore::new(alloc, Extent::new(0, 4096, 64).unwrap());
-    fill(&mut store)?;
+    submit(&mut store)?;
+    answer_from(&mut store, from)?;
     Ok(store)
 }
 
 fn keeps_all(alloc: Global) -> Result<bool, AllocError> {
-    Ok(are_kept(&filled(alloc)?))
+    Ok(are_kept(&filled(alloc, 0)?))
 }
 
 fn tells_apart(alloc: Global) -> Result<bool, AllocError> {
-    Ok(submit_themselves(&filled(alloc)?))
+    Ok(submit_themselves(&filled(alloc, 0)?))
 }
 
 /// Whether the answers are those of the memory, and those one place further on aren't.
 fn replays_all(alloc: Global) -> Result<bool, AllocError> {
-    let store = filled(alloc)?;
+    let store = filled(alloc, 0)?;
     let mut bytes = vec![in alloc; 0u8; 4096]?;
     let right = are_replayed(&store, OPS, &mut bytes);
     let mut others = vec![in alloc; 0u8; 4096]?;
     Ok(right && !are_replayed(&store, OPS + 1, &mut others))
+}
+
+/// Whether the checker says ok if the posted write has no answer, and else where it has one.
+fn is_checked(alloc: Global) -> Result<bool, AllocError> {
+    let right = check_claim(alloc, &filled(alloc, 2)?).is_ok();
+    let flaw = check_claim(alloc, &filled(alloc, 0)?).err();
+    Ok(right && flaw == Some(UNASKED))
 }
 
 #[test]
@@ -211,4 +230,9 @@ fn operations_are_told_apart(rt: HostRuntime) {
 #[test]
 fn each_entry_is_replayed(rt: HostRuntime) {
     assert!(rt; matches!(replays_all(rt.alloc()), Ok(true)));
+}
+
+#[test]
+fn the_checker_reads_stores(rt: HostRuntime) {
+    assert!(rt; matches!(is_checked(rt.alloc()), Ok(true)));
 }
