@@ -1,7 +1,7 @@
 use Rattle.std.proofs.Common.{◌≡◌, false, List, ℕ, Option, ◌∙◌, sym, subst}
 use Rattle.std.specs.Prelude.{codes, bytes_eq}
 use Rattle.operation_text.specs.Words.{words}
-use Rattle.log_text.specs.declared.line.LogLine.{LogLine}
+use Rattle.log_text.specs.Lines.{LogLine}
 use Rattle.log_text.specs.Forms.{line_of, line_in_words}
 use Rattle.log_text.proofs.line.read_line.Goals as goal
 
