@@ -1,4 +1,5 @@
 mod WordLemmas
 mod DigitLemmas
 mod ReadBackLemmas
+mod NumberLemmas
 mod OpLemmas

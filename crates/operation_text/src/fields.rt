@@ -1,16 +1,17 @@
 //! The fields of a line.
-ghost use Rattle.std.specs.Prelude.{◌≡◌, ◌≤◌, ◌<◌, [], ◌∷◌, MatchOption, SomeIff, IfSome, IfOk, option_map};
+ghost use Rattle.std.specs.Prelude.{◌≡◌, ◌≤◌, ◌<◌, [], ◌∷◌, MatchOption, SomeIff, IfSome, IfOk, option_map, length};
 ghost use Rattle.std.specs.Result.{result_ok};
 ghost use Rattle.std.specs.Char.{digit_value};
 ghost use Rattle.operation_text.specs.Words.{words, words_behind, first_field, has_ended, ended};
-ghost use Rattle.operation_text.specs.Numbers.{numeral, numeral_after, byte_string, operand_of};
+ghost use Rattle.operation_text.specs.Numbers.{numeral, numeral_after, byte_string};
+ghost use Rattle.tlp_core.specs.Operation.{width_of};
+ghost use Rattle.tlp_core.specs.Lent.{number_of, IsOperand};
 ghost use Rattle.operation_text.specs.Operations as spelled;
 
 use crate::misfit::{Expected, LINE_END, Misfit};
 use arrayvec::ArrayVec;
-use byteorder::{ByteOrder, LittleEndian};
 use hex_text::read_digits;
-use tlp_core::{MAX_PAYLOAD, Width};
+use tlp_core::MAX_PAYLOAD;
 
 /// The first word of a line, and what is behind the space that ends it, none where the line ends with
 /// the word.
@@ -95,46 +96,43 @@ fn number_in(word: &[u8], radix: u32, most: u64) -> Option<u64>
     }
 }
 
-/// The bytes that the word spells, two hexadecimal digits a byte: 1 to 128 bytes.
-pub fn bytes_in(word: &[u8]) -> Option<ArrayVec<u8, MAX_PAYLOAD>>
-    ensures { option_map (λ b. b.items) result ≡ byte_string word.now }
+/// The bytes that the word spells, put to the front of the room: 1 to 128 bytes.
+fn bytes_lent<'r>(word: &[u8], room: &'r mut [u8; MAX_PAYLOAD]) -> Option<&'r [u8]>
+    ensures value { option_map (λ b. b.now) result ≡ byte_string word.now }
+    ensures few { IfSome result (λ b. length b.now ≤ 128) }
 {
     if word.is_empty() || word.len() > 2 * MAX_PAYLOAD || word.len() % 2 == 1 {
         return None;
     }
-    let mut room = [0u8; MAX_PAYLOAD];
     let bytes = &mut room[..word.len() / 2];
     if !read_digits(word, bytes) {
         return None;
     }
-    ArrayVec::try_from(&*bytes).ok()
+    Some(bytes)
 }
 
-/// The operand and its width, by its bytes.
-fn operand_by(bytes: &[u8]) -> Option<(Width, u128)>
-    ensures { result ≡ operand_of bytes.now }
+/// The bytes that the word spells, two hexadecimal digits a byte: 1 to 128 bytes.
+pub fn bytes_in(word: &[u8]) -> Option<ArrayVec<u8, MAX_PAYLOAD>>
+    ensures { option_map (λ b. b.items) result ≡ byte_string word.now }
 {
-    match bytes.len() {
-        4 => Some((Width::Four, u128::from(LittleEndian::read_u32(bytes)))),
-        8 => Some((Width::Eight, u128::from(LittleEndian::read_u64(bytes)))),
-        16 => Some((Width::Sixteen, LittleEndian::read_u128(bytes))),
-        _ => None,
-    }
+    let mut room = [0u8; MAX_PAYLOAD];
+    ArrayVec::try_from(bytes_lent(word, &mut room)?).ok()
 }
 
-/// The operand and its width that the word spells.
-fn operand_in(word: &[u8]) -> Option<(Width, u128)>
-    ensures { result ≡ spelled.operand word.now }
+/// The operand's bytes that the word spells, put to the front of the room: 4, 8 or 16 bytes.
+fn operand_lent<'r>(word: &[u8], room: &'r mut [u8]) -> Option<&'r [u8]>
+    requires { 16 ≤ length room.old }
+    ensures value { option_map (λ b. (width_of (length b.now), number_of b.now)) result ≡ spelled.operand word.now }
+    ensures size { IfSome result (λ b. IsOperand b.now) }
 {
     if word.len() != 8 && word.len() != 16 && word.len() != 32 {
         return None;
     }
-    let mut room = [0u8; 16];
     let bytes = &mut room[..word.len() / 2];
     if !read_digits(word, bytes) {
         return None;
     }
-    operand_by(bytes)
+    Some(bytes)
 }
 
 /// The next word, and what is behind it. `rest` is what [`cut`] left.
@@ -162,26 +160,31 @@ pub fn number(
     Ok((number, behind))
 }
 
-/// The bytes that the next word spells.
-pub(crate) fn bytes(
-    rest: Option<&[u8]>,
+/// The bytes that the next word spells, put to the front of the room, and what is behind it.
+pub(crate) fn bytes<'l, 'r>(
+    rest: Option<&'l [u8]>,
     expected: Expected,
-) -> Result<(ArrayVec<u8, MAX_PAYLOAD>, Option<&[u8]>), Misfit>
-    ensures { first_field byte_string (words_behind rest.entry) ≡ option_map (λ s. (s.0.items, words_behind s.1)) (result_ok result) }
+    room: &'r mut [u8; MAX_PAYLOAD],
+) -> Result<(&'r [u8], Option<&'l [u8]>), Misfit>
+    ensures field { first_field byte_string (words_behind rest.entry) ≡ option_map (λ s. (s.0.now, words_behind s.1)) (result_ok result) }
+    ensures few { IfOk result (λ s. length s.0.now ≤ 128) }
 {
     let (word, behind) = word(rest, expected)?;
-    let bytes = bytes_in(word).ok_or(expected.at(rest))?;
+    let bytes = bytes_lent(word, room).ok_or(expected.at(rest))?;
     Ok((bytes, behind))
 }
 
-/// The operand that the next word spells.
-pub(crate) fn operand(
-    rest: Option<&[u8]>,
+/// The bytes of the operand that the next word spells, put to the front of the room, and what is behind it.
+pub(crate) fn operand<'l, 'r>(
+    rest: Option<&'l [u8]>,
     expected: Expected,
-) -> Result<(Width, u128, Option<&[u8]>), Misfit>
-    ensures { first_field spelled.operand (words_behind rest.entry) ≡ option_map (λ s. ((s.0, s.1), words_behind s.2)) (result_ok result) }
+    room: &'r mut [u8],
+) -> Result<(&'r [u8], Option<&'l [u8]>), Misfit>
+    requires { 16 ≤ length room.old }
+    ensures field { first_field spelled.operand (words_behind rest.entry) ≡ option_map (λ s. ((width_of (length s.0.now), number_of s.0.now), words_behind s.1)) (result_ok result) }
+    ensures size { IfOk result (λ s. IsOperand s.0.now) }
 {
     let (word, behind) = word(rest, expected)?;
-    let (width, operand) = operand_in(word).ok_or(expected.at(rest))?;
-    Ok((width, operand, behind))
+    let bytes = operand_lent(word, room).ok_or(expected.at(rest))?;
+    Ok((bytes, behind))
 }

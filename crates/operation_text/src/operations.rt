@@ -1,12 +1,13 @@
 //! The text of operations.
-ghost use Rattle.std.specs.Prelude.{◌≡◌, option_map};
+ghost use Rattle.std.specs.Prelude.{◌≡◌, IfOk, option_map};
 ghost use Rattle.std.specs.Result.{result_ok};
+ghost use Rattle.tlp_core.specs.Lent.{owned, HasSizes};
 ghost use Rattle.operation_text.specs.Words.{words, words_behind, first_field};
 ghost use Rattle.operation_text.specs.Operations as spelled;
 
 use crate::fields::{alone, bytes, cut, number, operand};
 use crate::misfit::{BYTES, Expected, Misfit};
-use tlp_core::Op;
+use tlp_core::{MAX_PAYLOAD, Op, OpForm};
 
 /// An operation, by its first word.
 pub const OPERATION: Expected = Expected::Of("an operation", "read, write, add, swap, cas");
@@ -50,14 +51,15 @@ fn enables(rest: Option<&[u8]>, expected: Expected) -> Result<(u8, Option<&[u8]>
     Ok((enables as u8, rest))
 }
 
-fn read(rest: Option<&[u8]>) -> Result<Op, Misfit>
-    ensures { result_ok result ≡ spelled.read_of (words_behind rest.entry) }
+fn read<'r>(rest: Option<&[u8]>) -> Result<OpForm<'r>, Misfit>
+    ensures value { option_map owned (result_ok result) ≡ spelled.read_of (words_behind rest.entry) }
+    ensures sizes { IfOk result HasSizes }
 {
     let (address, rest) = address(rest)?;
     let (dw, rest) = count(rest)?;
     let (first, rest) = enables(rest, FIRST)?;
     let (last, rest) = enables(rest, LAST)?;
-    let op = Op::Read {
+    let op = OpForm::Read {
         address,
         dw,
         first,
@@ -66,14 +68,15 @@ fn read(rest: Option<&[u8]>) -> Result<Op, Misfit>
     alone(op, rest)
 }
 
-fn write(rest: Option<&[u8]>) -> Result<Op, Misfit>
-    ensures { result_ok result ≡ spelled.write_of (words_behind rest.entry) }
+fn write<'r>(rest: Option<&[u8]>, room: &'r mut [u8; MAX_PAYLOAD]) -> Result<OpForm<'r>, Misfit>
+    ensures value { option_map owned (result_ok result) ≡ spelled.write_of (words_behind rest.entry) }
+    ensures sizes { IfOk result HasSizes }
 {
     let (address, rest) = address(rest)?;
     let (first, rest) = enables(rest, FIRST)?;
     let (last, rest) = enables(rest, LAST)?;
-    let (bytes, rest) = bytes(rest, BYTES)?;
-    let op = Op::Write {
+    let (bytes, rest) = bytes(rest, BYTES, room)?;
+    let op = OpForm::Write {
         address,
         first,
         last,
@@ -82,44 +85,39 @@ fn write(rest: Option<&[u8]>) -> Result<Op, Misfit>
     alone(op, rest)
 }
 
-fn add(rest: Option<&[u8]>) -> Result<Op, Misfit>
-    ensures { result_ok result ≡ spelled.add_of (words_behind rest.entry) }
+fn add<'r>(rest: Option<&[u8]>, room: &'r mut [u8; MAX_PAYLOAD]) -> Result<OpForm<'r>, Misfit>
+    ensures value { option_map owned (result_ok result) ≡ spelled.add_of (words_behind rest.entry) }
+    ensures sizes { IfOk result HasSizes }
 {
     let (address, rest) = address(rest)?;
-    let (width, operand, rest) = operand(rest, OPERAND)?;
-    let op = Op::FetchAdd {
-        address,
-        width,
-        operand,
-    };
+    let (operand, rest) = operand(rest, OPERAND, room)?;
+    let op = OpForm::FetchAdd { address, operand };
     alone(op, rest)
 }
 
-fn swap(rest: Option<&[u8]>) -> Result<Op, Misfit>
-    ensures { result_ok result ≡ spelled.swap_of (words_behind rest.entry) }
+fn swap<'r>(rest: Option<&[u8]>, room: &'r mut [u8; MAX_PAYLOAD]) -> Result<OpForm<'r>, Misfit>
+    ensures value { option_map owned (result_ok result) ≡ spelled.swap_of (words_behind rest.entry) }
+    ensures sizes { IfOk result HasSizes }
 {
     let (address, rest) = address(rest)?;
-    let (width, operand, rest) = operand(rest, OPERAND)?;
-    let op = Op::Swap {
-        address,
-        width,
-        operand,
-    };
+    let (operand, rest) = operand(rest, OPERAND, room)?;
+    let op = OpForm::Swap { address, operand };
     alone(op, rest)
 }
 
-fn cas(rest: Option<&[u8]>) -> Result<Op, Misfit>
-    ensures { result_ok result ≡ spelled.cas_of (words_behind rest.entry) }
+fn cas<'r>(rest: Option<&[u8]>, room: &'r mut [u8; MAX_PAYLOAD]) -> Result<OpForm<'r>, Misfit>
+    ensures value { option_map owned (result_ok result) ≡ spelled.cas_of (words_behind rest.entry) }
+    ensures sizes { IfOk result HasSizes }
 {
+    let (front, back) = room.split_at_mut(16);
     let (address, rest) = address(rest)?;
-    let (width, compare, rest) = operand(rest, OPERAND)?;
-    let (other, swap, behind) = operand(rest, SWAP_OPERAND)?;
-    if width.size() != other.size() {
+    let (compare, rest) = operand(rest, OPERAND, front)?;
+    let (swap, behind) = operand(rest, SWAP_OPERAND, back)?;
+    if compare.len() != swap.len() {
         return Err(SWAP_OPERAND.at(rest));
     }
-    let cas = Op::Cas {
+    let cas = OpForm::Cas {
         address,
-        width,
         compare,
         swap,
     };
@@ -127,21 +125,51 @@ fn cas(rest: Option<&[u8]>) -> Result<Op, Misfit>
 }
 
 /// The operation of that kind that the rest of a line spells.
-fn op_by(kind: &[u8], rest: Option<&[u8]>, text: &[u8]) -> Result<Op, Misfit>
-    ensures { result_ok result ≡ spelled.op_by kind.now (words_behind rest.entry) }
+fn op_by<'r>(
+    kind: &[u8],
+    rest: Option<&[u8]>,
+    text: &[u8],
+    room: &'r mut [u8; MAX_PAYLOAD],
+) -> Result<OpForm<'r>, Misfit>
+    ensures value { option_map owned (result_ok result) ≡ spelled.op_by kind.now (words_behind rest.entry) }
+    ensures sizes { IfOk result HasSizes }
 {
     if kind == b"read".as_slice() {
         read(rest)
     } else if kind == b"write".as_slice() {
-        write(rest)
+        write(rest, room)
     } else if kind == b"add".as_slice() {
-        add(rest)
+        add(rest, room)
     } else if kind == b"swap".as_slice() {
-        swap(rest)
+        swap(rest, room)
     } else if kind == b"cas".as_slice() {
-        cas(rest)
+        cas(rest, room)
     } else {
         Err(OPERATION.at(Some(text)))
+    }
+}
+
+/// The operation that the text spells: its bytes are put into the room, whose content doesn't count.
+pub fn read_op_lent<'r>(text: &[u8], room: &'r mut [u8; MAX_PAYLOAD]) -> Result<OpForm<'r>, Misfit>
+    ensures value { option_map owned (result_ok result) ≡ spelled.op_spelled (words text.now) }
+    ensures sizes { IfOk result HasSizes }
+{
+    let (kind, rest) = cut(text);
+    op_by(kind, rest, text, room)
+}
+
+/// As [`read_op_lent`], of the rest of a line; none where there is no rest. `rest` is what [`cut`]
+/// left.
+pub fn op_behind_lent<'r>(
+    rest: Option<&[u8]>,
+    room: &'r mut [u8; MAX_PAYLOAD],
+) -> Result<OpForm<'r>, Misfit>
+    ensures value { option_map owned (result_ok result) ≡ spelled.op_spelled (words_behind rest.entry) }
+    ensures sizes { IfOk result HasSizes }
+{
+    match rest {
+        Some(text) => read_op_lent(text, room),
+        None => Err(OPERATION.at(rest)),
     }
 }
 
@@ -149,8 +177,8 @@ fn op_by(kind: &[u8], rest: Option<&[u8]>, text: &[u8]) -> Result<Op, Misfit>
 pub fn read_op(text: &[u8]) -> Result<Op, Misfit>
     ensures { result_ok result ≡ spelled.op_spelled (words text.now) }
 {
-    let (kind, rest) = cut(text);
-    op_by(kind, rest, text)
+    let mut room = [0; MAX_PAYLOAD];
+    Ok(read_op_lent(text, &mut room)?.to_owned())
 }
 
 /// The operation that the rest of a line spells, none where there is no rest. `rest` is what
@@ -158,8 +186,6 @@ pub fn read_op(text: &[u8]) -> Result<Op, Misfit>
 pub fn op_behind(rest: Option<&[u8]>) -> Result<Op, Misfit>
     ensures { result_ok result ≡ spelled.op_spelled (words_behind rest.entry) }
 {
-    match rest {
-        Some(text) => read_op(text),
-        None => Err(OPERATION.at(rest)),
-    }
+    let mut room = [0; MAX_PAYLOAD];
+    Ok(op_behind_lent(rest, &mut room)?.to_owned())
 }

@@ -1,35 +1,71 @@
 //! The text of replies.
-ghost use Rattle.std.specs.Prelude.{◌≡◌};
+ghost use Rattle.std.specs.Prelude.{◌≡◌, IfOk, option_map};
 ghost use Rattle.std.specs.Result.{result_ok};
+ghost use Rattle.seq_memory.specs.Outcome.{owned_reply, HasRoom};
 ghost use Rattle.operation_text.specs.Words.{words, words_behind};
 ghost use Rattle.operation_text.specs.Operations as spelled;
 
 use crate::fields::{alone, bytes, cut};
 use crate::misfit::{BYTES, Expected, Misfit};
-use seq_memory::Reply;
+use seq_memory::{Reply, ReplyForm};
+use tlp_core::MAX_PAYLOAD;
 
 /// A reply, by its first word.
 const REPLY: Expected = Expected::Of("a reply", "data, ur, ca");
 
-fn data(rest: Option<&[u8]>) -> Result<Reply, Misfit>
-    ensures { result_ok result ≡ spelled.data_of (words_behind rest.entry) }
+fn data<'r>(rest: Option<&[u8]>, room: &'r mut [u8; MAX_PAYLOAD]) -> Result<ReplyForm<'r>, Misfit>
+    ensures value { option_map owned_reply (result_ok result) ≡ spelled.data_of (words_behind rest.entry) }
+    ensures room { IfOk result HasRoom }
 {
-    let (bytes, rest) = bytes(rest, BYTES)?;
-    alone(Reply::Data(bytes), rest)
+    let (bytes, rest) = bytes(rest, BYTES, room)?;
+    alone(ReplyForm::Data(bytes), rest)
 }
 
 /// The reply of that kind that the rest of a line spells.
-fn reply_by(kind: &[u8], rest: Option<&[u8]>, text: &[u8]) -> Result<Reply, Misfit>
-    ensures { result_ok result ≡ spelled.reply_by kind.now (words_behind rest.entry) }
+fn reply_by<'r>(
+    kind: &[u8],
+    rest: Option<&[u8]>,
+    text: &[u8],
+    room: &'r mut [u8; MAX_PAYLOAD],
+) -> Result<ReplyForm<'r>, Misfit>
+    ensures value { option_map owned_reply (result_ok result) ≡ spelled.reply_by kind.now (words_behind rest.entry) }
+    ensures room { IfOk result HasRoom }
 {
     if kind == b"data".as_slice() {
-        data(rest)
+        data(rest, room)
     } else if kind == b"ur".as_slice() {
-        alone(Reply::Unsupported, rest)
+        alone(ReplyForm::Unsupported, rest)
     } else if kind == b"ca".as_slice() {
-        alone(Reply::Aborted, rest)
+        alone(ReplyForm::Aborted, rest)
     } else {
         Err(REPLY.at(Some(text)))
+    }
+}
+
+/// The reply that the text spells: its data is put into the room, whose content doesn't count.
+pub fn read_reply_lent<'r>(
+    text: &[u8],
+    room: &'r mut [u8; MAX_PAYLOAD],
+) -> Result<ReplyForm<'r>, Misfit>
+    ensures value { option_map owned_reply (result_ok result) ≡ spelled.reply_spelled (words text.now) }
+    ensures room { IfOk result HasRoom }
+{
+    let (kind, rest) = cut(text);
+    reply_by(kind, rest, text, room)
+}
+
+/// As [`read_reply_lent`], of the rest of a line; none where there is no rest. `rest` is what
+/// [`cut`] left.
+pub fn reply_behind_lent<'r>(
+    rest: Option<&[u8]>,
+    room: &'r mut [u8; MAX_PAYLOAD],
+) -> Result<ReplyForm<'r>, Misfit>
+    ensures value { option_map owned_reply (result_ok result) ≡ spelled.reply_spelled (words_behind rest.entry) }
+    ensures room { IfOk result HasRoom }
+{
+    match rest {
+        Some(text) => read_reply_lent(text, room),
+        None => Err(REPLY.at(rest)),
     }
 }
 
@@ -37,8 +73,8 @@ fn reply_by(kind: &[u8], rest: Option<&[u8]>, text: &[u8]) -> Result<Reply, Misf
 pub fn read_reply(text: &[u8]) -> Result<Reply, Misfit>
     ensures { result_ok result ≡ spelled.reply_spelled (words text.now) }
 {
-    let (kind, rest) = cut(text);
-    reply_by(kind, rest, text)
+    let mut room = [0; MAX_PAYLOAD];
+    Ok(read_reply_lent(text, &mut room)?.to_owned())
 }
 
 /// The reply that the rest of a line spells, none where there is no rest. `rest` is what [`cut`]
@@ -46,8 +82,6 @@ pub fn read_reply(text: &[u8]) -> Result<Reply, Misfit>
 pub fn reply_behind(rest: Option<&[u8]>) -> Result<Reply, Misfit>
     ensures { result_ok result ≡ spelled.reply_spelled (words_behind rest.entry) }
 {
-    match rest {
-        Some(text) => read_reply(text),
-        None => Err(REPLY.at(rest)),
-    }
+    let mut room = [0; MAX_PAYLOAD];
+    Ok(reply_behind_lent(rest, &mut room)?.to_owned())
 }

@@ -3,15 +3,20 @@ ghost use Rattle.std.specs.Prelude.{◌≡◌, ◌≤◌, ◌<◌, ◌+◌, ◌*
 ghost use Rattle.std.specs.Fmt.{decimal, digit_glyph};
 ghost use Rattle.arrayvec.specs.ArrayString.{array_string_len};
 ghost use Rattle.hex.specs.Hex.{encode_upper};
+ghost use Rattle.tlp_core.specs.declared.operation.Op.TheVariants as ops;
+ghost use Rattle.tlp_core.specs.Operation.{width_of};
+ghost use Rattle.tlp_core.specs.Lent.{owned, number_of, IsOperand, HasSizes};
+ghost use Rattle.seq_memory.specs.Step.{data_of};
+ghost use Rattle.seq_memory.specs.Outcome.{owned_reply, HasRoom};
 ghost use Rattle.operation_text.specs.Texts.{hexadecimal, octet_text, sequence_text, operand_word, op_text, reply_text};
 
 use arrayvec::ArrayString;
 use byteorder::{ByteOrder, LittleEndian};
 use hex_text::pair_of;
 use itoa::Buffer;
-use seq_memory::Reply;
+use seq_memory::{Reply, ReplyForm};
 use seq12::Seq12;
-use tlp_core::{Op, Width};
+use tlp_core::{Op, OpForm, Width};
 
 /// Adds the digit of a value below 16, in capitals.
 fn put_digit(value: u8, out: &mut ArrayString<512>)
@@ -96,16 +101,35 @@ pub fn write_bytes(bytes: &[u8], out: &mut ArrayString<512>)
     }
 }
 
-/// Adds a space and the operand's bytes.
-fn put_operand(width: Width, operand: u128, out: &mut ArrayString<512>)
+/// Adds a space and the two digits of each byte.
+fn put_word(bytes: &[u8], out: &mut ArrayString<512>)
+    requires { array_string_len out.old + 2 * length bytes.now + 1 ≤ 512 }
+    ensures text { out.new.bytes ≡ out.old.bytes ++ 32 ∷ encode_upper bytes.now }
+    ensures len { array_string_len out.new ≡ array_string_len out.old + 2 * length bytes.now + 1 }
+{
+    out.push_str(" ");
+    write_bytes(bytes, out);
+}
+
+/// Adds a space and the bytes of an operand of that width.
+fn put_number(width: Width, operand: u128, out: &mut ArrayString<512>)
     requires { array_string_len out.old + 33 ≤ 512 }
     ensures text { out.new.bytes ≡ out.old.bytes ++ 32 ∷ operand_word width operand }
     ensures len { array_string_len out.new ≤ array_string_len out.old + 33 }
 {
     let mut room = [0u8; 16];
     LittleEndian::write_u128(&mut room, operand);
-    out.push_str(" ");
-    write_bytes(&room[..usize::from(width.size())], out);
+    put_word(&room[..usize::from(width.size())], out);
+}
+
+/// Adds a space and the operand's bytes.
+fn put_operand(operand: &[u8], out: &mut ArrayString<512>)
+    requires operand { IsOperand operand.now }
+    requires room { array_string_len out.old + 33 ≤ 512 }
+    ensures text { out.new.bytes ≡ out.old.bytes ++ 32 ∷ operand_word (width_of (length operand.now)) (number_of operand.now) }
+    ensures len { array_string_len out.new ≤ array_string_len out.old + 33 }
+{
+    put_word(operand, out);
 }
 
 /// Adds a space before each of the byte enables.
@@ -120,6 +144,41 @@ fn put_enables(first: u8, last: u8, out: &mut ArrayString<512>)
     write_hexadecimal(u64::from(last), out);
 }
 
+/// Adds the kind of an operation, with the space behind it, and its address.
+fn put_place(kind: &str, address: u64, out: &mut ArrayString<512>)
+    requires kind { length kind.now ≤ 6 }
+    requires room { array_string_len out.old + 22 ≤ 512 }
+    ensures text { out.new.bytes ≡ out.old.bytes ++ (kind.now ++ hexadecimal address) }
+    ensures len { array_string_len out.new ≤ array_string_len out.old + 22 }
+{
+    out.push_str(kind);
+    write_hexadecimal(address, out);
+}
+
+/// Adds a read's text.
+fn put_read(address: u64, dw: u16, first: u8, last: u8, out: &mut ArrayString<512>)
+    requires { array_string_len out.old + 320 ≤ 512 }
+    ensures text { out.new.bytes ≡ out.old.bytes ++ op_text (ops.Read address dw first last) }
+    ensures len { array_string_len out.new ≤ array_string_len out.old + 320 }
+{
+    put_place("read ", address, out);
+    out.push_str(" ");
+    write_decimal(u64::from(dw), out);
+    put_enables(first, last, out);
+}
+
+/// Adds a write's text.
+fn put_write(address: u64, first: u8, last: u8, bytes: &[u8], out: &mut ArrayString<512>)
+    requires few { length bytes.now ≤ 128 }
+    requires room { array_string_len out.old + 320 ≤ 512 }
+    ensures text { out.new.bytes ≡ out.old.bytes ++ op_text (ops.Write address first last (record { items = bytes.now })) }
+    ensures len { array_string_len out.new ≤ array_string_len out.old + 320 }
+{
+    put_place("write ", address, out);
+    put_enables(first, last, out);
+    put_word(bytes, out);
+}
+
 /// Adds the operation's text.
 pub fn write_op(op: &Op, out: &mut ArrayString<512>)
     requires { array_string_len out.old + 320 ≤ 512 }
@@ -132,42 +191,28 @@ pub fn write_op(op: &Op, out: &mut ArrayString<512>)
             dw,
             first,
             last,
-        } => {
-            out.push_str("read ");
-            write_hexadecimal(*address, out);
-            out.push_str(" ");
-            write_decimal(u64::from(*dw), out);
-            put_enables(*first, *last, out);
-        }
+        } => put_read(*address, *dw, *first, *last, out),
         Op::Write {
             address,
             first,
             last,
             bytes,
-        } => {
-            out.push_str("write ");
-            write_hexadecimal(*address, out);
-            put_enables(*first, *last, out);
-            out.push_str(" ");
-            write_bytes(bytes.as_slice(), out);
-        }
+        } => put_write(*address, *first, *last, bytes.as_slice(), out),
         Op::FetchAdd {
             address,
             width,
             operand,
         } => {
-            out.push_str("add ");
-            write_hexadecimal(*address, out);
-            put_operand(*width, *operand, out);
+            put_place("add ", *address, out);
+            put_number(*width, *operand, out);
         }
         Op::Swap {
             address,
             width,
             operand,
         } => {
-            out.push_str("swap ");
-            write_hexadecimal(*address, out);
-            put_operand(*width, *operand, out);
+            put_place("swap ", *address, out);
+            put_number(*width, *operand, out);
         }
         Op::Cas {
             address,
@@ -175,12 +220,62 @@ pub fn write_op(op: &Op, out: &mut ArrayString<512>)
             compare,
             swap,
         } => {
-            out.push_str("cas ");
-            write_hexadecimal(*address, out);
-            put_operand(*width, *compare, out);
-            put_operand(*width, *swap, out);
+            put_place("cas ", *address, out);
+            put_number(*width, *compare, out);
+            put_number(*width, *swap, out);
         }
     }
+}
+
+/// As [`write_op`], of an operation whose bytes are lent.
+pub fn write_op_lent(op: &OpForm<'_>, out: &mut ArrayString<512>)
+    requires sizes { HasSizes op.now }
+    requires room { array_string_len out.old + 320 ≤ 512 }
+    ensures text { out.new.bytes ≡ out.old.bytes ++ op_text (owned op.now) }
+    ensures len { array_string_len out.new ≤ array_string_len out.old + 320 }
+{
+    match *op {
+        OpForm::Read {
+            address,
+            dw,
+            first,
+            last,
+        } => put_read(address, dw, first, last, out),
+        OpForm::Write {
+            address,
+            first,
+            last,
+            bytes,
+        } => put_write(address, first, last, bytes, out),
+        OpForm::FetchAdd { address, operand } => {
+            put_place("add ", address, out);
+            put_operand(operand, out);
+        }
+        OpForm::Swap { address, operand } => {
+            put_place("swap ", address, out);
+            put_operand(operand, out);
+        }
+        OpForm::Cas {
+            address,
+            compare,
+            swap,
+        } => {
+            put_place("cas ", address, out);
+            put_operand(compare, out);
+            put_operand(swap, out);
+        }
+    }
+}
+
+/// Adds the text of a reply with that data.
+fn put_data(bytes: &[u8], out: &mut ArrayString<512>)
+    requires few { length bytes.now ≤ 128 }
+    requires room { array_string_len out.old + 261 ≤ 512 }
+    ensures text { out.new.bytes ≡ out.old.bytes ++ reply_text (data_of bytes.now) }
+    ensures len { array_string_len out.new ≤ array_string_len out.old + 261 }
+{
+    out.push_str("data");
+    put_word(bytes, out);
 }
 
 /// Adds the reply's text.
@@ -190,12 +285,24 @@ pub fn write_reply(reply: &Reply, out: &mut ArrayString<512>)
     ensures len { array_string_len out.new ≤ array_string_len out.old + 261 }
 {
     match reply {
-        Reply::Data(bytes) => {
-            out.push_str("data ");
-            write_bytes(bytes.as_slice(), out);
-        }
+        Reply::Data(bytes) => put_data(bytes.as_slice(), out),
         Reply::Unsupported => out.push_str("ur"),
         Reply::Aborted => out.push_str("ca"),
         Reply::Done => out.push_str("done"),
+    }
+}
+
+/// As [`write_reply`], of a reply whose data is lent.
+pub fn write_reply_lent(reply: &ReplyForm<'_>, out: &mut ArrayString<512>)
+    requires few { HasRoom reply.now }
+    requires room { array_string_len out.old + 261 ≤ 512 }
+    ensures text { out.new.bytes ≡ out.old.bytes ++ reply_text (owned_reply reply.now) }
+    ensures len { array_string_len out.new ≤ array_string_len out.old + 261 }
+{
+    match *reply {
+        ReplyForm::Data(bytes) => put_data(bytes, out),
+        ReplyForm::Unsupported => out.push_str("ur"),
+        ReplyForm::Aborted => out.push_str("ca"),
+        ReplyForm::Done => out.push_str("done"),
     }
 }

@@ -1,14 +1,12 @@
-use Rattle.std.proofs.Common.{◌≡◌, ◌≢◌, ◌∙◌, ℕ, ◌*◌, ◌==◌, Bool, true, false, List, length, sym, refl, arith, Option, Some, None, Result, Ok, Err}
+use Rattle.std.proofs.Common.{◌≡◌, ◌≢◌, ℕ, ◌*◌, ◌==◌, Bool, true, false, List, length, sym, refl, arith, None, Result, Ok, Err}
 use Rattle.std.specs.Prelude.{◌||◌, nat_lt, cond}
 use Rattle.std.proofs.lemmas.Bool.{ne_eqb}
 use Rattle.hex.specs.Hex.{decode_of}
 use Rattle.hex.specs.declared.error.FromHexError.{FromHexError}
 use Rattle.hex.proofs.HexLemmas.{decode_of-ok}
-use Rattle.tlp_core.specs.declared.operation.Width.{Width}
 use Rattle.operation_text.specs.Words.{then_with}
 use Rattle.operation_text.specs.Numbers.{operand_of, decoded}
-use Rattle.operation_text.specs.Operations as spelled
-use Rattle.operation_text.proofs.fields.operand_in.Goals as goal
+use Rattle.operation_text.proofs.fields.operand_lent.Goals as goal
 
 -- no operand has another number of bytes
 no_operand : (bytes : List ℕ) → length bytes ≢ 4 → length bytes ≢ 8 → length bytes ≢ 16 → operand_of bytes ≡ None
@@ -27,5 +25,5 @@ none : (word : List ℕ) (t : Bool) → length word ≢ 8 → length word ≢ 16
 none word true eight sixteen many = refl
 none word false eight sixteen many = none_of word (decode_of word) refl eight sixteen many
 
-pub returns-then-word-ne32 : goal.returns-then-word-ne32
-returns-then-word-ne32 c = sym (none c.args.word.now ((length c.args.word.now == 0) || nat_lt 256 (length c.args.word.now)) c.if-word-ne8.true c.if-word-ne16.true c.if-word-ne32.true)
+pub returns-then-word-ne32-clause-value : goal.returns-then-word-ne32-clause-value
+returns-then-word-ne32-clause-value c = sym (none c.args.word.now ((length c.args.word.now == 0) || nat_lt 256 (length c.args.word.now)) c.if-word-ne8.true c.if-word-ne16.true c.if-word-ne32.true)
