@@ -4,4 +4,5 @@ pub mod Names
 pub mod Trace
 pub mod Flaws
 pub mod Lookup
+pub mod Heads
 pub mod Clocks

@@ -14,6 +14,7 @@
 mod acting;
 mod answers;
 mod checking;
+mod claim;
 mod clocks;
 mod comparing;
 mod flaws;
@@ -21,6 +22,7 @@ mod index;
 pub mod laws;
 
 pub use checking::{check, check_clocked, check_with_clock};
+pub use claim::{AsClaim, Claim, Head};
 pub use flaws::{Flaw, FlawKind};
 use seq_memory::{Extent, Reply};
 use std::marker::Model;

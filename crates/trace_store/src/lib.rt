@@ -1,0 +1,13 @@
+//! A trace and a history in little memory.
+//!
+//! A [`TraceStore`] holds what a [`Trace`](history_check::Trace) and a history do, but the bytes of
+//! all operations and replies stand in one list, one behind the other, and each record or entry takes
+//! at most 40 bytes besides. Operations and replies are put in as they are lent.
+#![tactic(auto)]
+
+mod heads;
+mod kept;
+mod same;
+mod store;
+
+pub use store::TraceStore;
