@@ -1,5 +1,4 @@
 -- What a line of a log says, and its form whose bytes are lent.
-use Rattle.std.specs.Prelude.{ℕ}
 use Rattle.seq_memory.specs.Limits.{Extent}
 use Rattle.history_check.specs.declared.Record.{Record as SeenRecord}
 use Rattle.history_check.specs.declared.Record.TheVariants as records

@@ -92,10 +92,7 @@ fn line_by<'r>(
     }
 }
 
-fn line_in_words<'r>(
-    text: &[u8],
-    room: &'r mut [u8; MAX_PAYLOAD],
-) -> Result<LineForm<'r>, Misfit>
+fn line_in_words<'r>(text: &[u8], room: &'r mut [u8; MAX_PAYLOAD]) -> Result<LineForm<'r>, Misfit>
     ensures value { option_map owned_line (result_ok result) ≡ forms.line_in_words (words text.now) }
     ensures sized { IfOk result LendsSized }
 {

@@ -1,5 +1,4 @@
 -- What a line says, and its form whose bytes are lent.
-use Rattle.std.specs.Prelude.{ℕ}
 use Rattle.seq_memory.specs.Limits.{Extent}
 use Rattle.seq_memory.specs.declared.Entry.{Entry as ActedEntry}
 use Rattle.history_check.specs.declared.Record.{Record as SeenRecord}

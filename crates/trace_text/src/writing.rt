@@ -101,18 +101,18 @@ pub(crate) fn put_line(said: &LineForm<'_>, line: &mut ArrayString<512>)
     requires sized { LendsSized said.now }
     ensures { line.new.bytes ≡ added (owned_line said.now) }
 {
-    match said {
+    match *said {
         LineForm::Head(_) => line.push_str("pciex-trace 2\n"),
-        LineForm::Memory(extent) => put_memory(*extent, line),
+        LineForm::Memory(extent) => put_memory(extent, line),
         LineForm::Sub {
             requester,
             number,
             n,
             op,
         } => {
-            put_request("sub ", *requester, *number, line);
-            put_count(*n, line);
-            write_op_lent(op, line);
+            put_request("sub ", requester, number, line);
+            put_count(n, line);
+            write_op_lent(&op, line);
             line.push_str("\n");
         }
         LineForm::Ans {
@@ -121,9 +121,9 @@ pub(crate) fn put_line(said: &LineForm<'_>, line: &mut ArrayString<512>)
             n,
             reply,
         } => {
-            put_request("ans ", *requester, *number, line);
-            put_count(*n, line);
-            write_reply_lent(reply, line);
+            put_request("ans ", requester, number, line);
+            put_count(n, line);
+            write_reply_lent(&reply, line);
             line.push_str("\n");
         }
         LineForm::History => line.push_str("history\n"),
@@ -132,9 +132,9 @@ pub(crate) fn put_line(said: &LineForm<'_>, line: &mut ArrayString<512>)
             number,
             op,
         } => {
-            put_request("ent ", *requester, *number, line);
+            put_request("ent ", requester, number, line);
             line.push_str(" ");
-            write_op_lent(op, line);
+            write_op_lent(&op, line);
             line.push_str("\n");
         }
         LineForm::End => line.push_str("end\n"),
