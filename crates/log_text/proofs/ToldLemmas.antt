@@ -19,8 +19,8 @@ use Rattle.record_text.specs.RecordReaderView.{RecordReaderView}
 use Rattle.record_text.specs.RecordReaderView as reads
 use Rattle.trace_text.specs.Tellable.{IsRequest, IsTellableRecord, IsTellableEntry, IsTellable}
 use Rattle.trace_text.specs.TraceReaderView as traces
-use Rattle.log_text.specs.declared.line.LogLine.{LogLine}
-use Rattle.log_text.specs.declared.line.LogLine.TheVariants as lines
+use Rattle.log_text.specs.Lines.{LogLine}
+use Rattle.log_text.specs.Lines as lines
 use Rattle.log_text.specs.Forms as forms
 use Rattle.log_text.specs.Forms.{line_of, section_after}
 use Rattle.log_text.specs.LogReaderView.{LogFormView, no_log, kept, log_grammar, log_read, log_in, log_of, seen_in, without_history, is_head, or_trace, seen_of}

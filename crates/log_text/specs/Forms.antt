@@ -6,8 +6,8 @@ use Rattle.operation_text.specs.Operations.{op_spelled, reply_spelled}
 use Rattle.record_text.specs.Forms.{requester, number, memory_of}
 use Rattle.record_text.specs.declared.form.Section.{Section}
 use Rattle.record_text.specs.declared.form.Section.TheVariants as sections
-use Rattle.log_text.specs.declared.line.LogLine.{LogLine}
-use Rattle.log_text.specs.declared.line.LogLine.TheVariants as lines
+use Rattle.log_text.specs.Lines.{LogLine}
+use Rattle.log_text.specs.Lines as lines
 
 abbrev pub memory_line_of : List (List ℕ) → Option LogLine
 memory_line_of ws = then_with (memory_of true ws) (λ x. Some (lines.Memory x))

@@ -10,8 +10,8 @@ use Rattle.record_text.specs.declared.fault.ReadFaultKind.TheVariants as faults
 use Rattle.record_text.specs.Grammar.{Grammar}
 use Rattle.record_text.specs.RecordReaderView as reads
 use Rattle.trace_text.specs.TraceReaderView as traces
-use Rattle.log_text.specs.declared.line.LogLine.{LogLine}
-use Rattle.log_text.specs.declared.line.LogLine.TheVariants as lines
+use Rattle.log_text.specs.Lines.{LogLine}
+use Rattle.log_text.specs.Lines as lines
 use Rattle.log_text.specs.Forms.{line_of, section_after}
 
 -- what is kept of the lines so far

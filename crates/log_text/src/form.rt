@@ -2,14 +2,16 @@
 ghost use Rattle.std.specs.Prelude.{◌≡◌};
 ghost use Rattle.log_text.specs.LogReaderView as reads;
 ghost use Rattle.log_text.specs.Forms as forms;
+ghost use Rattle.log_text.specs.Lines.{owned_line};
 
-use crate::line::{LogLine, read_line};
+use crate::line::{LineForm, read_line};
 use history_check::{Record, Trace};
-use operation_text::{Expected, Misfit};
-use record_text::{Form, Section};
+use operation_text::Expected;
+use record_text::{Form, Section, Taken};
 use seq_memory::{Extent, MIN_SIZE};
 use std::alloc::{AllocError, Global};
 use std::marker::Model;
+use tlp_core::MAX_PAYLOAD;
 
 /// The head of a log, or of a trace, which may stand in its place.
 const HEAD: Expected = Expected::Of("the head", "pciex-log 1, pciex-trace 1, pciex-trace 2");
@@ -28,6 +30,8 @@ const NOTHING: Expected = Expected::Named("the text's end");
 pub(crate) struct LogForm {
     extent: Extent,
     records: Vec<Record>,
+    /// Room for the bytes of a line: what it holds does not count.
+    room: [u8; MAX_PAYLOAD],
 }
 
 impl Model for LogForm {
@@ -46,6 +50,7 @@ impl LogForm {
         LogForm {
             extent: Extent::new(0, MIN_SIZE, 64).unwrap(),
             records: Vec::new(alloc),
+            room: [0; MAX_PAYLOAD],
         }
     }
 
@@ -61,40 +66,59 @@ impl LogForm {
 }
 
 /// The section after a line, if the line is due in the section.
-fn section_after(section: Section, line: &LogLine) -> Option<Section>
-    ensures { result ≡ forms.section_after section line.now }
+fn section_after(section: Section, line: &LineForm<'_>) -> Option<Section>
+    ensures { result ≡ forms.section_after section (owned_line line.now) }
 {
     match (section, line) {
-        (Section::Head, LogLine::Head) => Some(Section::Memory),
-        (Section::Memory, LogLine::Memory(_)) => Some(Section::Records),
-        (Section::Records, LogLine::Record(_)) => Some(Section::Records),
-        (Section::Records, LogLine::End) => Some(Section::End),
+        (Section::Head, LineForm::Head) => Some(Section::Memory),
+        (Section::Memory, LineForm::Memory(_)) => Some(Section::Records),
+        (Section::Records, LineForm::Sub { .. } | LineForm::Ans { .. }) => Some(Section::Records),
+        (Section::Records, LineForm::End) => Some(Section::End),
         _ => None,
     }
 }
 
 impl Form for LogForm {
+    ghost use Rattle.log_text.specs.Lines as lines;
     ghost use Rattle.log_text.specs.LogReaderView.{log_grammar};
 
-    type Line = LogLine;
+    ghost Line = { lines.LogLine };
 
     ghost grammar = { log_grammar };
 
-    fn read_line(&self, text: &[u8]) -> Result<LogLine, Misfit> {
-        read_line(text)
-    }
-
-    fn section_after(section: Section, line: &LogLine) -> Option<Section> {
-        section_after(section, line)
-    }
-
-    fn keep(&mut self, line: LogLine) -> Result<(), AllocError> {
+    fn take(&mut self, section: Section, text: &[u8]) -> Result<Taken, AllocError> {
+        let line = match read_line(text, &mut self.room) {
+            Ok(line) => line,
+            Err(misfit) => return Ok(Taken::Misfit(misfit)),
+        };
+        let Some(after) = section_after(section, &line) else {
+            return Ok(Taken::NotDue);
+        };
         match line {
-            LogLine::Memory(extent) => self.extent = extent,
-            LogLine::Record(record) => self.records.push(record)?,
-            LogLine::Head | LogLine::End => {}
+            LineForm::Memory(extent) => self.extent = extent,
+            LineForm::Sub {
+                requester,
+                number,
+                op,
+            } => self.records.push(Record::Sub {
+                requester,
+                number,
+                op: op.to_owned(),
+                n: 0,
+            })?,
+            LineForm::Ans {
+                requester,
+                number,
+                reply,
+            } => self.records.push(Record::Ans {
+                requester,
+                number,
+                reply: reply.to_owned(),
+                n: 0,
+            })?,
+            LineForm::Head | LineForm::End => {}
         }
-        Ok(())
+        Ok(Taken::Kept(after))
     }
 
     fn expected(section: Section) -> Expected {

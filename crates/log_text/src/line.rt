@@ -1,94 +1,116 @@
 //! The forms of lines.
-ghost use Rattle.std.specs.Prelude.{◌≡◌};
+ghost use Rattle.std.specs.Prelude.{◌≡◌, IfOk, option_map};
 ghost use Rattle.std.specs.Result.{result_ok};
 ghost use Rattle.operation_text.specs.Words.{words, words_behind};
 ghost use Rattle.log_text.specs.Forms as forms;
+ghost use Rattle.log_text.specs.Lines.{owned_line, LendsSized};
 
-use history_check::Record;
-use operation_text::{Expected, Misfit, alone, cut, op_behind, reply_behind};
+use operation_text::{Expected, Misfit, alone, cut, op_behind_lent, reply_behind_lent};
 use record_text::{memory, request, requester};
-use seq_memory::Extent;
+use seq_memory::{Extent, ReplyForm};
+use tlp_core::{MAX_PAYLOAD, OpForm};
 
 /// A line, by its first word.
 const LINE: Expected = Expected::Of("a line of a log", "pciex-log, memory, sub, ans, end");
 
-/// What a line of a log says.
-#[derive(Drop)]
-pub(crate) enum LogLine {
+/// What a line of a log says: the bytes of its operation or its reply are lent.
+#[derive(Clone, Copy)]
+pub(crate) enum LineForm<'r> {
     Head,
     Memory(Extent),
-    Record(Record),
+    Sub {
+        requester: u8,
+        number: u32,
+        op: OpForm<'r>,
+    },
+    Ans {
+        requester: u8,
+        number: u32,
+        reply: ReplyForm<'r>,
+    },
     End,
 }
 
-fn memory_line(rest: Option<&[u8]>) -> Result<LogLine, Misfit>
-    ensures { result_ok result ≡ forms.memory_line_of (words_behind rest.entry) }
+fn memory_line<'r>(rest: Option<&[u8]>) -> Result<LineForm<'r>, Misfit>
+    ensures value { option_map owned_line (result_ok result) ≡ forms.memory_line_of (words_behind rest.entry) }
+    ensures sized { IfOk result LendsSized }
 {
     match memory(rest, true) {
-        Ok(extent) => Ok(LogLine::Memory(extent)),
+        Ok(extent) => Ok(LineForm::Memory(extent)),
         Err(misfit) => Err(misfit),
     }
 }
 
-fn sub(rest: Option<&[u8]>) -> Result<LogLine, Misfit>
-    ensures { result_ok result ≡ forms.sub_of (words_behind rest.entry) }
+fn sub<'r>(rest: Option<&[u8]>, room: &'r mut [u8; MAX_PAYLOAD]) -> Result<LineForm<'r>, Misfit>
+    ensures value { option_map owned_line (result_ok result) ≡ forms.sub_of (words_behind rest.entry) }
+    ensures sized { IfOk result LendsSized }
 {
     let (requester, rest) = requester(rest)?;
     let (number, rest) = request(rest)?;
-    let op = op_behind(rest)?;
-    Ok(LogLine::Record(Record::Sub {
+    let op = op_behind_lent(rest, room)?;
+    Ok(LineForm::Sub {
         requester,
         number,
         op,
-        n: 0,
-    }))
+    })
 }
 
-fn ans(rest: Option<&[u8]>) -> Result<LogLine, Misfit>
-    ensures { result_ok result ≡ forms.ans_of (words_behind rest.entry) }
+fn ans<'r>(rest: Option<&[u8]>, room: &'r mut [u8; MAX_PAYLOAD]) -> Result<LineForm<'r>, Misfit>
+    ensures value { option_map owned_line (result_ok result) ≡ forms.ans_of (words_behind rest.entry) }
+    ensures sized { IfOk result LendsSized }
 {
     let (requester, rest) = requester(rest)?;
     let (number, rest) = request(rest)?;
-    let reply = reply_behind(rest)?;
-    Ok(LogLine::Record(Record::Ans {
+    let reply = reply_behind_lent(rest, room)?;
+    Ok(LineForm::Ans {
         requester,
         number,
         reply,
-        n: 0,
-    }))
+    })
 }
 
 /// The line of that kind that the rest of it spells.
-fn line_by(kind: &[u8], rest: Option<&[u8]>, text: &[u8]) -> Result<LogLine, Misfit>
-    ensures { result_ok result ≡ forms.line_by kind.now (words_behind rest.entry) }
+fn line_by<'r>(
+    kind: &[u8],
+    rest: Option<&[u8]>,
+    text: &[u8],
+    room: &'r mut [u8; MAX_PAYLOAD],
+) -> Result<LineForm<'r>, Misfit>
+    ensures value { option_map owned_line (result_ok result) ≡ forms.line_by kind.now (words_behind rest.entry) }
+    ensures sized { IfOk result LendsSized }
 {
     if kind == b"sub".as_slice() {
-        sub(rest)
+        sub(rest, room)
     } else if kind == b"ans".as_slice() {
-        ans(rest)
+        ans(rest, room)
     } else if kind == b"memory".as_slice() {
         memory_line(rest)
     } else if kind == b"end".as_slice() {
-        alone(LogLine::End, rest)
+        alone(LineForm::End, rest)
     } else {
         Err(LINE.at(Some(text)))
     }
 }
 
-fn line_in_words(text: &[u8]) -> Result<LogLine, Misfit>
-    ensures { result_ok result ≡ forms.line_in_words (words text.now) }
+fn line_in_words<'r>(text: &[u8], room: &'r mut [u8; MAX_PAYLOAD]) -> Result<LineForm<'r>, Misfit>
+    ensures value { option_map owned_line (result_ok result) ≡ forms.line_in_words (words text.now) }
+    ensures sized { IfOk result LendsSized }
 {
     let (kind, rest) = cut(text);
-    line_by(kind, rest, text)
+    line_by(kind, rest, text, room)
 }
 
-/// The line that the text spells.
-pub(crate) fn read_line(text: &[u8]) -> Result<LogLine, Misfit>
-    ensures { result_ok result ≡ forms.line_of text.now }
+/// The line that the text spells: its bytes are put into the room, whose content doesn't count.
+pub(crate) fn read_line<'r>(
+    text: &[u8],
+    room: &'r mut [u8; MAX_PAYLOAD],
+) -> Result<LineForm<'r>, Misfit>
+    ensures value { option_map owned_line (result_ok result) ≡ forms.line_of text.now }
+    ensures sized { IfOk result LendsSized }
 {
     if text == b"pciex-log 1".as_slice() {
-        Ok(LogLine::Head)
+        Ok(LineForm::Head)
     } else {
-        line_in_words(text)
+        line_in_words(text, room)
     }
 }

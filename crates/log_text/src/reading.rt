@@ -7,7 +7,7 @@ use crate::form::LogForm;
 use history_check::Trace;
 use record_text::{Cause, Misread, ReadFault, ReadFaultKind, read_records};
 use std::alloc::Global;
-use trace_text::read_trace_with_cause;
+use trace_text::read_owned_trace;
 
 /// What [`read_log`] returns, with the cause of a fault.
 fn read_log_with_cause(alloc: Global, text: &[u8]) -> Result<Trace, Misread>
@@ -55,7 +55,7 @@ fn read_seen_trace(alloc: Global, text: &[u8], head: Cause) -> Result<Trace, Mis
     ensures ok { IfOk result (λ t. without_history (read_of text.now) ≡ Ok t) }
     ensures err { IfErr result (λ e. (without_history (read_of text.now) ≡ Err e.fault) ⊎ IsRefused text.now e.fault) }
 {
-    match read_trace_with_cause(alloc, text) {
+    match read_owned_trace(alloc, text) {
         Ok((trace, _)) => Ok(trace),
         Err(misread) => Err(told_by(misread, head)),
     }

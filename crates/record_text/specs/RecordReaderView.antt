@@ -30,6 +30,10 @@ fault_at_next s kind = record { kind = kind; line = next_line s }
 abbrev pub counted : {F : Type 0} → RecordReaderView F → RecordReaderView F
 counted s = record s { lines = next_line s }
 
+-- one line more, after which that section goes on
+abbrev pub gone_on : {F : Type 0} → RecordReaderView F → Section → RecordReaderView F
+gone_on s section = record s { section = section; lines = next_line s }
+
 abbrev pub faulty : {F : Type 0} → RecordReaderView F → ReadFaultKind → RecordReaderView F
 faulty s kind = record s { lines = next_line s; fault = Some (fault_at_next s kind) }
 

@@ -1,7 +1,8 @@
 //! How the lines of a text of records are read, and where they may stand.
-ghost use Rattle.std.specs.Prelude.{◌≡◌, true, OnOk, OnErr};
-ghost use Rattle.std.specs.Result.{result_ok};
+ghost use Rattle.std.specs.Prelude.{◌≡◌, true, OnErr, IfOk};
 ghost use Rattle.record_text.specs.Grammar.{Grammar};
+ghost use Rattle.record_text.specs.RecordReaderView.{adds};
+ghost use Rattle.record_text.specs.Step.{step, step_told};
 
 use operation_text::{Expected, Misfit};
 use std::alloc::AllocError;
@@ -21,27 +22,31 @@ pub enum Section {
     End,
 }
 
+/// What comes of a line.
+#[derive(Clone, Copy, Debug, PartialEq, Eq)]
+pub enum Taken {
+    /// The line is due: what is to be kept of it is kept, and this section goes on.
+    Kept(Section),
+    /// The line isn't due in the section.
+    NotDue,
+    /// The text spells no line: this doesn't fit.
+    Misfit(Misfit),
+}
+
 /// What is kept of the lines of a text, and how they are read.
 pub trait Form: Drop {
-    /// What a line says.
-    type Line: Drop;
+    // what a line says
+    ghost Line: { Type 0 };
 
     // the lines, where they stand, and what is kept of them
-    ghost grammar: { Grammar Self Self.Line };
+    ghost grammar: { Grammar Self Line };
 
-    /// The line that the text spells.
-    fn read_line(&self, text: &[u8]) -> Result<Self::Line, Misfit>
-        ensures { result_ok result ≡ grammar.line_of self.now text.now };
-
-    /// The section after this line, if the line is due in the section.
-    fn section_after(section: Section, line: &Self::Line) -> Option<Section>
-        ensures { result ≡ grammar.section_after section line.now };
-
-    /// Keeps what is to be kept of a line that is due.
-    fn keep(&mut self, line: Self::Line) -> Result<(), AllocError>
-        ensures ok { OnOk result (self.new ≡ grammar.kept self.old line) }
+    /// Takes the line that the text spells, if it is due in the section. `Err` tells that a growth was refused, for a
+    /// line that is due; nothing was taken then.
+    fn take(&mut self, section: Section, text: &[u8]) -> Result<Taken, AllocError>
+        ensures ok { IfOk result (λ t. step_told t self.new ≡ step grammar section self.old text.now) }
         ensures err { OnErr result (self.new ≡ self.old) }
-        ensures adds { OnErr result (grammar.adds line ≡ true) };
+        ensures adds { OnErr result (adds grammar section (grammar.line_of self.old text.now) ≡ true) };
 
     /// The line that is due in the section, for people.
     fn expected(section: Section) -> Expected;

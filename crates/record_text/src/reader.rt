@@ -1,9 +1,9 @@
 //! Reading a text of records line by line.
-ghost use Rattle.std.specs.Prelude.{◌≡◌, true, OnOk, OnErr, IfOk, IfErr, Ok, Err, Some};
+ghost use Rattle.std.specs.Prelude.{◌≡◌, true, OnOk, OnErr, IfOk, IfErr, Ok, Err};
 ghost use Rattle.record_text.specs.RecordReaderView as reads;
 
 use crate::fault::{Cause, Misread, ReadFault, ReadFaultKind};
-use crate::form::{Form, Section};
+use crate::form::{Form, Section, Taken};
 use operation_text::{Expected, Misfit, cut};
 use std::alloc::AllocError;
 use std::marker::Model;
@@ -139,21 +139,12 @@ impl<F: Form> RecordReader<F> {
         self.lines = self.lines.saturating_add(1);
     }
 
-    /// Takes a line of that form.
-    fn place(&mut self, line: F::Line, text: &[u8]) -> Result<(), AllocError>
-        ensures ok { OnOk result (self.new ≡ reads.taken F.grammar self.old (Some line)) }
-        ensures err { OnErr result (self.new ≡ self.old) }
-        ensures adds { OnErr result (reads.adds F.grammar self.old.section (Some line) ≡ true) }
+    /// Counts a line after which that section goes on.
+    fn go_on(&mut self, section: Section)
+        ensures { self.new ≡ reads.gone_on self.old section }
     {
-        match F::section_after(self.section, &line) {
-            Some(section) => {
-                self.form.keep(line)?;
-                self.section = section;
-                self.count();
-            }
-            None => self.refuse(misplaced(self.section), Some(self.due().at(Some(text)))),
-        }
-        Ok(())
+        self.section = section;
+        self.count();
     }
 
     /// What doesn't fit in a line of no form: its first word, if no line that is due begins with it.
@@ -182,14 +173,15 @@ impl<F: Form> RecordReader<F> {
             self.count();
             return Ok(());
         }
-        match self.form.read_line(line) {
-            Ok(said) => self.place(said, line),
-            Err(misfit) => {
+        match self.form.take(self.section, line)? {
+            Taken::Kept(section) => self.go_on(section),
+            Taken::NotDue => self.refuse(misplaced(self.section), Some(self.due().at(Some(line)))),
+            Taken::Misfit(misfit) => {
                 let misfit = self.misfit_of(line, misfit);
                 self.refuse(formless(self.section), Some(misfit));
-                Ok(())
             }
         }
+        Ok(())
     }
 
     /// Takes a line of more bytes than a line may have: 512 before its line feed.

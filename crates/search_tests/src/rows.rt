@@ -2,7 +2,7 @@
 use search_history::{Sought, explained_before, search};
 use std::alloc::Global;
 use std::test::Fail;
-use trace_text::read_trace;
+use trace_text::read_owned_trace;
 
 /// What a search says of a log: whether a history is found, else the prefix that has none, and the
 /// one that has one.
@@ -121,7 +121,7 @@ fn told(alloc: Global, row: &Row) -> Result<bool, Fail> {
         "pciex-trace 2\nmemory 0 4096 64\n{}history\nend\n",
         row.records
     )?;
-    let Ok((mut trace, _)) = read_trace(alloc, text.as_bytes()) else {
+    let Ok((mut trace, _)) = read_owned_trace(alloc, text.as_bytes()) else {
         return Ok(false);
     };
     match search(alloc, &mut trace, 1000)? {

@@ -13,8 +13,8 @@ use Rattle.operation_text.specs.Operations.{address, op_spelled, reply_spelled}
 use Rattle.operation_text.specs.Words.{field, then_with, ended}
 use Rattle.operation_text.specs.Numbers.{numeral}
 use Rattle.trace_text.specs.declared.line.Version.{Version}
-use Rattle.trace_text.specs.declared.line.Line.{Line}
-use Rattle.trace_text.specs.declared.line.Line.TheVariants as lines
+use Rattle.trace_text.specs.Lines.{Line}
+use Rattle.trace_text.specs.Lines as lines
 use Rattle.record_text.specs.Forms as fields
 use Rattle.trace_text.specs.Forms as forms
 use Rattle.trace_text.specs.Forms.{line_of}

@@ -22,8 +22,8 @@ use Rattle.operation_text.specs.Operations.{address, op_spelled, reply_spelled}
 use Rattle.operation_text.specs.Texts.{hexadecimal, op_text, reply_text, IsPrinted, IsPrintedChar}
 use Rattle.trace_text.specs.declared.line.Version.{Version}
 use Rattle.trace_text.specs.declared.line.Version.TheVariants as versions
-use Rattle.trace_text.specs.declared.line.Line.{Line}
-use Rattle.trace_text.specs.declared.line.Line.TheVariants as lines
+use Rattle.trace_text.specs.Lines.{Line}
+use Rattle.trace_text.specs.Lines as lines
 use Rattle.record_text.specs.declared.form.Section.{Section}
 use Rattle.record_text.specs.declared.form.Section.TheVariants as sections
 use Rattle.record_text.specs.RecordReaderView.{placed}

@@ -11,8 +11,8 @@ use Rattle.operation_text.specs.Words.{words}
 use Rattle.operation_text.specs.Operations.{address}
 use Rattle.record_text.specs.declared.fault.ReadFault.{ReadFault}
 use Rattle.trace_text.specs.declared.line.Version.{Version}
-use Rattle.trace_text.specs.declared.line.Line.{Line}
-use Rattle.trace_text.specs.declared.line.Line.TheVariants as lines
+use Rattle.trace_text.specs.Lines.{Line}
+use Rattle.trace_text.specs.Lines as lines
 use Rattle.record_text.specs.declared.form.Section.{Section}
 use Rattle.record_text.specs.declared.form.Section.TheVariants as sections
 use Rattle.record_text.specs.Forms as fields

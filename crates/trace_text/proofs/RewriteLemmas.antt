@@ -13,8 +13,8 @@ use Rattle.record_text.specs.declared.form.Section.{Section}
 use Rattle.record_text.specs.declared.form.Section.TheVariants as sections
 use Rattle.record_text.specs.RecordReaderView as reads
 use Rattle.trace_text.specs.declared.line.Version.{Version}
-use Rattle.trace_text.specs.declared.line.Line.{Line}
-use Rattle.trace_text.specs.declared.line.Line.TheVariants as lines
+use Rattle.trace_text.specs.Lines.{Line}
+use Rattle.trace_text.specs.Lines as lines
 use Rattle.trace_text.specs.Forms.{line_of, section_after}
 use Rattle.trace_text.specs.TraceReaderView.{TraceFormView, TraceReaderView, trace_grammar, kept, nothing_read, take_line, claim_in, claim_read}
 use Rattle.trace_text.specs.TraceReaderView.{after_line as read_line, after_long_line as read_long_line}

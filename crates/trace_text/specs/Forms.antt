@@ -9,8 +9,8 @@ use Rattle.record_text.specs.declared.form.Section.{Section}
 use Rattle.record_text.specs.declared.form.Section.TheVariants as sections
 use Rattle.trace_text.specs.declared.line.Version.{Version}
 use Rattle.trace_text.specs.declared.line.Version.TheVariants as versions
-use Rattle.trace_text.specs.declared.line.Line.{Line}
-use Rattle.trace_text.specs.declared.line.Line.TheVariants as lines
+use Rattle.trace_text.specs.Lines.{Line}
+use Rattle.trace_text.specs.Lines as lines
 
 abbrev pub version_by : ℕ → Option Version
 version_by n = if n == 1 then Some versions.One else (if n == 2 then Some versions.Two else None)

@@ -1,3 +1,4 @@
+pub mod Lines
 pub mod Forms
 pub mod TraceReaderView
 pub mod Texts

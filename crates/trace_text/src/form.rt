@@ -1,16 +1,17 @@
 //! What is kept of the text of a trace, and where its lines stand.
 ghost use Rattle.std.specs.Prelude.{◌≡◌};
-ghost use Rattle.history_check.specs.Claim.{claim_of};
 ghost use Rattle.trace_text.specs.TraceReaderView as reads;
 ghost use Rattle.trace_text.specs.Forms as forms;
+ghost use Rattle.trace_text.specs.Lines.{owned_line};
 
-use crate::line::{Line, Version, read_line};
-use history_check::{Record, Trace};
-use operation_text::{Expected, Misfit};
-use record_text::{Form, Section};
-use seq_memory::{Entry, Extent, MIN_SIZE};
+use crate::line::{LineForm, Version, read_line};
+use operation_text::Expected;
+use record_text::{Form, Section, Taken};
+use seq_memory::{Extent, MIN_SIZE};
 use std::alloc::{AllocError, Global};
 use std::marker::Model;
+use tlp_core::MAX_PAYLOAD;
+use trace_store::TraceStore;
 
 const HEAD: Expected = Expected::Of(
     "the head",
@@ -26,16 +27,17 @@ const ENTRY: Expected = Expected::Of("an entry or the end", "ent, end");
 const NOTHING: Expected = Expected::Named("the text's end");
 
 /// The section after a line, if the line is due in the section.
-pub(crate) fn section_after(section: Section, line: &Line) -> Option<Section>
-    ensures { result ≡ forms.section_after section line.now }
+#[inline(always)]
+pub(crate) fn section_after(section: Section, line: &LineForm<'_>) -> Option<Section>
+    ensures { result ≡ forms.section_after section (owned_line line.now) }
 {
     match (section, line) {
-        (Section::Head, Line::Head(_)) => Some(Section::Memory),
-        (Section::Memory, Line::Memory(_)) => Some(Section::Records),
-        (Section::Records, Line::Record(_)) => Some(Section::Records),
-        (Section::Records, Line::History) => Some(Section::History),
-        (Section::History, Line::Entry(_)) => Some(Section::History),
-        (Section::History, Line::End) => Some(Section::End),
+        (Section::Head, LineForm::Head(_)) => Some(Section::Memory),
+        (Section::Memory, LineForm::Memory(_)) => Some(Section::Records),
+        (Section::Records, LineForm::Sub { .. } | LineForm::Ans { .. }) => Some(Section::Records),
+        (Section::Records, LineForm::History) => Some(Section::History),
+        (Section::History, LineForm::Entry { .. }) => Some(Section::History),
+        (Section::History, LineForm::End) => Some(Section::End),
         _ => None,
     }
 }
@@ -64,21 +66,29 @@ pub(crate) fn begins_with(section: Section, word: &[u8]) -> bool {
     }
 }
 
+/// The extent of the least memory, until the memory's line tells another.
+pub(crate) fn least_extent() -> Extent
+    ensures { result ≡ record { base = 0; size = 128; block = 64 } }
+{
+    Extent::new(0, MIN_SIZE, 64).unwrap()
+}
+
 /// A trace and a history, as far as their text was read.
 #[derive(Drop)]
 pub(crate) struct TraceForm {
     version: Version,
-    extent: Extent,
-    records: Vec<Record>,
-    entries: Vec<Entry>,
+    store: TraceStore,
+    /// Room for the bytes of a line: what it holds does not count.
+    room: [u8; MAX_PAYLOAD],
 }
 
 impl Model for TraceForm {
+    ghost use Rattle.seq_memory.specs.History.{extent_of};
     ghost use Rattle.trace_text.specs.TraceReaderView.{TraceFormView};
 
     ghost Value = { TraceFormView };
 
-    ghost view = { λ t. record { version = t.version; extent = t.extent; records = t.records.items; entries = t.entries.items } };
+    ghost view = { λ t. record { version = t.version; extent = extent_of t.store.memory; records = t.store.records; entries = t.store.memory.entries } };
 }
 
 impl TraceForm {
@@ -88,48 +98,58 @@ impl TraceForm {
     {
         TraceForm {
             version: Version::One,
-            extent: Extent::new(0, MIN_SIZE, 64).unwrap(),
-            records: Vec::new(alloc),
-            entries: Vec::new(alloc),
+            store: TraceStore::new(alloc, least_extent()),
+            room: [0; MAX_PAYLOAD],
         }
     }
 
     /// The trace and the history.
-    pub(crate) fn claim(self) -> (Trace, Vec<Entry>)
-        ensures { claim_of result.0 result.1.items ≡ reads.claim_read self }
+    pub(crate) fn claim(self) -> TraceStore
+        ensures { result ≡ reads.claim_read self }
     {
-        let trace = Trace {
-            extent: self.extent,
-            records: self.records,
-        };
-        (trace, self.entries)
+        self.store
     }
 }
 
 impl Form for TraceForm {
+    ghost use Rattle.trace_text.specs.Lines as lines;
     ghost use Rattle.trace_text.specs.TraceReaderView.{trace_grammar};
 
-    type Line = Line;
+    ghost Line = { lines.Line };
 
     ghost grammar = { trace_grammar };
 
-    fn read_line(&self, text: &[u8]) -> Result<Line, Misfit> {
-        read_line(text, self.version)
-    }
-
-    fn section_after(section: Section, line: &Line) -> Option<Section> {
-        section_after(section, line)
-    }
-
-    fn keep(&mut self, line: Line) -> Result<(), AllocError> {
+    fn take(&mut self, section: Section, text: &[u8]) -> Result<Taken, AllocError> {
+        let line = match read_line(text, self.version, &mut self.room) {
+            Ok(line) => line,
+            Err(misfit) => return Ok(Taken::Misfit(misfit)),
+        };
+        let Some(after) = section_after(section, &line) else {
+            return Ok(Taken::NotDue);
+        };
         match line {
-            Line::Head(version) => self.version = version,
-            Line::Memory(extent) => self.extent = extent,
-            Line::Record(record) => self.records.push(record)?,
-            Line::Entry(entry) => self.entries.push(entry)?,
-            Line::History | Line::End => {}
+            LineForm::Head(version) => self.version = version,
+            LineForm::Memory(extent) => self.store.set_extent(extent),
+            LineForm::Sub {
+                requester,
+                number,
+                n,
+                op,
+            } => self.store.submitted(requester, number, n, &op)?,
+            LineForm::Ans {
+                requester,
+                number,
+                n,
+                reply,
+            } => self.store.answered(requester, number, n, &reply)?,
+            LineForm::Entry {
+                requester,
+                number,
+                op,
+            } => self.store.acted(requester, number, &op)?,
+            LineForm::History | LineForm::End => {}
         }
-        Ok(())
+        Ok(Taken::Kept(after))
     }
 
     fn expected(section: Section) -> Expected {

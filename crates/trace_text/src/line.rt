@@ -1,13 +1,14 @@
 //! The forms of lines.
-ghost use Rattle.std.specs.Prelude.{◌≡◌, option_map};
+ghost use Rattle.std.specs.Prelude.{◌≡◌, IfOk, option_map};
 ghost use Rattle.std.specs.Result.{result_ok};
 ghost use Rattle.operation_text.specs.Words.{words, words_behind, first_field};
 ghost use Rattle.trace_text.specs.Forms as forms;
+ghost use Rattle.trace_text.specs.Lines.{owned_line, LendsSized};
 
-use history_check::Record;
-use operation_text::{Expected, Misfit, alone, cut, number, op_behind, reply_behind};
+use operation_text::{Expected, Misfit, alone, cut, number, op_behind_lent, reply_behind_lent};
 use record_text::{count, memory, request, requester};
-use seq_memory::{Entry, Extent};
+use seq_memory::{Extent, ReplyForm};
+use tlp_core::{MAX_PAYLOAD, OpForm};
 
 /// A line, by its first word.
 const LINE: Expected = Expected::Of(
@@ -40,14 +41,29 @@ impl Version {
     }
 }
 
-/// What a line says.
-#[derive(Drop)]
-pub(crate) enum Line {
+/// What a line says: the bytes of its operation or its reply are lent.
+#[derive(Clone, Copy)]
+pub(crate) enum LineForm<'r> {
     Head(Version),
     Memory(Extent),
-    Record(Record),
+    Sub {
+        requester: u8,
+        number: u32,
+        n: u64,
+        op: OpForm<'r>,
+    },
+    Ans {
+        requester: u8,
+        number: u32,
+        n: u64,
+        reply: ReplyForm<'r>,
+    },
     History,
-    Entry(Entry),
+    Entry {
+        requester: u8,
+        number: u32,
+        op: OpForm<'r>,
+    },
     End,
 }
 
@@ -62,81 +78,97 @@ fn next_version(rest: Option<&[u8]>) -> Result<(Version, Option<&[u8]>), Misfit>
     }
 }
 
-fn head(rest: Option<&[u8]>) -> Result<Line, Misfit>
-    ensures { result_ok result ≡ forms.head_of (words_behind rest.entry) }
+fn head<'r>(rest: Option<&[u8]>) -> Result<LineForm<'r>, Misfit>
+    ensures value { option_map owned_line (result_ok result) ≡ forms.head_of (words_behind rest.entry) }
+    ensures sized { IfOk result LendsSized }
 {
     let (version, rest) = next_version(rest)?;
-    alone(Line::Head(version), rest)
+    alone(LineForm::Head(version), rest)
 }
 
-fn memory_line(place: Option<&[u8]>, version: Version) -> Result<Line, Misfit>
-    ensures { result_ok result ≡ forms.memory_line_of version (words_behind place.entry) }
+fn memory_line<'r>(place: Option<&[u8]>, version: Version) -> Result<LineForm<'r>, Misfit>
+    ensures value { option_map owned_line (result_ok result) ≡ forms.memory_line_of version (words_behind place.entry) }
+    ensures sized { IfOk result LendsSized }
 {
     match memory(place, version.has_block()) {
-        Ok(extent) => Ok(Line::Memory(extent)),
+        Ok(extent) => Ok(LineForm::Memory(extent)),
         Err(misfit) => Err(misfit),
     }
 }
 
-fn sub(rest: Option<&[u8]>) -> Result<Line, Misfit>
-    ensures { result_ok result ≡ forms.sub_of (words_behind rest.entry) }
+#[inline(always)]
+fn sub<'r>(rest: Option<&[u8]>, room: &'r mut [u8; MAX_PAYLOAD]) -> Result<LineForm<'r>, Misfit>
+    ensures value { option_map owned_line (result_ok result) ≡ forms.sub_of (words_behind rest.entry) }
+    ensures sized { IfOk result LendsSized }
 {
     let (requester, rest) = requester(rest)?;
     let (number, rest) = request(rest)?;
     let (n, rest) = count(rest, LENGTH)?;
-    let op = op_behind(rest)?;
-    Ok(Line::Record(Record::Sub {
+    let op = op_behind_lent(rest, room)?;
+    Ok(LineForm::Sub {
         requester,
         number,
-        op,
         n,
-    }))
+        op,
+    })
 }
 
-fn ans(rest: Option<&[u8]>) -> Result<Line, Misfit>
-    ensures { result_ok result ≡ forms.ans_of (words_behind rest.entry) }
+#[inline(always)]
+fn ans<'r>(rest: Option<&[u8]>, room: &'r mut [u8; MAX_PAYLOAD]) -> Result<LineForm<'r>, Misfit>
+    ensures value { option_map owned_line (result_ok result) ≡ forms.ans_of (words_behind rest.entry) }
+    ensures sized { IfOk result LendsSized }
 {
     let (requester, rest) = requester(rest)?;
     let (number, rest) = request(rest)?;
     let (n, rest) = count(rest, LENGTH)?;
-    let reply = reply_behind(rest)?;
-    Ok(Line::Record(Record::Ans {
+    let reply = reply_behind_lent(rest, room)?;
+    Ok(LineForm::Ans {
         requester,
         number,
+        n,
         reply,
-        n,
-    }))
+    })
 }
 
-fn ent(rest: Option<&[u8]>) -> Result<Line, Misfit>
-    ensures { result_ok result ≡ forms.ent_of (words_behind rest.entry) }
+#[inline(always)]
+fn ent<'r>(rest: Option<&[u8]>, room: &'r mut [u8; MAX_PAYLOAD]) -> Result<LineForm<'r>, Misfit>
+    ensures value { option_map owned_line (result_ok result) ≡ forms.ent_of (words_behind rest.entry) }
+    ensures sized { IfOk result LendsSized }
 {
     let (requester, rest) = requester(rest)?;
     let (number, rest) = request(rest)?;
-    let op = op_behind(rest)?;
-    Ok(Line::Entry(Entry {
+    let op = op_behind_lent(rest, room)?;
+    Ok(LineForm::Entry {
         requester,
         number,
         op,
-    }))
+    })
 }
 
 /// The line of that kind that the rest of it spells.
-fn line_by(kind: &[u8], rest: Option<&[u8]>, version: Version, text: &[u8]) -> Result<Line, Misfit>
-    ensures { result_ok result ≡ forms.line_by version kind.now (words_behind rest.entry) }
+#[inline(always)]
+fn line_by<'r>(
+    kind: &[u8],
+    rest: Option<&[u8]>,
+    version: Version,
+    text: &[u8],
+    room: &'r mut [u8; MAX_PAYLOAD],
+) -> Result<LineForm<'r>, Misfit>
+    ensures value { option_map owned_line (result_ok result) ≡ forms.line_by version kind.now (words_behind rest.entry) }
+    ensures sized { IfOk result LendsSized }
 {
     if kind == b"sub".as_slice() {
-        sub(rest)
+        sub(rest, room)
     } else if kind == b"ans".as_slice() {
-        ans(rest)
+        ans(rest, room)
     } else if kind == b"ent".as_slice() {
-        ent(rest)
+        ent(rest, room)
     } else if kind == b"memory".as_slice() {
         memory_line(rest, version)
     } else if kind == b"history".as_slice() {
-        alone(Line::History, rest)
+        alone(LineForm::History, rest)
     } else if kind == b"end".as_slice() {
-        alone(Line::End, rest)
+        alone(LineForm::End, rest)
     } else if kind == b"pciex-trace".as_slice() {
         head(rest)
     } else {
@@ -144,10 +176,17 @@ fn line_by(kind: &[u8], rest: Option<&[u8]>, version: Version, text: &[u8]) -> R
     }
 }
 
-/// The line that the text spells in a trace of that version.
-pub(crate) fn read_line(text: &[u8], version: Version) -> Result<Line, Misfit>
-    ensures { result_ok result ≡ forms.line_of version (words text.now) }
+/// The line that the text spells in a trace of that version: its bytes are put into the room, whose content doesn't
+/// count.
+#[inline(always)]
+pub(crate) fn read_line<'r>(
+    text: &[u8],
+    version: Version,
+    room: &'r mut [u8; MAX_PAYLOAD],
+) -> Result<LineForm<'r>, Misfit>
+    ensures value { option_map owned_line (result_ok result) ≡ forms.line_of version (words text.now) }
+    ensures sized { IfOk result LendsSized }
 {
     let (kind, rest) = cut(text);
-    line_by(kind, rest, version, text)
+    line_by(kind, rest, version, text, room)
 }

@@ -1,15 +1,13 @@
 //! Reading a trace line by line.
 ghost use Rattle.std.specs.Prelude.{◌≡◌, true, OnOk, OnErr, IfOk, IfErr, Ok, Err};
-ghost use Rattle.history_check.specs.Claim.{claim_of};
 ghost use Rattle.record_text.specs.declared.fault.ReadFaultKind.{ReadFaultKind};
 ghost use Rattle.trace_text.specs.TraceReaderView as reads;
 
 use crate::form::TraceForm;
-use history_check::Trace;
 use record_text::{Cause, ReadFault, RecordReader};
-use seq_memory::Entry;
 use std::alloc::{AllocError, Global};
 use std::marker::Model;
+use trace_store::TraceStore;
 
 /// A trace and a history, as far as their text was read.
 #[derive(Drop)]
@@ -73,8 +71,8 @@ impl TraceReader {
     }
 
     /// What was read, or the first fault.
-    pub fn end(self) -> Result<(Trace, Vec<Entry>), ReadFault>
-        ensures ok { IfOk result (λ t. reads.at_end self ≡ Ok (claim_of t.0 t.1.items)) }
+    pub fn end(self) -> Result<TraceStore, ReadFault>
+        ensures ok { IfOk result (λ t. reads.at_end self ≡ Ok t) }
         ensures err { IfErr result (λ f. reads.at_end self ≡ Err f) }
     {
         match self.reader.end() {

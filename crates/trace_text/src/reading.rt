@@ -4,17 +4,19 @@ ghost use Rattle.history_check.specs.Claim.{claim_of};
 ghost use Rattle.trace_text.specs.TraceReaderView.{read_of, Tells};
 
 use crate::form::TraceForm;
+use crate::owned::OwnedForm;
 use history_check::Trace;
 use record_text::{Misread, ReadFault, read_records};
 use seq_memory::Entry;
 use std::alloc::Global;
+use trace_store::TraceStore;
 
 /// The trace and the history that the text spells, or its first fault: its lines end in line feeds,
 /// the last may lack it, and one carriage return before a line feed is ignored. A fault of kind
 /// `Memory` tells that a growth was refused, for a record or an entry behind no fault. Nothing is
 /// read behind the first fault.
-pub fn read_trace(alloc: Global, text: &[u8]) -> Result<(Trace, Vec<Entry>), ReadFault>
-    ensures ok { IfOk result (λ t. read_of text.now ≡ Ok (claim_of t.0 t.1.items)) }
+pub fn read_trace(alloc: Global, text: &[u8]) -> Result<TraceStore, ReadFault>
+    ensures ok { IfOk result (λ t. read_of text.now ≡ Ok t) }
     ensures err { IfErr result (Tells text.now) }
 {
     match read_trace_with_cause(alloc, text) {
@@ -24,11 +26,22 @@ pub fn read_trace(alloc: Global, text: &[u8]) -> Result<(Trace, Vec<Entry>), Rea
 }
 
 /// What [`read_trace`] returns, with the cause of a fault.
-pub fn read_trace_with_cause(alloc: Global, text: &[u8]) -> Result<(Trace, Vec<Entry>), Misread>
-    ensures ok { IfOk result (λ t. read_of text.now ≡ Ok (claim_of t.0 t.1.items)) }
+pub fn read_trace_with_cause(alloc: Global, text: &[u8]) -> Result<TraceStore, Misread>
+    ensures ok { IfOk result (λ t. read_of text.now ≡ Ok t) }
     ensures err { IfErr result (λ e. Tells text.now e.fault) }
 {
     match read_records(TraceForm::new(alloc), text) {
+        Ok(form) => Ok(form.claim()),
+        Err(misread) => Err(misread),
+    }
+}
+
+/// As [`read_trace_with_cause`], with records and entries of their own.
+pub fn read_owned_trace(alloc: Global, text: &[u8]) -> Result<(Trace, Vec<Entry>), Misread>
+    ensures ok { IfOk result (λ t. read_of text.now ≡ Ok (claim_of t.0 t.1.items)) }
+    ensures err { IfErr result (λ e. Tells text.now e.fault) }
+{
+    match read_records(OwnedForm::new(alloc), text) {
         Ok(form) => Ok(form.claim()),
         Err(misread) => Err(misread),
     }

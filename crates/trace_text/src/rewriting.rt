@@ -1,22 +1,25 @@
 //! Writing a trace in the second version while it is read.
 ghost use Rattle.std.specs.Prelude.{◌≡◌, ◌++◌, OnOk, OnErr, IfOk, IfErr, Ok, Err};
+ghost use Rattle.trace_text.specs.Lines.{owned_line};
 ghost use Rattle.trace_text.specs.TraceRewriterView as writes;
 
 use crate::form::{begins_with, expected, section_after};
-use crate::line::{Line, Version, read_line};
-use crate::writing::{put_entry, put_memory, put_record};
+use crate::line::{LineForm, Version, read_line};
+use crate::writing::put_line;
 use arrayvec::ArrayString;
-use operation_text::{Expected, Misfit};
-use record_text::{Cause, Form, ReadFault, RecordReader, Section};
+use operation_text::Expected;
+use record_text::{Cause, Form, ReadFault, RecordReader, Section, Taken};
 use std::alloc::{AllocError, Global};
 use std::marker::Model;
+use tlp_core::MAX_PAYLOAD;
 
 /// The text in the second version of the lines so far.
 #[derive(Drop)]
 struct RewriteForm {
     version: Version,
     text: Vec<u8>,
-    /// Room for a line: what it holds does not count.
+    /// Room for the bytes of a line, and for a line: what they hold does not count.
+    room: [u8; MAX_PAYLOAD],
     line: ArrayString<512>,
 }
 
@@ -28,46 +31,38 @@ impl Model for RewriteForm {
     ghost view = { λ w. record { version = w.version; text = w.text.items } };
 }
 
+/// The version of the text after a line.
+#[inline(always)]
+fn version_after(version: Version, line: &LineForm<'_>) -> Version
+    ensures { result ≡ writes.version_after version (owned_line line.now) }
+{
+    match line {
+        LineForm::Head(version) => *version,
+        _ => version,
+    }
+}
+
 impl Form for RewriteForm {
+    ghost use Rattle.trace_text.specs.Lines as lines;
     ghost use Rattle.trace_text.specs.TraceRewriterView.{rewrite_grammar};
 
-    type Line = Line;
+    ghost Line = { lines.Line };
 
     ghost grammar = { rewrite_grammar };
 
-    fn read_line(&self, text: &[u8]) -> Result<Line, Misfit> {
-        read_line(text, self.version)
-    }
-
-    fn section_after(section: Section, line: &Line) -> Option<Section> {
-        section_after(section, line)
-    }
-
-    fn keep(&mut self, line: Line) -> Result<(), AllocError> {
-        match &line {
-            Line::Head(version) => {
-                self.text.extend_from_slice(b"pciex-trace 2\n")?;
-                self.version = *version;
-            }
-            Line::Memory(extent) => {
-                self.line.clear();
-                put_memory(*extent, &mut self.line);
-                self.text.extend_from_slice(self.line.as_bytes())?;
-            }
-            Line::Record(record) => {
-                self.line.clear();
-                put_record(record, &mut self.line);
-                self.text.extend_from_slice(self.line.as_bytes())?;
-            }
-            Line::History => self.text.extend_from_slice(b"history\n")?,
-            Line::Entry(entry) => {
-                self.line.clear();
-                put_entry(entry, &mut self.line);
-                self.text.extend_from_slice(self.line.as_bytes())?;
-            }
-            Line::End => self.text.extend_from_slice(b"end\n")?,
-        }
-        Ok(())
+    fn take(&mut self, section: Section, text: &[u8]) -> Result<Taken, AllocError> {
+        let line = match read_line(text, self.version, &mut self.room) {
+            Ok(line) => line,
+            Err(misfit) => return Ok(Taken::Misfit(misfit)),
+        };
+        let Some(after) = section_after(section, &line) else {
+            return Ok(Taken::NotDue);
+        };
+        self.line.clear();
+        put_line(&line, &mut self.line);
+        self.text.extend_from_slice(self.line.as_bytes())?;
+        self.version = version_after(self.version, &line);
+        Ok(Taken::Kept(after))
     }
 
     fn expected(section: Section) -> Expected {
@@ -103,6 +98,7 @@ impl TraceRewriter {
             reader: RecordReader::new(RewriteForm {
                 version: Version::One,
                 text: Vec::new(alloc),
+                room: [0; MAX_PAYLOAD],
                 line: ArrayString::new(),
             }),
         }

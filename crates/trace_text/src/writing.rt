@@ -3,11 +3,16 @@ ghost use Rattle.std.specs.Prelude.{◌≡◌, ◌≤◌, ◌++◌, ◌∷◌, [
 ghost use Rattle.std.specs.Fmt.{decimal};
 ghost use Rattle.arrayvec.specs.ArrayString.{array_string_len};
 ghost use Rattle.history_check.specs.Claim.{claim_of};
+ghost use Rattle.trace_text.specs.Lines.{owned_line, LendsSized};
+ghost use Rattle.trace_text.specs.TraceRewriterView.{added};
 ghost use Rattle.trace_text.specs.Texts.{memory_line, record_line, entry_line, lines_text, records_text, trace_text};
 
+use crate::line::LineForm;
 use arrayvec::ArrayString;
 use history_check::{Record, Trace};
-use operation_text::{write_decimal, write_hexadecimal, write_op, write_reply};
+use operation_text::{
+    write_decimal, write_hexadecimal, write_op, write_op_lent, write_reply, write_reply_lent,
+};
 use seq_memory::{Entry, Extent};
 use std::alloc::{AllocError, Global};
 
@@ -36,7 +41,7 @@ fn put_count(count: u64, line: &mut ArrayString<512>)
 }
 
 /// Writes the line of the memory.
-pub(crate) fn put_memory(extent: Extent, line: &mut ArrayString<512>)
+fn put_memory(extent: Extent, line: &mut ArrayString<512>)
     requires { array_string_len line.old ≡ 0 }
     ensures { line.new.bytes ≡ memory_line (record { base = extent.base; size = extent.size; block = extent.block; entries = [] }) ++ 10 ∷ [] }
 {
@@ -50,7 +55,7 @@ pub(crate) fn put_memory(extent: Extent, line: &mut ArrayString<512>)
 }
 
 /// Writes the line of a record.
-pub(crate) fn put_record(seen: &Record, line: &mut ArrayString<512>)
+fn put_record(seen: &Record, line: &mut ArrayString<512>)
     requires { array_string_len line.old ≡ 0 }
     ensures { line.new.bytes ≡ record_line seen.now ++ 10 ∷ [] }
 {
@@ -80,7 +85,7 @@ pub(crate) fn put_record(seen: &Record, line: &mut ArrayString<512>)
 }
 
 /// Writes the line of an entry.
-pub(crate) fn put_entry(entry: &Entry, line: &mut ArrayString<512>)
+fn put_entry(entry: &Entry, line: &mut ArrayString<512>)
     requires { array_string_len line.old ≡ 0 }
     ensures { line.new.bytes ≡ entry_line entry.now ++ 10 ∷ [] }
 {
@@ -88,6 +93,52 @@ pub(crate) fn put_entry(entry: &Entry, line: &mut ArrayString<512>)
     line.push_str(" ");
     write_op(&entry.op, line);
     line.push_str("\n");
+}
+
+/// Writes a line in the second version.
+pub(crate) fn put_line(said: &LineForm<'_>, line: &mut ArrayString<512>)
+    requires empty { array_string_len line.old ≡ 0 }
+    requires sized { LendsSized said.now }
+    ensures { line.new.bytes ≡ added (owned_line said.now) }
+{
+    match *said {
+        LineForm::Head(_) => line.push_str("pciex-trace 2\n"),
+        LineForm::Memory(extent) => put_memory(extent, line),
+        LineForm::Sub {
+            requester,
+            number,
+            n,
+            op,
+        } => {
+            put_request("sub ", requester, number, line);
+            put_count(n, line);
+            write_op_lent(&op, line);
+            line.push_str("\n");
+        }
+        LineForm::Ans {
+            requester,
+            number,
+            n,
+            reply,
+        } => {
+            put_request("ans ", requester, number, line);
+            put_count(n, line);
+            write_reply_lent(&reply, line);
+            line.push_str("\n");
+        }
+        LineForm::History => line.push_str("history\n"),
+        LineForm::Entry {
+            requester,
+            number,
+            op,
+        } => {
+            put_request("ent ", requester, number, line);
+            line.push_str(" ");
+            write_op_lent(&op, line);
+            line.push_str("\n");
+        }
+        LineForm::End => line.push_str("end\n"),
+    }
 }
 
 /// Adds the lines of the records.
