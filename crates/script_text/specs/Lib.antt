@@ -3,3 +3,4 @@ pub mod Names
 pub mod Texts
 pub mod LineTexts
 pub mod Spelled
+pub mod Lent

@@ -4,9 +4,9 @@ ghost use Rattle.std.specs.Result.{result_ok};
 ghost use Rattle.fabric_core.specs.Config.{AreCredits, IsBetween, IsConfig};
 ghost use Rattle.operation_text.specs.Words.{words_behind};
 ghost use Rattle.script_text.specs.Forms as forms;
+ghost use Rattle.script_text.specs.declared.line.Line.TheVariants as lines;
 
 use crate::fields::{count, octet, short};
-use crate::line::Line;
 use fabric_core::Config;
 use fc_credit::{LaneCredits, MAX_DATA, MAX_HEADERS, MIN_ATOMIC_DATA, MIN_DATA};
 use operation_text::{BASE, BLOCK, Expected, Misfit, SIZE, alone, cut, next_word, number};
@@ -94,21 +94,21 @@ fn block(rest: Option<&[u8]>) -> Result<u16, Misfit>
 
 /// The fabric that the rest of a line spells.
 #[inline(never)]
-pub(crate) fn fabric(rest: Option<&[u8]>) -> Result<Line, Misfit>
-    ensures { result_ok result ≡ forms.fabric_of (words_behind rest.entry) }
+pub(crate) fn fabric(rest: Option<&[u8]>) -> Result<Config, Misfit>
+    ensures { option_map lines.Fabric (result_ok result) ≡ forms.fabric_of (words_behind rest.entry) }
 {
     let (requesters, rest) = octet(rest, NUMBER)?;
     let (base, rest) = number(rest, 16, u64::MAX, BASE)?;
     let (size, rest) = count(rest, SIZE)?;
     let (credits, rest) = credits(rest)?;
     let block = block(rest)?;
-    Ok(Line::Fabric(Config {
+    Ok(Config {
         requesters,
         base,
         size,
         credits,
         block,
-    }))
+    })
 }
 
 /// Whether the credit is in that range.

@@ -1,14 +1,16 @@
 //! The lines of a script.
-ghost use Rattle.std.specs.Prelude.{◌≡◌};
+ghost use Rattle.std.specs.Prelude.{◌≡◌, IfOk, option_map};
 ghost use Rattle.std.specs.Result.{result_ok};
 ghost use Rattle.operation_text.specs.Words.{words, words_behind};
 ghost use Rattle.script_text.specs.Forms as forms;
+ghost use Rattle.script_text.specs.Lent.{owned_line, LineHasRoom};
 
-use crate::events::{EVENT, event_by};
+use crate::events::{EVENT, EventForm, event_by};
 use crate::fabric::{FABRIC, fabric, misfit_of};
 use crate::fields::is_name;
 use fabric_core::{Config, Event};
 use operation_text::{Misfit, alone, cut};
+use tlp_core::MAX_PAYLOAD;
 
 /// What a line of a script asks for.
 #[derive(Debug, PartialEq, Drop)]
@@ -21,10 +23,48 @@ pub enum Line {
     Settle,
 }
 
-fn settle(rest: Option<&[u8]>) -> Result<Line, Misfit>
-    ensures { result_ok result ≡ forms.settle_of (words_behind rest.entry) }
+/// A [`Line`] whose operation is lent.
+#[derive(Clone, Copy)]
+pub enum LineForm<'a> {
+    /// See [`Line::Fabric`].
+    Fabric(Config),
+    /// See [`Line::Event`].
+    Event(EventForm<'a>),
+    /// See [`Line::Settle`].
+    Settle,
+}
+
+impl LineForm<'_> {
+    /// The line with an operation of its own. Takes no memory.
+    #[inline(always)]
+    pub fn to_owned(&self) -> Line
+        requires { LineHasRoom self.now }
+        ensures { result ≡ owned_line self.now }
+    {
+        match self {
+            LineForm::Fabric(config) => Line::Fabric(*config),
+            LineForm::Event(event) => Line::Event(event.to_owned()),
+            LineForm::Settle => Line::Settle,
+        }
+    }
+}
+
+/// As [`read_line`], but the bytes of an operation are put into the room, and lent from there.
+pub fn read_line_lent<'r>(
+    text: &[u8],
+    room: &'r mut [u8; MAX_PAYLOAD],
+) -> Result<LineForm<'r>, Misfit>
+    ensures value { option_map owned_line (result_ok result) ≡ forms.line_of (words text.now) }
+    ensures room { IfOk result LineHasRoom }
 {
-    alone(Line::Settle, rest)
+    let (kind, rest) = cut(text);
+    if is_name(kind, b"fabric") {
+        return Ok(LineForm::Fabric(fabric(rest)?));
+    }
+    if is_name(kind, b"settle") {
+        return alone(LineForm::Settle, rest);
+    }
+    Ok(LineForm::Event(event_by(kind, rest, text, room)?))
 }
 
 /// The line that the text spells, which is given without what ends it. If it has no known form, or a
@@ -33,14 +73,9 @@ fn settle(rest: Option<&[u8]>) -> Result<Line, Misfit>
 pub fn read_line(text: &[u8]) -> Result<Line, Misfit>
     ensures { result_ok result ≡ forms.line_of (words text.now) }
 {
-    let (kind, rest) = cut(text);
-    if is_name(kind, b"fabric") {
-        return fabric(rest);
-    }
-    if is_name(kind, b"settle") {
-        return settle(rest);
-    }
-    event_by(kind, rest, text)
+    let mut room = [0; MAX_PAYLOAD];
+    let line = read_line_lent(text, &mut room)?;
+    Ok(line.to_owned())
 }
 
 /// Why a script's line says nothing that can be done: the first line makes a fabric, no later one does,
@@ -51,9 +86,10 @@ pub fn script_misfit(text: &[u8], has_fabric: bool) -> Option<Misfit> {
         (true, true) => return Some(EVENT.at(Some(text))),
         _ => {}
     }
-    match read_line(text) {
+    let mut room = [0; MAX_PAYLOAD];
+    match read_line_lent(text, &mut room) {
         Err(misfit) => Some(misfit),
-        Ok(Line::Fabric(config)) => misfit_of(text, &config),
+        Ok(LineForm::Fabric(config)) => misfit_of(text, &config),
         Ok(_) => None,
     }
 }

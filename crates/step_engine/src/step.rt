@@ -21,13 +21,15 @@ use fabric_settle::{happen, settle};
 use history_check::Record;
 use line_loop::{EngineFault, Responder, Verdict};
 use script_text::{
-    Line, read_line, write_config_fault, write_refusal, write_seen, write_settled, write_told,
+    LineForm, read_line_lent, write_config_fault, write_refusal, write_seen, write_settled,
+    write_told,
 };
 use std::alloc::{AllocError, Global};
 use std::io::{Read, Write, sink};
 use std::marker::Model;
 use std::mem;
 use text_lines::is_skipped;
+use tlp_core::MAX_PAYLOAD;
 use trace_engine::tell_trace;
 
 /// A new fabric.
@@ -60,6 +62,8 @@ pub(crate) struct Stepper {
     has_ended: bool,
     /// Why the fabric refused the event that was refused last, as long as nobody took it.
     refusal: Option<Refusal>,
+    /// Room for the bytes of a line's operation.
+    operation: [u8; MAX_PAYLOAD],
     /// Room for the text that answers a line.
     text: ArrayString<512>,
 }
@@ -84,6 +88,7 @@ impl Stepper {
             lines: 0,
             has_ended: false,
             refusal: None,
+            operation: [0; MAX_PAYLOAD],
             text: ArrayString::new(),
         }
     }
@@ -380,13 +385,13 @@ impl Responder for Stepper {
             self.count();
             return Ok(Verdict::Fine);
         }
-        let asked = read_line(line);
-        match &asked {
-            Err(_) => self.no_line(out),
-            Ok(Line::Fabric(config)) => self.make(*config, out),
-            Ok(Line::Event(event)) => self.happen(line, event, out),
-            Ok(Line::Settle) => self.settle(line, out),
-        }
+        let event = match read_line_lent(line, &mut self.operation) {
+            Err(_) => return self.no_line(out),
+            Ok(LineForm::Fabric(config)) => return self.make(config, out),
+            Ok(LineForm::Settle) => return self.settle(line, out),
+            Ok(LineForm::Event(event)) => event.to_owned(),
+        };
+        self.happen(line, &event, out)
     }
 
     fn on_long_line(&mut self, out: &mut Vec<u8>) -> Result<Verdict, AllocError> {
