@@ -2,7 +2,7 @@
 ghost use Rattle.tlp_core.specs.Lent.{HasSizes};
 ghost use Rattle.seq_memory.specs.Outcome.{HasRoom};
 
-use history_check::{AsClaim, Flaw, FlawKind, Record, check_claim};
+use history_check::{AsClaim, Flaw, FlawKind, Record, check, check_claim};
 use seq_memory::{Entry, Extent, ReplyData, ReplyForm};
 use std::alloc::{AllocError, Global};
 use tlp_core::OpForm;
@@ -187,7 +187,8 @@ fn are_replayed(store: &TraceStore, behind: u8, bytes: &mut [u8]) -> bool {
 
 /// A store of all, with the answers from one on, over 4096 bytes from 0 on.
 fn filled(alloc: Global, from: u8) -> Result<TraceStore, AllocError> {
-    let mut store = TraceStore::new(alloc, Extent::new(0, 4096, 64).unwrap());
+    let mut store = TraceStore::new(alloc, Extent::new(0, 128, 64).unwrap());
+    store.set_extent(Extent::new(0, 4096, 64).unwrap());
     submit(&mut store)?;
     answer_from(&mut store, from)?;
     Ok(store)
@@ -208,6 +209,12 @@ fn replays_all(alloc: Global) -> Result<bool, AllocError> {
     let right = are_replayed(&store, OPS, &mut bytes);
     let mut others = vec![in alloc; 0u8; 4096]?;
     Ok(right && !are_replayed(&store, OPS + 1, &mut others))
+}
+
+/// Whether the checker says ok to what the store holds.
+fn is_owned_checked(alloc: Global) -> Result<bool, AllocError> {
+    let (trace, history) = filled(alloc, 2)?.to_owned(alloc)?;
+    Ok(check(alloc, &trace, &history).is_ok())
 }
 
 /// Whether the checker says ok if the posted write has no answer, and else where it has one.
@@ -235,4 +242,9 @@ fn each_entry_is_replayed(rt: HostRuntime) {
 #[test]
 fn the_checker_reads_stores(rt: HostRuntime) {
     assert!(rt; matches!(is_checked(rt.alloc()), Ok(true)));
+}
+
+#[test]
+fn a_store_has_an_owned_form(rt: HostRuntime) {
+    assert!(rt; matches!(is_owned_checked(rt.alloc()), Ok(true)));
 }

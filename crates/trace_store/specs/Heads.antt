@@ -13,6 +13,7 @@ use Rattle.trace_store.specs.declared.heads.RecordKind.{RecordKind}
 use Rattle.trace_store.specs.declared.heads.RecordKind.TheVariants as kinds
 use Rattle.trace_store.specs.Kept.{op_in, reply_in, HasOp, HasReply}
 
+-- the record of that kind
 abbrev pub record_by : List ℕ → RecordHead → RecordKind → Record
 record_by bytes h (kinds.Sub k) = records.Sub h.requester h.number (op_in bytes k h.fields) h.n
 record_by bytes h (kinds.Ans k) = records.Ans h.requester h.number (reply_in bytes k h.fields) h.n
@@ -25,6 +26,7 @@ record_in bytes h = record_by bytes h h.kind
 abbrev pub entry_in : List ℕ → EntryHead → Entry
 entry_in bytes h = record { requester = h.requester; number = h.number; op = op_in bytes h.kind h.fields }
 
+-- the list has the bytes of an operation or a reply
 abbrev pub HasKind : List ℕ → Fields → RecordKind → Type 0
 HasKind bytes f (kinds.Sub k) = HasOp bytes k f
 HasKind bytes f (kinds.Ans k) = HasReply bytes k f

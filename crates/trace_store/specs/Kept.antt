@@ -13,13 +13,15 @@ use Rattle.trace_store.specs.declared.kept.ReplyKind.{ReplyKind}
 use Rattle.trace_store.specs.declared.kept.ReplyKind.TheVariants as reply_kinds
 use Rattle.trace_store.specs.declared.kept.Fields.{Fields}
 
--- the AtomicOp's operands: so many bytes each, one behind the other
+-- how many bytes an operand has
 abbrev pub width_at : List ℕ → Fields → ℕ
 width_at bytes f = length (bytes_at bytes f.from f.count)
 
+-- the operand, of a CAS the one to compare
 abbrev pub operand_at : List ℕ → Fields → ℕ
 operand_at bytes f = number_of (bytes_at bytes f.from f.count)
 
+-- the one behind it, to swap in
 abbrev pub swap_at : List ℕ → Fields → ℕ
 swap_at bytes f = number_of (bytes_at bytes (f.from + f.count) f.count)
 

@@ -1,5 +1,5 @@
 //! The trace and the history.
-ghost use Rattle.std.specs.Prelude.{◌≡◌, [], ◌∷◌, ◌++◌, map, OnOk, OnErr, IfOk, slice_get};
+ghost use Rattle.std.specs.Prelude.{◌≡◌, [], ◌∷◌, ◌++◌, map, OnOk, OnErr, IfOk};
 ghost use Rattle.std.specs.List.{All};
 ghost use Rattle.tlp_core.specs.Lent.{owned, HasSizes};
 ghost use Rattle.seq_memory.specs.History.{extent_of};
