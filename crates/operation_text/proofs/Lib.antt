@@ -1,6 +1,7 @@
 mod WordLemmas
 mod DigitLemmas
 mod OnePassLemmas
+mod FewBytesLemmas
 mod ReadBackLemmas
 mod NumberLemmas
 mod OpLemmas

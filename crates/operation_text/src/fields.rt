@@ -1,5 +1,5 @@
 //! The fields of a line.
-ghost use Rattle.std.specs.Prelude.{◌≡◌, ◌≤◌, ◌<◌, [], ◌∷◌, MatchOption, SomeIff, IfSome, IfOk, option_map, length};
+ghost use Rattle.std.specs.Prelude.{◌≡◌, ◌≤◌, ◌<◌, [], ◌∷◌, MatchOption, SomeIff, IfSome, IfOk, option_map, length, take, Some};
 ghost use Rattle.std.specs.Result.{result_ok};
 ghost use Rattle.std.specs.Char.{digit_value};
 ghost use Rattle.operation_text.specs.Words.{words, words_behind, first_field, has_ended, ended};
@@ -172,6 +172,29 @@ pub fn number(
     Ok((number, behind))
 }
 
+/// Reads a first word of eight digits, as most byte strings have, to the front of the room: how many
+/// bytes it spells, and what is behind it. Of other words it says nothing.
+#[inline(always)]
+fn few_bytes<'l>(line: &'l [u8], room: &mut [u8]) -> Option<(usize, Option<&'l [u8]>)>
+    requires { 4 ≤ length room.old }
+    ensures count { IfSome result (λ s. s.0 ≡ 4) }
+    ensures field { IfSome result (λ s. first_field byte_string (words line.now) ≡ Some (take s.0 room.new, words_behind s.1)) }
+{
+    if line.len() < 8 {
+        return None;
+    }
+    if line.len() > 8 && line[8] != b' ' {
+        return None;
+    }
+    if !read_digits(&line[..8], &mut room[..4]) {
+        return None;
+    }
+    if line.len() == 8 {
+        return Some((4, None));
+    }
+    Some((4, Some(&line[9..])))
+}
+
 /// The bytes that the next word spells, put to the front of the room, and what is behind it.
 #[inline(always)]
 pub(crate) fn bytes<'l, 'r>(
@@ -182,6 +205,11 @@ pub(crate) fn bytes<'l, 'r>(
     ensures field { first_field byte_string (words_behind rest.entry) ≡ option_map (λ s. (s.0.now, words_behind s.1)) (result_ok result) }
     ensures few { IfOk result (λ s. length s.0.now ≤ 128) }
 {
+    if let Some(line) = rest {
+        if let Some((count, behind)) = few_bytes(line, room) {
+            return Ok((&room[..count], behind));
+        }
+    }
     let (word, behind) = word(rest, expected)?;
     let bytes = bytes_lent(word, room).ok_or(expected.at(rest))?;
     Ok((bytes, behind))
@@ -198,6 +226,11 @@ pub(crate) fn operand<'l, 'r>(
     ensures field { first_field spelled.operand (words_behind rest.entry) ≡ option_map (λ s. ((width_of (length s.0.now), number_of s.0.now), words_behind s.1)) (result_ok result) }
     ensures size { IfOk result (λ s. IsOperand s.0.now) }
 {
+    if let Some(line) = rest {
+        if let Some((count, behind)) = few_bytes(line, room) {
+            return Ok((&room[..count], behind));
+        }
+    }
     let (word, behind) = word(rest, expected)?;
     let bytes = operand_lent(word, room).ok_or(expected.at(rest))?;
     Ok((bytes, behind))
