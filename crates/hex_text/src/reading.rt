@@ -66,6 +66,7 @@ fn read_groups(line: &[u8], bytes: &mut [u8; 256]) -> Option<usize>
 }
 
 /// Reads the bytes of the digits four at a time, and says whether it did: of digits of whole pairs of bytes.
+#[inline(always)]
 fn read_fours(digits: &[u8], bytes: &mut [u8]) -> bool
     requires { length bytes.old ≡ length digits.now / 2 }
     ensures { result ≡ true → decode_of digits.now ≡ Ok bytes.new }
@@ -85,6 +86,7 @@ fn read_fours(digits: &[u8], bytes: &mut [u8]) -> bool
 }
 
 /// Reads the bytes of the digits one by one, and says whether they are digits of whole bytes.
+#[inline(never)]
 fn read_each(digits: &[u8], bytes: &mut [u8]) -> bool
     requires { length bytes.old ≡ length digits.now / 2 }
     ensures read { result ≡ true → decode_of digits.now ≡ Ok bytes.new }
@@ -94,6 +96,7 @@ fn read_each(digits: &[u8], bytes: &mut [u8]) -> bool
 }
 
 /// Reads the bytes of the digits, and says whether they are digits of whole bytes.
+#[inline(always)]
 pub fn read_digits(digits: &[u8], bytes: &mut [u8]) -> bool
     requires { length bytes.old ≡ length digits.now / 2 }
     ensures read { result ≡ true → decode_of digits.now ≡ Ok bytes.new }

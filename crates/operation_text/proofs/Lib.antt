@@ -1,5 +1,6 @@
 mod WordLemmas
 mod DigitLemmas
+mod OnePassLemmas
 mod ReadBackLemmas
 mod NumberLemmas
 mod OpLemmas

@@ -8,6 +8,7 @@ ghost use Rattle.tlp_core.specs.Operation.{width_of};
 ghost use Rattle.tlp_core.specs.Lent.{number_of, IsOperand};
 ghost use Rattle.operation_text.specs.Operations as spelled;
 
+use crate::digits::quick_number;
 use crate::misfit::{Expected, LINE_END, Misfit};
 use arrayvec::ArrayVec;
 use hex_text::read_digits;
@@ -15,6 +16,7 @@ use tlp_core::MAX_PAYLOAD;
 
 /// The first word of a line, and what is behind the space that ends it, none where the line ends with
 /// the word.
+#[inline(always)]
 pub fn cut(line: &[u8]) -> (&[u8], Option<&[u8]>)
     ensures { words line.now ≡ result.0.now ∷ words_behind result.1 }
 {
@@ -30,6 +32,7 @@ pub fn cut(line: &[u8]) -> (&[u8], Option<&[u8]>)
 }
 
 /// The next word, and what is behind it; none at the end of the line.
+#[inline(always)]
 pub fn next_word(rest: Option<&[u8]>) -> Option<(&[u8], Option<&[u8]>)>
     ensures { MatchOption result (words_behind rest.entry ≡ []) (λ s. words_behind rest.entry ≡ s.0.now ∷ words_behind s.1) }
 {
@@ -37,6 +40,7 @@ pub fn next_word(rest: Option<&[u8]>) -> Option<(&[u8], Option<&[u8]>)>
 }
 
 /// Whether the line ends here, `rest` being what [`cut`] left.
+#[inline(always)]
 pub fn is_ended(rest: Option<&[u8]>) -> bool
     ensures { result ≡ has_ended (words_behind rest.entry) }
 {
@@ -83,6 +87,7 @@ fn value(word: &[u8], radix: u32, most: u64) -> Option<u64>
 }
 
 /// The number that the word spells.
+#[inline(never)]
 fn number_in(word: &[u8], radix: u32, most: u64) -> Option<u64>
     requires low { 2 ≤ radix }
     requires high { radix ≤ 36 }
@@ -97,6 +102,7 @@ fn number_in(word: &[u8], radix: u32, most: u64) -> Option<u64>
 }
 
 /// The bytes that the word spells, put to the front of the room: 1 to 128 bytes.
+#[inline(always)]
 fn bytes_lent<'r>(word: &[u8], room: &'r mut [u8; MAX_PAYLOAD]) -> Option<&'r [u8]>
     ensures value { option_map (λ b. b.now) result ≡ byte_string word.now }
     ensures few { IfSome result (λ b. length b.now ≤ 128) }
@@ -120,6 +126,7 @@ pub fn bytes_in(word: &[u8]) -> Option<ArrayVec<u8, MAX_PAYLOAD>>
 }
 
 /// The operand's bytes that the word spells, put to the front of the room: 4, 8 or 16 bytes.
+#[inline(always)]
 fn operand_lent<'r>(word: &[u8], room: &'r mut [u8]) -> Option<&'r [u8]>
     requires { 16 ≤ length room.old }
     ensures value { option_map (λ b. (width_of (length b.now), number_of b.now)) result ≡ spelled.operand word.now }
@@ -136,6 +143,7 @@ fn operand_lent<'r>(word: &[u8], room: &'r mut [u8]) -> Option<&'r [u8]>
 }
 
 /// The next word, and what is behind it. `rest` is what [`cut`] left.
+#[inline(always)]
 pub fn word(rest: Option<&[u8]>, expected: Expected) -> Result<(&[u8], Option<&[u8]>), Misfit>
     ensures { MatchOption (result_ok result) (words_behind rest.entry ≡ []) (λ s. words_behind rest.entry ≡ s.0.now ∷ words_behind s.1) }
 {
@@ -144,6 +152,7 @@ pub fn word(rest: Option<&[u8]>, expected: Expected) -> Result<(&[u8], Option<&[
 
 /// The number that the next word spells in that radix, of at most `most` and without leading zeros,
 /// and what is behind it. `rest` is what [`cut`] left.
+#[inline(always)]
 pub fn number(
     rest: Option<&[u8]>,
     radix: u32,
@@ -155,12 +164,16 @@ pub fn number(
     ensures field { first_field (numeral radix most) (words_behind rest.entry) ≡ option_map (λ s. (s.0, words_behind s.1)) (result_ok result) }
     ensures range { IfOk result (λ s. s.0 ≤ most) }
 {
+    if let Some(number) = quick_number(rest, radix, most) {
+        return Ok(number);
+    }
     let (word, behind) = word(rest, expected)?;
     let number = number_in(word, radix, most).ok_or(expected.at(rest))?;
     Ok((number, behind))
 }
 
 /// The bytes that the next word spells, put to the front of the room, and what is behind it.
+#[inline(always)]
 pub(crate) fn bytes<'l, 'r>(
     rest: Option<&'l [u8]>,
     expected: Expected,
@@ -175,6 +188,7 @@ pub(crate) fn bytes<'l, 'r>(
 }
 
 /// The bytes of the operand that the next word spells, put to the front of the room, and what is behind it.
+#[inline(always)]
 pub(crate) fn operand<'l, 'r>(
     rest: Option<&'l [u8]>,
     expected: Expected,

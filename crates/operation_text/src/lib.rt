@@ -15,6 +15,7 @@
 //! `ca`. What is written has capitals, and is read back.
 #![tactic(auto)]
 
+mod digits;
 mod fields;
 mod laws;
 mod misfit;

@@ -50,6 +50,7 @@ pub struct Misfit {
 
 impl Expected {
     /// That it doesn't come next. `rest` is what [`cut`](crate::cut) left.
+    #[inline(always)]
     pub fn at(self, rest: Option<&[u8]>) -> Misfit {
         let left = match rest {
             Some(rest) => Some(rest.len()),
@@ -62,6 +63,7 @@ impl Expected {
     }
 
     /// That more comes where the line might end: of a space at its end that space.
+    #[inline(always)]
     pub fn before(self, rest: Option<&[u8]>) -> Misfit {
         match rest {
             Some([]) => Misfit {

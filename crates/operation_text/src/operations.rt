@@ -31,12 +31,14 @@ const OPERAND: Expected = Expected::Of(
 const SWAP_OPERAND: Expected = Expected::Of("an operand", "of as many bytes as the compare value");
 
 /// The address that the next word spells.
+#[inline(always)]
 fn address(rest: Option<&[u8]>) -> Result<(u64, Option<&[u8]>), Misfit>
     ensures { first_field spelled.address (words_behind rest.entry) ≡ option_map (λ s. (s.0, words_behind s.1)) (result_ok result) }
 {
     number(rest, 16, u64::MAX, ADDRESS)
 }
 
+#[inline(always)]
 fn count(rest: Option<&[u8]>) -> Result<(u16, Option<&[u8]>), Misfit>
     ensures { first_field spelled.count (words_behind rest.entry) ≡ option_map (λ s. (s.0, words_behind s.1)) (result_ok result) }
 {
@@ -44,6 +46,7 @@ fn count(rest: Option<&[u8]>) -> Result<(u16, Option<&[u8]>), Misfit>
     Ok((dw as u16, rest))
 }
 
+#[inline(always)]
 fn enables(rest: Option<&[u8]>, expected: Expected) -> Result<(u8, Option<&[u8]>), Misfit>
     ensures { first_field spelled.enables (words_behind rest.entry) ≡ option_map (λ s. (s.0, words_behind s.1)) (result_ok result) }
 {
@@ -51,6 +54,7 @@ fn enables(rest: Option<&[u8]>, expected: Expected) -> Result<(u8, Option<&[u8]>
     Ok((enables as u8, rest))
 }
 
+#[inline(always)]
 fn read<'r>(rest: Option<&[u8]>) -> Result<OpForm<'r>, Misfit>
     ensures value { option_map owned (result_ok result) ≡ spelled.read_of (words_behind rest.entry) }
     ensures sizes { IfOk result HasSizes }
@@ -68,6 +72,7 @@ fn read<'r>(rest: Option<&[u8]>) -> Result<OpForm<'r>, Misfit>
     alone(op, rest)
 }
 
+#[inline(always)]
 fn write<'r>(rest: Option<&[u8]>, room: &'r mut [u8; MAX_PAYLOAD]) -> Result<OpForm<'r>, Misfit>
     ensures value { option_map owned (result_ok result) ≡ spelled.write_of (words_behind rest.entry) }
     ensures sizes { IfOk result HasSizes }
@@ -85,6 +90,7 @@ fn write<'r>(rest: Option<&[u8]>, room: &'r mut [u8; MAX_PAYLOAD]) -> Result<OpF
     alone(op, rest)
 }
 
+#[inline(always)]
 fn add<'r>(rest: Option<&[u8]>, room: &'r mut [u8; MAX_PAYLOAD]) -> Result<OpForm<'r>, Misfit>
     ensures value { option_map owned (result_ok result) ≡ spelled.add_of (words_behind rest.entry) }
     ensures sizes { IfOk result HasSizes }
@@ -95,6 +101,7 @@ fn add<'r>(rest: Option<&[u8]>, room: &'r mut [u8; MAX_PAYLOAD]) -> Result<OpFor
     alone(op, rest)
 }
 
+#[inline(always)]
 fn swap<'r>(rest: Option<&[u8]>, room: &'r mut [u8; MAX_PAYLOAD]) -> Result<OpForm<'r>, Misfit>
     ensures value { option_map owned (result_ok result) ≡ spelled.swap_of (words_behind rest.entry) }
     ensures sizes { IfOk result HasSizes }
@@ -105,6 +112,7 @@ fn swap<'r>(rest: Option<&[u8]>, room: &'r mut [u8; MAX_PAYLOAD]) -> Result<OpFo
     alone(op, rest)
 }
 
+#[inline(always)]
 fn cas<'r>(rest: Option<&[u8]>, room: &'r mut [u8; MAX_PAYLOAD]) -> Result<OpForm<'r>, Misfit>
     ensures value { option_map owned (result_ok result) ≡ spelled.cas_of (words_behind rest.entry) }
     ensures sizes { IfOk result HasSizes }
@@ -125,6 +133,7 @@ fn cas<'r>(rest: Option<&[u8]>, room: &'r mut [u8; MAX_PAYLOAD]) -> Result<OpFor
 }
 
 /// The operation of that kind that the rest of a line spells.
+#[inline(always)]
 fn op_by<'r>(
     kind: &[u8],
     rest: Option<&[u8]>,
@@ -150,6 +159,7 @@ fn op_by<'r>(
 }
 
 /// The operation that the text spells: its bytes are put into the room, whose content doesn't count.
+#[inline(always)]
 pub fn read_op_lent<'r>(text: &[u8], room: &'r mut [u8; MAX_PAYLOAD]) -> Result<OpForm<'r>, Misfit>
     ensures value { option_map owned (result_ok result) ≡ spelled.op_spelled (words text.now) }
     ensures sizes { IfOk result HasSizes }
@@ -160,6 +170,7 @@ pub fn read_op_lent<'r>(text: &[u8], room: &'r mut [u8; MAX_PAYLOAD]) -> Result<
 
 /// As [`read_op_lent`], of the rest of a line; none where there is no rest. `rest` is what [`cut`]
 /// left.
+#[inline(always)]
 pub fn op_behind_lent<'r>(
     rest: Option<&[u8]>,
     room: &'r mut [u8; MAX_PAYLOAD],

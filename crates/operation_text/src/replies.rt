@@ -13,6 +13,7 @@ use tlp_core::MAX_PAYLOAD;
 /// A reply, by its first word.
 const REPLY: Expected = Expected::Of("a reply", "data, ur, ca");
 
+#[inline(always)]
 fn data<'r>(rest: Option<&[u8]>, room: &'r mut [u8; MAX_PAYLOAD]) -> Result<ReplyForm<'r>, Misfit>
     ensures value { option_map owned_reply (result_ok result) ≡ spelled.data_of (words_behind rest.entry) }
     ensures room { IfOk result HasRoom }
@@ -22,6 +23,7 @@ fn data<'r>(rest: Option<&[u8]>, room: &'r mut [u8; MAX_PAYLOAD]) -> Result<Repl
 }
 
 /// The reply of that kind that the rest of a line spells.
+#[inline(always)]
 fn reply_by<'r>(
     kind: &[u8],
     rest: Option<&[u8]>,
@@ -43,6 +45,7 @@ fn reply_by<'r>(
 }
 
 /// The reply that the text spells: its data is put into the room, whose content doesn't count.
+#[inline(always)]
 pub fn read_reply_lent<'r>(
     text: &[u8],
     room: &'r mut [u8; MAX_PAYLOAD],
@@ -56,6 +59,7 @@ pub fn read_reply_lent<'r>(
 
 /// As [`read_reply_lent`], of the rest of a line; none where there is no rest. `rest` is what
 /// [`cut`] left.
+#[inline(always)]
 pub fn reply_behind_lent<'r>(
     rest: Option<&[u8]>,
     room: &'r mut [u8; MAX_PAYLOAD],

@@ -1,14 +1,10 @@
 -- The bytes of a number that bytes were read as are those bytes.
-use Rattle.std.proofs.Common.{◌≡◌, ℕ, zero, suc, ◌+◌, ◌*◌, ◌/◌, ◌%◌, ◌^◌, ◌<◌, ◌≤◌, List, [], ◌∷◌, length, take, drop, slice_index, refl, sym, ap, ◌∙◌, arith, drop-cons, inl, inr}
+use Rattle.std.proofs.Common.{◌≡◌, ℕ, zero, suc, ◌+◌, ◌*◌, ◌/◌, ◌%◌, ◌^◌, ◌<◌, ◌≤◌, List, [], ◌∷◌, length, take, drop, slice_index, refl, sym, ap, ◌∙◌, arith, drop-cons}
 use Rattle.std.proofs.Math.Nat.{div-div-eq-div-mul, div-one, pow-suc}
-use Rattle.std.proofs.lemmas.List.{get_or-drop, take_all}
+use Rattle.std.proofs.lemmas.List.{get_or-drop}
 use Rattle.std.specs.Int.{byte_at, bytes_low_first}
 use Rattle.byteorder.specs.Endian.{little_from, little_number, little_bytes}
-use Rattle.hex.specs.Hex.{encode_upper}
 use Rattle.tlp_core.specs.Bits.{IsBytes}
-use Rattle.tlp_core.specs.Operation.{width_of}
-use Rattle.tlp_core.specs.Lent.{IsOperand, number_of}
-use Rattle.operation_text.specs.Texts.{operand_word}
 
 -- so many bytes from place i on
 segment : ℕ → ℕ → List ℕ → List ℕ
@@ -53,16 +49,3 @@ bytes-take (suc n) (x ∷ xs) h (suc i) = bytes-take n xs (λ k. h (suc k)) i
 
 pub bytes-drop : (n : ℕ) (xs : List ℕ) → IsBytes xs → IsBytes (drop n xs)
 bytes-drop n xs h i = rw (get_or-drop n xs i 0) (h (n + i))
-
-bytes-again : (n : ℕ) (xs : List ℕ) → length xs ≡ n → IsBytes xs → little_bytes n (little_number n xs) ≡ xs
-bytes-again n xs len h = number-bytes n xs (omega arith) h ∙ take_all n xs (omega arith)
-
--- the word of an operand's number has the operand's bytes
-pub operand_text : (xs : List ℕ) → IsOperand xs → IsBytes xs → operand_word (width_of (length xs)) (number_of xs) ≡ encode_upper xs
-operand_text xs size h = elim size [
-  | inl four ↦ rw four (ap encode_upper (bytes-again 4 xs four h))
-  | inr more ↦ elim more [
-    | inl eight ↦ rw eight (ap encode_upper (bytes-again 8 xs eight h))
-    | inr sixteen ↦ rw sixteen (ap encode_upper (bytes-again 16 xs sixteen h))
-  ]
-]

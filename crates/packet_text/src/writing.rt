@@ -1,9 +1,7 @@
 //! Writing packets and faults.
 ghost use Rattle.std.specs.Prelude.{◌≡◌, ◌≤◌, ◌<◌, ◌+◌, ◌*◌, ◌++◌, ◌∷◌, length, is_ok};
 ghost use Rattle.arrayvec.specs.ArrayString.{array_string_len};
-ghost use Rattle.tlp_core.specs.Lent.{IsOperand, number_of};
-ghost use Rattle.tlp_core.specs.Operation.{width_of};
-ghost use Rattle.operation_text.specs.Texts.{hexadecimal, octet_text, operand_word, op_text};
+ghost use Rattle.operation_text.specs.Texts.{op_text};
 ghost use Rattle.hex.specs.Hex.{encode_upper};
 ghost use Rattle.packet_text.specs.Packets as packets;
 ghost use Rattle.packet_text.specs.Texts as texts;
@@ -12,8 +10,8 @@ use crate::fault::{BytesFault, TextFault};
 use crate::packet::Packet;
 use arrayvec::ArrayString;
 use dllp_core::{Class, Dllp, DllpFault};
-use operation_text::{write_bytes, write_decimal, write_hexadecimal, write_octet, write_sequence};
-use tlp_core::{Body, Kind, OpForm, OpRef, Status, TlpFault, TlpRef, decode_lent, op_lent};
+use operation_text::{write_bytes, write_decimal, write_octet, write_op_lent, write_sequence};
+use tlp_core::{Body, Kind, OpRef, Status, TlpFault, TlpRef, decode_lent, op_lent};
 
 /// Adds four digits.
 fn put_id(id: u16, out: &mut ArrayString<512>)
@@ -59,82 +57,13 @@ fn put_origin(tlp: &TlpRef<'_>, out: &mut ArrayString<512>)
     write_octet(tlp.header.tag, out);
 }
 
-/// Adds a space and the operand's bytes.
-fn put_operand(operand: &[u8], out: &mut ArrayString<512>)
-    requires operand { IsOperand operand.now }
-    requires room { array_string_len out.old + 33 ≤ 512 }
-    ensures text { out.new.bytes ≡ out.old.bytes ++ 32 ∷ operand_word (width_of (length operand.now)) (number_of operand.now) }
-    ensures len { array_string_len out.new ≤ array_string_len out.old + 33 }
-{
-    out.push_str(" ");
-    write_bytes(operand, out);
-}
-
-/// Adds a space before each of the byte enables.
-fn put_enables(first: u8, last: u8, out: &mut ArrayString<512>)
-    requires { array_string_len out.old + 34 ≤ 512 }
-    ensures text { out.new.bytes ≡ out.old.bytes ++ (32 ∷ hexadecimal first ++ 32 ∷ hexadecimal last) }
-    ensures len { array_string_len out.new ≤ array_string_len out.old + 34 }
-{
-    out.push_str(" ");
-    write_hexadecimal(u64::from(first), out);
-    out.push_str(" ");
-    write_hexadecimal(u64::from(last), out);
-}
-
-/// Adds the operation's text, as [`operation_text::write_op`] does: its bytes are written where they
-/// stand.
+/// Adds the operation's text.
 fn put_op(op: &OpRef<'_>, out: &mut ArrayString<512>)
     requires { array_string_len out.old + 320 ≤ 512 }
     ensures text { out.new.bytes ≡ out.old.bytes ++ op_text op.now }
     ensures len { array_string_len out.new ≤ array_string_len out.old + 320 }
 {
-    match op.form() {
-        OpForm::Read {
-            address,
-            dw,
-            first,
-            last,
-        } => {
-            out.push_str("read ");
-            write_hexadecimal(address, out);
-            out.push_str(" ");
-            write_decimal(u64::from(dw), out);
-            put_enables(first, last, out);
-        }
-        OpForm::Write {
-            address,
-            first,
-            last,
-            bytes,
-        } => {
-            out.push_str("write ");
-            write_hexadecimal(address, out);
-            put_enables(first, last, out);
-            out.push_str(" ");
-            write_bytes(bytes, out);
-        }
-        OpForm::FetchAdd { address, operand } => {
-            out.push_str("add ");
-            write_hexadecimal(address, out);
-            put_operand(operand, out);
-        }
-        OpForm::Swap { address, operand } => {
-            out.push_str("swap ");
-            write_hexadecimal(address, out);
-            put_operand(operand, out);
-        }
-        OpForm::Cas {
-            address,
-            compare,
-            swap,
-        } => {
-            out.push_str("cas ");
-            write_hexadecimal(address, out);
-            put_operand(compare, out);
-            put_operand(swap, out);
-        }
-    }
+    write_op_lent(&op.form(), out);
 }
 
 fn put_request(tlp: &TlpRef<'_>, op: &OpRef<'_>, out: &mut ArrayString<512>)
