@@ -1,10 +1,10 @@
 pub mod Firsts
 pub mod Tables
+pub mod Parts
 pub mod Entries
 pub mod Floors
 pub mod Judged
 pub mod Replies
-pub mod Verdicts
 pub mod Linked
 pub mod Lists
 pub mod Same

@@ -1,5 +1,5 @@
 -- Of numbered records, the k-th submission is that of number k.
-use Rattle.std.proofs.Common.{◌≡◌, ℕ, zero, suc, ◌<◌, ◌≤◌, Bool, true, false, cond, List, [], ◌∷◌, ◌++◌, length, take, Option, Some, None, refl, sym, ap, subst, ◌∙◌, inl, inr, arith, add-one}
+use Rattle.std.proofs.Common.{◌≡◌, ℕ, zero, suc, ◌≤◌, Bool, true, false, cond, List, [], ◌∷◌, ◌++◌, length, take, Option, Some, None, refl, sym, ap, subst, ◌∙◌, inl, inr, arith, add-one}
 use Rattle.std.specs.Prelude.{slice_get, ◌==◌, ◌&&◌, filter_map, option_and_then}
 use Rattle.std.specs.Option.{option_or}
 use Rattle.std.proofs.lemmas.Bool.{cases_eq, eqb-true, eq-eqb, ne_eqb}
@@ -15,6 +15,7 @@ use Rattle.history_check.specs.Flaws.{sub_place, is_sub, is_numbered, some_and}
 use Rattle.history_check.proofs.Firsts.{first_place-push, slice_get-push, or_none}
 use Rattle.history_check.proofs.Entries.{passes, present}
 use Rattle.history_check.proofs.Floors.{next_record}
+use Rattle.history_check.proofs.Parts.{there}
 
 abbrev pub op_in : Record → Option Op
 op_in (records.Sub i k op n) = Some op
@@ -86,11 +87,6 @@ linked_sub xs j m op n e before = λ i k.
 ans_place : (xs : List Record) (r : Record) (i k : ℕ) (o : Option ℕ) → sub_place xs i k ≡ o → op_at xs o ≡ op_at (xs ++ r ∷ []) o
 ans_place xs r i k None s = refl
 ans_place xs r i k (Some b) s = sym (or_none (op_at xs (Some b))) ∙ old_op xs r i k b None s
-
-there : (rs : List Record) (n : ℕ) → n < length rs → (r : Record) × (slice_get rs n ≡ Some r)
-there [] n l = absurd (omega arith)
-there (r ∷ rs) zero l = (r, refl)
-there (r ∷ rs) (suc n) l = there rs n (omega arith)
 
 pub linked_ans : (xs : List Record) (j m : ℕ) (reply : Reply) (n : ℕ) → Linked xs → Linked (xs ++ records.Ans j m reply n ∷ [])
 linked_ans xs j m reply n before = λ i k.

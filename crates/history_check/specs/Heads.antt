@@ -1,5 +1,5 @@
 -- A trace and a history, part by part.
-use Rattle.std.specs.Prelude.{ℕ, Bool, List, Option, Some, None, slice_get}
+use Rattle.std.specs.Prelude.{ℕ, Bool, false, ◌||◌, nat_lt, List, Option, Some, None, slice_get, option_map}
 use Rattle.tlp_core.specs.Operation.{is_posted}
 use Rattle.seq_memory.specs.declared.Entry.{Entry}
 use Rattle.seq_memory.specs.Step.{after, answer}
@@ -10,12 +10,17 @@ use Rattle.history_check.specs.declared.claim.Head.{Head}
 use Rattle.history_check.specs.declared.claim.Head.TheVariants as heads
 use Rattle.history_check.specs.Claim.{Claim}
 use Rattle.history_check.specs.Flaws.{some_and, at_place, submits}
-use Rattle.history_check.specs.Lookup.{is_told_at}
+use Rattle.history_check.specs.Lookup.{is_told_at, submitted_in, point_in}
 
 -- the record without its operation or its reply
 abbrev pub head_of : Record → Head
 head_of (records.Sub i k op n) = heads.Sub i k (is_posted op) n
 head_of (records.Ans i k reply n) = heads.Ans i k n
+
+-- the requester and the number of the record's request
+abbrev pub request_of_head : Head → ℕ × ℕ
+request_of_head (heads.Sub i k posted n) = (i, k)
+request_of_head (heads.Ans i k n) = (i, k)
 
 -- the requester and the number of an entry's request
 abbrev pub request_of : Entry → ℕ × ℕ
@@ -33,3 +38,25 @@ bytes_after m (Some e) bytes = after m.base m.block bytes e.op
 -- the record at the place is an answer with the memory's reply on the bytes to the entry at the index
 abbrev pub replays_at : Claim → ℕ → Option ℕ → List ℕ → Bool
 replays_at x index place bytes = some_and (slice_get x.memory.entries index) (λ e. is_told_at x.records place (answer x.memory.base x.memory.block bytes e.op))
+
+-- n of the record
+abbrev pub moment_of : Head → ℕ
+moment_of (heads.Sub i k posted n) = n
+moment_of (heads.Ans i k n) = n
+
+-- the record submits the request at that index, and has an n above it
+abbrev pub early_at : Head → Option ℕ → Bool
+early_at (heads.Sub i k posted n) point = some_and point (λ p. nat_lt p n)
+early_at (heads.Ans i k n) point = false
+
+-- n of the record is below another, above the history's length, or above the index of its request
+abbrev pub unclocked_in : Head → ℕ → ℕ → Option ℕ → Bool
+unclocked_in head last most point = nat_lt (moment_of head) last || (nat_lt most (moment_of head) || early_at head point)
+
+-- the entry's requester and number, and where its operation was submitted
+abbrev pub found_in : List (List ℕ) → List Record → Entry → Option (ℕ × ℕ × ℕ)
+found_in rows rs e = option_map (λ b. (e.requester, e.number, b)) (submitted_in rows rs e)
+
+-- where the first answer to the entry's request stands
+abbrev pub first_in : List (List ℕ) → List (Option ℕ) → Entry → Option ℕ
+first_in rows firsts e = point_in rows firsts e.requester e.number

@@ -1,5 +1,5 @@
 -- What the checker's tables hold, and what it looks up in them.
-use Rattle.std.specs.Prelude.{ℕ, ◌≡◌, ◌<◌, ◌&&◌, ◌||◌, not, nat_lt, nat_le, take, Bool, false, List, [], length, Option, Some, None, is_none, option_map, slice_get, get_or, if◌then◌else◌, option_and_then}
+use Rattle.std.specs.Prelude.{ℕ, ◌≡◌, ◌<◌, ◌&&◌, not, nat_lt, nat_le, take, Bool, false, List, [], length, Option, Some, None, is_none, option_map, slice_get, get_or, if◌then◌else◌, option_and_then}
 use Rattle.seq_memory.specs.declared.Entry.{Entry}
 use Rattle.std.specs.List.{list_any}
 use Rattle.seq_memory.specs.Step.{answer}
@@ -95,15 +95,6 @@ judged rs points floors firsts right a n (Some b) =
     if not (nat_lt b a && at_place asks rs b) then Some flaws.Unasked
     else (if at_place (λ o. some_and o (λ c. nat_lt c a)) firsts b then Some flaws.Again
     else judged_point rs floors right n b (option_and_then (λ p. p) (slice_get points b)))
-
--- the record submits the request at that index, and has an n above it
-abbrev pub early_at : Record → Option ℕ → Bool
-early_at (records.Sub i k op n) point = some_and point (λ p. nat_lt p n)
-early_at (records.Ans i k reply n) point = false
-
--- n of the record is below another, above the history's length, or above the index of its request
-abbrev pub unclocked_in : Record → ℕ → ℕ → Option ℕ → Bool
-unclocked_in r last most point = nat_lt (moment r) last || (nat_lt most (moment r) || early_at r point)
 
 -- the tables of an input
 pub record AreTables (x : Claim) (rows : List (List ℕ)) (rs : List Record) (points floors firsts : List (Option ℕ)) (right : List Bool) : Type 0 where

@@ -1,44 +1,35 @@
 //! The history: each entry was submitted, stands once, and after its requester's earlier writes.
-ghost use Rattle.std.specs.Prelude.{ℕ, ◌≡◌, ◌≤◌, ◌<◌, ◌&&◌, length, None, false, true, IfOk, OnOk, IfErr, replicate};
+ghost use Rattle.std.specs.Prelude.{ℕ, ◌≡◌, ◌≤◌, ◌<◌, ◌&&◌, length, None, Some, false, true, IfOk, OnOk, IfErr, replicate, slice_get, option_and_then};
+ghost use Rattle.seq_memory.specs.declared.Entry.{Entry};
 ghost use Rattle.history_check.specs.Flaws as flaw;
-ghost use Rattle.history_check.specs.Lookup.{IsIndex, ArePoints, point_in, submitted_in, missing_in};
+ghost use Rattle.history_check.specs.Lookup.{IsIndex, ArePoints, point_in, missing_in};
+ghost use Rattle.history_check.specs.Heads.{found_in};
 
-use crate::Record;
+use crate::claim::{AsClaim, Head};
 use crate::flaws::{Flaw, FlawKind, NO_MEMORY};
-use crate::index::Index;
-use seq_memory::Entry;
+use crate::index::{Index, row_of};
 use std::alloc::{AllocError, Global};
-use tlp_core::Op;
 
-/// The record is a submission of the operation.
-fn submits(item: &Record, op: &Op) -> bool
-    ensures { result ≡ flaw.submits op.now item.now }
+fn submits_write<C: AsClaim>(claim: &C, place: usize) -> bool
+    ensures { result ≡ flaw.at_place flaw.submits_write (C.claim claim.now).records place }
 {
-    match item {
-        Record::Sub { op: submitted, .. } => *op == *submitted,
-        Record::Ans { .. } => false,
+    match claim.head(place) {
+        Some(Head::Sub { is_posted, .. }) => is_posted,
+        _ => false,
     }
 }
 
-fn submits_write(item: &Record) -> bool
-    ensures { result ≡ flaw.submits_write item.now }
+/// The requester and the number of the request at the index of the history, and the place of its
+/// submission, if that is one of its operation.
+#[tactic(auto, using(crate::proofs::Parts::row_read, crate::proofs::Parts::row_none))]
+fn submitted<C: AsClaim>(index: &Index, claim: &C, p: usize) -> Option<(u8, u32, usize)>
+    ensures found { result ≡ option_and_then (found_in index.now (C.claim claim.now).records) (slice_get (C.claim claim.now).memory.entries p) }
+    ensures row { (e : Entry) → slice_get (C.claim claim.now).memory.entries p ≡ Some e → e.requester < 256 }
 {
-    matches!(
-        item,
-        Record::Sub {
-            op: Op::Write { .. },
-            ..
-        }
-    )
-}
-
-/// The place of the entry's submission, if it is one of that operation.
-fn submitted(index: &Index, records: &[Record], entry: &Entry) -> Option<usize>
-    ensures { result ≡ submitted_in index.now records.now entry.now }
-{
-    let place = index.place(entry.requester, entry.number)?;
-    if submits(records.get(place)?, &entry.op) {
-        Some(place)
+    let (requester, number) = claim.request(p)?;
+    let place = index.place(requester, number)?;
+    if claim.submits(place, p) {
+        Some((requester, number, place))
     } else {
         None
     }
@@ -57,38 +48,35 @@ pub(crate) fn point(
 }
 
 /// The request is a posted write that is not among the entries so far.
-fn missing(
+fn missing<C: AsClaim>(
     index: &Index,
-    records: &[Record],
+    claim: &C,
     points: &[Option<usize>],
     requester: u8,
     number: u32,
 ) -> bool
-    ensures { result ≡ missing_in index.now records.now points.now requester number }
+    ensures { result ≡ missing_in index.now (C.claim claim.now).records points.now requester number }
 {
     let Some(place) = index.place(requester, number) else {
         return false;
     };
-    let Some(record) = records.get(place) else {
-        return false;
-    };
-    submits_write(record) && point(index, points, requester, number).is_none()
+    submits_write(claim, place) && point(index, points, requester, number).is_none()
 }
 
 /// The first missing write from `from` on, and else `to`.
-fn first_missing(
+fn first_missing<C: AsClaim>(
     index: &Index,
-    records: &[Record],
+    claim: &C,
     points: &[Option<usize>],
     requester: u8,
     from: u32,
     to: u32,
 ) -> u32
-    ensures none { (j : ℕ) → from ≤ j → j < result → missing_in index.now records.now points.now requester j ≡ false }
-    ensures stops { result < to → missing_in index.now records.now points.now requester result ≡ true }
+    ensures none { (j : ℕ) → from ≤ j → j < result → missing_in index.now (C.claim claim.now).records points.now requester j ≡ false }
+    ensures stops { result < to → missing_in index.now (C.claim claim.now).records points.now requester result ≡ true }
 {
     let mut j = from;
-    while j < to && !missing(index, records, points, requester, j) {
+    while j < to && !missing(index, claim, points, requester, j) {
         j += 1;
     }
     j
@@ -111,27 +99,24 @@ fn zeros(alloc: Global) -> Result<Vec<u32>, AllocError>
 }
 
 /// The index in the history of each submission that acted.
-pub(crate) fn act(
+pub(crate) fn act<C: AsClaim>(
     alloc: Global,
     index: &Index,
-    records: &[Record],
-    history: &[Entry],
+    claim: &C,
 ) -> Result<Vec<Option<usize>>, Flaw>
-    requires { IsIndex index.now records.now }
-    ensures points { IfOk result (λ v. ArePoints v.items records.now history.now) }
-    ensures ok { OnOk result (flaw.first_at (flaw.entry_at records.now history.now) (length history.now) ≡ None) }
-    ensures err { IfErr result (flaw.Tells (flaw.first_at (flaw.entry_at records.now history.now) (length history.now))) }
+    requires { IsIndex index.now (C.claim claim.now).records }
+    ensures points { IfOk result (λ v. ArePoints v.items (C.claim claim.now).records (C.claim claim.now).memory.entries) }
+    ensures ok { OnOk result (flaw.first_at (flaw.entry_at (C.claim claim.now).records (C.claim claim.now).memory.entries) (length (C.claim claim.now).memory.entries) ≡ None) }
+    ensures err { IfErr result (flaw.Tells (flaw.first_at (flaw.entry_at (C.claim claim.now).records (C.claim claim.now).memory.entries) (length (C.claim claim.now).memory.entries))) }
 {
-    let Ok(mut points) = no_points(alloc, records.len()) else {
+    let Ok(mut points) = no_points(alloc, claim.records()) else {
         return Err(NO_MEMORY);
     };
     let Ok(mut settled) = zeros(alloc) else {
         return Err(NO_MEMORY);
     };
-    for p in 0..history.len() {
-        let entry = &history[p];
-        let i = usize::from(entry.requester);
-        let Some(place) = submitted(index, records, entry) else {
+    for p in 0..claim.entries() {
+        let Some((requester, number, place)) = submitted(index, claim, p) else {
             return Err(Flaw {
                 kind: FlawKind::Stranger,
                 place: p,
@@ -143,15 +128,9 @@ pub(crate) fn act(
                 place: p,
             });
         }
-        let to = first_missing(
-            index,
-            records,
-            &points,
-            entry.requester,
-            settled[i],
-            entry.number,
-        );
-        if to < entry.number {
+        let i = row_of(requester);
+        let to = first_missing(index, claim, &points, requester, settled[i], number);
+        if to < number {
             return Err(Flaw {
                 kind: FlawKind::Order,
                 place: p,

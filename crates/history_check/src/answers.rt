@@ -1,20 +1,17 @@
 //! The answers: each has its point.
 ghost use Rattle.std.specs.Prelude.{ℕ, ◌≡◌, ◌||◌, length, None, IfOk, IfSome, OnOk, IfErr, slice_get, nat_le, nat_lt, option_and_then};
-ghost use Rattle.history_check.specs.Claim.{Claim};
 ghost use Rattle.history_check.specs.Flaws as flaw;
 ghost use Rattle.history_check.specs.Lookup.{AreFloors, AreTables, point_in, judged, acted_in};
 
-use crate::Record;
 use crate::acting::{no_points, point};
+use crate::claim::{AsClaim, Head};
 use crate::flaws::{Flaw, FlawKind};
-use crate::index::Index;
+use crate::index::{Index, row_of};
 use std::alloc::{AllocError, Global};
-use tlp_core::Op;
 
 /// What is looked up of an answer.
 #[derive(Clone, Copy)]
 pub(crate) struct Tables<'a> {
-    pub(crate) records: &'a [Record],
     /// By the place of a submission, the index of its request in the history.
     pub(crate) points: &'a [Option<usize>],
     /// By record, the greatest point of the answers that its requester had before.
@@ -39,68 +36,53 @@ fn greater(a: Option<usize>, b: Option<usize>) -> Option<usize>
 }
 
 /// For each record the greatest point of the answers that its requester had before.
-pub(crate) fn floors(
+pub(crate) fn floors<C: AsClaim>(
     alloc: Global,
     index: &Index,
     points: &[Option<usize>],
-    records: &[Record],
+    claim: &C,
 ) -> Result<Vec<Option<usize>>, AllocError>
-    ensures { IfOk result (λ v. AreFloors v.items (point_in index.now points.now) records.now) }
+    ensures { IfOk result (λ v. AreFloors v.items (point_in index.now points.now) (C.claim claim.now).records) }
 {
-    let mut floors = Vec::with_capacity(alloc, records.len())?;
+    let mut floors = Vec::with_capacity(alloc, claim.records())?;
     let mut seen = no_points(alloc, 256)?;
-    for a in 0..records.len() {
-        match &records[a] {
-            Record::Sub { requester, .. } => {
-                floors.push(seen[usize::from(*requester)])?;
+    for a in 0..claim.records() {
+        match claim.head(a) {
+            Some(Head::Sub { requester, .. }) => {
+                floors.push(seen[row_of(requester)])?;
             }
-            Record::Ans {
-                requester,
-                number,
-                ..
-            } => {
-                let i = usize::from(*requester);
+            Some(
+                Head::Ans {
+                    requester,
+                    number,
+                    ..
+                },
+            ) => {
+                let i = row_of(requester);
                 floors.push(seen[i])?;
-                seen[i] = greater(seen[i], point(index, points, *requester, *number));
+                seen[i] = greater(seen[i], point(index, points, requester, number));
             }
+            None => {}
         }
     }
     Ok(floors)
 }
 
 /// The record asks for an answer.
-fn asks(item: &Record) -> bool
-    ensures { result ≡ flaw.asks item.now }
+fn asks_at<C: AsClaim>(claim: &C, b: usize) -> bool
+    ensures { result ≡ flaw.at_place flaw.asks (C.claim claim.now).records b }
 {
-    match item {
-        Record::Sub { op, .. } => !matches!(op, Op::Write { .. }),
-        Record::Ans { .. } => false,
+    match claim.head(b) {
+        Some(Head::Sub { is_posted, .. }) => !is_posted,
+        _ => false,
     }
 }
 
-/// `n` of the record.
-pub(crate) fn moment(item: &Record) -> u64
-    ensures { result ≡ flaw.moment item.now }
+fn is_early<C: AsClaim>(claim: &C, b: usize, p: usize) -> bool
+    ensures { result ≡ flaw.at_place (λ r. nat_lt p (flaw.moment r)) (C.claim claim.now).records b }
 {
-    match item {
-        Record::Sub { n, .. } | Record::Ans { n, .. } => *n,
-    }
-}
-
-fn asks_at(records: &[Record], b: usize) -> bool
-    ensures { result ≡ flaw.at_place flaw.asks records.now b }
-{
-    match records.get(b) {
-        Some(item) => asks(item),
-        None => false,
-    }
-}
-
-fn is_early(records: &[Record], b: usize, p: usize) -> bool
-    ensures { result ≡ flaw.at_place (λ r. nat_lt p (flaw.moment r)) records.now b }
-{
-    match records.get(b) {
-        Some(item) => (p as u64) < moment(item),
+    match claim.head(b) {
+        Some(head) => (p as u64) < head.moment(),
         None => false,
     }
 }
@@ -134,11 +116,17 @@ fn is_answered(firsts: &[Option<usize>], a: usize, b: usize) -> bool
 }
 
 /// The first flaw of an answer with that `n`, whose submission stands at place `b` and acted at `p`.
-fn judge_point(tables: Tables<'_>, n: u64, b: usize, p: usize) -> Option<FlawKind>
-    ensures flaw { result ≡ acted_in tables.entry.records.now tables.entry.floors.now tables.entry.right.now n b p }
+fn judge_point<C: AsClaim>(
+    claim: &C,
+    tables: Tables<'_>,
+    n: u64,
+    b: usize,
+    p: usize,
+) -> Option<FlawKind>
+    ensures flaw { result ≡ acted_in (C.claim claim.now).records tables.entry.floors.now tables.entry.right.now n b p }
     ensures known { IfSome result (λ kind. ¬ (kind ≡ FlawKind.Memory)) }
 {
-    if is_early(tables.records, b, p) {
+    if is_early(claim, b, p) {
         return Some(FlawKind::Early);
     }
     if n <= p as u64 {
@@ -160,14 +148,20 @@ pub(crate) fn point_at(points: &[Option<usize>], b: usize) -> Option<usize>
 }
 
 /// The first flaw of the answer at place `a` with that `n`, whose submission stands at `place`.
-fn judge(tables: Tables<'_>, a: usize, n: u64, place: Option<usize>) -> Option<FlawKind>
-    ensures flaw { result ≡ judged tables.entry.records.now tables.entry.points.now tables.entry.floors.now tables.entry.firsts.now tables.entry.right.now a n place }
+fn judge<C: AsClaim>(
+    claim: &C,
+    tables: Tables<'_>,
+    a: usize,
+    n: u64,
+    place: Option<usize>,
+) -> Option<FlawKind>
+    ensures flaw { result ≡ judged (C.claim claim.now).records tables.entry.points.now tables.entry.floors.now tables.entry.firsts.now tables.entry.right.now a n place }
     ensures known { IfSome result (λ kind. ¬ (kind ≡ FlawKind.Memory)) }
 {
     let Some(b) = place else {
         return Some(FlawKind::Unasked);
     };
-    if b >= a || !asks_at(tables.records, b) {
+    if b >= a || !asks_at(claim, b) {
         return Some(FlawKind::Unasked);
     }
     if is_answered(tables.firsts, a, b) {
@@ -175,27 +169,32 @@ fn judge(tables: Tables<'_>, a: usize, n: u64, place: Option<usize>) -> Option<F
     }
     match point_at(tables.points, b) {
         None => Some(FlawKind::Absent),
-        Some(p) => judge_point(tables, n, b, p),
+        Some(p) => judge_point(claim, tables, n, b, p),
     }
 }
 
 /// Checks each answer.
-pub(crate) fn answer(index: &Index, tables: Tables<'_>) -> Result<(), Flaw>
-    ensures ok { OnOk result ((x : Claim) → AreTables x index.now tables.entry.records.now tables.entry.points.now tables.entry.floors.now tables.entry.firsts.now tables.entry.right.now → flaw.first_at (flaw.answer_at x) (length tables.entry.records.now) ≡ None) }
-    ensures err { IfErr result (λ f. (x : Claim) → AreTables x index.now tables.entry.records.now tables.entry.points.now tables.entry.floors.now tables.entry.firsts.now tables.entry.right.now → flaw.Tells (flaw.first_at (flaw.answer_at x) (length tables.entry.records.now)) f) }
+pub(crate) fn answer<C: AsClaim>(index: &Index, claim: &C, tables: Tables<'_>) -> Result<(), Flaw>
+    requires { AreTables (C.claim claim.now) index.now (C.claim claim.now).records tables.points.now tables.floors.now tables.firsts.now tables.right.now }
+    ensures ok { OnOk result (flaw.first_at (flaw.answer_at (C.claim claim.now)) (length (C.claim claim.now).records) ≡ None) }
+    ensures err { IfErr result (flaw.Tells (flaw.first_at (flaw.answer_at (C.claim claim.now)) (length (C.claim claim.now).records))) }
 {
-    for a in 0..tables.records.len() {
-        if let Record::Ans {
-            requester,
-            number,
-            n,
-            ..
-        } = &tables.records[a]
-        {
-            let place = index.place(*requester, *number);
-            if let Some(kind) = judge(tables, a, *n, place) {
-                return Err(Flaw { kind, place: a });
+    for a in 0..claim.records() {
+        match claim.head(a) {
+            Some(
+                Head::Ans {
+                    requester,
+                    number,
+                    n,
+                },
+            ) => {
+                let place = index.place(requester, number);
+                if let Some(kind) = judge(claim, tables, a, n, place) {
+                    return Err(Flaw { kind, place: a });
+                }
             }
+            Some(Head::Sub { .. }) => {}
+            None => {}
         }
     }
     Ok(())

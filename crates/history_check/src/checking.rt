@@ -7,6 +7,7 @@ ghost use Rattle.history_check.specs.Claim.{claim_of};
 ghost use Rattle.history_check.specs.Trace.{Explains};
 
 use crate::answers::Tables;
+use crate::claim::{AsClaim, Claim};
 use crate::clocks::first_unclocked;
 use crate::flaws::{Flaw, FlawKind, NO_MEMORY};
 use crate::laws::{answered_first_acts_first, explained_is_without_flaw};
@@ -15,36 +16,80 @@ use seq_memory::Entry;
 use std::alloc::Global;
 
 /// The passes, one after the other. Gives, by the place of each submission, the index of its request.
-fn first_flaw_of(
-    alloc: Global,
-    trace: &Trace,
-    history: &[Entry],
-) -> Result<Vec<Option<usize>>, Flaw>
-    ensures ok { OnOk result (first_flaw (claim_of trace.now history.now) ≡ None) }
-    ensures points { IfOk result (λ v. ArePoints v.items trace.now.records history.now) }
-    ensures err { IfErr result (Tells (first_flaw (claim_of trace.now history.now))) }
+fn first_flaw_of<C: AsClaim>(alloc: Global, claim: &C) -> Result<Vec<Option<usize>>, Flaw>
+    ensures ok { OnOk result (first_flaw (C.claim claim.now) ≡ None) }
+    ensures points { IfOk result (λ v. ArePoints v.items (C.claim claim.now).records (C.claim claim.now).memory.entries) }
+    ensures err { IfErr result (Tells (first_flaw (C.claim claim.now))) }
 {
-    let records = trace.records.as_slice();
-    let index = index::index_of(alloc, records)?;
-    let points = acting::act(alloc, &index, records, history)?;
-    let Ok(floors) = answers::floors(alloc, &index, &points, records) else {
+    let index = index::index_of(alloc, claim)?;
+    let points = acting::act(alloc, &index, claim)?;
+    let Ok(floors) = answers::floors(alloc, &index, &points, claim) else {
         return Err(NO_MEMORY);
     };
-    let Ok(firsts) = comparing::first_answers(alloc, &index, records) else {
+    let Ok(firsts) = comparing::first_answers(alloc, &index, claim) else {
         return Err(NO_MEMORY);
     };
-    let Ok(right) = comparing::right_replies(alloc, trace, &index, &firsts, history) else {
+    let Ok(right) = comparing::right_replies(alloc, &index, claim, &firsts) else {
         return Err(NO_MEMORY);
     };
     let tables = Tables {
-        records,
         points: &points,
         floors: &floors,
         firsts: &firsts,
         right: &right,
     };
-    answers::answer(&index, tables)?;
+    answers::answer(&index, claim, tables)?;
     Ok(points)
+}
+
+/// Whether the history explains the trace, and else the first flaw. Where a growth was refused, a
+/// flaw of kind `Memory` tells it, and nothing is known. Takes as many bytes as the trace's memory
+/// has, and tables of the records and entries.
+pub fn check_claim<C: AsClaim>(alloc: Global, claim: &C) -> Result<(), Flaw>
+    ensures explained { OnOk result (Explains (C.claim claim.now)) }
+    ensures unexplained { IfErr result (λ f. ¬ (f.kind ≡ FlawKind.Memory) → ¬ (Explains (C.claim claim.now))) }
+    ensures ok { OnOk result (first_flaw (C.claim claim.now) ≡ None) }
+    ensures err { IfErr result (Tells (first_flaw (C.claim claim.now))) }
+{
+    let _ = first_flaw_of(alloc, claim)?;
+    Ok(())
+}
+
+/// [`check_claim`], and where the history explains the trace the place of the first record whose `n` is no
+/// length of the history as it grew, if there is one.
+pub fn check_claim_with_clock<C: AsClaim>(alloc: Global, claim: &C) -> Result<Option<usize>, Flaw>
+    ensures explained { OnOk result (Explains (C.claim claim.now)) }
+    ensures unexplained { IfErr result (λ f. ¬ (f.kind ≡ FlawKind.Memory) → ¬ (Explains (C.claim claim.now))) }
+    ensures clocked { IfOk result (λ place. place ≡ None → IsClocked (C.claim claim.now)) }
+    ensures ok { OnOk result (first_flaw (C.claim claim.now) ≡ None) }
+    ensures clock { IfOk result (λ place. first_clock_flaw (C.claim claim.now) ≡ option_map (λ a. (FlawKind.Clock, a)) place) }
+    ensures err { IfErr result (Tells (first_flaw (C.claim claim.now))) }
+{
+    explained_is_without_flaw();
+    let points = first_flaw_of(alloc, claim)?;
+    Ok(first_unclocked(&points, claim))
+}
+
+/// Whether the history explains the trace and the `n` are those of a history that grew, and else the
+/// first flaw, with `Clock` behind all others. So requests of a trace without a flaw act in real-time
+/// order: one that was answered before another was submitted acts before it.
+pub fn check_claim_clocked<C: AsClaim>(alloc: Global, claim: &C) -> Result<(), Flaw>
+    ensures explained { OnOk result (Explains (C.claim claim.now)) }
+    ensures clocked { OnOk result (IsClocked (C.claim claim.now)) }
+    ensures ordered { OnOk result (KeepsRealTimeOrder (C.claim claim.now)) }
+    ensures flawed { IfErr result (λ f. ¬ (f.kind ≡ FlawKind.Memory) → Explains (C.claim claim.now) → ¬ (IsClocked (C.claim claim.now))) }
+    ensures ok { OnOk result (first_flaw_clocked (C.claim claim.now) ≡ None) }
+    ensures err { IfErr result (Tells (first_flaw_clocked (C.claim claim.now))) }
+{
+    answered_first_acts_first();
+    explained_is_without_flaw();
+    match check_claim_with_clock(alloc, claim)? {
+        None => Ok(()),
+        Some(place) => Err(Flaw {
+            kind: FlawKind::Clock,
+            place,
+        }),
+    }
 }
 
 /// Whether the history explains the trace, and else the first flaw. Where a growth was refused, a
@@ -56,8 +101,7 @@ pub fn check(alloc: Global, trace: &Trace, history: &[Entry]) -> Result<(), Flaw
     ensures ok { OnOk result (first_flaw (claim_of trace.now history.now) ≡ None) }
     ensures err { IfErr result (Tells (first_flaw (claim_of trace.now history.now))) }
 {
-    let _ = first_flaw_of(alloc, trace, history)?;
-    Ok(())
+    check_claim(alloc, &Claim { trace, history })
 }
 
 /// [`check`], and where the history explains the trace the place of the first record whose `n` is no
@@ -74,9 +118,7 @@ pub fn check_with_clock(
     ensures clock { IfOk result (λ place. first_clock_flaw (claim_of trace.now history.now) ≡ option_map (λ a. (FlawKind.Clock, a)) place) }
     ensures err { IfErr result (Tells (first_flaw (claim_of trace.now history.now))) }
 {
-    explained_is_without_flaw();
-    let points = first_flaw_of(alloc, trace, history)?;
-    Ok(first_unclocked(&points, trace.records.as_slice(), history))
+    check_claim_with_clock(alloc, &Claim { trace, history })
 }
 
 /// Whether the history explains the trace and the `n` are those of a history that grew, and else the
@@ -90,13 +132,5 @@ pub fn check_clocked(alloc: Global, trace: &Trace, history: &[Entry]) -> Result<
     ensures ok { OnOk result (first_flaw_clocked (claim_of trace.now history.now) ≡ None) }
     ensures err { IfErr result (Tells (first_flaw_clocked (claim_of trace.now history.now))) }
 {
-    answered_first_acts_first();
-    explained_is_without_flaw();
-    match check_with_clock(alloc, trace, history)? {
-        None => Ok(()),
-        Some(place) => Err(Flaw {
-            kind: FlawKind::Clock,
-            place,
-        }),
-    }
+    check_claim_clocked(alloc, &Claim { trace, history })
 }

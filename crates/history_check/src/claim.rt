@@ -4,7 +4,7 @@ ghost use Rattle.seq_memory.specs.History.{extent_of};
 ghost use Rattle.seq_memory.specs.Step.{after, answer};
 ghost use Rattle.history_check.specs.Claim as claims;
 ghost use Rattle.history_check.specs.Flaws as flaw;
-ghost use Rattle.history_check.specs.Heads.{head_of, request_of, submits_at, bytes_after, replays_at};
+ghost use Rattle.history_check.specs.Heads.{head_of, request_of_head, moment_of, request_of, submits_at, bytes_after, replays_at};
 ghost use Rattle.history_check.specs.Lookup.{is_told_at};
 
 use crate::{Record, Trace};
@@ -29,6 +29,35 @@ pub enum Head {
         number: u32,
         n: u64,
     },
+}
+
+impl Head {
+    /// The requester and the number of the record's request.
+    pub fn request(self) -> (u8, u32)
+        ensures { result ≡ request_of_head self }
+    {
+        match self {
+            Head::Sub {
+                requester,
+                number,
+                ..
+            }
+            | Head::Ans {
+                requester,
+                number,
+                ..
+            } => (requester, number),
+        }
+    }
+
+    /// `n` of the record.
+    pub fn moment(self) -> u64
+        ensures { result ≡ moment_of self }
+    {
+        match self {
+            Head::Sub { n, .. } | Head::Ans { n, .. } => n,
+        }
+    }
 }
 
 /// A trace and a history, however they are kept: what the check asks of them.

@@ -1,68 +1,55 @@
 //! The sequential memory's replies, each compared with the first answer to its request.
-ghost use Rattle.std.specs.Prelude.{ℕ, ◌≡◌, IfOk, slice_get, replicate};
-ghost use Rattle.seq_memory.specs.Step.{after, answer};
-ghost use Rattle.history_check.specs.Claim.{claim_of};
-ghost use Rattle.history_check.specs.Lookup.{IsIndex, AreFirsts, is_told_at, is_told_in, right_in};
+ghost use Rattle.std.specs.Prelude.{ℕ, ◌≡◌, IfOk, slice_get, replicate, option_and_then};
+ghost use Rattle.history_check.specs.Heads.{first_in};
+ghost use Rattle.history_check.specs.Lookup.{IsIndex, AreFirsts, right_in};
 
 use crate::acting::{no_points, point};
+use crate::claim::{AsClaim, Head};
 use crate::index::Index;
-use crate::{Record, Trace};
-use seq_memory::{Entry, Reply, perform};
+use seq_memory::ReplyData;
 use std::alloc::{AllocError, Global};
 
 /// By the place of each submission, where the first answer to it stands.
-pub(crate) fn first_answers(
+pub(crate) fn first_answers<C: AsClaim>(
     alloc: Global,
     index: &Index,
-    records: &[Record],
+    claim: &C,
 ) -> Result<Vec<Option<usize>>, AllocError>
-    requires { IsIndex index.now records.now }
-    ensures { IfOk result (λ v. AreFirsts v.items records.now records.now) }
+    requires { IsIndex index.now (C.claim claim.now).records }
+    ensures { IfOk result (λ v. AreFirsts v.items (C.claim claim.now).records (C.claim claim.now).records) }
 {
-    let mut firsts = no_points(alloc, records.len())?;
-    for a in 0..records.len() {
-        if let Record::Ans {
-            requester,
-            number,
-            ..
-        } = &records[a]
-        {
-            if let Some(b) = index.place(*requester, *number) {
-                firsts[b] = firsts[b].or(Some(a));
+    let mut firsts = no_points(alloc, claim.records())?;
+    for a in 0..claim.records() {
+        match claim.head(a) {
+            Some(
+                Head::Ans {
+                    requester,
+                    number,
+                    ..
+                },
+            ) => {
+                if let Some(b) = index.place(requester, number) {
+                    firsts[b] = firsts[b].or(Some(a));
+                }
             }
+            Some(Head::Sub { .. }) => {}
+            None => {}
         }
     }
     Ok(firsts)
 }
 
-/// The record at the place, if there is one, is an answer with that reply.
-fn tells(records: &[Record], place: Option<usize>, made: &Reply) -> bool
-    ensures { result ≡ is_told_at records.now place made.now }
-{
-    let Some(a) = place else {
-        return false;
-    };
-    match records.get(a) {
-        Some(Record::Ans { reply, .. }) => *reply == *made,
-        _ => false,
-    }
-}
-
-/// Performs the entry. Whether the first answer to its request has the reply.
-fn compare(
-    trace: &Trace,
+/// Where the first answer stands to the request at the index of the history.
+fn first_answer<C: AsClaim>(
     index: &Index,
+    claim: &C,
     firsts: &[Option<usize>],
-    bytes: &mut [u8],
-    entry: &Entry,
-) -> bool
-    ensures bytes { bytes.new ≡ after trace.now.base trace.now.block bytes.old entry.now.op }
-    ensures told { result ≡ is_told_in index.now firsts.now trace.now.records entry.now (answer trace.now.base trace.now.block bytes.old entry.now.op) }
+    p: usize,
+) -> Option<usize>
+    ensures { result ≡ option_and_then (first_in index.now firsts.now) (slice_get (C.claim claim.now).memory.entries p) }
 {
-    let extent = trace.extent;
-    let made = perform(extent.base(), extent.block(), bytes, &entry.op);
-    let place = point(index, firsts, entry.requester, entry.number);
-    tells(trace.records.as_slice(), place, &made)
+    let (requester, number) = claim.request(p)?;
+    point(index, firsts, requester, number)
 }
 
 fn zero_bytes(alloc: Global, size: usize) -> Result<Vec<u8>, AllocError>
@@ -72,19 +59,20 @@ fn zero_bytes(alloc: Global, size: usize) -> Result<Vec<u8>, AllocError>
 }
 
 /// By index of the history, whether the first answer to that request has the memory's reply.
-pub(crate) fn right_replies(
+pub(crate) fn right_replies<C: AsClaim>(
     alloc: Global,
-    trace: &Trace,
     index: &Index,
+    claim: &C,
     firsts: &[Option<usize>],
-    history: &[Entry],
 ) -> Result<Vec<bool>, AllocError>
-    ensures { IfOk result (λ v. (p : ℕ) → slice_get v.items p ≡ right_in index.now firsts.now (claim_of trace.now history.now) p) }
+    ensures { IfOk result (λ v. (p : ℕ) → slice_get v.items p ≡ right_in index.now firsts.now (C.claim claim.now) p) }
 {
-    let mut bytes = zero_bytes(alloc, trace.extent.size())?;
-    let mut right = Vec::with_capacity(alloc, history.len())?;
-    for p in 0..history.len() {
-        right.push(compare(trace, index, firsts, &mut bytes, &history[p]))?;
+    let mut bytes = zero_bytes(alloc, claim.extent().size())?;
+    let mut room = ReplyData::new();
+    let mut right = Vec::with_capacity(alloc, claim.entries())?;
+    for p in 0..claim.entries() {
+        let place = first_answer(index, claim, firsts, p);
+        right.push(claim.replays(p, place, &mut bytes, &mut room))?;
     }
     Ok(right)
 }

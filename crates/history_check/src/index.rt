@@ -1,12 +1,20 @@
 //! Where each submission stands among the records.
-ghost use Rattle.std.specs.Prelude.{◌≡◌, ◌++◌, ◌∷◌, [], length, set, get_or, None, IfOk, OnOk, IfErr};
+ghost use Rattle.std.specs.Prelude.{◌≡◌, ◌<◌, ◌++◌, ◌∷◌, [], length, set, get_or, None, IfOk, OnOk, IfErr};
 ghost use Rattle.history_check.specs.Flaws.{first_at, numbering_at, Tells};
 ghost use Rattle.history_check.specs.Lookup.{IsIndex, place_in};
 
-use crate::Record;
+use crate::claim::{AsClaim, Head};
 use crate::flaws::{Flaw, FlawKind, NO_MEMORY};
 use std::alloc::{AllocError, Global};
 use std::marker::Model;
+
+/// The row of a requester in a table of 256.
+pub(crate) fn row_of(requester: u8) -> usize
+    ensures value { result ≡ requester }
+    ensures row { result < 256 }
+{
+    usize::from(requester)
+}
 
 /// The places of each requester's submissions, by number.
 #[derive(Drop)]
@@ -37,14 +45,16 @@ impl Index {
 
     /// How many submissions of the requester there are.
     fn count(&self, requester: u8) -> usize
-        ensures { result ≡ length (get_or self.now requester []) }
+        ensures value { result ≡ length (get_or self.now requester []) }
+        ensures row { requester < 256 }
     {
         self.rows[usize::from(requester)].len()
     }
 
     /// Where the submission stands.
     pub(crate) fn place(&self, requester: u8, number: u32) -> Option<usize>
-        ensures { result ≡ place_in self.now requester number }
+        ensures value { result ≡ place_in self.now requester number }
+        ensures row { requester < 256 }
     {
         self.rows[usize::from(requester)]
             .get(number as usize)
@@ -60,30 +70,35 @@ impl Index {
 }
 
 /// The index of records whose numbers are in order.
-pub(crate) fn index_of(alloc: Global, records: &[Record]) -> Result<Index, Flaw>
-    ensures index { IfOk result (λ rows. IsIndex rows records.now) }
-    ensures ok { OnOk result (first_at (numbering_at records.now) (length records.now) ≡ None) }
-    ensures err { IfErr result (Tells (first_at (numbering_at records.now) (length records.now))) }
+pub(crate) fn index_of<C: AsClaim>(alloc: Global, claim: &C) -> Result<Index, Flaw>
+    ensures index { IfOk result (λ rows. IsIndex rows (C.claim claim.now).records) }
+    ensures ok { OnOk result (first_at (numbering_at (C.claim claim.now).records) (length (C.claim claim.now).records) ≡ None) }
+    ensures err { IfErr result (Tells (first_at (numbering_at (C.claim claim.now).records) (length (C.claim claim.now).records))) }
 {
     let Ok(mut index) = Index::new(alloc) else {
         return Err(NO_MEMORY);
     };
-    for a in 0..records.len() {
-        if let Record::Sub {
-            requester,
-            number,
-            ..
-        } = &records[a]
-        {
-            if index.count(*requester) != *number as usize {
-                return Err(Flaw {
-                    kind: FlawKind::Numbering,
-                    place: a,
-                });
+    for a in 0..claim.records() {
+        match claim.head(a) {
+            Some(
+                Head::Sub {
+                    requester,
+                    number,
+                    ..
+                },
+            ) => {
+                if index.count(requester) != number as usize {
+                    return Err(Flaw {
+                        kind: FlawKind::Numbering,
+                        place: a,
+                    });
+                }
+                let Ok(()) = index.add(requester, a) else {
+                    return Err(NO_MEMORY);
+                };
             }
-            let Ok(()) = index.add(*requester, a) else {
-                return Err(NO_MEMORY);
-            };
+            Some(Head::Ans { .. }) => {}
+            None => {}
         }
     }
     Ok(index)

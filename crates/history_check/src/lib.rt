@@ -8,6 +8,10 @@
 //! it asked. [`check_clocked`] asks also that the `n` are those of a history that grew: then requests
 //! act in real-time order, so that the answered ones are linearizable.
 //!
+//! [`check_claim`] and its like take a trace and a history however they are kept: whatever says what
+//! stands at each place, as an [`AsClaim`]. [`Claim`] is one that lends both. No step of the check
+//! copies a record or an entry.
+//!
 //! The check is near linear in the records and entries: one loop each over flat tables.
 #![tactic(auto)]
 
@@ -21,7 +25,10 @@ mod flaws;
 mod index;
 pub mod laws;
 
-pub use checking::{check, check_clocked, check_with_clock};
+pub use checking::{
+    check, check_claim, check_claim_clocked, check_claim_with_clock, check_clocked,
+    check_with_clock,
+};
 pub use claim::{AsClaim, Claim, Head};
 pub use flaws::{Flaw, FlawKind};
 use seq_memory::{Extent, Reply};

@@ -11,4 +11,6 @@ mod memories;
 #[cfg(test)]
 mod requesters;
 #[cfg(test)]
+mod stores;
+#[cfg(test)]
 mod traces;

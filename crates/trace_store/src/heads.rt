@@ -13,6 +13,7 @@ use crate::kept::{Fields, OpKind, ReplyKind, form_in, reply_form_in};
 use crate::same::{is_outcome, is_same_op};
 use history_check::{Head, Record};
 use seq_memory::{Entry, Extent, Outcome, ReplyData, perform_lent};
+use std::mem::size_of;
 use tlp_core::{OpForm, OpRef};
 
 /// What a record says.
@@ -42,6 +43,10 @@ pub(crate) struct EntryHead {
     pub requester: u8,
     pub kind: OpKind,
 }
+
+const _: () = prove!(size_of::<RecordHead>() <= 40);
+
+const _: () = prove!(size_of::<EntryHead>() <= 32);
 
 impl RecordHead {
     /// The record without its operation or its reply, wherever their bytes stand.

@@ -5,7 +5,7 @@ use Rattle.history_check.specs.Flaws.{moment, first_at, clock_at}
 use Rattle.history_check.proofs.clocks.first_unclocked.Given as goal
 
 abbrev pub invariant-loop-a : goal.invariant-loop-a
-invariant-loop-a l = record {
-  clean : first_at (clock_at l.records l.history) l.a ≡ None;
-  last : (n : ℕ) → list_any (λ r. nat_lt n (moment r)) (take l.a l.records) ≡ nat_lt n l.last;
+invariant-loop-a g l = record {
+  clean : first_at (clock_at (g.C.AsClaim.claim l.claim).records (g.C.AsClaim.claim l.claim).memory.entries) l.a ≡ None;
+  last : (n : ℕ) → list_any (λ r. nat_lt n (moment r)) (take l.a (g.C.AsClaim.claim l.claim).records) ≡ nat_lt n l.last;
 }
