@@ -21,7 +21,7 @@ owned_line (forms.Sub i k op) = Record (records.Sub i k (owned op) 0)
 owned_line (forms.Ans i k reply) = Record (records.Ans i k (owned_reply reply) 0)
 owned_line forms.End = End
 
--- what it lends is of an operation's size, or of a reply's
+-- it lends as many bytes as its operation or its reply may have
 abbrev pub LendsSized : LineForm → Type 0
 LendsSized (forms.Sub i k op) = HasSizes op
 LendsSized (forms.Ans i k reply) = HasRoom reply

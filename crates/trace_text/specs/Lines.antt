@@ -27,7 +27,7 @@ owned_line forms.History = History
 owned_line (forms.Entry i k op) = Entry (record { requester = i; number = k; op = owned op })
 owned_line forms.End = End
 
--- what it lends is of an operation's size, or of a reply's
+-- it lends as many bytes as its operation or its reply may have
 abbrev pub LendsSized : LineForm → Type 0
 LendsSized (forms.Sub i k n op) = HasSizes op
 LendsSized (forms.Ans i k n reply) = HasRoom reply

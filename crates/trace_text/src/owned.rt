@@ -1,4 +1,4 @@
-//! What is kept of the text of a trace, with records and entries of their own.
+//! What is kept of the text of a trace where its records and entries are to have bytes of their own, as those of a log.
 ghost use Rattle.std.specs.Prelude.{◌≡◌};
 ghost use Rattle.history_check.specs.Claim.{claim_of};
 ghost use Rattle.trace_text.specs.TraceReaderView as reads;
