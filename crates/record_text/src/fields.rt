@@ -15,6 +15,7 @@ const REQUESTER: Expected = Expected::Between("a requester", 1, 7);
 const NUMBER: Expected = Expected::Between("a request's number", 0, MAX_NUMBER);
 
 /// The requester that comes first, 1 to 7, and what is behind it.
+#[inline(always)]
 pub fn requester(rest: Option<&[u8]>) -> Result<(u8, Option<&[u8]>), Misfit>
     ensures { first_field forms.requester (words_behind rest.entry) ≡ option_map (λ s. (s.0, words_behind s.1)) (result_ok result) }
 {
@@ -26,6 +27,7 @@ pub fn requester(rest: Option<&[u8]>) -> Result<(u8, Option<&[u8]>), Misfit>
 }
 
 /// The number of a request that comes first, below 2^32 - 1, and what is behind it.
+#[inline(always)]
 pub fn request(rest: Option<&[u8]>) -> Result<(u32, Option<&[u8]>), Misfit>
     ensures { first_field forms.number (words_behind rest.entry) ≡ option_map (λ s. (s.0, words_behind s.1)) (result_ok result) }
 {
@@ -34,6 +36,7 @@ pub fn request(rest: Option<&[u8]>) -> Result<(u32, Option<&[u8]>), Misfit>
 }
 
 /// The number of 64 bits that comes first, and what is behind it.
+#[inline(always)]
 pub fn count(rest: Option<&[u8]>, expected: Expected) -> Result<(u64, Option<&[u8]>), Misfit>
     ensures { first_field forms.count (words_behind rest.entry) ≡ option_map (λ s. (s.0, words_behind s.1)) (result_ok result) }
 {

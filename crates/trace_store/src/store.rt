@@ -127,6 +127,7 @@ impl TraceStore {
     }
 
     /// Adds a record of a submission. `n` is the length of the history then.
+    #[inline(always)]
     pub fn submitted(
         &mut self,
         requester: u8,
@@ -150,6 +151,7 @@ impl TraceStore {
     }
 
     /// Adds a record of an answer. `n` is the length of the history then.
+    #[inline(always)]
     pub fn answered(
         &mut self,
         requester: u8,
@@ -173,6 +175,7 @@ impl TraceStore {
     }
 
     /// Adds an entry to the history.
+    #[inline(always)]
     pub fn acted(&mut self, requester: u8, number: u32, op: &OpForm<'_>) -> Result<(), AllocError>
         requires { HasSizes op.now }
         ensures ok { OnOk result (self.new ≡ record self.old { memory = record self.old.memory { entries = self.old.memory.entries ++ (record { requester = requester; number = number; op = owned op.now }) ∷ [] } }) }
