@@ -1,6 +1,6 @@
 //! The verdict on the text of a trace.
 ghost use Rattle.std.specs.Prelude.{◌≡◌, ◌≤◌, ◌⊎◌, length, true, None, Ok, Err, IsOk, OnOk, IfErr};
-ghost use Rattle.history_check.specs.Claim.{Claim, claim_of};
+ghost use Rattle.history_check.specs.Claim.{Claim};
 ghost use Rattle.history_check.specs.Trace.{Explains};
 ghost use Rattle.history_check.specs.Flaws.{Tells};
 ghost use Rattle.trace_text.specs.TraceReaderView.{read_of};
@@ -13,10 +13,10 @@ ghost use Rattle.c_check.specs.Verdict.{judged, verdict, flaw_by, IsOrdered, IsR
 use arrayvec::ArrayString;
 use c_buffer::{Failure, LINE_BUFFER, tell_fault};
 use flaw_places::write_flaw;
-use history_check::{Flaw, FlawKind, Trace, check, check_clocked};
+use history_check::{Flaw, FlawKind, check_claim, check_claim_clocked};
 use record_text::{ReadFault, ReadFaultKind, write_fault};
-use seq_memory::Entry;
 use std::alloc::Global;
+use trace_store::TraceStore;
 use trace_text::read_trace;
 
 /// Puts the line of a flaw to the front of the buffer.
@@ -42,37 +42,36 @@ fn put_fault(fault: ReadFault, buffer: &mut [u8]) -> Failure
 }
 
 /// The check, with the `n` asked for or without.
-fn checked(alloc: Global, trace: &Trace, history: &[Entry], is_clocked: bool) -> Result<(), Flaw>
-    ensures ok { OnOk result (flaw_by is_clocked (claim_of trace.now history.now) ≡ None) }
-    ensures err { IfErr result (Tells (flaw_by is_clocked (claim_of trace.now history.now))) }
-    ensures explained { OnOk result (Explains (claim_of trace.now history.now)) }
-    ensures ordered { OnOk result (is_clocked ≡ true → IsOrdered (claim_of trace.now history.now)) }
-    ensures flawed { IfErr result (λ f. ¬ (f.kind ≡ FlawKind.Memory) → IsRight is_clocked (claim_of trace.now history.now) → ⊥) }
+fn checked(alloc: Global, claim: &TraceStore, is_clocked: bool) -> Result<(), Flaw>
+    ensures ok { OnOk result (flaw_by is_clocked claim.now ≡ None) }
+    ensures err { IfErr result (Tells (flaw_by is_clocked claim.now)) }
+    ensures explained { OnOk result (Explains claim.now) }
+    ensures ordered { OnOk result (is_clocked ≡ true → IsOrdered claim.now) }
+    ensures flawed { IfErr result (λ f. ¬ (f.kind ≡ FlawKind.Memory) → IsRight is_clocked claim.now → ⊥) }
 {
     if is_clocked {
-        check_clocked(alloc, trace, history)
+        check_claim_clocked(alloc, claim)
     } else {
-        check(alloc, trace, history)
+        check_claim(alloc, claim)
     }
 }
 
 /// Whether the history explains the trace.
 fn judge(
     alloc: Global,
-    trace: &Trace,
-    history: &[Entry],
+    claim: &TraceStore,
     is_clocked: bool,
     buffer: &mut [u8],
 ) -> Result<(), Failure>
     requires { 512 ≤ length buffer.old }
-    ensures outcome { ¬ (result ≡ Err NoMemory) → result ≡ (judged buffer.old (flaw_by is_clocked (claim_of trace.now history.now))).outcome }
-    ensures buffer { ¬ (result ≡ Err NoMemory) → buffer.new ≡ (judged buffer.old (flaw_by is_clocked (claim_of trace.now history.now))).buffer }
+    ensures outcome { ¬ (result ≡ Err NoMemory) → result ≡ (judged buffer.old (flaw_by is_clocked claim.now)).outcome }
+    ensures buffer { ¬ (result ≡ Err NoMemory) → buffer.new ≡ (judged buffer.old (flaw_by is_clocked claim.now)).buffer }
     ensures unchanged { IsOk result ⊎ (is_silent result ≡ true) → buffer.new ≡ buffer.old }
-    ensures explained { IsOk result → Explains (claim_of trace.now history.now) }
-    ensures ordered { IsOk result → is_clocked ≡ true → IsOrdered (claim_of trace.now history.now) }
-    ensures flawed { IsRight is_clocked (claim_of trace.now history.now) → IsOk result ⊎ (result ≡ Err NoMemory) }
+    ensures explained { IsOk result → Explains claim.now }
+    ensures ordered { IsOk result → is_clocked ≡ true → IsOrdered claim.now }
+    ensures flawed { IsRight is_clocked claim.now → IsOk result ⊎ (result ≡ Err NoMemory) }
 {
-    match checked(alloc, trace, history, is_clocked) {
+    match checked(alloc, claim, is_clocked) {
         Ok(()) => Ok(()),
         Err(flaw) if flaw.kind == FlawKind::Memory => Err(Failure::NoMemory),
         Err(flaw) => Err(put_flaw(flaw, buffer)),
@@ -102,7 +101,7 @@ pub fn check_text(
         return Err(Failure::SmallBuffer);
     }
     match read_trace(alloc, text) {
-        Ok((trace, history)) => judge(alloc, &trace, &history, is_clocked, buffer),
+        Ok(claim) => judge(alloc, &claim, is_clocked, buffer),
         Err(fault) if fault.kind == ReadFaultKind::Memory => Err(Failure::NoMemory),
         Err(fault) => Err(put_fault(fault, buffer)),
     }

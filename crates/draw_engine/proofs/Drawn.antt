@@ -1,5 +1,5 @@
 -- What is written is a picture, and nothing before it.
-use Rattle.std.proofs.Common.{◌≡◌, ◌∙◌, ◌++◌, ℕ, Bool, true, false, List, [], ◌∷◌, length, sym, ap, ap₂, subst, fold, cond, Result, Ok, Err, IfOk, OnOk}
+use Rattle.std.proofs.Common.{◌≡◌, ◌∙◌, ◌++◌, ℕ, Bool, true, false, List, [], ◌∷◌, length, sym, ap, subst, fold, cond, Result, Ok, Err, IfOk, OnOk}
 use Rattle.std.proofs.lemmas.List.{append-nil}
 use Rattle.std.proofs.lemmas.Result.{IfOk-weaker}
 use Rattle.std.specs.Io.KnownBytes.{Appends}
@@ -43,13 +43,13 @@ as_shown (Ok verdict) d new read text fault o p gone is written tells = record {
 }
 as_shown (Err e) d new read text fault o p gone is written tells = tt
 
-pub picture-shown : {E : Type 0} (r : Result Verdict E) (d new : DrawerView) (w : Window) (c c' : Claim) (o p : List ℕ)
-    → new ≡ record { window = d.window; reading = nothing_read } → w ≡ d.window → c' ≡ c → at_end d.reading ≡ Ok c
-    → OnOk r (p ≡ o ++ picture_text w c' (flaw_of (first_flaw c'))) → IfOk r (λ verdict. is_fault verdict ≡ is_some (first_flaw c'))
+pub picture-shown : {E : Type 0} (r : Result Verdict E) (d new : DrawerView) (w : Window) (c : Claim) (o p : List ℕ)
+    → new ≡ record { window = d.window; reading = nothing_read } → w ≡ d.window → at_end d.reading ≡ Ok c
+    → OnOk r (p ≡ o ++ picture_text w c (flaw_of (first_flaw c))) → IfOk r (λ verdict. is_fault verdict ≡ is_some (first_flaw c))
     → IfOk r (λ verdict. IsAnswer new o p verdict (drawn d (at_end d.reading)))
-picture-shown r d new w c c' o p gone same is read written tells =
-    as_shown r d new (at_end d.reading) (picture_text w c' (flaw_of (first_flaw c'))) (is_some (first_flaw c')) o p gone
-    (ap (drawn d) read ∙ sym (ap₂ (λ (x : Window). λ (y : Claim). shows d (picture_text x y (flaw_of (first_flaw y))) (is_some (first_flaw y))) same is))
+picture-shown r d new w c o p gone same read written tells =
+    as_shown r d new (at_end d.reading) (picture_text w c (flaw_of (first_flaw c))) (is_some (first_flaw c)) o p gone
+    (ap (drawn d) read ∙ sym (ap (λ (x : Window). shows d (picture_text x c (flaw_of (first_flaw c))) (is_some (first_flaw c))) same))
     written tells
 
 pub fault-shown : {E : Type 0} (r : Result Verdict E) (d new : DrawerView) (f : ReadFault) (o p : List ℕ)

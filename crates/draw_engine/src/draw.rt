@@ -1,6 +1,5 @@
 //! The subcommand `draw`: a picture of a history.
 ghost use Rattle.std.specs.Prelude.{◌≡◌, ◌++◌, Some, None, Ok, Err, IfOk, IfErr, OnErr, OnOk, is_some};
-ghost use Rattle.history_check.specs.Claim.{claim_of};
 ghost use Rattle.history_check.specs.Flaws.{first_flaw};
 ghost use Rattle.history_picture.specs.Picture.{picture_text, line_text};
 ghost use Rattle.trace_text.specs.TraceReaderView.{nothing_read, at_end};
@@ -10,22 +9,22 @@ ghost use Rattle.draw_engine.specs.Draw.{DrawerView, WritesDocument, flaw_of, ou
 
 use crate::laws::pictures_are_well_formed;
 use arrayvec::ArrayString;
-use history_check::{Flaw, FlawKind, Trace, check};
+use history_check::{Flaw, FlawKind, check_claim};
 use history_picture::{Window, put_line_picture, put_picture};
 use line_loop::{EngineFault, Responder, Verdict, run};
 use record_text::{ReadFault, write_fault};
-use seq_memory::Entry;
 use std::alloc::{AllocError, Global};
 use std::io::{Read, Write};
 use std::marker::Model;
 use std::mem;
+use trace_store::TraceStore;
 use trace_text::TraceReader;
 
 /// The first flaw of the trace and its history, if there is one.
-fn flaw_in(alloc: Global, trace: &Trace, history: &[Entry]) -> Result<Option<Flaw>, AllocError>
-    ensures { IfOk result (λ flaw. flaw ≡ flaw_of (first_flaw (claim_of trace.now history.now))) }
+fn flaw_in(alloc: Global, claim: &TraceStore) -> Result<Option<Flaw>, AllocError>
+    ensures { IfOk result (λ flaw. flaw ≡ flaw_of (first_flaw claim.now)) }
 {
-    match check(alloc, trace, history) {
+    match check_claim(alloc, claim) {
         Ok(()) => Ok(None),
         Err(flaw) if flaw.kind == FlawKind::Memory => Err(AllocError),
         Err(flaw) => Ok(Some(flaw)),
@@ -36,17 +35,17 @@ fn flaw_in(alloc: Global, trace: &Trace, history: &[Entry]) -> Result<Option<Fla
 fn show(
     alloc: Global,
     window: Window,
-    trace: &Trace,
-    history: &[Entry],
+    claim: &TraceStore,
     out: &mut Vec<u8>,
 ) -> Result<Verdict, AllocError>
     ensures text { OnOk result (out.new.items ≡ out.old.items
-        ++ picture_text window (claim_of trace.now history.now) (flaw_of (first_flaw (claim_of trace.now history.now)))) }
-    ensures verdict { IfOk result (λ verdict. is_fault verdict ≡ is_some (first_flaw (claim_of trace.now history.now))) }
+        ++ picture_text window claim.now (flaw_of (first_flaw claim.now))) }
+    ensures verdict { IfOk result (λ verdict. is_fault verdict ≡ is_some (first_flaw claim.now)) }
     ensures err { OnErr result (out.new.items ≡ out.old.items) }
 {
-    let flaw = flaw_in(alloc, trace, history)?;
-    put_picture(alloc, trace, history, flaw, window, out)?;
+    let flaw = flaw_in(alloc, claim)?;
+    let (trace, history) = claim.to_owned(alloc)?;
+    put_picture(alloc, &trace, history.as_slice(), flaw, window, out)?;
     match flaw {
         None => Ok(Verdict::Fine),
         Some(_) => Ok(Verdict::Fault),
@@ -94,8 +93,8 @@ impl Drawer {
     }
 
     /// Takes what was read: a trace and its history, or the first fault.
-    fn end(&mut self) -> Result<(Trace, Vec<Entry>), ReadFault>
-        ensures ok { IfOk result (λ t. at_end self.old.reading ≡ Ok (claim_of t.0 t.1.items)) }
+    fn end(&mut self) -> Result<TraceStore, ReadFault>
+        ensures ok { IfOk result (λ t. at_end self.old.reading ≡ Ok t) }
         ensures err { IfErr result (λ f. at_end self.old.reading ≡ Err f) }
         ensures gone { self.new ≡ record { window = self.old.window; reading = nothing_read } }
     {
@@ -121,9 +120,7 @@ impl Responder for Drawer {
 
     fn on_end(&mut self, out: &mut Vec<u8>) -> Result<Verdict, AllocError> {
         match self.end() {
-            Ok((trace, history)) => {
-                show(self.alloc, self.window, &trace, history.as_slice(), out)
-            }
+            Ok(claim) => show(self.alloc, self.window, &claim, out),
             Err(fault) => show_fault(self.alloc, fault, out),
         }
     }

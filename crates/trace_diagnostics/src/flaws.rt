@@ -2,12 +2,11 @@
 use crate::trace_lines::TraceLines;
 use arrayvec::ArrayString;
 use diagnostics::Reason;
-use flaw_places::{flawed_request, is_of_entry, request_of_record};
-use history_check::{Flaw, FlawKind, Record, Trace};
+use flaw_places::{flawed_request, is_of_entry};
+use history_check::{AsClaim, Flaw, FlawKind, Head, Record};
 use operation_text::write_reply;
-use seq_memory::{Entry, Reply, perform};
+use seq_memory::{Reply, perform};
 use std::alloc::{AllocError, Global};
-use tlp_core::Op;
 
 /// A request, by its requester and its number.
 #[derive(Clone, Copy, Debug, PartialEq, Eq)]
@@ -16,36 +15,41 @@ struct Request {
     number: u32,
 }
 
-fn is_of(entry: &Entry, request: Request) -> bool {
-    entry.requester == request.requester && entry.number == request.number
-}
-
-/// The record is of the request.
-fn names(record: &Record, request: Request) -> bool {
-    request_of_record(record) == (request.requester, request.number)
-}
-
 /// The record submits the request.
-fn submits(record: &Record, request: Request) -> bool {
-    matches!(record, Record::Sub { .. }) && names(record, request)
+fn submits(head: Head, request: Request) -> bool {
+    match head {
+        Head::Sub {
+            requester,
+            number,
+            ..
+        } => requester == request.requester && number == request.number,
+        Head::Ans { .. } => false,
+    }
 }
 
 /// The record answers the request.
-fn answers(record: &Record, request: Request) -> bool {
-    matches!(record, Record::Ans { .. }) && names(record, request)
+fn answers(head: Head, request: Request) -> bool {
+    match head {
+        Head::Sub { .. } => false,
+        Head::Ans {
+            requester,
+            number,
+            ..
+        } => requester == request.requester && number == request.number,
+    }
 }
 
 /// The length of the history at the record.
-fn moment(record: &Record) -> u64 {
-    match record {
-        Record::Sub { n, .. } | Record::Ans { n, .. } => *n,
+fn moment(head: Head) -> u64 {
+    match head {
+        Head::Sub { n, .. } | Head::Ans { n, .. } => n,
     }
 }
 
 /// The place of the request's submission.
-fn submission(records: &[Record], request: Request) -> Option<usize> {
-    for place in 0..records.len() {
-        if submits(&records[place], request) {
+fn submission<C: AsClaim>(claim: &C, request: Request) -> Option<usize> {
+    for place in 0..claim.records() {
+        if submits(claim.head(place)?, request) {
             return Some(place);
         }
     }
@@ -53,9 +57,9 @@ fn submission(records: &[Record], request: Request) -> Option<usize> {
 }
 
 /// The place of the request's first answer.
-fn answer(records: &[Record], request: Request) -> Option<usize> {
-    for place in 0..records.len() {
-        if answers(&records[place], request) {
+fn answer<C: AsClaim>(claim: &C, request: Request) -> Option<usize> {
+    for place in 0..claim.records() {
+        if answers(claim.head(place)?, request) {
             return Some(place);
         }
     }
@@ -63,64 +67,76 @@ fn answer(records: &[Record], request: Request) -> Option<usize> {
 }
 
 /// The index of the request in the history.
-fn point(history: &[Entry], request: Request) -> Option<usize> {
-    for index in 0..history.len() {
-        if is_of(&history[index], request) {
+fn point<C: AsClaim>(claim: &C, request: Request) -> Option<usize> {
+    for index in 0..claim.entries() {
+        let (requester, number) = claim.request(index)?;
+        if requester == request.requester && number == request.number {
             return Some(index);
         }
     }
     None
 }
 
-/// A trace with a flaw, its history, and where they stand in the text.
-#[derive(Clone, Copy)]
-struct Case<'a> {
-    trace: &'a Trace,
-    records: &'a [Record],
-    history: &'a [Entry],
+/// A trace with a flaw and its history, and where they stand in the text.
+#[derive(Drop)]
+struct Case<'a, C> {
+    claim: &'a C,
     lines: &'a TraceLines,
 }
 
-impl Case<'_> {
+impl<C: AsClaim> Case<'_, C> {
     fn entry_line(&self, index: usize) -> u64 {
-        self.lines.of_entry(self.records.len(), index)
+        self.lines.of_entry(self.claim.records(), index)
+    }
+
+    /// The length of the history at the record; 0 if there is none.
+    fn moment(&self, place: usize) -> u64 {
+        self.claim.head(place).map_or(0, moment)
     }
 
     /// Adds the request's place in the history, where it has one.
     fn put_point(&self, request: Request, reason: &mut Reason) {
-        if let Some(index) = point(self.history, request) {
+        if let Some(index) = point(self.claim, request) {
             let line = self.entry_line(index);
             reason.put(format_args!(", and the request is at index {index} (line {line})"));
         }
     }
 }
 
-/// How many requests the requester has submitted so far.
-fn submitted(records: &[Record], from: u8) -> u64 {
+/// The record submits an operation of the requester.
+fn is_from(head: Option<Head>, from: u8) -> bool {
+    matches!(head, Some(Head::Sub { requester, .. }) if requester == from)
+}
+
+/// How many requests the requester has submitted before the place.
+fn submitted<C: AsClaim>(claim: &C, before: usize, from: u8) -> u64 {
     let mut count: u64 = 0;
-    for record in records {
-        if let Record::Sub { requester, .. } = record {
-            if *requester == from {
-                count = count.saturating_add(1);
-            }
+    for place in 0..before.min(claim.records()) {
+        if is_from(claim.head(place), from) {
+            count = count.saturating_add(1);
         }
     }
     count
 }
 
 /// A submission has another number than the next.
-fn put_numbering(case: &Case<'_>, place: usize, request: Request, reason: &mut Reason) {
+fn put_numbering<C: AsClaim>(
+    case: &Case<'_, C>,
+    place: usize,
+    request: Request,
+    reason: &mut Reason,
+) {
     let Request { requester, number } = request;
-    let next = submitted(&case.records[..place.min(case.records.len())], requester);
+    let next = submitted(case.claim, place, requester);
     reason.put(format_args!(
         ": request {number} of requester {requester} where its request {next} is expected"
     ));
 }
 
 /// An entry has no submission, or one of another operation.
-fn put_stranger(case: &Case<'_>, request: Request, reason: &mut Reason) {
+fn put_stranger<C: AsClaim>(case: &Case<'_, C>, request: Request, reason: &mut Reason) {
     let Request { requester, number } = request;
-    match submission(case.records, request) {
+    match submission(case.claim, request) {
         None => reason.put(format_args!(
             ": requester {requester} has not submitted request {number}"
         )),
@@ -134,40 +150,44 @@ fn put_stranger(case: &Case<'_>, request: Request, reason: &mut Reason) {
 }
 
 /// An entry's request stands before it.
-fn put_twice(case: &Case<'_>, request: Request, reason: &mut Reason) {
+fn put_twice<C: AsClaim>(case: &Case<'_, C>, request: Request, reason: &mut Reason) {
     let Request { requester, number } = request;
     reason.put(format_args!(": request {number} of requester {requester} a second time"));
     case.put_point(request, reason);
 }
 
-/// The number above the greatest that the requester has among the entries, or 0.
-fn first_unsettled(history: &[Entry], requester: u8) -> u64 {
+/// The number above the greatest that the requester has among the entries before the index, or 0.
+fn first_unsettled<C: AsClaim>(claim: &C, before: usize, from: u8) -> u64 {
     let mut first: u64 = 0;
-    for entry in history {
-        if entry.requester == requester {
-            first = first.max(u64::from(entry.number) + 1);
+    for index in 0..before.min(claim.entries()) {
+        if let Some((requester, number)) = claim.request(index) {
+            if requester == from {
+                first = first.max(u64::from(number) + 1);
+            }
         }
     }
     first
 }
 
 /// The number of a write that the requester submits, if it is none of those below.
-fn write_from(record: &Record, from: u8, least: u64) -> Option<u32> {
-    match record {
-        Record::Sub {
-            requester,
-            number,
-            op: Op::Write { .. },
-            ..
-        } if *requester == from && u64::from(*number) >= least => Some(*number),
+fn write_from(head: Option<Head>, from: u8, least: u64) -> Option<u32> {
+    match head {
+        Some(
+            Head::Sub {
+                requester,
+                number,
+                is_posted: true,
+                ..
+            },
+        ) if requester == from && u64::from(number) >= least => Some(number),
         _ => None,
     }
 }
 
 /// The place and the number of the first such write.
-fn first_write(records: &[Record], requester: u8, least: u64) -> Option<(usize, u32)> {
-    for place in 0..records.len() {
-        if let Some(number) = write_from(&records[place], requester, least) {
+fn first_write<C: AsClaim>(claim: &C, requester: u8, least: u64) -> Option<(usize, u32)> {
+    for place in 0..claim.records() {
+        if let Some(number) = write_from(claim.head(place), requester, least) {
             return Some((place, number));
         }
     }
@@ -176,11 +196,10 @@ fn first_write(records: &[Record], requester: u8, least: u64) -> Option<(usize, 
 
 /// An earlier write of the requester is missing before an entry. The entries before it have none
 /// missing, so those writes that are missing are above them all.
-fn put_order(case: &Case<'_>, index: usize, request: Request, reason: &mut Reason) {
+fn put_order<C: AsClaim>(case: &Case<'_, C>, index: usize, request: Request, reason: &mut Reason) {
     let Request { requester, number } = request;
-    let before = &case.history[..index.min(case.history.len())];
-    let least = first_unsettled(before, requester);
-    let Some((place, write)) = first_write(case.records, requester, least) else {
+    let least = first_unsettled(case.claim, index, requester);
+    let Some((place, write)) = first_write(case.claim, requester, least) else {
         return;
     };
     let line = case.lines.of_record(place);
@@ -190,22 +209,22 @@ fn put_order(case: &Case<'_>, index: usize, request: Request, reason: &mut Reaso
 }
 
 /// An answer comes to a request that asked for none before.
-fn put_unasked(case: &Case<'_>, request: Request, reason: &mut Reason) {
+fn put_unasked<C: AsClaim>(case: &Case<'_, C>, request: Request, reason: &mut Reason) {
     let Request { requester, number } = request;
     reason.put(format_args!(
         ": an answer to request {number} of requester {requester}, which has asked for none"
     ));
-    if let Some(place) = submission(case.records, request) {
+    if let Some(place) = submission(case.claim, request) {
         let line = case.lines.of_record(place);
         reason.put(format_args!(" before (line {line})"));
     }
 }
 
 /// An answer comes to a request that was answered before.
-fn put_again(case: &Case<'_>, request: Request, reason: &mut Reason) {
+fn put_again<C: AsClaim>(case: &Case<'_, C>, request: Request, reason: &mut Reason) {
     let Request { requester, number } = request;
     reason.put(format_args!(": a second answer to request {number} of requester {requester}"));
-    if let Some(place) = answer(case.records, request) {
+    if let Some(place) = answer(case.claim, request) {
         let line = case.lines.of_record(place);
         reason.put(format_args!(", the first is on line {line}"));
     }
@@ -220,12 +239,12 @@ fn put_absent(request: Request, reason: &mut Reason) {
 }
 
 /// An answered request stands in the history before it was submitted.
-fn put_early(case: &Case<'_>, request: Request, reason: &mut Reason) {
+fn put_early<C: AsClaim>(case: &Case<'_, C>, request: Request, reason: &mut Reason) {
     let Request { requester, number } = request;
-    let Some(place) = submission(case.records, request) else {
+    let Some(place) = submission(case.claim, request) else {
         return;
     };
-    let n = case.records.get(place).map_or(0, moment);
+    let n = case.moment(place);
     let line = case.lines.of_record(place);
     reason.put(format_args!(
         ": request {number} of requester {requester} was submitted at n {n} (line {line})"
@@ -234,8 +253,9 @@ fn put_early(case: &Case<'_>, request: Request, reason: &mut Reason) {
 }
 
 /// An answered request stands in the history after its answer.
-fn put_late(case: &Case<'_>, request: Request, n: u64, reason: &mut Reason) {
+fn put_late<C: AsClaim>(case: &Case<'_, C>, place: usize, request: Request, reason: &mut Reason) {
     let Request { requester, number } = request;
+    let n = case.moment(place);
     reason.put(format_args!(": request {number} of requester {requester} is answered at n {n}"));
     case.put_point(request, reason);
 }
@@ -244,12 +264,14 @@ fn zeros(alloc: Global, size: usize) -> Result<Vec<u8>, AllocError> {
     vec![in alloc; 0u8; size]
 }
 
-/// What the memory answers at the end of the history.
-fn reply_at_end(alloc: Global, trace: &Trace, history: &[Entry]) -> Option<Reply> {
-    let mut bytes = zeros(alloc, trace.extent.size()).ok()?;
-    let (base, block) = (trace.extent.base(), trace.extent.block());
+/// What the memory answers to the entry at that index.
+fn reply_at<C: AsClaim>(alloc: Global, claim: &C, index: usize) -> Option<Reply> {
+    let extent = claim.extent();
+    let mut bytes = zeros(alloc, extent.size()).ok()?;
+    let (base, block) = (extent.base(), extent.block());
     let mut last = None;
-    for entry in history {
+    for p in 0..index.saturating_add(1) {
+        let entry = claim.entry(p)?;
         last = Some(perform(base, block, &mut bytes, &entry.op));
     }
     last
@@ -264,20 +286,19 @@ fn put_reply(reply: &Reply, reason: &mut Reason) {
 
 /// The memory answers otherwise at the request's index. Without memory for its bytes that is all
 /// that is told.
-fn put_other_reply(
+fn put_other_reply<C: AsClaim>(
     alloc: Global,
-    case: &Case<'_>,
+    case: &Case<'_, C>,
     request: Request,
     reply: &Reply,
     reason: &mut Reason,
 ) {
     reason.put(": ");
     put_reply(reply, reason);
-    let Some(index) = point(case.history, request) else {
+    let Some(index) = point(case.claim, request) else {
         return;
     };
-    let upto = index.saturating_add(1).min(case.history.len());
-    if let Some(made) = reply_at_end(alloc, case.trace, &case.history[..upto]) {
+    if let Some(made) = reply_at(alloc, case.claim, index) {
         reason.put(" where ");
         put_reply(&made, reason);
         reason.put(" is expected");
@@ -289,20 +310,28 @@ fn flags(alloc: Global, count: usize) -> Result<Vec<bool>, AllocError> {
     vec![in alloc; false; count]
 }
 
-/// Which of the requester's requests are answered, by their numbers.
-fn answered(alloc: Global, records: &[Record], from: u8) -> Option<Vec<bool>> {
-    let mut answered = flags(alloc, records.len()).ok()?;
-    for record in records {
-        if let Record::Ans {
-            requester,
-            number,
-            ..
-        } = record
-        {
-            if *requester == from {
-                if let Some(flag) = answered.get_mut(*number as usize) {
-                    *flag = true;
-                }
+/// The number of the requester's request that the record answers, if it answers one.
+fn answered_by(head: Option<Head>, from: u8) -> Option<u32> {
+    match head {
+        Some(
+            Head::Ans {
+                requester,
+                number,
+                ..
+            },
+        ) if requester == from => Some(number),
+        _ => None,
+    }
+}
+
+/// Which of the requester's requests are answered before the place, by their numbers.
+fn answered<C: AsClaim>(alloc: Global, claim: &C, before: usize, from: u8) -> Option<Vec<bool>> {
+    let before = before.min(claim.records());
+    let mut answered = flags(alloc, before).ok()?;
+    for place in 0..before {
+        if let Some(number) = answered_by(claim.head(place), from) {
+            if let Some(flag) = answered.get_mut(number as usize) {
+                *flag = true;
             }
         }
     }
@@ -310,12 +339,12 @@ fn answered(alloc: Global, records: &[Record], from: u8) -> Option<Vec<bool>> {
 }
 
 /// The greatest index of an answered request of the requester.
-fn last_answered(history: &[Entry], answered: &[bool], requester: u8) -> Option<usize> {
+fn last_answered<C: AsClaim>(claim: &C, answered: &[bool], from: u8) -> Option<usize> {
     let mut last = None;
-    for index in 0..history.len() {
-        let entry = &history[index];
-        let flag = answered.get(entry.number as usize).copied();
-        if entry.requester == requester && flag == Some(true) {
+    for index in 0..claim.entries() {
+        let (requester, number) = claim.request(index)?;
+        let flag = answered.get(number as usize).copied();
+        if requester == from && flag == Some(true) {
             last = Some(index);
         }
     }
@@ -323,20 +352,19 @@ fn last_answered(history: &[Entry], answered: &[bool], requester: u8) -> Option<
 }
 
 /// A request stands before what its requester was answered before it submitted the request.
-fn put_stale(alloc: Global, case: &Case<'_>, request: Request, reason: &mut Reason) {
+fn put_stale<C: AsClaim>(alloc: Global, case: &Case<'_, C>, request: Request, reason: &mut Reason) {
     let Request { requester, number } = request;
     reason.put(format_args!(
         ": request {number} of requester {requester} is not above what was answered before it was submitted"
     ));
     case.put_point(request, reason);
-    let Some(place) = submission(case.records, request) else {
+    let Some(place) = submission(case.claim, request) else {
         return;
     };
-    let before = &case.records[..place.min(case.records.len())];
-    let Some(answered) = answered(alloc, before, requester) else {
+    let Some(answered) = answered(alloc, case.claim, place, requester) else {
         return;
     };
-    if let Some(index) = last_answered(case.history, &answered, requester) {
+    if let Some(index) = last_answered(case.claim, &answered, requester) {
         let line = case.entry_line(index);
         reason.put(format_args!(", that answer's at index {index} (line {line})"));
     }
@@ -344,10 +372,11 @@ fn put_stale(alloc: Global, case: &Case<'_>, request: Request, reason: &mut Reas
 
 /// The record's n is below that of the record before it, above the length of the history, or above the
 /// index of the request that it submits.
-fn put_clock(case: &Case<'_>, place: usize, request: Request, n: u64, reason: &mut Reason) {
+fn put_clock<C: AsClaim>(case: &Case<'_, C>, place: usize, request: Request, reason: &mut Reason) {
+    let n = case.moment(place);
     let previous = place.saturating_sub(1);
-    let last = case.records.get(previous).map_or(0, moment);
-    let length = case.history.len();
+    let last = case.moment(previous);
+    let length = case.claim.entries();
     reason.put(format_args!(": n {n}"));
     if n < last {
         let line = case.lines.of_record(previous);
@@ -361,7 +390,7 @@ fn put_clock(case: &Case<'_>, place: usize, request: Request, n: u64, reason: &m
 }
 
 /// Adds what is wrong with the entry at the flaw's place.
-fn put_of_entry(case: &Case<'_>, flaw: Flaw, request: Request, reason: &mut Reason) {
+fn put_of_entry<C: AsClaim>(case: &Case<'_, C>, flaw: Flaw, request: Request, reason: &mut Reason) {
     match flaw.kind {
         FlawKind::Stranger => put_stranger(case, request, reason),
         FlawKind::Twice => put_twice(case, request, reason),
@@ -370,27 +399,24 @@ fn put_of_entry(case: &Case<'_>, flaw: Flaw, request: Request, reason: &mut Reas
 }
 
 /// Adds what is wrong with the record at the flaw's place.
-fn put_of_record(
+fn put_of_record<C: AsClaim>(
     alloc: Global,
-    case: &Case<'_>,
+    case: &Case<'_, C>,
     flaw: Flaw,
     request: Request,
     reason: &mut Reason,
 ) {
-    let Some(record) = case.records.get(flaw.place) else {
-        return;
-    };
     match flaw.kind {
         FlawKind::Numbering => put_numbering(case, flaw.place, request, reason),
         FlawKind::Unasked => put_unasked(case, request, reason),
         FlawKind::Again => put_again(case, request, reason),
         FlawKind::Absent => put_absent(request, reason),
         FlawKind::Early => put_early(case, request, reason),
-        FlawKind::Late => put_late(case, request, moment(record), reason),
-        FlawKind::Clock => put_clock(case, flaw.place, request, moment(record), reason),
+        FlawKind::Late => put_late(case, flaw.place, request, reason),
+        FlawKind::Clock => put_clock(case, flaw.place, request, reason),
         FlawKind::Reply => {
-            if let Record::Ans { reply, .. } = record {
-                put_other_reply(alloc, case, request, reply, reason);
+            if let Some(Record::Ans { reply, .. }) = case.claim.record(flaw.place) {
+                put_other_reply(alloc, case, request, &reply, reason);
             }
         }
         _ => put_stale(alloc, case, request, reason),
@@ -398,21 +424,15 @@ fn put_of_record(
 }
 
 /// The reason for the first flaw of a trace.
-pub(crate) fn flaw_reason(
+pub(crate) fn flaw_reason<C: AsClaim>(
     alloc: Global,
-    trace: &Trace,
-    history: &[Entry],
+    claim: &C,
     flaw: Flaw,
     lines: &TraceLines,
 ) -> Reason {
-    let case = Case {
-        trace,
-        records: trace.records.as_slice(),
-        history,
-        lines,
-    };
+    let case = Case { claim, lines };
     let mut reason = Reason::new();
-    if let Some((requester, number)) = flawed_request(case.records, history, Some(flaw)) {
+    if let Some((requester, number)) = flawed_request(claim, Some(flaw)) {
         let request = Request { requester, number };
         if is_of_entry(flaw.kind) {
             put_of_entry(&case, flaw, request, &mut reason);

@@ -7,10 +7,9 @@ use crate::cause::tell_misread;
 use crate::flaws::flaw_reason;
 use crate::trace_lines::TraceLines;
 use flaw_places::is_of_entry;
-use history_check::{Flaw, Trace};
+use history_check::{AsClaim, Flaw};
 use line_loop::EngineFault;
 use record_text::Cause;
-use seq_memory::Entry;
 use std::alloc::Global;
 use std::io::Write;
 use std::marker::Model;
@@ -87,32 +86,30 @@ impl<E: Write + Drop> TraceReasons<E> {
     /// Tells on which line of the text the trace's first flaw lies, what stands there and what was
     /// expected. Takes the bytes of the memory and a byte for each record, where the flaw's kind asks
     /// for them; where they are refused, less is told.
-    pub fn tell_flaw(
+    pub fn tell_flaw<C: AsClaim>(
         &mut self,
         alloc: Global,
-        trace: &Trace,
-        history: &[Entry],
+        claim: &C,
         flaw: Flaw,
         lines: &TraceLines,
     ) -> Result<(), EngineFault>
         ensures told { self.new.told ≡ self.old.told }
-        ensures errors { OnOk result (IsReasonToldAt (line_of_flaw lines.now (length trace.now.records) flaw.kind flaw.place) self.old.errors self.new.errors) }
+        ensures errors { OnOk result (IsReasonToldAt (line_of_flaw lines.now (length (C.claim claim.now).records) flaw.kind flaw.place) self.old.errors self.new.errors) }
         ensures fault { IfErr result (λ f. f ≡ EngineFault.Write) }
-        ensures part { OnErr result (IsReasonBegunAt (line_of_flaw lines.now (length trace.now.records) flaw.kind flaw.place) self.old.errors self.new.errors) }
+        ensures part { OnErr result (IsReasonBegunAt (line_of_flaw lines.now (length (C.claim claim.now).records) flaw.kind flaw.place) self.old.errors self.new.errors) }
     {
-        let reason = flaw_reason(alloc, trace, history, flaw, lines);
-        let line = line_of(flaw, trace, lines);
+        let reason = flaw_reason(alloc, claim, flaw, lines);
+        let line = line_of(flaw, claim, lines);
         reason.tell_at(line, &mut self.errors)
     }
 }
 
 /// On which line the flaw lies.
-fn line_of(flaw: Flaw, trace: &Trace, lines: &TraceLines) -> u64
-    ensures { result ≡ line_of_flaw lines.now (length trace.now.records) flaw.kind flaw.place }
+fn line_of<C: AsClaim>(flaw: Flaw, claim: &C, lines: &TraceLines) -> u64
+    ensures { result ≡ line_of_flaw lines.now (length (C.claim claim.now).records) flaw.kind flaw.place }
 {
-    let records = trace.records.len();
     if is_of_entry(flaw.kind) {
-        lines.of_entry(records, flaw.place)
+        lines.of_entry(claim.records(), flaw.place)
     } else {
         lines.of_record(flaw.place)
     }

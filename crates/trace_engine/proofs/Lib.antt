@@ -1,3 +1,4 @@
 mod Judging
 mod Rewritten
 pub mod Clocked
+pub mod Reasons

@@ -1,6 +1,5 @@
 //! The subcommand `check`: whether a history explains what requesters were told.
 ghost use Rattle.std.specs.Prelude.{◌≡◌, ◌++◌, ◌∷◌, [], codes, Some, IfOk, IfErr, OnOk, OnErr};
-ghost use Rattle.history_check.specs.Claim.{claim_of};
 ghost use Rattle.trace_text.specs.TraceReaderView.{nothing_read, at_end};
 ghost use Rattle.line_loop.specs.Run.{IsAnswer, IsWhole, IsPart};
 ghost use Rattle.diagnostics.specs.Told.{IsReasonTold, IsReasonBegun};
@@ -11,13 +10,13 @@ ghost use Rattle.trace_engine.specs.Reasons.{flawed_line};
 use crate::traces::{TraceInput, tell_fault};
 use arrayvec::ArrayString;
 use flaw_places::write_flaw;
-use history_check::{Flaw, FlawKind, Trace, check_with_clock};
+use history_check::{Flaw, FlawKind, check_claim_with_clock};
 use line_loop::{EngineFault, Responder, Verdict, run};
-use seq_memory::Entry;
 use std::alloc::{AllocError, Global};
 use std::io::{Read, Write, sink};
 use std::marker::Model;
 use trace_diagnostics::{TraceLines, TraceReasons};
+use trace_store::TraceStore;
 
 /// Adds the line of a flaw.
 fn tell_flaw(flaw: Flaw, out: &mut Vec<u8>) -> Result<Verdict, AllocError>
@@ -57,21 +56,20 @@ fn tell_clock(flaw: Flaw, is_clocked: bool, out: &mut Vec<u8>) -> Result<Verdict
 /// an `n` that isn't asked for. Returns the verdict, and whether the stream took the reason.
 fn judge<E: Write + Drop>(
     alloc: Global,
-    trace: &Trace,
-    history: &[Entry],
+    claim: &TraceStore,
     is_clocked: bool,
     lines: &TraceLines,
     reasons: &mut TraceReasons<E>,
     out: &mut Vec<u8>,
 ) -> Result<(Verdict, Result<(), EngineFault>), AllocError>
-    ensures ok { IfOk result (λ answered. IsAnswer nothing_read out.old.items out.new.items answered.0 (judged (flaw_with is_clocked (claim_of trace.now history.now)))) }
+    ensures ok { IfOk result (λ answered. IsAnswer nothing_read out.old.items out.new.items answered.0 (judged (flaw_with is_clocked claim.now))) }
     ensures err { OnErr result (out.new.items ≡ out.old.items) }
-    ensures reason { IfOk result (λ answered. OnOk answered.1 (IsReasonTold (flawed_line lines.now (claim_of trace.now history.now)) reasons.old.errors reasons.new.errors)) }
+    ensures reason { IfOk result (λ answered. OnOk answered.1 (IsReasonTold (flawed_line lines.now claim.now) reasons.old.errors reasons.new.errors)) }
     ensures fault { IfOk result (λ answered. IfErr answered.1 (λ f. f ≡ EngineFault.Write)) }
-    ensures part { IfOk result (λ answered. OnErr answered.1 (IsReasonBegun (flawed_line lines.now (claim_of trace.now history.now)) reasons.old.errors reasons.new.errors)) }
+    ensures part { IfOk result (λ answered. OnErr answered.1 (IsReasonBegun (flawed_line lines.now claim.now) reasons.old.errors reasons.new.errors)) }
     ensures told { reasons.new.told ≡ reasons.old.told }
 {
-    match check_with_clock(alloc, trace, history) {
+    match check_claim_with_clock(alloc, claim) {
         Ok(None) => {
             let verdict = tell_ok(out)?;
             Ok((verdict, Ok(())))
@@ -81,13 +79,13 @@ fn judge<E: Write + Drop>(
                 kind: FlawKind::Clock,
                 place,
             };
-            let told = reasons.tell_flaw(alloc, trace, history, flaw, lines);
+            let told = reasons.tell_flaw(alloc, claim, flaw, lines);
             let verdict = tell_clock(flaw, is_clocked, out)?;
             Ok((verdict, told))
         }
         Err(flaw) if flaw.kind == FlawKind::Memory => Err(AllocError),
         Err(flaw) => {
-            let reason = reasons.tell_flaw(alloc, trace, history, flaw, lines);
+            let reason = reasons.tell_flaw(alloc, claim, flaw, lines);
             let verdict = tell_flaw(flaw, out)?;
             Ok((verdict, reason))
         }
@@ -125,11 +123,10 @@ impl<E: Write + Drop> Checker<E> {
         ensures err { OnErr result (out.new.items ≡ out.old.items) }
     {
         match self.input.end() {
-            Ok((trace, history)) => {
+            Ok(claim) => {
                 let (verdict, _) = judge(
                     self.input.alloc(),
-                    &trace,
-                    history.as_slice(),
+                    &claim,
                     is_clocked,
                     &self.lines,
                     &mut self.input.reasons,

@@ -4,7 +4,8 @@ ghost use Rattle.history_check.specs.Claim.{claim_of};
 ghost use Rattle.trace_text.specs.Texts.{trace_text};
 ghost use Rattle.trace_text.specs.TraceReaderView.{nothing_read, after_line, after_long_line, at_end};
 ghost use Rattle.record_text.specs.Names.{fault_line};
-ghost use Rattle.trace_engine.specs.Reasons.{line_of_fault};
+ghost use Rattle.trace_diagnostics.specs.Told.{first_of};
+ghost use Rattle.trace_engine.specs.Reasons.{faulty_line};
 
 use arrayvec::ArrayString;
 use history_check::Trace;
@@ -16,15 +17,17 @@ use std::io::Write;
 use std::marker::Model;
 use std::mem;
 use trace_diagnostics::TraceReasons;
+use trace_store::TraceStore;
 use trace_text::{TraceReader, write_trace};
 
-/// The number of the line that can't be read, if there is one.
-pub(crate) fn line_of_fault(fault: Option<ReadFault>) -> Option<u64>
-    ensures { result ≡ line_of_fault fault }
+/// Tells the reason of the first fault, if one was found so far and its reason is still to be told. It is that
+/// line's, if it is new. Without a fault the cause isn't asked for: most texts have none.
+#[tactic(auto, using(crate::proofs::Reasons::stays_known))]
+fn tell_reason<E: Write + Drop>(reader: &TraceReader, line: &[u8], reasons: &mut TraceReasons<E>)
+    ensures { reasons.new.told ≡ first_of reasons.old.told (faulty_line reader.now) }
 {
-    match fault {
-        Some(fault) => Some(fault.line),
-        None => None,
+    if let Some(fault) = reader.fault() {
+        let _ = reasons.take_line(line, Some(fault.line), reader.cause());
     }
 }
 
@@ -70,8 +73,7 @@ impl<E: Write + Drop> TraceInput<E> {
         ensures err { OnErr result (self.new ≡ self.old) }
     {
         self.reader.line(line)?;
-        let fault = line_of_fault(self.reader.fault());
-        let _ = self.reasons.take_line(line, fault, self.reader.cause());
+        tell_reason(&self.reader, line, &mut self.reasons);
         Ok(())
     }
 
@@ -80,13 +82,12 @@ impl<E: Write + Drop> TraceInput<E> {
         ensures { self.new ≡ after_long_line self.old }
     {
         self.reader.long_line();
-        let fault = line_of_fault(self.reader.fault());
-        let _ = self.reasons.take_line(b"", fault, self.reader.cause());
+        tell_reason(&self.reader, b"", &mut self.reasons);
     }
 
     /// Takes the end of the text: gives what was read, or the first fault, and keeps nothing.
-    pub fn end(&mut self) -> Result<(Trace, Vec<Entry>), ReadFault>
-        ensures ok { IfOk result (λ t. at_end self.old ≡ Ok (claim_of t.0 t.1.items)) }
+    pub fn end(&mut self) -> Result<TraceStore, ReadFault>
+        ensures ok { IfOk result (λ t. at_end self.old ≡ Ok t) }
         ensures err { IfErr result (λ f. at_end self.old ≡ Err f) }
         ensures gone { self.new ≡ nothing_read }
     {

@@ -2,9 +2,11 @@
 ghost use Rattle.std.specs.Prelude.{◌≡◌, IfOk, IfErr, OnErr, Ok, Err};
 ghost use Rattle.trace_text.specs.TraceRewriterView.{nothing_rewritten, text_at_end};
 ghost use Rattle.line_loop.specs.Run.{IsWhole, IsPart};
+ghost use Rattle.trace_diagnostics.specs.Told.{first_of};
+ghost use Rattle.trace_engine.specs.Reasons.{faulty_line};
 ghost use Rattle.trace_engine.specs.Upgrade.{out_upgrade};
 
-use crate::traces::{hand_over, line_of_fault, tell_fault};
+use crate::traces::{hand_over, tell_fault};
 use line_loop::{EngineFault, Responder, Verdict, run};
 use record_text::ReadFault;
 use std::alloc::{AllocError, Global};
@@ -13,6 +15,21 @@ use std::marker::Model;
 use std::mem;
 use trace_diagnostics::TraceReasons;
 use trace_text::{TraceRewriter, a_rewriting_is_a_reading};
+
+/// Tells the reason of the first fault, if one was found so far and its reason is still to be told. It is that
+/// line's, if it is new.
+#[tactic(auto, using(crate::proofs::Reasons::stays_known))]
+fn tell_reason<E: Write + Drop>(
+    rewriter: &TraceRewriter,
+    line: &[u8],
+    reasons: &mut TraceReasons<E>,
+)
+    ensures { reasons.new.told ≡ first_of reasons.old.told (faulty_line rewriter.now) }
+{
+    if let Some(fault) = rewriter.fault() {
+        let _ = reasons.take_line(line, Some(fault.line), rewriter.cause());
+    }
+}
 
 /// A trace that is written line by line as it is read, and the reasons that are told of it. The text is
 /// handed on at the end: behind a fault nothing of it counts.
@@ -71,15 +88,13 @@ impl<E: Write + Drop> Responder for Upgrader<E> {
 
     fn on_line(&mut self, line: &[u8], _out: &mut Vec<u8>) -> Result<Verdict, AllocError> {
         self.rewriter.line(line)?;
-        let fault = line_of_fault(self.rewriter.fault());
-        let _ = self.reasons.take_line(line, fault, self.rewriter.cause());
+        tell_reason(&self.rewriter, line, &mut self.reasons);
         Ok(Verdict::Fine)
     }
 
     fn on_long_line(&mut self, _out: &mut Vec<u8>) -> Result<Verdict, AllocError> {
         self.rewriter.long_line();
-        let fault = line_of_fault(self.rewriter.fault());
-        let _ = self.reasons.take_line(b"", fault, self.rewriter.cause());
+        tell_reason(&self.rewriter, b"", &mut self.reasons);
         Ok(Verdict::Fine)
     }
 
