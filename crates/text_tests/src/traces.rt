@@ -1,9 +1,9 @@
 //! Worked texts of traces, in both versions.
 use crate::rows::{Row, all_right};
-use history_check::{Trace, check};
+use history_check::check_claim;
 use record_text::{ReadFault, ReadFaultKind};
-use seq_memory::Entry;
 use std::alloc::{AllocError, Global};
+use trace_store::TraceStore;
 use trace_text::{TraceReader, own_text_spells_trace, read_trace, write_trace};
 
 /// The fault of the text.
@@ -141,8 +141,8 @@ fn long_lines(rt: HostRuntime) {
 }
 
 /// The number of the first flaw, and its place; 0 where there is none.
-fn flaw_of(alloc: Global, trace: &Trace, history: &[Entry]) -> (u8, usize) {
-    match check(alloc, trace, history) {
+fn flaw_of(alloc: Global, claim: &TraceStore) -> (u8, usize) {
+    match check_claim(alloc, claim) {
         Ok(()) => (0, 0),
         Err(flaw) => (flaw.kind.number(), flaw.place),
     }
@@ -154,7 +154,7 @@ struct Flawed(&'static str, u8, usize);
 impl Row for Flawed {
     fn is_right(&self, alloc: Global) -> bool {
         match read_trace(alloc, self.0.as_bytes()) {
-            Ok((trace, history)) => flaw_of(alloc, &trace, history.as_slice()) == (self.1, self.2),
+            Ok(claim) => flaw_of(alloc, &claim) == (self.1, self.2),
             Err(_) => false,
         }
     }
@@ -201,19 +201,18 @@ const FIRST: &[u8] =
 const SECOND: &str =
     "pciex-trace 2\nmemory FF80 4096 64\nsub 1 0 0 read 40 1 F 0\nsub 7 0 0 write 3C F A 0A0B0C0D0A0B0C0D\nans 1 0 2 ur\nhistory\nent 1 0 read 40 1 F 0\nend\n";
 
-/// Whether the second text is written of these.
-fn is_second(alloc: Global, trace: &Trace, history: &[Entry]) -> bool {
-    match write_trace(alloc, trace, history) {
-        Ok(text) => text.as_str() == SECOND,
-        Err(_) => false,
-    }
+/// The text that is written of what is read.
+fn rewritten(alloc: Global, text: &[u8]) -> Option<String> {
+    let claim = read_trace(alloc, text).ok()?;
+    let (trace, history) = claim.to_owned(alloc).ok()?;
+    write_trace(alloc, &trace, history.as_slice()).ok()
 }
 
 /// Whether the text is read, and written as the second.
 fn is_upgraded(alloc: Global, text: &[u8]) -> bool {
-    match read_trace(alloc, text) {
-        Ok((trace, history)) => is_second(alloc, &trace, history.as_slice()),
-        Err(_) => false,
+    match rewritten(alloc, text) {
+        Some(text) => text.as_str() == SECOND,
+        None => false,
     }
 }
 
