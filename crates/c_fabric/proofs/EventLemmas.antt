@@ -6,8 +6,8 @@ use Rattle.fabric_laws.specs.Sound.{Sound}
 use Rattle.fabric_laws.specs.Steps.{Step, Run, stays, goes}
 use Rattle.fabric_laws.specs.Trace.{Belongs}
 use Rattle.fabric_laws.specs.Whole.{Whole}
-use Rattle.fabric_core.specs.declared.event.Event.{Event}
-use Rattle.fabric_core.specs.declared.event.Seen.{Seen}
+use Rattle.fabric_events.specs.declared.event.Event.{Event}
+use Rattle.fabric_events.specs.declared.event.Seen.{Seen}
 use Rattle.fabric_core.specs.declared.fault.Refusal.{Refusal}
 use Rattle.fabric_core.specs.Faults.{is_memory}
 use Rattle.fabric_core.specs.Kept.{IsSoundFabric, records_of}

@@ -13,8 +13,8 @@ use Rattle.lane_ends.specs.declared.packet.Fate.TheVariants.{Good, Failed, Lost}
 use Rattle.lane_ends.specs.Steps.{LaneEndsView, SenderEndView, new_lane, may_enter, entered, with_room, sender_after, after_take}
 use Rattle.lane_core.specs.Calls.{Call, MakeRoom, Release, Enter, Transmit, Deliver, SendDllp, DeliverDllp, Timer, Retrained, Take, after_call, after_calls, IsRightWith}
 use Rattle.fabric_laws.specs.Fabric.{Fabric}
-use Rattle.fabric_core.specs.declared.event.LaneName.{LaneName}
-use Rattle.fabric_core.specs.declared.event.LaneName.TheVariants as lanes
+use Rattle.fabric_events.specs.declared.event.LaneName.{LaneName}
+use Rattle.fabric_events.specs.declared.event.LaneName.TheVariants as lanes
 use Rattle.fabric_core.specs.declared.fault.Refusal.TheVariants as refusals
 use Rattle.fabric_core.specs.Answers.{part_at}
 use Rattle.fabric_core.specs.Answers as parts

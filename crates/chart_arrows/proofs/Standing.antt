@@ -12,8 +12,8 @@ use Rattle.lane_ends.specs.declared.packet.DllpSeen.{DllpSeen}
 use Rattle.dllp_core.specs.declared.packet.Dllp.{Dllp}
 use Rattle.lane_ends.specs.Steps.{LaneEndsView, ReceiverEndView, delivered, dllp_seen}
 use Rattle.fabric_laws.specs.Fabric.{Fabric}
-use Rattle.fabric_core.specs.declared.event.LaneName.{LaneName}
-use Rattle.fabric_core.specs.declared.event.LaneName.TheVariants as lanes
+use Rattle.fabric_events.specs.declared.event.LaneName.{LaneName}
+use Rattle.fabric_events.specs.declared.event.LaneName.TheVariants as lanes
 use Rattle.fabric_core.specs.Answers.{with_lane}
 use Rattle.fabric_core.specs.Answers as parts
 use Rattle.chart_rows.specs.declared.row.Carried.{Carried}

@@ -9,7 +9,7 @@ use Rattle.parameters.specs.declared.storm.Storm.{Storm}
 use Rattle.parameters.specs.Ranges.{IsStorm}
 use Rattle.cli_options.specs.declared.options.TheConstants.{MOST_CHOICES}
 use Rattle.cli_options.specs.Values.{WritesBase, WritesNumber, WritesGiven, WritesOptional, WritesFlag}
-use Rattle.fabric_core.specs.declared.event.LaneName.{LaneName}
+use Rattle.fabric_events.specs.declared.event.LaneName.{LaneName}
 use Rattle.log_pieces.specs.declared.Granularity.{Granularity}
 use Rattle.cli_words.specs.Granularities.{WritesGranularity}
 use Rattle.cli_words.specs.Lanes.{WritesLane}

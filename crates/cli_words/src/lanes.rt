@@ -1,6 +1,6 @@
 //! The name of a lane as the value of an option.
 ghost use Rattle.std.specs.Prelude.{◌≡◌, IfOk, IfErr, OnErr, Option, option_map};
-ghost use Rattle.fabric_core.specs.declared.event.LaneName.{LaneName};
+ghost use Rattle.fabric_events.specs.declared.event.LaneName.{LaneName};
 ghost use Rattle.cli_options.specs.declared.options.ValueOption.TheVariants.{Lane};
 ghost use Rattle.script_text.specs.Forms as forms;
 ghost use Rattle.cli_words.specs.Lanes.{WritesLane};

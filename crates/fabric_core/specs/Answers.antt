@@ -27,16 +27,14 @@ use Rattle.lane_ends.specs.declared.packet.LaneRefusal.TheVariants as no_room
 use Rattle.lane_ends.specs.declared.packet.WirePacket.{WirePacket}
 use Rattle.lane_ends.specs.Steps.{LaneEndsView, ReceiverEndView, SenderEndView, entered, transmitted, after_transmission, wire_after_transmit, all_but_first, delivered, after_deliver, dllp_of, after_send, wire_after_send, dllp_seen, sender_after, after_timer, after_retraining, after_take}
 use Rattle.fabric_laws.specs.Fabric.{Fabric}
-use Rattle.fabric_core.specs.declared.event.Event.{Event}
-use Rattle.fabric_core.specs.declared.event.Event.TheVariants as events
-use Rattle.fabric_core.specs.declared.event.LaneName.{LaneName}
-use Rattle.fabric_core.specs.declared.event.LaneName.TheVariants as lanes
-use Rattle.fabric_core.specs.declared.event.LinkEvent.{LinkEvent}
-use Rattle.fabric_core.specs.declared.event.LinkEvent.TheVariants as links
-use Rattle.fabric_core.specs.declared.event.Seen.{Seen}
-use Rattle.fabric_core.specs.declared.event.Seen.TheVariants as seen
-use Rattle.fabric_core.specs.declared.events.LinkSeen.{LinkSeen}
-use Rattle.fabric_core.specs.declared.events.LinkSeen.TheVariants as link_seen
+use Rattle.fabric_events.specs.declared.event.Event.{Event}
+use Rattle.fabric_events.specs.declared.event.Event.TheVariants as events
+use Rattle.fabric_events.specs.declared.event.LaneName.{LaneName}
+use Rattle.fabric_events.specs.declared.event.LaneName.TheVariants as lanes
+use Rattle.fabric_events.specs.declared.event.LinkEvent.{LinkEvent}
+use Rattle.fabric_events.specs.declared.event.LinkEvent.TheVariants as links
+use Rattle.fabric_events.specs.declared.event.Seen.{Seen}
+use Rattle.fabric_events.specs.declared.event.Seen.TheVariants as seen
 use Rattle.fabric_core.specs.declared.fault.Refusal.{Refusal}
 use Rattle.fabric_core.specs.declared.fault.Refusal.TheVariants as refusals
 
@@ -183,15 +181,6 @@ link_on e (links.SendDllp kind) = map_ok (send_dllp_on e.receiver e.back kind) (
 link_on e (links.DeliverDllp fate) = map_ok (deliver_dllp_on e.back e.sender fate) (λ x. (seen.SeenDllp x.0, record e { back = x.1; sender = x.2 }))
 link_on e links.Timer = map_ok (timer_on e.sender) (λ x. (seen.Back x.0, record e { sender = x.1 }))
 link_on e links.Retrained = map_ok (retrained_on e.sender) (λ s. (seen.Retrained, record e { sender = s }))
-
--- what is seen of a call of a link, as of an event
-abbrev pub seen_of : LinkSeen → Seen
-seen_of (link_seen.Sent n) = seen.Sent n
-seen_of (link_seen.Delivered arrival) = seen.Delivered arrival
-seen_of (link_seen.SentDllp d) = seen.SentDllp d
-seen_of (link_seen.SeenDllp s) = seen.SeenDllp s
-seen_of (link_seen.Back places) = seen.Back places
-seen_of link_seen.Retrained = seen.Retrained
 
 abbrev pub link_at : Fabric → LaneName → LinkEvent → Result (Seen × Fabric) Refusal
 link_at f name event = and_then (lane_at f name) (λ e. map_ok (link_on e event) (λ x. (x.0, with_lane f name x.1)))

@@ -3,9 +3,9 @@ ghost use Rattle.std.specs.Prelude.{◌≡◌, ◌↔◌, ◌<◌, ◌≤◌, �
 ghost use Rattle.std.specs.Result.{result_ok};
 
 use crate::config::Config;
-use crate::event::{Event, LaneName, LinkEvent, Seen};
-use crate::events::{self, LinkSeen};
+use crate::events;
 use crate::fault::Refusal;
+use fabric_events::{EventForm, LaneName, LinkEvent, SeenForm};
 use fc_credit::LaneCredits;
 use lane_core::LaneEnds;
 use requester_core::{Answer, Requester};
@@ -42,7 +42,10 @@ impl Model for Parts {
 
 ghost use Rattle.requester_core.specs.RequesterView.{RequesterView};
 ghost use Rattle.lane_ends.specs.Steps.{LaneEndsView, IsShort};
-ghost use Rattle.fabric_core.specs.Answers.{Refuses, link_grows, seen_of, part_at, lane_at, link_at, submit_at, forward_at, serve_at, collect_at, SubmitFits, ForwardFits, ServeFits, Happens, Refused};
+ghost use Rattle.fabric_events.specs.declared.event.Event as Event;
+ghost use Rattle.fabric_events.specs.declared.event.Seen as Seen;
+ghost use Rattle.fabric_events.specs.Lent.{owned_event, owned_seen};
+ghost use Rattle.fabric_core.specs.Answers.{Refuses, link_grows, part_at, lane_at, link_at, submit_at, forward_at, serve_at, collect_at, SubmitFits, ForwardFits, ServeFits, Happens, Refused};
 ghost use Rattle.fabric_core.specs.Steps.{IsNoPort, HasLanes};
 ghost use Rattle.fabric_core.specs.Config.{config_of};
 ghost use Rattle.fabric_core.specs.Quiet.{AreStill, IsStillFabric, AreShort, HaveTags};
@@ -146,8 +149,8 @@ impl Parts {
     }
 
     /// A call of the link of a lane.
-    fn link(&mut self, name: LaneName, event: LinkEvent) -> Result<LinkSeen, Refusal>
-        ensures answers { IfOk result (λ what. link_at self.old name event ≡ Ok (seen_of what, self.new)) }
+    fn link(&mut self, name: LaneName, event: LinkEvent) -> Result<SeenForm<'static>, Refusal>
+        ensures answers { IfOk result (λ what. link_at self.old name event ≡ Ok (owned_seen what, self.new)) }
         ensures refuses { IfErr result (λ r. Refuses (λ x. link_grows x.0) (link_at self.old name event) r) }
         ensures err { OnErr result (self.new ≡ self.old) }
     {
@@ -243,40 +246,53 @@ impl Parts {
         events::collect(&mut lane.receiver, requester)
     }
 
-    fn forward(&mut self, name: LaneName, place: usize) -> Result<Seen, Refusal>
+    /// The oldest completion's answer is put into the room.
+    fn collect_into<'a>(&mut self, port: u8, room: &'a mut Answer) -> Result<SeenForm<'a>, Refusal>
+        requires { length self.old.down ≡ length self.old.requesters }
+        ensures answers { IfOk result (λ what. collect_at self.old port ≡ Ok (owned_seen what, self.new)) }
+        ensures refuses { IfErr result (λ r. collect_at self.old port ≡ Err r) }
+        ensures err { OnErr result (self.new ≡ self.old) }
+    {
+        *room = self.collect(port)?;
+        Ok(SeenForm::Collected(room))
+    }
+
+    fn forward(&mut self, name: LaneName, place: usize) -> Result<u8, Refusal>
         requires { length self.old.up ≤ 7 }
-        ensures answers { IfOk result (λ what. forward_at self.old name place ≡ Ok (what, self.new)) }
+        ensures answers { IfOk result (λ to. forward_at self.old name place ≡ Ok (Seen.To to, self.new)) }
         ensures refuses { IfErr result (λ r. Refused self.old (Event.Forward name place) r) }
         ensures fits { OnOk result ((e : LaneEndsView) → lane_at self.old name ≡ Ok e → ForwardFits e.receiver place) }
         ensures err { OnErr result (self.new ≡ self.old) }
     {
         match name {
-            LaneName::Up(port) => Ok(Seen::To(self.forward_up(port, place)?)),
-            LaneName::Outward => Ok(Seen::To(self.forward_out(place)?)),
+            LaneName::Up(port) => self.forward_up(port, place),
+            LaneName::Outward => self.forward_out(place),
             LaneName::Inward | LaneName::Down(_) => Err(Refusal::NoSuchPart),
         }
     }
 
-    /// An event, and what is seen of it. After a refusal all is as it was.
-    pub(crate) fn step(&mut self, event: &Event) -> Result<Seen, Refusal>
+    /// An event, and what is seen of it. An answer is put into the room. After a refusal all is as it was.
+    pub(crate) fn step<'a>(
+        &mut self,
+        event: EventForm<'_>,
+        room: &'a mut Answer,
+    ) -> Result<SeenForm<'a>, Refusal>
         requires { HasLanes self.old }
-        ensures ok { IfOk result (λ what. Happens self.old event.now what self.new) }
-        ensures refused { IfErr result (λ r. Refused self.old event.now r) }
+        ensures ok { IfOk result (λ what. Happens self.old (owned_event event.entry) (owned_seen what) self.new) }
+        ensures refused { IfErr result (λ r. Refused self.old (owned_event event.entry) r) }
         ensures err { OnErr result (self.new ≡ self.old) }
     {
         match event {
-            Event::Submit(port, op) => Ok(Seen::Submitted(self.submit(*port, op)?)),
-            Event::Transmit(lane) => Ok(self.link(*lane, LinkEvent::Transmit)?.seen()),
-            Event::Deliver(lane, fate) => Ok(self.link(*lane, LinkEvent::Deliver(*fate))?.seen()),
-            Event::SendDllp(lane, kind) => Ok(self.link(*lane, LinkEvent::SendDllp(*kind))?.seen()),
-            Event::DeliverDllp(lane, fate) => Ok(
-                self.link(*lane, LinkEvent::DeliverDllp(*fate))?.seen(),
-            ),
-            Event::Timer(lane) => Ok(self.link(*lane, LinkEvent::Timer)?.seen()),
-            Event::Retrained(lane) => Ok(self.link(*lane, LinkEvent::Retrained)?.seen()),
-            Event::Forward(lane, place) => self.forward(*lane, *place),
-            Event::Serve(place) => Ok(Seen::At(self.serve(*place)?)),
-            Event::Collect(port) => Ok(Seen::Collected(self.collect(*port)?)),
+            EventForm::Submit(port, op) => Ok(SeenForm::Submitted(self.submit(port, op)?)),
+            EventForm::Transmit(lane) => self.link(lane, LinkEvent::Transmit),
+            EventForm::Deliver(lane, fate) => self.link(lane, LinkEvent::Deliver(fate)),
+            EventForm::SendDllp(lane, kind) => self.link(lane, LinkEvent::SendDllp(kind)),
+            EventForm::DeliverDllp(lane, fate) => self.link(lane, LinkEvent::DeliverDllp(fate)),
+            EventForm::Timer(lane) => self.link(lane, LinkEvent::Timer),
+            EventForm::Retrained(lane) => self.link(lane, LinkEvent::Retrained),
+            EventForm::Forward(lane, place) => Ok(SeenForm::To(self.forward(lane, place)?)),
+            EventForm::Serve(place) => Ok(SeenForm::At(self.serve(place)?)),
+            EventForm::Collect(port) => self.collect_into(port, room),
         }
     }
 }

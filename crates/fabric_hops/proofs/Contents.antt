@@ -11,9 +11,9 @@ use Rattle.vc_queue.specs.Queue.{Item, is_takeable}
 use Rattle.lane_ends.specs.Steps.{LaneEndsView, ReceiverEndView, SenderEndView, may_enter, entered, after_take}
 use Rattle.lane_core.specs.Calls.{Call, Enter, Take, IsCall, after_call, content, content_after, on_the_way, IsRightWith, IsRight}
 use Rattle.fabric_laws.specs.ListFacts.{get_before}
-use Rattle.fabric_core.specs.declared.event.LinkEvent.{LinkEvent}
-use Rattle.fabric_core.specs.declared.event.LinkEvent.TheVariants as links
-use Rattle.fabric_core.specs.declared.event.Seen.{Seen}
+use Rattle.fabric_events.specs.declared.event.LinkEvent.{LinkEvent}
+use Rattle.fabric_events.specs.declared.event.LinkEvent.TheVariants as links
+use Rattle.fabric_events.specs.declared.event.Seen.{Seen}
 use Rattle.fabric_core.specs.ByParts.{Enters, IsAt, Links, call_of}
 use Rattle.fabric_hops.specs.Hops.{hops_of, hops_in}
 

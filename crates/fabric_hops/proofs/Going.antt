@@ -31,9 +31,9 @@ use Rattle.fabric_laws.specs.Fabric.{Fabric, whole_of}
 use Rattle.fabric_laws.specs.ListFacts.{each_at, get_before}
 use Rattle.fabric_laws.specs.Routed.{HasPort, FitsStatus, IsRouted}
 use Rattle.fabric_laws.specs.Sound.{Sound}
-use Rattle.fabric_core.specs.declared.event.Event.{Event}
-use Rattle.fabric_core.specs.declared.event.Event.TheVariants as events
-use Rattle.fabric_core.specs.declared.event.LaneName.TheVariants as lanes
+use Rattle.fabric_events.specs.declared.event.Event.{Event}
+use Rattle.fabric_events.specs.declared.event.Event.TheVariants as events
+use Rattle.fabric_events.specs.declared.event.LaneName.TheVariants as lanes
 use Rattle.fabric_core.specs.declared.fault.Refusal.{Refusal}
 use Rattle.fabric_core.specs.declared.fault.Refusal.TheVariants as refusals
 use Rattle.fabric_core.specs.Answers.{answer, some_or, map_err, enter_on, enter_if_any, item_at, destination_on, forward_on}

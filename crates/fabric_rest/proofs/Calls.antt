@@ -11,10 +11,10 @@ use Rattle.lane_ends.specs.declared.packet.Fate.TheVariants.{Good}
 use Rattle.lane_ends.specs.declared.packet.WirePacket.{WirePacket}
 use Rattle.lane_ends.specs.Steps.{LaneEndsView, dllp_seen, dllp_of, is_expected, seen_by, arrival_of, packets_sent}
 use Rattle.lane_core.specs.Calls.{after_call, IsRight}
-use Rattle.fabric_core.specs.declared.event.LinkEvent.{LinkEvent}
-use Rattle.fabric_core.specs.declared.event.LinkEvent.TheVariants as links
-use Rattle.fabric_core.specs.declared.event.Seen.{Seen}
-use Rattle.fabric_core.specs.declared.event.Seen.TheVariants as seen
+use Rattle.fabric_events.specs.declared.event.LinkEvent.{LinkEvent}
+use Rattle.fabric_events.specs.declared.event.LinkEvent.TheVariants as links
+use Rattle.fabric_events.specs.declared.event.Seen.{Seen}
+use Rattle.fabric_events.specs.declared.event.Seen.TheVariants as seen
 use Rattle.fabric_core.specs.declared.fault.Refusal.{Refusal}
 use Rattle.fabric_core.specs.declared.fault.Refusal.TheVariants as refusals
 use Rattle.fabric_core.specs.Answers.{link_on}

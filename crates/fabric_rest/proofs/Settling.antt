@@ -2,7 +2,7 @@
 use Rattle.std.proofs.Common.{◌≡◌, ◌∙◌, ◌↔◌, ℕ, zero, suc, ◌+◌, ◌<◌, ◌≤◌, Bool, true, false, [], refl, sym, ap, subst, arith, IsOk, if◌then◌else◌}
 use Rattle.std.specs.Prelude.{fold}
 use Rattle.fabric_laws.specs.Fabric.{Fabric}
-use Rattle.fabric_core.specs.declared.event.Event.{Event}
+use Rattle.fabric_events.specs.declared.event.Event.{Event}
 use Rattle.fabric_core.specs.Answers.{answer}
 use Rattle.fabric_core.specs.Kept.{IsSoundFabric}
 use Rattle.fabric_core.specs.Quiet.{IsQuiet, AreShort, HaveTags}

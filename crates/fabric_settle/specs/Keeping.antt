@@ -2,8 +2,8 @@
 use Rattle.std.specs.Prelude.{◌≡◌, ◌⊎◌, true, List, ◌++◌, length}
 use Rattle.history_check.specs.declared.Record.{Record}
 use Rattle.fabric_laws.specs.Fabric.{Fabric}
-use Rattle.fabric_core.specs.declared.event.Event.{Event}
-use Rattle.fabric_core.specs.declared.event.Seen.{Seen}
+use Rattle.fabric_events.specs.declared.event.Event.{Event}
+use Rattle.fabric_events.specs.declared.event.Seen.{Seen}
 use Rattle.fabric_core.specs.declared.fault.Refusal.{Refusal}
 use Rattle.fabric_core.specs.Answers.{Happens, Refused}
 use Rattle.fabric_core.specs.Faults.{is_memory}

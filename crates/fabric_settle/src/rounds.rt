@@ -2,7 +2,7 @@
 ghost use Rattle.std.specs.Prelude.{◌≡◌, ◌≢◌, ◌+◌, ℕ, [], Some, false, fold, slice_get, OnOk, OnErr};
 ghost use Rattle.requester_core.specs.RequesterView.{RequesterView};
 ghost use Rattle.fabric_laws.specs.Whole.{open_number};
-ghost use Rattle.fabric_core.specs.declared.event.Event as events;
+ghost use Rattle.fabric_events.specs.declared.event.Event as events;
 ghost use Rattle.fabric_core.specs.Quiet.{IsQuiet};
 ghost use Rattle.fabric_hops.specs.Hops.{hops_left};
 ghost use Rattle.fabric_rest.specs.Rest.{EndsWithin};

@@ -1,6 +1,6 @@
 //! A round of events.
 ghost use Rattle.std.specs.Prelude.{◌≡◌, fold, IfOk, OnOk, OnErr};
-ghost use Rattle.fabric_core.specs.declared.event.Event as events;
+ghost use Rattle.fabric_events.specs.declared.event.Event as events;
 ghost use Rattle.fabric_settle.specs.Doing.{Does};
 ghost use Rattle.fabric_settle.specs.Keeping.{IsLossless, WantsMemory};
 ghost use Rattle.fabric_settle.specs.Reached.{Reached};

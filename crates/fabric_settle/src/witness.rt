@@ -1,7 +1,7 @@
 //! Who keeps something of a fabric's events.
 ghost use Rattle.std.specs.Prelude.{◌≡◌, ◌<◌, ◌++◌, ℕ, vec_len, vec_capacity, option_to_list, true, OnOk, OnErr, IfErr};
 ghost use Rattle.fabric_laws.specs.Fabric as fabrics;
-ghost use Rattle.fabric_core.specs.declared.event.Event as events;
+ghost use Rattle.fabric_events.specs.declared.event.Event as events;
 ghost use Rattle.fabric_core.specs.Answers.{answer};
 ghost use Rattle.fabric_core.specs.Faults.{is_memory};
 ghost use Rattle.fabric_core.specs.Runs.{has_record};

@@ -2,7 +2,7 @@
 ghost use Rattle.std.specs.Prelude.{◌≡◌, ◌≢◌, ◌+◌, ◌*◌, ◌++◌, ◌∷◌, [], ℕ, List, IfOk, IfErr, OnOk, OnErr};
 ghost use Rattle.std.specs.Io.KnownBytes.{Appends};
 ghost use Rattle.line_loop.specs.Run.{IsBeginning};
-ghost use Rattle.fabric_core.specs.declared.event.Event.{Event};
+ghost use Rattle.fabric_events.specs.declared.event.Event.{Event};
 ghost use Rattle.fabric_core.specs.Config.{IsNewWith};
 ghost use Rattle.script_text.specs.LineTexts.{event_line};
 ghost use Rattle.parameters.specs.declared.storm.Storm.{Storm};

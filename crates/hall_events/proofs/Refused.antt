@@ -8,12 +8,12 @@ use Rattle.requester_core.specs.declared.requester.Answer.{Answer}
 use Rattle.requester_core.specs.RequesterView.{RequesterView, finished}
 use Rattle.lane_ends.specs.Steps.{ReceiverEndView}
 use Rattle.fabric_laws.specs.Fabric.{Fabric}
-use Rattle.fabric_core.specs.declared.event.Event.{Event}
-use Rattle.fabric_core.specs.declared.event.Event.TheVariants as events
-use Rattle.fabric_core.specs.declared.event.LaneName.{LaneName}
-use Rattle.fabric_core.specs.declared.event.LaneName.TheVariants as lanes
-use Rattle.fabric_core.specs.declared.event.LinkEvent.{LinkEvent}
-use Rattle.fabric_core.specs.declared.event.LinkEvent.TheVariants as links
+use Rattle.fabric_events.specs.declared.event.Event.{Event}
+use Rattle.fabric_events.specs.declared.event.Event.TheVariants as events
+use Rattle.fabric_events.specs.declared.event.LaneName.{LaneName}
+use Rattle.fabric_events.specs.declared.event.LaneName.TheVariants as lanes
+use Rattle.fabric_events.specs.declared.event.LinkEvent.{LinkEvent}
+use Rattle.fabric_events.specs.declared.event.LinkEvent.TheVariants as links
 use Rattle.fabric_core.specs.declared.fault.Refusal.{Refusal}
 use Rattle.fabric_core.specs.declared.fault.Refusal.TheVariants.{NoSuchPart, Idle, Strange}
 use Rattle.fabric_core.specs.Answers.{part_at, lane_at, and_then, map_ok, map_err, some_or, collect_on}

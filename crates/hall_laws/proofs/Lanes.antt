@@ -3,8 +3,8 @@ use Rattle.std.proofs.Common.{◌≡◌, ℕ, zero, suc, ◌+◌, ◌*◌, ◌<�
 use Rattle.std.specs.Prelude.{slice_get}
 use Rattle.lane_ends.specs.Steps.{LaneEndsView}
 use Rattle.fabric_laws.specs.Fabric.{Fabric}
-use Rattle.fabric_core.specs.declared.event.LaneName.{LaneName}
-use Rattle.fabric_core.specs.declared.event.LaneName.TheVariants.{Up, Down, Inward, Outward}
+use Rattle.fabric_events.specs.declared.event.LaneName.{LaneName}
+use Rattle.fabric_events.specs.declared.event.LaneName.TheVariants.{Up, Down, Inward, Outward}
 use Rattle.fabric_core.specs.Steps.{HasLanes}
 use Rattle.hall_laws.specs.declared.part.PartValue.{PartValue}
 use Rattle.hall_laws.specs.declared.part.Part.{Part}

@@ -19,13 +19,13 @@ use Rattle.fabric_laws.specs.Lists.{Each}
 use Rattle.fabric_laws.specs.Fabric.{Fabric}
 use Rattle.fabric_laws.specs.Routed.{IsRouted}
 use Rattle.fabric_core.specs.declared.config.Config.{Config}
-use Rattle.fabric_core.specs.declared.event.Event.{Event}
-use Rattle.fabric_core.specs.declared.event.Event.TheVariants as events
-use Rattle.fabric_core.specs.declared.event.LaneName.{LaneName}
-use Rattle.fabric_core.specs.declared.event.LaneName.TheVariants as lanes
-use Rattle.fabric_core.specs.declared.event.LinkEvent.{LinkEvent}
-use Rattle.fabric_core.specs.declared.event.LinkEvent.TheVariants as links
-use Rattle.fabric_core.specs.declared.event.Seen.{Seen}
+use Rattle.fabric_events.specs.declared.event.Event.{Event}
+use Rattle.fabric_events.specs.declared.event.Event.TheVariants as events
+use Rattle.fabric_events.specs.declared.event.LaneName.{LaneName}
+use Rattle.fabric_events.specs.declared.event.LaneName.TheVariants as lanes
+use Rattle.fabric_events.specs.declared.event.LinkEvent.{LinkEvent}
+use Rattle.fabric_events.specs.declared.event.LinkEvent.TheVariants as links
+use Rattle.fabric_events.specs.declared.event.Seen.{Seen}
 use Rattle.fabric_core.specs.declared.fault.Refusal.{Refusal}
 use Rattle.fabric_core.specs.declared.fault.Refusal.TheVariants as refusals
 use Rattle.fabric_core.specs.Answers.{and_then, map_ok, some_or, item_at, enter_if_any, act_on, serve_on, submit_on, collect_on, destination_on, forward_on, link_on, link_at, part_at, lane_at, with_lane, with_requester, port_from, lane_to, or_no_port, answer, Happens}

@@ -9,8 +9,8 @@ use Rattle.requester_core.specs.RequesterView.{RequesterView}
 use Rattle.lane_ends.specs.declared.packet.WirePacket.{WirePacket}
 use Rattle.lane_ends.specs.Steps.{LaneEndsView, ReceiverEndView, SenderEndView}
 use Rattle.fabric_laws.specs.Fabric.{Fabric}
-use Rattle.fabric_core.specs.declared.event.LaneName.{LaneName}
-use Rattle.fabric_core.specs.declared.event.LaneName.TheVariants.{Up, Down, Inward, Outward}
+use Rattle.fabric_events.specs.declared.event.LaneName.{LaneName}
+use Rattle.fabric_events.specs.declared.event.LaneName.TheVariants.{Up, Down, Inward, Outward}
 pub use Rattle.fabric_core.specs.Steps.{HasLane, with_lane}
 use Rattle.fabric_core.specs.Steps.{HasLanes}
 use Rattle.hall_laws.specs.declared.part.PartValue.{PartValue}

@@ -3,7 +3,7 @@ use Rattle.std.specs.Prelude.{◌≡◌, ◌==◌, ◌<◌, ℕ, Bool, true, fal
 use Rattle.history_check.specs.declared.Record.{Record}
 use Rattle.fabric_laws.specs.Lists.{Each}
 use Rattle.fabric_laws.specs.Fabric.{Fabric}
-use Rattle.fabric_core.specs.declared.event.Event.{Event}
+use Rattle.fabric_events.specs.declared.event.Event.{Event}
 use Rattle.fabric_core.specs.Kept.{records_of}
 use Rattle.fabric_core.specs.Answers.{Happens}
 use Rattle.hall_laws.specs.declared.token.Done.{Done}

@@ -6,8 +6,8 @@ use Rattle.seq_memory.specs.declared.Entry.{Entry}
 use Rattle.seq_memory.specs.declared.Reply.{Reply}
 use Rattle.seq_memory.specs.History.{reply_at}
 use Rattle.history_check.specs.Trace.{stands, IsLawful}
-use Rattle.fabric_core.specs.declared.event.Event.TheVariants as events
-use Rattle.fabric_core.specs.declared.event.Seen.TheVariants as seen
+use Rattle.fabric_events.specs.declared.event.Event.TheVariants as events
+use Rattle.fabric_events.specs.declared.event.Seen.TheVariants as seen
 use Rattle.hall_laws.specs.declared.token.Knowledge.{Knowledge}
 use Rattle.hall_laws.specs.Waiting.{without}
 use Rattle.hall_laws.specs.Rule.{Traced, IsSoundTraced, Fits, Begins, with_done, extent_for}

@@ -1,6 +1,6 @@
 -- Lines whose operation is lent.
-use Rattle.fabric_core.specs.declared.event.Event.{Event}
-use Rattle.fabric_core.specs.declared.event.Event.TheVariants as events
+use Rattle.fabric_events.specs.declared.event.Event.{Event}
+use Rattle.fabric_events.specs.declared.event.Event.TheVariants as events
 use Rattle.tlp_core.specs.Lent.{owned, HasSizes}
 use Rattle.script_text.specs.declared.events.EventForm.{EventForm}
 use Rattle.script_text.specs.declared.events.EventForm.TheVariants as forms

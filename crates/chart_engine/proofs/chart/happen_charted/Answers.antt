@@ -1,6 +1,6 @@
 use Rattle.std.proofs.Common.{◌∙◌, sym, ap, Result}
 use Rattle.fabric_laws.specs.Fabric.{Fabric}
-use Rattle.fabric_core.specs.declared.event.Seen.{Seen}
+use Rattle.fabric_events.specs.declared.event.Seen.{Seen}
 use Rattle.fabric_core.specs.declared.fault.Refusal.{Refusal}
 use Rattle.chart_engine.specs.ChartWitnessView.{ChartWitnessView}
 use Rattle.chart_engine.specs.Chart.{session, left_by, refusal_in, refused_with}

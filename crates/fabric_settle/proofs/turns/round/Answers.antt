@@ -1,7 +1,7 @@
 use Rattle.std.proofs.Common.{◌≡◌, ℕ, ◌<◌, false, length, take, refl, subst, arith}
 use Rattle.std.specs.Prelude.{fold}
 use Rattle.std.proofs.lemmas.Result.{on_ok_weaker}
-use Rattle.fabric_core.specs.declared.event.LaneName.TheVariants as lanes
+use Rattle.fabric_events.specs.declared.event.LaneName.TheVariants as lanes
 use Rattle.fabric_settle.specs.Doing.{Does}
 use Rattle.fabric_rounds.specs.Rounds.{lane_turn, all_lanes}
 use Rattle.fabric_settle.proofs.RoundLemmas.{next_item, round_done}

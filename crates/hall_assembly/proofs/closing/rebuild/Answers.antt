@@ -1,7 +1,7 @@
 use Rattle.std.proofs.Common.{ℕ, List, Option, arith, refl, sym, ◌∙◌, subst}
 use Rattle.std.specs.Mem.Slots.{slots_items}
 use Rattle.fabric_laws.specs.Fabric.{Fabric}
-use Rattle.fabric_core.specs.declared.event.LaneName.TheVariants.{Inward, Outward}
+use Rattle.fabric_events.specs.declared.event.LaneName.TheVariants.{Inward, Outward}
 use Rattle.hall_laws.specs.declared.part.PartValue.{PartValue}
 use Rattle.hall_laws.specs.declared.part.PartValue.TheVariants.{Memory}
 use Rattle.hall_assembly.specs.Closes.{PartAt, EndsAt, StationsAt}
