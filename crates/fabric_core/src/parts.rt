@@ -42,8 +42,8 @@ impl Model for Parts {
 
 ghost use Rattle.requester_core.specs.RequesterView.{RequesterView};
 ghost use Rattle.lane_ends.specs.Steps.{LaneEndsView, IsShort};
-ghost use Rattle.fabric_events.specs.declared.event.Event as Event;
-ghost use Rattle.fabric_events.specs.declared.event.Seen as Seen;
+ghost use Rattle.fabric_events.specs.declared.event.Event.TheVariants as Event;
+ghost use Rattle.fabric_events.specs.declared.event.Seen.TheVariants as Seen;
 ghost use Rattle.fabric_events.specs.Lent.{owned_event, owned_seen};
 ghost use Rattle.fabric_core.specs.Answers.{Refuses, link_grows, part_at, lane_at, link_at, submit_at, forward_at, serve_at, collect_at, SubmitFits, ForwardFits, ServeFits, Happens, Refused};
 ghost use Rattle.fabric_core.specs.Steps.{IsNoPort, HasLanes};
