@@ -19,6 +19,7 @@ use seq12::Seq12;
 use tlp_core::{Op, OpForm, Width};
 
 /// Adds the digit of a value below 16, in capitals.
+#[inline(always)]
 fn put_digit(value: u8, out: &mut ArrayString<512>)
     requires value { value < 16 }
     requires room { array_string_len out.old + 1 ≤ 512 }
@@ -102,6 +103,7 @@ pub fn write_bytes(bytes: &[u8], out: &mut ArrayString<512>)
 }
 
 /// Adds a space and the two digits of each byte.
+#[inline(always)]
 fn put_word(bytes: &[u8], out: &mut ArrayString<512>)
     requires { array_string_len out.old + 2 * length bytes.now + 1 ≤ 512 }
     ensures text { out.new.bytes ≡ out.old.bytes ++ 32 ∷ encode_upper bytes.now }
@@ -112,6 +114,7 @@ fn put_word(bytes: &[u8], out: &mut ArrayString<512>)
 }
 
 /// Adds a space and the bytes of an operand of that width.
+#[inline(always)]
 fn put_number(width: Width, operand: u128, out: &mut ArrayString<512>)
     requires { array_string_len out.old + 33 ≤ 512 }
     ensures text { out.new.bytes ≡ out.old.bytes ++ 32 ∷ operand_word width operand }
@@ -123,6 +126,7 @@ fn put_number(width: Width, operand: u128, out: &mut ArrayString<512>)
 }
 
 /// Adds a space and the operand's bytes.
+#[inline(always)]
 fn put_operand(operand: &[u8], out: &mut ArrayString<512>)
     requires operand { IsOperand operand.now }
     requires room { array_string_len out.old + 33 ≤ 512 }
@@ -133,6 +137,7 @@ fn put_operand(operand: &[u8], out: &mut ArrayString<512>)
 }
 
 /// Adds a space before each of the byte enables.
+#[inline(always)]
 fn put_enables(first: u8, last: u8, out: &mut ArrayString<512>)
     requires { array_string_len out.old + 34 ≤ 512 }
     ensures text { out.new.bytes ≡ out.old.bytes ++ (32 ∷ hexadecimal first ++ 32 ∷ hexadecimal last) }
@@ -145,6 +150,7 @@ fn put_enables(first: u8, last: u8, out: &mut ArrayString<512>)
 }
 
 /// Adds the kind of an operation, with the space behind it, and its address.
+#[inline(always)]
 fn put_place(kind: &str, address: u64, out: &mut ArrayString<512>)
     requires kind { length kind.now ≤ 6 }
     requires room { array_string_len out.old + 22 ≤ 512 }
@@ -156,6 +162,7 @@ fn put_place(kind: &str, address: u64, out: &mut ArrayString<512>)
 }
 
 /// Adds a read's text.
+#[inline(always)]
 fn put_read(address: u64, dw: u16, first: u8, last: u8, out: &mut ArrayString<512>)
     requires { array_string_len out.old + 320 ≤ 512 }
     ensures text { out.new.bytes ≡ out.old.bytes ++ op_text (ops.Read address dw first last) }
@@ -168,6 +175,7 @@ fn put_read(address: u64, dw: u16, first: u8, last: u8, out: &mut ArrayString<51
 }
 
 /// Adds a write's text.
+#[inline(always)]
 fn put_write(address: u64, first: u8, last: u8, bytes: &[u8], out: &mut ArrayString<512>)
     requires few { length bytes.now ≤ 128 }
     requires room { array_string_len out.old + 320 ≤ 512 }
@@ -268,6 +276,7 @@ pub fn write_op_lent(op: &OpForm<'_>, out: &mut ArrayString<512>)
 }
 
 /// Adds the text of a reply with that data.
+#[inline(always)]
 fn put_data(bytes: &[u8], out: &mut ArrayString<512>)
     requires few { length bytes.now ≤ 128 }
     requires room { array_string_len out.old + 261 ≤ 512 }
