@@ -1,5 +1,5 @@
 -- Laws of digits, one by one.
-use Rattle.std.proofs.Common.{◌≡◌, ◌≢◌, ℕ, zero, suc, ◌+◌, ◌*◌, ◌/◌, ◌%◌, ◌<◌, ◌≤◌, ◌==◌, Bool, true, ◌&&◌, List, [], ◌∷◌, ◌++◌, length, take, drop, slice_index, Option, Some, None, unwrap_or, Result, Ok, Err, refl, ap, ◌∙◌, arith, inl, inr, add-zero}
+use Rattle.std.proofs.Common.{◌≡◌, ◌≢◌, ℕ, zero, suc, ◌+◌, ◌*◌, ◌/◌, ◌%◌, ◌<◌, ◌≤◌, ◌==◌, Bool, true, ◌&&◌, List, [], ◌∷◌, ◌++◌, length, take, drop, slice_index, Option, Some, None, unwrap_or, Result, Ok, Err, refl, ap, subst, ◌∙◌, arith, inl, inr, add-zero}
 use Rattle.std.specs.Prelude.{IsErr, nat_lt}
 use Rattle.std.specs.Str.{IsAscii}
 use Rattle.std.proofs.lemmas.Bool.Decides.{nat_tests}
@@ -8,7 +8,7 @@ use Rattle.std.specs.Option.{option_map_or}
 use Rattle.std.specs.Int.{bytes_low_first}
 use Rattle.hex.specs.Hex.{encode_with, encode_upper, upper_digits, hex_digit_value, digit_or_error, value_at, pair_value, ◌>>=◌}
 use Rattle.hex.specs.declared.error.FromHexError.{FromHexError}
-use Rattle.hex_text.specs.declared.tables.TheConstants.{FIRST_HIGH, FIRST_LOW, SECOND_HIGH, SECOND_LOW, PAIRS}
+use Rattle.hex_text.specs.declared.tables.TheConstants.{ADDED, PAIRS}
 
 -- ---- tables
 
@@ -17,49 +17,51 @@ hex_digit_value-small c v h = grind (arith)
 
 -- what a digit adds where it counts w times its value
 abbrev weighted : ℕ → Option ℕ → ℕ
-weighted w o = option_map_or (λ v. w * v) o 65536
+weighted w o = option_map_or (λ v. w * v) o 131072
 
--- the test that the table has that of the first n bytes
-abbrev has_digits : List ℕ → ℕ → ℕ → Bool
-has_digits t w zero = true
-has_digits t w (suc n) = (slice_index t n == weighted w (hex_digit_value n)) && has_digits t w n
+-- the test that the table has that of the first n bytes from place o on
+abbrev has_digits : List ℕ → ℕ → ℕ → ℕ → Bool
+has_digits t o w zero = true
+has_digits t o w (suc n) = (slice_index t (o + n) == weighted w (hex_digit_value n)) && has_digits t o w n
 
-digit-below : (t : List ℕ) (w n k : ℕ) → has_digits t w n ≡ true → k < n → slice_index t k ≡ weighted w (hex_digit_value k)
-digit-below t w zero k h lt = absurd (omega arith)
-digit-below t w (suc n) k h lt =
-    let parts = and_parts (slice_index t n == weighted w (hex_digit_value n)) (has_digits t w n) h in
+digit-below : (t : List ℕ) (o w n k : ℕ) → has_digits t o w n ≡ true → k < n → slice_index t (o + k) ≡ weighted w (hex_digit_value k)
+digit-below t o w zero k h lt = absurd (omega arith)
+digit-below t o w (suc n) k h lt =
+    let parts = and_parts (slice_index t (o + n) == weighted w (hex_digit_value n)) (has_digits t o w n) h in
     elim (cases_lt k n) [
-      | inl below ↦ digit-below t w n k parts.1 below
+      | inl below ↦ digit-below t o w n k parts.1 below
       | inr top ↦
           let e : k ≡ n = omega arith in
-          rw e (eqb-true (slice_index t n) (weighted w (hex_digit_value n)) parts.0)
+          rw e (eqb-true (slice_index t (o + n)) (weighted w (hex_digit_value n)) parts.0)
     ]
 
-most : (w : ℕ) (o : Option ℕ) → w ≤ 4096 → ((v : ℕ) → o ≡ Some v → v < 16) → weighted w o ≤ 65536
+most : (w : ℕ) (o : Option ℕ) → w ≤ 4096 → ((v : ℕ) → o ≡ Some v → v < 16) → weighted w o ≤ 131072
 most w (Some v) le small = let lt = small v refl in product w v le lt
   where
-    product : (w v : ℕ) → w ≤ 4096 → v < 16 → w * v ≤ 65536
+    product : (w v : ℕ) → w ≤ 4096 → v < 16 → w * v ≤ 131072
     product w v le lt = grind (arith)
 most w None le small = omega arith
 
-table-at : (t : List ℕ) (w k : ℕ) → has_digits t w 256 ≡ true → w ≤ 4096 → k < 256
-    → (slice_index t k ≡ weighted w (hex_digit_value k)) × (slice_index t k ≤ 65536)
-table-at t w k h le lt =
-    let e = digit-below t w 256 k h lt in
+table-at : (t : List ℕ) (o w k : ℕ) → has_digits t o w 256 ≡ true → w ≤ 4096 → k < 256
+    → (slice_index t (o + k) ≡ weighted w (hex_digit_value k)) × (slice_index t (o + k) ≤ 131072)
+table-at t o w k h le lt =
+    let e = digit-below t o w 256 k h lt in
     let m = most w (hex_digit_value k) le (hex_digit_value-small k) in
     (e, omega (arith, e, m))
 
-pub first_high-at : (k : ℕ) → k < 256 → (slice_index FIRST_HIGH k ≡ weighted 16 (hex_digit_value k)) × (slice_index FIRST_HIGH k ≤ 65536)
-first_high-at k lt = table-at FIRST_HIGH 16 k refl (omega arith) lt
+pub first_high-at : (k : ℕ) → k < 256 → (slice_index ADDED k ≡ weighted 16 (hex_digit_value k)) × (slice_index ADDED k ≤ 131072)
+first_high-at k lt =
+    let e : 0 + k ≡ k = omega arith in
+    subst (λ (i : ℕ). (slice_index ADDED i ≡ weighted 16 (hex_digit_value k)) × (slice_index ADDED i ≤ 131072)) e (table-at ADDED 0 16 k refl (omega arith) lt)
 
-pub first_low-at : (k : ℕ) → k < 256 → (slice_index FIRST_LOW k ≡ weighted 1 (hex_digit_value k)) × (slice_index FIRST_LOW k ≤ 65536)
-first_low-at k lt = table-at FIRST_LOW 1 k refl (omega arith) lt
+pub first_low-at : (k : ℕ) → k < 256 → (slice_index ADDED (256 + k) ≡ weighted 1 (hex_digit_value k)) × (slice_index ADDED (256 + k) ≤ 131072)
+first_low-at k lt = table-at ADDED 256 1 k refl (omega arith) lt
 
-pub second_high-at : (k : ℕ) → k < 256 → (slice_index SECOND_HIGH k ≡ weighted 4096 (hex_digit_value k)) × (slice_index SECOND_HIGH k ≤ 65536)
-second_high-at k lt = table-at SECOND_HIGH 4096 k refl (omega arith) lt
+pub second_high-at : (k : ℕ) → k < 256 → (slice_index ADDED (512 + k) ≡ weighted 4096 (hex_digit_value k)) × (slice_index ADDED (512 + k) ≤ 131072)
+second_high-at k lt = table-at ADDED 512 4096 k refl (omega arith) lt
 
-pub second_low-at : (k : ℕ) → k < 256 → (slice_index SECOND_LOW k ≡ weighted 256 (hex_digit_value k)) × (slice_index SECOND_LOW k ≤ 65536)
-second_low-at k lt = table-at SECOND_LOW 256 k refl (omega arith) lt
+pub second_low-at : (k : ℕ) → k < 256 → (slice_index ADDED (768 + k) ≡ weighted 256 (hex_digit_value k)) × (slice_index ADDED (768 + k) ≤ 131072)
+second_low-at k lt = table-at ADDED 768 256 k refl (omega arith) lt
 
 -- the test that the table has the digits of the bytes below n
 abbrev has_pairs : ℕ → Bool
@@ -149,17 +151,17 @@ pair_value-digits a b i high low ea eb la lb =
     rw (ha, hb) refl
 
 -- a digit adds its value
-adds : (w : ℕ) (o : Option ℕ) (x : ℕ) → x ≡ weighted w o → x < 65536 → x ≡ w * unwrap_or o 16
+adds : (w : ℕ) (o : Option ℕ) (x : ℕ) → x ≡ weighted w o → x < 131072 → x ≡ w * unwrap_or o 16
 adds w (Some v) x e lt = e
 adds w None x e lt = absurd (omega (arith, e, lt))
 
-counts : (w : ℕ) (o : Option ℕ) (x : ℕ) → ((v : ℕ) → o ≡ Some v → v < 16) → x ≡ weighted w o → x < 65536 → unwrap_or o 16 < 16
+counts : (w : ℕ) (o : Option ℕ) (x : ℕ) → ((v : ℕ) → o ≡ Some v → v < 16) → x ≡ weighted w o → x < 131072 → unwrap_or o 16 < 16
 counts w (Some v) x small e lt = small v refl
 counts w None x small e lt = absurd (omega (arith, e, lt))
 
 -- four digits are two bytes
 pub two_bytes-first : (a b c d i w x y z : ℕ) → w ≡ weighted 16 (hex_digit_value a) → x ≡ weighted 1 (hex_digit_value b) → y ≡ weighted 4096 (hex_digit_value c) → z ≡ weighted 256 (hex_digit_value d)
-    → w + x + y + z < 65536 → pair_value a b i ≡ Ok ((w + x + y + z) % 256)
+    → w + x + y + z < 131072 → pair_value a b i ≡ Ok ((w + x + y + z) % 256)
 two_bytes-first a b c d i w x y z ew ex ey ez lt =
     let u = unwrap_or (hex_digit_value a) 16 in
     let v = unwrap_or (hex_digit_value b) 16 in
@@ -172,7 +174,7 @@ two_bytes-first a b c d i w x y z ew ex ey ez lt =
     pair_value-digits a b i u v refl refl lu lv ∙ ap Ok (omega (arith, aw, ax, ay, az, lu, lv))
 
 pub two_bytes-second : (a b c d i w x y z : ℕ) → w ≡ weighted 16 (hex_digit_value a) → x ≡ weighted 1 (hex_digit_value b) → y ≡ weighted 4096 (hex_digit_value c) → z ≡ weighted 256 (hex_digit_value d)
-    → w + x + y + z < 65536 → pair_value c d i ≡ Ok ((w + x + y + z) / 256)
+    → w + x + y + z < 131072 → pair_value c d i ≡ Ok ((w + x + y + z) / 256)
 two_bytes-second a b c d i w x y z ew ex ey ez lt =
     let u = unwrap_or (hex_digit_value c) 16 in
     let v = unwrap_or (hex_digit_value d) 16 in
@@ -185,6 +187,20 @@ two_bytes-second a b c d i w x y z ew ex ey ez lt =
     let lu = counts 4096 (hex_digit_value c) y (hex_digit_value-small c) ey (omega (arith, lt)) in
     let lv = counts 256 (hex_digit_value d) z (hex_digit_value-small d) ez (omega (arith, lt)) in
     pair_value-digits c d i u v refl refl lu lv ∙ ap Ok (omega (arith, aw, ax, ay, az, la, lb, lu, lv))
+
+-- and those are below 65536
+pub four_digits-range : (a b c d w x y z : ℕ) → w ≡ weighted 16 (hex_digit_value a) → x ≡ weighted 1 (hex_digit_value b) → y ≡ weighted 4096 (hex_digit_value c) → z ≡ weighted 256 (hex_digit_value d)
+    → w + x + y + z < 131072 → w + x + y + z < 65536
+four_digits-range a b c d w x y z ew ex ey ez lt =
+    let aw = adds 16 (hex_digit_value a) w ew (omega (arith, lt)) in
+    let ax = adds 1 (hex_digit_value b) x ex (omega (arith, lt)) in
+    let ay = adds 4096 (hex_digit_value c) y ey (omega (arith, lt)) in
+    let az = adds 256 (hex_digit_value d) z ez (omega (arith, lt)) in
+    let la = counts 16 (hex_digit_value a) w (hex_digit_value-small a) ew (omega (arith, lt)) in
+    let lb = counts 1 (hex_digit_value b) x (hex_digit_value-small b) ex (omega (arith, lt)) in
+    let lu = counts 4096 (hex_digit_value c) y (hex_digit_value-small c) ey (omega (arith, lt)) in
+    let lv = counts 256 (hex_digit_value d) z (hex_digit_value-small d) ez (omega (arith, lt)) in
+    omega (arith, aw, ax, ay, az, la, lb, lu, lv)
 
 -- nothing comes of a step whose first part fails
 then_err : (r : Result ℕ FromHexError) (f : ℕ → Result ℕ FromHexError) → ((v : ℕ) → IsErr (f v)) → IsErr (r >>= f)

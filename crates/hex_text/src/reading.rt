@@ -1,5 +1,5 @@
 //! Reading the bytes of a line.
-ghost use Rattle.std.specs.Prelude.{◌≡◌, ◌≤◌, ℕ, take, ◌*◌, ◌/◌, [], true, false, Ok, IsErr, IfSome, IfNone, length};
+ghost use Rattle.std.specs.Prelude.{◌≡◌, ◌≤◌, ◌<◌, ℕ, take, ◌*◌, ◌/◌, ◌%◌, [], true, false, Ok, IsErr, IfSome, IfNone, length};
 ghost use Rattle.hex.specs.Hex.{decode_of, pair_value};
 ghost use Rattle.hex_text.specs.Line.{digits_of};
 
@@ -23,21 +23,46 @@ fn copy_digits(line: &[u8], room: &mut [u8; 512]) -> usize
     count
 }
 
+/// The number of four digits, two bytes of which the first is the low one; 131072 or more where one of
+/// them is no digit.
+#[inline(always)]
+fn number_of(a: u8, b: u8, c: u8, d: u8) -> u32
+    ensures range { result < 131072 → result < 65536 }
+    ensures first { (i : ℕ) → result < 131072 → pair_value a b i ≡ Ok (result % 256) }
+    ensures second { (i : ℕ) → result < 131072 → pair_value c d i ≡ Ok (result / 256) }
+    ensures most { result ≤ 524288 }
+{
+    first_high(a) + first_low(b) + second_high(c) + second_low(d)
+}
+
 /// The two bytes of four digits, none where one of them is no digit.
 #[inline(always)]
 fn two_bytes_of(a: u8, b: u8, c: u8, d: u8) -> Option<(u8, u8)>
     ensures first { (i : ℕ) → IfSome result (λ bytes. pair_value a b i ≡ Ok bytes.0) }
     ensures second { (i : ℕ) → IfSome result (λ bytes. pair_value c d i ≡ Ok bytes.1) }
 {
-    let number = first_high(a) + first_low(b) + second_high(c) + second_low(d);
-    if number >= 65536 {
+    let number = number_of(a, b, c, d);
+    if number >= 131072 {
         return None;
     }
     Some(((number % 256) as u8, (number / 256) as u8))
 }
 
+/// What stands behind a space at the front, if one is there.
+#[inline(always)]
+fn behind_space(line: &[u8]) -> &[u8]
+    ensures digits { digits_of result.now ≡ digits_of line.now }
+    ensures len { length result.now ≤ length line.now }
+{
+    match line {
+        [b' ', rest @ ..] => rest,
+        _ => line,
+    }
+}
+
 /// Reads the bytes of a line whose digits stand in groups of eight, as in most lines, to the front
 /// of `bytes`, and gives their number; none of other lines.
+#[inline(always)]
 fn read_groups(line: &[u8], bytes: &mut [u8; 256]) -> Option<usize>
     requires { length line.now ≤ 512 }
     ensures read { IfSome result (λ count. decode_of (digits_of line.now) ≡ Ok (take count bytes.new)) }
@@ -45,24 +70,20 @@ fn read_groups(line: &[u8], bytes: &mut [u8; 256]) -> Option<usize>
 {
     let mut count = 0;
     let mut rest = line;
-    while let [first, after @ ..] = rest {
-        if *first == b' ' {
-            rest = after;
-        } else {
-            let [a, b, c, d, e, f, g, h, after @ ..] = rest else {
-                return None;
-            };
-            let (first, second) = two_bytes_of(*a, *b, *c, *d)?;
-            let (third, fourth) = two_bytes_of(*e, *f, *g, *h)?;
-            bytes[count] = first;
-            bytes[count + 1] = second;
-            bytes[count + 2] = third;
-            bytes[count + 3] = fourth;
-            count += 4;
-            rest = after;
+    while let [a, b, c, d, e, f, g, h, after @ ..] = rest {
+        let low = number_of(*a, *b, *c, *d);
+        let high = number_of(*e, *f, *g, *h);
+        if low + high >= 131072 {
+            return None;
         }
+        bytes[count] = (low % 256) as u8;
+        bytes[count + 1] = (low / 256) as u8;
+        bytes[count + 2] = (high % 256) as u8;
+        bytes[count + 3] = (high / 256) as u8;
+        count += 4;
+        rest = behind_space(after);
     }
-    Some(count)
+    if rest.is_empty() { Some(count) } else { None }
 }
 
 /// Reads the bytes of the digits four at a time, and says whether it did: of digits of whole pairs of bytes.

@@ -1,7 +1,8 @@
-use Rattle.std.proofs.Common.{◌≡◌, ◌≢◌, ◌∙◌, ℕ, ◌+◌, ◌-◌, ◌*◌, ◌%◌, ◌<◌, ◌≤◌, ◌==◌, false, List, [], ◌∷◌, length, take, drop, get_or, Ok, refl, sym, ap, arith, length-drop}
+use Rattle.std.proofs.Common.{◌≡◌, ◌≢◌, ◌∙◌, ℕ, ◌+◌, ◌-◌, ◌*◌, ◌%◌, ◌<◌, ◌≤◌, ◌==◌, true, false, List, [], ◌∷◌, length, take, drop, get_or, Ok, refl, sym, ap, arith, length-drop}
 use Rattle.std.proofs.Math.ListN.{set}
 use Rattle.std.proofs.lemmas.Grind.{common_steps}
 use Rattle.std.proofs.lemmas.Bool.Decides.{nat_tests}
+use Rattle.std.proofs.lemmas.Bool.{eqb-true}
 use Rattle.std.proofs.lemmas.List.{append-nil, take_more_set, length-set}
 use Rattle.hex.specs.Hex.{decode_of, decode_pairs, pair_value}
 use Rattle.hex.proofs.Pairs.{prepend, prepend-cons_byte, decode_pairs-ok_pair, cons_byte}
@@ -52,12 +53,12 @@ one line bytes rest a b count next v e fits pair inv =
     ∙ prepend-cons_byte (take count bytes) v (decode_pairs (2 * next) (digits_of rest))
     ∙ ap (λ (t : List ℕ). prepend t (decode_pairs (2 * next) (digits_of rest))) (sym (take_more_set bytes count v fits) ∙ ap (λ (k : ℕ). take k (set bytes count v)) (sym e))
 
-read : (line bytes rest : List ℕ) (count va vb vc vd : ℕ) → 8 ≤ length rest → 2 * count + length rest ≤ 512 → length bytes ≡ 256
+read : (line bytes rest behind : List ℕ) (count va vb vc vd : ℕ) → 8 ≤ length rest → digits_of behind ≡ digits_of (after rest) → 2 * count + length rest ≤ 512 → length bytes ≡ 256
     → pair_value (get_or rest 0 0) (get_or rest 1 0) (2 * count) ≡ Ok va → pair_value (get_or rest 2 0) (get_or rest 3 0) (2 * (count + 1)) ≡ Ok vb
     → pair_value (get_or rest 4 0) (get_or rest 5 0) (2 * (count + 2)) ≡ Ok vc → pair_value (get_or rest 6 0) (get_or rest 7 0) (2 * (count + 3)) ≡ Ok vd
     → decode_pairs 0 line ≡ prepend (take count bytes) (decode_pairs (2 * count) (digits_of rest))
-    → decode_pairs 0 line ≡ prepend (take (count + 4) (set (set (set (set bytes count va) (count + 1) vb) (count + 2) vc) (count + 3) vd)) (decode_pairs (2 * (count + 4)) (digits_of (after rest)))
-read line bytes rest count va vb vc vd some room same pa pb pc pd inv =
+    → decode_pairs 0 line ≡ prepend (take (count + 4) (set (set (set (set bytes count va) (count + 1) vb) (count + 2) vc) (count + 3) vd)) (decode_pairs (2 * (count + 4)) (digits_of behind))
+read line bytes rest behind count va vb vc vd some space room same pa pb pc pd inv =
     let start = inv ∙ ap (λ (t : List ℕ). prepend (take count bytes) (decode_pairs (2 * count) (digits_of t))) (eight rest some) in
     let b1 = set bytes count va in
     let b2 = set b1 (count + 1) vb in
@@ -70,6 +71,7 @@ read line bytes rest count va vb vc vd some room same pa pb pc pd inv =
     let r2 = one line b1 (at 4 ∷ at 5 ∷ at 6 ∷ at 7 ∷ after rest) (at 2) (at 3) (count + 1) (count + 2) vb (omega arith) (omega (arith, some, room, s1)) pb r1 in
     let r3 = one line b2 (at 6 ∷ at 7 ∷ after rest) (at 4) (at 5) (count + 2) (count + 3) vc (omega arith) (omega (arith, some, room, s2)) pc r2 in
     one line b3 (after rest) (at 6) (at 7) (count + 3) (count + 4) vd (omega arith) (omega (arith, some, room, s3)) pd r3
+    ∙ ap (λ (t : List ℕ). prepend (take (count + 4) (set b3 (count + 3) vd)) (decode_pairs (2 * (count + 4)) t)) (sym space)
 
 less : (n a b v i : ℕ) (rest : List ℕ) → pair_value a b i ≡ Ok v → n % 2 ≡ length (digits_of (a ∷ b ∷ rest)) % 2 → n % 2 ≡ length (digits_of rest) % 2
 less n a b v i rest pair e =
@@ -87,10 +89,10 @@ even n rest i j k l va vb vc vd some pa pb pc pd e =
     let r3 = less n (at 4) (at 5) vc k (at 6 ∷ at 7 ∷ after rest) pc r2 in
     less n (at 6) (at 7) vd l (after rest) pd r3
 
-room : (rest : List ℕ) (count : ℕ) → 8 ≤ length rest → 2 * count + length rest ≤ 512 → 2 * (count + 4) + length (after rest) ≤ 512
-room rest count some h =
+room : (rest behind : List ℕ) (count : ℕ) → 8 ≤ length rest → length behind ≤ length (after rest) → 2 * count + length rest ≤ 512 → 2 * (count + 4) + length behind ≤ 512
+room rest behind count some less h =
     let len : length (after rest) ≡ length rest - 8 = ap length (after-drop rest) ∙ length-drop 8 rest in
-    omega (arith, some, h, len)
+    omega (arith, some, less, h, len)
 
 pub loop-rest-preserved : goal.loop-rest-preserved
 loop-rest-preserved c =
@@ -98,23 +100,26 @@ loop-rest-preserved c =
     let rest = c.loop-rest.rest.now in
     let count = c.loop-rest.count in
     let some = c.in-len8-up.len_at_least in
-    let pa = c.in_ok-first.ensures.first (2 * count) in
-    let pb = c.in_ok-first.ensures.second (2 * (count + 1)) in
-    let pc = c.in_ok-third.ensures.first (2 * (count + 2)) in
-    let pd = c.in_ok-third.ensures.second (2 * (count + 3)) in
+    let total = c.if-low-high-ge131072.false in
+    let lo : c.number_of-low.result < 131072 = omega (arith, total) in
+    let hi : c.number_of-high.result < 131072 = omega (arith, total) in
+    let pa = c.number_of-low.ensures.first (2 * count) lo in
+    let pb = c.number_of-low.ensures.second (2 * (count + 1)) lo in
+    let pc = c.number_of-high.ensures.first (2 * (count + 2)) hi in
+    let pd = c.number_of-high.ensures.second (2 * (count + 3)) hi in
     record {
-      read = read _ c.loop-rest.bytes rest count _ _ _ _ some h.room h.same pa pb pc pd h.read;
-      even = even _ rest (2 * count) (2 * (count + 1)) (2 * (count + 2)) (2 * (count + 3)) _ _ _ _ some pa pb pc pd h.even;
-      room = room rest count some h.room;
+      read = read _ c.loop-rest.bytes rest c.behind_space-rest.result.now count _ _ _ _ some c.behind_space-rest.ensures.digits h.room h.same pa pb pc pd h.read;
+      even = even _ rest (2 * count) (2 * (count + 1)) (2 * (count + 2)) (2 * (count + 3)) _ _ _ _ some pa pb pc pd h.even ∙ ap (λ (t : List ℕ). length t % 2) (sym c.behind_space-rest.ensures.digits);
+      room = room rest c.behind_space-rest.result.now count some c.behind_space-rest.ensures.len h.room;
       same = length-set _ (count + 3) _ ∙ length-set _ (count + 2) _ ∙ length-set _ (count + 1) _ ∙ length-set c.loop-rest.bytes count _ ∙ h.same;
     }
 
-done : (line : List ℕ) (bytes rest : List ℕ) (count : ℕ) → length rest < 1
+done : (line : List ℕ) (bytes rest : List ℕ) (count : ℕ) → (length rest == 0) ≡ true
     → decode_pairs 0 line ≡ prepend (take count bytes) (decode_pairs (2 * count) (digits_of rest))
     → length line % 2 ≡ length (digits_of rest) % 2 → decode_of line ≡ Ok (take count bytes)
 unfolding decode_pairs
 done line bytes [] count none read even = decode_of-even line even ∙ read ∙ ap Ok (append-nil (take count bytes))
-done line bytes (a ∷ rest) count none read even = absurd (omega arith)
+done line bytes (a ∷ rest) count none read even = absurd (let z = eqb-true (length (a ∷ rest)) 0 none in omega (arith, z))
 
-pub returns-clause-read : goal.returns-clause-read
-returns-clause-read c = done _ c.loop-rest.bytes c.loop-rest.rest.now c.loop-rest.count c.in_default.len_below c.loop-rest.invariant.read c.loop-rest.invariant.even
+pub returns-then-is_empty-clause-read : goal.returns-then-is_empty-clause-read
+returns-then-is_empty-clause-read c = done _ c.loop-rest.bytes c.loop-rest.rest.now c.loop-rest.count (sym c.is_empty.ensures ∙ c.if-is_empty.true) c.loop-rest.invariant.read c.loop-rest.invariant.even

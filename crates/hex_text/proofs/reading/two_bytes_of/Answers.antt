@@ -1,8 +1,0 @@
-use Rattle.hex_text.proofs.HexLemmas.{two_bytes-first, two_bytes-second}
-use Rattle.hex_text.proofs.reading.two_bytes_of.Goals as goal
-
-pub returns-clause-first : goal.returns-clause-first
-returns-clause-first c = λ i. two_bytes-first c.args.a c.args.b c.args.c c.args.d i _ _ _ _ c.first_high.ensures.value c.first_low.ensures.value c.second_high.ensures.value c.second_low.ensures.value c.if-number-ge65536.false
-
-pub returns-clause-second : goal.returns-clause-second
-returns-clause-second c = λ i. two_bytes-second c.args.a c.args.b c.args.c c.args.d i _ _ _ _ c.first_high.ensures.value c.first_low.ensures.value c.second_high.ensures.value c.second_low.ensures.value c.if-number-ge65536.false
