@@ -124,6 +124,7 @@ impl<F: Form> RecordReader<F> {
         self.misread(self.out_of_memory())
     }
 
+    #[inline(always)]
     fn count(&mut self)
         ensures { self.new ≡ reads.counted self.old }
     {
@@ -140,6 +141,7 @@ impl<F: Form> RecordReader<F> {
     }
 
     /// Counts a line after which that section goes on.
+    #[inline(always)]
     fn go_on(&mut self, section: Section)
         ensures { self.new ≡ reads.gone_on self.old section }
     {
@@ -161,6 +163,7 @@ impl<F: Form> RecordReader<F> {
     /// Takes a line, without the line feed and the carriage return that end it. Behind a fault
     /// nothing is read. `Err` tells that a growth was refused, for a line behind no fault; nothing was
     /// taken then.
+    #[inline(always)]
     pub fn line(&mut self, line: &[u8]) -> Result<(), AllocError>
         ensures ok { OnOk result (self.new ≡ reads.after_line F.grammar self.old line.now) }
         ensures err { OnErr result (self.new ≡ self.old) }

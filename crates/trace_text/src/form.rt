@@ -119,6 +119,7 @@ impl Form for TraceForm {
 
     ghost grammar = { trace_grammar };
 
+    #[inline(always)]
     fn take(&mut self, section: Section, text: &[u8]) -> Result<Taken, AllocError> {
         let line = match read_line(text, self.version, &mut self.room) {
             Ok(line) => line,
