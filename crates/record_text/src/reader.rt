@@ -33,7 +33,7 @@ fn misplaced(section: Section) -> ReadFaultKind
     ensures { result ≡ reads.misplaced section }
 {
     match section {
-        Section::Head => ReadFaultKind::Head,
+        Section::FirstLine => ReadFaultKind::Head,
         _ => ReadFaultKind::Section,
     }
 }
@@ -43,7 +43,7 @@ fn formless(section: Section) -> ReadFaultKind
     ensures { result ≡ reads.formless section }
 {
     match section {
-        Section::Head => ReadFaultKind::Head,
+        Section::FirstLine => ReadFaultKind::Head,
         _ => ReadFaultKind::Line,
     }
 }
@@ -54,7 +54,7 @@ impl<F: Form> RecordReader<F> {
         ensures { result ≡ reads.nothing_read form }
     {
         RecordReader {
-            section: Section::Head,
+            section: Section::FirstLine,
             lines: 0,
             fault: None,
             misfit: None,
@@ -205,7 +205,7 @@ impl<F: Form> RecordReader<F> {
             return Err(fault);
         }
         match self.section {
-            Section::Head => Err(self.fault_at_next(ReadFaultKind::Head)),
+            Section::FirstLine => Err(self.fault_at_next(ReadFaultKind::Head)),
             Section::Memory => Err(self.fault_at_next(ReadFaultKind::Line)),
             Section::Records | Section::History => {
                 Err(self.fault_at_next(ReadFaultKind::Section))
