@@ -6,7 +6,7 @@ ghost use Rattle.arrayvec.specs.ArrayString.{array_string_len};
 ghost use Rattle.flaw_places.specs.Places as spec;
 
 use arrayvec::ArrayString;
-use history_check::{AsClaim, Flaw, FlawKind, Record};
+use history_check::{AsClaim, Flaw, FlawKind};
 use operation_text::write_decimal;
 
 /// Whether a flaw of this kind is found at an entry of the history: then its place is the entry's index.
@@ -15,24 +15,6 @@ pub fn is_of_entry(kind: FlawKind) -> bool
     ensures { result ≡ spec.is_of_entry kind }
 {
     matches!(kind, FlawKind::Stranger | FlawKind::Twice | FlawKind::Order)
-}
-
-/// The requester and the number of a record's request.
-pub fn request_of_record(seen: &Record) -> (u8, u32)
-    ensures { result ≡ spec.request_of_record seen.now }
-{
-    match seen {
-        Record::Sub {
-            requester,
-            number,
-            ..
-        }
-        | Record::Ans {
-            requester,
-            number,
-            ..
-        } => (*requester, *number),
-    }
 }
 
 /// The requester and the number of the request that the flaw names. None where there is no flaw, or

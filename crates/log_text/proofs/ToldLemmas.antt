@@ -74,7 +74,7 @@ pub record Fields : Type 0 where
   pub memory : (has_block : Bool) (ws : List (List ℕ)) (x : Extent) → fields.memory_of has_block ws ≡ Some x → IsWithinLimits x
 
 abbrev LineTold : LogLine → Type 0
-LineTold lines.Head = Unit {0}
+LineTold lines.FirstLine = Unit {0}
 LineTold (lines.Memory x) = IsWithinLimits x
 LineTold (lines.Record r) = IsTellableRecord r
 LineTold lines.End = Unit {0}
@@ -84,7 +84,7 @@ Told l = IsTellable (claim_of (log_read l) [])
 
 -- a record more
 told-kept : (l : LogFormView) (line : LogLine) → Told l → LineTold line → Told (kept l line)
-told-kept l lines.Head h is = h
+told-kept l lines.FirstLine h is = h
 told-kept l (lines.Memory x) h is = record { limits = is; records_are = h.records_are; entries_are = h.entries_are }
 told-kept l (lines.Record r) h is = record {
   limits = h.limits;
@@ -125,7 +125,7 @@ module _ (known : Fields) where
 
   line-told : (line : List ℕ) (l : LogLine) → line_of line ≡ Some l → LineTold l
   line-told line l h =
-      either (LineTold l) (bytes_eq line (codes "pciex-log 1")) _ _ l (λ e. subst LineTold (some-is lines.Head l e) tt) (words-told (words line) l) h
+      either (LineTold l) (bytes_eq line (codes "pciex-log 1")) _ _ l (λ e. subst LineTold (some-is lines.FirstLine l e) tt) (words-told (words line) l) h
 
   -- ---- the lines one after the other
 
@@ -166,7 +166,7 @@ module _ (known : Fields) where
     where
       by : (f : Option ReadFault) (section : Section) → log_in (reads.fault_or_end f (record s { section = section })) ≡ Ok t → IsTellable (claim_of t [])
       by (Some f) section k = absurd (cc k)
-      by None sections.Head k = absurd (cc k)
+      by None sections.FirstLine k = absurd (cc k)
       by None sections.Memory k = absurd (cc k)
       by None sections.Records k = absurd (cc k)
       by None sections.History k = absurd (cc k)

@@ -33,11 +33,11 @@ line_in_words (kind ∷ ws) = line_by kind ws
 
 -- the line that the text spells
 abbrev pub line_of : List ℕ → Option LogLine
-line_of line = if bytes_eq line (codes "pciex-log 1") then Some lines.Head else line_in_words (words line)
+line_of line = if bytes_eq line (codes "pciex-log 1") then Some lines.FirstLine else line_in_words (words line)
 
 -- the section after a line, if the line is due in the section
 abbrev pub section_after : Section → LogLine → Option Section
-section_after sections.Head lines.Head = Some sections.Memory
+section_after sections.FirstLine lines.FirstLine = Some sections.Memory
 section_after sections.Memory (lines.Memory x) = Some sections.Records
 section_after sections.Records (lines.Record r) = Some sections.Records
 section_after sections.Records lines.End = Some sections.End

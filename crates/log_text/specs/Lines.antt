@@ -8,14 +8,14 @@ use Rattle.log_text.specs.declared.line.LineForm.{LineForm}
 use Rattle.log_text.specs.declared.line.LineForm.TheVariants as forms
 
 pub data LogLine : Type 0 where
-  Head : LogLine
+  FirstLine : LogLine
   Memory : Extent → LogLine
   Record : SeenRecord → LogLine
   End : LogLine
 
 -- the line that it is: a record's n is 0, it says nothing
 abbrev pub owned_line : LineForm → LogLine
-owned_line forms.Head = Head
+owned_line forms.FirstLine = FirstLine
 owned_line (forms.Memory x) = Memory x
 owned_line (forms.Sub i k op) = Record (records.Sub i k (owned op) 0)
 owned_line (forms.Ans i k reply) = Record (records.Ans i k (owned_reply reply) 0)

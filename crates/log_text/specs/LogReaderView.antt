@@ -27,7 +27,7 @@ no_log = record { extent = record { base = 0; size = 128; block = 64 }; records 
 abbrev pub kept : LogFormView → LogLine → LogFormView
 kept l (lines.Memory x) = record l { extent = x }
 kept l (lines.Record r) = record l { records = l.records ++ r ∷ [] }
-kept l lines.Head = l
+kept l lines.FirstLine = l
 kept l lines.End = l
 
 -- the list of records grows by records alone

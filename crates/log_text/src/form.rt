@@ -70,7 +70,7 @@ fn section_after(section: Section, line: &LineForm<'_>) -> Option<Section>
     ensures { result ≡ forms.section_after section (owned_line line.now) }
 {
     match (section, line) {
-        (Section::Head, LineForm::Head) => Some(Section::Memory),
+        (Section::FirstLine, LineForm::FirstLine) => Some(Section::Memory),
         (Section::Memory, LineForm::Memory(_)) => Some(Section::Records),
         (Section::Records, LineForm::Sub { .. } | LineForm::Ans { .. }) => Some(Section::Records),
         (Section::Records, LineForm::End) => Some(Section::End),
@@ -116,14 +116,14 @@ impl Form for LogForm {
                 reply: reply.to_owned(),
                 n: 0,
             })?,
-            LineForm::Head | LineForm::End => {}
+            LineForm::FirstLine | LineForm::End => {}
         }
         Ok(Taken::Kept(after))
     }
 
     fn expected(section: Section) -> Expected {
         match section {
-            Section::Head => HEAD,
+            Section::FirstLine => HEAD,
             Section::Memory => MEMORY,
             Section::Records | Section::History => RECORD,
             Section::End => NOTHING,

@@ -16,7 +16,7 @@ const LINE: Expected = Expected::Of("a line of a log", "pciex-log, memory, sub, 
 /// What a line of a log says: the bytes of its operation or its reply are lent.
 #[derive(Clone, Copy)]
 pub(crate) enum LineForm<'r> {
-    Head,
+    FirstLine,
     Memory(Extent),
     Sub {
         requester: u8,
@@ -109,7 +109,7 @@ pub(crate) fn read_line<'r>(
     ensures sized { IfOk result LendsSized }
 {
     if text == b"pciex-log 1".as_slice() {
-        Ok(LineForm::Head)
+        Ok(LineForm::FirstLine)
     } else {
         line_in_words(text, room)
     }

@@ -17,7 +17,7 @@ pub record RecordReaderView (F : Type 0) : Type 0 where
   pub form : F
 
 abbrev pub nothing_read : {F : Type 0} → F → RecordReaderView F
-nothing_read form = record { section = sections.Head; lines = 0; fault = None; form = form }
+nothing_read form = record { section = sections.FirstLine; lines = 0; fault = None; form = form }
 
 -- the number of the line that comes next, a number of 64 bits
 abbrev pub next_line : {F : Type 0} → RecordReaderView F → ℕ
@@ -39,11 +39,11 @@ faulty s kind = record s { lines = next_line s; fault = Some (fault_at_next s ki
 
 -- a line that isn't due, and one of no form: faults of the head where that is due
 abbrev pub misplaced : Section → ReadFaultKind
-misplaced sections.Head = faults.Head
+misplaced sections.FirstLine = faults.Head
 misplaced _ = faults.Section
 
 abbrev pub formless : Section → ReadFaultKind
-formless sections.Head = faults.Head
+formless sections.FirstLine = faults.Head
 formless _ = faults.Line
 
 -- a line after which that section goes on, if it is due
@@ -94,7 +94,7 @@ adds_by g s line = not (nat_lt 512 (length (bare line))) && adds_one g s (said l
 
 -- what is missing
 abbrev pub ended_in : {F : Type 0} → Section → RecordReaderView F → Result F ReadFault
-ended_in sections.Head s = Err (fault_at_next s faults.Head)
+ended_in sections.FirstLine s = Err (fault_at_next s faults.Head)
 ended_in sections.Memory s = Err (fault_at_next s faults.Line)
 ended_in sections.Records s = Err (fault_at_next s faults.Section)
 ended_in sections.History s = Err (fault_at_next s faults.Section)

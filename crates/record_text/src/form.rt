@@ -11,7 +11,7 @@ use std::alloc::AllocError;
 #[derive(Clone, Copy, Debug, PartialEq, Eq)]
 pub enum Section {
     /// The first line is due.
-    Head,
+    FirstLine,
     /// The memory's line is due.
     Memory,
     /// Submissions and answers.

@@ -33,7 +33,7 @@ fn misplaced(section: Section) -> ReadFaultKind
     ensures { result ≡ reads.misplaced section }
 {
     match section {
-        Section::Head => ReadFaultKind::Head,
+        Section::FirstLine => ReadFaultKind::Head,
         _ => ReadFaultKind::Section,
     }
 }
@@ -43,7 +43,7 @@ fn formless(section: Section) -> ReadFaultKind
     ensures { result ≡ reads.formless section }
 {
     match section {
-        Section::Head => ReadFaultKind::Head,
+        Section::FirstLine => ReadFaultKind::Head,
         _ => ReadFaultKind::Line,
     }
 }
@@ -54,7 +54,7 @@ impl<F: Form> RecordReader<F> {
         ensures { result ≡ reads.nothing_read form }
     {
         RecordReader {
-            section: Section::Head,
+            section: Section::FirstLine,
             lines: 0,
             fault: None,
             misfit: None,
@@ -124,6 +124,7 @@ impl<F: Form> RecordReader<F> {
         self.misread(self.out_of_memory())
     }
 
+    #[inline(always)]
     fn count(&mut self)
         ensures { self.new ≡ reads.counted self.old }
     {
@@ -140,6 +141,7 @@ impl<F: Form> RecordReader<F> {
     }
 
     /// Counts a line after which that section goes on.
+    #[inline(always)]
     fn go_on(&mut self, section: Section)
         ensures { self.new ≡ reads.gone_on self.old section }
     {
@@ -161,6 +163,7 @@ impl<F: Form> RecordReader<F> {
     /// Takes a line, without the line feed and the carriage return that end it. Behind a fault
     /// nothing is read. `Err` tells that a growth was refused, for a line behind no fault; nothing was
     /// taken then.
+    #[inline(always)]
     pub fn line(&mut self, line: &[u8]) -> Result<(), AllocError>
         ensures ok { OnOk result (self.new ≡ reads.after_line F.grammar self.old line.now) }
         ensures err { OnErr result (self.new ≡ self.old) }
@@ -202,7 +205,7 @@ impl<F: Form> RecordReader<F> {
             return Err(fault);
         }
         match self.section {
-            Section::Head => Err(self.fault_at_next(ReadFaultKind::Head)),
+            Section::FirstLine => Err(self.fault_at_next(ReadFaultKind::Head)),
             Section::Memory => Err(self.fault_at_next(ReadFaultKind::Line)),
             Section::Records | Section::History => {
                 Err(self.fault_at_next(ReadFaultKind::Section))

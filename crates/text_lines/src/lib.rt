@@ -13,6 +13,7 @@ ghost use Rattle.text_lines.specs.Lines.{is_skipped};
 pub const MAX_LINE: usize = 512;
 
 /// Whether a line, given without its line feed, has more bytes than a line may have.
+#[inline(always)]
 pub fn is_too_long(line: &[u8]) -> bool
     ensures { result ≡ nat_lt 512 (length line.now) }
 {
@@ -20,6 +21,7 @@ pub fn is_too_long(line: &[u8]) -> bool
 }
 
 /// The line without the carriage return at its end, if there is one.
+#[inline(always)]
 pub fn without_return(line: &[u8]) -> &[u8]
     ensures { result.now ≡ strip_last 13 line.now }
 {
@@ -30,6 +32,7 @@ pub fn without_return(line: &[u8]) -> &[u8]
 }
 
 /// Whether the line says nothing: it is empty, or begins with `#`.
+#[inline(always)]
 pub fn is_skipped(line: &[u8]) -> bool
     ensures { result ≡ is_skipped line.now }
 {

@@ -39,13 +39,6 @@ fn answers(head: Head, request: Request) -> bool {
     }
 }
 
-/// The length of the history at the record.
-fn moment(head: Head) -> u64 {
-    match head {
-        Head::Sub { n, .. } | Head::Ans { n, .. } => n,
-    }
-}
-
 /// The place of the request's submission.
 fn submission<C: AsClaim>(claim: &C, request: Request) -> Option<usize> {
     for place in 0..claim.records() {
@@ -91,7 +84,7 @@ impl<C: AsClaim> Case<'_, C> {
 
     /// The length of the history at the record; 0 if there is none.
     fn moment(&self, place: usize) -> u64 {
-        self.claim.head(place).map_or(0, moment)
+        self.claim.head(place).map_or(0, Head::moment)
     }
 
     /// Adds the request's place in the history, where it has one.

@@ -49,6 +49,7 @@ impl TraceLines {
     }
 
     /// Takes a line of the text. It grows where the line is skipped.
+    #[inline(always)]
     pub fn note(&mut self, line: &[u8]) -> Result<(), AllocError>
         ensures ok { OnOk result (self.new ≡ numbered self.old line.now) }
         ensures err { OnErr result (self.new ≡ self.old) }

@@ -144,6 +144,7 @@ impl<E: Write + Drop> Responder for Checker<E> {
 
     ghost responses = { check_responses };
 
+    #[inline(always)]
     fn on_line(&mut self, line: &[u8], _out: &mut Vec<u8>) -> Result<Verdict, AllocError> {
         self.lines.note(line)?;
         self.input.line(line)?;

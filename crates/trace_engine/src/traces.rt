@@ -23,6 +23,7 @@ use trace_text::{TraceReader, write_trace};
 /// Tells the reason of the first fault, if one was found so far and its reason is still to be told. It is that
 /// line's, if it is new. Without a fault the cause isn't asked for: most texts have none.
 #[tactic(auto, using(crate::proofs::Reasons::stays_known))]
+#[inline(always)]
 fn tell_reason<E: Write + Drop>(reader: &TraceReader, line: &[u8], reasons: &mut TraceReasons<E>)
     ensures { reasons.new.told ≡ first_of reasons.old.told (faulty_line reader.now) }
 {
@@ -68,6 +69,7 @@ impl<E: Write + Drop> TraceInput<E> {
     }
 
     /// Takes a line, without what ends it.
+    #[inline(always)]
     pub fn line(&mut self, line: &[u8]) -> Result<(), AllocError>
         ensures ok { OnOk result (self.new ≡ after_line self.old line.now) }
         ensures err { OnErr result (self.new ≡ self.old) }

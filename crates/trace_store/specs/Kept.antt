@@ -1,5 +1,6 @@
--- Operations and replies whose bytes stand in a list with those of others.
-use Rattle.std.specs.Prelude.{ℕ, ◌≡◌, ◌+◌, ◌≤◌, ◌⊎◌, List, length, take}
+-- Operations and replies whose bytes stand in their fields, or in a list with those of others.
+use Rattle.std.specs.Prelude.{ℕ, ◌≡◌, ◌+◌, ◌<◌, ◌≤◌, ◌⊎◌, nat_le, if◌then◌else◌, List, length, take, drop}
+use Rattle.byteorder.specs.Endian.{little_number}
 use Rattle.tlp_core.specs.declared.operation.Op.{Op}
 use Rattle.tlp_core.specs.declared.operation.Op.TheVariants as ops
 use Rattle.tlp_core.specs.Operation.{width_of}
@@ -13,30 +14,30 @@ use Rattle.trace_store.specs.declared.kept.ReplyKind.{ReplyKind}
 use Rattle.trace_store.specs.declared.kept.ReplyKind.TheVariants as reply_kinds
 use Rattle.trace_store.specs.declared.kept.Fields.{Fields}
 
--- how many bytes an operand has
-abbrev pub width_at : List ℕ → Fields → ℕ
-width_at bytes f = length (bytes_at bytes f.from f.count)
+-- so many bytes: up to 8 stand in the room, and more in the list, from the index in the room on
+abbrev pub held : List ℕ → List ℕ → ℕ → List ℕ
+held bytes room size = if nat_le size 8 then take size room else bytes_at bytes (little_number 8 room) size
 
--- the operand, of a CAS the one to compare
-abbrev pub operand_at : List ℕ → Fields → ℕ
-operand_at bytes f = number_of (bytes_at bytes f.from f.count)
+-- the bytes of a write or a reply, or of one operand
+abbrev pub held_in : List ℕ → Fields → List ℕ
+held_in bytes f = held bytes f.room f.count
 
--- the one behind it, to swap in
-abbrev pub swap_at : List ℕ → Fields → ℕ
-swap_at bytes f = number_of (bytes_at bytes (f.from + f.count) f.count)
+-- a CAS of two operands of so many bytes, one after the other
+abbrev pub cas_of : ℕ → ℕ → List ℕ → Op
+cas_of address count both = ops.Cas address (width_of (length (take count both))) (number_of (take count both)) (number_of (drop count both))
 
 -- the operation that is kept
 abbrev pub op_in : List ℕ → OpKind → Fields → Op
 op_in bytes op_kinds.Read f = ops.Read f.address f.count f.first f.last
-op_in bytes op_kinds.Write f = ops.Write f.address f.first f.last (record { items = bytes_at bytes f.from f.count })
-op_in bytes op_kinds.FetchAdd f = ops.FetchAdd f.address (width_of (width_at bytes f)) (operand_at bytes f)
-op_in bytes op_kinds.Swap f = ops.Swap f.address (width_of (width_at bytes f)) (operand_at bytes f)
-op_in bytes op_kinds.Cas f = ops.Cas f.address (width_of (width_at bytes f)) (operand_at bytes f) (swap_at bytes f)
+op_in bytes op_kinds.Write f = ops.Write f.address f.first f.last (record { items = held_in bytes f })
+op_in bytes op_kinds.FetchAdd f = ops.FetchAdd f.address (width_of (length (held_in bytes f))) (number_of (held_in bytes f))
+op_in bytes op_kinds.Swap f = ops.Swap f.address (width_of (length (held_in bytes f))) (number_of (held_in bytes f))
+op_in bytes op_kinds.Cas f = cas_of f.address f.count (held bytes f.room (f.count + f.count))
 
 -- the reply that is kept
 abbrev pub reply_in : List ℕ → ReplyKind → Fields → Reply
 reply_in bytes reply_kinds.Done f = replies.Done
-reply_in bytes reply_kinds.Data f = data_of (bytes_at bytes f.from f.count)
+reply_in bytes reply_kinds.Data f = data_of (held_in bytes f)
 reply_in bytes reply_kinds.Unsupported f = replies.Unsupported
 reply_in bytes reply_kinds.Aborted f = replies.Aborted
 
@@ -44,17 +45,21 @@ reply_in bytes reply_kinds.Aborted f = replies.Aborted
 abbrev pub IsWidth : ℕ → Type 0
 IsWidth count = (count ≡ 4) ⊎ (count ≡ 8) ⊎ (count ≡ 16)
 
--- the list has the operation's bytes
+-- the list has so many bytes, if they don't stand in the room
+abbrev pub Holds : List ℕ → List ℕ → ℕ → Type 0
+Holds bytes room size = 8 < size → little_number 8 room + size ≤ length bytes
+
+-- the operation's bytes are there
 abbrev pub HasOp : List ℕ → OpKind → Fields → Type 0
 HasOp bytes op_kinds.Read f = Unit {0}
-HasOp bytes op_kinds.Write f = (f.count ≤ 128) × (f.from + f.count ≤ length bytes)
-HasOp bytes op_kinds.FetchAdd f = IsWidth f.count × (f.from + f.count ≤ length bytes)
-HasOp bytes op_kinds.Swap f = IsWidth f.count × (f.from + f.count ≤ length bytes)
-HasOp bytes op_kinds.Cas f = IsWidth f.count × (f.from + f.count + f.count ≤ length bytes)
+HasOp bytes op_kinds.Write f = (f.count ≤ 128) × Holds bytes f.room f.count
+HasOp bytes op_kinds.FetchAdd f = IsWidth f.count × Holds bytes f.room f.count
+HasOp bytes op_kinds.Swap f = IsWidth f.count × Holds bytes f.room f.count
+HasOp bytes op_kinds.Cas f = IsWidth f.count × Holds bytes f.room (f.count + f.count)
 
--- the list has the reply's bytes
+-- the reply's bytes are there
 abbrev pub HasReply : List ℕ → ReplyKind → Fields → Type 0
-HasReply bytes reply_kinds.Data f = (f.count ≤ 128) × (f.from + f.count ≤ length bytes)
+HasReply bytes reply_kinds.Data f = (f.count ≤ 128) × Holds bytes f.room f.count
 HasReply bytes _ f = Unit {0}
 
 -- bytes stand behind the old ones

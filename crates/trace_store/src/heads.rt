@@ -1,4 +1,4 @@
-//! A record and an entry whose bytes stand in a list with those of others.
+//! A record and an entry whose bytes stand in their heads, or in a list with those of others.
 ghost use Rattle.std.specs.Prelude.{ℕ, ◌≡◌, List};
 ghost use Rattle.tlp_core.specs.Lent.{owned, HasSizes};
 ghost use Rattle.seq_memory.specs.Outcome.{reply_of};
@@ -25,7 +25,7 @@ pub(crate) enum RecordKind {
     Ans(ReplyKind),
 }
 
-/// A record but for its bytes, in 40 bytes.
+/// A record but for more than 8 bytes of data, in 40 bytes.
 #[derive(Clone, Copy)]
 pub(crate) struct RecordHead {
     pub fields: Fields,
@@ -35,7 +35,7 @@ pub(crate) struct RecordHead {
     pub kind: RecordKind,
 }
 
-/// An entry but for its bytes, in 32 bytes.
+/// An entry but for more than 8 bytes of data, in 32 bytes.
 #[derive(Clone, Copy)]
 pub(crate) struct EntryHead {
     pub fields: Fields,
@@ -81,13 +81,13 @@ impl RecordHead {
             RecordKind::Sub(kind) => Record::Sub {
                 requester,
                 number,
-                op: form_in(bytes, kind, self.fields).to_owned(),
+                op: form_in(bytes, kind, &self.fields).to_owned(),
                 n,
             },
             RecordKind::Ans(kind) => Record::Ans {
                 requester,
                 number,
-                reply: reply_form_in(bytes, kind, self.fields).to_owned(),
+                reply: reply_form_in(bytes, kind, &self.fields).to_owned(),
                 n,
             },
         }
@@ -101,7 +101,7 @@ impl RecordHead {
         ensures { result ≡ flaw.submits (owned op.now) (record_in bytes.now self.now) }
     {
         match self.kind {
-            RecordKind::Sub(kind) => is_same_op(op, &form_in(bytes, kind, self.fields)),
+            RecordKind::Sub(kind) => is_same_op(op, &form_in(bytes, kind, &self.fields)),
             RecordKind::Ans(_) => false,
         }
     }
@@ -115,7 +115,7 @@ impl RecordHead {
         match self.kind {
             RecordKind::Sub(_) => false,
             RecordKind::Ans(kind) => {
-                let reply = reply_form_in(bytes, kind, self.fields);
+                let reply = reply_form_in(bytes, kind, &self.fields);
                 is_outcome(&reply, made, room)
             }
         }
@@ -131,7 +131,7 @@ impl EntryHead {
         Entry {
             requester: self.requester,
             number: self.number,
-            op: form_in(bytes, self.kind, self.fields).to_owned(),
+            op: form_in(bytes, self.kind, &self.fields).to_owned(),
         }
     }
 
@@ -148,7 +148,7 @@ impl EntryHead {
         ensures bytes { bytes.new ≡ after extent.base extent.block bytes.old (op_in kept.now self.now.kind self.now.fields) }
         ensures reply { reply_of result room.new ≡ answer extent.base extent.block bytes.old (op_in kept.now self.now.kind self.now.fields) }
     {
-        match OpRef::new(form_in(kept, self.kind, self.fields)) {
+        match OpRef::new(form_in(kept, self.kind, &self.fields)) {
             Some(op) => perform_lent(extent.base(), extent.block(), bytes, &op, room),
             None => Outcome::Aborted,
         }

@@ -1,8 +1,8 @@
 //! A trace and a history in little memory.
 //!
-//! A [`TraceStore`] holds what a [`Trace`](history_check::Trace) and a history do, but the bytes of
-//! all operations and replies stand in one list, one behind the other, and each record or entry takes
-//! at most 40 bytes besides. Operations and replies are put in as they are lent.
+//! A [`TraceStore`] holds what a [`Trace`](history_check::Trace) and a history do, but each record or
+//! entry takes at most 40 bytes. Up to 8 bytes of data stand there, too, and more in one list, one
+//! behind the other. Operations and replies are put in as they are lent.
 #![tactic(auto)]
 
 mod heads;

@@ -11,7 +11,7 @@ ghost use Rattle.history_check.specs.Lookup.{is_told_at};
 ghost use Rattle.trace_store.specs.Heads.{record_in, entry_in, HasRecord, HasEntry};
 
 use crate::heads::{EntryHead, RecordHead, RecordKind};
-use crate::kept::{form_in, keep_op, keep_reply};
+use crate::kept::{EMPTY, form_in, keep_op, keep_reply};
 use history_check::{AsClaim, Head, Record, Trace};
 use seq_memory::{Entry, Extent, Outcome, ReplyData, ReplyForm};
 use std::alloc::{AllocError, Global};
@@ -139,7 +139,8 @@ impl TraceStore {
         ensures ok { OnOk result (self.new ≡ record self.old { records = self.old.records ++ Record.Sub requester number (owned op.now) n ∷ [] }) }
         ensures err { OnErr result (self.new ≡ self.old) }
     {
-        let (kind, fields) = keep_op(&mut self.bytes, op)?;
+        let mut fields = EMPTY;
+        let kind = keep_op(&mut self.bytes, op, &mut fields)?;
         self.records.push(RecordHead {
             fields,
             n,
@@ -163,7 +164,8 @@ impl TraceStore {
         ensures ok { OnOk result (self.new ≡ record self.old { records = self.old.records ++ Record.Ans requester number (owned_reply reply.now) n ∷ [] }) }
         ensures err { OnErr result (self.new ≡ self.old) }
     {
-        let (kind, fields) = keep_reply(&mut self.bytes, reply)?;
+        let mut fields = EMPTY;
+        let kind = keep_reply(&mut self.bytes, reply, &mut fields)?;
         self.records.push(RecordHead {
             fields,
             n,
@@ -181,7 +183,8 @@ impl TraceStore {
         ensures ok { OnOk result (self.new ≡ record self.old { memory = record self.old.memory { entries = self.old.memory.entries ++ (record { requester = requester; number = number; op = owned op.now }) ∷ [] } }) }
         ensures err { OnErr result (self.new ≡ self.old) }
     {
-        let (kind, fields) = keep_op(&mut self.bytes, op)?;
+        let mut fields = EMPTY;
+        let kind = keep_op(&mut self.bytes, op, &mut fields)?;
         self.entries.push(EntryHead {
             fields,
             number,
@@ -236,7 +239,7 @@ impl AsClaim for TraceStore {
         let Some(head) = self.entries.get(index) else {
             return false;
         };
-        let op = form_in(&self.bytes, head.kind, head.fields);
+        let op = form_in(&self.bytes, head.kind, &head.fields);
         submits_at(&self.bytes, &self.records, place, &op)
     }
 

@@ -82,7 +82,7 @@ abbrev pub EntryIs : Entry → Type 0
 EntryIs e = IsSpelled fields.requester e.requester × IsSpelled fields.number e.number × IsSpelled op_spelled e.op
 
 abbrev pub LineIs : Line → Type 0
-LineIs (lines.Head v) = Unit {0}
+LineIs (lines.FirstLine v) = Unit {0}
 LineIs (lines.Memory x) = IsSpelled address x.base × IsSpelled fields.count x.size × IsBlock x.block × (is_within_limits x ≡ true)
 LineIs (lines.Record r) = RecordIs r
 LineIs lines.History = Unit {0}
@@ -96,10 +96,10 @@ within x y ws h =
       | inr miss ↦ absurd (let k = rw miss at h in cc k)
     ]
 
-head-is : (ws : List (List ℕ)) (l : Line) → forms.head_of ws ≡ Some l → LineIs l
+head-is : (ws : List (List ℕ)) (l : Line) → forms.first_line_of ws ≡ Some l → LineIs l
 head-is ws l h =
-    let v = field-first forms.version (λ v. ended (lines.Head v)) ws l h in
-    subst LineIs (ended-is (lines.Head v.value) l v.rest v.follows) tt
+    let v = field-first forms.version (λ v. ended (lines.FirstLine v)) ws l h in
+    subst LineIs (ended-is (lines.FirstLine v.value) l v.rest v.follows) tt
 
 abbrev extent : ℕ → ℕ → ℕ → Extent
 extent base size block = record { base = base; size = size; block = block }

@@ -302,7 +302,7 @@ module _ (law : Laws) where
             ∙ ap (λ (es : List Entry). reading_on (at sections.History rest.0 x rs es) more) (append_assoc done (e ∷ []) es),
       )
 
-  head-line : IsLine versions.One (codes "pciex-trace 2") (lines.Head versions.Two)
+  head-line : IsLine versions.One (codes "pciex-trace 2") (lines.FirstLine versions.Two)
   unfolding are_printed
   head-line = record { printed = printed-is (codes "pciex-trace 2") refl; fits = omega arith; kept = refl; says = refl }
 
@@ -331,7 +331,7 @@ module _ (law : Laws) where
       let entered = on-entries x n2 rs [] es last h.entries_are in (
         min (entered.0 + 1) (2 ^ 64 - 1),
         ap (reading_on nothing_read) (trace_text-is c)
-            ∙ on-line nothing_read (codes "pciex-trace 2") first (lines.Head versions.Two) refl head-line
+            ∙ on-line nothing_read (codes "pciex-trace 2") first (lines.FirstLine versions.Two) refl head-line
             ∙ on-line (at sections.Memory n0 (record { base = 0; size = 128; block = 64 }) [] []) (memory_line c.memory) second (lines.Memory x) refl (memory-line c.memory h.base_is h.size_is h.block_is h.within)
             ∙ read.1
             ∙ on-line (at sections.Records read.0 x rs []) (codes "history") (lines_text (map entry_line es) ++ last) lines.History refl history-line

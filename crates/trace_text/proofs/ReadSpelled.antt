@@ -49,7 +49,7 @@ abbrev pub Own : TraceFormView → Type 0
 Own t = IsOwn t.extent t.records t.entries
 
 pub own-kept : (t : TraceFormView) (l : Line) → Own t → LineIs l → Own (kept t l)
-own-kept t (lines.Head v) h is = h
+own-kept t (lines.FirstLine v) h is = h
 own-kept t (lines.Memory x) h is = record { within = is.3; base_is = is.0; size_is = is.1; block_is = is.2; records_are = h.records_are; entries_are = h.entries_are }
 own-kept t (lines.Record r) h is = record { within = h.within; base_is = h.base_is; size_is = h.size_is; block_is = h.block_is; records_are = records-more t.records r h.records_are is; entries_are = h.entries_are }
 own-kept t lines.History h is = h
@@ -92,7 +92,7 @@ own-end s c h e = by s.fault s.section e
   where
     by : (f : Option ReadFault) (section : Section) → claim_in (reads.fault_or_end f (record s { section = section })) ≡ Ok c → OwnClaim c
     by (Some f) section k = absurd (cc k)
-    by None sections.Head k = absurd (cc k)
+    by None sections.FirstLine k = absurd (cc k)
     by None sections.Memory k = absurd (cc k)
     by None sections.Records k = absurd (cc k)
     by None sections.History k = absurd (cc k)

@@ -29,7 +29,7 @@ claim_by m rs es = record { memory = record { base = m.base; size = m.size; bloc
 
 -- what is written of what is kept, by the section
 abbrev text_so_far : Section → TraceFormView → List ℕ
-text_so_far sections.Head t = []
+text_so_far sections.FirstLine t = []
 text_so_far sections.Memory t = codes "pciex-trace 2\n"
 text_so_far sections.Records t = (codes "pciex-trace 2\n" ++ (memory_line (claim_by t.extent [] []).memory ++ 10 ∷ [])) ++ lines_text (map record_line t.records)
 text_so_far sections.History t = records_text (claim_by t.extent t.records []) ++ lines_text (map entry_line t.entries)
@@ -37,7 +37,7 @@ text_so_far sections.End t = (records_text (claim_by t.extent t.records []) ++ l
 
 -- lists are empty until their section
 abbrev IsInOrder : Section → TraceFormView → Type 0
-IsInOrder sections.Head t = (t.records ≡ []) × (t.entries ≡ [])
+IsInOrder sections.FirstLine t = (t.records ≡ []) × (t.entries ≡ [])
 IsInOrder sections.Memory t = (t.records ≡ []) × (t.entries ≡ [])
 IsInOrder sections.Records t = t.entries ≡ []
 IsInOrder sections.History t = Unit {0}
@@ -111,7 +111,7 @@ stays : (s : TraceReaderView) (l : Line) → IsInOrder s.section s.form → Plac
 stays s l h = record { is = refl; order = h }
 
 same-version : (t : TraceFormView) (l : Line) → version_after t.version l ≡ (kept t l).version
-same-version t (lines.Head v) = refl
+same-version t (lines.FirstLine v) = refl
 same-version t (lines.Memory m) = refl
 same-version t (lines.Record r) = refl
 same-version t lines.History = refl
@@ -127,25 +127,25 @@ goes-on s l next g =
     }
 
 places : (section : Section) (s : TraceReaderView) (l : Line) → IsInOrder section s.form → Places (record s { section = section }) l (section_after section l)
-places sections.Head s (lines.Head v) h = goes-on _ (lines.Head v) sections.Memory (record { text = refl; order = h })
-places sections.Head s (lines.Memory m) h = stays _ (lines.Memory m) h
-places sections.Head s (lines.Record r) h = stays _ (lines.Record r) h
-places sections.Head s lines.History h = stays _ lines.History h
-places sections.Head s (lines.Entry e) h = stays _ (lines.Entry e) h
-places sections.Head s lines.End h = stays _ lines.End h
-places sections.Memory s (lines.Head v) h = stays _ (lines.Head v) h
+places sections.FirstLine s (lines.FirstLine v) h = goes-on _ (lines.FirstLine v) sections.Memory (record { text = refl; order = h })
+places sections.FirstLine s (lines.Memory m) h = stays _ (lines.Memory m) h
+places sections.FirstLine s (lines.Record r) h = stays _ (lines.Record r) h
+places sections.FirstLine s lines.History h = stays _ lines.History h
+places sections.FirstLine s (lines.Entry e) h = stays _ (lines.Entry e) h
+places sections.FirstLine s lines.End h = stays _ lines.End h
+places sections.Memory s (lines.FirstLine v) h = stays _ (lines.FirstLine v) h
 places sections.Memory s (lines.Memory m) h = goes-on _ (lines.Memory m) sections.Records (goes-memory s.form m h)
 places sections.Memory s (lines.Record r) h = stays _ (lines.Record r) h
 places sections.Memory s lines.History h = stays _ lines.History h
 places sections.Memory s (lines.Entry e) h = stays _ (lines.Entry e) h
 places sections.Memory s lines.End h = stays _ lines.End h
-places sections.Records s (lines.Head v) h = stays _ (lines.Head v) h
+places sections.Records s (lines.FirstLine v) h = stays _ (lines.FirstLine v) h
 places sections.Records s (lines.Memory m) h = stays _ (lines.Memory m) h
 places sections.Records s (lines.Record r) h = goes-on _ (lines.Record r) sections.Records (goes-record s.form r h)
 places sections.Records s lines.History h = goes-on _ lines.History sections.History (goes-history s.form h)
 places sections.Records s (lines.Entry e) h = stays _ (lines.Entry e) h
 places sections.Records s lines.End h = stays _ lines.End h
-places sections.History s (lines.Head v) h = stays _ (lines.Head v) h
+places sections.History s (lines.FirstLine v) h = stays _ (lines.FirstLine v) h
 places sections.History s (lines.Memory m) h = stays _ (lines.Memory m) h
 places sections.History s (lines.Record r) h = stays _ (lines.Record r) h
 places sections.History s lines.History h = stays _ lines.History h
@@ -200,7 +200,7 @@ whole-text t = trace_text-by (claim_read t) (records_text (claim_read t)) (recor
 
 ends : (f : Option ReadFault) (section : Section) (s : TraceReaderView) → text_in (reads.fault_or_end f (rewriter_of (record s { section = section }))) ≡ text_of (claim_in (reads.fault_or_end f (record s { section = section })))
 ends (Some f) section s = refl
-ends None sections.Head s = refl
+ends None sections.FirstLine s = refl
 ends None sections.Memory s = refl
 ends None sections.Records s = refl
 ends None sections.History s = refl

@@ -23,8 +23,8 @@ abbrev pub has_block : Version → Bool
 has_block versions.One = false
 has_block versions.Two = true
 
-abbrev pub head_of : List (List ℕ) → Option Line
-head_of ws = field version (λ v. ended (lines.Head v)) ws
+abbrev pub first_line_of : List (List ℕ) → Option Line
+first_line_of ws = field version (λ v. ended (lines.FirstLine v)) ws
 
 abbrev pub memory_line_of : Version → List (List ℕ) → Option Line
 memory_line_of v ws = then_with (memory_of (has_block v) ws) (λ x. Some (lines.Memory x))
@@ -47,7 +47,7 @@ line_by v kind ws =
     else (if bytes_eq kind (codes "memory") then memory_line_of v ws
     else (if bytes_eq kind (codes "history") then ended lines.History ws
     else (if bytes_eq kind (codes "end") then ended lines.End ws
-    else (if bytes_eq kind (codes "pciex-trace") then head_of ws else None))))))
+    else (if bytes_eq kind (codes "pciex-trace") then first_line_of ws else None))))))
 
 -- the line that the words spell in a text of that version
 abbrev pub line_of : Version → List (List ℕ) → Option Line
@@ -56,7 +56,7 @@ line_of v (kind ∷ ws) = line_by v kind ws
 
 -- the section after a line, if the line is due in the section
 abbrev pub section_after : Section → Line → Option Section
-section_after sections.Head (lines.Head v) = Some sections.Memory
+section_after sections.FirstLine (lines.FirstLine v) = Some sections.Memory
 section_after sections.Memory (lines.Memory x) = Some sections.Records
 section_after sections.Records (lines.Record r) = Some sections.Records
 section_after sections.Records lines.History = Some sections.History

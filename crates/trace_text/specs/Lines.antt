@@ -10,7 +10,7 @@ use Rattle.trace_text.specs.declared.line.LineForm.{LineForm}
 use Rattle.trace_text.specs.declared.line.LineForm.TheVariants as forms
 
 pub data Line : Type 0 where
-  Head : Version → Line
+  FirstLine : Version → Line
   Memory : Extent → Line
   Record : SeenRecord → Line
   History : Line
@@ -19,7 +19,7 @@ pub data Line : Type 0 where
 
 -- the line that it is
 abbrev pub owned_line : LineForm → Line
-owned_line (forms.Head v) = Head v
+owned_line (forms.FirstLine v) = FirstLine v
 owned_line (forms.Memory x) = Memory x
 owned_line (forms.Sub i k n op) = Record (records.Sub i k (owned op) n)
 owned_line (forms.Ans i k n reply) = Record (records.Ans i k (owned_reply reply) n)

@@ -29,7 +29,7 @@ no_trace = record { version = versions.One; extent = record { base = 0; size = 1
 
 -- what is kept with a line that is due
 abbrev pub kept : TraceFormView → Line → TraceFormView
-kept t (lines.Head v) = record t { version = v }
+kept t (lines.FirstLine v) = record t { version = v }
 kept t (lines.Memory x) = record t { extent = x }
 kept t (lines.Record r) = record t { records = t.records ++ r ∷ [] }
 kept t (lines.Entry e) = record t { entries = t.entries ++ e ∷ [] }

@@ -19,7 +19,7 @@ pub record RewriteFormView : Type 0 where
 
 -- what a line adds to the text
 abbrev pub added : Line → List ℕ
-added (lines.Head v) = codes "pciex-trace 2\n"
+added (lines.FirstLine v) = codes "pciex-trace 2\n"
 added (lines.Memory x) = memory_line (record { base = x.base; size = x.size; block = x.block; entries = [] }) ++ 10 ∷ []
 added (lines.Record r) = record_line r ++ 10 ∷ []
 added lines.History = codes "history\n"
@@ -27,7 +27,7 @@ added (lines.Entry e) = entry_line e ++ 10 ∷ []
 added lines.End = codes "end\n"
 
 abbrev pub version_after : Version → Line → Version
-version_after v (lines.Head w) = w
+version_after v (lines.FirstLine w) = w
 version_after v _ = v
 
 abbrev pub written : RewriteFormView → Line → RewriteFormView

@@ -32,7 +32,7 @@ pub(crate) fn section_after(section: Section, line: &LineForm<'_>) -> Option<Sec
     ensures { result ≡ forms.section_after section (owned_line line.now) }
 {
     match (section, line) {
-        (Section::Head, LineForm::Head(_)) => Some(Section::Memory),
+        (Section::FirstLine, LineForm::FirstLine(_)) => Some(Section::Memory),
         (Section::Memory, LineForm::Memory(_)) => Some(Section::Records),
         (Section::Records, LineForm::Sub { .. } | LineForm::Ans { .. }) => Some(Section::Records),
         (Section::Records, LineForm::History) => Some(Section::History),
@@ -45,7 +45,7 @@ pub(crate) fn section_after(section: Section, line: &LineForm<'_>) -> Option<Sec
 /// The line that is due in the section.
 pub(crate) fn expected(section: Section) -> Expected {
     match section {
-        Section::Head => HEAD,
+        Section::FirstLine => HEAD,
         Section::Memory => MEMORY,
         Section::Records => RECORD,
         Section::History => ENTRY,
@@ -56,7 +56,7 @@ pub(crate) fn expected(section: Section) -> Expected {
 /// Whether a line that is due in the section begins with that word.
 pub(crate) fn begins_with(section: Section, word: &[u8]) -> bool {
     match section {
-        Section::Head => word == b"pciex-trace".as_slice(),
+        Section::FirstLine => word == b"pciex-trace".as_slice(),
         Section::Memory => word == b"memory".as_slice(),
         Section::Records => {
             word == b"sub".as_slice() || word == b"ans".as_slice() || word == b"history".as_slice()
@@ -119,6 +119,7 @@ impl Form for TraceForm {
 
     ghost grammar = { trace_grammar };
 
+    #[inline(always)]
     fn take(&mut self, section: Section, text: &[u8]) -> Result<Taken, AllocError> {
         let line = match read_line(text, self.version, &mut self.room) {
             Ok(line) => line,
@@ -128,7 +129,7 @@ impl Form for TraceForm {
             return Ok(Taken::NotDue);
         };
         match line {
-            LineForm::Head(version) => self.version = version,
+            LineForm::FirstLine(version) => self.version = version,
             LineForm::Memory(extent) => self.store.set_extent(extent),
             LineForm::Sub {
                 requester,

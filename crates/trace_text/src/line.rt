@@ -44,7 +44,7 @@ impl Version {
 /// What a line says: the bytes of its operation or its reply are lent.
 #[derive(Clone, Copy)]
 pub(crate) enum LineForm<'r> {
-    Head(Version),
+    FirstLine(Version),
     Memory(Extent),
     Sub {
         requester: u8,
@@ -78,12 +78,12 @@ fn next_version(rest: Option<&[u8]>) -> Result<(Version, Option<&[u8]>), Misfit>
     }
 }
 
-fn head<'r>(rest: Option<&[u8]>) -> Result<LineForm<'r>, Misfit>
-    ensures value { option_map owned_line (result_ok result) ≡ forms.head_of (words_behind rest.entry) }
+fn first_line<'r>(rest: Option<&[u8]>) -> Result<LineForm<'r>, Misfit>
+    ensures value { option_map owned_line (result_ok result) ≡ forms.first_line_of (words_behind rest.entry) }
     ensures sized { IfOk result LendsSized }
 {
     let (version, rest) = next_version(rest)?;
-    alone(LineForm::Head(version), rest)
+    alone(LineForm::FirstLine(version), rest)
 }
 
 fn memory_line<'r>(place: Option<&[u8]>, version: Version) -> Result<LineForm<'r>, Misfit>
@@ -170,7 +170,7 @@ fn line_by<'r>(
     } else if kind == b"end".as_slice() {
         alone(LineForm::End, rest)
     } else if kind == b"pciex-trace".as_slice() {
-        head(rest)
+        first_line(rest)
     } else {
         Err(LINE.at(Some(text)))
     }

@@ -75,7 +75,7 @@ impl Form for OwnedForm {
             return Ok(Taken::NotDue);
         };
         match line {
-            LineForm::Head(version) => self.version = version,
+            LineForm::FirstLine(version) => self.version = version,
             LineForm::Memory(extent) => self.extent = extent,
             LineForm::Sub {
                 requester,

@@ -55,6 +55,7 @@ impl TraceReader {
     /// Takes a line, without the line feed and the carriage return that end it. Behind a fault
     /// nothing is read. `Err` tells that a growth was refused, for a record or an entry behind no
     /// fault; nothing was taken then.
+    #[inline(always)]
     pub fn line(&mut self, line: &[u8]) -> Result<(), AllocError>
         ensures ok { OnOk result (self.new ≡ reads.after_line self.old line.now) }
         ensures err { OnErr result (self.new ≡ self.old) }

@@ -37,7 +37,7 @@ fn version_after(version: Version, line: &LineForm<'_>) -> Version
     ensures { result ≡ writes.version_after version (owned_line line.now) }
 {
     match line {
-        LineForm::Head(version) => *version,
+        LineForm::FirstLine(version) => *version,
         _ => version,
     }
 }

@@ -102,7 +102,7 @@ pub(crate) fn put_line(said: &LineForm<'_>, line: &mut ArrayString<512>)
     ensures { line.new.bytes ≡ added (owned_line said.now) }
 {
     match *said {
-        LineForm::Head(_) => line.push_str("pciex-trace 2\n"),
+        LineForm::FirstLine(_) => line.push_str("pciex-trace 2\n"),
         LineForm::Memory(extent) => put_memory(extent, line),
         LineForm::Sub {
             requester,
