@@ -151,8 +151,8 @@ impl Device {
             return tell(b"fault numbers\n", out);
         }
         let (base, block) = (self.extent.base(), self.extent.block());
-        let completion = answer_lent(base, block, &mut self.bytes, request, reply);
         self.counts[usize::from(request.header.requester / 256)] = number + 1;
+        let completion = answer_lent(base, block, &mut self.bytes, request, reply);
         tell_completion(&completion, room, out)
     }
 
