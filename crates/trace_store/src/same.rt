@@ -1,5 +1,5 @@
 //! Whether two operations or two replies are the same.
-ghost use Rattle.std.specs.Prelude.{◌≡◌, ◌&&◌, ◌==◌, length};
+ghost use Rattle.std.specs.Prelude.{◌≡◌, ◌&&◌, ◌==◌, length, bytes_eq};
 ghost use Rattle.tlp_core.specs.Operation.{size_of, width_of};
 ghost use Rattle.tlp_core.specs.Lent.{owned, number_of, IsOperand, HasSizes};
 ghost use Rattle.seq_memory.specs.Outcome.{reply_of, owned_reply};
@@ -7,6 +7,17 @@ ghost use Rattle.history_check.specs.Flaws as flaw;
 
 use seq_memory::{Outcome, ReplyForm};
 use tlp_core::{OpForm, operand_of};
+
+/// The same bytes. Of one DW, as most data, that is no call.
+#[inline(always)]
+fn are_same(left: &[u8], right: &[u8]) -> bool
+    ensures { result ≡ bytes_eq left.now right.now }
+{
+    match (left, right) {
+        ([a, b, c, d], [e, f, g, h]) => a == e && b == f && c == g && d == h,
+        _ => left == right,
+    }
+}
 
 /// The same operands, of one width.
 #[inline(always)]
@@ -55,7 +66,7 @@ pub(crate) fn is_same_op(left: &OpForm<'_>, right: &OpForm<'_>) -> bool
                 last: end,
                 bytes: written,
             },
-        ) => address == to && first == begin && last == end && bytes == written,
+        ) => address == to && first == begin && last == end && are_same(bytes, written),
         (
             OpForm::FetchAdd { address, operand },
             OpForm::FetchAdd {
@@ -93,7 +104,7 @@ pub(crate) fn is_outcome(reply: &ReplyForm<'_>, made: Outcome, room: &[u8]) -> b
 {
     match (*reply, made) {
         (ReplyForm::Done, Outcome::Done) => true,
-        (ReplyForm::Data(bytes), Outcome::Data) => bytes == room,
+        (ReplyForm::Data(bytes), Outcome::Data) => are_same(bytes, room),
         (ReplyForm::Unsupported, Outcome::Unsupported) => true,
         (ReplyForm::Aborted, Outcome::Aborted) => true,
         _ => false,
