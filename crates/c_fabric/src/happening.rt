@@ -47,7 +47,7 @@ fn step_untraced(fabric: &mut Fabric, last: &mut LastSeen, event: &Event) -> Res
     ensures err { OnErr result (fabric.new ≡ fabric.old) }
 {
     each_event_has_one_answer();
-    happen(fabric, last, 0, event)
+    happen(fabric, last, 0, event.lent())
 }
 
 /// An event happens to a fabric that keeps a trace, which grows by its record, and the text of what is seen of it is kept.
@@ -66,7 +66,7 @@ fn step_traced(
     each_event_keeps_it_sound();
     each_event_has_one_answer();
     fabric.sound();
-    happen(fabric, witness, 0, event)
+    happen(fabric, witness, 0, event.lent())
 }
 
 /// An event happens to the fabric, and to its trace where it keeps one.

@@ -1,6 +1,6 @@
 //! What a session keeps of its fabric's events.
 use arrayvec::ArrayString;
-use fabric_core::{Event, Fabric, Seen};
+use fabric_core::{EventForm, Fabric, SeenForm};
 use fabric_settle::Witness;
 use history_check::Record;
 use script_text::write_seen;
@@ -14,13 +14,14 @@ pub(crate) struct LastSeen {
 
 impl LastSeen {
     ghost use Rattle.std.specs.Prelude.{◌≡◌};
+    ghost use Rattle.fabric_events.specs.Lent.{owned_event, owned_seen};
     ghost use Rattle.script_text.specs.Texts.{seen_text};
 
-    fn put(&mut self, event: &Event, seen: &Seen)
-        ensures { self.new.text.bytes ≡ seen_text event.now seen.now }
+    fn put(&mut self, event: EventForm<'_>, seen: &SeenForm<'_>)
+        ensures { self.new.text.bytes ≡ seen_text (owned_event event.entry) (owned_seen seen.now) }
     {
         self.text.clear();
-        write_seen(event, seen, &mut self.text);
+        write_seen(&event.to_owned(), &seen.to_owned(), &mut self.text);
     }
 }
 
@@ -49,18 +50,18 @@ impl Witness for LastSeen {
 
     ghost may_lose = { Never };
 
-    fn make_room(&mut self, _event: &Event) -> Result<(), AllocError> {
+    fn make_room(&mut self, _event: EventForm<'_>) -> Result<(), AllocError> {
         Ok(())
     }
 
     fn saw(
         &mut self,
         _line: u64,
-        event: &Event,
-        seen: Seen,
+        event: EventForm<'_>,
+        seen: &SeenForm<'_>,
         _fabric: &Fabric,
     ) -> Result<(), AllocError> {
-        self.put(event, &seen);
+        self.put(event, seen);
         Ok(())
     }
 }
@@ -83,18 +84,18 @@ impl Witness for SessionWitness {
 
     ghost may_lose = { Never };
 
-    fn make_room(&mut self, event: &Event) -> Result<(), AllocError> {
+    fn make_room(&mut self, event: EventForm<'_>) -> Result<(), AllocError> {
         self.records.make_room(event)
     }
 
     fn saw(
         &mut self,
         line: u64,
-        event: &Event,
-        seen: Seen,
+        event: EventForm<'_>,
+        seen: &SeenForm<'_>,
         fabric: &Fabric,
     ) -> Result<(), AllocError> {
-        self.last.put(event, &seen);
+        self.last.put(event, seen);
         self.records.saw(line, event, seen, fabric)
     }
 }

@@ -96,7 +96,7 @@ fn happen_charted(
     ensures chart { OnOk result (chart.new ≡ (spec.left_by line (spec.session fabric.old chart.old) event (answer fabric.old event)).chart) }
     ensures refusal { IfOk result (λ r. r ≡ spec.refusal_in (answer fabric.old event)) }
 {
-    match happen(fabric, chart, line, &event) {
+    match happen(fabric, chart, line, event.lent()) {
         Ok(()) => Ok(None),
         Err(refusal) => {
             tell_refused(chart, line, event, refusal, fabric)?;

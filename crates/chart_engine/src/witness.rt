@@ -1,32 +1,14 @@
 //! The chart as a witness of a fabric's events.
 ghost use Rattle.std.specs.Prelude.{◌≡◌, ◌++◌, IfOk, OnOk, OnErr};
+ghost use Rattle.fabric_events.specs.Lent.{owned_event, owned_seen};
 ghost use Rattle.chart_engine.specs.Chart as spec;
 
 use chart_levels::{StepLine, show_all};
 use chart_links::{Chart, ChartWindow, new_lines};
-use fabric_core::{Event, Fabric, Refusal, Seen};
+use fabric_core::{Event, EventForm, Fabric, Refusal, SeenForm};
 use fabric_settle::Witness;
 use std::alloc::{AllocError, Global};
 use std::marker::Model;
-use tlp_core::copy_of;
-
-/// The same event.
-fn copied(event: &Event) -> Event
-    ensures { result ≡ event.now }
-{
-    match event {
-        Event::Submit(port, op) => Event::Submit(*port, copy_of(op)),
-        Event::Transmit(lane) => Event::Transmit(*lane),
-        Event::Deliver(lane, fate) => Event::Deliver(*lane, *fate),
-        Event::SendDllp(lane, kind) => Event::SendDllp(*lane, *kind),
-        Event::DeliverDllp(lane, fate) => Event::DeliverDllp(*lane, *fate),
-        Event::Timer(lane) => Event::Timer(*lane),
-        Event::Retrained(lane) => Event::Retrained(*lane),
-        Event::Forward(lane, place) => Event::Forward(*lane, *place),
-        Event::Serve(place) => Event::Serve(*place),
-        Event::Collect(port) => Event::Collect(*port),
-    }
-}
 
 /// A chart that is told what happens to a fabric, with the step lines beside its rows.
 #[derive(Drop)]
@@ -71,13 +53,13 @@ impl ChartWitness {
     fn event(
         &mut self,
         line: u64,
-        event: &Event,
-        seen: Seen,
+        event: EventForm<'_>,
+        seen: &SeenForm<'_>,
         fabric: &Fabric,
     ) -> Result<(), AllocError>
-        ensures { OnOk result (self.new ≡ spec.witnessed self.old line event.now seen fabric.now) }
+        ensures { OnOk result (self.new ≡ spec.witnessed self.old line (owned_event event.entry) (owned_seen seen.now) fabric.now) }
     {
-        let row = self.chart.event(line, copied(event), seen)?;
+        let row = self.chart.event(line, event.to_owned(), seen.to_owned())?;
         show_row(row, fabric, &mut self.lines)
     }
 
@@ -121,15 +103,15 @@ impl Witness for ChartWitness {
 
     ghost may_lose = { Always };
 
-    fn make_room(&mut self, _event: &Event) -> Result<(), AllocError> {
+    fn make_room(&mut self, _event: EventForm<'_>) -> Result<(), AllocError> {
         Ok(())
     }
 
     fn saw(
         &mut self,
         line: u64,
-        event: &Event,
-        seen: Seen,
+        event: EventForm<'_>,
+        seen: &SeenForm<'_>,
         fabric: &Fabric,
     ) -> Result<(), AllocError> {
         self.event(line, event, seen, fabric)

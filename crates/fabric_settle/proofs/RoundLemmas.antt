@@ -102,6 +102,10 @@ again saw f h h' k y y' b d d' step eh ey ed p = λ start hs o.
     let now = (step (at f hs b)).happened in
     record { same = ap (λ (g : Fabric). at g now d') eh ∙ ap (λ (x : Bool). at h now x) ed ∙ s.same; kept = ey ∙ s.kept }
 
+-- the same event
+pub of_event : {K : Type 0} {saw : K → Happening → K} {f f' : Fabric} {k k' : K} {d e : Event} → d ≡ e → Witnessed saw f k d f' k' → Witnessed saw f k e f' k'
+of_event {saw = saw} {f = f} {f' = f'} {k = k} {k' = k'} same w = subst (λ (x : Event). Witnessed saw f k x f' k') same w
+
 -- an event that happens
 pub does_happen : {K : Type 0} (saw : K → Happening → K) (f f' : Fabric) (k k' : K) (b b' : Bool) (e : Event) → Witnessed saw f k e f' k'
     → b' ≡ (b || is_move e) → Does saw f k b (λ s. tried s e) f' k' b'

@@ -25,7 +25,7 @@ fn once<W: Witness>(
     ensures err { OnErr result ((event : events.Event) × WantsMemory W.needs_room W.may_lose fabric.new event) }
     ensures reached { Reached (W.saw line) (IsLossless W.may_lose) fabric.old (W.kept witness.old) fabric.new (W.kept witness.new) }
 {
-    match happen(fabric, witness, line, event) {
+    match happen(fabric, witness, line, event.lent()) {
         Ok(()) => {
             *moved = *moved || is_move(event);
             Ok(true)

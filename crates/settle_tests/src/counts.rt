@@ -1,5 +1,5 @@
 //! The rounds and the hops of a settling.
-use fabric_core::{Event, Fabric, LaneName, Seen};
+use fabric_core::{Event, EventForm, Fabric, LaneName, SeenForm};
 use fabric_settle::{Witness, settle};
 use lane_core::DllpKind;
 use std::alloc::AllocError;
@@ -27,22 +27,22 @@ impl Witness for Counts {
 
     ghost may_lose = { Never };
 
-    fn make_room(&mut self, _event: &Event) -> Result<(), AllocError> {
+    fn make_room(&mut self, _event: EventForm<'_>) -> Result<(), AllocError> {
         Ok(())
     }
 
     fn saw(
         &mut self,
         _line: u64,
-        event: &Event,
-        _seen: Seen,
+        event: EventForm<'_>,
+        _seen: &SeenForm<'_>,
         _fabric: &Fabric,
     ) -> Result<(), AllocError> {
         match event {
-            Event::SendDllp(LaneName::Up(1), DllpKind::Answer) => {
+            EventForm::SendDllp(LaneName::Up(1), DllpKind::Answer) => {
                 self.rounds = self.rounds.wrapping_add(1);
             }
-            Event::Forward(_, _) | Event::Serve(_) | Event::Collect(_) => {
+            EventForm::Forward(_, _) | EventForm::Serve(_) | EventForm::Collect(_) => {
                 self.hops = self.hops.wrapping_add(1);
             }
             _ => {}
