@@ -1,5 +1,5 @@
 //! The fields of a script's line.
-ghost use Rattle.std.specs.Prelude.{◌≡◌, option_map, bytes_eq};
+ghost use Rattle.std.specs.Prelude.{◌≡◌, option_map};
 ghost use Rattle.std.specs.Result.{result_ok};
 ghost use Rattle.operation_text.specs.Words.{words_behind, first_field};
 ghost use Rattle.script_text.specs.Forms as forms;
@@ -14,19 +14,6 @@ const LANE: Expected = Expected::Of("a lane", "up1 to up7, down1 to down7, in, o
 const FATE: Expected = Expected::Of("a fate", "good, failed, lost");
 
 const KIND: Expected = Expected::Of("a kind of DLLP", "ack, p, np, cpl");
-
-/// Whether the word is that name.
-pub(crate) fn is_name(word: &[u8], name: &[u8]) -> bool
-    ensures { result ≡ bytes_eq word.now name.now }
-{
-    let [first, word @ ..] = word else {
-        return name.is_empty();
-    };
-    let [wanted, name @ ..] = name else {
-        return false;
-    };
-    *first == *wanted && is_name(word, name)
-}
 
 pub(crate) fn octet(rest: Option<&[u8]>, expected: Expected) -> Result<(u8, Option<&[u8]>), Misfit>
     ensures { first_field forms.octet (words_behind rest.entry) ≡ option_map (λ s. (s.0, words_behind s.1)) (result_ok result) }
@@ -66,10 +53,10 @@ fn port(digits: &[u8]) -> Option<u8>
 fn lane_in(word: &[u8]) -> Option<LaneName>
     ensures { result ≡ forms.lane word.now }
 {
-    if is_name(word, b"in") {
+    if word == b"in".as_slice() {
         return Some(LaneName::Inward);
     }
-    if is_name(word, b"out") {
+    if word == b"out".as_slice() {
         return Some(LaneName::Outward);
     }
     match word {
@@ -90,11 +77,11 @@ pub(crate) fn lane(rest: Option<&[u8]>) -> Result<(LaneName, Option<&[u8]>), Mis
 fn fate_in(word: &[u8]) -> Option<Fate>
     ensures { result ≡ forms.fate word.now }
 {
-    if is_name(word, b"good") {
+    if word == b"good".as_slice() {
         Some(Fate::Good)
-    } else if is_name(word, b"failed") {
+    } else if word == b"failed".as_slice() {
         Some(Fate::Failed)
-    } else if is_name(word, b"lost") {
+    } else if word == b"lost".as_slice() {
         Some(Fate::Lost)
     } else {
         None
@@ -112,13 +99,13 @@ pub(crate) fn fate(rest: Option<&[u8]>) -> Result<(Fate, Option<&[u8]>), Misfit>
 fn kind_in(word: &[u8]) -> Option<DllpKind>
     ensures { result ≡ forms.kind word.now }
 {
-    if is_name(word, b"ack") {
+    if word == b"ack".as_slice() {
         Some(DllpKind::Answer)
-    } else if is_name(word, b"p") {
+    } else if word == b"p".as_slice() {
         Some(DllpKind::Update(Class::Posted))
-    } else if is_name(word, b"np") {
+    } else if word == b"np".as_slice() {
         Some(DllpKind::Update(Class::NonPosted))
-    } else if is_name(word, b"cpl") {
+    } else if word == b"cpl".as_slice() {
         Some(DllpKind::Update(Class::Completion))
     } else {
         None

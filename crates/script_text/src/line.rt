@@ -1,16 +1,15 @@
 //! The lines of a script.
-ghost use Rattle.std.specs.Prelude.{◌≡◌, IfOk, option_map};
+ghost use Rattle.std.specs.Prelude.{◌≡◌, option_map};
 ghost use Rattle.std.specs.Result.{result_ok};
 ghost use Rattle.operation_text.specs.Words.{words, words_behind};
 ghost use Rattle.script_text.specs.Forms as forms;
-ghost use Rattle.script_text.specs.Lent.{owned_line, LineHasRoom};
+ghost use Rattle.script_text.specs.Lent.{owned_line};
 
-use crate::events::{EVENT, EventForm, event_by};
+use crate::events::{EVENT, event_by};
 use crate::fabric::{FABRIC, fabric, misfit_of};
-use crate::fields::is_name;
-use fabric_core::{Config, Event};
+use fabric_core::{Config, Event, EventForm};
 use operation_text::{Misfit, alone, cut};
-use tlp_core::MAX_PAYLOAD;
+use tlp_core::Op;
 
 /// What a line of a script asks for.
 #[derive(Debug, PartialEq, Drop)]
@@ -38,7 +37,6 @@ impl LineForm<'_> {
     /// The line with an operation of its own. Takes no memory.
     #[inline(always)]
     pub fn to_owned(&self) -> Line
-        requires { LineHasRoom self.now }
         ensures { result ≡ owned_line self.now }
     {
         match self {
@@ -49,19 +47,23 @@ impl LineForm<'_> {
     }
 }
 
-/// As [`read_line`], but the bytes of an operation are put into the room, and lent from there.
-pub fn read_line_lent<'r>(
-    text: &[u8],
-    room: &'r mut [u8; MAX_PAYLOAD],
-) -> Result<LineForm<'r>, Misfit>
+/// An operation in whose room that of a line may be put: a read of one DW.
+pub const ROOM: Op = Op::Read {
+    address: 0,
+    dw: 1,
+    first: 15,
+    last: 0,
+};
+
+/// As [`read_line`], but the operation of an event is put into the room, and lent from there.
+pub fn read_line_lent<'r>(text: &[u8], room: &'r mut Op) -> Result<LineForm<'r>, Misfit>
     ensures value { option_map owned_line (result_ok result) ≡ forms.line_of (words text.now) }
-    ensures room { IfOk result LineHasRoom }
 {
     let (kind, rest) = cut(text);
-    if is_name(kind, b"fabric") {
+    if kind == b"fabric".as_slice() {
         return Ok(LineForm::Fabric(fabric(rest)?));
     }
-    if is_name(kind, b"settle") {
+    if kind == b"settle".as_slice() {
         return alone(LineForm::Settle, rest);
     }
     Ok(LineForm::Event(event_by(kind, rest, text, room)?))
@@ -73,7 +75,7 @@ pub fn read_line_lent<'r>(
 pub fn read_line(text: &[u8]) -> Result<Line, Misfit>
     ensures { result_ok result ≡ forms.line_of (words text.now) }
 {
-    let mut room = [0; MAX_PAYLOAD];
+    let mut room = ROOM;
     let line = read_line_lent(text, &mut room)?;
     Ok(line.to_owned())
 }
@@ -81,12 +83,12 @@ pub fn read_line(text: &[u8]) -> Result<Line, Misfit>
 /// Why a script's line says nothing that can be done: the first line makes a fabric, no later one does,
 /// and of the configuration that it tells there is a fabric. None if none of that is broken.
 pub fn script_misfit(text: &[u8], has_fabric: bool) -> Option<Misfit> {
-    match (is_name(cut(text).0, b"fabric"), has_fabric) {
+    match (cut(text).0 == b"fabric".as_slice(), has_fabric) {
         (false, false) => return Some(FABRIC.at(Some(text))),
         (true, true) => return Some(EVENT.at(Some(text))),
         _ => {}
     }
-    let mut room = [0; MAX_PAYLOAD];
+    let mut room = ROOM;
     match read_line_lent(text, &mut room) {
         Err(misfit) => Some(misfit),
         Ok(LineForm::Fabric(config)) => misfit_of(text, &config),

@@ -1,5 +1,0 @@
-use Rattle.std.proofs.Common.{length}
-use Rattle.script_text.proofs.fields.+is_name.Given as goal
-
-abbrev pub decreases-is_name : goal.decreases-is_name
-decreases-is_name l = length l.word.now
