@@ -3,7 +3,7 @@ use arrayvec::ArrayString;
 use fabric_core::{EventForm, Fabric, SeenForm};
 use fabric_settle::Witness;
 use history_check::Record;
-use script_text::write_seen;
+use script_text::write_seen_lent;
 use std::alloc::AllocError;
 
 /// The text of what was seen last.
@@ -21,7 +21,7 @@ impl LastSeen {
         ensures { self.new.text.bytes ≡ seen_text (owned_event event.entry) (owned_seen seen.now) }
     {
         self.text.clear();
-        write_seen(&event.to_owned(), &seen.to_owned(), &mut self.text);
+        write_seen_lent(event, seen, &mut self.text);
     }
 }
 
