@@ -5,7 +5,7 @@ ghost use Rattle.diagnostics.specs.Told.{IsReasonTold, IsReasonBegun};
 ghost use Rattle.step_engine.specs.Step as spec;
 
 use crate::options::StepOptions;
-use crate::step::Stepper;
+use crate::step::{Rooms, Stepper};
 use arrayvec::ArrayString;
 use diagnostics::{tell_long_line, tell_misfit, tell_refusal};
 use line_loop::{EngineFault, Responder, Verdict, run};
@@ -36,6 +36,7 @@ fn explain<E: Write>(stepper: &mut Stepper, line: &[u8], errors: &mut E) -> Resu
 #[derive(Drop)]
 struct Explained<E> {
     stepper: Stepper,
+    rooms: Rooms,
     errors: E,
 }
 
@@ -53,7 +54,7 @@ impl<E: Write + Drop> Responder for Explained<E> {
     ghost responses = { step_responses };
 
     fn on_line(&mut self, line: &[u8], out: &mut Vec<u8>) -> Result<Verdict, AllocError> {
-        let verdict = self.stepper.on_line(line, out)?;
+        let verdict = self.stepper.answer(line, &mut self.rooms, out)?;
         if verdict.is_fault() {
             let _ = explain(&mut self.stepper, line, &mut self.errors);
         }
@@ -61,14 +62,14 @@ impl<E: Write + Drop> Responder for Explained<E> {
     }
 
     fn on_long_line(&mut self, out: &mut Vec<u8>) -> Result<Verdict, AllocError> {
-        let verdict = self.stepper.on_long_line(out)?;
+        let verdict = self.stepper.answer_long(out)?;
         let fault = verdict.is_fault().then_some(self.stepper.lines());
         let _ = tell_long_line(fault, &mut self.errors);
         Ok(verdict)
     }
 
     fn on_end(&mut self, out: &mut Vec<u8>) -> Result<Verdict, AllocError> {
-        self.stepper.on_end(out)
+        self.stepper.answer_end(out)
     }
 }
 
@@ -85,6 +86,10 @@ pub fn run_step_with_reasons<R: Read, W: Write, E: Write>(
     ensures err { OnErr result (IsPart (spec.out_step_with options) (R.remaining reader.old) (R.remaining reader.new) (W.contents writer.old) (W.contents writer.new)) }
     ensures read { IfErr result (λ f. f ≡ EngineFault.Read → IsCaughtUp spec.step_responses (spec.new_script options) (R.remaining reader.old) (R.remaining reader.new) (W.contents writer.old) (W.contents writer.new)) }
 {
-    let stepper = Stepper::new(alloc, options);
-    run(alloc, Explained { stepper, errors }, reader, writer)
+    let explained = Explained {
+        stepper: Stepper::new(alloc, options),
+        rooms: Rooms::new(),
+        errors,
+    };
+    run(alloc, explained, reader, writer)
 }

@@ -1,6 +1,7 @@
 //! The subcommand `step`: scripts of events for a fabric.
 ghost use Rattle.std.specs.Prelude.{◌≡◌, ◌≤◌, ◌+◌, ◌++◌, ◌∷◌, [], length, is_some, Some, None, Ok, Err, IfOk, IfErr, OnOk, OnErr};
 ghost use Rattle.arrayvec.specs.ArrayString.{array_string_len};
+ghost use Rattle.fabric_events.specs.Lent.{owned_event, owned_seen};
 ghost use Rattle.fabric_core.specs.Answers.{answer};
 ghost use Rattle.fabric_answers.specs.Told.{IsTold};
 ghost use Rattle.fabric_answers.specs.New.{new_fabric, config_fault};
@@ -16,20 +17,22 @@ use crate::explained::run_step_with_reasons;
 use crate::options::StepOptions;
 use arrayvec::ArrayString;
 use fabric_answers::laws::{a_configuration_has_one_answer, each_event_has_one_answer};
-use fabric_core::{Config, ConfigFault, Event, Fabric, Refusal, Seen};
+use fabric_core::{Config, ConfigFault, EventForm, Fabric, Refusal, SeenForm};
 use fabric_settle::{happen, settle};
 use history_check::Record;
-use line_loop::{EngineFault, Responder, Verdict};
+use line_loop::{EngineFault, Verdict};
+use requester_core::Answer;
 use script_text::{
-    LineForm, read_line_lent, write_config_fault, write_refusal, write_seen, write_settled,
-    write_told,
+    LineForm, ROOM, read_line_lent, write_config_fault, write_refusal, write_seen_lent,
+    write_settled, write_told,
 };
+use seq_memory::Reply;
 use std::alloc::{AllocError, Global};
 use std::io::{Read, Write, sink};
 use std::marker::Model;
 use std::mem;
 use text_lines::is_skipped;
-use tlp_core::MAX_PAYLOAD;
+use tlp_core::Op;
 use trace_engine::tell_trace;
 
 /// A new fabric.
@@ -42,13 +45,39 @@ fn make(config: Config, alloc: Global) -> Result<Fabric, ConfigFault>
 }
 
 /// What is seen of an event that happens to the fabric.
-fn see(fabric: &mut Fabric, event: &Event) -> Result<Seen, Refusal>
-    ensures ok { IfOk result (λ what. answer fabric.old event.now ≡ Ok (what, fabric.new)) }
-    ensures refused { IfErr result (λ r. IsTold r → answer fabric.old event.now ≡ Err r) }
+#[inline(always)]
+fn see<'a>(
+    fabric: &mut Fabric,
+    event: EventForm<'_>,
+    room: &'a mut Answer,
+) -> Result<SeenForm<'a>, Refusal>
+    ensures ok { IfOk result (λ what. answer fabric.old (owned_event event.entry) ≡ Ok (owned_seen what, fabric.new)) }
+    ensures refused { IfErr result (λ r. IsTold r → answer fabric.old (owned_event event.entry) ≡ Err r) }
     ensures err { OnErr result (fabric.new ≡ fabric.old) }
 {
     each_event_has_one_answer();
-    fabric.step(event)
+    fabric.step_lent(event, room)
+}
+
+/// Room for what lines lend.
+#[derive(Drop)]
+pub(crate) struct Rooms {
+    /// Room for a line's operation.
+    operation: Op,
+    /// Room for the answer that a requester takes.
+    answer: Answer,
+}
+
+impl Rooms {
+    pub(crate) fn new() -> Rooms {
+        Rooms {
+            operation: ROOM,
+            answer: Answer {
+                number: 0,
+                reply: Reply::Done,
+            },
+        }
+    }
 }
 
 /// A script that is run line by line.
@@ -62,8 +91,6 @@ pub(crate) struct Stepper {
     has_ended: bool,
     /// Why the fabric refused the event that was refused last, as long as nobody took it.
     refusal: Option<Refusal>,
-    /// Room for the bytes of a line's operation.
-    operation: [u8; MAX_PAYLOAD],
     /// Room for the text that answers a line.
     text: ArrayString<512>,
 }
@@ -88,7 +115,6 @@ impl Stepper {
             lines: 0,
             has_ended: false,
             refusal: None,
-            operation: [0; MAX_PAYLOAD],
             text: ArrayString::new(),
         }
     }
@@ -261,33 +287,36 @@ impl Stepper {
     }
 
     /// Tells what was seen of an event.
+    #[inline(always)]
     fn tell(
         &mut self,
         line: &[u8],
-        event: &Event,
-        seen: &Seen,
+        event: EventForm<'_>,
+        seen: &SeenForm<'_>,
         out: &mut Vec<u8>,
     ) -> Result<Verdict, AllocError>
         ensures state { OnOk result (self.new ≡ spec.counted self.old) }
-        ensures text { OnOk result (out.new.items ≡ out.old.items ++ spec.shown self.old line.now (seen_text event.now seen.now)) }
+        ensures text { OnOk result (out.new.items ≡ out.old.items ++ spec.shown self.old line.now (seen_text (owned_event event.entry) (owned_seen seen.now))) }
         ensures verdict { IfOk result (λ verdict. verdict ≡ Verdict.Fine) }
         ensures err { OnErr result (out.new.items ≡ out.old.items) }
     {
         self.text.clear();
-        write_seen(event, seen, &mut self.text);
+        write_seen_lent(event, seen, &mut self.text);
         put_shown(self.options.echoes, line, &mut self.text, out)?;
         self.count();
         Ok(Verdict::Fine)
     }
 
     /// An event happens.
+    #[inline(always)]
     fn happen(
         &mut self,
         line: &[u8],
-        event: &Event,
+        event: EventForm<'_>,
+        room: &mut Answer,
         out: &mut Vec<u8>,
     ) -> Result<Verdict, AllocError>
-        ensures ok { IfOk result (λ verdict. IsAnswer self.new out.old.items out.new.items verdict (spec.happened self.old line.now self.old.fabric event.now)) }
+        ensures ok { IfOk result (λ verdict. IsAnswer self.new out.old.items out.new.items verdict (spec.happened self.old line.now self.old.fabric (owned_event event.entry))) }
         ensures err { OnErr result (out.new.items ≡ out.old.items) }
     {
         let number = self.next_line();
@@ -303,10 +332,9 @@ impl Stepper {
                 Err(refusal) => self.refused(line, refusal, out),
             }
         } else {
-            let seen = see(fabric, event);
-            match &seen {
-                Ok(seen) => self.tell(line, event, seen, out),
-                Err(refusal) => self.refused(line, *refusal, out),
+            match see(fabric, event, room) {
+                Ok(seen) => self.tell(line, event, &seen, out),
+                Err(refusal) => self.refused(line, refusal, out),
             }
         }
     }
@@ -372,12 +400,18 @@ impl Stepper {
     }
 }
 
-impl Responder for Stepper {
-    ghost use Rattle.step_engine.specs.Step.{step_responses};
-
-    ghost responses = { step_responses };
-
-    fn on_line(&mut self, line: &[u8], out: &mut Vec<u8>) -> Result<Verdict, AllocError> {
+impl Stepper {
+    /// Answers a line.
+    #[inline(always)]
+    pub(crate) fn answer(
+        &mut self,
+        line: &[u8],
+        rooms: &mut Rooms,
+        out: &mut Vec<u8>,
+    ) -> Result<Verdict, AllocError>
+        ensures ok { IfOk result (λ verdict. IsAnswer self.new out.old.items out.new.items verdict (spec.step_line self.old line.now)) }
+        ensures err { OnErr result (out.new.items ≡ out.old.items) }
+    {
         if self.has_ended {
             return Ok(Verdict::Fine);
         }
@@ -385,23 +419,30 @@ impl Responder for Stepper {
             self.count();
             return Ok(Verdict::Fine);
         }
-        let event = match read_line_lent(line, &mut self.operation) {
-            Err(_) => return self.no_line(out),
-            Ok(LineForm::Fabric(config)) => return self.make(config, out),
-            Ok(LineForm::Settle) => return self.settle(line, out),
-            Ok(LineForm::Event(event)) => event.to_owned(),
-        };
-        self.happen(line, &event, out)
+        match read_line_lent(line, &mut rooms.operation) {
+            Err(_) => self.no_line(out),
+            Ok(LineForm::Fabric(config)) => self.make(config, out),
+            Ok(LineForm::Settle) => self.settle(line, out),
+            Ok(LineForm::Event(event)) => self.happen(line, event, &mut rooms.answer, out),
+        }
     }
 
-    fn on_long_line(&mut self, out: &mut Vec<u8>) -> Result<Verdict, AllocError> {
+    /// Answers a line of more bytes than a line may have.
+    pub(crate) fn answer_long(&mut self, out: &mut Vec<u8>) -> Result<Verdict, AllocError>
+        ensures ok { IfOk result (λ verdict. IsAnswer self.new out.old.items out.new.items verdict (spec.step_long_line self.old)) }
+        ensures err { OnErr result (out.new.items ≡ out.old.items) }
+    {
         if self.has_ended {
             return Ok(Verdict::Fine);
         }
         self.no_line(out)
     }
 
-    fn on_end(&mut self, out: &mut Vec<u8>) -> Result<Verdict, AllocError> {
+    /// Answers the end of the input.
+    pub(crate) fn answer_end(&mut self, out: &mut Vec<u8>) -> Result<Verdict, AllocError>
+        ensures ok { IfOk result (λ verdict. IsAnswer self.new out.old.items out.new.items verdict (spec.step_end self.old)) }
+        ensures err { OnErr result (out.new.items ≡ out.old.items) }
+    {
         let records = mem::replace(&mut self.records, Vec::new(self.alloc));
         if self.has_ended || !self.options.is_traced {
             return Ok(Verdict::Fine);
