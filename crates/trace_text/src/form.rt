@@ -121,7 +121,7 @@ impl Form for TraceForm {
 
     #[inline(always)]
     fn take(&mut self, section: Section, text: &[u8]) -> Result<Taken, AllocError> {
-        let line = match read_line(text, self.version, &mut self.room) {
+        let line = match read_line::<TraceForm>(text, self.version, &mut self.room) {
             Ok(line) => line,
             Err(misfit) => return Ok(Taken::Misfit(misfit)),
         };

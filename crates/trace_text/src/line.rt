@@ -97,7 +97,7 @@ fn memory_line<'r>(place: Option<&[u8]>, version: Version) -> Result<LineForm<'r
 }
 
 #[inline(always)]
-fn sub<'r>(rest: Option<&[u8]>, room: &'r mut [u8; MAX_PAYLOAD]) -> Result<LineForm<'r>, Misfit>
+fn sub<'r, F>(rest: Option<&[u8]>, room: &'r mut [u8; MAX_PAYLOAD]) -> Result<LineForm<'r>, Misfit>
     ensures value { option_map owned_line (result_ok result) ≡ forms.sub_of (words_behind rest.entry) }
     ensures sized { IfOk result LendsSized }
 {
@@ -114,7 +114,7 @@ fn sub<'r>(rest: Option<&[u8]>, room: &'r mut [u8; MAX_PAYLOAD]) -> Result<LineF
 }
 
 #[inline(always)]
-fn ans<'r>(rest: Option<&[u8]>, room: &'r mut [u8; MAX_PAYLOAD]) -> Result<LineForm<'r>, Misfit>
+fn ans<'r, F>(rest: Option<&[u8]>, room: &'r mut [u8; MAX_PAYLOAD]) -> Result<LineForm<'r>, Misfit>
     ensures value { option_map owned_line (result_ok result) ≡ forms.ans_of (words_behind rest.entry) }
     ensures sized { IfOk result LendsSized }
 {
@@ -131,7 +131,7 @@ fn ans<'r>(rest: Option<&[u8]>, room: &'r mut [u8; MAX_PAYLOAD]) -> Result<LineF
 }
 
 #[inline(always)]
-fn ent<'r>(rest: Option<&[u8]>, room: &'r mut [u8; MAX_PAYLOAD]) -> Result<LineForm<'r>, Misfit>
+fn ent<'r, F>(rest: Option<&[u8]>, room: &'r mut [u8; MAX_PAYLOAD]) -> Result<LineForm<'r>, Misfit>
     ensures value { option_map owned_line (result_ok result) ≡ forms.ent_of (words_behind rest.entry) }
     ensures sized { IfOk result LendsSized }
 {
@@ -146,7 +146,6 @@ fn ent<'r>(rest: Option<&[u8]>, room: &'r mut [u8; MAX_PAYLOAD]) -> Result<LineF
 }
 
 /// The line of that kind that the rest of it spells.
-#[inline(always)]
 fn line_by<'r>(
     kind: &[u8],
     rest: Option<&[u8]>,
@@ -158,11 +157,11 @@ fn line_by<'r>(
     ensures sized { IfOk result LendsSized }
 {
     if kind == b"sub".as_slice() {
-        sub(rest, room)
+        sub::<()>(rest, room)
     } else if kind == b"ans".as_slice() {
-        ans(rest, room)
+        ans::<()>(rest, room)
     } else if kind == b"ent".as_slice() {
-        ent(rest, room)
+        ent::<()>(rest, room)
     } else if kind == b"memory".as_slice() {
         memory_line(rest, version)
     } else if kind == b"history".as_slice() {
@@ -176,10 +175,9 @@ fn line_by<'r>(
     }
 }
 
-/// The line that the text spells in a trace of that version: its bytes are put into the room, whose content doesn't
-/// count.
-#[inline(always)]
-pub(crate) fn read_line<'r>(
+/// The line that the text spells, whatever its first word is.
+#[inline(never)]
+fn any_line<'r>(
     text: &[u8],
     version: Version,
     room: &'r mut [u8; MAX_PAYLOAD],
@@ -189,4 +187,23 @@ pub(crate) fn read_line<'r>(
 {
     let (kind, rest) = cut(text);
     line_by(kind, rest, version, text, room)
+}
+
+/// The line that the text spells in a trace of that version: its bytes are put into the room, whose content doesn't
+/// count. Each form `F` has a copy of this, so that lines of records and entries are read where they are kept.
+#[inline(always)]
+pub(crate) fn read_line<'r, F>(
+    text: &[u8],
+    version: Version,
+    room: &'r mut [u8; MAX_PAYLOAD],
+) -> Result<LineForm<'r>, Misfit>
+    ensures value { option_map owned_line (result_ok result) ≡ forms.line_of version (words text.now) }
+    ensures sized { IfOk result LendsSized }
+{
+    match text {
+        [b's', b'u', b'b', b' ', rest @ ..] => sub::<F>(Some(rest), room),
+        [b'a', b'n', b's', b' ', rest @ ..] => ans::<F>(Some(rest), room),
+        [b'e', b'n', b't', b' ', rest @ ..] => ent::<F>(Some(rest), room),
+        _ => any_line(text, version, room),
+    }
 }

@@ -67,7 +67,7 @@ impl Form for OwnedForm {
     ghost grammar = { trace_grammar };
 
     fn take(&mut self, section: Section, text: &[u8]) -> Result<Taken, AllocError> {
-        let line = match read_line(text, self.version, &mut self.room) {
+        let line = match read_line::<OwnedForm>(text, self.version, &mut self.room) {
             Ok(line) => line,
             Err(misfit) => return Ok(Taken::Misfit(misfit)),
         };
